@@ -1,0 +1,170 @@
+-- An added item keeps the rules of a register; so does each request, and each run.
+use Rattle.std.specs.Prelude.{◌≡◌, ℕ, ◌+◌, ◌≤◌, Bool, true, false, cond, not, ◌&&◌, ◌||◌, List, [], ◌∷◌, filter, refl, bytes_eq, None, count_by, Contains}
+use Rattle.std.proofs.Common.{sym, ap, subst, ◌∙◌, arith, drop, inl, inr}
+use Rattle.std.proofs.lemmas.List.Elements.{Contains-push}
+use Rattle.std.proofs.lemmas.Bool.{true≢false, and_from, or_parts, false_from_ne_true}
+use Rattle.std.proofs.lemmas.Slice.Eq.{bytes_eq-Decides}
+use Rattle.std.specs.List.{list_any, AllByRecursion}
+use Rattle.sheet_types.specs.Ordered.{put, has}
+use Rattle.sheet_types.specs.Texts.{entry_of, is_moment}
+use Rattle.sheet_types.specs.World.{World, Package, item_key, item_thing, link_key, receipts_of, holdings, no_package, is_live, item_moved, base_kind, kind_number, is_tile}
+use Rattle.sheet_types.specs.Custody.{custody}
+use Rattle.sheet_types.specs.Step.{accepted, receipt_of, kept_reply, added_item, outcome}
+use Rattle.sheet_types.specs.Refuse.{refusal, reasons, bad_text, has_good_size, takes_place, place_of}
+use Rattle.sheet_types.specs.Balance.{IsUnaltered, holds, archive_of, IsThing, names_identity}
+use Rattle.sheet_types.specs.Register.{IsRegister, IsKeptPackage, IsFit, IsUuid, HasEnds}
+use Rattle.ledger_laws.specs.Laws.{add_request, AddKeepsRegister, NamesUuid, StepKeepsRegister, RunKeepsRegister}
+use Rattle.sheet_types.specs.declared.command.Command.{Command}
+use Rattle.sheet_types.specs.declared.command.Command.TheVariants.{Add, Delete, Link, Unlink, Split, Merge}
+use Rattle.sheet_types.specs.declared.command.Content.{Content}
+use Rattle.sheet_types.specs.declared.command.Item.{Item}
+use Rattle.sheet_types.specs.declared.command.Request.{Request}
+use Rattle.sheet_types.specs.declared.receipt.Receipt.{Receipt}
+use Rattle.sheet_types.specs.declared.receipt.MovedKind.TheVariants.{MediaItem}
+use Rattle.sheet_types.specs.declared.refusal.Refusal.{Refusal}
+use Rattle.sheet_types.proofs.Order.{All-put}
+use Rattle.ledger_laws.proofs.Adding.{bytes_eq_itself, All-weaker, rows_fail, not_false, and_true, none_pass, or-false, None≢Some, new_identity, may_add, never_named, custody_none, thing_of, is_item-kind_of}
+use Rattle.ledger_laws.proofs.Balancing.{sum_by-put, list_any-put}
+use Rattle.ledger_laws.proofs.Account.{thing_of_item}
+use Rattle.ledger_laws.proofs.Listing.{put_arranged, count-cons}
+use Rattle.ledger_laws.proofs.Facts.{kept_at}
+use Rattle.ledger_laws.proofs.Keeping.{fit_moves, fit_all, distinct_counts, counts_distinct, places_count, tile_at, apart_places, not_both_count}
+use Rattle.ledger_laws.proofs.Merging.{keeps, merge_keeps_register}
+use Rattle.ledger_laws.proofs.Splitting.{split_keeps_register}
+use Rattle.ledger_laws.proofs.OneRegister.{delete_keeps_register, link_keeps_register, unlink_keeps_register}
+use Rattle.ledger_laws.proofs.OnePackage as one
+
+count_one : {X : Type 0} (p : X → Bool) (x : X) → count_by p (x ∷ []) ≤ 1
+count_one p x = elim (p x) as (λ v. p x ≡ v → count_by p (x ∷ []) ≤ 1) [ true ↦ λ e. omega (arith, count-cons p x [] true e) | false ↦ λ e. omega (arith, count-cons p x [] false e) ] refl
+
+put_count : {X : Type 0} (key : X → List ℕ) (p : X → Bool) (x : X) (xs : List X) → count_by p (put key x xs) ≡ count_by p xs + count_by p (x ∷ [])
+put_count key p x xs = omega (arith, sum_by-put key (λ y. cond (p y) 1 0) x xs, count-cons p x [] (p x) refl)
+
+module _ (w : World) (id moment p identity : List ℕ) (content : Content) (register : IsRegister w) (uuid : IsUuid identity) where
+  abbrev asked : Request
+  asked = add_request id moment p identity content
+
+  abbrev item : Item
+  item = added_item identity content
+
+  abbrev receipt : Receipt
+  receipt = receipt_of w asked
+
+  abbrev items : Package → List Item
+  items y = put item_key item y.items
+
+  abbrev next : World
+  next = accepted w asked
+
+  module _ (no_reply : kept_reply w asked ≡ None) (no_refusal : refusal w next asked ≡ None) where
+    fails : AllByRecursion (λ (row : Bool × Refusal). row.0 ≡ false) (reasons w next asked)
+    fails = rows_fail (reasons w next asked) no_refusal
+
+    live : is_live w p ≡ true
+    live = and_true (is_live w p) (not_false (is_live w p && true) fails.1.0)
+
+    abbrev x : Package
+    x = holdings w p
+
+    k : IsKeptPackage w x
+    k = kept_at w p register live
+
+    stood_nowhere : custody (receipts_of w) (item_thing item) ≡ None
+    stood_nowhere =
+        let all : AllByRecursion (λ s. names_identity identity s ≡ false) (receipts_of w) × AllByRecursion (λ s. AllByRecursion IsThing s.items) (receipts_of w) =
+        never_named (archive_of w) identity [] (receipts_of w) register.balanced.ledger (none_pass _ (receipts_of w) fails.1.1.1.1.1.0) tt tt in
+        ap (custody (receipts_of w)) (sym (thing_of_item identity content))
+        ∙ custody_none identity (item_moved item) (receipts_of w) (and_from _ (bytes_eq identity identity) (is_item-kind_of content) (bytes_eq_itself identity)) (thing_of identity content) all.0 all.1
+
+    not_held : holds x (item_thing item) ≡ false
+    not_held = false_from_ne_true (holds x (item_thing item)) (λ held. None≢Some (sym stood_nowhere ∙ (register.balanced.custody_is p (item_thing item)).0 held))
+
+    none_there : list_any (λ j. bytes_eq j.identity identity) x.items ≡ false
+    none_there = (or_parts (has item_thing (item_thing item) x.items) (has link_key (item_thing item) x.links) not_held).0
+
+    fits : one.Fits w p receipt (entry_of asked.command) items (λ y. y.links)
+    fits = record {
+      says = refl;
+      stands = refl;
+      live = live;
+      may = may_add w (archive_of w) id moment p identity content register.balanced.ledger (new_identity w asked no_reply fails.0) fails.1.1.1.1.1.0;
+      no_merge = refl;
+      shifts = λ c _. rw (bytes_eq_itself p) (omega (arith, sum_by-put item_key (λ i. c (item_moved i)) item x.items));
+      elsewhere = λ q other. (refl, other);
+    }
+
+    abbrev alone : Package
+    alone = record no_package { uuid = p; items = item ∷ [] }
+
+    fit_here : IsFit w alone item
+    fit_here = ((or_parts (not (is_moment moment)) (bad_text (Add p identity content)) fails.1.1.1.0).1, not_false (has_good_size content) fails.1.1.1.1.0, fails.1.1.1.1.1.1.1.1.0, fails.1.1.1.1.1.1.1.1.1.0)
+
+    free : takes_place x content ≡ false
+    free = fails.1.1.1.1.1.1.1.1.1.1.0
+
+    kept_more : IsKeptPackage next (one.change w p receipt (entry_of asked.command) items (λ y. y.links) x)
+    kept_more = record {
+      items = put_arranged item_key item x.items k.items (All-weaker (λ j. bytes_eq j.identity identity ≡ false) (λ j. bytes_eq (item_key j) (item_key item) ≡ false)
+          (λ j other. false_from_ne_true (bytes_eq (item_key j) (item_key item)) (λ same. true≢false (sym ((bytes_eq-Decides j.identity identity).1 (ap (drop 1) ((bytes_eq-Decides (item_key j) (item_key item)).0 same))) ∙ other)))
+          x.items (none_pass (λ j. bytes_eq j.identity identity) x.items none_there));
+      links = k.links;
+      receipts = one.receipts_at_p w p receipt (entry_of asked.command) items (λ y. y.links) register fits;
+      identities = counts_distinct (λ i. i.identity) (put item_key item x.items) (λ n. omega (
+        arith,
+        put_count item_key (λ i. bytes_eq i.identity n) item x.items,
+        not_both_count (λ i. bytes_eq i.identity n) x.items (item ∷ []) (distinct_counts (λ i. i.identity) n x.items k.identities) (count_one (λ i. bytes_eq i.identity n) item)
+            (λ a b. true≢false (sym (subst (λ m. list_any (λ i. bytes_eq i.identity m) x.items ≡ true) (sym ((bytes_eq-Decides identity n).0 (sym (or-false (bytes_eq identity n)) ∙ b))) a) ∙ none_there)),
+      ));
+      uuids = All-put item_key (λ i. IsUuid i.identity) item x.items uuid k.uuids;
+      fit = All-put item_key (IsFit next x) item x.items (fit_moves w next refl p p identity content alone x fit_here) (fit_all w next refl x x x.items k.fit);
+      places = counts_distinct (λ i. place_of i.content) (filter is_tile (put item_key item x.items)) (λ n. omega (
+        arith,
+        places_count n (put item_key item x.items),
+        put_count item_key (tile_at n) item x.items,
+        not_both_count (tile_at n) x.items (item ∷ []) (subst (λ m. m ≤ 1) (places_count n x.items) (distinct_counts (λ i. place_of i.content) n (filter is_tile x.items) k.places)) (count_one (tile_at n) item)
+            (λ a b. apart_places w alone x n register.frame (fit_here, tt) k.fit (free, tt) b a),
+      ));
+      ends = All-weaker (HasEnds x) (HasEnds (one.change w p receipt (entry_of asked.command) items (λ y. y.links) x)) (λ l h. (has_more (kind_number (base_kind l.mapping) ∷ l.base) h.0, has_more (kind_number MediaItem ∷ l.media) h.1)) x.links k.ends;
+      parent = one.parent_kept w p receipt (entry_of asked.command) items (λ y. y.links) register fits;
+    }
+      where
+        or_true : (b : Bool) → (b || true) ≡ true
+        or_true true = refl
+        or_true false = refl
+
+        has_more : (n : List ℕ) → has item_key n x.items ≡ true → has item_key n (put item_key item x.items) ≡ true
+        has_more n e = list_any-put item_key (λ i. bytes_eq (item_key i) n) item x.items ∙ ap (λ b. bytes_eq (item_key item) n || b) e ∙ or_true (bytes_eq (item_key item) n)
+
+    new_unaltered : IsUnaltered next item
+    new_unaltered = (receipt, subst (λ rs. Contains rs receipt) (sym (one.receipts w p receipt (entry_of asked.command) items (λ y. y.links) register fits)) (Contains-push (receipts_of w) receipt), refl, refl)
+
+    add_register : IsRegister next
+    add_register = one.register_after w p receipt (entry_of asked.command) items (λ y. y.links) register fits kept_more fails.1.1.1.1.1.1.1.1.1.1.1.1.1.1.1.1.1.1.1.1.1.1.0 refl
+        (one.contents_after w p receipt (entry_of asked.command) items (λ y. y.links) register fits (λ y h. All-put item_key (IsUnaltered next) item y.items new_unaltered h))
+
+pub add_keeps_register : AddKeepsRegister
+add_keeps_register w id moment p identity content uuid register = keeps IsRegister w (add_request id moment p identity content) register (add_register w id moment p identity content register uuid)
+
+-- ---- each request, and each run
+
+any_request : (w : World) (id moment : List ℕ) (command : Command) → NamesUuid command → IsRegister w → IsRegister (outcome w (record { id = id; at = moment; command = command })).1
+any_request w id moment (Add p identity content) uuid register = add_keeps_register w id moment p identity content uuid register
+any_request w id moment (Delete p identity) uuid register = delete_keeps_register w id moment p identity register
+any_request w id moment (Link p mapping base media) uuid register = link_keeps_register w id moment p mapping base media register
+any_request w id moment (Unlink p mapping base media) uuid register = unlink_keeps_register w id moment p mapping base media register
+any_request w id moment (Split p child mode rect) uuid register = split_keeps_register w id moment p child mode rect register
+any_request w id moment (Merge child into ticket) uuid register = merge_keeps_register w id moment child into ticket register
+
+pub step_keeps_register : StepKeepsRegister
+step_keeps_register w q reply v uuid register step =
+    elim step [
+      | inl done ↦ subst IsRegister (sym done.1) (any_request w q.id q.at q.command uuid register)
+      | inr fault ↦ subst IsRegister (sym fault.1) register
+    ]
+
+pub run_keeps_register : RunKeepsRegister
+run_keeps_register w [] [] v uuids register run = subst IsRegister (sym run) register
+run_keeps_register w (q ∷ qs) (reply ∷ replies) v uuids register run =
+    run_keeps_register run.0 qs replies v uuids.1 (step_keeps_register w q reply run.0 uuids.0 register run.1) run.2
+run_keeps_register w [] (reply ∷ replies) v uuids register run = absurd run
+run_keeps_register w (q ∷ qs) [] v uuids register run = absurd run

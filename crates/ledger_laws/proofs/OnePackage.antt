@@ -1,0 +1,166 @@
+-- A command that changes the items and links of one package keeps the account.
+use Rattle.std.specs.Prelude.{◌≡◌, ⊤, ℕ, ◌+◌, ◌<◌, ◌==◌, Bool, true, false, cond, ◌&&◌, ◌||◌, List, [], ◌∷◌, ◌++◌, length, refl, bytes_eq, Option, Some, None, unwrap_or, sum_by, flat_map, MatchOption, Contains}
+use Rattle.std.proofs.Common.{sym, ap, subst, ◌∙◌, arith}
+use Rattle.std.proofs.lemmas.List.Elements.{Contains-append_left}
+use Rattle.std.proofs.lemmas.Bool.{true≢false, false≢true, and_parts}
+use Rattle.std.proofs.lemmas.Slice.Eq.{bytes_eq-Decides}
+use Rattle.std.specs.List.{list_any, AllByRecursion}
+use Rattle.sheet_types.specs.Ordered.{IsArranged}
+use Rattle.sheet_types.specs.Texts.{Entry, entry_line}
+use Rattle.sheet_types.specs.World.{World, Package, package_key, receipt_key, receipts_of, holdings, is_live, changed, with_receipt}
+use Rattle.sheet_types.specs.Custody.{ends_at, is_merge, is_split, after}
+use Rattle.sheet_types.specs.Balance.{Balanced, NoneAltered, MayFollow, archive_of, IsLoan, IsUnaltered, stands_in}
+use Rattle.sheet_types.specs.Register.{IsRegister, IsKeptPackage}
+use Rattle.sheet_types.specs.declared.command.Item.{Item}
+use Rattle.sheet_types.specs.declared.command.Relation.{Relation}
+use Rattle.sheet_types.specs.declared.receipt.Moved.{Moved}
+use Rattle.sheet_types.specs.declared.receipt.Receipt.{Receipt}
+use Rattle.sheet_types.proofs.Order.{All-put}
+use Rattle.ledger_laws.proofs.Adding.{bytes_eq_itself, All-weaker, archive_stays, ledger_numbers, receipts_gained, with_receipt_gains}
+use Rattle.ledger_laws.proofs.Balancing.{list_any-put, none_after}
+use Rattle.ledger_laws.proofs.Listing.{bytes_eq_swap}
+use Rattle.ledger_laws.proofs.Packages.{AllStand, stand_at, stand_all, holdings_changed, changed_arranged, All-changed}
+use Rattle.ledger_laws.proofs.Shifting.{weighed, goes, SeesKeys, Shift, balance_kept}
+use Rattle.ledger_laws.proofs.Facts.{kept_at, holds_once}
+use Rattle.sheet_types.specs.Register.{HasParent}
+use Rattle.sheet_types.specs.Refuse.{too_many, is_archive}
+use Rattle.sheet_types.proofs.Order.{All-of_arranged}
+use Rattle.ledger_laws.proofs.Shifting.{flat_stand}
+use Rattle.ledger_laws.proofs.Keeping.{live_changed, parent_moves, receipts_kept, sum_by-changed, all_live_at, package_moves, open_kept}
+
+-- ---- one package is changed
+
+module _ (w : World) (p : List ℕ) (r : Receipt) (e : Entry) (items : Package → List Item) (links : Package → List Relation) where
+  abbrev pub change : Package → Package
+  change x = with_receipt r (record x { items = items x; links = links x })
+
+  abbrev pub next : World
+  next = changed change p w
+
+  pub record Fits : Type 0 where
+    pub says : r.line ≡ entry_line e
+    pub stands : stands_in e ≡ p
+    pub live : is_live w p ≡ true
+    pub may : MayFollow (archive_of w) (receipts_of w) r
+    pub no_merge : is_merge r ≡ false
+    pub shifts : (c : Moved → ℕ) → SeesKeys c → weighed c (change (holdings w p)) + cond (ends_at r.source p) (sum_by c r.items) 0 ≡ weighed c (holdings w p) + cond (ends_at r.target p) (sum_by c r.items) 0
+    pub elsewhere : (q : List ℕ) → bytes_eq p q ≡ false → (ends_at r.source q ≡ false) × (ends_at r.target q ≡ false)
+
+  module _ (register : IsRegister w) (fits : Fits) where
+    at_next : (q : List ℕ) → holdings next q ≡ cond (bytes_eq q p) (change (holdings w p)) (holdings w q)
+    at_next q = holdings_changed change w p q (λ x. refl) fits.live
+
+    pub at_p : holdings next p ≡ change (holdings w p)
+    at_p = at_next p ∙ ap (λ b. cond b (change (holdings w p)) (holdings w p)) (bytes_eq_itself p)
+
+    pub at_other : (q : List ℕ) → bytes_eq q p ≡ false → holdings next q ≡ holdings w q
+    at_other q b = at_next q ∙ ap (λ v. cond v (change (holdings w p)) (holdings w q)) b
+
+    by_place : (P : List ℕ → Type 0) → P p → ((q : List ℕ) → bytes_eq q p ≡ false → P q) → (q : List ℕ) → P q
+    by_place P i o q =
+        elim (bytes_eq q p) as (λ v. bytes_eq q p ≡ v → P q) [
+          | true ↦ λ same. subst P (sym ((bytes_eq-Decides q p).0 same)) i
+          | false ↦ λ b. o q b
+        ] refl
+
+    pub distinct_next : IsArranged package_key next.packages
+    distinct_next = changed_arranged change p w.packages (λ x. refl) register.arranged
+
+    shifts : (c : Moved → ℕ) → SeesKeys c → (q : List ℕ) → weighed c (holdings next q) + cond (ends_at r.source q) (sum_by c r.items) 0 ≡ weighed c (holdings w q) + cond (ends_at r.target q) (sum_by c r.items) 0
+    shifts c sees = by_place (λ q. weighed c (holdings next q) + cond (ends_at r.source q) (sum_by c r.items) 0 ≡ weighed c (holdings w q) + cond (ends_at r.target q) (sum_by c r.items) 0)
+        (rw at_p (fits.shifts c sees))
+        (λ q b. let away : (ends_at r.source q ≡ false) × (ends_at r.target q ≡ false) = fits.elsewhere q (bytes_eq_swap p q ∙ b) in rw (at_other q b, away.0, away.1) refl)
+
+    goes_same : (u : List ℕ) → goes r u ≡ u
+    goes_same u = ap (λ b. cond (b && ends_at r.source u) (unwrap_or r.target []) u) fits.no_merge
+
+    carry : (Q : List ℕ → Receipt → Type 0) → AllStand (λ u s. Q (goes r u) s) w → Q (stands_in e) r → AllStand Q next
+    carry Q h g = stand_all Q next distinct_next (by_place (λ q. AllByRecursion (Q q) (holdings next q).receipts)
+        (subst (λ x. AllByRecursion (Q p) x.receipts) (sym at_p) (All-put receipt_key (Q p) r (holdings w p).receipts (subst (λ u. Q u r) fits.stands g) (there p)))
+        (λ q b. subst (λ x. AllByRecursion (Q q) x.receipts) (sym (at_other q b)) (there q)))
+      where
+        there : (q : List ℕ) → AllByRecursion (Q q) (holdings w q).receipts
+        there q = subst (λ u. AllByRecursion (Q u) (holdings w q).receipts) (goes_same q) (stand_at (λ u s. Q (goes r u) s) w q h)
+
+    below : AllByRecursion (λ s. s.seq < r.seq) (receipts_of w)
+    below = All-weaker (λ s. s.seq < length {A = Receipt} [] + length (receipts_of w) + 1) (λ s. s.seq < r.seq) (λ s lt. omega (arith, lt, fits.may.number)) (receipts_of w) (ledger_numbers (archive_of w) [] (receipts_of w) register.balanced.ledger)
+
+    pub receipts : receipts_of next ≡ receipts_of w ++ r ∷ []
+    receipts = receipts_gained change w p r (λ x. with_receipt_gains r x) below register.arranged fits.live
+
+    shift : Shift w next r
+    shift = record { receipts = receipts; archive = archive_stays change p w (λ x. refl) (λ x. refl); may = fits.may; shifts = shifts }
+
+    loan_kept : (x : Package) → IsLoan w x → IsLoan next x
+    loan_kept x h = at_parent x.parent h
+      where
+        made : Receipt → Bool
+        made s = is_split s && ends_at s.target x.uuid && (s.seq == x.loan)
+
+        ended : Receipt → Bool
+        ended m = is_merge m && ends_at m.source x.uuid
+
+        or_last : (a b : Bool) → b ≡ true → (a || b) ≡ true
+        or_last true b h = refl
+        or_last false b h = h
+
+        made_there : (q : List ℕ) → list_any made (holdings w q).receipts ≡ true → list_any made (holdings next q).receipts ≡ true
+        made_there = by_place (λ q. list_any made (holdings w q).receipts ≡ true → list_any made (holdings next q).receipts ≡ true)
+            (λ h. ap (λ y. list_any made y.receipts) at_p ∙ list_any-put receipt_key made r (holdings w p).receipts ∙ or_last (made r) (list_any made (holdings w p).receipts) h)
+            (λ q b h. ap (λ y. list_any made y.receipts) (at_other q b) ∙ h)
+
+        at_parent : (o : Option (List ℕ)) → MatchOption o ⊤ (λ parent. (list_any made (holdings w parent).receipts ≡ true) × (list_any ended (after x.loan (receipts_of w)) ≡ false))
+            → MatchOption o ⊤ (λ parent. (list_any made (holdings next parent).receipts ≡ true) × (list_any ended (after x.loan (receipts_of next)) ≡ false))
+        at_parent None h = tt
+        at_parent (Some parent) h = (
+          made_there parent h.0,
+          ap (λ rs. list_any ended (after x.loan rs)) receipts ∙ none_after ended x.loan (receipts_of w) r (ap (λ b. b && ends_at r.source x.uuid) fits.no_merge) h.1,
+        )
+
+    pub balance_after : Balanced next
+    balance_after = balance_kept w next r e fits.says shift register.balanced (holds_once w register) carry (λ m. absurd (true≢false (sym m ∙ fits.no_merge)))
+        (All-changed change p (IsLoan w) (IsLoan next) (λ x _ h. loan_kept x h) loan_kept w.packages register.balanced.loans)
+
+    unaltered_next : (i : Item) → IsUnaltered w i → IsUnaltered next i
+    unaltered_next i h = (h.0, subst (λ rs. Contains rs h.0) (sym receipts) (Contains-append_left (receipts_of w) (r ∷ []) h.0 h.1), h.2, h.3)
+
+    pub contents_after : ((x : Package) → AllByRecursion (IsUnaltered next) x.items → AllByRecursion (IsUnaltered next) (items x)) → NoneAltered next
+    contents_after stay =
+        let Sound : Package → Type 0 = λ x. AllByRecursion (IsUnaltered next) x.items in
+        let old : AllByRecursion Sound w.packages = All-weaker (λ x. AllByRecursion (IsUnaltered w) x.items) Sound (λ x. All-weaker (IsUnaltered w) (IsUnaltered next) unaltered_next x.items) w.packages register.unaltered in
+        All-changed change p Sound Sound (λ x _ h. stay x h) (λ x h. h) w.packages old
+
+    -- ---- the rules of a register
+
+    live_same : (q : List ℕ) → is_live next q ≡ is_live w q
+    live_same q = live_changed change p q w.packages (λ x. refl)
+
+    depth_same : (q : List ℕ) → (holdings next q).depth ≡ (holdings w q).depth
+    depth_same = by_place (λ q. (holdings next q).depth ≡ (holdings w q).depth) (ap (λ x. x.depth) at_p) (λ q b. ap (λ x. x.depth) (at_other q b))
+
+    parent_stays : (x : Package) → HasParent w x → HasParent next x
+    parent_stays x h = parent_moves w next x.parent x.depth x.loan (λ q _ live. (live_same q ∙ live, depth_same q)) h
+
+    pub parent_kept : HasParent next (change (holdings w p))
+    parent_kept = parent_stays (holdings w p) (kept_at w p register fits.live).parent
+
+    pub receipts_at_p : IsArranged receipt_key (change (holdings w p)).receipts
+    receipts_at_p = receipts_kept r (holdings w p).receipts (kept_at w p register fits.live).receipts (stand_at (λ _ s. s.seq < r.seq) w p
+        (flat_stand (λ s. s.seq < r.seq) w.packages (All-of_arranged receipt_key (λ s. s.seq < r.seq) (flat_map (λ x. x.receipts) w.packages) below)))
+
+    pub register_after : IsKeptPackage next (change (holdings w p)) → too_many next ≡ false → is_split r ≡ false → NoneAltered next → IsRegister next
+    register_after changed' within no_split unaltered = record {
+      frame = register.frame;
+      arranged = distinct_next;
+      archive = sum_by-changed change (λ x. cond (is_archive x) 1 0) p w.packages (λ x. refl) ∙ register.archive;
+      packages = all_live_at next (IsKeptPackage next) distinct_next (by_place (λ q. is_live next q ≡ true → IsKeptPackage next (holdings next q))
+          (λ _. subst (IsKeptPackage next) (sym at_p) changed')
+          (λ q b live.
+          let k : IsKeptPackage w (holdings w q) = kept_at w q register (sym (live_same q) ∙ live) in
+          subst (IsKeptPackage next) (sym (at_other q b)) (package_moves w next (holdings w q) refl (parent_stays (holdings w q) k.parent) k)));
+      open_loans = open_kept w next r receipts below register.open_loans (λ t _ live. live_same t ∙ live)
+          (λ open'. absurd (false≢true (sym no_split ∙ (and_parts _ _ (and_parts _ _ open').0).0)));
+      within_limits = within;
+      balanced = balance_after;
+      unaltered = unaltered;
+    }

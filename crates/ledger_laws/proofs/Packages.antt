@@ -1,0 +1,194 @@
+-- A world by what is held under each UUID.
+use Rattle.std.specs.Prelude.{◌≡◌, ℕ, ◌+◌, ◌≤◌, Bool, true, false, cond, not, List, [], ◌∷◌, ◌++◌, map, find, refl, bytes_eq, Some, None, sum_by, count_by, unwrap_or}
+use Rattle.std.proofs.Common.{sym, ap, subst, ◌∙◌, arith}
+use Rattle.std.proofs.lemmas.List.Sums.{sum_by-cons}
+use Rattle.std.proofs.lemmas.Slice.Eq.{bytes_eq-Decides}
+use Rattle.std.specs.List.{AllByRecursion}
+use Rattle.sheet_types.specs.Ordered.{is_before, put, without, is_among, IsArranged}
+use Rattle.sheet_types.specs.World.{World, Package, package_key, holdings, no_package, is_live, changed}
+use Rattle.sheet_types.specs.Step.{closed, enlarged}
+use Rattle.sheet_types.specs.declared.receipt.Receipt.{Receipt}
+use Rattle.ledger_laws.proofs.Adding.{bytes_eq_itself, None≢Some, All-weaker, or-false, before-differs}
+use Rattle.ledger_laws.proofs.Balancing.{holdings_other, holdings_same}
+use Rattle.sheet_types.specs.Refuse.{is_archive}
+use Rattle.std.specs.Prelude.{flat_map}
+use Rattle.ledger_laws.proofs.Listing.{All-append, is_one, bytes_eq_swap, All-both, found, not_found, All-found, count-cons, counts_arranged, none_counted, take_one, filter_arranged}
+
+abbrev pub at_uuid : List ℕ → Package → Bool
+at_uuid p x = bytes_eq x.uuid p
+
+-- each package is what is found under its UUID
+pub each_found : (ps : List Package) → IsArranged package_key ps → AllByRecursion (λ x. find (at_uuid x.uuid) ps ≡ Some x) ps
+each_found [] h = tt
+each_found (x ∷ ps) h = (
+  ap (λ b. cond b (Some x) (find (at_uuid x.uuid) ps)) (bytes_eq_itself x.uuid),
+  All-both (λ y. is_before x.uuid y.uuid ≡ true) (λ y. find (at_uuid y.uuid) ps ≡ Some y) (λ y. find (at_uuid y.uuid) (x ∷ ps) ≡ Some y)
+      (λ y before is. ap (λ b. cond b (Some x) (find (at_uuid y.uuid) ps)) (before-differs x.uuid y.uuid before) ∙ is) ps h.0 (each_found ps h.1),
+)
+
+pub all_at : (w : World) (P : Package → Type 0) → IsArranged package_key w.packages → ((p : List ℕ) → P (holdings w p)) → AllByRecursion P w.packages
+all_at w P distinct h = All-weaker (λ x. find (at_uuid x.uuid) w.packages ≡ Some x) P (λ x is. subst P (ap (λ o. unwrap_or o no_package) is) (h x.uuid)) w.packages (each_found w.packages distinct)
+
+pub holdings_none : (w : World) (p : List ℕ) → is_live w p ≡ false → holdings w p ≡ no_package
+holdings_none w p dead = ap (λ o. unwrap_or o no_package) (not_found (at_uuid p) w.packages dead)
+
+pub at_all : (w : World) (P : Package → Type 0) (p : List ℕ) → AllByRecursion P w.packages → is_live w p ≡ true → P (holdings w p) × ((holdings w p).uuid ≡ p)
+at_all w P p h live =
+    let f : (x : Package) × (find (at_uuid p) w.packages ≡ Some x) = found (at_uuid p) w.packages live in
+    let all : P f.0 × (at_uuid p f.0 ≡ true) = All-found P (at_uuid p) f.0 w.packages f.1 h in
+    let is : f.0 ≡ holdings w p = sym (ap (λ o. unwrap_or o no_package) f.1) in
+    (subst P is all.0, subst (λ x. x.uuid ≡ p) is ((bytes_eq-Decides f.0.uuid p).0 all.1))
+
+-- a fact of each receipt and of the UUID under which it stands
+abbrev pub AllStand : (List ℕ → Receipt → Type 0) → World → Type 0
+AllStand Q w = AllByRecursion (λ x. AllByRecursion (Q x.uuid) x.receipts) w.packages
+
+pub stand_at : (Q : List ℕ → Receipt → Type 0) (w : World) (p : List ℕ) → AllStand Q w → AllByRecursion (Q p) (holdings w p).receipts
+stand_at Q w p h =
+    elim (is_live w p) as (λ v. is_live w p ≡ v → AllByRecursion (Q p) (holdings w p).receipts) [
+      | true ↦ λ live.
+          let r : AllByRecursion (Q (holdings w p).uuid) (holdings w p).receipts × ((holdings w p).uuid ≡ p) = at_all w (λ x. AllByRecursion (Q x.uuid) x.receipts) p h live in
+          subst (λ u. AllByRecursion (Q u) (holdings w p).receipts) r.1 r.0
+      | false ↦ λ dead. subst (λ x. AllByRecursion (Q p) x.receipts) (sym (holdings_none w p dead)) tt
+    ] refl
+
+pub stand_all : (Q : List ℕ → Receipt → Type 0) (w : World) → IsArranged package_key w.packages → ((p : List ℕ) → AllByRecursion (Q p) (holdings w p).receipts) → AllStand Q w
+stand_all Q w distinct h =
+    All-weaker (λ x. find (at_uuid x.uuid) w.packages ≡ Some x) (λ x. AllByRecursion (Q x.uuid) x.receipts)
+    (λ x is. subst (λ y. AllByRecursion (Q x.uuid) y.receipts) (ap (λ o. unwrap_or o no_package) is) (h x.uuid)) w.packages (each_found w.packages distinct)
+
+-- ---- after a change, a new package, and the end of one
+
+pub holdings_changed : (f : Package → Package) (w : World) (p p' : List ℕ) → ((x : Package) → (f x).uuid ≡ x.uuid) → is_live w p ≡ true
+    → holdings (changed f p w) p' ≡ cond (bytes_eq p' p) (f (holdings w p)) (holdings w p')
+holdings_changed f w p p' uuids live =
+    elim (bytes_eq p' p) as (λ v. bytes_eq p' p ≡ v → holdings (changed f p w) p' ≡ cond v (f (holdings w p)) (holdings w p')) [
+      | true ↦ λ same. ap (holdings (changed f p w)) ((bytes_eq-Decides p' p).0 same) ∙ holdings_same f w p uuids live
+      | false ↦ λ other. holdings_other f w p p' uuids other
+    ] refl
+
+find_put : (x : Package) (p : List ℕ) (ps : List Package) → find (at_uuid p) (put package_key x ps) ≡ cond (bytes_eq x.uuid p) (Some x) (find (at_uuid p) ps)
+find_put x p [] = refl
+find_put x p (y ∷ ps) =
+    elim (is_before y.uuid x.uuid) as (λ v. is_before y.uuid x.uuid ≡ v → find (at_uuid p) (cond v (y ∷ put package_key x ps) (x ∷ y ∷ ps)) ≡ cond (bytes_eq x.uuid p) (Some x) (cond (bytes_eq y.uuid p) (Some y) (find (at_uuid p) ps))) [
+      | true ↦ λ before. elim (bytes_eq x.uuid p) as (λ v. bytes_eq x.uuid p ≡ v → cond (bytes_eq y.uuid p) (Some y) (find (at_uuid p) (put package_key x ps)) ≡ cond v (Some x) (cond (bytes_eq y.uuid p) (Some y) (find (at_uuid p) ps))) [
+        | true ↦ λ same.
+            let other : bytes_eq y.uuid p ≡ false = ap (bytes_eq y.uuid) (sym ((bytes_eq-Decides x.uuid p).0 same)) ∙ before-differs y.uuid x.uuid before in
+            ap (λ b. cond b (Some y) (find (at_uuid p) (put package_key x ps))) other ∙ find_put x p ps ∙ ap (λ b. cond b (Some x) (find (at_uuid p) ps)) same
+        | false ↦ λ other. ap (λ o. cond (bytes_eq y.uuid p) (Some y) o) (find_put x p ps ∙ ap (λ b. cond b (Some x) (find (at_uuid p) ps)) other)
+      ] refl
+      | false ↦ λ _. refl
+    ] refl
+
+pub holdings_enlarged : (x : Package) (w : World) (p : List ℕ) → holdings (enlarged x w) p ≡ cond (bytes_eq x.uuid p) x (holdings w p)
+holdings_enlarged x w p = ap (λ o. unwrap_or o no_package) (find_put x p w.packages)
+    ∙ elim (bytes_eq x.uuid p) as (λ v. unwrap_or (cond v (Some x) (find (at_uuid p) w.packages)) no_package ≡ cond v x (holdings w p)) [ true ↦ refl | false ↦ refl ]
+
+find_closed : (c p : List ℕ) (ps : List Package) → find (at_uuid p) (without package_key (c ∷ []) ps) ≡ cond (bytes_eq p c) None (find (at_uuid p) ps)
+find_closed c p [] = elim (bytes_eq p c) as (λ v. find (at_uuid p) [] ≡ cond v None (find (at_uuid p) [])) [ true ↦ refl | false ↦ refl ]
+find_closed c p (y ∷ ps) =
+    elim (is_among (c ∷ []) y.uuid) as (λ v. is_among (c ∷ []) y.uuid ≡ v → find (at_uuid p) (cond (not v) (y ∷ without package_key (c ∷ []) ps) (without package_key (c ∷ []) ps)) ≡ cond (bytes_eq p c) None (cond (bytes_eq y.uuid p) (Some y) (find (at_uuid p) ps))) [
+      | true ↦ λ gone.
+          let e : c ≡ y.uuid = (bytes_eq-Decides c y.uuid).0 (sym (or-false (bytes_eq c y.uuid)) ∙ gone) in
+          find_closed c p ps ∙ elim (bytes_eq p c) as (λ v. bytes_eq p c ≡ v → cond v None (find (at_uuid p) ps) ≡ cond v None (cond (bytes_eq y.uuid p) (Some y) (find (at_uuid p) ps))) [
+            | true ↦ λ _. refl
+            | false ↦ λ other. sym (ap (λ b. cond b (Some y) (find (at_uuid p) ps)) (bytes_eq_swap y.uuid p ∙ ap (bytes_eq p) (sym e) ∙ other))
+          ] refl
+      | false ↦ λ stays.
+          elim (bytes_eq y.uuid p) as (λ v. bytes_eq y.uuid p ≡ v → cond v (Some y) (find (at_uuid p) (without package_key (c ∷ []) ps)) ≡ cond (bytes_eq p c) None (cond v (Some y) (find (at_uuid p) ps))) [
+            | true ↦ λ here.
+                let other : bytes_eq p c ≡ false = bytes_eq_swap p c ∙ ap (bytes_eq c) (sym ((bytes_eq-Decides y.uuid p).0 here)) ∙ sym (or-false (bytes_eq c y.uuid)) ∙ stays in
+                sym (ap (λ b. cond b None (Some y)) other)
+            | false ↦ λ _. find_closed c p ps
+          ] refl
+    ] refl
+
+pub holdings_closed : (c p : List ℕ) (w : World) → holdings (closed c w) p ≡ cond (bytes_eq p c) no_package (holdings w p)
+holdings_closed c p w = ap (λ o. unwrap_or o no_package) (find_closed c p w.packages)
+    ∙ elim (bytes_eq p c) as (λ v. unwrap_or (cond v None (find (at_uuid p) w.packages)) no_package ≡ cond v no_package (holdings w p)) [ true ↦ refl | false ↦ refl ]
+
+-- the packages stay in order
+map_before : (f : Package → Package) (p u : List ℕ) (ps : List Package) → ((x : Package) → (f x).uuid ≡ x.uuid) → AllByRecursion (λ y. is_before u y.uuid ≡ true) ps
+    → AllByRecursion (λ y. is_before u y.uuid ≡ true) (map (λ x. cond (bytes_eq x.uuid p) (f x) x) ps)
+map_before f p u [] uuids h = tt
+map_before f p u (x ∷ ps) uuids h = (
+  elim (bytes_eq x.uuid p) as (λ v. is_before u (cond v (f x) x).uuid ≡ true) [ true ↦ ap (is_before u) (uuids x) ∙ h.0 | false ↦ h.0 ],
+  map_before f p u ps uuids h.1,
+)
+
+pub changed_arranged : (f : Package → Package) (p : List ℕ) (ps : List Package) → ((x : Package) → (f x).uuid ≡ x.uuid) → IsArranged package_key ps → IsArranged package_key (map (λ x. cond (bytes_eq x.uuid p) (f x) x) ps)
+changed_arranged f p [] uuids h = tt
+changed_arranged f p (x ∷ ps) uuids h = (
+  elim (bytes_eq x.uuid p) as (λ v. AllByRecursion (λ y. is_before (cond v (f x) x).uuid y.uuid ≡ true) (map (λ z. cond (bytes_eq z.uuid p) (f z) z) ps)) [
+    | true ↦ subst (λ u. AllByRecursion (λ y. is_before u y.uuid ≡ true) (map (λ z. cond (bytes_eq z.uuid p) (f z) z) ps)) (sym (uuids x)) (map_before f p x.uuid ps uuids h.0)
+    | false ↦ map_before f p x.uuid ps uuids h.0
+  ],
+  changed_arranged f p ps uuids h.1,
+)
+
+-- a sum over the packages after a change of one
+changed_none : (f : Package → Package) (h : Package → ℕ) (p : List ℕ) (ps : List Package) → AllByRecursion (λ x. at_uuid p x ≡ false) ps → sum_by h (map (λ x. cond (bytes_eq x.uuid p) (f x) x) ps) ≡ sum_by h ps
+changed_none f h p [] none = refl
+changed_none f h p (x ∷ ps) none =
+    let here : h (cond (bytes_eq x.uuid p) (f x) x) ≡ h x = ap (λ b. h (cond b (f x) x)) none.0 in
+    omega (arith, sum_by-cons h (cond (bytes_eq x.uuid p) (f x) x) (map (λ z. cond (bytes_eq z.uuid p) (f z) z) ps), sum_by-cons h x ps, here, changed_none f h p ps none.1)
+
+pub changed_sum : (f : Package → Package) (h : Package → ℕ) (p : List ℕ) (x : Package) (ps : List Package) → count_by (at_uuid p) ps ≤ 1 → find (at_uuid p) ps ≡ Some x
+    → sum_by h (map (λ z. cond (bytes_eq z.uuid p) (f z) z) ps) + h x ≡ sum_by h ps + h (f x)
+changed_sum f h p x [] one e = absurd (None≢Some e)
+changed_sum f h p x (y ∷ ps) one e =
+    let rest : List Package = map (λ z. cond (bytes_eq z.uuid p) (f z) z) ps in
+    elim (bytes_eq y.uuid p) as (λ v. bytes_eq y.uuid p ≡ v → cond v (Some y) (find (at_uuid p) ps) ≡ Some x → sum_by h (cond v (f y) y ∷ rest) + h x ≡ sum_by h (y ∷ ps) + h (f x)) [
+      | true ↦ λ here is.
+          let same : y ≡ x = ap (λ o. unwrap_or o y) is in
+          let none : sum_by h rest ≡ sum_by h ps = changed_none f h p ps (none_counted (at_uuid p) ps (omega (arith, one, count-cons (at_uuid p) y ps true here))) in
+          omega (arith, sum_by-cons h (f y) rest, sum_by-cons h y ps, none, ap h same, ap (λ z. h (f z)) same)
+      | false ↦ λ other is. omega (arith, sum_by-cons h y rest, sum_by-cons h y ps, changed_sum f h p x ps (omega (arith, one, count-cons (at_uuid p) y ps false other)) is)
+    ] refl e
+
+-- a fact of each package after a change of one
+pub All-changed : (f : Package → Package) (p : List ℕ) (P Q : Package → Type 0) → ((x : Package) → bytes_eq x.uuid p ≡ true → P x → Q (f x)) → ((x : Package) → P x → Q x) → (ps : List Package) → AllByRecursion P ps
+    → AllByRecursion Q (map (λ x. cond (bytes_eq x.uuid p) (f x) x) ps)
+All-changed f p P Q here other [] h = tt
+All-changed f p P Q here other (x ∷ ps) h = (
+  elim (bytes_eq x.uuid p) as (λ v. bytes_eq x.uuid p ≡ v → Q (cond v (f x) x)) [ true ↦ λ same. here x same h.0 | false ↦ λ _. other x h.0 ] refl,
+  All-changed f p P Q here other ps h.1,
+)
+
+pub stand_flat : (P : Receipt → Type 0) (ps : List Package) → AllByRecursion (λ x. AllByRecursion P x.receipts) ps → AllByRecursion P (flat_map (λ x. x.receipts) ps)
+stand_flat P [] h = tt
+stand_flat P (x ∷ ps) h = All-append P x.receipts (flat_map (λ y. y.receipts) ps) h.0 (stand_flat P ps h.1)
+
+-- two packages weigh no more than all
+pub two_places : (h : Package → ℕ) (w : World) (p p' : List ℕ) → IsArranged package_key w.packages → bytes_eq p' p ≡ false → is_live w p ≡ true → is_live w p' ≡ true
+    → h (holdings w p) + h (holdings w p') ≤ sum_by h w.packages
+two_places h w p p' distinct other live live' =
+    let x : (x : Package) × (find (at_uuid p) w.packages ≡ Some x) = found (at_uuid p) w.packages live in
+    let y : (y : Package) × (find (at_uuid p') w.packages ≡ Some y) = found (at_uuid p') w.packages live' in
+    let rest : List Package = without package_key (p ∷ []) w.packages in
+    let there : find (at_uuid p') rest ≡ Some y.0 = find_closed p p' w.packages ∙ ap (λ b. cond b None (find (at_uuid p') w.packages)) other ∙ y.1 in
+    omega (
+      arith,
+      take_one package_key p h x.0 w.packages (counts_arranged package_key p w.packages distinct) x.1,
+      take_one package_key p' h y.0 rest (counts_arranged package_key p' rest (filter_arranged package_key (λ z. not (is_among (p ∷ []) z.uuid)) w.packages distinct)) there,
+      ap (λ o. h (unwrap_or o no_package)) x.1,
+      ap (λ o. h (unwrap_or o no_package)) y.1,
+    )
+
+-- the archive stays where a package with a parent ends
+pub archive_closed : (c : List ℕ) (ps : List Package) → AllByRecursion (λ x. bytes_eq x.uuid c ≡ true → is_archive x ≡ false) ps → find is_archive (without package_key (c ∷ []) ps) ≡ find is_archive ps
+archive_closed c [] h = refl
+archive_closed c (x ∷ ps) h =
+    elim (is_among (c ∷ []) x.uuid) as (λ v. is_among (c ∷ []) x.uuid ≡ v → find is_archive (cond (not v) (x ∷ without package_key (c ∷ []) ps) (without package_key (c ∷ []) ps)) ≡ cond (is_archive x) (Some x) (find is_archive ps)) [
+      | true ↦ λ gone. archive_closed c ps h.1 ∙ sym (ap (λ b. cond b (Some x) (find is_archive ps)) (h.0 (sym (is_one package_key c x) ∙ gone)))
+      | false ↦ λ _. ap (λ o. cond (is_archive x) (Some x) o) (archive_closed c ps h.1)
+    ] refl
+
+-- a new package without receipts brings none
+pub flat_put : (x : Package) (ps : List Package) → x.receipts ≡ [] → flat_map (λ y. y.receipts) (put package_key x ps) ≡ flat_map (λ y. y.receipts) ps
+flat_put x [] none = rw none refl
+flat_put x (y ∷ ps) none =
+    elim (is_before y.uuid x.uuid) as (λ v. flat_map (λ z. z.receipts) (cond v (y ∷ put package_key x ps) (x ∷ y ∷ ps)) ≡ flat_map (λ z. z.receipts) (y ∷ ps)) [
+      | true ↦ ap (λ zs. y.receipts ++ zs) (flat_put x ps none)
+      | false ↦ ap (λ zs. zs ++ flat_map (λ z. z.receipts) (y ∷ ps)) none
+    ]

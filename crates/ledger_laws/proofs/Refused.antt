@@ -1,0 +1,26 @@
+-- Refusals on which no soundness rests, so that no law sees them: computed.
+use Rattle.std.specs.Prelude.{◌≡◌, refl, [], ◌∷◌, pos, Err}
+use Rattle.sheet_types.specs.World.{World}
+use Rattle.sheet_types.specs.Step.{outcome}
+use Rattle.sheet_types.specs.declared.command.Command.TheVariants.{Add, Link, Split}
+use Rattle.sheet_types.specs.declared.command.Mapping.TheVariants.{TilesMedia}
+use Rattle.sheet_types.specs.declared.command.Mode.TheVariants.{Strict, Follow}
+use Rattle.sheet_types.specs.declared.refusal.Refusal.TheVariants.{BadRectangle, NothingToLend, BadText, UnknownItem}
+use Rattle.ledger_laws.proofs.Rows.{archive_a, after_all, ask, A, B, i, tile}
+
+abbrev one_tile_held : World
+one_tile_held = after_all archive_a (ask 1 (Add A (i 1) (tile 1 0 0)) ∷ [])
+
+-- the last column is before the first
+bad_rectangle_is_refused : (outcome one_tile_held (ask 2 (Split A B Strict (record { zoom = pos 1; column = pos 1; last_column = pos 0; row = pos 0; last_row = pos 1 })))).0 ≡ Err BadRectangle
+bad_rectangle_is_refused = refl
+
+-- a good rectangle in which nothing lies
+empty_rectangle_is_refused : (outcome one_tile_held (ask 2 (Split A B Follow (record { zoom = pos 1; column = pos 1; last_column = pos 1; row = pos 1; last_row = pos 1 })))).0 ≡ Err NothingToLend
+empty_rectangle_is_refused = refl
+
+bad_moment_is_refused : (outcome one_tile_held (record { id = i 9; at = []; command = Add A (i 2) (tile 1 1 1) })).0 ≡ Err BadText
+bad_moment_is_refused = refl
+
+unknown_base_is_refused : (outcome one_tile_held (ask 2 (Link A TilesMedia (i 7) (i 8)))).0 ≡ Err UnknownItem
+unknown_base_is_refused = refl

@@ -1,0 +1,11 @@
+pub mod Ordered
+pub mod Matrix
+pub mod Texts
+pub mod World
+pub mod Custody
+pub mod Cut
+pub mod Refuse
+pub mod Step
+pub mod Balance
+pub mod Opening
+pub mod Register

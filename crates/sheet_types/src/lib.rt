@@ -1,0 +1,8 @@
+//! The values of the lending register: frames, requests, receipts, refusals; its texts; and, in `specs/`, the model that every contract above is held against.
+#![tactic(auto)]
+
+pub mod collections;
+pub mod command;
+pub mod frame;
+pub mod receipt;
+pub mod refusal;
