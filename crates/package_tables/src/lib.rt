@@ -1,0 +1,2 @@
+//! One package's tables as lists of typed rows: nothing above this crate speaks SQL.
+#![tactic(auto)]
