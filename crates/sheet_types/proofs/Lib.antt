@@ -1,2 +1,4 @@
+pub mod Tests
+pub mod LineReading
 pub mod Order
 pub mod Same
