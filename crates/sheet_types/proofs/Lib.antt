@@ -1,3 +1,5 @@
+pub mod Tests
+pub mod LineReading
 pub mod Order
 pub mod Same
 pub mod Arranging
