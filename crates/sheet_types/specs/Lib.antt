@@ -9,3 +9,5 @@ pub mod Step
 pub mod Balance
 pub mod Opening
 pub mod Register
+pub mod Reading
+pub mod Refusals

@@ -6,6 +6,7 @@ pub mod command;
 pub mod error;
 pub mod fingerprints;
 pub mod frame;
+pub mod lines;
 pub mod receipt;
 pub mod refusal;
 pub mod words;
