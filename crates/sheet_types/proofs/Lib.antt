@@ -1,3 +1,6 @@
+pub mod Commas
 pub mod Digits
+pub mod NumberTexts
 pub mod Order
 pub mod Same
+pub mod UuidTexts

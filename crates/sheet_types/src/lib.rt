@@ -7,6 +7,7 @@ pub mod error;
 pub mod fingerprints;
 pub mod frame;
 pub mod lines;
+pub mod reading;
 pub mod receipt;
 pub mod refusal;
 pub mod words;
