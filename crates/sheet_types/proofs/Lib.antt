@@ -3,3 +3,7 @@ pub mod LineReading
 pub mod Order
 pub mod Same
 pub mod Arranging
+pub mod Commas
+pub mod Digits
+pub mod NumberTexts
+pub mod UuidTexts
