@@ -1,5 +1,5 @@
 -- How a transaction goes on and ends, over any store.
-use Rattle.std.proofs.Common.{◌≡◌, ◌⊎◌, inl, inr, ℕ, Bool, true, false, Option, Some, None, List, Result, Ok, Err, IsTrue, refl, sym, ap, subst, ◌∙◌, ◌≤◌, arith}
+use Rattle.std.proofs.Common.{◌≡◌, ◌⊎◌, inl, inr, ℕ, Bool, true, false, Option, Some, None, List, Result, Ok, Err, IsErr, IsTrue, refl, sym, ap, subst, ◌∙◌, ◌≤◌, arith}
 use Rattle.std.proofs.lemmas.Bool.{both_ways, cases_Bool}
 use Rattle.sqlite_trees.specs.View.{doubt}
 use Rattle.sqlite.specs.Tree.{Trees}
@@ -62,26 +62,33 @@ write_steps {X} Changes old new r wrote survives = record { made = λ clean insi
     at (Ok x) it = (it.0.mode, record { was_open = λ _. it.0.was_open; committed = λ _. it.0.committed_is }, it.1)
     at (Err e) it = unchanged_keeps old new it
 
--- nothing yet
+-- nothing was done
 pub steps_none : {X E : Type 0} (Changes : X → Database → Database → Type 0) (s : State) (x : X) → Changes x s.now s.now → Steps {E = E} Changes s s (Ok x)
 steps_none Changes s x same = record { made = λ clean inside. (inside, same_keeps s, same); survives = same_survives s }
 
--- the answer is refused, and what was written stays in the transaction until that is dropped
-pub steps_refused : {X Y E F : Type 0} (First : X → Database → Database → Type 0) (Changes : Y → Database → Database → Type 0) (old new : State) (r : Result X E) (f : F) → Steps First old new r → Steps Changes old new (Err f)
-steps_refused First Changes old new r f h = record { made = λ clean inside. keeps_of First old new r (h.made clean inside); survives = h.survives }
+failed_keeps : {X E : Type 0} (Changes : X → Database → Database → Type 0) (old new : State) (r : Result X E) → IsErr r → KeepsCommit old new → Made Changes old new r
+failed_keeps Changes old new (Ok x) failed kept = absurd (let e = failed in cc)
+failed_keeps Changes old new (Err e) failed kept = kept
+
+-- A call that failed, or whose answer is refused, ends the steps. What it wrote is undone where the transaction is dropped.
+pub steps_failed : {X Y E F : Type 0} {First : X → Database → Database → Type 0} {Changes : Y → Database → Database → Type 0} {old new : State} {q : Result X E} (r : Result Y F) → IsErr r → Steps First old new q → Steps Changes old new r
+steps_failed {X} {Y} {E} {F} {First} {Changes} {old} {new} {q} r failed h = record {
+  made = λ clean inside. failed_keeps Changes old new r failed (keeps_of First old new q (h.made clean inside));
+  survives = h.survives;
+}
 
 -- the change as a caller says it
-pub steps_weaker : {X E : Type 0} (P Q : X → Database → Database → Type 0) (old new : State) (r : Result X E) → ((x : X) → P x old.now new.now → Q x old.now new.now) → Steps P old new r → Steps Q old new r
-steps_weaker {X} {E} P Q old new r f h = record { made = λ clean inside. at r (h.made clean inside); survives = h.survives }
+pub steps_weaker : {X E : Type 0} {P : X → Database → Database → Type 0} (Q : X → Database → Database → Type 0) {old new : State} {r : Result X E} → ((x : X) → P x old.now new.now → Q x old.now new.now) → Steps P old new r → Steps Q old new r
+steps_weaker {X} {E} {P} Q {old} {new} {r} f h = record { made = λ clean inside. at r (h.made clean inside); survives = h.survives }
   where
     at : (r : Result X E) → Made P old new r → Made Q old new r
     at (Ok x) it = (it.0, it.1, f x it.2)
     at (Err e) it = it
 
--- one call after the other
-pub steps_then : {X Y E F : Type 0} (First : X → Database → Database → Type 0) (Next : Y → Database → Database → Type 0) (old mid new : State) (x : X) (r : Result Y F) → Steps {E = E} First old mid (Ok x) → Steps Next mid new r
+-- one call after the other, whether the second succeeds or fails
+pub steps_then : {X Y E F : Type 0} {First : X → Database → Database → Type 0} {Next : Y → Database → Database → Type 0} {old mid new : State} {x : X} {r : Result Y F} → Steps {E = E} First old mid (Ok x) → Steps Next mid new r
     → Steps (λ y. Chained (First x) (Next y)) old new r
-steps_then {X} {Y} {E} {F} First Next old mid new x r one two = record {
+steps_then {X} {Y} {E} {F} {First} {Next} {old} {mid} {new} {x} {r} one two = record {
   made = λ clean inside. let first = one.made (omega (arith, two.survives.clean)) inside in at r first (two.made clean first.0);
   survives = none_left old mid new one.survives two.survives;
 }
@@ -90,14 +97,10 @@ steps_then {X} {Y} {E} {F} First Next old mid new x r one two = record {
     at (Ok y) first it = (it.0, keeps_then old mid new first.1 it.1, (mid.now, first.2, it.2))
     at (Err e) first it = keeps_then old mid new first.1 it
 
--- the first call failed
-pub steps_failed : {X Y E F : Type 0} (First : X → Database → Database → Type 0) (Changes : Y → Database → Database → Type 0) (old new : State) (e : E) (f : F) → Steps First old new (Err e) → Steps Changes old new (Err f)
-steps_failed First Changes old new e f h = steps_refused First Changes old new (Err e) f h
-
--- the call after it failed
-pub steps_then_failed : {X Y Z E F G : Type 0} (First : X → Database → Database → Type 0) (Next : Y → Database → Database → Type 0) (Changes : Z → Database → Database → Type 0) (old mid new : State) (x : X) (e : E) (f : F)
-    → Steps {E = G} First old mid (Ok x) → Steps Next mid new (Err e) → Steps Changes old new (Err f)
-steps_then_failed {X} {Y} {Z} {E} {F} {G} First Next Changes old mid new x e f one two = steps_refused (λ y. Chained (First x) (Next y)) Changes old new (Err e) f (steps_then {X = X} {Y = Y} {E = G} {F = E} First Next old mid new x (Err e) one two)
+-- the answer of the last call is handed on in another form
+pub steps_answer : {X Y E F : Type 0} {First : X → Database → Database → Type 0} (Changes : Y → Database → Database → Type 0) {old new : State} {x : X} (y : Y) → (First x old.now new.now → Changes y old.now new.now) → Steps {E = E} First old new (Ok x)
+    → Steps {E = F} Changes old new (Ok y)
+steps_answer Changes y f h = record { made = λ clean inside. let it = h.made clean inside in (it.0, it.1, f it.2); survives = h.survives }
 
 -- ---- how it ends
 
@@ -181,21 +184,24 @@ module _ {S : Type 0} (g : Ghosts S) (shuts : Shuts g) (settles : Settles g) whe
   none_would a b P s = record { clean = s.clean; shield = s.shield; counts = s.counts; limit = s.limit; closes = s.closes; crash = λ clean db may. elim (s.crash clean db may) [ inl before ↦ inl before | inr none ↦ absurd none ] }
 
   -- ---- the three exits of `let mut tx = conn.transaction(); let x = steps(&mut tx)?; tx.commit()?; Ok(x)`
-  -- `start` is the connection as it is lent to the transaction, `last` as the steps leave it, `end` as the drop or the commit leaves it, and `new` as the lender ends
+  -- `start` is the connection as it is lent to the transaction, `last` as the steps leave it, `end` as the drop or the commit leaves it, and `new` as the lender ends.
 
-  module _ {X E : Type 0} (Changes : X → Database → Database → Type 0) (old start last end new : Held S) (begins : start ≡ begun old) (same : end ≡ new) (rests : Rests (state g old)) where
-    first_inside : (r : Result X E) → Steps Changes (state g start) (state g last) r → Inside (state g (begun old)) (state g last)
+  module _ {X : Type 0} {Changes : X → Database → Database → Type 0} {old start end new : Held S} (last : Held S) (begins : start ≡ begun old) (same : end ≡ new) (rests : Rests (state g old)) where
+    first_inside : {E : Type 0} (r : Result X E) → Steps Changes (state g start) (state g last) r → Inside (state g (begun old)) (state g last)
     first_inside r steps = subst (λ (h : Held S). Inside (state g h) (state g last)) begins (steps_inside Changes (state g start) (state g last) r steps (ap (λ (h : Held S). h.in_transaction) begins))
 
-    -- the steps failed, and `tx` was dropped
-    pub turn_dropped : {F : Type 0} (r : Result X E) (f : F) → Steps Changes (state g start) (state g last) r → (HasCleanDisk (state g end) → IsRolledBack (state g last) (state g end)) → Survives (state g last) (state g end) (λ _. ⊥) → end.in_transaction ≡ false
-        → Turns Changes (state g old) (state g new) (Err f)
-    turn_dropped r f steps undone survives ended =
-        let it = rolled_back old last end rests (first_inside r steps) undone survives ended in
-        let so = none_would (state g old) (state g end) (WouldLeave Changes (state g old).now) it.2 in
-        subst (λ (h : Held S). Turns Changes (state g old) (state g h) (Err f)) same (record { rests = it.0; done = λ clean. tt; undone = it.1; left = leaves old (state g end) _ rests so; survives = so })
+    turned : {F : Type 0} (r : Result X F) → IsErr r → Survives (state g old) (state g end) (WouldLeave Changes (state g old).now) → Rests (state g end) → (IsTrue (state g end).is_open → Holds (state g end) (state g old).now) → Turns Changes (state g old) (state g new) r
+    turned (Ok x) failed so at_end undone = absurd (let e = failed in cc)
+    turned (Err f) failed so at_end undone = subst (λ (h : Held S). Turns Changes (state g old) (state g h) (Err f)) same (record { rests = at_end; done = λ clean. tt; undone = undone; left = leaves old (state g end) _ rests so; survives = so })
 
-    module _ (x : X) (steps : Steps {E = E} Changes (state g start) (state g last) (Ok x)) (ended : end.in_transaction ≡ false) (survives : Survives (state g last) (state g end) (λ db. db ≡ (state g last).now.trees)) where
+    -- the steps failed, and `tx` was dropped
+    pub turn_dropped : {E F : Type 0} {q : Result X E} (r : Result X F) → IsErr r → Steps Changes (state g start) (state g last) q → (HasCleanDisk (state g end) → IsRolledBack (state g last) (state g end)) → Survives (state g last) (state g end) (λ _. ⊥)
+        → end.in_transaction ≡ false → Turns Changes (state g old) (state g new) r
+    turn_dropped {E} {F} {q} r failed steps undone survives ended =
+        let it = rolled_back old last end rests (first_inside q steps) undone survives ended in
+        turned r failed (none_would (state g old) (state g end) (WouldLeave Changes (state g old).now) it.2) it.0 it.1
+
+    module _ {E : Type 0} {x : X} (steps : Steps {E = E} Changes (state g start) (state g last) (Ok x)) (ended : end.in_transaction ≡ false) (survives : Survives (state g last) (state g end) (λ db. db ≡ (state g last).now.trees)) where
       made_by : HasCleanDisk (state g last) → (IsTrue last.in_transaction) × Changes x (state g old).now (state g last).now
       made_by clean =
           let it = steps.made clean (ap (λ (h : Held S). h.in_transaction) begins) in
@@ -205,10 +211,10 @@ module _ {S : Type 0} (g : Ghosts S) (shuts : Shuts g) (settles : Settles g) whe
       so = commit_survives old last end rests (first_inside (Ok x) steps) ended (λ clean. (made_by clean).0) survives (WouldLeave Changes (state g old).now) (λ clean. (x, (state g last).now, (made_by clean).1, refl))
 
       -- the commit failed
-      pub turn_uncommitted : {F : Type 0} (e : Error) (f : F) → (HasCleanDisk (state g end) → FailsToCommit (state g last) (state g end) e) → Turns Changes (state g old) (state g new) (Err f)
-      turn_uncommitted e f why =
+      pub turn_uncommitted : {F : Type 0} {e : Error} (r : Result X F) → IsErr r → (HasCleanDisk (state g end) → FailsToCommit (state g last) (state g end) e) → Turns Changes (state g old) (state g new) r
+      turn_uncommitted {F} {e} r failed why =
           let it = commit_failed old last end rests (first_inside (Ok x) steps) ended (λ clean. (made_by clean).0) survives e why in
-          subst (λ (h : Held S). Turns Changes (state g old) (state g h) (Err f)) same (record { rests = it.0; done = λ clean. tt; undone = it.1; left = leaves old (state g end) _ rests so; survives = so })
+          turned r failed so it.0 it.1
 
       -- all went well
       pub turn_committed : {F : Type 0} → (HasCleanDisk (state g end) → Shows (state g last) (state g end) (state g last).now (state g last).now false) → Turns {E = F} Changes (state g old) (state g new) (Ok x)
