@@ -43,3 +43,10 @@ pub record Turns {X E : Type 0} (Changes : X → Database → Database → Type 
   pub undone : OnErr r (IsTrue new.is_open → Holds new old.now)
   pub left : HasCleanDisk new → IsTrue old.is_open → (trees : Trees) → new.may_leave trees → (trees ≡ old.now.trees) ⊎ WouldLeave Changes old.now trees
   pub survives : Survives old new (WouldLeave Changes old.now)
+
+-- a read of a store at rest, which stays at rest and holds what it held
+pub record Looks {X E : Type 0} (Answers : X → Database → Database → Type 0) (old new : State) (r : Result X E) : Type 0 where
+  pub rests : Rests new
+  pub done : HasCleanDisk new → IfOk r (λ x. IsTrue new.is_open × Answers x old.now new.now)
+  pub holds : IsTrue new.is_open → Holds new old.now
+  pub survives : Survives old new (λ _. ⊥)
