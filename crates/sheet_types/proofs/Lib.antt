@@ -1,6 +1,11 @@
 pub mod Tests
 pub mod LineReading
+pub mod Every
+pub mod Sums
+pub mod Found
 pub mod Order
+pub mod Without
+pub mod Distinct
 pub mod Same
 pub mod Arranging
 pub mod Commas
