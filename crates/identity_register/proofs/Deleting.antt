@@ -245,7 +245,8 @@ same_row m n a b =
     last true = refl
     last false = refl
 
-All-In : {X : Type 0} (P : X → Type 0) (x : X) (xs : List X) → AllByRecursion P xs → In x xs → P x
+-- what holds of all holds of an element
+pub All-In : {X : Type 0} (P : X → Type 0) (x : X) (xs : List X) → AllByRecursion P xs → In x xs → P x
 All-In P x [] h i = absurd i
 All-In P x (y ∷ ys) h i = elim i [ inl e ↦ subst P e h.0 | inr j ↦ All-In P x ys h.1 j ]
 

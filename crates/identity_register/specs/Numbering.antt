@@ -16,7 +16,7 @@ use Rattle.sheet_types.specs.declared.command.Item.{Item}
 use Rattle.sheet_types.specs.declared.command.Mapping.{Mapping}
 use Rattle.sheet_types.specs.declared.command.Mapping.TheVariants.{TilesMedia, RowsMedia}
 use Rattle.sheet_types.specs.declared.command.Relation.{Relation}
-use Rattle.package_tables.specs.Shapes.{tile_shape, medium_shape, attribute_shape, identity_shape}
+use Rattle.package_tables.specs.Shapes.{tile_shape, medium_shape, attribute_shape, identity_shape, tiles_media_shape, rows_media_shape}
 use Rattle.package_tables.specs.Package.{Tables}
 use Rattle.package_tables.specs.declared.rows.TileRow.{TileRow}
 use Rattle.package_tables.specs.declared.rows.MediaRow.{MediaRow}
@@ -106,3 +106,18 @@ without_item kind number t = record t {
   rows = if kind_is RowItem kind then filter (λ r. not (int_eq r.id number)) t.rows else t.rows;
   identities = filter (λ r. not (int_eq r.kind (pos (kind_number kind)) && int_eq r.local_id number)) t.identities;
 }
+
+-- ---- links
+
+-- the tables with the row of one link more
+abbrev pub with_link : Mapping → MappingRow → Tables → Tables
+with_link TilesMedia row t = record t { tiles_media = put tiles_media_shape.key row t.tiles_media }
+with_link RowsMedia row t = record t { rows_media = put rows_media_shape.key row t.rows_media }
+
+abbrev pub is_pair : MappingRow → MappingRow → Bool
+is_pair a b = int_eq a.base_id b.base_id && int_eq a.related_id b.related_id
+
+-- the tables without the row of a link
+abbrev pub without_link : Mapping → MappingRow → Tables → Tables
+without_link TilesMedia row t = record t { tiles_media = filter (λ r. not (is_pair r row)) t.tiles_media }
+without_link RowsMedia row t = record t { rows_media = filter (λ r. not (is_pair r row)) t.rows_media }
