@@ -78,7 +78,8 @@ find-filter q keep (x ∷ xs) h = one (q x) (keep x) refl refl (find-filter q ke
     one false true e g rest = rw (g, e) rest
     one false false e g rest = rw (g, e) rest
 
-distinct_filter : {X : Type 0} (f : X → List ℕ) (keep : X → Bool) (xs : List X) → IsDistinct bytes_eq (map f xs) → IsDistinct bytes_eq (map f (filter keep xs))
+-- what is distinct stays so when some go
+pub distinct_filter : {X : Type 0} (f : X → List ℕ) (keep : X → Bool) (xs : List X) → IsDistinct bytes_eq (map f xs) → IsDistinct bytes_eq (map f (filter keep xs))
 unfolding IsDistinct
 distinct_filter f keep [] h = tt
 distinct_filter f keep (x ∷ xs) h = one (keep x) (distinct_filter f keep xs h.1)
