@@ -1,5 +1,5 @@
 -- Texts that are read: digests, numbers, UUIDs, frames. Profile, over RFC 9562 (UUIDs) and FIPS 180-4 (digests).
-use Rattle.std.specs.Prelude.{◌≡◌, ℕ, ℤ, ◌==◌, List, [], ◌∷◌, length, map, Option, Some, None, if◌then◌else◌, FitsSigned}
+use Rattle.std.specs.Prelude.{◌≡◌, ℕ, ℤ, ◌==◌, List, [], ◌∷◌, ◌++◌, unwrap_or, length, map, Option, Some, None, if◌then◌else◌, FitsSigned}
 use Rattle.std.specs.Int.{w64}
 use Rattle.std.specs.List.{join_with_byte, AllByRecursion}
 use Rattle.std.specs.Option.{option_map}
@@ -7,6 +7,8 @@ use Rattle.uuid.specs.Text.{parsed_hyphenated}
 use Rattle.std.specs.Fmt.{signed_decimal}
 use Rattle.hex.specs.Hex.{IsBytes}
 use Rattle.sheet_types.specs.Texts.{spaced}
+use Rattle.sheet_types.specs.World.{kind_number}
+use Rattle.sheet_types.specs.declared.receipt.MovedKind.{MovedKind}
 use Rattle.sheet_types.specs.declared.frame.Frame.{Frame}
 use Rattle.sheet_types.specs.declared.frame.Rect.{Rect}
 
@@ -40,3 +42,7 @@ frame_text f = numbers_text (frame_numbers f)
 -- each of its numbers fits 64 bits
 abbrev pub IsInRange : Frame → Type 0
 IsInRange f = AllByRecursion (FitsSigned w64) (frame_numbers f)
+
+-- the key by which things are ordered: the number of the kind, the base, and the other end of a link
+abbrev pub thing_key : MovedKind → List ℕ → Option (List ℕ) → List ℕ
+thing_key kind base other = kind_number kind ∷ base ++ unwrap_or other []
