@@ -13,4 +13,6 @@ pub mod reading;
 pub mod receipt;
 pub mod refusal;
 pub mod sorting;
+#[cfg(test)]
+mod tests;
 pub mod words;
