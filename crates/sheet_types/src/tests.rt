@@ -2,6 +2,7 @@
 use crate::checks::{has_bad_text, has_good_size, is_too_large};
 use crate::collections::{Bytes, MovedList, Text};
 use crate::command::{Command, Content, Item, Mapping, Mode, Relation};
+use crate::error::OutOfMemory;
 use crate::fingerprints::{Spelled, fingerprint, read_fingerprint, spell};
 use crate::frame::Rect;
 use crate::lines::line;
@@ -13,6 +14,7 @@ use crate::sorting::{item_is_before, link_is_before, moved_is_before, uuid_is_be
 use crate::words::{OrEmpty, read_kind, read_mapping, read_mode};
 use sha2::{Digest, Sha256};
 use std::alloc::{AllocError, Global};
+use std::process::Abort;
 use std::test::Fail;
 use uuid::Uuid;
 
@@ -97,80 +99,118 @@ fn fingerprints(rt: HostRuntime) -> Result<(), Fail> {
     Ok(())
 }
 
+fn expect_line(
+    rt: &impl Abort,
+    alloc: Global,
+    command: &Command,
+    wanted: &str,
+) -> Result<(), OutOfMemory> {
+    let said = line(alloc, command)?;
+    assert_eq!(rt; said.as_str(), wanted);
+    Ok(())
+}
+
 #[test]
-fn lines(rt: HostRuntime) -> Result<(), Fail> {
+fn lines_of_items(rt: HostRuntime) -> Result<(), Fail> {
     let alloc = rt.alloc();
     let package = archive();
-    let rect = Rect {
-        zoom: 1,
-        column: 0,
-        last_column: 1,
-        row: 2,
-        last_row: 3,
+    let add = Command::Add {
+        package,
+        identity: identity(1),
+        content: tile(alloc)?,
     };
-    for (command, wanted) in [
-        (
-            Command::Add {
-                package,
-                identity: identity(1),
-                content: tile(alloc)?,
-            },
-            "add a0000000-0000-4000-8000-000000000000 00000000-0000-4000-8000-000000000001 tile 1 b363ee0ecc9cf61b12ecdafd75dca2779729b4fcc5f1bd718c33aad2c94af4f8",
-        ),
-        (
-            Command::Add {
-                package,
-                identity: identity(2),
-                content: attribute_row(alloc)?,
-            },
-            "add a0000000-0000-4000-8000-000000000000 00000000-0000-4000-8000-000000000002 row 4 e43e5d2489a3da72d168ede7401f6f60f459782a7e66f46822d8dcd10bb20517",
-        ),
-        (
-            Command::Delete {
-                package,
-                identity: identity(1),
-            },
-            "delete a0000000-0000-4000-8000-000000000000 00000000-0000-4000-8000-000000000001",
-        ),
-        (
-            Command::Link {
-                package,
-                mapping: Mapping::TilesMedia,
-                base: identity(1),
-                media: identity(2),
-            },
-            "link tiles_media a0000000-0000-4000-8000-000000000000 00000000-0000-4000-8000-000000000001 00000000-0000-4000-8000-000000000002",
-        ),
-        (
-            Command::Unlink {
-                package,
-                mapping: Mapping::RowsMedia,
-                base: identity(1),
-                media: identity(2),
-            },
-            "unlink rows_media a0000000-0000-4000-8000-000000000000 00000000-0000-4000-8000-000000000001 00000000-0000-4000-8000-000000000002",
-        ),
-        (
-            Command::Split {
-                package,
-                child: loan(),
-                mode: Mode::Follow,
-                rect,
-            },
-            "split a0000000-0000-4000-8000-000000000000 b0000000-0000-4000-8000-000000000000 follow 1 0 1 2 3",
-        ),
-        (
-            Command::Merge {
-                child: loan(),
-                into: package,
-                ticket: -5,
-            },
-            "merge b0000000-0000-4000-8000-000000000000 a0000000-0000-4000-8000-000000000000 -5",
-        ),
-    ] {
-        let said = line(alloc, &command)?;
-        assert_eq!(rt; said.as_str(), wanted);
-    }
+    expect_line(
+        &rt,
+        alloc,
+        &add,
+        "add a0000000-0000-4000-8000-000000000000 00000000-0000-4000-8000-000000000001 tile 1 b363ee0ecc9cf61b12ecdafd75dca2779729b4fcc5f1bd718c33aad2c94af4f8",
+    )?;
+    let add = Command::Add {
+        package,
+        identity: identity(2),
+        content: attribute_row(alloc)?,
+    };
+    expect_line(
+        &rt,
+        alloc,
+        &add,
+        "add a0000000-0000-4000-8000-000000000000 00000000-0000-4000-8000-000000000002 row 4 e43e5d2489a3da72d168ede7401f6f60f459782a7e66f46822d8dcd10bb20517",
+    )?;
+    let delete = Command::Delete {
+        package,
+        identity: identity(1),
+    };
+    expect_line(
+        &rt,
+        alloc,
+        &delete,
+        "delete a0000000-0000-4000-8000-000000000000 00000000-0000-4000-8000-000000000001",
+    )?;
+    Ok(())
+}
+
+#[test]
+fn lines_of_links(rt: HostRuntime) -> Result<(), Fail> {
+    let alloc = rt.alloc();
+    let link = Command::Link {
+        package: archive(),
+        mapping: Mapping::TilesMedia,
+        base: identity(1),
+        media: identity(2),
+    };
+    expect_line(
+        &rt,
+        alloc,
+        &link,
+        "link tiles_media a0000000-0000-4000-8000-000000000000 00000000-0000-4000-8000-000000000001 00000000-0000-4000-8000-000000000002",
+    )?;
+    let unlink = Command::Unlink {
+        package: archive(),
+        mapping: Mapping::RowsMedia,
+        base: identity(1),
+        media: identity(2),
+    };
+    expect_line(
+        &rt,
+        alloc,
+        &unlink,
+        "unlink rows_media a0000000-0000-4000-8000-000000000000 00000000-0000-4000-8000-000000000001 00000000-0000-4000-8000-000000000002",
+    )?;
+    Ok(())
+}
+
+#[test]
+fn lines_of_loans(rt: HostRuntime) -> Result<(), Fail> {
+    let alloc = rt.alloc();
+    let split = Command::Split {
+        package: archive(),
+        child: loan(),
+        mode: Mode::Follow,
+        rect: Rect {
+            zoom: 1,
+            column: 0,
+            last_column: 1,
+            row: 2,
+            last_row: 3,
+        },
+    };
+    expect_line(
+        &rt,
+        alloc,
+        &split,
+        "split a0000000-0000-4000-8000-000000000000 b0000000-0000-4000-8000-000000000000 follow 1 0 1 2 3",
+    )?;
+    let merge = Command::Merge {
+        child: loan(),
+        into: archive(),
+        ticket: -5,
+    };
+    expect_line(
+        &rt,
+        alloc,
+        &merge,
+        "merge b0000000-0000-4000-8000-000000000000 a0000000-0000-4000-8000-000000000000 -5",
+    )?;
     Ok(())
 }
 
