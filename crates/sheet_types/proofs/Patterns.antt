@@ -1,5 +1,5 @@
 -- Texts that fit a pattern.
-use Rattle.std.proofs.Common.{◌≡◌, ◌≢◌, ℕ, List, [], ◌∷◌, length, ◌&&◌, ◌==◌, nat_le, Bool, true, false, if◌then◌else◌, refl, ap, ◌∙◌, arith}
+use Rattle.std.proofs.Common.{◌≡◌, ◌≢◌, ℕ, List, [], ◌∷◌, length, ◌&&◌, ◌==◌, nat_le, Bool, true, false, if◌then◌else◌, refl, arith}
 use Rattle.sheet_types.specs.Texts.{fits_pattern}
 
 and_false : (b : Bool) → (b && false) ≡ false

@@ -1,5 +1,5 @@
 -- The text of a UUID reads as it, and is what it is written as.
-use Rattle.std.proofs.Common.{◌≡◌, List, ℕ, Some, None, ap, sym, ◌∙◌, Option}
+use Rattle.std.proofs.Common.{◌≡◌, ap, sym, ◌∙◌}
 use Rattle.sheet_types.specs.Texts.{uuid_text}
 use Rattle.sheet_types.proofs.UuidTexts.{reads_own}
 use Rattle.sheet_types.proofs.Digits.{same_as_itself}
