@@ -10,5 +10,9 @@ pub mod Same
 pub mod Arranging
 pub mod Commas
 pub mod Digits
+pub mod KeyOrder
 pub mod NumberTexts
+pub mod Order
+pub mod Patterns
+pub mod Same
 pub mod UuidTexts
