@@ -1,1 +1,4 @@
 pub mod Products
+pub mod Frames
+pub mod Grids
+pub mod Blocks

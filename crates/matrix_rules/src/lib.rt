@@ -2,3 +2,4 @@
 #![tactic(auto)]
 
 pub mod check;
+pub mod ground;
