@@ -4,7 +4,7 @@ use Rattle.std.proofs.Common.{arith, ap, sym, ◌∙◌}
 use Rattle.std.proofs.lemmas.Bool.{and_parts, leb-true}
 use Rattle.std.proofs.lemmas.Int.{ints}
 use Rattle.std.proofs.lemmas.Nat.{pow-add}
-use Rattle.std.proofs.Math.Nat.{mul-mod_right, div-add-mod, mul-le-mul_left}
+use Rattle.std.proofs.Math.Nat.{mul_comm, mul-mod_right, div-add-mod, mul-le-mul_left}
 use Rattle.sheet_types.specs.declared.frame.Frame.{Frame}
 use Rattle.sheet_types.specs.Matrix.{divides, width_at, height_at, level_of, last_level, has_level, tile_span_x, tile_span_y}
 use Rattle.matrix_rules.proofs.Frames.{GoodFrame, level_range}
@@ -16,6 +16,7 @@ pub record Grid (low high tiles tile span : ℤ) : Type 0 where
   pub one : 0 < count
   pub few : count ≤ 2000000000000
   pub long : 0 < size
+  pub short : size ≤ 2000000000000
   pub pixels : (tiles *ℤ tile) ≤ℤ (high -ℤ low)
   pub tiles_is : tiles ≡ pos count
   pub span_is : span ≡ pos size
@@ -71,6 +72,7 @@ grid_of low high (pos e) (pos t) (pos w) last k is positive most tile matrix bel
     record {
       count = w * 2 ^ k;
       size = t * (e / (w * 2 ^ k * t));
+      short = omega (arith, one_part (t * (e / (w * 2 ^ k * t))) (w * 2 ^ k) e (mul_comm (t * (e / (w * 2 ^ k * t))) (w * 2 ^ k) ∙ all) (omega (arith, ints, positive)), e_most);
       few = omega (arith, one_part (w * 2 ^ k) (t * (e / (w * 2 ^ k * t))) e all (omega (arith, ints, positive)), e_most);
       one = positive_left (w * 2 ^ k) (t * (e / (w * 2 ^ k * t))) some;
       long = positive_right (w * 2 ^ k) (t * (e / (w * 2 ^ k * t))) some;

@@ -1,4 +1,6 @@
-pub mod Products
+pub mod Blocks
 pub mod Frames
 pub mod Grids
-pub mod Blocks
+pub mod Insides
+pub mod Parts
+pub mod Products

@@ -6,7 +6,7 @@ use sheet_types::frame::{Frame, Ground, Rect};
 
 use crate::check::tiles_at;
 
-fn has_level(frame: &Frame, zoom: i64) -> bool
+pub(crate) fn has_level(frame: &Frame, zoom: i64) -> bool
     requires { IsTrue (is_good_frame frame.now) }
     ensures { result ≡ has_level frame.now zoom }
 {
@@ -62,7 +62,7 @@ fn tile_span(extent: i64, tile: i64, tiles: i64) -> i64
     tile * (extent / (tiles * tile))
 }
 
-fn column_span(frame: &Frame, zoom: i64) -> i64
+pub(crate) fn column_span(frame: &Frame, zoom: i64) -> i64
     requires good { IsTrue (is_good_frame frame.now) }
     requires level { IsTrue (has_level frame.now zoom) }
     ensures { result ≡ tile_span_x frame.now zoom }
@@ -70,7 +70,7 @@ fn column_span(frame: &Frame, zoom: i64) -> i64
     tile_span(frame.max_x - frame.min_x, frame.tile_width, columns_at(frame, zoom))
 }
 
-fn row_span(frame: &Frame, zoom: i64) -> i64
+pub(crate) fn row_span(frame: &Frame, zoom: i64) -> i64
     requires good { IsTrue (is_good_frame frame.now) }
     requires level { IsTrue (has_level frame.now zoom) }
     ensures { result ≡ tile_span_y frame.now zoom }
@@ -99,7 +99,7 @@ fn row_edge(frame: &Frame, zoom: i64, row: i64) -> i64
 }
 
 /// The ground of a good rectangle.
-fn block(frame: &Frame, rect: &Rect) -> Ground
+pub(crate) fn block(frame: &Frame, rect: &Rect) -> Ground
     requires good { IsTrue (is_good_frame frame.now) }
     requires rect { IsTrue (is_good_rect frame.now rect.now) }
     ensures { result ≡ block_ground frame.now rect.now }

@@ -3,3 +3,5 @@
 
 pub mod check;
 pub mod ground;
+pub mod reach;
+pub mod spans;
