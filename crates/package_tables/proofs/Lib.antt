@@ -3,3 +3,8 @@ pub mod Written
 pub mod Making
 pub mod Values
 pub mod TileStatements
+pub mod Settling
+pub mod ReceiptStatements
+pub mod MovedStatements
+pub mod HeadStatements
+pub mod FixedStatements

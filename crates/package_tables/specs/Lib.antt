@@ -5,3 +5,4 @@ pub mod Shapes
 pub mod Package
 pub mod Calls
 pub mod Changes
+pub mod Entries

@@ -1,4 +1,6 @@
 // Why a call on a package fails.
+ghost use Rattle.std.specs.Prelude.{◌≡◌, is_ok};
+
 use sqlite::{Error, ErrorCode};
 use std::alloc::AllocError;
 
@@ -22,4 +24,12 @@ impl From<AllocError> for Fault {
     fn from(_error: AllocError) -> Fault {
         Fault::OutOfMemory
     }
+}
+
+/// What a write answers: nothing but whether it was done.
+pub(crate) fn settled(outcome: Result<usize, Error>) -> Result<(), Fault>
+    ensures same { is_ok result ≡ is_ok outcome }
+{
+    outcome?;
+    Ok(())
 }

@@ -2,5 +2,9 @@
 #![tactic(auto)]
 
 pub mod fault;
+pub mod fixed;
+pub mod head;
+pub mod moved;
+pub mod receipts;
 pub mod rows;
 pub mod tiles;
