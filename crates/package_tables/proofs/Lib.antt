@@ -4,6 +4,7 @@ pub mod Making
 pub mod Values
 pub mod TileStatements
 pub mod Settling
+pub mod Changing
 pub mod ReceiptStatements
 pub mod MovedStatements
 pub mod HeadStatements

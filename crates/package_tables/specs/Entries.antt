@@ -1,5 +1,5 @@
 -- The changes that entries of receipts, heads and fixed rows make: each names the one list that it changes.
-use Rattle.std.specs.Prelude.{◌≡◌, false}
+use Rattle.std.specs.Prelude.{◌≡◌, ℕ, false, List, map, if◌then◌else◌, bytes_eq}
 use Rattle.sheet_types.specs.Ordered.{put, has}
 use Rattle.package_tables.specs.Shapes.{receipt_shape, moved_shape, head_shape, spatial_ref_sys_shape, contents_shape, tile_matrix_set_shape, tile_matrix_shape, relation_shape}
 use Rattle.package_tables.specs.Package.{Tables}
@@ -36,3 +36,7 @@ AddsTileMatrix row before after = has tile_matrix_shape.key (tile_matrix_shape.k
 
 abbrev pub AddsRelation : RelationRow → Tables → Tables → Type 0
 AddsRelation row before after = has relation_shape.key (relation_shape.key row) before.relations ≡ false → after ≡ record before { relations = put relation_shape.key row before.relations }
+
+-- the row of the table of this name gets the moment, and nothing else changes
+abbrev pub SetsLastChange : List ℕ → List ℕ → Tables → Tables → Type 0
+SetsLastChange at name before after = after ≡ record before { contents = map (λ (c : ContentsRow). if bytes_eq c.table_name name then record c { last_change = at } else c) before.contents }

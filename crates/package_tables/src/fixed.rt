@@ -3,7 +3,10 @@ ghost use Rattle.std.specs.Prelude.{◌≡◌};
 ghost use Rattle.sqlite.specs.State.{Survives};
 ghost use Rattle.sqlite.specs.Held.{state};
 ghost use Rattle.package_tables.specs.Calls.{Makes};
-ghost use Rattle.package_tables.specs.Entries.{AddsSpatialRefSys, AddsContents, AddsTileMatrixSet, AddsTileMatrix, AddsRelation};
+ghost use Rattle.package_tables.specs.Entries.{AddsSpatialRefSys, AddsContents, AddsTileMatrixSet, AddsTileMatrix, AddsRelation, SetsLastChange};
+ghost use Rattle.sheet_types.specs.Ordered.{IsArranged};
+ghost use Rattle.package_tables.specs.Package.{tables_of};
+ghost use Rattle.package_tables.specs.Shapes.{contents_shape};
 
 use crate::fault::{Fault, settled};
 use sqlite::{Alter, Transaction, params};
@@ -112,5 +115,21 @@ pub fn insert_relation<S: Alter>(
     settled(tx.execute(
         "INSERT INTO gpkgext_relations VALUES (?1, ?2, ?3, ?4, ?5, ?6, ?7)",
         params![id, base_table_name, base_primary_column, related_table_name, related_primary_column, relation_name, mapping_table_name],
+    ))
+}
+
+/// Says when a table changed last. The names of the contents have to differ, as they do in each package.
+pub fn set_last_change<S: Alter>(
+    tx: &mut Transaction<'_, S>,
+    at: &str,
+    table_name: &str,
+) -> Result<(), Fault>
+    ensures same_reference { tx.new.conn.ghost_name ≡ tx.old.conn.ghost_name }
+    ensures wrote { IsArranged contents_shape.key (tables_of (state S.Store tx.old.conn.now).now).contents → Makes (SetsLastChange at.now table_name.now) (state S.Store tx.old.conn.now) (state S.Store tx.new.conn.now) result }
+    ensures survives { Survives (state S.Store tx.old.conn.now) (state S.Store tx.new.conn.now) (λ _. ⊥) }
+{
+    settled(tx.execute(
+        "UPDATE gpkg_contents SET last_change = ?1 WHERE table_name = ?2",
+        params![at, table_name],
     ))
 }
