@@ -3,5 +3,6 @@ pub mod Form
 pub mod Shape
 pub mod Shapes
 pub mod Package
+pub mod Faults
 pub mod Calls
 pub mod Changes

@@ -2,5 +2,6 @@
 #![tactic(auto)]
 
 pub mod fault;
+pub(crate) mod reading;
 pub mod rows;
 pub mod tiles;
