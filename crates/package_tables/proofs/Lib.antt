@@ -3,7 +3,6 @@ pub mod Written
 pub mod Making
 pub mod Values
 pub mod TileStatements
-pub mod Settling
 pub mod Changing
 pub mod ReceiptStatements
 pub mod MovedStatements

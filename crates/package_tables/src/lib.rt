@@ -5,6 +5,7 @@ pub mod fault;
 pub mod fixed;
 pub mod head;
 pub mod moved;
+pub(crate) mod reading;
 pub mod receipts;
 pub mod rows;
 pub mod tiles;
