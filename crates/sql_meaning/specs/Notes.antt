@@ -8,6 +8,7 @@ use Rattle.sqlite.specs.Kind.TheVariants.{Integer, Text}
 use Rattle.sqlite_schema.specs.declared.schema.Kind.{Kind}
 use Rattle.sqlite_schema.specs.declared.schema.Column.{Column}
 use Rattle.sqlite.specs.Effect.{Database}
+use Rattle.sql_meaning.specs.declared.example.Note.{Note}
 use Rattle.sql_meaning.specs.Writing.{Inserts, Chained}
 
 abbrev column : List ℕ → Kind → Bool → Column
@@ -40,3 +41,6 @@ AddsNote seq place text = Inserts note_table (λ there. note_stored seq place te
 -- both notes are added, one after the other
 abbrev pub AddsBoth : ℤ → ℤ → ℤ → List ℕ → List ℕ → Database → Database → Type 0
 AddsBoth first second place one other = Chained (AddsNote first place one) (AddsNote second place other)
+
+abbrev pub Adds : Note → Database → Database → Type 0
+Adds n = AddsNote n.seq n.place n.text.now

@@ -3,9 +3,17 @@
 ghost use Rattle.std.specs.Prelude.{◌≡◌};
 ghost use Rattle.sqlite.specs.Held.{state};
 ghost use Rattle.sql_meaning.specs.Transactions.{Rests, Steps, Turns};
-ghost use Rattle.sql_meaning.specs.Notes.{AddsNote, AddsBoth};
+ghost use Rattle.sql_meaning.specs.Writing.{EachChained};
+ghost use Rattle.sql_meaning.specs.Notes.{AddsNote, AddsBoth, Adds};
 
 use sqlite::{Alter, Connection, Error, Transaction, params};
+
+#[derive(Clone, Copy)]
+pub struct Note<'a> {
+    pub seq: i64,
+    pub place: i64,
+    pub text: &'a str,
+}
 
 /// Enters a note, under a number that is free.
 pub fn insert_note<S: Alter>(
@@ -37,6 +45,31 @@ pub fn insert_both<S: Alter>(
 {
     insert_note(tx, first, place, one)?;
     insert_note(tx, second, place, other)
+}
+
+/// Enters a note, under a number that is free.
+pub fn insert_one<S: Alter>(
+    tx: &mut Transaction<'_, S>,
+    note: Note<'_>,
+) -> Result<usize, Error>
+    ensures same_reference { tx.new.conn.ghost_name ≡ tx.old.conn.ghost_name }
+    ensures steps { Steps (λ _. Adds note.entry) (state S.Store tx.old.conn.now) (state S.Store tx.new.conn.now) result }
+{
+    insert_note(tx, note.seq, note.place, note.text)
+}
+
+/// Enters each of the notes, in their order.
+pub fn insert_all<S: Alter>(
+    tx: &mut Transaction<'_, S>,
+    notes: &[Note<'_>],
+) -> Result<(), Error>
+    ensures same_reference { tx.new.conn.ghost_name ≡ tx.old.conn.ghost_name }
+    ensures steps { Steps (λ _. EachChained Adds notes.now) (state S.Store tx.old.conn.now) (state S.Store tx.new.conn.now) result }
+{
+    for note in notes {
+        insert_one(tx, *note)?;
+    }
+    Ok(())
 }
 
 /// Enters both notes, or neither.
