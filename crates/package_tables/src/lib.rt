@@ -1,2 +1,4 @@
 //! One package's tables as lists of typed rows: nothing above this crate speaks SQL.
 #![tactic(auto)]
+
+pub mod schema;
