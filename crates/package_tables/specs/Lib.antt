@@ -1,3 +1,4 @@
 pub mod Tables
 pub mod Form
 pub mod SchemaMaking
+pub mod SchemaMade
