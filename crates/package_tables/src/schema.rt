@@ -4,7 +4,9 @@ ghost use Rattle.std.specs.Prelude.{◌≡◌, ◌<◌, true, length, map, OnOk}
 ghost use Rattle.sqlite.specs.State.{HasCleanDisk, KeepsCommit, Survives};
 ghost use Rattle.sqlite.specs.Held.{state};
 ghost use Rattle.sql_meaning.specs.Writing.{WritesInside};
+ghost use Rattle.sql_meaning.specs.Blank.{IsBlank, no_schema};
 ghost use Rattle.package_tables.specs.SchemaMaking.{Made, MadeBy, ChangedInside};
+ghost use Rattle.package_tables.specs.SchemaMade.{IsNewPackage};
 
 use sqlite::{Alter, Error, Transaction};
 
@@ -107,4 +109,22 @@ fn make_each<S: Alter>(tx: &mut Transaction<'_, S>, texts: &[&str]) -> Result<()
         make(tx, text)?;
     }
     Ok(())
+}
+
+/// Makes the tables and the look-up indexes of a package in a database that has no object yet.
+///
+/// The names of the tables are those of OGC GeoPackage 1.3 (spatial reference systems, contents, tile matrix sets, tile matrices)
+/// and OGC 18-000 (relations); their columns' types and keys, and the tables whose names begin with `sheet_`, are profile.
+///
+/// # Errors
+///
+/// Where a statement fails, what the earlier ones made stays inside the transaction, or the transaction has been rolled back.
+/// Nothing is committed.
+pub fn create_schema<S: Alter>(tx: &mut Transaction<'_, S>) -> Result<(), Error>
+    ensures same_reference { tx.new.conn.ghost_name ≡ tx.old.conn.ghost_name }
+    ensures made { HasCleanDisk (state S.Store tx.new.conn.now) → tx.old.conn.now.in_transaction ≡ true → IsBlank no_schema (state S.Store tx.old.conn.now).now → OnOk result (ChangedInside (λ _ db. IsNewPackage db) (state S.Store tx.old.conn.now) (state S.Store tx.new.conn.now)) }
+    ensures kept { HasCleanDisk (state S.Store tx.new.conn.now) → KeepsCommit (state S.Store tx.old.conn.now) (state S.Store tx.new.conn.now) }
+    ensures survives { Survives (state S.Store tx.old.conn.now) (state S.Store tx.new.conn.now) (λ _. ⊥) }
+{
+    make_each(tx, &STATEMENTS)
 }
