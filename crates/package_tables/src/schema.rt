@@ -128,3 +128,6 @@ pub fn create_schema<S: Alter>(tx: &mut Transaction<'_, S>) -> Result<(), Error>
 {
     make_each(tx, &STATEMENTS)
 }
+
+#[cfg(test)]
+mod tests;
