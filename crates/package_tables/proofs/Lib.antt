@@ -8,3 +8,6 @@ pub mod ReceiptStatements
 pub mod MovedStatements
 pub mod HeadStatements
 pub mod FixedStatements
+pub mod SchemaMakes
+pub mod Texts
+pub mod NewPackage

@@ -7,3 +7,5 @@ pub mod Faults
 pub mod Calls
 pub mod Changes
 pub mod Entries
+pub mod SchemaMaking
+pub mod SchemaMade

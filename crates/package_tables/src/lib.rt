@@ -8,4 +8,5 @@ pub mod moved;
 pub(crate) mod reading;
 pub mod receipts;
 pub mod rows;
+pub mod schema;
 pub mod tiles;
