@@ -3,3 +3,11 @@ pub mod Written
 pub mod Making
 pub mod Values
 pub mod TileStatements
+pub mod Changing
+pub mod ReceiptStatements
+pub mod MovedStatements
+pub mod HeadStatements
+pub mod FixedStatements
+pub mod SchemaMakes
+pub mod Texts
+pub mod NewPackage

@@ -2,5 +2,11 @@
 #![tactic(auto)]
 
 pub mod fault;
+pub mod fixed;
+pub mod head;
+pub mod moved;
+pub(crate) mod reading;
+pub mod receipts;
 pub mod rows;
+pub mod schema;
 pub mod tiles;

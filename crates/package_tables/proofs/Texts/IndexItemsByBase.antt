@@ -1,0 +1,28 @@
+-- What the text of the index `items_by_base` makes.
+use Rattle.std.proofs.Common.{ℕ, List, codes, inr, refl}
+use Rattle.sqlite_schema.specs.Names.{same_name}
+use Rattle.sqlite_tied.specs.Compute.{everything}
+use Rattle.sql_meaning.specs.Known.{HasTable}
+use Rattle.sql_meaning.specs.Blank.{IsFree}
+use Rattle.sql_meaning.specs.Index.{MakesIndexText}
+use Rattle.package_tables.specs.Tables.{sheet_items}
+use Rattle.package_tables.specs.SchemaMaking.{Extends}
+use Rattle.package_tables.specs.SchemaMade.{items_by_base, first_made}
+
+abbrev pub text : List ℕ
+text = codes "CREATE INDEX items_by_base ON sheet_items (base)"
+
+makes : (tree : ℕ) → MakesIndexText text (sheet_items tree) (items_by_base tree 0)
+unfolding everything
+makes tree = (_, _, record { parsed = refl; statement = refl; formats = refl; table = refl; table_free = refl; name = refl; free = refl; defined = refl; whole = refl })
+
+has : HasTable (first_made 15 0) 14 (sheet_items 25)
+unfolding same_name
+has = record { named = refl; there = refl; stored = refl; by_tree = refl }
+
+free : IsFree (first_made 15 0) (codes "items_by_base")
+unfolding same_name
+free = record { table = refl; view = refl; index = refl }
+
+pub step : Extends text (first_made 15 0) (first_made 15 1)
+step = inr (14, sheet_items 25, items_by_base 25 0, makes 25, has, free, refl)

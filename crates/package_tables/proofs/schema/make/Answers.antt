@@ -1,0 +1,7 @@
+use Rattle.std.proofs.Common.{[]}
+use Rattle.sqlite.specs.Held.{state}
+use Rattle.package_tables.proofs.SchemaMakes.{made_inside}
+use Rattle.package_tables.proofs.schema.make.Goals as goal
+
+pub returns-clause-made : goal.returns-clause-made
+returns-clause-made g c clean inside = made_inside (state g.S.Store c.args.tx.now.conn.now) (state g.S.Store c.execute.new.self.conn.now) c.args.sql.now c.execute.result (c.execute.ensures.runs clean inside)
