@@ -16,12 +16,12 @@ use Rattle.sql_meaning.proofs.Indexes.{makes_index, blank_after}
 use Rattle.package_tables.specs.SchemaMaking.{Extends, ExtendsBy, Made, MadeBy, ChangedInside}
 
 one_made : (old new : State) (text : List ℕ) (count : ℕ) → Executes text [] old new (Ok count) → Made text old.now new.now
-one_made old new text count h first last (inl it) blank = subst (λ (s : Schema). IsBlank s new.now) (sym it.3) (whole old new text count h first it.0 it.1 it.2 blank)
+one_made old new text count h first last (inl it) blank = subst (λ (s : Schema). IsBlank s new.now) (sym it.4) (whole old new text count h first it.0 it.1 it.2 blank)
 one_made old new text count h first last (inr it) blank =
     let has = subst (λ (s : Schema). HasTable s it.0 it.1) (sym blank.is) it.4 in
     let free = subst (λ (s : Schema). IsFree s it.2.name) (sym blank.is) it.5 in
     let made = makes_index old new text it.3.0 it.3.1 it.0 it.1 it.2 count it.3.2 has free h in
-    subst (λ (s : Schema). IsBlank s new.now) (sym it.6) (blank_after first it.1 it.2 old.now new.now blank made)
+    subst (λ (s : Schema). IsBlank s new.now) (sym it.7) (blank_after first it.1 it.2 old.now new.now blank made)
 
 pub made_inside : (old new : State) (text : List ℕ) (r : Result ℕ Error) → ExecutesInside 0 text [] old new r → WritesInside (Made text) old new r
 made_inside old new text (Ok count) h = (h.1, one_made old new text count h.0)

@@ -8,13 +8,14 @@ use Rattle.sqlite.specs.Change.{indexed}
 use Rattle.sqlite.specs.State.{State, Shows}
 use Rattle.sql_meaning.specs.Known.{HasTable}
 use Rattle.sql_meaning.specs.Blank.{MakesText, IsFree, IsBlank, grown}
+use Rattle.sql_meaning.specs.Certain.{FitsGrown, FitsIndex}
 use Rattle.sql_meaning.specs.Index.{MakesIndexText}
 
--- the text makes the second schema of the first: a table of a free name, or an index of a free name on a table that is there
+-- the text makes the second schema of the first: a table of a free name, or an index of a free name on a table that is there; and nothing refuses it
 abbrev pub Extends : List ℕ → Schema → Schema → Type 0
 Extends text old new =
-    ((t : Table) × MakesText text t × IsFree old t.name × (new ≡ grown old t))
-    ⊎ ((at : ℕ) × (t : Table) × (i : Index) × MakesIndexText text t i × HasTable old at t × IsFree old i.name × (new ≡ indexed old t i))
+    ((t : Table) × MakesText text t × IsFree old t.name × FitsGrown old text t × (new ≡ grown old t))
+    ⊎ ((at : ℕ) × (t : Table) × (i : Index) × MakesIndexText text t i × HasTable old at t × IsFree old i.name × FitsIndex old text t i × (new ≡ indexed old t i))
 
 -- the same, for texts that run in turn
 abbrev pub ExtendsBy : List (List ℕ) → Schema → Schema → Type 0
