@@ -2,6 +2,6 @@
 #![tactic(auto)]
 
 pub mod fault;
-pub(crate) mod reading;
+pub(crate) mod from_row;
 pub mod rows;
 pub mod tiles;
