@@ -6,3 +6,4 @@ pub mod Package
 pub mod Faults
 pub mod Calls
 pub mod Changes
+pub mod Shown
