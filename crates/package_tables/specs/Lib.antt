@@ -10,3 +10,4 @@ pub mod Fixed
 pub mod Entries
 pub mod SchemaMaking
 pub mod SchemaMade
+pub mod Shown

@@ -7,6 +7,7 @@ pub mod head;
 pub mod moved;
 pub(crate) mod reading;
 pub mod receipts;
+pub(crate) mod from_row;
 pub mod rows;
 pub mod schema;
 pub mod tiles;
