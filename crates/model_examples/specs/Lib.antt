@@ -1,0 +1,5 @@
+pub mod Sheets
+pub mod Adding
+pub mod Frames
+pub mod Lending
+pub mod Returning
