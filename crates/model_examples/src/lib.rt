@@ -5,3 +5,5 @@ pub mod adding;
 pub mod frames;
 pub mod lending;
 pub mod returning;
+pub mod steps;
+pub mod story;
