@@ -5,7 +5,6 @@ pub mod fault;
 pub mod fixed;
 pub mod head;
 pub mod moved;
-pub(crate) mod reading;
 pub mod receipts;
 pub(crate) mod from_row;
 pub mod rows;
