@@ -1,0 +1,189 @@
+//! Whether a table of a schema is one that a program knows, and where it stands.
+
+ghost use Rattle.std.specs.Prelude.{◌≡◌, ◌↔◌, IsTrue, map, []};
+ghost use Rattle.sql_meaning.specs.Forms.{column_of, reference_of, table_of};
+ghost use Rattle.sql_meaning.specs.Known.{IsInert};
+
+use sqlite_items::Items;
+use sqlite_schema::code::Terms;
+use sqlite_schema::schema::{Action, Column, Kind, Reference, Schema, Table};
+use sqlite_value::keys::{Collation, Order};
+use sqlite_value::value::{Bytes, Value};
+
+/// A column of a STRICT table, with no default, whose texts compare by their bytes.
+#[derive(Clone, Copy)]
+pub struct ColumnForm<'a> {
+    pub name: &'a [u8],
+    pub kind: Kind,
+    pub not_null: bool,
+}
+
+/// `FOREIGN KEY (columns) REFERENCES parent (parent_columns)`, checked at once and with no action.
+#[derive(Clone, Copy)]
+pub struct ReferenceForm<'a> {
+    /// The places of the columns, which count from 1. 0 is the INTEGER PRIMARY KEY.
+    pub columns: &'a [usize],
+    pub parent: &'a [u8],
+    pub parent_columns: &'a [&'a [u8]],
+}
+
+/// A table as the schema keeps it, but for the number of its tree: with no CHECK and no default.
+#[derive(Clone, Copy)]
+pub struct TableForm<'a> {
+    pub name: &'a [u8],
+    pub columns: &'a [ColumnForm<'a>],
+    /// The column that is the INTEGER PRIMARY KEY, by its place from 0.
+    pub key: Option<usize>,
+    /// The places of the PRIMARY KEY, which count from 1. 0 is the INTEGER PRIMARY KEY.
+    pub primary: &'a [usize],
+    pub uniques: &'a [&'a [usize]],
+    /// The order of the index of each UNIQUE.
+    pub orders: &'a [Order],
+    pub references: &'a [ReferenceForm<'a>],
+    /// AUTOINCREMENT
+    pub is_counted: bool,
+}
+
+fn is_null(value: &Value) -> bool
+    ensures { IsTrue result ↔ (value.now ≡ Value.Null) }
+{
+    match value {
+        Value::Null => true,
+        _ => false,
+    }
+}
+
+fn is_column(column: &Column, form: &ColumnForm<'_>) -> bool
+    ensures { IsTrue result ↔ (column.now ≡ column_of form.now) }
+{
+    column.name.as_slice() == form.name
+        && column.kind == form.kind
+        && column.is_strict
+        && column.not_null == form.not_null
+        && is_null(&column.default)
+        && column.collation == Collation::Binary
+}
+
+fn are_places(places: &Items<usize>, form: &[usize]) -> bool
+    ensures { IsTrue result ↔ (places.now ≡ form.now) }
+{
+    places.as_slice() == form
+}
+
+fn is_order(order: &Order, form: &Order) -> bool
+    ensures { IsTrue result ↔ (order.now ≡ form.now) }
+{
+    order.digits == form.digits
+}
+
+fn is_name(name: &Bytes, form: &[u8]) -> bool
+    ensures { IsTrue result ↔ (name.now ≡ form.now) }
+{
+    name.as_slice() == form
+}
+
+fn has_no_terms(terms: &Terms) -> bool
+    ensures { IsTrue result ↔ (terms.now ≡ []) }
+{
+    terms.roots.is_empty()
+}
+
+fn are_columns(columns: &[Column], forms: &[ColumnForm<'_>]) -> bool
+    ensures { IsTrue result ↔ (columns.now ≡ map column_of forms.now) }
+{
+    if columns.len() != forms.len() {
+        return false;
+    }
+    for i in 0..columns.len() {
+        if !is_column(&columns[i], &forms[i]) {
+            return false;
+        }
+    }
+    true
+}
+
+fn are_uniques(uniques: &[Items<usize>], forms: &[&[usize]]) -> bool
+    ensures { IsTrue result ↔ (uniques.now ≡ map (λ u. u.now) forms.now) }
+{
+    if uniques.len() != forms.len() {
+        return false;
+    }
+    for i in 0..uniques.len() {
+        if !are_places(&uniques[i], forms[i]) {
+            return false;
+        }
+    }
+    true
+}
+
+fn are_orders(orders: &[Order], forms: &[Order]) -> bool
+    ensures { IsTrue result ↔ (orders.now ≡ forms.now) }
+{
+    if orders.len() != forms.len() {
+        return false;
+    }
+    for i in 0..orders.len() {
+        if !is_order(&orders[i], &forms[i]) {
+            return false;
+        }
+    }
+    true
+}
+
+fn are_names(names: &[Bytes], forms: &[&[u8]]) -> bool
+    ensures { IsTrue result ↔ (names.now ≡ map (λ n. n.now) forms.now) }
+{
+    if names.len() != forms.len() {
+        return false;
+    }
+    for i in 0..names.len() {
+        if !is_name(&names[i], forms[i]) {
+            return false;
+        }
+    }
+    true
+}
+
+fn is_reference(reference: &Reference, form: &ReferenceForm<'_>) -> bool
+    ensures { IsTrue result ↔ (reference.now ≡ reference_of form.now) }
+{
+    are_places(&reference.columns, form.columns)
+        && is_name(&reference.parent, form.parent)
+        && are_names(reference.parent_columns.as_slice(), form.parent_columns)
+        && reference.on_delete == Action::NoAction
+        && reference.on_update == Action::NoAction
+        && !reference.is_deferred
+}
+
+fn are_references(references: &[Reference], forms: &[ReferenceForm<'_>]) -> bool
+    ensures { IsTrue result ↔ (references.now ≡ map reference_of forms.now) }
+{
+    if references.len() != forms.len() {
+        return false;
+    }
+    for i in 0..references.len() {
+        if !is_reference(&references[i], &forms[i]) {
+            return false;
+        }
+    }
+    true
+}
+
+/// Whether the table is that of the form, whatever tree it has.
+pub fn is_table(table: &Table, form: &TableForm<'_>) -> bool
+    ensures { IsTrue result ↔ (table.now ≡ table_of form.now table.now.tree) }
+{
+    is_name(&table.name, form.name)
+        && are_columns(table.columns.as_slice(), form.columns)
+        && table.key == form.key
+        && are_places(&table.primary, form.primary)
+        && are_uniques(table.uniques.as_slice(), form.uniques)
+        && are_orders(table.orders.as_slice(), form.orders)
+        && has_no_terms(&table.checks)
+        && are_references(table.references.as_slice(), form.references)
+        && table.computed.is_empty()
+        && table.stamps.places.is_empty()
+        && has_no_terms(&table.stamps.terms)
+        && table.stamps.formats.is_empty()
+        && table.is_counted == form.is_counted
+}
