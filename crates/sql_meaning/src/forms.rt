@@ -1,11 +1,13 @@
 //! Whether a table of a schema is one that a program knows, and where it stands.
 
-ghost use Rattle.std.specs.Prelude.{◌≡◌, ◌↔◌, IsTrue, map, []};
+ghost use Rattle.std.specs.Prelude.{◌≡◌, ◌↔◌, ◌==◌, ℕ, IsTrue, IfSome, IfNone, map, find, option_map, []};
+ghost use Rattle.sqlite_schema.specs.Names.{table_named};
 ghost use Rattle.sql_meaning.specs.Forms.{column_of, reference_of, table_of};
-ghost use Rattle.sql_meaning.specs.Known.{IsInert};
+ghost use Rattle.sql_meaning.specs.Known.{HasTable};
 
 use sqlite_items::Items;
 use sqlite_schema::code::Terms;
+use sqlite_schema::names::same_name;
 use sqlite_schema::schema::{Action, Column, Kind, Reference, Schema, Table};
 use sqlite_value::keys::{Collation, Order};
 use sqlite_value::value::{Bytes, Value};
@@ -186,4 +188,44 @@ pub fn is_table(table: &Table, form: &TableForm<'_>) -> bool
         && has_no_terms(&table.stamps.terms)
         && table.stamps.formats.is_empty()
         && table.is_counted == form.is_counted
+}
+
+fn place_of(schema: &Schema, name: &[u8]) -> Option<usize>
+    ensures { result ≡ table_named schema.now name.now }
+{
+    schema
+        .tables
+        .as_slice()
+        .iter()
+        .position(|table| same_name(table.name.as_slice(), name))
+}
+
+fn first_of_tree(tables: &[Table], tree: u32) -> Option<&Table>
+    ensures { option_map (λ t. t.now) result ≡ find (λ t. t.tree == tree) tables.now }
+{
+    tables.iter().find(|table| table.tree == tree)
+}
+
+fn is_first_of_tree(tables: &[Table], form: &TableForm<'_>, tree: u32) -> bool
+    ensures { IsTrue result ↔ (find (λ t. t.tree == tree) tables.now ≡ Some (table_of form.now tree)) }
+{
+    match first_of_tree(tables, tree) {
+        Some(table) => table.tree == tree && is_table(table, form),
+        None => false,
+    }
+}
+
+/// Where the schema has the table of the form, and the number of its tree: every statement on the
+/// table means there what it says. A number from 2^31 on is refused, since the engine keeps those.
+pub fn find_table(schema: &Schema, form: &TableForm<'_>) -> Option<(usize, u32)>
+    ensures found { IfSome result (λ place. HasTable schema.now place.0 (table_of form.now place.1)) }
+    ensures none { IfNone result ((at tree : ℕ) → HasTable schema.now at (table_of form.now tree) → ⊥) }
+{
+    let at = place_of(schema, form.name)?;
+    let table = schema.tables.get(at)?;
+    let tree = table.tree;
+    let is_known = is_table(table, form)
+        && tree < 1 << 31
+        && is_first_of_tree(schema.tables.as_slice(), form, tree);
+    if is_known { Some((at, tree)) } else { None }
 }
