@@ -1,5 +1,5 @@
 -- A table as a form has it.
-use Rattle.std.specs.Prelude.{ℕ, Bool, true, false, List, [], map}
+use Rattle.std.specs.Prelude.{ℕ, Bool, false, List, [], map}
 use Rattle.sqlite.specs.Collation.TheVariants.{Binary}
 use Rattle.sqlite.specs.declared.types.Value.TheVariants.{Null}
 use Rattle.sqlite.specs.Table.{Table}
@@ -11,7 +11,7 @@ use Rattle.sql_meaning.specs.declared.forms.ReferenceForm.{ReferenceForm}
 use Rattle.sql_meaning.specs.declared.forms.TableForm.{TableForm}
 
 abbrev pub column_of : ColumnForm → Column
-column_of f = record { name = f.name.now; kind = f.kind; is_strict = true; not_null = f.not_null; default = Null; collation = Binary }
+column_of f = record { name = f.name.now; kind = f.kind; is_strict = f.is_strict; not_null = f.not_null; default = Null; collation = Binary }
 
 abbrev pub reference_of : ReferenceForm → Reference
 reference_of f = record {

@@ -1,9 +1,10 @@
 //! Whether a table of a schema is one that a program knows, and where it stands.
 
 ghost use Rattle.std.specs.Prelude.{◌≡◌, ◌↔◌, ◌==◌, ℕ, IsTrue, IfSome, IfNone, map, find, option_map, []};
+ghost use Rattle.std.specs.List.{AllByRecursion};
 ghost use Rattle.sqlite_schema.specs.Names.{table_named};
 ghost use Rattle.sql_meaning.specs.Forms.{column_of, reference_of, table_of};
-ghost use Rattle.sql_meaning.specs.Known.{HasTable};
+ghost use Rattle.sql_meaning.specs.Known.{HasTable, IsInert, IsQuiet};
 
 use sqlite_items::Items;
 use sqlite_schema::code::Terms;
@@ -12,11 +13,13 @@ use sqlite_schema::schema::{Action, Column, Kind, Reference, Schema, Table};
 use sqlite_value::keys::{Collation, Order};
 use sqlite_value::value::{Bytes, Value};
 
-/// A column of a STRICT table, with no default, whose texts compare by their bytes.
+/// A column with no default, whose texts compare by their bytes.
 #[derive(Clone, Copy)]
 pub struct ColumnForm<'a> {
     pub name: &'a [u8],
     pub kind: Kind,
+    /// Whether the table is STRICT.
+    pub is_strict: bool,
     pub not_null: bool,
 }
 
@@ -60,7 +63,7 @@ fn is_column(column: &Column, form: &ColumnForm<'_>) -> bool
 {
     column.name.as_slice() == form.name
         && column.kind == form.kind
-        && column.is_strict
+        && column.is_strict == form.is_strict
         && column.not_null == form.not_null
         && is_null(&column.default)
         && column.collation == Collation::Binary
@@ -228,4 +231,49 @@ pub fn find_table(schema: &Schema, form: &TableForm<'_>) -> Option<(usize, u32)>
         && tree < 1 << 31
         && is_first_of_tree(schema.tables.as_slice(), form, tree);
     if is_known { Some((at, tree)) } else { None }
+}
+
+/// SQLite's own table of the highest rowids, which it makes with the first table that counts.
+pub const COUNTERS: TableForm<'static> = TableForm {
+    name: b"sqlite_sequence",
+    columns: &[
+        ColumnForm { name: b"name", kind: Kind::Any, is_strict: false, not_null: false },
+        ColumnForm { name: b"seq", kind: Kind::Any, is_strict: false, not_null: false },
+    ],
+    key: None,
+    primary: &[],
+    uniques: &[],
+    orders: &[],
+    references: &[],
+    is_counted: false,
+};
+
+fn has_no_action(reference: &Reference) -> bool
+    ensures { IsTrue result ↔ ((reference.now.on_delete ≡ Action.NoAction) × (reference.now.on_update ≡ Action.NoAction)) }
+{
+    reference.on_delete == Action::NoAction && reference.on_update == Action::NoAction
+}
+
+fn have_no_actions(references: &[Reference]) -> bool
+    ensures { IsTrue result ↔ AllByRecursion (λ r. (r.on_delete ≡ Action.NoAction) × (r.on_update ≡ Action.NoAction)) references.now }
+{
+    references.iter().all(|reference| has_no_action(reference))
+}
+
+/// Whether no foreign key of the schema acts where a row is deleted or its key changes.
+pub fn is_inert(schema: &Schema) -> bool
+    ensures { IsTrue result ↔ IsInert schema.now }
+{
+    schema
+        .tables
+        .as_slice()
+        .iter()
+        .all(|table| have_no_actions(table.references.as_slice()))
+}
+
+/// Whether the schema lets each write touch its own table alone, and the table of the counts.
+pub fn is_quiet(schema: &Schema) -> bool
+    ensures { IsTrue result ↔ IsQuiet schema.now }
+{
+    find_table(schema, &COUNTERS).is_some() && is_inert(schema)
 }
