@@ -54,6 +54,7 @@ pub record Turns {X E : Type 0} (Changes : X → Database → Database → Type 
 pub record Looks {X E : Type 0} (Answers : X → Database → Database → Type 0) (old new : State) (r : Result X E) : Type 0 where
   pub rests : Rests new
   pub done : HasCleanDisk new → IfOk r (λ x. IsTrue new.is_open × Answers x old.now new.now)
+  pub was_open : IsTrue new.is_open → IsTrue old.is_open
   pub holds : IsTrue new.is_open → Holds new old.now
   pub survives : Survives old new (λ _. ⊥)
 
