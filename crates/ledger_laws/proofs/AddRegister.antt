@@ -22,14 +22,17 @@ use Rattle.sheet_types.specs.declared.command.Request.{Request}
 use Rattle.sheet_types.specs.declared.receipt.Receipt.{Receipt}
 use Rattle.sheet_types.specs.declared.receipt.MovedKind.TheVariants.{MediaItem}
 use Rattle.sheet_types.specs.declared.refusal.Refusal.{Refusal}
-use Rattle.sheet_types.proofs.Order.{All-put}
-use Rattle.ledger_laws.proofs.Adding.{bytes_eq_itself, All-weaker, rows_fail, not_false, and_true, none_pass, or-false, None≢Some, new_identity, may_add, never_named, custody_none, thing_of, is_item-kind_of}
-use Rattle.ledger_laws.proofs.Balancing.{sum_by-put, list_any-put}
-use Rattle.ledger_laws.proofs.Account.{thing_of_item}
-use Rattle.ledger_laws.proofs.Listing.{put_arranged, count-cons}
+use Rattle.sheet_types.proofs.Order.{All-put, sum_by-put, list_any-put, put_arranged}
+use Rattle.sheet_types.proofs.Tests.{bytes_eq_itself, not_false, and_true, or-false, None≢Some}
+use Rattle.sheet_types.proofs.Every.{All-weaker, none_pass}
+use Rattle.ledger_laws.proofs.Accepting.{rows_fail, new_identity, keeps}
+use Rattle.ledger_laws.proofs.Adding.{may_add}
+use Rattle.ledger_laws.proofs.Ledger.{never_named, custody_none, thing_of, is_item-kind_of, thing_of_item}
+use Rattle.sheet_types.proofs.Sums.{count-cons, not_both_count}
 use Rattle.ledger_laws.proofs.Facts.{kept_at}
-use Rattle.ledger_laws.proofs.Keeping.{fit_moves, fit_all, distinct_counts, counts_distinct, places_count, tile_at, apart_places, not_both_count}
-use Rattle.ledger_laws.proofs.Merging.{keeps, merge_keeps_register}
+use Rattle.ledger_laws.proofs.Keeping.{fit_moves, fit_all, places_count, tile_at, apart_places}
+use Rattle.sheet_types.proofs.Distinct.{distinct_counts, counts_distinct}
+use Rattle.ledger_laws.proofs.Merging.{merge_keeps_register}
 use Rattle.ledger_laws.proofs.Splitting.{split_keeps_register}
 use Rattle.ledger_laws.proofs.OneRegister.{delete_keeps_register, link_keeps_register, unlink_keeps_register}
 use Rattle.ledger_laws.proofs.OnePackage as one

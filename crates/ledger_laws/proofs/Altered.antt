@@ -11,7 +11,7 @@ use Rattle.sheet_types.specs.Balance.{IsLedger}
 use Rattle.sheet_types.specs.declared.command.Command.TheVariants.{Add, Delete}
 use Rattle.sheet_types.specs.declared.command.Content.{Content}
 use Rattle.sheet_types.specs.declared.command.Content.TheVariants.{Tile}
-use Rattle.ledger_laws.proofs.Adding.{bytes_eq_itself}
+use Rattle.sheet_types.proofs.Tests.{bytes_eq_itself}
 use Rattle.ledger_laws.proofs.Rows.{archive_a, after_all, ask, A, i, tile}
 
 abbrev other_tile : Content

@@ -20,11 +20,16 @@ use Rattle.sheet_types.specs.declared.command.Item.{Item}
 use Rattle.sheet_types.specs.declared.command.Mapping.{Mapping}
 use Rattle.sheet_types.specs.declared.command.Relation.{Relation}
 use Rattle.sheet_types.specs.declared.command.Request.{Request}
-use Rattle.ledger_laws.proofs.Adding.{bytes_eq_itself, All-weaker, rows_fail, not_false, and_true, new_identity, is_item-kind_of}
-use Rattle.ledger_laws.proofs.Listing.{bytes_eq_swap, All-filter, All-found, found, found_passes, counts_arranged, count-cons, count_none, take_one}
+use Rattle.sheet_types.proofs.Tests.{bytes_eq_itself, not_false, and_true, bytes_eq_swap}
+use Rattle.sheet_types.proofs.Every.{All-weaker, All-filter, All-of_map}
+use Rattle.ledger_laws.proofs.Accepting.{rows_fail, new_identity, keeps}
+use Rattle.ledger_laws.proofs.Ledger.{is_item-kind_of}
+use Rattle.sheet_types.proofs.Found.{All-found, found, found_passes}
+use Rattle.sheet_types.proofs.Order.{counts_arranged}
+use Rattle.sheet_types.proofs.Sums.{count-cons, count_none}
+use Rattle.sheet_types.proofs.Without.{take_one}
 use Rattle.ledger_laws.proofs.Packages.{at_all}
-use Rattle.ledger_laws.proofs.Facts.{things_moved, order_moved, agree_moved, custody_moved, items_held, links_held, kept_at, All-of_map}
-use Rattle.ledger_laws.proofs.Merging.{keeps}
+use Rattle.ledger_laws.proofs.Facts.{things_moved, order_moved, agree_moved, custody_moved, items_held, links_held, kept_at}
 use Rattle.ledger_laws.proofs.OnePackage as one
 
 -- ---- Delete

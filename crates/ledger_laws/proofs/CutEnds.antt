@@ -19,26 +19,15 @@ use Rattle.sheet_types.specs.declared.command.Relation.{Relation}
 use Rattle.sheet_types.specs.declared.frame.Frame.{Frame}
 use Rattle.sheet_types.specs.declared.frame.Rect.{Rect}
 use Rattle.sheet_types.specs.declared.receipt.MovedKind.TheVariants.{MediaItem}
-use Rattle.ledger_laws.proofs.Adding.{bytes_eq_itself, All-weaker, not_false}
-use Rattle.ledger_laws.proofs.Listing.{All-both, All-each, All-found, found, any_some, sum_by-same}
-use Rattle.ledger_laws.proofs.Shifting.{sum_by-plus}
-use Rattle.ledger_laws.proofs.Keeping.{distinct_counts}
+use Rattle.sheet_types.proofs.Tests.{bytes_eq_itself, not_false}
+use Rattle.sheet_types.proofs.Every.{All-weaker, All-both, All-each}
+use Rattle.sheet_types.proofs.Found.{All-found, found, any_implies, filter_passes}
+use Rattle.sheet_types.proofs.Sums.{any_some, sum_by-same, sum_by-plus}
+use Rattle.sheet_types.proofs.Distinct.{distinct_counts}
 
 -- both ends go with a link
 abbrev pub GoesWhole : (List ℕ → Bool) → (Relation → Bool) → Relation → Type 0
 GoesWhole takes_item takes_link l = (takes_link l ≡ true → (takes_item l.base ≡ true) × (takes_item l.media ≡ true)) × (takes_link l ≡ false → (takes_item l.base ≡ false) × (takes_item l.media ≡ false))
-
-pub any_implies : {X : Type 0} (p q : X → Bool) → ((x : X) → p x ≡ true → q x ≡ true) → (xs : List X) → list_any p xs ≡ true → list_any q xs ≡ true
-any_implies p q f [] h = absurd (false≢true h)
-any_implies p q f (x ∷ xs) h =
-    elim (p x) as (λ v. p x ≡ v → (v || list_any p xs) ≡ true → (q x || list_any q xs) ≡ true) [
-      | true ↦ λ e _. ap (λ b. b || list_any q xs) (f x e)
-      | false ↦ λ _ more. ap (λ b. q x || b) (any_implies p q f xs more) ∙ or_true (q x)
-    ] refl h
-  where
-    or_true : (b : Bool) → (b || true) ≡ true
-    or_true true = refl
-    or_true false = refl
 
 -- ---- Follow
 
@@ -51,10 +40,6 @@ beq_same false false h = refl
 all_pass : {X : Type 0} (p : X → Bool) (xs : List X) → list_all p xs ≡ true → AllByRecursion (λ x. p x ≡ true) xs
 all_pass p [] h = tt
 all_pass p (x ∷ xs) h = let parts : (p x ≡ true) × (list_all p xs ≡ true) = and_parts (p x) (list_all p xs) h in (parts.0, all_pass p xs parts.1)
-
-filter_passes : {X : Type 0} (p : X → Bool) (xs : List X) → AllByRecursion (λ x. p x ≡ true) (filter p xs)
-filter_passes p [] = tt
-filter_passes p (x ∷ xs) = elim (p x) as (λ v. p x ≡ v → AllByRecursion (λ y. p y ≡ true) (cond v (x ∷ filter p xs) (filter p xs))) [ true ↦ λ e. (e, filter_passes p xs) | false ↦ λ _. filter_passes p xs ] refl
 
 closed_each : (links : List Relation) (sets : List (List (List ℕ))) → AllByRecursion (λ s. list_all (λ l. beq (is_among s l.base) (is_among s l.media)) links ≡ true) sets
     → AllByRecursion (λ l. list_all (λ s. is_among s l.base) sets ≡ list_all (λ s. is_among s l.media) sets) links

@@ -24,9 +24,12 @@ use Rattle.sheet_types.specs.declared.command.Mapping.TheVariants.{TilesMedia, R
 use Rattle.sheet_types.specs.declared.command.Relation.{Relation}
 use Rattle.sheet_types.specs.declared.receipt.Moved.{Moved}
 use Rattle.sheet_types.specs.declared.receipt.Receipt.{Receipt}
-use Rattle.sheet_types.proofs.Order.{before_numbers}
-use Rattle.ledger_laws.proofs.Adding.{bytes_eq_itself, All-weaker, All-left, All-right, All-snoc, None≢Some, item_kind_by_number, thing_of}
-use Rattle.ledger_laws.proofs.Listing.{bytes_eq_swap, All-both, All-append, All-map, All-each, found, All-found, any_none, count-cons, count_none, counts_arranged}
+use Rattle.sheet_types.proofs.Order.{before_numbers, counts_arranged}
+use Rattle.sheet_types.proofs.Tests.{bytes_eq_itself, None≢Some, bytes_eq_swap}
+use Rattle.sheet_types.proofs.Every.{All-weaker, All-left, All-right, All-snoc, All-both, All-append, All-map, All-each, All-of_map}
+use Rattle.ledger_laws.proofs.Ledger.{item_kind_by_number, thing_of}
+use Rattle.sheet_types.proofs.Found.{found, All-found}
+use Rattle.sheet_types.proofs.Sums.{any_none, count-cons, count_none}
 use Rattle.ledger_laws.proofs.Packages.{at_all, holdings_none}
 use Rattle.ledger_laws.proofs.Shifting.{weighed, counting, count_items, count_links, thing_item, thing_link}
 
@@ -226,10 +229,6 @@ links_held x = All-weaker (λ l. has link_key (link_key l) x.links ≡ true) (λ
     or_true' false = refl
 
 -- ---- a package holds each thing once
-
-pub All-of_map : {X Y : Type 0} (P : Y → Type 0) (f : X → Y) (xs : List X) → AllByRecursion P (map f xs) → AllByRecursion (λ x. P (f x)) xs
-All-of_map P f [] h = tt
-All-of_map P f (x ∷ xs) h = (h.0, All-of_map P f xs h.1)
 
 items_once : (thing : List ℕ) (items : List Item) → IsDistinct bytes_eq (identities items) → count_by (λ i. bytes_eq (item_thing i) thing) items ≤ 1
 items_once thing [] h = omega arith

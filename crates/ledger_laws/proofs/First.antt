@@ -1,16 +1,15 @@
 -- A new world, of one empty archive, is that of a register.
 use Rattle.std.specs.Prelude.{◌≡◌, ℕ, ◌+◌, true, false, cond, List, refl, bytes_eq, Some, None, unwrap_or, count_by, sum_by, length}
 use Rattle.sheet_types.specs.Texts.{size}
-use Rattle.sheet_types.specs.World.{is_tile, is_medium, is_row}
+use Rattle.sheet_types.specs.World.{is_tile, is_medium, is_row, Package, holdings, no_package}
 use Rattle.std.proofs.Common.{sym, ◌∙◌}
 use Rattle.std.proofs.lemmas.Bool.{false≢true}
 use Rattle.std.specs.List.{IsDistinct}
-use Rattle.sheet_types.specs.World.{Package, holdings, no_package}
 use Rattle.sheet_types.specs.Balance.{Balanced, holds}
 use Rattle.sheet_types.specs.Register.{IsKeptPackage}
 use Rattle.ledger_laws.specs.Laws.{first_world, FirstIsRegister}
 use Rattle.sheet_types.specs.declared.frame.Frame.{Frame}
-use Rattle.ledger_laws.proofs.Adding.{None≢Some}
+use Rattle.sheet_types.proofs.Tests.{None≢Some}
 
 module _ (frame : Frame) (archive : List ℕ) where
   nothing_held : (p thing : List ℕ) → holds (holdings (first_world frame archive) p) thing ≡ false

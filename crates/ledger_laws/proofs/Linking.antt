@@ -21,13 +21,14 @@ use Rattle.sheet_types.specs.declared.command.Relation.{Relation}
 use Rattle.sheet_types.specs.declared.command.Request.{Request}
 use Rattle.sheet_types.specs.declared.receipt.MovedKind.{MovedKind}
 use Rattle.sheet_types.specs.declared.receipt.MovedKind.TheVariants.{MediaItem}
-use Rattle.ledger_laws.proofs.Adding.{bytes_eq_itself, rows_fail, not_false, and_true, new_identity, none_any}
-use Rattle.ledger_laws.proofs.Balancing.{sum_by-put}
-use Rattle.ledger_laws.proofs.Listing.{All-both, All-each, All-found, found}
+use Rattle.sheet_types.proofs.Tests.{bytes_eq_itself, not_false, and_true}
+use Rattle.ledger_laws.proofs.Accepting.{rows_fail, new_identity, keeps}
+use Rattle.sheet_types.proofs.Every.{none_any, All-both, All-each}
+use Rattle.sheet_types.proofs.Order.{sum_by-put}
+use Rattle.sheet_types.proofs.Found.{All-found, found}
 use Rattle.ledger_laws.proofs.Packages.{holdings_none}
 use Rattle.ledger_laws.proofs.Shifting.{thing_link}
 use Rattle.ledger_laws.proofs.Facts.{things_moved, order_moved, agree_moved, items_held, kept_at}
-use Rattle.ledger_laws.proofs.Merging.{keeps}
 use Rattle.ledger_laws.proofs.OnePackage as one
 
 -- an item of this kind is held under its identity

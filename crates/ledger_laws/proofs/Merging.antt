@@ -1,66 +1,47 @@
 -- A merge keeps the account.
-use Rattle.std.specs.Prelude.{◌≡◌, ⊤, ℕ, ℤ, ◌+◌, ◌≤◌, ◌<◌, ◌==◌, Bool, true, false, cond, not, ◌&&◌, ◌||◌, List, [], ◌∷◌, ◌++◌, map, filter, find, length, refl, nat_lt, bytes_eq, Option, Some, None, unwrap_or, option_map, sum_by, count_by, flat_map, MatchOption, is_none}
+use Rattle.std.specs.Prelude.{◌≡◌, ⊤, ℕ, ℤ, ◌+◌, ◌≤◌, ◌<◌, ◌==◌, Bool, true, false, cond, not, ◌&&◌, ◌||◌, List, [], ◌∷◌, ◌++◌, map, filter, find, length, refl, nat_lt, bytes_eq, Option, Some, None, unwrap_or, option_map, sum_by, count_by, flat_map, MatchOption, is_none, Contains, is_some}
 use Rattle.std.specs.Option.{option_map_or}
-use Rattle.std.proofs.Common.{sym, ap, subst, ◌∙◌, arith}
+use Rattle.std.proofs.Common.{sym, ap, subst, ◌∙◌, arith, drop}
 use Rattle.std.proofs.lemmas.List.Sums.{sum_by-append, sum_by-cons}
 use Rattle.std.proofs.lemmas.List.Folds.{list_any-append}
 use Rattle.std.proofs.lemmas.Bool.{true≢false, false≢true, and_parts, and_from}
 use Rattle.std.proofs.lemmas.Slice.Eq.{bytes_eq-Decides}
 use Rattle.std.specs.List.{list_any, AllByRecursion}
-use Rattle.sheet_types.specs.Ordered.{put, arranged, has, without, IsArranged}
+use Rattle.sheet_types.specs.Ordered.{put, arranged, has, without, IsArranged, is_among}
 use Rattle.sheet_types.specs.Texts.{entry_of}
-use Rattle.sheet_types.specs.World.{World, Package, package_key, receipt_key, item_key, link_key, receipts_of, holdings, no_package, is_live, changed, with_receipt, item_moved, link_moved}
+use Rattle.sheet_types.specs.World.{World, Package, package_key, receipt_key, item_key, link_key, receipts_of, holdings, no_package, is_live, changed, with_receipt, item_moved, link_moved, item_thing, is_tile, base_kind, kind_number}
 use Rattle.sheet_types.specs.Custody.{ends_at, is_merge, is_split, after}
 use Rattle.sheet_types.specs.Cut.{moved_of}
 use Rattle.sheet_types.specs.Step.{accepted, joined, receipt_of, kept_reply, outcome, outcome_by}
-use Rattle.sheet_types.specs.Refuse.{refusal, reasons, is_archive}
-use Rattle.sheet_types.specs.Balance.{Balanced, IsLedger, MayFollow, archive_of, IsLoan, is_split_to, IsUnaltered}
-use Rattle.sheet_types.specs.Register.{IsRegister, IsKeptPackage}
-use Rattle.ledger_laws.specs.Laws.{merge_request, MergeKeepsBalance, MergeKeepsContents}
-use Rattle.sheet_types.specs.Balance.{NoneAltered}
-use Rattle.sheet_types.specs.Ordered.{is_among}
-use Rattle.std.specs.Prelude.{Contains}
+use Rattle.sheet_types.specs.Refuse.{refusal, reasons, is_archive, takes_place, too_many, place_key, place_of}
+use Rattle.sheet_types.specs.Balance.{Balanced, IsLedger, MayFollow, archive_of, IsLoan, is_split_to, IsUnaltered, NoneAltered, holds}
+use Rattle.sheet_types.specs.Register.{IsRegister, IsKeptPackage, HasParent, HasEnds, IsFit, IsUuid}
+use Rattle.ledger_laws.specs.Laws.{merge_request, MergeKeepsBalance, MergeKeepsContents, MergeKeepsRegister}
 use Rattle.std.proofs.lemmas.List.Elements.{Contains-append_left}
-use Rattle.ledger_laws.proofs.Listing.{All-filter}
+use Rattle.sheet_types.proofs.Every.{All-filter, All-weaker, All-left, All-right, All-snoc, none_pass, All-both, All-append, All-each, none_any}
 use Rattle.sheet_types.specs.declared.command.Item.{Item}
 use Rattle.sheet_types.specs.declared.command.Relation.{Relation}
 use Rattle.sheet_types.specs.declared.command.Request.{Request}
 use Rattle.sheet_types.specs.declared.receipt.Moved.{Moved}
 use Rattle.sheet_types.specs.declared.receipt.Receipt.{Receipt}
 use Rattle.sheet_types.specs.declared.refusal.Refusal.{Refusal}
-use Rattle.sheet_types.proofs.Order.{All-put, All-arranged, All-of_put, All-of_arranged}
-use Rattle.sheet_types.proofs.Same.{In, same_list, before_one_way, All-In}
-use Rattle.ledger_laws.proofs.Adding.{bytes_eq_itself, All-weaker, All-left, All-right, All-snoc, rows_fail, not_false, and_true, none_pass, new_identity, archive_stays, ledger_snoc}
-use Rattle.ledger_laws.proofs.Balancing.{find_changed, list_any-put, sum_by-put, none_after}
-use Rattle.ledger_laws.proofs.Listing.{bytes_eq_swap, All-both, All-append, All-each, In-all, All-without, found, sum_by-arranged, sum_by-map, sum_by-flat_map, list_any-arranged, count-cons, none_counted, any_some, any_none, counts_arranged, arranged_counts, filter_arranged, take_one}
-use Rattle.ledger_laws.proofs.Packages.{AllStand, at_uuid, each_found, at_all, stand_at, stand_all, stand_flat, holdings_none, holdings_changed, holdings_closed, changed_arranged, changed_sum, All-changed, two_places, archive_closed}
+use Rattle.sheet_types.proofs.Order.{All-put, All-arranged, All-of_put, All-of_arranged, list_any-put, sum_by-put, sum_by-arranged, list_any-arranged, counts_arranged, arranged_counts, filter_arranged}
+use Rattle.sheet_types.proofs.Same.{In, same_list, All-In, In-all}
+use Rattle.sheet_types.proofs.Tests.{before_one_way, bytes_eq_itself, not_false, and_true, bytes_eq_swap}
+use Rattle.ledger_laws.proofs.Accepting.{rows_fail, new_identity, keeps}
+use Rattle.ledger_laws.proofs.Packages.{archive_stays, find_changed, AllStand, at_uuid, each_found, at_all, stand_at, stand_all, stand_flat, holdings_none, holdings_changed, holdings_closed, changed_arranged, changed_sum, All-changed, two_places, archive_closed}
+use Rattle.ledger_laws.proofs.Ledger.{ledger_snoc, none_after, ledger_numbers}
+use Rattle.sheet_types.proofs.Without.{All-without, take_one}
+use Rattle.sheet_types.proofs.Found.{found}
+use Rattle.sheet_types.proofs.Sums.{sum_by-map, sum_by-flat_map, count-cons, none_counted, any_some, any_none, count_le, not_both_count}
 use Rattle.ledger_laws.proofs.Shifting.{weighed, goes, Shift, flat_stand, balance_kept, ends_at_is}
 use Rattle.ledger_laws.proofs.Facts.{ledger_arranged, things_moved, order_moved, agree_moved, custody_moved, items_held, links_held, kept_at, holds_once}
-use Rattle.std.proofs.Common.{drop}
-use Rattle.std.specs.Prelude.{is_some}
-use Rattle.sheet_types.specs.Refuse.{takes_place, too_many, place_key, place_of}
-use Rattle.sheet_types.specs.World.{item_thing, is_tile, base_kind, kind_number}
 use Rattle.sheet_types.specs.declared.receipt.MovedKind.TheVariants.{MediaItem}
-use Rattle.sheet_types.specs.Balance.{holds}
-use Rattle.sheet_types.specs.Register.{HasParent, HasEnds, IsFit, IsUuid}
-use Rattle.ledger_laws.specs.Laws.{MergeKeepsRegister}
-use Rattle.ledger_laws.proofs.Adding.{ledger_numbers, none_any}
-use Rattle.ledger_laws.proofs.Keeping.{fit_all, distinct_counts, counts_distinct, count_le, not_both_count, places_count, tile_at, apart_places, live_changed, live_closed, parent_moves, package_moves, receipts_kept, sum_by-changed, all_live_at, open_kept, open_is_split}
+use Rattle.ledger_laws.proofs.Keeping.{fit_all, places_count, tile_at, apart_places, live_changed, live_closed, parent_moves, package_moves, receipts_kept, sum_by-changed, all_live_at, open_kept, open_is_split}
+use Rattle.sheet_types.proofs.Distinct.{distinct_counts, counts_distinct}
 
 pub weigh_moved : (c : Moved → ℕ) (items : List Item) (links : List Relation) → sum_by c (moved_of items links) ≡ sum_by (λ i. c (item_moved i)) items + sum_by (λ l. c (link_moved l)) links
 weigh_moved c items links = omega (arith, sum_by-append c (map item_moved items) (map link_moved links), sum_by-map c item_moved items, sum_by-map c link_moved links)
-
--- a request that is neither answered from the ledger nor refused
-pub keeps : (P : World → Type 0) (w : World) (q : Request) → P w → (kept_reply w q ≡ None → refusal w (accepted w q) q ≡ None → P (accepted w q)) → P (outcome w q).1
-keeps P w q h then' =
-    let why : Option Refusal = refusal w (accepted w q) q in
-    elim (kept_reply w q) as (λ k. kept_reply w q ≡ k → P (outcome_by w q k why).1) [
-      | Some r ↦ λ _. h
-      | None ↦ λ no_reply. elim (refusal w (accepted w q) q) as (λ o. refusal w (accepted w q) q ≡ o → P (outcome_by w q None o).1) [
-        | Some e ↦ λ _. h
-        | None ↦ λ no_refusal. then' no_reply no_refusal
-      ] refl
-    ] refl
 
 -- ---- a package is lent under a UUID once
 

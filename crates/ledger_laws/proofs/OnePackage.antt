@@ -10,22 +10,19 @@ use Rattle.sheet_types.specs.Texts.{Entry, entry_line}
 use Rattle.sheet_types.specs.World.{World, Package, package_key, receipt_key, receipts_of, holdings, is_live, changed, with_receipt}
 use Rattle.sheet_types.specs.Custody.{ends_at, is_merge, is_split, after}
 use Rattle.sheet_types.specs.Balance.{Balanced, NoneAltered, MayFollow, archive_of, IsLoan, IsUnaltered, stands_in}
-use Rattle.sheet_types.specs.Register.{IsRegister, IsKeptPackage}
+use Rattle.sheet_types.specs.Register.{IsRegister, IsKeptPackage, HasParent}
 use Rattle.sheet_types.specs.declared.command.Item.{Item}
 use Rattle.sheet_types.specs.declared.command.Relation.{Relation}
 use Rattle.sheet_types.specs.declared.receipt.Moved.{Moved}
 use Rattle.sheet_types.specs.declared.receipt.Receipt.{Receipt}
-use Rattle.sheet_types.proofs.Order.{All-put}
-use Rattle.ledger_laws.proofs.Adding.{bytes_eq_itself, All-weaker, archive_stays, ledger_numbers, receipts_gained, with_receipt_gains}
-use Rattle.ledger_laws.proofs.Balancing.{list_any-put, none_after}
-use Rattle.ledger_laws.proofs.Listing.{bytes_eq_swap}
-use Rattle.ledger_laws.proofs.Packages.{AllStand, stand_at, stand_all, holdings_changed, changed_arranged, All-changed}
-use Rattle.ledger_laws.proofs.Shifting.{weighed, goes, SeesKeys, Shift, balance_kept}
+use Rattle.sheet_types.proofs.Order.{All-put, list_any-put, All-of_arranged}
+use Rattle.sheet_types.proofs.Tests.{bytes_eq_itself, bytes_eq_swap}
+use Rattle.sheet_types.proofs.Every.{All-weaker}
+use Rattle.ledger_laws.proofs.Packages.{archive_stays, receipts_gained, with_receipt_gains, AllStand, stand_at, stand_all, holdings_changed, changed_arranged, All-changed}
+use Rattle.ledger_laws.proofs.Ledger.{ledger_numbers, none_after}
+use Rattle.ledger_laws.proofs.Shifting.{weighed, goes, SeesKeys, Shift, balance_kept, flat_stand}
 use Rattle.ledger_laws.proofs.Facts.{kept_at, holds_once}
-use Rattle.sheet_types.specs.Register.{HasParent}
 use Rattle.sheet_types.specs.Refuse.{too_many, is_archive}
-use Rattle.sheet_types.proofs.Order.{All-of_arranged}
-use Rattle.ledger_laws.proofs.Shifting.{flat_stand}
 use Rattle.ledger_laws.proofs.Keeping.{live_changed, parent_moves, receipts_kept, sum_by-changed, all_live_at, package_moves, open_kept}
 
 -- ---- one package is changed

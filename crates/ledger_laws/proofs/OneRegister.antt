@@ -17,32 +17,19 @@ use Rattle.sheet_types.specs.declared.command.Relation.{Relation}
 use Rattle.sheet_types.specs.declared.command.Request.{Request}
 use Rattle.sheet_types.specs.declared.receipt.MovedKind.{MovedKind}
 use Rattle.sheet_types.specs.declared.receipt.MovedKind.TheVariants.{MediaItem}
-use Rattle.sheet_types.proofs.Order.{All-put}
-use Rattle.ledger_laws.proofs.Adding.{rows_fail, none_pass, not_false, and_true}
-use Rattle.ledger_laws.proofs.Listing.{All-both, All-filter, is_one, filter_arranged, put_arranged}
+use Rattle.sheet_types.proofs.Order.{All-put, filter_arranged, put_arranged}
+use Rattle.ledger_laws.proofs.Accepting.{rows_fail, keeps}
+use Rattle.sheet_types.proofs.Every.{none_pass, All-both, All-filter}
+use Rattle.sheet_types.proofs.Tests.{not_false, and_true}
+use Rattle.sheet_types.proofs.Without.{is_one}
 use Rattle.ledger_laws.proofs.Facts.{kept_at}
-use Rattle.ledger_laws.proofs.Keeping.{fit_all, distinct_counts, counts_distinct, sum_by-filter, filter_less}
-use Rattle.ledger_laws.proofs.Merging.{keeps}
-use Rattle.ledger_laws.proofs.OnePackage as one
+use Rattle.ledger_laws.proofs.Keeping.{fit_all, places_less}
+use Rattle.sheet_types.proofs.Distinct.{distinct_counts, counts_distinct}
+use Rattle.sheet_types.proofs.Sums.{sum_by-filter, filter_less}
 use Rattle.ledger_laws.proofs.Changing.{delete_items, delete_fits, unlink_links, unlink_fits}
 use Rattle.ledger_laws.proofs.Linking.{link_fits}
-
-pub any_filter : {X : Type 0} (p t : X → Bool) (xs : List X) → ((x : X) → p x ≡ true → t x ≡ true) → list_any p xs ≡ true → list_any p (filter t xs) ≡ true
-any_filter p t [] f h = h
-any_filter p t (x ∷ xs) f h =
-    elim (p x) as (λ v. p x ≡ v → (v || list_any p xs) ≡ true → list_any p (cond (t x) (x ∷ filter t xs) (filter t xs)) ≡ true) [
-      | true ↦ λ e _. rw (f x e) (ap (λ b. b || list_any p (filter t xs)) e)
-      | false ↦ λ e more. elim (t x) as (λ v. list_any p (cond v (x ∷ filter t xs) (filter t xs)) ≡ true) [
-        | true ↦ ap (λ b. b || list_any p (filter t xs)) e ∙ any_filter p t xs f more
-        | false ↦ any_filter p t xs f more
-      ]
-    ] refl h
-
--- the places of some of the items
-pub places_less : (t : Item → Bool) (k : List ℕ) (items : List Item) → count_by (λ i. bytes_eq (place_of i.content) k) (filter is_tile (filter t items)) ≤ count_by (λ i. bytes_eq (place_of i.content) k) (filter is_tile items)
-places_less t k items =
-    let f : Item → ℕ = λ i. cond (bytes_eq (place_of i.content) k) 1 0 in
-    omega (arith, sum_by-filter f is_tile (filter t items), sum_by-filter f is_tile items, filter_less (λ i. cond (is_tile i) (f i) 0) t items)
+use Rattle.sheet_types.proofs.Found.{any_filter}
+use Rattle.ledger_laws.proofs.OnePackage as one
 
 module _ (w : World) (id moment p identity : List ℕ) (register : IsRegister w) where
   abbrev asked : Request

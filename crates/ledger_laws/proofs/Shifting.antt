@@ -21,10 +21,11 @@ use Rattle.sheet_types.specs.declared.receipt.Moved.{Moved}
 use Rattle.sheet_types.specs.declared.receipt.MovedKind.TheVariants.{TileItem, MediaItem, RowItem, TilesMediaLink, RowsMediaLink}
 use Rattle.sheet_types.specs.declared.receipt.Receipt.{Receipt}
 use Rattle.sheet_types.proofs.Order.{All-of_arranged}
-use Rattle.ledger_laws.proofs.Adding.{bytes_eq_itself, All-weaker, All-left, All-right, ledger_numbers, ledger_snoc}
-use Rattle.ledger_laws.proofs.Balancing.{custody_names, custody_other, sum_by-filter_snoc, none_later}
-use Rattle.ledger_laws.proofs.Account.{thing_of_item}
-use Rattle.ledger_laws.proofs.Listing.{All-both, found, All-found, any_some, any_none, sum_by-same}
+use Rattle.sheet_types.proofs.Tests.{bytes_eq_itself}
+use Rattle.sheet_types.proofs.Every.{All-weaker, All-left, All-right, All-both}
+use Rattle.ledger_laws.proofs.Ledger.{ledger_numbers, ledger_snoc, custody_names, custody_other, sum_by-filter_snoc, none_later, thing_of_item}
+use Rattle.sheet_types.proofs.Found.{found, All-found}
+use Rattle.sheet_types.proofs.Sums.{any_some, any_none, sum_by-same, sum_by-plus, sum_by-zero, length_sum}
 use Rattle.ledger_laws.proofs.Packages.{AllStand}
 
 -- what a package holds, by a measure of things
@@ -95,18 +96,6 @@ flat_stand P (x ∷ ps) h = (All-left P x.receipts (flat_map (λ y. y.receipts) 
 pub stand_both : (P Q R : List ℕ → Receipt → Type 0) → ((u : List ℕ) (s : Receipt) → P u s → Q u s → R u s) → (w : World) → AllStand P w → AllStand Q w → AllStand R w
 stand_both P Q R f w h g = All-both (λ x. AllByRecursion (P x.uuid) x.receipts) (λ x. AllByRecursion (Q x.uuid) x.receipts) (λ x. AllByRecursion (R x.uuid) x.receipts)
     (λ x. All-both (P x.uuid) (Q x.uuid) (R x.uuid) (f x.uuid) x.receipts) w.packages h g
-
-pub sum_by-plus : {X : Type 0} (f g : X → ℕ) (xs : List X) → sum_by (λ x. f x + g x) xs ≡ sum_by f xs + sum_by g xs
-sum_by-plus f g [] = refl
-sum_by-plus f g (x ∷ xs) = omega (arith, sum_by-cons (λ y. f y + g y) x xs, sum_by-cons f x xs, sum_by-cons g x xs, sum_by-plus f g xs)
-
-pub sum_by-zero : {X : Type 0} (f : X → ℕ) → ((x : X) → f x ≡ 0) → (xs : List X) → sum_by f xs ≡ 0
-sum_by-zero f z [] = refl
-sum_by-zero f z (x ∷ xs) = omega (arith, sum_by-cons f x xs, z x, sum_by-zero f z xs)
-
-pub length_sum : {X : Type 0} (f : X → ℕ) → ((x : X) → f x ≡ 1) → (xs : List X) → sum_by f xs ≡ length xs
-length_sum f z [] = refl
-length_sum f z (x ∷ xs) = omega (arith, sum_by-cons f x xs, z x, length_sum f z xs)
 
 -- all receipts stand below the next number
 pub stand_below : (w : World) → IsLedger (archive_of w) [] (receipts_of w) → AllStand (λ u s. s.seq < length (receipts_of w) + 1) w

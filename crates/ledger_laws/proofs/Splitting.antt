@@ -1,21 +1,21 @@
 -- A split keeps the account, whatever its mode.
-use Rattle.std.specs.Prelude.{◌≡◌, ⊤, ℕ, ◌+◌, ◌≤◌, ◌<◌, ◌==◌, Bool, true, false, cond, not, ◌&&◌, ◌||◌, List, [], ◌∷◌, ◌++◌, map, filter, find, length, refl, bytes_eq, Option, Some, None, sum_by, flat_map, MatchOption, is_none, Contains}
+use Rattle.std.specs.Prelude.{◌≡◌, ⊤, ℕ, ◌+◌, ◌≤◌, ◌<◌, ◌==◌, Bool, true, false, cond, not, ◌&&◌, ◌||◌, List, [], ◌∷◌, ◌++◌, map, filter, find, length, refl, bytes_eq, Option, Some, None, sum_by, flat_map, MatchOption, is_none, Contains, is_some, nat_le}
 use Rattle.std.specs.Option.{option_map_or}
 use Rattle.std.proofs.Common.{sym, ap, subst, ◌∙◌, arith}
 use Rattle.std.proofs.lemmas.List.Elements.{Contains-append_left}
 use Rattle.std.proofs.lemmas.Bool.{true≢false, false≢true, and_from, or_parts, false_from_ne_true}
 use Rattle.std.proofs.lemmas.Slice.Eq.{bytes_eq-Decides}
-use Rattle.std.specs.List.{list_any, AllByRecursion}
-use Rattle.sheet_types.specs.Ordered.{arranged, has, without, IsArranged}
+use Rattle.std.specs.List.{list_any, AllByRecursion, IsDistinct}
+use Rattle.sheet_types.specs.Ordered.{arranged, has, without, IsArranged, is_among}
 use Rattle.sheet_types.specs.Texts.{entry_of}
 use Rattle.sheet_types.specs.World.{World, Package, package_key, receipt_key, item_key, link_key, item_thing, receipts_of, holdings, is_live, changed, with_receipt, item_moved, link_moved}
 use Rattle.sheet_types.specs.Custody.{ends_at, is_merge, is_split, after}
-use Rattle.sheet_types.specs.Cut.{Cut, cut}
+use Rattle.sheet_types.specs.Cut.{Cut, cut, identities, start, media_linked, in_each}
 use Rattle.sheet_types.specs.Step.{accepted, less, loan_of, cut_of, receipt_of, kept_reply}
-use Rattle.sheet_types.specs.Refuse.{refusal, reasons, is_archive}
+use Rattle.sheet_types.specs.Refuse.{refusal, reasons, is_archive, cut_link, too_many}
 use Rattle.sheet_types.specs.Balance.{Balanced, NoneAltered, MayFollow, archive_of, IsLoan, IsUnaltered, holds}
-use Rattle.sheet_types.specs.Register.{IsRegister, IsKeptPackage}
-use Rattle.ledger_laws.specs.Laws.{split_request, SplitKeepsBalance, SplitKeepsContents}
+use Rattle.sheet_types.specs.Register.{IsRegister, IsKeptPackage, HasParent, HasEnds}
+use Rattle.ledger_laws.specs.Laws.{split_request, SplitKeepsBalance, SplitKeepsContents, SplitKeepsRegister}
 use Rattle.sheet_types.specs.declared.command.Mode.{Mode}
 use Rattle.sheet_types.specs.declared.command.Mode.TheVariants.{Strict, Follow}
 use Rattle.sheet_types.specs.declared.frame.Frame.{Frame}
@@ -25,24 +25,20 @@ use Rattle.sheet_types.specs.declared.command.Relation.{Relation}
 use Rattle.sheet_types.specs.declared.command.Request.{Request}
 use Rattle.sheet_types.specs.declared.receipt.Moved.{Moved}
 use Rattle.sheet_types.specs.declared.receipt.Receipt.{Receipt}
-use Rattle.sheet_types.proofs.Order.{All-put, All-of_arranged}
-use Rattle.ledger_laws.proofs.Adding.{bytes_eq_itself, All-weaker, rows_fail, not_false, and_true, none_pass, none_any, new_identity, archive_stays, ledger_numbers, receipts_gained, with_receipt_gains}
-use Rattle.ledger_laws.proofs.Balancing.{list_any-put, none_after, none_later}
-use Rattle.ledger_laws.proofs.Listing.{bytes_eq_swap, All-filter, found, All-found, sum_by-parts, count_none, filter_arranged, put_arranged, rest_of, find_put_other}
-use Rattle.ledger_laws.proofs.Packages.{AllStand, at_uuid, at_all, stand_at, stand_all, holdings_none, holdings_changed, holdings_enlarged, changed_arranged, All-changed, flat_put}
+use Rattle.sheet_types.proofs.Order.{All-put, All-of_arranged, list_any-put, filter_arranged, put_arranged, find_put_other, sum_by-put}
+use Rattle.sheet_types.proofs.Tests.{bytes_eq_itself, not_false, and_true, bytes_eq_swap}
+use Rattle.sheet_types.proofs.Every.{All-weaker, none_pass, none_any, All-filter}
+use Rattle.ledger_laws.proofs.Accepting.{rows_fail, new_identity, keeps}
+use Rattle.ledger_laws.proofs.Packages.{archive_stays, receipts_gained, with_receipt_gains, AllStand, at_uuid, at_all, stand_at, stand_all, holdings_none, holdings_changed, holdings_enlarged, changed_arranged, All-changed, flat_put}
+use Rattle.ledger_laws.proofs.Ledger.{ledger_numbers, none_after, none_later}
+use Rattle.sheet_types.proofs.Found.{found, All-found}
+use Rattle.sheet_types.proofs.Sums.{sum_by-parts, count_none}
+use Rattle.sheet_types.proofs.Without.{rest_of}
 use Rattle.ledger_laws.proofs.Shifting.{weighed, goes, Shift, flat_stand, balance_kept}
 use Rattle.ledger_laws.proofs.Facts.{things_moved, order_moved, agree_moved, custody_moved, items_held, links_held, kept_at, holds_once}
-use Rattle.ledger_laws.proofs.Merging.{keeps, weigh_moved, lent_to}
-use Rattle.std.specs.Prelude.{is_some, nat_le}
-use Rattle.std.specs.List.{IsDistinct}
+use Rattle.ledger_laws.proofs.Merging.{weigh_moved, lent_to}
 use Rattle.std.proofs.lemmas.Bool.Decides.{nat_tests}
-use Rattle.sheet_types.specs.Ordered.{is_among}
-use Rattle.sheet_types.specs.Cut.{identities, start, media_linked, in_each}
-use Rattle.sheet_types.specs.Refuse.{cut_link, too_many}
-use Rattle.sheet_types.specs.Register.{HasParent, HasEnds}
-use Rattle.ledger_laws.specs.Laws.{SplitKeepsRegister}
 use Rattle.sheet_types.specs.declared.command.Command.TheVariants.{Split}
-use Rattle.ledger_laws.proofs.Balancing.{sum_by-put}
 use Rattle.ledger_laws.proofs.CutEnds.{GoesWhole, strict_whole, follow_whole}
 use Rattle.ledger_laws.proofs.Keeping.{filtered_kept, live_changed, parent_moves, package_moves, receipts_kept, sum_by-changed, all_live_at, open_kept}
 
