@@ -1,44 +1,18 @@
 -- What it takes to be accepted, and what is not.
-use Rattle.std.specs.Prelude.{◌≡◌, ℕ, ◌+◌, ◌<◌, Bool, true, false, cond, not, ◌==◌, ◌&&◌, ◌||◌, List, [], ◌∷◌, ◌++◌, map, filter, find, length, refl, bytes_eq, Option, Some, None, flat_map, slice_index, is_none, codes, ⊤, ℤ, ◌≤◌, nat_lt, unwrap_or, option_map, sum_by, count_by, MatchOption, Contains, is_some}
-use Rattle.std.proofs.lemmas.List.{append-nil}
-use Rattle.std.proofs.Common.{sym, ap, subst, ◌∙◌, arith, append_assoc, length-append, drop}
-use Rattle.std.proofs.lemmas.Bool.{true≢false, false≢true, lt-ltb, le-ltb, or_parts, MatchBool-at_true, and_parts, and_from, false_from_ne_true}
-use Rattle.std.proofs.lemmas.Slice.Eq.{bytes_eq-Decides}
-use Rattle.std.proofs.lemmas.Map.Text.{is_eq-slice_cmp}
-use Rattle.std.specs.List.{list_any, AllByRecursion}
-use Rattle.std.specs.Ordering.{is_lt, is_eq, nat_cmp}
-use Rattle.std.specs.declared.cmp.Ordering.{Ordering}
-use Rattle.std.specs.declared.cmp.Ordering.TheVariants.{Less, Equal, Greater}
-use Rattle.std.specs.Cmp.Lexicographic.{slice_cmp}
-use Rattle.sheet_types.specs.Ordered.{is_before, put, arranged, has, IsArranged, last_of, without, is_among}
-use Rattle.sheet_types.specs.World.{World, Package, package_key, receipt_key, receipts_of, changed, with_receipt, item_key, link_moved, item_moved, is_live, thing_number, moved_thing, is_item_kind, link_key, holdings, no_package, item_thing, is_tile, base_kind, kind_number}
+use Rattle.std.specs.Prelude.{◌≡◌, Bool, true, false, cond, not, List, [], ◌∷◌, refl, bytes_eq, Option, Some, None}
+use Rattle.std.proofs.Common.{sym, ap, ◌∙◌}
+use Rattle.std.specs.List.{AllByRecursion}
+use Rattle.sheet_types.specs.Ordered.{has}
+use Rattle.sheet_types.specs.World.{World, receipts_of}
 use Rattle.std.specs.Option.{option_map_or, option_and_then}
-use Rattle.sheet_types.specs.Balance.{IsLedger, MayFollow, archive_of, IsThing, names_identity, IsReceiptOf, Agrees, Balanced, IsLoan, is_split_to, IsUnaltered, NoneAltered, holds}
-use Rattle.sheet_types.specs.Custody.{names, custody, is_add, kept, is_used, ends_at, is_merge, is_split, after}
-use Rattle.sheet_types.specs.Texts.{Entry, Adds, Deletes, Links, Unlinks, Splits, Merges, verb, line, entry_of, kind_of}
-use Rattle.sheet_types.specs.Step.{relation, added_item, receipt_of, kept_reply, outcome_by, accepted, joined, outcome}
+use Rattle.sheet_types.specs.Custody.{kept}
+use Rattle.sheet_types.specs.Texts.{line}
+use Rattle.sheet_types.specs.Step.{kept_reply, outcome_by, accepted, outcome}
 use Rattle.std.specs.Bool.{then_some}
-use Rattle.sha2.proofs.Facts256.{length-sha256}
 use Rattle.sheet_types.specs.Matrix.{first_row}
-use Rattle.sheet_types.specs.Refuse.{id_reused, refusal, reasons, is_archive, takes_place, too_many, place_key, place_of}
-use Rattle.sheet_types.specs.declared.command.Command.TheVariants.{Add}
-use Rattle.sheet_types.specs.declared.command.Content.{Content}
-use Rattle.sheet_types.specs.declared.command.Content.TheVariants.{Tile, Media, Row}
+use Rattle.sheet_types.specs.Refuse.{id_reused, refusal}
 use Rattle.sheet_types.specs.declared.command.Request.{Request}
 use Rattle.sheet_types.specs.declared.refusal.Refusal.{Refusal}
-use Rattle.sheet_types.specs.declared.command.Mapping.{Mapping}
-use Rattle.sheet_types.specs.declared.command.Mapping.TheVariants.{TilesMedia, RowsMedia}
-use Rattle.sheet_types.specs.declared.receipt.Moved.{Moved}
-use Rattle.sheet_types.specs.declared.receipt.MovedKind.{MovedKind}
-use Rattle.sheet_types.specs.declared.receipt.MovedKind.TheVariants.{TileItem, MediaItem, RowItem, TilesMediaLink, RowsMediaLink}
-use Rattle.sheet_types.specs.declared.receipt.Receipt.{Receipt}
-use Rattle.std.proofs.lemmas.List.Sums.{sum_by-append, sum_by-cons}
-use Rattle.std.proofs.lemmas.List.Folds.{list_any-append}
-use Rattle.sheet_types.specs.Cut.{moved_of}
-use Rattle.sheet_types.specs.Register.{IsRegister, IsKeptPackage, HasParent, HasEnds, IsFit, IsUuid}
-use Rattle.std.proofs.lemmas.List.Elements.{Contains-append_left}
-use Rattle.sheet_types.specs.declared.command.Item.{Item}
-use Rattle.sheet_types.specs.declared.command.Relation.{Relation}
 use Rattle.sheet_types.proofs.Tests.{None≢Some, not_false}
 use Rattle.sheet_types.proofs.Found.{none_found}
 

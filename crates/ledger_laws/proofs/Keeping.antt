@@ -1,24 +1,24 @@
 -- What it takes to keep the rules of a register, whatever the command.
 use Rattle.std.specs.Prelude.{◌≡◌, ℕ, ℤ, ◌+◌, ◌≤◌, ◌<◌, Bool, true, false, cond, not, ◌&&◌, ◌||◌, List, [], ◌∷◌, ◌++◌, map, filter, find, refl, nat_lt, bytes_eq, Option, Some, None, unwrap_or, is_some, sum_by, count_by, MatchOption, int_le, int_lt, pos, negsuc, unsigned_abs, slice_index, is_none, ◌+ℤ◌, ◌*ℤ◌, ◌-ℤ◌}
-use Rattle.sheet_types.specs.Refuse.{is_at, takes_place, place_of, bad_place}
-use Rattle.sheet_types.specs.World.{is_tile, kind_is, item_key, link_key, kind_number, base_kind, World, Package, package_key, receipt_key, receipts_of, holdings, no_package, is_live}
-use Rattle.sheet_types.specs.Register.{HasEnds, IsUuid, IsFit, HasParent, IsKeptPackage}
+use Rattle.sheet_types.specs.Refuse.{is_at, takes_place, place_of, bad_place, greatest_depth}
+use Rattle.sheet_types.specs.World.{is_tile, kind_is, item_key, link_key, kind_number, base_kind, other_kind, World, Package, package_key, receipt_key, receipts_of, holdings, no_package, is_live}
+use Rattle.sheet_types.specs.Lines.{IsUuid}
+use Rattle.sheet_types.specs.Register.{HasEnds, IsFit, HasParent, IsKeptPackage}
 use Rattle.sheet_types.specs.declared.command.Relation.{Relation}
 use Rattle.sheet_types.specs.declared.receipt.MovedKind.{MovedKind}
-use Rattle.sheet_types.specs.declared.receipt.MovedKind.TheVariants.{MediaItem, TileItem}
+use Rattle.sheet_types.specs.declared.receipt.MovedKind.TheVariants.{TileItem}
 use Rattle.std.proofs.Common.{drop, sym, ap, subst, ◌∙◌, arith, rules}
-use Rattle.sheet_types.proofs.Every.{All-filter, none_pass, All-each, All-weaker, All-snoc, All-both, All-map, All-of_map, All-taken}
+use Rattle.sheet_types.proofs.Every.{All-filter, none_pass, All-each, All-weaker, All-snoc, All-both, All-taken}
 use Rattle.sheet_types.proofs.Order.{filter_arranged, before_numbers, put_arranged}
 use Rattle.sheet_types.specs.Texts.{kind_of}
 use Rattle.sheet_types.specs.declared.command.Command.TheVariants.{Add}
 use Rattle.sheet_types.specs.declared.frame.FrameFault.{FrameFault}
 use Rattle.ledger_laws.proofs.Accepting.{rows_fail}
 use Rattle.sheet_types.proofs.Found.{All-found, found, any_filter}
-use Rattle.sheet_types.proofs.Sums.{any_none, sum_by-same, count-cons, count_none, none_counted, sum_by-parts, sum_by-filter, filter_less}
+use Rattle.sheet_types.proofs.Sums.{sum_by-same, sum_by-filter, filter_less}
 use Rattle.std.proofs.lemmas.List.Elements.{filter-append}
 use Rattle.std.proofs.lemmas.List.Folds.{list_any-append}
 use Rattle.std.proofs.lemmas.List.Sums.{sum_by-cons}
-use Rattle.std.proofs.lemmas.Map.Keys.{IsDistinct-head, IsDistinct-tail, IsDistinct-cons}
 use Rattle.std.proofs.lemmas.Bool.{true≢false, false≢true, or_parts, and_parts, and_from, lt-ltb}
 use Rattle.std.proofs.lemmas.Slice.Eq.{bytes_eq-Decides}
 use Rattle.std.specs.List.{list_any, AllByRecursion, IsDistinct}
@@ -95,6 +95,7 @@ package_moves w v x e up k = record {
   links = k.links;
   receipts = k.receipts;
   identities = k.identities;
+  uuid = k.uuid;
   uuids = k.uuids;
   fit = fit_all w v e x x x.items k.fit;
   places = k.places;
@@ -104,8 +105,8 @@ package_moves w v x e up k = record {
 
 -- a loan's parent stays where it is
 pub parent_moves : (w v : World) (parent : Option (List ℕ)) (depth loan : ℕ) → ((q : List ℕ) → ends_at parent q ≡ true → is_live w q ≡ true → (is_live v q ≡ true) × ((holdings v q).depth ≡ (holdings w q).depth))
-    → MatchOption parent ((depth ≡ 0) × (loan ≡ 0)) (λ q. (is_live w q ≡ true) × (depth ≡ (holdings w q).depth + 1) × (depth ≤ 1))
-    → MatchOption parent ((depth ≡ 0) × (loan ≡ 0)) (λ q. (is_live v q ≡ true) × (depth ≡ (holdings v q).depth + 1) × (depth ≤ 1))
+    → MatchOption parent ((depth ≡ 0) × (loan ≡ 0)) (λ q. (is_live w q ≡ true) × (depth ≡ (holdings w q).depth + 1) × (depth ≤ greatest_depth))
+    → MatchOption parent ((depth ≡ 0) × (loan ≡ 0)) (λ q. (is_live v q ≡ true) × (depth ≡ (holdings v q).depth + 1) × (depth ≤ greatest_depth))
 parent_moves w v None depth loan stays h = h
 parent_moves w v (Some q) depth loan stays h =
     let s : (is_live v q ≡ true) × ((holdings v q).depth ≡ (holdings w q).depth) = stays q (bytes_eq_itself q) h.0 in
@@ -273,8 +274,9 @@ places_less t k items =
     omega (arith, sum_by-filter f is_tile (filter t items), sum_by-filter f is_tile items, filter_less (λ i. cond (is_tile i) (f i) 0) t items)
 
 pub filtered_kept : (w v : World) (x y : Package) (s : List ℕ → Bool) (u : Relation → Bool) → v.frame ≡ w.frame → y.items ≡ filter (λ i. s i.identity) x.items → y.links ≡ filter u x.links
-    → IsArranged receipt_key y.receipts → HasParent v y → AllByRecursion (λ l. u l ≡ true → (s l.base ≡ true) × (s l.media ≡ true)) x.links → IsKeptPackage w x → IsKeptPackage v y
-filtered_kept w v x y s u frame items links receipts up whole k = record {
+    → IsUuid y.uuid → IsArranged receipt_key y.receipts → HasParent v y → AllByRecursion (λ l. u l ≡ true → (s l.base ≡ true) × (s l.media ≡ true)) x.links → IsKeptPackage w x → IsKeptPackage v y
+filtered_kept w v x y s u frame items links uuid receipts up whole k = record {
+  uuid = uuid;
   items = subst (IsArranged item_key) (sym items) (filter_arranged item_key t x.items k.items);
   links = subst (IsArranged link_key) (sym links) (filter_arranged link_key u x.links k.links);
   receipts = receipts;
@@ -283,7 +285,7 @@ filtered_kept w v x y s u frame items links receipts up whole k = record {
   fit = subst (AllByRecursion (IsFit v y)) (sym items) (fit_all w v frame x y (filter t x.items) (All-filter (IsFit w x) t x.items k.fit));
   places = subst (λ zs. IsDistinct bytes_eq (map (λ i. place_of i.content) (filter is_tile zs))) (sym items) (counts_distinct (λ i. place_of i.content) (filter is_tile (filter t x.items)) (λ n. omega (arith, distinct_counts (λ i. place_of i.content) n (filter is_tile x.items) k.places, places_less t n x.items)));
   ends = subst (AllByRecursion (HasEnds y)) (sym links) (All-taken (HasEnds y) u x.links (All-both (HasEnds x) (λ l. u l ≡ true → (s l.base ≡ true) × (s l.media ≡ true)) (λ l. u l ≡ true → HasEnds y l)
-      (λ l h go taken. (kind_goes (base_kind l.mapping) l.base (go taken).0 h.0, kind_goes MediaItem l.media (go taken).1 h.1)) x.links k.ends whole));
+      (λ l h go taken. (kind_goes (base_kind l.mapping) l.base (go taken).0 h.0, kind_goes (other_kind l.mapping) l.media (go taken).1 h.1)) x.links k.ends whole));
   parent = up;
 }
   where

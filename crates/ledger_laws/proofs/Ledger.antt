@@ -1,41 +1,29 @@
 -- A ledger of receipts: what each is by those before it, and what one more changes.
-use Rattle.std.specs.Prelude.{◌≡◌, ℕ, ◌+◌, ◌<◌, Bool, true, false, cond, not, ◌==◌, ◌&&◌, ◌||◌, List, [], ◌∷◌, ◌++◌, map, filter, find, length, refl, bytes_eq, Option, Some, None, flat_map, slice_index, is_none, codes, nat_lt, unwrap_or, option_map, sum_by, ◌↔◌, ⊤, IsTrue, count_by, MatchOption, Contains}
+use Rattle.std.specs.Prelude.{is_some, ◌≡◌, ℕ, ◌+◌, ◌<◌, Bool, true, false, cond, ◌==◌, ◌&&◌, ◌||◌, List, [], ◌∷◌, ◌++◌, filter, length, refl, bytes_eq, Option, Some, None, slice_index, nat_lt, sum_by}
 use Rattle.std.proofs.lemmas.List.{append-nil}
-use Rattle.std.proofs.Common.{sym, ap, subst, ◌∙◌, arith, append_assoc, length-append, drop, zero-add, add-zero}
-use Rattle.std.proofs.lemmas.Bool.{true≢false, false≢true, lt-ltb, le-ltb, or_parts, MatchBool-at_true, and_parts, and_from, false_from_ne_true}
+use Rattle.std.proofs.Common.{sym, ap, subst, ◌∙◌, arith, append_assoc, length-append, drop, zero-add}
+use Rattle.std.proofs.lemmas.Bool.{true≢false, le-ltb, MatchBool-at_true, and_parts, and_from, false_from_ne_true}
 use Rattle.std.proofs.lemmas.Slice.Eq.{bytes_eq-Decides}
-use Rattle.std.proofs.lemmas.Map.Text.{is_eq-slice_cmp}
 use Rattle.std.specs.List.{list_any, AllByRecursion}
-use Rattle.std.specs.Ordering.{is_lt, is_eq, nat_cmp}
-use Rattle.std.specs.declared.cmp.Ordering.{Ordering}
-use Rattle.std.specs.declared.cmp.Ordering.TheVariants.{Less, Equal, Greater}
-use Rattle.std.specs.Cmp.Lexicographic.{slice_cmp}
-use Rattle.sheet_types.specs.Ordered.{is_before, put, arranged, has, IsArranged, last_of, last_or}
-use Rattle.sheet_types.specs.World.{World, Package, package_key, receipt_key, receipts_of, changed, with_receipt, item_key, link_moved, item_moved, is_live, thing_number, moved_thing, is_item_kind, holdings, no_package, item_thing, link_key, is_tile, is_medium, is_row}
+use Rattle.sheet_types.specs.Ordered.{has, last_of, last_or}
+use Rattle.sheet_types.specs.World.{link_moved, item_moved, thing_number, moved_thing, is_item_kind, item_thing}
 use Rattle.std.specs.Option.{option_map_or, option_and_then}
-use Rattle.sheet_types.specs.Balance.{IsLedger, MayFollow, archive_of, IsThing, names_identity, IsReceiptOf, Agrees, AddsUp, home_after, Balanced, NoneAltered, IsUnaltered, holds, stands_in, IsLoan, IsHome, UndoesHere}
-use Rattle.sheet_types.specs.Custody.{names, custody, is_add, kept, is_used, ends_at, is_merge, after, is_split}
-use Rattle.sheet_types.specs.Texts.{Entry, Adds, Deletes, Links, Unlinks, Splits, Merges, verb, line, entry_of, kind_of, size}
-use Rattle.sheet_types.specs.Step.{relation, added_item, receipt_of, kept_reply, outcome_by, accepted}
-use Rattle.std.specs.Bool.{then_some}
-use Rattle.sha2.proofs.Facts256.{length-sha256}
-use Rattle.sheet_types.specs.Matrix.{first_row}
-use Rattle.sheet_types.specs.Refuse.{id_reused, refusal, reasons, is_archive}
-use Rattle.sheet_types.specs.declared.command.Command.TheVariants.{Add}
+use Rattle.sheet_types.specs.Balance.{IsLedger, MayFollow, IsThing, names_identity, IsReceiptOf, Agrees}
+use Rattle.sheet_types.specs.Lines.{entry_from, is_adding}
+use Rattle.sheet_types.specs.Custody.{names, custody, is_add, after}
+use Rattle.sheet_types.specs.Texts.{Entry, Adds, Deletes, Links, Unlinks, Splits, Merges, kind_of, size}
+use Rattle.sheet_types.specs.Step.{relation, added_item}
 use Rattle.sheet_types.specs.declared.command.Content.{Content}
 use Rattle.sheet_types.specs.declared.command.Content.TheVariants.{Tile, Media, Row}
-use Rattle.sheet_types.specs.declared.command.Request.{Request}
-use Rattle.sheet_types.specs.declared.refusal.Refusal.{Refusal}
 use Rattle.sheet_types.specs.declared.command.Mapping.{Mapping}
 use Rattle.sheet_types.specs.declared.command.Mapping.TheVariants.{TilesMedia, RowsMedia}
 use Rattle.sheet_types.specs.declared.receipt.Moved.{Moved}
 use Rattle.sheet_types.specs.declared.receipt.MovedKind.{MovedKind}
 use Rattle.sheet_types.specs.declared.receipt.MovedKind.TheVariants.{TileItem, MediaItem, RowItem, TilesMediaLink, RowsMediaLink}
 use Rattle.sheet_types.specs.declared.receipt.Receipt.{Receipt}
-use Rattle.std.proofs.lemmas.List.Elements.{filter-append, Contains-append_left, Contains-push}
+use Rattle.std.proofs.lemmas.List.Elements.{filter-append}
 use Rattle.std.proofs.lemmas.List.Folds.{list_any-append}
-use Rattle.std.proofs.lemmas.List.Sums.{sum_by-append, sum_by-cons}
-use Rattle.sheet_types.specs.declared.command.Item.{Item}
+use Rattle.std.proofs.lemmas.List.Sums.{sum_by-append}
 use Rattle.sheet_types.proofs.Tests.{None≢Some, or-false}
 use Rattle.sheet_types.proofs.Every.{All-weaker, All-snoc, none_pass}
 
@@ -57,13 +45,13 @@ item_kind_by_number RowItem = refl
 item_kind_by_number TilesMediaLink = refl
 item_kind_by_number RowsMediaLink = refl
 
-abbrev is_item_of : List ℕ → Moved → Bool
+abbrev pub is_item_of : List ℕ → Moved → Bool
 is_item_of id m = is_item_kind m.kind && bytes_eq m.base id
 
 -- an item's key is its kind and its identity
 pub key_of_item : (m : Moved) → is_item_kind m.kind ≡ true → IsThing m → moved_thing m ≡ thing_number m.kind ∷ m.base
 key_of_item m item thing =
-    let alone : m.other ≡ None = MatchBool-at_true (m.other ≡ None) (m.size ≡ 0) item thing in
+    let alone : m.other ≡ None = (MatchBool-at_true ((m.other ≡ None) × (is_some m.fingerprint ≡ true)) ((is_some m.other ≡ true) × (m.size ≡ 0) × (m.fingerprint ≡ None)) item thing).0 in
     rw alone (ap (λ zs. thing_number m.kind ∷ zs) (append-nil m.base))
 
 other_key : (id : List ℕ) (m n : Moved) → is_item_of id m ≡ true → IsThing m → is_item_of id n ≡ false → IsThing n → bytes_eq (moved_thing n) (moved_thing m) ≡ false
@@ -108,14 +96,18 @@ none_taken id p past (m ∷ ms) never before_things things source takes from =
     let here : is_item_of id m ≡ false = false_from_ne_true (is_item_of id m) (λ named. None≢Some (sym (custody_none id m past named things.0 never before_things) ∙ from.0 ∙ takes)) in
     rw here (none_taken id p past ms never before_things things.1 source takes from.1)
 
+-- a receipt is of the command of its entry
+pub by_entry : (t : Entry → Bool) (r : Receipt) (e : Entry) → entry_from r.line ≡ Some e → option_map_or t (entry_from r.line) false ≡ t e
+by_entry t r e says = ap (λ o. option_map_or t o false) says
+
 -- a receipt that is no Add of the identity does not name it, where those before it do not
 not_named : (archive id : List ℕ) (past : List Receipt) (r : Receipt) → MayFollow archive past r → (is_add r && has (λ m. m.base) id r.items) ≡ false
     → AllByRecursion (λ s. names_identity id s ≡ false) past → AllByRecursion (λ s. AllByRecursion IsThing s.items) past → (e : Entry) → IsReceiptOf r e → names_identity id r ≡ false
 not_named archive id past r may unused never before_things (Adds p identity kind size digest) of =
-    let line_is : is_add r ≡ true = ap (λ l. bytes_eq (verb l) (codes "add")) of.says in
-    let bases : has (λ m. m.base) id r.items ≡ bytes_eq identity id = ap (has (λ m. m.base) id) of.moves.0 ∙ or-false (bytes_eq identity id) in
+    let line_is : is_add r ≡ true = by_entry is_adding r (Adds p identity kind size digest) of.says in
+    let bases : has (λ m. m.base) id r.items ≡ bytes_eq identity id = ap (has (λ m. m.base) id) of.moves ∙ or-false (bytes_eq identity id) in
     let other : bytes_eq identity id ≡ false = sym bases ∙ sym (ap (λ b. b && has (λ m. m.base) id r.items) line_is) ∙ unused in
-    ap (list_any (is_item_of id)) of.moves.0 ∙ rw other (and_false_or (is_item_kind kind))
+    ap (list_any (is_item_of id)) of.moves ∙ rw other (and_false_or (is_item_kind kind))
 not_named archive id past r may unused never before_things (Links p mapping base media) of = ap (list_any (is_item_of id)) of.moves ∙ link_is_no_item mapping id base media
 not_named archive id past r may unused never before_things (Unlinks p mapping base media) of = ap (list_any (is_item_of id)) of.moves ∙ link_is_no_item mapping id base media
 not_named archive id past r may unused never before_things (Deletes p identity) of = none_taken id p past r.items never before_things may.things r.source of.leaves may.from_source
@@ -139,9 +131,9 @@ is_item-kind_of (Media content_type bytes) = refl
 is_item-kind_of (Row x y code label) = refl
 
 pub thing_of : (identity : List ℕ) (content : Content) → IsThing (item_moved (added_item identity content))
-thing_of identity (Tile zoom column row bytes) = refl
-thing_of identity (Media content_type bytes) = refl
-thing_of identity (Row x y code label) = refl
+thing_of identity (Tile zoom column row bytes) = (refl, refl)
+thing_of identity (Media content_type bytes) = (refl, refl)
+thing_of identity (Row x y code label) = (refl, refl)
 
 -- what nothing names cannot differ
 agrees_none : (id : List ℕ) (m : Moved) (ns : List Moved) → is_item_of id m ≡ true → IsThing m → AllByRecursion (λ n. is_item_of id n ≡ false) ns → AllByRecursion IsThing ns → AllByRecursion (Agrees m) ns
@@ -150,7 +142,7 @@ agrees_none id m (n ∷ ns) named thing h things =
     ((λ same. absurd (true≢false (sym same ∙ other_key id m n named thing h.0 things.0))), agrees_none id m ns named thing h.1 things.1)
 
 -- in each of these receipts
-agree_none : (id : List ℕ) (m : Moved) (rs : List Receipt) → is_item_of id m ≡ true → IsThing m → AllByRecursion (λ s. names_identity id s ≡ false) rs → AllByRecursion (λ s. AllByRecursion IsThing s.items) rs
+pub agree_none : (id : List ℕ) (m : Moved) (rs : List Receipt) → is_item_of id m ≡ true → IsThing m → AllByRecursion (λ s. names_identity id s ≡ false) rs → AllByRecursion (λ s. AllByRecursion IsThing s.items) rs
     → AllByRecursion (λ s. AllByRecursion (Agrees m) s.items) rs
 agree_none id m [] named thing h things = tt
 agree_none id m (s ∷ rs) named thing h things =

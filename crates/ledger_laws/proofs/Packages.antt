@@ -1,40 +1,17 @@
 -- A world by what is held under each UUID, before and after a change, a new package, and the end of one.
-use Rattle.std.specs.Prelude.{◌≡◌, ℕ, ◌+◌, ◌≤◌, Bool, true, false, cond, not, List, [], ◌∷◌, ◌++◌, map, find, refl, bytes_eq, Some, None, sum_by, count_by, unwrap_or, flat_map, ◌<◌, ◌&&◌, ◌||◌, filter, nat_lt, Option, option_map, ◌==◌, length, slice_index, is_none, codes}
-use Rattle.std.proofs.Common.{sym, ap, subst, ◌∙◌, arith, zero-add, append_assoc, length-append, drop}
-use Rattle.std.proofs.lemmas.List.Sums.{sum_by-cons, sum_by-append}
+use Rattle.std.specs.Prelude.{◌≡◌, ℕ, ◌+◌, ◌≤◌, Bool, true, false, cond, not, List, [], ◌∷◌, ◌++◌, map, find, refl, bytes_eq, Some, None, sum_by, count_by, unwrap_or, flat_map, ◌<◌, ◌||◌, Option, option_map, is_none}
+use Rattle.std.proofs.Common.{sym, ap, subst, ◌∙◌, arith, append_assoc}
+use Rattle.std.proofs.lemmas.List.Sums.{sum_by-cons}
 use Rattle.std.proofs.lemmas.Slice.Eq.{bytes_eq-Decides}
 use Rattle.std.specs.List.{AllByRecursion, list_any}
-use Rattle.sheet_types.specs.Ordered.{is_before, put, without, is_among, IsArranged, last_of, last_or, arranged, has}
-use Rattle.sheet_types.specs.World.{World, Package, package_key, holdings, no_package, is_live, changed, receipts_of, receipt_key, with_receipt, item_key, link_moved, item_moved, thing_number, moved_thing, is_item_kind}
-use Rattle.sheet_types.specs.Step.{closed, enlarged, relation, added_item, receipt_of, kept_reply, outcome_by, accepted}
+use Rattle.sheet_types.specs.Ordered.{is_before, put, without, is_among, IsArranged, arranged, has}
+use Rattle.sheet_types.specs.World.{World, Package, package_key, holdings, no_package, is_live, changed, receipts_of, receipt_key}
+use Rattle.sheet_types.specs.Step.{closed, enlarged}
 use Rattle.sheet_types.specs.declared.receipt.Receipt.{Receipt}
-use Rattle.sheet_types.specs.Refuse.{is_archive, id_reused, refusal, reasons}
-use Rattle.std.proofs.lemmas.List.{append-nil}
-use Rattle.std.proofs.lemmas.List.Elements.{filter-append}
-use Rattle.std.proofs.lemmas.List.Folds.{list_any-append}
-use Rattle.std.proofs.lemmas.Bool.{true≢false, false≢true, false_from_ne_true, le-ltb, lt-ltb, or_parts, MatchBool-at_true, and_parts, and_from}
-use Rattle.std.specs.Option.{option_and_then, option_map_or}
-use Rattle.sheet_types.specs.Custody.{names, custody, ends_at, is_merge, after, is_add, kept, is_used}
-use Rattle.sheet_types.specs.Balance.{AddsUp, home_after, IsLedger, MayFollow, archive_of, IsThing, names_identity, IsReceiptOf, Agrees}
-use Rattle.std.proofs.lemmas.Map.Text.{is_eq-slice_cmp}
-use Rattle.std.specs.Ordering.{is_lt, is_eq, nat_cmp}
-use Rattle.std.specs.declared.cmp.Ordering.{Ordering}
-use Rattle.std.specs.declared.cmp.Ordering.TheVariants.{Less, Equal, Greater}
-use Rattle.std.specs.Cmp.Lexicographic.{slice_cmp}
-use Rattle.sheet_types.specs.Texts.{Entry, Adds, Deletes, Links, Unlinks, Splits, Merges, verb, line, entry_of, kind_of}
-use Rattle.std.specs.Bool.{then_some}
-use Rattle.sha2.proofs.Facts256.{length-sha256}
-use Rattle.sheet_types.specs.Matrix.{first_row}
-use Rattle.sheet_types.specs.declared.command.Command.TheVariants.{Add}
-use Rattle.sheet_types.specs.declared.command.Content.{Content}
-use Rattle.sheet_types.specs.declared.command.Content.TheVariants.{Tile, Media, Row}
-use Rattle.sheet_types.specs.declared.command.Request.{Request}
-use Rattle.sheet_types.specs.declared.refusal.Refusal.{Refusal}
-use Rattle.sheet_types.specs.declared.command.Mapping.{Mapping}
-use Rattle.sheet_types.specs.declared.command.Mapping.TheVariants.{TilesMedia, RowsMedia}
-use Rattle.sheet_types.specs.declared.receipt.Moved.{Moved}
-use Rattle.sheet_types.specs.declared.receipt.MovedKind.{MovedKind}
-use Rattle.sheet_types.specs.declared.receipt.MovedKind.TheVariants.{TileItem, MediaItem, RowItem, TilesMediaLink, RowsMediaLink}
+use Rattle.sheet_types.specs.Refuse.{is_archive}
+use Rattle.std.proofs.lemmas.Bool.{true≢false, false≢true, le-ltb, lt-ltb}
+use Rattle.std.specs.Option.{option_map_or}
+use Rattle.sheet_types.specs.Balance.{archive_of}
 use Rattle.sheet_types.proofs.Tests.{None≢Some, or-false, bytes_eq_itself, bytes_eq_swap, before-differs}
 use Rattle.sheet_types.proofs.Every.{All-weaker, All-both, All-left, All-right, All-append}
 use Rattle.sheet_types.proofs.Sums.{count-cons, none_counted}
