@@ -8,3 +8,8 @@ pub mod Order
 pub mod Without
 pub mod Distinct
 pub mod Same
+pub mod Arranging
+pub mod Commas
+pub mod Digits
+pub mod NumberTexts
+pub mod UuidTexts

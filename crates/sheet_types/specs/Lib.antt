@@ -11,3 +11,5 @@ pub mod Balance
 pub mod Register
 pub mod Opening
 pub mod Answers
+pub mod Reading
+pub mod Refusals

@@ -3,6 +3,11 @@
 
 pub mod collections;
 pub mod command;
+pub mod error;
+pub mod fingerprints;
 pub mod frame;
+pub mod lines;
+pub mod reading;
 pub mod receipt;
 pub mod refusal;
+pub mod words;

@@ -1,0 +1,42 @@
+-- Products and powers between bounds.
+use Rattle.std.specs.Prelude.{◌≡◌, ℕ, ◌+◌, ◌*◌, ◌^◌, ◌<◌, ◌≤◌, ℤ, pos, negsuc, ◌*ℤ◌, ◌≤ℤ◌, ◌<ℤ◌, unsigned_abs}
+use mir.Syntax.{Width}
+use mir.Val.{hbits}
+use Rattle.std.proofs.Common.{arith, FitsSigned, ◌%◌, w64, to_z, of_z}
+use Rattle.std.proofs.lemmas.Int.{ints, to_z_pos}
+use Rattle.std.proofs.lemmas.Nat.{pow_pos, one_shl}
+use Rattle.std.proofs.Math.Nat.{mul-le-mul, pow-le-pow_right}
+
+-- a product of two numbers from 1 on
+pub product_range : (a b : ℤ) (m n : ℕ) → pos 1 ≤ℤ a → a ≤ℤ pos m → pos 1 ≤ℤ b → b ≤ℤ pos n → (pos 1 ≤ℤ (a *ℤ b)) × ((a *ℤ b) ≤ℤ pos (m * n))
+product_range (pos a) (pos b) m n a_low a_high b_low b_high =
+    let low : 1 * 1 ≤ a * b = mul-le-mul {n₁ = 1} {m₁ = 1} {n₂ = a} {m₂ = b} (omega (arith, ints)) (omega (arith, ints)) in
+    let high : a * b ≤ m * n = mul-le-mul {n₁ = a} {m₁ = b} {n₂ = m} {m₂ = n} (omega (arith, ints)) (omega (arith, ints)) in
+    (omega (arith, ints), omega (arith, ints))
+product_range (pos a) (negsuc b) m n a_low a_high b_low b_high = absurd (omega (arith, ints))
+product_range (negsuc a) b m n a_low a_high b_low b_high = absurd (omega (arith, ints))
+
+-- a power of two up to the twentieth
+pub doublings_range : (t : ℤ) → pos 0 ≤ℤ t → t ≤ℤ pos 20 → (pos 1 ≤ℤ pos (2 ^ unsigned_abs t)) × (pos (2 ^ unsigned_abs t) ≤ℤ pos 1048576)
+doublings_range (pos t) low high =
+    let some : 0 < 2 ^ t = pow_pos t in
+    let t_high : t ≤ 20 = omega (arith, ints) in
+    let most : 2 ^ t ≤ 2 ^ 20 = pow-le-pow_right {n = 2} (omega arith) t_high in
+    (omega (arith, ints), omega (arith, ints))
+doublings_range (negsuc t) low high = absurd (omega (arith, ints))
+
+-- a shift of one by up to twenty
+pub shifted : (t : ℤ) → pos 0 ≤ℤ t → t ≤ℤ pos 20 → to_z w64 (1 * 2 ^ of_z w64 t % 2 ^ 64) ≡ pos (2 ^ unsigned_abs t)
+shifted (pos t) low high =
+    let t_high : t ≤ 20 = omega (arith, ints) in
+    let most : 2 ^ t ≤ 2 ^ 20 = pow-le-pow_right {n = 2} (omega arith) t_high in
+    let whole : (1 * 2 ^ t) % 2 ^ 64 ≡ 2 ^ t = one_shl t 64 (omega arith) in
+    rw whole (to_z_pos w64 (2 ^ t) (omega arith))
+shifted (negsuc t) low high = absurd (omega (arith, ints))
+
+-- a number from 0 to one that fits
+pub fits_between : (w : Width) (z : ℤ) (n : ℕ) → pos 0 ≤ℤ z → z ≤ℤ pos n → n < 2 ^ hbits w → FitsSigned w z
+fits_between w (pos z) n low high below =
+    let z_high : z ≤ n = omega (arith, ints) in
+    record { sfits = omega arith }
+fits_between w (negsuc z) n low high below = absurd (omega (arith, ints))

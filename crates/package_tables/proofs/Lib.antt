@@ -1,0 +1,5 @@
+pub mod Shapes
+pub mod Written
+pub mod Making
+pub mod Values
+pub mod TileStatements

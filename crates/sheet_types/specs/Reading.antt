@@ -1,0 +1,42 @@
+-- Texts that are read: digests, numbers, UUIDs, frames. Profile, over RFC 9562 (UUIDs) and FIPS 180-4 (digests).
+use Rattle.std.specs.Prelude.{◌≡◌, ℕ, ℤ, ◌==◌, List, [], ◌∷◌, length, map, Option, Some, None, if◌then◌else◌, FitsSigned}
+use Rattle.std.specs.Int.{w64}
+use Rattle.std.specs.List.{join_with_byte, AllByRecursion}
+use Rattle.std.specs.Option.{option_map}
+use Rattle.uuid.specs.Text.{parsed_hyphenated}
+use Rattle.std.specs.Fmt.{signed_decimal}
+use Rattle.hex.specs.Hex.{IsBytes}
+use Rattle.sheet_types.specs.Texts.{spaced}
+use Rattle.sheet_types.specs.declared.frame.Frame.{Frame}
+use Rattle.sheet_types.specs.declared.frame.Rect.{Rect}
+
+-- 32 bytes
+pub record IsDigest (digest : List ℕ) : Type 0 where
+  pub long : length digest ≡ 32
+  pub bytes : IsBytes digest
+
+-- a rectangle as a line has it
+abbrev pub rect_text : Rect → List ℕ
+rect_text r = spaced (signed_decimal r.zoom ∷ signed_decimal r.column ∷ signed_decimal r.last_column ∷ signed_decimal r.row ∷ signed_decimal r.last_row ∷ [])
+
+-- a stored column in which the empty text stands for none
+abbrev pub stored_uuid : List ℕ → Option (Option (List ℕ))
+stored_uuid [] = Some None
+stored_uuid (c ∷ cs) = option_map Some (parsed_hyphenated (c ∷ cs))
+
+-- numbers with single commas between them
+abbrev pub numbers_text : List ℤ → List ℕ
+numbers_text numbers = join_with_byte 44 (map signed_decimal numbers)
+
+-- the eleven numbers of a frame, in the order in which they are written
+abbrev pub frame_numbers : Frame → List ℤ
+frame_numbers f =
+    f.srs_id ∷ f.min_x ∷ f.min_y ∷ f.max_x ∷ f.max_y ∷ f.tile_width ∷ f.tile_height
+    ∷ f.first_zoom ∷ f.levels ∷ f.matrix_width ∷ f.matrix_height ∷ []
+
+abbrev pub frame_text : Frame → List ℕ
+frame_text f = numbers_text (frame_numbers f)
+
+-- each of its numbers fits 64 bits
+abbrev pub IsInRange : Frame → Type 0
+IsInRange f = AllByRecursion (FitsSigned w64) (frame_numbers f)
