@@ -13,7 +13,7 @@ use Rattle.sheet_types.specs.Matrix.{first_row}
 use Rattle.sheet_types.specs.Refuse.{id_reused, refusal}
 use Rattle.sheet_types.specs.declared.command.Request.{Request}
 use Rattle.sheet_types.specs.declared.refusal.Refusal.{Refusal}
-use Rattle.sheet_types.proofs.Tests.{None≢Some, not_false}
+use Rattle.sheet_types.proofs.Basics.{None≢Some, not_false}
 use Rattle.sheet_types.proofs.Found.{none_found}
 
 -- where no row of a table passes, each test fails

@@ -20,7 +20,7 @@ use Rattle.sheet_types.specs.Custody.{is_add, is_used}
 use Rattle.sheet_types.specs.Texts.{size, fingerprint, kind_of}
 use Rattle.sheet_types.specs.World.{other_kind, is_item_kind}
 use Rattle.sheet_types.specs.declared.receipt.Moved.{Moved}
-use Rattle.sheet_types.proofs.Tests.{or-true}
+use Rattle.sheet_types.proofs.Basics.{or-true}
 use Rattle.sheet_types.proofs.Every.{none_any}
 use Rattle.std.specs.Prelude.{Some}
 use Rattle.std.proofs.lemmas.List.Folds.{list_any-append}
@@ -36,7 +36,7 @@ use Rattle.sheet_types.specs.declared.command.Request.{Request}
 use Rattle.sheet_types.specs.declared.receipt.Receipt.{Receipt}
 use Rattle.sheet_types.specs.declared.refusal.Refusal.{Refusal}
 use Rattle.sheet_types.proofs.Order.{All-put, sum_by-put, list_any-put, put_arranged}
-use Rattle.sheet_types.proofs.Tests.{bytes_eq_itself, not_false, and_true, or-false, None≢Some}
+use Rattle.sheet_types.proofs.Basics.{bytes_eq_itself, not_false, and_true, or-false, None≢Some}
 use Rattle.sheet_types.proofs.Every.{All-weaker, none_pass}
 use Rattle.ledger_laws.proofs.Accepting.{rows_fail, new_identity, keeps}
 use Rattle.ledger_laws.proofs.Ledger.{never_named, custody_none, thing_of, is_item-kind_of, thing_of_item}

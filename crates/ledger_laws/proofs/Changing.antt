@@ -24,7 +24,7 @@ use Rattle.sheet_types.specs.declared.command.Item.{Item}
 use Rattle.sheet_types.specs.declared.command.Mapping.{Mapping}
 use Rattle.sheet_types.specs.declared.command.Relation.{Relation}
 use Rattle.sheet_types.specs.declared.command.Request.{Request}
-use Rattle.sheet_types.proofs.Tests.{bytes_eq_itself, not_false, and_true}
+use Rattle.sheet_types.proofs.Basics.{bytes_eq_itself, not_false, and_true}
 use Rattle.ledger_laws.proofs.Accepting.{rows_fail, new_identity}
 use Rattle.ledger_laws.proofs.Ledger.{is_item-kind_of}
 use Rattle.sheet_types.proofs.Found.{All-found, found, found_passes}

@@ -10,7 +10,7 @@ use Rattle.sheet_types.proofs.Order.{All-of_arranged}
 use Rattle.sheet_types.proofs.Every.{none_pass}
 use Rattle.sheet_types.proofs.Found.{none_found}
 use Rattle.sheet_types.proofs.Same.{In, In-all}
-use Rattle.sheet_types.proofs.Tests.{or-true}
+use Rattle.sheet_types.proofs.Basics.{or-true}
 use Rattle.std.specs.Prelude.{Option, None}
 use Rattle.std.proofs.Common.{inl, inr}
 use Rattle.sheet_types.specs.World.{other_kind}
@@ -20,7 +20,7 @@ use Rattle.sheet_types.specs.Cut.{identities, strict_set, touches, is_torn, has_
 use Rattle.sheet_types.specs.Register.{HasEnds}
 use Rattle.sheet_types.specs.declared.command.Item.{Item}
 use Rattle.sheet_types.specs.declared.command.Relation.{Relation}
-use Rattle.sheet_types.proofs.Tests.{bytes_eq_itself}
+use Rattle.sheet_types.proofs.Basics.{bytes_eq_itself}
 use Rattle.sheet_types.proofs.Every.{All-weaker, All-both, All-each}
 use Rattle.sheet_types.proofs.Found.{All-found, found, filter_passes}
 

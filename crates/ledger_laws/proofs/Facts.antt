@@ -15,7 +15,7 @@ use Rattle.sheet_types.proofs.LineReading.{line-entry_from}
 use Rattle.sheet_types.specs.declared.receipt.MovedKind.{MovedKind}
 use Rattle.sheet_types.specs.Balance.{names_as}
 use Rattle.ledger_laws.proofs.Ledger.{by_entry}
-use Rattle.sheet_types.proofs.Tests.{or-false}
+use Rattle.sheet_types.proofs.Basics.{or-false}
 use Rattle.sheet_types.specs.World.{thing_number, kind_number}
 use Rattle.sheet_types.specs.Texts.{size, fingerprint}
 use Rattle.sheet_types.specs.Cut.{identities, moved_of}
@@ -32,7 +32,7 @@ use Rattle.sheet_types.specs.declared.command.Relation.{Relation}
 use Rattle.sheet_types.specs.declared.receipt.Moved.{Moved}
 use Rattle.sheet_types.specs.declared.receipt.Receipt.{Receipt}
 use Rattle.sheet_types.proofs.Order.{before_numbers, counts_arranged}
-use Rattle.sheet_types.proofs.Tests.{bytes_eq_itself, bytes_eq_swap}
+use Rattle.sheet_types.proofs.Basics.{bytes_eq_itself, bytes_eq_swap}
 use Rattle.sheet_types.proofs.Every.{All-weaker, All-left, All-right, All-both, All-append, All-map, All-each, All-of_map}
 use Rattle.ledger_laws.proofs.Ledger.{item_kind_by_number, thing_of}
 use Rattle.sheet_types.proofs.Found.{found, All-found}

@@ -11,7 +11,7 @@ use Rattle.ledger_laws.specs.Laws.{NewWorldIsRegister}
 use Rattle.sheet_types.specs.World.{new_world}
 use Rattle.sheet_types.specs.Lines.{IsUuid}
 use Rattle.sheet_types.specs.declared.frame.Frame.{Frame}
-use Rattle.sheet_types.proofs.Tests.{None≢Some}
+use Rattle.sheet_types.proofs.Basics.{None≢Some}
 
 module _ (frame : Frame) (archive : List ℕ) where
   nothing_held : (p thing : List ℕ) → holds (holdings (new_world archive frame) p) thing ≡ false

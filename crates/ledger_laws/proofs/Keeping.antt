@@ -31,7 +31,7 @@ use Rattle.sheet_types.specs.declared.command.Content.TheVariants.{Tile, Media, 
 use Rattle.sheet_types.specs.declared.command.Item.{Item}
 use Rattle.sheet_types.specs.declared.frame.Frame.{Frame}
 use Rattle.sheet_types.specs.declared.receipt.Receipt.{Receipt}
-use Rattle.sheet_types.proofs.Tests.{bytes_eq_itself, not_false, before-differs, bytes_eq_swap, not_true}
+use Rattle.sheet_types.proofs.Basics.{bytes_eq_itself, not_false, before-differs, bytes_eq_swap, not_true}
 use Rattle.sheet_types.proofs.Without.{is_one}
 use Rattle.ledger_laws.proofs.Packages.{at_uuid, each_found}
 use Rattle.sheet_types.proofs.Distinct.{distinct_counts, counts_distinct}

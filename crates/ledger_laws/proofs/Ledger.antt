@@ -24,7 +24,7 @@ use Rattle.sheet_types.specs.declared.receipt.Receipt.{Receipt}
 use Rattle.std.proofs.lemmas.List.Elements.{filter-append}
 use Rattle.std.proofs.lemmas.List.Folds.{list_any-append}
 use Rattle.std.proofs.lemmas.List.Sums.{sum_by-append}
-use Rattle.sheet_types.proofs.Tests.{None≢Some, or-false}
+use Rattle.sheet_types.proofs.Basics.{None≢Some, or-false}
 use Rattle.sheet_types.proofs.Every.{All-weaker, All-snoc, none_pass}
 
 -- its numbers count its receipts

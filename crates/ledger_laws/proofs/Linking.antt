@@ -24,7 +24,7 @@ use Rattle.sheet_types.specs.declared.command.Mapping.TheVariants.{TilesMedia, R
 use Rattle.sheet_types.specs.declared.command.Relation.{Relation}
 use Rattle.sheet_types.specs.declared.command.Request.{Request}
 use Rattle.sheet_types.specs.declared.receipt.MovedKind.{MovedKind}
-use Rattle.sheet_types.proofs.Tests.{bytes_eq_itself, not_false, and_true}
+use Rattle.sheet_types.proofs.Basics.{bytes_eq_itself, not_false, and_true}
 use Rattle.ledger_laws.proofs.Accepting.{rows_fail, new_identity}
 use Rattle.sheet_types.proofs.Every.{none_any, All-both, All-each}
 use Rattle.sheet_types.proofs.Order.{sum_by-put}

@@ -34,7 +34,7 @@ use Rattle.sheet_types.specs.declared.receipt.Moved.{Moved}
 use Rattle.sheet_types.specs.declared.receipt.Receipt.{Receipt}
 use Rattle.sheet_types.proofs.Order.{All-put, All-arranged, All-of_put, All-of_arranged, list_any-put, sum_by-put, sum_by-arranged, list_any-arranged, counts_arranged, arranged_counts, filter_arranged}
 use Rattle.sheet_types.proofs.Same.{In, same_list, All-In, In-all}
-use Rattle.sheet_types.proofs.Tests.{bytes_eq_itself, not_false, and_true, bytes_eq_swap}
+use Rattle.sheet_types.proofs.Basics.{bytes_eq_itself, not_false, and_true, bytes_eq_swap}
 use Rattle.ledger_laws.proofs.Accepting.{rows_fail, new_identity, keeps}
 use Rattle.ledger_laws.proofs.Packages.{archive_stays, find_changed, AllStand, at_uuid, each_found, at_all, stand_at, stand_all, stand_flat, holdings_none, holdings_changed, holdings_closed, changed_arranged, changed_sum, All-changed, two_places, archive_closed}
 use Rattle.ledger_laws.proofs.Ledger.{ledger_snoc, none_after, ledger_numbers}

@@ -22,7 +22,7 @@ use Rattle.sheet_types.specs.declared.receipt.MovedKind.{MovedKind}
 use Rattle.sheet_types.proofs.Order.{All-put, filter_arranged, put_arranged}
 use Rattle.ledger_laws.proofs.Accepting.{rows_fail, keeps}
 use Rattle.sheet_types.proofs.Every.{none_pass, All-both, All-filter}
-use Rattle.sheet_types.proofs.Tests.{not_false, and_true}
+use Rattle.sheet_types.proofs.Basics.{not_false, and_true}
 use Rattle.sheet_types.proofs.Without.{is_one}
 use Rattle.ledger_laws.proofs.Facts.{kept_at}
 use Rattle.ledger_laws.proofs.Keeping.{fit_all, places_less}

@@ -13,7 +13,7 @@ use Rattle.sheet_types.specs.declared.command.Command.TheVariants.{Add, Delete, 
 use Rattle.sheet_types.specs.declared.command.Request.{Request}
 use Rattle.sheet_types.specs.declared.receipt.Receipt.{Receipt}
 use Rattle.sheet_types.specs.declared.refusal.Refusal.{Refusal}
-use Rattle.sheet_types.proofs.Tests.{bytes_eq_itself}
+use Rattle.sheet_types.proofs.Basics.{bytes_eq_itself}
 use Rattle.sheet_types.proofs.LineReading.{entry_from-line, line-entry_from}
 use Rattle.ledger_laws.specs.Laws.{KeepsRegister, StepKeepsRegister, RunKeepsRegister, RunOfBoth, RepeatChangesNothing, LineIsReadBack}
 use Rattle.ledger_laws.proofs.AddRegister.{add_keeps_register}

@@ -24,7 +24,7 @@ use Rattle.sheet_types.specs.declared.receipt.Moved.{Moved}
 use Rattle.sheet_types.specs.declared.receipt.MovedKind.TheVariants.{TileItem, MediaItem, RowItem}
 use Rattle.sheet_types.specs.declared.receipt.Receipt.{Receipt}
 use Rattle.sheet_types.proofs.Order.{All-of_arranged}
-use Rattle.sheet_types.proofs.Tests.{bytes_eq_itself}
+use Rattle.sheet_types.proofs.Basics.{bytes_eq_itself}
 use Rattle.sheet_types.proofs.Every.{All-weaker, All-left, All-right, All-both}
 use Rattle.ledger_laws.proofs.Ledger.{ledger_numbers, ledger_snoc, custody_names, custody_other, sum_by-filter_snoc, none_later, thing_of_item}
 use Rattle.sheet_types.proofs.Found.{found, All-found}

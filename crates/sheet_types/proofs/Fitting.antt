@@ -15,7 +15,7 @@ use Rattle.sheet_types.specs.declared.command.Command.{Command}
 use Rattle.sheet_types.specs.declared.command.Command.TheVariants.{Add, Delete, Link, Unlink, Split, Merge}
 use Rattle.sheet_types.specs.declared.command.Content.{Content}
 use Rattle.sheet_types.specs.declared.command.Content.TheVariants.{Tile, Media, Row}
-use Rattle.sheet_types.proofs.Tests.{not_false}
+use Rattle.sheet_types.proofs.Basics.{not_false}
 
 -- ---- bytes
 

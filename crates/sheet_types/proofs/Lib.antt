@@ -1,4 +1,4 @@
-pub mod Tests
+pub mod Basics
 pub mod LineReading
 pub mod Fitting
 pub mod Every
