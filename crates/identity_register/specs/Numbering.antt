@@ -2,6 +2,7 @@
 use Rattle.std.specs.Prelude.{◌≡◌, ℕ, ℤ, pos, Bool, true, ◌&&◌, List, [], ◌∷◌, map, find, bytes_eq, flat_map, unsigned_abs}
 use Rattle.std.specs.List.{AllByRecursion, IsDistinct}
 use Rattle.std.specs.Option.{option_map_or}
+use Rattle.sheet_types.specs.Ordered.{put}
 use Rattle.sheet_types.specs.Matrix.{is_within}
 use Rattle.sheet_types.specs.Texts.{uuid_text, kind_of}
 use Rattle.sheet_types.specs.World.{kind_number}
@@ -12,6 +13,8 @@ use Rattle.sheet_types.specs.declared.command.Item.{Item}
 use Rattle.sheet_types.specs.declared.command.Mapping.{Mapping}
 use Rattle.sheet_types.specs.declared.command.Mapping.TheVariants.{TilesMedia, RowsMedia}
 use Rattle.sheet_types.specs.declared.command.Relation.{Relation}
+use Rattle.package_tables.specs.Shapes.{tile_shape, medium_shape, attribute_shape, identity_shape}
+use Rattle.package_tables.specs.Package.{Tables}
 use Rattle.package_tables.specs.declared.rows.TileRow.{TileRow}
 use Rattle.package_tables.specs.declared.rows.MediaRow.{MediaRow}
 use Rattle.package_tables.specs.declared.rows.AttributeRow.{AttributeRow}
@@ -73,3 +76,19 @@ tiles_media_rows numbered l RowsMedia = []
 abbrev pub rows_media_rows : List Numbered → Relation → Mapping → List MappingRow
 rows_media_rows numbered l TilesMedia = []
 rows_media_rows numbered l RowsMedia = mapping_row numbered l ∷ []
+
+-- ---- an item more
+
+-- rows that come to their places
+abbrev pub puts : {X : Type 0} → (X → List ℕ) → List X → List X → List X
+puts key [] xs = xs
+puts key (x ∷ new) xs = put key x (puts key new xs)
+
+-- the tables with the rows of one item more
+abbrev pub with_item : Numbered → Tables → Tables
+with_item n t = record t {
+  tiles = puts tile_shape.key (tile_rows n.number n.item.content) t.tiles;
+  media = puts medium_shape.key (media_rows n.number n.item.content) t.media;
+  rows = puts attribute_shape.key (attribute_rows n.number n.item.content) t.rows;
+  identities = put identity_shape.key (identity_row n) t.identities;
+}
