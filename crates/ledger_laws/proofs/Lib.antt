@@ -17,3 +17,4 @@ pub mod Running
 pub mod First
 pub mod Follow
 pub mod Whole
+pub mod examples
