@@ -14,6 +14,7 @@ pub mod CutEnds
 pub mod Splitting
 pub mod Merging
 pub mod Running
+pub mod OneWorld
 pub mod First
 pub mod Follow
 pub mod Whole

@@ -18,3 +18,4 @@ pub mod Refused
 pub mod ShortUuids
 pub mod Altered
 pub mod Sound
+pub mod LinesReadWhole

@@ -12,7 +12,7 @@ use Rattle.sheet_types.specs.declared.refusal.Refusal.TheVariants.{CutLink}
 use Rattle.sheet_types.specs.Lines.{entry_from}
 use Rattle.sha2.specs.Sha256.{sha256, first_words, schedule, rounds, compress, hash_after, digest_bytes}
 use Rattle.hex.specs.Hex.{encode_with, decode_pairs}
-use Rattle.ledger_laws.proofs.examples.Setting.{A, B, i, ask, archive_a, after_all, replied, tile, rect, ids_in, medium}
+use Rattle.ledger_laws.proofs.examples.Setting.{A, B, i, ask, archive_a, after_all, replied, tile, rect, ids_in}
 
 -- a medium that is linked to a tile inside and to a row outside
 abbrev pub tile_and_row : World
