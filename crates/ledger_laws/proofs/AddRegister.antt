@@ -12,7 +12,7 @@ use Rattle.sheet_types.specs.Step.{accepted, receipt_of, kept_reply, added_item}
 use Rattle.sheet_types.specs.Refuse.{refusal, reasons, bad_text, has_good_size, takes_place, place_of}
 use Rattle.ledger_laws.proofs.Contents.{IsUnaltered}
 use Rattle.sheet_types.proofs.LineReading.{entry_from-line}
-use Rattle.sheet_types.proofs.Fitting.{entry_fits}
+use Rattle.sheet_types.proofs.Fitting.{entry_fits, item_kind_of}
 use Rattle.sheet_types.specs.Lines.{HasTypes, entry_from, is_adding, is_splitting, is_merging, is_uuid}
 use Rattle.ledger_laws.proofs.Ledger.{is_item_of, by_entry, agree_none}
 use Rattle.sheet_types.specs.Balance.{names_as, is_unaltered, IsLedger, MayFollow}
@@ -39,7 +39,7 @@ use Rattle.sheet_types.proofs.Order.{All-put, sum_by-put, list_any-put, put_arra
 use Rattle.sheet_types.proofs.Basics.{bytes_eq_itself, not_false, and_true, or-false, None≢Some}
 use Rattle.sheet_types.proofs.Every.{All-weaker, none_pass}
 use Rattle.ledger_laws.proofs.Accepting.{rows_fail, new_identity, keeps}
-use Rattle.ledger_laws.proofs.Ledger.{never_named, custody_none, thing_of, is_item-kind_of, thing_of_item}
+use Rattle.ledger_laws.proofs.Ledger.{never_named, custody_none, thing_of, thing_of_item}
 use Rattle.sheet_types.proofs.Sums.{count-cons, not_both_count}
 use Rattle.ledger_laws.proofs.Facts.{kept_at}
 use Rattle.ledger_laws.proofs.Keeping.{fit_moves, fit_all, places_count, tile_at, apart_places}
@@ -51,7 +51,7 @@ pub may_add : (w : World) (archive id moment p identity : List ℕ) (content : C
     → entry_from (receipt_of w (add_request id moment p identity content)).line ≡ Some (entry_of (Add p identity content)) → has (λ r. r.request) id (receipts_of w) ≡ false → is_used w identity ≡ false → MayFollow archive (receipts_of w) (receipt_of w (add_request id moment p identity content))
 may_add w archive id moment p identity content sound says new unused =
     let m : Moved = item_moved (added_item identity content) in
-    let named : is_item_of identity m ≡ true = and_from (is_item_kind (kind_of content)) (bytes_eq identity identity) (is_item-kind_of content) (bytes_eq_itself identity) in
+    let named : is_item_of identity m ≡ true = and_from (is_item_kind (kind_of content)) (bytes_eq identity identity) (item_kind_of content) (bytes_eq_itself identity) in
     let all : AllByRecursion (λ s. names_identity identity s ≡ false) (receipts_of w) × AllByRecursion (λ s. AllByRecursion IsThing s.items) (receipts_of w) =
     never_named archive identity [] (receipts_of w) sound (none_pass (λ s. is_add s && has (λ x. x.base) identity s.items) (receipts_of w) unused) tt tt in
     record {
@@ -107,7 +107,7 @@ module _ (w : World) (id moment p identity : List ℕ) (content : Content) (type
         let all : AllByRecursion (λ s. names_identity identity s ≡ false) (receipts_of w) × AllByRecursion (λ s. AllByRecursion IsThing s.items) (receipts_of w) =
         never_named (archive_of w) identity [] (receipts_of w) register.balanced.ledger (none_pass _ (receipts_of w) fails.1.1.1.1.1.0) tt tt in
         ap (custody (receipts_of w)) (sym (thing_of_item identity content))
-        ∙ custody_none identity (item_moved item) (receipts_of w) (and_from _ (bytes_eq identity identity) (is_item-kind_of content) (bytes_eq_itself identity)) (thing_of identity content) all.0 all.1
+        ∙ custody_none identity (item_moved item) (receipts_of w) (and_from _ (bytes_eq identity identity) (item_kind_of content) (bytes_eq_itself identity)) (thing_of identity content) all.0 all.1
 
     not_held : holds x (item_thing item) ≡ false
     not_held = false_from_ne_true (holds x (item_thing item)) (λ held. None≢Some (sym stood_nowhere ∙ (register.balanced.custody_is p (item_thing item)).0 held))
@@ -165,12 +165,8 @@ module _ (w : World) (id moment p identity : List ℕ) (content : Content) (type
       parent = one.parent_kept w p receipt (entry_of asked.command) items (λ y. y.links) register fits;
     }
       where
-        or_true : (b : Bool) → (b || true) ≡ true
-        or_true true = refl
-        or_true false = refl
-
         has_more : (n : List ℕ) → has item_key n x.items ≡ true → has item_key n (put item_key item x.items) ≡ true
-        has_more n e = list_any-put item_key (λ i. bytes_eq (item_key i) n) item x.items ∙ ap (λ b. bytes_eq (item_key item) n || b) e ∙ or_true (bytes_eq (item_key item) n)
+        has_more n e = list_any-put item_key (λ i. bytes_eq (item_key i) n) item x.items ∙ ap (λ b. bytes_eq (item_key item) n || b) e ∙ or-true (bytes_eq (item_key item) n)
 
     new_unaltered : IsUnaltered next item
     new_unaltered =

@@ -1,4 +1,5 @@
 -- Delete and Unlink keep the account.
+use Rattle.sheet_types.proofs.Fitting.{item_kind_of}
 use Rattle.std.specs.Prelude.{◌≡◌, ℕ, true, false, ◌&&◌, List, [], ◌∷◌, find, refl, bytes_eq, Some, None, sum_by}
 use Rattle.std.specs.Option.{option_map_or}
 use Rattle.std.proofs.Common.{sym, ap, subst, ◌∙◌, arith}
@@ -26,7 +27,6 @@ use Rattle.sheet_types.specs.declared.command.Relation.{Relation}
 use Rattle.sheet_types.specs.declared.command.Request.{Request}
 use Rattle.sheet_types.proofs.Basics.{bytes_eq_itself, not_false, and_true}
 use Rattle.ledger_laws.proofs.Accepting.{rows_fail, new_identity}
-use Rattle.ledger_laws.proofs.Ledger.{is_item-kind_of}
 use Rattle.sheet_types.proofs.Found.{All-found, found, found_passes}
 use Rattle.sheet_types.proofs.Order.{counts_arranged}
 use Rattle.sheet_types.proofs.Without.{take_one}
@@ -65,7 +65,7 @@ module _ (w : World) (id moment p identity : List ℕ) (register : IsRegister w)
           things = subst (AllByRecursion IsThing) (sym things) (things_moved (i ∷ []) []);
           in_order = subst (IsArranged moved_key) (sym things) (order_moved (i ∷ []) [] (tt, tt) tt);
           counts = record { tiles = refl; media = refl; rows = refl; links = refl; bytes = refl };
-          entered = (entry_of delete_asked.command, record { says = says; leaves = refl; comes_to = refl; moves = (item_moved i, things, (bytes_eq-Decides i.identity identity).0 unaltered.1, is_item-kind_of i.content) });
+          entered = (entry_of delete_asked.command, record { says = says; leaves = refl; comes_to = refl; moves = (item_moved i, things, (bytes_eq-Decides i.identity identity).0 unaltered.1, item_kind_of i.content) });
           from_source = subst (AllByRecursion (λ m. custody (receipts_of w) (moved_thing m) ≡ Some p)) (sym things) (custody_moved w p (i ∷ []) [] register.balanced (held.0, tt) tt);
           never_before = λ e. absurd (false≢true (sym (by_entry is_adding (receipt_of w delete_asked) (entry_of delete_asked.command) says) ∙ e));
           agrees = subst (AllByRecursion (λ m. AllByRecursion (λ x. AllByRecursion (Agrees m) x.items) (receipts_of w))) (sym things) (agree_moved w (i ∷ []) [] register.balanced.ledger (unaltered.0, tt));
@@ -120,4 +120,3 @@ module _ (w : World) (id moment p : List ℕ) (mapping : Mapping) (base media : 
         shifts = λ c sees. rw (bytes_eq_itself p) (omega (arith, sees f.0 unlinked same, take_one link_key (link_key unlinked) (λ l. c (link_moved l)) f.0 (holdings w p).links (counts_arranged link_key (link_key unlinked) (holdings w p).links kept.links) f.1));
         elsewhere = λ q other. (other, refl);
       }
-

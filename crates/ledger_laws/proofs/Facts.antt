@@ -15,7 +15,7 @@ use Rattle.sheet_types.proofs.LineReading.{line-entry_from}
 use Rattle.sheet_types.specs.declared.receipt.MovedKind.{MovedKind}
 use Rattle.sheet_types.specs.Balance.{names_as}
 use Rattle.ledger_laws.proofs.Ledger.{by_entry}
-use Rattle.sheet_types.proofs.Basics.{or-false}
+use Rattle.sheet_types.proofs.Basics.{or-false, or-true}
 use Rattle.sheet_types.specs.World.{thing_number, kind_number}
 use Rattle.sheet_types.specs.Texts.{size, fingerprint}
 use Rattle.sheet_types.specs.Cut.{identities, moved_of}
@@ -216,22 +216,14 @@ pub self_has : {X : Type 0} (key : X → List ℕ) (xs : List X) → AllByRecurs
 self_has key [] = tt
 self_has key (x ∷ xs) = (
   ap (λ b. b || has key (key x) xs) (bytes_eq_itself (key x)),
-  All-weaker (λ y. has key (key y) xs ≡ true) (λ y. has key (key y) (x ∷ xs) ≡ true) (λ y h. ap (λ b. bytes_eq (key x) (key y) || b) h ∙ or_true (bytes_eq (key x) (key y))) xs (self_has key xs),
+  All-weaker (λ y. has key (key y) xs ≡ true) (λ y. has key (key y) (x ∷ xs) ≡ true) (λ y h. ap (λ b. bytes_eq (key x) (key y) || b) h ∙ or-true (bytes_eq (key x) (key y))) xs (self_has key xs),
 )
-  where
-    or_true : (b : Bool) → (b || true) ≡ true
-    or_true true = refl
-    or_true false = refl
 
 pub items_held : (x : Package) → AllByRecursion (λ i. holds x (item_thing i) ≡ true) x.items
 items_held x = All-weaker (λ i. has item_thing (item_thing i) x.items ≡ true) (λ i. holds x (item_thing i) ≡ true) (λ i h. ap (λ b. b || has link_key (item_thing i) x.links) h) x.items (self_has item_thing x.items)
 
 pub links_held : (x : Package) → AllByRecursion (λ l. holds x (link_key l) ≡ true) x.links
-links_held x = All-weaker (λ l. has link_key (link_key l) x.links ≡ true) (λ l. holds x (link_key l) ≡ true) (λ l h. ap (λ b. has item_thing (link_key l) x.items || b) h ∙ or_true' (has item_thing (link_key l) x.items)) x.links (self_has link_key x.links)
-  where
-    or_true' : (b : Bool) → (b || true) ≡ true
-    or_true' true = refl
-    or_true' false = refl
+links_held x = All-weaker (λ l. has link_key (link_key l) x.links ≡ true) (λ l. holds x (link_key l) ≡ true) (λ l h. ap (λ b. has item_thing (link_key l) x.items || b) h ∙ or-true (has item_thing (link_key l) x.items)) x.links (self_has link_key x.links)
 
 -- ---- a package holds each thing once
 

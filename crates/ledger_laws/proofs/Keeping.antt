@@ -31,7 +31,7 @@ use Rattle.sheet_types.specs.declared.command.Content.TheVariants.{Tile, Media, 
 use Rattle.sheet_types.specs.declared.command.Item.{Item}
 use Rattle.sheet_types.specs.declared.frame.Frame.{Frame}
 use Rattle.sheet_types.specs.declared.receipt.Receipt.{Receipt}
-use Rattle.sheet_types.proofs.Basics.{bytes_eq_itself, not_false, before-differs, bytes_eq_swap, not_true}
+use Rattle.sheet_types.proofs.Basics.{bytes_eq_itself, not_false, before-differs, bytes_eq_swap, not_true, or-true}
 use Rattle.sheet_types.proofs.Without.{is_one}
 use Rattle.ledger_laws.proofs.Packages.{at_uuid, each_found}
 use Rattle.sheet_types.proofs.Distinct.{distinct_counts, counts_distinct}
@@ -55,15 +55,11 @@ all_live_at w P distinct h =
     All-both (λ x. find (at_uuid x.uuid) w.packages ≡ Some x) (λ x. is_live w x.uuid ≡ true) P
     (λ x is live. subst P (ap (λ o. unwrap_or o no_package) is) (h x.uuid live)) w.packages (each_found w.packages distinct) (each_live w.packages)
   where
-    or_true : (b : Bool) → (b || true) ≡ true
-    or_true true = refl
-    or_true false = refl
-
     each_live : (ps : List Package) → AllByRecursion (λ x. list_any (at_uuid x.uuid) ps ≡ true) ps
     each_live [] = tt
     each_live (x ∷ ps) = (
       ap (λ b. b || list_any (at_uuid x.uuid) ps) (bytes_eq_itself x.uuid),
-      All-weaker (λ y. list_any (at_uuid y.uuid) ps ≡ true) (λ y. list_any (at_uuid y.uuid) (x ∷ ps) ≡ true) (λ y e. ap (λ b. bytes_eq x.uuid y.uuid || b) e ∙ or_true (bytes_eq x.uuid y.uuid)) ps (each_live ps),
+      All-weaker (λ y. list_any (at_uuid y.uuid) ps ≡ true) (λ y. list_any (at_uuid y.uuid) (x ∷ ps) ≡ true) (λ y e. ap (λ b. bytes_eq x.uuid y.uuid || b) e ∙ or-true (bytes_eq x.uuid y.uuid)) ps (each_live ps),
     )
 
 pub live_changed : (f : Package → Package) (p q : List ℕ) (ps : List Package) → ((x : Package) → (f x).uuid ≡ x.uuid) → list_any (at_uuid q) (map (λ x. cond (bytes_eq x.uuid p) (f x) x) ps) ≡ list_any (at_uuid q) ps

@@ -1,4 +1,5 @@
 -- A ledger of receipts: what each is by those before it, and what one more changes.
+use Rattle.sheet_types.proofs.Fitting.{item_kind_of}
 use Rattle.std.specs.Prelude.{is_some, ◌≡◌, ℕ, ◌+◌, ◌<◌, Bool, true, false, cond, ◌==◌, ◌&&◌, ◌||◌, List, [], ◌∷◌, ◌++◌, filter, length, refl, bytes_eq, Option, Some, None, slice_index, nat_lt, sum_by}
 use Rattle.std.proofs.lemmas.List.{append-nil}
 use Rattle.std.proofs.Common.{sym, ap, subst, ◌∙◌, arith, append_assoc, length-append, drop, zero-add}
@@ -124,11 +125,6 @@ never_named archive id past (r ∷ rs) h unused never things =
     let rest : AllByRecursion (λ s. names_identity id s ≡ false) rs × AllByRecursion (λ s. AllByRecursion IsThing s.items) rs =
     never_named archive id (past ++ r ∷ []) rs h.1 unused.1 (All-snoc (λ s. names_identity id s ≡ false) past r never here) (All-snoc (λ s. AllByRecursion IsThing s.items) past r things h.0.things) in
     ((here, rest.0), (h.0.things, rest.1))
-
-pub is_item-kind_of : (content : Content) → is_item_kind (kind_of content) ≡ true
-is_item-kind_of (Tile zoom column row bytes) = refl
-is_item-kind_of (Media content_type bytes) = refl
-is_item-kind_of (Row x y code label) = refl
 
 pub thing_of : (identity : List ℕ) (content : Content) → IsThing (item_moved (added_item identity content))
 thing_of identity (Tile zoom column row bytes) = (refl, refl)

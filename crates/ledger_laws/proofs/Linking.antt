@@ -108,4 +108,3 @@ module _ (w : World) (id moment p : List ℕ) (mapping : Mapping) (base media : 
         shifts = λ c _. rw (bytes_eq_itself p) (omega (arith, sum_by-put link_key (λ l. c (link_moved l)) linked (holdings w p).links));
         elsewhere = λ q other. (refl, other);
       }
-

@@ -34,12 +34,12 @@ use Rattle.sheet_types.specs.declared.receipt.Moved.{Moved}
 use Rattle.sheet_types.specs.declared.receipt.Receipt.{Receipt}
 use Rattle.sheet_types.proofs.Order.{All-put, All-arranged, All-of_put, All-of_arranged, list_any-put, sum_by-put, sum_by-arranged, list_any-arranged, counts_arranged, arranged_counts, filter_arranged}
 use Rattle.sheet_types.proofs.Same.{In, same_list, All-In, In-all}
-use Rattle.sheet_types.proofs.Basics.{bytes_eq_itself, not_false, and_true, bytes_eq_swap}
+use Rattle.sheet_types.proofs.Basics.{bytes_eq_itself, not_false, and_true, bytes_eq_swap, or-true}
 use Rattle.ledger_laws.proofs.Accepting.{rows_fail, new_identity, keeps}
 use Rattle.ledger_laws.proofs.Packages.{archive_stays, find_changed, AllStand, at_uuid, each_found, at_all, stand_at, stand_all, stand_flat, holdings_none, holdings_changed, holdings_closed, changed_arranged, changed_sum, All-changed, two_places, archive_closed}
 use Rattle.ledger_laws.proofs.Ledger.{ledger_snoc, none_after, ledger_numbers}
 use Rattle.sheet_types.proofs.Without.{All-without, take_one}
-use Rattle.sheet_types.proofs.Found.{found}
+use Rattle.sheet_types.proofs.Found.{found, any_implies}
 use Rattle.sheet_types.proofs.Sums.{sum_by-map, sum_by-flat_map, count-cons, none_counted, any_some, any_none, count_le, not_both_count}
 use Rattle.ledger_laws.proofs.Shifting.{weighed, goes, Shift, flat_stand, balance_kept, ends_at_is}
 use Rattle.ledger_laws.proofs.Facts.{ledger_arranged, things_moved, order_moved, agree_moved, custody_moved, items_held, links_held, kept_at, holds_once}
@@ -300,20 +300,8 @@ module _ (w : World) (id moment child into : List ℕ) (ticket : ℤ) (types : H
           loan.1,
         )
 
-    any_weaker : (p q : Receipt → Bool) → ((s : Receipt) → p s ≡ true → q s ≡ true) → (rs : List Receipt) → list_any p rs ≡ true → list_any q rs ≡ true
-    any_weaker p q f [] h = absurd (false≢true h)
-    any_weaker p q f (s ∷ rs) h =
-        elim (p s) as (λ v. p s ≡ v → (v || list_any p rs) ≡ true → (q s || list_any q rs) ≡ true) [
-          | true ↦ λ e _. ap (λ b. b || list_any q rs) (f s e)
-          | false ↦ λ _ more. ap (λ b. q s || b) (any_weaker p q f rs more) ∙ or_true (q s)
-        ] refl h
-      where
-        or_true : (b : Bool) → (b || true) ≡ true
-        or_true true = refl
-        or_true false = refl
-
     lent_in : 1 ≤ count_by (lent_to child) (holdings w into).receipts
-    lent_in = any_some (lent_to child) (holdings w into).receipts (any_weaker (λ r. is_split r && ends_at r.target (holdings w child).uuid && (r.seq == (holdings w child).loan)) (lent_to child)
+    lent_in = any_some (lent_to child) (holdings w into).receipts (any_implies (λ r. is_split r && ends_at r.target (holdings w child).uuid && (r.seq == (holdings w child).loan)) (lent_to child)
         (λ s e. subst (λ u. (is_split s && ends_at s.target u) ≡ true) lent_here.1 (and_parts (is_split s && ends_at s.target (holdings w child).uuid) (s.seq == (holdings w child).loan) e).0) (holdings w into).receipts lent_here.0)
 
     lent_nowhere_else : (p : List ℕ) → bytes_eq p into ≡ false → AllByRecursion (λ s. lent_to child s ≡ false) (holdings w p).receipts
@@ -446,12 +434,8 @@ module _ (w : World) (id moment child into : List ℕ) (ticket : ℤ) (types : H
       arith,
       sum_by-append (λ l. cond (has_link_key n l) 1 0) (holdings w child).links (holdings w into).links,
       not_both_count (has_link_key n) (holdings w child).links (holdings w into).links (counts_arranged link_key n (holdings w child).links kept_child.links) (counts_arranged link_key n (holdings w into).links kept_into.links)
-          (λ a b. never_both n (ap (λ v. has item_thing n (holdings w child).items || v) a ∙ or_true (has item_thing n (holdings w child).items)) (ap (λ v. has item_thing n (holdings w into).items || v) b ∙ or_true (has item_thing n (holdings w into).items))),
+          (λ a b. never_both n (ap (λ v. has item_thing n (holdings w child).items || v) a ∙ or-true (has item_thing n (holdings w child).items)) (ap (λ v. has item_thing n (holdings w into).items || v) b ∙ or-true (has item_thing n (holdings w into).items))),
     )
-      where
-        or_true : (b : Bool) → (b || true) ≡ true
-        or_true true = refl
-        or_true false = refl
 
     places_apart : (n : List ℕ) → count_by (λ i. bytes_eq (place_of i.content) n) (filter is_tile merged.items) ≤ 1
     places_apart n = omega (
@@ -507,13 +491,9 @@ module _ (w : World) (id moment child into : List ℕ) (ticket : ℤ) (types : H
     ends_into : (l : Relation) → HasEnds (holdings w into) l → HasEnds merged l
     ends_into l h = (has_either (kind_number (base_kind l.mapping) ∷ l.base) h.0, has_either (kind_number (other_kind l.mapping) ∷ l.media) h.1)
       where
-        or_true : (b : Bool) → (b || true) ≡ true
-        or_true true = refl
-        or_true false = refl
-
         has_either : (n : List ℕ) → has item_key n (holdings w into).items ≡ true → has item_key n merged.items ≡ true
         has_either n e = list_any-arranged item_key (λ i. bytes_eq (item_key i) n) ((holdings w child).items ++ (holdings w into).items)
-            ∙ list_any-append (λ i. bytes_eq (item_key i) n) (holdings w child).items (holdings w into).items ∙ ap (λ b. has item_key n (holdings w child).items || b) e ∙ or_true (has item_key n (holdings w child).items)
+            ∙ list_any-append (λ i. bytes_eq (item_key i) n) (holdings w child).items (holdings w into).items ∙ ap (λ b. has item_key n (holdings w child).items || b) e ∙ or-true (has item_key n (holdings w child).items)
 
     both_items : (P : Item → Type 0) → AllByRecursion P (holdings w child).items → AllByRecursion P (holdings w into).items → AllByRecursion P merged.items
     both_items P a b = All-arranged item_key P ((holdings w child).items ++ (holdings w into).items) (All-append P (holdings w child).items (holdings w into).items a b)

@@ -1,5 +1,5 @@
 // Laws of the model, each the contract of a function that does nothing.
-ghost use Rattle.ledger_laws.specs.Laws.{NewWorldIsRegister, AddKeepsRegister, DeleteKeepsRegister, LinkKeepsRegister, UnlinkKeepsRegister, SplitKeepsRegister, MergeKeepsRegister, StepKeepsRegister, RunKeepsRegister, RunOfBoth, RepeatChangesNothing, MovesWhole, FollowIsLeast, LineIsReadBack};
+ghost use Rattle.ledger_laws.specs.Laws.{NewWorldIsRegister, AddKeepsRegister, DeleteKeepsRegister, LinkKeepsRegister, UnlinkKeepsRegister, SplitKeepsRegister, MergeKeepsRegister, StepKeepsRegister, RunKeepsRegister, RunOfBoth, RepeatChangesNothing, MovesWhole, FollowIsLeast, LineIsReadBack, OneWorld};
 
 /// A new world of a good frame is a register.
 pub fn new_world_is_register()
@@ -69,4 +69,9 @@ pub fn follow_is_least()
 /// A line is read as the one entry that wrote it, and no other text is read.
 pub fn line_is_read_back()
     ensures { LineIsReadBack }
+{}
+
+/// No list of stores stands for two worlds.
+pub fn one_world()
+    ensures { OneWorld }
 {}

@@ -61,15 +61,16 @@ size_fits (Media content_type bytes) h =
     short_number (length bytes) (and_parts (nat_le 1 (length bytes)) (nat_le (length bytes) 1048576) (and_parts (is_length_within 1 1048576 bytes) (is_length_within 1 100 content_type) h).0).1
 size_fits (Row x y code label) h = shorter_number (length label) (and_parts (nat_le 0 (length label)) (nat_le (length label) 200) (and_parts (is_length_within 0 200 label) _ h).0).1
 
-item_kind : (content : Content) → is_item_kind (kind_of content) ≡ true
-item_kind (Tile zoom column row bytes) = refl
-item_kind (Media content_type bytes) = refl
-item_kind (Row x y code label) = refl
+-- the kind of a content is that of an item
+pub item_kind_of : (content : Content) → is_item_kind (kind_of content) ≡ true
+item_kind_of (Tile zoom column row bytes) = refl
+item_kind_of (Media content_type bytes) = refl
+item_kind_of (Row x y code label) = refl
 
 -- a command whose values are of its types, and whose sizes are in bounds, has a fit entry
 pub entry_fits : (command : Command) → HasTypes command → too_large command ≡ false → IsFitEntry (entry_of command)
 entry_fits (Add p identity content) types sizes =
-    and_from _ _ (and_from _ _ (and_from _ _ types (item_kind content)) (size_fits content (not_false (has_good_size content) sizes))) (digest_fits content)
+    and_from _ _ (and_from _ _ (and_from _ _ types (item_kind_of content)) (size_fits content (not_false (has_good_size content) sizes))) (digest_fits content)
 entry_fits (Delete p identity) types sizes = types
 entry_fits (Link p mapping base media) types sizes = types
 entry_fits (Unlink p mapping base media) types sizes = types

@@ -65,6 +65,5 @@ rect z c c' r r' = record { zoom = pos z; column = pos c; last_column = pos c'; 
 abbrev pub ids_in : World → List ℕ → List (List ℕ)
 ids_in w p = map (λ x. x.identity) (holdings w p).items
 
-
 abbrev pub medium : Content
 medium = Media (codes "image/jpeg") (74 ∷ 80 ∷ [])
