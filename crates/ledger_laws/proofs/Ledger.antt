@@ -1,5 +1,4 @@
 -- A ledger of receipts: what each is by those before it, and what one more changes.
-use Rattle.sheet_types.proofs.Fitting.{item_kind_of}
 use Rattle.std.specs.Prelude.{is_some, ◌≡◌, ℕ, ◌+◌, ◌<◌, Bool, true, false, cond, ◌==◌, ◌&&◌, ◌||◌, List, [], ◌∷◌, ◌++◌, filter, length, refl, bytes_eq, Option, Some, None, slice_index, nat_lt, sum_by}
 use Rattle.std.proofs.lemmas.List.{append-nil}
 use Rattle.std.proofs.Common.{sym, ap, subst, ◌∙◌, arith, append_assoc, length-append, drop, zero-add}
@@ -12,7 +11,7 @@ use Rattle.std.specs.Option.{option_map_or, option_and_then}
 use Rattle.sheet_types.specs.Balance.{IsLedger, MayFollow, IsThing, names_identity, IsReceiptOf, Agrees}
 use Rattle.sheet_types.specs.Lines.{entry_from, is_adding}
 use Rattle.sheet_types.specs.Custody.{names, custody, is_add, after}
-use Rattle.sheet_types.specs.Texts.{Entry, Adds, Deletes, Links, Unlinks, Splits, Merges, kind_of, size}
+use Rattle.sheet_types.specs.Texts.{Entry, Adds, Deletes, Links, Unlinks, Splits, Merges, size}
 use Rattle.sheet_types.specs.Step.{relation, added_item}
 use Rattle.sheet_types.specs.declared.command.Content.{Content}
 use Rattle.sheet_types.specs.declared.command.Content.TheVariants.{Tile, Media, Row}
