@@ -17,6 +17,7 @@ pub mod Running
 pub mod OneWorld
 pub mod Rounds
 pub mod Opened
+pub mod Faults
 pub mod First
 pub mod Follow
 pub mod Whole
