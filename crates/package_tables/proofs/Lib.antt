@@ -5,3 +5,8 @@ pub mod Reading
 pub mod Looking
 pub mod Values
 pub mod TileStatements
+pub mod MediumStatements
+pub mod AttributeStatements
+pub mod TilesMediaStatements
+pub mod RowsMediaStatements
+pub mod IdentityStatements

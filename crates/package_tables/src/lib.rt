@@ -1,7 +1,11 @@
 //! One package's tables as lists of typed rows: nothing above this crate speaks SQL.
 #![tactic(auto)]
 
+pub mod attributes;
 pub mod fault;
 pub(crate) mod from_row;
+pub mod identities;
+pub mod mappings;
+pub mod media;
 pub mod rows;
 pub mod tiles;
