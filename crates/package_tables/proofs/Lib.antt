@@ -10,3 +10,11 @@ pub mod AttributeStatements
 pub mod TilesMediaStatements
 pub mod RowsMediaStatements
 pub mod IdentityStatements
+pub mod Changing
+pub mod ReceiptStatements
+pub mod MovedStatements
+pub mod HeadStatements
+pub mod FixedStatements
+pub mod SchemaMakes
+pub mod Texts
+pub mod NewPackage

@@ -6,4 +6,8 @@ pub mod Package
 pub mod Faults
 pub mod Calls
 pub mod Changes
+pub mod Fixed
+pub mod Entries
+pub mod SchemaMaking
+pub mod SchemaMade
 pub mod Shown

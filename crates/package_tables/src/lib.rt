@@ -3,9 +3,15 @@
 
 pub mod attributes;
 pub mod fault;
+pub mod fixed;
+pub mod head;
+pub mod moved;
+pub(crate) mod reading;
+pub mod receipts;
 pub(crate) mod from_row;
 pub mod identities;
 pub mod mappings;
 pub mod media;
 pub mod rows;
+pub mod schema;
 pub mod tiles;
