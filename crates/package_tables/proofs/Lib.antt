@@ -3,6 +3,7 @@ pub mod Written
 pub mod Making
 pub mod Reading
 pub mod Looking
+pub mod Newest
 pub mod Values
 pub mod TileStatements
 pub mod MediumStatements

@@ -1,6 +1,6 @@
 -- The row that `SELECT *` shows of a value, column by column.
-use Rattle.std.specs.Prelude.{[], ◌∷◌}
-use Rattle.sqlite.specs.Order.{Row}
+use Rattle.std.specs.Prelude.{◌≡◌, ℤ, List, [], ◌∷◌, Option, Some, MatchOption, slice_get}
+use Rattle.sqlite.specs.Order.{Row, column}
 use Rattle.sqlite.specs.declared.types.Value.TheVariants.{Int, Text, Blob}
 use Rattle.package_tables.specs.declared.rows.AttributeRow.{AttributeRow}
 use Rattle.package_tables.specs.declared.rows.IdentityRow.{IdentityRow}
@@ -22,3 +22,7 @@ mapping_shown x = Int x.base_id ∷ Int x.related_id ∷ []
 
 abbrev pub identity_shown : IdentityRow → Row
 identity_shown x = Int x.kind ∷ Int x.local_id ∷ Text x.uuid ∷ []
+
+-- the first row of an answer, if there is one, begins with the number
+abbrev pub BeginsWith : List Row → Option ℤ → Type 0
+BeginsWith rows found = MatchOption found (rows ≡ []) (λ n. (r : Row) × (slice_get rows 0 ≡ Some r) × (column r 0 ≡ Int n))

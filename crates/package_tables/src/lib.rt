@@ -4,14 +4,13 @@
 pub mod attributes;
 pub mod fault;
 pub mod fixed;
-pub mod head;
-pub mod moved;
-pub(crate) mod reading;
-pub mod receipts;
 pub(crate) mod from_row;
+pub mod head;
 pub mod identities;
 pub mod mappings;
 pub mod media;
+pub mod moved;
+pub mod receipts;
 pub mod rows;
 pub mod schema;
 pub mod tiles;
