@@ -8,16 +8,18 @@ use Rattle.sqlite.specs.Edit.{next_rowid}
 use Rattle.sqlite.specs.declared.types.Value.TheVariants.{Int, Null, Text, Blob}
 use Rattle.sqlite_tied.specs.Compute.{everything}
 use Rattle.sql_meaning.specs.Resolving.{resolving}
-use Rattle.sql_meaning.specs.Reading.{always, equals, both, ascending}
+use Rattle.sql_meaning.specs.Reading.{always, equals, both, ascending, descending}
 use Rattle.sql_meaning.proofs.Insert.{IsInsert, IsRow}
 use Rattle.sql_meaning.proofs.Delete.{IsDelete, IsPlannedDelete}
-use Rattle.sql_meaning.proofs.Resolve.{one_table}
+use Rattle.sql_meaning.proofs.Resolve.{one_table, one_source}
 use Rattle.sql_meaning.proofs.Select.{IsSelect, IsPlannedSelect}
+use Rattle.sql_meaning.proofs.First.{IsFirst, IsPlannedFirst}
 use Rattle.package_tables.specs.Tables.{sheet_rows}
 use Rattle.package_tables.specs.Shapes.{attribute_shape, int_at, text_at, blob_at}
 use Rattle.package_tables.specs.Shown.{attribute_shown}
 use Rattle.package_tables.specs.declared.rows.AttributeRow.{AttributeRow}
 use Rattle.package_tables.proofs.Looking.{IsKnown, IsRead}
+use Rattle.package_tables.proofs.Newest.{IsNewest}
 use Rattle.package_tables.proofs.Values.{same_number, same_text, both_same}
 use Rattle.package_tables.proofs.Written.{attribute_shape_is}
 
@@ -89,3 +91,29 @@ all_plan tree schema at h = rw (h.stored, h.by_tree) refl
 
 pub all : IsRead attribute_shape attribute_shown (codes "SELECT * FROM sheet_rows ORDER BY id") [] (λ x. true)
 all = record { test = _; by = _; selects = all_text; planned = all_plan; given = refl; listing = _; is = λ tree. refl; shows = λ v x. refl; passing = λ v x. refl }
+
+newest_text : (tree : ℕ) → IsFirst (codes "SELECT * FROM sheet_rows ORDER BY id DESC LIMIT 1") (sheet_rows tree) always ((col 1 0, descending) ∷ [])
+unfolding everything
+newest_text tree = record {
+  parse = _;
+  asks = _;
+  src = _;
+  item = _;
+  parsed = refl;
+  statement = refl;
+  formats = refl;
+  one = one_source refl refl refl refl refl refl refl refl refl refl refl refl refl;
+  paged = λ schema. refl;
+  condition = refl;
+  enough = refl;
+  few = λ at. refl;
+  some = λ at. refl;
+  sorted = λ schema at. (_, refl, refl);
+}
+
+newest_plan : (tree : ℕ) → IsPlannedFirst (sheet_rows tree) always ((col 1 0, descending) ∷ [])
+unfolding resolving
+newest_plan tree schema at h = rw (h.stored, h.by_tree) refl
+
+pub newest : IsNewest attribute_shape (λ x. x.id) (codes "SELECT * FROM sheet_rows ORDER BY id DESC LIMIT 1")
+newest = record { by = _; selects = newest_text; planned = newest_plan; shown = _; is = λ tree. refl; begins = λ v x. refl; keyed = λ v x. refl }

@@ -4,11 +4,11 @@ ghost use Rattle.std.specs.Ordering.{int_eq};
 ghost use Rattle.sqlite.specs.State.{Survives};
 ghost use Rattle.sqlite.specs.Held.{state};
 ghost use Rattle.sql_meaning.specs.Transactions.{Rests};
-ghost use Rattle.package_tables.specs.Calls.{Makes, Tells, LooksUp, IsOneOf, AreThose};
+ghost use Rattle.package_tables.specs.Calls.{Makes, Tells, LooksUp, IsOneOf, AreThose, IsGreatest};
 ghost use Rattle.package_tables.specs.Changes.{AddsAttribute, DropsAttribute};
 
 use crate::fault::{Fault, settled};
-use crate::from_row::{FromRow, all_of, first_of};
+use crate::from_row::{FromRow, all_of, first_of, number_of};
 use crate::rows::AttributeRow;
 use sheet_types::collections::Text;
 use sqlite::{Alter, Connection, Row, Transaction, params};
@@ -96,4 +96,13 @@ pub fn all_attributes<S: Alter>(
         alloc,
         conn.query_all("SELECT * FROM sheet_rows ORDER BY id", &[]),
     )
+}
+
+/// The greatest number of an attributes row, where there is one, inside a transaction.
+pub fn greatest_attribute_id<S: Alter>(tx: &mut Transaction<'_, S>) -> Result<Option<i64>, Fault>
+    ensures same_reference { tx.new.conn.ghost_name ≡ tx.old.conn.ghost_name }
+    ensures told { Tells (λ t. IsGreatest (λ x. x.id) t.rows) (state S.Store tx.old.conn.now) (state S.Store tx.new.conn.now) result }
+    ensures survives { Survives (state S.Store tx.old.conn.now) (state S.Store tx.new.conn.now) (λ _. ⊥) }
+{
+    number_of(tx.query_all("SELECT * FROM sheet_rows ORDER BY id DESC LIMIT 1", &[]))
 }

@@ -11,13 +11,13 @@ INT, TEXT, BLOB = "int", "text", "blob"
 TABLES = [
     dict(file="TileStatements", module="tiles", list="tiles", shape="tile_shape", table="sheet_tiles", row="TileRow", shown="tile_shown", change="Tile", keyed=True,
          columns=[("id", INT), ("zoom_level", INT), ("tile_column", INT), ("tile_row", INT), ("tile_data", BLOB)], by=["id"],
-         insert="insert_tile", delete=("delete_tile", ["id"]), finds=[("tile_by_id", ["id"], True), ("tile_at", ["zoom_level", "tile_column", "tile_row"], False)], all="all_tiles"),
+         insert="insert_tile", delete=("delete_tile", ["id"]), finds=[("tile_by_id", ["id"], True), ("tile_at", ["zoom_level", "tile_column", "tile_row"], False)], all="all_tiles", greatest="greatest_tile_id"),
     dict(file="MediumStatements", module="media", list="media", shape="medium_shape", table="sheet_media", row="MediaRow", shown="medium_shown", change="Medium", keyed=True,
          columns=[("id", INT), ("data", BLOB), ("content_type", TEXT)], by=["id"],
-         insert="insert_medium", delete=("delete_medium", ["id"]), finds=[("medium_by_id", ["id"], True)], all="all_media"),
+         insert="insert_medium", delete=("delete_medium", ["id"]), finds=[("medium_by_id", ["id"], True)], all="all_media", greatest="greatest_medium_id"),
     dict(file="AttributeStatements", module="attributes", list="rows", shape="attribute_shape", table="sheet_rows", row="AttributeRow", shown="attribute_shown", change="Attribute", keyed=True,
          columns=[("id", INT), ("x", INT), ("y", INT), ("code", INT), ("label", TEXT)], by=["id"],
-         insert="insert_attribute", delete=("delete_attribute", ["id"]), finds=[("attribute_by_id", ["id"], True)], all="all_attributes"),
+         insert="insert_attribute", delete=("delete_attribute", ["id"]), finds=[("attribute_by_id", ["id"], True)], all="all_attributes", greatest="greatest_attribute_id"),
     dict(file="TilesMediaStatements", module="mappings", list="tiles_media", shape="tiles_media_shape", table="tiles_media", row="MappingRow", shown="mapping_shown", change="TilesMedia", keyed=False,
          columns=[("base_id", INT), ("related_id", INT)], by=["base_id", "related_id"],
          insert="insert_tiles_media", delete=("delete_tiles_media", ["base_id", "related_id"]),
@@ -122,6 +122,47 @@ def all_text(t):
     return "SELECT * FROM %s ORDER BY %s" % (t["table"], ", ".join(t["by"]))
 
 
+def newest_text(t):
+    return "SELECT * FROM %s ORDER BY %s DESC LIMIT 1" % (t["table"], t["by"][0])
+
+
+def newest_facts(t):
+    by = "((col 1 0, descending) ∷ [])"
+    return [
+        "",
+        "newest_text : (tree : ℕ) → IsFirst (codes \"%s\") (%s tree) always %s" % (newest_text(t), t["table"], by),
+        "unfolding everything",
+        "newest_text tree = record {",
+        "  parse = _;", "  asks = _;", "  src = _;", "  item = _;", "  parsed = refl;", "  statement = refl;", "  formats = refl;",
+        "  one = one_source %s;" % " ".join(["refl"] * 13),
+        "  paged = λ schema. refl;", "  condition = refl;",
+        "  enough = refl;", "  few = λ at. refl;", "  some = λ at. refl;", "  sorted = λ schema at. (_, refl, refl);",
+        "}",
+        "",
+        "newest_plan : (tree : ℕ) → IsPlannedFirst (%s tree) always %s" % (t["table"], by),
+        "unfolding resolving",
+        "newest_plan tree schema at h = rw (h.stored, h.by_tree) refl",
+        "",
+        "pub newest : IsNewest %s (λ x. x.%s) (codes \"%s\")" % (t["shape"], t["by"][0], newest_text(t)),
+        "newest = record { by = _; selects = newest_text; planned = newest_plan; shown = _; is = λ tree. refl; begins = λ v x. refl; keyed = λ v x. refl }",
+    ]
+
+
+def newest_answer(t):
+    function = t["greatest"]
+    return [
+        "use Rattle.sqlite.specs.Held.{state}",
+        "use Rattle.package_tables.proofs.Newest.{tells_greatest}",
+        "use Rattle.package_tables.proofs.%s.{known, newest}" % t["file"],
+        "use Rattle.package_tables.proofs.%s.%s.Goals as goal" % (t["module"], function),
+        "",
+        "pub returns-clause-told : goal.returns-clause-told",
+        "returns-clause-told g c =",
+        "    let e = c.query_all.ensures in",
+        "    tells_greatest known newest (λ rows. rows.items) (state g.S.Store c.args.tx.now.conn.now) (state g.S.Store c.query_all.new.self.conn.now) c.query_all.result e.ok e.err c.number_of.result c.number_of.ensures",
+    ]
+
+
 def insert_text(t):
     return "INSERT INTO %s VALUES (%s)" % (t["table"], ", ".join("?%d" % (j + 1) for j in range(len(t["columns"]))))
 
@@ -146,16 +187,18 @@ def statements(t):
         "use Rattle.sqlite.specs.declared.types.Value.TheVariants.{Int, Null, Text, Blob}",
         "use Rattle.sqlite_tied.specs.Compute.{everything}",
         "use Rattle.sql_meaning.specs.Resolving.{resolving}",
-        "use Rattle.sql_meaning.specs.Reading.{always, equals, both, ascending}",
+        "use Rattle.sql_meaning.specs.Reading.{always, equals, both, ascending, descending}",
         "use Rattle.sql_meaning.proofs.Insert.{IsInsert, IsRow}",
         "use Rattle.sql_meaning.proofs.Delete.{IsDelete, IsPlannedDelete}",
-        "use Rattle.sql_meaning.proofs.Resolve.{one_table}",
+        "use Rattle.sql_meaning.proofs.Resolve.{one_table, one_source}",
         "use Rattle.sql_meaning.proofs.Select.{IsSelect, IsPlannedSelect}",
+        "use Rattle.sql_meaning.proofs.First.{IsFirst, IsPlannedFirst}",
         "use Rattle.package_tables.specs.Tables.{%s}" % t["table"],
         "use Rattle.package_tables.specs.Shapes.{%s, int_at, text_at, blob_at}" % t["shape"],
         "use Rattle.package_tables.specs.Shown.{%s}" % t["shown"],
         "use Rattle.package_tables.specs.declared.rows.%s.{%s}" % (t["row"], t["row"]),
         "use Rattle.package_tables.proofs.Looking.{IsKnown, IsRead}",
+        "use Rattle.package_tables.proofs.Newest.{IsNewest}",
         "use Rattle.package_tables.proofs.Values.{same_number, same_text, both_same}",
         "use Rattle.package_tables.proofs.Written.{%s_is}" % t["shape"],
         "",
@@ -192,6 +235,8 @@ def statements(t):
     by = "(%s[])" % "".join("(col 1 %d, ascending) ∷ " % place(t, c) for c in t["by"])
     out += text_of("all", all_text(t), t, "always", by, "refl")
     out += ["", "pub all : IsRead %s %s (codes \"%s\") [] (λ x. true)" % (t["shape"], t["shown"], all_text(t)), "all = %s" % read_record("all", "λ v x. refl")]
+    if "greatest" in t:
+        out += newest_facts(t)
     return "\n".join(out) + "\n"
 
 
@@ -343,6 +388,8 @@ def main():
             write(folder + name + "/Answers.antt", read_answer(t, name, name, columns, False, False))
             if inside:
                 write(folder + name + "_inside/Answers.antt", read_answer(t, name, name + "_inside", columns, True, False))
+        if "greatest" in t:
+            write(folder + t["greatest"] + "/Answers.antt", newest_answer(t))
         write(folder + t["all"] + "/Answers.antt", read_answer(t, "all", t["all"], [], False, True))
 
 
