@@ -14,3 +14,5 @@ pub mod receipts;
 pub mod rows;
 pub mod schema;
 pub mod tiles;
+#[cfg(test)]
+mod user_tests;
