@@ -1,5 +1,5 @@
 -- How the rows of a package's tables stand for items under lasting identities. Items are rows of user data tables (OGC GeoPackage 1.3, 2.2.8 and 2.4.2; OGC 18-000, media), links rows of user-defined mapping tables (OGC 18-000); local numbers and `sheet_identity` are profile.
-use Rattle.std.specs.Prelude.{◌≡◌, ℕ, ℤ, pos, Bool, true, not, ◌&&◌, if◌then◌else◌, List, [], ◌∷◌, map, filter, find, bytes_eq, flat_map, unsigned_abs}
+use Rattle.std.specs.Prelude.{◌≡◌, ℕ, ℤ, pos, Bool, true, not, Contains, ◌&&◌, if◌then◌else◌, List, [], ◌∷◌, map, filter, find, bytes_eq, flat_map, unsigned_abs}
 use Rattle.std.specs.Ordering.{int_eq}
 use Rattle.std.specs.List.{AllByRecursion, IsDistinct}
 use Rattle.std.specs.Option.{option_map_or}
@@ -121,3 +121,24 @@ is_pair a b = int_eq a.base_id b.base_id && int_eq a.related_id b.related_id
 abbrev pub without_link : Mapping → MappingRow → Tables → Tables
 without_link TilesMedia row t = record t { tiles_media = filter (λ r. not (is_pair r row)) t.tiles_media }
 without_link RowsMedia row t = record t { rows_media = filter (λ r. not (is_pair r row)) t.rows_media }
+
+-- the tables without the rows of a kind and a number, by the numbers that are stored
+abbrev pub without_content : ℤ → ℤ → Tables → Tables
+without_content kind number t = record t {
+  tiles = if int_eq kind (pos 1) then filter (λ r. not (int_eq r.id number)) t.tiles else t.tiles;
+  media = if int_eq kind (pos 2) then filter (λ r. not (int_eq r.id number)) t.media else t.media;
+  rows = if int_eq kind (pos 3) then filter (λ r. not (int_eq r.id number)) t.rows else t.rows;
+}
+
+abbrev pub without_identity : ℤ → ℤ → Tables → Tables
+without_identity kind number t = record t { identities = filter (λ r. not (int_eq r.kind kind && int_eq r.local_id number)) t.identities }
+
+abbrev pub DropsContent : ℤ → ℤ → Tables → Tables → Type 0
+DropsContent kind number before after = after ≡ without_content kind number before
+
+abbrev pub DropsRows : ℤ → ℤ → Tables → Tables → Type 0
+DropsRows kind number before after = after ≡ without_identity kind number (without_content kind number before)
+
+-- the identity row of a UUID
+abbrev pub IsRowOf : List ℕ → Tables → IdentityRow → Type 0
+IsRowOf id t r = Contains t.identities r × (bytes_eq r.uuid (uuid_text id) ≡ true)

@@ -2,46 +2,69 @@
 ghost use Rattle.std.specs.Prelude.{◌≡◌};
 ghost use Rattle.sqlite.specs.Held.{state};
 ghost use Rattle.sql_meaning.specs.Transactions.{Steps};
+ghost use Rattle.package_tables.specs.Calls.{OnTables, Answers};
 ghost use Rattle.identity_register.specs.Calls.{Becomes};
-ghost use Rattle.identity_register.specs.Changes.{LacksItem, item_added, IsLooseItem, item_deleted, IsNewLink, link_added, IsLink, link_removed};
+ghost use Rattle.identity_register.specs.Changes.{IsLooseItem, item_deleted};
+ghost use Rattle.identity_register.specs.Numbering.{IsRowOf, DropsContent, DropsRows};
 
+use package_tables::attributes::delete_attribute;
 use package_tables::fault::Fault;
-use sheet_types::command::{Content, Relation};
+use package_tables::identities::{delete_identity, identity_by_uuid_inside};
+use package_tables::media::delete_medium;
+use package_tables::rows::IdentityRow;
+use package_tables::tiles::delete_tile;
 use sqlite::{Alter, Transaction};
 use uuid::Uuid;
 
-/// Adds an item under an identity that the package has not. Its place has to be free.
-pub fn add<S: Alter>(
-    _tx: &mut Transaction<'_, S>,
-    _identity: Uuid,
-    _content: &Content,
-) -> Result<(), Fault>
-    ensures same_reference { _tx.new.conn.ghost_name ≡ _tx.old.conn.ghost_name }
-    ensures steps { Steps (λ _. Becomes (LacksItem _identity) (item_added (record { identity = _identity; content = _content.now }))) (state S.Store _tx.old.conn.now) (state S.Store _tx.new.conn.now) result }
+/// The row that stands for an item: its kind and local number.
+fn row_of_item<S: Alter>(
+    tx: &mut Transaction<'_, S>,
+    identity: Uuid,
+) -> Result<IdentityRow, Fault>
+    ensures same_reference { tx.new.conn.ghost_name ≡ tx.old.conn.ghost_name }
+    ensures steps { Steps (Answers (IsRowOf identity)) (state S.Store tx.old.conn.now) (state S.Store tx.new.conn.now) result }
 {
-    Err(Fault::OutOfMemory)
+    let mut buffer = Uuid::encode_buffer();
+    let text = identity.hyphenated().encode_lower(&mut buffer);
+    let found = identity_by_uuid_inside(tx, text)?;
+    found.ok_or(Fault::StoreFault)
+}
+
+/// Takes out the row of a user table, by its kind and number.
+fn drop_content<S: Alter>(
+    tx: &mut Transaction<'_, S>,
+    kind: i64,
+    number: i64,
+) -> Result<(), Fault>
+    ensures same_reference { tx.new.conn.ghost_name ≡ tx.old.conn.ghost_name }
+    ensures steps { Steps (λ _. OnTables (DropsContent kind number)) (state S.Store tx.old.conn.now) (state S.Store tx.new.conn.now) result }
+{
+    match kind {
+        1 => delete_tile(tx, number),
+        2 => delete_medium(tx, number),
+        3 => delete_attribute(tx, number),
+        _ => Err(Fault::StoreFault),
+    }
+}
+
+/// Takes out the row of a user table and its identity.
+fn drop_rows<S: Alter>(
+    tx: &mut Transaction<'_, S>,
+    kind: i64,
+    number: i64,
+) -> Result<(), Fault>
+    ensures same_reference { tx.new.conn.ghost_name ≡ tx.old.conn.ghost_name }
+    ensures steps { Steps (λ _. OnTables (DropsRows kind number)) (state S.Store tx.old.conn.now) (state S.Store tx.new.conn.now) result }
+{
+    drop_content(tx, kind, number)?;
+    delete_identity(tx, kind, number)
 }
 
 /// Takes an item out that no link names.
-pub fn delete<S: Alter>(_tx: &mut Transaction<'_, S>, _identity: Uuid) -> Result<(), Fault>
-    ensures same_reference { _tx.new.conn.ghost_name ≡ _tx.old.conn.ghost_name }
-    ensures steps { Steps (λ _. Becomes (IsLooseItem _identity) (item_deleted _identity)) (state S.Store _tx.old.conn.now) (state S.Store _tx.new.conn.now) result }
+pub fn delete<S: Alter>(tx: &mut Transaction<'_, S>, identity: Uuid) -> Result<(), Fault>
+    ensures same_reference { tx.new.conn.ghost_name ≡ tx.old.conn.ghost_name }
+    ensures steps { Steps (λ _. Becomes (IsLooseItem identity) (item_deleted identity)) (state S.Store tx.old.conn.now) (state S.Store tx.new.conn.now) result }
 {
-    Err(Fault::OutOfMemory)
-}
-
-/// Links two items of the kinds that the mapping joins.
-pub fn link<S: Alter>(_tx: &mut Transaction<'_, S>, _relation: Relation) -> Result<(), Fault>
-    ensures same_reference { _tx.new.conn.ghost_name ≡ _tx.old.conn.ghost_name }
-    ensures steps { Steps (λ _. Becomes (IsNewLink _relation) (link_added _relation)) (state S.Store _tx.old.conn.now) (state S.Store _tx.new.conn.now) result }
-{
-    Err(Fault::OutOfMemory)
-}
-
-/// Takes a link out that is there.
-pub fn unlink<S: Alter>(_tx: &mut Transaction<'_, S>, _relation: Relation) -> Result<(), Fault>
-    ensures same_reference { _tx.new.conn.ghost_name ≡ _tx.old.conn.ghost_name }
-    ensures steps { Steps (λ _. Becomes (IsLink _relation) (link_removed _relation)) (state S.Store _tx.old.conn.now) (state S.Store _tx.new.conn.now) result }
-{
-    Err(Fault::OutOfMemory)
+    let row = row_of_item(tx, identity)?;
+    drop_rows(tx, row.kind, row.local_id)
 }
