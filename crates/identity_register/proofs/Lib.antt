@@ -2,3 +2,4 @@ pub mod Adding
 pub mod Deleting
 pub mod Linking
 pub mod Finding
+pub mod Dropping

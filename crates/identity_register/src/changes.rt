@@ -16,6 +16,11 @@ use package_tables::tiles::delete_tile;
 use sqlite::{Alter, Transaction};
 use uuid::Uuid;
 
+// The kinds of items as they are stored.
+const TILE: i64 = 1;
+const MEDIUM: i64 = 2;
+const ROW: i64 = 3;
+
 /// The row that stands for an item: its kind and local number.
 fn row_of_item<S: Alter>(
     tx: &mut Transaction<'_, S>,
@@ -39,12 +44,16 @@ fn drop_content<S: Alter>(
     ensures same_reference { tx.new.conn.ghost_name ≡ tx.old.conn.ghost_name }
     ensures steps { Steps (λ _. OnTables (DropsContent kind number)) (state S.Store tx.old.conn.now) (state S.Store tx.new.conn.now) result }
 {
-    match kind {
-        1 => delete_tile(tx, number),
-        2 => delete_medium(tx, number),
-        3 => delete_attribute(tx, number),
-        _ => Err(Fault::StoreFault),
+    if kind == TILE {
+        return delete_tile(tx, number);
     }
+    if kind == MEDIUM {
+        return delete_medium(tx, number);
+    }
+    if kind == ROW {
+        return delete_attribute(tx, number);
+    }
+    Err(Fault::StoreFault)
 }
 
 /// Takes out the row of a user table and its identity.
