@@ -3,3 +3,4 @@ pub mod Deleting
 pub mod Linking
 pub mod Finding
 pub mod Dropping
+pub mod Joining

@@ -18,6 +18,7 @@ use Rattle.sheet_types.specs.declared.command.Mapping.TheVariants.{TilesMedia, R
 use Rattle.sheet_types.specs.declared.command.Relation.{Relation}
 use Rattle.package_tables.specs.Shapes.{tile_shape, medium_shape, attribute_shape, identity_shape, tiles_media_shape, rows_media_shape}
 use Rattle.package_tables.specs.Package.{Tables}
+use Rattle.package_tables.specs.Changes.{AddsTilesMedia, AddsRowsMedia, DropsTilesMedia, DropsRowsMedia}
 use Rattle.package_tables.specs.declared.rows.TileRow.{TileRow}
 use Rattle.package_tables.specs.declared.rows.MediaRow.{MediaRow}
 use Rattle.package_tables.specs.declared.rows.AttributeRow.{AttributeRow}
@@ -142,3 +143,13 @@ DropsRows kind number before after = after ≡ without_identity kind number (wit
 -- the identity row of a UUID
 abbrev pub IsRowOf : List ℕ → Tables → IdentityRow → Type 0
 IsRowOf id t r = Contains t.identities r × (bytes_eq r.uuid (uuid_text id) ≡ true)
+
+-- a mapping row comes in, where no row has its ends
+abbrev pub AddsLink : Mapping → ℤ → ℤ → Tables → Tables → Type 0
+AddsLink TilesMedia base related before after = AddsTilesMedia (record { base_id = base; related_id = related }) before after
+AddsLink RowsMedia base related before after = AddsRowsMedia (record { base_id = base; related_id = related }) before after
+
+-- the mapping row of these ends goes
+abbrev pub DropsLink : Mapping → ℤ → ℤ → Tables → Tables → Type 0
+DropsLink TilesMedia base related before after = DropsTilesMedia base related before after
+DropsLink RowsMedia base related before after = DropsRowsMedia base related before after
