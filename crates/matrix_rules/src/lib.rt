@@ -5,3 +5,6 @@ pub mod check;
 pub mod ground;
 pub mod reach;
 pub mod spans;
+
+#[cfg(test)]
+mod tests;
