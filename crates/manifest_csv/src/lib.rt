@@ -1,4 +1,5 @@
 //! Lists as CSV (RFC 4180, as the crate `csv` reads it): request lists, reports and manifests.
 #![tactic(auto)]
 
+pub mod fields;
 pub mod records;

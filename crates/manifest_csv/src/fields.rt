@@ -1,0 +1,42 @@
+// The fields of one record, column by column.
+ghost use Rattle.std.specs.Prelude.{◌≡◌, ◌≢◌, ◌↔◌, ℤ, FitsSigned, IsTrue, IfSome, IfNone, Some};
+ghost use Rattle.std.specs.Int.{w64};
+ghost use Rattle.std.specs.Option.{option_and_then};
+ghost use Rattle.uuid.specs.Text.{parsed_hyphenated};
+ghost use Rattle.csv.specs.Records.{field_at, fields_of};
+ghost use Rattle.manifest_csv.specs.Requests.{IsNumberAt, IsTextAt};
+
+use csv::StringRecord;
+use sheet_types::reading::{read_number, read_uuid};
+use uuid::Uuid;
+
+/// The UUID of this column, in the hyphenated form (RFC 9562, section 4).
+pub fn uuid_at(row: &StringRecord, column: usize) -> Option<Uuid>
+    ensures { result ≡ option_and_then parsed_hyphenated (field_at (fields_of row.now) column) }
+{
+    match row.get(column) {
+        Some(text) => read_uuid(text),
+        None => None,
+    }
+}
+
+/// The number of this column, in plain decimal within 64 bits.
+pub fn number_at(row: &StringRecord, column: usize) -> Option<i64>
+    ensures some { IfSome result (λ number. IsNumberAt (fields_of row.now) column number) }
+    ensures none { IfNone result ((number : ℤ) → ¬ IsNumberAt (fields_of row.now) column number) }
+{
+    match row.get(column) {
+        Some(text) => read_number(text),
+        None => None,
+    }
+}
+
+/// Whether this column has this text.
+pub fn has_text(row: &StringRecord, column: usize, text: &str) -> bool
+    ensures { IsTrue result ↔ IsTextAt (fields_of row.now) column text.now }
+{
+    match row.get(column) {
+        Some(field) => field == text,
+        None => false,
+    }
+}
