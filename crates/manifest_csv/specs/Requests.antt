@@ -1,7 +1,6 @@
 -- Which record of a list is which request (profile, over RFC 9562 for UUIDs).
-use Rattle.std.specs.Prelude.{◌≡◌, ℕ, Bool, true, false, ℤ, FitsSigned, List, [], ◌∷◌, length, Option, Some, None, Ok, codes}
+use Rattle.std.specs.Prelude.{◌≡◌, ℕ, Bool, true, false, ℤ, FitsSigned, All, List, [], ◌∷◌, length, Option, Some, None, Ok, codes}
 use Rattle.std.specs.Int.{w64}
-use Rattle.std.specs.List.{AllByRecursion}
 use Rattle.std.specs.Option.{option_and_then}
 use Rattle.std.specs.Fmt.{signed_decimal}
 use Rattle.uuid.specs.Text.{parsed_hyphenated}
@@ -40,7 +39,7 @@ pub record IsHexAt (fields : List (List ℕ)) (column : ℕ) (bytes : List ℕ) 
 
 -- these columns are empty
 abbrev pub AreEmpty : List (List ℕ) → List ℕ → Type 0
-AreEmpty fields columns = AllByRecursion (λ column. IsTextAt fields column []) columns
+AreEmpty fields columns = All (λ column. IsTextAt fields column []) columns
 
 -- the fields of a content, and that those of other contents are empty
 abbrev pub IsContent : List (List ℕ) → Content → Type 0

@@ -1,13 +1,16 @@
 // The fields of one record, column by column.
-ghost use Rattle.std.specs.Prelude.{◌≡◌, ◌≢◌, ◌↔◌, ℤ, FitsSigned, IsTrue, IfSome, IfNone, Some};
+ghost use Rattle.std.specs.Prelude.{◌≡◌, ◌↔◌, ℕ, ℤ, List, IfOk, FitsSigned, IsTrue, IfSome, IfNone, Some};
 ghost use Rattle.std.specs.Int.{w64};
 ghost use Rattle.std.specs.Option.{option_and_then};
 ghost use Rattle.uuid.specs.Text.{parsed_hyphenated};
 ghost use Rattle.csv.specs.Records.{field_at, fields_of};
-ghost use Rattle.manifest_csv.specs.Requests.{IsNumberAt, IsTextAt};
+ghost use Rattle.manifest_csv.specs.Requests.{AreEmpty, IsHexAt, IsNumberAt, IsTextAt};
 
 use csv::StringRecord;
+use hex::FromHexError;
+use sheet_types::error::OutOfMemory;
 use sheet_types::reading::{read_number, read_uuid};
+use std::alloc::Global;
 use uuid::Uuid;
 
 /// The UUID of this column, in the hyphenated form (RFC 9562, section 4).
@@ -38,5 +41,27 @@ pub fn has_text(row: &StringRecord, column: usize, text: &str) -> bool
     match row.get(column) {
         Some(field) => field == text,
         None => false,
+    }
+}
+
+/// Whether these columns are empty.
+pub fn are_empty(row: &StringRecord, columns: &[usize]) -> bool
+    ensures { IsTrue result ↔ AreEmpty (fields_of row.now) columns.now }
+{
+    columns.iter().all(|column| has_text(row, *column, ""))
+}
+
+/// The bytes of this column, in hexadecimal with an even number of digits in either case.
+pub fn hex_at(alloc: Global, row: &StringRecord, column: usize) -> Result<Option<Vec<u8>>, OutOfMemory>
+    ensures some { IfOk result (λ found. IfSome found (λ bytes. IsHexAt (fields_of row.now) column bytes.items)) }
+    ensures none { IfOk result (λ found. IfNone found ((bytes : List ℕ) → ¬ IsHexAt (fields_of row.now) column bytes)) }
+{
+    let Some(text) = row.get(column) else {
+        return Ok(None);
+    };
+    match hex::decode(alloc, text) {
+        Ok(bytes) => Ok(Some(bytes)),
+        Err(FromHexError::OutOfMemory) => Err(OutOfMemory),
+        Err(_) => Ok(None),
     }
 }

@@ -3,3 +3,4 @@
 
 pub mod fields;
 pub mod records;
+pub mod requests;
