@@ -5,11 +5,16 @@ ghost use Rattle.std.specs.Option.{option_and_then};
 ghost use Rattle.uuid.specs.Text.{parsed_hyphenated};
 ghost use Rattle.csv.specs.Records.{field_at, fields_of};
 ghost use Rattle.manifest_csv.specs.Requests.{AreEmpty, IsHexAt, IsNumberAt, IsTextAt};
+ghost use Rattle.sheet_types.specs.Texts.{mapping_word};
+ghost use Rattle.sheet_types.specs.declared.command.Mapping.{Mapping};
 
 use csv::StringRecord;
 use hex::FromHexError;
+use sheet_types::collections::Text;
+use sheet_types::command::Mapping;
 use sheet_types::error::OutOfMemory;
 use sheet_types::reading::{read_number, read_uuid};
+use sheet_types::words::read_mapping;
 use std::alloc::Global;
 use uuid::Uuid;
 
@@ -63,5 +68,27 @@ pub fn hex_at(alloc: Global, row: &StringRecord, column: usize) -> Result<Option
         Ok(bytes) => Ok(Some(bytes)),
         Err(FromHexError::OutOfMemory) => Err(OutOfMemory),
         Err(_) => Ok(None),
+    }
+}
+
+/// The mapping table that this column names.
+pub fn mapping_at(row: &StringRecord, column: usize) -> Option<Mapping>
+    ensures some { IfSome result (λ mapping. IsTextAt (fields_of row.now) column (mapping_word mapping)) }
+    ensures none { IfNone result ((mapping : Mapping) → ¬ IsTextAt (fields_of row.now) column (mapping_word mapping)) }
+{
+    match row.get(column) {
+        Some(text) => read_mapping(text),
+        None => None,
+    }
+}
+
+/// The text of this column, copied.
+pub fn text_at(alloc: Global, row: &StringRecord, column: usize) -> Result<Option<Text>, OutOfMemory>
+    ensures some { IfOk result (λ found. IfSome found (λ text. IsTextAt (fields_of row.now) column text)) }
+    ensures none { IfOk result (λ found. IfNone found ((text : List ℕ) → ¬ IsTextAt (fields_of row.now) column text)) }
+{
+    match row.get(column) {
+        Some(text) => Ok(Some(Text::from_string(text.to_string(alloc)?))),
+        None => Ok(None),
     }
 }
