@@ -1,13 +1,17 @@
 // Which request a record is.
-ghost use Rattle.std.specs.Prelude.{◌≡◌, ℕ, List, IfSome, IfNone};
+ghost use Rattle.std.specs.Prelude.{◌≡◌, ℕ, List, IfOk, IfSome, IfNone};
 ghost use Rattle.csv.specs.Records.{fields_of};
-ghost use Rattle.manifest_csv.specs.Requests.{IsCommand};
+ghost use Rattle.manifest_csv.specs.Requests.{IsCommand, IsContent};
 ghost use Rattle.sheet_types.specs.declared.command.Command.TheVariants as command;
+ghost use Rattle.sheet_types.specs.declared.command.Content.{Content};
 ghost use Rattle.sheet_types.specs.declared.command.Mapping.{Mapping};
 
+use crate::contents::{media_of, row_of, tile_of};
 use crate::fields::{are_empty, has_text, mapping_at, uuid_at};
 use csv::StringRecord;
-use sheet_types::command::Command;
+use sheet_types::command::{Command, Content};
+use sheet_types::error::OutOfMemory;
+use std::alloc::Global;
 
 /// The columns that a deletion leaves empty.
 const NOT_OF_DELETE: [usize; 13] = [5, 6, 7, 8, 9, 10, 11, 12, 13, 14, 15, 16, 17];
@@ -56,4 +60,41 @@ pub fn delete_of(row: &StringRecord) -> Option<Command>
     let package = uuid_at(row, 3)?;
     let identity = uuid_at(row, 4)?;
     Some(Command::Delete { package, identity })
+}
+
+/// The content that a record adds, whatever its kind.
+pub fn content_of(alloc: Global, row: &StringRecord) -> Result<Option<Content>, OutOfMemory>
+    ensures some { IfOk result (λ found. IfSome found (λ content. IsContent (fields_of row.now) content)) }
+    ensures none { IfOk result (λ found. IfNone found ((content : Content) → ¬ IsContent (fields_of row.now) content)) }
+{
+    if let Some(tile) = tile_of(alloc, row)? {
+        return Ok(Some(tile));
+    }
+    if let Some(medium) = media_of(alloc, row)? {
+        return Ok(Some(medium));
+    }
+    row_of(alloc, row)
+}
+
+/// The columns that every addition leaves empty.
+const NOT_OF_ADD: [usize; 2] = [5, 15];
+
+/// The addition that a record asks for.
+pub fn add_of(alloc: Global, row: &StringRecord) -> Result<Option<Command>, OutOfMemory>
+    ensures some { IfOk result (λ found. IfSome found (λ addition. IsCommand (fields_of row.now) addition)) }
+    ensures none { IfOk result (λ found. IfNone found ((target identity : List ℕ) (content : Content) → ¬ IsCommand (fields_of row.now) (command.Add target identity content))) }
+{
+    if !has_text(row, 2, "add") || !are_empty(row, &NOT_OF_ADD) {
+        return Ok(None);
+    }
+    let Some(package) = uuid_at(row, 3) else {
+        return Ok(None);
+    };
+    let Some(identity) = uuid_at(row, 4) else {
+        return Ok(None);
+    };
+    let Some(content) = content_of(alloc, row)? else {
+        return Ok(None);
+    };
+    Ok(Some(Command::Add { package, identity, content }))
 }
