@@ -5,3 +5,6 @@ pub mod contents;
 pub mod fields;
 pub mod records;
 pub mod requests;
+
+#[cfg(test)]
+mod tests;
