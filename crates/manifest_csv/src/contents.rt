@@ -42,7 +42,12 @@ pub fn tile_of(alloc: Global, row: &StringRecord) -> Result<Option<Content>, Out
         return Ok(None);
     };
     let bytes = Bytes::from_vec(data);
-    Ok(Some(Content::Tile { zoom, column, row: line, bytes }))
+    Ok(Some(Content::Tile {
+        zoom,
+        column,
+        row: line,
+        bytes,
+    }))
 }
 
 /// The medium that a record adds.
@@ -60,7 +65,10 @@ pub fn media_of(alloc: Global, row: &StringRecord) -> Result<Option<Content>, Ou
         return Ok(None);
     };
     let bytes = Bytes::from_vec(data);
-    Ok(Some(Content::Media { content_type, bytes }))
+    Ok(Some(Content::Media {
+        content_type,
+        bytes,
+    }))
 }
 
 /// The row that a record adds.

@@ -57,7 +57,11 @@ pub fn are_empty(row: &StringRecord, columns: &[usize]) -> bool
 }
 
 /// The bytes of this column, in hexadecimal with an even number of digits in either case.
-pub fn hex_at(alloc: Global, row: &StringRecord, column: usize) -> Result<Option<Vec<u8>>, OutOfMemory>
+pub fn hex_at(
+    alloc: Global,
+    row: &StringRecord,
+    column: usize,
+) -> Result<Option<Vec<u8>>, OutOfMemory>
     ensures some { IfOk result (λ found. IfSome found (λ bytes. IsHexAt (fields_of row.now) column bytes.items)) }
     ensures none { IfOk result (λ found. IfNone found ((bytes : List ℕ) → ¬ IsHexAt (fields_of row.now) column bytes)) }
 {
@@ -83,7 +87,11 @@ pub fn mapping_at(row: &StringRecord, column: usize) -> Option<Mapping>
 }
 
 /// The text of this column, copied.
-pub fn text_at(alloc: Global, row: &StringRecord, column: usize) -> Result<Option<Text>, OutOfMemory>
+pub fn text_at(
+    alloc: Global,
+    row: &StringRecord,
+    column: usize,
+) -> Result<Option<Text>, OutOfMemory>
     ensures some { IfOk result (λ found. IfSome found (λ text. IsTextAt (fields_of row.now) column text)) }
     ensures none { IfOk result (λ found. IfNone found ((text : List ℕ) → ¬ IsTextAt (fields_of row.now) column text)) }
 {

@@ -5,6 +5,5 @@ pub mod contents;
 pub mod fields;
 pub mod records;
 pub mod requests;
-
 #[cfg(test)]
 mod tests;

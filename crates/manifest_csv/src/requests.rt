@@ -34,7 +34,12 @@ pub fn link_of(row: &StringRecord) -> Option<Command>
     let mapping = mapping_at(row, 6)?;
     let base = uuid_at(row, 4)?;
     let media = uuid_at(row, 5)?;
-    Some(Command::Link { package, mapping, base, media })
+    Some(Command::Link {
+        package,
+        mapping,
+        base,
+        media,
+    })
 }
 
 /// The unlink that a record asks for.
@@ -50,7 +55,12 @@ pub fn unlink_of(row: &StringRecord) -> Option<Command>
     let mapping = mapping_at(row, 6)?;
     let base = uuid_at(row, 4)?;
     let media = uuid_at(row, 5)?;
-    Some(Command::Unlink { package, mapping, base, media })
+    Some(Command::Unlink {
+        package,
+        mapping,
+        base,
+        media,
+    })
 }
 
 /// The deletion that a record asks for.
@@ -102,7 +112,11 @@ pub fn add_of(alloc: Global, row: &StringRecord) -> Result<Option<Command>, OutO
     let Some(content) = content_of(alloc, row)? else {
         return Ok(None);
     };
-    Ok(Some(Command::Add { package, identity, content }))
+    Ok(Some(Command::Add {
+        package,
+        identity,
+        content,
+    }))
 }
 
 /// The command that a record asks for, where it is served.
