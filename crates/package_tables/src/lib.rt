@@ -1,4 +1,12 @@
 //! One package's tables as lists of typed rows: nothing above this crate speaks SQL.
 #![tactic(auto)]
 
+pub mod fault;
+pub mod fixed;
+pub mod head;
+pub mod moved;
+pub mod receipts;
+pub(crate) mod from_row;
+pub mod rows;
 pub mod schema;
+pub mod tiles;

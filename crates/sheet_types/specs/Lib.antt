@@ -2,10 +2,14 @@ pub mod Ordered
 pub mod Matrix
 pub mod Texts
 pub mod World
+pub mod Lines
 pub mod Custody
 pub mod Cut
 pub mod Refuse
 pub mod Step
 pub mod Balance
-pub mod Opening
 pub mod Register
+pub mod Opening
+pub mod Answers
+pub mod Reading
+pub mod Refusals

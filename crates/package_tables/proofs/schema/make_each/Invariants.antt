@@ -1,6 +1,6 @@
 use Rattle.std.specs.Prelude.{map, ◌≡◌, false}
 use Rattle.sqlite.specs.Held.{state}
-use Rattle.package_tables.proofs.Making.{Along}
+use Rattle.package_tables.proofs.SchemaMakes.{Along}
 use Rattle.package_tables.proofs.schema.make_each.Given as goal
 
 abbrev pub invariant-loop-text : goal.invariant-loop-text

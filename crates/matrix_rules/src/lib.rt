@@ -1,0 +1,7 @@
+//! Which sheets lie in a rectangle: the rules of a frame, the ground of a tile, and what is inside. OGC GeoPackage 1.3, tile matrix set and tile matrix; whole thousandths and the rules of a good frame are profile.
+#![tactic(auto)]
+
+pub mod check;
+pub mod ground;
+pub mod reach;
+pub mod spans;
