@@ -1,5 +1,5 @@
 -- Statements that make a schema, one after the other.
-use Rattle.std.proofs.Common.{◌≡◌, inl, inr, ℕ, zero, suc, ◌+◌, ◌<◌, List, [], ◌∷◌, drop, length, get_or, map, true, Ok, Err, Result, IfErr, IsTrue, IsUtf8, false, ◌≤◌, refl, sym, ap, subst, ◌∙◌, arith}
+use Rattle.std.proofs.Common.{◌≡◌, inl, inr, ℕ, zero, suc, ◌+◌, ◌<◌, List, [], ◌∷◌, drop, length, get_or, map, true, Ok, Err, Result, IfErr, IsErrAnd, IsTrue, IsUtf8, false, ◌≤◌, refl, sym, ap, subst, ◌∙◌, arith}
 use Rattle.std.proofs.lemmas.List.{drop_more, drop-map}
 use Rattle.std.proofs.lemmas.Bool.{false_from_ne_true, both_ways}
 use Rattle.sqlite_trees.specs.declared.error.StoreError.{StoreError}
@@ -74,9 +74,9 @@ left_on texts done mid new text last next left made =
     let more : ExtendsBy (text ∷ drop (done + 1) texts) left.0 last = subst (λ some. ExtendsBy some left.0 last) next left.2 in
     (more.0, made left.0 more.0 more.1 left.1, more.2)
 
-pub along_step : (texts : List (List ℕ)) (done : ℕ) (old mid new : State) (text : List ℕ) (count : ℕ) → drop done texts ≡ text ∷ drop (done + 1) texts → Along texts done old mid
-    → (HasCleanDisk new → mid.in_transaction ≡ true → WritesInside {X = ℕ} (Made text) mid new (Ok count)) → (HasCleanDisk new → KeepsCommit mid new) → Survives mid new (λ _. ⊥) → Along texts (done + 1) old new
-along_step texts done old mid new text count next so made kept survives =
+pub along_step : (texts : List (List ℕ)) (done : ℕ) (old mid new : State) (text : List ℕ) → drop done texts ≡ text ∷ drop (done + 1) texts → Along texts done old mid
+    → (HasCleanDisk new → mid.in_transaction ≡ true → WritesInside {X = Unit {0}} (Made text) mid new (Ok tt)) → (HasCleanDisk new → KeepsCommit mid new) → Survives mid new (λ _. ⊥) → Along texts (done + 1) old new
+along_step texts done old mid new text next so made kept survives =
     let was = λ (clean : HasCleanDisk new). let before : HasCleanDisk mid = omega (arith, survives.clean, clean) in before in
     let ran = λ (clean : HasCleanDisk new) (inside : old.in_transaction ≡ true). made clean (so.inside (was clean) inside) in record {
       kept = λ clean. keeps_then old mid new (so.kept (was clean)) (kept clean);
@@ -114,3 +114,8 @@ along_failed texts done old mid new text e next so clean inside fails first last
       ended = it.ended;
       undone = λ is_open. let was = it.undone is_open in (kept.was_open was.0, was.1 ∙ kept.committed was.0, was.2 ∙ kept.committed was.0);
     }
+
+-- an error that `?` passes on
+pub passed_on : (r : Result (Unit {0}) Error) (e : Error) → IsErrAnd r (λ x. x ≡ e) → r ≡ Err e
+passed_on (Ok done) e h = absurd h
+passed_on (Err x) e h = ap Err h

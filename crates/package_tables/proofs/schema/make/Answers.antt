@@ -1,6 +1,6 @@
 use Rattle.std.proofs.Common.{[], Ok, Err, rules}
 use Rattle.sqlite.specs.Held.{state}
-use Rattle.package_tables.proofs.Making.{made_inside, make_failed, passed_on}
+use Rattle.package_tables.proofs.SchemaMakes.{made_inside, make_failed, passed_on}
 use Rattle.package_tables.proofs.schema.make.Goals as goal
 
 pub returns-clause-made : goal.returns-clause-made

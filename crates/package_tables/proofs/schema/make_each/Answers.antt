@@ -1,7 +1,7 @@
 use Rattle.std.proofs.Common.{rules, arith, IfErr, map, refl, ◌∙◌, ap, sym, get_or, ◌∷◌, ◌+◌, drop}
 use Rattle.sqlite.specs.State.{HasCleanDisk}
 use Rattle.sqlite.specs.Held.{state}
-use Rattle.package_tables.proofs.Making.{along_step, along_failed, mapped_more, passed_on}
+use Rattle.package_tables.proofs.SchemaMakes.{along_step, along_failed, mapped_more, passed_on}
 use Rattle.package_tables.proofs.schema.make_each.Goals as goal
 
 pub loop-text-preserved : goal.loop-text-preserved
