@@ -6,7 +6,7 @@ ghost use Rattle.sqlite.specs.Held.{state};
 ghost use Rattle.sql_meaning.specs.Writing.{WritesInside};
 ghost use Rattle.sql_meaning.specs.Blank.{IsBlank, no_schema};
 ghost use Rattle.package_tables.specs.SchemaMaking.{Made, MadeBy, ChangedInside, FailsToMake, FailsToMakeBy, FailsInside};
-ghost use Rattle.package_tables.specs.SchemaMade.{IsNewPackage};
+ghost use Rattle.package_tables.specs.SchemaMade.{BecomesPackage};
 
 use sqlite::{Alter, Error, ErrorCode, Transaction};
 
@@ -127,7 +127,7 @@ fn make_each<S: Alter>(tx: &mut Transaction<'_, S>, texts: &[&str]) -> Result<()
 /// connection was shut before. The transaction is rolled back then. Where it had ended before the call, the error is `TransactionState`.
 pub fn create_schema<S: Alter>(tx: &mut Transaction<'_, S>) -> Result<(), Error>
     ensures same_reference { tx.new.conn.ghost_name ≡ tx.old.conn.ghost_name }
-    ensures made { HasCleanDisk (state S.Store tx.new.conn.now) → tx.old.conn.now.in_transaction ≡ true → IsBlank no_schema (state S.Store tx.old.conn.now).now → OnOk result (ChangedInside (λ _ db. IsNewPackage db) (state S.Store tx.old.conn.now) (state S.Store tx.new.conn.now)) }
+    ensures made { HasCleanDisk (state S.Store tx.new.conn.now) → tx.old.conn.now.in_transaction ≡ true → OnOk result (ChangedInside BecomesPackage (state S.Store tx.old.conn.now) (state S.Store tx.new.conn.now)) }
     ensures failed { HasCleanDisk (state S.Store tx.new.conn.now) → tx.old.conn.now.in_transaction ≡ true → IsBlank no_schema (state S.Store tx.old.conn.now).now → IfErr result (FailsInside (state S.Store tx.old.conn.now) (state S.Store tx.new.conn.now)) }
     ensures ended { tx.old.conn.now.in_transaction ≡ false → (result ≡ Err (Error.SqliteFailure ErrorCode.TransactionState)) × (tx.new.conn.now ≡ tx.old.conn.now) }
     ensures kept { HasCleanDisk (state S.Store tx.new.conn.now) → KeepsCommit (state S.Store tx.old.conn.now) (state S.Store tx.new.conn.now) }
