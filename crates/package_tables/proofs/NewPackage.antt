@@ -1,5 +1,5 @@
 -- A new package has the form of a package, and no rows.
-use Rattle.std.proofs.Common.{◌≡◌, ℕ, List, [], Ok, Err, Result, OnOk, IfErr, true, refl, sym, subst}
+use Rattle.std.proofs.Common.{◌≡◌, [], Ok, Err, Result, OnOk, IfErr, true, refl, sym, subst}
 use Rattle.std.specs.List.{AllByRecursion}
 use Rattle.sqlite.specs.Table.{Table}
 use Rattle.sqlite.specs.Schema.{Schema}
@@ -9,7 +9,7 @@ use Rattle.sqlite_schema.specs.Names.{same_name}
 use Rattle.sql_meaning.specs.Known.{IsQuiet}
 use Rattle.sql_meaning.specs.Blank.{IsBlank, no_schema}
 use Rattle.package_tables.specs.Tables.{gpkg_spatial_ref_sys, gpkg_contents, gpkg_tile_matrix_set, gpkg_tile_matrix, gpkgext_relations, sheet_tiles, sheet_media, sheet_rows, tiles_media, rows_media, sheet_package, sheet_identity, sheet_receipts, sheet_items}
-use Rattle.package_tables.specs.Form.{IsPlaced, HasForm, tree_named, rows_named}
+use Rattle.package_tables.specs.Form.{IsPlaced, HasForm, tree_named}
 use Rattle.package_tables.specs.Shape.{Shape, IsFormed, stored_rows, rows_of}
 use Rattle.package_tables.specs.Shapes.{spatial_ref_sys_shape, contents_shape, tile_matrix_set_shape, tile_matrix_shape, relation_shape, tile_shape, medium_shape, attribute_shape, tiles_media_shape, rows_media_shape, head_shape, identity_shape, receipt_shape, moved_shape}
 use Rattle.package_tables.specs.Package.{tables_of, AreFormed}

@@ -1,11 +1,10 @@
 -- Statements that make a schema, one after the other.
-use Rattle.std.proofs.Common.{◌≡◌, inl, inr, ℕ, zero, suc, ◌+◌, ◌<◌, List, [], ◌∷◌, drop, length, get_or, map, true, Ok, Err, Result, IfErr, IsErrAnd, IsTrue, IsUtf8, false, ◌≤◌, refl, sym, ap, subst, ◌∙◌, arith}
+use Rattle.std.proofs.Common.{◌≡◌, inl, inr, ℕ, ◌+◌, ◌<◌, List, [], ◌∷◌, drop, length, get_or, map, true, Ok, Err, Result, IfErr, IsErrAnd, IsTrue, IsUtf8, ◌≤◌, refl, sym, ap, subst, ◌∙◌, arith}
 use Rattle.std.proofs.lemmas.List.{drop_more, drop-map}
 use Rattle.std.proofs.lemmas.Bool.{false_from_ne_true, both_ways}
 use Rattle.sqlite_trees.specs.declared.error.StoreError.{StoreError}
 use Rattle.sqlite_trees.specs.declared.error.StoreError.TheVariants.{OutOfMemory, Io, Corrupt, Full, Broken, Unstorable}
 use Rattle.sql_meaning.proofs.Making.{table_fails, index_fails}
-use Rattle.sqlite.specs.Table.{Table}
 use Rattle.sqlite.specs.Schema.{Schema}
 use Rattle.sqlite.specs.declared.error.Error.{Error}
 use Rattle.sqlite.specs.Effect.{Database}
@@ -17,7 +16,7 @@ use Rattle.sql_meaning.specs.Blank.{IsFree, IsBlank}
 use Rattle.sql_meaning.specs.Writing.{WritesInside}
 use Rattle.sql_meaning.proofs.Create.{whole}
 use Rattle.sql_meaning.proofs.Indexes.{makes_index, blank_after}
-use Rattle.package_tables.specs.SchemaMaking.{Extends, ExtendsBy, Made, MadeBy, ChangedInside, FailsInside, FailsToMake, FailsToMakeBy}
+use Rattle.package_tables.specs.SchemaMaking.{ExtendsBy, Made, FailsInside, FailsToMake, FailsToMakeBy}
 
 one_made : (old new : State) (text : List ℕ) (count : ℕ) → Executes text [] old new (Ok count) → Made text old.now new.now
 one_made old new text count h first last (inl it) blank = subst (λ (s : Schema). IsBlank s new.now) (sym it.4) (whole old new text count h first it.0 it.1 it.2 blank)

@@ -1,4 +1,7 @@
 //! The tables and indexes of a new package.
+//!
+//! `create_schema` is one step of a transaction. It tells the whole schema, so that each statement of this crate may be run on it.
+//! An edit of a text needs its facts anew: `tools/schema_facts.py` writes proofs/Texts, and the check decides.
 
 ghost use Rattle.std.specs.Prelude.{◌≡◌, ◌<◌, true, false, length, map, Err, IfErr, OnOk};
 ghost use Rattle.sqlite.specs.State.{HasCleanDisk, KeepsCommit, Survives};

@@ -1,4 +1,4 @@
-use Rattle.std.proofs.Common.{[], Ok, Err, rules}
+use Rattle.std.proofs.Common.{Ok, Err}
 use Rattle.sqlite.specs.Held.{state}
 use Rattle.package_tables.proofs.SchemaMakes.{made_inside, make_failed, passed_on}
 use Rattle.package_tables.proofs.schema.make.Goals as goal
