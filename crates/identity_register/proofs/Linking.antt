@@ -173,9 +173,10 @@ module _ (f : Frame) (p : Package) (t : Tables) (says : Says f p t) where
       let long : (x : Numbered) → In x ns → length x.item.identity ≡ 16 = λ x i. uuid_length x.item.identity (All-In (λ y. IsUuid y.item.identity) x ns says.numbers.uuids i) in
       let places = All-In (λ y. bytes_eq (place_in_tables y) (place_in_tables n.0) ≡ bytes_eq y.item.identity n.0.item.identity) m.0 ns (same_tests place_in_tables (λ y. y.item.identity) n.0 ns says.numbers.numbers says.numbers.identities n.1) m.1 in
       let kinds : (kind_number (kind_of m.0.item.content) == kind_number (kind_of n.0.item.content)) ≡ true = eq-eqb (kind_number (kind_of m.0.item.content)) (kind_number (kind_of n.0.item.content)) (m.2 ∙ sym n.2) in
-      let place_is : bytes_eq (place_in_tables m.0) (place_in_tables n.0) ≡ (unsigned_abs m.0.number == unsigned_abs n.0.number) = place_test (kind_number (kind_of m.0.item.content) == kind_number (kind_of n.0.item.content)) (unsigned_abs m.0.number == unsigned_abs n.0.number) kinds in
-      (rw (m.4, n.4) (same_number m.0.number n.0.number (in_range m.0 m.1) (in_range n.0 n.1)) ∙ sym place_is ∙ places ∙ rw (m.3, n.3) refl,
-      ap length (sym m.3) ∙ long m.0 m.1 ∙ sym (long n.0 n.1) ∙ ap length n.3)
+      let place_is : bytes_eq (place_in_tables m.0) (place_in_tables n.0) ≡ (unsigned_abs m.0.number == unsigned_abs n.0.number) = place_test (kind_number (kind_of m.0.item.content) == kind_number (kind_of n.0.item.content)) (unsigned_abs m.0.number == unsigned_abs n.0.number) kinds in (
+        rw (m.4, n.4) (same_number m.0.number n.0.number (in_range m.0 m.1) (in_range n.0 n.1)) ∙ sym place_is ∙ places ∙ rw (m.3, n.3) refl,
+        ap length (sym m.3) ∙ long m.0 m.1 ∙ sym (long n.0 n.1) ∙ ap length n.3,
+      )
     where
       place_test : (x y : Bool) → x ≡ true → (x && (y && true)) ≡ y
       place_test true true h = refl

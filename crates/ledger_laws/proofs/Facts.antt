@@ -1,20 +1,27 @@
 -- What a sound ledger says of each thing that it names, and what a register says of each thing that it holds.
-use Rattle.std.specs.Prelude.{◌≡◌, ℕ, ◌≤◌, ◌<◌, ◌==◌, Bool, true, false, ◌||◌, List, [], ◌∷◌, ◌++◌, map, filter, find, length, refl, bytes_eq, Option, Some, None, count_by, slice_index}
+use Rattle.std.specs.Prelude.{is_some, unwrap_or, if◌then◌else◌, pos, ◌&&◌, ◌≡◌, ℕ, ◌≤◌, ◌<◌, ◌==◌, Bool, true, false, ◌||◌, List, [], ◌∷◌, ◌++◌, map, find, length, refl, bytes_eq, Option, Some, None, count_by, slice_index}
 use Rattle.std.proofs.Common.{sym, ap, subst, ◌∙◌, arith, length-append}
 use Rattle.std.proofs.lemmas.List.{append-nil}
-use Rattle.std.proofs.lemmas.List.Elements.{All-contains, All-from_recursion}
 use Rattle.std.proofs.lemmas.Map.Keys.{IsDistinct-head, IsDistinct-tail}
-use Rattle.std.proofs.lemmas.Bool.{true≢false, or_parts, lt-ltb, MatchBool-at_false}
+use Rattle.std.proofs.lemmas.Bool.{lt-ltb, false≢true, and_parts, eqb-true, MatchBool-at_false}
 use Rattle.std.proofs.lemmas.Slice.Eq.{bytes_eq-Decides}
 use Rattle.std.specs.List.{list_any, AllByRecursion, IsDistinct}
-use Rattle.std.specs.Option.{option_and_then}
-use Rattle.sheet_types.specs.Ordered.{has, is_before, IsArranged, last_of}
+use Rattle.sheet_types.specs.Ordered.{has, is_before, IsArranged}
 use Rattle.sheet_types.specs.Texts.{Entry, Adds, Deletes, Links, Unlinks, Splits, Merges}
 use Rattle.sheet_types.specs.World.{World, Package, receipt_key, receipts_of, holdings, is_live, item_moved, link_moved, moved_thing, moved_key, item_thing, item_key, link_key, link_kind, is_item_kind}
-use Rattle.sheet_types.specs.Custody.{names, custody}
+use Rattle.sheet_types.specs.Custody.{names, custody, is_add}
+use Rattle.sheet_types.specs.Lines.{is_uuid, is_number, is_bytes, is_adding}
+use Rattle.sheet_types.proofs.LineReading.{line-entry_from}
+use Rattle.sheet_types.specs.declared.receipt.MovedKind.{MovedKind}
+use Rattle.sheet_types.specs.Balance.{names_as}
+use Rattle.ledger_laws.proofs.Ledger.{by_entry}
+use Rattle.sheet_types.proofs.Basics.{or-false, or-true}
+use Rattle.sheet_types.specs.World.{thing_number, kind_number}
+use Rattle.sheet_types.specs.Texts.{size, fingerprint}
 use Rattle.sheet_types.specs.Cut.{identities, moved_of}
 use Rattle.sheet_types.specs.Step.{added_item}
-use Rattle.sheet_types.specs.Balance.{Balanced, IsLedger, MayFollow, IsReceiptOf, IsThing, Agrees, archive_of, holds, IsUnaltered}
+use Rattle.ledger_laws.proofs.Contents.{IsUnaltered}
+use Rattle.sheet_types.specs.Balance.{Balanced, IsLedger, IsReceiptOf, IsThing, Agrees, archive_of, holds}
 use Rattle.sheet_types.specs.Register.{IsRegister, IsKeptPackage}
 use Rattle.sheet_types.specs.declared.command.Content.{Content}
 use Rattle.sheet_types.specs.declared.command.Content.TheVariants.{Tile, Media, Row}
@@ -24,14 +31,18 @@ use Rattle.sheet_types.specs.declared.command.Mapping.TheVariants.{TilesMedia, R
 use Rattle.sheet_types.specs.declared.command.Relation.{Relation}
 use Rattle.sheet_types.specs.declared.receipt.Moved.{Moved}
 use Rattle.sheet_types.specs.declared.receipt.Receipt.{Receipt}
-use Rattle.sheet_types.proofs.Order.{before_numbers}
-use Rattle.ledger_laws.proofs.Adding.{bytes_eq_itself, All-weaker, All-left, All-right, All-snoc, None≢Some, item_kind_by_number, thing_of}
-use Rattle.ledger_laws.proofs.Listing.{bytes_eq_swap, All-both, All-append, All-map, All-each, found, All-found, any_none, count-cons, count_none, counts_arranged}
+use Rattle.sheet_types.proofs.Order.{before_numbers, counts_arranged}
+use Rattle.sheet_types.proofs.Basics.{bytes_eq_itself, bytes_eq_swap}
+use Rattle.sheet_types.proofs.Every.{All-weaker, All-left, All-right, All-both, All-append, All-map, All-each, All-of_map}
+use Rattle.ledger_laws.proofs.Ledger.{item_kind_by_number, thing_of}
+use Rattle.sheet_types.proofs.Found.{found, All-found}
+use Rattle.sheet_types.proofs.Sums.{any_none, count-cons, count_none}
 use Rattle.ledger_laws.proofs.Packages.{at_all, holdings_none}
 use Rattle.ledger_laws.proofs.Shifting.{weighed, counting, count_items, count_links, thing_item, thing_link}
 
 -- ---- in the ledger: order, ranges, and one size and digest for one thing
 
+-- each number is past those before
 ledger_above : (archive : List ℕ) (past rs : List Receipt) → IsLedger archive past rs → AllByRecursion (λ s. length past < s.seq) rs
 ledger_above archive past [] h = tt
 ledger_above archive past (r ∷ rs) h = (
@@ -39,6 +50,7 @@ ledger_above archive past (r ∷ rs) h = (
   All-weaker (λ s. length (past ++ r ∷ []) < s.seq) (λ s. length past < s.seq) (λ s lt. omega (arith, lt, length-append past (r ∷ []))) rs (ledger_above archive (past ++ r ∷ []) rs h.1),
 )
 
+-- a sound ledger is in the order of its numbers
 pub ledger_arranged : (archive : List ℕ) (past rs : List Receipt) → IsLedger archive past rs → IsArranged receipt_key rs
 ledger_arranged archive past [] h = tt
 ledger_arranged archive past (r ∷ rs) h = (
@@ -47,10 +59,12 @@ ledger_arranged archive past (r ∷ rs) h = (
   ledger_arranged archive (past ++ r ∷ []) rs h.1,
 )
 
+-- a sound ledger names things alone
 pub ledger_things : (archive : List ℕ) (past rs : List Receipt) → IsLedger archive past rs → AllByRecursion (λ s. AllByRecursion IsThing s.items) rs
 ledger_things archive past [] h = tt
 ledger_things archive past (r ∷ rs) h = (h.0.things, ledger_things archive (past ++ r ∷ []) rs h.1)
 
+-- agreement goes both ways
 agrees_back : (m n : Moved) → Agrees m n → Agrees n m
 agrees_back m n h = λ same. let e : (m.size ≡ n.size) × (m.fingerprint ≡ n.fingerprint) = h (bytes_eq_swap (moved_thing n) (moved_thing m) ∙ same) in (sym e.0, sym e.1)
 
@@ -63,9 +77,11 @@ later_agree archive m s alone past (r ∷ rs) h in_past = (
   later_agree archive m s alone (past ++ r ∷ []) rs h.1 (λ Q g. in_past Q (All-left Q past (r ∷ []) g)),
 )
 
+-- a thing agrees with all that receipts name
 abbrev AgreeAll : Moved → List Receipt → Type 0
 AgreeAll m rs = AllByRecursion (λ t. AllByRecursion (Agrees m) t.items) rs
 
+-- what a receipt of one thing names agrees with the whole ledger
 single_agree : (archive : List ℕ) (past rs : List Receipt) → IsLedger archive past rs → AllByRecursion (λ s. (m : Moved) → s.items ≡ m ∷ [] → AgreeAll m past × AgreeAll m rs) rs
 single_agree archive past [] h = tt
 single_agree archive past (r ∷ rs) h = (
@@ -80,93 +96,102 @@ single_agree archive past (r ∷ rs) h = (
       rs (single_agree archive (past ++ r ∷ []) rs h.1),
 )
 
+-- the entry of each receipt
+pub ledger_entered : (archive : List ℕ) (past rs : List Receipt) → IsLedger archive past rs → AllByRecursion (λ s. (e : Entry) × IsReceiptOf s e) rs
+ledger_entered archive past [] h = tt
+ledger_entered archive past (r ∷ rs) h = (h.0.entered, ledger_entered archive (past ++ r ∷ []) rs h.1)
+
+-- an Add receipt names one thing, which is an item
+added_thing : (r : Receipt) (e : Entry) → IsReceiptOf r e → is_add r ≡ true → (m : Moved) × (r.items ≡ m ∷ []) × (is_item_kind m.kind ≡ true) × (m.other ≡ None) × (is_some m.fingerprint ≡ true)
+added_thing r (Adds p identity kind size digest) of add =
+    let fit : (is_uuid p && is_uuid identity && is_item_kind kind && is_number (pos size) && is_bytes 32 digest) ≡ true = (line-entry_from r.line (Adds p identity kind size digest) of.says).0 in
+    let upto : ((is_uuid p && is_uuid identity && is_item_kind kind && is_number (pos size)) ≡ true) × (is_bytes 32 digest ≡ true) = and_parts (is_uuid p && is_uuid identity && is_item_kind kind && is_number (pos size)) (is_bytes 32 digest) fit in
+    let item : is_item_kind kind ≡ true = (and_parts (is_uuid p && is_uuid identity) (is_item_kind kind) (and_parts (is_uuid p && is_uuid identity && is_item_kind kind) (is_number (pos size)) upto.0).0).1 in
+    (record { kind = kind; base = identity; other = None; size = size; fingerprint = Some digest }, of.moves, item, refl, refl)
+added_thing r (Deletes p identity) of add = absurd (false≢true (sym (by_entry is_adding r (Deletes p identity) of.says) ∙ add))
+added_thing r (Links p mapping base media) of add = absurd (false≢true (sym (by_entry is_adding r (Links p mapping base media) of.says) ∙ add))
+added_thing r (Unlinks p mapping base media) of add = absurd (false≢true (sym (by_entry is_adding r (Unlinks p mapping base media) of.says) ∙ add))
+added_thing r (Splits p child mode rect) of add = absurd (false≢true (sym (by_entry is_adding r (Splits p child mode rect) of.says) ∙ add))
+added_thing r (Merges child into ticket) of add = absurd (false≢true (sym (by_entry is_adding r (Merges child into ticket) of.says) ∙ add))
+
+-- a digest that is there and equal
+digest_is : (o : Option (List ℕ)) (d : List ℕ) → is_some o ≡ true → bytes_eq (unwrap_or o []) d ≡ true → o ≡ Some d
+digest_is None d h e = absurd (false≢true h)
+digest_is (Some x) d h e = ap Some ((bytes_eq-Decides x d).0 e)
+
+-- an item is the thing of number 0
+item_number : (kind : MovedKind) → is_item_kind kind ≡ true → thing_number kind ≡ 0
+item_number kind h = ap (λ b. if b then 0 else kind_number kind) h
+
+-- what a receipt names with an item's identity, size and digest agrees as the item does
+agrees_as : (i : Item) (m n : Moved) → is_item_kind m.kind ≡ true → m.other ≡ None → is_some m.fingerprint ≡ true → names_as i m ≡ true → Agrees m n → Agrees (item_moved i) n
+agrees_as i m n item alone some names agrees same =
+    let two : ((bytes_eq m.base i.identity && (m.size == size i.content)) ≡ true) × (bytes_eq (unwrap_or m.fingerprint []) (fingerprint i.content) ≡ true) = and_parts (bytes_eq m.base i.identity && (m.size == size i.content)) (bytes_eq (unwrap_or m.fingerprint []) (fingerprint i.content)) names in
+    let one : (bytes_eq m.base i.identity ≡ true) × ((m.size == size i.content) ≡ true) = and_parts (bytes_eq m.base i.identity) (m.size == size i.content) two.0 in
+    let thing : moved_thing m ≡ item_thing i = (λ j. item_number m.kind item j ∷ (bytes_eq-Decides m.base i.identity).0 one.0 j ++ unwrap_or (alone j) []) ∙ ap (λ zs. 0 ∷ zs) (append-nil i.identity) in
+    let is : (m.size ≡ n.size) × (m.fingerprint ≡ n.fingerprint) = agrees (ap (bytes_eq (moved_thing n)) (thing ∙ sym (thing_item i)) ∙ same) in
+    (sym (eqb-true m.size (size i.content) one.1) ∙ is.0, sym (digest_is m.fingerprint (fingerprint i.content) some two.1) ∙ is.1)
+
 -- what is unaltered agrees with all that the ledger says
 pub unaltered_agrees : (w : World) (i : Item) → IsLedger (archive_of w) [] (receipts_of w) → IsUnaltered w i → AllByRecursion (λ t. AllByRecursion (Agrees (item_moved i)) t.items) (receipts_of w)
 unaltered_agrees w i sound h =
-    (All-contains (λ s. (m : Moved) → s.items ≡ m ∷ [] → AgreeAll m [] × AgreeAll m (receipts_of w)) (receipts_of w) h.0
-    (All-from_recursion (λ s. (m : Moved) → s.items ≡ m ∷ [] → AgreeAll m [] × AgreeAll m (receipts_of w)) (receipts_of w) (single_agree (archive_of w) [] (receipts_of w) sound)) h.1 (item_moved i) h.3).1
+    let says : Receipt → Bool = λ s. is_add s && list_any (names_as i) s.items in
+    let Single : Receipt → Type 0 = λ s. (m : Moved) → s.items ≡ m ∷ [] → AgreeAll m [] × AgreeAll m (receipts_of w) in
+    let Both : Receipt → Type 0 = λ s. ((e : Entry) × IsReceiptOf s e) × Single s in
+    let s : (s : Receipt) × (find says (receipts_of w) ≡ Some s) = found says (receipts_of w) h in
+    let of : Both s.0 × (says s.0 ≡ true) = All-found Both says s.0 (receipts_of w) s.1
+    (All-both (λ x. (e : Entry) × IsReceiptOf x e) Single Both (λ x a b. (a, b)) (receipts_of w) (ledger_entered (archive_of w) [] (receipts_of w) sound) (single_agree (archive_of w) [] (receipts_of w) sound)) in
+    let tests : (is_add s.0 ≡ true) × (list_any (names_as i) s.0.items ≡ true) = and_parts (is_add s.0) (list_any (names_as i) s.0.items) of.1 in
+    let m : (m : Moved) × (s.0.items ≡ m ∷ []) × (is_item_kind m.kind ≡ true) × (m.other ≡ None) × (is_some m.fingerprint ≡ true) = added_thing s.0 of.0.0.0 of.0.0.1 tests.0 in
+    let names : names_as i m.0 ≡ true = sym (or-false (names_as i m.0)) ∙ sym (ap (list_any (names_as i)) m.1) ∙ tests.1 in
+    All-weaker (λ t. AllByRecursion (Agrees m.0) t.items) (λ t. AllByRecursion (Agrees (item_moved i)) t.items)
+    (λ t. All-weaker (Agrees m.0) (Agrees (item_moved i)) (λ n. agrees_as i m.0 n m.2 m.3 m.4 names) t.items) (receipts_of w) (of.0.1 m.0 m.1).1
 
--- a thing that has stood somewhere was named
-pub named_before : (thing p : List ℕ) (past : List Receipt) → custody past thing ≡ Some p → list_any (names thing) past ≡ true
-named_before thing p past at =
-    elim (list_any (names thing) past) as (λ v. list_any (names thing) past ≡ v → v ≡ true) [
-      | true ↦ λ _. refl
-      | false ↦ λ none. absurd (None≢Some (sym (ap (λ rs. option_and_then (λ r. r.target) (last_of rs)) (none_kept past none)) ∙ at))
-    ] refl
-  where
-    none_kept : (rs : List Receipt) → list_any (names thing) rs ≡ false → filter (names thing) rs ≡ []
-    none_kept [] h = refl
-    none_kept (r ∷ rs) h = let parts : (names thing r ≡ false) × (list_any (names thing) rs ≡ false) = or_parts (names thing r) (list_any (names thing) rs) h in rw parts.0 (none_kept rs parts.1)
-
--- a link has no digest
-abbrev pub HasNoDigest : Moved → Type 0
-HasNoDigest m = is_item_kind m.kind ≡ false → m.fingerprint ≡ None
-
+-- one thing is an item or a link
 same_kind : (m n : Moved) → bytes_eq (moved_thing n) (moved_thing m) ≡ true → is_item_kind n.kind ≡ is_item_kind m.kind
 same_kind m n same = item_kind_by_number n.kind ∙ ap (λ k. k == 0) (ap (λ zs. slice_index zs 0) ((bytes_eq-Decides (moved_thing n) (moved_thing m)).0 same)) ∙ sym (item_kind_by_number m.kind)
 
-no_digest_taken : (past : List Receipt) (p : List ℕ) (source : Option (List ℕ)) → source ≡ Some p → AllByRecursion (λ s. AllByRecursion HasNoDigest s.items) past → (ms : List Moved) → AllByRecursion (λ m. custody past (moved_thing m) ≡ source) ms
-    → AllByRecursion (λ m. AllByRecursion (λ x. AllByRecursion (Agrees m) x.items) past) ms → AllByRecursion HasNoDigest ms
-no_digest_taken past p source takes none [] from agree = tt
-no_digest_taken past p source takes none (m ∷ ms) from agree = (
-  λ link.
-      let s : (s : Receipt) × (find (names (moved_thing m)) past ≡ Some s) = found (names (moved_thing m)) past (named_before (moved_thing m) p past (from.0 ∙ takes)) in
-      let agrees : AllByRecursion (Agrees m) s.0.items × (names (moved_thing m) s.0 ≡ true) = All-found (λ x. AllByRecursion (Agrees m) x.items) (names (moved_thing m)) s.0 past s.1 agree.0 in
-      let nones : AllByRecursion HasNoDigest s.0.items × (names (moved_thing m) s.0 ≡ true) = All-found (λ x. AllByRecursion HasNoDigest x.items) (names (moved_thing m)) s.0 past s.1 none in
-      let x : (x : Moved) × (find (λ y. bytes_eq (moved_thing y) (moved_thing m)) s.0.items ≡ Some x) = found (λ y. bytes_eq (moved_thing y) (moved_thing m)) s.0.items agrees.1 in
-      let ag : Agrees m x.0 × (bytes_eq (moved_thing x.0) (moved_thing m) ≡ true) = All-found (Agrees m) (λ y. bytes_eq (moved_thing y) (moved_thing m)) x.0 s.0.items x.1 agrees.0 in
-      let no_digest : HasNoDigest x.0 × (bytes_eq (moved_thing x.0) (moved_thing m) ≡ true) = All-found HasNoDigest (λ y. bytes_eq (moved_thing y) (moved_thing m)) x.0 s.0.items x.1 nones.0 in
-      (ag.0 ag.1).1 ∙ no_digest.0 (same_kind m x.0 ag.1 ∙ link),
-  no_digest_taken past p source takes none ms from.1 agree.1,
-)
-
-no_digest_in : (archive : List ℕ) (past : List Receipt) (r : Receipt) → MayFollow archive past r → AllByRecursion (λ s. AllByRecursion HasNoDigest s.items) past → (e : Entry) → IsReceiptOf r e → AllByRecursion HasNoDigest r.items
-no_digest_in archive past r may none (Adds p identity kind size digest) of = subst (AllByRecursion HasNoDigest) (sym of.moves.0) ((λ link. absurd (true≢false (sym of.moves.2 ∙ link))), tt)
-no_digest_in archive past r may none (Deletes p identity) of = subst (AllByRecursion HasNoDigest) (sym of.moves.1) ((λ link. absurd (true≢false (sym of.moves.3 ∙ link))), tt)
-no_digest_in archive past r may none (Links p mapping base media) of = subst (AllByRecursion HasNoDigest) (sym of.moves) ((λ _. refl), tt)
-no_digest_in archive past r may none (Unlinks p mapping base media) of = subst (AllByRecursion HasNoDigest) (sym of.moves) ((λ _. refl), tt)
-no_digest_in archive past r may none (Splits p child mode rect) of = no_digest_taken past p r.source of.leaves none r.items may.from_source may.agrees
-no_digest_in archive past r may none (Merges child into ticket) of = no_digest_taken past child r.source of.leaves none r.items may.from_source may.agrees
-
-pub ledger_no_digest : (archive : List ℕ) (past rs : List Receipt) → IsLedger archive past rs → AllByRecursion (λ s. AllByRecursion HasNoDigest s.items) past → AllByRecursion (λ s. AllByRecursion HasNoDigest s.items) rs
-ledger_no_digest archive past [] h none = tt
-ledger_no_digest archive past (r ∷ rs) h none =
-    let here : AllByRecursion HasNoDigest r.items = no_digest_in archive past r h.0 none h.0.entered.0 h.0.entered.1 in
-    (here, ledger_no_digest archive (past ++ r ∷ []) rs h.1 (All-snoc (λ s. AllByRecursion HasNoDigest s.items) past r none here))
-
+-- a mapping is of no item kind
 link_number : (mapping : Mapping) → is_item_kind (link_kind mapping) ≡ false
 link_number TilesMedia = refl
 link_number RowsMedia = refl
 
+-- a link agrees with all that the ledger says of it
 pub link_agrees : (w : World) (l : Relation) → IsLedger (archive_of w) [] (receipts_of w) → AllByRecursion (λ t. AllByRecursion (Agrees (link_moved l)) t.items) (receipts_of w)
 link_agrees w l sound =
-    All-both (λ s. AllByRecursion IsThing s.items) (λ s. AllByRecursion HasNoDigest s.items) (λ s. AllByRecursion (Agrees (link_moved l)) s.items)
-    (λ s. All-both IsThing HasNoDigest (Agrees (link_moved l)) one_link s.items) (receipts_of w) (ledger_things (archive_of w) [] (receipts_of w) sound) (ledger_no_digest (archive_of w) [] (receipts_of w) sound tt)
+    All-weaker (λ s. AllByRecursion IsThing s.items) (λ s. AllByRecursion (Agrees (link_moved l)) s.items) (λ s. All-weaker IsThing (Agrees (link_moved l)) one_link s.items) (receipts_of w) (ledger_things (archive_of w) [] (receipts_of w) sound)
   where
-    one_link : (n : Moved) → IsThing n → HasNoDigest n → Agrees (link_moved l) n
-    one_link n thing none same =
+    one_link : (n : Moved) → IsThing n → Agrees (link_moved l) n
+    one_link n thing same =
         let link : is_item_kind n.kind ≡ false = same_kind (link_moved l) n same ∙ link_number l.mapping in
-        (sym (MatchBool-at_false (n.other ≡ None) (n.size ≡ 0) link thing), sym (none link))
+        let is : (is_some n.other ≡ true) × (n.size ≡ 0) × (n.fingerprint ≡ None) = MatchBool-at_false ((n.other ≡ None) × (is_some n.fingerprint ≡ true)) ((is_some n.other ≡ true) × (n.size ≡ 0) × (n.fingerprint ≡ None)) link thing in
+        (sym is.1, sym is.2)
 
 -- ---- what a receipt of items and links says
 
+-- what a receipt says of an item is a thing
 pub item_is_thing : (i : Item) → IsThing (item_moved i)
 item_is_thing i = thing_of i.identity i.content
 
+-- what a receipt says of a link is a thing
 pub link_is_thing : (l : Relation) → IsThing (link_moved l)
-link_is_thing l = elim l.mapping as (λ m. IsThing (link_moved (record { mapping = m; base = l.base; media = l.media }))) [ TilesMedia ↦ refl | RowsMedia ↦ refl ]
+link_is_thing l = elim l.mapping as (λ m. IsThing (link_moved (record { mapping = m; base = l.base; media = l.media }))) [ TilesMedia ↦ (refl, refl, refl) | RowsMedia ↦ (refl, refl, refl) ]
 
+-- a receipt of items and links names things
 pub things_moved : (items : List Item) (links : List Relation) → AllByRecursion IsThing (moved_of items links)
 things_moved items links = All-append IsThing (map item_moved items) (map link_moved links) (All-map IsThing item_moved items (All-each (λ i. IsThing (item_moved i)) item_is_thing items)) (All-map IsThing link_moved links (All-each (λ l. IsThing (link_moved l)) link_is_thing links))
 
+-- an item and what is said of it have one key
 item_key_moved : (identity : List ℕ) (content : Content) → moved_key (item_moved (added_item identity content)) ≡ item_key (added_item identity content)
 item_key_moved identity (Tile zoom column row bytes) = ap (λ zs. 1 ∷ zs) (append-nil identity)
 item_key_moved identity (Media content_type bytes) = ap (λ zs. 2 ∷ zs) (append-nil identity)
 item_key_moved identity (Row x y code label) = ap (λ zs. 3 ∷ zs) (append-nil identity)
 
+-- the order of items is that of what is said of them
 items_before : (i j : Item) → is_before (item_key i) (item_key j) ≡ true → is_before (moved_key (item_moved i)) (moved_key (item_moved j)) ≡ true
 items_before i j h = ap (λ a. is_before a (moved_key (item_moved j))) (item_key_moved i.identity i.content) ∙ ap (is_before (item_key i)) (item_key_moved j.identity j.content) ∙ h
 
+-- items stand before links
 before_link : (content : Content) (mapping : Mapping) (identity base media : List ℕ) → is_before (item_key (added_item identity content)) (link_key (record { mapping = mapping; base = base; media = media })) ≡ true
 before_link (Tile zoom column row bytes) TilesMedia identity base media = refl
 before_link (Tile zoom column row bytes) RowsMedia identity base media = refl
@@ -175,10 +200,12 @@ before_link (Media content_type bytes) RowsMedia identity base media = refl
 before_link (Row x y code label) TilesMedia identity base media = refl
 before_link (Row x y code label) RowsMedia identity base media = refl
 
+-- links stand in their order
 links_in_order : (links : List Relation) → IsArranged link_key links → IsArranged moved_key (map link_moved links)
 links_in_order [] h = tt
 links_in_order (l ∷ links) h = (All-map (λ n. is_before (moved_key (link_moved l)) (moved_key n) ≡ true) link_moved links h.0, links_in_order links h.1)
 
+-- a receipt of items and links is in order
 pub order_moved : (items : List Item) (links : List Relation) → IsArranged item_key items → IsArranged link_key links → IsArranged moved_key (moved_of items links)
 order_moved [] links h g = links_in_order links g
 order_moved (i ∷ items) links h g = (
@@ -189,6 +216,7 @@ order_moved (i ∷ items) links h g = (
   order_moved items links h.1 g,
 )
 
+-- a receipt of unaltered items and of links agrees with the ledger
 pub agree_moved : (w : World) (items : List Item) (links : List Relation) → IsLedger (archive_of w) [] (receipts_of w) → AllByRecursion (IsUnaltered w) items
     → AllByRecursion (λ m. AllByRecursion (λ x. AllByRecursion (Agrees m) x.items) (receipts_of w)) (moved_of items links)
 agree_moved w items links sound unaltered =
@@ -196,6 +224,7 @@ agree_moved w items links sound unaltered =
     (All-map (λ m. AllByRecursion (λ x. AllByRecursion (Agrees m) x.items) (receipts_of w)) item_moved items (All-weaker (IsUnaltered w) (λ i. AllByRecursion (λ x. AllByRecursion (Agrees (item_moved i)) x.items) (receipts_of w)) (λ i h. unaltered_agrees w i sound h) items unaltered))
     (All-map (λ m. AllByRecursion (λ x. AllByRecursion (Agrees m) x.items) (receipts_of w)) link_moved links (All-each (λ l. AllByRecursion (λ x. AllByRecursion (Agrees (link_moved l)) x.items) (receipts_of w)) (λ l. link_agrees w l sound) links))
 
+-- what a package holds stands there by the ledger
 pub custody_moved : (w : World) (p : List ℕ) (items : List Item) (links : List Relation) → Balanced w → AllByRecursion (λ i. holds (holdings w p) (item_thing i) ≡ true) items → AllByRecursion (λ l. holds (holdings w p) (link_key l) ≡ true) links
     → AllByRecursion (λ m. custody (receipts_of w) (moved_thing m) ≡ Some p) (moved_of items links)
 custody_moved w p items links balance hi hl =
@@ -208,29 +237,20 @@ pub self_has : {X : Type 0} (key : X → List ℕ) (xs : List X) → AllByRecurs
 self_has key [] = tt
 self_has key (x ∷ xs) = (
   ap (λ b. b || has key (key x) xs) (bytes_eq_itself (key x)),
-  All-weaker (λ y. has key (key y) xs ≡ true) (λ y. has key (key y) (x ∷ xs) ≡ true) (λ y h. ap (λ b. bytes_eq (key x) (key y) || b) h ∙ or_true (bytes_eq (key x) (key y))) xs (self_has key xs),
+  All-weaker (λ y. has key (key y) xs ≡ true) (λ y. has key (key y) (x ∷ xs) ≡ true) (λ y h. ap (λ b. bytes_eq (key x) (key y) || b) h ∙ or-true (bytes_eq (key x) (key y))) xs (self_has key xs),
 )
-  where
-    or_true : (b : Bool) → (b || true) ≡ true
-    or_true true = refl
-    or_true false = refl
 
+-- a package holds its items
 pub items_held : (x : Package) → AllByRecursion (λ i. holds x (item_thing i) ≡ true) x.items
 items_held x = All-weaker (λ i. has item_thing (item_thing i) x.items ≡ true) (λ i. holds x (item_thing i) ≡ true) (λ i h. ap (λ b. b || has link_key (item_thing i) x.links) h) x.items (self_has item_thing x.items)
 
+-- a package holds its links
 pub links_held : (x : Package) → AllByRecursion (λ l. holds x (link_key l) ≡ true) x.links
-links_held x = All-weaker (λ l. has link_key (link_key l) x.links ≡ true) (λ l. holds x (link_key l) ≡ true) (λ l h. ap (λ b. has item_thing (link_key l) x.items || b) h ∙ or_true' (has item_thing (link_key l) x.items)) x.links (self_has link_key x.links)
-  where
-    or_true' : (b : Bool) → (b || true) ≡ true
-    or_true' true = refl
-    or_true' false = refl
+links_held x = All-weaker (λ l. has link_key (link_key l) x.links ≡ true) (λ l. holds x (link_key l) ≡ true) (λ l h. ap (λ b. has item_thing (link_key l) x.items || b) h ∙ or-true (has item_thing (link_key l) x.items)) x.links (self_has link_key x.links)
 
 -- ---- a package holds each thing once
 
-pub All-of_map : {X Y : Type 0} (P : Y → Type 0) (f : X → Y) (xs : List X) → AllByRecursion P (map f xs) → AllByRecursion (λ x. P (f x)) xs
-All-of_map P f [] h = tt
-All-of_map P f (x ∷ xs) h = (h.0, All-of_map P f xs h.1)
-
+-- items of different identities are different things
 items_once : (thing : List ℕ) (items : List Item) → IsDistinct bytes_eq (identities items) → count_by (λ i. bytes_eq (item_thing i) thing) items ≤ 1
 items_once thing [] h = omega arith
 items_once thing (i ∷ items) h =
@@ -243,10 +263,12 @@ items_once thing (i ∷ items) h =
       | false ↦ λ e. omega (arith, count-cons (λ j. bytes_eq (item_thing j) thing) i items false e, items_once thing items (IsDistinct-tail bytes_eq i.identity (identities items) h))
     ] refl
 
+-- no link is the thing of an item
 no_link_is_item : (i : Item) (thing : List ℕ) → bytes_eq (item_thing i) thing ≡ true → (links : List Relation) → count_by (λ l. bytes_eq (link_key l) thing) links ≡ 0
 no_link_is_item i thing e links = count_none (λ l. bytes_eq (link_key l) thing) links (All-each (λ l. bytes_eq (link_key l) thing ≡ false) (λ l. ap (bytes_eq (link_key l)) (sym ((bytes_eq-Decides (item_thing i) thing).0 e))
     ∙ elim l.mapping as (λ m. bytes_eq (link_key (record { mapping = m; base = l.base; media = l.media })) (item_thing i) ≡ false) [ TilesMedia ↦ refl | RowsMedia ↦ refl ]) links)
 
+-- a package holds a thing once at most
 pub once : (x : Package) (thing : List ℕ) → IsDistinct bytes_eq (identities x.items) → IsArranged link_key x.links → weighed (counting thing) x ≤ 1
 once x thing distinct arranged' =
     elim (has item_thing thing x.items) as (λ v. has item_thing thing x.items ≡ v → weighed (counting thing) x ≤ 1) [
@@ -261,6 +283,7 @@ once x thing distinct arranged' =
 pub kept_at : (w : World) (p : List ℕ) → IsRegister w → is_live w p ≡ true → IsKeptPackage w (holdings w p)
 kept_at w p register live = (at_all w (IsKeptPackage w) p register.packages live).0
 
+-- so does what stands under any UUID
 pub holds_once : (w : World) → IsRegister w → (p thing : List ℕ) → weighed (counting thing) (holdings w p) ≤ 1
 holds_once w register p thing =
     elim (is_live w p) as (λ v. is_live w p ≡ v → weighed (counting thing) (holdings w p) ≤ 1) [
