@@ -1,11 +1,12 @@
 -- A new package has the form of a package, and no rows.
-use Rattle.std.proofs.Common.{◌≡◌, [], Ok, Err, Result, OnOk, IfErr, true, refl, sym, subst}
+use Rattle.std.proofs.Common.{◌≡◌, [], ◌∷◌, Ok, Err, Result, OnOk, IfErr, true, refl, sym, subst}
 use Rattle.std.specs.List.{AllByRecursion}
 use Rattle.sqlite.specs.Table.{Table}
 use Rattle.sqlite.specs.Schema.{Schema}
 use Rattle.sqlite.specs.Tree.{Trees}
-use Rattle.sqlite.specs.Effect.{Database}
+use Rattle.sqlite.specs.Effect.{Database, IsDatabase}
 use Rattle.sqlite_schema.specs.Names.{same_name}
+use Rattle.sql_meaning.specs.Writing.{IsKeyed}
 use Rattle.sql_meaning.specs.Known.{IsQuiet}
 use Rattle.sql_meaning.specs.Blank.{IsBlank, no_schema}
 use Rattle.package_tables.specs.Tables.{gpkg_spatial_ref_sys, gpkg_contents, gpkg_tile_matrix_set, gpkg_tile_matrix, gpkgext_relations, sheet_tiles, sheet_media, sheet_rows, tiles_media, rows_media, sheet_package, sheet_identity, sheet_receipts, sheet_items}
@@ -144,11 +145,15 @@ module _ (db : Database) (it : IsEmptyForm db) where
   says : tables_of db ≡ empty_tables
   says = rw (no_rows_say spatial_ref_sys_shape db it.empty.0, no_rows_say contents_shape db it.empty.1.0, no_rows_say tile_matrix_set_shape db it.empty.1.1.0, no_rows_say tile_matrix_shape db it.empty.1.1.1.0, no_rows_say relation_shape db it.empty.1.1.1.1.0, no_rows_say tile_shape db it.empty.1.1.1.1.1.0, no_rows_say medium_shape db it.empty.1.1.1.1.1.1.0, no_rows_say attribute_shape db it.empty.1.1.1.1.1.1.1.0, no_rows_say tiles_media_shape db it.empty.1.1.1.1.1.1.1.1.0, no_rows_say rows_media_shape db it.empty.1.1.1.1.1.1.1.1.1.0, no_rows_say head_shape db it.empty.1.1.1.1.1.1.1.1.1.1.0, no_rows_say identity_shape db it.empty.1.1.1.1.1.1.1.1.1.1.1.0, no_rows_say receipt_shape db it.empty.1.1.1.1.1.1.1.1.1.1.1.1.0, no_rows_say moved_shape db it.empty.1.1.1.1.1.1.1.1.1.1.1.1.1.0) refl
 
-pub new_package : (db : Database) → IsBlank package_schema db → IsNewPackage db
-new_package db blank = let it = empty_form db blank in record { blank = blank; form = it; formed = formed db it; says = says db it }
+keyed_if_empty : (trees : Trees) (tables : List Table) → AllByRecursion (λ (t : Table). trees t.tree ≡ []) tables → AllByRecursion (λ (t : Table). IsKeyed (trees t.tree)) tables
+keyed_if_empty trees [] h = tt
+keyed_if_empty trees (t ∷ tables) h = (subst IsKeyed (sym h.0) (record { ints = refl; rises = tt }), keyed_if_empty trees tables h.1)
+
+pub new_package : (db : Database) → IsBlank package_schema db → IsDatabase db → IsNewPackage db
+new_package db blank sound = let it = empty_form db blank in record { blank = blank; form = it; formed = formed db it; sound = sound; keyed = subst (λ (s : Schema). AllByRecursion (λ (t : Table). IsKeyed (db.trees t.tree)) s.tables) (sym blank.is) (keyed_if_empty db.trees package_schema.tables blank.empty); says = says db it }
 
 pub package_made : (old new : State) (r : Result (Unit {0}) Error) → OnOk r (ChangedInside (MadeBy texts) old new) → OnOk r (ChangedInside BecomesPackage old new)
-package_made old new (Ok done) made = record { shown = made.shown; changed = λ blank. new_package new.now (made.changed no_schema package_schema plan blank) }
+package_made old new (Ok done) made = record { shown = made.shown; changed = λ blank. let it = made.changed no_schema package_schema plan blank in new_package new.now it.0 it.1 }
 package_made old new (Err e) made = tt
 
 pub package_failed : (old new : State) (r : Result (Unit {0}) Error) → IfErr r (FailsToMakeBy texts old new) → IsBlank no_schema old.now → IfErr r (FailsInside old new)

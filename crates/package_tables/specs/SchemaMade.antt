@@ -3,11 +3,12 @@ use Rattle.std.specs.Prelude.{◌≡◌, ℕ, ◌+◌, List, [], ◌∷◌, ◌+
 use Rattle.std.specs.List.{AllByRecursion, flat_map}
 use Rattle.sqlite.specs.Table.{Table}
 use Rattle.sqlite.specs.Schema.{Schema}
-use Rattle.sqlite.specs.Effect.{Database}
+use Rattle.sqlite.specs.Effect.{Database, IsDatabase}
 use Rattle.sqlite.specs.Change.{automatics}
 use Rattle.sqlite_schema.specs.declared.schema.Index.{Index}
 use Rattle.sqlite_value.specs.Keys.{plain}
 use Rattle.sql_meaning.specs.Known.{counters}
+use Rattle.sql_meaning.specs.Writing.{AreKeyed}
 use Rattle.sql_meaning.specs.Blank.{IsBlank, no_schema}
 use Rattle.package_tables.specs.Tables.{gpkg_spatial_ref_sys, gpkg_contents, gpkg_tile_matrix_set, gpkg_tile_matrix, gpkgext_relations, sheet_tiles, sheet_media, sheet_rows, tiles_media, rows_media, sheet_package, sheet_identity, sheet_receipts, sheet_items}
 use Rattle.package_tables.specs.Form.{HasForm, rows_named}
@@ -84,11 +85,13 @@ empty_tables = record {
   moved = [];
 }
 
--- a database with the tables and indexes of a package and no others, and no rows
+-- a database with the tables and indexes of a package and no others, and no rows; its trees list its schema
 pub record IsNewPackage (db : Database) : Type 0 where
   pub blank : IsBlank package_schema db
   pub form : IsEmptyForm db
   pub formed : AreFormed db
+  pub sound : IsDatabase db
+  pub keyed : AreKeyed db
   pub says : tables_of db ≡ empty_tables
 
 -- a database without objects became a new package
