@@ -1,5 +1,5 @@
 -- A new package has the form of a package, and no rows.
-use Rattle.std.proofs.Common.{◌≡◌, [], ◌∷◌, Ok, Err, Result, OnOk, IfErr, true, refl, sym, subst}
+use Rattle.std.proofs.Common.{◌≡◌, List, [], ◌∷◌, Ok, Err, Result, OnOk, IfErr, true, refl, sym, subst}
 use Rattle.std.specs.List.{AllByRecursion}
 use Rattle.sqlite.specs.Table.{Table}
 use Rattle.sqlite.specs.Schema.{Schema}
