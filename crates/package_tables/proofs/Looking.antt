@@ -1,11 +1,10 @@
 -- From the clauses of `query_all` to what a look-up answers of the tables, inside a transaction and at rest.
-use Rattle.std.proofs.Common.{◌≡◌, ◌⊎◌, inl, inr, Ordering, ℕ, List, [], ◌∷◌, map, Bool, true, false, Option, Some, None, Result, Ok, Err, IsTrue, refl, sym, ap, subst, ◌∙◌}
+use Rattle.std.proofs.Common.{◌≡◌, ◌⊎◌, inl, inr, Ordering, ℕ, List, [], ◌∷◌, map, Bool, true, false, Option, Some, Result, Ok, Err, IsTrue, refl, sym, ap, subst}
 use Rattle.std.specs.Prelude.{slice_get, filter, MatchOption, IfOk, IfErr, IsOkAnd, IsPermutation}
 use Rattle.std.specs.Cmp.{IsTotalOrder}
 use Rattle.sqlite.specs.Query.{key_cmp}
 use Rattle.sqlite.specs.Order.{Row}
 use Rattle.sqlite.specs.Term.{Term}
-use Rattle.sqlite.specs.Tree.{Trees}
 use Rattle.sqlite.specs.Store.{Ghosts}
 use Rattle.sqlite.specs.Effect.{Database}
 use Rattle.sqlite.specs.Held.{Held, state}
@@ -15,7 +14,7 @@ use Rattle.sqlite.specs.State.{State, HasCleanDisk, IsUnchanged, IsRolledBack, S
 use Rattle.sqlite_value.specs.declared.keys.Key.{Key}
 use Rattle.sql_meaning.specs.Known.{HasTable}
 use Rattle.sql_meaning.specs.Reading.{Test, Listing, IsListing, Finds}
-use Rattle.sql_meaning.specs.Transactions.{Rests, Looks}
+use Rattle.sql_meaning.specs.Transactions.{Rests}
 use Rattle.sql_meaning.proofs.Where.{are_given}
 use Rattle.sql_meaning.proofs.Select.{IsSelect, IsPlannedSelect, listing_of, listed}
 use Rattle.sql_meaning.proofs.Answering.{shown_unchanged, failed_unchanged, found_looks}

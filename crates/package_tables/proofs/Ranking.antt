@@ -1,6 +1,6 @@
 -- The values of a listing come in the order that its keys say.
-use Rattle.std.proofs.Common.{◌≡◌, ℕ, ℤ, List, [], ◌∷◌, map, Bool, true, false, cond, Ordering, Less, Equal, Greater, refl, sym, ap, subst, ◌∙◌}
-use Rattle.std.specs.Prelude.{filter, IsPermutation, IsSorted}
+use Rattle.std.proofs.Common.{◌≡◌, ℕ, ℤ, List, [], ◌∷◌, map, Bool, true, false, cond, Ordering, refl, sym, ap, subst, ◌∙◌}
+use Rattle.std.specs.Prelude.{filter, IsSorted}
 use Rattle.std.specs.List.{AllByRecursion}
 use Rattle.std.specs.Ordering.{is_gt, on, int_cmp, ordering_then}
 use Rattle.std.specs.Cmp.{IsTotalOrder}
@@ -13,7 +13,6 @@ use Rattle.sqlite_exec.proofs.PartitionLemmas.{ascending_from_sorted, sorted_fro
 use Rattle.sqlite_exec.proofs.RowsLemmas.{IsSorted-map}
 use Rattle.sqlite_sql.proofs.QueryLemmas.{key_cmp_total}
 use Rattle.sqlite_value.proofs.OrderLemmas.{then-Equal, value_cmp-Int}
-use Rattle.sqlite_value.specs.declared.keys.Key.{Key}
 use Rattle.sqlite.specs.Query.{key_cmp}
 use Rattle.sqlite.specs.Order.{Row}
 use Rattle.sqlite.specs.Tree.{rowid}
@@ -22,7 +21,7 @@ use Rattle.sqlite.specs.declared.types.Value.{Value}
 use Rattle.sqlite.specs.declared.types.Value.TheVariants.{Int}
 use Rattle.sql_meaning.specs.Known.{HasTable}
 use Rattle.sql_meaning.specs.Reading.{Listing, IsListing, ascending}
-use Rattle.package_tables.specs.Shape.{Shape, IsShape, IsFormed, IsStored, stored_rows, rows_of}
+use Rattle.package_tables.specs.Shape.{Shape, IsShape, IsFormed, IsStored, stored_rows}
 use Rattle.package_tables.proofs.Shapes.{rows_placed}
 
 -- keys of one number, and of two

@@ -1,6 +1,6 @@
 #!/usr/bin/env python3
 """Writes what is alike in the proofs of the statements: proofs/*Statements.antt, and the answer file of each function.
-Run it in the crate's folder, and then rt fmt. The Rust functions are written by hand; each takes the arguments of its
+Run it in the crate's folder, and then rt fmt and rt tidy. The Rust functions are written by hand; each takes the arguments of its
 statement in the order of the parameters."""
 import os
 

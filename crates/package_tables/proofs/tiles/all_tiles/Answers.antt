@@ -1,5 +1,4 @@
-use Rattle.std.proofs.Common.{refl, to_z-of_z}
-use Rattle.sqlite.specs.Held.{state}
+use Rattle.std.proofs.Common.{refl}
 use Rattle.package_tables.proofs.Looking.{looks_in_order}
 use Rattle.package_tables.proofs.TileStatements.{known, all, all_ranked}
 use Rattle.package_tables.proofs.tiles.all_tiles.Goals as goal
