@@ -5,3 +5,5 @@ pub mod Lending
 pub mod Returning
 pub mod Story
 pub mod Steps
+pub mod Refusing
+pub mod Limits

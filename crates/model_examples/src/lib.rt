@@ -4,6 +4,8 @@
 pub mod adding;
 pub mod frames;
 pub mod lending;
+pub mod limits;
+pub mod refusing;
 pub mod returning;
 pub mod steps;
 pub mod story;
