@@ -1,5 +1,6 @@
 pub mod Sheets
 pub mod Adding
+pub mod Answering
 pub mod Frames
 pub mod Lending
 pub mod Returning

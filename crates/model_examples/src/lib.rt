@@ -2,6 +2,7 @@
 #![tactic(auto)]
 
 pub mod adding;
+pub mod answering;
 pub mod frames;
 pub mod lending;
 pub mod limits;
