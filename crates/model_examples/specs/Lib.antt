@@ -2,6 +2,7 @@ pub mod Sheets
 pub mod Adding
 pub mod Answering
 pub mod Frames
+pub mod Ledgers
 pub mod Lending
 pub mod Returning
 pub mod Story

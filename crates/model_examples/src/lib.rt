@@ -4,6 +4,7 @@
 pub mod adding;
 pub mod answering;
 pub mod frames;
+pub mod ledgers;
 pub mod lending;
 pub mod limits;
 pub mod refusing;
