@@ -1,5 +1,5 @@
 -- Of a sound ledger each rule, of an unsound one the rule that it breaks.
-use Rattle.std.specs.Prelude.{◌≡◌, refl, ℕ, List, pos, Bool, true, false, [], ◌∷◌, Option, Some, None, ◌==◌, bytes_eq, unwrap_or, is_some, is_none}
+use Rattle.std.specs.Prelude.{◌≡◌, refl, ℕ, List, pos, Bool, true, false, [], ◌∷◌, Some, None, ◌==◌, bytes_eq, unwrap_or, is_some}
 use Rattle.std.proofs.Common.{ap, sym, subst, ◌∙◌}
 use Rattle.std.proofs.lemmas.Bool.{false≢true, true≢false}
 use Rattle.std.specs.Fmt.{digits}
@@ -13,7 +13,6 @@ use Rattle.sheet_types.specs.Texts.{Entry, Adds, Deletes, Splits, Merges}
 use Rattle.sheet_types.specs.Step.{source_of, target_of}
 use Rattle.sheet_types.specs.Balance.{IsLedger, MovesFor}
 use Rattle.sheet_types.specs.declared.command.Mode.TheVariants.{Strict}
-use Rattle.sheet_types.specs.declared.receipt.Moved.{Moved}
 use Rattle.sheet_types.specs.declared.receipt.MovedKind.TheVariants.{TileItem}
 use Rattle.model_examples.specs.Sheets.{archive, crew, item, quarter}
 use Rattle.model_examples.specs.Story.{moved_corner, moved_small}
@@ -97,9 +96,9 @@ wrong_lines = (
   (λ h. differ is_some refl refl (h.0.entered.1.leaves ∙ sym (ap (λ o. option_and_then source_of o) h.0.entered.1.says))),
   (λ h. differ (λ o. option_map_or (λ x. bytes_eq x archive) o false) refl refl (h.0.entered.1.comes_to ∙ sym (ap (λ o. option_and_then target_of o) h.0.entered.1.says))),
   (λ h.
-    let MovesIt : Entry → Type 0 = λ e. MovesFor e (moved_small ∷ []) in
-    let same : h.0.entered.0 ≡ corner_entry = sym (ap (λ o. unwrap_or o corner_entry) h.0.entered.1.says) in
-    differ (λ things. list_any (λ m. bytes_eq m.base (item 1)) things) refl refl (subst MovesIt same h.0.entered.1.moves)),
+      let MovesIt : Entry → Type 0 = λ e. MovesFor e (moved_small ∷ []) in
+      let same : h.0.entered.0 ≡ corner_entry = sym (ap (λ o. unwrap_or o corner_entry) h.0.entered.1.says) in
+      differ (λ things. list_any (λ m. bytes_eq m.base (item 1)) things) refl refl (subst MovesIt same h.0.entered.1.moves)),
   (λ h. no_line h.0.entered.1.says),
   (λ h. no_line h.1.0.entered.1.says),
   (λ h. no_line h.1.1.0.entered.1.says),

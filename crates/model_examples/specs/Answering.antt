@@ -1,6 +1,6 @@
 -- What the reading calls answer, and what the ledger says of each package.
-use Rattle.std.specs.Prelude.{◌≡◌, ℕ, [], ◌∷◌, map, Option, Some, None, pos, negsuc}
-use Rattle.sheet_types.specs.World.{World, holdings, receipts_of, is_live, item_thing, link_key, new_world}
+use Rattle.std.specs.Prelude.{◌≡◌, [], ◌∷◌, Some, None, pos, negsuc}
+use Rattle.sheet_types.specs.World.{receipts_of, item_thing, link_key, new_world}
 use Rattle.sheet_types.specs.Custody.{custody, account, open_loans, ticket}
 use Rattle.sheet_types.specs.Answers.{sums_of, package_sights, holdings_answer, receipt_answer}
 use Rattle.model_examples.specs.Sheets.{sheet, archive, crew, second_crew, item, request, tile, picture, tile_link}

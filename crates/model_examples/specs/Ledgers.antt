@@ -87,4 +87,3 @@ AlteredItems = (altered (holding (tile 1 0 0)) ≡ [])
 abbrev pub AlteredThenDeleted : Type 0
 AlteredThenDeleted = (receipts_of (holding other_tile) ≡ receipts_of (holding (tile 1 0 0)))
     × Unsound (receipts_of (outcome (holding other_tile) (ask 2 (Delete archive (item 1)))).1)
-

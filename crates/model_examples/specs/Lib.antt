@@ -4,6 +4,7 @@ pub mod Answering
 pub mod Frames
 pub mod Ledgers
 pub mod Lending
+pub mod Opening
 pub mod Returning
 pub mod Story
 pub mod Steps

@@ -1,5 +1,5 @@
 -- The last reason of refusal: more than a package, the register or the ledger may hold. It is asked of the world that the request would leave.
-use Rattle.std.specs.Prelude.{◌≡◌, ℕ, zero, suc, ◌+◌, true, false, List, [], ◌∷◌, ◌++◌, length, count_by, Some, None, Ok, Err, pos}
+use Rattle.std.specs.Prelude.{◌≡◌, ℕ, zero, suc, true, false, List, [], ◌∷◌, ◌++◌, length, count_by, Ok, Err, pos}
 use Rattle.std.specs.List.{list_any}
 use Rattle.sheet_types.specs.World.{World, Package, is_tile, is_medium, is_row, receipts_of}
 use Rattle.sheet_types.specs.Refuse.{is_overfull, too_many}

@@ -1,7 +1,7 @@
 -- The reasons of refusal, but for the last: for each the requests that it refuses, requests beside them that pass, and of two reasons the first. A number is that of an accepted request's receipt.
-use Rattle.std.specs.Prelude.{◌≡◌, ℕ, true, false, List, [], ◌∷◌, ◌++◌, replicate, Some, None, Ok, Err, pos, negsuc, codes}
+use Rattle.std.specs.Prelude.{◌≡◌, ℕ, true, false, List, [], ◌∷◌, replicate, Some, Ok, Err, pos, negsuc, codes}
 use Rattle.sheet_types.specs.Texts.{is_moment}
-use Rattle.sheet_types.specs.World.{World, Package}
+use Rattle.sheet_types.specs.World.{World}
 use Rattle.sheet_types.specs.Custody.{is_used}
 use Rattle.sheet_types.specs.declared.command.Command.TheVariants.{Add, Delete, Link, Unlink, Split, Merge}
 use Rattle.sheet_types.specs.declared.command.Content.{Content}
@@ -11,7 +11,7 @@ use Rattle.sheet_types.specs.declared.command.Mapping.TheVariants.{TilesMedia, R
 use Rattle.sheet_types.specs.declared.command.Mode.TheVariants.{Strict, Follow}
 use Rattle.sheet_types.specs.declared.refusal.Refusal.TheVariants.{IdReused, UnknownPackage, PackageUsed, BadText, TooLarge, IdentityUsed, UnknownItem, WrongKind, BadPlace, OutOfFrame, PlaceTaken, LinkThere, UnknownLink, Linked, BadRectangle, TooDeep, NothingToLend, CutLink, Foreign, Stale, LoanOpen, Collides}
 use Rattle.model_examples.specs.Sheets.{ask, ask_at, noon, archive, crew, second_crew, third_crew, item, tile, tile_of, picture, row_at, block, quarter, tile_link, row_link, answer}
-use Rattle.model_examples.specs.Story.{gate, kept_as, archive_with, crew_with, world_with, receipt_1, receipt_5, receipt_9, world_1, world_3, world_4, world_5, world_6, world_7, world_8}
+use Rattle.model_examples.specs.Story.{gate, kept_as, archive_with, crew_with, world_with, receipt_5, receipt_9, world_1, world_3, world_4, world_5, world_6, world_7, world_8}
 
 -- ---- 1: a kept request's identity, for another line
 
