@@ -1,5 +1,15 @@
 pub mod Shapes
 pub mod Written
 pub mod Making
+pub mod Reading
+pub mod Looking
 pub mod Values
 pub mod TileStatements
+pub mod Changing
+pub mod ReceiptStatements
+pub mod MovedStatements
+pub mod HeadStatements
+pub mod FixedStatements
+pub mod SchemaMakes
+pub mod Texts
+pub mod NewPackage

@@ -2,5 +2,11 @@
 #![tactic(auto)]
 
 pub mod fault;
+pub mod fixed;
+pub mod head;
+pub mod moved;
+pub mod receipts;
+pub(crate) mod from_row;
 pub mod rows;
+pub mod schema;
 pub mod tiles;

@@ -1,7 +1,9 @@
 -- What one transaction makes of one store, and what a crash leaves of it.
-use Rattle.std.specs.Prelude.{◌≡◌, ◌⊎◌, true, false, Result, Ok, Err, IsTrue, IfOk, OnErr}
+use Rattle.std.specs.Prelude.{◌≡◌, ◌⊎◌, true, false, Result, Ok, Err, IsTrue, IfOk, OnErr, List}
 use Rattle.sqlite.specs.Tree.{Trees}
 use Rattle.sqlite.specs.Effect.{Database}
+use Rattle.sqlite.specs.declared.error.Error.{Error}
+use Rattle.sql_meaning.specs.Writing.{EachChained}
 use Rattle.sqlite.specs.State.{State, HasCleanDisk, KeepsCommit, Survives}
 
 -- The store is not inside a transaction, so it sees what was committed.
@@ -30,6 +32,10 @@ Made Changes old new (Err e) = KeepsCommit old new
 pub record Steps {X E : Type 0} (Changes : X → Database → Database → Type 0) (old new : State) (r : Result X E) : Type 0 where
   pub made : HasCleanDisk new → IsTrue old.in_transaction → Made Changes old new r
   pub survives : Survives old new (λ _. ⊥)
+
+-- the same of a loop that made one change for each of these items so far
+abbrev pub EachStep : {X : Type 0} → (X → Database → Database → Type 0) → List X → State → State → Type 0
+EachStep Change xs old new = Steps {X = Unit {0}} {E = Error} (λ _. EachChained Change xs) old new (Ok tt)
 
 -- the trees of a database that the change makes, with some answer
 abbrev pub WouldLeave : {X : Type 0} → (X → Database → Database → Type 0) → Database → Trees → Type 0
