@@ -20,7 +20,7 @@ use Rattle.sheet_types.specs.declared.command.Relation.{Relation}
 use Rattle.sheet_types.specs.declared.frame.Frame.{Frame}
 use Rattle.sheet_types.proofs.Every.{All-weaker, All-both, All-of_map, All-map, none_pass}
 use Rattle.sheet_types.proofs.Order.{list_any-put, list_any-arranged}
-use Rattle.sheet_types.proofs.Tests.{bytes_eq_swap, or-true}
+use Rattle.sheet_types.proofs.Basics.{bytes_eq_swap, or-true}
 use Rattle.package_tables.specs.Shapes.{tile_shape, medium_shape, attribute_shape, identity_shape, tiles_media_shape, rows_media_shape}
 use Rattle.package_tables.specs.Package.{Tables}
 use Rattle.package_tables.specs.declared.rows.IdentityRow.{IdentityRow}

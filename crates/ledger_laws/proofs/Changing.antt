@@ -1,45 +1,40 @@
 -- Delete and Unlink keep the account.
-use Rattle.std.specs.Prelude.{◌≡◌, ℕ, ◌≤◌, true, false, ◌&&◌, List, [], ◌∷◌, find, refl, bytes_eq, Some, None, sum_by, count_by}
+use Rattle.sheet_types.proofs.Fitting.{item_kind_of}
+use Rattle.std.specs.Prelude.{◌≡◌, ℕ, true, false, ◌&&◌, List, [], ◌∷◌, find, refl, bytes_eq, Some, None, sum_by}
 use Rattle.std.specs.Option.{option_map_or}
 use Rattle.std.proofs.Common.{sym, ap, subst, ◌∙◌, arith}
-use Rattle.std.proofs.lemmas.Map.Keys.{IsDistinct-head, IsDistinct-tail}
 use Rattle.std.proofs.lemmas.Bool.{false≢true}
 use Rattle.std.proofs.lemmas.Slice.Eq.{bytes_eq-Decides}
-use Rattle.std.specs.List.{AllByRecursion, IsDistinct}
+use Rattle.std.specs.List.{AllByRecursion}
 use Rattle.sheet_types.specs.Ordered.{without, IsArranged}
 use Rattle.sheet_types.specs.Texts.{entry_of}
 use Rattle.sheet_types.specs.World.{World, Package, link_key, item_thing, receipts_of, holdings, is_live, has_item, item_of, item_moved, link_moved, moved_thing, moved_key}
 use Rattle.sheet_types.specs.Custody.{custody}
-use Rattle.sheet_types.specs.Cut.{identities, moved_of}
+use Rattle.sheet_types.specs.Cut.{moved_of}
 use Rattle.sheet_types.specs.Step.{accepted, receipt_of, kept_reply, relation}
 use Rattle.sheet_types.specs.Refuse.{refusal, reasons, has_link}
-use Rattle.sheet_types.specs.Balance.{Balanced, NoneAltered, IsUnaltered, holds, IsThing, Agrees}
+use Rattle.ledger_laws.proofs.Contents.{IsUnaltered, each_unaltered}
+use Rattle.sheet_types.proofs.Distinct.{distinct_counts}
+use Rattle.sheet_types.proofs.LineReading.{entry_from-line}
+use Rattle.sheet_types.specs.Lines.{HasTypes, entry_from, is_adding, is_splitting, is_merging}
+use Rattle.ledger_laws.proofs.Ledger.{by_entry}
+use Rattle.sheet_types.specs.Balance.{holds, IsThing, Agrees}
 use Rattle.sheet_types.specs.Register.{IsRegister, IsKeptPackage}
-use Rattle.ledger_laws.specs.Laws.{delete_request, unlink_request, DeleteKeepsBalance, DeleteKeepsContents, UnlinkKeepsBalance, UnlinkKeepsContents}
+use Rattle.ledger_laws.specs.Laws.{delete_request, unlink_request}
 use Rattle.sheet_types.specs.declared.command.Item.{Item}
 use Rattle.sheet_types.specs.declared.command.Mapping.{Mapping}
 use Rattle.sheet_types.specs.declared.command.Relation.{Relation}
 use Rattle.sheet_types.specs.declared.command.Request.{Request}
-use Rattle.ledger_laws.proofs.Adding.{bytes_eq_itself, All-weaker, rows_fail, not_false, and_true, new_identity, is_item-kind_of}
-use Rattle.ledger_laws.proofs.Listing.{bytes_eq_swap, All-filter, All-found, found, found_passes, counts_arranged, count-cons, count_none, take_one}
+use Rattle.sheet_types.proofs.Basics.{bytes_eq_itself, not_false, and_true}
+use Rattle.ledger_laws.proofs.Accepting.{rows_fail, new_identity}
+use Rattle.sheet_types.proofs.Found.{All-found, found, found_passes}
+use Rattle.sheet_types.proofs.Order.{counts_arranged}
+use Rattle.sheet_types.proofs.Without.{take_one}
 use Rattle.ledger_laws.proofs.Packages.{at_all}
-use Rattle.ledger_laws.proofs.Facts.{things_moved, order_moved, agree_moved, custody_moved, items_held, links_held, kept_at, All-of_map}
-use Rattle.ledger_laws.proofs.Merging.{keeps}
+use Rattle.ledger_laws.proofs.Facts.{things_moved, order_moved, agree_moved, custody_moved, items_held, links_held, kept_at}
 use Rattle.ledger_laws.proofs.OnePackage as one
 
 -- ---- Delete
-
-identities_once : (id : List ℕ) (items : List Item) → IsDistinct bytes_eq (identities items) → count_by (λ i. bytes_eq i.identity id) items ≤ 1
-identities_once id [] h = omega arith
-identities_once id (i ∷ items) h =
-    elim (bytes_eq i.identity id) as (λ v. bytes_eq i.identity id ≡ v → count_by (λ j. bytes_eq j.identity id) (i ∷ items) ≤ 1) [
-      | true ↦ λ e.
-          let others : AllByRecursion (λ j. bytes_eq j.identity id ≡ false) items =
-          All-weaker (λ j. bytes_eq i.identity j.identity ≡ false) (λ j. bytes_eq j.identity id ≡ false) (λ j d. ap (bytes_eq j.identity) (sym ((bytes_eq-Decides i.identity id).0 e)) ∙ bytes_eq_swap j.identity i.identity ∙ d) items
-          (All-of_map (λ y. bytes_eq i.identity y ≡ false) (λ j. j.identity) items (IsDistinct-head bytes_eq i.identity (identities items) h)) in
-          omega (arith, count-cons (λ j. bytes_eq j.identity id) i items true e, count_none (λ j. bytes_eq j.identity id) items others)
-      | false ↦ λ e. omega (arith, count-cons (λ j. bytes_eq j.identity id) i items false e, identities_once id items (IsDistinct-tail bytes_eq i.identity (identities items) h))
-    ] refl
 
 module _ (w : World) (id moment p identity : List ℕ) (register : IsRegister w) where
   abbrev pub delete_asked : Request
@@ -48,8 +43,9 @@ module _ (w : World) (id moment p identity : List ℕ) (register : IsRegister w)
   abbrev pub delete_items : Package → List Item
   delete_items x = without (λ i. i.identity) (identity ∷ []) x.items
 
-  pub delete_fits : kept_reply w delete_asked ≡ None → refusal w (accepted w delete_asked) delete_asked ≡ None → one.Fits w p (receipt_of w delete_asked) (entry_of delete_asked.command) delete_items (λ x. x.links)
-  delete_fits no_reply no_refusal =
+  pub delete_fits : HasTypes delete_asked.command → kept_reply w delete_asked ≡ None → refusal w (accepted w delete_asked) delete_asked ≡ None → one.Fits w p (receipt_of w delete_asked) (entry_of delete_asked.command) delete_items (λ x. x.links)
+  delete_fits types no_reply no_refusal =
+      let says : entry_from (receipt_of w delete_asked).line ≡ Some (entry_of delete_asked.command) = entry_from-line (entry_of delete_asked.command) types in
       let fails : AllByRecursion (λ row. row.0 ≡ false) (reasons w (accepted w delete_asked) delete_asked) = rows_fail (reasons w (accepted w delete_asked) delete_asked) no_refusal in
       let live : is_live w p ≡ true = and_true (is_live w p) (not_false (is_live w p && true) fails.1.0) in
       let there : has_item (holdings w p) identity ≡ true = not_false (has_item (holdings w p) identity) fails.1.1.1.1.1.1.0 in
@@ -57,10 +53,10 @@ module _ (w : World) (id moment p identity : List ℕ) (register : IsRegister w)
       let i : Item = f.0 in
       let things : (receipt_of w delete_asked).items ≡ moved_of (i ∷ []) [] = ap (λ o. option_map_or (λ j. item_moved j ∷ []) o []) f.1 in
       let kept : IsKeptPackage w (holdings w p) = kept_at w p register live in
-      let unaltered : IsUnaltered w i × (bytes_eq i.identity identity ≡ true) = All-found (IsUnaltered w) (λ j. bytes_eq j.identity identity) i (holdings w p).items f.1 (at_all w (λ x. AllByRecursion (IsUnaltered w) x.items) p register.unaltered live).0 in
+      let unaltered : IsUnaltered w i × (bytes_eq i.identity identity ≡ true) = All-found (IsUnaltered w) (λ j. bytes_eq j.identity identity) i (holdings w p).items f.1 (at_all w (λ x. AllByRecursion (IsUnaltered w) x.items) p (each_unaltered w register.unaltered) live).0 in
       let held : (holds (holdings w p) (item_thing i) ≡ true) × (bytes_eq i.identity identity ≡ true) = All-found (λ j. holds (holdings w p) (item_thing j) ≡ true) (λ j. bytes_eq j.identity identity) i (holdings w p).items f.1 (items_held (holdings w p)) in
       record {
-        says = refl;
+        says = says;
         stands = refl;
         live = live;
         may = record {
@@ -69,30 +65,18 @@ module _ (w : World) (id moment p identity : List ℕ) (register : IsRegister w)
           things = subst (AllByRecursion IsThing) (sym things) (things_moved (i ∷ []) []);
           in_order = subst (IsArranged moved_key) (sym things) (order_moved (i ∷ []) [] (tt, tt) tt);
           counts = record { tiles = refl; media = refl; rows = refl; links = refl; bytes = refl };
-          entered = (entry_of delete_asked.command, record { says = refl; leaves = refl; comes_to = refl; moves = (item_moved i, things, (bytes_eq-Decides i.identity identity).0 unaltered.1, is_item-kind_of i.content) });
+          entered = (entry_of delete_asked.command, record { says = says; leaves = refl; comes_to = refl; moves = (item_moved i, things, (bytes_eq-Decides i.identity identity).0 unaltered.1, item_kind_of i.content) });
           from_source = subst (AllByRecursion (λ m. custody (receipts_of w) (moved_thing m) ≡ Some p)) (sym things) (custody_moved w p (i ∷ []) [] register.balanced (held.0, tt) tt);
-          never_before = λ e. absurd (false≢true e);
+          never_before = λ e. absurd (false≢true (sym (by_entry is_adding (receipt_of w delete_asked) (entry_of delete_asked.command) says) ∙ e));
           agrees = subst (AllByRecursion (λ m. AllByRecursion (λ x. AllByRecursion (Agrees m) x.items) (receipts_of w))) (sym things) (agree_moved w (i ∷ []) [] register.balanced.ledger (unaltered.0, tt));
-          new_loan = λ e. absurd (false≢true e);
+          new_loan = λ e. absurd (false≢true (sym (by_entry is_splitting (receipt_of w delete_asked) (entry_of delete_asked.command) says) ∙ e));
         };
-        no_merge = refl;
+        no_merge = by_entry is_merging (receipt_of w delete_asked) (entry_of delete_asked.command) says;
         shifts = λ c _.
             let alone : sum_by c (receipt_of w delete_asked).items ≡ c (item_moved i) = ap (sum_by c) things ∙ omega arith in
-            rw (bytes_eq_itself p) (omega (arith, alone, take_one (λ j. j.identity) identity (λ j. c (item_moved j)) i (holdings w p).items (identities_once identity (holdings w p).items kept.identities) f.1));
+            rw (bytes_eq_itself p) (omega (arith, alone, take_one (λ j. j.identity) identity (λ j. c (item_moved j)) i (holdings w p).items (distinct_counts (λ j. j.identity) identity (holdings w p).items kept.identities) f.1));
         elsewhere = λ q other. (other, refl);
       }
-
-pub delete_keeps_balance : DeleteKeepsBalance
-delete_keeps_balance w id moment p identity register =
-    keeps Balanced w (delete_request id moment p identity) register.balanced
-    (λ no_reply no_refusal. one.balance_after w p (receipt_of w (delete_request id moment p identity)) (entry_of (delete_request id moment p identity).command) (delete_items w id moment p identity register) (λ x. x.links) register
-    (delete_fits w id moment p identity register no_reply no_refusal))
-
-pub delete_keeps_contents : DeleteKeepsContents
-delete_keeps_contents w id moment p identity register =
-    keeps NoneAltered w (delete_request id moment p identity) register.unaltered
-    (λ no_reply no_refusal. one.contents_after w p (receipt_of w (delete_request id moment p identity)) (entry_of (delete_request id moment p identity).command) (delete_items w id moment p identity register) (λ x. x.links) register
-    (delete_fits w id moment p identity register no_reply no_refusal) (λ x h. All-filter _ _ x.items h))
 
 -- ---- Unlink
 
@@ -106,8 +90,9 @@ module _ (w : World) (id moment p : List ℕ) (mapping : Mapping) (base media : 
   abbrev pub unlink_links : Package → List Relation
   unlink_links x = without link_key (link_key unlinked ∷ []) x.links
 
-  pub unlink_fits : kept_reply w unlink_asked ≡ None → refusal w (accepted w unlink_asked) unlink_asked ≡ None → one.Fits w p (receipt_of w unlink_asked) (entry_of unlink_asked.command) (λ x. x.items) unlink_links
-  unlink_fits no_reply no_refusal =
+  pub unlink_fits : HasTypes unlink_asked.command → kept_reply w unlink_asked ≡ None → refusal w (accepted w unlink_asked) unlink_asked ≡ None → one.Fits w p (receipt_of w unlink_asked) (entry_of unlink_asked.command) (λ x. x.items) unlink_links
+  unlink_fits types no_reply no_refusal =
+      let says : entry_from (receipt_of w unlink_asked).line ≡ Some (entry_of unlink_asked.command) = entry_from-line (entry_of unlink_asked.command) types in
       let fails : AllByRecursion (λ row. row.0 ≡ false) (reasons w (accepted w unlink_asked) unlink_asked) = rows_fail (reasons w (accepted w unlink_asked) unlink_asked) no_refusal in
       let live : is_live w p ≡ true = and_true (is_live w p) (not_false (is_live w p && true) fails.1.0) in
       let there : has_link (holdings w p) mapping base media ≡ true = not_false (has_link (holdings w p) mapping base media) fails.1.1.1.1.1.1.1.1.1.1.1.1.0 in
@@ -116,7 +101,7 @@ module _ (w : World) (id moment p : List ℕ) (mapping : Mapping) (base media : 
       let kept : IsKeptPackage w (holdings w p) = kept_at w p register live in
       let held : holds (holdings w p) (link_key unlinked) ≡ true = subst (λ z. holds (holdings w p) z ≡ true) same (All-found (λ j. holds (holdings w p) (link_key j) ≡ true) (λ l. bytes_eq (link_key l) (link_key unlinked)) f.0 (holdings w p).links f.1 (links_held (holdings w p))).0 in
       record {
-        says = refl;
+        says = says;
         stands = refl;
         live = live;
         may = record {
@@ -125,25 +110,13 @@ module _ (w : World) (id moment p : List ℕ) (mapping : Mapping) (base media : 
           things = things_moved [] (unlinked ∷ []);
           in_order = order_moved [] (unlinked ∷ []) tt (tt, tt);
           counts = record { tiles = refl; media = refl; rows = refl; links = refl; bytes = refl };
-          entered = (entry_of unlink_asked.command, record { says = refl; leaves = refl; comes_to = refl; moves = refl });
+          entered = (entry_of unlink_asked.command, record { says = says; leaves = refl; comes_to = refl; moves = refl });
           from_source = custody_moved w p [] (unlinked ∷ []) register.balanced tt (held, tt);
-          never_before = λ e. absurd (false≢true e);
+          never_before = λ e. absurd (false≢true (sym (by_entry is_adding (receipt_of w unlink_asked) (entry_of unlink_asked.command) says) ∙ e));
           agrees = agree_moved w [] (unlinked ∷ []) register.balanced.ledger tt;
-          new_loan = λ e. absurd (false≢true e);
+          new_loan = λ e. absurd (false≢true (sym (by_entry is_splitting (receipt_of w unlink_asked) (entry_of unlink_asked.command) says) ∙ e));
         };
-        no_merge = refl;
+        no_merge = by_entry is_merging (receipt_of w unlink_asked) (entry_of unlink_asked.command) says;
         shifts = λ c sees. rw (bytes_eq_itself p) (omega (arith, sees f.0 unlinked same, take_one link_key (link_key unlinked) (λ l. c (link_moved l)) f.0 (holdings w p).links (counts_arranged link_key (link_key unlinked) (holdings w p).links kept.links) f.1));
         elsewhere = λ q other. (other, refl);
       }
-
-pub unlink_keeps_balance : UnlinkKeepsBalance
-unlink_keeps_balance w id moment p mapping base media register =
-    keeps Balanced w (unlink_request id moment p mapping base media) register.balanced
-    (λ no_reply no_refusal. one.balance_after w p (receipt_of w (unlink_request id moment p mapping base media)) (entry_of (unlink_request id moment p mapping base media).command) (λ x. x.items) (unlink_links w id moment p mapping base media register) register
-    (unlink_fits w id moment p mapping base media register no_reply no_refusal))
-
-pub unlink_keeps_contents : UnlinkKeepsContents
-unlink_keeps_contents w id moment p mapping base media register =
-    keeps NoneAltered w (unlink_request id moment p mapping base media) register.unaltered
-    (λ no_reply no_refusal. one.contents_after w p (receipt_of w (unlink_request id moment p mapping base media)) (entry_of (unlink_request id moment p mapping base media).command) (λ x. x.items) (unlink_links w id moment p mapping base media register) register
-    (unlink_fits w id moment p mapping base media register no_reply no_refusal) (λ x h. h))

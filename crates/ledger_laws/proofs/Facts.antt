@@ -1,20 +1,27 @@
 -- What a sound ledger says of each thing that it names, and what a register says of each thing that it holds.
-use Rattle.std.specs.Prelude.{◌≡◌, ℕ, ◌≤◌, ◌<◌, ◌==◌, Bool, true, false, ◌||◌, List, [], ◌∷◌, ◌++◌, map, filter, find, length, refl, bytes_eq, Option, Some, None, count_by, slice_index}
+use Rattle.std.specs.Prelude.{is_some, unwrap_or, if◌then◌else◌, pos, ◌&&◌, ◌≡◌, ℕ, ◌≤◌, ◌<◌, ◌==◌, Bool, true, false, ◌||◌, List, [], ◌∷◌, ◌++◌, map, find, length, refl, bytes_eq, Option, Some, None, count_by, slice_index}
 use Rattle.std.proofs.Common.{sym, ap, subst, ◌∙◌, arith, length-append}
 use Rattle.std.proofs.lemmas.List.{append-nil}
-use Rattle.std.proofs.lemmas.List.Elements.{All-contains, All-from_recursion}
 use Rattle.std.proofs.lemmas.Map.Keys.{IsDistinct-head, IsDistinct-tail}
-use Rattle.std.proofs.lemmas.Bool.{true≢false, or_parts, lt-ltb, MatchBool-at_false}
+use Rattle.std.proofs.lemmas.Bool.{lt-ltb, false≢true, and_parts, eqb-true, MatchBool-at_false}
 use Rattle.std.proofs.lemmas.Slice.Eq.{bytes_eq-Decides}
 use Rattle.std.specs.List.{list_any, AllByRecursion, IsDistinct}
-use Rattle.std.specs.Option.{option_and_then}
-use Rattle.sheet_types.specs.Ordered.{has, is_before, IsArranged, last_of}
+use Rattle.sheet_types.specs.Ordered.{has, is_before, IsArranged}
 use Rattle.sheet_types.specs.Texts.{Entry, Adds, Deletes, Links, Unlinks, Splits, Merges}
 use Rattle.sheet_types.specs.World.{World, Package, receipt_key, receipts_of, holdings, is_live, item_moved, link_moved, moved_thing, moved_key, item_thing, item_key, link_key, link_kind, is_item_kind}
-use Rattle.sheet_types.specs.Custody.{names, custody}
+use Rattle.sheet_types.specs.Custody.{names, custody, is_add}
+use Rattle.sheet_types.specs.Lines.{is_uuid, is_number, is_bytes, is_adding}
+use Rattle.sheet_types.proofs.LineReading.{line-entry_from}
+use Rattle.sheet_types.specs.declared.receipt.MovedKind.{MovedKind}
+use Rattle.sheet_types.specs.Balance.{names_as}
+use Rattle.ledger_laws.proofs.Ledger.{by_entry}
+use Rattle.sheet_types.proofs.Basics.{or-false, or-true}
+use Rattle.sheet_types.specs.World.{thing_number, kind_number}
+use Rattle.sheet_types.specs.Texts.{size, fingerprint}
 use Rattle.sheet_types.specs.Cut.{identities, moved_of}
 use Rattle.sheet_types.specs.Step.{added_item}
-use Rattle.sheet_types.specs.Balance.{Balanced, IsLedger, MayFollow, IsReceiptOf, IsThing, Agrees, archive_of, holds, IsUnaltered}
+use Rattle.ledger_laws.proofs.Contents.{IsUnaltered}
+use Rattle.sheet_types.specs.Balance.{Balanced, IsLedger, IsReceiptOf, IsThing, Agrees, archive_of, holds}
 use Rattle.sheet_types.specs.Register.{IsRegister, IsKeptPackage}
 use Rattle.sheet_types.specs.declared.command.Content.{Content}
 use Rattle.sheet_types.specs.declared.command.Content.TheVariants.{Tile, Media, Row}
@@ -24,9 +31,12 @@ use Rattle.sheet_types.specs.declared.command.Mapping.TheVariants.{TilesMedia, R
 use Rattle.sheet_types.specs.declared.command.Relation.{Relation}
 use Rattle.sheet_types.specs.declared.receipt.Moved.{Moved}
 use Rattle.sheet_types.specs.declared.receipt.Receipt.{Receipt}
-use Rattle.sheet_types.proofs.Order.{before_numbers}
-use Rattle.ledger_laws.proofs.Adding.{bytes_eq_itself, All-weaker, All-left, All-right, All-snoc, None≢Some, item_kind_by_number, thing_of}
-use Rattle.ledger_laws.proofs.Listing.{bytes_eq_swap, All-both, All-append, All-map, All-each, found, All-found, any_none, count-cons, count_none, counts_arranged}
+use Rattle.sheet_types.proofs.Order.{before_numbers, counts_arranged}
+use Rattle.sheet_types.proofs.Basics.{bytes_eq_itself, bytes_eq_swap}
+use Rattle.sheet_types.proofs.Every.{All-weaker, All-left, All-right, All-both, All-append, All-map, All-each, All-of_map}
+use Rattle.ledger_laws.proofs.Ledger.{item_kind_by_number, thing_of}
+use Rattle.sheet_types.proofs.Found.{found, All-found}
+use Rattle.sheet_types.proofs.Sums.{any_none, count-cons, count_none}
 use Rattle.ledger_laws.proofs.Packages.{at_all, holdings_none}
 use Rattle.ledger_laws.proofs.Shifting.{weighed, counting, count_items, count_links, thing_item, thing_link}
 
@@ -80,59 +90,57 @@ single_agree archive past (r ∷ rs) h = (
       rs (single_agree archive (past ++ r ∷ []) rs h.1),
 )
 
+-- the entry of each receipt
+ledger_entered : (archive : List ℕ) (past rs : List Receipt) → IsLedger archive past rs → AllByRecursion (λ s. (e : Entry) × IsReceiptOf s e) rs
+ledger_entered archive past [] h = tt
+ledger_entered archive past (r ∷ rs) h = (h.0.entered, ledger_entered archive (past ++ r ∷ []) rs h.1)
+
+-- an Add receipt names one thing, which is an item
+added_thing : (r : Receipt) (e : Entry) → IsReceiptOf r e → is_add r ≡ true → (m : Moved) × (r.items ≡ m ∷ []) × (is_item_kind m.kind ≡ true) × (m.other ≡ None) × (is_some m.fingerprint ≡ true)
+added_thing r (Adds p identity kind size digest) of add =
+    let fit : (is_uuid p && is_uuid identity && is_item_kind kind && is_number (pos size) && is_bytes 32 digest) ≡ true = (line-entry_from r.line (Adds p identity kind size digest) of.says).0 in
+    let upto : ((is_uuid p && is_uuid identity && is_item_kind kind && is_number (pos size)) ≡ true) × (is_bytes 32 digest ≡ true) = and_parts (is_uuid p && is_uuid identity && is_item_kind kind && is_number (pos size)) (is_bytes 32 digest) fit in
+    let item : is_item_kind kind ≡ true = (and_parts (is_uuid p && is_uuid identity) (is_item_kind kind) (and_parts (is_uuid p && is_uuid identity && is_item_kind kind) (is_number (pos size)) upto.0).0).1 in
+    (record { kind = kind; base = identity; other = None; size = size; fingerprint = Some digest }, of.moves, item, refl, refl)
+added_thing r (Deletes p identity) of add = absurd (false≢true (sym (by_entry is_adding r (Deletes p identity) of.says) ∙ add))
+added_thing r (Links p mapping base media) of add = absurd (false≢true (sym (by_entry is_adding r (Links p mapping base media) of.says) ∙ add))
+added_thing r (Unlinks p mapping base media) of add = absurd (false≢true (sym (by_entry is_adding r (Unlinks p mapping base media) of.says) ∙ add))
+added_thing r (Splits p child mode rect) of add = absurd (false≢true (sym (by_entry is_adding r (Splits p child mode rect) of.says) ∙ add))
+added_thing r (Merges child into ticket) of add = absurd (false≢true (sym (by_entry is_adding r (Merges child into ticket) of.says) ∙ add))
+
+digest_is : (o : Option (List ℕ)) (d : List ℕ) → is_some o ≡ true → bytes_eq (unwrap_or o []) d ≡ true → o ≡ Some d
+digest_is None d h e = absurd (false≢true h)
+digest_is (Some x) d h e = ap Some ((bytes_eq-Decides x d).0 e)
+
+item_number : (kind : MovedKind) → is_item_kind kind ≡ true → thing_number kind ≡ 0
+item_number kind h = ap (λ b. if b then 0 else kind_number kind) h
+
+-- what a receipt names with an item's identity, size and digest agrees as the item does
+agrees_as : (i : Item) (m n : Moved) → is_item_kind m.kind ≡ true → m.other ≡ None → is_some m.fingerprint ≡ true → names_as i m ≡ true → Agrees m n → Agrees (item_moved i) n
+agrees_as i m n item alone some names agrees same =
+    let two : ((bytes_eq m.base i.identity && (m.size == size i.content)) ≡ true) × (bytes_eq (unwrap_or m.fingerprint []) (fingerprint i.content) ≡ true) = and_parts (bytes_eq m.base i.identity && (m.size == size i.content)) (bytes_eq (unwrap_or m.fingerprint []) (fingerprint i.content)) names in
+    let one : (bytes_eq m.base i.identity ≡ true) × ((m.size == size i.content) ≡ true) = and_parts (bytes_eq m.base i.identity) (m.size == size i.content) two.0 in
+    let thing : moved_thing m ≡ item_thing i = (λ j. item_number m.kind item j ∷ (bytes_eq-Decides m.base i.identity).0 one.0 j ++ unwrap_or (alone j) []) ∙ ap (λ zs. 0 ∷ zs) (append-nil i.identity) in
+    let is : (m.size ≡ n.size) × (m.fingerprint ≡ n.fingerprint) = agrees (ap (bytes_eq (moved_thing n)) (thing ∙ sym (thing_item i)) ∙ same) in
+    (sym (eqb-true m.size (size i.content) one.1) ∙ is.0, sym (digest_is m.fingerprint (fingerprint i.content) some two.1) ∙ is.1)
+
 -- what is unaltered agrees with all that the ledger says
 pub unaltered_agrees : (w : World) (i : Item) → IsLedger (archive_of w) [] (receipts_of w) → IsUnaltered w i → AllByRecursion (λ t. AllByRecursion (Agrees (item_moved i)) t.items) (receipts_of w)
 unaltered_agrees w i sound h =
-    (All-contains (λ s. (m : Moved) → s.items ≡ m ∷ [] → AgreeAll m [] × AgreeAll m (receipts_of w)) (receipts_of w) h.0
-    (All-from_recursion (λ s. (m : Moved) → s.items ≡ m ∷ [] → AgreeAll m [] × AgreeAll m (receipts_of w)) (receipts_of w) (single_agree (archive_of w) [] (receipts_of w) sound)) h.1 (item_moved i) h.3).1
-
--- a thing that has stood somewhere was named
-pub named_before : (thing p : List ℕ) (past : List Receipt) → custody past thing ≡ Some p → list_any (names thing) past ≡ true
-named_before thing p past at =
-    elim (list_any (names thing) past) as (λ v. list_any (names thing) past ≡ v → v ≡ true) [
-      | true ↦ λ _. refl
-      | false ↦ λ none. absurd (None≢Some (sym (ap (λ rs. option_and_then (λ r. r.target) (last_of rs)) (none_kept past none)) ∙ at))
-    ] refl
-  where
-    none_kept : (rs : List Receipt) → list_any (names thing) rs ≡ false → filter (names thing) rs ≡ []
-    none_kept [] h = refl
-    none_kept (r ∷ rs) h = let parts : (names thing r ≡ false) × (list_any (names thing) rs ≡ false) = or_parts (names thing r) (list_any (names thing) rs) h in rw parts.0 (none_kept rs parts.1)
-
--- a link has no digest
-abbrev pub HasNoDigest : Moved → Type 0
-HasNoDigest m = is_item_kind m.kind ≡ false → m.fingerprint ≡ None
+    let says : Receipt → Bool = λ s. is_add s && list_any (names_as i) s.items in
+    let Single : Receipt → Type 0 = λ s. (m : Moved) → s.items ≡ m ∷ [] → AgreeAll m [] × AgreeAll m (receipts_of w) in
+    let Both : Receipt → Type 0 = λ s. ((e : Entry) × IsReceiptOf s e) × Single s in
+    let s : (s : Receipt) × (find says (receipts_of w) ≡ Some s) = found says (receipts_of w) h in
+    let of : Both s.0 × (says s.0 ≡ true) = All-found Both says s.0 (receipts_of w) s.1
+    (All-both (λ x. (e : Entry) × IsReceiptOf x e) Single Both (λ x a b. (a, b)) (receipts_of w) (ledger_entered (archive_of w) [] (receipts_of w) sound) (single_agree (archive_of w) [] (receipts_of w) sound)) in
+    let tests : (is_add s.0 ≡ true) × (list_any (names_as i) s.0.items ≡ true) = and_parts (is_add s.0) (list_any (names_as i) s.0.items) of.1 in
+    let m : (m : Moved) × (s.0.items ≡ m ∷ []) × (is_item_kind m.kind ≡ true) × (m.other ≡ None) × (is_some m.fingerprint ≡ true) = added_thing s.0 of.0.0.0 of.0.0.1 tests.0 in
+    let names : names_as i m.0 ≡ true = sym (or-false (names_as i m.0)) ∙ sym (ap (list_any (names_as i)) m.1) ∙ tests.1 in
+    All-weaker (λ t. AllByRecursion (Agrees m.0) t.items) (λ t. AllByRecursion (Agrees (item_moved i)) t.items)
+    (λ t. All-weaker (Agrees m.0) (Agrees (item_moved i)) (λ n. agrees_as i m.0 n m.2 m.3 m.4 names) t.items) (receipts_of w) (of.0.1 m.0 m.1).1
 
 same_kind : (m n : Moved) → bytes_eq (moved_thing n) (moved_thing m) ≡ true → is_item_kind n.kind ≡ is_item_kind m.kind
 same_kind m n same = item_kind_by_number n.kind ∙ ap (λ k. k == 0) (ap (λ zs. slice_index zs 0) ((bytes_eq-Decides (moved_thing n) (moved_thing m)).0 same)) ∙ sym (item_kind_by_number m.kind)
-
-no_digest_taken : (past : List Receipt) (p : List ℕ) (source : Option (List ℕ)) → source ≡ Some p → AllByRecursion (λ s. AllByRecursion HasNoDigest s.items) past → (ms : List Moved) → AllByRecursion (λ m. custody past (moved_thing m) ≡ source) ms
-    → AllByRecursion (λ m. AllByRecursion (λ x. AllByRecursion (Agrees m) x.items) past) ms → AllByRecursion HasNoDigest ms
-no_digest_taken past p source takes none [] from agree = tt
-no_digest_taken past p source takes none (m ∷ ms) from agree = (
-  λ link.
-      let s : (s : Receipt) × (find (names (moved_thing m)) past ≡ Some s) = found (names (moved_thing m)) past (named_before (moved_thing m) p past (from.0 ∙ takes)) in
-      let agrees : AllByRecursion (Agrees m) s.0.items × (names (moved_thing m) s.0 ≡ true) = All-found (λ x. AllByRecursion (Agrees m) x.items) (names (moved_thing m)) s.0 past s.1 agree.0 in
-      let nones : AllByRecursion HasNoDigest s.0.items × (names (moved_thing m) s.0 ≡ true) = All-found (λ x. AllByRecursion HasNoDigest x.items) (names (moved_thing m)) s.0 past s.1 none in
-      let x : (x : Moved) × (find (λ y. bytes_eq (moved_thing y) (moved_thing m)) s.0.items ≡ Some x) = found (λ y. bytes_eq (moved_thing y) (moved_thing m)) s.0.items agrees.1 in
-      let ag : Agrees m x.0 × (bytes_eq (moved_thing x.0) (moved_thing m) ≡ true) = All-found (Agrees m) (λ y. bytes_eq (moved_thing y) (moved_thing m)) x.0 s.0.items x.1 agrees.0 in
-      let no_digest : HasNoDigest x.0 × (bytes_eq (moved_thing x.0) (moved_thing m) ≡ true) = All-found HasNoDigest (λ y. bytes_eq (moved_thing y) (moved_thing m)) x.0 s.0.items x.1 nones.0 in
-      (ag.0 ag.1).1 ∙ no_digest.0 (same_kind m x.0 ag.1 ∙ link),
-  no_digest_taken past p source takes none ms from.1 agree.1,
-)
-
-no_digest_in : (archive : List ℕ) (past : List Receipt) (r : Receipt) → MayFollow archive past r → AllByRecursion (λ s. AllByRecursion HasNoDigest s.items) past → (e : Entry) → IsReceiptOf r e → AllByRecursion HasNoDigest r.items
-no_digest_in archive past r may none (Adds p identity kind size digest) of = subst (AllByRecursion HasNoDigest) (sym of.moves.0) ((λ link. absurd (true≢false (sym of.moves.2 ∙ link))), tt)
-no_digest_in archive past r may none (Deletes p identity) of = subst (AllByRecursion HasNoDigest) (sym of.moves.1) ((λ link. absurd (true≢false (sym of.moves.3 ∙ link))), tt)
-no_digest_in archive past r may none (Links p mapping base media) of = subst (AllByRecursion HasNoDigest) (sym of.moves) ((λ _. refl), tt)
-no_digest_in archive past r may none (Unlinks p mapping base media) of = subst (AllByRecursion HasNoDigest) (sym of.moves) ((λ _. refl), tt)
-no_digest_in archive past r may none (Splits p child mode rect) of = no_digest_taken past p r.source of.leaves none r.items may.from_source may.agrees
-no_digest_in archive past r may none (Merges child into ticket) of = no_digest_taken past child r.source of.leaves none r.items may.from_source may.agrees
-
-pub ledger_no_digest : (archive : List ℕ) (past rs : List Receipt) → IsLedger archive past rs → AllByRecursion (λ s. AllByRecursion HasNoDigest s.items) past → AllByRecursion (λ s. AllByRecursion HasNoDigest s.items) rs
-ledger_no_digest archive past [] h none = tt
-ledger_no_digest archive past (r ∷ rs) h none =
-    let here : AllByRecursion HasNoDigest r.items = no_digest_in archive past r h.0 none h.0.entered.0 h.0.entered.1 in
-    (here, ledger_no_digest archive (past ++ r ∷ []) rs h.1 (All-snoc (λ s. AllByRecursion HasNoDigest s.items) past r none here))
 
 link_number : (mapping : Mapping) → is_item_kind (link_kind mapping) ≡ false
 link_number TilesMedia = refl
@@ -140,13 +148,13 @@ link_number RowsMedia = refl
 
 pub link_agrees : (w : World) (l : Relation) → IsLedger (archive_of w) [] (receipts_of w) → AllByRecursion (λ t. AllByRecursion (Agrees (link_moved l)) t.items) (receipts_of w)
 link_agrees w l sound =
-    All-both (λ s. AllByRecursion IsThing s.items) (λ s. AllByRecursion HasNoDigest s.items) (λ s. AllByRecursion (Agrees (link_moved l)) s.items)
-    (λ s. All-both IsThing HasNoDigest (Agrees (link_moved l)) one_link s.items) (receipts_of w) (ledger_things (archive_of w) [] (receipts_of w) sound) (ledger_no_digest (archive_of w) [] (receipts_of w) sound tt)
+    All-weaker (λ s. AllByRecursion IsThing s.items) (λ s. AllByRecursion (Agrees (link_moved l)) s.items) (λ s. All-weaker IsThing (Agrees (link_moved l)) one_link s.items) (receipts_of w) (ledger_things (archive_of w) [] (receipts_of w) sound)
   where
-    one_link : (n : Moved) → IsThing n → HasNoDigest n → Agrees (link_moved l) n
-    one_link n thing none same =
+    one_link : (n : Moved) → IsThing n → Agrees (link_moved l) n
+    one_link n thing same =
         let link : is_item_kind n.kind ≡ false = same_kind (link_moved l) n same ∙ link_number l.mapping in
-        (sym (MatchBool-at_false (n.other ≡ None) (n.size ≡ 0) link thing), sym (none link))
+        let is : (is_some n.other ≡ true) × (n.size ≡ 0) × (n.fingerprint ≡ None) = MatchBool-at_false ((n.other ≡ None) × (is_some n.fingerprint ≡ true)) ((is_some n.other ≡ true) × (n.size ≡ 0) × (n.fingerprint ≡ None)) link thing in
+        (sym is.1, sym is.2)
 
 -- ---- what a receipt of items and links says
 
@@ -154,7 +162,7 @@ pub item_is_thing : (i : Item) → IsThing (item_moved i)
 item_is_thing i = thing_of i.identity i.content
 
 pub link_is_thing : (l : Relation) → IsThing (link_moved l)
-link_is_thing l = elim l.mapping as (λ m. IsThing (link_moved (record { mapping = m; base = l.base; media = l.media }))) [ TilesMedia ↦ refl | RowsMedia ↦ refl ]
+link_is_thing l = elim l.mapping as (λ m. IsThing (link_moved (record { mapping = m; base = l.base; media = l.media }))) [ TilesMedia ↦ (refl, refl, refl) | RowsMedia ↦ (refl, refl, refl) ]
 
 pub things_moved : (items : List Item) (links : List Relation) → AllByRecursion IsThing (moved_of items links)
 things_moved items links = All-append IsThing (map item_moved items) (map link_moved links) (All-map IsThing item_moved items (All-each (λ i. IsThing (item_moved i)) item_is_thing items)) (All-map IsThing link_moved links (All-each (λ l. IsThing (link_moved l)) link_is_thing links))
@@ -208,28 +216,16 @@ pub self_has : {X : Type 0} (key : X → List ℕ) (xs : List X) → AllByRecurs
 self_has key [] = tt
 self_has key (x ∷ xs) = (
   ap (λ b. b || has key (key x) xs) (bytes_eq_itself (key x)),
-  All-weaker (λ y. has key (key y) xs ≡ true) (λ y. has key (key y) (x ∷ xs) ≡ true) (λ y h. ap (λ b. bytes_eq (key x) (key y) || b) h ∙ or_true (bytes_eq (key x) (key y))) xs (self_has key xs),
+  All-weaker (λ y. has key (key y) xs ≡ true) (λ y. has key (key y) (x ∷ xs) ≡ true) (λ y h. ap (λ b. bytes_eq (key x) (key y) || b) h ∙ or-true (bytes_eq (key x) (key y))) xs (self_has key xs),
 )
-  where
-    or_true : (b : Bool) → (b || true) ≡ true
-    or_true true = refl
-    or_true false = refl
 
 pub items_held : (x : Package) → AllByRecursion (λ i. holds x (item_thing i) ≡ true) x.items
 items_held x = All-weaker (λ i. has item_thing (item_thing i) x.items ≡ true) (λ i. holds x (item_thing i) ≡ true) (λ i h. ap (λ b. b || has link_key (item_thing i) x.links) h) x.items (self_has item_thing x.items)
 
 pub links_held : (x : Package) → AllByRecursion (λ l. holds x (link_key l) ≡ true) x.links
-links_held x = All-weaker (λ l. has link_key (link_key l) x.links ≡ true) (λ l. holds x (link_key l) ≡ true) (λ l h. ap (λ b. has item_thing (link_key l) x.items || b) h ∙ or_true' (has item_thing (link_key l) x.items)) x.links (self_has link_key x.links)
-  where
-    or_true' : (b : Bool) → (b || true) ≡ true
-    or_true' true = refl
-    or_true' false = refl
+links_held x = All-weaker (λ l. has link_key (link_key l) x.links ≡ true) (λ l. holds x (link_key l) ≡ true) (λ l h. ap (λ b. has item_thing (link_key l) x.items || b) h ∙ or-true (has item_thing (link_key l) x.items)) x.links (self_has link_key x.links)
 
 -- ---- a package holds each thing once
-
-pub All-of_map : {X Y : Type 0} (P : Y → Type 0) (f : X → Y) (xs : List X) → AllByRecursion P (map f xs) → AllByRecursion (λ x. P (f x)) xs
-All-of_map P f [] h = tt
-All-of_map P f (x ∷ xs) h = (h.0, All-of_map P f xs h.1)
 
 items_once : (thing : List ℕ) (items : List Item) → IsDistinct bytes_eq (identities items) → count_by (λ i. bytes_eq (item_thing i) thing) items ≤ 1
 items_once thing [] h = omega arith

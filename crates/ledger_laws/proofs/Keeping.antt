@@ -1,44 +1,40 @@
 -- What it takes to keep the rules of a register, whatever the command.
-use Rattle.std.specs.Prelude.{◌≡◌, ℕ, ℤ, ◌+◌, ◌≤◌, ◌<◌, Bool, true, false, cond, not, ◌&&◌, ◌||◌, List, [], ◌∷◌, ◌++◌, map, filter, find, refl, nat_lt, bytes_eq, Option, Some, None, unwrap_or, is_some, sum_by, count_by, MatchOption, int_le, int_lt, pos, negsuc, unsigned_abs, slice_index, is_none, ◌+ℤ◌}
-use Rattle.sheet_types.specs.Refuse.{is_at, takes_place, place_of, bad_place}
-use Rattle.sheet_types.specs.World.{is_tile, kind_is, item_key, link_key, kind_number, base_kind}
-use Rattle.sheet_types.specs.Register.{HasEnds, IsUuid}
+use Rattle.std.specs.Prelude.{◌≡◌, ℕ, ℤ, ◌+◌, ◌≤◌, ◌<◌, Bool, true, false, cond, not, ◌&&◌, ◌||◌, List, [], ◌∷◌, ◌++◌, map, filter, find, refl, nat_lt, bytes_eq, Option, Some, None, unwrap_or, is_some, sum_by, count_by, MatchOption, int_le, int_lt, pos, negsuc, unsigned_abs, slice_index, is_none, ◌+ℤ◌, ◌*ℤ◌, ◌-ℤ◌}
+use Rattle.sheet_types.specs.Refuse.{is_at, takes_place, place_of, bad_place, greatest_depth}
+use Rattle.sheet_types.specs.World.{is_tile, kind_is, item_key, link_key, kind_number, base_kind, other_kind, World, Package, package_key, receipt_key, receipts_of, holdings, no_package, is_live}
+use Rattle.sheet_types.specs.Lines.{IsUuid}
+use Rattle.sheet_types.specs.Register.{HasEnds, IsFit, HasParent, IsKeptPackage}
 use Rattle.sheet_types.specs.declared.command.Relation.{Relation}
 use Rattle.sheet_types.specs.declared.receipt.MovedKind.{MovedKind}
-use Rattle.sheet_types.specs.declared.receipt.MovedKind.TheVariants.{MediaItem}
-use Rattle.std.proofs.Common.{drop}
-use Rattle.ledger_laws.proofs.Listing.{All-filter, filter_arranged}
-use Rattle.sheet_types.specs.Texts.{kind_of}
 use Rattle.sheet_types.specs.declared.receipt.MovedKind.TheVariants.{TileItem}
+use Rattle.std.proofs.Common.{drop, sym, ap, subst, ◌∙◌, arith, rules}
+use Rattle.sheet_types.proofs.Every.{All-filter, none_pass, All-each, All-weaker, All-snoc, All-both, All-taken}
+use Rattle.sheet_types.proofs.Order.{filter_arranged, before_numbers, put_arranged}
+use Rattle.sheet_types.specs.Texts.{kind_of}
 use Rattle.sheet_types.specs.declared.command.Command.TheVariants.{Add}
 use Rattle.sheet_types.specs.declared.frame.FrameFault.{FrameFault}
-use Rattle.ledger_laws.proofs.Adding.{none_pass, rows_fail}
-use Rattle.ledger_laws.proofs.Listing.{All-each, All-found, found, any_none, sum_by-same}
-use Rattle.std.proofs.Common.{sym, ap, subst, ◌∙◌, arith, rules}
+use Rattle.ledger_laws.proofs.Accepting.{rows_fail}
+use Rattle.sheet_types.proofs.Found.{All-found, found, any_filter}
+use Rattle.sheet_types.proofs.Sums.{sum_by-same, sum_by-filter, filter_less}
 use Rattle.std.proofs.lemmas.List.Elements.{filter-append}
 use Rattle.std.proofs.lemmas.List.Folds.{list_any-append}
 use Rattle.std.proofs.lemmas.List.Sums.{sum_by-cons}
-use Rattle.std.proofs.lemmas.Map.Keys.{IsDistinct-head, IsDistinct-tail, IsDistinct-cons}
 use Rattle.std.proofs.lemmas.Bool.{true≢false, false≢true, or_parts, and_parts, and_from, lt-ltb}
 use Rattle.std.proofs.lemmas.Slice.Eq.{bytes_eq-Decides}
 use Rattle.std.specs.List.{list_any, AllByRecursion, IsDistinct}
 use Rattle.sheet_types.specs.Ordered.{has, put, without, is_among, IsArranged}
-use Rattle.sheet_types.specs.World.{World, Package, package_key, receipt_key, receipts_of, holdings, no_package, is_live}
 use Rattle.sheet_types.specs.Custody.{ends_at, is_merge, is_split, after, is_open_among}
 use Rattle.sheet_types.specs.Matrix.{has_place, has_level, width_at, height_at, level_of, in_frame, is_within, is_good_frame, frame_fault, is_good_bound, divides, last_level, ten_to_12}
-use Rattle.std.specs.Prelude.{◌*ℤ◌, ◌-ℤ◌}
 use Rattle.sheet_types.specs.declared.frame.FrameFault.TheVariants.{BadSrs, BadBounds, BadTile, BadZoom, BadMatrix, Uneven}
-use Rattle.sheet_types.specs.Register.{IsFit, HasParent, IsKeptPackage}
 use Rattle.sheet_types.specs.declared.command.Content.{Content}
 use Rattle.sheet_types.specs.declared.command.Content.TheVariants.{Tile, Media, Row}
 use Rattle.sheet_types.specs.declared.command.Item.{Item}
 use Rattle.sheet_types.specs.declared.frame.Frame.{Frame}
 use Rattle.sheet_types.specs.declared.receipt.Receipt.{Receipt}
-use Rattle.sheet_types.proofs.Order.{before_numbers}
-use Rattle.ledger_laws.proofs.Adding.{bytes_eq_itself, All-weaker, All-snoc, not_false, before-differs}
-use Rattle.ledger_laws.proofs.Listing.{bytes_eq_swap, All-both, All-map, is_one, count-cons, count_none, none_counted, sum_by-parts, put_arranged}
-use Rattle.ledger_laws.proofs.Facts.{All-of_map}
+use Rattle.sheet_types.proofs.Basics.{bytes_eq_itself, not_false, before-differs, bytes_eq_swap, not_true, or-true}
+use Rattle.sheet_types.proofs.Without.{is_one}
 use Rattle.ledger_laws.proofs.Packages.{at_uuid, each_found}
+use Rattle.sheet_types.proofs.Distinct.{distinct_counts, counts_distinct}
 
 -- ---- an item is fit in any package of the frame
 
@@ -52,37 +48,6 @@ fit_all w v e x y items h = All-weaker (IsFit w x) (IsFit v y) (λ i. fit_moves 
 
 -- ---- distinct lists by counts
 
-pub distinct_counts : {X : Type 0} (f : X → List ℕ) (k : List ℕ) (xs : List X) → IsDistinct bytes_eq (map f xs) → count_by (λ x. bytes_eq (f x) k) xs ≤ 1
-distinct_counts f k [] h = omega arith
-distinct_counts f k (x ∷ xs) h =
-    elim (bytes_eq (f x) k) as (λ v. bytes_eq (f x) k ≡ v → count_by (λ y. bytes_eq (f y) k) (x ∷ xs) ≤ 1) [
-      | true ↦ λ e.
-          let others : AllByRecursion (λ y. bytes_eq (f y) k ≡ false) xs =
-          All-weaker (λ y. bytes_eq (f x) (f y) ≡ false) (λ y. bytes_eq (f y) k ≡ false) (λ y d. ap (bytes_eq (f y)) (sym ((bytes_eq-Decides (f x) k).0 e)) ∙ bytes_eq_swap (f y) (f x) ∙ d) xs
-          (All-of_map (λ z. bytes_eq (f x) z ≡ false) f xs (IsDistinct-head bytes_eq (f x) (map f xs) h)) in
-          omega (arith, count-cons (λ y. bytes_eq (f y) k) x xs true e, count_none (λ y. bytes_eq (f y) k) xs others)
-      | false ↦ λ e. omega (arith, count-cons (λ y. bytes_eq (f y) k) x xs false e, distinct_counts f k xs (IsDistinct-tail bytes_eq (f x) (map f xs) h))
-    ] refl
-
-pub counts_distinct : {X : Type 0} (f : X → List ℕ) (xs : List X) → ((k : List ℕ) → count_by (λ x. bytes_eq (f x) k) xs ≤ 1) → IsDistinct bytes_eq (map f xs)
-unfolding IsDistinct
-counts_distinct f [] h = tt
-counts_distinct f (x ∷ xs) h =
-    let none : AllByRecursion (λ y. bytes_eq (f y) (f x) ≡ false) xs = none_counted (λ y. bytes_eq (f y) (f x)) xs (omega (arith, h (f x), count-cons (λ y. bytes_eq (f y) (f x)) x xs true (bytes_eq_itself (f x)))) in
-    IsDistinct-cons bytes_eq (f x) (map f xs) (All-map (λ z. bytes_eq (f x) z ≡ false) f xs (All-weaker (λ y. bytes_eq (f y) (f x) ≡ false) (λ y. bytes_eq (f x) (f y) ≡ false) (λ y d. bytes_eq_swap (f x) (f y) ∙ d) xs none))
-    (counts_distinct f xs (λ k. omega (arith, h k, sum_by-cons (λ y. cond (bytes_eq (f y) k) 1 0) x xs)))
-
-pub sum_by-filter : {X : Type 0} (f : X → ℕ) (t : X → Bool) (xs : List X) → sum_by f (filter t xs) ≡ sum_by (λ x. cond (t x) (f x) 0) xs
-sum_by-filter f t [] = refl
-sum_by-filter f t (x ∷ xs) =
-    elim (t x) as (λ v. t x ≡ v → sum_by f (cond v (x ∷ filter t xs) (filter t xs)) ≡ sum_by (λ y. cond (t y) (f y) 0) (x ∷ xs)) [
-      | true ↦ λ e. omega (arith, sum_by-cons f x (filter t xs), sum_by-cons (λ y. cond (t y) (f y) 0) x xs, sum_by-filter f t xs, ap (λ b. cond b (f x) 0) e)
-      | false ↦ λ e. omega (arith, sum_by-cons (λ y. cond (t y) (f y) 0) x xs, sum_by-filter f t xs, ap (λ b. cond b (f x) 0) e)
-    ] refl
-
-pub filter_less : {X : Type 0} (f : X → ℕ) (t : X → Bool) (xs : List X) → sum_by f (filter t xs) ≤ sum_by f xs
-filter_less f t xs = omega (arith, sum_by-parts f t xs)
-
 -- ---- packages, live ones alone
 
 pub all_live_at : (w : World) (P : Package → Type 0) → IsArranged package_key w.packages → ((p : List ℕ) → is_live w p ≡ true → P (holdings w p)) → AllByRecursion P w.packages
@@ -90,15 +55,11 @@ all_live_at w P distinct h =
     All-both (λ x. find (at_uuid x.uuid) w.packages ≡ Some x) (λ x. is_live w x.uuid ≡ true) P
     (λ x is live. subst P (ap (λ o. unwrap_or o no_package) is) (h x.uuid live)) w.packages (each_found w.packages distinct) (each_live w.packages)
   where
-    or_true : (b : Bool) → (b || true) ≡ true
-    or_true true = refl
-    or_true false = refl
-
     each_live : (ps : List Package) → AllByRecursion (λ x. list_any (at_uuid x.uuid) ps ≡ true) ps
     each_live [] = tt
     each_live (x ∷ ps) = (
       ap (λ b. b || list_any (at_uuid x.uuid) ps) (bytes_eq_itself x.uuid),
-      All-weaker (λ y. list_any (at_uuid y.uuid) ps ≡ true) (λ y. list_any (at_uuid y.uuid) (x ∷ ps) ≡ true) (λ y e. ap (λ b. bytes_eq x.uuid y.uuid || b) e ∙ or_true (bytes_eq x.uuid y.uuid)) ps (each_live ps),
+      All-weaker (λ y. list_any (at_uuid y.uuid) ps ≡ true) (λ y. list_any (at_uuid y.uuid) (x ∷ ps) ≡ true) (λ y e. ap (λ b. bytes_eq x.uuid y.uuid || b) e ∙ or-true (bytes_eq x.uuid y.uuid)) ps (each_live ps),
     )
 
 pub live_changed : (f : Package → Package) (p q : List ℕ) (ps : List Package) → ((x : Package) → (f x).uuid ≡ x.uuid) → list_any (at_uuid q) (map (λ x. cond (bytes_eq x.uuid p) (f x) x) ps) ≡ list_any (at_uuid q) ps
@@ -130,6 +91,7 @@ package_moves w v x e up k = record {
   links = k.links;
   receipts = k.receipts;
   identities = k.identities;
+  uuid = k.uuid;
   uuids = k.uuids;
   fit = fit_all w v e x x x.items k.fit;
   places = k.places;
@@ -139,8 +101,8 @@ package_moves w v x e up k = record {
 
 -- a loan's parent stays where it is
 pub parent_moves : (w v : World) (parent : Option (List ℕ)) (depth loan : ℕ) → ((q : List ℕ) → ends_at parent q ≡ true → is_live w q ≡ true → (is_live v q ≡ true) × ((holdings v q).depth ≡ (holdings w q).depth))
-    → MatchOption parent ((depth ≡ 0) × (loan ≡ 0)) (λ q. (is_live w q ≡ true) × (depth ≡ (holdings w q).depth + 1) × (depth ≤ 1))
-    → MatchOption parent ((depth ≡ 0) × (loan ≡ 0)) (λ q. (is_live v q ≡ true) × (depth ≡ (holdings v q).depth + 1) × (depth ≤ 1))
+    → MatchOption parent ((depth ≡ 0) × (loan ≡ 0)) (λ q. (is_live w q ≡ true) × (depth ≡ (holdings w q).depth + 1) × (depth ≤ greatest_depth))
+    → MatchOption parent ((depth ≡ 0) × (loan ≡ 0)) (λ q. (is_live v q ≡ true) × (depth ≡ (holdings v q).depth + 1) × (depth ≤ greatest_depth))
 parent_moves w v None depth loan stays h = h
 parent_moves w v (Some q) depth loan stays h =
     let s : (is_live v q ≡ true) × ((holdings v q).depth ≡ (holdings w q).depth) = stays q (bytes_eq_itself q) h.0 in
@@ -154,10 +116,6 @@ receipts_kept r rs h below = put_arranged receipt_key r rs h (All-weaker (λ s. 
 
 abbrev ends_loan : List ℕ → Receipt → Bool
 ends_loan c m = is_merge m && ends_at m.source c
-
-pub not_true : (b : Bool) → not b ≡ true → b ≡ false
-not_true true h = absurd (false≢true h)
-not_true false h = refl
 
 -- a loan that is open by more receipts was open before the last
 pub open_before : (rs : List Receipt) (r s : Receipt) → is_open_among (rs ++ r ∷ []) s ≡ true → is_open_among rs s ≡ true
@@ -303,41 +261,7 @@ apart_places w x y k good fit_x fit_y free some_x some_y =
     let e : place_of i.0.content ≡ place_of j.0.content = (bytes_eq-Decides (place_of i.0.content) k).0 ti.1 ∙ sym ((bytes_eq-Decides (place_of j.0.content) k).0 tj.1) in
     true≢false (sym (meets_same w.frame (good_first w.frame good) i.0.content j.0.content ti.0 tj.0 (fit_place w x i.0 i_fit.0) (fit_place w y j.0 j_fit.0) e) ∙ j_free.0)
 
--- two counts of one at most, of which not both are one
-pub not_both_count : {X : Type 0} (p : X → Bool) (xs ys : List X) → count_by p xs ≤ 1 → count_by p ys ≤ 1 → (list_any p xs ≡ true → list_any p ys ≡ true → ⊥) → count_by p xs + count_by p ys ≤ 1
-not_both_count p xs ys hx hy never =
-    elim (list_any p xs) as (λ v. list_any p xs ≡ v → count_by p xs + count_by p ys ≤ 1) [
-      | true ↦ λ ex. elim (list_any p ys) as (λ v. list_any p ys ≡ v → count_by p xs + count_by p ys ≤ 1) [
-        | true ↦ λ ey. absurd (never ex ey)
-        | false ↦ λ ey. omega (arith, hx, any_none p ys ey)
-      ] refl
-      | false ↦ λ ex. omega (arith, hy, any_none p xs ex)
-    ] refl
-
-pub count_le : {X : Type 0} (p q : X → Bool) → ((x : X) → p x ≡ true → q x ≡ true) → (xs : List X) → count_by p xs ≤ count_by q xs
-count_le p q f [] = omega arith
-count_le p q f (x ∷ xs) =
-    elim (p x) as (λ v. p x ≡ v → count_by p (x ∷ xs) ≤ count_by q (x ∷ xs)) [
-      | true ↦ λ e. omega (arith, count-cons p x xs true e, count-cons q x xs true (f x e), count_le p q f xs)
-      | false ↦ λ e. omega (arith, count-cons p x xs false e, sum_by-cons (λ y. cond (q y) 1 0) x xs, count_le p q f xs)
-    ] refl
-
 -- ---- a package of some of the items and links of another
-
-pub All-taken : {X : Type 0} (P : X → Type 0) (t : X → Bool) (xs : List X) → AllByRecursion (λ x. t x ≡ true → P x) xs → AllByRecursion P (filter t xs)
-All-taken P t [] h = tt
-All-taken P t (x ∷ xs) h = elim (t x) as (λ v. t x ≡ v → AllByRecursion P (cond v (x ∷ filter t xs) (filter t xs))) [ true ↦ λ e. (h.0 e, All-taken P t xs h.1) | false ↦ λ _. All-taken P t xs h.1 ] refl
-
-pub any_filter : {X : Type 0} (p t : X → Bool) (xs : List X) → ((x : X) → p x ≡ true → t x ≡ true) → list_any p xs ≡ true → list_any p (filter t xs) ≡ true
-any_filter p t [] f h = h
-any_filter p t (x ∷ xs) f h =
-    elim (p x) as (λ v. p x ≡ v → (v || list_any p xs) ≡ true → list_any p (cond (t x) (x ∷ filter t xs) (filter t xs)) ≡ true) [
-      | true ↦ λ e _. rw (f x e) (ap (λ b. b || list_any p (filter t xs)) e)
-      | false ↦ λ e more. elim (t x) as (λ v. list_any p (cond v (x ∷ filter t xs) (filter t xs)) ≡ true) [
-        | true ↦ ap (λ b. b || list_any p (filter t xs)) e ∙ any_filter p t xs f more
-        | false ↦ any_filter p t xs f more
-      ]
-    ] refl h
 
 -- the places of some of the items
 pub places_less : (t : Item → Bool) (k : List ℕ) (items : List Item) → count_by (λ i. bytes_eq (place_of i.content) k) (filter is_tile (filter t items)) ≤ count_by (λ i. bytes_eq (place_of i.content) k) (filter is_tile items)
@@ -346,8 +270,9 @@ places_less t k items =
     omega (arith, sum_by-filter f is_tile (filter t items), sum_by-filter f is_tile items, filter_less (λ i. cond (is_tile i) (f i) 0) t items)
 
 pub filtered_kept : (w v : World) (x y : Package) (s : List ℕ → Bool) (u : Relation → Bool) → v.frame ≡ w.frame → y.items ≡ filter (λ i. s i.identity) x.items → y.links ≡ filter u x.links
-    → IsArranged receipt_key y.receipts → HasParent v y → AllByRecursion (λ l. u l ≡ true → (s l.base ≡ true) × (s l.media ≡ true)) x.links → IsKeptPackage w x → IsKeptPackage v y
-filtered_kept w v x y s u frame items links receipts up whole k = record {
+    → IsUuid y.uuid → IsArranged receipt_key y.receipts → HasParent v y → AllByRecursion (λ l. u l ≡ true → (s l.base ≡ true) × (s l.media ≡ true)) x.links → IsKeptPackage w x → IsKeptPackage v y
+filtered_kept w v x y s u frame items links uuid receipts up whole k = record {
+  uuid = uuid;
   items = subst (IsArranged item_key) (sym items) (filter_arranged item_key t x.items k.items);
   links = subst (IsArranged link_key) (sym links) (filter_arranged link_key u x.links k.links);
   receipts = receipts;
@@ -356,7 +281,7 @@ filtered_kept w v x y s u frame items links receipts up whole k = record {
   fit = subst (AllByRecursion (IsFit v y)) (sym items) (fit_all w v frame x y (filter t x.items) (All-filter (IsFit w x) t x.items k.fit));
   places = subst (λ zs. IsDistinct bytes_eq (map (λ i. place_of i.content) (filter is_tile zs))) (sym items) (counts_distinct (λ i. place_of i.content) (filter is_tile (filter t x.items)) (λ n. omega (arith, distinct_counts (λ i. place_of i.content) n (filter is_tile x.items) k.places, places_less t n x.items)));
   ends = subst (AllByRecursion (HasEnds y)) (sym links) (All-taken (HasEnds y) u x.links (All-both (HasEnds x) (λ l. u l ≡ true → (s l.base ≡ true) × (s l.media ≡ true)) (λ l. u l ≡ true → HasEnds y l)
-      (λ l h go taken. (kind_goes (base_kind l.mapping) l.base (go taken).0 h.0, kind_goes MediaItem l.media (go taken).1 h.1)) x.links k.ends whole));
+      (λ l h go taken. (kind_goes (base_kind l.mapping) l.base (go taken).0 h.0, kind_goes (other_kind l.mapping) l.media (go taken).1 h.1)) x.links k.ends whole));
   parent = up;
 }
   where

@@ -7,27 +7,31 @@ use Rattle.std.proofs.lemmas.Slice.Eq.{bytes_eq-Decides}
 use Rattle.std.specs.List.{AllByRecursion}
 use Rattle.sheet_types.specs.Ordered.{put, has}
 use Rattle.sheet_types.specs.Texts.{entry_of}
-use Rattle.sheet_types.specs.World.{World, Package, link_key, item_key, item_thing, receipts_of, holdings, is_live, has_kind, base_kind, kind_number, link_moved}
+use Rattle.sheet_types.specs.World.{World, Package, link_key, item_key, item_thing, receipts_of, holdings, is_live, has_kind, base_kind, other_kind, kind_number, link_moved}
 use Rattle.sheet_types.specs.Custody.{custody}
 use Rattle.sheet_types.specs.Step.{accepted, receipt_of, kept_reply, relation}
 use Rattle.sheet_types.specs.Refuse.{refusal, reasons, has_link}
-use Rattle.sheet_types.specs.Balance.{Balanced, NoneAltered, holds}
-use Rattle.sheet_types.specs.Register.{IsRegister, IsKeptPackage, HasEnds, IsUuid}
-use Rattle.ledger_laws.specs.Laws.{link_request, LinkKeepsBalance, LinkKeepsContents}
+use Rattle.sheet_types.proofs.LineReading.{entry_from-line, uuid_length}
+use Rattle.sheet_types.specs.Lines.{HasTypes, entry_from, is_adding, is_splitting, is_merging}
+use Rattle.ledger_laws.proofs.Ledger.{by_entry}
+use Rattle.sheet_types.specs.Balance.{holds}
+use Rattle.sheet_types.specs.Lines.{IsUuid}
+use Rattle.sheet_types.specs.Register.{IsRegister, IsKeptPackage, HasEnds}
+use Rattle.ledger_laws.specs.Laws.{link_request}
 use Rattle.sheet_types.specs.declared.command.Item.{Item}
 use Rattle.sheet_types.specs.declared.command.Mapping.{Mapping}
 use Rattle.sheet_types.specs.declared.command.Mapping.TheVariants.{TilesMedia, RowsMedia}
 use Rattle.sheet_types.specs.declared.command.Relation.{Relation}
 use Rattle.sheet_types.specs.declared.command.Request.{Request}
 use Rattle.sheet_types.specs.declared.receipt.MovedKind.{MovedKind}
-use Rattle.sheet_types.specs.declared.receipt.MovedKind.TheVariants.{MediaItem}
-use Rattle.ledger_laws.proofs.Adding.{bytes_eq_itself, rows_fail, not_false, and_true, new_identity, none_any}
-use Rattle.ledger_laws.proofs.Balancing.{sum_by-put}
-use Rattle.ledger_laws.proofs.Listing.{All-both, All-each, All-found, found}
+use Rattle.sheet_types.proofs.Basics.{bytes_eq_itself, not_false, and_true}
+use Rattle.ledger_laws.proofs.Accepting.{rows_fail, new_identity}
+use Rattle.sheet_types.proofs.Every.{none_any, All-both, All-each}
+use Rattle.sheet_types.proofs.Order.{sum_by-put}
+use Rattle.sheet_types.proofs.Found.{All-found, found}
 use Rattle.ledger_laws.proofs.Packages.{holdings_none}
 use Rattle.ledger_laws.proofs.Shifting.{thing_link}
 use Rattle.ledger_laws.proofs.Facts.{things_moved, order_moved, agree_moved, items_held, kept_at}
-use Rattle.ledger_laws.proofs.Merging.{keeps}
 use Rattle.ledger_laws.proofs.OnePackage as one
 
 -- an item of this kind is held under its identity
@@ -70,21 +74,22 @@ module _ (w : World) (id moment p : List ℕ) (mapping : Mapping) (base media : 
             let mine : (holds (holdings w p) (0 ∷ base) ≡ true) × IsUuid base = kind_held (holdings w p) (base_kind mapping) base kept.uuids ends in
             let theirs : (holds (holdings w p') (0 ∷ f.0.base) ≡ true) × IsUuid f.0.base = kind_held (holdings w p') (base_kind f.0.mapping) f.0.base kept'.uuids all.0.0 in
             let ends_are : f.0.base ++ f.0.media ≡ base ++ media = ap (drop 1) ((bytes_eq-Decides (link_key f.0) (link_key linked)).0 all.1) in
-            let bases : f.0.base ≡ base = sym (take_at f.0.base f.0.media 16 theirs.1) ∙ ap (take 16) ends_are ∙ take_at base media 16 mine.1 in
+            let bases : f.0.base ≡ base = sym (take_at f.0.base f.0.media 16 (uuid_length f.0.base theirs.1)) ∙ ap (take 16) ends_are ∙ take_at base media 16 (uuid_length base mine.1) in
             let at_p : custody (receipts_of w) (0 ∷ base) ≡ Some p = (register.balanced.custody_is p (0 ∷ base)).0 mine.0 in
             let at_p' : custody (receipts_of w) (0 ∷ base) ≡ Some p' = (register.balanced.custody_is p' (0 ∷ base)).0 (subst (λ z. holds (holdings w p') (0 ∷ z) ≡ true) bases theirs.0) in
             let same : p' ≡ p = ap (λ o. unwrap_or o p) (sym at_p' ∙ at_p) in
             absurd (true≢false (sym (subst (λ z. has link_key (link_key linked) (holdings w z).links ≡ true) same there) ∙ not_there))
       ] refl
 
-  pub link_fits : kept_reply w asked ≡ None → refusal w (accepted w asked) asked ≡ None → one.Fits w p (receipt_of w asked) (entry_of asked.command) (λ x. x.items) (λ x. put link_key linked x.links)
-  link_fits no_reply no_refusal =
+  pub link_fits : HasTypes asked.command → kept_reply w asked ≡ None → refusal w (accepted w asked) asked ≡ None → one.Fits w p (receipt_of w asked) (entry_of asked.command) (λ x. x.items) (λ x. put link_key linked x.links)
+  link_fits types no_reply no_refusal =
+      let says : entry_from (receipt_of w asked).line ≡ Some (entry_of asked.command) = entry_from-line (entry_of asked.command) types in
       let fails : AllByRecursion (λ row. row.0 ≡ false) (reasons w (accepted w asked) asked) = rows_fail (reasons w (accepted w asked) asked) no_refusal in
       let live : is_live w p ≡ true = and_true (is_live w p) (not_false (is_live w p && true) fails.1.0) in
-      let kinds : (has_kind (holdings w p) (base_kind mapping) base ≡ true) × (has_kind (holdings w p) MediaItem media ≡ true) =
-      and_parts (has_kind (holdings w p) (base_kind mapping) base) (has_kind (holdings w p) MediaItem media) (not_false (has_kind (holdings w p) (base_kind mapping) base && has_kind (holdings w p) MediaItem media) fails.1.1.1.1.1.1.1.0) in
+      let kinds : (has_kind (holdings w p) (base_kind mapping) base ≡ true) × (has_kind (holdings w p) (other_kind mapping) media ≡ true) =
+      and_parts (has_kind (holdings w p) (base_kind mapping) base) (has_kind (holdings w p) (other_kind mapping) media) (not_false (has_kind (holdings w p) (base_kind mapping) base && has_kind (holdings w p) (other_kind mapping) media) fails.1.1.1.1.1.1.1.0) in
       record {
-        says = refl;
+        says = says;
         stands = refl;
         live = live;
         may = record {
@@ -93,25 +98,13 @@ module _ (w : World) (id moment p : List ℕ) (mapping : Mapping) (base media : 
           things = things_moved [] (linked ∷ []);
           in_order = order_moved [] (linked ∷ []) tt (tt, tt);
           counts = record { tiles = refl; media = refl; rows = refl; links = refl; bytes = refl };
-          entered = (entry_of asked.command, record { says = refl; leaves = refl; comes_to = refl; moves = refl });
+          entered = (entry_of asked.command, record { says = says; leaves = refl; comes_to = refl; moves = refl });
           from_source = (ap (custody (receipts_of w)) (thing_link linked) ∙ stood_nowhere live kinds.0 fails.1.1.1.1.1.1.1.1.1.1.1.0, tt);
-          never_before = λ e. absurd (false≢true e);
+          never_before = λ e. absurd (false≢true (sym (by_entry is_adding (receipt_of w asked) (entry_of asked.command) says) ∙ e));
           agrees = agree_moved w [] (linked ∷ []) register.balanced.ledger tt;
-          new_loan = λ e. absurd (false≢true e);
+          new_loan = λ e. absurd (false≢true (sym (by_entry is_splitting (receipt_of w asked) (entry_of asked.command) says) ∙ e));
         };
-        no_merge = refl;
+        no_merge = by_entry is_merging (receipt_of w asked) (entry_of asked.command) says;
         shifts = λ c _. rw (bytes_eq_itself p) (omega (arith, sum_by-put link_key (λ l. c (link_moved l)) linked (holdings w p).links));
         elsewhere = λ q other. (refl, other);
       }
-
-pub link_keeps_balance : LinkKeepsBalance
-link_keeps_balance w id moment p mapping base media register =
-    keeps Balanced w (link_request id moment p mapping base media) register.balanced
-    (λ no_reply no_refusal. one.balance_after w p (receipt_of w (link_request id moment p mapping base media)) (entry_of (link_request id moment p mapping base media).command) (λ x. x.items) (λ x. put link_key (relation mapping base media) x.links) register
-    (link_fits w id moment p mapping base media register no_reply no_refusal))
-
-pub link_keeps_contents : LinkKeepsContents
-link_keeps_contents w id moment p mapping base media register =
-    keeps NoneAltered w (link_request id moment p mapping base media) register.unaltered
-    (λ no_reply no_refusal. one.contents_after w p (receipt_of w (link_request id moment p mapping base media)) (entry_of (link_request id moment p mapping base media).command) (λ x. x.items) (λ x. put link_key (relation mapping base media) x.links) register
-    (link_fits w id moment p mapping base media register no_reply no_refusal) (λ x h. h))

@@ -1,66 +1,53 @@
 -- A merge keeps the account.
-use Rattle.std.specs.Prelude.{◌≡◌, ⊤, ℕ, ℤ, ◌+◌, ◌≤◌, ◌<◌, ◌==◌, Bool, true, false, cond, not, ◌&&◌, ◌||◌, List, [], ◌∷◌, ◌++◌, map, filter, find, length, refl, nat_lt, bytes_eq, Option, Some, None, unwrap_or, option_map, sum_by, count_by, flat_map, MatchOption, is_none}
+use Rattle.std.specs.Prelude.{◌≡◌, ⊤, ℕ, ℤ, ◌+◌, ◌≤◌, ◌<◌, ◌==◌, Bool, true, false, cond, not, ◌&&◌, ◌||◌, List, [], ◌∷◌, ◌++◌, map, filter, find, length, refl, nat_lt, bytes_eq, Option, Some, None, unwrap_or, option_map, sum_by, count_by, flat_map, MatchOption, is_none, is_some}
 use Rattle.std.specs.Option.{option_map_or}
-use Rattle.std.proofs.Common.{sym, ap, subst, ◌∙◌, arith}
+use Rattle.std.proofs.Common.{sym, ap, subst, ◌∙◌, arith, drop}
 use Rattle.std.proofs.lemmas.List.Sums.{sum_by-append, sum_by-cons}
 use Rattle.std.proofs.lemmas.List.Folds.{list_any-append}
 use Rattle.std.proofs.lemmas.Bool.{true≢false, false≢true, and_parts, and_from}
 use Rattle.std.proofs.lemmas.Slice.Eq.{bytes_eq-Decides}
 use Rattle.std.specs.List.{list_any, AllByRecursion}
-use Rattle.sheet_types.specs.Ordered.{put, arranged, has, without, IsArranged}
+use Rattle.sheet_types.specs.Ordered.{put, arranged, has, without, IsArranged, is_among}
 use Rattle.sheet_types.specs.Texts.{entry_of}
-use Rattle.sheet_types.specs.World.{World, Package, package_key, receipt_key, item_key, link_key, receipts_of, holdings, no_package, is_live, changed, with_receipt, item_moved, link_moved}
+use Rattle.sheet_types.specs.World.{World, Package, package_key, receipt_key, item_key, link_key, receipts_of, holdings, no_package, is_live, changed, with_receipt, item_moved, link_moved, item_thing, is_tile, base_kind, kind_number}
 use Rattle.sheet_types.specs.Custody.{ends_at, is_merge, is_split, after}
 use Rattle.sheet_types.specs.Cut.{moved_of}
-use Rattle.sheet_types.specs.Step.{accepted, joined, receipt_of, kept_reply, outcome, outcome_by}
-use Rattle.sheet_types.specs.Refuse.{refusal, reasons, is_archive}
-use Rattle.sheet_types.specs.Balance.{Balanced, IsLedger, MayFollow, archive_of, IsLoan, is_split_to, IsUnaltered}
-use Rattle.sheet_types.specs.Register.{IsRegister, IsKeptPackage}
-use Rattle.ledger_laws.specs.Laws.{merge_request, MergeKeepsBalance, MergeKeepsContents}
-use Rattle.sheet_types.specs.Balance.{NoneAltered}
-use Rattle.sheet_types.specs.Ordered.{is_among}
-use Rattle.std.specs.Prelude.{Contains}
-use Rattle.std.proofs.lemmas.List.Elements.{Contains-append_left}
-use Rattle.ledger_laws.proofs.Listing.{All-filter}
+use Rattle.sheet_types.specs.Step.{accepted, joined, receipt_of, kept_reply}
+use Rattle.sheet_types.specs.Refuse.{refusal, reasons, is_archive, takes_place, place_key, place_of}
+use Rattle.ledger_laws.proofs.Contents.{NoneAltered, IsUnaltered, each_unaltered, none_altered, unaltered_more}
+use Rattle.sheet_types.proofs.LineReading.{entry_from-line}
+use Rattle.sheet_types.specs.Lines.{HasTypes, entry_from, is_adding, is_splitting, is_merging}
+use Rattle.ledger_laws.proofs.Ledger.{by_entry}
+use Rattle.ledger_laws.proofs.CutEnds.{least_none, none_taken}
+use Rattle.sheet_types.specs.World.{other_kind}
+use Rattle.sheet_types.specs.Refuse.{greatest_depth}
+use Rattle.sheet_types.specs.declared.command.Command.TheVariants.{Merge}
+use Rattle.sheet_types.specs.Balance.{Balanced, IsLedger, MayFollow, archive_of, IsLoan, is_split_to, holds}
+use Rattle.sheet_types.specs.Lines.{IsUuid}
+use Rattle.sheet_types.specs.Register.{IsRegister, IsKeptPackage, HasParent, HasEnds, IsFit}
+use Rattle.ledger_laws.specs.Laws.{merge_request, MergeKeepsRegister}
+use Rattle.sheet_types.proofs.Every.{All-filter, All-weaker, All-left, All-right, All-snoc, All-both, All-append, All-each, none_any}
 use Rattle.sheet_types.specs.declared.command.Item.{Item}
 use Rattle.sheet_types.specs.declared.command.Relation.{Relation}
 use Rattle.sheet_types.specs.declared.command.Request.{Request}
 use Rattle.sheet_types.specs.declared.receipt.Moved.{Moved}
 use Rattle.sheet_types.specs.declared.receipt.Receipt.{Receipt}
-use Rattle.sheet_types.specs.declared.refusal.Refusal.{Refusal}
-use Rattle.sheet_types.proofs.Order.{All-put, All-arranged, All-of_put, All-of_arranged}
-use Rattle.sheet_types.proofs.Same.{In, same_list, before_one_way, All-In}
-use Rattle.ledger_laws.proofs.Adding.{bytes_eq_itself, All-weaker, All-left, All-right, All-snoc, rows_fail, not_false, and_true, none_pass, new_identity, archive_stays, ledger_snoc}
-use Rattle.ledger_laws.proofs.Balancing.{find_changed, list_any-put, sum_by-put, none_after}
-use Rattle.ledger_laws.proofs.Listing.{bytes_eq_swap, All-both, All-append, All-each, In-all, All-without, found, sum_by-arranged, sum_by-map, sum_by-flat_map, list_any-arranged, count-cons, none_counted, any_some, any_none, counts_arranged, arranged_counts, filter_arranged, take_one}
-use Rattle.ledger_laws.proofs.Packages.{AllStand, at_uuid, each_found, at_all, stand_at, stand_all, stand_flat, holdings_none, holdings_changed, holdings_closed, changed_arranged, changed_sum, All-changed, two_places, archive_closed}
+use Rattle.sheet_types.proofs.Order.{All-put, All-arranged, All-of_put, All-of_arranged, list_any-put, sum_by-put, sum_by-arranged, list_any-arranged, counts_arranged, arranged_counts, filter_arranged}
+use Rattle.sheet_types.proofs.Same.{In, same_list, All-In, In-all}
+use Rattle.sheet_types.proofs.Basics.{bytes_eq_itself, not_false, and_true, bytes_eq_swap, or-true}
+use Rattle.ledger_laws.proofs.Accepting.{rows_fail, new_identity, keeps}
+use Rattle.ledger_laws.proofs.Packages.{archive_stays, find_changed, AllStand, at_uuid, each_found, at_all, stand_at, stand_all, stand_flat, holdings_none, holdings_changed, holdings_closed, changed_arranged, changed_sum, All-changed, two_places, archive_closed}
+use Rattle.ledger_laws.proofs.Ledger.{ledger_snoc, none_after, ledger_numbers}
+use Rattle.sheet_types.proofs.Without.{All-without, take_one}
+use Rattle.sheet_types.proofs.Found.{found, any_implies}
+use Rattle.sheet_types.proofs.Sums.{sum_by-map, sum_by-flat_map, count-cons, none_counted, any_some, any_none, count_le, not_both_count}
 use Rattle.ledger_laws.proofs.Shifting.{weighed, goes, Shift, flat_stand, balance_kept, ends_at_is}
 use Rattle.ledger_laws.proofs.Facts.{ledger_arranged, things_moved, order_moved, agree_moved, custody_moved, items_held, links_held, kept_at, holds_once}
-use Rattle.std.proofs.Common.{drop}
-use Rattle.std.specs.Prelude.{is_some}
-use Rattle.sheet_types.specs.Refuse.{takes_place, too_many, place_key, place_of}
-use Rattle.sheet_types.specs.World.{item_thing, is_tile, base_kind, kind_number}
-use Rattle.sheet_types.specs.declared.receipt.MovedKind.TheVariants.{MediaItem}
-use Rattle.sheet_types.specs.Balance.{holds}
-use Rattle.sheet_types.specs.Register.{HasParent, HasEnds, IsFit, IsUuid}
-use Rattle.ledger_laws.specs.Laws.{MergeKeepsRegister}
-use Rattle.ledger_laws.proofs.Adding.{ledger_numbers, none_any}
-use Rattle.ledger_laws.proofs.Keeping.{fit_all, distinct_counts, counts_distinct, count_le, not_both_count, places_count, tile_at, apart_places, live_changed, live_closed, parent_moves, package_moves, receipts_kept, sum_by-changed, all_live_at, open_kept, open_is_split}
+use Rattle.ledger_laws.proofs.Keeping.{fit_all, places_count, tile_at, apart_places, live_changed, live_closed, parent_moves, package_moves, receipts_kept, sum_by-changed, all_live_at, open_kept, open_is_split}
+use Rattle.sheet_types.proofs.Distinct.{distinct_counts, counts_distinct}
 
 pub weigh_moved : (c : Moved → ℕ) (items : List Item) (links : List Relation) → sum_by c (moved_of items links) ≡ sum_by (λ i. c (item_moved i)) items + sum_by (λ l. c (link_moved l)) links
 weigh_moved c items links = omega (arith, sum_by-append c (map item_moved items) (map link_moved links), sum_by-map c item_moved items, sum_by-map c link_moved links)
-
--- a request that is neither answered from the ledger nor refused
-pub keeps : (P : World → Type 0) (w : World) (q : Request) → P w → (kept_reply w q ≡ None → refusal w (accepted w q) q ≡ None → P (accepted w q)) → P (outcome w q).1
-keeps P w q h then' =
-    let why : Option Refusal = refusal w (accepted w q) q in
-    elim (kept_reply w q) as (λ k. kept_reply w q ≡ k → P (outcome_by w q k why).1) [
-      | Some r ↦ λ _. h
-      | None ↦ λ no_reply. elim (refusal w (accepted w q) q) as (λ o. refusal w (accepted w q) q ≡ o → P (outcome_by w q None o).1) [
-        | Some e ↦ λ _. h
-        | None ↦ λ no_refusal. then' no_reply no_refusal
-      ] refl
-    ] refl
 
 -- ---- a package is lent under a UUID once
 
@@ -86,7 +73,7 @@ lent_once w c sound = omega (arith, lent_once_from (archive_of w) c [] (receipts
 
 -- ---- an accepted merge
 
-module _ (w : World) (id moment child into : List ℕ) (ticket : ℤ) (register : IsRegister w) where
+module _ (w : World) (id moment child into : List ℕ) (ticket : ℤ) (types : HasTypes (Merge child into ticket)) (register : IsRegister w) where
   abbrev pub asked : Request
   asked = merge_request id moment child into ticket
 
@@ -107,7 +94,6 @@ module _ (w : World) (id moment child into : List ℕ) (ticket : ℤ) (register 
     pub apart : bytes_eq child into ≡ false
     pub no_loans : AllByRecursion (λ x. ends_at x.parent child ≡ false) w.packages
     pub free : AllByRecursion (λ i. takes_place (holdings w into) i.content ≡ false) (holdings w child).items
-    pub within : too_many next ≡ false
 
   pub known : kept_reply w asked ≡ None → refusal w next asked ≡ None → Known
   known no_reply no_refusal =
@@ -122,23 +108,32 @@ module _ (w : World) (id moment child into : List ℕ) (ticket : ℤ) (register 
         apart = elim (bytes_eq child into) as (λ v. bytes_eq child into ≡ v → v ≡ false) [
           | true ↦ λ same.
               let e : child ≡ into = (bytes_eq-Decides child into).0 same in
-              let deeper : (is_live w into ≡ true) × ((holdings w child).depth ≡ (holdings w into).depth + 1) × ((holdings w child).depth ≤ 1) =
-              subst (λ o. MatchOption o (((holdings w child).depth ≡ 0) × ((holdings w child).loan ≡ 0)) (λ p. (is_live w p ≡ true) × ((holdings w child).depth ≡ (holdings w p).depth + 1) × ((holdings w child).depth ≤ 1))) up (kept_at w child register lives.0).parent in
+              let deeper : (is_live w into ≡ true) × ((holdings w child).depth ≡ (holdings w into).depth + 1) × ((holdings w child).depth ≤ greatest_depth) =
+              subst (λ o. MatchOption o (((holdings w child).depth ≡ 0) × ((holdings w child).loan ≡ 0)) (λ p. (is_live w p ≡ true) × ((holdings w child).depth ≡ (holdings w p).depth + 1) × ((holdings w child).depth ≤ greatest_depth))) up (kept_at w child register lives.0).parent in
               absurd (omega (arith, deeper.1, ap (λ z. (holdings w z).depth) e))
           | false ↦ λ _. refl
         ] refl;
-        no_loans = none_pass (λ x. ends_at x.parent child) w.packages fails.1.1.1.1.1.1.1.1.1.1.1.1.1.1.1.1.1.1.1.1.0;
-        free = All-of_arranged place_key (λ i. takes_place (holdings w into) i.content ≡ false) (holdings w child).items (none_taken (arranged place_key (holdings w child).items) fails.1.1.1.1.1.1.1.1.1.1.1.1.1.1.1.1.1.1.1.1.1.0);
-        within = fails.1.1.1.1.1.1.1.1.1.1.1.1.1.1.1.1.1.1.1.1.1.1.0;
+        no_loans = none_taken (λ x. x.uuid) (λ x. ends_at x.parent child) w.packages (least_none (map (λ x. x.uuid) (filter (λ x. ends_at x.parent child) w.packages)) fails.1.1.1.1.1.1.1.1.1.1.1.1.1.1.1.1.1.1.1.1.0);
+        free = All-of_arranged place_key (λ i. takes_place (holdings w into) i.content ≡ false) (holdings w child).items (none_meets (arranged place_key (holdings w child).items) fails.1.1.1.1.1.1.1.1.1.1.1.1.1.1.1.1.1.1.1.1.1.0);
       }
     where
-      none_taken : (items : List Item) → is_some (find (λ i. takes_place (holdings w into) i.content) items) ≡ false → AllByRecursion (λ i. takes_place (holdings w into) i.content ≡ false) items
-      none_taken [] h = tt
-      none_taken (i ∷ items) h =
-          elim (takes_place (holdings w into) i.content) as (λ v. takes_place (holdings w into) i.content ≡ v → is_some (cond v (Some i) (find (λ j. takes_place (holdings w into) j.content) items)) ≡ false → (v ≡ false) × AllByRecursion (λ j. takes_place (holdings w into) j.content ≡ false) items) [
+      none_meets : (items : List Item) → is_some (option_map (λ i. i.identity) (find (λ i. takes_place (holdings w into) i.content) items)) ≡ false → AllByRecursion (λ i. takes_place (holdings w into) i.content ≡ false) items
+      none_meets [] h = tt
+      none_meets (i ∷ items) h =
+          elim (takes_place (holdings w into) i.content) as (λ v. takes_place (holdings w into) i.content ≡ v → is_some (option_map (λ j. j.identity) (cond v (Some i) (find (λ j. takes_place (holdings w into) j.content) items))) ≡ false → (v ≡ false) × AllByRecursion (λ j. takes_place (holdings w into) j.content ≡ false) items) [
             | true ↦ λ _ e. absurd (true≢false e)
-            | false ↦ λ _ e. (refl, none_taken items e)
+            | false ↦ λ _ e. (refl, none_meets items e)
           ] refl h
+
+  -- the receipt is that of a merge
+  says : entry_from receipt.line ≡ Some (entry_of asked.command)
+  says = entry_from-line (entry_of asked.command) types
+
+  merges : is_merge receipt ≡ true
+  merges = by_entry is_merging receipt (entry_of asked.command) says
+
+  no_split : is_split receipt ≡ false
+  no_split = by_entry is_splitting receipt (entry_of asked.command) says
 
   module _ (k : Known) where
     apart' : bytes_eq into child ≡ false
@@ -189,10 +184,10 @@ module _ (w : World) (id moment child into : List ℕ) (ticket : ℤ) (register 
         (λ p a b. rw (at_other p a b, bytes_eq_swap child p ∙ a, bytes_eq_swap into p ∙ b) refl)
 
     goes_child : goes receipt child ≡ into
-    goes_child = ap (λ b. cond b into child) (bytes_eq_itself child)
+    goes_child = ap (λ b. cond (b && bytes_eq child child) into child) merges ∙ ap (λ b. cond b into child) (bytes_eq_itself child)
 
     goes_other : (p : List ℕ) → bytes_eq p child ≡ false → goes receipt p ≡ p
-    goes_other p a = ap (λ b. cond b into p) (bytes_eq_swap child p ∙ a)
+    goes_other p a = ap (λ b. cond (b && bytes_eq child p) into p) merges ∙ ap (λ b. cond b into p) (bytes_eq_swap child p ∙ a)
 
     carry : (Q : List ℕ → Receipt → Type 0) → AllStand (λ u s. Q (goes receipt u) s) w → Q into receipt → AllStand Q next
     carry Q h g = stand_all Q next distinct_next (by_place (λ p. AllByRecursion (Q p) (holdings next p).receipts)
@@ -228,11 +223,11 @@ module _ (w : World) (id moment child into : List ℕ) (ticket : ℤ) (register 
           things = things_moved items links;
           in_order = order_moved items links kept.items kept.links;
           counts = record { tiles = refl; media = refl; rows = refl; links = refl; bytes = refl };
-          entered = (entry_of asked.command, record { says = refl; leaves = refl; comes_to = refl; moves = tt });
+          entered = (entry_of asked.command, record { says = says; leaves = refl; comes_to = refl; moves = tt });
           from_source = custody_moved w child items links register.balanced (items_held (holdings w child)) (links_held (holdings w child));
-          never_before = λ e. absurd (false≢true e);
-          agrees = agree_moved w items links register.balanced.ledger (at_all w (λ x. AllByRecursion (IsUnaltered w) x.items) child register.unaltered k.child_live).0;
-          new_loan = λ e. absurd (false≢true e);
+          never_before = λ e. absurd (false≢true (sym (by_entry is_adding receipt (entry_of asked.command) says) ∙ e));
+          agrees = agree_moved w items links register.balanced.ledger (at_all w (λ x. AllByRecursion (IsUnaltered w) x.items) child (each_unaltered w register.unaltered) k.child_live).0;
+          new_loan = λ e. absurd (false≢true (sym no_split ∙ e));
         }
 
     in_order_after : IsArranged receipt_key (receipts_of w ++ receipt ∷ [])
@@ -277,8 +272,8 @@ module _ (w : World) (id moment child into : List ℕ) (ticket : ℤ) (register 
         let fro : AllByRecursion (λ s. In s (receipts_of next)) after = All-snoc (λ s. In s (receipts_of next)) (receipts_of w) receipt
         (All-arranged receipt_key (λ s. In s (receipts_of next)) (flat_map (λ x. x.receipts) w.packages) (stand_flat (λ s. In s (receipts_of next)) w.packages (back (λ s. In s (receipts_of next)) theirs)))
         (into_has (λ s. In s (receipts_of next)) theirs).0 in
-        same_list receipt_key before_one_way (receipts_of next) after in_order_next in_order_after
-        (λ s i. All-In receipt_key before_one_way (λ z. In z after) s (receipts_of next) to i) (λ s i. All-In receipt_key before_one_way (λ z. In z (receipts_of next)) s after fro i)
+        same_list receipt_key (receipts_of next) after in_order_next in_order_after
+        (λ s i. All-In receipt_key (λ z. In z after) s (receipts_of next) to i) (λ s i. All-In receipt_key (λ z. In z (receipts_of next)) s after fro i)
 
     archive : archive_of next ≡ archive_of w
     archive =
@@ -305,20 +300,8 @@ module _ (w : World) (id moment child into : List ℕ) (ticket : ℤ) (register 
           loan.1,
         )
 
-    any_weaker : (p q : Receipt → Bool) → ((s : Receipt) → p s ≡ true → q s ≡ true) → (rs : List Receipt) → list_any p rs ≡ true → list_any q rs ≡ true
-    any_weaker p q f [] h = absurd (false≢true h)
-    any_weaker p q f (s ∷ rs) h =
-        elim (p s) as (λ v. p s ≡ v → (v || list_any p rs) ≡ true → (q s || list_any q rs) ≡ true) [
-          | true ↦ λ e _. ap (λ b. b || list_any q rs) (f s e)
-          | false ↦ λ _ more. ap (λ b. q s || b) (any_weaker p q f rs more) ∙ or_true (q s)
-        ] refl h
-      where
-        or_true : (b : Bool) → (b || true) ≡ true
-        or_true true = refl
-        or_true false = refl
-
     lent_in : 1 ≤ count_by (lent_to child) (holdings w into).receipts
-    lent_in = any_some (lent_to child) (holdings w into).receipts (any_weaker (λ r. is_split r && ends_at r.target (holdings w child).uuid && (r.seq == (holdings w child).loan)) (lent_to child)
+    lent_in = any_some (lent_to child) (holdings w into).receipts (any_implies (λ r. is_split r && ends_at r.target (holdings w child).uuid && (r.seq == (holdings w child).loan)) (lent_to child)
         (λ s e. subst (λ u. (is_split s && ends_at s.target u) ≡ true) lent_here.1 (and_parts (is_split s && ends_at s.target (holdings w child).uuid) (s.seq == (holdings w child).loan) e).0) (holdings w into).receipts lent_here.0)
 
     lent_nowhere_else : (p : List ℕ) → bytes_eq p into ≡ false → AllByRecursion (λ s. lent_to child s ≡ false) (holdings w p).receipts
@@ -380,7 +363,7 @@ module _ (w : World) (id moment child into : List ℕ) (ticket : ℤ) (register 
         at_parent None h a = tt
         at_parent (Some parent) h a = (
           made_there parent a h.0,
-          ap (λ rs. list_any ended (after x.loan rs)) receipts ∙ none_after ended x.loan (receipts_of w) receipt (bytes_eq_swap child x.uuid ∙ other) h.1,
+          ap (λ rs. list_any ended (after x.loan rs)) receipts ∙ none_after ended x.loan (receipts_of w) receipt (ap (λ b. b && bytes_eq child x.uuid) merges ∙ bytes_eq_swap child x.uuid ∙ other) h.1,
         )
 
     loans_kept : AllByRecursion (IsLoan next) next.packages
@@ -392,18 +375,18 @@ module _ (w : World) (id moment child into : List ℕ) (ticket : ℤ) (register 
         (All-both (IsLoan w) (λ x. ends_at x.parent child ≡ false) (λ x. IsLoan w x × (ends_at x.parent child ≡ false)) (λ x a b. (a, b)) w.packages register.balanced.loans k.no_loans))
 
     pub balance_after : Balanced next
-    balance_after = balance_kept w next receipt (entry_of asked.command) refl shift register.balanced (holds_once w register) carry (λ _. undoes) loans_kept
+    balance_after = balance_kept w next receipt (entry_of asked.command) says shift register.balanced (holds_once w register) carry (λ _. undoes) loans_kept
 
     -- ---- contents
 
     unaltered_next : (i : Item) → IsUnaltered w i → IsUnaltered next i
-    unaltered_next i h = (h.0, subst (λ rs. Contains rs h.0) (sym receipts) (Contains-append_left (receipts_of w) (receipt ∷ []) h.0 h.1), h.2, h.3)
+    unaltered_next i h = unaltered_more w next receipt receipts i h
 
     pub contents_after : NoneAltered next
     contents_after =
         let ps : List Package = map (λ x. cond (bytes_eq x.uuid into) (take_all x) x) w.packages in
         let Sound : Package → Type 0 = λ x. AllByRecursion (IsUnaltered next) x.items in
-        let old : AllByRecursion Sound w.packages = All-weaker (λ x. AllByRecursion (IsUnaltered w) x.items) Sound (λ x. All-weaker (IsUnaltered w) (IsUnaltered next) unaltered_next x.items) w.packages register.unaltered in
+        let old : AllByRecursion Sound w.packages = All-weaker (λ x. AllByRecursion (IsUnaltered w) x.items) Sound (λ x. All-weaker (IsUnaltered w) (IsUnaltered next) unaltered_next x.items) w.packages (each_unaltered w register.unaltered) in
         let childs : AllByRecursion (IsUnaltered next) (holdings w child).items = (at_all w Sound child old k.child_live).0 in
         All-filter Sound (λ x. not (is_among (child ∷ []) x.uuid)) ps (All-changed take_all into Sound Sound
         (λ x _ h. All-arranged item_key (IsUnaltered next) ((holdings w child).items ++ x.items) (All-append (IsUnaltered next) (holdings w child).items x.items childs h)) (λ x h. h) w.packages old)
@@ -451,12 +434,8 @@ module _ (w : World) (id moment child into : List ℕ) (ticket : ℤ) (register 
       arith,
       sum_by-append (λ l. cond (has_link_key n l) 1 0) (holdings w child).links (holdings w into).links,
       not_both_count (has_link_key n) (holdings w child).links (holdings w into).links (counts_arranged link_key n (holdings w child).links kept_child.links) (counts_arranged link_key n (holdings w into).links kept_into.links)
-          (λ a b. never_both n (ap (λ v. has item_thing n (holdings w child).items || v) a ∙ or_true (has item_thing n (holdings w child).items)) (ap (λ v. has item_thing n (holdings w into).items || v) b ∙ or_true (has item_thing n (holdings w into).items))),
+          (λ a b. never_both n (ap (λ v. has item_thing n (holdings w child).items || v) a ∙ or-true (has item_thing n (holdings w child).items)) (ap (λ v. has item_thing n (holdings w into).items || v) b ∙ or-true (has item_thing n (holdings w into).items))),
     )
-      where
-        or_true : (b : Bool) → (b || true) ≡ true
-        or_true true = refl
-        or_true false = refl
 
     places_apart : (n : List ℕ) → count_by (λ i. bytes_eq (place_of i.content) n) (filter is_tile merged.items) ≤ 1
     places_apart n = omega (
@@ -503,28 +482,25 @@ module _ (w : World) (id moment child into : List ℕ) (ticket : ℤ) (register 
     away_at q live = (at_all w (λ x. ends_at x.parent child ≡ false) q k.no_loans live).0
 
     ends_child : (l : Relation) → HasEnds (holdings w child) l → HasEnds merged l
-    ends_child l h = (has_either (kind_number (base_kind l.mapping) ∷ l.base) h.0, has_either (kind_number MediaItem ∷ l.media) h.1)
+    ends_child l h = (has_either (kind_number (base_kind l.mapping) ∷ l.base) h.0, has_either (kind_number (other_kind l.mapping) ∷ l.media) h.1)
       where
         has_either : (n : List ℕ) → has item_key n (holdings w child).items ≡ true → has item_key n merged.items ≡ true
         has_either n e = list_any-arranged item_key (λ i. bytes_eq (item_key i) n) ((holdings w child).items ++ (holdings w into).items)
             ∙ list_any-append (λ i. bytes_eq (item_key i) n) (holdings w child).items (holdings w into).items ∙ ap (λ b. b || has item_key n (holdings w into).items) e
 
     ends_into : (l : Relation) → HasEnds (holdings w into) l → HasEnds merged l
-    ends_into l h = (has_either (kind_number (base_kind l.mapping) ∷ l.base) h.0, has_either (kind_number MediaItem ∷ l.media) h.1)
+    ends_into l h = (has_either (kind_number (base_kind l.mapping) ∷ l.base) h.0, has_either (kind_number (other_kind l.mapping) ∷ l.media) h.1)
       where
-        or_true : (b : Bool) → (b || true) ≡ true
-        or_true true = refl
-        or_true false = refl
-
         has_either : (n : List ℕ) → has item_key n (holdings w into).items ≡ true → has item_key n merged.items ≡ true
         has_either n e = list_any-arranged item_key (λ i. bytes_eq (item_key i) n) ((holdings w child).items ++ (holdings w into).items)
-            ∙ list_any-append (λ i. bytes_eq (item_key i) n) (holdings w child).items (holdings w into).items ∙ ap (λ b. has item_key n (holdings w child).items || b) e ∙ or_true (has item_key n (holdings w child).items)
+            ∙ list_any-append (λ i. bytes_eq (item_key i) n) (holdings w child).items (holdings w into).items ∙ ap (λ b. has item_key n (holdings w child).items || b) e ∙ or-true (has item_key n (holdings w child).items)
 
     both_items : (P : Item → Type 0) → AllByRecursion P (holdings w child).items → AllByRecursion P (holdings w into).items → AllByRecursion P merged.items
     both_items P a b = All-arranged item_key P ((holdings w child).items ++ (holdings w into).items) (All-append P (holdings w child).items (holdings w into).items a b)
 
     kept_merged : IsKeptPackage next merged
     kept_merged = record {
+      uuid = kept_into.uuid;
       items = arranged_counts item_key ((holdings w child).items ++ (holdings w into).items) keys_apart;
       links = arranged_counts link_key ((holdings w child).links ++ (holdings w into).links) links_apart;
       receipts = receipts_kept receipt (arranged receipt_key ((holdings w child).receipts ++ (holdings w into).receipts)) seqs_apart
@@ -567,11 +543,10 @@ module _ (w : World) (id moment child into : List ℕ) (ticket : ℤ) (register 
           let was : is_live w q ≡ true = sym (live_stays q a) ∙ live in
           let kept : IsKeptPackage w (holdings w q) = kept_at w q register was in
           subst (IsKeptPackage next) (sym (at_other q a b)) (package_moves w next (holdings w q) refl (parent_stays (holdings w q) (away_at q was) kept.parent) kept)));
-      open_loans = open_kept w next receipt receipts all_below register.open_loans (λ t other live. live_stays t (bytes_eq_swap t child ∙ other) ∙ live)
-          (λ open'. absurd (false≢true (open_is_split (receipts_of next) receipt open')));
-      within_limits = k.within;
+      open_loans = open_kept w next receipt receipts all_below register.open_loans (λ t other live. live_stays t (bytes_eq_swap t child ∙ sym (ap (λ b. b && bytes_eq child t) merges) ∙ other) ∙ live)
+          (λ open'. absurd (false≢true (sym no_split ∙ open_is_split (receipts_of next) receipt open')));
       balanced = balance_after;
-      unaltered = contents_after;
+      unaltered = none_altered next contents_after;
     }
       where
         gone_from : (ps : List Package) → list_any (at_uuid child) (without package_key (child ∷ []) ps) ≡ false
@@ -580,17 +555,7 @@ module _ (w : World) (id moment child into : List ℕ) (ticket : ℤ) (register 
         gone : is_live next child ≡ false
         gone = gone_from (map (λ x. cond (bytes_eq x.uuid into) (take_all x) x) w.packages)
 
-pub merge_keeps_balance : MergeKeepsBalance
-merge_keeps_balance w id moment child into ticket register =
-    keeps Balanced w (merge_request id moment child into ticket) register.balanced
-    (λ no_reply no_refusal. balance_after w id moment child into ticket register (known w id moment child into ticket register no_reply no_refusal))
-
-pub merge_keeps_contents : MergeKeepsContents
-merge_keeps_contents w id moment child into ticket register =
-    keeps NoneAltered w (merge_request id moment child into ticket) register.unaltered
-    (λ no_reply no_refusal. contents_after w id moment child into ticket register (known w id moment child into ticket register no_reply no_refusal))
-
 pub merge_keeps_register : MergeKeepsRegister
-merge_keeps_register w id moment child into ticket register =
+merge_keeps_register w id moment child into ticket types register =
     keeps IsRegister w (merge_request id moment child into ticket) register
-    (λ no_reply no_refusal. register_after w id moment child into ticket register (known w id moment child into ticket register no_reply no_refusal))
+    (λ no_reply no_refusal. register_after w id moment child into ticket types register (known w id moment child into ticket types register no_reply no_refusal))

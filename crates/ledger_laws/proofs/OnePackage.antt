@@ -1,31 +1,29 @@
 -- A command that changes the items and links of one package keeps the account.
-use Rattle.std.specs.Prelude.{◌≡◌, ⊤, ℕ, ◌+◌, ◌<◌, ◌==◌, Bool, true, false, cond, ◌&&◌, ◌||◌, List, [], ◌∷◌, ◌++◌, length, refl, bytes_eq, Option, Some, None, unwrap_or, sum_by, flat_map, MatchOption, Contains}
+use Rattle.std.specs.Prelude.{◌≡◌, ⊤, ℕ, ◌+◌, ◌<◌, ◌==◌, Bool, true, false, cond, ◌&&◌, ◌||◌, List, [], ◌∷◌, ◌++◌, length, refl, bytes_eq, Option, Some, None, unwrap_or, sum_by, flat_map, MatchOption}
 use Rattle.std.proofs.Common.{sym, ap, subst, ◌∙◌, arith}
-use Rattle.std.proofs.lemmas.List.Elements.{Contains-append_left}
 use Rattle.std.proofs.lemmas.Bool.{true≢false, false≢true, and_parts}
 use Rattle.std.proofs.lemmas.Slice.Eq.{bytes_eq-Decides}
 use Rattle.std.specs.List.{list_any, AllByRecursion}
 use Rattle.sheet_types.specs.Ordered.{IsArranged}
-use Rattle.sheet_types.specs.Texts.{Entry, entry_line}
+use Rattle.sheet_types.specs.Texts.{Entry}
+use Rattle.sheet_types.specs.Lines.{entry_from}
 use Rattle.sheet_types.specs.World.{World, Package, package_key, receipt_key, receipts_of, holdings, is_live, changed, with_receipt}
 use Rattle.sheet_types.specs.Custody.{ends_at, is_merge, is_split, after}
-use Rattle.sheet_types.specs.Balance.{Balanced, NoneAltered, MayFollow, archive_of, IsLoan, IsUnaltered, stands_in}
-use Rattle.sheet_types.specs.Register.{IsRegister, IsKeptPackage}
+use Rattle.ledger_laws.proofs.Contents.{NoneAltered, IsUnaltered, each_unaltered, none_altered, unaltered_more}
+use Rattle.sheet_types.specs.Balance.{Balanced, MayFollow, archive_of, IsLoan, stands_in}
+use Rattle.sheet_types.specs.Register.{IsRegister, IsKeptPackage, HasParent}
 use Rattle.sheet_types.specs.declared.command.Item.{Item}
 use Rattle.sheet_types.specs.declared.command.Relation.{Relation}
 use Rattle.sheet_types.specs.declared.receipt.Moved.{Moved}
 use Rattle.sheet_types.specs.declared.receipt.Receipt.{Receipt}
-use Rattle.sheet_types.proofs.Order.{All-put}
-use Rattle.ledger_laws.proofs.Adding.{bytes_eq_itself, All-weaker, archive_stays, ledger_numbers, receipts_gained, with_receipt_gains}
-use Rattle.ledger_laws.proofs.Balancing.{list_any-put, none_after}
-use Rattle.ledger_laws.proofs.Listing.{bytes_eq_swap}
-use Rattle.ledger_laws.proofs.Packages.{AllStand, stand_at, stand_all, holdings_changed, changed_arranged, All-changed}
-use Rattle.ledger_laws.proofs.Shifting.{weighed, goes, SeesKeys, Shift, balance_kept}
+use Rattle.sheet_types.proofs.Order.{All-put, list_any-put, All-of_arranged}
+use Rattle.sheet_types.proofs.Basics.{bytes_eq_itself, bytes_eq_swap}
+use Rattle.sheet_types.proofs.Every.{All-weaker}
+use Rattle.ledger_laws.proofs.Packages.{archive_stays, receipts_gained, with_receipt_gains, AllStand, stand_at, stand_all, holdings_changed, changed_arranged, All-changed}
+use Rattle.ledger_laws.proofs.Ledger.{ledger_numbers, none_after}
+use Rattle.ledger_laws.proofs.Shifting.{weighed, goes, SeesKeys, Shift, balance_kept, flat_stand}
 use Rattle.ledger_laws.proofs.Facts.{kept_at, holds_once}
-use Rattle.sheet_types.specs.Register.{HasParent}
-use Rattle.sheet_types.specs.Refuse.{too_many, is_archive}
-use Rattle.sheet_types.proofs.Order.{All-of_arranged}
-use Rattle.ledger_laws.proofs.Shifting.{flat_stand}
+use Rattle.sheet_types.specs.Refuse.{is_archive}
 use Rattle.ledger_laws.proofs.Keeping.{live_changed, parent_moves, receipts_kept, sum_by-changed, all_live_at, package_moves, open_kept}
 
 -- ---- one package is changed
@@ -38,7 +36,7 @@ module _ (w : World) (p : List ℕ) (r : Receipt) (e : Entry) (items : Package �
   next = changed change p w
 
   pub record Fits : Type 0 where
-    pub says : r.line ≡ entry_line e
+    pub says : entry_from r.line ≡ Some e
     pub stands : stands_in e ≡ p
     pub live : is_live w p ≡ true
     pub may : MayFollow (archive_of w) (receipts_of w) r
@@ -122,12 +120,12 @@ module _ (w : World) (p : List ℕ) (r : Receipt) (e : Entry) (items : Package �
         (All-changed change p (IsLoan w) (IsLoan next) (λ x _ h. loan_kept x h) loan_kept w.packages register.balanced.loans)
 
     unaltered_next : (i : Item) → IsUnaltered w i → IsUnaltered next i
-    unaltered_next i h = (h.0, subst (λ rs. Contains rs h.0) (sym receipts) (Contains-append_left (receipts_of w) (r ∷ []) h.0 h.1), h.2, h.3)
+    unaltered_next i h = unaltered_more w next r receipts i h
 
     pub contents_after : ((x : Package) → AllByRecursion (IsUnaltered next) x.items → AllByRecursion (IsUnaltered next) (items x)) → NoneAltered next
     contents_after stay =
         let Sound : Package → Type 0 = λ x. AllByRecursion (IsUnaltered next) x.items in
-        let old : AllByRecursion Sound w.packages = All-weaker (λ x. AllByRecursion (IsUnaltered w) x.items) Sound (λ x. All-weaker (IsUnaltered w) (IsUnaltered next) unaltered_next x.items) w.packages register.unaltered in
+        let old : AllByRecursion Sound w.packages = All-weaker (λ x. AllByRecursion (IsUnaltered w) x.items) Sound (λ x. All-weaker (IsUnaltered w) (IsUnaltered next) unaltered_next x.items) w.packages (each_unaltered w register.unaltered) in
         All-changed change p Sound Sound (λ x _ h. stay x h) (λ x h. h) w.packages old
 
     -- ---- the rules of a register
@@ -148,8 +146,8 @@ module _ (w : World) (p : List ℕ) (r : Receipt) (e : Entry) (items : Package �
     receipts_at_p = receipts_kept r (holdings w p).receipts (kept_at w p register fits.live).receipts (stand_at (λ _ s. s.seq < r.seq) w p
         (flat_stand (λ s. s.seq < r.seq) w.packages (All-of_arranged receipt_key (λ s. s.seq < r.seq) (flat_map (λ x. x.receipts) w.packages) below)))
 
-    pub register_after : IsKeptPackage next (change (holdings w p)) → too_many next ≡ false → is_split r ≡ false → NoneAltered next → IsRegister next
-    register_after changed' within no_split unaltered = record {
+    pub register_after : IsKeptPackage next (change (holdings w p)) → is_split r ≡ false → NoneAltered next → IsRegister next
+    register_after changed' no_split unaltered = record {
       frame = register.frame;
       arranged = distinct_next;
       archive = sum_by-changed change (λ x. cond (is_archive x) 1 0) p w.packages (λ x. refl) ∙ register.archive;
@@ -160,7 +158,6 @@ module _ (w : World) (p : List ℕ) (r : Receipt) (e : Entry) (items : Package �
           subst (IsKeptPackage next) (sym (at_other q b)) (package_moves w next (holdings w q) refl (parent_stays (holdings w q) k.parent) k)));
       open_loans = open_kept w next r receipts below register.open_loans (λ t _ live. live_same t ∙ live)
           (λ open'. absurd (false≢true (sym no_split ∙ (and_parts _ _ (and_parts _ _ open').0).0)));
-      within_limits = within;
       balanced = balance_after;
-      unaltered = unaltered;
+      unaltered = none_altered next unaltered;
     }

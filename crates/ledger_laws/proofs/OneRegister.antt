@@ -1,64 +1,55 @@
 -- Delete, Unlink and Link keep the rules of a register.
-use Rattle.std.specs.Prelude.{◌≡◌, ℕ, ◌≤◌, Bool, true, false, cond, not, ◌&&◌, ◌||◌, List, [], ◌∷◌, filter, refl, bytes_eq, None, count_by}
+use Rattle.std.specs.Prelude.{◌≡◌, ℕ, Bool, true, false, cond, not, ◌&&◌, ◌||◌, List, [], ◌∷◌, filter, refl, bytes_eq, None}
 use Rattle.std.proofs.Common.{ap, ◌∙◌, arith, drop}
 use Rattle.std.proofs.lemmas.Bool.{and_parts, or_parts}
 use Rattle.std.proofs.lemmas.Slice.Eq.{bytes_eq-Decides}
-use Rattle.std.specs.List.{list_any, AllByRecursion}
+use Rattle.std.specs.List.{AllByRecursion}
 use Rattle.sheet_types.specs.Ordered.{put, has, is_among}
 use Rattle.sheet_types.specs.Texts.{entry_of}
-use Rattle.sheet_types.specs.World.{World, Package, link_key, item_key, holdings, is_live, has_kind, base_kind, kind_number, is_tile}
+use Rattle.sheet_types.specs.World.{World, Package, link_key, item_key, holdings, is_live, has_kind, base_kind, other_kind, kind_number, is_tile}
 use Rattle.sheet_types.specs.Step.{accepted, receipt_of, kept_reply, relation}
 use Rattle.sheet_types.specs.Refuse.{refusal, reasons, place_of}
-use Rattle.sheet_types.specs.Register.{IsRegister, IsKeptPackage, HasEnds, IsUuid}
+use Rattle.sheet_types.specs.Lines.{IsUuid, HasTypes, is_splitting}
+use Rattle.sheet_types.specs.Custody.{is_split}
+use Rattle.ledger_laws.proofs.Ledger.{by_entry}
+use Rattle.sheet_types.specs.Register.{IsRegister, IsKeptPackage, HasEnds}
 use Rattle.ledger_laws.specs.Laws.{delete_request, link_request, unlink_request, DeleteKeepsRegister, LinkKeepsRegister, UnlinkKeepsRegister}
 use Rattle.sheet_types.specs.declared.command.Item.{Item}
 use Rattle.sheet_types.specs.declared.command.Mapping.{Mapping}
 use Rattle.sheet_types.specs.declared.command.Relation.{Relation}
 use Rattle.sheet_types.specs.declared.command.Request.{Request}
 use Rattle.sheet_types.specs.declared.receipt.MovedKind.{MovedKind}
-use Rattle.sheet_types.specs.declared.receipt.MovedKind.TheVariants.{MediaItem}
-use Rattle.sheet_types.proofs.Order.{All-put}
-use Rattle.ledger_laws.proofs.Adding.{rows_fail, none_pass, not_false, and_true}
-use Rattle.ledger_laws.proofs.Listing.{All-both, All-filter, is_one, filter_arranged, put_arranged}
+use Rattle.sheet_types.proofs.Order.{All-put, filter_arranged, put_arranged}
+use Rattle.ledger_laws.proofs.Accepting.{rows_fail, keeps}
+use Rattle.sheet_types.proofs.Every.{none_pass, All-both, All-filter}
+use Rattle.sheet_types.proofs.Basics.{not_false, and_true}
+use Rattle.sheet_types.proofs.Without.{is_one}
 use Rattle.ledger_laws.proofs.Facts.{kept_at}
-use Rattle.ledger_laws.proofs.Keeping.{fit_all, distinct_counts, counts_distinct, sum_by-filter, filter_less}
-use Rattle.ledger_laws.proofs.Merging.{keeps}
-use Rattle.ledger_laws.proofs.OnePackage as one
+use Rattle.ledger_laws.proofs.Keeping.{fit_all, places_less}
+use Rattle.sheet_types.proofs.Distinct.{distinct_counts, counts_distinct}
+use Rattle.sheet_types.proofs.Sums.{filter_less}
 use Rattle.ledger_laws.proofs.Changing.{delete_items, delete_fits, unlink_links, unlink_fits}
 use Rattle.ledger_laws.proofs.Linking.{link_fits}
-
-pub any_filter : {X : Type 0} (p t : X → Bool) (xs : List X) → ((x : X) → p x ≡ true → t x ≡ true) → list_any p xs ≡ true → list_any p (filter t xs) ≡ true
-any_filter p t [] f h = h
-any_filter p t (x ∷ xs) f h =
-    elim (p x) as (λ v. p x ≡ v → (v || list_any p xs) ≡ true → list_any p (cond (t x) (x ∷ filter t xs) (filter t xs)) ≡ true) [
-      | true ↦ λ e _. rw (f x e) (ap (λ b. b || list_any p (filter t xs)) e)
-      | false ↦ λ e more. elim (t x) as (λ v. list_any p (cond v (x ∷ filter t xs) (filter t xs)) ≡ true) [
-        | true ↦ ap (λ b. b || list_any p (filter t xs)) e ∙ any_filter p t xs f more
-        | false ↦ any_filter p t xs f more
-      ]
-    ] refl h
-
--- the places of some of the items
-pub places_less : (t : Item → Bool) (k : List ℕ) (items : List Item) → count_by (λ i. bytes_eq (place_of i.content) k) (filter is_tile (filter t items)) ≤ count_by (λ i. bytes_eq (place_of i.content) k) (filter is_tile items)
-places_less t k items =
-    let f : Item → ℕ = λ i. cond (bytes_eq (place_of i.content) k) 1 0 in
-    omega (arith, sum_by-filter f is_tile (filter t items), sum_by-filter f is_tile items, filter_less (λ i. cond (is_tile i) (f i) 0) t items)
+use Rattle.sheet_types.proofs.Found.{any_filter}
+use Rattle.ledger_laws.proofs.OnePackage as one
 
 module _ (w : World) (id moment p identity : List ℕ) (register : IsRegister w) where
   abbrev asked : Request
   asked = delete_request id moment p identity
 
-  delete_register : kept_reply w asked ≡ None → refusal w (accepted w asked) asked ≡ None → IsRegister (accepted w asked)
-  delete_register no_reply no_refusal =
+  delete_register : HasTypes asked.command → kept_reply w asked ≡ None → refusal w (accepted w asked) asked ≡ None → IsRegister (accepted w asked)
+  delete_register types no_reply no_refusal =
       let fails : AllByRecursion (λ row. row.0 ≡ false) (reasons w (accepted w asked) asked) = rows_fail (reasons w (accepted w asked) asked) no_refusal in
       let live : is_live w p ≡ true = and_true (is_live w p) (not_false (is_live w p && true) fails.1.0) in
       let x : Package = holdings w p in
       let k : IsKeptPackage w x = kept_at w p register live in
       let t : Item → Bool = λ i. not (is_among (identity ∷ []) i.identity) in
       let untied : AllByRecursion (λ l. (bytes_eq l.base identity || bytes_eq l.media identity) ≡ false) x.links = none_pass (λ l. bytes_eq l.base identity || bytes_eq l.media identity) x.links fails.1.1.1.1.1.1.1.1.1.1.1.1.1.0 in
-      let fits = delete_fits w id moment p identity register no_reply no_refusal in
+      let fits = delete_fits w id moment p identity register types no_reply no_refusal in
+      let no_split : is_split (receipt_of w asked) ≡ false = by_entry is_splitting (receipt_of w asked) (entry_of asked.command) fits.says in
       one.register_after w p (receipt_of w asked) (entry_of asked.command) (delete_items w id moment p identity register) (λ y. y.links) register fits
       (record {
+        uuid = k.uuid;
         items = filter_arranged item_key t x.items k.items;
         links = k.links;
         receipts = one.receipts_at_p w p (receipt_of w asked) (entry_of asked.command) (delete_items w id moment p identity register) (λ y. y.links) register fits;
@@ -69,10 +60,10 @@ module _ (w : World) (id moment p identity : List ℕ) (register : IsRegister w)
         ends = All-both (λ l. (bytes_eq l.base identity || bytes_eq l.media identity) ≡ false) (HasEnds x) _
             (λ l off ends.
             let apart : (bytes_eq l.base identity ≡ false) × (bytes_eq l.media identity ≡ false) = or_parts (bytes_eq l.base identity) (bytes_eq l.media identity) off in
-            (kind_stays (base_kind l.mapping) l.base x.items apart.0 ends.0, kind_stays MediaItem l.media x.items apart.1 ends.1)) x.links untied k.ends;
+            (kind_stays (base_kind l.mapping) l.base x.items apart.0 ends.0, kind_stays (other_kind l.mapping) l.media x.items apart.1 ends.1)) x.links untied k.ends;
         parent = one.parent_kept w p (receipt_of w asked) (entry_of asked.command) (delete_items w id moment p identity register) (λ y. y.links) register fits;
       })
-      (fails.1.1.1.1.1.1.1.1.1.1.1.1.1.1.1.1.1.1.1.1.1.1.0) refl
+      no_split
       (one.contents_after w p (receipt_of w asked) (entry_of asked.command) (delete_items w id moment p identity register) (λ y. y.links) register fits (λ y h. All-filter _ _ y.items h))
     where
       kind_stays : (kind : MovedKind) (end : List ℕ) (items : List Item) → bytes_eq end identity ≡ false → has item_key (kind_number kind ∷ end) items ≡ true → has item_key (kind_number kind ∷ end) (filter (λ i. not (is_among (identity ∷ []) i.identity)) items) ≡ true
@@ -80,7 +71,7 @@ module _ (w : World) (id moment p identity : List ℕ) (register : IsRegister w)
           (λ i e. ap not (is_one (λ j. j.identity) identity i ∙ ap (λ z. bytes_eq z identity) (ap (drop 1) ((bytes_eq-Decides (item_key i) (kind_number kind ∷ end)).0 e)) ∙ apart)) h
 
 pub delete_keeps_register : DeleteKeepsRegister
-delete_keeps_register w id moment p identity register = keeps IsRegister w (delete_request id moment p identity) register (delete_register w id moment p identity register)
+delete_keeps_register w id moment p identity types register = keeps IsRegister w (delete_request id moment p identity) register (delete_register w id moment p identity register types)
 
 module _ (w : World) (id moment p : List ℕ) (mapping : Mapping) (base media : List ℕ) (register : IsRegister w) where
   abbrev unlink_asked : Request
@@ -92,15 +83,17 @@ module _ (w : World) (id moment p : List ℕ) (mapping : Mapping) (base media : 
   abbrev linked_now : Relation
   linked_now = relation mapping base media
 
-  unlink_register : kept_reply w unlink_asked ≡ None → refusal w (accepted w unlink_asked) unlink_asked ≡ None → IsRegister (accepted w unlink_asked)
-  unlink_register no_reply no_refusal =
+  unlink_register : HasTypes unlink_asked.command → kept_reply w unlink_asked ≡ None → refusal w (accepted w unlink_asked) unlink_asked ≡ None → IsRegister (accepted w unlink_asked)
+  unlink_register types no_reply no_refusal =
       let fails : AllByRecursion (λ row. row.0 ≡ false) (reasons w (accepted w unlink_asked) unlink_asked) = rows_fail (reasons w (accepted w unlink_asked) unlink_asked) no_refusal in
       let live : is_live w p ≡ true = and_true (is_live w p) (not_false (is_live w p && true) fails.1.0) in
       let x : Package = holdings w p in
       let k : IsKeptPackage w x = kept_at w p register live in
-      let fits = unlink_fits w id moment p mapping base media register no_reply no_refusal in
+      let fits = unlink_fits w id moment p mapping base media register types no_reply no_refusal in
+      let no_split : is_split (receipt_of w unlink_asked) ≡ false = by_entry is_splitting (receipt_of w unlink_asked) (entry_of unlink_asked.command) fits.says in
       one.register_after w p (receipt_of w unlink_asked) (entry_of unlink_asked.command) (λ y. y.items) (unlink_links w id moment p mapping base media register) register fits
       (record {
+        uuid = k.uuid;
         items = k.items;
         links = filter_arranged link_key _ x.links k.links;
         receipts = one.receipts_at_p w p (receipt_of w unlink_asked) (entry_of unlink_asked.command) (λ y. y.items) (unlink_links w id moment p mapping base media register) register fits;
@@ -111,21 +104,23 @@ module _ (w : World) (id moment p : List ℕ) (mapping : Mapping) (base media : 
         ends = All-filter _ _ x.links k.ends;
         parent = one.parent_kept w p (receipt_of w unlink_asked) (entry_of unlink_asked.command) (λ y. y.items) (unlink_links w id moment p mapping base media register) register fits;
       })
-      (fails.1.1.1.1.1.1.1.1.1.1.1.1.1.1.1.1.1.1.1.1.1.1.0) refl
+      no_split
       (one.contents_after w p (receipt_of w unlink_asked) (entry_of unlink_asked.command) (λ y. y.items) (unlink_links w id moment p mapping base media register) register fits (λ y h. h))
 
-  link_register : kept_reply w link_asked ≡ None → refusal w (accepted w link_asked) link_asked ≡ None → IsRegister (accepted w link_asked)
-  link_register no_reply no_refusal =
+  link_register : HasTypes link_asked.command → kept_reply w link_asked ≡ None → refusal w (accepted w link_asked) link_asked ≡ None → IsRegister (accepted w link_asked)
+  link_register types no_reply no_refusal =
       let fails : AllByRecursion (λ row. row.0 ≡ false) (reasons w (accepted w link_asked) link_asked) = rows_fail (reasons w (accepted w link_asked) link_asked) no_refusal in
       let live : is_live w p ≡ true = and_true (is_live w p) (not_false (is_live w p && true) fails.1.0) in
       let x : Package = holdings w p in
       let k : IsKeptPackage w x = kept_at w p register live in
-      let kinds : (has_kind x (base_kind mapping) base ≡ true) × (has_kind x MediaItem media ≡ true) =
-      and_parts (has_kind x (base_kind mapping) base) (has_kind x MediaItem media) (not_false (has_kind x (base_kind mapping) base && has_kind x MediaItem media) fails.1.1.1.1.1.1.1.0) in
+      let kinds : (has_kind x (base_kind mapping) base ≡ true) × (has_kind x (other_kind mapping) media ≡ true) =
+      and_parts (has_kind x (base_kind mapping) base) (has_kind x (other_kind mapping) media) (not_false (has_kind x (base_kind mapping) base && has_kind x (other_kind mapping) media) fails.1.1.1.1.1.1.1.0) in
       let new : AllByRecursion (λ l. bytes_eq (link_key l) (link_key linked_now) ≡ false) x.links = none_pass (λ l. bytes_eq (link_key l) (link_key linked_now)) x.links fails.1.1.1.1.1.1.1.1.1.1.1.0 in
-      let fits = link_fits w id moment p mapping base media register no_reply no_refusal in
+      let fits = link_fits w id moment p mapping base media register types no_reply no_refusal in
+      let no_split : is_split (receipt_of w link_asked) ≡ false = by_entry is_splitting (receipt_of w link_asked) (entry_of link_asked.command) fits.says in
       one.register_after w p (receipt_of w link_asked) (entry_of link_asked.command) (λ y. y.items) (λ y. put link_key linked_now y.links) register fits
       (record {
+        uuid = k.uuid;
         items = k.items;
         links = put_arranged link_key linked_now x.links k.links new;
         receipts = one.receipts_at_p w p (receipt_of w link_asked) (entry_of link_asked.command) (λ y. y.items) (λ y. put link_key linked_now y.links) register fits;
@@ -136,11 +131,11 @@ module _ (w : World) (id moment p : List ℕ) (mapping : Mapping) (base media : 
         ends = All-put link_key _ linked_now x.links kinds k.ends;
         parent = one.parent_kept w p (receipt_of w link_asked) (entry_of link_asked.command) (λ y. y.items) (λ y. put link_key linked_now y.links) register fits;
       })
-      (fails.1.1.1.1.1.1.1.1.1.1.1.1.1.1.1.1.1.1.1.1.1.1.0) refl
+      no_split
       (one.contents_after w p (receipt_of w link_asked) (entry_of link_asked.command) (λ y. y.items) (λ y. put link_key linked_now y.links) register fits (λ y h. h))
 
 pub unlink_keeps_register : UnlinkKeepsRegister
-unlink_keeps_register w id moment p mapping base media register = keeps IsRegister w (unlink_request id moment p mapping base media) register (unlink_register w id moment p mapping base media register)
+unlink_keeps_register w id moment p mapping base media types register = keeps IsRegister w (unlink_request id moment p mapping base media) register (unlink_register w id moment p mapping base media register types)
 
 pub link_keeps_register : LinkKeepsRegister
-link_keeps_register w id moment p mapping base media register = keeps IsRegister w (link_request id moment p mapping base media) register (link_register w id moment p mapping base media register)
+link_keeps_register w id moment p mapping base media types register = keeps IsRegister w (link_request id moment p mapping base media) register (link_register w id moment p mapping base media register types)

@@ -1,21 +1,71 @@
--- A world by what is held under each UUID.
-use Rattle.std.specs.Prelude.{◌≡◌, ℕ, ◌+◌, ◌≤◌, Bool, true, false, cond, not, List, [], ◌∷◌, ◌++◌, map, find, refl, bytes_eq, Some, None, sum_by, count_by, unwrap_or}
-use Rattle.std.proofs.Common.{sym, ap, subst, ◌∙◌, arith}
+-- A world by what is held under each UUID, before and after a change, a new package, and the end of one.
+use Rattle.std.specs.Prelude.{◌≡◌, ℕ, ◌+◌, ◌≤◌, Bool, true, false, cond, not, List, [], ◌∷◌, ◌++◌, map, find, refl, bytes_eq, Some, None, sum_by, count_by, unwrap_or, flat_map, ◌<◌, ◌||◌, Option, option_map, is_none}
+use Rattle.std.proofs.Common.{sym, ap, subst, ◌∙◌, arith, append_assoc}
 use Rattle.std.proofs.lemmas.List.Sums.{sum_by-cons}
 use Rattle.std.proofs.lemmas.Slice.Eq.{bytes_eq-Decides}
-use Rattle.std.specs.List.{AllByRecursion}
-use Rattle.sheet_types.specs.Ordered.{is_before, put, without, is_among, IsArranged}
-use Rattle.sheet_types.specs.World.{World, Package, package_key, holdings, no_package, is_live, changed}
+use Rattle.std.specs.List.{AllByRecursion, list_any}
+use Rattle.sheet_types.specs.Ordered.{is_before, put, without, is_among, IsArranged, arranged, has}
+use Rattle.sheet_types.specs.World.{World, Package, package_key, holdings, no_package, is_live, changed, receipts_of, receipt_key}
 use Rattle.sheet_types.specs.Step.{closed, enlarged}
 use Rattle.sheet_types.specs.declared.receipt.Receipt.{Receipt}
-use Rattle.ledger_laws.proofs.Adding.{bytes_eq_itself, None≢Some, All-weaker, or-false, before-differs}
-use Rattle.ledger_laws.proofs.Balancing.{holdings_other, holdings_same}
 use Rattle.sheet_types.specs.Refuse.{is_archive}
-use Rattle.std.specs.Prelude.{flat_map}
-use Rattle.ledger_laws.proofs.Listing.{All-append, is_one, bytes_eq_swap, All-both, found, not_found, All-found, count-cons, counts_arranged, none_counted, take_one, filter_arranged}
+use Rattle.std.proofs.lemmas.Bool.{true≢false, false≢true, le-ltb, lt-ltb}
+use Rattle.std.specs.Option.{option_map_or}
+use Rattle.sheet_types.specs.Balance.{archive_of}
+use Rattle.sheet_types.proofs.Basics.{None≢Some, or-false, bytes_eq_itself, bytes_eq_swap, before-differs}
+use Rattle.sheet_types.proofs.Every.{All-weaker, All-both, All-left, All-right, All-append}
+use Rattle.sheet_types.proofs.Sums.{count-cons, none_counted}
+use Rattle.sheet_types.proofs.Found.{found, not_found, All-found}
+use Rattle.sheet_types.proofs.Order.{before_numbers, put_last, All-of_arranged, arranged_last, counts_arranged, filter_arranged}
+use Rattle.sheet_types.proofs.Without.{is_one, take_one}
 
 abbrev pub at_uuid : List ℕ → Package → Bool
 at_uuid p x = bytes_eq x.uuid p
+
+pub find_changed : (f : Package → Package) (p p' : List ℕ) (ps : List Package) → ((x : Package) → (f x).uuid ≡ x.uuid)
+    → find (λ x. bytes_eq x.uuid p') (map (λ x. cond (bytes_eq x.uuid p) (f x) x) ps) ≡ option_map (λ x. cond (bytes_eq x.uuid p) (f x) x) (find (λ x. bytes_eq x.uuid p') ps)
+find_changed f p p' [] uuids = refl
+find_changed f p p' (x ∷ ps) uuids =
+    let y : Package = cond (bytes_eq x.uuid p) (f x) x in
+    let rest : List Package = map (λ z. cond (bytes_eq z.uuid p) (f z) z) ps in
+    let u : y.uuid ≡ x.uuid = elim (bytes_eq x.uuid p) as (λ v. (cond v (f x) x).uuid ≡ x.uuid) [ true ↦ uuids x | false ↦ refl ] in
+    subst (λ id. cond (bytes_eq id p') (Some y) (find (λ z. bytes_eq z.uuid p') rest) ≡ option_map (λ z. cond (bytes_eq z.uuid p) (f z) z) (cond (bytes_eq x.uuid p') (Some x) (find (λ z. bytes_eq z.uuid p') ps))) (sym u)
+    (elim (bytes_eq x.uuid p') as (λ v. cond v (Some y) (find (λ z. bytes_eq z.uuid p') rest) ≡ option_map (λ z. cond (bytes_eq z.uuid p) (f z) z) (cond v (Some x) (find (λ z. bytes_eq z.uuid p') ps))) [
+      | true ↦ refl
+      | false ↦ find_changed f p p' ps uuids
+    ])
+
+-- what is found has the UUID
+found_at : (f : Package → Package) (p p' : List ℕ) (ps : List Package) (b : Bool) → bytes_eq p' p ≡ b
+    → unwrap_or (option_map (λ x. cond (bytes_eq x.uuid p) (f x) x) (find (λ x. bytes_eq x.uuid p') ps)) no_package
+    ≡ unwrap_or (option_map (λ x. cond b (f x) x) (find (λ x. bytes_eq x.uuid p') ps)) no_package
+found_at f p p' [] b e = refl
+found_at f p p' (x ∷ ps) b e =
+    elim (bytes_eq x.uuid p') as (λ v. bytes_eq x.uuid p' ≡ v → unwrap_or (option_map (λ z. cond (bytes_eq z.uuid p) (f z) z) (cond v (Some x) (find (λ z. bytes_eq z.uuid p') ps))) no_package
+    ≡ unwrap_or (option_map (λ z. cond b (f z) z) (cond v (Some x) (find (λ z. bytes_eq z.uuid p') ps))) no_package) [
+      | true ↦ λ same. ap (λ v. cond v (f x) x) (ap (λ id. bytes_eq id p) ((bytes_eq-Decides x.uuid p').0 same) ∙ e)
+      | false ↦ λ _. found_at f p p' ps b e
+    ] refl
+
+pub holdings_other : (f : Package → Package) (w : World) (p p' : List ℕ) → ((x : Package) → (f x).uuid ≡ x.uuid) → bytes_eq p' p ≡ false → holdings (changed f p w) p' ≡ holdings w p'
+holdings_other f w p p' uuids other =
+    ap (λ o. unwrap_or o no_package) (find_changed f p p' w.packages uuids) ∙ found_at f p p' w.packages false other ∙ as_it_was (find (λ x. bytes_eq x.uuid p') w.packages)
+  where
+    as_it_was : (o : Option Package) → unwrap_or (option_map (λ x. cond false (f x) x) o) no_package ≡ unwrap_or o no_package
+    as_it_was None = refl
+    as_it_was (Some x) = refl
+
+pub holdings_same : (f : Package → Package) (w : World) (p : List ℕ) → ((x : Package) → (f x).uuid ≡ x.uuid) → is_live w p ≡ true → holdings (changed f p w) p ≡ f (holdings w p)
+holdings_same f w p uuids live =
+    ap (λ o. unwrap_or o no_package) (find_changed f p p w.packages uuids) ∙ found_at f p p w.packages true (bytes_eq_itself p) ∙ found w.packages live
+  where
+    found : (ps : List Package) → list_any (λ x. bytes_eq x.uuid p) ps ≡ true → unwrap_or (option_map (λ x. cond true (f x) x) (find (λ x. bytes_eq x.uuid p) ps)) no_package ≡ f (unwrap_or (find (λ x. bytes_eq x.uuid p) ps) no_package)
+    found [] h = absurd (false≢true h)
+    found (x ∷ ps) h =
+        elim (bytes_eq x.uuid p) as (λ v. (v || list_any (λ z. bytes_eq z.uuid p) ps) ≡ true → unwrap_or (option_map (λ z. cond true (f z) z) (cond v (Some x) (find (λ z. bytes_eq z.uuid p) ps))) no_package ≡ f (unwrap_or (cond v (Some x) (find (λ z. bytes_eq z.uuid p) ps)) no_package)) [
+          | true ↦ λ _. refl
+          | false ↦ λ more. found ps more
+        ] h
 
 -- each package is what is found under its UUID
 pub each_found : (ps : List Package) → IsArranged package_key ps → AllByRecursion (λ x. find (at_uuid x.uuid) ps ≡ Some x) ps
@@ -56,8 +106,6 @@ pub stand_all : (Q : List ℕ → Receipt → Type 0) (w : World) → IsArranged
 stand_all Q w distinct h =
     All-weaker (λ x. find (at_uuid x.uuid) w.packages ≡ Some x) (λ x. AllByRecursion (Q x.uuid) x.receipts)
     (λ x is. subst (λ y. AllByRecursion (Q x.uuid) y.receipts) (ap (λ o. unwrap_or o no_package) is) (h x.uuid)) w.packages (each_found w.packages distinct)
-
--- ---- after a change, a new package, and the end of one
 
 pub holdings_changed : (f : Package → Package) (w : World) (p p' : List ℕ) → ((x : Package) → (f x).uuid ≡ x.uuid) → is_live w p ≡ true
     → holdings (changed f p w) p' ≡ cond (bytes_eq p' p) (f (holdings w p)) (holdings w p')
@@ -192,3 +240,79 @@ flat_put x (y ∷ ps) none =
       | true ↦ ap (λ zs. y.receipts ++ zs) (flat_put x ps none)
       | false ↦ ap (λ zs. zs ++ flat_map (λ z. z.receipts) (y ∷ ps)) none
     ]
+
+record Gained (f : Package → Package) (p : List ℕ) (r : Receipt) (ps : List Package) : Type 0 where
+  before : List Receipt
+  behind : List Receipt
+  was : flat_map (λ x. x.receipts) ps ≡ before ++ behind
+  is : flat_map (λ x. x.receipts) (map (λ x. cond (bytes_eq x.uuid p) (f x) x) ps) ≡ before ++ r ∷ behind
+
+-- the packages behind one of this UUID have others
+none_behind : (f : Package → Package) (p : List ℕ) (x : Package) (ps : List Package) → p ≡ x.uuid → AllByRecursion (λ y. is_before x.uuid y.uuid ≡ true) ps
+    → map (λ y. cond (bytes_eq y.uuid p) (f y) y) ps ≡ ps
+none_behind f p x [] e h = refl
+none_behind f p x (y ∷ ps) e h =
+    let other : bytes_eq y.uuid p ≡ false = differs in
+    rw other (ap (λ zs. y ∷ zs) (none_behind f p x ps e h.1))
+  where
+    differs : bytes_eq y.uuid p ≡ false
+    differs = elim (bytes_eq y.uuid p) as (λ v. bytes_eq y.uuid p ≡ v → v ≡ false) [
+      | true ↦ λ same. absurd (true≢false (sym (bytes_eq_itself p) ∙ subst (λ z. bytes_eq p z ≡ false) ((bytes_eq-Decides y.uuid p).0 same) (subst (λ z. bytes_eq z y.uuid ≡ false) (sym e) (before-differs x.uuid y.uuid h.0))))
+      | false ↦ λ _. refl
+    ] refl
+
+gained : (f : Package → Package) (p : List ℕ) (r : Receipt) (ps : List Package) → ((x : Package) → AllByRecursion (λ s. s.seq < r.seq) x.receipts → (f x).receipts ≡ x.receipts ++ r ∷ [])
+    → AllByRecursion (λ s. s.seq < r.seq) (flat_map (λ x. x.receipts) ps) → IsArranged package_key ps → has package_key p ps ≡ true → Gained f p r ps
+gained f p r [] gains below distinct live = absurd (false≢true live)
+gained f p r (x ∷ ps) gains below distinct live =
+    elim (bytes_eq x.uuid p) as (λ v. bytes_eq x.uuid p ≡ v → (v || has package_key p ps) ≡ true → Gained f p r (x ∷ ps)) [
+      | true ↦ λ here _.
+          let e : (cond (bytes_eq x.uuid p) (f x) x).receipts ≡ x.receipts ++ r ∷ [] = rw here (gains x (All-left (λ s. s.seq < r.seq) x.receipts (flat_map (λ y. y.receipts) ps) below)) in
+          let same : map (λ y. cond (bytes_eq y.uuid p) (f y) y) ps ≡ ps = none_behind f p x ps (sym ((bytes_eq-Decides x.uuid p).0 here)) distinct.0 in record {
+            before = x.receipts;
+            behind = flat_map (λ y. y.receipts) ps;
+            was = refl;
+            is = rw (e, same) (append_assoc x.receipts (r ∷ []) (flat_map (λ y. y.receipts) ps));
+          }
+      | false ↦ λ other live.
+          let rest : Gained f p r ps = gained f p r ps gains (All-right (λ s. s.seq < r.seq) x.receipts (flat_map (λ y. y.receipts) ps) below) distinct.1 live in
+          let e : (cond (bytes_eq x.uuid p) (f x) x).receipts ≡ x.receipts = rw other refl in record {
+            before = x.receipts ++ rest.before;
+            behind = rest.behind;
+            was = ap (λ zs. x.receipts ++ zs) rest.was ∙ sym (append_assoc x.receipts rest.before rest.behind);
+            is = rw (e, rest.is) (sym (append_assoc x.receipts rest.before (r ∷ rest.behind)));
+          }
+    ] refl live
+
+-- the receipts in order, after all of lesser number
+pub receipts_gained : (f : Package → Package) (w : World) (p : List ℕ) (r : Receipt) → ((x : Package) → AllByRecursion (λ s. s.seq < r.seq) x.receipts → (f x).receipts ≡ x.receipts ++ r ∷ [])
+    → AllByRecursion (λ s. s.seq < r.seq) (receipts_of w) → IsArranged package_key w.packages → has package_key p w.packages ≡ true
+    → receipts_of (changed f p w) ≡ receipts_of w ++ r ∷ []
+receipts_gained f w p r gains below distinct live =
+    let unordered : AllByRecursion (λ s. s.seq < r.seq) (flat_map (λ x. x.receipts) w.packages) = All-of_arranged receipt_key (λ s. s.seq < r.seq) (flat_map (λ x. x.receipts) w.packages) below in
+    let g : Gained f p r w.packages = gained f p r w.packages gains unordered distinct live in
+    let sides : AllByRecursion (λ s. s.seq < r.seq) (g.before ++ g.behind) = subst (AllByRecursion (λ s. s.seq < r.seq)) g.was unordered in
+    ap (arranged receipt_key) g.is ∙ arranged_last receipt_key r g.before g.behind (All-weaker (λ s. s.seq < r.seq) (λ s. (is_before (receipt_key s) (receipt_key r) ≡ true) × (is_before (receipt_key r) (receipt_key s) ≡ false)) (λ s lt. (before_numbers s.seq r.seq ∙ lt-ltb s.seq r.seq lt, before_numbers r.seq s.seq ∙ le-ltb r.seq s.seq (omega arith))) (g.before ++ g.behind) sides)
+    ∙ ap (λ zs. arranged receipt_key zs ++ r ∷ []) (sym g.was)
+
+-- a receipt that is put among lesser ones is the last
+pub with_receipt_gains : (r : Receipt) (x : Package) → AllByRecursion (λ s. s.seq < r.seq) x.receipts → put receipt_key r x.receipts ≡ x.receipts ++ r ∷ []
+with_receipt_gains r x below = put_last receipt_key r x.receipts (All-weaker (λ s. s.seq < r.seq) (λ s. is_before (receipt_key s) (receipt_key r) ≡ true) (λ s lt. before_numbers s.seq r.seq ∙ lt-ltb s.seq r.seq lt) x.receipts below)
+
+-- a change that leaves UUID and parent leaves the archive
+archive_in_stays : (f : Package → Package) (p : List ℕ) (ps : List Package) → ((x : Package) → (f x).uuid ≡ x.uuid) → ((x : Package) → (f x).parent ≡ x.parent)
+    → option_map_or (λ x. x.uuid) (find is_archive (map (λ x. cond (bytes_eq x.uuid p) (f x) x) ps)) [] ≡ option_map_or (λ x. x.uuid) (find is_archive ps) []
+archive_in_stays f p [] uuids parents = refl
+archive_in_stays f p (x ∷ ps) uuids parents =
+    let y : Package = cond (bytes_eq x.uuid p) (f x) x in
+    let u : y.uuid ≡ x.uuid = elim (bytes_eq x.uuid p) as (λ v. (cond v (f x) x).uuid ≡ x.uuid) [ true ↦ uuids x | false ↦ refl ] in
+    let a : is_archive y ≡ is_archive x = elim (bytes_eq x.uuid p) as (λ v. is_archive (cond v (f x) x) ≡ is_archive x) [ true ↦ ap is_none (parents x) | false ↦ refl ] in
+    let rest : List Package = map (λ z. cond (bytes_eq z.uuid p) (f z) z) ps in
+    subst (λ v. option_map_or (λ z. z.uuid) (cond v (Some y) (find is_archive rest)) [] ≡ option_map_or (λ z. z.uuid) (cond (is_archive x) (Some x) (find is_archive ps)) []) (sym a)
+    (elim (is_archive x) as (λ v. option_map_or (λ z. z.uuid) (cond v (Some y) (find is_archive rest)) [] ≡ option_map_or (λ z. z.uuid) (cond v (Some x) (find is_archive ps)) []) [
+      | true ↦ u
+      | false ↦ archive_in_stays f p ps uuids parents
+    ])
+
+pub archive_stays : (f : Package → Package) (p : List ℕ) (w : World) → ((x : Package) → (f x).uuid ≡ x.uuid) → ((x : Package) → (f x).parent ≡ x.parent) → archive_of (changed f p w) ≡ archive_of w
+archive_stays f p w uuids parents = archive_in_stays f p w.packages uuids parents

@@ -2,12 +2,15 @@
 use Rattle.std.specs.Prelude.{◌≡◌, ◌↔◌, ℕ, ◌+◌, ◌≤◌, ◌<◌, Bool, true, false, cond, ◌&&◌, ◌||◌, List, [], ◌∷◌, ◌++◌, filter, find, length, refl, nat_lt, bytes_eq, Option, Some, None, IsTrue, unwrap_or, sum_by, count_by, flat_map, ◌==◌, slice_index}
 use Rattle.std.proofs.Common.{sym, ap, subst, ◌∙◌, arith}
 use Rattle.std.proofs.lemmas.List.Elements.{filter-append}
-use Rattle.std.proofs.lemmas.List.Sums.{sum_by-cons, fold_push}
+use Rattle.std.proofs.lemmas.List.Sums.{fold_push}
 use Rattle.std.proofs.lemmas.Bool.{true≢false, false≢true, or_parts, lt-ltb, le-ltb, and_parts}
 use Rattle.std.proofs.lemmas.Slice.Eq.{bytes_eq-Decides}
 use Rattle.std.specs.List.{AllByRecursion}
 use Rattle.sheet_types.specs.Ordered.{has}
-use Rattle.sheet_types.specs.Texts.{Entry, entry_line, size}
+use Rattle.sheet_types.specs.Texts.{Entry, size}
+use Rattle.sheet_types.specs.Lines.{entry_from}
+use Rattle.sheet_types.specs.World.{is_item_kind}
+use Rattle.std.specs.Prelude.{not}
 use Rattle.sheet_types.specs.World.{World, Package, receipt_key, receipts_of, holdings, item_moved, link_moved, moved_thing, item_thing, link_key, link_kind, is_tile, is_medium, is_row, kind_is, kind_number}
 use Rattle.sheet_types.specs.Custody.{names, custody, ends_at, is_merge, is_split, after}
 use Rattle.sheet_types.specs.Step.{added_item}
@@ -18,13 +21,14 @@ use Rattle.sheet_types.specs.declared.command.Item.{Item}
 use Rattle.sheet_types.specs.declared.command.Mapping.TheVariants.{TilesMedia, RowsMedia}
 use Rattle.sheet_types.specs.declared.command.Relation.{Relation}
 use Rattle.sheet_types.specs.declared.receipt.Moved.{Moved}
-use Rattle.sheet_types.specs.declared.receipt.MovedKind.TheVariants.{TileItem, MediaItem, RowItem, TilesMediaLink, RowsMediaLink}
+use Rattle.sheet_types.specs.declared.receipt.MovedKind.TheVariants.{TileItem, MediaItem, RowItem}
 use Rattle.sheet_types.specs.declared.receipt.Receipt.{Receipt}
 use Rattle.sheet_types.proofs.Order.{All-of_arranged}
-use Rattle.ledger_laws.proofs.Adding.{bytes_eq_itself, All-weaker, All-left, All-right, ledger_numbers, ledger_snoc}
-use Rattle.ledger_laws.proofs.Balancing.{custody_names, custody_other, sum_by-filter_snoc, none_later}
-use Rattle.ledger_laws.proofs.Account.{thing_of_item}
-use Rattle.ledger_laws.proofs.Listing.{All-both, found, All-found, any_some, any_none, sum_by-same}
+use Rattle.sheet_types.proofs.Basics.{bytes_eq_itself}
+use Rattle.sheet_types.proofs.Every.{All-weaker, All-left, All-right, All-both}
+use Rattle.ledger_laws.proofs.Ledger.{ledger_numbers, ledger_snoc, custody_names, custody_other, sum_by-filter_snoc, none_later, thing_of_item}
+use Rattle.sheet_types.proofs.Found.{found, All-found}
+use Rattle.sheet_types.proofs.Sums.{any_some, any_none, sum_by-same, sum_by-zero, length_sum}
 use Rattle.ledger_laws.proofs.Packages.{AllStand}
 
 -- what a package holds, by a measure of things
@@ -96,18 +100,6 @@ pub stand_both : (P Q R : List ℕ → Receipt → Type 0) → ((u : List ℕ) (
 stand_both P Q R f w h g = All-both (λ x. AllByRecursion (P x.uuid) x.receipts) (λ x. AllByRecursion (Q x.uuid) x.receipts) (λ x. AllByRecursion (R x.uuid) x.receipts)
     (λ x. All-both (P x.uuid) (Q x.uuid) (R x.uuid) (f x.uuid) x.receipts) w.packages h g
 
-pub sum_by-plus : {X : Type 0} (f g : X → ℕ) (xs : List X) → sum_by (λ x. f x + g x) xs ≡ sum_by f xs + sum_by g xs
-sum_by-plus f g [] = refl
-sum_by-plus f g (x ∷ xs) = omega (arith, sum_by-cons (λ y. f y + g y) x xs, sum_by-cons f x xs, sum_by-cons g x xs, sum_by-plus f g xs)
-
-pub sum_by-zero : {X : Type 0} (f : X → ℕ) → ((x : X) → f x ≡ 0) → (xs : List X) → sum_by f xs ≡ 0
-sum_by-zero f z [] = refl
-sum_by-zero f z (x ∷ xs) = omega (arith, sum_by-cons f x xs, z x, sum_by-zero f z xs)
-
-pub length_sum : {X : Type 0} (f : X → ℕ) → ((x : X) → f x ≡ 1) → (xs : List X) → sum_by f xs ≡ length xs
-length_sum f z [] = refl
-length_sum f z (x ∷ xs) = omega (arith, sum_by-cons f x xs, z x, length_sum f z xs)
-
 -- all receipts stand below the next number
 pub stand_below : (w : World) → IsLedger (archive_of w) [] (receipts_of w) → AllStand (λ u s. s.seq < length (receipts_of w) + 1) w
 stand_below w sound = flat_stand (λ s. s.seq < length (receipts_of w) + 1) w.packages
@@ -132,7 +124,7 @@ abbrev a_row : Moved → ℕ
 a_row m = cond (kind_is RowItem m.kind) 1 0
 
 abbrev a_link : Moved → ℕ
-a_link m = cond (kind_is TilesMediaLink m.kind) 1 0 + cond (kind_is RowsMediaLink m.kind) 1 0
+a_link m = cond (not (is_item_kind m.kind)) 1 0
 
 no_tile : (l : Relation) → a_tile (link_moved l) ≡ 0
 no_tile l = elim l.mapping as (λ m. cond (kind_is TileItem (link_kind m)) 1 0 ≡ 0) [ TilesMedia ↦ refl | RowsMedia ↦ refl ]
@@ -144,7 +136,7 @@ no_row : (l : Relation) → a_row (link_moved l) ≡ 0
 no_row l = elim l.mapping as (λ m. cond (kind_is RowItem (link_kind m)) 1 0 ≡ 0) [ TilesMedia ↦ refl | RowsMedia ↦ refl ]
 
 one_link : (l : Relation) → a_link (link_moved l) ≡ 1
-one_link l = elim l.mapping as (λ m. cond (kind_is TilesMediaLink (link_kind m)) 1 0 + cond (kind_is RowsMediaLink (link_kind m)) 1 0 ≡ 1) [ TilesMedia ↦ refl | RowsMedia ↦ refl ]
+one_link l = elim l.mapping as (λ m. cond (not (is_item_kind (link_kind m))) 1 0 ≡ 1) [ TilesMedia ↦ refl | RowsMedia ↦ refl ]
 
 no_link : (content : Content) (identity : List ℕ) → a_link (item_moved (added_item identity content)) ≡ 0
 no_link (Tile zoom column row bytes) identity = refl
@@ -153,7 +145,7 @@ no_link (Row x y code label) identity = refl
 
 -- ---- the account after a shift
 
-module _ (w next : World) (r : Receipt) (e : Entry) (says : r.line ≡ entry_line e) (shift : Shift w next r) (balance : Balanced w)
+module _ (w next : World) (r : Receipt) (e : Entry) (says : entry_from r.line ≡ Some e) (shift : Shift w next r) (balance : Balanced w)
     (one : (p thing : List ℕ) → weighed (counting thing) (holdings w p) ≤ 1) where
   named_stood : (thing : List ℕ) → names thing r ≡ true → custody (receipts_of w) thing ≡ r.source
   named_stood thing h =
@@ -229,7 +221,7 @@ module _ (w next : World) (r : Receipt) (e : Entry) (says : r.line ≡ entry_lin
   module _ (carry : (Q : List ℕ → Receipt → Type 0) → AllStand (λ u s. Q (goes r u) s) w → Q (stands_in e) r → AllStand Q next)
       (undoes : is_merge r ≡ true → AllStand (λ u s. (is_split s && nat_lt s.seq r.seq && ends_at s.target (unwrap_or r.source [])) ≡ true → goes r u ≡ stands_in e) w) where
     abbrev AtHome : World → List ℕ → Receipt → Type 0
-    AtHome v u s = (x : Entry) × (s.line ≡ entry_line x) × (u ≡ home_after (after s.seq (receipts_of v)) (stands_in x))
+    AtHome v u s = (x : Entry) × (entry_from s.line ≡ Some x) × (u ≡ home_after (after s.seq (receipts_of v)) (stands_in x))
 
     all_below : AllByRecursion (λ s. s.seq < r.seq) (receipts_of w)
     all_below = All-weaker (λ s. s.seq < length {A = Receipt} [] + length (receipts_of w) + 1) (λ s. s.seq < r.seq) (λ s lt. omega (arith, lt, new_number)) (receipts_of w) (ledger_numbers (archive_of w) [] (receipts_of w) balance.ledger)
@@ -274,8 +266,7 @@ module _ (w next : World) (r : Receipt) (e : Entry) (says : r.line ≡ entry_lin
       tiles = sums_kept a_tile (sees_kind (λ n. cond (1 == n) 1 0)) (λ s. s.tiles) (λ x. count_by is_tile x.items) shift.may.counts.tiles (item_weight (λ i. cond (is_tile i) 1 0) a_tile (λ i. refl) no_tile) balance.tiles;
       media = sums_kept a_medium (sees_kind (λ n. cond (2 == n) 1 0)) (λ s. s.media) (λ x. count_by is_medium x.items) shift.may.counts.media (item_weight (λ i. cond (is_medium i) 1 0) a_medium (λ i. refl) no_medium) balance.media;
       rows = sums_kept a_row (sees_kind (λ n. cond (3 == n) 1 0)) (λ s. s.rows) (λ x. count_by is_row x.items) shift.may.counts.rows (item_weight (λ i. cond (is_row i) 1 0) a_row (λ i. refl) no_row) balance.rows;
-      links = sums_kept a_link (sees_kind (λ n. cond (4 == n) 1 0 + cond (5 == n) 1 0)) (λ s. s.links) (λ x. length x.links)
-          (shift.may.counts.links ∙ sym (sum_by-plus (λ m. cond (kind_is TilesMediaLink m.kind) 1 0) (λ m. cond (kind_is RowsMediaLink m.kind) 1 0) r.items))
+      links = sums_kept a_link (λ a b _. one_link a ∙ sym (one_link b)) (λ s. s.links) (λ x. length x.links) shift.may.counts.links
           (λ x. omega (arith, length_sum (λ l. a_link (link_moved l)) one_link x.links, sum_by-zero (λ i. a_link (item_moved i)) (λ i. no_link i.content i.identity) x.items)) balance.links;
       bytes = sums_kept (λ m. m.size) (λ a b _. refl) (λ s. s.bytes) (λ x. sum_by (λ i. size i.content) x.items) shift.may.counts.bytes (item_weight (λ i. size i.content) (λ m. m.size) (λ i. refl) (λ l. refl)) balance.bytes;
       loans = loans;

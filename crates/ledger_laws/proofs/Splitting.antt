@@ -1,8 +1,7 @@
 -- A split keeps the account, whatever its mode.
-use Rattle.std.specs.Prelude.{◌≡◌, ⊤, ℕ, ◌+◌, ◌≤◌, ◌<◌, ◌==◌, Bool, true, false, cond, not, ◌&&◌, ◌||◌, List, [], ◌∷◌, ◌++◌, map, filter, find, length, refl, bytes_eq, Option, Some, None, sum_by, flat_map, MatchOption, is_none, Contains}
+use Rattle.std.specs.Prelude.{◌≡◌, ⊤, ℕ, ◌+◌, ◌≤◌, ◌<◌, ◌==◌, Bool, true, false, cond, not, ◌&&◌, ◌||◌, List, [], ◌∷◌, ◌++◌, map, filter, find, length, refl, bytes_eq, Option, Some, None, sum_by, flat_map, MatchOption, is_none, is_some, nat_le}
 use Rattle.std.specs.Option.{option_map_or}
 use Rattle.std.proofs.Common.{sym, ap, subst, ◌∙◌, arith}
-use Rattle.std.proofs.lemmas.List.Elements.{Contains-append_left}
 use Rattle.std.proofs.lemmas.Bool.{true≢false, false≢true, and_from, or_parts, false_from_ne_true}
 use Rattle.std.proofs.lemmas.Slice.Eq.{bytes_eq-Decides}
 use Rattle.std.specs.List.{list_any, AllByRecursion}
@@ -10,12 +9,18 @@ use Rattle.sheet_types.specs.Ordered.{arranged, has, without, IsArranged}
 use Rattle.sheet_types.specs.Texts.{entry_of}
 use Rattle.sheet_types.specs.World.{World, Package, package_key, receipt_key, item_key, link_key, item_thing, receipts_of, holdings, is_live, changed, with_receipt, item_moved, link_moved}
 use Rattle.sheet_types.specs.Custody.{ends_at, is_merge, is_split, after}
-use Rattle.sheet_types.specs.Cut.{Cut, cut}
+use Rattle.sheet_types.specs.Cut.{Cut, cut, identities, start, strict_set, touches, in_each}
 use Rattle.sheet_types.specs.Step.{accepted, less, loan_of, cut_of, receipt_of, kept_reply}
-use Rattle.sheet_types.specs.Refuse.{refusal, reasons, is_archive}
-use Rattle.sheet_types.specs.Balance.{Balanced, NoneAltered, MayFollow, archive_of, IsLoan, IsUnaltered, holds}
-use Rattle.sheet_types.specs.Register.{IsRegister, IsKeptPackage}
-use Rattle.ledger_laws.specs.Laws.{split_request, SplitKeepsBalance, SplitKeepsContents}
+use Rattle.sheet_types.specs.Refuse.{refusal, reasons, is_archive, cut_link, greatest_depth}
+use Rattle.ledger_laws.proofs.Contents.{NoneAltered, IsUnaltered, each_unaltered, none_altered, unaltered_more}
+use Rattle.sheet_types.proofs.LineReading.{entry_from-line}
+use Rattle.sheet_types.specs.Lines.{HasTypes, entry_from, is_adding, is_splitting, is_merging, is_uuid, is_rect}
+use Rattle.ledger_laws.proofs.Ledger.{by_entry}
+use Rattle.std.specs.Prelude.{unwrap_or}
+use Rattle.std.proofs.lemmas.Bool.{and_parts}
+use Rattle.sheet_types.specs.Balance.{Balanced, MayFollow, archive_of, IsLoan, holds}
+use Rattle.sheet_types.specs.Register.{IsRegister, IsKeptPackage, HasParent, HasEnds}
+use Rattle.ledger_laws.specs.Laws.{split_request, SplitKeepsRegister}
 use Rattle.sheet_types.specs.declared.command.Mode.{Mode}
 use Rattle.sheet_types.specs.declared.command.Mode.TheVariants.{Strict, Follow}
 use Rattle.sheet_types.specs.declared.frame.Frame.{Frame}
@@ -25,24 +30,20 @@ use Rattle.sheet_types.specs.declared.command.Relation.{Relation}
 use Rattle.sheet_types.specs.declared.command.Request.{Request}
 use Rattle.sheet_types.specs.declared.receipt.Moved.{Moved}
 use Rattle.sheet_types.specs.declared.receipt.Receipt.{Receipt}
-use Rattle.sheet_types.proofs.Order.{All-put, All-of_arranged}
-use Rattle.ledger_laws.proofs.Adding.{bytes_eq_itself, All-weaker, rows_fail, not_false, and_true, none_pass, none_any, new_identity, archive_stays, ledger_numbers, receipts_gained, with_receipt_gains}
-use Rattle.ledger_laws.proofs.Balancing.{list_any-put, none_after, none_later}
-use Rattle.ledger_laws.proofs.Listing.{bytes_eq_swap, All-filter, found, All-found, sum_by-parts, count_none, filter_arranged, put_arranged, rest_of, find_put_other}
-use Rattle.ledger_laws.proofs.Packages.{AllStand, at_uuid, at_all, stand_at, stand_all, holdings_none, holdings_changed, holdings_enlarged, changed_arranged, All-changed, flat_put}
+use Rattle.sheet_types.proofs.Order.{All-put, All-of_arranged, list_any-put, filter_arranged, put_arranged, find_put_other, sum_by-put}
+use Rattle.sheet_types.proofs.Basics.{bytes_eq_itself, not_false, and_true, bytes_eq_swap}
+use Rattle.sheet_types.proofs.Every.{All-weaker, none_pass, none_any, All-filter}
+use Rattle.ledger_laws.proofs.Accepting.{rows_fail, new_identity, keeps}
+use Rattle.ledger_laws.proofs.Packages.{archive_stays, receipts_gained, with_receipt_gains, AllStand, at_uuid, at_all, stand_at, stand_all, holdings_none, holdings_changed, holdings_enlarged, changed_arranged, All-changed, flat_put}
+use Rattle.ledger_laws.proofs.Ledger.{ledger_numbers, none_after, none_later}
+use Rattle.sheet_types.proofs.Found.{found, All-found}
+use Rattle.sheet_types.proofs.Sums.{sum_by-parts, count_none}
+use Rattle.sheet_types.proofs.Without.{rest_of}
 use Rattle.ledger_laws.proofs.Shifting.{weighed, goes, Shift, flat_stand, balance_kept}
 use Rattle.ledger_laws.proofs.Facts.{things_moved, order_moved, agree_moved, custody_moved, items_held, links_held, kept_at, holds_once}
-use Rattle.ledger_laws.proofs.Merging.{keeps, weigh_moved, lent_to}
-use Rattle.std.specs.Prelude.{is_some, nat_le}
-use Rattle.std.specs.List.{IsDistinct}
+use Rattle.ledger_laws.proofs.Merging.{weigh_moved, lent_to}
 use Rattle.std.proofs.lemmas.Bool.Decides.{nat_tests}
-use Rattle.sheet_types.specs.Ordered.{is_among}
-use Rattle.sheet_types.specs.Cut.{identities, start, media_linked, in_each}
-use Rattle.sheet_types.specs.Refuse.{cut_link, too_many}
-use Rattle.sheet_types.specs.Register.{HasParent, HasEnds}
-use Rattle.ledger_laws.specs.Laws.{SplitKeepsRegister}
 use Rattle.sheet_types.specs.declared.command.Command.TheVariants.{Split}
-use Rattle.ledger_laws.proofs.Balancing.{sum_by-put}
 use Rattle.ledger_laws.proofs.CutEnds.{GoesWhole, strict_whole, follow_whole}
 use Rattle.ledger_laws.proofs.Keeping.{filtered_kept, live_changed, parent_moves, package_moves, receipts_kept, sum_by-changed, all_live_at, open_kept}
 
@@ -63,17 +64,17 @@ record WholeCut (x : Package) (c : Cut) : Type 0 where
   links : c.links ≡ filter u x.links
   whole : AllByRecursion (GoesWhole s u) x.links
 
-whole_cut : (w : World) (p child : List ℕ) (mode : Mode) (rect : Rect) → IsDistinct bytes_eq (identities (holdings w p).items) → AllByRecursion (HasEnds (holdings w p)) (holdings w p).links → is_some (cut_link w (Split p child mode rect)) ≡ false → WholeCut (holdings w p) (cut w.frame (holdings w p) mode rect)
-whole_cut w p child Strict rect distinct ends none = record {
-  s = λ id. is_among (identities (start w.frame rect (holdings w p))) id || is_among (media_linked (holdings w p) (identities (start w.frame rect (holdings w p)))) id;
-  u = λ l. is_among (media_linked (holdings w p) (identities (start w.frame rect (holdings w p)))) l.media;
+whole_cut : (w : World) (p child : List ℕ) (mode : Mode) (rect : Rect) → AllByRecursion (HasEnds (holdings w p)) (holdings w p).links → is_some (cut_link w (Split p child mode rect)) ≡ false → WholeCut (holdings w p) (cut w.frame (holdings w p) mode rect)
+whole_cut w p child Strict rect ends none = record {
+  s = strict_set (holdings w p) (identities (start w.frame rect (holdings w p)));
+  u = touches (strict_set (holdings w p) (identities (start w.frame rect (holdings w p))));
   items = refl;
   links = refl;
-  whole = strict_whole w.frame rect (holdings w p) distinct ends none;
+  whole = strict_whole (holdings w p) (identities (start w.frame rect (holdings w p))) ends none;
 }
-whole_cut w p child Follow rect distinct ends none = record {
+whole_cut w p child Follow rect ends none = record {
   s = in_each (holdings w p) (identities (start w.frame rect (holdings w p)));
-  u = λ l. in_each (holdings w p) (identities (start w.frame rect (holdings w p))) l.base || in_each (holdings w p) (identities (start w.frame rect (holdings w p))) l.media;
+  u = touches (in_each (holdings w p) (identities (start w.frame rect (holdings w p))));
   items = refl;
   links = refl;
   whole = follow_whole (holdings w p) (identities (start w.frame rect (holdings w p)));
@@ -83,7 +84,7 @@ whole_cut w p child Follow rect distinct ends none = record {
 taken_sum : {X : Type 0} (key : X → List ℕ) (f : X → ℕ) (xs taken : List X) (t : X → Bool) → taken ≡ filter t xs → IsArranged key xs → sum_by f (without key (map key taken) xs) + sum_by f taken ≡ sum_by f xs
 taken_sum key f xs taken t e h = rw (e, rest_of key t xs h) (sum_by-parts f t xs)
 
-module _ (w : World) (id moment p child : List ℕ) (mode : Mode) (rect : Rect) (register : IsRegister w) where
+module _ (w : World) (id moment p child : List ℕ) (mode : Mode) (rect : Rect) (types : HasTypes (Split p child mode rect)) (register : IsRegister w) where
   abbrev pub asked : Request
   asked = split_request id moment p child mode rect
 
@@ -111,8 +112,7 @@ module _ (w : World) (id moment p child : List ℕ) (mode : Mode) (rect : Rect) 
     pub no_archive : AllByRecursion (λ x. (is_archive x && bytes_eq x.uuid child) ≡ false) w.packages
     pub never_lent : list_any (lent_to child) (receipts_of w) ≡ false
     pub untorn : is_some (cut_link w asked.command) ≡ false
-    pub shallow : nat_le 1 (holdings w p).depth ≡ false
-    pub within : too_many next ≡ false
+    pub shallow : nat_le greatest_depth (holdings w p).depth ≡ false
 
   pub known : kept_reply w asked ≡ None → refusal w next asked ≡ None → Known
   known no_reply no_refusal =
@@ -126,8 +126,17 @@ module _ (w : World) (id moment p child : List ℕ) (mode : Mode) (rect : Rect) 
         never_lent = unused.1;
         untorn = fails.1.1.1.1.1.1.1.1.1.1.1.1.1.1.1.1.1.0;
         shallow = fails.1.1.1.1.1.1.1.1.1.1.1.1.1.1.1.0;
-        within = fails.1.1.1.1.1.1.1.1.1.1.1.1.1.1.1.1.1.1.1.1.1.1.0;
       }
+
+  -- the receipt is that of a split
+  says : entry_from receipt.line ≡ Some (entry_of asked.command)
+  says = entry_from-line (entry_of asked.command) types
+
+  splits : is_split receipt ≡ true
+  splits = by_entry is_splitting receipt (entry_of asked.command) says
+
+  no_merge : is_merge receipt ≡ false
+  no_merge = by_entry is_merging receipt (entry_of asked.command) says
 
   module _ (k : Known) where
     never_lent_at : (q : List ℕ) → AllByRecursion (λ s. lent_to child s ≡ false) (holdings w q).receipts
@@ -203,8 +212,13 @@ module _ (w : World) (id moment p child : List ℕ) (mode : Mode) (rect : Rect) 
         )))
         (λ q a b. rw (at_other q a b, bytes_eq_swap child q ∙ a, bytes_eq_swap p q ∙ b) refl)
 
+    goes_same : (u : List ℕ) → goes receipt u ≡ u
+    goes_same u = ap (λ b. cond (b && ends_at receipt.source u) (unwrap_or receipt.target []) u) no_merge
+
     carry : (Q : List ℕ → Receipt → Type 0) → AllStand (λ u s. Q (goes receipt u) s) w → Q p receipt → AllStand Q next
-    carry Q h g = stand_all Q next distinct_next (by_place (λ q. AllByRecursion (Q q) (holdings next q).receipts)
+    carry Q moved g =
+        let h : AllStand Q w = All-weaker (λ x. AllByRecursion (Q (goes receipt x.uuid)) x.receipts) (λ x. AllByRecursion (Q x.uuid) x.receipts) (λ x. subst (λ u. AllByRecursion (Q u) x.receipts) (goes_same x.uuid)) w.packages moved in
+        stand_all Q next distinct_next (by_place (λ q. AllByRecursion (Q q) (holdings next q).receipts)
         (subst (λ x. AllByRecursion (Q child) x.receipts) (sym at_child) tt)
         (subst (λ x. AllByRecursion (Q p) x.receipts) (sym at_p) (All-put receipt_key (Q p) receipt (holdings w p).receipts g (stand_at Q w p h)))
         (λ q a b. subst (λ x. AllByRecursion (Q q) x.receipts) (sym (at_other q a b)) (stand_at Q w q h)))
@@ -233,7 +247,7 @@ module _ (w : World) (id moment p child : List ℕ) (mode : Mode) (rect : Rect) 
 
     may : MayFollow (archive_of w) (receipts_of w) receipt
     may =
-        let unaltered : AllByRecursion (IsUnaltered w) (holdings w p).items = (at_all w (λ x. AllByRecursion (IsUnaltered w) x.items) p register.unaltered k.live).0 in
+        let unaltered : AllByRecursion (IsUnaltered w) (holdings w p).items = (at_all w (λ x. AllByRecursion (IsUnaltered w) x.items) p (each_unaltered w register.unaltered) k.live).0 in
         let Held : Item → Type 0 = λ i. holds (holdings w p) (item_thing i) ≡ true in
         let Tied : Relation → Type 0 = λ l. holds (holdings w p) (link_key l) ≡ true in
         record {
@@ -243,10 +257,10 @@ module _ (w : World) (id moment p child : List ℕ) (mode : Mode) (rect : Rect) 
           in_order = order_moved taken.items taken.links (subst (IsArranged item_key) (sym tests.items.1) (filter_arranged item_key tests.items.0 (holdings w p).items kept.items))
               (subst (IsArranged link_key) (sym tests.links.1) (filter_arranged link_key tests.links.0 (holdings w p).links kept.links));
           counts = record { tiles = refl; media = refl; rows = refl; links = refl; bytes = refl };
-          entered = (entry_of asked.command, record { says = refl; leaves = refl; comes_to = refl; moves = tt });
+          entered = (entry_of asked.command, record { says = says; leaves = refl; comes_to = refl; moves = tt });
           from_source = custody_moved w p taken.items taken.links register.balanced (subst (AllByRecursion Held) (sym tests.items.1) (All-filter Held tests.items.0 (holdings w p).items (items_held (holdings w p))))
               (subst (AllByRecursion Tied) (sym tests.links.1) (All-filter Tied tests.links.0 (holdings w p).links (links_held (holdings w p))));
-          never_before = λ e. absurd (false≢true e);
+          never_before = λ e. absurd (false≢true (sym (by_entry is_adding receipt (entry_of asked.command) says) ∙ e));
           agrees = agree_moved w taken.items taken.links register.balanced.ledger (subst (AllByRecursion (IsUnaltered w)) (sym tests.items.1) (All-filter (IsUnaltered w) tests.items.0 (holdings w p).items unaltered));
           new_loan = λ _. (k.never_lent, not_archive);
         }
@@ -280,13 +294,13 @@ module _ (w : World) (id moment p child : List ℕ) (mode : Mode) (rect : Rect) 
         at_parent None h = tt
         at_parent (Some parent) h = (
           made_there parent h.0,
-          ap (λ rs. list_any ended (after x.loan rs)) receipts ∙ none_after ended x.loan (receipts_of w) receipt refl h.1,
+          ap (λ rs. list_any ended (after x.loan rs)) receipts ∙ none_after ended x.loan (receipts_of w) receipt (ap (λ b. b && ends_at receipt.source x.uuid) no_merge) h.1,
         )
 
     new_loan : IsLoan next loan
     new_loan = (
       ap (λ u. list_any made (holdings next u).receipts) uuid_p ∙ ap (λ y. list_any made y.receipts) at_p ∙ list_any-put receipt_key made receipt (holdings w p).receipts
-          ∙ ap (λ b. b || list_any made (holdings w p).receipts) (and_from (bytes_eq child child) (receipt.seq == receipt.seq) (bytes_eq_itself child) (eq_itself receipt.seq)),
+          ∙ ap (λ b. b || list_any made (holdings w p).receipts) (and_from (is_split receipt && bytes_eq child child) (receipt.seq == receipt.seq) (and_from (is_split receipt) (bytes_eq child child) splits (bytes_eq_itself child)) (eq_itself receipt.seq)),
       ap (λ rs. list_any (λ m. is_merge m && ends_at m.source child) (after receipt.seq rs)) receipts ∙ ap (list_any (λ m. is_merge m && ends_at m.source child)) (none_later receipt (receipts_of w) below),
     )
       where
@@ -301,17 +315,17 @@ module _ (w : World) (id moment p child : List ℕ) (mode : Mode) (rect : Rect) 
         (All-changed give p (IsLoan w) (IsLoan next) (λ x _ h. loan_kept x h) loan_kept w.packages register.balanced.loans)
 
     pub balance_after : Balanced next
-    balance_after = balance_kept w next receipt (entry_of asked.command) refl shift register.balanced (holds_once w register) carry (λ e. absurd (false≢true e)) loans_kept
+    balance_after = balance_kept w next receipt (entry_of asked.command) says shift register.balanced (holds_once w register) carry (λ e. absurd (false≢true (sym no_merge ∙ e))) loans_kept
 
     -- ---- contents
 
     unaltered_next : (i : Item) → IsUnaltered w i → IsUnaltered next i
-    unaltered_next i h = (h.0, subst (λ rs. Contains rs h.0) (sym receipts) (Contains-append_left (receipts_of w) (receipt ∷ []) h.0 h.1), h.2, h.3)
+    unaltered_next i h = unaltered_more w next receipt receipts i h
 
     pub contents_after : NoneAltered next
     contents_after =
         let Sound : Package → Type 0 = λ x. AllByRecursion (IsUnaltered next) x.items in
-        let old : AllByRecursion Sound w.packages = All-weaker (λ x. AllByRecursion (IsUnaltered w) x.items) Sound (λ x. All-weaker (IsUnaltered w) (IsUnaltered next) unaltered_next x.items) w.packages register.unaltered in
+        let old : AllByRecursion Sound w.packages = All-weaker (λ x. AllByRecursion (IsUnaltered w) x.items) Sound (λ x. All-weaker (IsUnaltered w) (IsUnaltered next) unaltered_next x.items) w.packages (each_unaltered w register.unaltered) in
         All-put package_key Sound loan (map (λ x. cond (bytes_eq x.uuid p) (give x) x) w.packages)
         (subst (AllByRecursion (IsUnaltered next)) (sym tests.items.1) (All-filter (IsUnaltered next) tests.items.0 (holdings w p).items (at_all w Sound p old k.live).0))
         (All-changed give p Sound Sound (λ x _ h. All-filter (IsUnaltered next) _ x.items h) (λ x h. h) w.packages old)
@@ -319,7 +333,7 @@ module _ (w : World) (id moment p child : List ℕ) (mode : Mode) (rect : Rect) 
     -- ---- the rules of a register
 
     c : WholeCut (holdings w p) taken
-    c = whole_cut w p child mode rect kept.identities kept.ends k.untorn
+    c = whole_cut w p child mode rect kept.ends k.untorn
 
     rest_items : (less taken (holdings w p)).items ≡ filter (λ i. not (c.s i.identity)) (holdings w p).items
     rest_items = ap (λ zs. without item_key (map item_key zs) (holdings w p).items) c.items ∙ rest_of item_key (λ i. c.s i.identity) (holdings w p).items kept.items
@@ -348,7 +362,7 @@ module _ (w : World) (id moment p child : List ℕ) (mode : Mode) (rect : Rect) 
     not_taken false h = refl
 
     kept_rest : IsKeptPackage next (give (holdings w p))
-    kept_rest = filtered_kept w next (holdings w p) (give (holdings w p)) (λ id. not (c.s id)) (λ l. not (c.u l)) refl rest_items rest_links
+    kept_rest = filtered_kept w next (holdings w p) (give (holdings w p)) (λ id. not (c.s id)) (λ l. not (c.u l)) refl rest_items rest_links kept.uuid
         (receipts_kept receipt (holdings w p).receipts kept.receipts (stand_at (λ _ s. s.seq < receipt.seq) w p (flat_stand (λ s. s.seq < receipt.seq) w.packages (All-of_arranged receipt_key (λ s. s.seq < receipt.seq) (flat_map (λ x. x.receipts) w.packages) below))))
         (parent_stays (holdings w p) kept.parent)
         (All-weaker (GoesWhole c.s c.u) (λ l. not (c.u l) ≡ true → (not (c.s l.base) ≡ true) × (not (c.s l.media) ≡ true))
@@ -356,11 +370,11 @@ module _ (w : World) (id moment p child : List ℕ) (mode : Mode) (rect : Rect) 
         kept
 
     kept_loan : IsKeptPackage next loan
-    kept_loan = filtered_kept w next (holdings w p) loan c.s c.u refl c.items c.links tt
+    kept_loan = filtered_kept w next (holdings w p) loan c.s c.u refl c.items c.links (and_parts (is_uuid p) (is_uuid child) (and_parts (is_uuid p && is_uuid child) (is_rect rect) types).0).1 tt
         (live_then (holdings w p).uuid (ap (is_live w) uuid_p ∙ k.live), ap (λ n. n + 1) (sym (ap (λ u. (holdings next u).depth) uuid_p ∙ depth_stays p k.live)), shallow_loan)
         (All-weaker (GoesWhole c.s c.u) (λ l. c.u l ≡ true → (c.s l.base ≡ true) × (c.s l.media ≡ true)) (λ l h. h.0) (holdings w p).links c.whole) kept
       where
-        shallow_loan : (holdings w p).depth + 1 ≤ 1
+        shallow_loan : (holdings w p).depth + 1 ≤ greatest_depth
         shallow_loan = grind (arith, nat_tests, k.shallow)
 
     pub register_after : IsRegister next
@@ -375,25 +389,14 @@ module _ (w : World) (id moment p child : List ℕ) (mode : Mode) (rect : Rect) 
           let old : IsKeptPackage w (holdings w q) = kept_at w q register (sym (live_stays q (bytes_eq_swap child q ∙ a)) ∙ live) in
           subst (IsKeptPackage next) (sym (at_other q a b)) (package_moves w next (holdings w q) refl (parent_stays (holdings w q) old.parent) old)));
       open_loans = open_kept w next receipt receipts below register.open_loans (λ t _ live. live_then t live) (λ _. loan_live);
-      within_limits = k.within;
       balanced = balance_after;
-      unaltered = contents_after;
+      unaltered = none_altered next contents_after;
     }
       where
         loan_live : is_live next child ≡ true
         loan_live = list_any-put package_key (at_uuid child) loan (map (λ x. cond (bytes_eq x.uuid p) (give x) x) w.packages) ∙ ap (λ b. b || list_any (at_uuid child) (map (λ x. cond (bytes_eq x.uuid p) (give x) x) w.packages)) (bytes_eq_itself child)
 
-pub split_keeps_balance : SplitKeepsBalance
-split_keeps_balance w id moment p child mode rect register =
-    keeps Balanced w (split_request id moment p child mode rect) register.balanced
-    (λ no_reply no_refusal. balance_after w id moment p child mode rect register (known w id moment p child mode rect register no_reply no_refusal))
-
-pub split_keeps_contents : SplitKeepsContents
-split_keeps_contents w id moment p child mode rect register =
-    keeps NoneAltered w (split_request id moment p child mode rect) register.unaltered
-    (λ no_reply no_refusal. contents_after w id moment p child mode rect register (known w id moment p child mode rect register no_reply no_refusal))
-
 pub split_keeps_register : SplitKeepsRegister
-split_keeps_register w id moment p child mode rect register =
+split_keeps_register w id moment p child mode rect types register =
     keeps IsRegister w (split_request id moment p child mode rect) register
-    (λ no_reply no_refusal. register_after w id moment p child mode rect register (known w id moment p child mode rect register no_reply no_refusal))
+    (λ no_reply no_refusal. register_after w id moment p child mode rect types register (known w id moment p child mode rect types register no_reply no_refusal))

@@ -15,10 +15,9 @@ use Rattle.sheet_types.specs.declared.frame.Frame.{Frame}
 use Rattle.sheet_types.specs.declared.frame.Rect.{Rect}
 use Rattle.sheet_types.specs.declared.command.Item.{Item}
 use Rattle.sheet_types.proofs.Order.{All-put, All-arranged}
-use Rattle.ledger_laws.proofs.Adding.{All-weaker, All-left, All-right}
-use Rattle.ledger_laws.proofs.Listing.{All-filter, All-append}
+use Rattle.sheet_types.proofs.Every.{All-weaker, All-left, All-right, All-filter, All-append}
 use Rattle.ledger_laws.proofs.Packages.{All-changed, at_all, holdings_none}
-use Rattle.ledger_laws.proofs.Merging.{keeps}
+use Rattle.ledger_laws.proofs.Accepting.{keeps}
 
 module _ (P : Item → Type 0) where
   abbrev Each : Package → Type 0

@@ -5,7 +5,7 @@ use Rattle.std.proofs.lemmas.Slice.Eq.{bytes_eq-Decides}
 use Rattle.std.specs.List.{AllByRecursion, IsDistinct}
 use Rattle.std.proofs.lemmas.List.Sums.{sum_by-cons}
 use Rattle.std.proofs.lemmas.Map.Keys.{IsDistinct-head, IsDistinct-tail, IsDistinct-cons}
-use Rattle.sheet_types.proofs.Tests.{bytes_eq_itself, bytes_eq_swap}
+use Rattle.sheet_types.proofs.Basics.{bytes_eq_itself, bytes_eq_swap}
 use Rattle.sheet_types.proofs.Every.{All-weaker, All-map, All-of_map}
 use Rattle.sheet_types.proofs.Sums.{count-cons, count_none, none_counted}
 

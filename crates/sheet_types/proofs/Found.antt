@@ -3,7 +3,7 @@ use Rattle.std.specs.Prelude.{◌≡◌, Bool, true, false, cond, ◌||◌, List
 use Rattle.std.proofs.Common.{sym, ap, subst, ◌∙◌}
 use Rattle.std.proofs.lemmas.Bool.{false≢true, or_parts}
 use Rattle.std.specs.List.{list_any, AllByRecursion}
-use Rattle.sheet_types.proofs.Tests.{None≢Some}
+use Rattle.sheet_types.proofs.Basics.{None≢Some}
 use Rattle.sheet_types.proofs.Every.{All-each}
 
 -- where some element passes, one is found

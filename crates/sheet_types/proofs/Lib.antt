@@ -1,5 +1,6 @@
-pub mod Tests
+pub mod Basics
 pub mod LineReading
+pub mod Fitting
 pub mod Every
 pub mod Sums
 pub mod Found

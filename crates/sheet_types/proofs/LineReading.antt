@@ -27,7 +27,7 @@ use Rattle.sheet_types.specs.declared.command.Mode.{Mode}
 use Rattle.sheet_types.specs.declared.command.Mode.TheVariants.{Strict, Follow}
 use Rattle.sheet_types.specs.declared.receipt.MovedKind.{MovedKind}
 use Rattle.sheet_types.specs.declared.receipt.MovedKind.TheVariants.{TileItem, MediaItem, RowItem, TilesMediaLink, RowsMediaLink}
-use Rattle.sheet_types.proofs.Tests.{bytes_eq_itself, None≢Some, not_true}
+use Rattle.sheet_types.proofs.Basics.{bytes_eq_itself, None≢Some, not_true}
 
 -- ---- parts with no space in them
 

@@ -4,7 +4,7 @@ use Rattle.std.proofs.Common.{sym, ap, subst, ◌∙◌, arith}
 use Rattle.std.specs.List.{list_any, AllByRecursion}
 use Rattle.std.proofs.lemmas.List.Sums.{sum_by-cons}
 use Rattle.sheet_types.specs.Ordered.{is_before, without, is_among, IsArranged}
-use Rattle.sheet_types.proofs.Tests.{None≢Some, or-false, bytes_eq_itself, bytes_eq_swap, before-differs}
+use Rattle.sheet_types.proofs.Basics.{None≢Some, or-false, bytes_eq_itself, bytes_eq_swap, before-differs}
 use Rattle.sheet_types.proofs.Every.{All-weaker, All-both, All-filter, none_any}
 use Rattle.sheet_types.proofs.Sums.{count-cons, none_counted}
 use Rattle.sheet_types.proofs.Found.{filter_same}

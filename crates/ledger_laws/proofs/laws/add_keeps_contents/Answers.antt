@@ -1,5 +1,0 @@
-use Rattle.ledger_laws.proofs.Account as account
-use Rattle.ledger_laws.proofs.laws.add_keeps_contents.Goals as goal
-
-pub returns : goal.returns
-returns c = account.add_keeps_contents

@@ -1,5 +1,0 @@
-use Rattle.ledger_laws.proofs.laws.delete_keeps_contents.Goals as goal
-use Rattle.ledger_laws.proofs.Changing.{delete_keeps_contents}
-
-pub returns : goal.returns
-returns c = delete_keeps_contents
