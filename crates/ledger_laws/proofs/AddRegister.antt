@@ -67,9 +67,11 @@ may_add w archive id moment p identity content sound says new unused =
       new_loan = λ e. absurd (false≢true (sym (by_entry is_splitting (receipt_of w (add_request id moment p identity content)) (entry_of (Add p identity content)) says) ∙ e));
     }
 
+-- one element is counted once at most
 count_one : {X : Type 0} (p : X → Bool) (x : X) → count_by p (x ∷ []) ≤ 1
 count_one p x = elim (p x) as (λ v. p x ≡ v → count_by p (x ∷ []) ≤ 1) [ true ↦ λ e. omega (arith, count-cons p x [] true e) | false ↦ λ e. omega (arith, count-cons p x [] false e) ] refl
 
+-- a count after an element comes in
 put_count : {X : Type 0} (key : X → List ℕ) (p : X → Bool) (x : X) (xs : List X) → count_by p (put key x xs) ≡ count_by p xs + count_by p (x ∷ [])
 put_count key p x xs = omega (arith, sum_by-put key (λ y. cond (p y) 1 0) x xs, count-cons p x [] (p x) refl)
 
@@ -181,5 +183,6 @@ module _ (w : World) (id moment p identity : List ℕ) (content : Content) (type
     add_register = one.register_after w p receipt (entry_of asked.command) items (λ y. y.links) register fits kept_more (by_entry is_splitting receipt (entry_of asked.command) says)
         (one.contents_after w p receipt (entry_of asked.command) items (λ y. y.links) register fits (λ y h. All-put item_key (IsUnaltered next) item y.items new_unaltered h))
 
+-- the law of an added item
 pub add_keeps_register : AddKeepsRegister
 add_keeps_register w id moment p identity content types register = keeps IsRegister w (add_request id moment p identity content) register (add_register w id moment p identity content types register)

@@ -9,10 +9,9 @@ use Rattle.sheet_types.specs.Ordered.{is_among, sublists, arranged, least}
 use Rattle.sheet_types.proofs.Order.{All-of_arranged}
 use Rattle.sheet_types.proofs.Every.{none_pass}
 use Rattle.sheet_types.proofs.Found.{none_found}
-use Rattle.sheet_types.proofs.Same.{In, In-all}
+use Rattle.sheet_types.proofs.Same.{In, In-all, any_in}
 use Rattle.sheet_types.proofs.Basics.{or-true}
 use Rattle.std.specs.Prelude.{Option, None}
-use Rattle.std.proofs.Common.{inl, inr}
 use Rattle.sheet_types.specs.World.{other_kind}
 use Rattle.sheet_types.specs.declared.receipt.MovedKind.{MovedKind}
 use Rattle.sheet_types.specs.World.{Package, item_key, has_kind, base_kind, kind_number}
@@ -30,16 +29,19 @@ GoesWhole takes_item takes_link l = (takes_link l ≡ true → (takes_item l.bas
 
 -- ---- Follow
 
+-- what the test of Booleans says
 beq_same : (a b : Bool) → beq a b ≡ true → a ≡ b
 beq_same true true h = refl
 beq_same true false h = absurd (false≢true h)
 beq_same false true h = absurd (false≢true h)
 beq_same false false h = refl
 
+-- what passes as a whole passes each
 all_pass : {X : Type 0} (p : X → Bool) (xs : List X) → list_all p xs ≡ true → AllByRecursion (λ x. p x ≡ true) xs
 all_pass p [] h = tt
 all_pass p (x ∷ xs) h = let parts : (p x ≡ true) × (list_all p xs ≡ true) = and_parts (p x) (list_all p xs) h in (parts.0, all_pass p xs parts.1)
 
+-- the ends of a link are in each closed set together
 closed_each : (links : List Relation) (sets : List (List (List ℕ))) → AllByRecursion (λ s. list_all (λ l. beq (is_among s l.base) (is_among s l.media)) links ≡ true) sets
     → AllByRecursion (λ l. list_all (λ s. is_among s l.base) sets ≡ list_all (λ s. is_among s l.media) sets) links
 closed_each links [] h = All-each (λ l. list_all (λ s. is_among s l.base) [] ≡ list_all (λ s. is_among s l.media) []) (λ l. refl) links
@@ -48,6 +50,7 @@ closed_each links (s ∷ sets) h =
     (λ l here rest. ap (λ b. b && list_all (λ z. is_among z l.base) sets) (beq_same (is_among s l.base) (is_among s l.media) here) ∙ ap (λ b. is_among s l.media && b) rest) links
     (all_pass (λ l. beq (is_among s l.base) (is_among s l.media)) links h.0) (closed_each links sets h.1)
 
+-- a follow cut tears no link
 pub follow_whole : (x : Package) (ids : List (List ℕ)) → AllByRecursion (GoesWhole (in_each x ids) (touches (in_each x ids))) x.links
 follow_whole x ids = All-weaker (λ l. in_each x ids l.base ≡ in_each x ids l.media) (GoesWhole (in_each x ids) (touches (in_each x ids)))
     (λ l e. whole (in_each x ids l.base) (in_each x ids l.media) e) x.links
@@ -78,10 +81,6 @@ none_taken f t (x ∷ xs) h =
       | true ↦ λ g. absurd (true≢false g.0)
       | false ↦ λ g. (refl, none_taken f t xs g)
     ] h
-
-any_in : {X : Type 0} (p : X → Bool) (x : X) (xs : List X) → In x xs → p x ≡ true → list_any p xs ≡ true
-any_in p x [] i h = absurd i
-any_in p x (y ∷ ys) i h = elim i [ inl e ↦ ap (λ z. p z || list_any p ys) e ∙ ap (λ b. b || list_any p ys) h | inr later ↦ ap (λ b. p y || b) (any_in p x ys later h) ∙ or-true (p y) ]
 
 -- where no item of the set has a torn link, and the ends of each link are items, no link is torn
 module _ (x : Package) (ids : List (List ℕ)) (ends : AllByRecursion (HasEnds x) x.links) where

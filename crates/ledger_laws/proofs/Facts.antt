@@ -42,6 +42,7 @@ use Rattle.ledger_laws.proofs.Shifting.{weighed, counting, count_items, count_li
 
 -- ---- in the ledger: order, ranges, and one size and digest for one thing
 
+-- each number is past those before
 ledger_above : (archive : List ℕ) (past rs : List Receipt) → IsLedger archive past rs → AllByRecursion (λ s. length past < s.seq) rs
 ledger_above archive past [] h = tt
 ledger_above archive past (r ∷ rs) h = (
@@ -49,6 +50,7 @@ ledger_above archive past (r ∷ rs) h = (
   All-weaker (λ s. length (past ++ r ∷ []) < s.seq) (λ s. length past < s.seq) (λ s lt. omega (arith, lt, length-append past (r ∷ []))) rs (ledger_above archive (past ++ r ∷ []) rs h.1),
 )
 
+-- a sound ledger is in the order of its numbers
 pub ledger_arranged : (archive : List ℕ) (past rs : List Receipt) → IsLedger archive past rs → IsArranged receipt_key rs
 ledger_arranged archive past [] h = tt
 ledger_arranged archive past (r ∷ rs) h = (
@@ -57,10 +59,12 @@ ledger_arranged archive past (r ∷ rs) h = (
   ledger_arranged archive (past ++ r ∷ []) rs h.1,
 )
 
+-- a sound ledger names things alone
 pub ledger_things : (archive : List ℕ) (past rs : List Receipt) → IsLedger archive past rs → AllByRecursion (λ s. AllByRecursion IsThing s.items) rs
 ledger_things archive past [] h = tt
 ledger_things archive past (r ∷ rs) h = (h.0.things, ledger_things archive (past ++ r ∷ []) rs h.1)
 
+-- agreement goes both ways
 agrees_back : (m n : Moved) → Agrees m n → Agrees n m
 agrees_back m n h = λ same. let e : (m.size ≡ n.size) × (m.fingerprint ≡ n.fingerprint) = h (bytes_eq_swap (moved_thing n) (moved_thing m) ∙ same) in (sym e.0, sym e.1)
 
@@ -73,9 +77,11 @@ later_agree archive m s alone past (r ∷ rs) h in_past = (
   later_agree archive m s alone (past ++ r ∷ []) rs h.1 (λ Q g. in_past Q (All-left Q past (r ∷ []) g)),
 )
 
+-- a thing agrees with all that receipts name
 abbrev AgreeAll : Moved → List Receipt → Type 0
 AgreeAll m rs = AllByRecursion (λ t. AllByRecursion (Agrees m) t.items) rs
 
+-- what a receipt of one thing names agrees with the whole ledger
 single_agree : (archive : List ℕ) (past rs : List Receipt) → IsLedger archive past rs → AllByRecursion (λ s. (m : Moved) → s.items ≡ m ∷ [] → AgreeAll m past × AgreeAll m rs) rs
 single_agree archive past [] h = tt
 single_agree archive past (r ∷ rs) h = (
@@ -91,7 +97,7 @@ single_agree archive past (r ∷ rs) h = (
 )
 
 -- the entry of each receipt
-ledger_entered : (archive : List ℕ) (past rs : List Receipt) → IsLedger archive past rs → AllByRecursion (λ s. (e : Entry) × IsReceiptOf s e) rs
+pub ledger_entered : (archive : List ℕ) (past rs : List Receipt) → IsLedger archive past rs → AllByRecursion (λ s. (e : Entry) × IsReceiptOf s e) rs
 ledger_entered archive past [] h = tt
 ledger_entered archive past (r ∷ rs) h = (h.0.entered, ledger_entered archive (past ++ r ∷ []) rs h.1)
 
@@ -108,10 +114,12 @@ added_thing r (Unlinks p mapping base media) of add = absurd (false≢true (sym 
 added_thing r (Splits p child mode rect) of add = absurd (false≢true (sym (by_entry is_adding r (Splits p child mode rect) of.says) ∙ add))
 added_thing r (Merges child into ticket) of add = absurd (false≢true (sym (by_entry is_adding r (Merges child into ticket) of.says) ∙ add))
 
+-- a digest that is there and equal
 digest_is : (o : Option (List ℕ)) (d : List ℕ) → is_some o ≡ true → bytes_eq (unwrap_or o []) d ≡ true → o ≡ Some d
 digest_is None d h e = absurd (false≢true h)
 digest_is (Some x) d h e = ap Some ((bytes_eq-Decides x d).0 e)
 
+-- an item is the thing of number 0
 item_number : (kind : MovedKind) → is_item_kind kind ≡ true → thing_number kind ≡ 0
 item_number kind h = ap (λ b. if b then 0 else kind_number kind) h
 
@@ -139,13 +147,16 @@ unaltered_agrees w i sound h =
     All-weaker (λ t. AllByRecursion (Agrees m.0) t.items) (λ t. AllByRecursion (Agrees (item_moved i)) t.items)
     (λ t. All-weaker (Agrees m.0) (Agrees (item_moved i)) (λ n. agrees_as i m.0 n m.2 m.3 m.4 names) t.items) (receipts_of w) (of.0.1 m.0 m.1).1
 
+-- one thing is an item or a link
 same_kind : (m n : Moved) → bytes_eq (moved_thing n) (moved_thing m) ≡ true → is_item_kind n.kind ≡ is_item_kind m.kind
 same_kind m n same = item_kind_by_number n.kind ∙ ap (λ k. k == 0) (ap (λ zs. slice_index zs 0) ((bytes_eq-Decides (moved_thing n) (moved_thing m)).0 same)) ∙ sym (item_kind_by_number m.kind)
 
+-- a mapping is of no item kind
 link_number : (mapping : Mapping) → is_item_kind (link_kind mapping) ≡ false
 link_number TilesMedia = refl
 link_number RowsMedia = refl
 
+-- a link agrees with all that the ledger says of it
 pub link_agrees : (w : World) (l : Relation) → IsLedger (archive_of w) [] (receipts_of w) → AllByRecursion (λ t. AllByRecursion (Agrees (link_moved l)) t.items) (receipts_of w)
 link_agrees w l sound =
     All-weaker (λ s. AllByRecursion IsThing s.items) (λ s. AllByRecursion (Agrees (link_moved l)) s.items) (λ s. All-weaker IsThing (Agrees (link_moved l)) one_link s.items) (receipts_of w) (ledger_things (archive_of w) [] (receipts_of w) sound)
@@ -158,23 +169,29 @@ link_agrees w l sound =
 
 -- ---- what a receipt of items and links says
 
+-- what a receipt says of an item is a thing
 pub item_is_thing : (i : Item) → IsThing (item_moved i)
 item_is_thing i = thing_of i.identity i.content
 
+-- what a receipt says of a link is a thing
 pub link_is_thing : (l : Relation) → IsThing (link_moved l)
 link_is_thing l = elim l.mapping as (λ m. IsThing (link_moved (record { mapping = m; base = l.base; media = l.media }))) [ TilesMedia ↦ (refl, refl, refl) | RowsMedia ↦ (refl, refl, refl) ]
 
+-- a receipt of items and links names things
 pub things_moved : (items : List Item) (links : List Relation) → AllByRecursion IsThing (moved_of items links)
 things_moved items links = All-append IsThing (map item_moved items) (map link_moved links) (All-map IsThing item_moved items (All-each (λ i. IsThing (item_moved i)) item_is_thing items)) (All-map IsThing link_moved links (All-each (λ l. IsThing (link_moved l)) link_is_thing links))
 
+-- an item and what is said of it have one key
 item_key_moved : (identity : List ℕ) (content : Content) → moved_key (item_moved (added_item identity content)) ≡ item_key (added_item identity content)
 item_key_moved identity (Tile zoom column row bytes) = ap (λ zs. 1 ∷ zs) (append-nil identity)
 item_key_moved identity (Media content_type bytes) = ap (λ zs. 2 ∷ zs) (append-nil identity)
 item_key_moved identity (Row x y code label) = ap (λ zs. 3 ∷ zs) (append-nil identity)
 
+-- the order of items is that of what is said of them
 items_before : (i j : Item) → is_before (item_key i) (item_key j) ≡ true → is_before (moved_key (item_moved i)) (moved_key (item_moved j)) ≡ true
 items_before i j h = ap (λ a. is_before a (moved_key (item_moved j))) (item_key_moved i.identity i.content) ∙ ap (is_before (item_key i)) (item_key_moved j.identity j.content) ∙ h
 
+-- items stand before links
 before_link : (content : Content) (mapping : Mapping) (identity base media : List ℕ) → is_before (item_key (added_item identity content)) (link_key (record { mapping = mapping; base = base; media = media })) ≡ true
 before_link (Tile zoom column row bytes) TilesMedia identity base media = refl
 before_link (Tile zoom column row bytes) RowsMedia identity base media = refl
@@ -183,10 +200,12 @@ before_link (Media content_type bytes) RowsMedia identity base media = refl
 before_link (Row x y code label) TilesMedia identity base media = refl
 before_link (Row x y code label) RowsMedia identity base media = refl
 
+-- links stand in their order
 links_in_order : (links : List Relation) → IsArranged link_key links → IsArranged moved_key (map link_moved links)
 links_in_order [] h = tt
 links_in_order (l ∷ links) h = (All-map (λ n. is_before (moved_key (link_moved l)) (moved_key n) ≡ true) link_moved links h.0, links_in_order links h.1)
 
+-- a receipt of items and links is in order
 pub order_moved : (items : List Item) (links : List Relation) → IsArranged item_key items → IsArranged link_key links → IsArranged moved_key (moved_of items links)
 order_moved [] links h g = links_in_order links g
 order_moved (i ∷ items) links h g = (
@@ -197,6 +216,7 @@ order_moved (i ∷ items) links h g = (
   order_moved items links h.1 g,
 )
 
+-- a receipt of unaltered items and of links agrees with the ledger
 pub agree_moved : (w : World) (items : List Item) (links : List Relation) → IsLedger (archive_of w) [] (receipts_of w) → AllByRecursion (IsUnaltered w) items
     → AllByRecursion (λ m. AllByRecursion (λ x. AllByRecursion (Agrees m) x.items) (receipts_of w)) (moved_of items links)
 agree_moved w items links sound unaltered =
@@ -204,6 +224,7 @@ agree_moved w items links sound unaltered =
     (All-map (λ m. AllByRecursion (λ x. AllByRecursion (Agrees m) x.items) (receipts_of w)) item_moved items (All-weaker (IsUnaltered w) (λ i. AllByRecursion (λ x. AllByRecursion (Agrees (item_moved i)) x.items) (receipts_of w)) (λ i h. unaltered_agrees w i sound h) items unaltered))
     (All-map (λ m. AllByRecursion (λ x. AllByRecursion (Agrees m) x.items) (receipts_of w)) link_moved links (All-each (λ l. AllByRecursion (λ x. AllByRecursion (Agrees (link_moved l)) x.items) (receipts_of w)) (λ l. link_agrees w l sound) links))
 
+-- what a package holds stands there by the ledger
 pub custody_moved : (w : World) (p : List ℕ) (items : List Item) (links : List Relation) → Balanced w → AllByRecursion (λ i. holds (holdings w p) (item_thing i) ≡ true) items → AllByRecursion (λ l. holds (holdings w p) (link_key l) ≡ true) links
     → AllByRecursion (λ m. custody (receipts_of w) (moved_thing m) ≡ Some p) (moved_of items links)
 custody_moved w p items links balance hi hl =
@@ -219,14 +240,17 @@ self_has key (x ∷ xs) = (
   All-weaker (λ y. has key (key y) xs ≡ true) (λ y. has key (key y) (x ∷ xs) ≡ true) (λ y h. ap (λ b. bytes_eq (key x) (key y) || b) h ∙ or-true (bytes_eq (key x) (key y))) xs (self_has key xs),
 )
 
+-- a package holds its items
 pub items_held : (x : Package) → AllByRecursion (λ i. holds x (item_thing i) ≡ true) x.items
 items_held x = All-weaker (λ i. has item_thing (item_thing i) x.items ≡ true) (λ i. holds x (item_thing i) ≡ true) (λ i h. ap (λ b. b || has link_key (item_thing i) x.links) h) x.items (self_has item_thing x.items)
 
+-- a package holds its links
 pub links_held : (x : Package) → AllByRecursion (λ l. holds x (link_key l) ≡ true) x.links
 links_held x = All-weaker (λ l. has link_key (link_key l) x.links ≡ true) (λ l. holds x (link_key l) ≡ true) (λ l h. ap (λ b. has item_thing (link_key l) x.items || b) h ∙ or-true (has item_thing (link_key l) x.items)) x.links (self_has link_key x.links)
 
 -- ---- a package holds each thing once
 
+-- items of different identities are different things
 items_once : (thing : List ℕ) (items : List Item) → IsDistinct bytes_eq (identities items) → count_by (λ i. bytes_eq (item_thing i) thing) items ≤ 1
 items_once thing [] h = omega arith
 items_once thing (i ∷ items) h =
@@ -239,10 +263,12 @@ items_once thing (i ∷ items) h =
       | false ↦ λ e. omega (arith, count-cons (λ j. bytes_eq (item_thing j) thing) i items false e, items_once thing items (IsDistinct-tail bytes_eq i.identity (identities items) h))
     ] refl
 
+-- no link is the thing of an item
 no_link_is_item : (i : Item) (thing : List ℕ) → bytes_eq (item_thing i) thing ≡ true → (links : List Relation) → count_by (λ l. bytes_eq (link_key l) thing) links ≡ 0
 no_link_is_item i thing e links = count_none (λ l. bytes_eq (link_key l) thing) links (All-each (λ l. bytes_eq (link_key l) thing ≡ false) (λ l. ap (bytes_eq (link_key l)) (sym ((bytes_eq-Decides (item_thing i) thing).0 e))
     ∙ elim l.mapping as (λ m. bytes_eq (link_key (record { mapping = m; base = l.base; media = l.media })) (item_thing i) ≡ false) [ TilesMedia ↦ refl | RowsMedia ↦ refl ]) links)
 
+-- a package holds a thing once at most
 pub once : (x : Package) (thing : List ℕ) → IsDistinct bytes_eq (identities x.items) → IsArranged link_key x.links → weighed (counting thing) x ≤ 1
 once x thing distinct arranged' =
     elim (has item_thing thing x.items) as (λ v. has item_thing thing x.items ≡ v → weighed (counting thing) x ≤ 1) [
@@ -257,6 +283,7 @@ once x thing distinct arranged' =
 pub kept_at : (w : World) (p : List ℕ) → IsRegister w → is_live w p ≡ true → IsKeptPackage w (holdings w p)
 kept_at w p register live = (at_all w (IsKeptPackage w) p register.packages live).0
 
+-- so does what stands under any UUID
 pub holds_once : (w : World) → IsRegister w → (p thing : List ℕ) → weighed (counting thing) (holdings w p) ≤ 1
 holds_once w register p thing =
     elim (is_live w p) as (λ v. is_live w p ≡ v → weighed (counting thing) (holdings w p) ≤ 1) [

@@ -41,6 +41,7 @@ module _ (frame : Frame) (archive : List ℕ) where
   unfolding IsDistinct
   kept uuid = record { uuid = uuid; items = tt; links = tt; receipts = tt; identities = tt; uuids = tt; fit = tt; places = tt; ends = tt; parent = (refl, refl) }
 
+-- the law of a new world
 pub new_world_is_register : NewWorldIsRegister
 new_world_is_register archive frame uuid good = record {
   frame = good;

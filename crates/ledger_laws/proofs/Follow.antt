@@ -22,6 +22,7 @@ of_choices test good (x ∷ xs) h =
       | false ↦ of_choices test good xs both.1
     ]
 
+-- what holds of those that pass holds of all that do
 all-filter : {X : Type 0} (good test : X → Bool) (xs : List X) → list_all good (filter test xs) ≡ true → list_all (λ x. not (test x) || good x) xs ≡ true
 all-filter good test [] h = refl
 all-filter good test (x ∷ xs) h =
@@ -42,6 +43,7 @@ passes_among test (x ∷ ids) id h =
       | false ↦ λ _ rest. passes_among test ids id rest
     ] refl h
 
+-- what is among all is among those that pass exactly where it passes
 among_passes : (test : List ℕ → Bool) (ids : List (List ℕ)) (id : List ℕ) → is_among ids id ≡ true → is_among (filter test ids) id ≡ test id
 among_passes test [] id h = absurd (false≢true h)
 among_passes test (x ∷ ids) id h =
@@ -65,6 +67,7 @@ among_passes test (x ∷ ids) id h =
       | false ↦ λ _. refl
     ] refl
 
+-- ids that pass are among those that pass
 all_among : (test : List ℕ → Bool) (ids all : List (List ℕ)) → list_all (is_among all) ids ≡ true → list_all test ids ≡ true → holds_all ids (filter test all) ≡ true
 all_among test [] all within passes = refl
 all_among test (x ∷ ids) all within passes =
@@ -72,6 +75,7 @@ all_among test (x ∷ ids) all within passes =
     let t : (test x ≡ true) × (list_all test ids ≡ true) = and_parts (test x) _ passes in
     and_from (is_among (filter test all) x) _ (among_passes test all x w.0 ∙ t.0) (all_among test ids all w.1 t.1)
 
+-- links keep both ends among those that pass
 closed_among : (test : List ℕ → Bool) (all : List (List ℕ)) (links : List Relation) → list_all (λ l. is_among all l.base && is_among all l.media) links ≡ true → list_all (λ l. beq (test l.base) (test l.media)) links ≡ true
     → list_all (λ l. beq (is_among (filter test all) l.base) (is_among (filter test all) l.media)) links ≡ true
 closed_among test all [] within closed = refl
@@ -83,6 +87,7 @@ closed_among test all (l ∷ links) within closed =
     (ap (λ b. beq b (is_among (filter test all) l.media)) (among_passes test all l.base ends.0) ∙ ap (beq (test l.base)) (among_passes test all l.media ends.1) ∙ c.0)
     (closed_among test all links w.1 c.1)
 
+-- the law of the least closed set
 pub follow_is_least : FollowIsLeast
 follow_is_least p ids set id starts ends holds closed taken =
     let all : List (List ℕ) = identities p.items in

@@ -38,11 +38,13 @@ use Rattle.sheet_types.proofs.Distinct.{distinct_counts, counts_distinct}
 
 -- ---- an item is fit in any package of the frame
 
+-- one item
 pub fit_moves : (w v : World) → v.frame ≡ w.frame → (p q : List ℕ) (identity : List ℕ) (content : Content) (x y : Package) → IsFit w x (record { identity = identity; content = content }) → IsFit v y (record { identity = identity; content = content })
 fit_moves w v e p q identity (Tile zoom column row bytes) x y h = (h.0, h.1, ap (λ f. not (has_place f zoom column row)) e ∙ h.2, h.3)
 fit_moves w v e p q identity (Media content_type bytes) x y h = h
 fit_moves w v e p q identity (Row a b code label) x y h = (h.0, h.1, h.2, ap (λ f. not (in_frame f a b)) e ∙ h.3)
 
+-- all items
 pub fit_all : (w v : World) → v.frame ≡ w.frame → (x y : Package) (items : List Item) → AllByRecursion (IsFit w x) items → AllByRecursion (IsFit v y) items
 fit_all w v e x y items h = All-weaker (IsFit w x) (IsFit v y) (λ i. fit_moves w v e [] [] i.identity i.content x y) items h
 
@@ -50,6 +52,7 @@ fit_all w v e x y items h = All-weaker (IsFit w x) (IsFit v y) (λ i. fit_moves 
 
 -- ---- packages, live ones alone
 
+-- a fact of what stands under each live UUID
 pub all_live_at : (w : World) (P : Package → Type 0) → IsArranged package_key w.packages → ((p : List ℕ) → is_live w p ≡ true → P (holdings w p)) → AllByRecursion P w.packages
 all_live_at w P distinct h =
     All-both (λ x. find (at_uuid x.uuid) w.packages ≡ Some x) (λ x. is_live w x.uuid ≡ true) P
@@ -62,12 +65,14 @@ all_live_at w P distinct h =
       All-weaker (λ y. list_any (at_uuid y.uuid) ps ≡ true) (λ y. list_any (at_uuid y.uuid) (x ∷ ps) ≡ true) (λ y e. ap (λ b. bytes_eq x.uuid y.uuid || b) e ∙ or-true (bytes_eq x.uuid y.uuid)) ps (each_live ps),
     )
 
+-- a change of a package leaves who is live
 pub live_changed : (f : Package → Package) (p q : List ℕ) (ps : List Package) → ((x : Package) → (f x).uuid ≡ x.uuid) → list_any (at_uuid q) (map (λ x. cond (bytes_eq x.uuid p) (f x) x) ps) ≡ list_any (at_uuid q) ps
 live_changed f p q [] uuids = refl
 live_changed f p q (x ∷ ps) uuids =
     let u : (cond (bytes_eq x.uuid p) (f x) x).uuid ≡ x.uuid = elim (bytes_eq x.uuid p) as (λ v. (cond v (f x) x).uuid ≡ x.uuid) [ true ↦ uuids x | false ↦ refl ] in
     ap (λ z. bytes_eq z q || list_any (at_uuid q) (map (λ y. cond (bytes_eq y.uuid p) (f y) y) ps)) u ∙ ap (λ b. bytes_eq x.uuid q || b) (live_changed f p q ps uuids)
 
+-- the end of a package leaves all others live
 pub live_closed : (c q : List ℕ) (ps : List Package) → bytes_eq q c ≡ false → list_any (at_uuid q) (without package_key (c ∷ []) ps) ≡ list_any (at_uuid q) ps
 live_closed c q [] other = refl
 live_closed c q (x ∷ ps) other =
@@ -78,6 +83,7 @@ live_closed c q (x ∷ ps) other =
       | false ↦ λ _. ap (λ b. bytes_eq x.uuid q || b) (live_closed c q ps other)
     ] refl
 
+-- a sum that a change does not see
 pub sum_by-changed : (f : Package → Package) (h : Package → ℕ) (p : List ℕ) (ps : List Package) → ((x : Package) → h (f x) ≡ h x) → sum_by h (map (λ x. cond (bytes_eq x.uuid p) (f x) x) ps) ≡ sum_by h ps
 sum_by-changed f h p [] same = refl
 sum_by-changed f h p (x ∷ ps) same =
@@ -108,12 +114,14 @@ parent_moves w v (Some q) depth loan stays h =
     let s : (is_live v q ≡ true) × ((holdings v q).depth ≡ (holdings w q).depth) = stays q (bytes_eq_itself q) h.0 in
     (s.0, h.1 ∙ ap (λ n. n + 1) (sym s.1), h.2)
 
+-- a receipt past all others is put in order
 pub receipts_kept : (r : Receipt) (rs : List Receipt) → IsArranged receipt_key rs → AllByRecursion (λ s. s.seq < r.seq) rs → IsArranged receipt_key (put receipt_key r rs)
 receipts_kept r rs h below = put_arranged receipt_key r rs h (All-weaker (λ s. s.seq < r.seq) (λ s. bytes_eq (receipt_key s) (receipt_key r) ≡ false)
     (λ s lt. before-differs (receipt_key s) (receipt_key r) (before_numbers s.seq r.seq ∙ lt-ltb s.seq r.seq lt)) rs below)
 
 -- ---- open loans
 
+-- a merge of this package
 abbrev ends_loan : List ℕ → Receipt → Bool
 ends_loan c m = is_merge m && ends_at m.source c
 
@@ -134,12 +142,15 @@ ended_by rs r s lt h =
     let now : after s.seq (r ∷ []) ≡ r ∷ [] = rw (lt-ltb s.seq r.seq lt) refl in
     (or_parts (ends_loan (unwrap_or s.target []) r) false (sym (ap (list_any (ends_loan (unwrap_or s.target []))) now) ∙ two.1)).0
 
+-- what is open is a split
 pub open_is_split : (rs : List Receipt) (s : Receipt) → is_open_among rs s ≡ true → is_split s ≡ true
 open_is_split rs s h = (and_parts (is_split s) (is_some s.target) (and_parts (is_split s && is_some s.target) (not (list_any (ends_loan (unwrap_or s.target [])) (after s.seq rs))) h).0).0
 
+-- the loan of an open split is live
 abbrev pub OpenIsLive : World → Receipt → Type 0
 OpenIsLive w s = is_open_among (receipts_of w) s ≡ true → is_live w (unwrap_or s.target []) ≡ true
 
+-- open loans stay live, and the new one is
 pub open_kept : (w next : World) (r : Receipt) → receipts_of next ≡ receipts_of w ++ r ∷ [] → AllByRecursion (λ s. s.seq < r.seq) (receipts_of w) → AllByRecursion (OpenIsLive w) (receipts_of w)
     → ((t : List ℕ) → (is_merge r && ends_at r.source t) ≡ false → is_live w t ≡ true → is_live next t ≡ true) → OpenIsLive next r → AllByRecursion (OpenIsLive next) (receipts_of next)
 open_kept w next r e below old stays new =
@@ -153,24 +164,29 @@ open_kept w next r e below old stays new =
 
 -- ---- places
 
+-- a number that is not below 0 counts
 not_negative : (a : ℤ) → int_le (pos 0) a ≡ true → (n : ℕ) × (a ≡ pos n)
 not_negative (pos n) h = (n, refl)
 not_negative (negsuc n) h = absurd (false≢true h)
 
+-- such numbers of one size are one
 same_number : (a b : ℤ) → int_le (pos 0) a ≡ true → int_le (pos 0) b ≡ true → unsigned_abs a ≡ unsigned_abs b → a ≡ b
 same_number a b ha hb e =
     let m : (n : ℕ) × (a ≡ pos n) = not_negative a ha in
     let n : (n : ℕ) × (b ≡ pos n) = not_negative b hb in
     m.1 ∙ ap pos (sym (ap unsigned_abs m.1) ∙ e ∙ ap unsigned_abs n.1) ∙ sym n.1
 
+-- a number is no greater than itself
 int_itself : (n : ℕ) → int_le (pos n) (pos n) ≡ true
 int_itself n = search rules
 
+-- a number is within itself
 within_itself : (a b : ℤ) → int_le (pos 0) a ≡ true → a ≡ b → is_within a a b ≡ true
 within_itself a b ha e =
     let m : (n : ℕ) × (a ≡ pos n) = not_negative a ha in
     subst (λ z. is_within a a z ≡ true) e (subst (λ z. is_within z z z ≡ true) (sym m.1) (and_from (int_le (pos m.0) (pos m.0)) (int_le (pos m.0) (pos m.0)) (int_itself m.0) (int_itself m.0)))
 
+-- what is past a number that is not below 0
 not_below : (a b : ℤ) → int_le (pos 0) a ≡ true → int_le a b ≡ true → int_le (pos 0) b ≡ true
 not_below a (pos n) ha h = int_zero n
   where
@@ -185,6 +201,7 @@ meets (Tile zoom column row bytes) b = is_at zoom column row b
 meets (Media content_type bytes) b = false
 meets (Row x y code label) b = false
 
+-- a free place meets no tile
 pub takes_none : (x : Package) (a : Content) → takes_place x a ≡ false → AllByRecursion (λ i. meets a i.content ≡ false) x.items
 takes_none x (Tile zoom column row bytes) h = none_pass (λ i. is_at zoom column row i.content) x.items h
 takes_none x (Media content_type bytes) h = All-each (λ i. false ≡ false) (λ i. refl) x.items
@@ -199,6 +216,7 @@ not_negative_place f z c r first h =
     let e1 : (has_level f z ≡ true) × (int_le (pos 0) c ≡ true) = and_parts _ _ e2.0 in
     (not_below f.first_zoom z first (and_parts (int_le f.first_zoom z) _ e1.0).0, e1.1, e3.1)
 
+-- tiles of one place meet
 meets_same : (f : Frame) → int_le (pos 0) f.first_zoom ≡ true → (a b : Content) → kind_is TileItem (kind_of a) ≡ true → kind_is TileItem (kind_of b) ≡ true
     → ((z c r : ℤ) (bs : List ℕ) → a ≡ Tile z c r bs → has_place f z c r ≡ true) → ((z c r : ℤ) (bs : List ℕ) → b ≡ Tile z c r bs → has_place f z c r ≡ true) → place_of a ≡ place_of b → meets a b ≡ true
 meets_same f first (Tile z c r bs) (Tile z' c' r' bs') ta tb pa pb e =
@@ -211,9 +229,11 @@ meets_same f first (Tile z c r bs) (Row x y code label) ta tb pa pb e = absurd (
 meets_same f first (Media content_type bytes) b ta tb pa pb e = absurd (false≢true ta)
 meets_same f first (Row x y code label) b ta tb pa pb e = absurd (false≢true ta)
 
+-- a fit tile has a place
 fit_place : (w : World) (x : Package) (i : Item) → IsFit w x i → (z c r : ℤ) (bs : List ℕ) → i.content ≡ Tile z c r bs → has_place w.frame z c r ≡ true
 fit_place w x i h z c r bs e = not_false (has_place w.frame z c r) (subst (λ k. bad_place w (Add x.uuid i.identity k) ≡ false) e h.2)
 
+-- the tests of a frame
 abbrev frame_rows : Frame → List (Bool × FrameFault)
 frame_rows f =
     (not (is_within (negsuc 0) (pos 999999) f.srs_id), BadSrs)
@@ -234,13 +254,16 @@ good_first f good =
     none_fault None h = refl
     none_fault (Some x) h = absurd (false≢true h)
 
+-- a tile of this place
 abbrev pub tile_at : List ℕ → Item → Bool
 tile_at k i = is_tile i && bytes_eq (place_of i.content) k
 
+-- two tests as one
 two_tests : (n : ℕ) (b c : Bool) → cond b (cond c n 0) 0 ≡ cond (b && c) n 0
 two_tests n true c = refl
 two_tests n false c = refl
 
+-- places are counted by tiles
 pub places_count : (k : List ℕ) (items : List Item) → count_by (λ i. bytes_eq (place_of i.content) k) (filter is_tile items) ≡ count_by (tile_at k) items
 places_count k items = sum_by-filter (λ i. cond (bytes_eq (place_of i.content) k) 1 0) is_tile items
     ∙ sum_by-same (λ i. cond (is_tile i) (cond (bytes_eq (place_of i.content) k) 1 0) 0) (λ i. cond (tile_at k i) 1 0)
@@ -269,6 +292,7 @@ places_less t k items =
     let f : Item → ℕ = λ i. cond (bytes_eq (place_of i.content) k) 1 0 in
     omega (arith, sum_by-filter f is_tile (filter t items), sum_by-filter f is_tile items, filter_less (λ i. cond (is_tile i) (f i) 0) t items)
 
+-- such a package keeps the rules
 pub filtered_kept : (w v : World) (x y : Package) (s : List ℕ → Bool) (u : Relation → Bool) → v.frame ≡ w.frame → y.items ≡ filter (λ i. s i.identity) x.items → y.links ≡ filter u x.links
     → IsUuid y.uuid → IsArranged receipt_key y.receipts → HasParent v y → AllByRecursion (λ l. u l ≡ true → (s l.base ≡ true) × (s l.media ≡ true)) x.links → IsKeptPackage w x → IsKeptPackage v y
 filtered_kept w v x y s u frame items links uuid receipts up whole k = record {

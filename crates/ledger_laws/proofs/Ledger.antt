@@ -34,10 +34,12 @@ ledger_numbers archive past (r ∷ rs) h =
     let tail : AllByRecursion (λ s. s.seq < length (past ++ r ∷ []) + length rs + 1) rs = ledger_numbers archive (past ++ r ∷ []) rs h.1 in
     (omega (arith, h.0.number), All-weaker (λ s. s.seq < length (past ++ r ∷ []) + length rs + 1) (λ s. s.seq < length past + length (r ∷ rs) + 1) (λ s lt. omega (arith, lt, length-append past (r ∷ []))) rs tail)
 
+-- a receipt that may follow makes a sound ledger
 pub ledger_snoc : (archive : List ℕ) (past rs : List Receipt) (r : Receipt) → IsLedger archive past rs → MayFollow archive (past ++ rs) r → IsLedger archive past (rs ++ r ∷ [])
 ledger_snoc archive past [] r h may = (subst (λ zs. MayFollow archive zs r) (append-nil past) may, tt)
 ledger_snoc archive past (x ∷ rs) r h may = (h.0, ledger_snoc archive (past ++ x ∷ []) rs r h.1 (subst (λ zs. MayFollow archive zs r) (sym (append_assoc past (x ∷ []) rs)) may))
 
+-- items are the things of number 0
 pub item_kind_by_number : (k : MovedKind) → is_item_kind k ≡ (thing_number k == 0)
 item_kind_by_number TileItem = refl
 item_kind_by_number MediaItem = refl
@@ -45,6 +47,7 @@ item_kind_by_number RowItem = refl
 item_kind_by_number TilesMediaLink = refl
 item_kind_by_number RowsMediaLink = refl
 
+-- an item of this identity
 abbrev pub is_item_of : List ℕ → Moved → Bool
 is_item_of id m = is_item_kind m.kind && bytes_eq m.base id
 
@@ -54,6 +57,7 @@ key_of_item m item thing =
     let alone : m.other ≡ None = (MatchBool-at_true ((m.other ≡ None) × (is_some m.fingerprint ≡ true)) ((is_some m.other ≡ true) × (m.size ≡ 0) × (m.fingerprint ≡ None)) item thing).0 in
     rw alone (ap (λ zs. thing_number m.kind ∷ zs) (append-nil m.base))
 
+-- an item of another identity is another thing
 other_key : (id : List ℕ) (m n : Moved) → is_item_of id m ≡ true → IsThing m → is_item_of id n ≡ false → IsThing n → bytes_eq (moved_thing n) (moved_thing m) ≡ false
 other_key id m n names thing not_named thing' =
     false_from_ne_true (bytes_eq (moved_thing n) (moved_thing m)) (λ same.
@@ -65,6 +69,7 @@ other_key id m n names thing not_named thing' =
     let base : bytes_eq n.base id ≡ true = ap (λ zs. bytes_eq zs id) bases ∙ parts.1 in
     true≢false (sym (and_from (is_item_kind n.kind) (bytes_eq n.base id) item base) ∙ not_named))
 
+-- it is not among these
 not_among : (id : List ℕ) (m : Moved) (ns : List Moved) → is_item_of id m ≡ true → IsThing m → AllByRecursion (λ n. is_item_of id n ≡ false) ns → AllByRecursion IsThing ns → has moved_thing (moved_thing m) ns ≡ false
 not_among id m [] names thing h things = refl
 not_among id m (n ∷ ns) names thing h things = rw (other_key id m n names thing h.0 things.0) (not_among id m ns names thing h.1 things.1)
@@ -76,14 +81,17 @@ none_names id m [] named thing h things = refl
 none_names id m (s ∷ past) named thing h things =
     rw (not_among id m s.items named thing (none_pass (is_item_of id) s.items h.0) things.0) (none_names id m past named thing h.1 things.1)
 
+-- what nothing names stands nowhere
 pub custody_none : (id : List ℕ) (m : Moved) (past : List Receipt) → is_item_of id m ≡ true → IsThing m → AllByRecursion (λ s. names_identity id s ≡ false) past
     → AllByRecursion (λ s. AllByRecursion IsThing s.items) past → custody past (moved_thing m) ≡ None
 custody_none id m past named thing h things = ap (λ rs. option_and_then (λ r. r.target) (last_of rs)) (none_names id m past named thing h things)
 
+-- a test that fails
 and_false_or : (b : Bool) → ((b && false) || false) ≡ false
 and_false_or true = refl
 and_false_or false = refl
 
+-- a link is no item
 link_is_no_item : (mapping : Mapping) (id base media : List ℕ) → list_any (is_item_of id) (link_moved (relation mapping base media) ∷ []) ≡ false
 link_is_no_item TilesMedia id base media = refl
 link_is_no_item RowsMedia id base media = refl
@@ -125,6 +133,7 @@ never_named archive id past (r ∷ rs) h unused never things =
     never_named archive id (past ++ r ∷ []) rs h.1 unused.1 (All-snoc (λ s. names_identity id s ≡ false) past r never here) (All-snoc (λ s. AllByRecursion IsThing s.items) past r things h.0.things) in
     ((here, rest.0), (h.0.things, rest.1))
 
+-- what a receipt says of an item is a thing
 pub thing_of : (identity : List ℕ) (content : Content) → IsThing (item_moved (added_item identity content))
 thing_of identity (Tile zoom column row bytes) = (refl, refl)
 thing_of identity (Media content_type bytes) = (refl, refl)
@@ -149,30 +158,36 @@ thing_of_item identity (Tile zoom column row bytes) = ap (λ zs. 0 ∷ zs) (appe
 thing_of_item identity (Media content_type bytes) = ap (λ zs. 0 ∷ zs) (append-nil identity)
 thing_of_item identity (Row x y code label) = ap (λ zs. 0 ∷ zs) (append-nil identity)
 
+-- the last of a list with one more
 last_or-snoc : {X : Type 0} (x y : X) (xs : List X) → last_or x (xs ++ y ∷ []) ≡ y
 last_or-snoc x y [] = refl
 last_or-snoc x y (z ∷ xs) = last_or-snoc z y xs
 
+-- that is this one
 last_of-snoc : {X : Type 0} (y : X) (xs : List X) → last_of (xs ++ y ∷ []) ≡ Some y
 last_of-snoc y [] = refl
 last_of-snoc y (x ∷ xs) = ap Some (last_or-snoc x y xs)
 
+-- a thing that the last receipt names stands in its target
 pub custody_names : (rs : List Receipt) (r : Receipt) (thing : List ℕ) → names thing r ≡ true → custody (rs ++ r ∷ []) thing ≡ r.target
 custody_names rs r thing named =
     let one : filter (names thing) (r ∷ []) ≡ r ∷ [] = rw named refl in
     ap (λ xs. option_and_then (λ x. x.target) (last_of xs)) (filter-append (names thing) rs (r ∷ []) ∙ ap (λ xs. filter (names thing) rs ++ xs) one)
     ∙ ap (option_and_then (λ x. x.target)) (last_of-snoc r (filter (names thing) rs))
 
+-- another thing stays where it stood
 pub custody_other : (rs : List Receipt) (r : Receipt) (thing : List ℕ) → names thing r ≡ false → custody (rs ++ r ∷ []) thing ≡ custody rs thing
 custody_other rs r thing named =
     let none : filter (names thing) (r ∷ []) ≡ [] = rw named refl in
     ap (λ xs. option_and_then (λ x. x.target) (last_of xs)) (filter-append (names thing) rs (r ∷ []) ∙ ap (λ xs. filter (names thing) rs ++ xs) none ∙ append-nil (filter (names thing) rs))
 
+-- a sum over some receipts and one more
 pub sum_by-filter_snoc : (moved : Receipt → ℕ) (p : Receipt → Bool) (rs : List Receipt) (r : Receipt) (b : Bool) → p r ≡ b → sum_by moved (filter p (rs ++ r ∷ [])) ≡ sum_by moved (filter p rs) + cond b (moved r) 0
 sum_by-filter_snoc moved p rs r b e =
     ap (sum_by moved) (filter-append p rs (r ∷ [])) ∙ sum_by-append moved (filter p rs) (filter p (r ∷ []))
     ∙ ap (λ n. sum_by moved (filter p rs) + n) (ap (λ v. sum_by moved (cond v (r ∷ []) [])) e ∙ elim b as (λ v. sum_by moved (cond v (r ∷ []) []) ≡ cond v (moved r) 0) [ true ↦ zero-add (moved r) | false ↦ refl ])
 
+-- no receipt after a number, with one more
 pub none_after : (p : Receipt → Bool) (n : ℕ) (rs : List Receipt) (r : Receipt) → p r ≡ false → list_any p (after n rs) ≡ false → list_any p (after n (rs ++ r ∷ [])) ≡ false
 none_after p n rs r fails none =
     ap (list_any p) (filter-append (λ s. nat_lt n s.seq) rs (r ∷ [])) ∙ list_any-append p (after n rs) (filter (λ s. nat_lt n s.seq) (r ∷ []))

@@ -15,6 +15,9 @@ pub mod Splitting
 pub mod Merging
 pub mod Running
 pub mod OneWorld
+pub mod Rounds
+pub mod Opened
+pub mod Faults
 pub mod First
 pub mod Follow
 pub mod Whole

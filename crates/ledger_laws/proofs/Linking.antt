@@ -44,6 +44,7 @@ kind_held x kind id uuids h =
     let e : f.0.identity ≡ id = ap (drop 1) ((bytes_eq-Decides (item_key f.0) (kind_number kind ∷ id)).0 all.1) in
     (subst (λ z. holds x (0 ∷ z) ≡ true) e all.0.0, subst IsUuid e all.0.1)
 
+-- no item is the thing of a link
 no_item_is_link : (l : Relation) (items : List Item) → has item_thing (link_key l) items ≡ false
 no_item_is_link l items = none_any (λ i. bytes_eq (item_thing i) (link_key l)) items (All-each (λ i. bytes_eq (item_thing i) (link_key l) ≡ false)
     (λ i. elim l.mapping as (λ m. bytes_eq (item_thing i) (link_key (record { mapping = m; base = l.base; media = l.media })) ≡ false) [ TilesMedia ↦ refl | RowsMedia ↦ refl ]) items)

@@ -46,14 +46,17 @@ use Rattle.ledger_laws.proofs.Facts.{ledger_arranged, things_moved, order_moved,
 use Rattle.ledger_laws.proofs.Keeping.{fit_all, places_count, tile_at, apart_places, live_changed, live_closed, parent_moves, package_moves, receipts_kept, sum_by-changed, all_live_at, open_kept, open_is_split}
 use Rattle.sheet_types.proofs.Distinct.{distinct_counts, counts_distinct}
 
+-- the measure of a receipt is that of its items and links
 pub weigh_moved : (c : Moved → ℕ) (items : List Item) (links : List Relation) → sum_by c (moved_of items links) ≡ sum_by (λ i. c (item_moved i)) items + sum_by (λ l. c (link_moved l)) links
 weigh_moved c items links = omega (arith, sum_by-append c (map item_moved items) (map link_moved links), sum_by-map c item_moved items, sum_by-map c link_moved links)
 
 -- ---- a package is lent under a UUID once
 
+-- a split that makes this package
 abbrev pub lent_to : List ℕ → Receipt → Bool
 lent_to c s = is_split s && ends_at s.target c
 
+-- among past and later receipts
 lent_once_from : (archive c : List ℕ) (past rs : List Receipt) → IsLedger archive past rs → count_by (lent_to c) past ≤ 1 → count_by (lent_to c) past + count_by (lent_to c) rs ≤ 1
 lent_once_from archive c past [] h one = omega (arith, one)
 lent_once_from archive c past (r ∷ rs) h one =
@@ -68,6 +71,7 @@ lent_once_from archive c past (r ∷ rs) h one =
     ] refl in
     omega (arith, more, lent_once_from archive c (past ++ r ∷ []) rs h.1 here, sum_by-cons (λ s. cond (lent_to c s) 1 0) r rs, sum_by-cons (λ s. cond (lent_to c s) 1 0) r [])
 
+-- in the whole ledger
 pub lent_once : (w : World) (c : List ℕ) → IsLedger (archive_of w) [] (receipts_of w) → count_by (lent_to c) (receipts_of w) ≤ 1
 lent_once w c sound = omega (arith, lent_once_from (archive_of w) c [] (receipts_of w) sound (omega arith))
 
@@ -273,7 +277,7 @@ module _ (w : World) (id moment child into : List ℕ) (ticket : ℤ) (types : H
         (All-arranged receipt_key (λ s. In s (receipts_of next)) (flat_map (λ x. x.receipts) w.packages) (stand_flat (λ s. In s (receipts_of next)) w.packages (back (λ s. In s (receipts_of next)) theirs)))
         (into_has (λ s. In s (receipts_of next)) theirs).0 in
         same_list receipt_key (receipts_of next) after in_order_next in_order_after
-        (λ s i. All-In receipt_key (λ z. In z after) s (receipts_of next) to i) (λ s i. All-In receipt_key (λ z. In z (receipts_of next)) s after fro i)
+        (λ s i. All-In (λ z. In z after) s (receipts_of next) to i) (λ s i. All-In (λ z. In z (receipts_of next)) s after fro i)
 
     archive : archive_of next ≡ archive_of w
     archive =
@@ -555,6 +559,7 @@ module _ (w : World) (id moment child into : List ℕ) (ticket : ℤ) (types : H
         gone : is_live next child ≡ false
         gone = gone_from (map (λ x. cond (bytes_eq x.uuid into) (take_all x) x) w.packages)
 
+-- the law of a merge
 pub merge_keeps_register : MergeKeepsRegister
 merge_keeps_register w id moment child into ticket types register =
     keeps IsRegister w (merge_request id moment child into ticket) register

@@ -70,6 +70,7 @@ module _ (w : World) (id moment p identity : List ℕ) (register : IsRegister w)
       kind_stays kind end items apart h = any_filter (λ i. bytes_eq (item_key i) (kind_number kind ∷ end)) (λ i. not (is_among (identity ∷ []) i.identity)) items
           (λ i e. ap not (is_one (λ j. j.identity) identity i ∙ ap (λ z. bytes_eq z identity) (ap (drop 1) ((bytes_eq-Decides (item_key i) (kind_number kind ∷ end)).0 e)) ∙ apart)) h
 
+-- the law of a deletion
 pub delete_keeps_register : DeleteKeepsRegister
 delete_keeps_register w id moment p identity types register = keeps IsRegister w (delete_request id moment p identity) register (delete_register w id moment p identity register types)
 
@@ -134,8 +135,10 @@ module _ (w : World) (id moment p : List ℕ) (mapping : Mapping) (base media : 
       no_split
       (one.contents_after w p (receipt_of w link_asked) (entry_of link_asked.command) (λ y. y.items) (λ y. put link_key linked_now y.links) register fits (λ y h. h))
 
+-- the law of a link taken out
 pub unlink_keeps_register : UnlinkKeepsRegister
 unlink_keeps_register w id moment p mapping base media types register = keeps IsRegister w (unlink_request id moment p mapping base media) register (unlink_register w id moment p mapping base media register types)
 
+-- the law of a new link
 pub link_keeps_register : LinkKeepsRegister
 link_keeps_register w id moment p mapping base media types register = keeps IsRegister w (link_request id moment p mapping base media) register (link_register w id moment p mapping base media register types)

@@ -19,9 +19,11 @@ use Rattle.sheet_types.proofs.Found.{found, not_found, All-found}
 use Rattle.sheet_types.proofs.Order.{before_numbers, put_last, All-of_arranged, arranged_last, counts_arranged, filter_arranged}
 use Rattle.sheet_types.proofs.Without.{is_one, take_one}
 
+-- the package of this UUID
 abbrev pub at_uuid : List ℕ → Package → Bool
 at_uuid p x = bytes_eq x.uuid p
 
+-- what is found after a change
 pub find_changed : (f : Package → Package) (p p' : List ℕ) (ps : List Package) → ((x : Package) → (f x).uuid ≡ x.uuid)
     → find (λ x. bytes_eq x.uuid p') (map (λ x. cond (bytes_eq x.uuid p) (f x) x) ps) ≡ option_map (λ x. cond (bytes_eq x.uuid p) (f x) x) (find (λ x. bytes_eq x.uuid p') ps)
 find_changed f p p' [] uuids = refl
@@ -47,6 +49,7 @@ found_at f p p' (x ∷ ps) b e =
       | false ↦ λ _. found_at f p p' ps b e
     ] refl
 
+-- another package is as it was
 pub holdings_other : (f : Package → Package) (w : World) (p p' : List ℕ) → ((x : Package) → (f x).uuid ≡ x.uuid) → bytes_eq p' p ≡ false → holdings (changed f p w) p' ≡ holdings w p'
 holdings_other f w p p' uuids other =
     ap (λ o. unwrap_or o no_package) (find_changed f p p' w.packages uuids) ∙ found_at f p p' w.packages false other ∙ as_it_was (find (λ x. bytes_eq x.uuid p') w.packages)
@@ -55,6 +58,7 @@ holdings_other f w p p' uuids other =
     as_it_was None = refl
     as_it_was (Some x) = refl
 
+-- the changed one is changed
 pub holdings_same : (f : Package → Package) (w : World) (p : List ℕ) → ((x : Package) → (f x).uuid ≡ x.uuid) → is_live w p ≡ true → holdings (changed f p w) p ≡ f (holdings w p)
 holdings_same f w p uuids live =
     ap (λ o. unwrap_or o no_package) (find_changed f p p w.packages uuids) ∙ found_at f p p w.packages true (bytes_eq_itself p) ∙ found w.packages live
@@ -76,12 +80,15 @@ each_found (x ∷ ps) h = (
       (λ y before is. ap (λ b. cond b (Some x) (find (at_uuid y.uuid) ps)) (before-differs x.uuid y.uuid before) ∙ is) ps h.0 (each_found ps h.1),
 )
 
+-- a fact of what stands under each UUID is one of each package
 pub all_at : (w : World) (P : Package → Type 0) → IsArranged package_key w.packages → ((p : List ℕ) → P (holdings w p)) → AllByRecursion P w.packages
 all_at w P distinct h = All-weaker (λ x. find (at_uuid x.uuid) w.packages ≡ Some x) P (λ x is. subst P (ap (λ o. unwrap_or o no_package) is) (h x.uuid)) w.packages (each_found w.packages distinct)
 
+-- under a UUID that is not live stands nothing
 pub holdings_none : (w : World) (p : List ℕ) → is_live w p ≡ false → holdings w p ≡ no_package
 holdings_none w p dead = ap (λ o. unwrap_or o no_package) (not_found (at_uuid p) w.packages dead)
 
+-- a fact of each package, at a live UUID
 pub at_all : (w : World) (P : Package → Type 0) (p : List ℕ) → AllByRecursion P w.packages → is_live w p ≡ true → P (holdings w p) × ((holdings w p).uuid ≡ p)
 at_all w P p h live =
     let f : (x : Package) × (find (at_uuid p) w.packages ≡ Some x) = found (at_uuid p) w.packages live in
@@ -93,6 +100,7 @@ at_all w P p h live =
 abbrev pub AllStand : (List ℕ → Receipt → Type 0) → World → Type 0
 AllStand Q w = AllByRecursion (λ x. AllByRecursion (Q x.uuid) x.receipts) w.packages
 
+-- at a UUID
 pub stand_at : (Q : List ℕ → Receipt → Type 0) (w : World) (p : List ℕ) → AllStand Q w → AllByRecursion (Q p) (holdings w p).receipts
 stand_at Q w p h =
     elim (is_live w p) as (λ v. is_live w p ≡ v → AllByRecursion (Q p) (holdings w p).receipts) [
@@ -102,11 +110,13 @@ stand_at Q w p h =
       | false ↦ λ dead. subst (λ x. AllByRecursion (Q p) x.receipts) (sym (holdings_none w p dead)) tt
     ] refl
 
+-- from each UUID
 pub stand_all : (Q : List ℕ → Receipt → Type 0) (w : World) → IsArranged package_key w.packages → ((p : List ℕ) → AllByRecursion (Q p) (holdings w p).receipts) → AllStand Q w
 stand_all Q w distinct h =
     All-weaker (λ x. find (at_uuid x.uuid) w.packages ≡ Some x) (λ x. AllByRecursion (Q x.uuid) x.receipts)
     (λ x is. subst (λ y. AllByRecursion (Q x.uuid) y.receipts) (ap (λ o. unwrap_or o no_package) is) (h x.uuid)) w.packages (each_found w.packages distinct)
 
+-- what stands under a UUID after a change
 pub holdings_changed : (f : Package → Package) (w : World) (p p' : List ℕ) → ((x : Package) → (f x).uuid ≡ x.uuid) → is_live w p ≡ true
     → holdings (changed f p w) p' ≡ cond (bytes_eq p' p) (f (holdings w p)) (holdings w p')
 holdings_changed f w p p' uuids live =
@@ -115,6 +125,7 @@ holdings_changed f w p p' uuids live =
       | false ↦ λ other. holdings_other f w p p' uuids other
     ] refl
 
+-- what is found after a new package
 find_put : (x : Package) (p : List ℕ) (ps : List Package) → find (at_uuid p) (put package_key x ps) ≡ cond (bytes_eq x.uuid p) (Some x) (find (at_uuid p) ps)
 find_put x p [] = refl
 find_put x p (y ∷ ps) =
@@ -128,10 +139,12 @@ find_put x p (y ∷ ps) =
       | false ↦ λ _. refl
     ] refl
 
+-- what stands under a UUID after a new package
 pub holdings_enlarged : (x : Package) (w : World) (p : List ℕ) → holdings (enlarged x w) p ≡ cond (bytes_eq x.uuid p) x (holdings w p)
 holdings_enlarged x w p = ap (λ o. unwrap_or o no_package) (find_put x p w.packages)
     ∙ elim (bytes_eq x.uuid p) as (λ v. unwrap_or (cond v (Some x) (find (at_uuid p) w.packages)) no_package ≡ cond v x (holdings w p)) [ true ↦ refl | false ↦ refl ]
 
+-- what is found after the end of one
 find_closed : (c p : List ℕ) (ps : List Package) → find (at_uuid p) (without package_key (c ∷ []) ps) ≡ cond (bytes_eq p c) None (find (at_uuid p) ps)
 find_closed c p [] = elim (bytes_eq p c) as (λ v. find (at_uuid p) [] ≡ cond v None (find (at_uuid p) [])) [ true ↦ refl | false ↦ refl ]
 find_closed c p (y ∷ ps) =
@@ -151,6 +164,7 @@ find_closed c p (y ∷ ps) =
           ] refl
     ] refl
 
+-- what stands under a UUID after the end of one
 pub holdings_closed : (c p : List ℕ) (w : World) → holdings (closed c w) p ≡ cond (bytes_eq p c) no_package (holdings w p)
 holdings_closed c p w = ap (λ o. unwrap_or o no_package) (find_closed c p w.packages)
     ∙ elim (bytes_eq p c) as (λ v. unwrap_or (cond v None (find (at_uuid p) w.packages)) no_package ≡ cond v no_package (holdings w p)) [ true ↦ refl | false ↦ refl ]
@@ -164,6 +178,7 @@ map_before f p u (x ∷ ps) uuids h = (
   map_before f p u ps uuids h.1,
 )
 
+-- a change leaves the order
 pub changed_arranged : (f : Package → Package) (p : List ℕ) (ps : List Package) → ((x : Package) → (f x).uuid ≡ x.uuid) → IsArranged package_key ps → IsArranged package_key (map (λ x. cond (bytes_eq x.uuid p) (f x) x) ps)
 changed_arranged f p [] uuids h = tt
 changed_arranged f p (x ∷ ps) uuids h = (
@@ -181,6 +196,7 @@ changed_none f h p (x ∷ ps) none =
     let here : h (cond (bytes_eq x.uuid p) (f x) x) ≡ h x = ap (λ b. h (cond b (f x) x)) none.0 in
     omega (arith, sum_by-cons h (cond (bytes_eq x.uuid p) (f x) x) (map (λ z. cond (bytes_eq z.uuid p) (f z) z) ps), sum_by-cons h x ps, here, changed_none f h p ps none.1)
 
+-- the sum changes by that of the one
 pub changed_sum : (f : Package → Package) (h : Package → ℕ) (p : List ℕ) (x : Package) (ps : List Package) → count_by (at_uuid p) ps ≤ 1 → find (at_uuid p) ps ≡ Some x
     → sum_by h (map (λ z. cond (bytes_eq z.uuid p) (f z) z) ps) + h x ≡ sum_by h ps + h (f x)
 changed_sum f h p x [] one e = absurd (None≢Some e)
@@ -203,6 +219,7 @@ All-changed f p P Q here other (x ∷ ps) h = (
   All-changed f p P Q here other ps h.1,
 )
 
+-- a fact of each receipt, over all packages in a row
 pub stand_flat : (P : Receipt → Type 0) (ps : List Package) → AllByRecursion (λ x. AllByRecursion P x.receipts) ps → AllByRecursion P (flat_map (λ x. x.receipts) ps)
 stand_flat P [] h = tt
 stand_flat P (x ∷ ps) h = All-append P x.receipts (flat_map (λ y. y.receipts) ps) h.0 (stand_flat P ps h.1)
@@ -241,6 +258,7 @@ flat_put x (y ∷ ps) none =
       | false ↦ ap (λ zs. zs ++ flat_map (λ z. z.receipts) (y ∷ ps)) none
     ]
 
+-- the receipts in a row, before and after one came in
 record Gained (f : Package → Package) (p : List ℕ) (r : Receipt) (ps : List Package) : Type 0 where
   before : List Receipt
   behind : List Receipt
@@ -261,6 +279,7 @@ none_behind f p x (y ∷ ps) e h =
       | false ↦ λ _. refl
     ] refl
 
+-- one package gains it
 gained : (f : Package → Package) (p : List ℕ) (r : Receipt) (ps : List Package) → ((x : Package) → AllByRecursion (λ s. s.seq < r.seq) x.receipts → (f x).receipts ≡ x.receipts ++ r ∷ [])
     → AllByRecursion (λ s. s.seq < r.seq) (flat_map (λ x. x.receipts) ps) → IsArranged package_key ps → has package_key p ps ≡ true → Gained f p r ps
 gained f p r [] gains below distinct live = absurd (false≢true live)
@@ -314,5 +333,6 @@ archive_in_stays f p (x ∷ ps) uuids parents =
       | false ↦ archive_in_stays f p ps uuids parents
     ])
 
+-- in a world
 pub archive_stays : (f : Package → Package) (p : List ℕ) (w : World) → ((x : Package) → (f x).uuid ≡ x.uuid) → ((x : Package) → (f x).parent ≡ x.parent) → archive_of (changed f p w) ≡ archive_of w
 archive_stays f p w uuids parents = archive_in_stays f p w.packages uuids parents

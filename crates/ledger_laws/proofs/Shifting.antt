@@ -43,6 +43,7 @@ goes r here = cond (is_merge r && ends_at r.source here) (unwrap_or r.target [])
 abbrev pub SeesKeys : (Moved → ℕ) → Type 0
 SeesKeys c = (a b : Relation) → link_key a ≡ link_key b → c (link_moved a) ≡ c (link_moved b)
 
+-- what an accepted command with receipt r does
 pub record Shift (w : World) (next : World) (r : Receipt) : Type 0 where
   pub receipts : receipts_of next ≡ receipts_of w ++ r ∷ []
   pub archive : archive_of next ≡ archive_of w
@@ -51,21 +52,27 @@ pub record Shift (w : World) (next : World) (r : Receipt) : Type 0 where
 
 -- ---- things by measure
 
+-- the measure that counts one thing
 abbrev pub counting : List ℕ → Moved → ℕ
 counting thing m = cond (bytes_eq (moved_thing m) thing) 1 0
 
+-- an item is one thing, whatever is said of it
 pub thing_item : (i : Item) → moved_thing (item_moved i) ≡ item_thing i
 thing_item i = thing_of_item i.identity i.content
 
+-- a link is the thing of its key
 pub thing_link : (l : Relation) → moved_thing (link_moved l) ≡ link_key l
 thing_link l = elim l.mapping as (λ m. moved_thing (link_moved (record { mapping = m; base = l.base; media = l.media })) ≡ link_key (record { mapping = m; base = l.base; media = l.media })) [ TilesMedia ↦ refl | RowsMedia ↦ refl ]
 
+-- items that are this thing
 pub count_items : (thing : List ℕ) (items : List Item) → sum_by (λ i. counting thing (item_moved i)) items ≡ count_by (λ i. bytes_eq (item_thing i) thing) items
 count_items thing items = sum_by-same (λ i. counting thing (item_moved i)) (λ i. cond (bytes_eq (item_thing i) thing) 1 0) (λ i. ap (λ k. cond (bytes_eq k thing) 1 0) (thing_item i)) items
 
+-- links that are this thing
 pub count_links : (thing : List ℕ) (links : List Relation) → sum_by (λ l. counting thing (link_moved l)) links ≡ count_by (λ l. bytes_eq (link_key l) thing) links
 count_links thing links = sum_by-same (λ l. counting thing (link_moved l)) (λ l. cond (bytes_eq (link_key l) thing) 1 0) (λ l. ap (λ k. cond (bytes_eq k thing) 1 0) (thing_link l)) links
 
+-- what is held is counted
 pub holds_some : (x : Package) (thing : List ℕ) → holds x thing ≡ true → 1 ≤ weighed (counting thing) x
 holds_some x thing h =
     elim (has item_thing thing x.items) as (λ v. has item_thing thing x.items ≡ v → (v || has link_key thing x.links) ≡ true → 1 ≤ weighed (counting thing) x) [
@@ -73,11 +80,13 @@ holds_some x thing h =
       | false ↦ λ _ e. omega (arith, count_links thing x.links, any_some (λ l. bytes_eq (link_key l) thing) x.links e)
     ] refl h
 
+-- what is not held is not counted
 pub holds_none : (x : Package) (thing : List ℕ) → holds x thing ≡ false → weighed (counting thing) x ≡ 0
 holds_none x thing h =
     let parts : (has item_thing thing x.items ≡ false) × (has link_key thing x.links ≡ false) = or_parts (has item_thing thing x.items) (has link_key thing x.links) h in
     omega (arith, count_items thing x.items, count_links thing x.links, any_none (λ i. bytes_eq (item_thing i) thing) x.items parts.0, any_none (λ l. bytes_eq (link_key l) thing) x.links parts.1)
 
+-- held or not, by the count
 pub holds_by : (x : Package) (thing : List ℕ) (b : Bool) → (b ≡ true → 1 ≤ weighed (counting thing) x) → (b ≡ false → weighed (counting thing) x ≡ 0) → holds x thing ≡ b
 holds_by x thing b does doesn't =
     elim (holds x thing) as (λ v. holds x thing ≡ v → v ≡ b) [
@@ -85,17 +94,21 @@ holds_by x thing b does doesn't =
       | false ↦ λ h. elim b as (λ u. b ≡ u → false ≡ u) [ true ↦ λ e. absurd (omega (arith, holds_none x thing h, does e)) | false ↦ λ _. refl ] refl
     ] refl
 
+-- an end at a package is that package
 pub ends_at_is : (o : Option (List ℕ)) (p : List ℕ) → ends_at o p ≡ true → o ≡ Some p
 ends_at_is None p h = absurd (false≢true h)
 ends_at_is (Some x) p h = ap Some ((bytes_eq-Decides x p).0 h)
 
+-- and back
 pub ends_at_some : (o : Option (List ℕ)) (p : List ℕ) → o ≡ Some p → ends_at o p ≡ true
 ends_at_some o p e = ap (λ x. ends_at x p) e ∙ bytes_eq_itself p
 
+-- a fact of all receipts in a row, by package
 pub flat_stand : (P : Receipt → Type 0) (ps : List Package) → AllByRecursion P (flat_map (λ x. x.receipts) ps) → AllByRecursion (λ x. AllByRecursion P x.receipts) ps
 flat_stand P [] h = tt
 flat_stand P (x ∷ ps) h = (All-left P x.receipts (flat_map (λ y. y.receipts) ps) h, flat_stand P ps (All-right P x.receipts (flat_map (λ y. y.receipts) ps) h))
 
+-- what follows from two facts of each receipt
 pub stand_both : (P Q R : List ℕ → Receipt → Type 0) → ((u : List ℕ) (s : Receipt) → P u s → Q u s → R u s) → (w : World) → AllStand P w → AllStand Q w → AllStand R w
 stand_both P Q R f w h g = All-both (λ x. AllByRecursion (P x.uuid) x.receipts) (λ x. AllByRecursion (Q x.uuid) x.receipts) (λ x. AllByRecursion (R x.uuid) x.receipts)
     (λ x. All-both (P x.uuid) (Q x.uuid) (R x.uuid) (f x.uuid) x.receipts) w.packages h g
@@ -106,38 +119,49 @@ stand_below w sound = flat_stand (λ s. s.seq < length (receipts_of w) + 1) w.pa
     (All-of_arranged receipt_key (λ s. s.seq < length (receipts_of w) + 1) (flat_map (λ x. x.receipts) w.packages)
     (All-weaker (λ s. s.seq < length {A = Receipt} [] + length (receipts_of w) + 1) (λ s. s.seq < length (receipts_of w) + 1) (λ s lt. omega (arith, lt)) (receipts_of w) (ledger_numbers (archive_of w) [] (receipts_of w) sound)))
 
+-- counting sees no more of a link than its key
 counting_sees : (thing : List ℕ) → SeesKeys (counting thing)
 counting_sees thing a b e = ap (λ k. cond (bytes_eq k thing) 1 0) (thing_link a ∙ e ∙ sym (thing_link b))
 
+-- so does a measure of its kind
 sees_kind : (f : ℕ → ℕ) (a b : Relation) → link_key a ≡ link_key b → f (kind_number (link_kind a.mapping)) ≡ f (kind_number (link_kind b.mapping))
 sees_kind f a b e = ap (λ k. f (slice_index k 0)) e
 
 -- ---- the measures of the account
 
+-- tiles
 abbrev a_tile : Moved → ℕ
 a_tile m = cond (kind_is TileItem m.kind) 1 0
 
+-- media
 abbrev a_medium : Moved → ℕ
 a_medium m = cond (kind_is MediaItem m.kind) 1 0
 
+-- rows
 abbrev a_row : Moved → ℕ
 a_row m = cond (kind_is RowItem m.kind) 1 0
 
+-- links
 abbrev a_link : Moved → ℕ
 a_link m = cond (not (is_item_kind m.kind)) 1 0
 
+-- a link is no tile
 no_tile : (l : Relation) → a_tile (link_moved l) ≡ 0
 no_tile l = elim l.mapping as (λ m. cond (kind_is TileItem (link_kind m)) 1 0 ≡ 0) [ TilesMedia ↦ refl | RowsMedia ↦ refl ]
 
+-- a link is no medium
 no_medium : (l : Relation) → a_medium (link_moved l) ≡ 0
 no_medium l = elim l.mapping as (λ m. cond (kind_is MediaItem (link_kind m)) 1 0 ≡ 0) [ TilesMedia ↦ refl | RowsMedia ↦ refl ]
 
+-- a link is no row
 no_row : (l : Relation) → a_row (link_moved l) ≡ 0
 no_row l = elim l.mapping as (λ m. cond (kind_is RowItem (link_kind m)) 1 0 ≡ 0) [ TilesMedia ↦ refl | RowsMedia ↦ refl ]
 
+-- a link is one link
 one_link : (l : Relation) → a_link (link_moved l) ≡ 1
 one_link l = elim l.mapping as (λ m. cond (not (is_item_kind (link_kind m))) 1 0 ≡ 1) [ TilesMedia ↦ refl | RowsMedia ↦ refl ]
 
+-- an item is no link
 no_link : (content : Content) (identity : List ℕ) → a_link (item_moved (added_item identity content)) ≡ 0
 no_link (Tile zoom column row bytes) identity = refl
 no_link (Media content_type bytes) identity = refl

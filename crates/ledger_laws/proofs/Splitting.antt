@@ -52,6 +52,7 @@ record ByTests (x : Package) (c : Cut) : Type 0 where
   items : (t : Item → Bool) × (c.items ≡ filter t x.items)
   links : (u : Relation → Bool) × (c.links ≡ filter u x.links)
 
+-- each cut does
 by_tests : (f : Frame) (x : Package) (mode : Mode) (rect : Rect) → ByTests x (cut f x mode rect)
 by_tests f x Strict rect = record { items = (_, refl); links = (_, refl) }
 by_tests f x Follow rect = record { items = (_, refl); links = (_, refl) }
@@ -64,6 +65,7 @@ record WholeCut (x : Package) (c : Cut) : Type 0 where
   links : c.links ≡ filter u x.links
   whole : AllByRecursion (GoesWhole s u) x.links
 
+-- each accepted cut
 whole_cut : (w : World) (p child : List ℕ) (mode : Mode) (rect : Rect) → AllByRecursion (HasEnds (holdings w p)) (holdings w p).links → is_some (cut_link w (Split p child mode rect)) ≡ false → WholeCut (holdings w p) (cut w.frame (holdings w p) mode rect)
 whole_cut w p child Strict rect ends none = record {
   s = strict_set (holdings w p) (identities (start w.frame rect (holdings w p)));
@@ -396,6 +398,7 @@ module _ (w : World) (id moment p child : List ℕ) (mode : Mode) (rect : Rect) 
         loan_live : is_live next child ≡ true
         loan_live = list_any-put package_key (at_uuid child) loan (map (λ x. cond (bytes_eq x.uuid p) (give x) x) w.packages) ∙ ap (λ b. b || list_any (at_uuid child) (map (λ x. cond (bytes_eq x.uuid p) (give x) x) w.packages)) (bytes_eq_itself child)
 
+-- the law of a split
 pub split_keeps_register : SplitKeepsRegister
 split_keeps_register w id moment p child mode rect types register =
     keeps IsRegister w (split_request id moment p child mode rect) register

@@ -50,10 +50,12 @@ module _ (P : Item → Type 0) where
       All-filter Each _ (map (λ x. if bytes_eq x.uuid into then f x else x) w.packages)
       (All-changed f into Each Each (λ x _ all. All-arranged item_key P ((holdings w child).items ++ x.items) (All-append P (holdings w child).items x.items (items_at w child h) all)) (λ x all. all) w.packages h)
 
+-- a fact of all items in a row, by package
 per_package : (P : Item → Type 0) (ps : List Package) → AllByRecursion P (flat_map (λ x. x.items) ps) → AllByRecursion (λ x. AllByRecursion P x.items) ps
 per_package P [] h = tt
 per_package P (x ∷ ps) h = (All-left P x.items (flat_map (λ y. y.items) ps) h, per_package P ps (All-right P x.items (flat_map (λ y. y.items) ps) h))
 
+-- the law of whole items
 pub moves_whole : MovesWhole
 moves_whole w q =
     let From : Item → Type 0 = λ i. Contains (items_in w) i ⊎ IsAdded q.command i in

@@ -1,5 +1,5 @@
 // Laws of the model, each the contract of a function that does nothing.
-ghost use Rattle.ledger_laws.specs.Laws.{NewWorldIsRegister, AddKeepsRegister, DeleteKeepsRegister, LinkKeepsRegister, UnlinkKeepsRegister, SplitKeepsRegister, MergeKeepsRegister, StepKeepsRegister, RunKeepsRegister, RunOfBoth, RepeatChangesNothing, MovesWhole, FollowIsLeast, LineIsReadBack, OneWorld};
+ghost use Rattle.ledger_laws.specs.Laws.{NewWorldIsRegister, AddKeepsRegister, DeleteKeepsRegister, LinkKeepsRegister, UnlinkKeepsRegister, SplitKeepsRegister, MergeKeepsRegister, StepKeepsRegister, RunKeepsRegister, RunOfBoth, RepeatChangesNothing, MovesWhole, FollowIsLeast, LineIsReadBack, OneWorld, StandsWithoutFault, OpenedIsRegister};
 
 /// A new world of a good frame is a register.
 pub fn new_world_is_register()
@@ -74,4 +74,14 @@ pub fn line_is_read_back()
 /// No list of stores stands for two worlds.
 pub fn one_world()
     ensures { OneWorld }
+{}
+
+/// Stores that stand for a world have none of the nine faults of opening.
+pub fn stands_without_fault()
+    ensures { StandsWithoutFault }
+{}
+
+/// A world that stores stand for is a register.
+pub fn opened_is_register()
+    ensures { OpenedIsRegister }
 {}

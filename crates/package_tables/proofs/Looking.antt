@@ -97,7 +97,7 @@ module _ {R : Type 0} {shape : Shape R} {list : Tables → List R} {shown : R �
         → (old.in_transaction ≡ false → new.in_transaction ≡ false) → Survives (state g old) (state g new) (CommitsShowing text params (state g old)) → AreSaid items Says answer result → LooksUp Answer (state g old) (state g new) result
     looks g shuts settles old new rests answer result ok err mode survives said =
         let found = found_looks text shape.table read.test read.by read.selects read.planned params read.given read.listing read.is g shuts settles items old new rests answer ok err mode survives in
-        record { rests = found.rests; done = λ clean. at answer result (found.done clean) said; holds = found.holds; survives = found.survives }
+        record { rests = found.rests; done = λ clean. at answer result (found.done clean) said; was_open = found.was_open; holds = found.holds; survives = found.survives }
       where
         at : (answer : Result Y Error) (result : Result X Fault) → IfOk answer (λ y. IsTrue (state g new).is_open × Finds shape.table read.listing (items y) (state g old).now (state g new).now) → AreSaid items Says answer result
             → IfOk result (λ x. IsTrue (state g new).is_open × Answers Answer x (state g old).now (state g new).now)

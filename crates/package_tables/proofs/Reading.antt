@@ -25,7 +25,7 @@ put_permutation {R} key x (y ∷ ys) = one (is_before (key y) (key x)) (put_perm
     one true more = IsPermutation-trans (x ∷ y ∷ ys) (y ∷ x ∷ ys) _ (IsPermutation-insert (y ∷ ys) 1 x) (IsPermutation-cons y _ _ more)
     one false more = IsPermutation-refl (x ∷ y ∷ ys)
 
-arranged_permutation : {R : Type 0} (key : R → List ℕ) (xs : List R) → IsPermutation xs (arranged key xs)
+pub arranged_permutation : {R : Type 0} (key : R → List ℕ) (xs : List R) → IsPermutation xs (arranged key xs)
 arranged_permutation key [] = IsPermutation-refl []
 arranged_permutation key (x ∷ xs) = IsPermutation-trans (x ∷ xs) (x ∷ arranged key xs) _ (IsPermutation-cons x _ _ (arranged_permutation key xs)) (put_permutation key x (arranged key xs))
 

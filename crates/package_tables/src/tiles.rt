@@ -1,14 +1,14 @@
 // The statements on `sheet_tiles`.
-ghost use Rattle.std.specs.Prelude.{◌≡◌, true};
-ghost use Rattle.sqlite.specs.State.{HasCleanDisk, Survives};
-ghost use Rattle.sqlite.specs.Held.{state};
+ghost use Rattle.std.specs.Prelude.{◌≡◌, true, ◌&&◌};
 ghost use Rattle.std.specs.Ordering.{int_eq};
+ghost use Rattle.sqlite.specs.State.{Survives};
+ghost use Rattle.sqlite.specs.Held.{state};
 ghost use Rattle.sql_meaning.specs.Transactions.{Rests};
-ghost use Rattle.package_tables.specs.Calls.{Makes, Tells, LooksUp, IsOneOf, AreThose};
+ghost use Rattle.package_tables.specs.Calls.{Makes, Tells, LooksUp, IsOneOf, AreThose, IsGreatest};
 ghost use Rattle.package_tables.specs.Changes.{AddsTile, DropsTile};
 
 use crate::fault::{Fault, settled};
-use crate::from_row::{FromRow, all_of, first_of};
+use crate::from_row::{FromRow, all_of, first_of, number_of};
 use crate::rows::TileRow;
 use sheet_types::collections::Bytes;
 use sqlite::{Alter, Connection, Row, Transaction, params};
@@ -81,6 +81,22 @@ pub fn tile_by_id_inside<S: Alter>(
     first_of(tx.query_all("SELECT * FROM sheet_tiles WHERE id = ?1", params![id]))
 }
 
+/// The tile in this place.
+pub fn tile_at<S: Alter>(
+    conn: &mut Connection<S>,
+    zoom_level: i64,
+    tile_column: i64,
+    tile_row: i64,
+) -> Result<Option<TileRow>, Fault>
+    requires { Rests (state S.Store conn.old) }
+    ensures { LooksUp (λ t. IsOneOf (λ x. int_eq x.zoom_level zoom_level && int_eq x.tile_column tile_column && int_eq x.tile_row tile_row) t.tiles) (state S.Store conn.old) (state S.Store conn.new) result }
+{
+    first_of(conn.query_all(
+        "SELECT * FROM sheet_tiles WHERE zoom_level = ?1 AND tile_column = ?2 AND tile_row = ?3",
+        params![zoom_level, tile_column, tile_row],
+    ))
+}
+
 /// All tiles.
 pub fn all_tiles<S: Alter>(conn: &mut Connection<S>, alloc: Global) -> Result<Vec<TileRow>, Fault>
     requires { Rests (state S.Store conn.old) }
@@ -90,4 +106,13 @@ pub fn all_tiles<S: Alter>(conn: &mut Connection<S>, alloc: Global) -> Result<Ve
         alloc,
         conn.query_all("SELECT * FROM sheet_tiles ORDER BY id", &[]),
     )
+}
+
+/// The greatest number of a tile, where there is one, inside a transaction.
+pub fn greatest_tile_id<S: Alter>(tx: &mut Transaction<'_, S>) -> Result<Option<i64>, Fault>
+    ensures same_reference { tx.new.conn.ghost_name ≡ tx.old.conn.ghost_name }
+    ensures told { Tells (λ t. IsGreatest (λ x. x.id) t.tiles) (state S.Store tx.old.conn.now) (state S.Store tx.new.conn.now) result }
+    ensures survives { Survives (state S.Store tx.old.conn.now) (state S.Store tx.new.conn.now) (λ _. ⊥) }
+{
+    number_of(tx.query_all("SELECT * FROM sheet_tiles ORDER BY id DESC LIMIT 1", &[]))
 }

@@ -9,6 +9,7 @@ use Rattle.sheet_types.proofs.Basics.{bytes_eq_itself, bytes_eq_swap}
 use Rattle.sheet_types.proofs.Every.{All-weaker, All-map, All-of_map}
 use Rattle.sheet_types.proofs.Sums.{count-cons, count_none, none_counted}
 
+-- each value has one element at most
 pub distinct_counts : {X : Type 0} (f : X → List ℕ) (k : List ℕ) (xs : List X) → IsDistinct bytes_eq (map f xs) → count_by (λ x. bytes_eq (f x) k) xs ≤ 1
 distinct_counts f k [] h = omega arith
 distinct_counts f k (x ∷ xs) h =
@@ -21,6 +22,7 @@ distinct_counts f k (x ∷ xs) h =
       | false ↦ λ e. omega (arith, count-cons (λ y. bytes_eq (f y) k) x xs false e, distinct_counts f k xs (IsDistinct-tail bytes_eq (f x) (map f xs) h))
     ] refl
 
+-- and back
 pub counts_distinct : {X : Type 0} (f : X → List ℕ) (xs : List X) → ((k : List ℕ) → count_by (λ x. bytes_eq (f x) k) xs ≤ 1) → IsDistinct bytes_eq (map f xs)
 unfolding IsDistinct
 counts_distinct f [] h = tt

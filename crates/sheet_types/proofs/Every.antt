@@ -23,6 +23,7 @@ pub All-left : {X : Type 0} (P : X → Type 0) (xs ys : List X) → AllByRecursi
 All-left P [] ys h = tt
 All-left P (x ∷ xs) ys h = (h.0, All-left P xs ys h.1)
 
+-- and of the second
 pub All-right : {X : Type 0} (P : X → Type 0) (xs ys : List X) → AllByRecursion P (xs ++ ys) → AllByRecursion P ys
 All-right P [] ys h = h
 All-right P (x ∷ xs) ys h = All-right P xs ys h.1
@@ -52,6 +53,7 @@ pub All-map : {X Y : Type 0} (P : Y → Type 0) (f : X → Y) (xs : List X) → 
 All-map P f [] h = tt
 All-map P f (x ∷ xs) h = (h.0, All-map P f xs h.1)
 
+-- and back
 pub All-of_map : {X Y : Type 0} (P : Y → Type 0) (f : X → Y) (xs : List X) → AllByRecursion P (map f xs) → AllByRecursion (λ x. P (f x)) xs
 All-of_map P f [] h = tt
 All-of_map P f (x ∷ xs) h = (h.0, All-of_map P f xs h.1)
@@ -61,6 +63,7 @@ pub none_pass : {X : Type 0} (p : X → Bool) (xs : List X) → list_any p xs �
 none_pass p [] h = tt
 none_pass p (x ∷ xs) h = let parts : (p x ≡ false) × (list_any p xs ≡ false) = or_parts (p x) (list_any p xs) h in (parts.0, none_pass p xs parts.1)
 
+-- and back
 pub none_any : {X : Type 0} (p : X → Bool) (xs : List X) → AllByRecursion (λ x. p x ≡ false) xs → list_any p xs ≡ false
 none_any p [] h = refl
 none_any p (x ∷ xs) h = rw h.0 (none_any p xs h.1)

@@ -19,6 +19,7 @@ use Rattle.sheet_types.proofs.Basics.{not_false}
 
 -- ---- bytes
 
+-- the test of each byte
 below_all : (bytes : List ℕ) → AllByRecursion (λ b. b < 256) bytes → list_all (λ b. nat_lt b 256) bytes ≡ true
 below_all [] h = refl
 below_all (b ∷ bytes) h = and_from (nat_lt b 256) (list_all (λ x. nat_lt x 256) bytes) (lt-ltb b 256 h.0) (below_all bytes h.1)
@@ -27,18 +28,22 @@ below_all (b ∷ bytes) h = and_from (nat_lt b 256) (list_all (λ x. nat_lt x 25
 pub bytes_fit : (n : ℕ) (bytes : List ℕ) → length bytes ≡ n → AllByRecursion (λ b. b < 256) bytes → is_bytes n bytes ≡ true
 bytes_fit n bytes long small = and_from (length bytes == n) (list_all (λ b. nat_lt b 256) bytes) (eq-eqb (length bytes) n long) (below_all bytes small)
 
+-- bytes in a row
 all_append : (xs ys : List ℕ) → AllByRecursion (λ b. b < 256) xs → AllByRecursion (λ b. b < 256) ys → AllByRecursion (λ b. b < 256) (xs ++ ys)
 all_append [] ys h g = g
 all_append (x ∷ xs) ys h g = (h.0, all_append xs ys h.1 g)
 
+-- the bytes of a word
 word_bytes : (n : ℕ) → AllByRecursion (λ b. b < 256) (to_be_bytes w32 n)
 word_bytes n = (omega arith, (omega arith, (omega arith, (omega arith, tt))))
 
+-- the bytes of a digest
 digest_small : (h : List ℕ) (n : ℕ) → AllByRecursion (λ b. b < 256) (digest_bytes h n)
 unfolding digest_bytes
 digest_small h zero = tt
 digest_small h (suc n) = all_append (digest_bytes h n) (to_be_bytes w32 (slice_index h n)) (digest_small h n) (word_bytes (slice_index h n))
 
+-- the bytes of SHA-256
 sha_small : (m : List ℕ) → AllByRecursion (λ b. b < 256) (sha256 m)
 unfolding sha256
 sha_small m = digest_small (final_hash initial_hash_256 m) 8
@@ -49,12 +54,15 @@ digest_fits content = bytes_fit 32 (fingerprint content) (length-sha256 (content
 
 -- ---- entries
 
+-- a count up to the limit of data is a number
 short_number : (n : ℕ) → nat_le n 1048576 ≡ true → is_number (pos n) ≡ true
 short_number n h = grind (arith, nat_tests)
 
+-- so is one up to the limit of labels
 shorter_number : (n : ℕ) → nat_le n 200 ≡ true → is_number (pos n) ≡ true
 shorter_number n h = grind (arith, nat_tests)
 
+-- a size in bounds is a number
 size_fits : (content : Content) → has_good_size content ≡ true → is_number (pos (size content)) ≡ true
 size_fits (Tile zoom column row bytes) h = short_number (length bytes) (and_parts (nat_le 1 (length bytes)) (nat_le (length bytes) 1048576) h).1
 size_fits (Media content_type bytes) h =

@@ -38,6 +38,7 @@ All-found P p x (y ∷ ys) e h =
       | false ↦ λ _ is. All-found P p x ys is h.1
     ] refl e
 
+-- what is found passes
 pub found_passes : {X : Type 0} (p : X → Bool) (x : X) (xs : List X) → find p xs ≡ Some x → p x ≡ true
 found_passes {X} p x xs e = (All-found (λ _. Unit {0}) p x xs e (All-each (λ _. Unit {0}) (λ _. tt) xs)).1
 

@@ -31,6 +31,7 @@ use Rattle.sheet_types.proofs.Basics.{bytes_eq_itself, None≢Some, not_true}
 
 -- ---- parts with no space in them
 
+-- no byte of it is a space
 abbrev Lacks : List ℕ → Type 0
 Lacks xs = AllByRecursion (λ c. (c == 32) ≡ false) xs
 
@@ -40,36 +41,45 @@ split_spaced x [] h hs = slice_split_none (λ c. c == 32) x (All-from_recursion 
 split_spaced x (y ∷ ys) h hs =
     slice_split_at (λ c. c == 32) x 32 (spaced (y ∷ ys)) (All-from_recursion (λ c. (c == 32) ≡ false) x h) refl ∙ ap (λ zs. x ∷ zs) (split_spaced y ys hs.0 hs.1)
 
+-- by places
 lacks_at : (xs : List ℕ) → ((k : ℕ) → k < length xs → (get_or xs k 0 == 32) ≡ false) → Lacks xs
 lacks_at [] h = tt
 lacks_at (x ∷ xs) h = (h 0 (omega arith), lacks_at xs (λ k lt. h (suc k) (omega arith)))
 
+-- a digit of sixteen is no space
 not_space : (d : ℕ) → d < 16 → (hex_digit lower d == 32) ≡ false
 not_space d small = grind (arith, nat_tests)
 
+-- the text of a UUID has no space
 uuid_lacks : (id : List ℕ) → Lacks (uuid_text id)
 uuid_lacks id = lacks_at (uuid_text id) (λ k lt.
     let within : k < 36 = rw (by_index_length 36 (λ j. if is_hyphen_place j then 45 else hex_digit lower (nibble id (digit_place j)))) at lt in
     ap (λ c. c == 32) (by_index_at 36 (λ j. if is_hyphen_place j then 45 else hex_digit lower (nibble id (digit_place j))) k 0 within)
     ∙ elim (is_hyphen_place k) as (λ v. ((if v then 45 else hex_digit lower (nibble id (digit_place k))) == 32) ≡ false) [ true ↦ refl | false ↦ not_space (nibble id (digit_place k)) (nibble_small id (digit_place k)) ])
 
+-- a digit is no space
 digit_no_space : (c : ℕ) → 47 < c → (c == 32) ≡ false
 digit_no_space c h = grind (arith, nat_tests)
 
+-- digits have no space
 digits_lack : (ds : List ℕ) → AllDigits 10 ds → Lacks ds
 digits_lack [] h = tt
 digits_lack (c ∷ ds) h = (digit_no_space c (let r = digit_from_value c h.0 in omega arith), digits_lack ds h.1)
 
+-- a number that is not below 0
 number_small : (n : ℕ) → is_number (pos n) ≡ true → n < 2 ^ 64
 number_small n h = grind (arith, nat_tests)
 
+-- a number below 0
 number_small_below : (n : ℕ) → is_number (negsuc n) ≡ true → suc n < 2 ^ 64
 number_small_below n h = grind (arith, nat_tests)
 
+-- the text of a number has no space
 number_lacks : (z : ℤ) → is_number z ≡ true → Lacks (signed_decimal z)
 number_lacks (pos n) h = digits_lack (decimal n) (decimal_is_IsNumeral n (number_small n h)).0.1
 number_lacks (negsuc n) h = (refl, digits_lack (decimal (suc n)) (decimal_is_IsNumeral (suc n) (number_small_below n h)).0.1)
 
+-- what is taken from such a text is no space
 slice_lacks : (t : List ℕ) → Lacks t → (k : ℕ) → (slice_index t k == 32) ≡ false
 slice_lacks [] h k = refl
 slice_lacks (x ∷ t) h zero = h.0
@@ -80,11 +90,13 @@ lacks_by_test : (xs : List ℕ) → list_all (λ c. not (c == 32)) xs ≡ true �
 lacks_by_test [] h = tt
 lacks_by_test (c ∷ xs) h = let parts : (not (c == 32) ≡ true) × (list_all (λ x. not (x == 32)) xs ≡ true) = and_parts (not (c == 32)) (list_all (λ x. not (x == 32)) xs) h in (not_true (c == 32) parts.0, lacks_by_test xs parts.1)
 
+-- the text of a digest has no space
 hex_lacks : (bytes : List ℕ) → Lacks (encode_lower bytes)
 unfolding encode_with
 hex_lacks [] = tt
 hex_lacks (b ∷ bytes) = (slice_lacks lower_digits (lacks_by_test lower_digits refl) _, (slice_lacks lower_digits (lacks_by_test lower_digits refl) _, hex_lacks bytes))
 
+-- the word of a kind has no space
 kind_lacks : (kind : MovedKind) → Lacks (kind_word kind)
 kind_lacks TileItem = lacks_by_test (kind_word TileItem) refl
 kind_lacks MediaItem = lacks_by_test (kind_word MediaItem) refl
@@ -92,16 +104,19 @@ kind_lacks RowItem = lacks_by_test (kind_word RowItem) refl
 kind_lacks TilesMediaLink = lacks_by_test (kind_word TilesMediaLink) refl
 kind_lacks RowsMediaLink = lacks_by_test (kind_word RowsMediaLink) refl
 
+-- the word of a mapping has no space
 mapping_lacks : (mapping : Mapping) → Lacks (mapping_word mapping)
 mapping_lacks TilesMedia = lacks_by_test (mapping_word TilesMedia) refl
 mapping_lacks RowsMedia = lacks_by_test (mapping_word RowsMedia) refl
 
+-- the word of a mode has no space
 mode_lacks : (mode : Mode) → Lacks (mode_word mode)
 mode_lacks Strict = lacks_by_test (mode_word Strict) refl
 mode_lacks Follow = lacks_by_test (mode_word Follow) refl
 
 -- ---- each part is read back
 
+-- a kind
 kind_back : (kind : MovedKind) → kind_in (kind_word kind) ≡ Some kind
 kind_back TileItem = refl
 kind_back MediaItem = refl
@@ -109,10 +124,12 @@ kind_back RowItem = refl
 kind_back TilesMediaLink = refl
 kind_back RowsMediaLink = refl
 
+-- a mapping
 mapping_back : (mapping : Mapping) → mapping_in (mapping_word mapping) ≡ Some mapping
 mapping_back TilesMedia = refl
 mapping_back RowsMedia = refl
 
+-- a mode
 mode_back : (mode : Mode) → mode_in (mode_word mode) ≡ Some mode
 mode_back Strict = refl
 mode_back Follow = refl
@@ -122,19 +139,23 @@ pub small_bytes : (bytes : List ℕ) → list_all (λ b. nat_lt b 256) bytes ≡
 small_bytes [] h = tt
 small_bytes (b ∷ bytes) h = let parts : (nat_lt b 256 ≡ true) × (list_all (λ x. nat_lt x 256) bytes ≡ true) = and_parts (nat_lt b 256) (list_all (λ x. nat_lt x 256) bytes) h in (ltb-true b 256 parts.0, small_bytes bytes parts.1)
 
+-- by places
 small_at : (bytes : List ℕ) → AllByRecursion (λ b. b < 256) bytes → IsBytes bytes
 small_at [] h i = omega arith
 small_at (b ∷ bytes) h zero = h.0
 small_at (b ∷ bytes) h (suc i) = small_at bytes h.1 i
 
+-- a UUID has 16 bytes
 pub uuid_length : (id : List ℕ) → is_uuid id ≡ true → length id ≡ 16
 uuid_length id h = eqb-true (length id) 16 (and_parts (length id == 16) (list_all (λ b. nat_lt b 256) id) h).0
 
-uuid_back : (id : List ℕ) → is_uuid id ≡ true → uuid_in (uuid_text id) ≡ id
+-- a UUID
+pub uuid_back : (id : List ℕ) → is_uuid id ≡ true → uuid_in (uuid_text id) ≡ id
 uuid_back id h =
     let small : AllByRecursion (λ b. b < 256) id = small_bytes id (and_parts (length id == 16) (list_all (λ b. nat_lt b 256) id) h).1 in
     ap (λ o. unwrap_or o []) (sym (parses_hyphenated_text lower id (inl refl) (uuid_length id h) (All-from_recursion (λ b. b < 256) id small)))
 
+-- a digest
 digest_back : (n : ℕ) (bytes : List ℕ) → is_bytes n bytes ≡ true → digest_in (encode_lower bytes) ≡ bytes
 digest_back n bytes h = ap (λ r. result_unwrap_or r []) (decode_of-encode_lower bytes (small_at bytes (small_bytes bytes (and_parts (length bytes == n) (list_all (λ b. nat_lt b 256) bytes) h).1)))
 
@@ -146,6 +167,7 @@ no_minus (c ∷ bs) h some = sign_no (let r = digit_from_value c h.0 in omega ar
     sign_no : 47 < c → (c == 45) ≡ false
     sign_no lt = grind (arith, nat_tests)
 
+-- nor with the other
 no_plus : (bs : List ℕ) → AllDigits 10 bs → 0 < length bs → (slice_index bs 0 == 43) ≡ false
 no_plus [] h some = refl
 no_plus (c ∷ bs) h some = sign_no (let r = digit_from_value c h.0 in omega arith)
@@ -153,6 +175,7 @@ no_plus (c ∷ bs) h some = sign_no (let r = digit_from_value c h.0 in omega ari
     sign_no : 47 < c → (c == 43) ≡ false
     sign_no lt = grind (arith, nat_tests)
 
+-- a number
 number_back : (z : ℤ) → is_number z ≡ true → number_in (signed_decimal z) ≡ z
 number_back (pos n) h =
     let d : IsNumeral 10 (decimal n) × (digits_value 10 (decimal n) ≡ n) = decimal_is_IsNumeral n (number_small n h) in
@@ -163,12 +186,15 @@ number_back (negsuc n) h =
 
 -- ---- each entry is read back from its parts
 
+-- the entry of the parts of a text
 abbrev parts_in : List ℕ → Option Entry
 parts_in text = entry_in (slice_split (λ c. c == 32) text)
 
+-- two tests
 two : (a b : Bool) → (a && b) ≡ true → (a ≡ true) × (b ≡ true)
 two a b h = and_parts a b h
 
+-- an entry
 back : (e : Entry) → IsFitEntry e → parts_in (entry_line e) ≡ Some e
 back (Adds p identity kind size digest) fit =
     let f3 = two _ _ fit in
@@ -216,6 +242,7 @@ entry_from-line e fit =
     ap (option_and_then (λ x. then_some (is_fit_entry x && bytes_eq (entry_line x) (entry_line e)) x)) (back e fit)
     ∙ ap (λ b. then_some b e) (and_from (is_fit_entry e) (bytes_eq (entry_line e) (entry_line e)) fit (bytes_eq_itself (entry_line e)))
 
+-- what is taken is fit, and the text is its line
 taken : (text : List ℕ) (o : Option Entry) (e : Entry) → option_and_then (λ x. then_some (is_fit_entry x && bytes_eq (entry_line x) text) x) o ≡ Some e → IsFitEntry e × (text ≡ entry_line e)
 taken text None e h = absurd (None≢Some h)
 taken text (Some x) e h =

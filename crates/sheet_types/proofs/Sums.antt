@@ -66,6 +66,7 @@ pub count_none : {X : Type 0} (p : X → Bool) (xs : List X) → AllByRecursion 
 count_none p [] h = refl
 count_none p (x ∷ xs) h = omega (arith, count-cons p x xs false h.0, count_none p xs h.1)
 
+-- and back
 pub none_counted : {X : Type 0} (p : X → Bool) (xs : List X) → count_by p xs ≡ 0 → AllByRecursion (λ x. p x ≡ false) xs
 none_counted p [] h = tt
 none_counted p (x ∷ xs) h =
@@ -106,4 +107,17 @@ not_both_count p xs ys hx hy never =
         | false ↦ λ ey. omega (arith, hx, any_none p ys ey)
       ] refl
       | false ↦ λ ex. omega (arith, hy, any_none p xs ex)
+    ] refl
+
+-- the same of the elements alone
+pub sum_by-same_all : {X : Type 0} (f g : X → ℕ) (xs : List X) → AllByRecursion (λ x. f x ≡ g x) xs → sum_by f xs ≡ sum_by g xs
+sum_by-same_all f g [] h = refl
+sum_by-same_all f g (x ∷ xs) h = omega (arith, sum_by-cons f x xs, sum_by-cons g x xs, h.0, sum_by-same_all f g xs h.1)
+
+pub count_le_all : {X : Type 0} (p q : X → Bool) (xs : List X) → AllByRecursion (λ x. p x ≡ true → q x ≡ true) xs → count_by p xs ≤ count_by q xs
+count_le_all p q [] h = omega arith
+count_le_all p q (x ∷ xs) h =
+    elim (p x) as (λ v. p x ≡ v → count_by p (x ∷ xs) ≤ count_by q (x ∷ xs)) [
+      | true ↦ λ e. omega (arith, count-cons p x xs true e, count-cons q x xs true (h.0 e), count_le_all p q xs h.1)
+      | false ↦ λ e. omega (arith, count-cons p x xs false e, sum_by-cons (λ y. cond (q y) 1 0) x xs, count_le_all p q xs h.1)
     ] refl

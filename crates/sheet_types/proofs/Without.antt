@@ -40,10 +40,12 @@ All-without key k P (x ∷ xs) h =
       | false ↦ λ other. (h.0 (sym (is_one key k x) ∙ other), All-without key k P xs h.1)
     ] refl
 
+-- being among keys, by elements
 pub among_keys : {X : Type 0} (key : X → List ℕ) (k : List ℕ) (xs : List X) → is_among (map key xs) k ≡ list_any (λ y. bytes_eq (key y) k) xs
 among_keys key k [] = refl
 among_keys key k (x ∷ xs) = ap (λ b. bytes_eq (key x) k || b) (among_keys key k xs)
 
+-- an element is among what a test takes exactly where it passes
 pub among_taken : {X : Type 0} (key : X → List ℕ) (t : X → Bool) (xs : List X) → IsArranged key xs → AllByRecursion (λ x. list_any (λ y. bytes_eq (key y) (key x)) (filter t xs) ≡ t x) xs
 among_taken key t [] h = tt
 among_taken key t (x ∷ xs) h =

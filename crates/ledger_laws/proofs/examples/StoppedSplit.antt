@@ -8,11 +8,8 @@ use Rattle.sheet_types.specs.declared.command.Mode.TheVariants.{Strict}
 use Rattle.sheet_types.specs.Lines.{entry_from}
 use Rattle.sha2.specs.Sha256.{sha256, first_words, schedule, rounds, compress, hash_after, digest_bytes}
 use Rattle.hex.specs.Hex.{encode_with, decode_pairs}
-use Rattle.sheet_types.specs.Opening.{Head, claim_of, live}
+use Rattle.sheet_types.specs.Opening.{head_of, claim_of, live}
 use Rattle.ledger_laws.proofs.examples.Setting.{frame_f, A, B, i, ask, archive_a, after_all, tile, rect}
-
-abbrev head_of : Package → Head
-head_of p = record { uuid = p.uuid; parent = p.parent; depth = p.depth; loan = p.loan }
 
 abbrev live_stores : List Package → List (List ℕ)
 live_stores stores = map (λ p. p.uuid) (live Package (λ p. Some (head_of p)) (λ p. map claim_of p.receipts) (λ p. ⊤) (λ p. ⊤) (λ p. frame_f) (λ p. p) stores)

@@ -15,5 +15,5 @@ pub returns-in_err-make-clause-failed : goal.returns-in_err-make-clause-failed
 returns-in_err-make-clause-failed g c clean inside =
     let was : HasCleanDisk (state g.S.Store c.loop-text.tx.conn.now) = omega (arith, c.make.ensures.survives.clean, clean) in
     let failed = along_failed (map (λ text. text.now) c.args.texts.now) c.loop-text.text-index (state g.S.Store c.args.tx.now.conn.now) (state g.S.Store c.loop-text.tx.conn.now) (state g.S.Store c.make.new.tx.conn.now) _ c.in_err-make.field-0.0
-        (mapped_more (λ text. text.now) c.args.texts.now c.loop-text.text-index _ c.loop-text-test.true) c.loop-text.invariant.along was inside (c.in_err-make.ensures.failed clean (c.loop-text.invariant.along.inside was inside)) in
+    (mapped_more (λ text. text.now) c.args.texts.now c.loop-text.text-index _ c.loop-text-test.true) c.loop-text.invariant.along was inside (c.in_err-make.ensures.failed clean (c.loop-text.invariant.along.inside was inside)) in
     search rules
