@@ -11,12 +11,12 @@ use Rattle.uuid.specs.Text.{by_index}
 use Rattle.sheet_types.specs.Lines.{entry_from}
 use Rattle.sheet_types.specs.Texts.{Entry, Adds, Deletes, Splits, Merges}
 use Rattle.sheet_types.specs.Step.{source_of, target_of}
-use Rattle.sheet_types.specs.Balance.{IsLedger, MovesFor}
+use Rattle.sheet_types.specs.Balance.{IsLedger, MovesFor, stands_in}
 use Rattle.sheet_types.specs.declared.command.Mode.TheVariants.{Strict}
 use Rattle.sheet_types.specs.declared.receipt.MovedKind.TheVariants.{TileItem}
 use Rattle.model_examples.specs.Sheets.{archive, crew, item, quarter}
 use Rattle.model_examples.specs.Story.{moved_corner, moved_small}
-use Rattle.model_examples.specs.Ledgers.{added, taken_out, SoundLedger, WrongNumbers, WrongLines, WrongMoves, AddedTwice, AlteredThenDeleted}
+use Rattle.model_examples.specs.Ledgers.{added, taken_out, SoundLedger, WrongNumbers, WrongLines, WrongMoves, AddedTwice, WrongHoldings, AlteredThenDeleted}
 
 -- two values that a test tells apart are not one
 differ : {X : Type 0} {x y : X} → (test : X → Bool) → test x ≡ false → test y ≡ true → x ≡ y → ⊥
@@ -145,3 +145,18 @@ added_twice = (added_and_deleted, λ h. true≢false (h.1.1.0.never_before refl)
 pub altered_then_deleted : AlteredThenDeleted
 unfolding by_index digits decode_pairs encode_with entry_from sha256 first_words schedule rounds compress hash_after digest_bytes
 altered_then_deleted = (refl, λ h. differ (λ o. bytes_eq (unwrap_or o []) digest) refl refl (h.1.0.agrees.0.0.0 refl).1)
+
+-- what stands in the place of the added tile's line
+stands_where : (e : Entry) → entry_from added.line ≡ Some e → stands_in e ≡ archive
+unfolding by_index digits decode_pairs encode_with entry_from
+stands_where e says = sym (ap (λ o. stands_in (unwrap_or o corner_entry)) says)
+
+pub wrong_holdings : WrongHoldings
+unfolding by_index digits decode_pairs encode_with entry_from
+wrong_holdings = (
+  (λ h. false≢true ((h.custody_is archive (0 ∷ item 1)).1 refl)),
+  (λ h. differ is_some refl refl ((h.custody_is archive (0 ∷ item 4)).0 refl)),
+  (λ h. differ (λ n. n == 2) refl refl (h.bytes archive)),
+  (λ h. differ (λ x. bytes_eq x archive) refl refl (h.homes.1.0.0.2 ∙ stands_where h.homes.1.0.0.0 h.homes.1.0.0.1)),
+  (λ h. false≢true h.loans.1.0.0),
+)

@@ -12,7 +12,7 @@ use Rattle.sheet_types.specs.Ordered.{is_before}
 use Rattle.sheet_types.specs.Texts.{size}
 use Rattle.sheet_types.specs.World.{World, Package, holdings, no_package, new_world, is_tile, is_medium, is_row}
 use Rattle.sheet_types.specs.Balance.{Balanced, holds}
-use Rattle.sheet_types.specs.Opening.{Claim, claim_of, is_open_claim, is_loan_of, is_reached, claims_at, IsOpenSplitOf, Counted, NotAPackage, ForeignFrame, IsNever}
+use Rattle.sheet_types.specs.Opening.{Claim, claim_of, is_open_claim, is_loan_of, is_reached, claims_at, IsOpenSplitOf, Counted, NotAPackage, ForeignFrame, IsAtHome, IsNever}
 use Rattle.sheet_types.specs.declared.receipt.Receipt.{Receipt}
 use Rattle.model_examples.specs.Sheets.{sheet, archive, crew, second_crew, tile, tile_of}
 use Rattle.model_examples.specs.Story.{kept_as, archive_with, crew_with}
@@ -192,6 +192,9 @@ module _ (s0 : Store) (c0 : Claim) (only : claims_of s0 ≡ c0 ∷ []) (shut : (
   never_counted : (test : ℕ → Bool) → IsNever (Counted Store head_of claims_of IsFormed IsTied frame_in read test (s0 ∷ []))
   never_counted test id h = nothing_open s0 c0 only shut (s0 ∷ []) h.0 h.1 h.2 h.3
 
+  at_home : (s : Store) (c : Claim) (below : Store) → IsAtHome Store head_of claims_of IsFormed IsTied frame_in read (s0 ∷ []) s c below
+  at_home s c below root found inside opened among_them lends = absurd (nothing_open s0 c0 only shut (s0 ∷ []) s c inside opened)
+
   never_foreign : IsNever (ForeignFrame Store head_of claims_of IsFormed IsTied frame_in read (s0 ∷ []))
   never_foreign id h = nothing_open s0 c0 only shut (s0 ∷ []) h.1 h.2 h.5 h.6
 
@@ -220,11 +223,11 @@ unfolding by_index digits decode_pairs encode_with entry_from
 out_of_account = (
   record {
     one_archive = refl;
-    formed = λ id h. h.3 (ap (λ s. s.formed) (sym (one misnumbered h.0 h.1)));
+    formed = (refl, tt);
     no_copies = never_counted misnumbered (claim_of fourth) refl (λ all. refl) (nat_le 2);
     none_missing = never_counted misnumbered (claim_of fourth) refl (λ all. refl) (λ n. n == 0);
-    none_foreign = never_foreign misnumbered (claim_of fourth) refl (λ all. refl);
-    tied = λ id h. h.3 (ap (λ s. s.tied) (sym (one misnumbered h.0 h.1)));
+    at_home = at_home misnumbered (claim_of fourth) refl (λ all. refl);
+    tied = (refl, tt);
   },
   (misnumbered, refl, λ sound. apart (λ n. n == 1) refl refl sound.ledger.0.number),
 )
@@ -238,11 +241,11 @@ altered_item = (
   (changed_tile, refl, refl),
   record {
     one_archive = refl;
-    formed = λ id h. h.3 (ap (λ s. s.formed) (sym (one changed_tile h.0 h.1)));
+    formed = (refl, tt);
     no_copies = never_counted changed_tile (claim_of added) refl (λ all. refl) (nat_le 2);
     none_missing = never_counted changed_tile (claim_of added) refl (λ all. refl) (λ n. n == 0);
-    none_foreign = never_foreign changed_tile (claim_of added) refl (λ all. refl);
-    tied = λ id h. h.3 (ap (λ s. s.tied) (sym (one changed_tile h.0 h.1)));
+    at_home = at_home changed_tile (claim_of added) refl (λ all. refl);
+    tied = (refl, tt);
   },
 )
 
@@ -282,11 +285,11 @@ pub new_store_stands : NewStoreStands
 new_store_stands = record {
   in_order = record {
     one_archive = refl;
-    formed = λ id h. h.3 (ap (λ s. s.formed) (sym (one new_store h.0 h.1)));
+    formed = (refl, tt);
     no_copies = λ id h. no_claim h.0 h.1 h.2 h.3;
     none_missing = λ id h. no_claim h.0 h.1 h.2 h.3;
-    none_foreign = λ id h. no_claim h.1 h.2 h.5 h.6;
-    tied = λ id h. h.3 (ap (λ s. s.tied) (sym (one new_store h.0 h.1)));
+    at_home = λ s c below root found inside opened among_them lends. absurd (no_claim s c inside opened);
+    tied = (refl, tt);
   };
   read_as = (new_store, refl, refl);
   balanced = balanced;

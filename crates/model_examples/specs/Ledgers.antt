@@ -1,10 +1,13 @@
 -- A sound ledger, and ledgers each of which breaks one rule.
-use Rattle.std.specs.Prelude.{◌≡◌, List, [], ◌∷◌, Some, None, codes}
-use Rattle.sheet_types.specs.World.{World, receipts_of}
-use Rattle.sheet_types.specs.Step.{outcome}
-use Rattle.sheet_types.specs.Balance.{IsLedger, altered}
+use Rattle.std.specs.Prelude.{◌≡◌, ℕ, true, false, List, [], ◌∷◌, Some, None, codes}
+use Rattle.sheet_types.specs.World.{World, Package, receipts_of, link_key}
+use Rattle.sheet_types.specs.Lines.{is_uuid}
+use Rattle.sheet_types.specs.Step.{outcome, relation}
+use Rattle.sheet_types.specs.Balance.{Balanced, IsLedger, altered}
 use Rattle.sheet_types.specs.declared.command.Command.TheVariants.{Delete}
 use Rattle.sheet_types.specs.declared.command.Content.{Content}
+use Rattle.sheet_types.specs.declared.command.Item.{Item}
+use Rattle.sheet_types.specs.declared.command.Mapping.TheVariants.{TilesMedia}
 use Rattle.sheet_types.specs.declared.receipt.Receipt.{Receipt}
 use Rattle.model_examples.specs.Sheets.{ask, archive, crew, item, request, tile, tile_of}
 use Rattle.model_examples.specs.Story.{entered, moved_corner, moved_photo, moved_small, receipt_2, kept_as, archive_with, crew_with, world_with}
@@ -66,6 +69,30 @@ taken_out = record (entered 2 (codes "delete a0000000-0000-4000-8000-00000000000
 
 abbrev pub AddedTwice : Type 0
 AddedTwice = IsLedger archive [] (added ∷ taken_out ∷ []) × Unsound (added ∷ taken_out ∷ record added { seq = 3; request = request 3 } ∷ [])
+
+-- ---- worlds that a sound ledger does not account for
+
+abbrev corner : Item
+corner = kept_as 1 (tile 1 0 0)
+
+abbrev crew_of : ℕ → List Item → List Receipt → Package
+crew_of number items receipts = record (crew_with items [] receipts) { loan = number }
+
+-- an item is gone, one is too many, one is of another size; a receipt stands in another package; a loan has another number
+abbrev pub WrongHoldings : Type 0
+WrongHoldings = (Balanced (world_with (archive_with [] [] (added ∷ []) ∷ [])) → ⊥)
+    × (Balanced (world_with (archive_with (corner ∷ kept_as 4 (tile 2 0 0) ∷ []) [] (added ∷ []) ∷ [])) → ⊥)
+    × (Balanced (world_with (archive_with (kept_as 1 (tile_of 1 0 0 (65 ∷ 66 ∷ [])) ∷ []) [] (added ∷ []) ∷ [])) → ⊥)
+    × (Balanced (world_with (archive_with [] [] (lent ∷ []) ∷ crew_of 2 (corner ∷ []) (added ∷ []) ∷ [])) → ⊥)
+    × (Balanced (world_with (archive_with [] [] (added ∷ lent ∷ []) ∷ crew_of 7 (corner ∷ []) [] ∷ [])) → ⊥)
+
+-- ---- two links under one key, were identities of any length
+
+abbrev pub ShortNames : Type 0
+ShortNames = (link_key (relation TilesMedia (1 ∷ []) (2 ∷ 3 ∷ [])) ≡ link_key (relation TilesMedia (1 ∷ 2 ∷ []) (3 ∷ [])))
+    × (is_uuid (1 ∷ []) ≡ false)
+    × (is_uuid (256 ∷ 0 ∷ 0 ∷ 0 ∷ 0 ∷ 0 ∷ 64 ∷ 0 ∷ 128 ∷ 0 ∷ 0 ∷ 0 ∷ 0 ∷ 0 ∷ 0 ∷ 0 ∷ []) ≡ false)
+    × (is_uuid (item 1) ≡ true)
 
 -- ---- altered items: those whose content is not what an Add receipt says
 

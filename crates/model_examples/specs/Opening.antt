@@ -86,6 +86,8 @@ Returned = (live_ones (again ∷ loan ∷ []) ≡ archive ∷ [])
     × (live_ones (lender ∷ stored (record (crew_with [] [] []) { loan = 7 }) ∷ []) ≡ archive ∷ [])
     × (live_ones (lender ∷ stored (record (crew_with [] [] []) { uuid = second_crew; loan = 2 }) ∷ []) ≡ archive ∷ [])
     × (live_ones (lender ∷ record loan { named = None } ∷ []) ≡ archive ∷ [])
+    -- a receipt of another command lends nothing
+    × (live_ones (stored (archive_with [] [] (record added { seq = 2; target = Some crew } ∷ [])) ∷ loan ∷ []) ≡ archive ∷ [])
     × (live_ones [] ≡ [])
 
 -- loans of loans are found from the archive downwards, and not where the loan between them is left out

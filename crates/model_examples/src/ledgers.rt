@@ -1,5 +1,5 @@
 // Which ledgers are sound, and which items are altered.
-ghost use Rattle.model_examples.specs.Ledgers.{SoundLedger, WrongNumbers, WrongLines, WrongMoves, AddedTwice, AlteredItems, AlteredThenDeleted};
+ghost use Rattle.model_examples.specs.Ledgers.{SoundLedger, WrongNumbers, WrongLines, WrongMoves, AddedTwice, WrongHoldings, ShortNames, AlteredItems, AlteredThenDeleted};
 
 /// A tile is added, lent and brought back.
 pub fn sound_ledger()
@@ -24,6 +24,16 @@ pub fn wrong_moves()
 /// An identity that is added, deleted and added again.
 pub fn added_twice()
     ensures { AddedTwice }
+{}
+
+/// Worlds that a sound ledger does not account for.
+pub fn wrong_holdings()
+    ensures { WrongHoldings }
+{}
+
+/// Two links under one key, were identities of any length.
+pub fn short_names()
+    ensures { ShortNames }
 {}
 
 /// Items whose content is not what an Add receipt says.
