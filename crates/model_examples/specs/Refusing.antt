@@ -3,6 +3,7 @@ use Rattle.std.specs.Prelude.{◌≡◌, ℕ, true, false, List, [], ◌∷◌, 
 use Rattle.sheet_types.specs.Texts.{is_moment}
 use Rattle.sheet_types.specs.World.{World}
 use Rattle.sheet_types.specs.Custody.{is_used}
+use Rattle.sheet_types.specs.Step.{refuses}
 use Rattle.sheet_types.specs.declared.command.Command.TheVariants.{Add, Delete, Link, Unlink, Split, Merge}
 use Rattle.sheet_types.specs.declared.command.Content.{Content}
 use Rattle.sheet_types.specs.declared.command.Content.TheVariants.{Media, Row}
@@ -20,6 +21,8 @@ ReusedIdentity = (answer world_4 (ask 4 (Link archive TilesMedia (item 1) (item 
     × (answer world_4 (ask_at noon 4 (Link archive TilesMedia (item 1) (item 3))) ≡ Ok 4)
     × (answer world_4 (ask 4 (Unlink archive TilesMedia (item 1) (item 3))) ≡ Err IdReused)
     × (answer world_4 (ask 5 (Unlink archive TilesMedia (item 1) (item 3))) ≡ Ok 5)
+    -- of the request itself, were it not kept, this is no reason
+    × (refuses world_4 (ask 4 (Link archive TilesMedia (item 1) (item 3))) ≡ Some LinkThere)
     -- kept in a loan, and after its return
     × (answer world_6 (ask 6 (Delete archive (item 2))) ≡ Err IdReused)
     × (answer world_7 (ask 6 (Delete archive (item 2))) ≡ Err IdReused)
