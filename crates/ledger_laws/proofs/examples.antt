@@ -19,3 +19,5 @@ pub mod ShortUuids
 pub mod Altered
 pub mod Sound
 pub mod LinesReadWhole
+pub mod UnsoundReceipts
+pub mod UnbalancedWorlds
