@@ -21,3 +21,4 @@ pub mod Sound
 pub mod LinesReadWhole
 pub mod UnsoundReceipts
 pub mod UnbalancedWorlds
+pub mod LeftOutOrDoubled
