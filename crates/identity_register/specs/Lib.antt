@@ -1,2 +1,4 @@
 pub mod Numbering
 pub mod Reads
+pub mod Calls
+pub mod Changes

@@ -1,11 +1,14 @@
 -- How the rows of a package's tables stand for items under lasting identities. Items are rows of user data tables (OGC GeoPackage 1.3, 2.2.8 and 2.4.2; OGC 18-000, media), links rows of user-defined mapping tables (OGC 18-000); local numbers and `sheet_identity` are profile.
-use Rattle.std.specs.Prelude.{◌≡◌, ℕ, ℤ, pos, Bool, true, ◌&&◌, List, [], ◌∷◌, map, find, bytes_eq, flat_map, unsigned_abs}
+use Rattle.std.specs.Prelude.{◌≡◌, ℕ, ℤ, pos, Bool, true, not, ◌&&◌, if◌then◌else◌, List, [], ◌∷◌, map, filter, find, bytes_eq, flat_map, unsigned_abs}
+use Rattle.std.specs.Ordering.{int_eq}
 use Rattle.std.specs.List.{AllByRecursion, IsDistinct}
 use Rattle.std.specs.Option.{option_map_or}
 use Rattle.sheet_types.specs.Ordered.{put}
 use Rattle.sheet_types.specs.Matrix.{is_within}
 use Rattle.sheet_types.specs.Texts.{uuid_text, kind_of}
-use Rattle.sheet_types.specs.World.{kind_number}
+use Rattle.sheet_types.specs.World.{kind_number, kind_is}
+use Rattle.sheet_types.specs.declared.receipt.MovedKind.{MovedKind}
+use Rattle.sheet_types.specs.declared.receipt.MovedKind.TheVariants.{TileItem, MediaItem, RowItem}
 use Rattle.sheet_types.specs.Lines.{IsUuid}
 use Rattle.sheet_types.specs.declared.command.Content.{Content}
 use Rattle.sheet_types.specs.declared.command.Content.TheVariants.{Tile, Media, Row}
@@ -13,7 +16,7 @@ use Rattle.sheet_types.specs.declared.command.Item.{Item}
 use Rattle.sheet_types.specs.declared.command.Mapping.{Mapping}
 use Rattle.sheet_types.specs.declared.command.Mapping.TheVariants.{TilesMedia, RowsMedia}
 use Rattle.sheet_types.specs.declared.command.Relation.{Relation}
-use Rattle.package_tables.specs.Shapes.{tile_shape, medium_shape, attribute_shape, identity_shape}
+use Rattle.package_tables.specs.Shapes.{tile_shape, medium_shape, attribute_shape, identity_shape, tiles_media_shape, rows_media_shape}
 use Rattle.package_tables.specs.Package.{Tables}
 use Rattle.package_tables.specs.declared.rows.TileRow.{TileRow}
 use Rattle.package_tables.specs.declared.rows.MediaRow.{MediaRow}
@@ -92,3 +95,29 @@ with_item n t = record t {
   rows = puts attribute_shape.key (attribute_rows n.number n.item.content) t.rows;
   identities = put identity_shape.key (identity_row n) t.identities;
 }
+
+-- ---- an item less
+
+-- the tables without the rows of the item of this kind and number
+abbrev pub without_item : MovedKind → ℤ → Tables → Tables
+without_item kind number t = record t {
+  tiles = if kind_is TileItem kind then filter (λ r. not (int_eq r.id number)) t.tiles else t.tiles;
+  media = if kind_is MediaItem kind then filter (λ r. not (int_eq r.id number)) t.media else t.media;
+  rows = if kind_is RowItem kind then filter (λ r. not (int_eq r.id number)) t.rows else t.rows;
+  identities = filter (λ r. not (int_eq r.kind (pos (kind_number kind)) && int_eq r.local_id number)) t.identities;
+}
+
+-- ---- links
+
+-- the tables with the row of one link more
+abbrev pub with_link : Mapping → MappingRow → Tables → Tables
+with_link TilesMedia row t = record t { tiles_media = put tiles_media_shape.key row t.tiles_media }
+with_link RowsMedia row t = record t { rows_media = put rows_media_shape.key row t.rows_media }
+
+abbrev pub is_pair : MappingRow → MappingRow → Bool
+is_pair a b = int_eq a.base_id b.base_id && int_eq a.related_id b.related_id
+
+-- the tables without the row of a link
+abbrev pub without_link : Mapping → MappingRow → Tables → Tables
+without_link TilesMedia row t = record t { tiles_media = filter (λ r. not (is_pair r row)) t.tiles_media }
+without_link RowsMedia row t = record t { rows_media = filter (λ r. not (is_pair r row)) t.rows_media }

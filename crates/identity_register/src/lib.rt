@@ -1,2 +1,5 @@
 //! A package as a set of identified items and links: nothing above this crate knows a local number.
 #![tactic(auto)]
+
+pub mod changes;
+pub mod look_ups;

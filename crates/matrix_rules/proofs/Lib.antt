@@ -1,1 +1,6 @@
+pub mod Blocks
+pub mod Frames
+pub mod Grids
+pub mod Insides
+pub mod Parts
 pub mod Products

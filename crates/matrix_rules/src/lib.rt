@@ -2,3 +2,6 @@
 #![tactic(auto)]
 
 pub mod check;
+pub mod ground;
+pub mod reach;
+pub mod spans;

@@ -1,6 +1,6 @@
 -- From what a statement makes of a database to what a call makes of the tables.
 use Rattle.std.proofs.Common.{◌≡◌, ℕ, ℤ, List, Bool, true, false, Result, Ok, Err, sym, ap, subst, ◌∙◌}
-use Rattle.std.specs.Prelude.{not, filter}
+use Rattle.std.specs.Prelude.{not, filter, IsOk, IsErr, MatchResult}
 use Rattle.sqlite.specs.Table.{Table}
 use Rattle.sqlite.specs.Order.{Row}
 use Rattle.sqlite.specs.Effect.{Database}
@@ -14,13 +14,18 @@ use Rattle.sql_meaning.specs.Writing.{Inserts, Deletes, Spares, WritesInside}
 use Rattle.package_tables.specs.Shape.{Shape, IsShape, IsFormed, rows_of}
 use Rattle.package_tables.specs.Package.{Tables, tables_of, AreFormed}
 use Rattle.package_tables.specs.Calls.{MakesInside}
+use Rattle.package_tables.specs.Faults.{fault_of}
+use Rattle.package_tables.specs.declared.fault.Fault.{Fault}
 use Rattle.package_tables.proofs.Shapes.{inserted, deleted}
 
 -- a statement's change of the database is a change of the tables
-pub makes : {X : Type 0} (Writes : Database → Database → Type 0) (Change : Tables → Tables → Type 0) (old new : State) (result : Result X Error)
-    → (Writes old.now new.now → AreFormed new.now × Change (tables_of old.now) (tables_of new.now)) → WritesInside Writes old new result → MakesInside Change old new result
-makes Writes Change old new (Ok x) means it = let both = means it.1 in (it.0, both.0, both.1)
-makes Writes Change old new (Err e) means it = it
+pub makes : {X Y : Type 0} (Writes : Database → Database → Type 0) (Change : Tables → Tables → Type 0) (old new : State) (r : Result X Error) (s : Result Y Fault)
+    → (AreFormed old.now → Writes old.now new.now → AreFormed new.now × Change (tables_of old.now) (tables_of new.now))
+    → MatchResult r (λ _. IsOk s) (λ e. s ≡ Err (fault_of e)) → WritesInside Writes old new r → MakesInside Change old new s
+makes Writes Change old new (Ok x) (Ok y) means settled it = (it.0, λ formed. means formed it.1)
+makes Writes Change old new (Ok x) (Err f) means settled it = absurd (let k = settled in cc)
+makes Writes Change old new (Err e) (Ok y) means settled it = absurd (let k = settled in cc)
+makes Writes Change old new (Err e) (Err f) means settled it = it
 
 -- the table that is written is one of the fourteen: `with_rows` puts its new list in place of the old
 module _ {R : Type 0} (shape : Shape R) (laws : IsShape shape) (with_rows : List R → Tables → Tables)

@@ -3,6 +3,11 @@ pub mod Form
 pub mod Shape
 pub mod Shapes
 pub mod Package
+pub mod Faults
 pub mod Calls
 pub mod Changes
 pub mod Fixed
+pub mod Entries
+pub mod SchemaMaking
+pub mod SchemaMade
+pub mod Shown

@@ -1,5 +1,5 @@
 -- The fourteen tables, each with what its rows say and the key that arranges them. Columns of OGC GeoPackage 1.3 and OGC 18-000, types and keys profile.
-use Rattle.std.specs.Prelude.{ℕ, ℤ, pos, List, [], ◌∷◌, unsigned_abs}
+use Rattle.std.specs.Prelude.{ℕ, ℤ, pos, negsuc, List, [], ◌∷◌, unsigned_abs}
 use Rattle.sqlite.specs.Table.{Table}
 use Rattle.sqlite.specs.Order.{Row, column}
 use Rattle.sqlite.specs.declared.types.Value.{Value}
@@ -45,6 +45,11 @@ blob_at r k = blob_of (column r k)
 -- numbers as keys
 abbrev pub number_key : ℤ → List ℕ
 number_key n = unsigned_abs n ∷ []
+
+-- a number that may be below zero, as a key; -1 comes before 0
+abbrev pub signed_key : ℤ → List ℕ
+signed_key (pos n) = 1 ∷ n ∷ []
+signed_key (negsuc n) = 0 ∷ n ∷ []
 
 abbrev pub pair_key : ℤ → ℤ → List ℕ
 pair_key a b = unsigned_abs a ∷ unsigned_abs b ∷ []
@@ -124,7 +129,7 @@ spatial_ref_sys_shape = record {
   table = gpkg_spatial_ref_sys;
   typed = λ r. record { srs_name = text_at r 1; srs_id = int_at r 0; organization = text_at r 3; organization_coordsys_id = int_at r 4; definition = text_at r 5; description = text_at r 6 };
   stored = λ v s. Int s.srs_id ∷ Text s.srs_name ∷ Null ∷ Text s.organization ∷ Int s.organization_coordsys_id ∷ Text s.definition ∷ Text s.description ∷ [];
-  key = λ s. number_key s.srs_id;
+  key = λ s. signed_key s.srs_id;
 }
 
 abbrev pub contents_shape : Shape ContentsRow

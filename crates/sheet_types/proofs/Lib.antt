@@ -11,5 +11,7 @@ pub mod Same
 pub mod Arranging
 pub mod Commas
 pub mod Digits
+pub mod KeyOrder
 pub mod NumberTexts
+pub mod Patterns
 pub mod UuidTexts

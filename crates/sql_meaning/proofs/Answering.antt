@@ -118,6 +118,7 @@ module _ (text : List ℕ) (p : Parsed) (asks : Written) (parsed : first text �
         record {
           rests = rests_so;
           done = λ clean. at r (ok clean);
+          was_open = λ is_open. let clean = clean_open g shuts settles new is_open in elim (went (ok clean) (err clean)) [ inl same ↦ same.0.was_open | inr undone ↦ undone.was_open is_open ];
           holds = λ is_open. record { is_open = is_open; rests = rests_so; now_is = (both is_open).0; left = λ trees may. settles new.store trees is_open may ∙ ap (λ (d : Database). d.trees) (both is_open).1 };
           survives = record {
             clean = survives.clean;

@@ -1,5 +1,5 @@
 -- How a transaction goes on and ends, over any store.
-use Rattle.std.proofs.Common.{◌≡◌, ◌⊎◌, inl, inr, ℕ, Bool, true, false, Option, Some, None, List, Result, Ok, Err, IsErr, IsTrue, refl, sym, ap, subst, ◌∙◌, ◌≤◌, arith}
+use Rattle.std.proofs.Common.{◌≡◌, ◌⊎◌, inl, inr, ℕ, ◌+◌, ◌∷◌, [], ◌++◌, take, slice_get, Bool, true, false, Option, Some, None, List, Result, Ok, Err, IsErr, IsTrue, refl, sym, ap, subst, ◌∙◌, ◌≤◌, arith}
 use Rattle.std.proofs.lemmas.Bool.{both_ways, cases_Bool}
 use Rattle.sqlite_trees.specs.View.{doubt}
 use Rattle.sqlite.specs.Tree.{Trees}
@@ -12,8 +12,9 @@ use Rattle.sqlite.specs.Held.{Held, state}
 use Rattle.sqlite.proofs.StateLemmas.{survives_then, clean_if_open}
 use Rattle.sqlite.proofs.InsideLemmas.{unchanged_keeps, keeps_then}
 use Rattle.sqlite.proofs.Callers.{survives_begin}
-use Rattle.sql_meaning.specs.Writing.{WritesInside, Chained}
-use Rattle.sql_meaning.specs.Transactions.{Rests, Holds, Inside, Made, Steps, WouldLeave, Turns}
+use Rattle.sql_meaning.specs.Writing.{WritesInside, Chained, EachChained}
+use Rattle.sql_meaning.proofs.Chain.{each_then}
+use Rattle.sql_meaning.specs.Transactions.{Rests, Holds, Inside, Made, Steps, EachStep, WouldLeave, Turns}
 
 -- what `transaction` makes of a connection
 abbrev pub begun : {S : Type 0} → Held S → Held S
@@ -101,6 +102,20 @@ steps_then {X} {Y} {E} {F} {First} {Next} {old} {mid} {new} {x} {r} one two = re
 pub steps_answer : {X Y E F : Type 0} {First : X → Database → Database → Type 0} (Changes : Y → Database → Database → Type 0) {old new : State} {x : X} (y : Y) → (First x old.now new.now → Changes y old.now new.now) → Steps {E = E} First old new (Ok x)
     → Steps {E = F} Changes old new (Ok y)
 steps_answer Changes y f h = record { made = λ clean inside. let it = h.made clean inside in (it.0, it.1, f it.2); survives = h.survives }
+
+-- ---- a loop that makes one change for each item, at its start, after an iteration, and where it stops
+
+pub each_begins : {X : Type 0} (Change : X → Database → Database → Type 0) (s : State) → EachStep Change [] s s
+each_begins Change s = steps_none {X = Unit {0}} {E = Error} (λ _. EachChained Change []) s tt refl
+
+pub each_goes_on : {X Y F : Type 0} (Change : X → Database → Database → Type 0) (xs : List X) (x : X) {old mid new : State} {y : Y} → EachStep Change xs old mid → Steps {E = F} (λ _. Change x) mid new (Ok y) → EachStep Change (xs ++ x ∷ []) old new
+each_goes_on {X} {Y} {F} Change xs x {old} {mid} {new} {y} one two =
+    let both = steps_then {Y = Y} {F = F} one two in
+    steps_answer {X = Y} {Y = Unit {0}} {E = F} {F = Error} (λ _. EachChained Change (xs ++ x ∷ [])) tt (λ it. each_then Change xs x old.now it.0 new.now it.1 it.2) both
+
+pub each_stops : {X Y Z E F : Type 0} (Change : X → Database → Database → Type 0) (xs : List X) {Next : Y → Database → Database → Type 0} {Changes : Z → Database → Database → Type 0} {old mid new : State} {q : Result Y E} (r : Result Z F) → IsErr r
+    → EachStep Change xs old mid → Steps Next mid new q → Steps Changes old new r
+each_stops {X} {Y} {Z} {E} {F} Change xs {Next} {Changes} {old} {mid} {new} {q} r failed one two = steps_failed {q = q} r failed (steps_then {Y = Y} {F = E} one two)
 
 -- ---- how it ends
 

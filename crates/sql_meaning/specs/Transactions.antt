@@ -1,7 +1,9 @@
 -- What one transaction makes of one store, and what a crash leaves of it.
-use Rattle.std.specs.Prelude.{◌≡◌, ◌⊎◌, true, false, Result, Ok, Err, IsTrue, IfOk, OnErr}
+use Rattle.std.specs.Prelude.{◌≡◌, ◌⊎◌, true, false, Result, Ok, Err, IsTrue, IfOk, OnErr, List}
 use Rattle.sqlite.specs.Tree.{Trees}
-use Rattle.sqlite.specs.Effect.{Database}
+use Rattle.sqlite.specs.Effect.{Database, IsDatabase}
+use Rattle.sqlite.specs.declared.error.Error.{Error}
+use Rattle.sql_meaning.specs.Writing.{EachChained, AreKeyed}
 use Rattle.sqlite.specs.State.{State, HasCleanDisk, KeepsCommit, Survives}
 
 -- The store is not inside a transaction, so it sees what was committed.
@@ -31,6 +33,10 @@ pub record Steps {X E : Type 0} (Changes : X → Database → Database → Type 
   pub made : HasCleanDisk new → IsTrue old.in_transaction → Made Changes old new r
   pub survives : Survives old new (λ _. ⊥)
 
+-- the same of a loop that made one change for each of these items so far
+abbrev pub EachStep : {X : Type 0} → (X → Database → Database → Type 0) → List X → State → State → Type 0
+EachStep Change xs old new = Steps {X = Unit {0}} {E = Error} (λ _. EachChained Change xs) old new (Ok tt)
+
 -- the trees of a database that the change makes, with some answer
 abbrev pub WouldLeave : {X : Type 0} → (X → Database → Database → Type 0) → Database → Trees → Type 0
 WouldLeave {X} Changes old trees = (x : X) × (new : Database) × Changes x old new × (trees ≡ new.trees)
@@ -48,5 +54,13 @@ pub record Turns {X E : Type 0} (Changes : X → Database → Database → Type 
 pub record Looks {X E : Type 0} (Answers : X → Database → Database → Type 0) (old new : State) (r : Result X E) : Type 0 where
   pub rests : Rests new
   pub done : HasCleanDisk new → IfOk r (λ x. IsTrue new.is_open × Answers x old.now new.now)
+  pub was_open : IsTrue new.is_open → IsTrue old.is_open
   pub holds : IsTrue new.is_open → Holds new old.now
   pub survives : Survives old new (λ _. ⊥)
+
+-- A store that was just opened is at rest and holds these trees. They obey its schema, which they list, and each table is in the order of its rowids.
+pub record IsAdopted (s : State) (trees : Trees) : Type 0 where
+  pub holds : Holds s s.now
+  pub trees_are : s.now.trees ≡ trees
+  pub sound : IsDatabase s.now
+  pub keyed : AreKeyed s.now

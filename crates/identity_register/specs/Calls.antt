@@ -1,0 +1,14 @@
+-- What a call on a store makes of the package that it reads as, and what it answers of it.
+use Rattle.std.specs.Prelude.{◌≡◌}
+use Rattle.sqlite.specs.Effect.{Database}
+use Rattle.sheet_types.specs.World.{Package}
+use Rattle.sheet_types.specs.declared.frame.Frame.{Frame}
+use Rattle.identity_register.specs.Reads.{Reads}
+
+-- A store that reads as a package which fits reads as the changed one afterwards.
+abbrev pub Becomes : (Package → Type 0) → (Package → Package) → Database → Database → Type 0
+Becomes Fits after old new = (f : Frame) (p : Package) → Reads f p old → Fits p → Reads f (after p) new
+
+-- The store is the same, and this is what it answers of its package.
+abbrev pub Sees : {X : Type 0} → (Frame → Package → X → Type 0) → X → Database → Database → Type 0
+Sees Answer x old new = (new ≡ old) × ((f : Frame) (p : Package) → Reads f p old → Answer f p x)

@@ -1,0 +1,89 @@
+// What is asked of a package at rest, each by a key or an index.
+ghost use Rattle.std.specs.Prelude.{◌≡◌, option_map};
+ghost use Rattle.std.specs.List.{list_any};
+ghost use Rattle.sqlite.specs.Held.{state};
+ghost use Rattle.sql_meaning.specs.Transactions.{Rests, Looks};
+ghost use Rattle.sheet_types.specs.Ordered.{has};
+ghost use Rattle.sheet_types.specs.Refuse.{is_at};
+ghost use Rattle.sheet_types.specs.Texts.{kind_of};
+ghost use Rattle.sheet_types.specs.World.{item_of, link_key};
+ghost use Rattle.identity_register.specs.Calls.{Sees};
+ghost use Rattle.identity_register.specs.Changes.{names_item};
+
+use package_tables::fault::Fault;
+use sheet_types::command::{Item, Relation};
+use sheet_types::receipt::MovedKind;
+use sqlite::{Alter, Connection};
+use std::alloc::Global;
+use uuid::Uuid;
+
+/// The item of this identity, with its content.
+pub fn find<S: Alter>(_conn: &mut Connection<S>, _identity: Uuid) -> Result<Option<Item>, Fault>
+    requires { Rests (state S.Store _conn.old) }
+    ensures { Looks (Sees (λ f p found. found ≡ item_of p _identity)) (state S.Store _conn.old) (state S.Store _conn.new) result }
+{
+    let _settled = _conn.is_autocommit();
+    Err(Fault::OutOfMemory)
+}
+
+/// The kind of the item of this identity, without its content.
+pub fn kind_of_item<S: Alter>(
+    _conn: &mut Connection<S>,
+    _identity: Uuid,
+) -> Result<Option<MovedKind>, Fault>
+    requires { Rests (state S.Store _conn.old) }
+    ensures { Looks (Sees (λ f p found. found ≡ option_map (λ i. kind_of i.content) (item_of p _identity))) (state S.Store _conn.old) (state S.Store _conn.new) result }
+{
+    let _settled = _conn.is_autocommit();
+    Err(Fault::OutOfMemory)
+}
+
+/// Whether the package has a tile at this place.
+pub fn has_tile_at<S: Alter>(
+    _conn: &mut Connection<S>,
+    _zoom: i64,
+    _column: i64,
+    _row: i64,
+) -> Result<bool, Fault>
+    requires { Rests (state S.Store _conn.old) }
+    ensures { Looks (Sees (λ f p found. found ≡ list_any (λ i. is_at _zoom _column _row i.content) p.items)) (state S.Store _conn.old) (state S.Store _conn.new) result }
+{
+    let _settled = _conn.is_autocommit();
+    Err(Fault::OutOfMemory)
+}
+
+/// Whether the package has this link.
+pub fn has_link<S: Alter>(_conn: &mut Connection<S>, _relation: Relation) -> Result<bool, Fault>
+    requires { Rests (state S.Store _conn.old) }
+    ensures { Looks (Sees (λ f p found. found ≡ has link_key (link_key _relation) p.links)) (state S.Store _conn.old) (state S.Store _conn.new) result }
+{
+    let _settled = _conn.is_autocommit();
+    Err(Fault::OutOfMemory)
+}
+
+/// Whether a link of the package names the item.
+pub fn is_linked<S: Alter>(_conn: &mut Connection<S>, _identity: Uuid) -> Result<bool, Fault>
+    requires { Rests (state S.Store _conn.old) }
+    ensures { Looks (Sees (λ f p found. found ≡ list_any (names_item _identity) p.links)) (state S.Store _conn.old) (state S.Store _conn.new) result }
+{
+    let _settled = _conn.is_autocommit();
+    Err(Fault::OutOfMemory)
+}
+
+/// All items, by kind and identity.
+pub fn items<S: Alter>(_conn: &mut Connection<S>, _alloc: Global) -> Result<Vec<Item>, Fault>
+    requires { Rests (state S.Store _conn.old) }
+    ensures { Looks (Sees (λ f p found. found.items ≡ p.items)) (state S.Store _conn.old) (state S.Store _conn.new) result }
+{
+    let _settled = _conn.is_autocommit();
+    Err(Fault::OutOfMemory)
+}
+
+/// All links, by mapping, base and medium.
+pub fn links<S: Alter>(_conn: &mut Connection<S>, _alloc: Global) -> Result<Vec<Relation>, Fault>
+    requires { Rests (state S.Store _conn.old) }
+    ensures { Looks (Sees (λ f p found. found.items ≡ p.links)) (state S.Store _conn.old) (state S.Store _conn.new) result }
+{
+    let _settled = _conn.is_autocommit();
+    Err(Fault::OutOfMemory)
+}

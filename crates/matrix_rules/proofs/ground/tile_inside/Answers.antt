@@ -1,0 +1,11 @@
+use Rattle.std.proofs.Common.{rules, refl}
+use Rattle.std.proofs.lemmas.Int.{to_z-of_z}
+use Rattle.matrix_rules.proofs.ground.tile_inside.Goals as goal
+
+pub returns : goal.returns
+returns c =
+    let zoom = c.ranges.zoom in
+    let column = c.ranges.column in
+    let row = c.ranges.row in
+    let tile = simp to_z-of_z at c.one_tile.ensures in
+    rw (c.lies_within.ensures, c.block.ensures, c.block-2.ensures, tile) refl

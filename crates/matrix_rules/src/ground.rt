@@ -1,0 +1,167 @@
+// The ground of tiles and of rectangles, and what lies inside.
+ghost use Rattle.std.specs.Prelude.{◌≡◌, ℕ, ◌^◌, ◌+◌, ◌&&◌, ◌+ℤ◌, ◌-ℤ◌, ◌*ℤ◌, pos, negsuc, ◌≤ℤ◌, ◌<ℤ◌, int_div, IsTrue, true};
+ghost use Rattle.sheet_types.specs.Matrix.{is_good_frame, has_level, width_at, height_at, level_of, tile_span_x, tile_span_y, has_place, block_ground, ground, is_good_rect, lies_within, tile_inside, has_point, point_inside, in_frame, one_tile};
+
+use sheet_types::frame::{Frame, Ground, Rect};
+
+use crate::check::tiles_at;
+
+pub(crate) fn has_level(frame: &Frame, zoom: i64) -> bool
+    requires { IsTrue (is_good_frame frame.now) }
+    ensures { result ≡ has_level frame.now zoom }
+{
+    let end = frame.first_zoom + frame.levels;
+    (frame.first_zoom <= zoom) & (zoom < end)
+}
+
+fn columns_at(frame: &Frame, zoom: i64) -> i64
+    requires good { IsTrue (is_good_frame frame.now) }
+    requires level { IsTrue (has_level frame.now zoom) }
+    ensures { result ≡ width_at frame.now (level_of frame.now zoom) }
+{
+    tiles_at(frame.matrix_width, zoom - frame.first_zoom)
+}
+
+fn rows_at(frame: &Frame, zoom: i64) -> i64
+    requires good { IsTrue (is_good_frame frame.now) }
+    requires level { IsTrue (has_level frame.now zoom) }
+    ensures { result ≡ height_at frame.now (level_of frame.now zoom) }
+{
+    tiles_at(frame.matrix_height, zoom - frame.first_zoom)
+}
+
+/// Whether there is such a tile.
+pub fn has_place(frame: &Frame, zoom: i64, column: i64, row: i64) -> bool
+    requires { IsTrue (is_good_frame frame.now) }
+    ensures { result ≡ has_place frame.now zoom column row }
+{
+    if !has_level(frame, zoom) {
+        return false;
+    }
+    (0 <= column) & (column < columns_at(frame, zoom)) & (0 <= row) & (row < rows_at(frame, zoom))
+}
+
+/// Whether both ends of the rectangle are places, the first not past the last.
+pub fn is_good(frame: &Frame, rect: &Rect) -> bool
+    requires { IsTrue (is_good_frame frame.now) }
+    ensures { result ≡ is_good_rect frame.now rect.now }
+{
+    let first = has_place(frame, rect.zoom, rect.column, rect.row);
+    let last = has_place(frame, rect.zoom, rect.last_column, rect.last_row);
+    first & last & (rect.column <= rect.last_column) & (rect.row <= rect.last_row)
+}
+
+/// The span of one tile along an axis of this extent that so many tiles make up.
+fn tile_span(extent: i64, tile: i64, tiles: i64) -> i64
+    requires tile { pos 1 ≤ℤ tile }
+    requires tiles { pos 1 ≤ℤ tiles }
+    requires fits { (tiles *ℤ tile) ≤ℤ extent }
+    requires extent { extent ≤ℤ pos 2000000000000 }
+    ensures { result ≡ tile *ℤ int_div extent (tiles *ℤ tile) }
+{
+    tile * (extent / (tiles * tile))
+}
+
+pub(crate) fn column_span(frame: &Frame, zoom: i64) -> i64
+    requires good { IsTrue (is_good_frame frame.now) }
+    requires level { IsTrue (has_level frame.now zoom) }
+    ensures { result ≡ tile_span_x frame.now zoom }
+{
+    tile_span(frame.max_x - frame.min_x, frame.tile_width, columns_at(frame, zoom))
+}
+
+pub(crate) fn row_span(frame: &Frame, zoom: i64) -> i64
+    requires good { IsTrue (is_good_frame frame.now) }
+    requires level { IsTrue (has_level frame.now zoom) }
+    ensures { result ≡ tile_span_y frame.now zoom }
+{
+    tile_span(frame.max_y - frame.min_y, frame.tile_height, rows_at(frame, zoom))
+}
+
+/// The west edge of a column, and the east edge of the last where the column is one past it.
+fn column_edge(frame: &Frame, zoom: i64, column: i64) -> i64
+    requires good { IsTrue (is_good_frame frame.now) }
+    requires level { IsTrue (has_level frame.now zoom) }
+    requires column { (pos 0 ≤ℤ column) × (column ≤ℤ width_at frame.now (level_of frame.now zoom)) }
+    ensures { result ≡ frame.now.min_x +ℤ column *ℤ tile_span_x frame.now zoom }
+{
+    frame.min_x + column * column_span(frame, zoom)
+}
+
+/// The north edge of a row, and the south edge of the last where the row is one past it.
+fn row_edge(frame: &Frame, zoom: i64, row: i64) -> i64
+    requires good { IsTrue (is_good_frame frame.now) }
+    requires level { IsTrue (has_level frame.now zoom) }
+    requires row { (pos 0 ≤ℤ row) × (row ≤ℤ height_at frame.now (level_of frame.now zoom)) }
+    ensures { result ≡ frame.now.max_y -ℤ row *ℤ tile_span_y frame.now zoom }
+{
+    frame.max_y - row * row_span(frame, zoom)
+}
+
+/// The ground of a good rectangle.
+pub(crate) fn block(frame: &Frame, rect: &Rect) -> Ground
+    requires good { IsTrue (is_good_frame frame.now) }
+    requires rect { IsTrue (is_good_rect frame.now rect.now) }
+    ensures { result ≡ block_ground frame.now rect.now }
+{
+    Ground {
+        west: column_edge(frame, rect.zoom, rect.column),
+        south: row_edge(frame, rect.zoom, rect.last_row + 1),
+        east: column_edge(frame, rect.zoom, rect.last_column + 1),
+        north: row_edge(frame, rect.zoom, rect.row),
+    }
+}
+
+/// The ground of a tile, or `None` where there is no such place. Row 0 is uppermost. OGC GeoPackage 1.3, tile matrix.
+pub fn ground(frame: &Frame, zoom: i64, column: i64, row: i64) -> Option<Ground>
+    requires { IsTrue (is_good_frame frame.now) }
+    ensures { result ≡ ground frame.now zoom column row }
+{
+    if has_place(frame, zoom, column, row) { Some(block(frame, &one_tile(zoom, column, row))) } else { None }
+}
+
+/// One tile as a rectangle.
+fn one_tile(zoom: i64, column: i64, row: i64) -> Rect
+    ensures { result ≡ one_tile zoom column row }
+{
+    Rect { zoom, column, last_column: column, row, last_row: row }
+}
+
+/// Whether a tile of any zoom, which is a place of the frame, lies inside the rectangle, edges allowed.
+pub fn tile_inside(frame: &Frame, rect: &Rect, zoom: i64, column: i64, row: i64) -> bool
+    requires good { IsTrue (is_good_frame frame.now) }
+    requires rect { IsTrue (is_good_rect frame.now rect.now) }
+    requires place { IsTrue (has_place frame.now zoom column row) }
+    ensures { result ≡ tile_inside frame.now rect.now zoom column row }
+{
+    lies_within(&block(frame, rect), &block(frame, &one_tile(zoom, column, row)))
+}
+
+fn lies_within(outer: &Ground, inner: &Ground) -> bool
+    ensures { result ≡ lies_within outer.now inner.now }
+{
+    (outer.west <= inner.west) & (inner.east <= outer.east) & (outer.south <= inner.south) & (inner.north <= outer.north)
+}
+
+/// Whether a point lies inside the rectangle: on its west and north edges it does, on its east and south edges it doesn't.
+pub fn point_inside(frame: &Frame, rect: &Rect, x: i64, y: i64) -> bool
+    requires good { IsTrue (is_good_frame frame.now) }
+    requires rect { IsTrue (is_good_rect frame.now rect.now) }
+    ensures { result ≡ point_inside frame.now rect.now x y }
+{
+    has_point(&block(frame, rect), x, y)
+}
+
+/// Whether a point lies in the frame: on its west and north edges it does, on its east and south edges it doesn't.
+pub fn in_frame(frame: &Frame, x: i64, y: i64) -> bool
+    requires { IsTrue (is_good_frame frame.now) }
+    ensures { result ≡ in_frame frame.now x y }
+{
+    has_point(&Ground { west: frame.min_x, south: frame.min_y, east: frame.max_x, north: frame.max_y }, x, y)
+}
+
+fn has_point(ground: &Ground, x: i64, y: i64) -> bool
+    ensures { result ≡ has_point ground.now x y }
+{
+    (ground.west <= x) & (x < ground.east) & (ground.south < y) & (y <= ground.north)
+}

@@ -1,0 +1,194 @@
+-- What an UPDATE of one row makes of a table's values.
+use Rattle.std.proofs.Common.{◌≡◌, ℕ, ℤ, ◌≤◌, List, [], ◌∷◌, map, length, Bool, true, false, cond, refl, sym, ap, subst, ◌∙◌, Less, arith}
+use Rattle.std.proofs.lemmas.List.{length-map}
+use Rattle.std.specs.Prelude.{not, ◌&&◌, filter, bytes_eq, if◌then◌else◌}
+use Rattle.std.specs.List.{AllByRecursion}
+use Rattle.std.proofs.lemmas.Bool.{true≢false, false≢true}
+use Rattle.std.proofs.lemmas.Slice.Eq.{bytes_eq-Decides}
+use Rattle.sqlite_value.specs.Order.{value_cmp}
+use Rattle.sqlite.specs.Table.{Table}
+use Rattle.sqlite.specs.Order.{Row}
+use Rattle.sqlite.specs.Tree.{rowid, IsTable}
+use Rattle.sqlite.specs.Edit.{have_rowids}
+use Rattle.sqlite.specs.declared.types.Value.{Value}
+use Rattle.sqlite.specs.Effect.{Database}
+use Rattle.sqlite_trees.specs.View.{is_int}
+use Rattle.sheet_types.specs.Ordered.{is_before, arranged, put, IsArranged}
+use Rattle.sheet_types.proofs.Basics.{before-differs}
+use Rattle.sql_meaning.specs.Known.{HasTable, IsQuiet}
+use Rattle.sql_meaning.specs.Kinds.{has_kinds}
+use Rattle.sql_meaning.specs.Writing.{Updates, Updated, Spares, IsKeyed}
+use Rattle.package_tables.specs.Shape.{Shape, IsShape, IsFormed, IsStored, stored_rows, rows_of}
+use Rattle.package_tables.specs.Package.{Tables, tables_of, AreFormed}
+use Rattle.package_tables.proofs.Shapes.{rows_placed, arranged-filter}
+
+-- ---- lists in the order of a key
+
+module _ {R : Type 0} (key : R → List ℕ) where
+  length-put : (x : R) (xs : List R) → length (put key x xs) ≡ length (x ∷ xs)
+  length-put x [] = refl
+  length-put x (y ∷ ys) = elim (is_before (key y) (key x)) as (λ v. length (cond v (y ∷ put key x ys) (x ∷ y ∷ ys)) ≡ length (x ∷ y ∷ ys)) [
+    | true ↦ let more = length-put x ys in omega (arith, more)
+    | false ↦ refl
+  ]
+
+  pub length-arranged : (xs : List R) → length (arranged key xs) ≡ length xs
+  length-arranged [] = refl
+  length-arranged (x ∷ xs) = let more = length-arranged xs in let here = length-put x (arranged key xs) in omega (arith, more, here)
+
+  none_again : (k : List ℕ) (x : R) (xs : List R) → key x ≡ k → AllByRecursion (λ y. is_before (key x) (key y) ≡ true) xs → filter (λ y. bytes_eq (key y) k) xs ≡ []
+  none_again k x [] is h = refl
+  none_again k x (y ∷ ys) is h =
+      let other : bytes_eq (key y) k ≡ false = one (bytes_eq (key y) k) refl in
+      rw other (none_again k x ys is h.1)
+    where
+      one : (b : Bool) → bytes_eq (key y) k ≡ b → b ≡ false
+      one true e =
+          let same : key x ≡ key y = is ∙ sym ((bytes_eq-Decides (key y) k).0 e) in
+          let differs : bytes_eq (key x) (key y) ≡ false = before-differs (key x) (key y) h.0 in
+          absurd (true≢false (sym ((bytes_eq-Decides (key x) (key y)).1 same) ∙ differs))
+      one false e = refl
+
+  -- where the keys rise, at most one element has a key
+  pub at_most_one : (k : List ℕ) (xs : List R) → IsArranged key xs → length (filter (λ x. bytes_eq (key x) k) xs) ≤ 1
+  at_most_one k [] h = omega arith
+  at_most_one k (x ∷ xs) h = one (bytes_eq (key x) k) refl (at_most_one k xs h.1)
+    where
+      one : (b : Bool) → bytes_eq (key x) k ≡ b → length (filter (λ y. bytes_eq (key y) k) xs) ≤ 1 → length (filter (λ y. bytes_eq (key y) k) (x ∷ xs)) ≤ 1
+      one true e more = rw (e, none_again k x xs ((bytes_eq-Decides (key x) k).0 e) h.0) (omega arith)
+      one false e more = rw e more
+
+  module _ (f : R → R) (same : (x : R) → key (f x) ≡ key x) where
+    map-put : (x : R) (xs : List R) → put key (f x) (map f xs) ≡ map f (put key x xs)
+    map-put x [] = refl
+    map-put x (y ∷ ys) = one (is_before (key y) (key x)) refl (map-put x ys)
+      where
+        one : (b : Bool) → is_before (key y) (key x) ≡ b → put key (f x) (map f ys) ≡ map f (put key x ys) → put key (f x) (map f (y ∷ ys)) ≡ map f (put key x (y ∷ ys))
+        one true e more = rw (same y, same x, e) (ap (λ l. f y ∷ l) more)
+        one false e more = rw (same y, same x, e) refl
+
+    -- a change that leaves the keys alone leaves the order
+    pub arranged-map : (xs : List R) → arranged key (map f xs) ≡ map f (arranged key xs)
+    arranged-map [] = refl
+    arranged-map (x ∷ xs) = ap (put key (f x)) (arranged-map xs) ∙ map-put x (arranged key xs)
+
+-- ---- rows that are changed each in its place
+
+module _ {R : Type 0} (shape : Shape R) (laws : IsShape shape) (g : Row → Row) (f : R → R)
+    (steps : (r : Row) → IsStored shape r → g r ≡ shape.stored (rowid r) (f (shape.typed r)))
+    (rowids : (v : Value) (x : R) → rowid (shape.stored v (f x)) ≡ rowid (shape.stored v x)) where
+  whole : (v : Value) (x : R) → IsStored shape (shape.stored v x)
+  whole v x = ap (shape.stored (rowid (shape.stored v x))) (laws.says v x) ∙ laws.again v x
+
+  same_rowid : (r : Row) → IsStored shape r → rowid (g r) ≡ rowid r
+  same_rowid r h = ap rowid (steps r h) ∙ rowids (rowid r) (shape.typed r) ∙ ap rowid h
+
+  pub all_stored : (rows : List Row) → AllByRecursion (IsStored shape) rows → AllByRecursion (IsStored shape) (map g rows)
+  all_stored [] h = tt
+  all_stored (r ∷ rows) h = (subst (IsStored shape) (sym (steps r h.0)) (whole (rowid r) (f (shape.typed r))), all_stored rows h.1)
+
+  pub typed-map : (rows : List Row) → AllByRecursion (IsStored shape) rows → map shape.typed (map g rows) ≡ map f (map shape.typed rows)
+  typed-map [] h = refl
+  typed-map (r ∷ rows) h = rw (ap shape.typed (steps r h.0) ∙ laws.says (rowid r) (f (shape.typed r))) (ap (λ l. f (shape.typed r) ∷ l) (typed-map rows h.1))
+
+  pub all_ints : (rows : List Row) → AllByRecursion (IsStored shape) rows → have_rowids rows ≡ true → have_rowids (map g rows) ≡ true
+  all_ints [] h ints = refl
+  all_ints (r ∷ rows) h ints = one (is_int (rowid r)) refl ints (all_ints rows h.1)
+    where
+      one : (b : Bool) → is_int (rowid r) ≡ b → (b && have_rowids rows) ≡ true → (have_rowids rows ≡ true → have_rowids (map g rows) ≡ true) → have_rowids (map g (r ∷ rows)) ≡ true
+      one true e rest more = rw (same_rowid r h.0, e) (more rest)
+      one false e rest more = absurd (false≢true rest)
+
+  above : (v : Value) (rows : List Row) → AllByRecursion (IsStored shape) rows → AllByRecursion (λ s. value_cmp v (rowid s) ≡ Less) rows → AllByRecursion (λ s. value_cmp v (rowid s) ≡ Less) (map g rows)
+  above v [] h less = tt
+  above v (r ∷ rows) h less = (ap (value_cmp v) (same_rowid r h.0) ∙ less.0, above v rows h.1 less.1)
+
+  pub still_rises : (rows : List Row) → AllByRecursion (IsStored shape) rows → IsTable rows → IsTable (map g rows)
+  still_rises [] h rises = tt
+  still_rises (r ∷ rows) h rises = (subst (λ v. AllByRecursion (λ s. value_cmp v (rowid s) ≡ Less) (map g rows)) (sym (same_rowid r h.0)) (above (rowid r) rows h.1 rises.0), still_rises rows h.1 rises.1)
+
+all_of_kinds : {R : Type 0} (shape : Shape R) (t : Table) (change : Row → Row) (make : R → R)
+    → ((v : Value) (x : R) → is_int v ≡ true → has_kinds t (shape.stored v x) ≡ true) → ((v : Value) (x : R) → change (shape.stored v x) ≡ shape.stored v (make x))
+    → (rows : List Row) → AllByRecursion (IsStored shape) rows → have_rowids rows ≡ true → AllByRecursion (λ r. has_kinds t (change r) ≡ true) rows
+all_of_kinds shape t change make kinds makes [] h ints = tt
+all_of_kinds shape t change make kinds makes (r ∷ rows) h ints = one (is_int (rowid r)) refl ints (all_of_kinds shape t change make kinds makes rows h.1)
+  where
+    one : (b : Bool) → is_int (rowid r) ≡ b → (b && have_rowids rows) ≡ true → (have_rowids rows ≡ true → AllByRecursion (λ r. has_kinds t (change r) ≡ true) rows)
+        → AllByRecursion (λ r. has_kinds t (change r) ≡ true) (r ∷ rows)
+    one true e rest more = (ap (λ s. has_kinds t (change s)) (sym h.0) ∙ ap (has_kinds t) (makes (rowid r) (shape.typed r)) ∙ kinds (rowid r) (make (shape.typed r)) e, more rest)
+    one false e rest more = absurd (false≢true rest)
+
+module _ {R : Type 0} (shape : Shape R) (laws : IsShape shape) where
+  -- the value of a key is changed, where the keys tell the values apart
+  pub changed : (hits : Row → Bool) (change : Row → Row) (k : List ℕ) (make : R → R) (old new : Database) → Updates shape.table hits change old new → IsQuiet old.schema → IsFormed shape old
+      → ((v : Value) (x : R) → hits (shape.stored v x) ≡ bytes_eq (shape.key x) k) → ((v : Value) (x : R) → change (shape.stored v x) ≡ shape.stored v (make x))
+      → ((x : R) → shape.key (make x) ≡ shape.key x) → ((v : Value) (x : R) → rowid (shape.stored v (make x)) ≡ rowid (shape.stored v x))
+      → ((tree : ℕ) (v : Value) (x : R) → is_int v ≡ true → has_kinds (shape.table tree) (shape.stored v x) ≡ true) → IsArranged shape.key (rows_of shape old)
+      → IsFormed shape new × (rows_of shape new ≡ map (λ x. if bytes_eq (shape.key x) k then make x else x) (rows_of shape old))
+  changed hits change k make old new updates quiet formed same makes keys rowids kinds apart =
+      let p = formed.placed in
+      let did = updates p.at p.tree p.has quiet in
+      let treed = laws.treed p.tree in
+      let there = stored_rows shape old in
+      let old_is : stored_rows shape old ≡ old.trees p.tree = rows_placed shape laws old p.at p.tree p.has in
+      let new_has = subst (λ s. HasTable s p.at (shape.table p.tree)) (sym did.spares.schema) p.has in
+      let new_is : stored_rows shape new ≡ new.trees p.tree = rows_placed shape laws new p.at p.tree new_has in
+      let at_tree : old.trees (shape.table p.tree).tree ≡ there = ap old.trees treed ∙ sym old_is in
+      let few : length (filter hits there) ≤ 1 = fewer there formed.stored apart in
+      let fit = all_of_kinds shape (shape.table p.tree) change make (kinds p.tree) makes there formed.stored formed.keyed.ints in
+      let rows : stored_rows shape new ≡ map g there = new_is ∙ sym (ap new.trees treed)
+      ∙ did.rows (subst IsKeyed (sym at_tree) formed.keyed) (subst (λ l. length (filter hits l) ≤ 1) (sym at_tree) few) (subst (AllByRecursion (λ r. has_kinds (shape.table p.tree) (change r) ≡ true)) (sym at_tree) fit)
+      ∙ ap (map g) at_tree in (
+        record {
+          placed = record { at = p.at; tree = p.tree; has = new_has };
+          keyed = subst IsKeyed (sym rows) (record { ints = all_ints shape laws g f steps kept there formed.stored formed.keyed.ints; rises = still_rises shape laws g f steps kept there formed.stored formed.keyed.rises });
+          stored = subst (AllByRecursion (IsStored shape)) (sym rows) (all_stored shape laws g f steps kept there formed.stored);
+        },
+        ap (λ l. arranged shape.key (map shape.typed l)) rows
+            ∙ ap (arranged shape.key) (typed-map shape laws g f steps kept there formed.stored)
+            ∙ arranged-map shape.key f keyed (map shape.typed there),
+      )
+    where
+      g : Row → Row
+      g r = if hits r then change r else r
+
+      f : R → R
+      f x = if bytes_eq (shape.key x) k then make x else x
+
+      steps : (r : Row) → IsStored shape r → g r ≡ shape.stored (rowid r) (f (shape.typed r))
+      steps r h = one (bytes_eq (shape.key (shape.typed r)) k) refl (ap hits (sym h) ∙ same (rowid r) (shape.typed r))
+        where
+          one : (b : Bool) → bytes_eq (shape.key (shape.typed r)) k ≡ b → hits r ≡ bytes_eq (shape.key (shape.typed r)) k → cond (hits r) (change r) r ≡ shape.stored (rowid r) (cond (bytes_eq (shape.key (shape.typed r)) k) (make (shape.typed r)) (shape.typed r))
+          one true e is = rw (is, e) (ap change (sym h) ∙ makes (rowid r) (shape.typed r))
+          one false e is = rw (is, e) (sym h)
+
+      kept : (v : Value) (x : R) → rowid (shape.stored v (f x)) ≡ rowid (shape.stored v x)
+      kept v x = elim (bytes_eq (shape.key x) k) as (λ b. rowid (shape.stored v (cond b (make x) x)) ≡ rowid (shape.stored v x)) [ true ↦ rowids v x | false ↦ refl ]
+
+      keyed : (x : R) → shape.key (f x) ≡ shape.key x
+      keyed x = elim (bytes_eq (shape.key x) k) as (λ b. shape.key (cond b (make x) x) ≡ shape.key x) [ true ↦ keys x | false ↦ refl ]
+
+      tested : (rows : List Row) → AllByRecursion (IsStored shape) rows → AllByRecursion (λ r. hits r ≡ bytes_eq (shape.key (shape.typed r)) k) rows
+      tested [] h = tt
+      tested (r ∷ rows) h = (ap hits (sym h.0) ∙ same (rowid r) (shape.typed r), tested rows h.1)
+
+      fewer : (rows : List Row) → AllByRecursion (IsStored shape) rows → IsArranged shape.key (arranged shape.key (map shape.typed rows)) → length (filter hits rows) ≤ 1
+      fewer rows h apart =
+          let as_values : length (arranged shape.key (map shape.typed (filter hits rows))) ≡ length (filter hits rows) = length-arranged shape.key (map shape.typed (filter hits rows)) ∙ length-map (filter hits rows) shape.typed in
+          let passed = ap length (arranged-filter shape.key shape.typed (λ x. bytes_eq (shape.key x) k) hits rows (tested rows h)) in
+          subst (λ n. n ≤ 1) (sym passed ∙ as_values) (at_most_one shape.key k (arranged shape.key (map shape.typed rows)) apart)
+
+-- the table that is changed is one of the fourteen
+module _ {R : Type 0} (shape : Shape R) (laws : IsShape shape) (with_rows : List R → Tables → Tables)
+    (written : (tree : ℕ) (old new : Database) → Spares (shape.table tree) old new → AreFormed old → IsFormed shape new → AreFormed new × (tables_of new ≡ with_rows (rows_of shape new) (tables_of old)))
+    (formed_in : (db : Database) → AreFormed db → IsFormed shape db) where
+  pub changes : (hits : Row → Bool) (change : Row → Row) (k : List ℕ) (make : R → R) (old new : Database) → AreFormed old
+      → ((v : Value) (x : R) → hits (shape.stored v x) ≡ bytes_eq (shape.key x) k) → ((v : Value) (x : R) → change (shape.stored v x) ≡ shape.stored v (make x))
+      → ((x : R) → shape.key (make x) ≡ shape.key x) → ((v : Value) (x : R) → rowid (shape.stored v (make x)) ≡ rowid (shape.stored v x))
+      → ((tree : ℕ) (v : Value) (x : R) → is_int v ≡ true → has_kinds (shape.table tree) (shape.stored v x) ≡ true) → IsArranged shape.key (rows_of shape old) → Updates shape.table hits change old new
+      → AreFormed new × (tables_of new ≡ with_rows (map (λ x. if bytes_eq (shape.key x) k then make x else x) (rows_of shape old)) (tables_of old))
+  changes hits change k make old new formed same makes keys rowids kinds apart updates =
+      let here = formed_in old formed in
+      let did = changed shape laws hits change k make old new updates formed.quiet here same makes keys rowids kinds apart in
+      let both = written here.placed.tree old new (updates here.placed.at here.placed.tree here.placed.has formed.quiet).spares formed did.0 in
+      (both.0, both.1 ∙ ap (λ l. with_rows l (tables_of old)) did.1)

@@ -1,0 +1,110 @@
+// The objects of a new package, as the store lists them.
+ghost use Rattle.std.specs.Prelude.{IsTrue, IfOk};
+ghost use Rattle.sqlite_disk.specs.Memory.{memory_is_usable};
+
+use super::create_schema;
+use sqlite::{Alter, Connection, Error, FileStore, Files, Options};
+use sqlite_disk::{Disk, Memory};
+use std::alloc::Global;
+use std::test::Fail;
+
+// As stock SQLite 3.40.1 lists them after the same statements.
+const OBJECTS: &str = "index by_rows_media rows_media
+index by_tiles_media tiles_media
+index by_xy sheet_rows
+table gpkg_contents gpkg_contents
+table gpkg_spatial_ref_sys gpkg_spatial_ref_sys
+table gpkg_tile_matrix gpkg_tile_matrix
+table gpkg_tile_matrix_set gpkg_tile_matrix_set
+table gpkgext_relations gpkgext_relations
+index items_by_base sheet_items
+index receipts_by_source sheet_receipts
+index receipts_by_target sheet_receipts
+table rows_media rows_media
+table sheet_identity sheet_identity
+table sheet_items sheet_items
+table sheet_media sheet_media
+table sheet_package sheet_package
+table sheet_receipts sheet_receipts
+table sheet_rows sheet_rows
+table sheet_tiles sheet_tiles
+index sqlite_autoindex_gpkg_contents_1 gpkg_contents
+index sqlite_autoindex_gpkg_contents_2 gpkg_contents
+index sqlite_autoindex_gpkg_tile_matrix_1 gpkg_tile_matrix
+index sqlite_autoindex_gpkg_tile_matrix_set_1 gpkg_tile_matrix_set
+index sqlite_autoindex_gpkgext_relations_1 gpkgext_relations
+index sqlite_autoindex_rows_media_1 rows_media
+index sqlite_autoindex_sheet_identity_1 sheet_identity
+index sqlite_autoindex_sheet_identity_2 sheet_identity
+index sqlite_autoindex_sheet_items_1 sheet_items
+index sqlite_autoindex_sheet_receipts_1 sheet_receipts
+index sqlite_autoindex_sheet_tiles_1 sheet_tiles
+index sqlite_autoindex_tiles_media_1 tiles_media
+table sqlite_sequence sqlite_sequence
+table tiles_media tiles_media
+";
+
+// The helpers have no clause, so that the proof of a test does not carry the state of each call.
+fn made<S: Alter>(conn: &mut Connection<S>) -> Result<bool, Error> {
+    if !conn.is_autocommit() {
+        return Ok(false);
+    }
+    let mut tx = conn.transaction();
+    create_schema(&mut tx)?;
+    tx.commit()?;
+    Ok(true)
+}
+
+fn objects<S: Alter>(alloc: Global, conn: &mut Connection<S>) -> Result<String, Error> {
+    let rows = conn.query_all(
+        "SELECT type || ' ' || name || ' ' || tbl_name FROM sqlite_schema ORDER BY name",
+        &[],
+    )?;
+    let mut listed = String::new(alloc);
+    for row in &rows {
+        let object: String = row.get(0)?;
+        listed.push_str(&object)?;
+        listed.push('\n')?;
+    }
+    Ok(listed)
+}
+
+fn open(alloc: Global, db: Memory) -> Result<Connection<FileStore<Memory>>, Error>
+    requires { IsTrue (memory_is_usable db) }
+{
+    let files = Files {
+        log: Memory::new(alloc),
+        db,
+    };
+    match Connection::open_files(alloc, files, Options::new(1)) {
+        Ok(conn) => Ok(conn),
+        Err((error, _)) => Err(error),
+    }
+}
+
+fn close(conn: Connection<FileStore<Memory>>) -> Result<Memory, Error>
+    ensures { IfOk result (λ db. IsTrue (memory_is_usable db)) }
+{
+    match conn.close_files() {
+        Ok(Files { log: _, db }) => Ok(db),
+        Err(failed) => Err(failed.0),
+    }
+}
+
+#[test]
+fn a_schema_in_memory(rt: HostRuntime) -> Result<(), Fail> {
+    let mut conn = Connection::open_in_memory(rt.alloc())?;
+    assert!(rt; made(&mut conn)?);
+    assert_eq!(rt; objects(rt.alloc(), &mut conn)?.as_str(), OBJECTS);
+    Ok(())
+}
+
+#[test]
+fn a_schema_on_a_disk_is_there_when_it_is_opened_again(rt: HostRuntime) -> Result<(), Fail> {
+    let alloc = rt.alloc();
+    let mut conn = open(alloc, Memory::new(alloc))?;
+    assert!(rt; made(&mut conn)?);
+    let mut again = open(alloc, close(conn)?)?;
+    assert_eq!(rt; objects(alloc, &mut again)?.as_str(), OBJECTS);
+    Ok(())
+}
