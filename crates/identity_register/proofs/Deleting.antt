@@ -26,7 +26,7 @@ use Rattle.sheet_types.proofs.Order.{list_any-arranged}
 use Rattle.sheet_types.proofs.Arranging.{filter-arranged}
 use Rattle.sheet_types.proofs.Found.{any_filter}
 use Rattle.sheet_types.proofs.Same.{In}
-use Rattle.sheet_types.proofs.Tests.{bytes_eq_itself, bytes_eq_swap}
+use Rattle.sheet_types.proofs.Basics.{bytes_eq_itself, bytes_eq_swap}
 use Rattle.package_tables.specs.Shapes.{tile_shape, medium_shape, attribute_shape, identity_shape, tiles_media_shape, rows_media_shape}
 use Rattle.package_tables.specs.Package.{Tables}
 use Rattle.identity_register.specs.Numbering.{Numbered, IsNumbering, greatest_number, place_in_tables, tile_rows, media_rows, attribute_rows, identity_row, number_of, mapping_row, tiles_media_rows, rows_media_rows, without_item}

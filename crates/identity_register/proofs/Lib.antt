@@ -1,3 +1,4 @@
 pub mod Adding
 pub mod Deleting
 pub mod Linking
+pub mod Finding

@@ -24,7 +24,7 @@ use Rattle.sheet_types.proofs.Arranging.{filter-arranged}
 use Rattle.sheet_types.proofs.LineReading.{uuid_length}
 use Rattle.sheet_types.proofs.Found.{filter_same}
 use Rattle.sheet_types.proofs.Same.{In}
-use Rattle.sheet_types.proofs.Tests.{bytes_eq_itself, bytes_eq_swap}
+use Rattle.sheet_types.proofs.Basics.{bytes_eq_itself, bytes_eq_swap}
 use Rattle.package_tables.specs.Shapes.{tiles_media_shape, rows_media_shape}
 use Rattle.package_tables.specs.Package.{Tables}
 use Rattle.package_tables.specs.declared.rows.MappingRow.{MappingRow}

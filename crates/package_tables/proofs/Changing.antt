@@ -14,7 +14,7 @@ use Rattle.sqlite.specs.declared.types.Value.{Value}
 use Rattle.sqlite.specs.Effect.{Database}
 use Rattle.sqlite_trees.specs.View.{is_int}
 use Rattle.sheet_types.specs.Ordered.{is_before, arranged, put, IsArranged}
-use Rattle.sheet_types.proofs.Tests.{before-differs}
+use Rattle.sheet_types.proofs.Basics.{before-differs}
 use Rattle.sql_meaning.specs.Known.{HasTable, IsQuiet}
 use Rattle.sql_meaning.specs.Kinds.{has_kinds}
 use Rattle.sql_meaning.specs.Writing.{Updates, Updated, Spares, IsKeyed}

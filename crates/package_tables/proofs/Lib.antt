@@ -19,3 +19,4 @@ pub mod FixedStatements
 pub mod SchemaMakes
 pub mod Texts
 pub mod NewPackage
+pub mod Stepping

@@ -47,3 +47,9 @@ AreThose keeps rows found = IsPermutation (filter keeps rows) found
 -- the greatest number of the rows, if there are any
 abbrev pub IsGreatest : {R : Type 0} → (R → ℤ) → List R → Option ℤ → Type 0
 IsGreatest number rows found = MatchOption found (rows ≡ []) (λ n. Contains (map number rows) n × All (λ x. number x ≤ℤ n) rows)
+
+-- ---- among other calls
+
+-- A database of these tables gets the changed ones.
+abbrev pub OnTables : (Tables → Tables → Type 0) → Database → Database → Type 0
+OnTables Change old new = AreFormed old → AreFormed new × Change (tables_of old) (tables_of new)

@@ -4,9 +4,6 @@
 pub mod attributes;
 pub mod fault;
 pub mod fixed;
-pub mod head;
-pub mod moved;
-pub mod receipts;
 pub(crate) mod from_row;
 pub mod head;
 pub mod identities;
