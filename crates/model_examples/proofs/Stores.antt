@@ -121,15 +121,15 @@ unfolding by_index digits decode_pairs encode_with entry_from
 counted_once test fails id h =
     let same : lent_claim ≡ h.1 = lender_open loan (lender ∷ loan ∷ []) h.0 h.1 refl h.2 h.3 in
     let Passes : Claim → Type 0 = λ c. test (count_by (is_loan_of Store head_of claims_of IsFormed IsTied frame_in read c) (lender ∷ loan ∷ [])) ≡ true in
-    true≢false (sym (subst Passes (sym same) h.5) ∙ fails)
+    true≢false (sym (subst Passes (sym same) h.6) ∙ fails)
 
 pub two_copies : AnswersTwoCopies
 unfolding by_index digits decode_pairs encode_with entry_from
-two_copies = ((lender, lent_claim, first_of lender (loan ∷ loan ∷ []), (0, (refl, first_round _ _), second_of (claim_of added) lent_claim [], refl), refl, refl), counted_once (nat_le 2) refl)
+two_copies = ((lender, lent_claim, first_of lender (loan ∷ loan ∷ []), (0, (refl, first_round _ _), second_of (claim_of added) lent_claim [], refl), refl, refl, refl), counted_once (nat_le 2) refl)
 
 pub missing_package : AnswersMissingPackage
 unfolding by_index digits decode_pairs encode_with entry_from
-missing_package = ((lender, lent_claim, first_of lender [], (0, (refl, first_round _ _), second_of (claim_of added) lent_claim [], refl), refl, refl), counted_once (λ n. n == 0) refl)
+missing_package = ((lender, lent_claim, first_of lender [], (0, (refl, first_round _ _), second_of (claim_of added) lent_claim [], refl), refl, refl, refl), counted_once (λ n. n == 0) refl)
 
 -- ---- a loan of another frame
 
@@ -152,7 +152,7 @@ unfolding by_index digits decode_pairs encode_with entry_from
 tall_counted test fails id h =
     let same : lent_claim ≡ h.1 = lender_open tall_loan (lender ∷ tall_loan ∷ []) h.0 h.1 refl h.2 h.3 in
     let Passes : Claim → Type 0 = λ c. test (count_by (is_loan_of Store head_of claims_of IsFormed IsTied frame_in read c) (lender ∷ tall_loan ∷ [])) ≡ true in
-    true≢false (sym (subst Passes (sym same) h.5) ∙ fails)
+    true≢false (sym (subst Passes (sym same) h.6) ∙ fails)
 
 -- the lender is no loan of its own split
 tall_least : (other : List ℕ) → ForeignFrame Store head_of claims_of IsFormed IsTied frame_in read (lender ∷ tall_loan ∷ []) other → is_before other crew ≡ false
