@@ -1,7 +1,6 @@
 -- A SELECT changes nothing, whatever it answers and however it fails.
-use Rattle.std.proofs.Common.{◌≡◌, ◌⊎◌, inl, inr, ℕ, Bool, true, false, cond, Option, Some, None, List, Result, Ok, Err, IsTrue, IsSome, refl, sym, ap, subst, ◌∙◌, arith}
+use Rattle.std.proofs.Common.{◌≡◌, ◌⊎◌, inl, inr, ℕ, Bool, true, false, cond, Option, None, List, Result, Ok, Err, IsTrue, refl, sym, ap, subst, ◌∙◌}
 use Rattle.std.specs.Prelude.{IfOk, IfErr}
-use Rattle.std.proofs.lemmas.Bool.{cases_Bool}
 use Rattle.sqlite.specs.Tree.{Trees}
 use Rattle.sqlite.specs.Store.{Ghosts}
 use Rattle.sqlite_ast.specs.declared.Select.{Select as Written}
@@ -13,7 +12,7 @@ use Rattle.sqlite_resolve.specs.declared.compiled.Compiled.{Compiled}
 use Rattle.sqlite_resolve.specs.declared.error.CompileError.{CompileError}
 use Rattle.sqlite_resolve.specs.declared.error.CompileError.TheVariants.{NoSuchTable}
 use Rattle.sqlite_resolve.specs.Lowering.{Checked, and_then}
-use Rattle.sqlite_resolve.specs.Compile.{first, compiled, planned, meaning, timed, returning, command, with_command}
+use Rattle.sqlite_resolve.specs.Compile.{first, compiled, planned, meaning, timed, returning, with_command}
 use Rattle.sqlite.specs.Listing.{understood, reads_listing, listing_schema, is_select, if_select}
 use Rattle.sqlite.specs.Order.{Row}
 use Rattle.sqlite.specs.Schema.{Schema}
@@ -29,7 +28,7 @@ use Rattle.sqlite_value.specs.declared.keys.Key.{Key}
 use Rattle.sql_meaning.specs.Reading.{Test, Listing, Finds}
 use Rattle.sql_meaning.proofs.Where.{are_given}
 use Rattle.sql_meaning.proofs.Select.{IsSelect, IsPlannedSelect, listing_of, listed}
-use Rattle.sql_meaning.specs.Transactions.{Rests, Holds, Made, Steps, Looks}
+use Rattle.sql_meaning.specs.Transactions.{Rests, Made, Steps, Looks}
 use Rattle.sql_meaning.proofs.Transactions.{Shuts, Settles, clean_open}
 
 -- whatever is compiled has no RETURNING

@@ -72,10 +72,7 @@ pub fn insert_both<S: Alter>(
 }
 
 /// Enters a note, under a number that is free.
-pub fn insert_one<S: Alter>(
-    tx: &mut Transaction<'_, S>,
-    note: Note<'_>,
-) -> Result<usize, Error>
+pub fn insert_one<S: Alter>(tx: &mut Transaction<'_, S>, note: Note<'_>) -> Result<usize, Error>
     ensures same_reference { tx.new.conn.ghost_name ≡ tx.old.conn.ghost_name }
     ensures steps { Steps (λ _. Adds note.entry) (state S.Store tx.old.conn.now) (state S.Store tx.new.conn.now) result }
 {
@@ -83,10 +80,7 @@ pub fn insert_one<S: Alter>(
 }
 
 /// Enters each of the notes, in their order.
-pub fn insert_all<S: Alter>(
-    tx: &mut Transaction<'_, S>,
-    notes: &[Note<'_>],
-) -> Result<(), Error>
+pub fn insert_all<S: Alter>(tx: &mut Transaction<'_, S>, notes: &[Note<'_>]) -> Result<(), Error>
     ensures same_reference { tx.new.conn.ghost_name ≡ tx.old.conn.ghost_name }
     ensures steps { Steps (λ _. EachChained Adds notes.now) (state S.Store tx.old.conn.now) (state S.Store tx.new.conn.now) result }
 {

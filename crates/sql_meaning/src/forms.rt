@@ -237,8 +237,18 @@ pub fn find_table(schema: &Schema, form: &TableForm<'_>) -> Option<(usize, u32)>
 pub const COUNTERS: TableForm<'static> = TableForm {
     name: b"sqlite_sequence",
     columns: &[
-        ColumnForm { name: b"name", kind: Kind::Any, is_strict: false, not_null: false },
-        ColumnForm { name: b"seq", kind: Kind::Any, is_strict: false, not_null: false },
+        ColumnForm {
+            name: b"name",
+            kind: Kind::Any,
+            is_strict: false,
+            not_null: false,
+        },
+        ColumnForm {
+            name: b"seq",
+            kind: Kind::Any,
+            is_strict: false,
+            not_null: false,
+        },
     ],
     key: None,
     primary: &[],
