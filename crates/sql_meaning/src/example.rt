@@ -1,13 +1,40 @@
 //! The forms that a crate above copies: a statement, several in one call, and a whole transaction.
 
-ghost use Rattle.std.specs.Prelude.{◌≡◌};
+ghost use Rattle.std.specs.Prelude.{◌≡◌, ℕ, IfSome, IfNone};
 ghost use Rattle.sqlite.specs.Held.{state};
 ghost use Rattle.sql_meaning.specs.Transactions.{Rests, Steps, Turns, Looks};
 ghost use Rattle.sql_meaning.specs.Reading.{Finds, FindsFirst};
 ghost use Rattle.sql_meaning.specs.Writing.{EachChained};
+ghost use Rattle.sql_meaning.specs.Known.{HasTable};
 ghost use Rattle.sql_meaning.specs.Notes.{AddsNote, AddsBoth, Adds, note_table, newest_in, notes_from};
 
+use crate::forms::{ColumnForm, TableForm, find_table};
 use sqlite::{Alter, Connection, Error, Row, Transaction, params};
+use sqlite_schema::schema::{Kind, Schema};
+
+/// `CREATE TABLE notes (seq INTEGER PRIMARY KEY, place INTEGER NOT NULL, text TEXT NOT NULL) STRICT`
+pub const NOTES: TableForm<'static> = TableForm {
+    name: b"notes",
+    columns: &[
+        ColumnForm { name: b"seq", kind: Kind::Integer, is_strict: true, not_null: false },
+        ColumnForm { name: b"place", kind: Kind::Integer, is_strict: true, not_null: true },
+        ColumnForm { name: b"text", kind: Kind::Text, is_strict: true, not_null: true },
+    ],
+    key: Some(0),
+    primary: &[0],
+    uniques: &[],
+    orders: &[],
+    references: &[],
+    is_counted: false,
+};
+
+/// Where a schema has the table of the notes, and the number of its tree.
+pub fn find_notes(schema: &Schema) -> Option<(usize, u32)>
+    ensures found { IfSome result (λ place. HasTable schema.now place.0 (note_table place.1)) }
+    ensures none { IfNone result ((at tree : ℕ) → HasTable schema.now at (note_table tree) → ⊥) }
+{
+    find_table(schema, &NOTES)
+}
 
 #[derive(Clone, Copy)]
 pub struct Note<'a> {
