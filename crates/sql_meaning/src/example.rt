@@ -6,7 +6,7 @@ ghost use Rattle.sql_meaning.specs.Transactions.{Rests, Steps, Turns, Looks};
 ghost use Rattle.sql_meaning.specs.Reading.{Finds, FindsFirst};
 ghost use Rattle.sql_meaning.specs.Writing.{EachChained};
 ghost use Rattle.sql_meaning.specs.Known.{HasTable};
-ghost use Rattle.sql_meaning.specs.Notes.{AddsNote, AddsBoth, Adds, note_table, newest_in, notes_from};
+ghost use Rattle.sql_meaning.specs.Notes.{AddsNote, AddsBoth, Adds, note_table, newest_in, notes_from, notes_before};
 
 use crate::forms::{ColumnForm, TableForm, find_table};
 use sqlite::{Alter, Connection, Error, Row, Transaction, params};
@@ -16,9 +16,24 @@ use sqlite_schema::schema::{Kind, Schema};
 pub const NOTES: TableForm<'static> = TableForm {
     name: b"notes",
     columns: &[
-        ColumnForm { name: b"seq", kind: Kind::Integer, is_strict: true, not_null: false },
-        ColumnForm { name: b"place", kind: Kind::Integer, is_strict: true, not_null: true },
-        ColumnForm { name: b"text", kind: Kind::Text, is_strict: true, not_null: true },
+        ColumnForm {
+            name: b"seq",
+            kind: Kind::Integer,
+            is_strict: true,
+            not_null: false,
+        },
+        ColumnForm {
+            name: b"place",
+            kind: Kind::Integer,
+            is_strict: true,
+            not_null: true,
+        },
+        ColumnForm {
+            name: b"text",
+            kind: Kind::Text,
+            is_strict: true,
+            not_null: true,
+        },
     ],
     key: Some(0),
     primary: &[0],
@@ -68,6 +83,21 @@ pub fn newest_note<S: Alter>(tx: &mut Transaction<'_, S>, place: i64) -> Result<
     tx.query_all(
         "SELECT * FROM notes WHERE place = ?1 ORDER BY seq DESC LIMIT 1",
         params![place],
+    )
+}
+
+/// The notes of a place below a number, the newest first.
+pub fn read_before<S: Alter>(
+    tx: &mut Transaction<'_, S>,
+    place: i64,
+    seq: i64,
+) -> Result<Vec<Row>, Error>
+    ensures same_reference { tx.new.conn.ghost_name ≡ tx.old.conn.ghost_name }
+    ensures steps { Steps (λ rows. Finds note_table (notes_before place seq) rows.items) (state S.Store tx.old.conn.now) (state S.Store tx.new.conn.now) result }
+{
+    tx.query_all(
+        "SELECT * FROM notes WHERE place = ?1 AND seq < ?2 ORDER BY seq DESC",
+        params![place, seq],
     )
 }
 

@@ -1,11 +1,10 @@
 use crate::example::{
     Note, change_in_turn, find_notes, insert_all, insert_both, insert_note, insert_one,
-    newest_note, read_from,
+    newest_note, read_before, read_from,
 };
 use crate::forms::{COUNTERS, find_table, is_inert, is_quiet, is_table};
 use crate::opening::readopt;
-use sqlite::{Connection, Error};
-use sqlite_trees::memory::MemStore;
+use sqlite::{Connection, Error, MemStore};
 use std::alloc::Global;
 use std::test::Fail;
 
@@ -37,15 +36,31 @@ fn turns(rt: HostRuntime) -> Result<(), Fail> {
 #[test]
 fn steps(rt: HostRuntime) -> Result<(), Fail> {
     let mut conn = notes(rt.alloc())?;
+    assert!(rt; conn.is_autocommit());
     let mut tx = conn.transaction();
     insert_note(&mut tx, 1, 7, "a")?;
     insert_both(&mut tx, 2, 3, 8, "b", "c")?;
-    insert_one(&mut tx, Note { seq: 9, place: 7, text: "d" })?;
+    insert_one(
+        &mut tx,
+        Note {
+            seq: 9,
+            place: 7,
+            text: "d",
+        },
+    )?;
     insert_all(
         &mut tx,
         &[
-            Note { seq: 10, place: 8, text: "e" },
-            Note { seq: 4, place: 7, text: "f" },
+            Note {
+                seq: 10,
+                place: 8,
+                text: "e",
+            },
+            Note {
+                seq: 4,
+                place: 7,
+                text: "f",
+            },
         ],
     )?;
     let rows = newest_note(&mut tx, 7)?;
@@ -53,6 +68,10 @@ fn steps(rt: HostRuntime) -> Result<(), Fail> {
     let seq: i64 = rows[0].get(0)?;
     assert_eq!(rt; seq, 9);
     assert_eq!(rt; newest_note(&mut tx, 6)?.len(), 0);
+    let rows = read_before(&mut tx, 7, 9)?;
+    assert_eq!(rt; rows.len(), 2);
+    let seq: i64 = rows[0].get(0)?;
+    assert_eq!(rt; seq, 4);
     tx.commit()?;
     Ok(())
 }
@@ -63,13 +82,22 @@ fn forms(rt: HostRuntime) -> Result<(), Fail> {
     assert!(rt; find_notes(conn.schema()).is_some());
     assert!(rt; is_inert(conn.schema()));
     assert!(rt; !is_quiet(conn.schema()));
-    conn.execute("CREATE TABLE counts (id INTEGER PRIMARY KEY AUTOINCREMENT) STRICT", &[])?;
+    conn.execute(
+        "CREATE TABLE counts (id INTEGER PRIMARY KEY AUTOINCREMENT) STRICT",
+        &[],
+    )?;
     assert!(rt; find_table(conn.schema(), &COUNTERS).is_some());
     assert!(rt; is_quiet(conn.schema()));
     conn.execute("DROP TABLE notes", &[])?;
-    conn.execute("CREATE TABLE notes (seq INTEGER PRIMARY KEY, place INTEGER, text TEXT NOT NULL) STRICT", &[])?;
+    conn.execute(
+        "CREATE TABLE notes (seq INTEGER PRIMARY KEY, place INTEGER, text TEXT NOT NULL) STRICT",
+        &[],
+    )?;
     assert!(rt; find_notes(conn.schema()).is_none());
-    conn.execute("CREATE TABLE child (id INTEGER PRIMARY KEY, of INTEGER REFERENCES notes (seq) ON DELETE CASCADE) STRICT", &[])?;
+    conn.execute(
+        "CREATE TABLE child (id INTEGER PRIMARY KEY, of INTEGER REFERENCES notes (seq) ON DELETE CASCADE) STRICT",
+        &[],
+    )?;
     assert!(rt; !is_inert(conn.schema()));
     Ok(())
 }
