@@ -38,7 +38,7 @@ same_survives s = record { clean = omega arith; shield = λ h. h; counts = omega
 pub inside_same : (s : State) → Inside s s
 inside_same s = record { kept = λ clean. same_keeps s; survives = same_survives s }
 
-none_left : (a b c : State) → Survives a b (λ _. ⊥) → Survives b c (λ _. ⊥) → Survives a c (λ _. ⊥)
+pub none_left : (a b c : State) → Survives a b (λ _. ⊥) → Survives b c (λ _. ⊥) → Survives a c (λ _. ⊥)
 none_left a b c one two = survives_then a b c _ _ (λ _. ⊥) (λ _ _ none. none) (λ _ _ none. none) one two
 
 pub inside_then : (a b c : State) → Inside a b → Inside b c → Inside a c

@@ -6,7 +6,8 @@ ghost use Rattle.sql_meaning.specs.Transactions.{Rests, Steps, Turns, Looks};
 ghost use Rattle.sql_meaning.specs.Reading.{Finds, FindsFirst};
 ghost use Rattle.sql_meaning.specs.Writing.{EachChained};
 ghost use Rattle.sql_meaning.specs.Known.{HasTable};
-ghost use Rattle.sql_meaning.specs.Notes.{AddsNote, AddsBoth, Adds, note_table, newest_in, notes_from, notes_before};
+ghost use Rattle.sql_meaning.specs.Notes.{AddsNote, AddsBoth, Adds};
+ghost use Rattle.sql_meaning.specs.Notes.{note_table, newest_in, notes_from, notes_before};
 
 use crate::forms::{ColumnForm, TableForm, find_table};
 use sqlite::{Alter, Connection, Error, Row, Transaction, params};
@@ -51,6 +52,7 @@ pub fn find_notes(schema: &Schema) -> Option<(usize, u32)>
     find_table(schema, &NOTES)
 }
 
+/// A note, by its number, of some place.
 #[derive(Clone, Copy)]
 pub struct Note<'a> {
     pub seq: i64,
@@ -66,7 +68,8 @@ pub fn insert_note<S: Alter>(
     text: &str,
 ) -> Result<usize, Error>
     ensures same_reference { tx.new.conn.ghost_name ≡ tx.old.conn.ghost_name }
-    ensures steps { Steps (λ _. AddsNote seq place text.now) (state S.Store tx.old.conn.now) (state S.Store tx.new.conn.now) result }
+    ensures steps { Steps (λ _. AddsNote seq place text.now)
+        (state S.Store tx.old.conn.now) (state S.Store tx.new.conn.now) result }
 {
     tx.execute(
         "INSERT INTO notes VALUES (?1, ?2, ?3)",
@@ -78,7 +81,8 @@ pub fn insert_note<S: Alter>(
 /// the end of the table leads to it.
 pub fn newest_note<S: Alter>(tx: &mut Transaction<'_, S>, place: i64) -> Result<Vec<Row>, Error>
     ensures same_reference { tx.new.conn.ghost_name ≡ tx.old.conn.ghost_name }
-    ensures steps { Steps (λ rows. FindsFirst note_table (newest_in place) rows.items) (state S.Store tx.old.conn.now) (state S.Store tx.new.conn.now) result }
+    ensures steps { Steps (λ rows. FindsFirst note_table (newest_in place) rows.items)
+        (state S.Store tx.old.conn.now) (state S.Store tx.new.conn.now) result }
 {
     tx.query_all(
         "SELECT * FROM notes WHERE place = ?1 ORDER BY seq DESC LIMIT 1",
@@ -93,7 +97,8 @@ pub fn read_before<S: Alter>(
     seq: i64,
 ) -> Result<Vec<Row>, Error>
     ensures same_reference { tx.new.conn.ghost_name ≡ tx.old.conn.ghost_name }
-    ensures steps { Steps (λ rows. Finds note_table (notes_before place seq) rows.items) (state S.Store tx.old.conn.now) (state S.Store tx.new.conn.now) result }
+    ensures steps { Steps (λ rows. Finds note_table (notes_before place seq) rows.items)
+        (state S.Store tx.old.conn.now) (state S.Store tx.new.conn.now) result }
 {
     tx.query_all(
         "SELECT * FROM notes WHERE place = ?1 AND seq < ?2 ORDER BY seq DESC",
@@ -104,7 +109,8 @@ pub fn read_before<S: Alter>(
 /// The notes from a number on, by their numbers, outside a transaction.
 pub fn read_from<S: Alter>(conn: &mut Connection<S>, seq: i64) -> Result<Vec<Row>, Error>
     requires { Rests (state S.Store conn.old) }
-    ensures looks { Looks (λ rows. Finds note_table (notes_from seq) rows.items) (state S.Store conn.old) (state S.Store conn.new) result }
+    ensures looks { Looks (λ rows. Finds note_table (notes_from seq) rows.items)
+        (state S.Store conn.old) (state S.Store conn.new) result }
 {
     conn.query_all(
         "SELECT * FROM notes WHERE seq >= ?1 ORDER BY seq",
@@ -122,7 +128,8 @@ pub fn insert_both<S: Alter>(
     other: &str,
 ) -> Result<usize, Error>
     ensures same_reference { tx.new.conn.ghost_name ≡ tx.old.conn.ghost_name }
-    ensures steps { Steps (λ _. AddsBoth first second place one.now other.now) (state S.Store tx.old.conn.now) (state S.Store tx.new.conn.now) result }
+    ensures steps { Steps (λ _. AddsBoth first second place one.now other.now)
+        (state S.Store tx.old.conn.now) (state S.Store tx.new.conn.now) result }
 {
     insert_note(tx, first, place, one)?;
     insert_note(tx, second, place, other)
@@ -131,7 +138,8 @@ pub fn insert_both<S: Alter>(
 /// Enters a note, under a number that is free.
 pub fn insert_one<S: Alter>(tx: &mut Transaction<'_, S>, note: Note<'_>) -> Result<usize, Error>
     ensures same_reference { tx.new.conn.ghost_name ≡ tx.old.conn.ghost_name }
-    ensures steps { Steps (λ _. Adds note.entry) (state S.Store tx.old.conn.now) (state S.Store tx.new.conn.now) result }
+    ensures steps { Steps (λ _. Adds note.entry)
+        (state S.Store tx.old.conn.now) (state S.Store tx.new.conn.now) result }
 {
     insert_note(tx, note.seq, note.place, note.text)
 }
@@ -139,7 +147,8 @@ pub fn insert_one<S: Alter>(tx: &mut Transaction<'_, S>, note: Note<'_>) -> Resu
 /// Enters each of the notes, in their order.
 pub fn insert_all<S: Alter>(tx: &mut Transaction<'_, S>, notes: &[Note<'_>]) -> Result<(), Error>
     ensures same_reference { tx.new.conn.ghost_name ≡ tx.old.conn.ghost_name }
-    ensures steps { Steps (λ _. EachChained Adds notes.now) (state S.Store tx.old.conn.now) (state S.Store tx.new.conn.now) result }
+    ensures steps { Steps (λ _. EachChained Adds notes.now)
+        (state S.Store tx.old.conn.now) (state S.Store tx.new.conn.now) result }
 {
     for note in notes {
         insert_one(tx, *note)?;
@@ -157,7 +166,8 @@ pub fn change_in_turn<S: Alter>(
     other: &str,
 ) -> Result<usize, Error>
     requires { Rests (state S.Store conn.old) }
-    ensures turns { Turns (λ _. AddsBoth first second place one.now other.now) (state S.Store conn.old) (state S.Store conn.new) result }
+    ensures turns { Turns (λ _. AddsBoth first second place one.now other.now)
+        (state S.Store conn.old) (state S.Store conn.new) result }
 {
     let mut tx = conn.transaction();
     let count = insert_both(&mut tx, first, second, place, one, other)?;
