@@ -13,5 +13,5 @@ returns-clause-steps g c =
     let new = state g.S.Store c.execute.new.self.conn.now in
     write_steps (AddsNote a.seq a.place a.text.now) old new c.execute.result
     (λ clean begun. inserted_inside _ note_table insert_text _ _ (insert_row a.seq a.place a.text.now) old new c.execute.result
-        (simp (to_z-of_z, c.ranges.seq, c.ranges.place) at (rw (c.params-to_sql.ensures, c.params-to_sql-2.ensures, c.params-to_sql-3.ensures) at (c.execute.ensures.runs clean begun))))
+    (simp (to_z-of_z, c.ranges.seq, c.ranges.place) at (rw (c.params-to_sql.ensures, c.params-to_sql-2.ensures, c.params-to_sql-3.ensures) at (c.execute.ensures.runs clean begun))))
     c.execute.ensures.survives
