@@ -11,3 +11,5 @@ pub mod FixedStatements
 pub mod SchemaMakes
 pub mod Texts
 pub mod NewPackage
+pub mod InTurn
+pub mod FixedRows

@@ -43,3 +43,9 @@ IsOneOf keeps rows found = MatchOption found (list_any keeps rows ≡ false) (λ
 -- the rows that pass, each as often as it is there, in any order
 abbrev pub AreThose : {R : Type 0} → (R → Bool) → List R → List R → Type 0
 AreThose keeps rows found = IsPermutation (filter keeps rows) found
+
+-- ---- several calls in one transaction
+
+-- a change of the tables, as one of databases
+abbrev pub OnTables : (Tables → Tables → Type 0) → Database → Database → Type 0
+OnTables Change old new = AreFormed old → AreFormed new × Change (tables_of old) (tables_of new)

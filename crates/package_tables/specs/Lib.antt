@@ -7,5 +7,7 @@ pub mod Faults
 pub mod Calls
 pub mod Changes
 pub mod Entries
+pub mod Fixed
+pub mod Creation
 pub mod SchemaMaking
 pub mod SchemaMade

@@ -3,7 +3,9 @@
 
 pub mod fault;
 pub mod fixed;
+mod fixed_rows;
 pub mod head;
+mod levels;
 pub mod moved;
 pub(crate) mod reading;
 pub mod receipts;
