@@ -56,7 +56,7 @@ module _ {R : Type 0} (rows : Tables → List R) (with_rows : List R → Tables 
 -- tables that are known to the last row, of which one list that was empty is filled
 module _ {R : Type 0} (rows : Tables → List R) (with_rows : List R → Tables → Tables) where
   pub becomes_first : {X E : Type 0} (t : Tables) (to : List R) {old new : State} {r : Result X E} → rows t ≡ [] → Steps (λ _. OnTables (λ b a. rows b ≡ [] → a ≡ with_rows to b)) old new r → Steps (λ _. OnTables (Becomes t (with_rows to t))) old new r
-  becomes_first t to none h = tables_weaker (Becomes t (with_rows to t)) (λ b a set is. set (ap rows is ∙ none) ∙ ap (with_rows to) is) h
+  becomes_first t to none h = tables_weaker {A = λ b a. rows b ≡ [] → a ≡ with_rows to b} (Becomes t (with_rows to t)) (λ b a set is. set (ap rows is ∙ none) ∙ ap (with_rows to) is) h
 
   pub becomes_then : {X Y E F : Type 0} (from t : Tables) (to : List R) {old mid new : State} {x : X} {r : Result Y F} → rows t ≡ [] → Steps {E = E} (λ _. OnTables (Becomes from t)) old mid (Ok x)
       → Steps (λ _. OnTables (λ b a. rows b ≡ [] → a ≡ with_rows to b)) mid new r → Steps (λ _. OnTables (Becomes from (with_rows to t))) old new r

@@ -1,5 +1,5 @@
 -- The rows that are the same in every package but for the frame and the moment of the last change. OGC GeoPackage 1.3 (spatial reference systems, contents, tile matrix sets, tile matrices) and OGC 18-000 (relations) say which rows have to be there; names, definitions and bounds are profile.
-use Rattle.std.specs.Prelude.{◌≡◌, ℕ, ℤ, pos, negsuc, ◌+ℤ◌, ◌-ℤ◌, ◌*ℤ◌, int_div, unsigned_abs, ◌||◌, List, [], ◌∷◌, ◌++◌, map, codes, if◌then◌else◌}
+use Rattle.std.specs.Prelude.{◌≡◌, ℕ, ℤ, pos, negsuc, ◌+ℤ◌, ◌-ℤ◌, ◌*ℤ◌, int_div, unsigned_abs, ◌||◌, Bool, List, [], ◌∷◌, ◌++◌, map, codes, if◌then◌else◌}
 use Rattle.std.specs.Ordering.{int_eq}
 use Rattle.std.specs.List.{range_with_len}
 use Rattle.std.specs.Fmt.{signed_decimal}
@@ -29,9 +29,12 @@ standard_systems =
 abbrev pub own_system : ℤ → SpatialRefSysRow
 own_system n = system (codes "srs " ++ signed_decimal n) n (codes "EPSG") (codes "profile")
 
+abbrev pub is_standard : ℤ → Bool
+is_standard n = int_eq n (negsuc 0) || int_eq n (pos 0) || int_eq n (pos 4326)
+
 -- the reference systems of a package whose frame has this one, by their numbers
 abbrev pub systems_of : ℤ → List SpatialRefSysRow
-systems_of n = if int_eq n (negsuc 0) || int_eq n (pos 0) || int_eq n (pos 4326) then standard_systems else put spatial_ref_sys_shape.key (own_system n) standard_systems
+systems_of n = if is_standard n then standard_systems else put spatial_ref_sys_shape.key (own_system n) standard_systems
 
 -- the row of a table in the contents
 abbrev pub content : List ℕ → List ℕ → Frame → List ℕ → ContentsRow

@@ -5,7 +5,7 @@ ghost use Rattle.sheet_types.specs.Matrix.{is_good_frame};
 ghost use Rattle.sql_meaning.specs.Transactions.{Steps};
 ghost use Rattle.package_tables.specs.Calls.{OnTables};
 ghost use Rattle.package_tables.specs.Entries.{AddsContents};
-ghost use Rattle.package_tables.specs.Fixed.{standard_systems, systems_of, content, contents_of, matrix_set, levels_of, two_relations};
+ghost use Rattle.package_tables.specs.Fixed.{is_standard, standard_systems, systems_of, content, contents_of, matrix_set, levels_of, two_relations};
 ghost use Rattle.package_tables.specs.Creation.{SystemsBecome, ContentsBecome, MatrixSetsBecome, RelationsBecome, Becomes, no_rows, fixed_tables};
 
 use crate::fault::Fault;
@@ -25,6 +25,12 @@ fn insert_standard_systems<S: Alter>(tx: &mut Transaction<'_, S>) -> Result<(), 
     insert_spatial_ref_sys(tx, "WGS 84", 4326, "EPSG", 4326, "profile", "")
 }
 
+fn is_standard(srs_id: i64) -> bool
+    ensures { result ≡ is_standard srs_id }
+{
+    srs_id == -1 || srs_id == 0 || srs_id == 4326
+}
+
 /// The reference system of a frame, where it is none of those.
 fn insert_own_system<S: Alter>(
     alloc: Global,
@@ -34,7 +40,7 @@ fn insert_own_system<S: Alter>(
     ensures same_reference { tx.new.conn.ghost_name ≡ tx.old.conn.ghost_name }
     ensures steps { Steps (λ _. OnTables (SystemsBecome standard_systems (systems_of srs_id))) (state S.Store tx.old.conn.now) (state S.Store tx.new.conn.now) result }
 {
-    if srs_id == -1 || srs_id == 0 || srs_id == 4326 {
+    if is_standard(srs_id) {
         return Ok(());
     }
     let name = format!(in alloc; "srs {srs_id}")?;

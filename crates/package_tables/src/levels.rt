@@ -1,5 +1,5 @@
 // The tile matrices of a frame's zoom levels. OGC GeoPackage 1.3, tile matrix.
-ghost use Rattle.std.specs.Prelude.{◌≡◌, pos, ◌-ℤ◌, ◌*ℤ◌, ◌≤ℤ◌, int_div, [], IsTrue};
+ghost use Rattle.std.specs.Prelude.{◌≡◌, pos, ◌<◌, ◌+ℤ◌, ◌-ℤ◌, ◌*ℤ◌, ◌≤ℤ◌, int_div, unsigned_abs, [], IsTrue};
 ghost use Rattle.sqlite.specs.Held.{state};
 ghost use Rattle.sheet_types.specs.Matrix.{is_good_frame, has_level, width_at, height_at, level_of};
 ghost use Rattle.sql_meaning.specs.Transactions.{Steps};
@@ -55,15 +55,33 @@ fn insert_level<S: Alter>(tx: &mut Transaction<'_, S>, frame: &Frame, zoom: i64)
     insert_tile_matrix(tx, "sheet_tiles", zoom, width, height, frame.tile_width, frame.tile_height, across, down)
 }
 
+/// The number of zoom levels.
+fn level_count(frame: &Frame) -> u64
+    requires { IsTrue (is_good_frame frame.now) }
+    ensures { result ≡ unsigned_abs frame.now.levels }
+{
+    frame.levels.unsigned_abs()
+}
+
+/// The zoom of the level that lies so far below the first.
+fn zoom_at(frame: &Frame, level: u64) -> i64
+    requires good { IsTrue (is_good_frame frame.now) }
+    requires level { level < unsigned_abs frame.now.levels }
+    ensures zoom { result ≡ frame.now.first_zoom +ℤ pos level }
+    ensures level { IsTrue (has_level frame.now result) }
+{
+    frame.first_zoom + level as i64
+}
+
 /// The tile matrices of all zoom levels of a frame.
 pub(crate) fn insert_levels<S: Alter>(tx: &mut Transaction<'_, S>, frame: &Frame) -> Result<(), Fault>
     requires { IsTrue (is_good_frame frame.now) }
     ensures same_reference { tx.new.conn.ghost_name ≡ tx.old.conn.ghost_name }
     ensures steps { Steps (λ _. OnTables (MatricesBecome [] (levels_of frame.now))) (state S.Store tx.old.conn.now) (state S.Store tx.new.conn.now) result }
 {
-    let levels = frame.levels as u64;
+    let levels = level_count(frame);
     for level in 0..levels {
-        insert_level(tx, frame, frame.first_zoom + level as i64)?;
+        insert_level(tx, frame, zoom_at(frame, level))?;
     }
     Ok(())
 }
