@@ -137,8 +137,8 @@ module _ {R : Type 0} (shape : Shape R) (laws : IsShape shape) where
       let few : length (filter hits there) ≤ 1 = fewer there formed.stored apart in
       let fit = all_of_kinds shape (shape.table p.tree) change make (kinds p.tree) makes there formed.stored formed.keyed.ints in
       let rows : stored_rows shape new ≡ map g there = new_is ∙ sym (ap new.trees treed)
-          ∙ did.rows (subst IsKeyed (sym at_tree) formed.keyed) (subst (λ l. length (filter hits l) ≤ 1) (sym at_tree) few) (subst (AllByRecursion (λ r. has_kinds (shape.table p.tree) (change r) ≡ true)) (sym at_tree) fit)
-          ∙ ap (map g) at_tree in (
+      ∙ did.rows (subst IsKeyed (sym at_tree) formed.keyed) (subst (λ l. length (filter hits l) ≤ 1) (sym at_tree) few) (subst (AllByRecursion (λ r. has_kinds (shape.table p.tree) (change r) ≡ true)) (sym at_tree) fit)
+      ∙ ap (map g) at_tree in (
         record {
           placed = record { at = p.at; tree = p.tree; has = new_has };
           keyed = subst IsKeyed (sym rows) (record { ints = all_ints shape laws g f steps kept there formed.stored formed.keyed.ints; rises = still_rises shape laws g f steps kept there formed.stored formed.keyed.rises });

@@ -75,4 +75,3 @@ contents_kinds tree Null c h = absurd cc
 contents_kinds tree (Real x) c h = absurd cc
 contents_kinds tree (Text t) c h = absurd cc
 contents_kinds tree (Blob b) c h = absurd cc
-

@@ -5,7 +5,6 @@ use Rattle.sqlite.specs.Edit.{next_rowid}
 use Rattle.sqlite.specs.declared.types.Value.TheVariants.{Int, Null, Text}
 use Rattle.sqlite_tied.specs.Compute.{everything}
 use Rattle.sql_meaning.proofs.Insert.{IsInsert, IsRow}
-
 use Rattle.package_tables.specs.Tables.{sheet_package}
 use Rattle.package_tables.specs.Shapes.{head_shape}
 use Rattle.package_tables.specs.declared.rows.HeadRow.{HeadRow}

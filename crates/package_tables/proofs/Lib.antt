@@ -1,8 +1,16 @@
 pub mod Shapes
 pub mod Written
 pub mod Making
+pub mod Reading
+pub mod Looking
+pub mod Newest
 pub mod Values
 pub mod TileStatements
+pub mod MediumStatements
+pub mod AttributeStatements
+pub mod TilesMediaStatements
+pub mod RowsMediaStatements
+pub mod IdentityStatements
 pub mod Changing
 pub mod ReceiptStatements
 pub mod MovedStatements

@@ -1,5 +1,5 @@
 -- A new package has the form of a package, and no rows.
-use Rattle.std.proofs.Common.{◌≡◌, ℕ, List, [], Ok, Err, Result, OnOk, refl, sym, subst}
+use Rattle.std.proofs.Common.{◌≡◌, ℕ, List, [], Ok, Err, Result, OnOk, IfErr, refl, sym, subst}
 use Rattle.std.specs.List.{AllByRecursion}
 use Rattle.sqlite.specs.Table.{Table}
 use Rattle.sqlite.specs.Schema.{Schema}
@@ -10,7 +10,7 @@ use Rattle.sql_meaning.specs.Known.{IsQuiet}
 use Rattle.sql_meaning.specs.Blank.{IsBlank, no_schema}
 use Rattle.package_tables.specs.Tables.{gpkg_spatial_ref_sys, gpkg_contents, gpkg_tile_matrix_set, gpkg_tile_matrix, gpkgext_relations, sheet_tiles, sheet_media, sheet_rows, tiles_media, rows_media, sheet_package, sheet_identity, sheet_receipts, sheet_items}
 use Rattle.package_tables.specs.Form.{IsPlaced, HasForm, tree_named, rows_named}
-use Rattle.package_tables.specs.SchemaMaking.{MadeBy, ChangedInside}
+use Rattle.package_tables.specs.SchemaMaking.{MadeBy, ChangedInside, FailsInside, FailsToMakeBy}
 use Rattle.package_tables.proofs.Texts.{texts, plan}
 use Rattle.sqlite.specs.State.{State}
 use Rattle.sqlite.specs.declared.error.Error.{Error}
@@ -116,3 +116,7 @@ new_package db blank = record {
 pub package_made : (old new : State) (r : Result (Unit {0}) Error) → OnOk r (ChangedInside (MadeBy texts) old new) → IsBlank no_schema old.now → OnOk r (ChangedInside (λ _ db. IsNewPackage db) old new)
 package_made old new (Ok done) made blank = record { shown = made.shown; changed = new_package new.now (made.changed no_schema package_schema plan blank) }
 package_made old new (Err e) made blank = tt
+
+pub package_failed : (old new : State) (r : Result (Unit {0}) Error) → IfErr r (FailsToMakeBy texts old new) → IsBlank no_schema old.now → IfErr r (FailsInside old new)
+package_failed old new (Ok done) failed blank = tt
+package_failed old new (Err e) failed blank = failed no_schema package_schema plan blank

@@ -16,7 +16,9 @@ use Rattle.sqlite.specs.declared.types.Value.TheVariants.{Int}
 use Rattle.sqlite.specs.Effect.{Database}
 use Rattle.sqlite_trees.specs.View.{is_int}
 use Rattle.sheet_types.specs.Ordered.{arranged, put, has}
-use Rattle.sheet_types.proofs.Arranging.{put_put, filter-arranged, list_any-arranged, none_passes}
+use Rattle.sheet_types.proofs.Arranging.{put_put, filter-arranged}
+use Rattle.sheet_types.proofs.Every.{none_pass}
+use Rattle.sheet_types.proofs.Order.{list_any-arranged}
 use Rattle.sql_meaning.specs.Known.{HasTable, IsQuiet, is_other, sequence_name}
 use Rattle.sql_meaning.specs.Writing.{Inserts, Inserted, Deletes, Deleted, Spares, IsKeyed}
 use Rattle.package_tables.specs.Form.{IsPlaced, tree_named, rows_named}
@@ -71,7 +73,7 @@ module _ {R : Type 0} (key : R → List ℕ) (typed : Row → R) where
 
   -- where the arranged values have no such key, no row has it
   pub all_differ : (k : List ℕ) (rows : List Row) → has key k (arranged key (map typed rows)) ≡ false → AllByRecursion (λ r. bytes_eq (key (typed r)) k ≡ false) rows
-  all_differ k rows h = all_mapped (λ x. bytes_eq (key x) k ≡ false) rows (none_passes (λ x. bytes_eq (key x) k) (map typed rows) (sym (list_any-arranged key (λ x. bytes_eq (key x) k) (map typed rows)) ∙ h))
+  all_differ k rows h = all_mapped (λ x. bytes_eq (key x) k ≡ false) rows (none_pass (λ x. bytes_eq (key x) k) (map typed rows) (sym (list_any-arranged key (λ x. bytes_eq (key x) k) (map typed rows)) ∙ h))
 
   filter-typed : (keeps : R → Bool) (test : Row → Bool) (rows : List Row) → AllByRecursion (λ r. test r ≡ keeps (typed r)) rows → map typed (filter test rows) ≡ filter keeps (map typed rows)
   filter-typed keeps test [] h = refl

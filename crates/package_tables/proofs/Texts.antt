@@ -23,7 +23,6 @@ use Rattle.package_tables.proofs.Texts.IndexReceiptsByTarget.{text as IndexRecei
 use Rattle.package_tables.proofs.Texts.IndexByTilesMedia.{text as IndexByTilesMedia_text, step as IndexByTilesMedia_step}
 use Rattle.package_tables.proofs.Texts.IndexByRowsMedia.{text as IndexByRowsMedia_text, step as IndexByRowsMedia_step}
 use Rattle.package_tables.proofs.Texts.IndexByXy.{text as IndexByXy_text, step as IndexByXy_step}
-
 pub mod GpkgSpatialRefSys
 pub mod GpkgContents
 pub mod GpkgTileMatrixSet
@@ -49,25 +48,84 @@ abbrev pub texts : List (List ℕ)
 texts = GpkgSpatialRefSys_text ∷ GpkgContents_text ∷ GpkgTileMatrixSet_text ∷ GpkgTileMatrix_text ∷ GpkgextRelations_text ∷ SheetTiles_text ∷ SheetMedia_text ∷ SheetRows_text ∷ TilesMedia_text ∷ RowsMedia_text ∷ SheetPackage_text ∷ SheetIdentity_text ∷ SheetReceipts_text ∷ SheetItems_text ∷ IndexItemsByBase_text ∷ IndexReceiptsBySource_text ∷ IndexReceiptsByTarget_text ∷ IndexByTilesMedia_text ∷ IndexByRowsMedia_text ∷ IndexByXy_text ∷ []
 
 pub plan : ExtendsBy texts no_schema package_schema
-plan =
-    (first_made 1 0, GpkgSpatialRefSys_step,
-    (first_made 2 0, GpkgContents_step,
-    (first_made 3 0, GpkgTileMatrixSet_step,
-    (first_made 4 0, GpkgTileMatrix_step,
-    (first_made 5 0, GpkgextRelations_step,
-    (first_made 7 0, SheetTiles_step,
-    (first_made 8 0, SheetMedia_step,
-    (first_made 9 0, SheetRows_step,
-    (first_made 10 0, TilesMedia_step,
-    (first_made 11 0, RowsMedia_step,
-    (first_made 12 0, SheetPackage_step,
-    (first_made 13 0, SheetIdentity_step,
-    (first_made 14 0, SheetReceipts_step,
-    (first_made 15 0, SheetItems_step,
-    (first_made 15 1, IndexItemsByBase_step,
-    (first_made 15 2, IndexReceiptsBySource_step,
-    (first_made 15 3, IndexReceiptsByTarget_step,
-    (first_made 15 4, IndexByTilesMedia_step,
-    (first_made 15 5, IndexByRowsMedia_step,
-    (first_made 15 6, IndexByXy_step,
-    refl))))))))))))))))))))
+plan = (
+  first_made 1 0,
+  GpkgSpatialRefSys_step,
+  (
+    first_made 2 0,
+    GpkgContents_step,
+    (
+      first_made 3 0,
+      GpkgTileMatrixSet_step,
+      (
+        first_made 4 0,
+        GpkgTileMatrix_step,
+        (
+          first_made 5 0,
+          GpkgextRelations_step,
+          (
+            first_made 7 0,
+            SheetTiles_step,
+            (
+              first_made 8 0,
+              SheetMedia_step,
+              (
+                first_made 9 0,
+                SheetRows_step,
+                (
+                  first_made 10 0,
+                  TilesMedia_step,
+                  (
+                    first_made 11 0,
+                    RowsMedia_step,
+                    (
+                      first_made 12 0,
+                      SheetPackage_step,
+                      (
+                        first_made 13 0,
+                        SheetIdentity_step,
+                        (
+                          first_made 14 0,
+                          SheetReceipts_step,
+                          (
+                            first_made 15 0,
+                            SheetItems_step,
+                            (
+                              first_made 15 1,
+                              IndexItemsByBase_step,
+                              (
+                                first_made 15 2,
+                                IndexReceiptsBySource_step,
+                                (
+                                  first_made 15 3,
+                                  IndexReceiptsByTarget_step,
+                                  (
+                                    first_made 15 4,
+                                    IndexByTilesMedia_step,
+                                    (
+                                      first_made 15 5,
+                                      IndexByRowsMedia_step,
+                                      (
+                                        first_made 15 6,
+                                        IndexByXy_step,
+                                        refl,
+                                      ),
+                                    ),
+                                  ),
+                                ),
+                              ),
+                            ),
+                          ),
+                        ),
+                      ),
+                    ),
+                  ),
+                ),
+              ),
+            ),
+          ),
+        ),
+      ),
+    ),
+  ),
+)

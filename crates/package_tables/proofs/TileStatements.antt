@@ -1,15 +1,27 @@
--- The statements on `sheet_tiles`.
-use Rattle.std.proofs.Common.{ℕ, ℤ, List, [], ◌∷◌, codes, refl}
+-- The statements on `sheet_tiles`. Written by tools/statements.py.
+use Rattle.std.proofs.Common.{◌≡◌, ℕ, ℤ, List, [], ◌∷◌, Bool, true, codes, refl}
+use Rattle.std.specs.Prelude.{◌&&◌, bytes_eq}
+use Rattle.std.specs.Ordering.{int_eq}
 use Rattle.sqlite.specs.Order.{Row}
-use Rattle.sqlite.specs.declared.types.Value.TheVariants.{Int, Null, Blob}
+use Rattle.sqlite.specs.Term.{col}
+use Rattle.sqlite.specs.Edit.{next_rowid}
+use Rattle.sqlite.specs.declared.types.Value.TheVariants.{Int, Null, Text, Blob}
 use Rattle.sqlite_tied.specs.Compute.{everything}
 use Rattle.sql_meaning.specs.Resolving.{resolving}
-use Rattle.sql_meaning.specs.Reading.{equals}
+use Rattle.sql_meaning.specs.Reading.{always, equals, both, ascending, descending}
 use Rattle.sql_meaning.proofs.Insert.{IsInsert, IsRow}
 use Rattle.sql_meaning.proofs.Delete.{IsDelete, IsPlannedDelete}
+use Rattle.sql_meaning.proofs.Resolve.{one_table, one_source}
+use Rattle.sql_meaning.proofs.Select.{IsSelect, IsPlannedSelect}
+use Rattle.sql_meaning.proofs.First.{IsFirst, IsPlannedFirst}
 use Rattle.package_tables.specs.Tables.{sheet_tiles}
-use Rattle.package_tables.specs.Shapes.{tile_shape}
+use Rattle.package_tables.specs.Shapes.{tile_shape, int_at, text_at, blob_at}
+use Rattle.package_tables.specs.Shown.{tile_shown}
 use Rattle.package_tables.specs.declared.rows.TileRow.{TileRow}
+use Rattle.package_tables.proofs.Looking.{IsKnown, IsRead}
+use Rattle.package_tables.proofs.Newest.{IsNewest}
+use Rattle.package_tables.proofs.Values.{same_number, same_text, both_same}
+use Rattle.package_tables.proofs.Written.{tile_shape_is}
 
 pub insert_text : (tree : ℕ) → IsInsert (codes "INSERT INTO sheet_tiles VALUES (?1, ?2, ?3, ?4, ?5)") (sheet_tiles tree)
 unfolding everything
@@ -26,3 +38,107 @@ delete_text tree = record { parse = _; where' = _; parsed = refl; statement = re
 pub delete_plan : (tree : ℕ) → IsPlannedDelete (sheet_tiles tree) (equals 0 0)
 unfolding resolving
 delete_plan tree schema at h = rw (h.stored, h.by_tree) refl
+
+pub known : IsKnown tile_shape (λ t. t.tiles) tile_shown
+known = record { laws = tile_shape_is; formed = λ db f. f.tiles; lists = λ db. refl; back = λ r. record { id = int_at r 0; zoom_level = int_at r 1; tile_column = int_at r 2; tile_row = int_at r 3; tile_data = blob_at r 4 }; returns = λ x. refl }
+
+tile_by_id_text : (tree : ℕ) → IsSelect (codes "SELECT * FROM sheet_tiles WHERE id = ?1") (sheet_tiles tree) (equals 0 0) []
+unfolding everything
+tile_by_id_text tree = record {
+  parse = _;
+  asks = _;
+  src = _;
+  item = _;
+  parsed = refl;
+  statement = refl;
+  formats = refl;
+  one = one_table refl refl refl refl refl refl refl refl refl refl refl refl refl refl refl;
+  condition = (_, refl, (_, _, _, _, refl, refl, refl, refl, refl, refl, refl));
+  enough = refl;
+  few = λ at. refl;
+  some = λ at. refl;
+  sorted = λ schema at. (_, refl, refl);
+}
+
+tile_by_id_plan : (tree : ℕ) → IsPlannedSelect (sheet_tiles tree) (equals 0 0) []
+unfolding resolving
+tile_by_id_plan tree schema at h = rw (h.stored, h.by_tree) refl
+
+pub tile_by_id : (id : ℤ) → IsRead tile_shape tile_shown (codes "SELECT * FROM sheet_tiles WHERE id = ?1") (Int id ∷ []) (λ x. int_eq x.id id)
+tile_by_id id = record { test = _; by = _; selects = tile_by_id_text; planned = tile_by_id_plan; given = refl; listing = _; is = λ tree. refl; shows = λ v x. refl; passing = λ v x. (same_number x.id id) }
+
+tile_at_text : (tree : ℕ) → IsSelect (codes "SELECT * FROM sheet_tiles WHERE zoom_level = ?1 AND tile_column = ?2 AND tile_row = ?3") (sheet_tiles tree) (both (both (equals 1 0) (equals 2 1)) (equals 3 2)) []
+unfolding everything
+tile_at_text tree = record {
+  parse = _;
+  asks = _;
+  src = _;
+  item = _;
+  parsed = refl;
+  statement = refl;
+  formats = refl;
+  one = one_table refl refl refl refl refl refl refl refl refl refl refl refl refl refl refl;
+  condition = (_, refl, (_, _, refl, (_, _, refl, (_, _, _, _, refl, refl, refl, refl, refl, refl, refl), (_, _, _, _, refl, refl, refl, refl, refl, refl, refl)), (_, _, _, _, refl, refl, refl, refl, refl, refl, refl)));
+  enough = refl;
+  few = λ at. refl;
+  some = λ at. refl;
+  sorted = λ schema at. (_, refl, refl);
+}
+
+tile_at_plan : (tree : ℕ) → IsPlannedSelect (sheet_tiles tree) (both (both (equals 1 0) (equals 2 1)) (equals 3 2)) []
+unfolding resolving
+tile_at_plan tree schema at h = rw (h.stored, h.by_tree) refl
+
+pub tile_at : (zoom_level : ℤ) (tile_column : ℤ) (tile_row : ℤ) → IsRead tile_shape tile_shown (codes "SELECT * FROM sheet_tiles WHERE zoom_level = ?1 AND tile_column = ?2 AND tile_row = ?3") (Int zoom_level ∷ Int tile_column ∷ Int tile_row ∷ []) (λ x. int_eq x.zoom_level zoom_level && int_eq x.tile_column tile_column && int_eq x.tile_row tile_row)
+tile_at zoom_level tile_column tile_row = record { test = _; by = _; selects = tile_at_text; planned = tile_at_plan; given = refl; listing = _; is = λ tree. refl; shows = λ v x. refl; passing = λ v x. (both_same (both_same (same_number x.zoom_level zoom_level) (same_number x.tile_column tile_column)) (same_number x.tile_row tile_row)) }
+
+all_text : (tree : ℕ) → IsSelect (codes "SELECT * FROM sheet_tiles ORDER BY id") (sheet_tiles tree) always ((col 1 0, ascending) ∷ [])
+unfolding everything
+all_text tree = record {
+  parse = _;
+  asks = _;
+  src = _;
+  item = _;
+  parsed = refl;
+  statement = refl;
+  formats = refl;
+  one = one_table refl refl refl refl refl refl refl refl refl refl refl refl refl refl refl;
+  condition = refl;
+  enough = refl;
+  few = λ at. refl;
+  some = λ at. refl;
+  sorted = λ schema at. (_, refl, refl);
+}
+
+all_plan : (tree : ℕ) → IsPlannedSelect (sheet_tiles tree) always ((col 1 0, ascending) ∷ [])
+unfolding resolving
+all_plan tree schema at h = rw (h.stored, h.by_tree) refl
+
+pub all : IsRead tile_shape tile_shown (codes "SELECT * FROM sheet_tiles ORDER BY id") [] (λ x. true)
+all = record { test = _; by = _; selects = all_text; planned = all_plan; given = refl; listing = _; is = λ tree. refl; shows = λ v x. refl; passing = λ v x. refl }
+
+newest_text : (tree : ℕ) → IsFirst (codes "SELECT * FROM sheet_tiles ORDER BY id DESC LIMIT 1") (sheet_tiles tree) always ((col 1 0, descending) ∷ [])
+unfolding everything
+newest_text tree = record {
+  parse = _;
+  asks = _;
+  src = _;
+  item = _;
+  parsed = refl;
+  statement = refl;
+  formats = refl;
+  one = one_source refl refl refl refl refl refl refl refl refl refl refl refl refl;
+  paged = λ schema. refl;
+  condition = refl;
+  enough = refl;
+  few = λ at. refl;
+  some = λ at. refl;
+  sorted = λ schema at. (_, refl, refl);
+}
+
+newest_plan : (tree : ℕ) → IsPlannedFirst (sheet_tiles tree) always ((col 1 0, descending) ∷ [])
+unfolding resolving
+newest_plan tree schema at h = rw (h.stored, h.by_tree) refl
+
+pub newest : IsNewest tile_shape (λ x. x.id) (codes "SELECT * FROM sheet_tiles ORDER BY id DESC LIMIT 1")
+newest = record { by = _; selects = newest_text; planned = newest_plan; shown = _; is = λ tree. refl; begins = λ v x. refl; keyed = λ v x. refl }

@@ -1,6 +1,6 @@
 -- When two stored values are the same, as SQLite compares them.
 use Rattle.std.proofs.Common.{◌≡◌, ℤ, List, ℕ, Bool, true, false, refl, sym, ap, ◌∙◌, Ordering, Less, Equal, Greater}
-use Rattle.std.specs.Prelude.{bytes_eq}
+use Rattle.std.specs.Prelude.{◌&&◌, bytes_eq}
 use Rattle.std.specs.Ordering.{is_eq, int_cmp, int_eq}
 use Rattle.std.specs.Cmp.{int_ranks, signed_Decides}
 use Rattle.std.proofs.lemmas.Map.Text.{is_eq-slice_cmp}
@@ -13,3 +13,6 @@ same_number a b = ap is_eq (value_cmp-Int a b) ∙ refl
 
 pub same_text : (s t : List ℕ) → is_same (Text s) (Text t) ≡ bytes_eq s t
 same_text s t = ap is_eq (value_cmp-Text s t) ∙ is_eq-slice_cmp s t
+
+pub both_same : {a b c d : Bool} → a ≡ b → c ≡ d → (a && c) ≡ (b && d)
+both_same e f = cc (e, f)

@@ -1,5 +1,5 @@
 -- What a call on a package's tables does.
-use Rattle.std.specs.Prelude.{◌≡◌, ◌⊎◌, Bool, true, false, List, Option, Result, Ok, Err, IsTrue, MatchOption, Contains, IsPermutation, filter}
+use Rattle.std.specs.Prelude.{◌≡◌, ◌⊎◌, ℤ, ◌≤ℤ◌, Bool, true, false, List, [], map, All, Option, Result, Ok, Err, IsTrue, MatchOption, Contains, IsPermutation, filter}
 use Rattle.std.specs.List.{list_any}
 use Rattle.sqlite.specs.Effect.{Database}
 use Rattle.sqlite.specs.State.{State, HasCleanDisk, Shows, IsUnchanged, IsRolledBack}
@@ -49,3 +49,7 @@ AreThose keeps rows found = IsPermutation (filter keeps rows) found
 -- a change of the tables, as one of databases
 abbrev pub OnTables : (Tables → Tables → Type 0) → Database → Database → Type 0
 OnTables Change old new = AreFormed old → AreFormed new × Change (tables_of old) (tables_of new)
+
+-- the greatest number of the rows, if there are any
+abbrev pub IsGreatest : {R : Type 0} → (R → ℤ) → List R → Option ℤ → Type 0
+IsGreatest number rows found = MatchOption found (rows ≡ []) (λ n. Contains (map number rows) n × All (λ x. number x ≤ℤ n) rows)

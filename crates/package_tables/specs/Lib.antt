@@ -6,8 +6,9 @@ pub mod Package
 pub mod Faults
 pub mod Calls
 pub mod Changes
-pub mod Entries
 pub mod Fixed
+pub mod Entries
 pub mod Creation
 pub mod SchemaMaking
 pub mod SchemaMade
+pub mod Shown

@@ -27,7 +27,14 @@ pub fn insert_spatial_ref_sys<S: Alter>(
 {
     settled(tx.execute(
         "INSERT INTO gpkg_spatial_ref_sys VALUES (?1, ?2, ?3, ?4, ?5, ?6)",
-        params![srs_name, srs_id, organization, organization_coordsys_id, definition, description],
+        params![
+            srs_name,
+            srs_id,
+            organization,
+            organization_coordsys_id,
+            definition,
+            description
+        ],
     ))
 }
 
@@ -51,7 +58,18 @@ pub fn insert_contents<S: Alter>(
 {
     settled(tx.execute(
         "INSERT INTO gpkg_contents VALUES (?1, ?2, ?3, ?4, ?5, ?6, ?7, ?8, ?9, ?10)",
-        params![table_name, data_type, identifier, description, last_change, min_x, min_y, max_x, max_y, srs_id],
+        params![
+            table_name,
+            data_type,
+            identifier,
+            description,
+            last_change,
+            min_x,
+            min_y,
+            max_x,
+            max_y,
+            srs_id
+        ],
     ))
 }
 
@@ -93,7 +111,16 @@ pub fn insert_tile_matrix<S: Alter>(
 {
     settled(tx.execute(
         "INSERT INTO gpkg_tile_matrix VALUES (?1, ?2, ?3, ?4, ?5, ?6, ?7, ?8)",
-        params![table_name, zoom_level, matrix_width, matrix_height, tile_width, tile_height, pixel_x_size, pixel_y_size],
+        params![
+            table_name,
+            zoom_level,
+            matrix_width,
+            matrix_height,
+            tile_width,
+            tile_height,
+            pixel_x_size,
+            pixel_y_size
+        ],
     ))
 }
 
@@ -114,7 +141,15 @@ pub fn insert_relation<S: Alter>(
 {
     settled(tx.execute(
         "INSERT INTO gpkgext_relations VALUES (?1, ?2, ?3, ?4, ?5, ?6, ?7)",
-        params![id, base_table_name, base_primary_column, related_table_name, related_primary_column, relation_name, mapping_table_name],
+        params![
+            id,
+            base_table_name,
+            base_primary_column,
+            related_table_name,
+            related_primary_column,
+            relation_name,
+            mapping_table_name
+        ],
     ))
 }
 

@@ -1,14 +1,20 @@
 //! One package's tables as lists of typed rows: nothing above this crate speaks SQL.
 #![tactic(auto)]
 
+pub mod attributes;
 pub mod fault;
 pub mod fixed;
 mod fixed_rows;
 pub mod head;
 mod levels;
+pub(crate) mod from_row;
+pub mod identities;
+pub mod mappings;
+pub mod media;
 pub mod moved;
-pub(crate) mod reading;
 pub mod receipts;
 pub mod rows;
 pub mod schema;
 pub mod tiles;
+#[cfg(test)]
+mod user_tests;

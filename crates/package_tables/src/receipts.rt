@@ -29,6 +29,8 @@ pub fn insert_receipt<S: Alter>(
 {
     settled(tx.execute(
         "INSERT INTO sheet_receipts VALUES (?1, ?2, ?3, ?4, ?5, ?6, ?7, ?8, ?9, ?10, ?11)",
-        params![seq, request, at, line, source, target, n_tiles, n_media, n_rows, n_links, n_bytes],
+        params![
+            seq, request, at, line, source, target, n_tiles, n_media, n_rows, n_links, n_bytes
+        ],
     ))
 }

@@ -1,11 +1,11 @@
 //! The tables and indexes of a new package.
 
-ghost use Rattle.std.specs.Prelude.{◌≡◌, ◌<◌, true, length, map, OnOk};
+ghost use Rattle.std.specs.Prelude.{◌≡◌, ◌<◌, true, length, map, IfErr, OnOk};
 ghost use Rattle.sqlite.specs.State.{HasCleanDisk, KeepsCommit, Survives};
 ghost use Rattle.sqlite.specs.Held.{state};
 ghost use Rattle.sql_meaning.specs.Writing.{WritesInside};
 ghost use Rattle.sql_meaning.specs.Blank.{IsBlank, no_schema};
-ghost use Rattle.package_tables.specs.SchemaMaking.{Made, MadeBy, ChangedInside};
+ghost use Rattle.package_tables.specs.SchemaMaking.{Made, MadeBy, ChangedInside, FailsToMake, FailsToMakeBy, FailsInside};
 ghost use Rattle.package_tables.specs.SchemaMade.{IsNewPackage};
 
 use sqlite::{Alter, Error, Transaction};
@@ -92,6 +92,7 @@ const STATEMENTS: [&str; 20] = [
 fn make<S: Alter>(tx: &mut Transaction<'_, S>, sql: &str) -> Result<usize, Error>
     ensures same_reference { tx.new.conn.ghost_name ≡ tx.old.conn.ghost_name }
     ensures made { HasCleanDisk (state S.Store tx.new.conn.now) → tx.old.conn.now.in_transaction ≡ true → WritesInside (Made sql.now) (state S.Store tx.old.conn.now) (state S.Store tx.new.conn.now) result }
+    ensures failed { HasCleanDisk (state S.Store tx.new.conn.now) → tx.old.conn.now.in_transaction ≡ true → IfErr result (FailsToMake sql.now (state S.Store tx.old.conn.now) (state S.Store tx.new.conn.now)) }
     ensures kept { HasCleanDisk (state S.Store tx.new.conn.now) → KeepsCommit (state S.Store tx.old.conn.now) (state S.Store tx.new.conn.now) }
     ensures survives { Survives (state S.Store tx.old.conn.now) (state S.Store tx.new.conn.now) (λ _. ⊥) }
 {
@@ -102,6 +103,7 @@ fn make<S: Alter>(tx: &mut Transaction<'_, S>, sql: &str) -> Result<usize, Error
 fn make_each<S: Alter>(tx: &mut Transaction<'_, S>, texts: &[&str]) -> Result<(), Error>
     ensures same_reference { tx.new.conn.ghost_name ≡ tx.old.conn.ghost_name }
     ensures made { 0 < length texts.now → HasCleanDisk (state S.Store tx.new.conn.now) → tx.old.conn.now.in_transaction ≡ true → OnOk result (ChangedInside (MadeBy (map (λ text. text.now) texts.now)) (state S.Store tx.old.conn.now) (state S.Store tx.new.conn.now)) }
+    ensures failed { HasCleanDisk (state S.Store tx.new.conn.now) → tx.old.conn.now.in_transaction ≡ true → IfErr result (FailsToMakeBy (map (λ text. text.now) texts.now) (state S.Store tx.old.conn.now) (state S.Store tx.new.conn.now)) }
     ensures kept { HasCleanDisk (state S.Store tx.new.conn.now) → KeepsCommit (state S.Store tx.old.conn.now) (state S.Store tx.new.conn.now) }
     ensures survives { Survives (state S.Store tx.old.conn.now) (state S.Store tx.new.conn.now) (λ _. ⊥) }
 {
@@ -118,11 +120,12 @@ fn make_each<S: Alter>(tx: &mut Transaction<'_, S>, texts: &[&str]) -> Result<()
 ///
 /// # Errors
 ///
-/// Where a statement fails, what the earlier ones made stays inside the transaction, or the transaction has been rolled back.
-/// Nothing is committed.
+/// In a database without objects no statement is refused: one fails for want of memory, where the disk fails, or where the
+/// connection was shut before. The transaction is rolled back then. Where it had ended before the call, the error is `TransactionState`.
 pub fn create_schema<S: Alter>(tx: &mut Transaction<'_, S>) -> Result<(), Error>
     ensures same_reference { tx.new.conn.ghost_name ≡ tx.old.conn.ghost_name }
     ensures made { HasCleanDisk (state S.Store tx.new.conn.now) → tx.old.conn.now.in_transaction ≡ true → IsBlank no_schema (state S.Store tx.old.conn.now).now → OnOk result (ChangedInside (λ _ db. IsNewPackage db) (state S.Store tx.old.conn.now) (state S.Store tx.new.conn.now)) }
+    ensures failed { HasCleanDisk (state S.Store tx.new.conn.now) → tx.old.conn.now.in_transaction ≡ true → IsBlank no_schema (state S.Store tx.old.conn.now).now → IfErr result (FailsInside (state S.Store tx.old.conn.now) (state S.Store tx.new.conn.now)) }
     ensures kept { HasCleanDisk (state S.Store tx.new.conn.now) → KeepsCommit (state S.Store tx.old.conn.now) (state S.Store tx.new.conn.now) }
     ensures survives { Survives (state S.Store tx.old.conn.now) (state S.Store tx.new.conn.now) (λ _. ⊥) }
 {

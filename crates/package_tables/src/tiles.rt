@@ -1,12 +1,37 @@
 // The statements on `sheet_tiles`.
-ghost use Rattle.std.specs.Prelude.{◌≡◌, true, IsTrue, IfOk, is_some};
-ghost use Rattle.sqlite.specs.State.{HasCleanDisk, Survives};
+ghost use Rattle.std.specs.Prelude.{◌≡◌, true, ◌&&◌};
+ghost use Rattle.std.specs.Ordering.{int_eq};
+ghost use Rattle.sqlite.specs.State.{Survives};
 ghost use Rattle.sqlite.specs.Held.{state};
-ghost use Rattle.package_tables.specs.Calls.{Makes};
+ghost use Rattle.sql_meaning.specs.Transactions.{Rests};
+ghost use Rattle.package_tables.specs.Calls.{Makes, Tells, LooksUp, IsOneOf, AreThose, IsGreatest};
 ghost use Rattle.package_tables.specs.Changes.{AddsTile, DropsTile};
 
 use crate::fault::{Fault, settled};
-use sqlite::{Alter, Transaction, params};
+use crate::from_row::{FromRow, all_of, first_of, number_of};
+use crate::rows::TileRow;
+use sheet_types::collections::Bytes;
+use sqlite::{Alter, Connection, Row, Transaction, params};
+use std::alloc::Global;
+
+impl FromRow for TileRow {
+    ghost use Rattle.package_tables.specs.Shown.{tile_shown};
+
+    ghost shown = { tile_shown };
+
+    fn from_row(row: &Row) -> Result<TileRow, Fault> {
+        if row.column_count() != 5 {
+            return Err(Fault::StoreFault);
+        }
+        Ok(TileRow {
+            id: row.get(0)?,
+            zoom_level: row.get(1)?,
+            tile_column: row.get(2)?,
+            tile_row: row.get(3)?,
+            tile_data: Bytes::from_vec(row.get(4)?),
+        })
+    }
+}
 
 /// Puts a tile in, under a number and a place that are free.
 pub fn insert_tile<S: Alter>(
@@ -34,4 +59,60 @@ pub fn delete_tile<S: Alter>(tx: &mut Transaction<'_, S>, id: i64) -> Result<(),
     ensures survives { Survives (state S.Store tx.old.conn.now) (state S.Store tx.new.conn.now) (λ _. ⊥) }
 {
     settled(tx.execute("DELETE FROM sheet_tiles WHERE id = ?1", params![id]))
+}
+
+/// The tile of this number.
+pub fn tile_by_id<S: Alter>(conn: &mut Connection<S>, id: i64) -> Result<Option<TileRow>, Fault>
+    requires { Rests (state S.Store conn.old) }
+    ensures { LooksUp (λ t. IsOneOf (λ x. int_eq x.id id) t.tiles) (state S.Store conn.old) (state S.Store conn.new) result }
+{
+    first_of(conn.query_all("SELECT * FROM sheet_tiles WHERE id = ?1", params![id]))
+}
+
+/// The tile of this number, inside a transaction.
+pub fn tile_by_id_inside<S: Alter>(
+    tx: &mut Transaction<'_, S>,
+    id: i64,
+) -> Result<Option<TileRow>, Fault>
+    ensures same_reference { tx.new.conn.ghost_name ≡ tx.old.conn.ghost_name }
+    ensures told { Tells (λ t. IsOneOf (λ x. int_eq x.id id) t.tiles) (state S.Store tx.old.conn.now) (state S.Store tx.new.conn.now) result }
+    ensures survives { Survives (state S.Store tx.old.conn.now) (state S.Store tx.new.conn.now) (λ _. ⊥) }
+{
+    first_of(tx.query_all("SELECT * FROM sheet_tiles WHERE id = ?1", params![id]))
+}
+
+/// The tile in this place.
+pub fn tile_at<S: Alter>(
+    conn: &mut Connection<S>,
+    zoom_level: i64,
+    tile_column: i64,
+    tile_row: i64,
+) -> Result<Option<TileRow>, Fault>
+    requires { Rests (state S.Store conn.old) }
+    ensures { LooksUp (λ t. IsOneOf (λ x. int_eq x.zoom_level zoom_level && int_eq x.tile_column tile_column && int_eq x.tile_row tile_row) t.tiles) (state S.Store conn.old) (state S.Store conn.new) result }
+{
+    first_of(conn.query_all(
+        "SELECT * FROM sheet_tiles WHERE zoom_level = ?1 AND tile_column = ?2 AND tile_row = ?3",
+        params![zoom_level, tile_column, tile_row],
+    ))
+}
+
+/// All tiles.
+pub fn all_tiles<S: Alter>(conn: &mut Connection<S>, alloc: Global) -> Result<Vec<TileRow>, Fault>
+    requires { Rests (state S.Store conn.old) }
+    ensures { LooksUp (λ t found. AreThose (λ _. true) t.tiles found.items) (state S.Store conn.old) (state S.Store conn.new) result }
+{
+    all_of(
+        alloc,
+        conn.query_all("SELECT * FROM sheet_tiles ORDER BY id", &[]),
+    )
+}
+
+/// The greatest number of a tile, where there is one, inside a transaction.
+pub fn greatest_tile_id<S: Alter>(tx: &mut Transaction<'_, S>) -> Result<Option<i64>, Fault>
+    ensures same_reference { tx.new.conn.ghost_name ≡ tx.old.conn.ghost_name }
+    ensures told { Tells (λ t. IsGreatest (λ x. x.id) t.tiles) (state S.Store tx.old.conn.now) (state S.Store tx.new.conn.now) result }
+    ensures survives { Survives (state S.Store tx.old.conn.now) (state S.Store tx.new.conn.now) (λ _. ⊥) }
+{
+    number_of(tx.query_all("SELECT * FROM sheet_tiles ORDER BY id DESC LIMIT 1", &[]))
 }

@@ -7,21 +7,21 @@ import pathlib
 import re
 
 TABLES = {
-    # a constant of src/schema.rt, and how many tables stand before it and after it
-    "SPATIAL_REFERENCE_SYSTEMS": ("gpkg_spatial_ref_sys", 0, 1),
-    "CONTENTS": ("gpkg_contents", 1, 2),
-    "TILE_MATRIX_SETS": ("gpkg_tile_matrix_set", 2, 3),
-    "TILE_MATRICES": ("gpkg_tile_matrix", 3, 4),
-    "RELATIONS": ("gpkgext_relations", 4, 5),
-    "TILES": ("sheet_tiles", 5, 7),
-    "MEDIA": ("sheet_media", 7, 8),
-    "ROWS": ("sheet_rows", 8, 9),
-    "TILES_MEDIA": ("tiles_media", 9, 10),
-    "ROWS_MEDIA": ("rows_media", 10, 11),
-    "HEAD": ("sheet_package", 11, 12),
-    "IDENTITIES": ("sheet_identity", 12, 13),
-    "RECEIPTS": ("sheet_receipts", 13, 14),
-    "RECEIPT_ITEMS": ("sheet_items", 14, 15),
+    # a constant of src/schema.rt, how many tables stand before it and after it, and how many UNIQUEs it has
+    "SPATIAL_REFERENCE_SYSTEMS": ("gpkg_spatial_ref_sys", 0, 1, 0),
+    "CONTENTS": ("gpkg_contents", 1, 2, 2),
+    "TILE_MATRIX_SETS": ("gpkg_tile_matrix_set", 2, 3, 1),
+    "TILE_MATRICES": ("gpkg_tile_matrix", 3, 4, 1),
+    "RELATIONS": ("gpkgext_relations", 4, 5, 1),
+    "TILES": ("sheet_tiles", 5, 7, 1),
+    "MEDIA": ("sheet_media", 7, 8, 0),
+    "ROWS": ("sheet_rows", 8, 9, 0),
+    "TILES_MEDIA": ("tiles_media", 9, 10, 1),
+    "ROWS_MEDIA": ("rows_media", 10, 11, 1),
+    "HEAD": ("sheet_package", 11, 12, 0),
+    "IDENTITIES": ("sheet_identity", 12, 13, 2),
+    "RECEIPTS": ("sheet_receipts", 13, 14, 1),
+    "RECEIPT_ITEMS": ("sheet_items", 14, 15, 1),
 }
 INDEXES = {
     # the index, its table, the table's place and tree, and how many look-up indexes stand before it
@@ -33,11 +33,18 @@ INDEXES = {
     "ROWS_BY_PLACE": ("by_xy", "sheet_rows", 8, 14, 5),
 }
 
+SEQUENCE = "record { free = refl; automatic = tt; utf8 = refl; open_name = refl; low = refl; reals = refl; key_reals = tt; formed = refl; fit = refl; short = refl }"
+
 TABLE_FILE = """-- What the text of `{name}` makes.
 use Rattle.std.proofs.Common.{{◌≡◌, ℕ, List, codes, inl, refl}}
 use Rattle.sqlite_schema.specs.Names.{{same_name}}
 use Rattle.sqlite_tied.specs.Compute.{{everything}}
 use Rattle.sql_meaning.specs.Blank.{{MakesText, IsFree, grown}}
+use Rattle.std.specs.Str.{{is_utf8, chars}}
+use Rattle.std.specs.Fmt.{{digits}}
+use Rattle.sqlite_value.specs.Order.{{value_cmp}}
+use Rattle.sqlite_trees.specs.Sound.{{fits_kind, is_free_name, begins, same_name as same_word}}
+use Rattle.sql_meaning.specs.Certain.{{IsAlone, FitsGrown}}
 use Rattle.package_tables.specs.Tables.{{{name}}}
 use Rattle.package_tables.specs.SchemaMaking.{{Extends}}
 use Rattle.package_tables.specs.SchemaMade.{{first_made}}
@@ -53,12 +60,24 @@ free : IsFree (first_made {before} 0) (codes "{name}")
 unfolding same_name
 free = record {{ table = refl; view = refl; index = refl }}
 
+alone : IsAlone text
+unfolding everything
+alone = record {{ statement = _; parsed = refl; names = refl; whole = refl }}
+
+fits : FitsGrown (first_made {before} 0) text ({name} 0)
+unfolding same_name is_utf8 chars lib.Utf8.encode digits fits_kind is_free_name begins same_word value_cmp lib.Ieee.is_nan lib.Ieee.lt
+fits = record {{
+  alone = alone;
+  table = record {{ free = refl; automatic = {each}; utf8 = refl; open_name = refl; low = refl; reals = refl; key_reals = {each}; formed = refl; fit = refl; short = refl }};
+  sequence = {sequence};
+}}
+
 grows : first_made {after} 0 ≡ grown (first_made {before} 0) ({name} 0)
 unfolding same_name
 grows = refl
 
 pub step : Extends text (first_made {before} 0) (first_made {after} 0)
-step = inl ({name} 0, makes, free, grows)
+step = inl ({name} 0, makes, free, fits, grows)
 """
 
 INDEX_FILE = """-- What the text of the index `{name}` makes.
@@ -68,6 +87,11 @@ use Rattle.sqlite_tied.specs.Compute.{{everything}}
 use Rattle.sql_meaning.specs.Known.{{HasTable}}
 use Rattle.sql_meaning.specs.Blank.{{IsFree}}
 use Rattle.sql_meaning.specs.Index.{{MakesIndexText}}
+use Rattle.std.specs.Str.{{is_utf8, chars}}
+use Rattle.std.specs.Fmt.{{digits}}
+use Rattle.sqlite_value.specs.Order.{{value_cmp}}
+use Rattle.sqlite_trees.specs.Sound.{{fits_kind, is_free_name, begins, same_name as same_word}}
+use Rattle.sql_meaning.specs.Certain.{{IsAlone, FitsIndex}}
 use Rattle.package_tables.specs.Tables.{{{table}}}
 use Rattle.package_tables.specs.SchemaMaking.{{Extends}}
 use Rattle.package_tables.specs.SchemaMade.{{{name}, first_made}}
@@ -87,8 +111,16 @@ free : IsFree (first_made 15 {before}) (codes "{name}")
 unfolding same_name
 free = record {{ table = refl; view = refl; index = refl }}
 
+alone : IsAlone text
+unfolding everything
+alone = record {{ statement = _; parsed = refl; names = refl; whole = refl }}
+
+fits : FitsIndex (first_made 15 {before}) text ({table} {tree}) ({name} {tree} 0)
+unfolding same_name is_utf8 chars lib.Utf8.encode digits fits_kind is_free_name begins same_word value_cmp lib.Ieee.is_nan lib.Ieee.lt
+fits = record {{ alone = alone; free = refl; utf8 = refl; open_name = refl; low = refl; reals = refl; key_reals = refl; fit = refl; short = refl }}
+
 pub step : Extends text (first_made 15 {before}) (first_made 15 {after})
-step = inr ({at}, {table} {tree}, {name} {tree} 0, makes {tree}, has, free, refl)
+step = inr ({at}, {table} {tree}, {name} {tree} 0, makes {tree}, has, free, fits, refl)
 """
 
 PLAN_FILE = """-- The texts of a package's schema, run in turn.
@@ -116,9 +148,9 @@ def main():
     folder = pathlib.Path("proofs/Texts")
     folder.mkdir(exist_ok=True)
     modules, steps = [], []
-    for constant, (name, before, after) in TABLES.items():
+    for constant, (name, before, after, uniques) in TABLES.items():
         module = "".join(word.title() for word in name.split("_"))
-        text = TABLE_FILE.format(name=name, text=known[constant], before=before, after=after)
+        text = TABLE_FILE.format(name=name, text=known[constant], before=before, after=after, each="(refl, " * uniques + "tt" + ")" * uniques, sequence=SEQUENCE if after - before == 2 else "tt")
         (folder / f"{module}.antt").write_text(text)
         modules.append(module)
         steps.append(f"    (first_made {after} 0, {module}_step,")

@@ -1,5 +1,5 @@
 -- Texts cut at a byte that their parts do not have, and numbers between commas.
-use Rattle.std.proofs.Common.{◌≡◌, ◌≢◌, ℕ, zero, suc, ◌+◌, ◌<◌, ◌/◌, ◌%◌, ◌==◌, List, [], ◌∷◌, ◌++◌, length, map, take, Bool, true, false, if◌then◌else◌, ℤ, pos, negsuc, FitsSigned, w64, Option, Some, None, IfNone, refl, sym, ap, subst, ◌∙◌, arith}
+use Rattle.std.proofs.Common.{◌≡◌, ◌≢◌, ℕ, zero, suc, ◌+◌, ◌/◌, ◌%◌, ◌==◌, List, [], ◌∷◌, ◌++◌, length, take, true, false, if◌then◌else◌, ℤ, pos, negsuc, FitsSigned, w64, Option, Some, None, IfNone, refl, sym, ap, ◌∙◌, arith}
 use Rattle.std.specs.List.{AllByRecursion, position_or_len, before_first}
 use Rattle.std.specs.Fmt.{signed_decimal, decimal, digits, digits_onto, digit_glyph}
 use Rattle.std.proofs.lemmas.Bool.{eq-eqb}

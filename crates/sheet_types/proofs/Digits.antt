@@ -1,7 +1,6 @@
 -- Texts of lower-case hexadecimal digits.
-use Rattle.std.proofs.Common.{◌≡◌, ℕ, ◌<◌, List, [], ◌∷◌, ◌&&◌, nat_lt, Result, Ok, Err, MatchResult, OnOk, true, false, refl, sym, subst, ◌∙◌, ap, arith}
+use Rattle.std.proofs.Common.{◌≡◌, ℕ, ◌<◌, List, [], ◌∷◌, nat_lt, Result, Ok, Err, MatchResult, OnOk, true, refl, sym, subst, arith}
 use Rattle.std.specs.List.{list_all}
-use Rattle.std.specs.Result.{is_err}
 use Rattle.std.specs.Str.{IsAscii, IsUtf8}
 use Rattle.std.specs.Cmp.Lexicographic.{pointwise}
 use Rattle.std.proofs.Math.Dec.{eqb}

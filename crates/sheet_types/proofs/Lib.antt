@@ -1,9 +1,16 @@
 pub mod Tests
 pub mod LineReading
+pub mod Every
+pub mod Sums
+pub mod Found
 pub mod Order
+pub mod Without
+pub mod Distinct
 pub mod Same
 pub mod Arranging
 pub mod Commas
 pub mod Digits
+pub mod KeyOrder
 pub mod NumberTexts
+pub mod Patterns
 pub mod UuidTexts

@@ -1,12 +1,12 @@
 -- Texts that are read: digests, numbers, UUIDs, frames. Profile, over RFC 9562 (UUIDs) and FIPS 180-4 (digests).
-use Rattle.std.specs.Prelude.{◌≡◌, ℕ, ℤ, ◌==◌, List, [], ◌∷◌, length, map, Option, Some, None, if◌then◌else◌, FitsSigned}
+use Rattle.std.specs.Prelude.{◌≡◌, ℕ, ◌<◌, ℤ, All, List, [], ◌∷◌, ◌++◌, unwrap_or, length, map, Option, Some, None, FitsSigned}
 use Rattle.std.specs.Int.{w64}
 use Rattle.std.specs.List.{join_with_byte, AllByRecursion}
-use Rattle.std.specs.Option.{option_map}
-use Rattle.uuid.specs.Text.{parsed_hyphenated}
 use Rattle.std.specs.Fmt.{signed_decimal}
 use Rattle.hex.specs.Hex.{IsBytes}
-use Rattle.sheet_types.specs.Texts.{spaced}
+use Rattle.sheet_types.specs.Texts.{spaced, uuid_text}
+use Rattle.sheet_types.specs.World.{kind_number}
+use Rattle.sheet_types.specs.declared.receipt.MovedKind.{MovedKind}
 use Rattle.sheet_types.specs.declared.frame.Frame.{Frame}
 use Rattle.sheet_types.specs.declared.frame.Rect.{Rect}
 
@@ -19,10 +19,15 @@ pub record IsDigest (digest : List ℕ) : Type 0 where
 abbrev pub rect_text : Rect → List ℕ
 rect_text r = spaced (signed_decimal r.zoom ∷ signed_decimal r.column ∷ signed_decimal r.last_column ∷ signed_decimal r.row ∷ signed_decimal r.last_row ∷ [])
 
--- a stored column in which the empty text stands for none
-abbrev pub stored_uuid : List ℕ → Option (Option (List ℕ))
-stored_uuid [] = Some None
-stored_uuid (c ∷ cs) = option_map Some (parsed_hyphenated (c ∷ cs))
+-- the 16 bytes of a UUID (RFC 9562, section 4)
+pub record IsUuid (id : List ℕ) : Type 0 where
+  pub long : length id ≡ 16
+  pub bytes : All (λ byte. byte < 256) id
+
+-- the stored text of a UUID, or the empty text where there is none
+abbrev pub optional_uuid_text : Option (List ℕ) → List ℕ
+optional_uuid_text None = []
+optional_uuid_text (Some id) = uuid_text id
 
 -- numbers with single commas between them
 abbrev pub numbers_text : List ℤ → List ℕ
@@ -40,3 +45,7 @@ frame_text f = numbers_text (frame_numbers f)
 -- each of its numbers fits 64 bits
 abbrev pub IsInRange : Frame → Type 0
 IsInRange f = AllByRecursion (FitsSigned w64) (frame_numbers f)
+
+-- the key by which things are ordered: the number of the kind, the base, and the other end of a link
+abbrev pub thing_key : MovedKind → List ℕ → Option (List ℕ) → List ℕ
+thing_key kind base other = kind_number kind ∷ base ++ unwrap_or other []

@@ -3,7 +3,8 @@ ghost use Rattle.std.specs.Prelude.{◌≡◌, ◌≢◌, ◌∷◌, ◌++◌, [
 ghost use Rattle.std.specs.Int.{w64};
 ghost use Rattle.std.specs.Fmt.{signed_decimal};
 ghost use Rattle.uuid.specs.Text.{parsed_hyphenated};
-ghost use Rattle.sheet_types.specs.Reading.{frame_text, IsInRange, stored_uuid};
+ghost use Rattle.sheet_types.specs.Reading.{frame_text, optional_uuid_text, IsInRange, IsUuid};
+ghost use Rattle.sheet_types.specs.Texts.{uuid_text};
 ghost use Rattle.sheet_types.specs.declared.frame.Frame.{Frame};
 
 use crate::frame::Frame;
@@ -24,14 +25,32 @@ pub fn read_uuid(text: &str) -> Option<Uuid>
     }
 }
 
-/// The UUID of a stored column in which the empty text stands for none; `None` where it is neither.
-pub fn read_optional_uuid(text: &str) -> Option<Option<Uuid>>
-    ensures { result ≡ stored_uuid text.now }
+/// The UUID of a stored text, which is in lower case.
+pub fn read_stored_uuid(text: &str) -> Option<Uuid>
+    ensures some { IfSome result (λ id. text.now ≡ uuid_text id) }
+    ensures none { IfNone result ((id : List ℕ) → IsUuid id → text.now ≢ uuid_text id) }
+{
+    let Some(id) = read_uuid(text) else {
+        return None;
+    };
+    let mut buffer = Uuid::encode_buffer();
+    if id.hyphenated().encode_lower(&mut buffer) == text {
+        Some(id)
+    } else {
+        None
+    }
+}
+
+/// What a stored text says where the empty text stands for no UUID; `None` where it is neither that nor a UUID in lower case.
+pub fn read_stored_optional(text: &str) -> Option<Option<Uuid>>
+    ensures some { IfSome result (λ id. text.now ≡ optional_uuid_text id) }
+    ensures empty { IfNone result (text.now ≢ []) }
+    ensures none { IfNone result ((id : List ℕ) → IsUuid id → text.now ≢ uuid_text id) }
 {
     if text.is_empty() {
         return Some(None);
     }
-    match read_uuid(text) {
+    match read_stored_uuid(text) {
         Some(id) => Some(Some(id)),
         None => None,
     }

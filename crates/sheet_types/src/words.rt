@@ -1,5 +1,6 @@
 // The words of lists, lines and manifests.
 ghost use Rattle.std.specs.Prelude.{◌≡◌, ◌≢◌, IfSome, IfNone, Some};
+ghost use Rattle.sheet_types.specs.Reading.{optional_uuid_text};
 ghost use Rattle.sheet_types.specs.Texts.{kind_word, mapping_word, mode_word};
 ghost use Rattle.sheet_types.specs.declared.command.Mapping.{Mapping};
 ghost use Rattle.sheet_types.specs.declared.command.Mode.{Mode};
@@ -8,6 +9,7 @@ ghost use Rattle.sheet_types.specs.declared.receipt.MovedKind.{MovedKind};
 use crate::command::{Mapping, Mode};
 use crate::receipt::MovedKind;
 use std::fmt;
+use uuid::Uuid;
 
 impl fmt::Display for MovedKind {
     ghost output = { λ kind. Some (kind_word kind) };
@@ -42,6 +44,21 @@ impl fmt::Display for Mode {
             Mode::Strict => "strict",
             Mode::Follow => "follow",
         })
+    }
+}
+
+/// A UUID that prints in lower case, or as the empty text where there is none.
+#[derive(Clone, Copy, PartialEq, Eq)]
+pub struct OrEmpty(pub Option<Uuid>);
+
+impl fmt::Display for OrEmpty {
+    ghost output = { λ id. Some (optional_uuid_text id.0) };
+
+    fn fmt<W: fmt::Write>(&self, f: &mut fmt::Formatter<W>) -> fmt::Result {
+        match self.0 {
+            Some(id) => write!(f, "{id}"),
+            None => f.write_str(""),
+        }
     }
 }
 

@@ -29,7 +29,7 @@ indexes_in schema text p def at t i it has free =
     let named : table_named schema def.table ≡ Some at = subst (λ name. table_named schema name ≡ Some at) (sym it.table) has.named in
     rw (it.parsed, it.statement, it.formats, it.table_free, named, has.there, free.view, it.free, free.table, free.index, it.defined) refl
 
-index_defined : (text : List ℕ) (p : Parsed) (def : Written) (t : Table) (i : Index) → MakesIndex text p def t i → index_defined_by t text ≡ Ok i
+pub index_defined : (text : List ℕ) (p : Parsed) (def : Written) (t : Table) (i : Index) → MakesIndex text p def t i → index_defined_by t text ≡ Ok i
 unfolding index_defined_by index_in
 index_defined text p def t i it = rw (it.parsed, it.statement, it.defined) refl
 

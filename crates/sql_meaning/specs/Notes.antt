@@ -2,7 +2,9 @@
 use Rattle.std.specs.Prelude.{ℕ, ℤ, Bool, true, false, List, [], ◌∷◌, Some, codes}
 use Rattle.sqlite.specs.Collation.TheVariants.{Binary}
 use Rattle.sqlite.specs.declared.types.Value.TheVariants as value
-use Rattle.sqlite.specs.Order.{Row}
+use Rattle.sqlite.specs.Order.{Row, column as value_in}
+use Rattle.sqlite_sql.specs.declared.ops.CompareOp.TheVariants.{Ge}
+use Rattle.sql_meaning.specs.Reading.{Listing, is_same, stands, ascending, descending}
 use Rattle.sqlite.specs.Table.{Table}
 use Rattle.sqlite.specs.Kind.TheVariants.{Integer, Text}
 use Rattle.sqlite_schema.specs.declared.schema.Kind.{Kind}
@@ -44,3 +46,14 @@ AddsBoth first second place one other = Chained (AddsNote first place one) (Adds
 
 abbrev pub Adds : Note → Database → Database → Type 0
 Adds n = AddsNote n.seq n.place n.text.now
+
+abbrev shown_note : Row → Row
+shown_note r = value_in r 0 ∷ value_in r 2 ∷ value_in r 3 ∷ []
+
+-- the notes of a place, the newest first
+abbrev pub newest_in : ℤ → Listing
+newest_in place = record { keeps = λ r. is_same (value_in r 2) (value.Int place); key = λ r. value_in r 0 ∷ []; shown = shown_note; by = descending ∷ [] }
+
+-- the notes from a number on, by their numbers
+abbrev pub notes_from : ℤ → Listing
+notes_from seq = record { keeps = λ r. stands Ge (value_in r 0) (value.Int seq); key = λ r. value_in r 0 ∷ []; shown = shown_note; by = ascending ∷ [] }

@@ -2,11 +2,12 @@
 
 ghost use Rattle.std.specs.Prelude.{◌≡◌};
 ghost use Rattle.sqlite.specs.Held.{state};
-ghost use Rattle.sql_meaning.specs.Transactions.{Rests, Steps, Turns};
+ghost use Rattle.sql_meaning.specs.Transactions.{Rests, Steps, Turns, Looks};
+ghost use Rattle.sql_meaning.specs.Reading.{Finds, FindsFirst};
 ghost use Rattle.sql_meaning.specs.Writing.{EachChained};
-ghost use Rattle.sql_meaning.specs.Notes.{AddsNote, AddsBoth, Adds};
+ghost use Rattle.sql_meaning.specs.Notes.{AddsNote, AddsBoth, Adds, note_table, newest_in, notes_from};
 
-use sqlite::{Alter, Connection, Error, Transaction, params};
+use sqlite::{Alter, Connection, Error, Row, Transaction, params};
 
 #[derive(Clone, Copy)]
 pub struct Note<'a> {
@@ -28,6 +29,29 @@ pub fn insert_note<S: Alter>(
     tx.execute(
         "INSERT INTO notes VALUES (?1, ?2, ?3)",
         params![seq, place, text],
+    )
+}
+
+/// The newest note of a place, if it has one. The engine reads that row alone where an index or
+/// the end of the table leads to it.
+pub fn newest_note<S: Alter>(tx: &mut Transaction<'_, S>, place: i64) -> Result<Vec<Row>, Error>
+    ensures same_reference { tx.new.conn.ghost_name ≡ tx.old.conn.ghost_name }
+    ensures steps { Steps (λ rows. FindsFirst note_table (newest_in place) rows.items) (state S.Store tx.old.conn.now) (state S.Store tx.new.conn.now) result }
+{
+    tx.query_all(
+        "SELECT * FROM notes WHERE place = ?1 ORDER BY seq DESC LIMIT 1",
+        params![place],
+    )
+}
+
+/// The notes from a number on, by their numbers, outside a transaction.
+pub fn read_from<S: Alter>(conn: &mut Connection<S>, seq: i64) -> Result<Vec<Row>, Error>
+    requires { Rests (state S.Store conn.old) }
+    ensures looks { Looks (λ rows. Finds note_table (notes_from seq) rows.items) (state S.Store conn.old) (state S.Store conn.new) result }
+{
+    conn.query_all(
+        "SELECT * FROM notes WHERE seq >= ?1 ORDER BY seq",
+        params![seq],
     )
 }
 

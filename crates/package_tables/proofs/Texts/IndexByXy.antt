@@ -5,6 +5,11 @@ use Rattle.sqlite_tied.specs.Compute.{everything}
 use Rattle.sql_meaning.specs.Known.{HasTable}
 use Rattle.sql_meaning.specs.Blank.{IsFree}
 use Rattle.sql_meaning.specs.Index.{MakesIndexText}
+use Rattle.std.specs.Str.{is_utf8, chars}
+use Rattle.std.specs.Fmt.{digits}
+use Rattle.sqlite_value.specs.Order.{value_cmp}
+use Rattle.sqlite_trees.specs.Sound.{fits_kind, is_free_name, begins, same_name as same_word}
+use Rattle.sql_meaning.specs.Certain.{IsAlone, FitsIndex}
 use Rattle.package_tables.specs.Tables.{sheet_rows}
 use Rattle.package_tables.specs.SchemaMaking.{Extends}
 use Rattle.package_tables.specs.SchemaMade.{by_xy, first_made}
@@ -24,5 +29,13 @@ free : IsFree (first_made 15 5) (codes "by_xy")
 unfolding same_name
 free = record { table = refl; view = refl; index = refl }
 
+alone : IsAlone text
+unfolding everything
+alone = record { statement = _; parsed = refl; names = refl; whole = refl }
+
+fits : FitsIndex (first_made 15 5) text (sheet_rows 14) (by_xy 14 0)
+unfolding same_name is_utf8 chars lib.Utf8.encode digits fits_kind is_free_name begins same_word value_cmp lib.Ieee.is_nan lib.Ieee.lt
+fits = record { alone = alone; free = refl; utf8 = refl; open_name = refl; low = refl; reals = refl; key_reals = refl; fit = refl; short = refl }
+
 pub step : Extends text (first_made 15 5) (first_made 15 6)
-step = inr (8, sheet_rows 14, by_xy 14 0, makes 14, has, free, refl)
+step = inr (8, sheet_rows 14, by_xy 14 0, makes 14, has, free, fits, refl)

@@ -24,4 +24,4 @@ returns-clause-wrote g c clean begun =
     c.settled.ensures
     (inserted_inside _ gpkg_contents contents_insert_text _ _ (contents_insert_row row) old new c.execute.result
     (simp (to_z-of_z, c.ranges.min_x, c.ranges.min_y, c.ranges.max_x, c.ranges.max_y, c.ranges.srs_id)
-        at (rw (c.params-to_sql.ensures, c.params-to_sql-2.ensures, c.params-to_sql-3.ensures, c.params-to_sql-4.ensures, c.params-to_sql-5.ensures, c.params-to_sql-6.ensures, c.params-to_sql-7.ensures, c.params-to_sql-8.ensures, c.params-to_sql-9.ensures, c.params-to_sql-10.ensures) at (c.execute.ensures.runs clean begun))))
+    at (rw (c.params-to_sql.ensures, c.params-to_sql-2.ensures, c.params-to_sql-3.ensures, c.params-to_sql-4.ensures, c.params-to_sql-5.ensures, c.params-to_sql-6.ensures, c.params-to_sql-7.ensures, c.params-to_sql-8.ensures, c.params-to_sql-9.ensures, c.params-to_sql-10.ensures) at (c.execute.ensures.runs clean begun))))

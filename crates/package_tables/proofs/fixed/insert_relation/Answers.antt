@@ -23,4 +23,4 @@ returns-clause-wrote g c clean begun =
     c.settled.ensures
     (inserted_inside _ gpkgext_relations relation_insert_text _ _ (relation_insert_row row) old new c.execute.result
     (simp (to_z-of_z, c.ranges.id)
-        at (rw (c.params-to_sql.ensures, c.params-to_sql-2.ensures, c.params-to_sql-3.ensures, c.params-to_sql-4.ensures, c.params-to_sql-5.ensures, c.params-to_sql-6.ensures, c.params-to_sql-7.ensures) at (c.execute.ensures.runs clean begun))))
+    at (rw (c.params-to_sql.ensures, c.params-to_sql-2.ensures, c.params-to_sql-3.ensures, c.params-to_sql-4.ensures, c.params-to_sql-5.ensures, c.params-to_sql-6.ensures, c.params-to_sql-7.ensures) at (c.execute.ensures.runs clean begun))))

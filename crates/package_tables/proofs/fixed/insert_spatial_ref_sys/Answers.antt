@@ -23,4 +23,4 @@ returns-clause-wrote g c clean begun =
     c.settled.ensures
     (inserted_inside _ gpkg_spatial_ref_sys spatial_ref_sys_insert_text _ _ (spatial_ref_sys_insert_row row) old new c.execute.result
     (simp (to_z-of_z, c.ranges.srs_id, c.ranges.organization_coordsys_id)
-        at (rw (c.params-to_sql.ensures, c.params-to_sql-2.ensures, c.params-to_sql-3.ensures, c.params-to_sql-4.ensures, c.params-to_sql-5.ensures, c.params-to_sql-6.ensures) at (c.execute.ensures.runs clean begun))))
+    at (rw (c.params-to_sql.ensures, c.params-to_sql-2.ensures, c.params-to_sql-3.ensures, c.params-to_sql-4.ensures, c.params-to_sql-5.ensures, c.params-to_sql-6.ensures) at (c.execute.ensures.runs clean begun))))

@@ -24,4 +24,4 @@ returns-clause-wrote g c clean begun =
     c.settled.ensures
     (inserted_inside _ gpkg_tile_matrix tile_matrix_insert_text _ _ (tile_matrix_insert_row row) old new c.execute.result
     (simp (to_z-of_z, c.ranges.zoom_level, c.ranges.matrix_width, c.ranges.matrix_height, c.ranges.tile_width, c.ranges.tile_height, c.ranges.pixel_x_size, c.ranges.pixel_y_size)
-        at (rw (c.params-to_sql.ensures, c.params-to_sql-2.ensures, c.params-to_sql-3.ensures, c.params-to_sql-4.ensures, c.params-to_sql-5.ensures, c.params-to_sql-6.ensures, c.params-to_sql-7.ensures, c.params-to_sql-8.ensures) at (c.execute.ensures.runs clean begun))))
+    at (rw (c.params-to_sql.ensures, c.params-to_sql-2.ensures, c.params-to_sql-3.ensures, c.params-to_sql-4.ensures, c.params-to_sql-5.ensures, c.params-to_sql-6.ensures, c.params-to_sql-7.ensures, c.params-to_sql-8.ensures) at (c.execute.ensures.runs clean begun))))

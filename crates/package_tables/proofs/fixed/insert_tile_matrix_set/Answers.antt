@@ -24,4 +24,4 @@ returns-clause-wrote g c clean begun =
     c.settled.ensures
     (inserted_inside _ gpkg_tile_matrix_set tile_matrix_set_insert_text _ _ (tile_matrix_set_insert_row row) old new c.execute.result
     (simp (to_z-of_z, c.ranges.srs_id, c.ranges.min_x, c.ranges.min_y, c.ranges.max_x, c.ranges.max_y)
-        at (rw (c.params-to_sql.ensures, c.params-to_sql-2.ensures, c.params-to_sql-3.ensures, c.params-to_sql-4.ensures, c.params-to_sql-5.ensures, c.params-to_sql-6.ensures) at (c.execute.ensures.runs clean begun))))
+    at (rw (c.params-to_sql.ensures, c.params-to_sql-2.ensures, c.params-to_sql-3.ensures, c.params-to_sql-4.ensures, c.params-to_sql-5.ensures, c.params-to_sql-6.ensures) at (c.execute.ensures.runs clean begun))))

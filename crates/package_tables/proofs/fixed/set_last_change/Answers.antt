@@ -23,7 +23,7 @@ returns-clause-wrote g c apart clean begun =
     let params = Text a.at.now ∷ Text a.table_name.now ∷ [] in
     makes (Updates gpkg_contents (λ r. is_same (column r 1) (Text a.table_name.now)) (change_by change_terms params)) (SetsLastChange a.at.now a.table_name.now) old new c.execute.result _
     (λ formed. changes contents_shape contents_shape_is (λ rows t. record t { contents = rows }) contents_written (λ db f. f.contents) (λ r. is_same (column r 1) (Text a.table_name.now)) (change_by change_terms params) a.table_name.now
-        (λ x. record x { last_change = a.at.now }) old.now new.now formed (λ v x. same_text x.table_name a.table_name.now) (λ v x. refl) (λ x. refl) (λ v x. refl) contents_kinds apart)
+    (λ x. record x { last_change = a.at.now }) old.now new.now formed (λ v x. same_text x.table_name a.table_name.now) (λ v x. refl) (λ x. refl) (λ v x. refl) contents_kinds apart)
     c.settled.ensures
     (changed_inside _ gpkg_contents (equals 0 1) 0 change_terms change_text change_plan params (record { found = λ r. refl; new = λ r. refl }) refl _ (λ tree. refl) old new c.execute.result
     (rw (c.params-to_sql.ensures, c.params-to_sql-2.ensures) at (c.execute.ensures.runs clean begun)))

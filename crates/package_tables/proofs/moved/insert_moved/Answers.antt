@@ -24,4 +24,4 @@ returns-clause-wrote g c clean begun =
     c.settled.ensures
     (inserted_inside _ sheet_items insert_text _ _ (insert_row row) old new c.execute.result
     (simp (to_z-of_z, c.ranges.seq, c.ranges.position, c.ranges.kind, c.ranges.size)
-        at (rw (c.params-to_sql.ensures, c.params-to_sql-2.ensures, c.params-to_sql-3.ensures, c.params-to_sql-4.ensures, c.params-to_sql-5.ensures, c.params-to_sql-6.ensures, c.params-to_sql-7.ensures) at (c.execute.ensures.runs clean begun))))
+    at (rw (c.params-to_sql.ensures, c.params-to_sql-2.ensures, c.params-to_sql-3.ensures, c.params-to_sql-4.ensures, c.params-to_sql-5.ensures, c.params-to_sql-6.ensures, c.params-to_sql-7.ensures) at (c.execute.ensures.runs clean begun))))

@@ -23,4 +23,4 @@ returns-clause-wrote g c clean begun =
     c.settled.ensures
     (inserted_inside _ sheet_receipts insert_text _ _ (insert_row row) old new c.execute.result
     (simp (to_z-of_z, c.ranges.seq, c.ranges.n_tiles, c.ranges.n_media, c.ranges.n_rows, c.ranges.n_links, c.ranges.n_bytes)
-        at (rw (c.params-to_sql.ensures, c.params-to_sql-2.ensures, c.params-to_sql-3.ensures, c.params-to_sql-4.ensures, c.params-to_sql-5.ensures, c.params-to_sql-6.ensures, c.params-to_sql-7.ensures, c.params-to_sql-8.ensures, c.params-to_sql-9.ensures, c.params-to_sql-10.ensures, c.params-to_sql-11.ensures) at (c.execute.ensures.runs clean begun))))
+    at (rw (c.params-to_sql.ensures, c.params-to_sql-2.ensures, c.params-to_sql-3.ensures, c.params-to_sql-4.ensures, c.params-to_sql-5.ensures, c.params-to_sql-6.ensures, c.params-to_sql-7.ensures, c.params-to_sql-8.ensures, c.params-to_sql-9.ensures, c.params-to_sql-10.ensures, c.params-to_sql-11.ensures) at (c.execute.ensures.runs clean begun))))

@@ -1,5 +1,6 @@
 use Rattle.std.proofs.Common.{pos, refl, to_z-of_z}
 use Rattle.sqlite.specs.Held.{state}
+use Rattle.sqlite.specs.Edit.{next_rowid}
 use Rattle.sqlite.specs.declared.types.Value.TheVariants.{Int, Null}
 use Rattle.sql_meaning.specs.Writing.{Inserts}
 use Rattle.sql_meaning.proofs.Insert.{inserted_inside}
@@ -22,5 +23,4 @@ returns-clause-wrote g c clean begun =
     (λ formed. puts tile_shape tile_shape_is (λ rows t. record t { tiles = rows }) tiles_written (λ db f. f.tiles) (λ there. tile_shape.stored Null row) row old.now new.now formed (λ there. (Int (pos 0), refl, refl)))
     c.settled.ensures
     (inserted_inside _ sheet_tiles insert_text _ _ (insert_row row) old new c.execute.result
-    (simp (to_z-of_z, c.ranges.id, c.ranges.zoom_level, c.ranges.tile_column, c.ranges.tile_row)
-    at (rw (c.params-to_sql.ensures, c.params-to_sql-2.ensures, c.params-to_sql-3.ensures, c.params-to_sql-4.ensures, c.params-to_sql-5.ensures) at (c.execute.ensures.runs clean begun))))
+    (simp (to_z-of_z, c.ranges.id, c.ranges.zoom_level, c.ranges.tile_column, c.ranges.tile_row) at (rw (c.params-to_sql.ensures, c.params-to_sql-2.ensures, c.params-to_sql-3.ensures, c.params-to_sql-4.ensures, c.params-to_sql-5.ensures) at (c.execute.ensures.runs clean begun))))

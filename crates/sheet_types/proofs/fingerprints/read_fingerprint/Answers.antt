@@ -1,5 +1,5 @@
 -- A text that a digest spells decodes to it, and is what the digest spells again.
-use Rattle.std.proofs.Common.{◌≡◌, ◌∙◌, ap, sym, true, false, Ok}
+use Rattle.std.proofs.Common.{◌≡◌, ◌∙◌, ap, sym}
 use Rattle.hex.specs.Hex.{encode_lower}
 use Rattle.sheet_types.proofs.Digits.{decoded, same_as_itself}
 use Rattle.sheet_types.proofs.fingerprints.read_fingerprint.Goals as goal

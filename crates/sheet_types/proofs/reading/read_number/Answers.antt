@@ -1,5 +1,5 @@
 -- The text of a number in range parses to it, and is what the buffer then writes.
-use Rattle.std.proofs.Common.{◌≡◌, ◌∙◌, ap, sym, rules, Ok, refl}
+use Rattle.std.proofs.Common.{◌≡◌, ◌∙◌, ap, sym, rules, Ok}
 use Rattle.std.specs.Fmt.{signed_decimal}
 use Rattle.sheet_types.proofs.NumberTexts.{reads_back}
 use Rattle.sheet_types.proofs.Digits.{same_as_itself}

@@ -1,5 +1,6 @@
 // From the rows that a SELECT answers to values.
-ghost use Rattle.std.specs.Prelude.{◌≡◌, Some, None, [], map, slice_get, IfOk, IsOkAnd, MatchOption};
+ghost use Rattle.std.specs.Prelude.{◌≡◌, [], map, slice_get, IfOk, IsOkAnd, MatchOption};
+ghost use Rattle.package_tables.specs.Shown.{BeginsWith};
 
 use crate::fault::Fault;
 use sqlite::{Error, Row};
@@ -38,5 +39,16 @@ pub(crate) fn first_of<T: FromRow>(answer: Result<Vec<Row>, Error>) -> Result<Op
     match rows.first() {
         None => Ok(None),
         Some(row) => Ok(Some(T::from_row(row)?)),
+    }
+}
+
+/// The number that the first row of an answer begins with, where there is one.
+pub(crate) fn number_of(answer: Result<Vec<Row>, Error>) -> Result<Option<i64>, Fault>
+    ensures { IfOk result (λ number. IsOkAnd answer (λ rows. BeginsWith rows.items number)) }
+{
+    let rows = answer?;
+    match rows.first() {
+        None => Ok(None),
+        Some(row) => Ok(Some(row.get(0)?)),
     }
 }

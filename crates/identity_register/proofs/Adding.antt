@@ -1,0 +1,154 @@
+-- An item that is added under a free number and a new identity.
+use Rattle.std.proofs.Common.{◌≡◌, ℕ, ℤ, pos, List, [], ◌∷◌, ◌++◌, map, Bool, true, false, cond, Some, None, refl, sym, ap, subst, ◌∙◌}
+use Rattle.std.specs.Prelude.{not, ◌&&◌, ◌||◌, ◌==◌, find, bytes_eq, flat_map, unsigned_abs}
+use Rattle.std.specs.List.{AllByRecursion, IsDistinct, list_any}
+use Rattle.std.specs.Option.{option_map_or}
+use Rattle.std.proofs.lemmas.Bool.{true≢false, false≢true}
+use Rattle.std.proofs.lemmas.Slice.Eq.{bytes_eq-Decides}
+use Rattle.sheet_types.specs.Ordered.{arranged, put, has}
+use Rattle.sheet_types.specs.Matrix.{is_within}
+use Rattle.sheet_types.specs.Texts.{uuid_text, kind_of}
+use Rattle.sheet_types.specs.World.{Package, item_key, link_key, kind_number, has_kind, base_kind, other_kind, has_item}
+use Rattle.sheet_types.specs.Register.{HasEnds}
+use Rattle.sheet_types.specs.Lines.{IsUuid}
+use Rattle.sheet_types.specs.declared.command.Content.{Content}
+use Rattle.sheet_types.specs.declared.command.Content.TheVariants.{Tile, Media, Row}
+use Rattle.sheet_types.specs.declared.command.Item.{Item}
+use Rattle.sheet_types.specs.declared.command.Mapping.{Mapping}
+use Rattle.sheet_types.specs.declared.command.Mapping.TheVariants.{TilesMedia, RowsMedia}
+use Rattle.sheet_types.specs.declared.command.Relation.{Relation}
+use Rattle.sheet_types.specs.declared.frame.Frame.{Frame}
+use Rattle.sheet_types.proofs.Every.{All-weaker, All-both, All-of_map, All-map, none_pass}
+use Rattle.sheet_types.proofs.Order.{list_any-put, list_any-arranged}
+use Rattle.sheet_types.proofs.Tests.{bytes_eq_swap, or-true}
+use Rattle.package_tables.specs.Shapes.{tile_shape, medium_shape, attribute_shape, identity_shape, tiles_media_shape, rows_media_shape}
+use Rattle.package_tables.specs.Package.{Tables}
+use Rattle.package_tables.specs.declared.rows.IdentityRow.{IdentityRow}
+use Rattle.package_tables.specs.declared.rows.MappingRow.{MappingRow}
+use Rattle.identity_register.specs.Numbering.{Numbered, IsNumbering, greatest_number, place_in_tables, tile_rows, media_rows, attribute_rows, identity_row, number_of, mapping_row, tiles_media_rows, rows_media_rows, puts, with_item}
+use Rattle.identity_register.specs.Reads.{Says}
+
+-- ---- who has an identity
+
+weaker_any : {X : Type 0} (p q : X → Bool) → ((x : X) → p x ≡ true → q x ≡ true) → (xs : List X) → list_any q xs ≡ false → list_any p xs ≡ false
+weaker_any p q f [] h = refl
+weaker_any p q f (x ∷ xs) h = one (p x) (q x) refl refl h (weaker_any p q f xs)
+  where
+    one : (a b : Bool) → p x ≡ a → q x ≡ b → (b || list_any q xs) ≡ false → (list_any q xs ≡ false → list_any p xs ≡ false) → list_any p (x ∷ xs) ≡ false
+    one a true e g h rest = absurd (true≢false h)
+    one true false e g h rest = absurd (true≢false (sym (f x e) ∙ g))
+    one false false e g h rest = rw e (rest h)
+
+and_second : (a b : Bool) → (a && b) ≡ true → b ≡ true
+and_second true b h = h
+and_second false b h = absurd (false≢true h)
+
+-- what has a kind and an identity has the identity
+item_from_kind : (kind : ℕ) (id : List ℕ) (i : Item) → bytes_eq (item_key i) (kind ∷ id) ≡ true → bytes_eq i.identity id ≡ true
+item_from_kind kind id i h = and_second (kind_number (kind_of i.content) == kind) (bytes_eq i.identity id) h
+
+-- an identity that no item has is the end of no link
+other_end : (p : Package) (kind : ℕ) (new id : List ℕ) → has_item p new ≡ false → has item_key (kind ∷ id) p.items ≡ true → bytes_eq new id ≡ false
+other_end p kind new id fresh there = one (bytes_eq new id) refl
+  where
+    one : (b : Bool) → bytes_eq new id ≡ b → b ≡ false
+    one false e = refl
+    one true e = absurd (true≢false (sym there ∙ weaker_any (λ i. bytes_eq (item_key i) (kind ∷ id)) (λ i. bytes_eq i.identity new) (λ i h. same i h) p.items fresh))
+      where
+        same : (i : Item) → bytes_eq (item_key i) (kind ∷ id) ≡ true → bytes_eq i.identity new ≡ true
+        same i h = subst (λ x. bytes_eq i.identity x ≡ true) (sym (named_same e)) (item_from_kind kind id i h)
+          where
+            named_same : bytes_eq new id ≡ true → new ≡ id
+            named_same f = (bytes_eq-Decides new id).0 f
+
+-- ---- the tables
+
+arranged-puts : {X : Type 0} (key : X → List ℕ) (new xs : List X) → arranged key (new ++ xs) ≡ puts key new (arranged key xs)
+arranged-puts key [] xs = refl
+arranged-puts key (x ∷ new) xs = ap (put key x) (arranged-puts key new xs)
+
+flat_map_same : {X Y : Type 0} (f g : X → List Y) (xs : List X) → AllByRecursion (λ x. f x ≡ g x) xs → flat_map f xs ≡ flat_map g xs
+flat_map_same f g [] h = refl
+flat_map_same f g (x ∷ xs) h = rw (h.0, flat_map_same f g xs h.1) refl
+
+module _ (p : Package) (n : Numbered) (fresh : has_item p n.item.identity ≡ false) where
+  -- numbers of identities that were there stay
+  number_kept : (numbered : List Numbered) (id : List ℕ) → bytes_eq n.item.identity id ≡ false → number_of (n ∷ numbered) id ≡ number_of numbered id
+  number_kept numbered id h = rw h refl
+
+  ends_apart : (l : Relation) → HasEnds p l → (bytes_eq n.item.identity l.base ≡ false) × (bytes_eq n.item.identity l.media ≡ false)
+  ends_apart l h = (other_end p (kind_number (base_kind l.mapping)) n.item.identity l.base fresh h.0, other_end p (kind_number (other_kind l.mapping)) n.item.identity l.media fresh h.1)
+
+  row_kept : (numbered : List Numbered) (l : Relation) → HasEnds p l → mapping_row (n ∷ numbered) l ≡ mapping_row numbered l
+  row_kept numbered l h =
+      let apart = ends_apart l h in
+      rw (number_kept numbered l.base apart.0, number_kept numbered l.media apart.1) refl
+
+  tiles_media_kept : (numbered : List Numbered) (l : Relation) (m : Mapping) → HasEnds p l → tiles_media_rows (n ∷ numbered) l m ≡ tiles_media_rows numbered l m
+  tiles_media_kept numbered l TilesMedia h = ap (λ r. r ∷ []) (row_kept numbered l h)
+  tiles_media_kept numbered l RowsMedia h = refl
+
+  rows_media_kept : (numbered : List Numbered) (l : Relation) (m : Mapping) → HasEnds p l → rows_media_rows (n ∷ numbered) l m ≡ rows_media_rows numbered l m
+  rows_media_kept numbered l TilesMedia h = refl
+  rows_media_kept numbered l RowsMedia h = ap (λ r. r ∷ []) (row_kept numbered l h)
+
+  more_items : Package
+  more_items = record p { items = put item_key n.item p.items }
+
+  still_there : (q : Item → Bool) → list_any q p.items ≡ true → list_any q (put item_key n.item p.items) ≡ true
+  still_there q h = list_any-put item_key q n.item p.items ∙ ap (λ b. q n.item || b) h ∙ or-true (q n.item)
+
+  ends_kept : (l : Relation) → HasEnds p l → HasEnds (record p { items = put item_key n.item p.items }) l
+  ends_kept l h = (still_there _ h.0, still_there _ h.1)
+
+-- the keys of stored identities are those of the numbering
+identity_keys : (k : List ℕ) (numbered : List Numbered) → has identity_shape.key k (arranged identity_shape.key (map identity_row numbered)) ≡ false → AllByRecursion (λ m. bytes_eq (place_in_tables m) k ≡ false) numbered
+identity_keys k numbered h =
+    All-of_map (λ r. bytes_eq (identity_shape.key r) k ≡ false) identity_row numbered
+    (none_pass (λ r. bytes_eq (identity_shape.key r) k) (map identity_row numbered) (sym (list_any-arranged identity_shape.key (λ r. bytes_eq (identity_shape.key r) k) (map identity_row numbered)) ∙ h))
+
+item_identities : (id : List ℕ) (numbered : List Numbered) → list_any (λ i. bytes_eq i.identity id) (arranged item_key (map (λ n. n.item) numbered)) ≡ false → AllByRecursion (λ m. bytes_eq m.item.identity id ≡ false) numbered
+item_identities id numbered h =
+    All-of_map (λ i. bytes_eq i.identity id ≡ false) (λ n. n.item) numbered
+    (none_pass (λ i. bytes_eq i.identity id) (map (λ n. n.item) numbered) (sym (list_any-arranged item_key (λ i. bytes_eq i.identity id) (map (λ n. n.item) numbered)) ∙ h))
+
+turned : {X : Type 0} (f : X → List ℕ) (k : List ℕ) (xs : List X) → AllByRecursion (λ x. bytes_eq (f x) k ≡ false) xs → AllByRecursion (λ y. bytes_eq k y ≡ false) (map f xs)
+turned f k xs h = All-map (λ y. bytes_eq k y ≡ false) f xs (All-weaker _ _ (λ x e. bytes_eq_swap k (f x) ∙ e) xs h)
+
+-- one item more, under a number that is free in its kind
+pub adds : (f : Frame) (p : Package) (t : Tables) (n : Numbered) → Says f p t → has_item p n.item.identity ≡ false → IsUuid n.item.identity → is_within (pos 1) greatest_number n.number ≡ true
+    → has identity_shape.key (place_in_tables n) t.identities ≡ false → Says f (record p { items = put item_key n.item p.items }) (with_item n t)
+unfolding IsDistinct
+adds f p t n says fresh uuid range free =
+    let ns = says.numbered in
+    record {
+      good = says.good;
+      fixed = says.fixed;
+      created = says.created;
+      fit_head = record { uuid = says.fit_head.uuid; parent = says.fit_head.parent };
+      head = says.head;
+      numbered = n ∷ ns;
+      numbers = record {
+        range = (range, says.numbers.range);
+        numbers = (turned place_in_tables (place_in_tables n) ns (identity_keys (place_in_tables n) ns (rw says.identities at free)), says.numbers.numbers);
+        identities = (turned (λ m. m.item.identity) n.item.identity ns (item_identities n.item.identity ns (rw says.items at fresh)), says.numbers.identities);
+        uuids = (uuid, says.numbers.uuids);
+      };
+      items = ap (put item_key n.item) says.items;
+      tiles = ap (puts tile_shape.key (tile_rows n.number n.item.content)) says.tiles ∙ sym (arranged-puts tile_shape.key (tile_rows n.number n.item.content) (flat_map (λ m. tile_rows m.number m.item.content) ns));
+      media = ap (puts medium_shape.key (media_rows n.number n.item.content)) says.media ∙ sym (arranged-puts medium_shape.key (media_rows n.number n.item.content) (flat_map (λ m. media_rows m.number m.item.content) ns));
+      rows = ap (puts attribute_shape.key (attribute_rows n.number n.item.content)) says.rows ∙ sym (arranged-puts attribute_shape.key (attribute_rows n.number n.item.content) (flat_map (λ m. attribute_rows m.number m.item.content) ns));
+      identities = ap (put identity_shape.key (identity_row n)) says.identities;
+      linked = says.linked;
+      distinct_links = says.distinct_links;
+      ends = All-weaker (HasEnds p) _ (ends_kept p n fresh) says.linked says.ends;
+      links = says.links;
+      tiles_media = says.tiles_media ∙ sym (ap (arranged tiles_media_shape.key) (flat_map_same _ _ says.linked (All-weaker (HasEnds p) _ (λ l h. tiles_media_kept p n fresh ns l l.mapping h) says.linked says.ends)));
+      rows_media = says.rows_media ∙ sym (ap (arranged rows_media_shape.key) (flat_map_same _ _ says.linked (All-weaker (HasEnds p) _ (λ l h. rows_media_kept p n fresh ns l l.mapping h) says.linked says.ends)));
+      entered = says.entered;
+      distinct_receipts = says.distinct_receipts;
+      fit = says.fit;
+      kept = says.kept;
+      receipts = says.receipts;
+      moved = says.moved;
+    }

@@ -1,0 +1,3 @@
+pub mod Adding
+pub mod Deleting
+pub mod Linking

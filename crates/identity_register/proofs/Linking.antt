@@ -1,0 +1,318 @@
+-- Links that come in and go, by the numbers of their ends.
+use Rattle.std.proofs.Common.{◌≡◌, ℕ, ℤ, pos, List, [], ◌∷◌, ◌++◌, map, Bool, true, false, cond, Some, None, refl, sym, ap, subst, ◌∙◌, inl, inr, length, arith}
+use Rattle.std.specs.Prelude.{not, ◌&&◌, ◌||◌, ◌==◌, filter, find, bytes_eq, flat_map, unsigned_abs, ◌⊎◌}
+use Rattle.std.specs.List.{AllByRecursion, IsDistinct, list_any}
+use Rattle.std.specs.Ordering.{int_eq}
+use Rattle.std.proofs.lemmas.Bool.{true≢false, false≢true}
+use Rattle.std.proofs.lemmas.Slice.Eq.{bytes_eq-Decides}
+use borrow.Author.Tests.{eqb-true, eq-eqb}
+use Rattle.sheet_types.specs.Ordered.{arranged, put, without, has, is_among}
+use Rattle.sheet_types.specs.Matrix.{is_within}
+use Rattle.sheet_types.specs.Texts.{kind_of}
+use Rattle.sheet_types.specs.World.{Package, item_key, link_key, link_kind, kind_number, kind_is, base_kind, other_kind}
+use Rattle.sheet_types.specs.Lines.{IsUuid}
+use Rattle.sheet_types.specs.Register.{HasEnds}
+use Rattle.sheet_types.specs.declared.command.Item.{Item}
+use Rattle.sheet_types.specs.declared.command.Mapping.{Mapping}
+use Rattle.sheet_types.specs.declared.command.Mapping.TheVariants.{TilesMedia, RowsMedia}
+use Rattle.sheet_types.specs.declared.command.Relation.{Relation}
+use Rattle.sheet_types.specs.declared.frame.Frame.{Frame}
+use Rattle.sheet_types.specs.declared.receipt.MovedKind.{MovedKind}
+use Rattle.sheet_types.proofs.Every.{All-weaker, All-both, All-each, All-of_map, All-map, All-filter, none_pass}
+use Rattle.sheet_types.proofs.Order.{list_any-arranged}
+use Rattle.sheet_types.proofs.Arranging.{filter-arranged}
+use Rattle.sheet_types.proofs.LineReading.{uuid_length}
+use Rattle.sheet_types.proofs.Found.{filter_same}
+use Rattle.sheet_types.proofs.Same.{In}
+use Rattle.sheet_types.proofs.Tests.{bytes_eq_itself, bytes_eq_swap}
+use Rattle.package_tables.specs.Shapes.{tiles_media_shape, rows_media_shape}
+use Rattle.package_tables.specs.Package.{Tables}
+use Rattle.package_tables.specs.declared.rows.MappingRow.{MappingRow}
+use Rattle.identity_register.specs.Numbering.{Numbered, IsNumbering, greatest_number, place_in_tables, number_of, mapping_row, tiles_media_rows, rows_media_rows, with_link, without_link, is_pair}
+use Rattle.identity_register.specs.Reads.{Says}
+use Rattle.identity_register.proofs.Deleting.{filter-flat_map, flat_map-kept, distinct_filter, same_tests, same_number, All-In}
+
+-- ---- a link more
+
+turned : {X : Type 0} (f : X → List ℕ) (k : List ℕ) (xs : List X) → AllByRecursion (λ x. bytes_eq (f x) k ≡ false) xs → AllByRecursion (λ y. bytes_eq k y ≡ false) (map f xs)
+turned f k xs h = All-map (λ y. bytes_eq k y ≡ false) f xs (All-weaker _ _ (λ x e. bytes_eq_swap k (f x) ∙ e) xs h)
+
+pub links : (f : Frame) (p : Package) (t : Tables) (l : Relation) (says : Says f p t) → has link_key (link_key l) p.links ≡ false → HasEnds p l
+    → Says f (record p { links = put link_key l p.links }) (with_link l.mapping (mapping_row says.numbered l) t)
+unfolding IsDistinct
+links f p t l says fresh ends = one l.mapping refl
+  where
+    ns : List Numbered
+    ns = says.numbered
+
+    apart : AllByRecursion (λ x. bytes_eq (link_key x) (link_key l) ≡ false) says.linked
+    apart = none_pass (λ x. bytes_eq (link_key x) (link_key l)) says.linked (sym (list_any-arranged link_key (λ x. bytes_eq (link_key x) (link_key l)) says.linked) ∙ ap (list_any (λ x. bytes_eq (link_key x) (link_key l))) (sym says.links) ∙ fresh)
+
+    HasEndsNow : Relation → Type 0
+    HasEndsNow x = HasEnds (record p { links = put link_key l p.links }) x
+
+    one : (m : Mapping) → l.mapping ≡ m → Says f (record p { links = put link_key l p.links }) (with_link m (mapping_row says.numbered l) t)
+    one TilesMedia e = record {
+      good = says.good;
+      fixed = says.fixed;
+      created = says.created;
+      fit_head = record { uuid = says.fit_head.uuid; parent = says.fit_head.parent };
+      head = says.head;
+      numbered = says.numbered;
+      numbers = says.numbers;
+      items = says.items;
+      tiles = says.tiles;
+      media = says.media;
+      rows = says.rows;
+      identities = says.identities;
+      linked = l ∷ says.linked;
+      distinct_links = (turned link_key (link_key l) says.linked apart, says.distinct_links);
+      ends = (ends, says.ends);
+      links = ap (put link_key l) says.links;
+      tiles_media = ap (put tiles_media_shape.key (mapping_row says.numbered l)) says.tiles_media ∙ sym (ap (λ m. arranged tiles_media_shape.key (tiles_media_rows says.numbered l m ++ flat_map (λ x. tiles_media_rows says.numbered x x.mapping) says.linked)) e);
+      rows_media = says.rows_media ∙ sym (ap (λ m. arranged rows_media_shape.key (rows_media_rows says.numbered l m ++ flat_map (λ x. rows_media_rows says.numbered x x.mapping) says.linked)) e);
+      entered = says.entered;
+      distinct_receipts = says.distinct_receipts;
+      fit = says.fit;
+      kept = says.kept;
+      receipts = says.receipts;
+      moved = says.moved;
+    }
+    one RowsMedia e = record {
+      good = says.good;
+      fixed = says.fixed;
+      created = says.created;
+      fit_head = record { uuid = says.fit_head.uuid; parent = says.fit_head.parent };
+      head = says.head;
+      numbered = says.numbered;
+      numbers = says.numbers;
+      items = says.items;
+      tiles = says.tiles;
+      media = says.media;
+      rows = says.rows;
+      identities = says.identities;
+      linked = l ∷ says.linked;
+      distinct_links = (turned link_key (link_key l) says.linked apart, says.distinct_links);
+      ends = (ends, says.ends);
+      links = ap (put link_key l) says.links;
+      tiles_media = says.tiles_media ∙ sym (ap (λ m. arranged tiles_media_shape.key (tiles_media_rows says.numbered l m ++ flat_map (λ x. tiles_media_rows says.numbered x x.mapping) says.linked)) e);
+      rows_media = ap (put rows_media_shape.key (mapping_row says.numbered l)) says.rows_media ∙ sym (ap (λ m. arranged rows_media_shape.key (rows_media_rows says.numbered l m ++ flat_map (λ x. rows_media_rows says.numbered x x.mapping) says.linked)) e);
+      entered = says.entered;
+      distinct_receipts = says.distinct_receipts;
+      fit = says.fit;
+      kept = says.kept;
+      receipts = says.receipts;
+      moved = says.moved;
+    }
+
+-- ---- the numbers of ends
+
+bytes_eq_append : (a b c d : List ℕ) → length a ≡ length c → bytes_eq (a ++ b) (c ++ d) ≡ (bytes_eq a c && bytes_eq b d)
+bytes_eq_append [] b [] d h = refl
+bytes_eq_append [] b (y ∷ ys) d h = absurd (grind (arith))
+bytes_eq_append (x ∷ xs) b [] d h = absurd (grind (arith))
+bytes_eq_append (x ∷ xs) b (y ∷ ys) d h = ap (λ v. (x == y) && v) (bytes_eq_append xs b ys d (grind (arith))) ∙ sym (and_assoc (x == y) (bytes_eq xs ys) (bytes_eq b d))
+  where
+    and_assoc : (u v w : Bool) → ((u && v) && w) ≡ (u && (v && w))
+    and_assoc true v w = refl
+    and_assoc false v w = refl
+
+-- an element that passes, where some does
+pub one_passes : {X : Type 0} (q : X → Bool) (xs : List X) → list_any q xs ≡ true → (x : X) × In x xs × (q x ≡ true)
+one_passes q [] h = absurd (false≢true h)
+one_passes {X} q (x ∷ xs) h = one (q x) refl (one_passes q xs)
+  where
+    one : (b : Bool) → q x ≡ b → (list_any q xs ≡ true → (y : X) × In y xs × (q y ≡ true)) → (y : X) × In y (x ∷ xs) × (q y ≡ true)
+    one true e rest = (x, inl refl, e)
+    one false e rest = let it = rest (sym (ap (λ b. b || list_any q xs) e) ∙ h) in (it.0, inr it.1, it.2)
+
+map_In : {X Y : Type 0} (f : X → Y) (y : Y) (xs : List X) → In y (map f xs) → (x : X) × In x xs × (f x ≡ y)
+map_In f y [] i = absurd i
+map_In f y (x ∷ xs) i = elim i [ inl e ↦ (x, inl refl, e) | inr j ↦ let it = map_In f y xs j in (it.0, inr it.1, it.2) ]
+
+and_true : (a b : Bool) → (a && b) ≡ true → (a ≡ true) × (b ≡ true)
+and_true true b h = (refl, h)
+and_true false b h = absurd (false≢true h)
+
+find_itself : (n : Numbered) (ns : List Numbered) → IsDistinct bytes_eq (map (λ m. m.item.identity) ns) → In n ns → find (λ m. bytes_eq m.item.identity n.item.identity) ns ≡ Some n
+unfolding IsDistinct
+find_itself n [] d i = absurd i
+find_itself n (m ∷ ms) d i = elim i [
+  | inl e ↦ subst (λ y. find (λ x. bytes_eq x.item.identity y.item.identity) (m ∷ ms) ≡ Some y) e (rw (bytes_eq_itself m.item.identity) refl)
+  | inr j ↦ rw (All-In (λ y. bytes_eq m.item.identity y.item.identity ≡ false) n ms (All-of_map _ (λ y. y.item.identity) ms d.0) j) (find_itself n ms d.1 j)
+]
+
+module _ (f : Frame) (p : Package) (t : Tables) (says : Says f p t) where
+  -- an item that the package has is numbered
+  pub numbered_item : (q : Item → Bool) → list_any q p.items ≡ true → (n : Numbered) × In n says.numbered × (q n.item ≡ true)
+  numbered_item q h =
+      let it = one_passes q (map (λ m. m.item) says.numbered) (sym (list_any-arranged item_key q (map (λ m. m.item) says.numbered)) ∙ ap (list_any q) (sym says.items) ∙ h) in
+      let n = map_In (λ m. m.item) it.0 says.numbered it.1 in
+      (n.0, n.1, ap q n.2 ∙ it.2)
+
+  pub number_is : (n : Numbered) → In n says.numbered → number_of says.numbered n.item.identity ≡ n.number
+  number_is n i = rw (find_itself n says.numbered says.numbers.identities i) refl
+
+  -- the end of a link: an item of the kind, and its number
+  pub end_of : (kind : MovedKind) (id : List ℕ) → has item_key (kind_number kind ∷ id) p.items ≡ true
+      → (n : Numbered) × In n says.numbered × (kind_number (kind_of n.item.content) ≡ kind_number kind) × (n.item.identity ≡ id) × (number_of says.numbered id ≡ n.number)
+  end_of kind id h =
+      let it = numbered_item (λ i. bytes_eq (item_key i) (kind_number kind ∷ id)) h in
+      let both = and_true (kind_number (kind_of it.0.item.content) == kind_number kind) (bytes_eq it.0.item.identity id) it.2 in
+      let named = (bytes_eq-Decides it.0.item.identity id).0 both.1 in
+      (it.0, it.1, eqb-true (kind_number (kind_of it.0.item.content)) (kind_number kind) both.0, named, ap (number_of says.numbered) (sym named) ∙ number_is it.0 it.1)
+
+  -- of two ends of one kind the numbers are the same where the identities are
+  pub ends_same : (kind : MovedKind) (a b : List ℕ) → has item_key (kind_number kind ∷ a) p.items ≡ true → has item_key (kind_number kind ∷ b) p.items ≡ true
+      → (int_eq (number_of says.numbered a) (number_of says.numbered b) ≡ bytes_eq a b) × (length a ≡ length b)
+  ends_same kind a b ha hb =
+      let m = end_of kind a ha in
+      let n = end_of kind b hb in
+      let ns = says.numbered in
+      let in_range : (x : Numbered) → In x ns → is_within (pos 1) greatest_number x.number ≡ true = λ x i. All-In (λ y. is_within (pos 1) greatest_number y.number ≡ true) x ns says.numbers.range i in
+      let long : (x : Numbered) → In x ns → length x.item.identity ≡ 16 = λ x i. uuid_length x.item.identity (All-In (λ y. IsUuid y.item.identity) x ns says.numbers.uuids i) in
+      let places = All-In (λ y. bytes_eq (place_in_tables y) (place_in_tables n.0) ≡ bytes_eq y.item.identity n.0.item.identity) m.0 ns (same_tests place_in_tables (λ y. y.item.identity) n.0 ns says.numbers.numbers says.numbers.identities n.1) m.1 in
+      let kinds : (kind_number (kind_of m.0.item.content) == kind_number (kind_of n.0.item.content)) ≡ true = eq-eqb (kind_number (kind_of m.0.item.content)) (kind_number (kind_of n.0.item.content)) (m.2 ∙ sym n.2) in
+      let place_is : bytes_eq (place_in_tables m.0) (place_in_tables n.0) ≡ (unsigned_abs m.0.number == unsigned_abs n.0.number) = place_test (kind_number (kind_of m.0.item.content) == kind_number (kind_of n.0.item.content)) (unsigned_abs m.0.number == unsigned_abs n.0.number) kinds in
+      (rw (m.4, n.4) (same_number m.0.number n.0.number (in_range m.0 m.1) (in_range n.0 n.1)) ∙ sym place_is ∙ places ∙ rw (m.3, n.3) refl,
+      ap length (sym m.3) ∙ long m.0 m.1 ∙ sym (long n.0 n.1) ∙ ap length n.3)
+    where
+      place_test : (x y : Bool) → x ≡ true → (x && (y && true)) ≡ y
+      place_test true true h = refl
+      place_test true false h = refl
+      place_test false y h = absurd (false≢true h)
+
+  pub pair_same : (x l : Relation) → x.mapping ≡ l.mapping → HasEnds p x → HasEnds p l → is_pair (mapping_row says.numbered x) (mapping_row says.numbered l) ≡ bytes_eq (link_key x) (link_key l)
+  pair_same x l same hx hl =
+      let base = ends_same (base_kind l.mapping) x.base l.base (subst (λ m. has item_key (kind_number (base_kind m) ∷ x.base) p.items ≡ true) same hx.0) hl.0 in
+      let other = ends_same (other_kind l.mapping) x.media l.media (subst (λ m. has item_key (kind_number (other_kind m) ∷ x.media) p.items ≡ true) same hx.1) hl.1 in
+      ap (λ v. v && int_eq (number_of says.numbered x.media) (number_of says.numbered l.media)) base.0 ∙ ap (λ v. bytes_eq x.base l.base && v) other.0
+      ∙ sym (bytes_eq_append x.base x.media l.base l.media base.1)
+      ∙ sym (first (kind_number (link_kind x.mapping) == kind_number (link_kind l.mapping)) (eq-eqb _ _ (ap (λ m. kind_number (link_kind m)) same)))
+    where
+      first : (u : Bool) → u ≡ true → (u && bytes_eq (x.base ++ x.media) (l.base ++ l.media)) ≡ bytes_eq (x.base ++ x.media) (l.base ++ l.media)
+      first true h = refl
+      first false h = absurd (false≢true h)
+
+-- ---- a link less
+
+-- no list is left of nothing, whatever is kept
+nothing_kept : {X : Type 0} (b : Bool) → ◌≡◌ {A = List X} [] (cond b [] [])
+nothing_kept true = refl
+nothing_kept false = refl
+
+module _ (f : Frame) (p : Package) (t : Tables) (says : Says f p t) (l : Relation) (here : HasEnds p l) where
+  abbrev row : MappingRow
+  row = mapping_row says.numbered l
+
+  abbrev keep : Relation → Bool
+  keep x = not (bytes_eq (link_key x) (link_key l))
+
+  one_goes : (x : Relation) → x.mapping ≡ l.mapping → HasEnds p x → filter (λ r. not (is_pair r row)) (mapping_row says.numbered x ∷ []) ≡ cond (keep x) (mapping_row says.numbered x ∷ []) []
+  one_goes x same hx = ap (λ b. cond (not b) (mapping_row says.numbered x ∷ []) []) (pair_same f p t says x l same hx here)
+
+  apart : (x : Relation) (m n : Mapping) → x.mapping ≡ m → l.mapping ≡ n → (kind_number (link_kind m) == kind_number (link_kind n)) ≡ false → keep x ≡ true
+  apart x m n e g differ = let other : bytes_eq (link_key x) (link_key l) ≡ false = rw (e, g) (first (kind_number (link_kind m) == kind_number (link_kind n)) (bytes_eq (x.base ++ x.media) (l.base ++ l.media)) differ) in ap not other
+    where
+      first : (u v : Bool) → u ≡ false → (u && v) ≡ false
+      first true v h = absurd (true≢false h)
+      first false v h = refl
+
+  tiles_media_less : l.mapping ≡ TilesMedia → (x : Relation) → HasEnds p x → filter (λ r. not (is_pair r row)) (tiles_media_rows says.numbered x x.mapping) ≡ cond (keep x) (tiles_media_rows says.numbered x x.mapping) []
+  tiles_media_less e x hx = one x.mapping refl
+    where
+      one : (m : Mapping) → x.mapping ≡ m → filter (λ r. not (is_pair r row)) (tiles_media_rows says.numbered x m) ≡ cond (keep x) (tiles_media_rows says.numbered x m) []
+      one TilesMedia g = one_goes x (g ∙ sym e) hx
+      one RowsMedia g = nothing_kept (keep x)
+
+  rows_media_less : l.mapping ≡ RowsMedia → (x : Relation) → HasEnds p x → filter (λ r. not (is_pair r row)) (rows_media_rows says.numbered x x.mapping) ≡ cond (keep x) (rows_media_rows says.numbered x x.mapping) []
+  rows_media_less e x hx = one x.mapping refl
+    where
+      one : (m : Mapping) → x.mapping ≡ m → filter (λ r. not (is_pair r row)) (rows_media_rows says.numbered x m) ≡ cond (keep x) (rows_media_rows says.numbered x m) []
+      one TilesMedia g = nothing_kept (keep x)
+      one RowsMedia g = one_goes x (g ∙ sym e) hx
+
+  tiles_media_stay : l.mapping ≡ RowsMedia → (x : Relation) → keep x ≡ false → tiles_media_rows says.numbered x x.mapping ≡ []
+  tiles_media_stay e x gone = one x.mapping refl
+    where
+      one : (m : Mapping) → x.mapping ≡ m → tiles_media_rows says.numbered x m ≡ []
+      one TilesMedia g = absurd (true≢false (sym (apart x TilesMedia RowsMedia g e refl) ∙ gone))
+      one RowsMedia g = refl
+
+  rows_media_stay : l.mapping ≡ TilesMedia → (x : Relation) → keep x ≡ false → rows_media_rows says.numbered x x.mapping ≡ []
+  rows_media_stay e x gone = one x.mapping refl
+    where
+      one : (m : Mapping) → x.mapping ≡ m → rows_media_rows says.numbered x m ≡ []
+      one TilesMedia g = refl
+      one RowsMedia g = absurd (true≢false (sym (apart x RowsMedia TilesMedia g e refl) ∙ gone))
+
+  links_less : without link_key (link_key l ∷ []) p.links ≡ arranged link_key (filter keep says.linked)
+  links_less =
+      ap (filter (λ x. not (is_among (link_key l ∷ []) (link_key x)))) says.links ∙ filter-arranged link_key (λ x. not (is_among (link_key l ∷ []) (link_key x))) says.linked
+      ∙ ap (arranged link_key) (filter_same (λ x. not (is_among (link_key l ∷ []) (link_key x))) keep says.linked (All-each _ (λ x. ap not (last (bytes_eq (link_key l) (link_key x)) ∙ bytes_eq_swap (link_key l) (link_key x))) says.linked))
+    where
+      last : (x : Bool) → (x || false) ≡ x
+      last true = refl
+      last false = refl
+
+  -- the link goes, and its row
+  pub unlinks : Says f (record p { links = without link_key (link_key l ∷ []) p.links }) (without_link l.mapping row t)
+  unlinks = one l.mapping refl
+    where
+      one : (m : Mapping) → l.mapping ≡ m → Says f (record p { links = without link_key (link_key l ∷ []) p.links }) (without_link m row t)
+      one TilesMedia e = record {
+        good = says.good;
+        fixed = says.fixed;
+        created = says.created;
+        fit_head = record { uuid = says.fit_head.uuid; parent = says.fit_head.parent };
+        head = says.head;
+        numbered = says.numbered;
+        numbers = says.numbers;
+        items = says.items;
+        tiles = says.tiles;
+        media = says.media;
+        rows = says.rows;
+        identities = says.identities;
+        linked = filter keep says.linked;
+        distinct_links = distinct_filter link_key keep says.linked says.distinct_links;
+        ends = All-filter _ keep says.linked says.ends;
+        links = links_less;
+        tiles_media =
+            ap (filter (λ r. not (is_pair r row))) says.tiles_media ∙ filter-arranged tiles_media_shape.key (λ r. not (is_pair r row)) (flat_map (λ x. tiles_media_rows says.numbered x x.mapping) says.linked)
+            ∙ ap (arranged tiles_media_shape.key) (filter-flat_map (λ x. tiles_media_rows says.numbered x x.mapping) (λ r. not (is_pair r row)) keep says.linked (All-weaker _ _ (tiles_media_less e) says.linked says.ends));
+        rows_media = says.rows_media ∙ sym (ap (arranged rows_media_shape.key) (flat_map-kept (λ x. rows_media_rows says.numbered x x.mapping) keep says.linked (All-each _ (rows_media_stay e) says.linked)));
+        entered = says.entered;
+        distinct_receipts = says.distinct_receipts;
+        fit = says.fit;
+        kept = says.kept;
+        receipts = says.receipts;
+        moved = says.moved;
+      }
+      one RowsMedia e = record {
+        good = says.good;
+        fixed = says.fixed;
+        created = says.created;
+        fit_head = record { uuid = says.fit_head.uuid; parent = says.fit_head.parent };
+        head = says.head;
+        numbered = says.numbered;
+        numbers = says.numbers;
+        items = says.items;
+        tiles = says.tiles;
+        media = says.media;
+        rows = says.rows;
+        identities = says.identities;
+        linked = filter keep says.linked;
+        distinct_links = distinct_filter link_key keep says.linked says.distinct_links;
+        ends = All-filter _ keep says.linked says.ends;
+        links = links_less;
+        tiles_media = says.tiles_media ∙ sym (ap (arranged tiles_media_shape.key) (flat_map-kept (λ x. tiles_media_rows says.numbered x x.mapping) keep says.linked (All-each _ (tiles_media_stay e) says.linked)));
+        rows_media =
+            ap (filter (λ r. not (is_pair r row))) says.rows_media ∙ filter-arranged rows_media_shape.key (λ r. not (is_pair r row)) (flat_map (λ x. rows_media_rows says.numbered x x.mapping) says.linked)
+            ∙ ap (arranged rows_media_shape.key) (filter-flat_map (λ x. rows_media_rows says.numbered x x.mapping) (λ r. not (is_pair r row)) keep says.linked (All-weaker _ _ (rows_media_less e) says.linked says.ends));
+        entered = says.entered;
+        distinct_receipts = says.distinct_receipts;
+        fit = says.fit;
+        kept = says.kept;
+        receipts = says.receipts;
+        moved = says.moved;
+      }

@@ -1,0 +1,123 @@
+-- How the rows of a package's tables stand for items under lasting identities. Items are rows of user data tables (OGC GeoPackage 1.3, 2.2.8 and 2.4.2; OGC 18-000, media), links rows of user-defined mapping tables (OGC 18-000); local numbers and `sheet_identity` are profile.
+use Rattle.std.specs.Prelude.{◌≡◌, ℕ, ℤ, pos, Bool, true, not, ◌&&◌, if◌then◌else◌, List, [], ◌∷◌, map, filter, find, bytes_eq, flat_map, unsigned_abs}
+use Rattle.std.specs.Ordering.{int_eq}
+use Rattle.std.specs.List.{AllByRecursion, IsDistinct}
+use Rattle.std.specs.Option.{option_map_or}
+use Rattle.sheet_types.specs.Ordered.{put}
+use Rattle.sheet_types.specs.Matrix.{is_within}
+use Rattle.sheet_types.specs.Texts.{uuid_text, kind_of}
+use Rattle.sheet_types.specs.World.{kind_number, kind_is}
+use Rattle.sheet_types.specs.declared.receipt.MovedKind.{MovedKind}
+use Rattle.sheet_types.specs.declared.receipt.MovedKind.TheVariants.{TileItem, MediaItem, RowItem}
+use Rattle.sheet_types.specs.Lines.{IsUuid}
+use Rattle.sheet_types.specs.declared.command.Content.{Content}
+use Rattle.sheet_types.specs.declared.command.Content.TheVariants.{Tile, Media, Row}
+use Rattle.sheet_types.specs.declared.command.Item.{Item}
+use Rattle.sheet_types.specs.declared.command.Mapping.{Mapping}
+use Rattle.sheet_types.specs.declared.command.Mapping.TheVariants.{TilesMedia, RowsMedia}
+use Rattle.sheet_types.specs.declared.command.Relation.{Relation}
+use Rattle.package_tables.specs.Shapes.{tile_shape, medium_shape, attribute_shape, identity_shape, tiles_media_shape, rows_media_shape}
+use Rattle.package_tables.specs.Package.{Tables}
+use Rattle.package_tables.specs.declared.rows.TileRow.{TileRow}
+use Rattle.package_tables.specs.declared.rows.MediaRow.{MediaRow}
+use Rattle.package_tables.specs.declared.rows.AttributeRow.{AttributeRow}
+use Rattle.package_tables.specs.declared.rows.MappingRow.{MappingRow}
+use Rattle.package_tables.specs.declared.rows.IdentityRow.{IdentityRow}
+
+-- an item and the local number of its row
+pub record Numbered : Type 0 where
+  pub number : ℤ
+  pub item : Item
+
+abbrev pub greatest_number : ℤ
+greatest_number = pos 1000000
+
+-- a kind and a number, which name a row
+abbrev pub place_in_tables : Numbered → List ℕ
+place_in_tables n = kind_number (kind_of n.item.content) ∷ unsigned_abs n.number ∷ []
+
+-- numbers from 1 to 1,000,000, each once in its kind; identities of 16 bytes, each once
+pub record IsNumbering (numbered : List Numbered) : Type 0 where
+  pub range : AllByRecursion (λ n. is_within (pos 1) greatest_number n.number ≡ true) numbered
+  pub numbers : IsDistinct bytes_eq (map place_in_tables numbered)
+  pub identities : IsDistinct bytes_eq (map (λ n. n.item.identity) numbered)
+  pub uuids : AllByRecursion (λ n. IsUuid n.item.identity) numbered
+
+-- ---- the rows of an item
+
+abbrev pub tile_rows : ℤ → Content → List TileRow
+tile_rows number (Tile zoom column row bytes) = record { id = number; zoom_level = zoom; tile_column = column; tile_row = row; tile_data = bytes } ∷ []
+tile_rows number (Media content_type bytes) = []
+tile_rows number (Row x y code label) = []
+
+abbrev pub media_rows : ℤ → Content → List MediaRow
+media_rows number (Tile zoom column row bytes) = []
+media_rows number (Media content_type bytes) = record { id = number; «data» = bytes; content_type = content_type } ∷ []
+media_rows number (Row x y code label) = []
+
+abbrev pub attribute_rows : ℤ → Content → List AttributeRow
+attribute_rows number (Tile zoom column row bytes) = []
+attribute_rows number (Media content_type bytes) = []
+attribute_rows number (Row x y code label) = record { id = number; x = x; y = y; code = code; label = label } ∷ []
+
+abbrev pub identity_row : Numbered → IdentityRow
+identity_row n = record { kind = pos (kind_number (kind_of n.item.content)); local_id = n.number; uuid = uuid_text n.item.identity }
+
+-- ---- the rows of a link
+
+-- the local number of an identity; 0 where there is no such item
+abbrev pub number_of : List Numbered → List ℕ → ℤ
+number_of numbered id = option_map_or (λ n. n.number) (find (λ n. bytes_eq n.item.identity id) numbered) (pos 0)
+
+abbrev pub mapping_row : List Numbered → Relation → MappingRow
+mapping_row numbered l = record { base_id = number_of numbered l.base; related_id = number_of numbered l.media }
+
+abbrev pub tiles_media_rows : List Numbered → Relation → Mapping → List MappingRow
+tiles_media_rows numbered l TilesMedia = mapping_row numbered l ∷ []
+tiles_media_rows numbered l RowsMedia = []
+
+abbrev pub rows_media_rows : List Numbered → Relation → Mapping → List MappingRow
+rows_media_rows numbered l TilesMedia = []
+rows_media_rows numbered l RowsMedia = mapping_row numbered l ∷ []
+
+-- ---- an item more
+
+-- rows that come to their places
+abbrev pub puts : {X : Type 0} → (X → List ℕ) → List X → List X → List X
+puts key [] xs = xs
+puts key (x ∷ new) xs = put key x (puts key new xs)
+
+-- the tables with the rows of one item more
+abbrev pub with_item : Numbered → Tables → Tables
+with_item n t = record t {
+  tiles = puts tile_shape.key (tile_rows n.number n.item.content) t.tiles;
+  media = puts medium_shape.key (media_rows n.number n.item.content) t.media;
+  rows = puts attribute_shape.key (attribute_rows n.number n.item.content) t.rows;
+  identities = put identity_shape.key (identity_row n) t.identities;
+}
+
+-- ---- an item less
+
+-- the tables without the rows of the item of this kind and number
+abbrev pub without_item : MovedKind → ℤ → Tables → Tables
+without_item kind number t = record t {
+  tiles = if kind_is TileItem kind then filter (λ r. not (int_eq r.id number)) t.tiles else t.tiles;
+  media = if kind_is MediaItem kind then filter (λ r. not (int_eq r.id number)) t.media else t.media;
+  rows = if kind_is RowItem kind then filter (λ r. not (int_eq r.id number)) t.rows else t.rows;
+  identities = filter (λ r. not (int_eq r.kind (pos (kind_number kind)) && int_eq r.local_id number)) t.identities;
+}
+
+-- ---- links
+
+-- the tables with the row of one link more
+abbrev pub with_link : Mapping → MappingRow → Tables → Tables
+with_link TilesMedia row t = record t { tiles_media = put tiles_media_shape.key row t.tiles_media }
+with_link RowsMedia row t = record t { rows_media = put rows_media_shape.key row t.rows_media }
+
+abbrev pub is_pair : MappingRow → MappingRow → Bool
+is_pair a b = int_eq a.base_id b.base_id && int_eq a.related_id b.related_id
+
+-- the tables without the row of a link
+abbrev pub without_link : Mapping → MappingRow → Tables → Tables
+without_link TilesMedia row t = record t { tiles_media = filter (λ r. not (is_pair r row)) t.tiles_media }
+without_link RowsMedia row t = record t { rows_media = filter (λ r. not (is_pair r row)) t.rows_media }

@@ -1,0 +1,111 @@
+-- When the tables of a store read as a package. OGC GeoPackage 1.3 and OGC 18-000 for the tables; identities, receipts and the head are profile.
+use Rattle.std.specs.Prelude.{◌≡◌, ℕ, pos, Bool, true, ◌&&◌, bytes_eq, List, [], ◌∷◌, ◌++◌, map, flat_map, Option, Some, None, unwrap_or}
+use Rattle.std.specs.List.{AllByRecursion, IsDistinct, enumerate_from}
+use Rattle.std.specs.Option.{option_map_or}
+use Rattle.hex.specs.Hex.{encode_lower}
+use Rattle.sqlite.specs.Effect.{Database}
+use Rattle.sheet_types.specs.Ordered.{arranged}
+use Rattle.sheet_types.specs.Matrix.{is_good_frame}
+use Rattle.sheet_types.specs.Texts.{uuid_text, is_moment}
+use Rattle.sheet_types.specs.World.{Package, item_key, link_key, receipt_key, kind_number}
+use Rattle.sheet_types.specs.Lines.{is_uuid, is_bytes}
+use Rattle.sheet_types.specs.Register.{HasEnds}
+use Rattle.sheet_types.specs.declared.command.Relation.{Relation}
+use Rattle.sheet_types.specs.declared.frame.Frame.{Frame}
+use Rattle.sheet_types.specs.declared.receipt.Moved.{Moved}
+use Rattle.sheet_types.specs.declared.receipt.Receipt.{Receipt}
+use Rattle.package_tables.specs.Shapes.{tile_shape, medium_shape, attribute_shape, tiles_media_shape, rows_media_shape, identity_shape, receipt_shape, moved_shape}
+use Rattle.package_tables.specs.Package.{Tables, tables_of, AreFormed}
+use Rattle.package_tables.specs.Fixed.{HasFixed}
+use Rattle.package_tables.specs.declared.rows.HeadRow.{HeadRow}
+use Rattle.package_tables.specs.declared.rows.ReceiptRow.{ReceiptRow}
+use Rattle.package_tables.specs.declared.rows.MovedRow.{MovedRow}
+use Rattle.identity_register.specs.Numbering.{Numbered, IsNumbering, tile_rows, media_rows, attribute_rows, identity_row, tiles_media_rows, rows_media_rows}
+
+-- a UUID that may be missing: the empty text where it is
+abbrev pub end_text : Option (List ℕ) → List ℕ
+end_text end = option_map_or uuid_text end []
+
+-- the head of a package, made at a moment
+abbrev pub head_row : Package → List ℕ → HeadRow
+head_row p created = record { id = pos 1; version = pos 1; «package» = uuid_text p.uuid; parent = end_text p.parent; depth = pos p.depth; loan = pos p.loan; created = created }
+
+abbrev pub receipt_row : Receipt → ReceiptRow
+receipt_row r = record {
+  seq = pos r.seq;
+  request = uuid_text r.request;
+  at = r.at;
+  line = r.line;
+  source = end_text r.source;
+  target = end_text r.target;
+  n_tiles = pos r.tiles;
+  n_media = pos r.media;
+  n_rows = pos r.rows;
+  n_links = pos r.links;
+  n_bytes = pos r.bytes;
+}
+
+abbrev pub moved_row : ℕ → ℕ → Moved → MovedRow
+moved_row seq position m = record {
+  seq = pos seq;
+  position = pos position;
+  kind = pos (kind_number m.kind);
+  base = uuid_text m.base;
+  other = end_text m.other;
+  size = pos m.size;
+  fingerprint = option_map_or encode_lower m.fingerprint [];
+}
+
+-- the things that a receipt moved, by their positions from 0
+abbrev pub moved_rows : Receipt → List MovedRow
+moved_rows r = map (λ m. moved_row r.seq m.0 m.1) (enumerate_from 0 r.items)
+
+-- the UUIDs and digests of a receipt are such (RFC 9562, section 4; FIPS 180-4, section 6.2), so that their texts can be read back
+abbrev pub is_fit_end : Option (List ℕ) → Bool
+is_fit_end end = option_map_or is_uuid end true
+
+abbrev pub is_fit_moved : Moved → Bool
+is_fit_moved m = is_uuid m.base && is_fit_end m.other && option_map_or (is_bytes 32) m.fingerprint true
+
+pub record IsFitReceipt (r : Receipt) : Type 0 where
+  pub request : is_uuid r.request ≡ true
+  pub source : is_fit_end r.source ≡ true
+  pub target : is_fit_end r.target ≡ true
+  pub items : AllByRecursion (λ m. is_fit_moved m ≡ true) r.items
+
+-- the UUIDs of a package's head are such
+pub record IsFitHead (p : Package) : Type 0 where
+  pub uuid : is_uuid p.uuid ≡ true
+  pub parent : is_fit_end p.parent ≡ true
+
+-- The tables say this package: its items under some numbers, its links and its receipts, in whatever order they came, are all that the tables hold.
+pub record Says (f : Frame) (p : Package) (t : Tables) : Type 0 where
+  pub good : is_good_frame f ≡ true
+  pub fixed : HasFixed f t
+  pub created : List ℕ
+  pub fit_head : IsFitHead p
+  pub head : t.heads ≡ head_row p created ∷ []
+  pub numbered : List Numbered
+  pub numbers : IsNumbering numbered
+  pub items : p.items ≡ arranged item_key (map (λ n. n.item) numbered)
+  pub tiles : t.tiles ≡ arranged tile_shape.key (flat_map (λ n. tile_rows n.number n.item.content) numbered)
+  pub media : t.media ≡ arranged medium_shape.key (flat_map (λ n. media_rows n.number n.item.content) numbered)
+  pub rows : t.rows ≡ arranged attribute_shape.key (flat_map (λ n. attribute_rows n.number n.item.content) numbered)
+  pub identities : t.identities ≡ arranged identity_shape.key (map identity_row numbered)
+  pub linked : List Relation
+  pub distinct_links : IsDistinct bytes_eq (map link_key linked)
+  pub ends : AllByRecursion (HasEnds p) linked
+  pub links : p.links ≡ arranged link_key linked
+  pub tiles_media : t.tiles_media ≡ arranged tiles_media_shape.key (flat_map (λ l. tiles_media_rows numbered l l.mapping) linked)
+  pub rows_media : t.rows_media ≡ arranged rows_media_shape.key (flat_map (λ l. rows_media_rows numbered l l.mapping) linked)
+  pub entered : List Receipt
+  pub distinct_receipts : IsDistinct bytes_eq (map receipt_key entered)
+  pub fit : AllByRecursion IsFitReceipt entered
+  pub kept : p.receipts ≡ arranged receipt_key entered
+  pub receipts : t.receipts ≡ arranged receipt_shape.key (map receipt_row entered)
+  pub moved : t.moved ≡ arranged moved_shape.key (flat_map moved_rows entered)
+
+-- a database reads as this package
+pub record Reads (f : Frame) (p : Package) (db : Database) : Type 0 where
+  pub formed : AreFormed db
+  pub says : Says f p (tables_of db)

@@ -1,0 +1,2 @@
+//! A package as a set of identified items and links: nothing above this crate knows a local number.
+#![tactic(auto)]

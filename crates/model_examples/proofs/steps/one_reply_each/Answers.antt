@@ -1,0 +1,5 @@
+use Rattle.std.specs.Prelude.{refl}
+use Rattle.model_examples.proofs.steps.one_reply_each.Goals as goal
+
+pub returns : goal.returns
+returns c = λ w next q reply. ((λ h. h), (λ h. h))

@@ -1,0 +1,119 @@
+-- The statements on `sheet_rows`. Written by tools/statements.py.
+use Rattle.std.proofs.Common.{◌≡◌, ℕ, ℤ, List, [], ◌∷◌, Bool, true, codes, refl}
+use Rattle.std.specs.Prelude.{◌&&◌, bytes_eq}
+use Rattle.std.specs.Ordering.{int_eq}
+use Rattle.sqlite.specs.Order.{Row}
+use Rattle.sqlite.specs.Term.{col}
+use Rattle.sqlite.specs.Edit.{next_rowid}
+use Rattle.sqlite.specs.declared.types.Value.TheVariants.{Int, Null, Text, Blob}
+use Rattle.sqlite_tied.specs.Compute.{everything}
+use Rattle.sql_meaning.specs.Resolving.{resolving}
+use Rattle.sql_meaning.specs.Reading.{always, equals, both, ascending, descending}
+use Rattle.sql_meaning.proofs.Insert.{IsInsert, IsRow}
+use Rattle.sql_meaning.proofs.Delete.{IsDelete, IsPlannedDelete}
+use Rattle.sql_meaning.proofs.Resolve.{one_table, one_source}
+use Rattle.sql_meaning.proofs.Select.{IsSelect, IsPlannedSelect}
+use Rattle.sql_meaning.proofs.First.{IsFirst, IsPlannedFirst}
+use Rattle.package_tables.specs.Tables.{sheet_rows}
+use Rattle.package_tables.specs.Shapes.{attribute_shape, int_at, text_at, blob_at}
+use Rattle.package_tables.specs.Shown.{attribute_shown}
+use Rattle.package_tables.specs.declared.rows.AttributeRow.{AttributeRow}
+use Rattle.package_tables.proofs.Looking.{IsKnown, IsRead}
+use Rattle.package_tables.proofs.Newest.{IsNewest}
+use Rattle.package_tables.proofs.Values.{same_number, same_text, both_same}
+use Rattle.package_tables.proofs.Written.{attribute_shape_is}
+
+pub insert_text : (tree : ℕ) → IsInsert (codes "INSERT INTO sheet_rows VALUES (?1, ?2, ?3, ?4, ?5)") (sheet_rows tree)
+unfolding everything
+insert_text tree = record { parse = _; rows = _; parsed = refl; statement = refl; formats = refl; named = refl; unstamped = refl; source = λ schema. refl }
+
+pub insert_row : (row : AttributeRow) (tree : ℕ) (there : List Row)
+    → IsRow (sheet_rows tree) (Int row.id ∷ Int row.x ∷ Int row.y ∷ Int row.code ∷ Text row.label ∷ []) there (attribute_shape.stored Null row)
+insert_row row tree there = record { source = _; laid = refl; kinds = refl; placed = λ top. refl }
+
+pub delete_text : (tree : ℕ) → IsDelete (codes "DELETE FROM sheet_rows WHERE id = ?1") (sheet_rows tree) (equals 0 0)
+unfolding everything
+delete_text tree = record { parse = _; where' = _; parsed = refl; statement = refl; formats = refl; named = refl; condition = (_, refl, (_, _, _, _, refl, refl, refl, refl, refl, refl, refl)); enough = refl }
+
+pub delete_plan : (tree : ℕ) → IsPlannedDelete (sheet_rows tree) (equals 0 0)
+unfolding resolving
+delete_plan tree schema at h = rw (h.stored, h.by_tree) refl
+
+pub known : IsKnown attribute_shape (λ t. t.rows) attribute_shown
+known = record { laws = attribute_shape_is; formed = λ db f. f.rows; lists = λ db. refl; back = λ r. record { id = int_at r 0; x = int_at r 1; y = int_at r 2; code = int_at r 3; label = text_at r 4 }; returns = λ x. refl }
+
+attribute_by_id_text : (tree : ℕ) → IsSelect (codes "SELECT * FROM sheet_rows WHERE id = ?1") (sheet_rows tree) (equals 0 0) []
+unfolding everything
+attribute_by_id_text tree = record {
+  parse = _;
+  asks = _;
+  src = _;
+  item = _;
+  parsed = refl;
+  statement = refl;
+  formats = refl;
+  one = one_table refl refl refl refl refl refl refl refl refl refl refl refl refl refl refl;
+  condition = (_, refl, (_, _, _, _, refl, refl, refl, refl, refl, refl, refl));
+  enough = refl;
+  few = λ at. refl;
+  some = λ at. refl;
+  sorted = λ schema at. (_, refl, refl);
+}
+
+attribute_by_id_plan : (tree : ℕ) → IsPlannedSelect (sheet_rows tree) (equals 0 0) []
+unfolding resolving
+attribute_by_id_plan tree schema at h = rw (h.stored, h.by_tree) refl
+
+pub attribute_by_id : (id : ℤ) → IsRead attribute_shape attribute_shown (codes "SELECT * FROM sheet_rows WHERE id = ?1") (Int id ∷ []) (λ x. int_eq x.id id)
+attribute_by_id id = record { test = _; by = _; selects = attribute_by_id_text; planned = attribute_by_id_plan; given = refl; listing = _; is = λ tree. refl; shows = λ v x. refl; passing = λ v x. (same_number x.id id) }
+
+all_text : (tree : ℕ) → IsSelect (codes "SELECT * FROM sheet_rows ORDER BY id") (sheet_rows tree) always ((col 1 0, ascending) ∷ [])
+unfolding everything
+all_text tree = record {
+  parse = _;
+  asks = _;
+  src = _;
+  item = _;
+  parsed = refl;
+  statement = refl;
+  formats = refl;
+  one = one_table refl refl refl refl refl refl refl refl refl refl refl refl refl refl refl;
+  condition = refl;
+  enough = refl;
+  few = λ at. refl;
+  some = λ at. refl;
+  sorted = λ schema at. (_, refl, refl);
+}
+
+all_plan : (tree : ℕ) → IsPlannedSelect (sheet_rows tree) always ((col 1 0, ascending) ∷ [])
+unfolding resolving
+all_plan tree schema at h = rw (h.stored, h.by_tree) refl
+
+pub all : IsRead attribute_shape attribute_shown (codes "SELECT * FROM sheet_rows ORDER BY id") [] (λ x. true)
+all = record { test = _; by = _; selects = all_text; planned = all_plan; given = refl; listing = _; is = λ tree. refl; shows = λ v x. refl; passing = λ v x. refl }
+
+newest_text : (tree : ℕ) → IsFirst (codes "SELECT * FROM sheet_rows ORDER BY id DESC LIMIT 1") (sheet_rows tree) always ((col 1 0, descending) ∷ [])
+unfolding everything
+newest_text tree = record {
+  parse = _;
+  asks = _;
+  src = _;
+  item = _;
+  parsed = refl;
+  statement = refl;
+  formats = refl;
+  one = one_source refl refl refl refl refl refl refl refl refl refl refl refl refl;
+  paged = λ schema. refl;
+  condition = refl;
+  enough = refl;
+  few = λ at. refl;
+  some = λ at. refl;
+  sorted = λ schema at. (_, refl, refl);
+}
+
+newest_plan : (tree : ℕ) → IsPlannedFirst (sheet_rows tree) always ((col 1 0, descending) ∷ [])
+unfolding resolving
+newest_plan tree schema at h = rw (h.stored, h.by_tree) refl
+
+pub newest : IsNewest attribute_shape (λ x. x.id) (codes "SELECT * FROM sheet_rows ORDER BY id DESC LIMIT 1")
+newest = record { by = _; selects = newest_text; planned = newest_plan; shown = _; is = λ tree. refl; begins = λ v x. refl; keyed = λ v x. refl }

@@ -1,0 +1,118 @@
+-- The statements on `sheet_identity`. Written by tools/statements.py.
+use Rattle.std.proofs.Common.{◌≡◌, ℕ, ℤ, List, [], ◌∷◌, Bool, true, codes, refl}
+use Rattle.std.specs.Prelude.{◌&&◌, bytes_eq}
+use Rattle.std.specs.Ordering.{int_eq}
+use Rattle.sqlite.specs.Order.{Row}
+use Rattle.sqlite.specs.Term.{col}
+use Rattle.sqlite.specs.Edit.{next_rowid}
+use Rattle.sqlite.specs.declared.types.Value.TheVariants.{Int, Null, Text, Blob}
+use Rattle.sqlite_tied.specs.Compute.{everything}
+use Rattle.sql_meaning.specs.Resolving.{resolving}
+use Rattle.sql_meaning.specs.Reading.{always, equals, both, ascending, descending}
+use Rattle.sql_meaning.proofs.Insert.{IsInsert, IsRow}
+use Rattle.sql_meaning.proofs.Delete.{IsDelete, IsPlannedDelete}
+use Rattle.sql_meaning.proofs.Resolve.{one_table, one_source}
+use Rattle.sql_meaning.proofs.Select.{IsSelect, IsPlannedSelect}
+use Rattle.sql_meaning.proofs.First.{IsFirst, IsPlannedFirst}
+use Rattle.package_tables.specs.Tables.{sheet_identity}
+use Rattle.package_tables.specs.Shapes.{identity_shape, int_at, text_at, blob_at}
+use Rattle.package_tables.specs.Shown.{identity_shown}
+use Rattle.package_tables.specs.declared.rows.IdentityRow.{IdentityRow}
+use Rattle.package_tables.proofs.Looking.{IsKnown, IsRead}
+use Rattle.package_tables.proofs.Newest.{IsNewest}
+use Rattle.package_tables.proofs.Values.{same_number, same_text, both_same}
+use Rattle.package_tables.proofs.Written.{identity_shape_is}
+
+pub insert_text : (tree : ℕ) → IsInsert (codes "INSERT INTO sheet_identity VALUES (?1, ?2, ?3)") (sheet_identity tree)
+unfolding everything
+insert_text tree = record { parse = _; rows = _; parsed = refl; statement = refl; formats = refl; named = refl; unstamped = refl; source = λ schema. refl }
+
+pub insert_row : (row : IdentityRow) (tree : ℕ) (there : List Row)
+    → IsRow (sheet_identity tree) (Int row.kind ∷ Int row.local_id ∷ Text row.uuid ∷ []) there (identity_shape.stored (Int (next_rowid there)) row)
+insert_row row tree there = record { source = _; laid = refl; kinds = refl; placed = λ top. refl }
+
+pub delete_text : (tree : ℕ) → IsDelete (codes "DELETE FROM sheet_identity WHERE kind = ?1 AND local_id = ?2") (sheet_identity tree) (both (equals 0 0) (equals 1 1))
+unfolding everything
+delete_text tree = record { parse = _; where' = _; parsed = refl; statement = refl; formats = refl; named = refl; condition = (_, refl, (_, _, refl, (_, _, _, _, refl, refl, refl, refl, refl, refl, refl), (_, _, _, _, refl, refl, refl, refl, refl, refl, refl))); enough = refl }
+
+pub delete_plan : (tree : ℕ) → IsPlannedDelete (sheet_identity tree) (both (equals 0 0) (equals 1 1))
+unfolding resolving
+delete_plan tree schema at h = rw (h.stored, h.by_tree) refl
+
+pub known : IsKnown identity_shape (λ t. t.identities) identity_shown
+known = record { laws = identity_shape_is; formed = λ db f. f.identities; lists = λ db. refl; back = λ r. record { kind = int_at r 0; local_id = int_at r 1; uuid = text_at r 2 }; returns = λ x. refl }
+
+identity_by_uuid_text : (tree : ℕ) → IsSelect (codes "SELECT * FROM sheet_identity WHERE uuid = ?1") (sheet_identity tree) (equals 2 0) []
+unfolding everything
+identity_by_uuid_text tree = record {
+  parse = _;
+  asks = _;
+  src = _;
+  item = _;
+  parsed = refl;
+  statement = refl;
+  formats = refl;
+  one = one_table refl refl refl refl refl refl refl refl refl refl refl refl refl refl refl;
+  condition = (_, refl, (_, _, _, _, refl, refl, refl, refl, refl, refl, refl));
+  enough = refl;
+  few = λ at. refl;
+  some = λ at. refl;
+  sorted = λ schema at. (_, refl, refl);
+}
+
+identity_by_uuid_plan : (tree : ℕ) → IsPlannedSelect (sheet_identity tree) (equals 2 0) []
+unfolding resolving
+identity_by_uuid_plan tree schema at h = rw (h.stored, h.by_tree) refl
+
+pub identity_by_uuid : (uuid : List ℕ) → IsRead identity_shape identity_shown (codes "SELECT * FROM sheet_identity WHERE uuid = ?1") (Text uuid ∷ []) (λ x. bytes_eq x.uuid uuid)
+identity_by_uuid uuid = record { test = _; by = _; selects = identity_by_uuid_text; planned = identity_by_uuid_plan; given = refl; listing = _; is = λ tree. refl; shows = λ v x. refl; passing = λ v x. (same_text x.uuid uuid) }
+
+identity_by_key_text : (tree : ℕ) → IsSelect (codes "SELECT * FROM sheet_identity WHERE kind = ?1 AND local_id = ?2") (sheet_identity tree) (both (equals 0 0) (equals 1 1)) []
+unfolding everything
+identity_by_key_text tree = record {
+  parse = _;
+  asks = _;
+  src = _;
+  item = _;
+  parsed = refl;
+  statement = refl;
+  formats = refl;
+  one = one_table refl refl refl refl refl refl refl refl refl refl refl refl refl refl refl;
+  condition = (_, refl, (_, _, refl, (_, _, _, _, refl, refl, refl, refl, refl, refl, refl), (_, _, _, _, refl, refl, refl, refl, refl, refl, refl)));
+  enough = refl;
+  few = λ at. refl;
+  some = λ at. refl;
+  sorted = λ schema at. (_, refl, refl);
+}
+
+identity_by_key_plan : (tree : ℕ) → IsPlannedSelect (sheet_identity tree) (both (equals 0 0) (equals 1 1)) []
+unfolding resolving
+identity_by_key_plan tree schema at h = rw (h.stored, h.by_tree) refl
+
+pub identity_by_key : (kind : ℤ) (local_id : ℤ) → IsRead identity_shape identity_shown (codes "SELECT * FROM sheet_identity WHERE kind = ?1 AND local_id = ?2") (Int kind ∷ Int local_id ∷ []) (λ x. int_eq x.kind kind && int_eq x.local_id local_id)
+identity_by_key kind local_id = record { test = _; by = _; selects = identity_by_key_text; planned = identity_by_key_plan; given = refl; listing = _; is = λ tree. refl; shows = λ v x. refl; passing = λ v x. (both_same (same_number x.kind kind) (same_number x.local_id local_id)) }
+
+all_text : (tree : ℕ) → IsSelect (codes "SELECT * FROM sheet_identity ORDER BY kind, local_id") (sheet_identity tree) always ((col 1 1, ascending) ∷ (col 1 2, ascending) ∷ [])
+unfolding everything
+all_text tree = record {
+  parse = _;
+  asks = _;
+  src = _;
+  item = _;
+  parsed = refl;
+  statement = refl;
+  formats = refl;
+  one = one_table refl refl refl refl refl refl refl refl refl refl refl refl refl refl refl;
+  condition = refl;
+  enough = refl;
+  few = λ at. refl;
+  some = λ at. refl;
+  sorted = λ schema at. (_, refl, refl);
+}
+
+all_plan : (tree : ℕ) → IsPlannedSelect (sheet_identity tree) always ((col 1 1, ascending) ∷ (col 1 2, ascending) ∷ [])
+unfolding resolving
+all_plan tree schema at h = rw (h.stored, h.by_tree) refl
+
+pub all : IsRead identity_shape identity_shown (codes "SELECT * FROM sheet_identity ORDER BY kind, local_id") [] (λ x. true)
+all = record { test = _; by = _; selects = all_text; planned = all_plan; given = refl; listing = _; is = λ tree. refl; shows = λ v x. refl; passing = λ v x. refl }

@@ -1,0 +1,137 @@
+-- From the clauses of `query_all` to what a look-up answers of the tables, inside a transaction and at rest.
+use Rattle.std.proofs.Common.{◌≡◌, ◌⊎◌, inl, inr, ℕ, List, [], ◌∷◌, map, Bool, true, false, Option, Some, None, Result, Ok, Err, IsTrue, refl, sym, ap, subst, ◌∙◌}
+use Rattle.std.specs.Prelude.{slice_get, filter, MatchOption, IfOk, IfErr, IsOkAnd, OnErr}
+use Rattle.sqlite.specs.Order.{Row}
+use Rattle.sqlite.specs.Term.{Term}
+use Rattle.sqlite.specs.Tree.{Trees}
+use Rattle.sqlite.specs.Store.{Ghosts}
+use Rattle.sqlite.specs.Effect.{Database}
+use Rattle.sqlite.specs.Held.{Held, state}
+use Rattle.sqlite.specs.declared.error.Error.{Error}
+use Rattle.sqlite.specs.declared.types.Value.{Value}
+use Rattle.sqlite.specs.State.{State, HasCleanDisk, IsUnchanged, IsRolledBack, Survives, Shown, FailsToQuery, IsTooLate, CommitsShowing}
+use Rattle.sqlite_value.specs.declared.keys.Key.{Key}
+use Rattle.sql_meaning.specs.Known.{HasTable}
+use Rattle.sql_meaning.specs.Reading.{Test, Listing, IsListing, Finds}
+use Rattle.sql_meaning.specs.Transactions.{Rests, Looks}
+use Rattle.sql_meaning.proofs.Where.{are_given}
+use Rattle.sql_meaning.proofs.Select.{IsSelect, IsPlannedSelect, listing_of, listed}
+use Rattle.sql_meaning.proofs.Answering.{shown_unchanged, failed_unchanged, found_looks}
+use Rattle.sql_meaning.proofs.Transactions.{Shuts, Settles}
+use Rattle.package_tables.specs.Shape.{Shape, IsShape, IsFormed, rows_of}
+use Rattle.package_tables.specs.Package.{Tables, tables_of, AreFormed}
+use Rattle.package_tables.specs.Calls.{TellsInside, Tells, Answers, LooksUp, IsOneOf, AreThose}
+use Rattle.package_tables.specs.declared.fault.Fault.{Fault}
+use Rattle.package_tables.proofs.Reading.{those, one_of}
+
+-- the table is one of the fourteen, and a SELECT * shows its values so
+pub record IsKnown {R : Type 0} (shape : Shape R) (list : Tables → List R) (shown : R → Row) : Type 0 where
+  pub laws : IsShape shape
+  pub formed : (db : Database) → AreFormed db → IsFormed shape db
+  pub lists : (db : Database) → list (tables_of db) ≡ rows_of shape db
+  pub back : Row → R
+  pub returns : (x : R) → back (shown x) ≡ x
+
+-- with these parameters the text is a SELECT * of the rows whose values pass
+pub record IsRead {R : Type 0} (shape : Shape R) (shown : R → Row) (text : List ℕ) (params : Row) (keeps : R → Bool) : Type 0 where
+  pub test : Test
+  pub by : List (Term × Key)
+  pub selects : (tree : ℕ) → IsSelect text (shape.table tree) test by
+  pub planned : (tree : ℕ) → IsPlannedSelect (shape.table tree) test by
+  pub given : are_given test params ≡ true
+  pub listing : Listing
+  pub is : (tree : ℕ) → listing_of (shape.table tree) test by params ≡ listing
+  pub shows : (v : Value) (x : R) → listing.shown (shape.stored v x) ≡ shown x
+  pub passing : (v : Value) (x : R) → listing.keeps (shape.stored v x) ≡ keeps x
+
+-- the rows of an answer, as a function reads them, say this
+abbrev pub AreSaid : {X Y F : Type 0} → (Y → List Row) → (List Row → X → Type 0) → Result Y Error → Result X F → Type 0
+AreSaid items Says answer result = IfOk result (λ x. IsOkAnd answer (λ rows. Says (items rows) x))
+
+abbrev pub HasHead : {R : Type 0} → (R → Row) → List Row → Option R → Type 0
+HasHead shown rows first = MatchOption first (rows ≡ []) (λ x. slice_get rows 0 ≡ Some (shown x))
+
+abbrev pub AreShown : {R : Type 0} → (R → Row) → List Row → List R → Type 0
+AreShown shown rows xs = rows ≡ map shown xs
+
+module _ {R : Type 0} {shape : Shape R} {list : Tables → List R} {shown : R → Row} (known : IsKnown shape list shown) {text : List ℕ} {params : Row} {keeps : R → Bool} (read : IsRead shape shown text params keeps) where
+  abbrev IsListed : Database → List Row → Type 0
+  IsListed db rows = (at tree : ℕ) → HasTable db.schema at (shape.table tree) → IsListing read.listing.key read.listing.shown read.listing.by (filter read.listing.keeps (db.trees (shape.table tree).tree)) rows
+
+  -- what the rows say answers a question on the tables
+  abbrev Means : {X : Type 0} → (List Row → X → Type 0) → (Tables → X → Type 0) → Type 0
+  Means {X} Says Answer = (db : Database) → AreFormed db → (rows : List Row) → IsListed db rows → (x : X) → Says rows x → Answer (tables_of db) x
+
+  first_means : Means (HasHead shown) (λ t. IsOneOf keeps (list t))
+  first_means db formed rows listing first head =
+      subst (λ k. IsOneOf keeps k first) (sym (known.lists db)) (one_of shape known.laws shown known.back known.returns read.listing keeps read.shows read.passing db (known.formed db formed) rows listing first head)
+
+  all_mean : Means (AreShown shown) (λ t. AreThose keeps (list t))
+  all_mean db formed rows listing xs are =
+      subst (λ k. AreThose keeps k xs) (sym (known.lists db)) (those shape known.laws shown known.back known.returns read.listing keeps read.shows read.passing db (known.formed db formed) rows listing xs are)
+
+  module _ {X Y : Type 0} (items : Y → List Row) (Says : List Row → X → Type 0) (Answer : Tables → X → Type 0) (means : Means Says Answer) where
+    bare : (old new : State) (rows : List Row) → Shown text params old new rows → IsUnchanged old new
+    bare old new rows said = shown_unchanged text (read.selects 0).parse (read.selects 0).asks (read.selects 0).parsed (read.selects 0).statement params old new rows said
+
+    failed : (old new : State) (e : Error) → FailsToQuery text params old new e → IsUnchanged old new ⊎ IsRolledBack old new
+    failed old new e why = failed_unchanged text (read.selects 0).parse (read.selects 0).asks (read.selects 0).parsed (read.selects 0).statement params old new e why
+
+    -- inside a transaction
+    tells : (old new : State) (answer : Result Y Error) (result : Result X Fault) → (HasCleanDisk new → IfOk answer (λ y. Shown text params old new (items y)))
+        → (HasCleanDisk new → IfErr answer (λ e. FailsToQuery text params old new e ⊎ IsTooLate text params old new e)) → AreSaid items Says answer result → Tells Answer old new result
+    tells old new answer result ok err said clean = at answer result (ok clean) (err clean) said
+      where
+        at : (answer : Result Y Error) (result : Result X Fault) → IfOk answer (λ y. Shown text params old new (items y)) → IfErr answer (λ e. FailsToQuery text params old new e ⊎ IsTooLate text params old new e)
+            → AreSaid items Says answer result → TellsInside Answer old new result
+        at (Ok y) (Ok x) shows fails said =
+            (bare old new (items y) shows, λ formed. means old.now formed (items y) (λ at tree has. (listed text shape.table read.test read.by read.selects read.planned params read.given read.listing read.is old new (items y) shows at tree has).0) x said)
+        at (Ok y) (Err f) shows fails said = inl (bare old new (items y) shows)
+        at (Err e) (Ok x) shows fails said = absurd said
+        at (Err e) (Err f) shows (inl why) said = failed old new e why
+        at (Err e) (Err f) shows (inr late) said = inl late.5
+
+    -- at rest
+    looks : {S : Type 0} (g : Ghosts S) (shuts : Shuts g) (settles : Settles g) (old new : Held S) (rests : Rests (state g old)) (answer : Result Y Error) (result : Result X Fault)
+        → (HasCleanDisk (state g new) → IfOk answer (λ y. Shown text params (state g old) (state g new) (items y))) → (HasCleanDisk (state g new) → IfErr answer (FailsToQuery text params (state g old) (state g new)))
+        → (old.in_transaction ≡ false → new.in_transaction ≡ false) → Survives (state g old) (state g new) (CommitsShowing text params (state g old)) → AreSaid items Says answer result → LooksUp Answer (state g old) (state g new) result
+    looks g shuts settles old new rests answer result ok err mode survives said =
+        let found = found_looks text shape.table read.test read.by read.selects read.planned params read.given read.listing read.is g shuts settles items old new rests answer ok err mode survives in
+        record { rests = found.rests; done = λ clean. at answer result (found.done clean) said; holds = found.holds; survives = found.survives }
+      where
+        at : (answer : Result Y Error) (result : Result X Fault) → IfOk answer (λ y. IsTrue (state g new).is_open × Finds shape.table read.listing (items y) (state g old).now (state g new).now) → AreSaid items Says answer result
+            → IfOk result (λ x. IsTrue (state g new).is_open × Answers Answer x (state g old).now (state g new).now)
+        at (Ok y) (Ok x) found said = (found.0, (found.1.same, λ formed. means (state g old).now formed (items y) found.1.listed x said))
+        at (Err e) (Ok x) found said = absurd said
+        at answer (Err f) found said = tt
+
+  -- ---- one row, or all; the parameters as they are bound
+
+  module _ {Y : Type 0} (items : Y → List Row) (given : Row) (same : given ≡ params) where
+    module _ (old new : State) (answer : Result Y Error) (ok : HasCleanDisk new → IfOk answer (λ y. Shown text given old new (items y))) (err : HasCleanDisk new → IfErr answer (λ e. FailsToQuery text given old new e ⊎ IsTooLate text given old new e)) where
+      shows : HasCleanDisk new → IfOk answer (λ y. Shown text params old new (items y))
+      shows = subst (λ p. HasCleanDisk new → IfOk answer (λ y. Shown text p old new (items y))) same ok
+
+      fails : HasCleanDisk new → IfErr answer (λ e. FailsToQuery text params old new e ⊎ IsTooLate text params old new e)
+      fails = subst (λ p. HasCleanDisk new → IfErr answer (λ e. FailsToQuery text p old new e ⊎ IsTooLate text p old new e)) same err
+
+      pub tells_one : (result : Result (Option R) Fault) → AreSaid items (HasHead shown) answer result → Tells (λ t. IsOneOf keeps (list t)) old new result
+      tells_one result said = tells items (HasHead shown) (λ t. IsOneOf keeps (list t)) first_means old new answer result shows fails said
+
+      pub tells_all : {X : Type 0} (of : X → List R) (result : Result X Fault) → AreSaid items (λ rows x. AreShown shown rows (of x)) answer result → Tells (λ t x. AreThose keeps (list t) (of x)) old new result
+      tells_all of result said =
+          tells items (λ rows x. AreShown shown rows (of x)) (λ t x. AreThose keeps (list t) (of x)) (λ db formed rows listing x are. all_mean db formed rows listing (of x) are) old new answer result shows fails said
+
+    module _ {S : Type 0} (g : Ghosts S) (shuts : Shuts g) (settles : Settles g) (old new : Held S) (rests : Rests (state g old)) (answer : Result Y Error) (ok : HasCleanDisk (state g new) → IfOk answer (λ y. Shown text given (state g old) (state g new) (items y)))
+        (err : HasCleanDisk (state g new) → IfErr answer (FailsToQuery text given (state g old) (state g new))) (mode : old.in_transaction ≡ false → new.in_transaction ≡ false)
+        (survives : Survives (state g old) (state g new) (CommitsShowing text given (state g old))) where
+      answers : {X : Type 0} (Says : List Row → X → Type 0) (Answer : Tables → X → Type 0) (means : Means Says Answer) (result : Result X Fault) → AreSaid items Says answer result → LooksUp Answer (state g old) (state g new) result
+      answers Says Answer means result said =
+          looks items Says Answer means g shuts settles old new rests answer result (subst (λ p. HasCleanDisk (state g new) → IfOk answer (λ y. Shown text p (state g old) (state g new) (items y))) same ok)
+          (subst (λ p. HasCleanDisk (state g new) → IfErr answer (FailsToQuery text p (state g old) (state g new))) same err) mode (subst (λ p. Survives (state g old) (state g new) (CommitsShowing text p (state g old))) same survives) said
+
+      pub looks_one : (result : Result (Option R) Fault) → AreSaid items (HasHead shown) answer result → LooksUp (λ t. IsOneOf keeps (list t)) (state g old) (state g new) result
+      looks_one result said = answers (HasHead shown) (λ t. IsOneOf keeps (list t)) first_means result said
+
+      pub looks_all : {X : Type 0} (of : X → List R) (result : Result X Fault) → AreSaid items (λ rows x. AreShown shown rows (of x)) answer result → LooksUp (λ t x. AreThose keeps (list t) (of x)) (state g old) (state g new) result
+      looks_all of result said = answers (λ rows x. AreShown shown rows (of x)) (λ t x. AreThose keeps (list t) (of x)) (λ db formed rows listing x are. all_mean db formed rows listing (of x) are) result said

@@ -1,0 +1,119 @@
+-- The statements on `sheet_media`. Written by tools/statements.py.
+use Rattle.std.proofs.Common.{◌≡◌, ℕ, ℤ, List, [], ◌∷◌, Bool, true, codes, refl}
+use Rattle.std.specs.Prelude.{◌&&◌, bytes_eq}
+use Rattle.std.specs.Ordering.{int_eq}
+use Rattle.sqlite.specs.Order.{Row}
+use Rattle.sqlite.specs.Term.{col}
+use Rattle.sqlite.specs.Edit.{next_rowid}
+use Rattle.sqlite.specs.declared.types.Value.TheVariants.{Int, Null, Text, Blob}
+use Rattle.sqlite_tied.specs.Compute.{everything}
+use Rattle.sql_meaning.specs.Resolving.{resolving}
+use Rattle.sql_meaning.specs.Reading.{always, equals, both, ascending, descending}
+use Rattle.sql_meaning.proofs.Insert.{IsInsert, IsRow}
+use Rattle.sql_meaning.proofs.Delete.{IsDelete, IsPlannedDelete}
+use Rattle.sql_meaning.proofs.Resolve.{one_table, one_source}
+use Rattle.sql_meaning.proofs.Select.{IsSelect, IsPlannedSelect}
+use Rattle.sql_meaning.proofs.First.{IsFirst, IsPlannedFirst}
+use Rattle.package_tables.specs.Tables.{sheet_media}
+use Rattle.package_tables.specs.Shapes.{medium_shape, int_at, text_at, blob_at}
+use Rattle.package_tables.specs.Shown.{medium_shown}
+use Rattle.package_tables.specs.declared.rows.MediaRow.{MediaRow}
+use Rattle.package_tables.proofs.Looking.{IsKnown, IsRead}
+use Rattle.package_tables.proofs.Newest.{IsNewest}
+use Rattle.package_tables.proofs.Values.{same_number, same_text, both_same}
+use Rattle.package_tables.proofs.Written.{medium_shape_is}
+
+pub insert_text : (tree : ℕ) → IsInsert (codes "INSERT INTO sheet_media VALUES (?1, ?2, ?3)") (sheet_media tree)
+unfolding everything
+insert_text tree = record { parse = _; rows = _; parsed = refl; statement = refl; formats = refl; named = refl; unstamped = refl; source = λ schema. refl }
+
+pub insert_row : (row : MediaRow) (tree : ℕ) (there : List Row)
+    → IsRow (sheet_media tree) (Int row.id ∷ Blob row.data ∷ Text row.content_type ∷ []) there (medium_shape.stored Null row)
+insert_row row tree there = record { source = _; laid = refl; kinds = refl; placed = λ top. refl }
+
+pub delete_text : (tree : ℕ) → IsDelete (codes "DELETE FROM sheet_media WHERE id = ?1") (sheet_media tree) (equals 0 0)
+unfolding everything
+delete_text tree = record { parse = _; where' = _; parsed = refl; statement = refl; formats = refl; named = refl; condition = (_, refl, (_, _, _, _, refl, refl, refl, refl, refl, refl, refl)); enough = refl }
+
+pub delete_plan : (tree : ℕ) → IsPlannedDelete (sheet_media tree) (equals 0 0)
+unfolding resolving
+delete_plan tree schema at h = rw (h.stored, h.by_tree) refl
+
+pub known : IsKnown medium_shape (λ t. t.media) medium_shown
+known = record { laws = medium_shape_is; formed = λ db f. f.media; lists = λ db. refl; back = λ r. record { id = int_at r 0; «data» = blob_at r 1; content_type = text_at r 2 }; returns = λ x. refl }
+
+medium_by_id_text : (tree : ℕ) → IsSelect (codes "SELECT * FROM sheet_media WHERE id = ?1") (sheet_media tree) (equals 0 0) []
+unfolding everything
+medium_by_id_text tree = record {
+  parse = _;
+  asks = _;
+  src = _;
+  item = _;
+  parsed = refl;
+  statement = refl;
+  formats = refl;
+  one = one_table refl refl refl refl refl refl refl refl refl refl refl refl refl refl refl;
+  condition = (_, refl, (_, _, _, _, refl, refl, refl, refl, refl, refl, refl));
+  enough = refl;
+  few = λ at. refl;
+  some = λ at. refl;
+  sorted = λ schema at. (_, refl, refl);
+}
+
+medium_by_id_plan : (tree : ℕ) → IsPlannedSelect (sheet_media tree) (equals 0 0) []
+unfolding resolving
+medium_by_id_plan tree schema at h = rw (h.stored, h.by_tree) refl
+
+pub medium_by_id : (id : ℤ) → IsRead medium_shape medium_shown (codes "SELECT * FROM sheet_media WHERE id = ?1") (Int id ∷ []) (λ x. int_eq x.id id)
+medium_by_id id = record { test = _; by = _; selects = medium_by_id_text; planned = medium_by_id_plan; given = refl; listing = _; is = λ tree. refl; shows = λ v x. refl; passing = λ v x. (same_number x.id id) }
+
+all_text : (tree : ℕ) → IsSelect (codes "SELECT * FROM sheet_media ORDER BY id") (sheet_media tree) always ((col 1 0, ascending) ∷ [])
+unfolding everything
+all_text tree = record {
+  parse = _;
+  asks = _;
+  src = _;
+  item = _;
+  parsed = refl;
+  statement = refl;
+  formats = refl;
+  one = one_table refl refl refl refl refl refl refl refl refl refl refl refl refl refl refl;
+  condition = refl;
+  enough = refl;
+  few = λ at. refl;
+  some = λ at. refl;
+  sorted = λ schema at. (_, refl, refl);
+}
+
+all_plan : (tree : ℕ) → IsPlannedSelect (sheet_media tree) always ((col 1 0, ascending) ∷ [])
+unfolding resolving
+all_plan tree schema at h = rw (h.stored, h.by_tree) refl
+
+pub all : IsRead medium_shape medium_shown (codes "SELECT * FROM sheet_media ORDER BY id") [] (λ x. true)
+all = record { test = _; by = _; selects = all_text; planned = all_plan; given = refl; listing = _; is = λ tree. refl; shows = λ v x. refl; passing = λ v x. refl }
+
+newest_text : (tree : ℕ) → IsFirst (codes "SELECT * FROM sheet_media ORDER BY id DESC LIMIT 1") (sheet_media tree) always ((col 1 0, descending) ∷ [])
+unfolding everything
+newest_text tree = record {
+  parse = _;
+  asks = _;
+  src = _;
+  item = _;
+  parsed = refl;
+  statement = refl;
+  formats = refl;
+  one = one_source refl refl refl refl refl refl refl refl refl refl refl refl refl;
+  paged = λ schema. refl;
+  condition = refl;
+  enough = refl;
+  few = λ at. refl;
+  some = λ at. refl;
+  sorted = λ schema at. (_, refl, refl);
+}
+
+newest_plan : (tree : ℕ) → IsPlannedFirst (sheet_media tree) always ((col 1 0, descending) ∷ [])
+unfolding resolving
+newest_plan tree schema at h = rw (h.stored, h.by_tree) refl
+
+pub newest : IsNewest medium_shape (λ x. x.id) (codes "SELECT * FROM sheet_media ORDER BY id DESC LIMIT 1")
+newest = record { by = _; selects = newest_text; planned = newest_plan; shown = _; is = λ tree. refl; begins = λ v x. refl; keyed = λ v x. refl }

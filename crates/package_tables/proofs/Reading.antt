@@ -1,0 +1,106 @@
+-- From the rows that a SELECT lists to answers over the tables.
+use Rattle.std.proofs.Common.{◌≡◌, ℕ, List, [], ◌∷◌, ◌<◌, ◌+◌, length, map, Bool, true, false, cond, Option, Some, None, suc, zero, refl, sym, ap, subst, ◌∙◌, arith}
+use Rattle.std.specs.Prelude.{filter, slice_get, slice_index_or, Contains, MatchOption, IsPermutation, if◌then◌else◌}
+use Rattle.std.specs.List.{AllByRecursion, list_any}
+use Rattle.std.proofs.lemmas.List.Sorted.{IsPermutation-refl, IsPermutation-sym, IsPermutation-trans, IsPermutation-cons, IsPermutation-insert, IsPermutation-map, Contains-permutation, length_permutation}
+use Rattle.sqlite_trees.proofs.ListLemmas.{IsPermutation-filter, map-map}
+use Rattle.sqlite.specs.Order.{Row}
+use Rattle.sqlite.specs.Tree.{rowid}
+use Rattle.sqlite.specs.Effect.{Database}
+use Rattle.sqlite.specs.declared.types.Value.{Value}
+use Rattle.sheet_types.specs.Ordered.{arranged, put, is_before}
+use Rattle.sql_meaning.specs.Known.{HasTable}
+use Rattle.sql_meaning.specs.Reading.{Listing, IsListing}
+use Rattle.package_tables.specs.Shape.{Shape, IsShape, IsFormed, IsStored, stored_rows, rows_of}
+use Rattle.package_tables.specs.Calls.{IsOneOf, AreThose}
+use Rattle.package_tables.proofs.Shapes.{rows_placed}
+
+-- ---- lists
+
+put_permutation : {R : Type 0} (key : R → List ℕ) (x : R) (xs : List R) → IsPermutation (x ∷ xs) (put key x xs)
+put_permutation key x [] = IsPermutation-refl (x ∷ [])
+put_permutation {R} key x (y ∷ ys) = one (is_before (key y) (key x)) (put_permutation key x ys)
+  where
+    one : (b : Bool) → IsPermutation (x ∷ ys) (put key x ys) → IsPermutation (x ∷ y ∷ ys) (if b then y ∷ put key x ys else x ∷ y ∷ ys)
+    one true more = IsPermutation-trans (x ∷ y ∷ ys) (y ∷ x ∷ ys) _ (IsPermutation-insert (y ∷ ys) 1 x) (IsPermutation-cons y _ _ more)
+    one false more = IsPermutation-refl (x ∷ y ∷ ys)
+
+pub arranged_permutation : {R : Type 0} (key : R → List ℕ) (xs : List R) → IsPermutation xs (arranged key xs)
+arranged_permutation key [] = IsPermutation-refl []
+arranged_permutation key (x ∷ xs) = IsPermutation-trans (x ∷ xs) (x ∷ arranged key xs) _ (IsPermutation-cons x _ _ (arranged_permutation key xs)) (put_permutation key x (arranged key xs))
+
+-- what a filter keeps was there, and passes
+filter_contains : {R : Type 0} (p : R → Bool) (xs : List R) (y : R) → Contains (filter p xs) y → Contains xs y × (p y ≡ true)
+filter_contains p [] y (k, below, is) = absurd (omega (arith, below))
+filter_contains {R} p (x ∷ xs) y h = one (p x) refl (filter_contains p xs y) h
+  where
+    later : Contains xs y × (p y ≡ true) → Contains (x ∷ xs) y × (p y ≡ true)
+    later ((k, below, is), passed) = ((suc k, omega (arith, below), is), passed)
+
+    one : (b : Bool) → p x ≡ b → (Contains (filter p xs) y → Contains xs y × (p y ≡ true)) → Contains (cond b (x ∷ filter p xs) (filter p xs)) y → Contains (x ∷ xs) y × (p y ≡ true)
+    one true e more (zero, below, is) = ((zero, omega arith, is), ap p (sym is) ∙ e)
+    one true e more (suc k, below, is) = later (more (k, omega (arith, below), is))
+    one false e more c = later (more c)
+
+none_pass : {R : Type 0} (p : R → Bool) (xs : List R) → filter p xs ≡ [] → list_any p xs ≡ false
+none_pass p [] h = refl
+none_pass {R} p (x ∷ xs) h = one (p x) refl (none_pass p xs) h
+  where
+    one : (b : Bool) → p x ≡ b → (filter p xs ≡ [] → list_any p xs ≡ false) → cond b (x ∷ filter p xs) (filter p xs) ≡ [] → list_any p (x ∷ xs) ≡ false
+    one true e more c = absurd cc
+    one false e more c = rw e (more c)
+
+nothing : {R : Type 0} (xs : List R) → IsPermutation xs [] → xs ≡ []
+nothing [] h = refl
+nothing (x ∷ xs) h = absurd (omega (arith, length_permutation (x ∷ xs) [] h))
+
+-- ---- a listing of a table's rows
+
+-- `shown` is the row that a SELECT * shows of a value, and `back` reads it
+module _ {R : Type 0} (shape : Shape R) (laws : IsShape shape) (shown : R → Row) (back : Row → R) (returns : (x : R) → back (shown x) ≡ x)
+    (l : Listing) (keeps : R → Bool) (shows : (v : Value) (x : R) → l.shown (shape.stored v x) ≡ shown x) (passing : (v : Value) (x : R) → l.keeps (shape.stored v x) ≡ keeps x) where
+  -- the rows that pass, as values
+  typed_rows : (rows : List Row) → AllByRecursion (IsStored shape) rows → map back (map l.shown (filter l.keeps rows)) ≡ filter keeps (map shape.typed rows)
+  typed_rows [] h = refl
+  typed_rows (r ∷ rows) h = one (keeps (shape.typed r)) refl (typed_rows rows h.1)
+    where
+      same : l.keeps r ≡ keeps (shape.typed r)
+      same = ap l.keeps (sym h.0) ∙ passing (rowid r) (shape.typed r)
+
+      says : back (l.shown r) ≡ shape.typed r
+      says = ap (λ s. back (l.shown s)) (sym h.0) ∙ ap back (shows (rowid r) (shape.typed r)) ∙ returns (shape.typed r)
+
+      one : (b : Bool) → keeps (shape.typed r) ≡ b → map back (map l.shown (filter l.keeps rows)) ≡ filter keeps (map shape.typed rows) → map back (map l.shown (filter l.keeps (r ∷ rows))) ≡ filter keeps (map shape.typed (r ∷ rows))
+      one true e more = rw (same, e, says) (ap (λ k. shape.typed r ∷ k) more)
+      one false e more = rw (same, e) more
+
+  module _ (db : Database) (formed : IsFormed shape db) (rows : List Row) (listed : (at tree : ℕ) → HasTable db.schema at (shape.table tree) → IsListing l.key l.shown l.by (filter l.keeps (db.trees (shape.table tree).tree)) rows) where
+    -- the answer, as values, is what passes of the table
+    answered : IsPermutation (filter keeps (rows_of shape db)) (map back rows)
+    answered =
+        let p = formed.placed in
+        let there = stored_rows shape db in
+        let same : db.trees (shape.table p.tree).tree ≡ there = ap db.trees (laws.treed p.tree) ∙ sym (rows_placed shape laws db p.at p.tree p.has) in
+        let listing = subst (λ k. IsListing l.key l.shown l.by (filter l.keeps k) rows) same (listed p.at p.tree p.has) in
+        let moved : IsPermutation (map l.shown (filter l.keeps there)) rows =
+        subst (IsPermutation (map l.shown (filter l.keeps there))) (sym listing.shows)
+        (subst (λ k. IsPermutation k (map (λ (o : Row × Row). o.1) listing.ordered)) (map-map (λ (o : Row × Row). o.1) (λ r. (l.key r, l.shown r)) (filter l.keeps there)) (IsPermutation-map (λ (o : Row × Row). o.1) _ _ listing.same)) in
+        let kept : IsPermutation (filter keeps (map shape.typed there)) (map back rows) = subst (λ k. IsPermutation k (map back rows)) (typed_rows there formed.stored) (IsPermutation-map back _ _ moved) in
+        IsPermutation-trans _ (filter keeps (map shape.typed there)) _ (IsPermutation-sym _ _ (IsPermutation-filter keeps _ _ (arranged_permutation shape.key (map shape.typed there)))) kept
+
+    -- all of them
+    pub those : (xs : List R) → rows ≡ map shown xs → AreThose keeps (rows_of shape db) xs
+    those xs read = subst (IsPermutation (filter keeps (rows_of shape db))) (ap (map back) read ∙ every xs) answered
+      where
+        every : (xs : List R) → map back (map shown xs) ≡ xs
+        every [] = refl
+        every (x ∷ xs) = rw (returns x) (ap (λ k. x ∷ k) (every xs))
+
+    -- the first of them
+    pub one_of : (first : Option R) → MatchOption first (rows ≡ []) (λ x. slice_get rows 0 ≡ Some (shown x)) → IsOneOf keeps (rows_of shape db) first
+    one_of None empty = none_pass keeps (rows_of shape db) (nothing _ (subst (λ k. IsPermutation (filter keeps (rows_of shape db)) (map back k)) empty answered))
+    one_of (Some x) head = filter_contains keeps (rows_of shape db) x (Contains-permutation _ _ x (IsPermutation-sym _ _ answered) (there rows head))
+      where
+        there : (rows : List Row) → slice_get rows 0 ≡ Some (shown x) → Contains (map back rows) x
+        there [] h = absurd cc
+        there (r ∷ more) h = (0, omega arith, let same : r ≡ shown x = cc in ap back same ∙ returns x)

@@ -1,0 +1,143 @@
+-- The statements on `rows_media`. Written by tools/statements.py.
+use Rattle.std.proofs.Common.{◌≡◌, ℕ, ℤ, List, [], ◌∷◌, Bool, true, codes, refl}
+use Rattle.std.specs.Prelude.{◌&&◌, bytes_eq}
+use Rattle.std.specs.Ordering.{int_eq}
+use Rattle.sqlite.specs.Order.{Row}
+use Rattle.sqlite.specs.Term.{col}
+use Rattle.sqlite.specs.Edit.{next_rowid}
+use Rattle.sqlite.specs.declared.types.Value.TheVariants.{Int, Null, Text, Blob}
+use Rattle.sqlite_tied.specs.Compute.{everything}
+use Rattle.sql_meaning.specs.Resolving.{resolving}
+use Rattle.sql_meaning.specs.Reading.{always, equals, both, ascending, descending}
+use Rattle.sql_meaning.proofs.Insert.{IsInsert, IsRow}
+use Rattle.sql_meaning.proofs.Delete.{IsDelete, IsPlannedDelete}
+use Rattle.sql_meaning.proofs.Resolve.{one_table, one_source}
+use Rattle.sql_meaning.proofs.Select.{IsSelect, IsPlannedSelect}
+use Rattle.sql_meaning.proofs.First.{IsFirst, IsPlannedFirst}
+use Rattle.package_tables.specs.Tables.{rows_media}
+use Rattle.package_tables.specs.Shapes.{rows_media_shape, int_at, text_at, blob_at}
+use Rattle.package_tables.specs.Shown.{mapping_shown}
+use Rattle.package_tables.specs.declared.rows.MappingRow.{MappingRow}
+use Rattle.package_tables.proofs.Looking.{IsKnown, IsRead}
+use Rattle.package_tables.proofs.Newest.{IsNewest}
+use Rattle.package_tables.proofs.Values.{same_number, same_text, both_same}
+use Rattle.package_tables.proofs.Written.{rows_media_shape_is}
+
+pub insert_text : (tree : ℕ) → IsInsert (codes "INSERT INTO rows_media VALUES (?1, ?2)") (rows_media tree)
+unfolding everything
+insert_text tree = record { parse = _; rows = _; parsed = refl; statement = refl; formats = refl; named = refl; unstamped = refl; source = λ schema. refl }
+
+pub insert_row : (row : MappingRow) (tree : ℕ) (there : List Row)
+    → IsRow (rows_media tree) (Int row.base_id ∷ Int row.related_id ∷ []) there (rows_media_shape.stored (Int (next_rowid there)) row)
+insert_row row tree there = record { source = _; laid = refl; kinds = refl; placed = λ top. refl }
+
+pub delete_text : (tree : ℕ) → IsDelete (codes "DELETE FROM rows_media WHERE base_id = ?1 AND related_id = ?2") (rows_media tree) (both (equals 0 0) (equals 1 1))
+unfolding everything
+delete_text tree = record { parse = _; where' = _; parsed = refl; statement = refl; formats = refl; named = refl; condition = (_, refl, (_, _, refl, (_, _, _, _, refl, refl, refl, refl, refl, refl, refl), (_, _, _, _, refl, refl, refl, refl, refl, refl, refl))); enough = refl }
+
+pub delete_plan : (tree : ℕ) → IsPlannedDelete (rows_media tree) (both (equals 0 0) (equals 1 1))
+unfolding resolving
+delete_plan tree schema at h = rw (h.stored, h.by_tree) refl
+
+pub known : IsKnown rows_media_shape (λ t. t.rows_media) mapping_shown
+known = record { laws = rows_media_shape_is; formed = λ db f. f.rows_media; lists = λ db. refl; back = λ r. record { base_id = int_at r 0; related_id = int_at r 1 }; returns = λ x. refl }
+
+rows_media_of_pair_text : (tree : ℕ) → IsSelect (codes "SELECT * FROM rows_media WHERE base_id = ?1 AND related_id = ?2") (rows_media tree) (both (equals 0 0) (equals 1 1)) []
+unfolding everything
+rows_media_of_pair_text tree = record {
+  parse = _;
+  asks = _;
+  src = _;
+  item = _;
+  parsed = refl;
+  statement = refl;
+  formats = refl;
+  one = one_table refl refl refl refl refl refl refl refl refl refl refl refl refl refl refl;
+  condition = (_, refl, (_, _, refl, (_, _, _, _, refl, refl, refl, refl, refl, refl, refl), (_, _, _, _, refl, refl, refl, refl, refl, refl, refl)));
+  enough = refl;
+  few = λ at. refl;
+  some = λ at. refl;
+  sorted = λ schema at. (_, refl, refl);
+}
+
+rows_media_of_pair_plan : (tree : ℕ) → IsPlannedSelect (rows_media tree) (both (equals 0 0) (equals 1 1)) []
+unfolding resolving
+rows_media_of_pair_plan tree schema at h = rw (h.stored, h.by_tree) refl
+
+pub rows_media_of_pair : (base_id : ℤ) (related_id : ℤ) → IsRead rows_media_shape mapping_shown (codes "SELECT * FROM rows_media WHERE base_id = ?1 AND related_id = ?2") (Int base_id ∷ Int related_id ∷ []) (λ x. int_eq x.base_id base_id && int_eq x.related_id related_id)
+rows_media_of_pair base_id related_id = record { test = _; by = _; selects = rows_media_of_pair_text; planned = rows_media_of_pair_plan; given = refl; listing = _; is = λ tree. refl; shows = λ v x. refl; passing = λ v x. (both_same (same_number x.base_id base_id) (same_number x.related_id related_id)) }
+
+rows_media_of_base_text : (tree : ℕ) → IsSelect (codes "SELECT * FROM rows_media WHERE base_id = ?1") (rows_media tree) (equals 0 0) []
+unfolding everything
+rows_media_of_base_text tree = record {
+  parse = _;
+  asks = _;
+  src = _;
+  item = _;
+  parsed = refl;
+  statement = refl;
+  formats = refl;
+  one = one_table refl refl refl refl refl refl refl refl refl refl refl refl refl refl refl;
+  condition = (_, refl, (_, _, _, _, refl, refl, refl, refl, refl, refl, refl));
+  enough = refl;
+  few = λ at. refl;
+  some = λ at. refl;
+  sorted = λ schema at. (_, refl, refl);
+}
+
+rows_media_of_base_plan : (tree : ℕ) → IsPlannedSelect (rows_media tree) (equals 0 0) []
+unfolding resolving
+rows_media_of_base_plan tree schema at h = rw (h.stored, h.by_tree) refl
+
+pub rows_media_of_base : (base_id : ℤ) → IsRead rows_media_shape mapping_shown (codes "SELECT * FROM rows_media WHERE base_id = ?1") (Int base_id ∷ []) (λ x. int_eq x.base_id base_id)
+rows_media_of_base base_id = record { test = _; by = _; selects = rows_media_of_base_text; planned = rows_media_of_base_plan; given = refl; listing = _; is = λ tree. refl; shows = λ v x. refl; passing = λ v x. (same_number x.base_id base_id) }
+
+rows_media_of_related_text : (tree : ℕ) → IsSelect (codes "SELECT * FROM rows_media WHERE related_id = ?1") (rows_media tree) (equals 1 0) []
+unfolding everything
+rows_media_of_related_text tree = record {
+  parse = _;
+  asks = _;
+  src = _;
+  item = _;
+  parsed = refl;
+  statement = refl;
+  formats = refl;
+  one = one_table refl refl refl refl refl refl refl refl refl refl refl refl refl refl refl;
+  condition = (_, refl, (_, _, _, _, refl, refl, refl, refl, refl, refl, refl));
+  enough = refl;
+  few = λ at. refl;
+  some = λ at. refl;
+  sorted = λ schema at. (_, refl, refl);
+}
+
+rows_media_of_related_plan : (tree : ℕ) → IsPlannedSelect (rows_media tree) (equals 1 0) []
+unfolding resolving
+rows_media_of_related_plan tree schema at h = rw (h.stored, h.by_tree) refl
+
+pub rows_media_of_related : (related_id : ℤ) → IsRead rows_media_shape mapping_shown (codes "SELECT * FROM rows_media WHERE related_id = ?1") (Int related_id ∷ []) (λ x. int_eq x.related_id related_id)
+rows_media_of_related related_id = record { test = _; by = _; selects = rows_media_of_related_text; planned = rows_media_of_related_plan; given = refl; listing = _; is = λ tree. refl; shows = λ v x. refl; passing = λ v x. (same_number x.related_id related_id) }
+
+all_text : (tree : ℕ) → IsSelect (codes "SELECT * FROM rows_media ORDER BY base_id, related_id") (rows_media tree) always ((col 1 1, ascending) ∷ (col 1 2, ascending) ∷ [])
+unfolding everything
+all_text tree = record {
+  parse = _;
+  asks = _;
+  src = _;
+  item = _;
+  parsed = refl;
+  statement = refl;
+  formats = refl;
+  one = one_table refl refl refl refl refl refl refl refl refl refl refl refl refl refl refl;
+  condition = refl;
+  enough = refl;
+  few = λ at. refl;
+  some = λ at. refl;
+  sorted = λ schema at. (_, refl, refl);
+}
+
+all_plan : (tree : ℕ) → IsPlannedSelect (rows_media tree) always ((col 1 1, ascending) ∷ (col 1 2, ascending) ∷ [])
+unfolding resolving
+all_plan tree schema at h = rw (h.stored, h.by_tree) refl
+
+pub all : IsRead rows_media_shape mapping_shown (codes "SELECT * FROM rows_media ORDER BY base_id, related_id") [] (λ x. true)
+all = record { test = _; by = _; selects = all_text; planned = all_plan; given = refl; listing = _; is = λ tree. refl; shows = λ v x. refl; passing = λ v x. refl }

@@ -1,0 +1,108 @@
+// The statements on `sheet_rows`.
+ghost use Rattle.std.specs.Prelude.{◌≡◌, true};
+ghost use Rattle.std.specs.Ordering.{int_eq};
+ghost use Rattle.sqlite.specs.State.{Survives};
+ghost use Rattle.sqlite.specs.Held.{state};
+ghost use Rattle.sql_meaning.specs.Transactions.{Rests};
+ghost use Rattle.package_tables.specs.Calls.{Makes, Tells, LooksUp, IsOneOf, AreThose, IsGreatest};
+ghost use Rattle.package_tables.specs.Changes.{AddsAttribute, DropsAttribute};
+
+use crate::fault::{Fault, settled};
+use crate::from_row::{FromRow, all_of, first_of, number_of};
+use crate::rows::AttributeRow;
+use sheet_types::collections::Text;
+use sqlite::{Alter, Connection, Row, Transaction, params};
+use std::alloc::Global;
+
+impl FromRow for AttributeRow {
+    ghost use Rattle.package_tables.specs.Shown.{attribute_shown};
+
+    ghost shown = { attribute_shown };
+
+    fn from_row(row: &Row) -> Result<AttributeRow, Fault> {
+        if row.column_count() != 5 {
+            return Err(Fault::StoreFault);
+        }
+        Ok(AttributeRow {
+            id: row.get(0)?,
+            x: row.get(1)?,
+            y: row.get(2)?,
+            code: row.get(3)?,
+            label: Text::from_string(row.get(4)?),
+        })
+    }
+}
+
+/// Puts an attributes row in, under a number that is free.
+pub fn insert_attribute<S: Alter>(
+    tx: &mut Transaction<'_, S>,
+    id: i64,
+    x: i64,
+    y: i64,
+    code: i64,
+    label: &str,
+) -> Result<(), Fault>
+    ensures same_reference { tx.new.conn.ghost_name ≡ tx.old.conn.ghost_name }
+    ensures wrote { Makes (AddsAttribute (record { id = id; x = x; y = y; code = code; label = label.now })) (state S.Store tx.old.conn.now) (state S.Store tx.new.conn.now) result }
+    ensures survives { Survives (state S.Store tx.old.conn.now) (state S.Store tx.new.conn.now) (λ _. ⊥) }
+{
+    settled(tx.execute(
+        "INSERT INTO sheet_rows VALUES (?1, ?2, ?3, ?4, ?5)",
+        params![id, x, y, code, label],
+    ))
+}
+
+/// Takes out the attributes row of this number.
+pub fn delete_attribute<S: Alter>(tx: &mut Transaction<'_, S>, id: i64) -> Result<(), Fault>
+    ensures same_reference { tx.new.conn.ghost_name ≡ tx.old.conn.ghost_name }
+    ensures wrote { Makes (DropsAttribute id) (state S.Store tx.old.conn.now) (state S.Store tx.new.conn.now) result }
+    ensures survives { Survives (state S.Store tx.old.conn.now) (state S.Store tx.new.conn.now) (λ _. ⊥) }
+{
+    settled(tx.execute("DELETE FROM sheet_rows WHERE id = ?1", params![id]))
+}
+
+/// The attributes row of this number.
+pub fn attribute_by_id<S: Alter>(
+    conn: &mut Connection<S>,
+    id: i64,
+) -> Result<Option<AttributeRow>, Fault>
+    requires { Rests (state S.Store conn.old) }
+    ensures { LooksUp (λ t. IsOneOf (λ x. int_eq x.id id) t.rows) (state S.Store conn.old) (state S.Store conn.new) result }
+{
+    first_of(conn.query_all("SELECT * FROM sheet_rows WHERE id = ?1", params![id]))
+}
+
+/// The attributes row of this number, inside a transaction.
+pub fn attribute_by_id_inside<S: Alter>(
+    tx: &mut Transaction<'_, S>,
+    id: i64,
+) -> Result<Option<AttributeRow>, Fault>
+    ensures same_reference { tx.new.conn.ghost_name ≡ tx.old.conn.ghost_name }
+    ensures told { Tells (λ t. IsOneOf (λ x. int_eq x.id id) t.rows) (state S.Store tx.old.conn.now) (state S.Store tx.new.conn.now) result }
+    ensures survives { Survives (state S.Store tx.old.conn.now) (state S.Store tx.new.conn.now) (λ _. ⊥) }
+{
+    first_of(tx.query_all("SELECT * FROM sheet_rows WHERE id = ?1", params![id]))
+}
+
+/// All attributes rows.
+pub fn all_attributes<S: Alter>(
+    conn: &mut Connection<S>,
+    alloc: Global,
+) -> Result<Vec<AttributeRow>, Fault>
+    requires { Rests (state S.Store conn.old) }
+    ensures { LooksUp (λ t found. AreThose (λ _. true) t.rows found.items) (state S.Store conn.old) (state S.Store conn.new) result }
+{
+    all_of(
+        alloc,
+        conn.query_all("SELECT * FROM sheet_rows ORDER BY id", &[]),
+    )
+}
+
+/// The greatest number of an attributes row, where there is one, inside a transaction.
+pub fn greatest_attribute_id<S: Alter>(tx: &mut Transaction<'_, S>) -> Result<Option<i64>, Fault>
+    ensures same_reference { tx.new.conn.ghost_name ≡ tx.old.conn.ghost_name }
+    ensures told { Tells (λ t. IsGreatest (λ x. x.id) t.rows) (state S.Store tx.old.conn.now) (state S.Store tx.new.conn.now) result }
+    ensures survives { Survives (state S.Store tx.old.conn.now) (state S.Store tx.new.conn.now) (λ _. ⊥) }
+{
+    number_of(tx.query_all("SELECT * FROM sheet_rows ORDER BY id DESC LIMIT 1", &[]))
+}

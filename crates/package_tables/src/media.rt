@@ -1,0 +1,98 @@
+// The statements on `sheet_media`.
+ghost use Rattle.std.specs.Prelude.{◌≡◌, true};
+ghost use Rattle.std.specs.Ordering.{int_eq};
+ghost use Rattle.sqlite.specs.State.{Survives};
+ghost use Rattle.sqlite.specs.Held.{state};
+ghost use Rattle.sql_meaning.specs.Transactions.{Rests};
+ghost use Rattle.package_tables.specs.Calls.{Makes, Tells, LooksUp, IsOneOf, AreThose, IsGreatest};
+ghost use Rattle.package_tables.specs.Changes.{AddsMedium, DropsMedium};
+
+use crate::fault::{Fault, settled};
+use crate::from_row::{FromRow, all_of, first_of, number_of};
+use crate::rows::MediaRow;
+use sheet_types::collections::{Bytes, Text};
+use sqlite::{Alter, Connection, Row, Transaction, params};
+use std::alloc::Global;
+
+impl FromRow for MediaRow {
+    ghost use Rattle.package_tables.specs.Shown.{medium_shown};
+
+    ghost shown = { medium_shown };
+
+    fn from_row(row: &Row) -> Result<MediaRow, Fault> {
+        if row.column_count() != 3 {
+            return Err(Fault::StoreFault);
+        }
+        Ok(MediaRow {
+            id: row.get(0)?,
+            data: Bytes::from_vec(row.get(1)?),
+            content_type: Text::from_string(row.get(2)?),
+        })
+    }
+}
+
+/// Puts a medium in, under a number that is free.
+pub fn insert_medium<S: Alter>(
+    tx: &mut Transaction<'_, S>,
+    id: i64,
+    data: &[u8],
+    content_type: &str,
+) -> Result<(), Fault>
+    ensures same_reference { tx.new.conn.ghost_name ≡ tx.old.conn.ghost_name }
+    ensures wrote { Makes (AddsMedium (record { id = id; «data» = «data».now; content_type = content_type.now })) (state S.Store tx.old.conn.now) (state S.Store tx.new.conn.now) result }
+    ensures survives { Survives (state S.Store tx.old.conn.now) (state S.Store tx.new.conn.now) (λ _. ⊥) }
+{
+    settled(tx.execute(
+        "INSERT INTO sheet_media VALUES (?1, ?2, ?3)",
+        params![id, data, content_type],
+    ))
+}
+
+/// Takes out the medium of this number.
+pub fn delete_medium<S: Alter>(tx: &mut Transaction<'_, S>, id: i64) -> Result<(), Fault>
+    ensures same_reference { tx.new.conn.ghost_name ≡ tx.old.conn.ghost_name }
+    ensures wrote { Makes (DropsMedium id) (state S.Store tx.old.conn.now) (state S.Store tx.new.conn.now) result }
+    ensures survives { Survives (state S.Store tx.old.conn.now) (state S.Store tx.new.conn.now) (λ _. ⊥) }
+{
+    settled(tx.execute("DELETE FROM sheet_media WHERE id = ?1", params![id]))
+}
+
+/// The medium of this number.
+pub fn medium_by_id<S: Alter>(conn: &mut Connection<S>, id: i64) -> Result<Option<MediaRow>, Fault>
+    requires { Rests (state S.Store conn.old) }
+    ensures { LooksUp (λ t. IsOneOf (λ x. int_eq x.id id) t.media) (state S.Store conn.old) (state S.Store conn.new) result }
+{
+    first_of(conn.query_all("SELECT * FROM sheet_media WHERE id = ?1", params![id]))
+}
+
+/// The medium of this number, inside a transaction.
+pub fn medium_by_id_inside<S: Alter>(
+    tx: &mut Transaction<'_, S>,
+    id: i64,
+) -> Result<Option<MediaRow>, Fault>
+    ensures same_reference { tx.new.conn.ghost_name ≡ tx.old.conn.ghost_name }
+    ensures told { Tells (λ t. IsOneOf (λ x. int_eq x.id id) t.media) (state S.Store tx.old.conn.now) (state S.Store tx.new.conn.now) result }
+    ensures survives { Survives (state S.Store tx.old.conn.now) (state S.Store tx.new.conn.now) (λ _. ⊥) }
+{
+    first_of(tx.query_all("SELECT * FROM sheet_media WHERE id = ?1", params![id]))
+}
+
+/// All media.
+pub fn all_media<S: Alter>(conn: &mut Connection<S>, alloc: Global) -> Result<Vec<MediaRow>, Fault>
+    requires { Rests (state S.Store conn.old) }
+    ensures { LooksUp (λ t found. AreThose (λ _. true) t.media found.items) (state S.Store conn.old) (state S.Store conn.new) result }
+{
+    all_of(
+        alloc,
+        conn.query_all("SELECT * FROM sheet_media ORDER BY id", &[]),
+    )
+}
+
+/// The greatest number of a medium, where there is one, inside a transaction.
+pub fn greatest_medium_id<S: Alter>(tx: &mut Transaction<'_, S>) -> Result<Option<i64>, Fault>
+    ensures same_reference { tx.new.conn.ghost_name ≡ tx.old.conn.ghost_name }
+    ensures told { Tells (λ t. IsGreatest (λ x. x.id) t.media) (state S.Store tx.old.conn.now) (state S.Store tx.new.conn.now) result }
+    ensures survives { Survives (state S.Store tx.old.conn.now) (state S.Store tx.new.conn.now) (λ _. ⊥) }
+{
+    number_of(tx.query_all("SELECT * FROM sheet_media ORDER BY id DESC LIMIT 1", &[]))
+}

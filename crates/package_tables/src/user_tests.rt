@@ -1,0 +1,550 @@
+// What the statements on the user tables, the mapping tables and the identities do to a package in memory. The expected
+// rows are what stock SQLite 3.40.1 answers after the same statements.
+ghost use Rattle.std.specs.Prelude.{IsTrue};
+ghost use Rattle.sqlite.specs.Held.{state};
+ghost use Rattle.sql_meaning.specs.Transactions.{Rests};
+
+use crate::attributes::{
+    all_attributes, attribute_by_id, attribute_by_id_inside, delete_attribute,
+    greatest_attribute_id, insert_attribute,
+};
+use crate::fault::Fault;
+use crate::identities::{
+    all_identities, delete_identity, identity_by_key, identity_by_key_inside, identity_by_uuid,
+    identity_by_uuid_inside, insert_identity,
+};
+use crate::mappings::{
+    all_rows_media, all_tiles_media, delete_rows_media, delete_tiles_media, insert_rows_media,
+    insert_tiles_media, rows_media_of_base, rows_media_of_pair, rows_media_of_related,
+    tiles_media_of_base, tiles_media_of_pair, tiles_media_of_related,
+};
+use crate::media::{
+    all_media, delete_medium, greatest_medium_id, insert_medium, medium_by_id, medium_by_id_inside,
+};
+use crate::rows::{AttributeRow, IdentityRow, MappingRow, MediaRow, TileRow};
+use crate::schema::create_schema;
+use crate::tiles::{
+    all_tiles, delete_tile, greatest_tile_id, insert_tile, tile_at, tile_by_id, tile_by_id_inside,
+};
+use sqlite::{Alter, Connection, Transaction};
+use std::alloc::{AllocError, Global};
+use std::test::Fail;
+
+const FIRST: &str = "00000000-0000-4000-8000-000000000001";
+
+const SECOND: &str = "00000000-0000-4000-8000-000000000002";
+
+// ---- rows as texts; none is "-"
+
+fn tile(alloc: Global, row: Option<TileRow>) -> Result<String, AllocError> {
+    match row {
+        None => format!(in alloc; "-"),
+        Some(t) => format!(in alloc;
+            "{} {} {} {} {}",
+            t.id,
+            t.zoom_level,
+            t.tile_column,
+            t.tile_row,
+            t.tile_data.as_slice().len()
+        ),
+    }
+}
+
+fn medium(alloc: Global, row: Option<MediaRow>) -> Result<String, AllocError> {
+    match row {
+        None => format!(in alloc; "-"),
+        Some(m) => format!(in alloc;
+            "{} {} {}",
+            m.id,
+            m.data.as_slice().len(),
+            m.content_type.as_str()
+        ),
+    }
+}
+
+fn attribute(alloc: Global, row: Option<AttributeRow>) -> Result<String, AllocError> {
+    match row {
+        None => format!(in alloc; "-"),
+        Some(a) => format!(in alloc; "{} {} {} {} {}", a.id, a.x, a.y, a.code, a.label.as_str()),
+    }
+}
+
+fn mapping(alloc: Global, row: Option<MappingRow>) -> Result<String, AllocError> {
+    match row {
+        None => format!(in alloc; "-"),
+        Some(m) => format!(in alloc; "{} {}", m.base_id, m.related_id),
+    }
+}
+
+fn identity(alloc: Global, row: Option<IdentityRow>) -> Result<String, AllocError> {
+    match row {
+        None => format!(in alloc; "-"),
+        Some(i) => format!(in alloc; "{} {} {}", i.kind, i.local_id, i.uuid.as_str()),
+    }
+}
+
+// ---- steps; they have no clause, so that the proof of a test does not carry the state of each call
+
+fn fill_tiles<S: Alter>(tx: &mut Transaction<'_, S>) -> Result<(), Fault> {
+    insert_tile(tx, 9, 2, 0, 0, b"c")?;
+    insert_tile(tx, 7, 2, 3, 1, b"ab")
+}
+
+fn fill_media<S: Alter>(tx: &mut Transaction<'_, S>) -> Result<(), Fault> {
+    insert_medium(tx, 4, b"png", "image/png")?;
+    insert_medium(tx, 5, b"", "image/jpeg")
+}
+
+fn fill_attributes<S: Alter>(tx: &mut Transaction<'_, S>) -> Result<(), Fault> {
+    insert_attribute(tx, 2, 100, -7, 31, "well")?;
+    insert_attribute(tx, 3, 0, 0, 0, "")
+}
+
+fn fill_mappings<S: Alter>(tx: &mut Transaction<'_, S>) -> Result<(), Fault> {
+    insert_tiles_media(tx, 7, 4)?;
+    insert_tiles_media(tx, 9, 5)?;
+    insert_rows_media(tx, 2, 5)?;
+    insert_rows_media(tx, 3, 4)
+}
+
+fn fill_identities<S: Alter>(tx: &mut Transaction<'_, S>) -> Result<(), Fault> {
+    insert_identity(tx, 1, 7, FIRST)?;
+    insert_identity(tx, 2, 7, SECOND)
+}
+
+fn empty<S: Alter>(tx: &mut Transaction<'_, S>) -> Result<(), Fault> {
+    delete_tile(tx, 9)?;
+    delete_medium(tx, 5)?;
+    delete_attribute(tx, 3)
+}
+
+fn unlink<S: Alter>(tx: &mut Transaction<'_, S>) -> Result<(), Fault> {
+    delete_tiles_media(tx, 9, 5)?;
+    delete_rows_media(tx, 3, 4)?;
+    delete_identity(tx, 2, 7)
+}
+
+// A package with two rows in each table.
+fn filled<S: Alter>(conn: &mut Connection<S>) -> Result<bool, Fault> {
+    if !conn.is_autocommit() {
+        return Ok(false);
+    }
+    let mut tx = conn.transaction();
+    create_schema(&mut tx)?;
+    fill_tiles(&mut tx)?;
+    fill_media(&mut tx)?;
+    fill_attributes(&mut tx)?;
+    fill_mappings(&mut tx)?;
+    fill_identities(&mut tx)?;
+    tx.commit()?;
+    Ok(true)
+}
+
+// One row of each table goes.
+fn emptied<S: Alter>(conn: &mut Connection<S>) -> Result<bool, Fault> {
+    if !conn.is_autocommit() {
+        return Ok(false);
+    }
+    let mut tx = conn.transaction();
+    empty(&mut tx)?;
+    unlink(&mut tx)?;
+    tx.commit()?;
+    Ok(true)
+}
+
+// ---- look-ups, on a connection that is at rest
+
+fn guarded<S: Alter>(conn: &Connection<S>) -> bool
+    ensures { IsTrue result → Rests (state S.Store conn.now) }
+{
+    conn.is_autocommit()
+}
+
+fn told_tile_by_id<S: Alter>(
+    alloc: Global,
+    conn: &mut Connection<S>,
+    id: i64,
+) -> Result<String, Fault> {
+    if !guarded(conn) {
+        return Err(Fault::StoreFault);
+    }
+    Ok(tile(alloc, tile_by_id(conn, id)?)?)
+}
+
+fn told_tile_at<S: Alter>(
+    alloc: Global,
+    conn: &mut Connection<S>,
+    zoom_level: i64,
+    tile_column: i64,
+    tile_row: i64,
+) -> Result<String, Fault> {
+    if !guarded(conn) {
+        return Err(Fault::StoreFault);
+    }
+    Ok(tile(alloc, tile_at(conn, zoom_level, tile_column, tile_row)?)?)
+}
+
+fn told_all_tiles<S: Alter>(alloc: Global, conn: &mut Connection<S>) -> Result<String, Fault> {
+    if !guarded(conn) {
+        return Err(Fault::StoreFault);
+    }
+    let mut told = String::new(alloc);
+    for row in all_tiles(conn, alloc)? {
+        told.push_str(tile(alloc, Some(row))?.as_str())?;
+        told.push(';')?;
+    }
+    Ok(told)
+}
+
+fn told_medium_by_id<S: Alter>(
+    alloc: Global,
+    conn: &mut Connection<S>,
+    id: i64,
+) -> Result<String, Fault> {
+    if !guarded(conn) {
+        return Err(Fault::StoreFault);
+    }
+    Ok(medium(alloc, medium_by_id(conn, id)?)?)
+}
+
+fn told_all_media<S: Alter>(alloc: Global, conn: &mut Connection<S>) -> Result<String, Fault> {
+    if !guarded(conn) {
+        return Err(Fault::StoreFault);
+    }
+    let mut told = String::new(alloc);
+    for row in all_media(conn, alloc)? {
+        told.push_str(medium(alloc, Some(row))?.as_str())?;
+        told.push(';')?;
+    }
+    Ok(told)
+}
+
+fn told_attribute_by_id<S: Alter>(
+    alloc: Global,
+    conn: &mut Connection<S>,
+    id: i64,
+) -> Result<String, Fault> {
+    if !guarded(conn) {
+        return Err(Fault::StoreFault);
+    }
+    Ok(attribute(alloc, attribute_by_id(conn, id)?)?)
+}
+
+fn told_all_attributes<S: Alter>(alloc: Global, conn: &mut Connection<S>) -> Result<String, Fault> {
+    if !guarded(conn) {
+        return Err(Fault::StoreFault);
+    }
+    let mut told = String::new(alloc);
+    for row in all_attributes(conn, alloc)? {
+        told.push_str(attribute(alloc, Some(row))?.as_str())?;
+        told.push(';')?;
+    }
+    Ok(told)
+}
+
+fn told_tiles_media_of_pair<S: Alter>(
+    alloc: Global,
+    conn: &mut Connection<S>,
+    base_id: i64,
+    related_id: i64,
+) -> Result<String, Fault> {
+    if !guarded(conn) {
+        return Err(Fault::StoreFault);
+    }
+    Ok(mapping(alloc, tiles_media_of_pair(conn, base_id, related_id)?)?)
+}
+
+fn told_tiles_media_of_base<S: Alter>(
+    alloc: Global,
+    conn: &mut Connection<S>,
+    base_id: i64,
+) -> Result<String, Fault> {
+    if !guarded(conn) {
+        return Err(Fault::StoreFault);
+    }
+    Ok(mapping(alloc, tiles_media_of_base(conn, base_id)?)?)
+}
+
+fn told_tiles_media_of_related<S: Alter>(
+    alloc: Global,
+    conn: &mut Connection<S>,
+    related_id: i64,
+) -> Result<String, Fault> {
+    if !guarded(conn) {
+        return Err(Fault::StoreFault);
+    }
+    Ok(mapping(alloc, tiles_media_of_related(conn, related_id)?)?)
+}
+
+fn told_all_tiles_media<S: Alter>(
+    alloc: Global,
+    conn: &mut Connection<S>,
+) -> Result<String, Fault> {
+    if !guarded(conn) {
+        return Err(Fault::StoreFault);
+    }
+    let mut told = String::new(alloc);
+    for row in all_tiles_media(conn, alloc)? {
+        told.push_str(mapping(alloc, Some(row))?.as_str())?;
+        told.push(';')?;
+    }
+    Ok(told)
+}
+
+fn told_rows_media_of_pair<S: Alter>(
+    alloc: Global,
+    conn: &mut Connection<S>,
+    base_id: i64,
+    related_id: i64,
+) -> Result<String, Fault> {
+    if !guarded(conn) {
+        return Err(Fault::StoreFault);
+    }
+    Ok(mapping(alloc, rows_media_of_pair(conn, base_id, related_id)?)?)
+}
+
+fn told_rows_media_of_base<S: Alter>(
+    alloc: Global,
+    conn: &mut Connection<S>,
+    base_id: i64,
+) -> Result<String, Fault> {
+    if !guarded(conn) {
+        return Err(Fault::StoreFault);
+    }
+    Ok(mapping(alloc, rows_media_of_base(conn, base_id)?)?)
+}
+
+fn told_rows_media_of_related<S: Alter>(
+    alloc: Global,
+    conn: &mut Connection<S>,
+    related_id: i64,
+) -> Result<String, Fault> {
+    if !guarded(conn) {
+        return Err(Fault::StoreFault);
+    }
+    Ok(mapping(alloc, rows_media_of_related(conn, related_id)?)?)
+}
+
+fn told_all_rows_media<S: Alter>(alloc: Global, conn: &mut Connection<S>) -> Result<String, Fault> {
+    if !guarded(conn) {
+        return Err(Fault::StoreFault);
+    }
+    let mut told = String::new(alloc);
+    for row in all_rows_media(conn, alloc)? {
+        told.push_str(mapping(alloc, Some(row))?.as_str())?;
+        told.push(';')?;
+    }
+    Ok(told)
+}
+
+fn told_identity_by_uuid<S: Alter>(
+    alloc: Global,
+    conn: &mut Connection<S>,
+    uuid: &str,
+) -> Result<String, Fault> {
+    if !guarded(conn) {
+        return Err(Fault::StoreFault);
+    }
+    Ok(identity(alloc, identity_by_uuid(conn, uuid)?)?)
+}
+
+fn told_identity_by_key<S: Alter>(
+    alloc: Global,
+    conn: &mut Connection<S>,
+    kind: i64,
+    local_id: i64,
+) -> Result<String, Fault> {
+    if !guarded(conn) {
+        return Err(Fault::StoreFault);
+    }
+    Ok(identity(alloc, identity_by_key(conn, kind, local_id)?)?)
+}
+
+fn told_all_identities<S: Alter>(alloc: Global, conn: &mut Connection<S>) -> Result<String, Fault> {
+    if !guarded(conn) {
+        return Err(Fault::StoreFault);
+    }
+    let mut told = String::new(alloc);
+    for row in all_identities(conn, alloc)? {
+        told.push_str(identity(alloc, Some(row))?.as_str())?;
+        told.push(';')?;
+    }
+    Ok(told)
+}
+
+// ---- look-ups inside a transaction
+
+fn numbers<S: Alter>(alloc: Global, tx: &mut Transaction<'_, S>) -> Result<String, Fault> {
+    let tiles = greatest_tile_id(tx)?.unwrap_or(-1);
+    let media = greatest_medium_id(tx)?.unwrap_or(-1);
+    let attributes = greatest_attribute_id(tx)?.unwrap_or(-1);
+    Ok(format!(in alloc; "{} {} {}", tiles, media, attributes)?)
+}
+
+fn rows_inside<S: Alter>(alloc: Global, tx: &mut Transaction<'_, S>) -> Result<String, Fault> {
+    let mut told = tile(alloc, tile_by_id_inside(tx, 7)?)?;
+    told.push(';')?;
+    told.push_str(medium(alloc, medium_by_id_inside(tx, 5)?)?.as_str())?;
+    told.push(';')?;
+    told.push_str(attribute(alloc, attribute_by_id_inside(tx, 3)?)?.as_str())?;
+    Ok(told)
+}
+
+fn identities_inside<S: Alter>(
+    alloc: Global,
+    tx: &mut Transaction<'_, S>,
+) -> Result<String, Fault> {
+    let mut told = identity(alloc, identity_by_uuid_inside(tx, SECOND)?)?;
+    told.push(';')?;
+    told.push_str(identity(alloc, identity_by_key_inside(tx, 1, 7)?)?.as_str())?;
+    told.push(';')?;
+    told.push_str(identity(alloc, identity_by_key_inside(tx, 7, 1)?)?.as_str())?;
+    Ok(told)
+}
+
+fn told_numbers<S: Alter>(alloc: Global, conn: &mut Connection<S>) -> Result<String, Fault> {
+    if !conn.is_autocommit() {
+        return Err(Fault::StoreFault);
+    }
+    let mut tx = conn.transaction();
+    numbers(alloc, &mut tx)
+}
+
+fn told_rows_inside<S: Alter>(alloc: Global, conn: &mut Connection<S>) -> Result<String, Fault> {
+    if !conn.is_autocommit() {
+        return Err(Fault::StoreFault);
+    }
+    let mut tx = conn.transaction();
+    rows_inside(alloc, &mut tx)
+}
+
+fn told_identities_inside<S: Alter>(
+    alloc: Global,
+    conn: &mut Connection<S>,
+) -> Result<String, Fault> {
+    if !conn.is_autocommit() {
+        return Err(Fault::StoreFault);
+    }
+    let mut tx = conn.transaction();
+    identities_inside(alloc, &mut tx)
+}
+
+fn scheme<S: Alter>(conn: &mut Connection<S>) -> Result<bool, Fault> {
+    if !conn.is_autocommit() {
+        return Ok(false);
+    }
+    let mut tx = conn.transaction();
+    create_schema(&mut tx)?;
+    tx.commit()?;
+    Ok(true)
+}
+
+// ---- tests
+
+#[test]
+fn user_rows_are_found(rt: HostRuntime) -> Result<(), Fail> {
+    let a = rt.alloc();
+    let mut conn = Connection::open_in_memory(a)?;
+    let conn = &mut conn;
+    assert!(rt; filled(conn)?);
+    assert_eq!(rt; told_tile_by_id(a, conn, 7)?.as_str(), "7 2 3 1 2");
+    assert_eq!(rt; told_tile_by_id(a, conn, 8)?.as_str(), "-");
+    assert_eq!(rt; told_tile_at(a, conn, 2, 3, 1)?.as_str(), "7 2 3 1 2");
+    assert_eq!(rt; told_tile_at(a, conn, 2, 1, 3)?.as_str(), "-");
+    assert_eq!(rt; told_all_tiles(a, conn)?.as_str(), "7 2 3 1 2;9 2 0 0 1;");
+    assert_eq!(rt; told_medium_by_id(a, conn, 4)?.as_str(), "4 3 image/png");
+    assert_eq!(rt; told_medium_by_id(a, conn, 6)?.as_str(), "-");
+    assert_eq!(rt;
+        told_all_media(a, conn)?.as_str(),
+        "4 3 image/png;5 0 image/jpeg;"
+    );
+    assert_eq!(rt;
+        told_attribute_by_id(a, conn, 2)?.as_str(),
+        "2 100 -7 31 well"
+    );
+    assert_eq!(rt; told_attribute_by_id(a, conn, 4)?.as_str(), "-");
+    assert_eq!(rt;
+        told_all_attributes(a, conn)?.as_str(),
+        "2 100 -7 31 well;3 0 0 0 ;"
+    );
+    Ok(())
+}
+
+#[test]
+fn relations_are_found(rt: HostRuntime) -> Result<(), Fail> {
+    let a = rt.alloc();
+    let mut conn = Connection::open_in_memory(a)?;
+    let conn = &mut conn;
+    assert!(rt; filled(conn)?);
+    assert_eq!(rt; told_tiles_media_of_pair(a, conn, 7, 4)?.as_str(), "7 4");
+    assert_eq!(rt; told_tiles_media_of_pair(a, conn, 7, 5)?.as_str(), "-");
+    assert_eq!(rt; told_tiles_media_of_base(a, conn, 9)?.as_str(), "9 5");
+    assert_eq!(rt; told_tiles_media_of_related(a, conn, 5)?.as_str(), "9 5");
+    assert_eq!(rt; told_tiles_media_of_related(a, conn, 9)?.as_str(), "-");
+    assert_eq!(rt; told_all_tiles_media(a, conn)?.as_str(), "7 4;9 5;");
+    assert_eq!(rt; told_rows_media_of_pair(a, conn, 2, 5)?.as_str(), "2 5");
+    assert_eq!(rt; told_rows_media_of_pair(a, conn, 5, 2)?.as_str(), "-");
+    assert_eq!(rt; told_rows_media_of_base(a, conn, 3)?.as_str(), "3 4");
+    assert_eq!(rt; told_rows_media_of_related(a, conn, 5)?.as_str(), "2 5");
+    assert_eq!(rt; told_all_rows_media(a, conn)?.as_str(), "2 5;3 4;");
+    Ok(())
+}
+
+#[test]
+fn identities_are_found(rt: HostRuntime) -> Result<(), Fail> {
+    let a = rt.alloc();
+    let mut conn = Connection::open_in_memory(a)?;
+    let conn = &mut conn;
+    assert!(rt; filled(conn)?);
+    let first = "1 7 00000000-0000-4000-8000-000000000001";
+    let second = "2 7 00000000-0000-4000-8000-000000000002";
+    assert_eq!(rt; told_identity_by_uuid(a, conn, FIRST)?.as_str(), first);
+    assert_eq!(rt; told_identity_by_uuid(a, conn, "")?.as_str(), "-");
+    assert_eq!(rt; told_identity_by_key(a, conn, 2, 7)?.as_str(), second);
+    assert_eq!(rt; told_identity_by_key(a, conn, 7, 2)?.as_str(), "-");
+    assert_eq!(rt;
+        told_all_identities(a, conn)?.as_str(),
+        "1 7 00000000-0000-4000-8000-000000000001;2 7 00000000-0000-4000-8000-000000000002;"
+    );
+    assert_eq!(rt;
+        told_identities_inside(a, conn)?.as_str(),
+        "2 7 00000000-0000-4000-8000-000000000002;1 7 00000000-0000-4000-8000-000000000001;-"
+    );
+    Ok(())
+}
+
+#[test]
+fn rows_inside_a_transaction(rt: HostRuntime) -> Result<(), Fail> {
+    let a = rt.alloc();
+    let mut conn = Connection::open_in_memory(a)?;
+    let conn = &mut conn;
+    assert!(rt; scheme(conn)?);
+    assert_eq!(rt; told_rows_inside(a, conn)?.as_str(), "-;-;-");
+    assert_eq!(rt; told_numbers(a, conn)?.as_str(), "-1 -1 -1");
+    Ok(())
+}
+
+#[test]
+fn one_row_of_each_table_goes(rt: HostRuntime) -> Result<(), Fail> {
+    let a = rt.alloc();
+    let mut conn = Connection::open_in_memory(a)?;
+    let conn = &mut conn;
+    assert!(rt; filled(conn)?);
+    assert_eq!(rt;
+        told_rows_inside(a, conn)?.as_str(),
+        "7 2 3 1 2;5 0 image/jpeg;3 0 0 0 "
+    );
+    assert_eq!(rt; told_numbers(a, conn)?.as_str(), "9 5 3");
+    assert!(rt; emptied(conn)?);
+    assert_eq!(rt; told_numbers(a, conn)?.as_str(), "7 4 2");
+    assert_eq!(rt; told_all_tiles(a, conn)?.as_str(), "7 2 3 1 2;");
+    assert_eq!(rt; told_all_media(a, conn)?.as_str(), "4 3 image/png;");
+    assert_eq!(rt; told_all_attributes(a, conn)?.as_str(), "2 100 -7 31 well;");
+    assert_eq!(rt; told_all_tiles_media(a, conn)?.as_str(), "7 4;");
+    assert_eq!(rt; told_all_rows_media(a, conn)?.as_str(), "2 5;");
+    assert_eq!(rt;
+        told_all_identities(a, conn)?.as_str(),
+        "1 7 00000000-0000-4000-8000-000000000001;"
+    );
+    Ok(())
+}

@@ -1,0 +1,397 @@
+#!/usr/bin/env python3
+"""Writes what is alike in the proofs of the statements: proofs/*Statements.antt, and the answer file of each function.
+Run it in the crate's folder, and then rt fmt. The Rust functions are written by hand; each takes the arguments of its
+statement in the order of the parameters."""
+import os
+
+# a table: its module of src, its list in Tables, shape, constant, type of row, word of a row as shown, word for a change,
+# whether its key is the rowid, its columns, the columns by which all rows are read, and its statements:
+#   deletes: (function, columns)      finds: (function, columns, inside too)      alls: function
+INT, TEXT, BLOB = "int", "text", "blob"
+TABLES = [
+    dict(file="TileStatements", module="tiles", list="tiles", shape="tile_shape", table="sheet_tiles", row="TileRow", shown="tile_shown", change="Tile", keyed=True,
+         columns=[("id", INT), ("zoom_level", INT), ("tile_column", INT), ("tile_row", INT), ("tile_data", BLOB)], by=["id"],
+         insert="insert_tile", delete=("delete_tile", ["id"]), finds=[("tile_by_id", ["id"], True), ("tile_at", ["zoom_level", "tile_column", "tile_row"], False)], all="all_tiles", greatest="greatest_tile_id"),
+    dict(file="MediumStatements", module="media", list="media", shape="medium_shape", table="sheet_media", row="MediaRow", shown="medium_shown", change="Medium", keyed=True,
+         columns=[("id", INT), ("data", BLOB), ("content_type", TEXT)], by=["id"],
+         insert="insert_medium", delete=("delete_medium", ["id"]), finds=[("medium_by_id", ["id"], True)], all="all_media", greatest="greatest_medium_id"),
+    dict(file="AttributeStatements", module="attributes", list="rows", shape="attribute_shape", table="sheet_rows", row="AttributeRow", shown="attribute_shown", change="Attribute", keyed=True,
+         columns=[("id", INT), ("x", INT), ("y", INT), ("code", INT), ("label", TEXT)], by=["id"],
+         insert="insert_attribute", delete=("delete_attribute", ["id"]), finds=[("attribute_by_id", ["id"], True)], all="all_attributes", greatest="greatest_attribute_id"),
+    dict(file="TilesMediaStatements", module="mappings", list="tiles_media", shape="tiles_media_shape", table="tiles_media", row="MappingRow", shown="mapping_shown", change="TilesMedia", keyed=False,
+         columns=[("base_id", INT), ("related_id", INT)], by=["base_id", "related_id"],
+         insert="insert_tiles_media", delete=("delete_tiles_media", ["base_id", "related_id"]),
+         finds=[("tiles_media_of_pair", ["base_id", "related_id"], False), ("tiles_media_of_base", ["base_id"], False), ("tiles_media_of_related", ["related_id"], False)], all="all_tiles_media"),
+    dict(file="RowsMediaStatements", module="mappings", list="rows_media", shape="rows_media_shape", table="rows_media", row="MappingRow", shown="mapping_shown", change="RowsMedia", keyed=False,
+         columns=[("base_id", INT), ("related_id", INT)], by=["base_id", "related_id"],
+         insert="insert_rows_media", delete=("delete_rows_media", ["base_id", "related_id"]),
+         finds=[("rows_media_of_pair", ["base_id", "related_id"], False), ("rows_media_of_base", ["base_id"], False), ("rows_media_of_related", ["related_id"], False)], all="all_rows_media"),
+    dict(file="IdentityStatements", module="identities", list="identities", shape="identity_shape", table="sheet_identity", row="IdentityRow", shown="identity_shown", change="Identity", keyed=False,
+         columns=[("kind", INT), ("local_id", INT), ("uuid", TEXT)], by=["kind", "local_id"],
+         insert="insert_identity", delete=("delete_identity", ["kind", "local_id"]),
+         finds=[("identity_by_uuid", ["uuid"], True), ("identity_by_key", ["kind", "local_id"], True)], all="all_identities"),
+]
+
+RESERVED = {"data", "package", "in", "as"}
+EQUALITY = "(_, _, _, _, refl, refl, refl, refl, refl, refl, refl)"
+VALUE = {INT: "Int", TEXT: "Text", BLOB: "Blob"}
+TYPE = {INT: "ℤ", TEXT: "List ℕ", BLOB: "List ℕ"}
+SAME = {INT: "same_number", TEXT: "same_text"}
+EQUAL = {INT: "int_eq", TEXT: "bytes_eq"}
+
+
+def quoted(name):
+    return "«%s»" % name if name in RESERVED else name
+
+
+def kind_of(t, column):
+    return dict(t["columns"])[column]
+
+
+def number(t, column):
+    return [name for name, _ in t["columns"]].index(column)
+
+
+def place(t, column):
+    k = number(t, column)
+    return 0 if t["keyed"] and k == 0 else k + 1
+
+
+def nested(join, parts):
+    out = parts[0]
+    for part in parts[1:]:
+        out = join(out, part)
+    return out
+
+
+def test_of(t, columns):
+    return nested(lambda a, b: "(both %s %s)" % (a, b), ["(equals %d %d)" % (number(t, c), j) for j, c in enumerate(columns)])
+
+
+def condition(columns):
+    return "(_, refl, %s)" % nested(lambda a, b: "(_, _, refl, %s, %s)" % (a, b), [EQUALITY for _ in columns])
+
+
+def where(columns):
+    return " AND ".join("%s = ?%d" % (c, j + 1) for j, c in enumerate(columns))
+
+
+def keeps(t, columns, var):
+    return " && ".join("%s %s.%s %s" % (EQUAL[kind_of(t, c)], var, c, c) for c in columns)
+
+
+def same(t, columns, var):
+    return nested(lambda a, b: "(both_same %s %s)" % (a, b), ["(%s %s.%s %s)" % (SAME[kind_of(t, c)], var, c, c) for c in columns])
+
+
+def bound(t, columns):
+    return "".join("%s %s ∷ " % (VALUE[kind_of(t, c)], c) for c in columns) + "[]"
+
+
+def arguments(t, columns):
+    return " ".join("(%s : %s)" % (c, TYPE[kind_of(t, c)]) for c in columns)
+
+
+def text_of(name, text, t, test, by, head):
+    return [
+        "",
+        "%s_text : (tree : ℕ) → IsSelect (codes \"%s\") (%s tree) %s %s" % (name, text, t["table"], test, by),
+        "unfolding everything",
+        "%s_text tree = record {" % name,
+        "  parse = _;", "  asks = _;", "  src = _;", "  item = _;", "  parsed = refl;", "  statement = refl;", "  formats = refl;",
+        "  one = one_table %s;" % " ".join(["refl"] * 15),
+        "  condition = %s;" % head,
+        "  enough = refl;", "  few = λ at. refl;", "  some = λ at. refl;", "  sorted = λ schema at. (_, refl, refl);",
+        "}",
+        "",
+        "%s_plan : (tree : ℕ) → IsPlannedSelect (%s tree) %s %s" % (name, t["table"], test, by),
+        "unfolding resolving",
+        "%s_plan tree schema at h = rw (h.stored, h.by_tree) refl" % name,
+    ]
+
+
+def read_record(name, passing):
+    return "record { test = _; by = _; selects = %s_text; planned = %s_plan; given = refl; listing = _; is = λ tree. refl; shows = λ v x. refl; passing = %s }" % (name, name, passing)
+
+
+def select_text(t, columns):
+    return "SELECT * FROM %s WHERE %s" % (t["table"], where(columns))
+
+
+def all_text(t):
+    return "SELECT * FROM %s ORDER BY %s" % (t["table"], ", ".join(t["by"]))
+
+
+def newest_text(t):
+    return "SELECT * FROM %s ORDER BY %s DESC LIMIT 1" % (t["table"], t["by"][0])
+
+
+def newest_facts(t):
+    by = "((col 1 0, descending) ∷ [])"
+    return [
+        "",
+        "newest_text : (tree : ℕ) → IsFirst (codes \"%s\") (%s tree) always %s" % (newest_text(t), t["table"], by),
+        "unfolding everything",
+        "newest_text tree = record {",
+        "  parse = _;", "  asks = _;", "  src = _;", "  item = _;", "  parsed = refl;", "  statement = refl;", "  formats = refl;",
+        "  one = one_source %s;" % " ".join(["refl"] * 13),
+        "  paged = λ schema. refl;", "  condition = refl;",
+        "  enough = refl;", "  few = λ at. refl;", "  some = λ at. refl;", "  sorted = λ schema at. (_, refl, refl);",
+        "}",
+        "",
+        "newest_plan : (tree : ℕ) → IsPlannedFirst (%s tree) always %s" % (t["table"], by),
+        "unfolding resolving",
+        "newest_plan tree schema at h = rw (h.stored, h.by_tree) refl",
+        "",
+        "pub newest : IsNewest %s (λ x. x.%s) (codes \"%s\")" % (t["shape"], t["by"][0], newest_text(t)),
+        "newest = record { by = _; selects = newest_text; planned = newest_plan; shown = _; is = λ tree. refl; begins = λ v x. refl; keyed = λ v x. refl }",
+    ]
+
+
+def newest_answer(t):
+    function = t["greatest"]
+    return [
+        "use Rattle.sqlite.specs.Held.{state}",
+        "use Rattle.package_tables.proofs.Newest.{tells_greatest}",
+        "use Rattle.package_tables.proofs.%s.{known, newest}" % t["file"],
+        "use Rattle.package_tables.proofs.%s.%s.Goals as goal" % (t["module"], function),
+        "",
+        "pub returns-clause-told : goal.returns-clause-told",
+        "returns-clause-told g c =",
+        "    let e = c.query_all.ensures in",
+        "    tells_greatest known newest (λ rows. rows.items) (state g.S.Store c.args.tx.now.conn.now) (state g.S.Store c.query_all.new.self.conn.now) c.query_all.result e.ok e.err c.number_of.result c.number_of.ensures",
+    ]
+
+
+def insert_text(t):
+    return "INSERT INTO %s VALUES (%s)" % (t["table"], ", ".join("?%d" % (j + 1) for j in range(len(t["columns"]))))
+
+
+def delete_text(t, columns):
+    return "DELETE FROM %s WHERE %s" % (t["table"], where(columns))
+
+
+def stored(t):
+    return "%s.stored Null row" % t["shape"] if t["keyed"] else "%s.stored (Int (next_rowid there)) row" % t["shape"]
+
+
+def statements(t):
+    out = [
+        "-- The statements on `%s`. Written by tools/statements.py." % t["table"],
+        "use Rattle.std.proofs.Common.{◌≡◌, ℕ, ℤ, List, [], ◌∷◌, Bool, true, codes, refl}",
+        "use Rattle.std.specs.Prelude.{◌&&◌, bytes_eq}",
+        "use Rattle.std.specs.Ordering.{int_eq}",
+        "use Rattle.sqlite.specs.Order.{Row}",
+        "use Rattle.sqlite.specs.Term.{col}",
+        "use Rattle.sqlite.specs.Edit.{next_rowid}",
+        "use Rattle.sqlite.specs.declared.types.Value.TheVariants.{Int, Null, Text, Blob}",
+        "use Rattle.sqlite_tied.specs.Compute.{everything}",
+        "use Rattle.sql_meaning.specs.Resolving.{resolving}",
+        "use Rattle.sql_meaning.specs.Reading.{always, equals, both, ascending, descending}",
+        "use Rattle.sql_meaning.proofs.Insert.{IsInsert, IsRow}",
+        "use Rattle.sql_meaning.proofs.Delete.{IsDelete, IsPlannedDelete}",
+        "use Rattle.sql_meaning.proofs.Resolve.{one_table, one_source}",
+        "use Rattle.sql_meaning.proofs.Select.{IsSelect, IsPlannedSelect}",
+        "use Rattle.sql_meaning.proofs.First.{IsFirst, IsPlannedFirst}",
+        "use Rattle.package_tables.specs.Tables.{%s}" % t["table"],
+        "use Rattle.package_tables.specs.Shapes.{%s, int_at, text_at, blob_at}" % t["shape"],
+        "use Rattle.package_tables.specs.Shown.{%s}" % t["shown"],
+        "use Rattle.package_tables.specs.declared.rows.%s.{%s}" % (t["row"], t["row"]),
+        "use Rattle.package_tables.proofs.Looking.{IsKnown, IsRead}",
+        "use Rattle.package_tables.proofs.Newest.{IsNewest}",
+        "use Rattle.package_tables.proofs.Values.{same_number, same_text, both_same}",
+        "use Rattle.package_tables.proofs.Written.{%s_is}" % t["shape"],
+        "",
+        "pub insert_text : (tree : ℕ) → IsInsert (codes \"%s\") (%s tree)" % (insert_text(t), t["table"]),
+        "unfolding everything",
+        "insert_text tree = record { parse = _; rows = _; parsed = refl; statement = refl; formats = refl; named = refl; unstamped = refl; source = λ schema. refl }",
+        "",
+        "pub insert_row : (row : %s) (tree : ℕ) (there : List Row)" % t["row"],
+        "    → IsRow (%s tree) (%s[]) there (%s)" % (t["table"], "".join("%s row.%s ∷ " % (VALUE[k], c) for c, k in t["columns"]), stored(t)),
+        "insert_row row tree there = record { source = _; laid = refl; kinds = refl; placed = λ top. refl }",
+    ]
+    _, columns = t["delete"]
+    out += [
+        "",
+        "pub delete_text : (tree : ℕ) → IsDelete (codes \"%s\") (%s tree) %s" % (delete_text(t, columns), t["table"], test_of(t, columns)),
+        "unfolding everything",
+        "delete_text tree = record { parse = _; where' = _; parsed = refl; statement = refl; formats = refl; named = refl; condition = %s; enough = refl }" % condition(columns),
+        "",
+        "pub delete_plan : (tree : ℕ) → IsPlannedDelete (%s tree) %s" % (t["table"], test_of(t, columns)),
+        "unfolding resolving",
+        "delete_plan tree schema at h = rw (h.stored, h.by_tree) refl",
+        "",
+        "pub known : IsKnown %s (λ t. t.%s) %s" % (t["shape"], t["list"], t["shown"]),
+        "known = record { laws = %s_is; formed = λ db f. f.%s; lists = λ db. refl; back = λ r. record { %s }; returns = λ x. refl }"
+        % (t["shape"], t["list"], "; ".join("%s = %s_at r %d" % (quoted(c), k, j) for j, (c, k) in enumerate(t["columns"]))),
+    ]
+    for name, columns, _ in t["finds"]:
+        out += text_of(name, select_text(t, columns), t, test_of(t, columns), "[]", condition(columns))
+        out += [
+            "",
+            "pub %s : %s → IsRead %s %s (codes \"%s\") (%s) (λ x. %s)" % (name, arguments(t, columns), t["shape"], t["shown"], select_text(t, columns), bound(t, columns), keeps(t, columns, "x")),
+            "%s %s = %s" % (name, " ".join(columns), read_record(name, "λ v x. " + same(t, columns, "x"))),
+        ]
+    by = "(%s[])" % "".join("(col 1 %d, ascending) ∷ " % place(t, c) for c in t["by"])
+    out += text_of("all", all_text(t), t, "always", by, "refl")
+    out += ["", "pub all : IsRead %s %s (codes \"%s\") [] (λ x. true)" % (t["shape"], t["shown"], all_text(t)), "all = %s" % read_record("all", "λ v x. refl")]
+    if "greatest" in t:
+        out += newest_facts(t)
+    return "\n".join(out) + "\n"
+
+
+def to_sql(count):
+    return ", ".join("c.params-to_sql%s.ensures" % ("" if j == 0 else "-%d" % (j + 1)) for j in range(count))
+
+
+def ranges(t, columns):
+    numbers = ["c.ranges.%s" % c for c in columns if kind_of(t, c) == INT]
+    return "(to_z-of_z, %s)" % ", ".join(numbers) if numbers else None
+
+
+def given(t, columns):
+    if not columns:
+        return "refl"
+    r = ranges(t, columns)
+    return "(rw (%s) %s)" % (to_sql(len(columns)), "(simp %s refl)" % r if r else "refl")
+
+
+def passed(t, columns):
+    """the arguments of a function, as values"""
+    return " ".join("c.args.%s" % (quoted(c) if False else c) + (".now" if kind_of(t, c) != INT else "") for c in columns)
+
+
+def ran(t, columns):
+    r = ranges(t, columns)
+    inner = "rw (%s) at (c.execute.ensures.runs clean begun)" % to_sql(len(columns))
+    return "(simp %s at (%s))" % (r, inner) if r else "(%s)" % inner
+
+
+STATES = [
+    "    let a = c.args in",
+    "    let old = state g.S.Store a.tx.now.conn.now in",
+    "    let new = state g.S.Store c.execute.new.self.conn.now in",
+]
+
+
+def insert_answer(t):
+    names = [c for c, _ in t["columns"]]
+    fields = "; ".join("%s = a.%s%s" % (quoted(c), c, "" if k == INT else ".now") for c, k in t["columns"])
+    laid = "(Int (pos 0), refl, refl)" if t["keyed"] else "(Int (next_rowid there), refl, refl)"
+    return [
+        "use Rattle.std.proofs.Common.{pos, refl, to_z-of_z}",
+        "use Rattle.sqlite.specs.Held.{state}",
+        "use Rattle.sqlite.specs.Edit.{next_rowid}",
+        "use Rattle.sqlite.specs.declared.types.Value.TheVariants.{Int, Null}",
+        "use Rattle.sql_meaning.specs.Writing.{Inserts}",
+        "use Rattle.sql_meaning.proofs.Insert.{inserted_inside}",
+        "use Rattle.package_tables.specs.Tables.{%s}" % t["table"],
+        "use Rattle.package_tables.specs.Shapes.{%s}" % t["shape"],
+        "use Rattle.package_tables.specs.Changes.{Adds%s}" % t["change"],
+        "use Rattle.package_tables.specs.declared.rows.%s.{%s}" % (t["row"], t["row"]),
+        "use Rattle.package_tables.proofs.Making.{makes, puts}",
+        "use Rattle.package_tables.proofs.%s.{insert_text, insert_row}" % t["file"],
+        "use Rattle.package_tables.proofs.Written.{%s_is, %s_written}" % (t["shape"], t["list"]),
+        "use Rattle.package_tables.proofs.%s.%s.Goals as goal" % (t["module"], t["insert"]),
+        "",
+        "pub returns-clause-wrote : goal.returns-clause-wrote",
+        "returns-clause-wrote g c clean begun =",
+    ] + STATES + [
+        "    let row : %s = record { %s } in" % (t["row"], fields),
+        "    makes (Inserts %s (λ there. %s)) (Adds%s row) old new c.execute.result _" % (t["table"], stored(t), t["change"]),
+        "    (λ formed. puts %s %s_is (λ rows t. record t { %s = rows }) %s_written (λ db f. f.%s) (λ there. %s) row old.now new.now formed (λ there. %s))" % (t["shape"], t["shape"], t["list"], t["list"], t["list"], stored(t), laid),
+        "    c.settled.ensures",
+        "    (inserted_inside _ %s insert_text _ _ (insert_row row) old new c.execute.result" % t["table"],
+        "    %s)" % ran(t, names),
+    ]
+
+
+def delete_answer(t):
+    name, columns = t["delete"]
+    goes = "λ r. " + " && ".join("is_same (column r %d) (%s a.%s%s)" % (place(t, c), VALUE[kind_of(t, c)], c, "" if kind_of(t, c) == INT else ".now") for c in columns)
+    tested = "λ x. " + " && ".join("%s x.%s a.%s%s" % (EQUAL[kind_of(t, c)], c, c, "" if kind_of(t, c) == INT else ".now") for c in columns)
+    alike = nested(lambda a, b: "(both_same %s %s)" % (a, b), ["(%s x.%s a.%s%s)" % (SAME[kind_of(t, c)], c, c, "" if kind_of(t, c) == INT else ".now") for c in columns])
+    given_to = " ".join("a.%s%s" % (c, "" if kind_of(t, c) == INT else ".now") for c in columns)
+    return [
+        "use Rattle.std.proofs.Common.{refl, to_z-of_z}",
+        "use Rattle.std.specs.Prelude.{◌&&◌, bytes_eq}",
+        "use Rattle.std.specs.Ordering.{int_eq}",
+        "use Rattle.sqlite.specs.Held.{state}",
+        "use Rattle.sqlite.specs.Order.{column}",
+        "use Rattle.sqlite.specs.declared.types.Value.TheVariants.{Int, Text}",
+        "use Rattle.sql_meaning.specs.Reading.{equals, both, is_same}",
+        "use Rattle.sql_meaning.specs.Writing.{Deletes}",
+        "use Rattle.sql_meaning.proofs.Delete.{removed_inside}",
+        "use Rattle.package_tables.specs.Tables.{%s}" % t["table"],
+        "use Rattle.package_tables.specs.Shapes.{%s}" % t["shape"],
+        "use Rattle.package_tables.specs.Changes.{Drops%s}" % t["change"],
+        "use Rattle.package_tables.proofs.Making.{makes, drops}",
+        "use Rattle.package_tables.proofs.%s.{delete_text, delete_plan}" % t["file"],
+        "use Rattle.package_tables.proofs.Written.{%s_is, %s_written}" % (t["shape"], t["list"]),
+        "use Rattle.package_tables.proofs.Values.{same_number, same_text, both_same}",
+        "use Rattle.package_tables.proofs.%s.%s.Goals as goal" % (t["module"], name),
+        "",
+        "pub returns-clause-wrote : goal.returns-clause-wrote",
+        "returns-clause-wrote g c clean begun =",
+    ] + STATES + [
+        "    makes (Deletes %s (%s)) (Drops%s %s) old new c.execute.result _" % (t["table"], goes, t["change"], given_to),
+        "    (λ formed. drops %s %s_is (λ rows t. record t { %s = rows }) %s_written (λ db f. f.%s) (%s) (%s) old.now new.now formed (λ v x. %s))" % (t["shape"], t["shape"], t["list"], t["list"], t["list"], goes, tested, alike),
+        "    c.settled.ensures",
+        "    (removed_inside _ %s %s delete_text delete_plan _ refl _ (λ tree. refl) old new c.execute.result" % (t["table"], test_of(t, columns)),
+        "    %s)" % ran(t, columns),
+    ]
+
+
+def read_answer(t, name, function, columns, inside, many):
+    lemma = ("tells" if inside else "looks") + ("_all" if many else "_one")
+    step = "all_of" if many else "first_of"
+    read = "(%s %s)" % (name, passed(t, columns)) if columns else name
+    values = "(λ found. found.items) " if many else ""
+    head = [
+        "use Rattle.std.proofs.Common.{refl, to_z-of_z}",
+        "use Rattle.sqlite.specs.Held.{state}",
+        "use Rattle.package_tables.proofs.Looking.{%s}" % lemma,
+        "use Rattle.package_tables.proofs.%s.{known, %s}" % (t["file"], name),
+        "use Rattle.package_tables.proofs.%s.%s.Goals as goal" % (t["module"], function),
+        "",
+    ]
+    if inside:
+        return head + [
+            "pub returns-clause-told : goal.returns-clause-told",
+            "returns-clause-told g c =",
+            "    let e = c.query_all.ensures in",
+            "    %s known %s (λ rows. rows.items) _ %s" % (lemma, read, given(t, columns)),
+            "    (state g.S.Store c.args.tx.now.conn.now) (state g.S.Store c.query_all.new.self.conn.now) c.query_all.result e.ok e.err %sc.%s.result c.%s.ensures" % (values, step, step),
+        ]
+    return head + [
+        "pub returns : goal.returns",
+        "returns g c =",
+        "    let e = c.query_all.ensures in",
+        "    %s known %s (λ rows. rows.items) _ %s g.S.Store g.met.S.Store.shut_if_dirty g.met.S.Store.settled" % (lemma, read, given(t, columns)),
+        "    c.args.conn.now c.query_all.new.self c.requires c.query_all.result e.ok e.err e.mode e.survives %sc.%s.result c.%s.ensures" % (values, step, step),
+    ]
+
+
+def write(path, lines):
+    os.makedirs(os.path.dirname(path), exist_ok=True)
+    with open(path, "w") as f:
+        f.write(lines if isinstance(lines, str) else "\n".join(lines) + "\n")
+
+
+def main():
+    for t in TABLES:
+        write("proofs/%s.antt" % t["file"], statements(t))
+        folder = "proofs/%s/" % t["module"]
+        write(folder + t["insert"] + "/Answers.antt", insert_answer(t))
+        write(folder + t["delete"][0] + "/Answers.antt", delete_answer(t))
+        for name, columns, inside in t["finds"]:
+            write(folder + name + "/Answers.antt", read_answer(t, name, name, columns, False, False))
+            if inside:
+                write(folder + name + "_inside/Answers.antt", read_answer(t, name, name + "_inside", columns, True, False))
+        if "greatest" in t:
+            write(folder + t["greatest"] + "/Answers.antt", newest_answer(t))
+        write(folder + t["all"] + "/Answers.antt", read_answer(t, "all", t["all"], [], False, True))
+
+
+if __name__ == "__main__":
+    main()

@@ -1,0 +1,17 @@
+-- Texts that fit a pattern.
+use Rattle.std.proofs.Common.{◌≡◌, ◌≢◌, ℕ, List, [], ◌∷◌, length, ◌&&◌, ◌==◌, nat_le, Bool, true, false, if◌then◌else◌, refl, arith}
+use Rattle.sheet_types.specs.Texts.{fits_pattern}
+
+and_false : (b : Bool) → (b && false) ≡ false
+and_false true = refl
+and_false false = refl
+
+-- a text of another length does not fit
+pub other_length : (p t : List ℕ) → length t ≢ length p → fits_pattern p t ≡ false
+other_length [] [] h = absurd (h refl)
+other_length [] (c ∷ cs) h = refl
+other_length (p ∷ ps) [] h = refl
+other_length (p ∷ ps) (c ∷ cs) h =
+    let shorter : length cs ≢ length ps = omega arith in
+    let rest : fits_pattern ps cs ≡ false = other_length ps cs shorter in
+    rw rest (and_false (if p == 68 then nat_le 48 c && nat_le c 57 else c == p))

@@ -1,0 +1,120 @@
+// The order in which items, links and identities stand.
+ghost use Rattle.std.specs.Prelude.{◌≡◌, ◌≢◌, [], length, unwrap_or, IfSome, IfNone};
+ghost use Rattle.std.specs.Ordering.{nat_cmp};
+ghost use Rattle.std.specs.Cmp.Lexicographic.{slice_cmp};
+ghost use Rattle.sheet_types.specs.Ordered.{is_before};
+ghost use Rattle.sheet_types.specs.Reading.{thing_key};
+ghost use Rattle.sheet_types.specs.World.{moved_key, item_key, link_key, link_kind, kind_number};
+ghost use Rattle.sheet_types.specs.declared.receipt.MovedKind.{MovedKind};
+
+use crate::command::{Item, Mapping, Relation};
+use crate::receipt::{Moved, MovedKind};
+use std::cmp::Ordering;
+use uuid::Uuid;
+
+/// Whether a UUID stands before another, as numbers of 128 bits and as texts in lower case.
+pub fn uuid_is_before(a: Uuid, b: Uuid) -> bool
+    ensures { result ≡ is_before a b }
+{
+    a.cmp(&b).is_lt()
+}
+
+impl MovedKind {
+    /// The number of the kind, 1 to 5.
+    pub fn number(self) -> u8
+        ensures { result ≡ kind_number self }
+    {
+        match self {
+            MovedKind::TileItem => 1,
+            MovedKind::MediaItem => 2,
+            MovedKind::RowItem => 3,
+            MovedKind::TilesMediaLink => 4,
+            MovedKind::RowsMediaLink => 5,
+        }
+    }
+
+    /// The kind of a number.
+    pub fn from_number(number: u8) -> Option<MovedKind>
+        ensures some { IfSome result (λ kind. number ≡ kind_number kind) }
+        ensures none { IfNone result ((kind : MovedKind) → number ≢ kind_number kind) }
+    {
+        match number {
+            1 => Some(MovedKind::TileItem),
+            2 => Some(MovedKind::MediaItem),
+            3 => Some(MovedKind::RowItem),
+            4 => Some(MovedKind::TilesMediaLink),
+            5 => Some(MovedKind::RowsMediaLink),
+            _ => None,
+        }
+    }
+}
+
+impl Mapping {
+    /// The kind under which a receipt has a link of this mapping.
+    pub fn link_kind(self) -> MovedKind
+        ensures { result ≡ link_kind self }
+    {
+        match self {
+            Mapping::TilesMedia => MovedKind::TilesMediaLink,
+            Mapping::RowsMedia => MovedKind::RowsMediaLink,
+        }
+    }
+}
+
+// The order of the bytes, of which both have as many.
+fn bytes_order(a: &[u8; 16], b: &[u8; 16]) -> Ordering
+    ensures order { result ≡ slice_cmp nat_cmp a.now b.now }
+    ensures long { length a.now ≡ length b.now }
+{
+    a.cmp(b)
+}
+
+// The bytes of a link's other end; none for an item.
+fn end_bytes(end: &Option<Uuid>) -> &[u8]
+    ensures { result.now ≡ unwrap_or end.now [] }
+{
+    match end {
+        Some(id) => id.as_bytes(),
+        None => &[],
+    }
+}
+
+// The order of the kind, the base and the other end.
+#[tactic(auto, using(crate::proofs::KeyOrder::slice_cmp_append))]
+fn key_order(a: (MovedKind, Uuid, Option<Uuid>), b: (MovedKind, Uuid, Option<Uuid>)) -> Ordering
+    ensures { result ≡ slice_cmp nat_cmp (thing_key a.0 a.1 a.2) (thing_key b.0 b.1 b.2) }
+{
+    let kinds = a.0.number().cmp(&b.0.number());
+    let bases = bytes_order(a.1.as_bytes(), b.1.as_bytes());
+    let ends = end_bytes(&a.2).cmp(end_bytes(&b.2));
+    kinds.then(bases.then(ends))
+}
+
+/// Whether a thing that was moved stands before another: by kind, base and other end.
+pub fn moved_is_before(a: &Moved, b: &Moved) -> bool
+    ensures { result ≡ is_before (moved_key a.now) (moved_key b.now) }
+{
+    key_order((a.kind, a.base, a.other), (b.kind, b.base, b.other)).is_lt()
+}
+
+/// Whether an item stands before another: by kind and identity.
+pub fn item_is_before(a: &Item, b: &Item) -> bool
+    ensures { result ≡ is_before (item_key a.now) (item_key b.now) }
+{
+    key_order(
+        (a.content.kind(), a.identity, None),
+        (b.content.kind(), b.identity, None),
+    )
+    .is_lt()
+}
+
+/// Whether a link stands before another: by mapping, base and medium.
+pub fn link_is_before(a: &Relation, b: &Relation) -> bool
+    ensures { result ≡ is_before (link_key a.now) (link_key b.now) }
+{
+    key_order(
+        (a.mapping.link_kind(), a.base, Some(a.media)),
+        (b.mapping.link_kind(), b.base, Some(b.media)),
+    )
+    .is_lt()
+}

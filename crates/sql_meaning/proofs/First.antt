@@ -1,0 +1,126 @@
+-- What `SELECT * FROM t WHERE .. ORDER BY .. LIMIT 1` answers.
+use Rattle.std.proofs.Common.{◌≡◌, ◌⊎◌, inl, inr, ℕ, pos, List, [], ◌∷◌, map, take, Bool, true, false, refl, sym, ap, subst, ◌∙◌, Result, Ok, Err, arith, length, Ordering, Less, Equal, Greater}
+use Rattle.std.proofs.lemmas.List.{length-map}
+use Rattle.std.specs.Prelude.{filter, IfOk, IfErr}
+use Rattle.std.specs.List.{AllByRecursion}
+use Rattle.std.specs.List.Sorted.{IsPermutation, IsSorted}
+use Rattle.std.specs.Ordering.{on, is_gt, ordering_reverse}
+use Rattle.std.specs.Cmp.{IsTotalOrder}
+use Rattle.std.proofs.lemmas.Cmp.{on_total}
+use Rattle.std.proofs.lemmas.List.Sorted.{All-permutation, length_permutation, IsPermutation-sym}
+use Rattle.std.proofs.lemmas.List.Elements.{recursion_from_All, All-from_recursion}
+use Rattle.sqlite_trees.specs.Tree.{IsAscending}
+use Rattle.sqlite_exec.proofs.PartitionLemmas.{ascending_from_sorted}
+use Rattle.sqlite_sql.proofs.QueryLemmas.{key_cmp_total}
+use Rattle.sqlite_rules.specs.Lists.{Has}
+use Rattle.sqlite.specs.Order.{Row}
+use Rattle.sqlite.specs.Query.{key_cmp}
+use Rattle.sqlite_value.specs.declared.keys.Key.{Key}
+use Rattle.sqlite.specs.declared.types.Value.TheVariants.{Null, Int}
+use Rattle.sqlite.specs.Term.{Term, lit}
+use Rattle.sqlite.specs.Table.{Table}
+use Rattle.sqlite.specs.Store.{Ghosts}
+use Rattle.sqlite.specs.Held.{Held, state}
+use Rattle.sqlite.specs.State.{State, HasCleanDisk, Survives, Shown, FailsToQuery, IsTooLate, CommitsShowing}
+use Rattle.sqlite.specs.declared.error.Error.{Error}
+use Rattle.sqlite.specs.Command.TheVariants.{Select}
+use Rattle.sqlite_schema.specs.declared.program.Program.{Program}
+use Rattle.sqlite.proofs.Callers.{IsPlain, command_of, reads_as}
+use Rattle.sql_meaning.specs.Reading.{Test, Listing, IsListing, ComesFirst, ShowsFirst, FindsFirst}
+use Rattle.sql_meaning.specs.Transactions.{Rests, Steps, Looks}
+use Rattle.sql_meaning.proofs.Where.{are_given, terms_of_test}
+use Rattle.sql_meaning.proofs.Resolve.{understood_is}
+use Rattle.sql_meaning.proofs.Select.{IsPaged, IsPlannedPage, paged_query, page_is, page_of, shown_terms, listing_of}
+use Rattle.sql_meaning.proofs.Transactions.{Shuts, Settles}
+use Rattle.sql_meaning.proofs.Answering.{shown_unchanged, read_steps, read_looks}
+
+has_from_map : {A B : Type 0} (f : A → B) (xs : List A) (y : B) → Has (map f xs) y → (x : A) × Has xs x × (y ≡ f x)
+has_from_map f [] y h = absurd h
+has_from_map f (x ∷ xs) y (inl same) = (x, inl refl, same)
+has_from_map f (x ∷ xs) y (inr later) = let it = has_from_map f xs y later in (it.0, inr it.1, it.2)
+
+all_from_map : {A B : Type 0} (P : B → Type 0) (f : A → B) (xs : List A) → AllByRecursion P (map f xs) → AllByRecursion (λ x. P (f x)) xs
+all_from_map P f [] h = tt
+all_from_map P f (x ∷ xs) h = (h.0, all_from_map P f xs h.1)
+
+has_itself : {X : Type 0} (xs : List X) → AllByRecursion (Has xs) xs
+has_itself [] = tt
+has_itself {X} (x ∷ xs) = (inl refl, weaker xs (has_itself xs))
+  where
+    weaker : (ys : List X) → AllByRecursion (Has xs) ys → AllByRecursion (Has (x ∷ xs)) ys
+    weaker [] h = tt
+    weaker (y ∷ ys) h = (inr h.0, weaker ys h.1)
+
+not_above : (o : Ordering) → o ≡ ordering_reverse o → is_gt o ≡ false
+not_above Less h = refl
+not_above Equal h = refl
+not_above Greater h = absurd cc
+
+none_from : {X : Type 0} (xs : List X) → length xs ≡ 0 → xs ≡ []
+none_from [] h = refl
+none_from (x ∷ xs) h = absurd (omega arith)
+
+module _ (key shown : Row → Row) (by : List Key) where
+  abbrev pair : Row → Row × Row
+  pair r = (key r, shown r)
+
+  abbrev cmp : Row × Row → Row × Row → Ordering
+  cmp = on (λ (o : Row × Row). o.0) (key_cmp 0 by)
+
+  total : IsTotalOrder cmp
+  total = on_total (λ (o : Row × Row). o.0) (key_cmp_total by 0)
+
+  at_front : (xs : List Row) (ordered : List (Row × Row)) → IsPermutation (map pair xs) ordered → IsAscending (λ a b. is_gt (cmp a b) ≡ false) ordered → ShowsFirst key shown by xs (take 1 (map (λ o. o.1) ordered))
+  at_front xs [] same up = inl (none_from xs (omega (arith, rw length-map at (length_permutation (map pair xs) [] same))), refl)
+  at_front xs (o ∷ more) same up =
+      let has = recursion_from_All (Has (map pair xs)) (o ∷ more) (All-permutation (Has (map pair xs)) (map pair xs) (o ∷ more) same (All-from_recursion (Has (map pair xs)) (map pair xs) (has_itself (map pair xs)))) in
+      let r = has_from_map pair xs o has.0 in
+      let P : Row × Row → Type 0 = λ z. is_gt (cmp o z) ≡ false in
+      let each : AllByRecursion P (o ∷ more) = (not_above (cmp o o) (total.antisymm o o), up.0) in
+      let back = recursion_from_All P (map pair xs) (All-permutation P (o ∷ more) (map pair xs) (IsPermutation-sym (map pair xs) (o ∷ more) same) (All-from_recursion P (o ∷ more) each)) in
+      let least = all_from_map P pair xs back in
+      inr (r.0, record { there = r.1; least = subst (λ (z : Row × Row). AllByRecursion (λ x. is_gt (key_cmp 0 by z.0 (key x)) ≡ false) xs) r.2 least }, ap (λ (z : Row × Row). z.1 ∷ []) r.2)
+
+  pub listing_first : (xs all rows : List Row) → IsListing key shown by xs all → rows ≡ take 1 all → ShowsFirst key shown by xs rows
+  listing_first xs all rows h cut = subst (ShowsFirst key shown by xs) (sym (cut ∙ ap (take 1) h.shows)) (at_front xs h.ordered h.same (ascending_from_sorted cmp total h.ordered h.sorted))
+
+-- ---- the text
+
+-- LIMIT 1
+abbrev pub one_row : Term × Term
+one_row = (lit (Int (pos 1)), lit (Int (pos 0)))
+
+-- the text is `SELECT * FROM t .. LIMIT 1`
+abbrev pub IsFirst : List ℕ → Table → Test → List (Term × Key) → Type 0
+IsFirst text t test by = IsPaged text t test by one_row
+
+abbrev pub IsPlannedFirst : Table → Test → List (Term × Key) → Type 0
+IsPlannedFirst t test by = IsPlannedPage t test by one_row
+
+module _ (text : List ℕ) (table : ℕ → Table) (test : Test) (by : List (Term × Key)) (it : (tree : ℕ) → IsFirst text (table tree) test by) (plan : (tree : ℕ) → IsPlannedFirst (table tree) test by)
+    (params : Row) (given : are_given test params ≡ true) (l : Listing) (is : (tree : ℕ) → listing_of (table tree) test by params ≡ l) where
+  first_found : (old new : State) (rows : List Row) → Shown text params old new rows → FindsFirst table l rows old.now new.now
+  first_found old new rows shown = record {
+    same = (shown_unchanged text (it 0).parse (it 0).asks (it 0).parsed (it 0).statement params old new rows shown).0.now_is;
+    first = λ at tree has.
+    let t = table tree in
+    let schema = old.now.schema in
+    let q : Program = record { lets = []; body = paged_query t.tree (terms_of_test t test) (shown_terms t) by one_row } in
+    let known = understood_is schema text _ (page_is schema text at t test by one_row (it tree) has (plan tree)) in
+    let got = reads_as text params old new schema refl (Select q _) (ap command_of known.0) (subst IsPlain (sym known.0) (refl, refl)) known.1 rows shown in
+    let all = page_of schema at t has test (shown_terms t) by one_row old.now.trees params rows given (got.answer Null) in
+    subst (λ (m : Listing). ShowsFirst m.key m.shown m.by (filter m.keeps (old.now.trees t.tree)) rows) (is tree) (listing_first _ _ _ _ all.0 rows all.1 all.2);
+  }
+
+  -- in a transaction
+  pub first_steps : {X : Type 0} (items : X → List Row) (old new : State) (r : Result X Error) → (HasCleanDisk new → IfOk r (λ x. Shown text params old new (items x)))
+      → (HasCleanDisk new → IfErr r (λ e. FailsToQuery text params old new e ⊎ IsTooLate text params old new e)) → Survives old new (λ _. ⊥) → Steps (λ x. FindsFirst table l (items x)) old new r
+  first_steps items old new r ok err survives =
+      read_steps text (it 0).parse (it 0).asks (it 0).parsed (it 0).statement items params old new r (λ x. FindsFirst table l (items x)) (λ x shown. first_found old new (items x) shown) ok err survives
+
+  -- on a connection at rest
+  pub first_looks : {S X : Type 0} (g : Ghosts S) (shuts : Shuts g) (settles : Settles g) (items : X → List Row) (old new : Held S) (rests : Rests (state g old)) (r : Result X Error)
+      → (HasCleanDisk (state g new) → IfOk r (λ x. Shown text params (state g old) (state g new) (items x))) → (HasCleanDisk (state g new) → IfErr r (FailsToQuery text params (state g old) (state g new)))
+      → (old.in_transaction ≡ false → new.in_transaction ≡ false) → Survives (state g old) (state g new) (CommitsShowing text params (state g old)) → Looks (λ x. FindsFirst table l (items x)) (state g old) (state g new) r
+  first_looks g shuts settles items old new rests r ok err mode survives =
+      read_looks text (it 0).parse (it 0).asks (it 0).parsed (it 0).statement g shuts settles items params old new rests r (λ x. FindsFirst table l (items x)) (λ x shown. first_found (state g old) (state g new) (items x) shown) ok err mode survives
