@@ -21,3 +21,4 @@ pub mod Texts
 pub mod NewPackage
 pub mod InTurn
 pub mod FixedRows
+pub mod Creating

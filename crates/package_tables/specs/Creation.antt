@@ -1,5 +1,5 @@
 -- A new package: its head, and what its tables say.
-use Rattle.std.specs.Prelude.{◌≡◌, ℕ, pos, List, [], ◌∷◌, Option}
+use Rattle.std.specs.Prelude.{◌≡◌, ℕ, ◌≤◌, pos, List, [], ◌∷◌, Option}
 use Rattle.std.specs.Option.{option_map_or}
 use Rattle.sqlite.specs.Effect.{Database}
 use Rattle.sheet_types.specs.Texts.{uuid_text}
@@ -53,3 +53,7 @@ MatricesBecome from to before after = before.tile_matrix ≡ from → after ≡ 
 
 abbrev pub RelationsBecome : List RelationRow → List RelationRow → Tables → Tables → Type 0
 RelationsBecome from to before after = before.relations ≡ from → after ≡ record before { relations = to }
+
+-- depths are 0 and 1, loans go to a thousand million (profile)
+abbrev pub IsFitInfo : ℕ → ℕ → Type 0
+IsFitInfo depth loan = (depth ≤ 1) × (loan ≤ 1000000000)

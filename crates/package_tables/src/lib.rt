@@ -2,6 +2,7 @@
 #![tactic(auto)]
 
 pub mod attributes;
+pub mod create;
 pub mod fault;
 pub mod fixed;
 mod fixed_rows;
@@ -12,6 +13,7 @@ pub mod identities;
 pub mod mappings;
 pub mod media;
 pub mod moved;
+pub mod package;
 pub mod receipts;
 pub mod rows;
 pub mod schema;
