@@ -5,7 +5,11 @@ use Rattle.std.specs.List.{AllByRecursion}
 use Rattle.sqlite.specs.Effect.{Database}
 use Rattle.sqlite.specs.Order.{Row}
 use Rattle.sqlite.specs.State.{State, HasCleanDisk, KeepsCommit, Survives}
-use Rattle.sheet_types.specs.Ordered.{arranged}
+use Rattle.sheet_types.specs.Ordered.{arranged, put, has}
+use Rattle.sheet_types.specs.declared.frame.Frame.{Frame}
+use Rattle.package_tables.specs.Entries.{AddsHead}
+use Rattle.package_tables.specs.declared.rows.HeadRow.{HeadRow}
+use Rattle.package_tables.proofs.InTurn.{tables_weaker}
 use Rattle.sql_meaning.specs.Blank.{IsBlank, no_schema}
 use Rattle.sql_meaning.specs.Writing.{IsKeyed, Chained}
 use Rattle.sql_meaning.specs.Transactions.{Made, Steps}
@@ -17,7 +21,7 @@ use Rattle.package_tables.specs.Package.{Tables, tables_of, AreFormed}
 use Rattle.package_tables.specs.Calls.{OnTables}
 use Rattle.package_tables.specs.SchemaMade.{IsEmptyForm, IsNewPackage}
 use Rattle.package_tables.specs.SchemaMaking.{ChangedInside}
-use Rattle.package_tables.specs.Creation.{Says, Becomes, no_rows}
+use Rattle.package_tables.specs.Creation.{Says, Becomes, no_rows, fixed_tables, new_tables}
 
 -- a table that is there and has no rows
 module _ {R : Type 0} (shape : Shape R) (db : Database) (empty : rows_named db (shape.table 0).name ≡ []) where
@@ -81,3 +85,8 @@ schema_steps {X} {E} {old} {new} {r} blank made kept survives = record { made = 
 pub says_then : {X Y E F : Type 0} (t u : Tables) {old mid new : State} {x : X} {r : Result Y F} → Steps {E = E} (λ _ _ db. Says db t) old mid (Ok x) → Steps (λ _. OnTables (Becomes t u)) mid new r → Steps (λ _ _ db. Says db u) old new r
 says_then {X} {Y} {E} {F} t u {old} {mid} {new} {x} {r} first next =
     steps_weaker (λ _ _ db. Says db u) (λ y it. let both = it.2 it.1.formed in record { formed = both.0; says = both.1 it.1.says }) (steps_then {X = X} {E = E} {First = λ _ _ db. Says db t} {Next = λ _. OnTables (Becomes t u)} {x = x} first next)
+
+-- the head comes to tables that have none
+pub head_becomes : {X E : Type 0} (f : Frame) (head : HeadRow) {old new : State} {r : Result X E} → Steps (λ _. OnTables (AddsHead head)) old new r → Steps (λ _. OnTables (Becomes (fixed_tables f head.created) (new_tables f head))) old new r
+head_becomes f head h = tables_weaker {A = AddsHead head} (Becomes (fixed_tables f head.created) (new_tables f head))
+    (λ b a adds is. adds (ap (λ (t : Tables). has head_shape.key (head_shape.key head) t.heads) is) ∙ ap (λ (t : Tables). record t { heads = put head_shape.key head t.heads }) is) h
