@@ -22,3 +22,4 @@ pub mod NewPackage
 pub mod InTurn
 pub mod FixedRows
 pub mod Creating
+pub mod Columns

@@ -3,6 +3,8 @@
 
 pub mod attributes;
 pub mod create;
+#[cfg(test)]
+mod create_tests;
 pub mod fault;
 pub mod fixed;
 mod fixed_rows;
