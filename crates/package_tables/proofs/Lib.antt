@@ -23,3 +23,4 @@ pub mod InTurn
 pub mod FixedRows
 pub mod Creating
 pub mod Columns
+pub mod NewestOf

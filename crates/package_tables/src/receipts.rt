@@ -1,14 +1,14 @@
 // The statements on `sheet_receipts`.
-ghost use Rattle.std.specs.Prelude.{◌≡◌, true, bytes_eq};
+ghost use Rattle.std.specs.Prelude.{◌≡◌, true, bytes_eq, filter};
 ghost use Rattle.std.specs.Ordering.{int_eq};
 ghost use Rattle.sqlite.specs.State.{Survives};
 ghost use Rattle.sqlite.specs.Held.{state};
 ghost use Rattle.sql_meaning.specs.Transactions.{Rests};
-ghost use Rattle.package_tables.specs.Calls.{Makes, LooksUp, IsOneOf, AreThose};
+ghost use Rattle.package_tables.specs.Calls.{Makes, LooksUp, IsOneOf, AreThose, IsGreatest};
 ghost use Rattle.package_tables.specs.Entries.{AddsReceipt};
 
 use crate::fault::{Fault, settled};
-use crate::from_row::{FromRow, all_of, first_of};
+use crate::from_row::{FromRow, all_of, first_of, number_of};
 use crate::rows::{ReceiptRow};
 use sheet_types::collections::Text;
 use sqlite::{Alter, Connection, Row, Transaction, params};
@@ -88,4 +88,26 @@ pub fn all_receipts<S: Alter>(conn: &mut Connection<S>, alloc: Global) -> Result
     ensures { LooksUp (λ t found. AreThose (λ _. true) t.receipts found.items) (state S.Store conn.old) (state S.Store conn.new) result }
 {
     all_of(alloc, conn.query_all("SELECT * FROM sheet_receipts ORDER BY seq", &[]))
+}
+
+/// The greatest number of a receipt with this source, where there is one.
+pub fn greatest_seq_from<S: Alter>(conn: &mut Connection<S>, source: &str) -> Result<Option<i64>, Fault>
+    requires { Rests (state S.Store conn.old) }
+    ensures { LooksUp (λ t. IsGreatest (λ x. x.seq) (filter (λ x. bytes_eq x.source source.now) t.receipts)) (state S.Store conn.old) (state S.Store conn.new) result }
+{
+    number_of(conn.query_all(
+        "SELECT * FROM sheet_receipts WHERE source = ?1 ORDER BY seq DESC LIMIT 1",
+        params![source],
+    ))
+}
+
+/// The greatest number of a receipt with this target, where there is one.
+pub fn greatest_seq_to<S: Alter>(conn: &mut Connection<S>, target: &str) -> Result<Option<i64>, Fault>
+    requires { Rests (state S.Store conn.old) }
+    ensures { LooksUp (λ t. IsGreatest (λ x. x.seq) (filter (λ x. bytes_eq x.target target.now) t.receipts)) (state S.Store conn.old) (state S.Store conn.new) result }
+{
+    number_of(conn.query_all(
+        "SELECT * FROM sheet_receipts WHERE target = ?1 ORDER BY seq DESC LIMIT 1",
+        params![target],
+    ))
 }
