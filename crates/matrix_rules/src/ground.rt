@@ -13,7 +13,8 @@ pub(crate) fn has_level(frame: &Frame, zoom: i64) -> bool
     (frame.first_zoom <= zoom) & (zoom < end)
 }
 
-fn columns_at(frame: &Frame, zoom: i64) -> i64
+/// The columns of a zoom level.
+pub fn columns_at(frame: &Frame, zoom: i64) -> i64
     requires good { IsTrue (is_good_frame frame.now) }
     requires level { IsTrue (has_level frame.now zoom) }
     ensures { result ≡ width_at frame.now (level_of frame.now zoom) }
@@ -21,7 +22,8 @@ fn columns_at(frame: &Frame, zoom: i64) -> i64
     tiles_at(frame.matrix_width, zoom - frame.first_zoom)
 }
 
-fn rows_at(frame: &Frame, zoom: i64) -> i64
+/// The rows of a zoom level.
+pub fn rows_at(frame: &Frame, zoom: i64) -> i64
     requires good { IsTrue (is_good_frame frame.now) }
     requires level { IsTrue (has_level frame.now zoom) }
     ensures { result ≡ height_at frame.now (level_of frame.now zoom) }

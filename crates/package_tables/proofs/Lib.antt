@@ -21,3 +21,8 @@ pub mod SchemaMakes
 pub mod Texts
 pub mod NewPackage
 pub mod Stepping
+pub mod InTurn
+pub mod FixedRows
+pub mod Creating
+pub mod Columns
+pub mod NewestOf

@@ -46,7 +46,7 @@ use Rattle.package_tables.proofs.Shapes.{rows_placed}
 use Rattle.package_tables.proofs.Reading.{arranged_permutation}
 use Rattle.package_tables.proofs.Looking.{IsKnown, AreSaid}
 
-not_above : (a b : ℤ) → is_gt (int_cmp a b) ≡ false → a ≤ℤ b
+pub not_above : (a b : ℤ) → is_gt (int_cmp a b) ≡ false → a ≤ℤ b
 not_above a b h = one (int_cmp a b) (int_ranks a b) h
   where
     one : (o : Ordering) → MatchOrdering o (a <ℤ b) (a ≡ b) (b <ℤ a) → is_gt o ≡ false → a ≤ℤ b
@@ -64,7 +64,7 @@ pub record IsNewest {R : Type 0} (shape : Shape R) (number : R → ℤ) (text : 
   pub begins : (v : Value) (x : R) → column (shown (shape.stored v x)) 0 ≡ Int (number x)
   pub keyed : (v : Value) (x : R) → column (shape.stored v x) 0 ≡ Int (number x)
 
-has_mapped : {A B : Type 0} (f : A → B) (xs : List A) (x : A) → Has xs x → Contains (map f xs) (f x)
+pub has_mapped : {A B : Type 0} (f : A → B) (xs : List A) (x : A) → Has xs x → Contains (map f xs) (f x)
 has_mapped f [] x h = absurd h
 has_mapped f (y ∷ xs) x (inl same) = (0, omega arith, ap f (sym same))
 has_mapped f (y ∷ xs) x (inr later) = let (k, below, is) = has_mapped f xs x later in (suc k, omega (arith, below), is)

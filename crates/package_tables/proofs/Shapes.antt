@@ -87,7 +87,7 @@ module _ {R : Type 0} (key : R → List ℕ) (typed : Row → R) where
   pub arranged-filter : (keeps : R → Bool) (test : Row → Bool) (rows : List Row) → AllByRecursion (λ r. test r ≡ keeps (typed r)) rows → arranged key (map typed (filter test rows)) ≡ filter keeps (arranged key (map typed rows))
   arranged-filter keeps test rows h = ap (arranged key) (filter-typed keeps test rows h) ∙ sym (filter-arranged key keeps (map typed rows))
 
-all_filter : (P : Row → Type 0) (t : Row → Bool) (rows : List Row) → AllByRecursion P rows → AllByRecursion P (filter t rows)
+pub all_filter : (P : Row → Type 0) (t : Row → Bool) (rows : List Row) → AllByRecursion P rows → AllByRecursion P (filter t rows)
 all_filter P t [] h = tt
 all_filter P t (r ∷ rows) h = elim (t r) as (λ v. AllByRecursion P (cond v (r ∷ filter t rows) (filter t rows))) [ true ↦ (h.0, all_filter P t rows h.1) | false ↦ all_filter P t rows h.1 ]
 

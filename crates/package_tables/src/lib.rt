@@ -2,12 +2,21 @@
 #![tactic(auto)]
 
 pub mod attributes;
+pub mod create;
+#[cfg(test)]
+mod create_tests;
 pub mod fault;
 pub mod fixed;
+mod fixed_rows;
+pub mod head;
+mod levels;
 pub(crate) mod from_row;
 pub mod identities;
 pub mod mappings;
 pub mod media;
+pub mod moved;
+pub mod package;
+pub mod receipts;
 pub mod rows;
 pub mod schema;
 pub mod tiles;
