@@ -138,7 +138,7 @@ module _ (text : List ℕ) (p : Parsed) (asks : Written) (parsed : first text �
 
 -- a read that failed, or whose answer is refused
 pub looks_failed : {X Y E F : Type 0} {P : X → Database → Database → Type 0} {Q : Y → Database → Database → Type 0} {old new : State} {q : Result X E} (r : Result Y F) → IsErr r → Looks P old new q → Looks Q old new r
-looks_failed {X} {Y} {E} {F} {P} {Q} {old} {new} r failed h = record { rests = h.rests; done = λ clean. at r failed; holds = h.holds; survives = h.survives }
+looks_failed {X} {Y} {E} {F} {P} {Q} {old} {new} r failed h = record { rests = h.rests; done = λ clean. at r failed; was_open = h.was_open; holds = h.holds; survives = h.survives }
   where
     at : (r : Result Y F) → IsErr r → IfOk r (λ y. IsTrue new.is_open × Q y old.now new.now)
     at (Ok y) failed = absurd (let e = failed in cc)
@@ -146,7 +146,7 @@ looks_failed {X} {Y} {E} {F} {P} {Q} {old} {new} r failed h = record { rests = h
 
 -- the answer in another form
 pub looks_answer : {X Y E F : Type 0} {P : X → Database → Database → Type 0} (Q : Y → Database → Database → Type 0) {old new : State} {x : X} (y : Y) → (P x old.now new.now → Q y old.now new.now) → Looks {E = E} P old new (Ok x) → Looks {E = F} Q old new (Ok y)
-looks_answer Q y f h = record { rests = h.rests; done = λ clean. let it = h.done clean in (it.0, f it.1); holds = h.holds; survives = h.survives }
+looks_answer Q y f h = record { rests = h.rests; done = λ clean. let it = h.done clean in (it.0, f it.1); was_open = h.was_open; holds = h.holds; survives = h.survives }
 
 -- one read after the other
 pub looks_then : {S : Type 0} (g : Ghosts S) (shuts : Shuts g) (settles : Settles g) {X Y E F : Type 0} {P : X → Database → Database → Type 0} {Q : Y → Database → Database → Type 0} {old mid : State} (new : Held S) {x : X} {r : Result Y F}
@@ -154,10 +154,8 @@ pub looks_then : {S : Type 0} (g : Ghosts S) (shuts : Shuts g) (settles : Settle
 looks_then g shuts settles {X} {Y} {E} {F} {P} {Q} {old} {mid} new {x} {r} one two = record {
   rests = two.rests;
   done = λ clean. at r (one.done (omega (arith, two.survives.clean, clean))).1 (two.done clean);
-  holds = λ is_open.
-  let clean = clean_open g shuts settles new is_open in
-  let was_open = (one.done (omega (arith, two.survives.clean, clean))).0 in
-  subst (Holds (state g new)) (one.holds was_open).now_is (two.holds is_open);
+  was_open = λ is_open. one.was_open (two.was_open is_open);
+  holds = λ is_open. subst (Holds (state g new)) (one.holds (two.was_open is_open)).now_is (two.holds is_open);
   survives = none_left old mid (state g new) one.survives two.survives;
 }
   where
