@@ -106,8 +106,8 @@ module _ {R : Type 0} {shape : Shape R} {list : Tables → List R} {shown' : R �
       → LooksUp (λ t. IsGreatest number (filter keeps (list t))) (state g old) (state g new) result
   looks_greatest {S} {Y} items given same g shuts settles old new rests answer ok err mode survives result said =
       let found = first_looks text shape.table newest.test newest.by newest.selects newest.planned params newest.given listing newest.is g shuts settles items old new rests answer
-          (subst (λ p. HasCleanDisk (state g new) → IfOk answer (λ y. Shown text p (state g old) (state g new) (items y))) same ok)
-          (subst (λ p. HasCleanDisk (state g new) → IfErr answer (FailsToQuery text p (state g old) (state g new))) same err) mode (subst (λ p. Survives (state g old) (state g new) (CommitsShowing text p (state g old))) same survives) in
+      (subst (λ p. HasCleanDisk (state g new) → IfOk answer (λ y. Shown text p (state g old) (state g new) (items y))) same ok)
+      (subst (λ p. HasCleanDisk (state g new) → IfErr answer (FailsToQuery text p (state g old) (state g new))) same err) mode (subst (λ p. Survives (state g old) (state g new) (CommitsShowing text p (state g old))) same survives) in
       record { rests = found.rests; done = λ clean. at answer result (found.done clean) said; holds = found.holds; survives = found.survives }
     where
       at : (answer : Result Y Error) (result : Result (Option ℤ) Fault) → IfOk answer (λ y. IsTrue (state g new).is_open × FindsFirst shape.table listing (items y) (state g old).now (state g new).now) → AreSaid items BeginsWith answer result

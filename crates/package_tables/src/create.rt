@@ -56,7 +56,16 @@ fn insert_info<S: Alter>(
     let parent = parent_text(alloc, info.parent)?;
     let depth = info.depth as i64;
     let loan = info.loan as i64;
-    insert_head(tx, 1, 1, package.as_str(), parent.as_str(), depth, loan, info.created)
+    insert_head(
+        tx,
+        1,
+        1,
+        package.as_str(),
+        parent.as_str(),
+        depth,
+        loan,
+        info.created,
+    )
 }
 
 /// All that a new package has.

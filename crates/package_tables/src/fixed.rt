@@ -11,7 +11,7 @@ ghost use Rattle.package_tables.specs.Shapes.{contents_shape};
 
 use crate::fault::{Fault, settled};
 use crate::from_row::{FromRow, all_of};
-use crate::rows::{SpatialRefSysRow, ContentsRow, TileMatrixSetRow, TileMatrixRow, RelationRow};
+use crate::rows::{ContentsRow, RelationRow, SpatialRefSysRow, TileMatrixRow, TileMatrixSetRow};
 use sheet_types::collections::Text;
 use sqlite::{Alter, Connection, Row, Transaction, params};
 use std::alloc::Global;
@@ -195,11 +195,17 @@ impl FromRow for SpatialRefSysRow {
 }
 
 /// All reference systems.
-pub fn all_spatial_ref_sys<S: Alter>(conn: &mut Connection<S>, alloc: Global) -> Result<Vec<SpatialRefSysRow>, Fault>
+pub fn all_spatial_ref_sys<S: Alter>(
+    conn: &mut Connection<S>,
+    alloc: Global,
+) -> Result<Vec<SpatialRefSysRow>, Fault>
     requires { Rests (state S.Store conn.old) }
     ensures { LooksUp (λ t found. AreThose (λ _. true) t.spatial_ref_sys found.items) (state S.Store conn.old) (state S.Store conn.new) result }
 {
-    all_of(alloc, conn.query_all("SELECT * FROM gpkg_spatial_ref_sys ORDER BY srs_id", &[]))
+    all_of(
+        alloc,
+        conn.query_all("SELECT * FROM gpkg_spatial_ref_sys ORDER BY srs_id", &[]),
+    )
 }
 
 impl FromRow for ContentsRow {
@@ -227,11 +233,17 @@ impl FromRow for ContentsRow {
 }
 
 /// All tables of the contents.
-pub fn all_contents<S: Alter>(conn: &mut Connection<S>, alloc: Global) -> Result<Vec<ContentsRow>, Fault>
+pub fn all_contents<S: Alter>(
+    conn: &mut Connection<S>,
+    alloc: Global,
+) -> Result<Vec<ContentsRow>, Fault>
     requires { Rests (state S.Store conn.old) }
     ensures { LooksUp (λ t found. AreThose (λ _. true) t.contents found.items) (state S.Store conn.old) (state S.Store conn.new) result }
 {
-    all_of(alloc, conn.query_all("SELECT * FROM gpkg_contents ORDER BY table_name", &[]))
+    all_of(
+        alloc,
+        conn.query_all("SELECT * FROM gpkg_contents ORDER BY table_name", &[]),
+    )
 }
 
 impl FromRow for TileMatrixSetRow {
@@ -255,11 +267,20 @@ impl FromRow for TileMatrixSetRow {
 }
 
 /// All tile matrix sets.
-pub fn all_tile_matrix_sets<S: Alter>(conn: &mut Connection<S>, alloc: Global) -> Result<Vec<TileMatrixSetRow>, Fault>
+pub fn all_tile_matrix_sets<S: Alter>(
+    conn: &mut Connection<S>,
+    alloc: Global,
+) -> Result<Vec<TileMatrixSetRow>, Fault>
     requires { Rests (state S.Store conn.old) }
     ensures { LooksUp (λ t found. AreThose (λ _. true) t.tile_matrix_set found.items) (state S.Store conn.old) (state S.Store conn.new) result }
 {
-    all_of(alloc, conn.query_all("SELECT * FROM gpkg_tile_matrix_set ORDER BY table_name", &[]))
+    all_of(
+        alloc,
+        conn.query_all(
+            "SELECT * FROM gpkg_tile_matrix_set ORDER BY table_name",
+            &[],
+        ),
+    )
 }
 
 impl FromRow for TileMatrixRow {
@@ -285,11 +306,17 @@ impl FromRow for TileMatrixRow {
 }
 
 /// All tile matrices.
-pub fn all_tile_matrices<S: Alter>(conn: &mut Connection<S>, alloc: Global) -> Result<Vec<TileMatrixRow>, Fault>
+pub fn all_tile_matrices<S: Alter>(
+    conn: &mut Connection<S>,
+    alloc: Global,
+) -> Result<Vec<TileMatrixRow>, Fault>
     requires { Rests (state S.Store conn.old) }
     ensures { LooksUp (λ t found. AreThose (λ _. true) t.tile_matrix found.items) (state S.Store conn.old) (state S.Store conn.new) result }
 {
-    all_of(alloc, conn.query_all("SELECT * FROM gpkg_tile_matrix ORDER BY zoom_level", &[]))
+    all_of(
+        alloc,
+        conn.query_all("SELECT * FROM gpkg_tile_matrix ORDER BY zoom_level", &[]),
+    )
 }
 
 impl FromRow for RelationRow {
@@ -314,9 +341,15 @@ impl FromRow for RelationRow {
 }
 
 /// All relations.
-pub fn all_relations<S: Alter>(conn: &mut Connection<S>, alloc: Global) -> Result<Vec<RelationRow>, Fault>
+pub fn all_relations<S: Alter>(
+    conn: &mut Connection<S>,
+    alloc: Global,
+) -> Result<Vec<RelationRow>, Fault>
     requires { Rests (state S.Store conn.old) }
     ensures { LooksUp (λ t found. AreThose (λ _. true) t.relations found.items) (state S.Store conn.old) (state S.Store conn.new) result }
 {
-    all_of(alloc, conn.query_all("SELECT * FROM gpkgext_relations ORDER BY id", &[]))
+    all_of(
+        alloc,
+        conn.query_all("SELECT * FROM gpkgext_relations ORDER BY id", &[]),
+    )
 }

@@ -9,7 +9,9 @@ ghost use Rattle.package_tables.specs.Fixed.{is_standard, standard_systems, syst
 ghost use Rattle.package_tables.specs.Creation.{SystemsBecome, ContentsBecome, MatrixSetsBecome, RelationsBecome, Becomes, no_rows, fixed_tables};
 
 use crate::fault::Fault;
-use crate::fixed::{insert_contents, insert_relation, insert_spatial_ref_sys, insert_tile_matrix_set};
+use crate::fixed::{
+    insert_contents, insert_relation, insert_spatial_ref_sys, insert_tile_matrix_set,
+};
 use crate::levels::insert_levels;
 use sheet_types::frame::Frame;
 use sqlite::{Alter, Transaction};
@@ -70,8 +72,17 @@ fn insert_content<S: Alter>(
     ensures same_reference { tx.new.conn.ghost_name ≡ tx.old.conn.ghost_name }
     ensures steps { Steps (λ _. OnTables (AddsContents (content table_name.now data_type.now frame.now at.now))) (state S.Store tx.old.conn.now) (state S.Store tx.new.conn.now) result }
 {
-    let Frame { srs_id, min_x, min_y, max_x, max_y, .. } = *frame;
-    insert_contents(tx, table_name, data_type, table_name, "", at, min_x, min_y, max_x, max_y, srs_id)
+    let Frame {
+        srs_id,
+        min_x,
+        min_y,
+        max_x,
+        max_y,
+        ..
+    } = *frame;
+    insert_contents(
+        tx, table_name, data_type, table_name, "", at, min_x, min_y, max_x, max_y, srs_id,
+    )
 }
 
 fn insert_all_contents<S: Alter>(
@@ -92,7 +103,14 @@ fn insert_matrix_set<S: Alter>(tx: &mut Transaction<'_, S>, frame: &Frame) -> Re
     ensures same_reference { tx.new.conn.ghost_name ≡ tx.old.conn.ghost_name }
     ensures steps { Steps (λ _. OnTables (MatrixSetsBecome [] (matrix_set frame.now ∷ []))) (state S.Store tx.old.conn.now) (state S.Store tx.new.conn.now) result }
 {
-    let Frame { srs_id, min_x, min_y, max_x, max_y, .. } = *frame;
+    let Frame {
+        srs_id,
+        min_x,
+        min_y,
+        max_x,
+        max_y,
+        ..
+    } = *frame;
     insert_tile_matrix_set(tx, "sheet_tiles", srs_id, min_x, min_y, max_x, max_y)
 }
 
@@ -101,8 +119,26 @@ fn insert_relations<S: Alter>(tx: &mut Transaction<'_, S>) -> Result<(), Fault>
     ensures same_reference { tx.new.conn.ghost_name ≡ tx.old.conn.ghost_name }
     ensures steps { Steps (λ _. OnTables (RelationsBecome [] two_relations)) (state S.Store tx.old.conn.now) (state S.Store tx.new.conn.now) result }
 {
-    insert_relation(tx, 1, "sheet_tiles", "id", "sheet_media", "id", "media", "tiles_media")?;
-    insert_relation(tx, 2, "sheet_rows", "id", "sheet_media", "id", "media", "rows_media")
+    insert_relation(
+        tx,
+        1,
+        "sheet_tiles",
+        "id",
+        "sheet_media",
+        "id",
+        "media",
+        "tiles_media",
+    )?;
+    insert_relation(
+        tx,
+        2,
+        "sheet_rows",
+        "id",
+        "sheet_media",
+        "id",
+        "media",
+        "rows_media",
+    )
 }
 
 /// All fixed rows of a frame, with the moment of the last change.

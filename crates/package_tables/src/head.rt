@@ -8,7 +8,7 @@ ghost use Rattle.package_tables.specs.Entries.{AddsHead};
 
 use crate::fault::{Fault, settled};
 use crate::from_row::{FromRow, all_of};
-use crate::rows::{HeadRow};
+use crate::rows::HeadRow;
 use sheet_types::collections::Text;
 use sqlite::{Alter, Connection, Row, Transaction, params};
 use std::alloc::Global;
@@ -60,5 +60,8 @@ pub fn all_heads<S: Alter>(conn: &mut Connection<S>, alloc: Global) -> Result<Ve
     requires { Rests (state S.Store conn.old) }
     ensures { LooksUp (λ t found. AreThose (λ _. true) t.heads found.items) (state S.Store conn.old) (state S.Store conn.new) result }
 {
-    all_of(alloc, conn.query_all("SELECT * FROM sheet_package ORDER BY id", &[]))
+    all_of(
+        alloc,
+        conn.query_all("SELECT * FROM sheet_package ORDER BY id", &[]),
+    )
 }

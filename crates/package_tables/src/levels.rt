@@ -30,7 +30,11 @@ fn pixel_x_size(frame: &Frame, zoom: i64) -> i64
     requires level { IsTrue (has_level frame.now zoom) }
     ensures { result ≡ int_div (frame.now.max_x -ℤ frame.now.min_x) (width_at frame.now (level_of frame.now zoom) *ℤ frame.now.tile_width) }
 {
-    pixel_size(frame.max_x - frame.min_x, frame.tile_width, columns_at(frame, zoom))
+    pixel_size(
+        frame.max_x - frame.min_x,
+        frame.tile_width,
+        columns_at(frame, zoom),
+    )
 }
 
 fn pixel_y_size(frame: &Frame, zoom: i64) -> i64
@@ -38,11 +42,19 @@ fn pixel_y_size(frame: &Frame, zoom: i64) -> i64
     requires level { IsTrue (has_level frame.now zoom) }
     ensures { result ≡ int_div (frame.now.max_y -ℤ frame.now.min_y) (height_at frame.now (level_of frame.now zoom) *ℤ frame.now.tile_height) }
 {
-    pixel_size(frame.max_y - frame.min_y, frame.tile_height, rows_at(frame, zoom))
+    pixel_size(
+        frame.max_y - frame.min_y,
+        frame.tile_height,
+        rows_at(frame, zoom),
+    )
 }
 
 /// The tile matrix of one zoom level.
-fn insert_level<S: Alter>(tx: &mut Transaction<'_, S>, frame: &Frame, zoom: i64) -> Result<(), Fault>
+fn insert_level<S: Alter>(
+    tx: &mut Transaction<'_, S>,
+    frame: &Frame,
+    zoom: i64,
+) -> Result<(), Fault>
     requires good { IsTrue (is_good_frame frame.now) }
     requires level { IsTrue (has_level frame.now zoom) }
     ensures same_reference { tx.new.conn.ghost_name ≡ tx.old.conn.ghost_name }
@@ -52,7 +64,17 @@ fn insert_level<S: Alter>(tx: &mut Transaction<'_, S>, frame: &Frame, zoom: i64)
     let height = rows_at(frame, zoom);
     let across = pixel_x_size(frame, zoom);
     let down = pixel_y_size(frame, zoom);
-    insert_tile_matrix(tx, "sheet_tiles", zoom, width, height, frame.tile_width, frame.tile_height, across, down)
+    insert_tile_matrix(
+        tx,
+        "sheet_tiles",
+        zoom,
+        width,
+        height,
+        frame.tile_width,
+        frame.tile_height,
+        across,
+        down,
+    )
 }
 
 /// The number of zoom levels.
@@ -74,7 +96,10 @@ fn zoom_at(frame: &Frame, level: u64) -> i64
 }
 
 /// The tile matrices of all zoom levels of a frame.
-pub(crate) fn insert_levels<S: Alter>(tx: &mut Transaction<'_, S>, frame: &Frame) -> Result<(), Fault>
+pub(crate) fn insert_levels<S: Alter>(
+    tx: &mut Transaction<'_, S>,
+    frame: &Frame,
+) -> Result<(), Fault>
     requires { IsTrue (is_good_frame frame.now) }
     ensures same_reference { tx.new.conn.ghost_name ≡ tx.old.conn.ghost_name }
     ensures steps { Steps (λ _. OnTables (MatricesBecome [] (levels_of frame.now))) (state S.Store tx.old.conn.now) (state S.Store tx.new.conn.now) result }

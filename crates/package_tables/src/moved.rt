@@ -9,7 +9,7 @@ ghost use Rattle.package_tables.specs.Entries.{AddsMoved};
 
 use crate::fault::{Fault, settled};
 use crate::from_row::{FromRow, all_of, first_of};
-use crate::rows::{MovedRow};
+use crate::rows::MovedRow;
 use sheet_types::collections::Text;
 use sqlite::{Alter, Connection, Row, Transaction, params};
 use std::alloc::Global;
@@ -57,15 +57,28 @@ impl FromRow for MovedRow {
 }
 
 /// What a receipt moved.
-pub fn moved_of<S: Alter>(conn: &mut Connection<S>, alloc: Global, seq: i64) -> Result<Vec<MovedRow>, Fault>
+pub fn moved_of<S: Alter>(
+    conn: &mut Connection<S>,
+    alloc: Global,
+    seq: i64,
+) -> Result<Vec<MovedRow>, Fault>
     requires { Rests (state S.Store conn.old) }
     ensures { LooksUp (λ t found. AreThose (λ x. int_eq x.seq seq) t.moved found.items) (state S.Store conn.old) (state S.Store conn.new) result }
 {
-    all_of(alloc, conn.query_all("SELECT * FROM sheet_items WHERE seq = ?1 ORDER BY position", params![seq]))
+    all_of(
+        alloc,
+        conn.query_all(
+            "SELECT * FROM sheet_items WHERE seq = ?1 ORDER BY position",
+            params![seq],
+        ),
+    )
 }
 
 /// Some thing that was moved and has this identity, where there is one.
-pub fn moved_with_base<S: Alter>(conn: &mut Connection<S>, base: &str) -> Result<Option<MovedRow>, Fault>
+pub fn moved_with_base<S: Alter>(
+    conn: &mut Connection<S>,
+    base: &str,
+) -> Result<Option<MovedRow>, Fault>
     requires { Rests (state S.Store conn.old) }
     ensures { LooksUp (λ t. IsOneOf (λ x. bytes_eq x.base base.now) t.moved) (state S.Store conn.old) (state S.Store conn.new) result }
 {
@@ -77,5 +90,8 @@ pub fn all_moved<S: Alter>(conn: &mut Connection<S>, alloc: Global) -> Result<Ve
     requires { Rests (state S.Store conn.old) }
     ensures { LooksUp (λ t found. AreThose (λ _. true) t.moved found.items) (state S.Store conn.old) (state S.Store conn.new) result }
 {
-    all_of(alloc, conn.query_all("SELECT * FROM sheet_items ORDER BY seq", &[]))
+    all_of(
+        alloc,
+        conn.query_all("SELECT * FROM sheet_items ORDER BY seq", &[]),
+    )
 }

@@ -9,7 +9,7 @@ ghost use Rattle.package_tables.specs.Entries.{AddsReceipt};
 
 use crate::fault::{Fault, settled};
 use crate::from_row::{FromRow, all_of, first_of, number_of};
-use crate::rows::{ReceiptRow};
+use crate::rows::ReceiptRow;
 use sheet_types::collections::Text;
 use sqlite::{Alter, Connection, Row, Transaction, params};
 use std::alloc::Global;
@@ -67,15 +67,24 @@ impl FromRow for ReceiptRow {
 }
 
 /// The receipt of a request.
-pub fn receipt_by_request<S: Alter>(conn: &mut Connection<S>, request: &str) -> Result<Option<ReceiptRow>, Fault>
+pub fn receipt_by_request<S: Alter>(
+    conn: &mut Connection<S>,
+    request: &str,
+) -> Result<Option<ReceiptRow>, Fault>
     requires { Rests (state S.Store conn.old) }
     ensures { LooksUp (λ t. IsOneOf (λ x. bytes_eq x.request request.now) t.receipts) (state S.Store conn.old) (state S.Store conn.new) result }
 {
-    first_of(conn.query_all("SELECT * FROM sheet_receipts WHERE request = ?1", params![request]))
+    first_of(conn.query_all(
+        "SELECT * FROM sheet_receipts WHERE request = ?1",
+        params![request],
+    ))
 }
 
 /// The receipt of this number.
-pub fn receipt_by_seq<S: Alter>(conn: &mut Connection<S>, seq: i64) -> Result<Option<ReceiptRow>, Fault>
+pub fn receipt_by_seq<S: Alter>(
+    conn: &mut Connection<S>,
+    seq: i64,
+) -> Result<Option<ReceiptRow>, Fault>
     requires { Rests (state S.Store conn.old) }
     ensures { LooksUp (λ t. IsOneOf (λ x. int_eq x.seq seq) t.receipts) (state S.Store conn.old) (state S.Store conn.new) result }
 {
@@ -83,15 +92,24 @@ pub fn receipt_by_seq<S: Alter>(conn: &mut Connection<S>, seq: i64) -> Result<Op
 }
 
 /// All receipts.
-pub fn all_receipts<S: Alter>(conn: &mut Connection<S>, alloc: Global) -> Result<Vec<ReceiptRow>, Fault>
+pub fn all_receipts<S: Alter>(
+    conn: &mut Connection<S>,
+    alloc: Global,
+) -> Result<Vec<ReceiptRow>, Fault>
     requires { Rests (state S.Store conn.old) }
     ensures { LooksUp (λ t found. AreThose (λ _. true) t.receipts found.items) (state S.Store conn.old) (state S.Store conn.new) result }
 {
-    all_of(alloc, conn.query_all("SELECT * FROM sheet_receipts ORDER BY seq", &[]))
+    all_of(
+        alloc,
+        conn.query_all("SELECT * FROM sheet_receipts ORDER BY seq", &[]),
+    )
 }
 
 /// The greatest number of a receipt with this source, where there is one.
-pub fn greatest_seq_from<S: Alter>(conn: &mut Connection<S>, source: &str) -> Result<Option<i64>, Fault>
+pub fn greatest_seq_from<S: Alter>(
+    conn: &mut Connection<S>,
+    source: &str,
+) -> Result<Option<i64>, Fault>
     requires { Rests (state S.Store conn.old) }
     ensures { LooksUp (λ t. IsGreatest (λ x. x.seq) (filter (λ x. bytes_eq x.source source.now) t.receipts)) (state S.Store conn.old) (state S.Store conn.new) result }
 {
@@ -102,7 +120,10 @@ pub fn greatest_seq_from<S: Alter>(conn: &mut Connection<S>, source: &str) -> Re
 }
 
 /// The greatest number of a receipt with this target, where there is one.
-pub fn greatest_seq_to<S: Alter>(conn: &mut Connection<S>, target: &str) -> Result<Option<i64>, Fault>
+pub fn greatest_seq_to<S: Alter>(
+    conn: &mut Connection<S>,
+    target: &str,
+) -> Result<Option<i64>, Fault>
     requires { Rests (state S.Store conn.old) }
     ensures { LooksUp (λ t. IsGreatest (λ x. x.seq) (filter (λ x. bytes_eq x.target target.now) t.receipts)) (state S.Store conn.old) (state S.Store conn.new) result }
 {

@@ -21,7 +21,7 @@ returns-clause-steps g c =
     let at = c.args.at.now in
     contents_then [] (rows f at ∷ tiles f at ∷ []) (contents_of f at)
     (contents_then [] (tiles f at ∷ []) (rows f at ∷ tiles f at ∷ []) (content_made (tiles f at) [] (tiles f at ∷ []) refl refl c.in_ok-insert_content.ensures.steps)
-        (content_made (rows f at) (tiles f at ∷ []) (rows f at ∷ tiles f at ∷ []) refl refl c.in_ok-insert_content-2.ensures.steps))
+    (content_made (rows f at) (tiles f at ∷ []) (rows f at ∷ tiles f at ∷ []) refl refl c.in_ok-insert_content-2.ensures.steps))
     (content_made (media f at) (rows f at ∷ tiles f at ∷ []) (contents_of f at) refl refl c.insert_content-3.ensures.steps)
 
 pub returns-in_err-insert_content-clause-steps : goal.returns-in_err-insert_content-clause-steps
@@ -33,4 +33,4 @@ returns-in_err-insert_content-2-clause-steps g c =
     let at = c.args.at.now in
     steps_failed _ c.from_residual-in_err-insert_content-2.ensures.0
     (contents_then [] (tiles f at ∷ []) (rows f at ∷ tiles f at ∷ []) (content_made (tiles f at) [] (tiles f at ∷ []) refl refl c.in_ok-insert_content.ensures.steps)
-        (content_made (rows f at) (tiles f at ∷ []) (rows f at ∷ tiles f at ∷ []) refl refl c.insert_content-2.ensures.steps))
+    (content_made (rows f at) (tiles f at ∷ []) (rows f at ∷ tiles f at ∷ []) refl refl c.insert_content-2.ensures.steps))

@@ -27,7 +27,6 @@ loop-level-preserved g c =
     let low : pos 0 ≤ℤ f.first_zoom = good.first_zoom in
     let fits : FitsSigned w64 c.zoom_at.result = search rules in
     let row = subst (λ z. Steps (λ _. OnTables (AddsTileMatrix (level_row f z))) (state g.S.Store c.loop-level.tx.conn.now) (state g.S.Store c.insert_level.new.tx.conn.now) done) c.zoom_at.ensures.zoom (simp (to_z-of_z, fits) at c.in_ok-insert_level.ensures.steps) in
-    
     record {
       same = c.insert_level.ensures.same_reference ∙ c.loop-level.invariant.same;
       each = matrices_then [] (first_levels f k) (first_levels f (k + 1)) c.loop-level.invariant.each (matrix_made (level_row f (f.first_zoom +ℤ pos k)) (first_levels f k) (first_levels f (k + 1)) (level_free f k low) (level_comes f k low) row);
