@@ -1,14 +1,14 @@
 -- The fixed rows, as they come in one after the other.
-use Rattle.std.proofs.Common.{◌≡◌, ◌≢◌, ℕ, ℤ, pos, negsuc, ◌<◌, ◌+◌, List, [], ◌∷◌, ◌++◌, Bool, true, false, cond, Result, refl, sym, ap, subst, ◌∙◌, arith, map, unsigned_abs, ◌+ℤ◌, ◌≤ℤ◌, ◌<ℤ◌, Ok, zero, suc, ◌≤◌}
-use Rattle.std.specs.Prelude.{◌||◌, bytes_eq, if◌then◌else◌}
-use Rattle.std.specs.List.{AllByRecursion, list_any, range_with_len}
+use Rattle.std.proofs.Common.{◌≡◌, ◌≢◌, ℕ, ℤ, pos, negsuc, ◌<◌, ◌+◌, List, [], ◌∷◌, Bool, true, false, Result, refl, sym, ◌∙◌, arith, map, unsigned_abs, ◌+ℤ◌, ◌≤ℤ◌, ◌<ℤ◌, Ok, zero, suc, ◌≤◌}
+use Rattle.std.specs.Prelude.{◌||◌, bytes_eq}
+use Rattle.std.specs.List.{AllByRecursion, range_with_len}
 use Rattle.std.specs.Ordering.{int_eq, nat_cmp}
 use Rattle.std.specs.declared.cmp.Ordering.{Ordering}
 use Rattle.std.specs.declared.cmp.Ordering.TheVariants.{Less, Equal, Greater}
 use Rattle.std.proofs.lemmas.Cmp.{ranked}
 use Rattle.std.proofs.lemmas.List.FromFn.{map-range_with_len_more}
 use Rattle.sheet_types.proofs.Order.{put_last}
-use Rattle.sheet_types.proofs.Tests.{before-differs}
+use Rattle.sheet_types.proofs.Basics.{before-differs}
 use Rattle.matrix_rules.proofs.Frames.{GoodFrame}
 use Rattle.std.specs.Cmp.{signed_Decides}
 use Rattle.std.proofs.lemmas.Bool.{true≢false}
@@ -19,7 +19,6 @@ use Rattle.sheet_types.specs.Ordered.{put, has, is_before}
 use Rattle.sheet_types.specs.declared.frame.Frame.{Frame}
 use Rattle.sql_meaning.specs.Transactions.{Steps}
 use Rattle.package_tables.specs.Shapes.{spatial_ref_sys_shape, contents_shape, tile_matrix_set_shape, tile_matrix_shape, relation_shape, signed_key}
-use Rattle.package_tables.specs.Package.{Tables}
 use Rattle.package_tables.specs.Calls.{Makes, OnTables}
 use Rattle.package_tables.specs.Entries.{AddsSpatialRefSys, AddsContents, AddsTileMatrixSet, AddsTileMatrix, AddsRelation}
 use Rattle.package_tables.specs.Fixed.{standard_systems, own_system, is_standard, systems_of, level_row, first_levels}

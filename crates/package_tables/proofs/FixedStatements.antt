@@ -1,5 +1,5 @@
 -- The statements on `gpkg_spatial_ref_sys`, `gpkg_contents`, `gpkg_tile_matrix_set`, `gpkg_tile_matrix`, `gpkgext_relations`.
-use Rattle.std.proofs.Common.{ℕ, ℤ, List, [], ◌∷◌, codes, refl}
+use Rattle.std.proofs.Common.{ℕ, List, [], ◌∷◌, codes, refl}
 use Rattle.sqlite.specs.Order.{Row}
 use Rattle.sqlite.specs.Edit.{next_rowid}
 use Rattle.sqlite.specs.declared.types.Value.TheVariants.{Int, Null, Text}
@@ -21,15 +21,12 @@ use Rattle.package_tables.specs.declared.rows.ContentsRow.{ContentsRow}
 use Rattle.package_tables.specs.declared.rows.TileMatrixSetRow.{TileMatrixSetRow}
 use Rattle.package_tables.specs.declared.rows.TileMatrixRow.{TileMatrixRow}
 use Rattle.package_tables.specs.declared.rows.RelationRow.{RelationRow}
-use Rattle.std.specs.Prelude.{bytes_eq}
-use Rattle.std.specs.Ordering.{int_eq}
 use Rattle.sql_meaning.specs.Reading.{always, ascending}
 use Rattle.sql_meaning.proofs.Resolve.{one_table}
 use Rattle.sql_meaning.proofs.Select.{IsSelect, IsPlannedSelect}
 use Rattle.package_tables.specs.Shapes.{int_at, text_at}
 use Rattle.package_tables.specs.Shown.{spatial_ref_sys_shown, contents_shown, tile_matrix_set_shown, tile_matrix_shown, relation_shown}
 use Rattle.package_tables.proofs.Looking.{IsKnown, IsRead}
-use Rattle.package_tables.proofs.Values.{same_number, same_text}
 use Rattle.package_tables.proofs.Written.{spatial_ref_sys_shape_is, contents_shape_is, tile_matrix_set_shape_is, tile_matrix_shape_is, relation_shape_is}
 
 pub spatial_ref_sys_insert_text : (tree : ℕ) → IsInsert (codes "INSERT INTO gpkg_spatial_ref_sys VALUES (?1, ?2, ?3, ?4, ?5, ?6)") (gpkg_spatial_ref_sys tree)

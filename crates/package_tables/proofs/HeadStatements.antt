@@ -1,25 +1,21 @@
 -- The statements on `sheet_package`.
-use Rattle.std.proofs.Common.{ℕ, ℤ, List, [], ◌∷◌, codes, refl}
+use Rattle.std.proofs.Common.{ℕ, List, [], ◌∷◌, codes, refl}
 use Rattle.sqlite.specs.Order.{Row}
-use Rattle.sqlite.specs.Edit.{next_rowid}
 use Rattle.sqlite.specs.declared.types.Value.TheVariants.{Int, Null, Text}
 use Rattle.sqlite_tied.specs.Compute.{everything}
 use Rattle.sql_meaning.proofs.Insert.{IsInsert, IsRow}
 use Rattle.package_tables.specs.Tables.{sheet_package}
 use Rattle.package_tables.specs.Shapes.{head_shape}
 use Rattle.package_tables.specs.declared.rows.HeadRow.{HeadRow}
-use Rattle.std.proofs.Common.{◌≡◌, Bool, true}
-use Rattle.std.specs.Prelude.{bytes_eq}
-use Rattle.std.specs.Ordering.{int_eq}
-use Rattle.sqlite.specs.Term.{Term, col}
+use Rattle.std.proofs.Common.{true}
+use Rattle.sqlite.specs.Term.{col}
 use Rattle.sql_meaning.specs.Resolving.{resolving}
-use Rattle.sql_meaning.specs.Reading.{equals, always, ascending}
+use Rattle.sql_meaning.specs.Reading.{always, ascending}
 use Rattle.sql_meaning.proofs.Resolve.{one_table}
 use Rattle.sql_meaning.proofs.Select.{IsSelect, IsPlannedSelect}
 use Rattle.package_tables.specs.Shapes.{int_at, text_at}
 use Rattle.package_tables.specs.Shown.{head_shown}
 use Rattle.package_tables.proofs.Looking.{IsKnown, IsRead}
-use Rattle.package_tables.proofs.Values.{same_number, same_text}
 use Rattle.package_tables.proofs.Written.{head_shape_is}
 
 pub insert_text : (tree : ℕ) → IsInsert (codes "INSERT INTO sheet_package VALUES (?1, ?2, ?3, ?4, ?5, ?6, ?7)") (sheet_package tree)

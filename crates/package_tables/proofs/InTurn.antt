@@ -1,12 +1,11 @@
 -- Calls that write, one after the other in one transaction.
-use Rattle.std.proofs.Common.{◌≡◌, ℕ, List, [], ◌∷◌, Bool, true, false, Result, Ok, Err, IsTrue, sym, ap, subst, ◌∙◌, refl}
-use Rattle.sqlite.specs.Effect.{Database}
-use Rattle.sqlite.specs.State.{State, HasCleanDisk, KeepsCommit, Survives}
+use Rattle.std.proofs.Common.{◌≡◌, ℕ, List, [], false, Result, Ok, Err, ap, ◌∙◌}
+use Rattle.sqlite.specs.State.{State, Survives}
 use Rattle.sqlite.proofs.InsideLemmas.{unchanged_keeps}
 use Rattle.sheet_types.specs.Ordered.{put, has}
 use Rattle.sql_meaning.specs.Transactions.{Made, Steps}
-use Rattle.sql_meaning.proofs.Transactions.{steps_then, steps_weaker, steps_answer}
-use Rattle.package_tables.specs.Package.{Tables, tables_of, AreFormed}
+use Rattle.sql_meaning.proofs.Transactions.{steps_then, steps_weaker}
+use Rattle.package_tables.specs.Package.{Tables, tables_of}
 use Rattle.package_tables.specs.Calls.{Makes, MakesInside, OnTables}
 use Rattle.package_tables.specs.Creation.{Becomes}
 

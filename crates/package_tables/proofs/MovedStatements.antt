@@ -2,16 +2,16 @@
 use Rattle.std.proofs.Common.{ℕ, ℤ, List, [], ◌∷◌, codes, refl}
 use Rattle.sqlite.specs.Order.{Row}
 use Rattle.sqlite.specs.Edit.{next_rowid}
-use Rattle.sqlite.specs.declared.types.Value.TheVariants.{Int, Null, Text}
+use Rattle.sqlite.specs.declared.types.Value.TheVariants.{Int, Text}
 use Rattle.sqlite_tied.specs.Compute.{everything}
 use Rattle.sql_meaning.proofs.Insert.{IsInsert, IsRow}
 use Rattle.package_tables.specs.Tables.{sheet_items}
 use Rattle.package_tables.specs.Shapes.{moved_shape}
 use Rattle.package_tables.specs.declared.rows.MovedRow.{MovedRow}
-use Rattle.std.proofs.Common.{◌≡◌, Bool, true}
+use Rattle.std.proofs.Common.{true}
 use Rattle.std.specs.Prelude.{bytes_eq}
 use Rattle.std.specs.Ordering.{int_eq}
-use Rattle.sqlite.specs.Term.{Term, col}
+use Rattle.sqlite.specs.Term.{col}
 use Rattle.sql_meaning.specs.Resolving.{resolving}
 use Rattle.sql_meaning.specs.Reading.{equals, always, ascending}
 use Rattle.sql_meaning.proofs.Resolve.{one_table}

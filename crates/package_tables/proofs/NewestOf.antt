@@ -1,6 +1,6 @@
 -- From `SELECT * .. WHERE .. ORDER BY id DESC LIMIT 1` to the greatest number of the rows that pass.
-use Rattle.std.proofs.Common.{◌≡◌, inl, inr, ℕ, ℤ, ◌≤ℤ◌, List, [], ◌∷◌, map, Bool, Option, Some, None, Result, Ok, Err, IsTrue, refl, sym, ap, subst, ◌∙◌, true, false}
-use Rattle.std.specs.Prelude.{slice_get, filter, MatchOption, IfOk, IfErr, IsOkAnd, All, Contains}
+use Rattle.std.proofs.Common.{◌≡◌, inl, inr, ℕ, ℤ, ◌≤ℤ◌, List, [], ◌∷◌, map, Bool, Option, Some, None, Result, Ok, Err, IsTrue, sym, ap, subst, ◌∙◌, true, false}
+use Rattle.std.specs.Prelude.{filter, IfOk, IfErr, Contains}
 use Rattle.std.specs.List.{AllByRecursion}
 use Rattle.std.specs.Ordering.{is_gt}
 use Rattle.std.proofs.lemmas.List.Elements.{All-from_recursion}
@@ -22,7 +22,6 @@ use Rattle.sqlite.specs.State.{HasCleanDisk, Survives, Shown, FailsToQuery, Comm
 use Rattle.sqlite_trees.proofs.ListLemmas.{map-map}
 use Rattle.sheet_types.specs.Ordered.{arranged}
 use Rattle.sheet_types.proofs.Order.{All-arranged}
-use Rattle.sql_meaning.specs.Known.{HasTable}
 use Rattle.sql_meaning.specs.Reading.{Test, Listing, ShowsFirst, FindsFirst, descending}
 use Rattle.sql_meaning.specs.Transactions.{Rests}
 use Rattle.sql_meaning.proofs.Select.{listing_of}
@@ -30,7 +29,7 @@ use Rattle.sql_meaning.proofs.First.{IsFirst, IsPlannedFirst, first_looks}
 use Rattle.sql_meaning.proofs.Where.{are_given}
 use Rattle.sql_meaning.proofs.Greatest.{greatest_of}
 use Rattle.sql_meaning.proofs.Transactions.{Shuts, Settles}
-use Rattle.package_tables.specs.Shape.{Shape, IsShape, IsStored, stored_rows, rows_of}
+use Rattle.package_tables.specs.Shape.{Shape, IsStored, stored_rows}
 use Rattle.package_tables.specs.Package.{Tables, tables_of, AreFormed}
 use Rattle.package_tables.specs.Calls.{Answers, LooksUp, IsGreatest}
 use Rattle.package_tables.specs.Shown.{BeginsWith}
@@ -108,7 +107,7 @@ module _ {R : Type 0} {shape : Shape R} {list : Tables → List R} {shown' : R �
       let found = first_looks text shape.table newest.test newest.by newest.selects newest.planned params newest.given listing newest.is g shuts settles items old new rests answer
       (subst (λ p. HasCleanDisk (state g new) → IfOk answer (λ y. Shown text p (state g old) (state g new) (items y))) same ok)
       (subst (λ p. HasCleanDisk (state g new) → IfErr answer (FailsToQuery text p (state g old) (state g new))) same err) mode (subst (λ p. Survives (state g old) (state g new) (CommitsShowing text p (state g old))) same survives) in
-      record { rests = found.rests; done = λ clean. at answer result (found.done clean) said; holds = found.holds; survives = found.survives }
+      record { rests = found.rests; done = λ clean. at answer result (found.done clean) said; was_open = found.was_open; holds = found.holds; survives = found.survives }
     where
       at : (answer : Result Y Error) (result : Result (Option ℤ) Fault) → IfOk answer (λ y. IsTrue (state g new).is_open × FindsFirst shape.table listing (items y) (state g old).now (state g new).now) → AreSaid items BeginsWith answer result
           → IfOk result (λ x. IsTrue (state g new).is_open × Answers (λ t. IsGreatest number (filter keeps (list t))) x (state g old).now (state g new).now)

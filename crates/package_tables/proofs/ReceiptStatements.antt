@@ -1,17 +1,16 @@
 -- The statements on `sheet_receipts`.
 use Rattle.std.proofs.Common.{ℕ, ℤ, List, [], ◌∷◌, codes, refl}
 use Rattle.sqlite.specs.Order.{Row}
-use Rattle.sqlite.specs.Edit.{next_rowid}
 use Rattle.sqlite.specs.declared.types.Value.TheVariants.{Int, Null, Text}
 use Rattle.sqlite_tied.specs.Compute.{everything}
 use Rattle.sql_meaning.proofs.Insert.{IsInsert, IsRow}
 use Rattle.package_tables.specs.Tables.{sheet_receipts}
 use Rattle.package_tables.specs.Shapes.{receipt_shape}
 use Rattle.package_tables.specs.declared.rows.ReceiptRow.{ReceiptRow}
-use Rattle.std.proofs.Common.{◌≡◌, Bool, true}
+use Rattle.std.proofs.Common.{true}
 use Rattle.std.specs.Prelude.{bytes_eq}
 use Rattle.std.specs.Ordering.{int_eq}
-use Rattle.sqlite.specs.Term.{Term, col}
+use Rattle.sqlite.specs.Term.{col}
 use Rattle.sql_meaning.specs.Resolving.{resolving}
 use Rattle.sql_meaning.specs.Reading.{equals, always, ascending, descending}
 use Rattle.sql_meaning.proofs.Resolve.{one_table, one_source}

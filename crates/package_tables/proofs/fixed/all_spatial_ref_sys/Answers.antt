@@ -1,5 +1,4 @@
 use Rattle.std.proofs.Common.{refl}
-use Rattle.sqlite.specs.Held.{state}
 use Rattle.package_tables.proofs.Looking.{looks_all}
 use Rattle.package_tables.proofs.FixedStatements.{spatial_ref_sys_known, all_spatial_ref_sys}
 use Rattle.package_tables.proofs.fixed.all_spatial_ref_sys.Goals as goal

@@ -1,5 +1,4 @@
 use Rattle.std.proofs.Common.{refl}
-use Rattle.sqlite.specs.Held.{state}
 use Rattle.package_tables.proofs.Looking.{looks_all}
 use Rattle.package_tables.proofs.FixedStatements.{tile_matrix_known, all_tile_matrices}
 use Rattle.package_tables.proofs.fixed.all_tile_matrices.Goals as goal

@@ -1,4 +1,4 @@
-use Rattle.std.proofs.Common.{[], ◌∷◌, refl, rules, to_z-of_z, FitsSigned, w64, Result, Ok, List, ℕ}
+use Rattle.std.proofs.Common.{[], ◌∷◌, refl, rules, to_z-of_z, FitsSigned, w64, List, ℕ}
 use Rattle.sqlite.specs.State.{State}
 use Rattle.sql_meaning.specs.Transactions.{Steps}
 use Rattle.sql_meaning.proofs.Transactions.{steps_failed}

@@ -1,6 +1,5 @@
 use Rattle.std.proofs.Common.{◌∙◌, to_z-of_z, ap, sym}
 use Rattle.sqlite.specs.Held.{state}
-use Rattle.sql_meaning.specs.Transactions.{Steps}
 use Rattle.sql_meaning.proofs.Transactions.{steps_none}
 use Rattle.package_tables.specs.Calls.{OnTables}
 use Rattle.package_tables.specs.Package.{tables_of}

@@ -1,4 +1,4 @@
-use Rattle.std.proofs.Common.{[], ◌∷◌, refl, pos, negsuc, codes, List}
+use Rattle.std.proofs.Common.{[], ◌∷◌, refl, pos, negsuc, codes}
 use Rattle.sql_meaning.proofs.Transactions.{steps_failed}
 use Rattle.package_tables.specs.Fixed.{system, standard_systems}
 use Rattle.package_tables.specs.declared.rows.SpatialRefSysRow.{SpatialRefSysRow}

@@ -1,5 +1,4 @@
 use Rattle.std.proofs.Common.{refl}
-use Rattle.sqlite.specs.Held.{state}
 use Rattle.package_tables.proofs.Looking.{looks_all}
 use Rattle.package_tables.proofs.HeadStatements.{heads_known, all_heads}
 use Rattle.package_tables.proofs.head.all_heads.Goals as goal

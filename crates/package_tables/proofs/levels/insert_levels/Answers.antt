@@ -1,16 +1,15 @@
-use Rattle.std.proofs.Common.{[], ◌∙◌, ◌≡◌, ◌+◌, ◌≤ℤ◌, ◌+ℤ◌, pos, refl, rules, arith, ap, sym, subst, to_z-of_z, Ok, ℕ, unsigned_abs, FitsSigned, w64}
-use Rattle.std.proofs.lemmas.Int.{ints}
+use Rattle.std.proofs.Common.{[], ◌∙◌, ◌≡◌, ◌+◌, ◌≤ℤ◌, ◌+ℤ◌, pos, refl, rules, arith, ap, subst, to_z-of_z, unsigned_abs, FitsSigned, w64}
 use Rattle.sqlite.specs.Held.{state}
 use Rattle.matrix_rules.proofs.Frames.{good_frame}
 use Rattle.sql_meaning.specs.Transactions.{Steps}
 use Rattle.sql_meaning.proofs.Transactions.{steps_none, steps_failed}
 use Rattle.package_tables.specs.Calls.{OnTables}
 use Rattle.package_tables.specs.Entries.{AddsTileMatrix}
-use Rattle.package_tables.specs.Package.{Tables, tables_of}
-use Rattle.package_tables.specs.Fixed.{first_levels, level_row, levels_of}
+use Rattle.package_tables.specs.Package.{tables_of}
+use Rattle.package_tables.specs.Fixed.{first_levels, level_row}
 use Rattle.package_tables.specs.Creation.{MatricesBecome}
 use Rattle.package_tables.specs.declared.fault.Fault.{Fault}
-use Rattle.package_tables.proofs.FixedRows.{matrix_made, matrices_then, level_free, level_comes, Done, done}
+use Rattle.package_tables.proofs.FixedRows.{matrix_made, matrices_then, level_free, level_comes, done}
 use Rattle.package_tables.proofs.levels.insert_levels.Goals as goal
 
 pub loop-level-init : goal.loop-level-init

@@ -1,6 +1,5 @@
-use Rattle.std.proofs.Common.{◌≡◌, ◌+ℤ◌, ◌≤ℤ◌, ◌&&◌, pos, refl, arith, rules, FitsSigned, w64, to_z, IsTrue, true, subst, sym}
+use Rattle.std.proofs.Common.{◌≡◌, ◌+ℤ◌, ◌≤ℤ◌, pos, refl, arith, FitsSigned, w64, to_z}
 use Rattle.std.proofs.lemmas.Int.{ints, to_z-of_z, to_z_pos}
-use Rattle.sheet_types.specs.Matrix.{has_level}
 use Rattle.matrix_rules.proofs.Frames.{good_frame}
 use Rattle.package_tables.proofs.FixedRows.{small_level}
 use Rattle.package_tables.proofs.levels.zoom_at.Goals as goal

@@ -1,5 +1,4 @@
 use Rattle.std.proofs.Common.{refl}
-use Rattle.sqlite.specs.Held.{state}
 use Rattle.package_tables.proofs.Looking.{looks_all}
 use Rattle.package_tables.proofs.MovedStatements.{moved_known, all_moved}
 use Rattle.package_tables.proofs.moved.all_moved.Goals as goal

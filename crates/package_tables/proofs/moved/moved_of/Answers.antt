@@ -1,5 +1,4 @@
 use Rattle.std.proofs.Common.{refl, to_z-of_z}
-use Rattle.sqlite.specs.Held.{state}
 use Rattle.package_tables.proofs.Looking.{looks_all}
 use Rattle.package_tables.proofs.MovedStatements.{moved_known, moved_of}
 use Rattle.package_tables.proofs.moved.moved_of.Goals as goal

@@ -1,5 +1,4 @@
 use Rattle.std.proofs.Common.{refl}
-use Rattle.sqlite.specs.Held.{state}
 use Rattle.package_tables.proofs.Looking.{looks_one}
 use Rattle.package_tables.proofs.MovedStatements.{moved_known, moved_with_base}
 use Rattle.package_tables.proofs.moved.moved_with_base.Goals as goal

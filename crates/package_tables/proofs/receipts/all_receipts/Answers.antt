@@ -1,5 +1,4 @@
 use Rattle.std.proofs.Common.{refl}
-use Rattle.sqlite.specs.Held.{state}
 use Rattle.package_tables.proofs.Looking.{looks_all}
 use Rattle.package_tables.proofs.ReceiptStatements.{receipts_known, all_receipts}
 use Rattle.package_tables.proofs.receipts.all_receipts.Goals as goal

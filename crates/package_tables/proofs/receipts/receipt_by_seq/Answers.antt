@@ -1,5 +1,4 @@
 use Rattle.std.proofs.Common.{refl, to_z-of_z}
-use Rattle.sqlite.specs.Held.{state}
 use Rattle.package_tables.proofs.Looking.{looks_one}
 use Rattle.package_tables.proofs.ReceiptStatements.{receipts_known, receipt_by_seq}
 use Rattle.package_tables.proofs.receipts.receipt_by_seq.Goals as goal
