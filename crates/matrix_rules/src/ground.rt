@@ -1,6 +1,6 @@
 // The ground of tiles and of rectangles, and what lies inside.
 ghost use Rattle.std.specs.Prelude.{◌≡◌, ℕ, ◌^◌, ◌+◌, ◌&&◌, ◌+ℤ◌, ◌-ℤ◌, ◌*ℤ◌, pos, negsuc, ◌≤ℤ◌, ◌<ℤ◌, int_div, IsTrue, true};
-ghost use Rattle.sheet_types.specs.Matrix.{is_good_frame, has_level, width_at, height_at, level_of, tile_span_x, tile_span_y, has_place, block_ground, ground, is_good_rect, lies_within, tile_inside, has_point, point_inside, in_frame, one_tile};
+ghost use Rattle.sheet_types.specs.Matrix.{is_good_frame, has_level, width_at, height_at, level_of, tile_span_x, tile_span_y, has_place, block_ground, tile_ground, is_good_rect, lies_within, tile_inside, has_point, point_inside, in_frame, one_tile};
 
 use crate::check::tiles_at;
 use sheet_types::frame::{Frame, Ground, Rect};
@@ -124,7 +124,7 @@ pub(crate) fn block(frame: &Frame, rect: &Rect) -> Ground
 /// The ground of a tile, or `None` where there is no such place. Row 0 is uppermost. OGC GeoPackage 1.3, tile matrix.
 pub fn ground(frame: &Frame, zoom: i64, column: i64, row: i64) -> Option<Ground>
     requires { IsTrue (is_good_frame frame.now) }
-    ensures { result ≡ ground frame.now zoom column row }
+    ensures { result ≡ tile_ground frame.now zoom column row }
 {
     if has_place(frame, zoom, column, row) {
         Some(block(frame, &one_tile(zoom, column, row)))
@@ -190,8 +190,8 @@ pub fn in_frame(frame: &Frame, x: i64, y: i64) -> bool
     has_point(&whole, x, y)
 }
 
-fn has_point(ground: &Ground, x: i64, y: i64) -> bool
-    ensures { result ≡ has_point ground.now x y }
+fn has_point(area: &Ground, x: i64, y: i64) -> bool
+    ensures { result ≡ has_point area.now x y }
 {
-    (ground.west <= x) & (x < ground.east) & (ground.south < y) & (y <= ground.north)
+    (area.west <= x) & (x < area.east) & (area.south < y) & (y <= area.north)
 }
