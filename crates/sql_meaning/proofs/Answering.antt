@@ -154,9 +154,9 @@ looks_then g shuts settles {X} {Y} {E} {F} {P} {Q} {old} {mid} new {x} {r} one t
   rests = two.rests;
   done = λ clean. at r (one.done (omega (arith, two.survives.clean, clean))).1 (two.done clean);
   holds = λ is_open.
-  let clean = clean_open g shuts settles new is_open in
-  let was_open = (one.done (omega (arith, two.survives.clean, clean))).0 in
-  subst (Holds (state g new)) (one.holds was_open).now_is (two.holds is_open);
+      let clean = clean_open g shuts settles new is_open in
+      let was_open = (one.done (omega (arith, two.survives.clean, clean))).0 in
+      subst (Holds (state g new)) (one.holds was_open).now_is (two.holds is_open);
   survives = none_left old mid (state g new) one.survives two.survives;
 }
   where
