@@ -1,8 +1,9 @@
 //! The forms that a crate above copies: a statement, several in one call, and a whole transaction.
 
-ghost use Rattle.std.specs.Prelude.{◌≡◌, ℕ, IfSome, IfNone};
+ghost use Rattle.std.specs.Prelude.{◌≡◌, ℕ, [], ◌∷◌, codes, IfSome, IfNone, IfErr};
+ghost use Rattle.sqlite.specs.declared.types.Value.TheVariants.{Int, Text};
 ghost use Rattle.sqlite.specs.Held.{state};
-ghost use Rattle.sql_meaning.specs.Transactions.{Rests, Steps, Turns, Looks};
+ghost use Rattle.sql_meaning.specs.Transactions.{Rests, Steps, Turns, Looks, IsExcused, IsUnanswered};
 ghost use Rattle.sql_meaning.specs.Reading.{Finds, FindsFirst};
 ghost use Rattle.sql_meaning.specs.Writing.{EachChained};
 ghost use Rattle.sql_meaning.specs.Known.{HasTable};
@@ -70,6 +71,9 @@ pub fn insert_note<S: Alter>(
     ensures same_reference { tx.new.conn.ghost_name ≡ tx.old.conn.ghost_name }
     ensures steps { Steps (λ _. AddsNote seq place text.now)
         (state S.Store tx.old.conn.now) (state S.Store tx.new.conn.now) result }
+    ensures excused { IfErr result (IsExcused (codes "INSERT INTO notes VALUES (?1, ?2, ?3)")
+        (Int seq ∷ Int place ∷ Text text.now ∷ [])
+        (state S.Store tx.old.conn.now) (state S.Store tx.new.conn.now)) }
 {
     tx.execute(
         "INSERT INTO notes VALUES (?1, ?2, ?3)",
@@ -83,6 +87,9 @@ pub fn newest_note<S: Alter>(tx: &mut Transaction<'_, S>, place: i64) -> Result<
     ensures same_reference { tx.new.conn.ghost_name ≡ tx.old.conn.ghost_name }
     ensures steps { Steps (λ rows. FindsFirst note_table (newest_in place) rows.items)
         (state S.Store tx.old.conn.now) (state S.Store tx.new.conn.now) result }
+    ensures excused { IfErr result (IsUnanswered
+        (codes "SELECT * FROM notes WHERE place = ?1 ORDER BY seq DESC LIMIT 1") (Int place ∷ [])
+        (state S.Store tx.old.conn.now) (state S.Store tx.new.conn.now)) }
 {
     tx.query_all(
         "SELECT * FROM notes WHERE place = ?1 ORDER BY seq DESC LIMIT 1",

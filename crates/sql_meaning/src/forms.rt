@@ -271,7 +271,7 @@ fn has_no_action(reference: &Reference) -> bool
 fn have_no_actions(references: &[Reference]) -> bool
     ensures { IsTrue result
         ↔ AllByRecursion (λ r. (r.on_delete ≡ Action.NoAction) × (r.on_update ≡ Action.NoAction))
-            references.now }
+        references.now }
 {
     references.iter().all(|reference| has_no_action(reference))
 }
