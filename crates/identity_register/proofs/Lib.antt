@@ -4,3 +4,4 @@ pub mod Linking
 pub mod Finding
 pub mod Dropping
 pub mod Joining
+pub mod Numbers
