@@ -24,3 +24,4 @@ pub mod FixedRows
 pub mod Creating
 pub mod Columns
 pub mod NewestOf
+pub mod Ranked

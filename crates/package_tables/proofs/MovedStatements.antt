@@ -18,7 +18,11 @@ use Rattle.sql_meaning.proofs.Resolve.{one_table}
 use Rattle.sql_meaning.proofs.Select.{IsSelect, IsPlannedSelect}
 use Rattle.package_tables.specs.Shapes.{int_at, text_at}
 use Rattle.package_tables.specs.Shown.{moved_shown}
+use Rattle.std.proofs.Common.{map}
+use Rattle.sql_meaning.specs.Reading.{IsListing}
+use Rattle.package_tables.specs.Calls.{Rises}
 use Rattle.package_tables.proofs.Looking.{IsKnown, IsRead}
+use Rattle.package_tables.proofs.Ranked.{ranked}
 use Rattle.package_tables.proofs.Values.{same_number, same_text}
 use Rattle.package_tables.proofs.Written.{moved_shape_is}
 
@@ -106,3 +110,7 @@ all_moved_plan tree schema at h = rw (h.stored, h.by_tree) refl
 
 pub all_moved : IsRead moved_shape moved_shown (codes "SELECT * FROM sheet_items ORDER BY seq") [] (λ x. true)
 all_moved = record { test = _; by = _; selects = all_moved_text; planned = all_moved_plan; given = refl; listing = _; is = λ tree. refl; shows = λ v x. refl; passing = λ v x. refl }
+
+pub moved_of_ranked : (seq : ℤ) (there rows : List Row) → IsListing (moved_of seq).listing.key (moved_of seq).listing.shown (moved_of seq).listing.by there rows → (xs : List MovedRow) → rows ≡ map moved_shown xs → Rises (λ x. x.position) xs
+unfolding moved_of
+moved_of_ranked seq there rows h xs are = ranked moved_shown (λ x. x.position) 1 (λ x. refl) _ _ (λ r. refl) there rows h xs are

@@ -1,6 +1,6 @@
 -- What a call on a package's tables does.
-use Rattle.std.specs.Prelude.{◌≡◌, ◌⊎◌, ℤ, ◌≤ℤ◌, Bool, true, false, List, [], map, All, Option, Result, Ok, Err, IsTrue, MatchOption, Contains, IsPermutation, filter}
-use Rattle.std.specs.List.{list_any}
+use Rattle.std.specs.Prelude.{◌≡◌, ◌⊎◌, ℤ, ◌≤ℤ◌, Bool, true, false, List, [], map, All, Option, Result, Ok, Err, IsTrue, MatchOption, Contains, IsPermutation, filter, ◌∷◌}
+use Rattle.std.specs.List.{list_any, AllByRecursion}
 use Rattle.sqlite.specs.Effect.{Database}
 use Rattle.sqlite.specs.State.{State, HasCleanDisk, Shows, IsUnchanged, IsRolledBack}
 use Rattle.sql_meaning.specs.Transactions.{Looks}
@@ -43,6 +43,11 @@ IsOneOf keeps rows found = MatchOption found (list_any keeps rows ≡ false) (λ
 -- the rows that pass, each as often as it is there, in any order
 abbrev pub AreThose : {R : Type 0} → (R → Bool) → List R → List R → Type 0
 AreThose keeps rows found = IsPermutation (filter keeps rows) found
+
+-- each number is at most those after it
+abbrev pub Rises : {R : Type 0} → (R → ℤ) → List R → Type 0
+Rises number [] = Unit {0}
+Rises number (x ∷ xs) = AllByRecursion (λ y. number x ≤ℤ number y) xs × Rises number xs
 
 -- ---- several calls in one transaction
 
