@@ -25,3 +25,4 @@ pub mod Creating
 pub mod Columns
 pub mod NewestOf
 pub mod Ranked
+pub mod FixedKept
