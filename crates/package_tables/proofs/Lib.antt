@@ -2,6 +2,7 @@ pub mod Shapes
 pub mod Written
 pub mod Making
 pub mod Reading
+pub mod Ranking
 pub mod Looking
 pub mod Newest
 pub mod Values
