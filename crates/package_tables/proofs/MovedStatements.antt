@@ -25,6 +25,10 @@ use Rattle.package_tables.proofs.Looking.{IsKnown, IsRead}
 use Rattle.package_tables.proofs.Ranked.{ranked}
 use Rattle.package_tables.proofs.Values.{same_number, same_text}
 use Rattle.package_tables.proofs.Written.{moved_shape_is}
+use Rattle.std.specs.Ordering.{on, int_cmp}
+use Rattle.std.proofs.lemmas.Cmp.{on_total, int_cmp_total}
+use Rattle.package_tables.proofs.Looking.{IsRanked}
+use Rattle.package_tables.proofs.Ranking.{one_number}
 
 pub insert_text : (tree : ℕ) → IsInsert (codes "INSERT INTO sheet_items VALUES (?1, ?2, ?3, ?4, ?5, ?6, ?7)") (sheet_items tree)
 unfolding everything
@@ -114,3 +118,7 @@ all_moved = record { test = _; by = _; selects = all_moved_text; planned = all_m
 pub moved_of_ranked : (seq : ℤ) (there rows : List Row) → IsListing (moved_of seq).listing.key (moved_of seq).listing.shown (moved_of seq).listing.by there rows → (xs : List MovedRow) → rows ≡ map moved_shown xs → Rises (λ x. x.position) xs
 unfolding moved_of
 moved_of_ranked seq there rows h xs are = ranked moved_shown (λ x. x.position) 1 (λ x. refl) _ _ (λ r. refl) there rows h xs are
+
+pub all_moved_ranked : IsRanked all_moved (on (λ x. x.seq) int_cmp)
+unfolding all_moved
+all_moved_ranked = record { keys = λ x. Int x.seq ∷ []; keyed = λ v x. refl; total = (on_total (λ x. x.seq) int_cmp_total); alike = λ x y. one_number x.seq y.seq }

@@ -20,13 +20,13 @@ use Rattle.sql_meaning.proofs.First.{IsFirst, IsPlannedFirst}
 use Rattle.package_tables.proofs.NewestOf.{IsNewestOf}
 use Rattle.package_tables.specs.Shapes.{int_at, text_at}
 use Rattle.package_tables.specs.Shown.{receipt_shown}
-use Rattle.std.proofs.Common.{map}
-use Rattle.sql_meaning.specs.Reading.{IsListing}
-use Rattle.package_tables.specs.Calls.{Rises}
 use Rattle.package_tables.proofs.Looking.{IsKnown, IsRead}
-use Rattle.package_tables.proofs.Ranked.{ranked}
 use Rattle.package_tables.proofs.Values.{same_number, same_text}
 use Rattle.package_tables.proofs.Written.{receipt_shape_is}
+use Rattle.std.specs.Ordering.{on, int_cmp}
+use Rattle.std.proofs.lemmas.Cmp.{on_total, int_cmp_total}
+use Rattle.package_tables.proofs.Looking.{IsRanked}
+use Rattle.package_tables.proofs.Ranking.{one_number}
 
 pub insert_text : (tree : ℕ) → IsInsert (codes "INSERT INTO sheet_receipts VALUES (?1, ?2, ?3, ?4, ?5, ?6, ?7, ?8, ?9, ?10, ?11)") (sheet_receipts tree)
 unfolding everything
@@ -165,6 +165,6 @@ newest_to_plan tree schema at h = rw (h.stored, h.by_tree) refl
 pub newest_to : (target : List ℕ) → IsNewestOf receipt_shape (λ x. x.seq) (codes "SELECT * FROM sheet_receipts WHERE target = ?1 ORDER BY seq DESC LIMIT 1") (Text target ∷ []) (λ x. bytes_eq x.target target)
 newest_to target = record { test = _; by = _; selects = newest_to_text; planned = newest_to_plan; given = refl; pass = _; shown = _; is = λ tree. refl; passing = λ v x. same_text x.target target; begins = λ v x. refl; keyed = λ v x. refl }
 
-pub all_receipts_ranked : (there rows : List Row) → IsListing all_receipts.listing.key all_receipts.listing.shown all_receipts.listing.by there rows → (xs : List ReceiptRow) → rows ≡ map receipt_shown xs → Rises (λ x. x.seq) xs
+pub all_receipts_ranked : IsRanked all_receipts (on (λ x. x.seq) int_cmp)
 unfolding all_receipts
-all_receipts_ranked there rows h xs are = ranked receipt_shown (λ x. x.seq) 0 (λ x. refl) _ _ (λ r. refl) there rows h xs are
+all_receipts_ranked = record { keys = λ x. Int x.seq ∷ []; keyed = λ v x. refl; total = (on_total (λ x. x.seq) int_cmp_total); alike = λ x y. one_number x.seq y.seq }

@@ -60,7 +60,6 @@ Rises number (x ∷ xs) = AllByRecursion (λ y. number x ≤ℤ number y) xs × 
 abbrev pub OnTables : (Tables → Tables → Type 0) → Database → Database → Type 0
 OnTables Change old new = AreFormed old → AreFormed new × Change (tables_of old) (tables_of new)
 
-
 -- the greatest number of the rows, if there are any
 abbrev pub IsGreatest : {R : Type 0} → (R → ℤ) → List R → Option ℤ → Type 0
 IsGreatest number rows found = MatchOption found (rows ≡ []) (λ n. Contains (map number rows) n × All (λ x. number x ≤ℤ n) rows)
