@@ -28,6 +28,10 @@ use Rattle.package_tables.specs.Shapes.{int_at, text_at}
 use Rattle.package_tables.specs.Shown.{spatial_ref_sys_shown, contents_shown, tile_matrix_set_shown, tile_matrix_shown, relation_shown}
 use Rattle.package_tables.proofs.Looking.{IsKnown, IsRead}
 use Rattle.package_tables.proofs.Written.{spatial_ref_sys_shape_is, contents_shape_is, tile_matrix_set_shape_is, tile_matrix_shape_is, relation_shape_is}
+use Rattle.std.specs.Ordering.{on, int_cmp}
+use Rattle.std.proofs.lemmas.Cmp.{on_total, int_cmp_total}
+use Rattle.package_tables.proofs.Looking.{IsRanked}
+use Rattle.package_tables.proofs.Ranking.{one_number}
 
 pub spatial_ref_sys_insert_text : (tree : ℕ) → IsInsert (codes "INSERT INTO gpkg_spatial_ref_sys VALUES (?1, ?2, ?3, ?4, ?5, ?6)") (gpkg_spatial_ref_sys tree)
 unfolding everything
@@ -222,3 +226,15 @@ all_relations_plan tree schema at h = rw (h.stored, h.by_tree) refl
 
 pub all_relations : IsRead relation_shape relation_shown (codes "SELECT * FROM gpkgext_relations ORDER BY id") [] (λ x. true)
 all_relations = record { test = _; by = _; selects = all_relations_text; planned = all_relations_plan; given = refl; listing = _; is = λ tree. refl; shows = λ v x. refl; passing = λ v x. refl }
+
+pub all_spatial_ref_sys_ranked : IsRanked all_spatial_ref_sys (on (λ x. x.srs_id) int_cmp)
+unfolding all_spatial_ref_sys
+all_spatial_ref_sys_ranked = record { keys = λ x. Int x.srs_id ∷ []; keyed = λ v x. refl; total = (on_total (λ x. x.srs_id) int_cmp_total); alike = λ x y. one_number x.srs_id y.srs_id }
+
+pub all_tile_matrices_ranked : IsRanked all_tile_matrices (on (λ x. x.zoom_level) int_cmp)
+unfolding all_tile_matrices
+all_tile_matrices_ranked = record { keys = λ x. Int x.zoom_level ∷ []; keyed = λ v x. refl; total = (on_total (λ x. x.zoom_level) int_cmp_total); alike = λ x y. one_number x.zoom_level y.zoom_level }
+
+pub all_relations_ranked : IsRanked all_relations (on (λ x. x.id) int_cmp)
+unfolding all_relations
+all_relations_ranked = record { keys = λ x. Int x.id ∷ []; keyed = λ v x. refl; total = (on_total (λ x. x.id) int_cmp_total); alike = λ x y. one_number x.id y.id }

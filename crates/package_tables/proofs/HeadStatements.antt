@@ -17,6 +17,10 @@ use Rattle.package_tables.specs.Shapes.{int_at, text_at}
 use Rattle.package_tables.specs.Shown.{head_shown}
 use Rattle.package_tables.proofs.Looking.{IsKnown, IsRead}
 use Rattle.package_tables.proofs.Written.{head_shape_is}
+use Rattle.std.specs.Ordering.{on, int_cmp}
+use Rattle.std.proofs.lemmas.Cmp.{on_total, int_cmp_total}
+use Rattle.package_tables.proofs.Looking.{IsRanked}
+use Rattle.package_tables.proofs.Ranking.{one_number}
 
 pub insert_text : (tree : ℕ) → IsInsert (codes "INSERT INTO sheet_package VALUES (?1, ?2, ?3, ?4, ?5, ?6, ?7)") (sheet_package tree)
 unfolding everything
@@ -52,3 +56,7 @@ all_heads_plan tree schema at h = rw (h.stored, h.by_tree) refl
 
 pub all_heads : IsRead head_shape head_shown (codes "SELECT * FROM sheet_package ORDER BY id") [] (λ x. true)
 all_heads = record { test = _; by = _; selects = all_heads_text; planned = all_heads_plan; given = refl; listing = _; is = λ tree. refl; shows = λ v x. refl; passing = λ v x. refl }
+
+pub all_heads_ranked : IsRanked all_heads (on (λ x. x.id) int_cmp)
+unfolding all_heads
+all_heads_ranked = record { keys = λ x. Int x.id ∷ []; keyed = λ v x. refl; total = (on_total (λ x. x.id) int_cmp_total); alike = λ x y. one_number x.id y.id }

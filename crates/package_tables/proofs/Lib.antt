@@ -26,3 +26,5 @@ pub mod FixedRows
 pub mod Creating
 pub mod Columns
 pub mod NewestOf
+pub mod Ranked
+pub mod FixedKept

@@ -1,5 +1,5 @@
 -- From the clauses of `query_all` to what a look-up answers of the tables, inside a transaction and at rest.
-use Rattle.std.proofs.Common.{◌≡◌, ◌⊎◌, inl, inr, Ordering, ℕ, List, [], ◌∷◌, map, Bool, true, false, Option, Some, Result, Ok, Err, IsTrue, refl, sym, ap, subst}
+use Rattle.std.proofs.Common.{◌≡◌, ◌⊎◌, inl, inr, Ordering, ℕ, ℤ, List, [], ◌∷◌, map, Bool, true, false, Option, Some, Result, Ok, Err, IsTrue, refl, sym, ap, subst}
 use Rattle.std.specs.Prelude.{slice_get, filter, MatchOption, IfOk, IfErr, IsOkAnd, IsPermutation}
 use Rattle.std.specs.Cmp.{IsTotalOrder}
 use Rattle.sqlite.specs.Query.{key_cmp}
@@ -21,7 +21,7 @@ use Rattle.sql_meaning.proofs.Answering.{shown_unchanged, failed_unchanged, foun
 use Rattle.sql_meaning.proofs.Transactions.{Shuts, Settles}
 use Rattle.package_tables.specs.Shape.{Shape, IsShape, IsFormed, rows_of}
 use Rattle.package_tables.specs.Package.{Tables, tables_of, AreFormed}
-use Rattle.package_tables.specs.Calls.{TellsInside, Tells, Answers, LooksUp, IsOneOf, AreThose, AreAll}
+use Rattle.package_tables.specs.Calls.{TellsInside, Tells, Answers, LooksUp, IsOneOf, AreThose, AreAll, Rises}
 use Rattle.package_tables.specs.declared.fault.Fault.{Fault}
 use Rattle.package_tables.proofs.Reading.{those, one_of}
 use Rattle.package_tables.proofs.Ranking.{in_order}
@@ -159,3 +159,10 @@ module _ {R : Type 0} {shape : Shape R} {list : Tables → List R} {shown : R �
 
       pub looks_all : {X : Type 0} (of : X → List R) (result : Result X Fault) → AreSaid items (λ rows x. AreShown shown rows (of x)) answer result → LooksUp (λ t x. AreThose keeps (list t) (of x)) (state g old) (state g new) result
       looks_all of result said = answers (λ rows x. AreShown shown rows (of x)) (λ t x. AreThose keeps (list t) (of x)) (λ db formed rows listing x are. all_mean db formed rows listing (of x) are) result said
+
+      -- all rows that pass, in the order of a number
+      pub looks_ranked : {X : Type 0} (of : X → List R) (number : R → ℤ) → ((there rows : List Row) → IsListing read.listing.key read.listing.shown read.listing.by there rows → (xs : List R) → AreShown shown rows xs → Rises number xs)
+          → (result : Result X Fault) → AreSaid items (λ rows x. AreShown shown rows (of x)) answer result → LooksUp (λ t x. AreThose keeps (list t) (of x) × Rises number (of x)) (state g old) (state g new) result
+      looks_ranked of number rank result said =
+          answers (λ rows x. AreShown shown rows (of x)) (λ t x. AreThose keeps (list t) (of x) × Rises number (of x))
+          (λ db formed rows listing x are. let p = (known.formed db formed).placed in (all_mean db formed rows listing (of x) are, rank (filter read.listing.keeps (db.trees (shape.table p.tree).tree)) rows (listing p.at p.tree p.has) (of x) are)) result said

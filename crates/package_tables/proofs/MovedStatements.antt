@@ -18,9 +18,17 @@ use Rattle.sql_meaning.proofs.Resolve.{one_table}
 use Rattle.sql_meaning.proofs.Select.{IsSelect, IsPlannedSelect}
 use Rattle.package_tables.specs.Shapes.{int_at, text_at}
 use Rattle.package_tables.specs.Shown.{moved_shown}
+use Rattle.std.proofs.Common.{map}
+use Rattle.sql_meaning.specs.Reading.{IsListing}
+use Rattle.package_tables.specs.Calls.{Rises}
 use Rattle.package_tables.proofs.Looking.{IsKnown, IsRead}
+use Rattle.package_tables.proofs.Ranked.{ranked}
 use Rattle.package_tables.proofs.Values.{same_number, same_text}
 use Rattle.package_tables.proofs.Written.{moved_shape_is}
+use Rattle.std.specs.Ordering.{on, int_cmp}
+use Rattle.std.proofs.lemmas.Cmp.{on_total, int_cmp_total}
+use Rattle.package_tables.proofs.Looking.{IsRanked}
+use Rattle.package_tables.proofs.Ranking.{one_number}
 
 pub insert_text : (tree : ℕ) → IsInsert (codes "INSERT INTO sheet_items VALUES (?1, ?2, ?3, ?4, ?5, ?6, ?7)") (sheet_items tree)
 unfolding everything
@@ -106,3 +114,11 @@ all_moved_plan tree schema at h = rw (h.stored, h.by_tree) refl
 
 pub all_moved : IsRead moved_shape moved_shown (codes "SELECT * FROM sheet_items ORDER BY seq") [] (λ x. true)
 all_moved = record { test = _; by = _; selects = all_moved_text; planned = all_moved_plan; given = refl; listing = _; is = λ tree. refl; shows = λ v x. refl; passing = λ v x. refl }
+
+pub moved_of_ranked : (seq : ℤ) (there rows : List Row) → IsListing (moved_of seq).listing.key (moved_of seq).listing.shown (moved_of seq).listing.by there rows → (xs : List MovedRow) → rows ≡ map moved_shown xs → Rises (λ x. x.position) xs
+unfolding moved_of
+moved_of_ranked seq there rows h xs are = ranked moved_shown (λ x. x.position) 1 (λ x. refl) _ _ (λ r. refl) there rows h xs are
+
+pub all_moved_ranked : IsRanked all_moved (on (λ x. x.seq) int_cmp)
+unfolding all_moved
+all_moved_ranked = record { keys = λ x. Int x.seq ∷ []; keyed = λ v x. refl; total = (on_total (λ x. x.seq) int_cmp_total); alike = λ x y. one_number x.seq y.seq }

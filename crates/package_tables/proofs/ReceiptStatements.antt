@@ -22,6 +22,10 @@ use Rattle.package_tables.specs.Shown.{receipt_shown}
 use Rattle.package_tables.proofs.Looking.{IsKnown, IsRead}
 use Rattle.package_tables.proofs.Values.{same_number, same_text}
 use Rattle.package_tables.proofs.Written.{receipt_shape_is}
+use Rattle.std.specs.Ordering.{on, int_cmp}
+use Rattle.std.proofs.lemmas.Cmp.{on_total, int_cmp_total}
+use Rattle.package_tables.proofs.Looking.{IsRanked}
+use Rattle.package_tables.proofs.Ranking.{one_number}
 
 pub insert_text : (tree : ℕ) → IsInsert (codes "INSERT INTO sheet_receipts VALUES (?1, ?2, ?3, ?4, ?5, ?6, ?7, ?8, ?9, ?10, ?11)") (sheet_receipts tree)
 unfolding everything
@@ -159,3 +163,7 @@ newest_to_plan tree schema at h = rw (h.stored, h.by_tree) refl
 
 pub newest_to : (target : List ℕ) → IsNewestOf receipt_shape (λ x. x.seq) (codes "SELECT * FROM sheet_receipts WHERE target = ?1 ORDER BY seq DESC LIMIT 1") (Text target ∷ []) (λ x. bytes_eq x.target target)
 newest_to target = record { test = _; by = _; selects = newest_to_text; planned = newest_to_plan; given = refl; pass = _; shown = _; is = λ tree. refl; passing = λ v x. same_text x.target target; begins = λ v x. refl; keyed = λ v x. refl }
+
+pub all_receipts_ranked : IsRanked all_receipts (on (λ x. x.seq) int_cmp)
+unfolding all_receipts
+all_receipts_ranked = record { keys = λ x. Int x.seq ∷ []; keyed = λ v x. refl; total = (on_total (λ x. x.seq) int_cmp_total); alike = λ x y. one_number x.seq y.seq }

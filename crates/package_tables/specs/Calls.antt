@@ -1,7 +1,7 @@
 -- What a call on a package's tables does.
-use Rattle.std.specs.Prelude.{◌≡◌, ◌⊎◌, ℤ, ◌≤ℤ◌, Bool, true, false, List, [], map, All, Option, Result, Ok, Err, IsTrue, MatchOption, Contains, IsPermutation, IsSorted, filter}
+use Rattle.std.specs.Prelude.{◌≡◌, ◌⊎◌, ℤ, ◌≤ℤ◌, Bool, true, false, List, [], ◌∷◌, map, All, Option, Result, Ok, Err, IsTrue, MatchOption, Contains, IsPermutation, IsSorted, filter}
 use Rattle.std.specs.declared.cmp.Ordering.{Ordering}
-use Rattle.std.specs.List.{list_any}
+use Rattle.std.specs.List.{list_any, AllByRecursion}
 use Rattle.sqlite.specs.Effect.{Database}
 use Rattle.sqlite.specs.State.{State, HasCleanDisk, Shows, IsUnchanged, IsRolledBack}
 use Rattle.sql_meaning.specs.Transactions.{Looks}

@@ -1,9 +1,10 @@
 // The statements on the tables that are the same in every package but for the frame: reference systems, contents, tile matrices and relations.
 ghost use Rattle.std.specs.Prelude.{◌≡◌, true};
+ghost use Rattle.std.specs.Ordering.{on, int_cmp};
 ghost use Rattle.sqlite.specs.State.{Survives};
 ghost use Rattle.sqlite.specs.Held.{state};
 ghost use Rattle.sql_meaning.specs.Transactions.{Rests};
-ghost use Rattle.package_tables.specs.Calls.{Makes, LooksUp, AreThose};
+ghost use Rattle.package_tables.specs.Calls.{Makes, LooksUp, AreThose, AreAll};
 ghost use Rattle.package_tables.specs.Entries.{AddsSpatialRefSys, AddsContents, AddsTileMatrixSet, AddsTileMatrix, AddsRelation, SetsLastChange};
 ghost use Rattle.sheet_types.specs.Ordered.{IsArranged};
 ghost use Rattle.package_tables.specs.Package.{tables_of};
@@ -200,7 +201,7 @@ pub fn all_spatial_ref_sys<S: Alter>(
     alloc: Global,
 ) -> Result<Vec<SpatialRefSysRow>, Fault>
     requires { Rests (state S.Store conn.old) }
-    ensures { LooksUp (λ t found. AreThose (λ _. true) t.spatial_ref_sys found.items) (state S.Store conn.old) (state S.Store conn.new) result }
+    ensures { LooksUp (λ t found. AreAll (on (λ x. x.srs_id) int_cmp) t.spatial_ref_sys found.items) (state S.Store conn.old) (state S.Store conn.new) result }
 {
     all_of(
         alloc,
@@ -311,7 +312,7 @@ pub fn all_tile_matrices<S: Alter>(
     alloc: Global,
 ) -> Result<Vec<TileMatrixRow>, Fault>
     requires { Rests (state S.Store conn.old) }
-    ensures { LooksUp (λ t found. AreThose (λ _. true) t.tile_matrix found.items) (state S.Store conn.old) (state S.Store conn.new) result }
+    ensures { LooksUp (λ t found. AreAll (on (λ x. x.zoom_level) int_cmp) t.tile_matrix found.items) (state S.Store conn.old) (state S.Store conn.new) result }
 {
     all_of(
         alloc,
@@ -346,7 +347,7 @@ pub fn all_relations<S: Alter>(
     alloc: Global,
 ) -> Result<Vec<RelationRow>, Fault>
     requires { Rests (state S.Store conn.old) }
-    ensures { LooksUp (λ t found. AreThose (λ _. true) t.relations found.items) (state S.Store conn.old) (state S.Store conn.new) result }
+    ensures { LooksUp (λ t found. AreAll (on (λ x. x.id) int_cmp) t.relations found.items) (state S.Store conn.old) (state S.Store conn.new) result }
 {
     all_of(
         alloc,

@@ -1,9 +1,10 @@
 // The statements on `sheet_package`.
 ghost use Rattle.std.specs.Prelude.{◌≡◌, true};
+ghost use Rattle.std.specs.Ordering.{on, int_cmp};
 ghost use Rattle.sqlite.specs.State.{Survives};
 ghost use Rattle.sqlite.specs.Held.{state};
 ghost use Rattle.sql_meaning.specs.Transactions.{Rests};
-ghost use Rattle.package_tables.specs.Calls.{Makes, LooksUp, AreThose};
+ghost use Rattle.package_tables.specs.Calls.{Makes, LooksUp, AreThose, AreAll};
 ghost use Rattle.package_tables.specs.Entries.{AddsHead};
 
 use crate::fault::{Fault, settled};
@@ -58,7 +59,7 @@ impl FromRow for HeadRow {
 /// The heads; a package has one.
 pub fn all_heads<S: Alter>(conn: &mut Connection<S>, alloc: Global) -> Result<Vec<HeadRow>, Fault>
     requires { Rests (state S.Store conn.old) }
-    ensures { LooksUp (λ t found. AreThose (λ _. true) t.heads found.items) (state S.Store conn.old) (state S.Store conn.new) result }
+    ensures { LooksUp (λ t found. AreAll (on (λ x. x.id) int_cmp) t.heads found.items) (state S.Store conn.old) (state S.Store conn.new) result }
 {
     all_of(
         alloc,

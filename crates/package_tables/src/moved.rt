@@ -1,10 +1,10 @@
 // The statements on `sheet_items`.
 ghost use Rattle.std.specs.Prelude.{◌≡◌, true, bytes_eq};
-ghost use Rattle.std.specs.Ordering.{int_eq};
+ghost use Rattle.std.specs.Ordering.{int_cmp, int_eq, on};
 ghost use Rattle.sqlite.specs.State.{Survives};
 ghost use Rattle.sqlite.specs.Held.{state};
 ghost use Rattle.sql_meaning.specs.Transactions.{Rests};
-ghost use Rattle.package_tables.specs.Calls.{Makes, LooksUp, IsOneOf, AreThose};
+ghost use Rattle.package_tables.specs.Calls.{Makes, LooksUp, IsOneOf, AreThose, Rises, AreAll};
 ghost use Rattle.package_tables.specs.Entries.{AddsMoved};
 
 use crate::fault::{Fault, settled};
@@ -56,14 +56,14 @@ impl FromRow for MovedRow {
     }
 }
 
-/// What a receipt moved.
+/// What a receipt moved, in the order of the positions.
 pub fn moved_of<S: Alter>(
     conn: &mut Connection<S>,
     alloc: Global,
     seq: i64,
 ) -> Result<Vec<MovedRow>, Fault>
     requires { Rests (state S.Store conn.old) }
-    ensures { LooksUp (λ t found. AreThose (λ x. int_eq x.seq seq) t.moved found.items) (state S.Store conn.old) (state S.Store conn.new) result }
+    ensures { LooksUp (λ t found. AreThose (λ x. int_eq x.seq seq) t.moved found.items × Rises (λ x. x.position) found.items) (state S.Store conn.old) (state S.Store conn.new) result }
 {
     all_of(
         alloc,
@@ -88,7 +88,7 @@ pub fn moved_with_base<S: Alter>(
 /// All that receipts moved.
 pub fn all_moved<S: Alter>(conn: &mut Connection<S>, alloc: Global) -> Result<Vec<MovedRow>, Fault>
     requires { Rests (state S.Store conn.old) }
-    ensures { LooksUp (λ t found. AreThose (λ _. true) t.moved found.items) (state S.Store conn.old) (state S.Store conn.new) result }
+    ensures { LooksUp (λ t found. AreAll (on (λ x. x.seq) int_cmp) t.moved found.items) (state S.Store conn.old) (state S.Store conn.new) result }
 {
     all_of(
         alloc,

@@ -1,10 +1,10 @@
 // The statements on `sheet_receipts`.
 ghost use Rattle.std.specs.Prelude.{◌≡◌, true, bytes_eq, filter};
-ghost use Rattle.std.specs.Ordering.{int_eq};
+ghost use Rattle.std.specs.Ordering.{int_cmp, int_eq, on};
 ghost use Rattle.sqlite.specs.State.{Survives};
 ghost use Rattle.sqlite.specs.Held.{state};
 ghost use Rattle.sql_meaning.specs.Transactions.{Rests};
-ghost use Rattle.package_tables.specs.Calls.{Makes, LooksUp, IsOneOf, AreThose, IsGreatest};
+ghost use Rattle.package_tables.specs.Calls.{Makes, LooksUp, IsOneOf, IsGreatest, AreAll};
 ghost use Rattle.package_tables.specs.Entries.{AddsReceipt};
 
 use crate::fault::{Fault, settled};
@@ -91,13 +91,13 @@ pub fn receipt_by_seq<S: Alter>(
     first_of(conn.query_all("SELECT * FROM sheet_receipts WHERE seq = ?1", params![seq]))
 }
 
-/// All receipts.
+/// All receipts, in the order of their numbers.
 pub fn all_receipts<S: Alter>(
     conn: &mut Connection<S>,
     alloc: Global,
 ) -> Result<Vec<ReceiptRow>, Fault>
     requires { Rests (state S.Store conn.old) }
-    ensures { LooksUp (λ t found. AreThose (λ _. true) t.receipts found.items) (state S.Store conn.old) (state S.Store conn.new) result }
+    ensures { LooksUp (λ t found. AreAll (on (λ x. x.seq) int_cmp) t.receipts found.items) (state S.Store conn.old) (state S.Store conn.new) result }
 {
     all_of(
         alloc,
