@@ -1,38 +1,73 @@
 // What is asked of a package at rest, each by a key or an index.
-ghost use Rattle.std.specs.Prelude.{◌≡◌, option_map};
+ghost use Rattle.std.specs.Prelude.{◌≡◌, pos, option_map, bytes_eq, IfOk};
 ghost use Rattle.std.specs.List.{list_any};
 ghost use Rattle.sqlite.specs.Held.{state};
 ghost use Rattle.sql_meaning.specs.Transactions.{Rests, Looks};
 ghost use Rattle.sheet_types.specs.Ordered.{has};
+ghost use Rattle.sheet_types.specs.Lines.{uuid_in};
 ghost use Rattle.sheet_types.specs.Refuse.{is_at};
-ghost use Rattle.sheet_types.specs.Texts.{kind_of};
-ghost use Rattle.sheet_types.specs.World.{item_of, link_key};
+ghost use Rattle.sheet_types.specs.Texts.{kind_of, uuid_text};
+ghost use Rattle.sheet_types.specs.World.{item_of, link_key, kind_number};
+ghost use Rattle.package_tables.specs.Calls.{LooksUp, IsOneOf};
 ghost use Rattle.identity_register.specs.Calls.{Sees};
 ghost use Rattle.identity_register.specs.Changes.{names_item};
 
 use package_tables::fault::Fault;
+use package_tables::identities::identity_by_uuid;
+use package_tables::rows::IdentityRow;
 use sheet_types::command::{Item, Relation};
 use sheet_types::receipt::MovedKind;
 use sqlite::{Alter, Connection};
 use std::alloc::Global;
 use uuid::Uuid;
 
-/// The item of this identity, with its content.
-pub fn find<S: Alter>(_conn: &mut Connection<S>, _identity: Uuid) -> Result<Option<Item>, Fault>
-    requires { Rests (state S.Store _conn.old) }
-    ensures { Looks (Sees (λ f p found. found ≡ item_of p _identity)) (state S.Store _conn.old) (state S.Store _conn.new) result }
+/// The row that stands for an item.
+fn row_of<S: Alter>(
+    conn: &mut Connection<S>,
+    identity: Uuid,
+) -> Result<Option<IdentityRow>, Fault>
+    requires { Rests (state S.Store conn.old) }
+    ensures looked { LooksUp (λ t. IsOneOf (λ x. bytes_eq x.uuid (uuid_text identity)) t.identities) (state S.Store conn.old) (state S.Store conn.new) result }
+    ensures reads_back { uuid_in (uuid_text identity) ≡ identity }
 {
-    let _settled = _conn.is_autocommit();
-    Err(Fault::OutOfMemory)
+    let mut buffer = Uuid::encode_buffer();
+    let text = identity.hyphenated().encode_lower(&mut buffer);
+    identity_by_uuid(conn, text)
+}
+
+/// The kind of item that a row of `sheet_identity` tells by its number (profile).
+fn kind_in(number: i64) -> Result<MovedKind, Fault>
+    ensures { IfOk result (λ kind. number ≡ pos (kind_number kind)) }
+{
+    match number {
+        1 => Ok(MovedKind::TileItem),
+        2 => Ok(MovedKind::MediaItem),
+        3 => Ok(MovedKind::RowItem),
+        _ => Err(Fault::StoreFault),
+    }
 }
 
 /// The kind of the item of this identity, without its content.
 pub fn kind_of_item<S: Alter>(
-    _conn: &mut Connection<S>,
-    _identity: Uuid,
+    conn: &mut Connection<S>,
+    identity: Uuid,
 ) -> Result<Option<MovedKind>, Fault>
+    requires { Rests (state S.Store conn.old) }
+    ensures { Looks (Sees (λ f p found. found ≡ option_map (λ i. kind_of i.content) (item_of p identity))) (state S.Store conn.old) (state S.Store conn.new) result }
+{
+    match row_of(conn, identity)? {
+        None => Ok(None),
+        Some(row) => {
+            let kind = kind_in(row.kind)?;
+            Ok(Some(kind))
+        }
+    }
+}
+
+/// The item of this identity, with its content.
+pub fn find<S: Alter>(_conn: &mut Connection<S>, _identity: Uuid) -> Result<Option<Item>, Fault>
     requires { Rests (state S.Store _conn.old) }
-    ensures { Looks (Sees (λ f p found. found ≡ option_map (λ i. kind_of i.content) (item_of p _identity))) (state S.Store _conn.old) (state S.Store _conn.new) result }
+    ensures { Looks (Sees (λ f p found. found ≡ item_of p _identity)) (state S.Store _conn.old) (state S.Store _conn.new) result }
 {
     let _settled = _conn.is_autocommit();
     Err(Fault::OutOfMemory)
