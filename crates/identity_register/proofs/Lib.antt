@@ -3,4 +3,6 @@ pub mod Deleting
 pub mod Linking
 pub mod Finding
 mod Looking
+mod Uuids
 mod Answering
+mod Ends

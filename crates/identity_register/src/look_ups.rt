@@ -4,17 +4,22 @@ ghost use Rattle.std.specs.List.{list_any};
 ghost use Rattle.sqlite.specs.Held.{state};
 ghost use Rattle.sql_meaning.specs.Transactions.{Rests, Looks};
 ghost use Rattle.sheet_types.specs.Ordered.{has};
-ghost use Rattle.sheet_types.specs.Lines.{uuid_in};
+ghost use Rattle.sheet_types.specs.Lines.{IsUuid};
 ghost use Rattle.sheet_types.specs.Refuse.{is_at};
 ghost use Rattle.sheet_types.specs.Texts.{kind_of, uuid_text};
 ghost use Rattle.sheet_types.specs.World.{item_of, link_key, kind_number};
 ghost use Rattle.package_tables.specs.Calls.{LooksUp, IsOneOf};
+ghost use Rattle.identity_register.specs.Answers.{is_linked_medium, is_linked_row};
 ghost use Rattle.identity_register.specs.Calls.{Sees};
 ghost use Rattle.identity_register.specs.Changes.{names_item};
 
 use package_tables::fault::Fault;
 use package_tables::identities::identity_by_uuid;
+use package_tables::mappings::{
+    rows_media_of_base, rows_media_of_related, tiles_media_of_base, tiles_media_of_related,
+};
 use package_tables::rows::IdentityRow;
+use package_tables::tiles::tile_at;
 use sheet_types::command::{Item, Relation};
 use sheet_types::receipt::MovedKind;
 use sqlite::{Alter, Connection};
@@ -28,7 +33,7 @@ fn row_of<S: Alter>(
 ) -> Result<Option<IdentityRow>, Fault>
     requires { Rests (state S.Store conn.old) }
     ensures looked { LooksUp (λ t. IsOneOf (λ x. bytes_eq x.uuid (uuid_text identity)) t.identities) (state S.Store conn.old) (state S.Store conn.new) result }
-    ensures reads_back { uuid_in (uuid_text identity) ≡ identity }
+    ensures fit { IsUuid identity }
 {
     let mut buffer = Uuid::encode_buffer();
     let text = identity.hyphenated().encode_lower(&mut buffer);
@@ -75,16 +80,16 @@ pub fn find<S: Alter>(_conn: &mut Connection<S>, _identity: Uuid) -> Result<Opti
 
 /// Whether the package has a tile at this place.
 pub fn has_tile_at<S: Alter>(
-    _conn: &mut Connection<S>,
-    _zoom: i64,
-    _column: i64,
-    _row: i64,
+    conn: &mut Connection<S>,
+    zoom: i64,
+    column: i64,
+    row: i64,
 ) -> Result<bool, Fault>
-    requires { Rests (state S.Store _conn.old) }
-    ensures { Looks (Sees (λ f p found. found ≡ list_any (λ i. is_at _zoom _column _row i.content) p.items)) (state S.Store _conn.old) (state S.Store _conn.new) result }
+    requires { Rests (state S.Store conn.old) }
+    ensures { Looks (Sees (λ f p found. found ≡ list_any (λ i. is_at zoom column row i.content) p.items)) (state S.Store conn.old) (state S.Store conn.new) result }
 {
-    let _settled = _conn.is_autocommit();
-    Err(Fault::OutOfMemory)
+    let found = tile_at(conn, zoom, column, row)?;
+    Ok(found.is_some())
 }
 
 /// Whether the package has this link.
@@ -96,13 +101,47 @@ pub fn has_link<S: Alter>(_conn: &mut Connection<S>, _relation: Relation) -> Res
     Err(Fault::OutOfMemory)
 }
 
-/// Whether a link of the package names the item.
-pub fn is_linked<S: Alter>(_conn: &mut Connection<S>, _identity: Uuid) -> Result<bool, Fault>
-    requires { Rests (state S.Store _conn.old) }
-    ensures { Looks (Sees (λ f p found. found ≡ list_any (names_item _identity) p.links)) (state S.Store _conn.old) (state S.Store _conn.new) result }
+/// Whether a mapping table names the medium of this number.
+fn medium_is_linked<S: Alter>(conn: &mut Connection<S>, number: i64) -> Result<bool, Fault>
+    requires { Rests (state S.Store conn.old) }
+    ensures { LooksUp (λ t found. found ≡ is_linked_medium number t) (state S.Store conn.old) (state S.Store conn.new) result }
 {
-    let _settled = _conn.is_autocommit();
-    Err(Fault::OutOfMemory)
+    let to_tile = tiles_media_of_related(conn, number)?;
+    let to_row = rows_media_of_related(conn, number)?;
+    Ok(to_tile.is_some() || to_row.is_some())
+}
+
+/// Whether a mapping table names the row of this kind and number.
+fn row_is_linked<S: Alter>(
+    conn: &mut Connection<S>,
+    kind: i64,
+    number: i64,
+) -> Result<bool, Fault>
+    requires { Rests (state S.Store conn.old) }
+    ensures { LooksUp (λ t found. found ≡ is_linked_row kind number t) (state S.Store conn.old) (state S.Store conn.new) result }
+{
+    match kind {
+        1 => {
+            let found = tiles_media_of_base(conn, number)?;
+            Ok(found.is_some())
+        }
+        2 => medium_is_linked(conn, number),
+        _ => {
+            let found = rows_media_of_base(conn, number)?;
+            Ok(found.is_some())
+        }
+    }
+}
+
+/// Whether a link of the package names the item.
+pub fn is_linked<S: Alter>(conn: &mut Connection<S>, identity: Uuid) -> Result<bool, Fault>
+    requires { Rests (state S.Store conn.old) }
+    ensures { Looks (Sees (λ f p found. found ≡ list_any (names_item identity) p.links)) (state S.Store conn.old) (state S.Store conn.new) result }
+{
+    match row_of(conn, identity)? {
+        None => Ok(false),
+        Some(row) => row_is_linked(conn, row.kind, row.local_id),
+    }
 }
 
 /// All items, by kind and identity.

@@ -23,4 +23,4 @@ pub returns-in_ok-kind-in-Some : goal.returns-in_ok-kind-in-Some
 returns-in_ok-kind-in-Some g c =
     let kind : c.in-Some.row.kind ≡ pos (kind_number c.in_ok-kind-in-Some.kind) = omega (arith, ints, c.in_ok-kind-in-Some.ensures) in
     sees (looked (IsRowFor c.args.identity) (c.in_ok-row_of.was ∙ ap Ok c.in-Some.is) c.row_of.ensures.looked)
-    (λ f p t says one. kind_of_row f p t says c.args.identity c.row_of.ensures.reads_back c.in-Some.row c.in_ok-kind-in-Some.kind one kind)
+    (λ f p t says one. kind_of_row f p t says c.args.identity c.row_of.ensures.fit c.in-Some.row c.in_ok-kind-in-Some.kind one kind)
