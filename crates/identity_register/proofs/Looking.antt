@@ -49,6 +49,16 @@ sees {old} it says = record {
   survives = it.stays.survives;
 }
 
+-- what was found answers a question of the tables
+pub tells : {X E : Type 0} {Fact : Tables → Type 0} (Answer : Tables → X → Type 0) {old new : State} {x : X} → Looked Fact old new → ((t : Tables) → Fact t → Answer t x) → Looks {X = X} {E = E} (Answers Answer) old new (Ok x)
+tells Answer {old} it says = record {
+  rests = it.stays.rests;
+  done = λ clean. let d = it.told clean in (d.0, (d.1, λ formed. says (tables_of old.now) (d.2 formed)));
+  was_open = it.stays.was_open;
+  holds = it.stays.holds;
+  survives = it.stays.survives;
+}
+
 -- a call that failed tells nothing
 pub fails : {X E : Type 0} {Changes : X → Database → Database → Type 0} {old new : State} (r : Result X E) → IsErr r → Stays old new → Looks {X = X} {E = E} Changes old new r
 fails (Ok x) failed it = cc
@@ -57,3 +67,14 @@ fails (Err e) failed it = record { rests = it.rests; done = λ clean. tt; was_op
 -- an answer to a question that has two forms
 pub asked : {A X E : Type 0} (Answer : A → Tables → X → Type 0) {a b : A} {old new : State} {r : Result X E} → a ≡ b → Looks {X = X} {E = E} (Answers (Answer a)) old new r → Looks {X = X} {E = E} (Answers (Answer b)) old new r
 asked Answer {a} {b} {old} {new} {r} e it = subst (λ x. Looks (Answers (Answer x)) old new r) e it
+
+-- the last call's answer is what the package has
+pub sees_last : {X E : Type 0} {Fact : Tables → Type 0} (Last : Tables → X → Type 0) {Answer : Frame → Package → X → Type 0} {a b c : State} (r : Result X E) → Looked Fact a b → Looks {X = X} {E = E} (Answers Last) b c r
+    → ((f : Frame) (p : Package) (t : Tables) (x : X) → Says f p t → Fact t → Last t x → Answer f p x) → Looks {X = X} {E = E} (Sees Answer) a c r
+sees_last Last (Ok x) first next says = sees (looked_then Last first refl next) (λ f p t known both. says f p t x known both.0 both.1)
+sees_last Last (Err e) first next says = fails (Err e) refl (stays_then first.stays (looks_stays next))
+
+-- an answer says what follows from it
+pub tells_so : {X E : Type 0} (Last Answer : Tables → X → Type 0) {a b : State} (r : Result X E) → Looks {X = X} {E = E} (Answers Last) a b r → ((t : Tables) (x : X) → Last t x → Answer t x) → Looks {X = X} {E = E} (Answers Answer) a b r
+tells_so Last Answer (Ok x) it so = tells Answer (looked Last refl it) (λ t. so t x)
+tells_so Last Answer (Err e) it so = fails (Err e) refl (looks_stays it)

@@ -9,18 +9,20 @@ ghost use Rattle.sheet_types.specs.Refuse.{is_at};
 ghost use Rattle.sheet_types.specs.Texts.{kind_of, uuid_text};
 ghost use Rattle.sheet_types.specs.World.{item_of, link_key, kind_number};
 ghost use Rattle.package_tables.specs.Calls.{LooksUp, IsOneOf};
-ghost use Rattle.identity_register.specs.Answers.{is_linked_medium, is_linked_row};
+ghost use Rattle.identity_register.specs.Answers.{is_linked_medium, is_linked_row, mapping_rows, are_ends};
 ghost use Rattle.identity_register.specs.Calls.{Sees};
 ghost use Rattle.identity_register.specs.Changes.{names_item};
+ghost use Rattle.identity_register.specs.Numbering.{is_pair};
 
 use package_tables::fault::Fault;
 use package_tables::identities::identity_by_uuid;
 use package_tables::mappings::{
-    rows_media_of_base, rows_media_of_related, tiles_media_of_base, tiles_media_of_related,
+    rows_media_of_base, rows_media_of_pair, rows_media_of_related, tiles_media_of_base,
+    tiles_media_of_pair, tiles_media_of_related,
 };
 use package_tables::rows::IdentityRow;
 use package_tables::tiles::tile_at;
-use sheet_types::command::{Item, Relation};
+use sheet_types::command::{Item, Mapping, Relation};
 use sheet_types::receipt::MovedKind;
 use sqlite::{Alter, Connection};
 use std::alloc::Global;
@@ -92,13 +94,53 @@ pub fn has_tile_at<S: Alter>(
     Ok(found.is_some())
 }
 
-/// Whether the package has this link.
-pub fn has_link<S: Alter>(_conn: &mut Connection<S>, _relation: Relation) -> Result<bool, Fault>
-    requires { Rests (state S.Store _conn.old) }
-    ensures { Looks (Sees (λ f p found. found ≡ has link_key (link_key _relation) p.links)) (state S.Store _conn.old) (state S.Store _conn.new) result }
+/// Whether rows of these kinds can be the ends of a relation.
+fn are_ends(mapping: Mapping, base: i64, other: i64) -> bool
+    ensures { result ≡ are_ends mapping base other }
 {
-    let _settled = _conn.is_autocommit();
-    Err(Fault::OutOfMemory)
+    match mapping {
+        Mapping::TilesMedia => base == 1 && other == 2,
+        Mapping::RowsMedia => base == 3 && other == 2,
+    }
+}
+
+/// Whether the table of the mapping relates the rows of these numbers.
+fn has_pair<S: Alter>(
+    conn: &mut Connection<S>,
+    mapping: Mapping,
+    base: i64,
+    other: i64,
+) -> Result<bool, Fault>
+    requires { Rests (state S.Store conn.old) }
+    ensures { LooksUp (λ t found. found ≡ list_any (λ r. is_pair r (record { base_id = base; related_id = other })) (mapping_rows mapping t)) (state S.Store conn.old) (state S.Store conn.new) result }
+{
+    match mapping {
+        Mapping::TilesMedia => {
+            let found = tiles_media_of_pair(conn, base, other)?;
+            Ok(found.is_some())
+        }
+        Mapping::RowsMedia => {
+            let found = rows_media_of_pair(conn, base, other)?;
+            Ok(found.is_some())
+        }
+    }
+}
+
+/// Whether the package has this link.
+pub fn has_link<S: Alter>(conn: &mut Connection<S>, relation: Relation) -> Result<bool, Fault>
+    requires { Rests (state S.Store conn.old) }
+    ensures { Looks (Sees (λ f p found. found ≡ has link_key (link_key relation) p.links)) (state S.Store conn.old) (state S.Store conn.new) result }
+{
+    let Some(base) = row_of(conn, relation.base)? else {
+        return Ok(false);
+    };
+    let Some(other) = row_of(conn, relation.media)? else {
+        return Ok(false);
+    };
+    if !are_ends(relation.mapping, base.kind, other.kind) {
+        return Ok(false);
+    }
+    has_pair(conn, relation.mapping, base.local_id, other.local_id)
 }
 
 /// Whether a mapping table names the medium of this number.
