@@ -48,7 +48,7 @@ item_from_kind : (kind : ℕ) (id : List ℕ) (i : Item) → bytes_eq (item_key 
 item_from_kind kind id i h = and_second (kind_number (kind_of i.content) == kind) (bytes_eq i.identity id) h
 
 -- an identity that no item has is the end of no link
-other_end : (p : Package) (kind : ℕ) (new id : List ℕ) → has_item p new ≡ false → has item_key (kind ∷ id) p.items ≡ true → bytes_eq new id ≡ false
+pub other_end : (p : Package) (kind : ℕ) (new id : List ℕ) → has_item p new ≡ false → has item_key (kind ∷ id) p.items ≡ true → bytes_eq new id ≡ false
 other_end p kind new id fresh there = one (bytes_eq new id) refl
   where
     one : (b : Bool) → bytes_eq new id ≡ b → b ≡ false

@@ -233,7 +233,7 @@ module _ {R : Type 0} (kind : MovedKind) (rows : ℤ → Content → List R) (id
 
 -- ---- the whole package
 
-pos_same : (a b : ℕ) → int_eq (pos a) (pos b) ≡ (a == b)
+pub pos_same : (a b : ℕ) → int_eq (pos a) (pos b) ≡ (a == b)
 pos_same a b = grind (arith)
 
 same_row : (m n : Numbered) → is_within (pos 1) greatest_number m.number ≡ true → is_within (pos 1) greatest_number n.number ≡ true

@@ -5,3 +5,7 @@ pub mod Finding
 pub mod Dropping
 pub mod Joining
 pub mod Numbers
+mod Looking
+mod Uuids
+mod Answering
+mod Ends

@@ -135,7 +135,7 @@ and_true : (a b : Bool) → (a && b) ≡ true → (a ≡ true) × (b ≡ true)
 and_true true b h = (refl, h)
 and_true false b h = absurd (false≢true h)
 
-find_itself : (n : Numbered) (ns : List Numbered) → IsDistinct bytes_eq (map (λ m. m.item.identity) ns) → In n ns → find (λ m. bytes_eq m.item.identity n.item.identity) ns ≡ Some n
+pub find_itself : (n : Numbered) (ns : List Numbered) → IsDistinct bytes_eq (map (λ m. m.item.identity) ns) → In n ns → find (λ m. bytes_eq m.item.identity n.item.identity) ns ≡ Some n
 unfolding IsDistinct
 find_itself n [] d i = absurd i
 find_itself n (m ∷ ms) d i = elim i [

@@ -2,3 +2,4 @@ pub mod Numbering
 pub mod Reads
 pub mod Calls
 pub mod Changes
+pub mod Answers

@@ -1,21 +1,75 @@
 // What is asked of a package at rest, each by a key or an index.
-ghost use Rattle.std.specs.Prelude.{◌≡◌, option_map};
+ghost use Rattle.std.specs.Prelude.{◌≡◌, pos, option_map, bytes_eq, IfOk};
 ghost use Rattle.std.specs.List.{list_any};
 ghost use Rattle.sqlite.specs.Held.{state};
 ghost use Rattle.sql_meaning.specs.Transactions.{Rests, Looks};
 ghost use Rattle.sheet_types.specs.Ordered.{has};
+ghost use Rattle.sheet_types.specs.Lines.{IsUuid};
 ghost use Rattle.sheet_types.specs.Refuse.{is_at};
-ghost use Rattle.sheet_types.specs.Texts.{kind_of};
-ghost use Rattle.sheet_types.specs.World.{item_of, link_key};
+ghost use Rattle.sheet_types.specs.Texts.{kind_of, uuid_text};
+ghost use Rattle.sheet_types.specs.World.{item_of, link_key, kind_number};
+ghost use Rattle.package_tables.specs.Calls.{LooksUp, IsOneOf};
+ghost use Rattle.identity_register.specs.Answers.{is_linked_medium, is_linked_row, mapping_rows, are_ends};
 ghost use Rattle.identity_register.specs.Calls.{Sees};
 ghost use Rattle.identity_register.specs.Changes.{names_item};
+ghost use Rattle.identity_register.specs.Numbering.{is_pair};
 
 use package_tables::fault::Fault;
-use sheet_types::command::{Item, Relation};
+use package_tables::identities::identity_by_uuid;
+use package_tables::mappings::{
+    rows_media_of_base, rows_media_of_pair, rows_media_of_related, tiles_media_of_base,
+    tiles_media_of_pair, tiles_media_of_related,
+};
+use package_tables::rows::IdentityRow;
+use package_tables::tiles::tile_at;
+use sheet_types::command::{Item, Mapping, Relation};
 use sheet_types::receipt::MovedKind;
 use sqlite::{Alter, Connection};
 use std::alloc::Global;
 use uuid::Uuid;
+
+/// The row that stands for an item.
+fn row_of<S: Alter>(
+    conn: &mut Connection<S>,
+    identity: Uuid,
+) -> Result<Option<IdentityRow>, Fault>
+    requires { Rests (state S.Store conn.old) }
+    ensures looked { LooksUp (λ t. IsOneOf (λ x. bytes_eq x.uuid (uuid_text identity)) t.identities) (state S.Store conn.old) (state S.Store conn.new) result }
+    ensures fit { IsUuid identity }
+{
+    let mut buffer = Uuid::encode_buffer();
+    let text = identity.hyphenated().encode_lower(&mut buffer);
+    identity_by_uuid(conn, text)
+}
+
+/// The kind of item that a row of `sheet_identity` tells by its number (profile).
+fn kind_in(number: i64) -> Result<MovedKind, Fault>
+    ensures { IfOk result (λ kind. number ≡ pos (kind_number kind)) }
+{
+    match number {
+        1 => Ok(MovedKind::TileItem),
+        2 => Ok(MovedKind::MediaItem),
+        3 => Ok(MovedKind::RowItem),
+        _ => Err(Fault::StoreFault),
+    }
+}
+
+/// The kind of the item of this identity, without its content.
+pub fn kind_of_item<S: Alter>(
+    conn: &mut Connection<S>,
+    identity: Uuid,
+) -> Result<Option<MovedKind>, Fault>
+    requires { Rests (state S.Store conn.old) }
+    ensures { Looks (Sees (λ f p found. found ≡ option_map (λ i. kind_of i.content) (item_of p identity))) (state S.Store conn.old) (state S.Store conn.new) result }
+{
+    match row_of(conn, identity)? {
+        None => Ok(None),
+        Some(row) => {
+            let kind = kind_in(row.kind)?;
+            Ok(Some(kind))
+        }
+    }
+}
 
 /// The item of this identity, with its content.
 pub fn find<S: Alter>(_conn: &mut Connection<S>, _identity: Uuid) -> Result<Option<Item>, Fault>
@@ -26,48 +80,110 @@ pub fn find<S: Alter>(_conn: &mut Connection<S>, _identity: Uuid) -> Result<Opti
     Err(Fault::OutOfMemory)
 }
 
-/// The kind of the item of this identity, without its content.
-pub fn kind_of_item<S: Alter>(
-    _conn: &mut Connection<S>,
-    _identity: Uuid,
-) -> Result<Option<MovedKind>, Fault>
-    requires { Rests (state S.Store _conn.old) }
-    ensures { Looks (Sees (λ f p found. found ≡ option_map (λ i. kind_of i.content) (item_of p _identity))) (state S.Store _conn.old) (state S.Store _conn.new) result }
-{
-    let _settled = _conn.is_autocommit();
-    Err(Fault::OutOfMemory)
-}
-
 /// Whether the package has a tile at this place.
 pub fn has_tile_at<S: Alter>(
-    _conn: &mut Connection<S>,
-    _zoom: i64,
-    _column: i64,
-    _row: i64,
+    conn: &mut Connection<S>,
+    zoom: i64,
+    column: i64,
+    row: i64,
 ) -> Result<bool, Fault>
-    requires { Rests (state S.Store _conn.old) }
-    ensures { Looks (Sees (λ f p found. found ≡ list_any (λ i. is_at _zoom _column _row i.content) p.items)) (state S.Store _conn.old) (state S.Store _conn.new) result }
+    requires { Rests (state S.Store conn.old) }
+    ensures { Looks (Sees (λ f p found. found ≡ list_any (λ i. is_at zoom column row i.content) p.items)) (state S.Store conn.old) (state S.Store conn.new) result }
 {
-    let _settled = _conn.is_autocommit();
-    Err(Fault::OutOfMemory)
+    let found = tile_at(conn, zoom, column, row)?;
+    Ok(found.is_some())
+}
+
+/// Whether rows of these kinds can be the ends of a relation.
+fn are_ends(mapping: Mapping, base: i64, other: i64) -> bool
+    ensures { result ≡ are_ends mapping base other }
+{
+    match mapping {
+        Mapping::TilesMedia => base == 1 && other == 2,
+        Mapping::RowsMedia => base == 3 && other == 2,
+    }
+}
+
+/// Whether the table of the mapping relates the rows of these numbers.
+fn has_pair<S: Alter>(
+    conn: &mut Connection<S>,
+    mapping: Mapping,
+    base: i64,
+    other: i64,
+) -> Result<bool, Fault>
+    requires { Rests (state S.Store conn.old) }
+    ensures { LooksUp (λ t found. found ≡ list_any (λ r. is_pair r (record { base_id = base; related_id = other })) (mapping_rows mapping t)) (state S.Store conn.old) (state S.Store conn.new) result }
+{
+    match mapping {
+        Mapping::TilesMedia => {
+            let found = tiles_media_of_pair(conn, base, other)?;
+            Ok(found.is_some())
+        }
+        Mapping::RowsMedia => {
+            let found = rows_media_of_pair(conn, base, other)?;
+            Ok(found.is_some())
+        }
+    }
 }
 
 /// Whether the package has this link.
-pub fn has_link<S: Alter>(_conn: &mut Connection<S>, _relation: Relation) -> Result<bool, Fault>
-    requires { Rests (state S.Store _conn.old) }
-    ensures { Looks (Sees (λ f p found. found ≡ has link_key (link_key _relation) p.links)) (state S.Store _conn.old) (state S.Store _conn.new) result }
+pub fn has_link<S: Alter>(conn: &mut Connection<S>, relation: Relation) -> Result<bool, Fault>
+    requires { Rests (state S.Store conn.old) }
+    ensures { Looks (Sees (λ f p found. found ≡ has link_key (link_key relation) p.links)) (state S.Store conn.old) (state S.Store conn.new) result }
 {
-    let _settled = _conn.is_autocommit();
-    Err(Fault::OutOfMemory)
+    let Some(base) = row_of(conn, relation.base)? else {
+        return Ok(false);
+    };
+    let Some(other) = row_of(conn, relation.media)? else {
+        return Ok(false);
+    };
+    if !are_ends(relation.mapping, base.kind, other.kind) {
+        return Ok(false);
+    }
+    has_pair(conn, relation.mapping, base.local_id, other.local_id)
+}
+
+/// Whether a mapping table names the medium of this number.
+fn medium_is_linked<S: Alter>(conn: &mut Connection<S>, number: i64) -> Result<bool, Fault>
+    requires { Rests (state S.Store conn.old) }
+    ensures { LooksUp (λ t found. found ≡ is_linked_medium number t) (state S.Store conn.old) (state S.Store conn.new) result }
+{
+    let to_tile = tiles_media_of_related(conn, number)?;
+    let to_row = rows_media_of_related(conn, number)?;
+    Ok(to_tile.is_some() || to_row.is_some())
+}
+
+/// Whether a mapping table names the row of this kind and number.
+fn row_is_linked<S: Alter>(
+    conn: &mut Connection<S>,
+    kind: i64,
+    number: i64,
+) -> Result<bool, Fault>
+    requires { Rests (state S.Store conn.old) }
+    ensures { LooksUp (λ t found. found ≡ is_linked_row kind number t) (state S.Store conn.old) (state S.Store conn.new) result }
+{
+    match kind {
+        1 => {
+            let found = tiles_media_of_base(conn, number)?;
+            Ok(found.is_some())
+        }
+        2 => medium_is_linked(conn, number),
+        _ => {
+            let found = rows_media_of_base(conn, number)?;
+            Ok(found.is_some())
+        }
+    }
 }
 
 /// Whether a link of the package names the item.
-pub fn is_linked<S: Alter>(_conn: &mut Connection<S>, _identity: Uuid) -> Result<bool, Fault>
-    requires { Rests (state S.Store _conn.old) }
-    ensures { Looks (Sees (λ f p found. found ≡ list_any (names_item _identity) p.links)) (state S.Store _conn.old) (state S.Store _conn.new) result }
+pub fn is_linked<S: Alter>(conn: &mut Connection<S>, identity: Uuid) -> Result<bool, Fault>
+    requires { Rests (state S.Store conn.old) }
+    ensures { Looks (Sees (λ f p found. found ≡ list_any (names_item identity) p.links)) (state S.Store conn.old) (state S.Store conn.new) result }
 {
-    let _settled = _conn.is_autocommit();
-    Err(Fault::OutOfMemory)
+    match row_of(conn, identity)? {
+        None => Ok(false),
+        Some(row) => row_is_linked(conn, row.kind, row.local_id),
+    }
 }
 
 /// All items, by kind and identity.

@@ -49,6 +49,11 @@ AreThose keeps rows found = IsPermutation (filter keeps rows) found
 abbrev pub AreAll : {R : Type 0} → (R → R → Ordering) → List R → List R → Type 0
 AreAll cmp rows found = IsPermutation rows found × IsSorted cmp found
 
+-- each number is at most those after it
+abbrev pub Rises : {R : Type 0} → (R → ℤ) → List R → Type 0
+Rises number [] = Unit {0}
+Rises number (x ∷ xs) = AllByRecursion (λ y. number x ≤ℤ number y) xs × Rises number xs
+
 -- the greatest number of the rows, if there are any
 abbrev pub IsGreatest : {R : Type 0} → (R → ℤ) → List R → Option ℤ → Type 0
 IsGreatest number rows found = MatchOption found (rows ≡ []) (λ n. Contains (map number rows) n × All (λ x. number x ≤ℤ n) rows)

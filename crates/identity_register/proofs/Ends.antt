@@ -1,0 +1,291 @@
+-- What the rows of the mapping tables say of the links of a package.
+use Rattle.std.proofs.Common.{◌≡◌, ℕ, ℤ, pos, List, [], ◌∷◌, ◌++◌, map, Bool, true, false, cond, Option, Some, None, refl, sym, ap, subst, ◌∙◌, inl, inr, length, arith}
+use Rattle.std.specs.Prelude.{◌⊎◌, not, ◌&&◌, ◌||◌, ◌==◌, if◌then◌else◌, find, bytes_eq, flat_map, unsigned_abs, Contains}
+use Rattle.std.specs.List.{AllByRecursion, IsDistinct, list_any}
+use Rattle.std.specs.Ordering.{int_eq}
+use Rattle.std.proofs.lemmas.Bool.{true≢false, false≢true}
+use Rattle.std.proofs.lemmas.Slice.Eq.{bytes_eq-Decides}
+use borrow.Author.Tests.{eqb-true, eq-eqb}
+use Rattle.sheet_types.specs.Ordered.{arranged, has}
+use Rattle.sheet_types.specs.Matrix.{is_within}
+use Rattle.sheet_types.specs.Texts.{uuid_text, kind_of}
+use Rattle.sheet_types.specs.World.{Package, item_key, link_key, link_kind, kind_number, base_kind, other_kind, item_of, has_item}
+use Rattle.sheet_types.specs.Lines.{IsUuid}
+use Rattle.sheet_types.specs.Register.{HasEnds}
+use Rattle.sheet_types.specs.declared.command.Content.{Content}
+use Rattle.sheet_types.specs.declared.command.Content.TheVariants.{Tile, Media, Row}
+use Rattle.sheet_types.specs.declared.command.Item.{Item}
+use Rattle.sheet_types.specs.declared.command.Mapping.{Mapping}
+use Rattle.sheet_types.specs.declared.command.Mapping.TheVariants.{TilesMedia, RowsMedia}
+use Rattle.sheet_types.specs.declared.command.Relation.{Relation}
+use Rattle.sheet_types.specs.declared.frame.Frame.{Frame}
+use Rattle.sheet_types.specs.declared.receipt.MovedKind.{MovedKind}
+use Rattle.sheet_types.specs.declared.receipt.MovedKind.TheVariants.{TileItem, MediaItem, RowItem}
+use Rattle.sheet_types.proofs.Every.{All-weaker, All-both, All-each, none_any}
+use Rattle.sheet_types.proofs.Basics.{bytes_eq_itself, bytes_eq_swap, or-false}
+use Rattle.sheet_types.proofs.Order.{All-arranged, list_any-arranged}
+use Rattle.sheet_types.proofs.Same.{In, In-all, In-map, All-In, any_in}
+use Rattle.sheet_types.proofs.LineReading.{uuid_length}
+use Rattle.package_tables.specs.Package.{Tables}
+use Rattle.package_tables.specs.Shapes.{tiles_media_shape, rows_media_shape}
+use Rattle.package_tables.specs.declared.rows.IdentityRow.{IdentityRow}
+use Rattle.package_tables.specs.declared.rows.MappingRow.{MappingRow}
+use Rattle.identity_register.specs.Changes.{names_item}
+use Rattle.identity_register.specs.Answers.{is_linked_row, mapping_rows, are_ends}
+use Rattle.identity_register.specs.Numbering.{Numbered, greatest_number, place_in_tables, identity_row, number_of, mapping_row, tiles_media_rows, rows_media_rows, is_pair}
+use Rattle.identity_register.specs.Reads.{Says}
+use Rattle.identity_register.proofs.Deleting.{same_tests, same_number, pos_same}
+use Rattle.identity_register.proofs.Linking.{end_of, number_is, pair_same, one_passes, bytes_eq_append}
+use Rattle.identity_register.proofs.Adding.{other_end}
+use Rattle.identity_register.proofs.Answering.{any_flat_map, item_of_row}
+use Rattle.identity_register.proofs.Finding.{no_row_of_uuid}
+
+-- ---- tests
+
+pub or_then : (r a b : Bool) → r ≡ true → r ≡ a → r ≡ (a || b)
+or_then r true b h e = e
+or_then r false b h e = absurd (true≢false (sym h ∙ e))
+
+pub or_else : (r s a b : Bool) → r ≡ false → r ≡ a → s ≡ b → s ≡ (a || b)
+or_else r s true b h e g = absurd (true≢false (sym e ∙ h))
+or_else r s false b h e g = g
+
+and_true : (a b : Bool) → (a && b) ≡ true → (a ≡ true) × (b ≡ true)
+and_true true b h = (refl, h)
+and_true false b h = absurd (false≢true h)
+
+or_both : (a b c d : Bool) → (a || b) || (c || d) ≡ ((a || c) || (b || d))
+or_both true b c d = refl
+or_both false true true d = refl
+or_both false true false d = refl
+or_both false false true d = refl
+or_both false false false d = refl
+
+-- one test or the other
+any_or : {X : Type 0} (a b : X → Bool) (xs : List X) → (list_any a xs || list_any b xs) ≡ list_any (λ x. a x || b x) xs
+any_or a b [] = refl
+any_or a b (x ∷ xs) = or_both (a x) (list_any a xs) (b x) (list_any b xs) ∙ ap (λ v. (a x || b x) || v) (any_or a b xs)
+
+any_same : {X : Type 0} (a b : X → Bool) (xs : List X) → AllByRecursion (λ x. a x ≡ b x) xs → list_any a xs ≡ list_any b xs
+any_same a b [] h = refl
+any_same a b (x ∷ xs) h = ap (λ v. v || list_any a xs) h.0 ∙ ap (λ v. b x || v) (any_same a b xs h.1)
+
+module _ (f : Frame) (p : Package) (t : Tables) (says : Says f p t) where
+  ns : List Numbered
+  ns = says.numbered
+
+  in_range : (x : Numbered) → In x says.numbered → is_within (pos 1) greatest_number x.number ≡ true
+  in_range x i = All-In (λ y. is_within (pos 1) greatest_number y.number ≡ true) x says.numbered says.numbers.range i
+
+  -- the end of a link is an item where the kind and the number are
+  pub end_is : (n : Numbered) → In n says.numbered → (kind : MovedKind) (id : List ℕ) → has item_key (kind_number kind ∷ id) p.items ≡ true
+      → ((kind_number kind == kind_number (kind_of n.item.content)) && int_eq (number_of says.numbered id) n.number) ≡ bytes_eq id n.item.identity
+  end_is n i kind id h =
+      let m = end_of f p t says kind id h in
+      let k : ℕ = kind_number (kind_of n.item.content) in
+      ap (λ x. (x == k) && int_eq (number_of says.numbered id) n.number) (sym m.2)
+      ∙ ap (λ x. (kind_number (kind_of m.0.item.content) == k) && int_eq x n.number) m.4
+      ∙ ap (λ b. (kind_number (kind_of m.0.item.content) == k) && b) (same_number m.0.number n.number (in_range m.0 m.1) (in_range n i) ∙ sym (last (unsigned_abs m.0.number == unsigned_abs n.number)))
+      ∙ All-In (λ y. bytes_eq (place_in_tables y) (place_in_tables n) ≡ bytes_eq y.item.identity n.item.identity) m.0 says.numbered (same_tests place_in_tables (λ y. y.item.identity) n says.numbered says.numbers.numbers says.numbers.identities i) m.1
+      ∙ ap (λ x. bytes_eq x n.item.identity) m.3
+    where
+      last : (x : Bool) → (x && true) ≡ x
+      last true = refl
+      last false = refl
+
+  -- what the rows of a mapping table tell of the links
+  tiles_media_tell : (q : MappingRow → Bool) (test : Relation → Bool) → AllByRecursion (λ x. list_any q (tiles_media_rows says.numbered x x.mapping) ≡ test x) says.linked → list_any q t.tiles_media ≡ list_any test says.linked
+  tiles_media_tell q test h =
+      ap (list_any q) says.tiles_media ∙ list_any-arranged tiles_media_shape.key q (flat_map (λ x. tiles_media_rows says.numbered x x.mapping) says.linked)
+      ∙ any_flat_map (λ x. tiles_media_rows says.numbered x x.mapping) q test says.linked h
+
+  rows_media_tell : (q : MappingRow → Bool) (test : Relation → Bool) → AllByRecursion (λ x. list_any q (rows_media_rows says.numbered x x.mapping) ≡ test x) says.linked → list_any q t.rows_media ≡ list_any test says.linked
+  rows_media_tell q test h =
+      ap (list_any q) says.rows_media ∙ list_any-arranged rows_media_shape.key q (flat_map (λ x. rows_media_rows says.numbered x x.mapping) says.linked)
+      ∙ any_flat_map (λ x. rows_media_rows says.numbered x x.mapping) q test says.linked h
+
+  of_links : (test : Relation → Bool) → list_any test says.linked ≡ list_any test p.links
+  of_links test = sym (list_any-arranged link_key test says.linked) ∙ ap (list_any test) (sym says.links)
+
+  -- ---- links of an item
+
+  -- a link has the item at its base, and at its other end
+  base_is : (n : Numbered) → In n says.numbered → (x : Relation) (m : Mapping) → x.mapping ≡ m → HasEnds p x
+      → ((kind_number (base_kind m) == kind_number (kind_of n.item.content)) && int_eq (number_of says.numbered x.base) n.number) ≡ bytes_eq x.base n.item.identity
+  base_is n i x m e h = end_is n i (base_kind m) x.base (subst (λ m. has item_key (kind_number (base_kind m) ∷ x.base) p.items ≡ true) e h.0)
+
+  other_is : (n : Numbered) → In n says.numbered → (x : Relation) (m : Mapping) → x.mapping ≡ m → HasEnds p x
+      → ((kind_number (other_kind m) == kind_number (kind_of n.item.content)) && int_eq (number_of says.numbered x.media) n.number) ≡ bytes_eq x.media n.item.identity
+  other_is n i x m e h = end_is n i (other_kind m) x.media (subst (λ m. has item_key (kind_number (other_kind m) ∷ x.media) p.items ≡ true) e h.1)
+
+  -- the rows of a tile, of a medium and of a row name them as the links do
+  tile_named : (n : Numbered) → In n says.numbered → kind_of n.item.content ≡ TileItem → list_any (λ r. int_eq r.base_id n.number) t.tiles_media ≡ list_any (names_item n.item.identity) says.linked
+  tile_named n i k = tiles_media_tell (λ r. int_eq r.base_id n.number) (names_item n.item.identity) (All-weaker _ _ (λ x h. one x h x.mapping refl) says.linked says.ends)
+    where
+      one : (x : Relation) → HasEnds p x → (m : Mapping) → x.mapping ≡ m → list_any (λ r. int_eq r.base_id n.number) (tiles_media_rows says.numbered x m) ≡ names_item n.item.identity x
+      one x h TilesMedia e =
+          ap2' (rw k at (base_is n i x TilesMedia e h)) (rw k at (other_is n i x TilesMedia e h))
+        where
+          ap2' : int_eq (number_of says.numbered x.base) n.number ≡ bytes_eq x.base n.item.identity → false ≡ bytes_eq x.media n.item.identity → (int_eq (number_of says.numbered x.base) n.number || false) ≡ (bytes_eq x.base n.item.identity || bytes_eq x.media n.item.identity)
+          ap2' a b = ap (λ v. v || false) a ∙ ap (λ v. bytes_eq x.base n.item.identity || v) b
+      one x h RowsMedia e = ap (λ v. v || false) (rw k at (base_is n i x RowsMedia e h)) ∙ ap (λ v. bytes_eq x.base n.item.identity || v) (rw k at (other_is n i x RowsMedia e h))
+
+  row_named : (n : Numbered) → In n says.numbered → kind_of n.item.content ≡ RowItem → list_any (λ r. int_eq r.base_id n.number) t.rows_media ≡ list_any (names_item n.item.identity) says.linked
+  row_named n i k = rows_media_tell (λ r. int_eq r.base_id n.number) (names_item n.item.identity) (All-weaker _ _ (λ x h. one x h x.mapping refl) says.linked says.ends)
+    where
+      one : (x : Relation) → HasEnds p x → (m : Mapping) → x.mapping ≡ m → list_any (λ r. int_eq r.base_id n.number) (rows_media_rows says.numbered x m) ≡ names_item n.item.identity x
+      one x h TilesMedia e = ap (λ v. v || false) (rw k at (base_is n i x TilesMedia e h)) ∙ ap (λ v. bytes_eq x.base n.item.identity || v) (rw k at (other_is n i x TilesMedia e h))
+      one x h RowsMedia e = ap (λ v. v || false) (rw k at (base_is n i x RowsMedia e h)) ∙ ap (λ v. bytes_eq x.base n.item.identity || v) (rw k at (other_is n i x RowsMedia e h))
+
+  medium_named : (n : Numbered) → In n says.numbered → kind_of n.item.content ≡ MediaItem
+      → (list_any (λ r. int_eq r.related_id n.number) t.tiles_media || list_any (λ r. int_eq r.related_id n.number) t.rows_media) ≡ list_any (names_item n.item.identity) says.linked
+  medium_named n i k =
+      ap (λ v. v || list_any q t.rows_media) (tiles_media_tell q at_tiles (All-each _ (λ x. refl) says.linked)) ∙ ap (λ v. list_any at_tiles says.linked || v) (rows_media_tell q at_rows (All-each _ (λ x. refl) says.linked))
+      ∙ any_or at_tiles at_rows says.linked ∙ any_same (λ x. at_tiles x || at_rows x) (names_item n.item.identity) says.linked (All-weaker _ _ (λ x h. one x h x.mapping refl) says.linked says.ends)
+    where
+      q : MappingRow → Bool
+      q r = int_eq r.related_id n.number
+
+      at_tiles : Relation → Bool
+      at_tiles x = list_any q (tiles_media_rows says.numbered x x.mapping)
+
+      at_rows : Relation → Bool
+      at_rows x = list_any q (rows_media_rows says.numbered x x.mapping)
+
+      one : (x : Relation) → HasEnds p x → (m : Mapping) → x.mapping ≡ m → (list_any q (tiles_media_rows says.numbered x m) || list_any q (rows_media_rows says.numbered x m)) ≡ names_item n.item.identity x
+      one x h TilesMedia e =
+          or-false _ ∙ or-false _ ∙ rw k at (other_is n i x TilesMedia e h) ∙ ap (λ v. v || bytes_eq x.media n.item.identity) (rw k at (base_is n i x TilesMedia e h))
+      one x h RowsMedia e =
+          or-false _ ∙ rw k at (other_is n i x RowsMedia e h) ∙ ap (λ v. v || bytes_eq x.media n.item.identity) (rw k at (base_is n i x RowsMedia e h))
+
+  -- the stored row of an item is linked where a link names the item
+  pub linked_row : (n : Numbered) → In n says.numbered → is_linked_row (pos (kind_number (kind_of n.item.content))) n.number t ≡ list_any (names_item n.item.identity) p.links
+  linked_row n i = one n.item.content refl ∙ of_links (names_item n.item.identity)
+    where
+      one : (content : Content) → n.item.content ≡ content → is_linked_row (pos (kind_number (kind_of content))) n.number t ≡ list_any (names_item n.item.identity) says.linked
+      one (Tile z c r b) e = tile_named n i (ap kind_of e)
+      one (Media ct b) e = medium_named n i (ap kind_of e)
+      one (Row x y c l) e = row_named n i (ap kind_of e)
+
+  -- no link names an identity that no item has
+  pub none_named : (id : List ℕ) → has_item p id ≡ false → list_any (names_item id) p.links ≡ false
+  none_named id none = sym (of_links (names_item id)) ∙ none_any (names_item id) says.linked (All-weaker _ _ (λ x h. one x h) says.linked says.ends)
+    where
+      one : (x : Relation) → HasEnds p x → names_item id x ≡ false
+      one x h = ap (λ v. v || bytes_eq x.media id) (absent (base_kind x.mapping) x.base h.0) ∙ absent (other_kind x.mapping) x.media h.1
+        where
+          absent : (kind : MovedKind) (end : List ℕ) → has item_key (kind_number kind ∷ end) p.items ≡ true → bytes_eq end id ≡ false
+          absent kind end here = bytes_eq_swap end id ∙ other_end p (kind_number kind) id end none here
+
+  -- the row of an identity is linked where a link names the identity
+  pub linked_by_row : (id : List ℕ) → IsUuid id → (r : IdentityRow) → Contains t.identities r × (bytes_eq r.uuid (uuid_text id) ≡ true) → is_linked_row r.kind r.local_id t ≡ list_any (names_item id) p.links
+  linked_by_row id fit r h =
+      let it = item_of_row f p t says id fit r h in
+      subst (λ r. is_linked_row r.kind r.local_id t ≡ list_any (names_item id) p.links) it.2 (linked_row it.0 it.1 ∙ ap (λ x. list_any (names_item x) p.links) it.3)
+
+  -- ---- one link
+
+  same_mapping : (a b : Mapping) → (kind_number (link_kind a) == kind_number (link_kind b)) ≡ true → a ≡ b
+  same_mapping TilesMedia TilesMedia e = refl
+  same_mapping TilesMedia RowsMedia e = cc
+  same_mapping RowsMedia TilesMedia e = cc
+  same_mapping RowsMedia RowsMedia e = refl
+
+  -- a link that the package has, by its key, has its ends there
+  pub ends_there : (l : Relation) → IsUuid l.base → has link_key (link_key l) p.links ≡ true → HasEnds p l
+  ends_there l fit h =
+      let it = one_passes (λ x. bytes_eq (link_key x) (link_key l)) says.linked (of_links (λ x. bytes_eq (link_key x) (link_key l)) ∙ h) in
+      let x = it.0 in
+      let ends : HasEnds p x = All-In (HasEnds p) x says.linked says.ends it.1 in
+      let key = and_true (kind_number (link_kind x.mapping) == kind_number (link_kind l.mapping)) (bytes_eq (x.base ++ x.media) (l.base ++ l.media)) it.2 in
+      let base = end_of f p t says (base_kind x.mapping) x.base ends.0 in
+      let long : length x.base ≡ length l.base = ap length (sym base.3) ∙ uuid_length base.0.item.identity (All-In (λ y. IsUuid y.item.identity) base.0 says.numbered says.numbers.uuids base.1) ∙ sym (uuid_length l.base fit) in
+      let parts = and_true (bytes_eq x.base l.base) (bytes_eq x.media l.media) (sym (bytes_eq_append x.base x.media l.base l.media long) ∙ key.1) in
+      let mapping : x.mapping ≡ l.mapping = same_mapping x.mapping l.mapping key.0 in
+      let base_is : x.base ≡ l.base = (bytes_eq-Decides x.base l.base).0 parts.0 in
+      let media_is : x.media ≡ l.media = (bytes_eq-Decides x.media l.media).0 parts.1 in
+      (
+        subst (λ b. has item_key (kind_number (base_kind l.mapping) ∷ b) p.items ≡ true) base_is (subst (λ m. has item_key (kind_number (base_kind m) ∷ x.base) p.items ≡ true) mapping ends.0),
+        subst (λ b. has item_key (kind_number (other_kind l.mapping) ∷ b) p.items ≡ true) media_is (subst (λ m. has item_key (kind_number (other_kind m) ∷ x.media) p.items ≡ true) mapping ends.1),
+      )
+
+  -- what has no end is no link
+  no_link_unless : (l : Relation) → IsUuid l.base → (HasEnds p l → ⊥) → has link_key (link_key l) p.links ≡ false
+  no_link_unless l fit none = one (has link_key (link_key l) p.links) refl
+    where
+      one : (b : Bool) → has link_key (link_key l) p.links ≡ b → b ≡ false
+      one false e = refl
+      one true e = absurd (none (ends_there l fit e))
+
+  absent : (kind : MovedKind) (id : List ℕ) → has_item p id ≡ false → has item_key (kind_number kind ∷ id) p.items ≡ true → ⊥
+  absent kind id none here = true≢false (sym (bytes_eq_itself id) ∙ other_end p (kind_number kind) id id none here)
+
+  pub no_base : (l : Relation) → IsUuid l.base → list_any (λ r. bytes_eq r.uuid (uuid_text l.base)) t.identities ≡ false → has link_key (link_key l) p.links ≡ false
+  no_base l fit none = no_link_unless l fit (λ ends. absent (base_kind l.mapping) l.base (no_row_of_uuid f p t says l.base none) ends.0)
+
+  pub no_other : (l : Relation) → IsUuid l.base → list_any (λ r. bytes_eq r.uuid (uuid_text l.media)) t.identities ≡ false → has link_key (link_key l) p.links ≡ false
+  no_other l fit none = no_link_unless l fit (λ ends. absent (other_kind l.mapping) l.media (no_row_of_uuid f p t says l.media none) ends.1)
+
+  -- the kind of an end, by its row
+  kind_there : (n : Numbered) → In n says.numbered → (kind : MovedKind) → has item_key (kind_number kind ∷ n.item.identity) p.items ≡ true → (kind_number kind == kind_number (kind_of n.item.content)) ≡ true
+  kind_there n i kind h = (and_true (kind_number kind == kind_number (kind_of n.item.content)) (int_eq (number_of says.numbered n.item.identity) n.number) (end_is n i kind n.item.identity h ∙ bytes_eq_itself n.item.identity)).0
+
+  there_of_kind : (n : Numbered) → In n says.numbered → (kind : MovedKind) → kind_number (kind_of n.item.content) ≡ kind_number kind → has item_key (kind_number kind ∷ n.item.identity) p.items ≡ true
+  there_of_kind n i kind e =
+      let q : Item → Bool = λ x. bytes_eq (item_key x) (kind_number kind ∷ n.item.identity) in
+      let items : List Item = map (λ m. m.item) says.numbered in
+      ap (list_any q) says.items ∙ list_any-arranged item_key q items ∙ any_in q n.item items (In-map (λ m. m.item) n says.numbered i) (subst (λ k. bytes_eq (item_key n.item) (k ∷ n.item.identity) ≡ true) e (bytes_eq_itself (item_key n.item)))
+
+  module _ (l : Relation) (n m : Numbered) (base_in : In n says.numbered) (other_in : In m says.numbered) (base_named : n.item.identity ≡ l.base) (other_named : m.item.identity ≡ l.media) where
+    wrong_ends : IsUuid l.base → are_ends l.mapping (identity_row n).kind (identity_row m).kind ≡ false → has link_key (link_key l) p.links ≡ false
+    wrong_ends fit wrong = no_link_unless l fit (λ ends. true≢false (sym (both
+        (pos_same _ _ ∙ kind_there n base_in (base_kind l.mapping) (rw base_named ends.0))
+        (pos_same _ _ ∙ kind_there m other_in (other_kind l.mapping) (rw other_named ends.1))) ∙ wrong))
+      where
+        both : {a b : Bool} → a ≡ true → b ≡ true → (a && b) ≡ true
+        both e g = rw (e, g) refl
+
+    right_ends : are_ends l.mapping (identity_row n).kind (identity_row m).kind ≡ true → HasEnds p l
+    right_ends right =
+        let parts = and_true (int_eq (pos (kind_number (base_kind l.mapping))) (identity_row n).kind) (int_eq (pos (kind_number (other_kind l.mapping))) (identity_row m).kind) right in
+        (rw (sym base_named) (there_of_kind n base_in (base_kind l.mapping) (sym (eqb-true _ _ (sym (pos_same _ _) ∙ parts.0)))),
+         rw (sym other_named) (there_of_kind m other_in (other_kind l.mapping) (sym (eqb-true _ _ (sym (pos_same _ _) ∙ parts.1)))))
+
+    row_is : mapping_row says.numbered l ≡ record { base_id = n.number; related_id = m.number }
+    row_is = rw (sym base_named, sym other_named, number_is f p t says n base_in, number_is f p t says m other_in) refl
+
+    pair_told : HasEnds p l → list_any (λ r. is_pair r (mapping_row says.numbered l)) (mapping_rows l.mapping t) ≡ has link_key (link_key l) p.links
+    pair_told ends = one l.mapping refl ∙ of_links (λ x. bytes_eq (link_key x) (link_key l))
+      where
+        q : MappingRow → Bool
+        q r = is_pair r (mapping_row says.numbered l)
+
+        test : Relation → Bool
+        test x = bytes_eq (link_key x) (link_key l)
+
+        tiles_case : l.mapping ≡ TilesMedia → (x : Relation) → HasEnds p x → (k : Mapping) → x.mapping ≡ k → list_any q (tiles_media_rows says.numbered x k) ≡ test x
+        tiles_case e x h TilesMedia g = or-false _ ∙ pair_same f p t says x l (g ∙ sym e) h ends
+        tiles_case e x h RowsMedia g = rw (e, g) refl
+
+        rows_case : l.mapping ≡ RowsMedia → (x : Relation) → HasEnds p x → (k : Mapping) → x.mapping ≡ k → list_any q (rows_media_rows says.numbered x k) ≡ test x
+        rows_case e x h TilesMedia g = rw (e, g) refl
+        rows_case e x h RowsMedia g = or-false _ ∙ pair_same f p t says x l (g ∙ sym e) h ends
+
+        one : (k : Mapping) → l.mapping ≡ k → list_any q (mapping_rows k t) ≡ list_any test says.linked
+        one TilesMedia e = tiles_media_tell q test (All-weaker _ _ (λ x h. tiles_case e x h x.mapping refl) says.linked says.ends)
+        one RowsMedia e = rows_media_tell q test (All-weaker _ _ (λ x h. rows_case e x h x.mapping refl) says.linked says.ends)
+
+  -- by the rows of its ends, a link is not there or its row is
+  module _ (l : Relation) (base_fit : IsUuid l.base) (other_fit : IsUuid l.media) (base other : IdentityRow) (base_row : Contains t.identities base × (bytes_eq base.uuid (uuid_text l.base) ≡ true)) (other_row : Contains t.identities other × (bytes_eq other.uuid (uuid_text l.media) ≡ true)) where
+    pub no_such_link : are_ends l.mapping base.kind other.kind ≡ false → has link_key (link_key l) p.links ≡ false
+    no_such_link wrong =
+        let n = item_of_row f p t says l.base base_fit base base_row in
+        let m = item_of_row f p t says l.media other_fit other other_row in
+        wrong_ends l n.0 m.0 n.1 m.1 n.3 m.3 base_fit (rw (n.2, m.2) wrong)
+
+    pub link_by_rows : are_ends l.mapping base.kind other.kind ≡ true → list_any (λ r. is_pair r (record { base_id = base.local_id; related_id = other.local_id })) (mapping_rows l.mapping t) ≡ has link_key (link_key l) p.links
+    link_by_rows right =
+        let n = item_of_row f p t says l.base base_fit base base_row in
+        let m = item_of_row f p t says l.media other_fit other other_row in
+        let row : mapping_row says.numbered l ≡ record { base_id = base.local_id; related_id = other.local_id } = row_is l n.0 m.0 n.1 m.1 n.3 m.3 ∙ ap (λ r. record { base_id = r.local_id; related_id = m.0.number }) n.2 ∙ ap (λ r. record { base_id = base.local_id; related_id = r.local_id }) m.2 in
+        subst (λ row. list_any (λ r. is_pair r row) (mapping_rows l.mapping t) ≡ has link_key (link_key l) p.links) row (pair_told l n.0 m.0 n.1 m.1 n.3 m.3 (right_ends l n.0 m.0 n.1 m.1 n.3 m.3 (rw (n.2, m.2) right)))

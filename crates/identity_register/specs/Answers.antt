@@ -1,0 +1,28 @@
+-- What the mapping tables answer of rows.
+use Rattle.std.specs.Prelude.{ℤ, pos, Bool, true, false, List, if◌then◌else◌, ◌||◌, ◌&&◌}
+use Rattle.std.specs.List.{list_any}
+use Rattle.std.specs.Ordering.{int_eq}
+use Rattle.sheet_types.specs.World.{kind_number, base_kind, other_kind}
+use Rattle.sheet_types.specs.declared.command.Mapping.{Mapping}
+use Rattle.sheet_types.specs.declared.command.Mapping.TheVariants.{TilesMedia, RowsMedia}
+use Rattle.package_tables.specs.Package.{Tables}
+use Rattle.package_tables.specs.declared.rows.MappingRow.{MappingRow}
+
+-- the table of a mapping
+abbrev pub mapping_rows : Mapping → Tables → List MappingRow
+mapping_rows TilesMedia t = t.tiles_media
+mapping_rows RowsMedia t = t.rows_media
+
+abbrev pub is_linked_medium : ℤ → Tables → Bool
+is_linked_medium number t = list_any (λ r. int_eq r.related_id number) t.tiles_media || list_any (λ r. int_eq r.related_id number) t.rows_media
+
+-- a mapping table names the row of this kind and number
+abbrev pub is_linked_row : ℤ → ℤ → Tables → Bool
+is_linked_row kind number t =
+    if int_eq kind (pos 1) then list_any (λ r. int_eq r.base_id number) t.tiles_media
+    else if int_eq kind (pos 2) then is_linked_medium number t
+    else list_any (λ r. int_eq r.base_id number) t.rows_media
+
+-- these numbers tell the kinds that a mapping relates
+abbrev pub are_ends : Mapping → ℤ → ℤ → Bool
+are_ends m base other = int_eq (pos (kind_number (base_kind m))) base && int_eq (pos (kind_number (other_kind m))) other
