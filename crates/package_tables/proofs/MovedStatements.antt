@@ -9,7 +9,7 @@ use Rattle.package_tables.specs.Tables.{sheet_items}
 use Rattle.package_tables.specs.Shapes.{moved_shape}
 use Rattle.package_tables.specs.declared.rows.MovedRow.{MovedRow}
 use Rattle.std.proofs.Common.{true}
-use Rattle.std.specs.Prelude.{bytes_eq}
+use Rattle.std.specs.Prelude.{◌≡◌, bytes_eq}
 use Rattle.std.specs.Ordering.{int_eq}
 use Rattle.sqlite.specs.Term.{col}
 use Rattle.sql_meaning.specs.Resolving.{resolving}
