@@ -281,11 +281,11 @@ module _ (f : Frame) (p : Package) (t : Tables) (says : Says f p t) where
     no_such_link wrong =
         let n = item_of_row f p t says l.base base_fit base base_row in
         let m = item_of_row f p t says l.media other_fit other other_row in
-        wrong_ends l n.0 m.0 n.1 m.1 n.3 m.3 base_fit (rw (n.2, m.2) wrong)
+        wrong_ends l n.0 m.0 n.1 m.1 n.3 m.3 base_fit (ap (λ r. are_ends l.mapping r.kind (identity_row m.0).kind) n.2 ∙ ap (λ r. are_ends l.mapping base.kind r.kind) m.2 ∙ wrong)
 
     pub link_by_rows : are_ends l.mapping base.kind other.kind ≡ true → list_any (λ r. is_pair r (record { base_id = base.local_id; related_id = other.local_id })) (mapping_rows l.mapping t) ≡ has link_key (link_key l) p.links
     link_by_rows right =
         let n = item_of_row f p t says l.base base_fit base base_row in
         let m = item_of_row f p t says l.media other_fit other other_row in
         let row : mapping_row says.numbered l ≡ record { base_id = base.local_id; related_id = other.local_id } = row_is l n.0 m.0 n.1 m.1 n.3 m.3 ∙ ap (λ r. record { base_id = r.local_id; related_id = m.0.number }) n.2 ∙ ap (λ r. record { base_id = base.local_id; related_id = r.local_id }) m.2 in
-        subst (λ row. list_any (λ r. is_pair r row) (mapping_rows l.mapping t) ≡ has link_key (link_key l) p.links) row (pair_told l n.0 m.0 n.1 m.1 n.3 m.3 (right_ends l n.0 m.0 n.1 m.1 n.3 m.3 (rw (n.2, m.2) right)))
+        subst (λ row. list_any (λ r. is_pair r row) (mapping_rows l.mapping t) ≡ has link_key (link_key l) p.links) row (pair_told l n.0 m.0 n.1 m.1 n.3 m.3 (right_ends l n.0 m.0 n.1 m.1 n.3 m.3 (ap (λ r. are_ends l.mapping r.kind (identity_row m.0).kind) n.2 ∙ ap (λ r. are_ends l.mapping base.kind r.kind) m.2 ∙ right)))

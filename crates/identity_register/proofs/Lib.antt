@@ -6,3 +6,4 @@ mod Looking
 mod Uuids
 mod Answering
 mod Ends
+mod Contents
