@@ -34,7 +34,7 @@ use Rattle.identity_register.proofs.Finding.{row_numbered, same_uuid, no_row_of_
 use Rattle.identity_register.proofs.Linking.{find_itself}
 
 -- a kind is known by its number
-kind_number_tells : (a b : MovedKind) → kind_number a ≡ kind_number b → a ≡ b
+pub kind_number_tells : (a b : MovedKind) → kind_number a ≡ kind_number b → a ≡ b
 kind_number_tells TileItem TileItem e = refl
 kind_number_tells TileItem MediaItem e = cc
 kind_number_tells TileItem RowItem e = cc

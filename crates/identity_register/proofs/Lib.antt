@@ -7,3 +7,4 @@ mod Uuids
 mod Answering
 mod Ends
 mod Contents
+mod OnePackage

@@ -2,4 +2,5 @@
 #![tactic(auto)]
 
 pub mod changes;
+pub mod laws;
 pub mod look_ups;
