@@ -309,7 +309,7 @@ module _ (f : Frame) (t : Tables) where
   items_arranged : (p : Package) (one : Says f p t) → IsArranged item_key p.items
   items_arranged p one =
       subst (IsArranged item_key) (sym one.items) (distinct_arranged item_key (map (λ n. n.item) one.numbered)
-        (distinct_by (λ i. i.identity) item_key (λ x y e. apart x y e) (map (λ n. n.item) one.numbered) (distinct_map (λ n. n.item) (λ i. i.identity) one.numbered one.numbers.identities)))
+      (distinct_by (λ i. i.identity) item_key (λ x y e. apart x y e) (map (λ n. n.item) one.numbered) (distinct_map (λ n. n.item) (λ i. i.identity) one.numbered one.numbers.identities)))
     where
       apart : (x y : Item) → bytes_eq x.identity y.identity ≡ false → bytes_eq (item_key x) (item_key y) ≡ false
       apart x y e = ap (λ b. (kind_number (kind_of x.content) == kind_number (kind_of y.content)) && b) e ∙ never (kind_number (kind_of x.content) == kind_number (kind_of y.content))
@@ -327,10 +327,10 @@ module _ (f : Frame) (t : Tables) where
       let loan : p.loan ≡ q.loan = nat_of p.loan q.loan (ap (λ h. h.loan) head) in
       let items : p.items ≡ q.items = same_list item_key p.items q.items (items_arranged p one) (items_arranged q two) (item_there p q one two) (item_there q p two one) in
       let links : p.links ≡ q.links =
-          same_list link_key p.links q.links (subst (IsArranged link_key) (sym one.links) (distinct_arranged link_key one.linked one.distinct_links)) (subst (IsArranged link_key) (sym two.links) (distinct_arranged link_key two.linked two.distinct_links))
-          (link_there p q one two) (link_there q p two one) in
+      same_list link_key p.links q.links (subst (IsArranged link_key) (sym one.links) (distinct_arranged link_key one.linked one.distinct_links)) (subst (IsArranged link_key) (sym two.links) (distinct_arranged link_key two.linked two.distinct_links))
+      (link_there p q one two) (link_there q p two one) in
       let receipts : p.receipts ≡ q.receipts =
-          same_list receipt_key p.receipts q.receipts (receipts_arranged p one) (receipts_arranged q two) (kept_there p q one two) (kept_there q p two one) in
+      same_list receipt_key p.receipts q.receipts (receipts_arranged p one) (receipts_arranged q two) (kept_there p q one two) (kept_there q p two one) in
       λ n. record { uuid = uuid n; parent = parent n; depth = depth n; loan = loan n; items = items n; links = links n; receipts = receipts n }
     where
       first_same : {X : Type 0} {x y : X} → x ∷ [] ≡ y ∷ [] → x ≡ y

@@ -27,14 +27,10 @@ use package_tables::tiles::{tile_at, tile_by_id};
 use sheet_types::command::{Content, Item, Mapping, Relation};
 use sheet_types::receipt::MovedKind;
 use sqlite::{Alter, Connection};
-use std::alloc::Global;
 use uuid::Uuid;
 
 /// The row that stands for an item.
-fn row_of<S: Alter>(
-    conn: &mut Connection<S>,
-    identity: Uuid,
-) -> Result<Option<IdentityRow>, Fault>
+fn row_of<S: Alter>(conn: &mut Connection<S>, identity: Uuid) -> Result<Option<IdentityRow>, Fault>
     requires { Rests (state S.Store conn.old) }
     ensures looked { LooksUp (λ t. IsOneOf (λ x. bytes_eq x.uuid (uuid_text identity)) t.identities) (state S.Store conn.old) (state S.Store conn.new) result }
     ensures fit { IsUuid identity }
@@ -147,11 +143,7 @@ fn medium_is_linked<S: Alter>(conn: &mut Connection<S>, number: i64) -> Result<b
 }
 
 /// Whether a mapping table names the row of this kind and number.
-fn row_is_linked<S: Alter>(
-    conn: &mut Connection<S>,
-    kind: i64,
-    number: i64,
-) -> Result<bool, Fault>
+fn row_is_linked<S: Alter>(conn: &mut Connection<S>, kind: i64, number: i64) -> Result<bool, Fault>
     requires { Rests (state S.Store conn.old) }
     ensures { LooksUp (λ t found. found ≡ is_linked_row kind number t) (state S.Store conn.old) (state S.Store conn.new) result }
 {
@@ -226,11 +218,7 @@ fn attributes_content<S: Alter>(conn: &mut Connection<S>, number: i64) -> Result
 }
 
 /// What the row of this kind and number holds.
-fn content_of<S: Alter>(
-    conn: &mut Connection<S>,
-    kind: i64,
-    number: i64,
-) -> Result<Content, Fault>
+fn content_of<S: Alter>(conn: &mut Connection<S>, kind: i64, number: i64) -> Result<Content, Fault>
     requires { Rests (state S.Store conn.old) }
     ensures { LooksUp (IsContentOf kind number) (state S.Store conn.old) (state S.Store conn.new) result }
 {
@@ -254,22 +242,4 @@ pub fn find<S: Alter>(conn: &mut Connection<S>, identity: Uuid) -> Result<Option
             Ok(Some(Item { identity, content }))
         }
     }
-}
-
-/// All items, by kind and identity.
-pub fn items<S: Alter>(_conn: &mut Connection<S>, _alloc: Global) -> Result<Vec<Item>, Fault>
-    requires { Rests (state S.Store _conn.old) }
-    ensures { Looks (Sees (λ f p found. found.items ≡ p.items)) (state S.Store _conn.old) (state S.Store _conn.new) result }
-{
-    let _settled = _conn.is_autocommit();
-    Err(Fault::OutOfMemory)
-}
-
-/// All links, by mapping, base and medium.
-pub fn links<S: Alter>(_conn: &mut Connection<S>, _alloc: Global) -> Result<Vec<Relation>, Fault>
-    requires { Rests (state S.Store _conn.old) }
-    ensures { Looks (Sees (λ f p found. found.items ≡ p.links)) (state S.Store _conn.old) (state S.Store _conn.new) result }
-{
-    let _settled = _conn.is_autocommit();
-    Err(Fault::OutOfMemory)
 }

@@ -1,5 +1,5 @@
 -- The row that was found holds it.
-use Rattle.std.proofs.Common.{◌≡◌, ◌∙◌, ap, sym, subst, refl, Ok, Err, rules, pos}
+use Rattle.std.proofs.Common.{◌∙◌, ap, subst, refl, Ok, Err, rules, pos}
 use Rattle.std.specs.Prelude.{Contains}
 use Rattle.std.specs.Ordering.{int_eq}
 use mir.Syntax.{w64}

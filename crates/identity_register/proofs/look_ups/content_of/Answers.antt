@@ -1,7 +1,6 @@
 -- The kind says which table has the row.
 use Rattle.std.proofs.Common.{◌≡◌, subst, sym, pos, arith}
 use Rattle.std.proofs.lemmas.Int.{to_z-of_z, ints}
-use Rattle.package_tables.specs.Calls.{Answers}
 use Rattle.identity_register.specs.Answers.{IsContentOf}
 use Rattle.identity_register.proofs.Looking.{tells_so}
 use Rattle.identity_register.proofs.look_ups.content_of.Goals as goal

@@ -1,5 +1,5 @@
 -- The content of the row of an item is the item's.
-use Rattle.std.proofs.Common.{◌≡◌, ◌∙◌, sym, ap, Some, Ok, rules}
+use Rattle.std.proofs.Common.{◌∙◌, sym, ap, Ok, rules}
 use mir.Syntax.{w64}
 use mir.Val.{SFits}
 use Rattle.std.proofs.lemmas.Int.{to_z-of_z}

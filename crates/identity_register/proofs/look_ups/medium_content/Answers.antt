@@ -1,9 +1,7 @@
 -- The row that was found holds it.
-use Rattle.std.proofs.Common.{◌≡◌, ◌∙◌, ap, sym, subst, refl, Ok, Err, rules, pos}
+use Rattle.std.proofs.Common.{◌∙◌, ap, subst, refl, Ok, Err, pos}
 use Rattle.std.specs.Prelude.{Contains}
 use Rattle.std.specs.Ordering.{int_eq}
-use mir.Syntax.{w64}
-use mir.Val.{SFits}
 use Rattle.std.proofs.lemmas.Int.{to_z-of_z}
 use Rattle.sql_meaning.proofs.Staying.{looks_stays}
 use Rattle.sheet_types.specs.declared.command.Content.TheVariants.{Media}
