@@ -107,6 +107,7 @@ links f p t l says fresh ends = one l.mapping refl
 
 -- ---- the numbers of ends
 
+-- two texts, each in two parts
 pub bytes_eq_append : (a b c d : List ℕ) → length a ≡ length c → bytes_eq (a ++ b) (c ++ d) ≡ (bytes_eq a c && bytes_eq b d)
 bytes_eq_append [] b [] d h = refl
 bytes_eq_append [] b (y ∷ ys) d h = absurd (grind (arith))

@@ -3,13 +3,15 @@ use Rattle.std.specs.Prelude.{◌≡◌, ℕ, Bool, true, false, List, [], ◌�
 use Rattle.std.specs.List.{list_any}
 use Rattle.sheet_types.specs.Ordered.{put, without, has}
 use Rattle.sheet_types.specs.World.{Package, item_key, link_key, has_item}
+use Rattle.sheet_types.specs.Lines.{IsUuid}
 use Rattle.sheet_types.specs.Register.{HasEnds}
 use Rattle.sheet_types.specs.declared.command.Item.{Item}
 use Rattle.sheet_types.specs.declared.command.Relation.{Relation}
 
--- an item of a new identity
-abbrev pub LacksItem : List ℕ → Package → Type 0
-LacksItem id p = has_item p id ≡ false
+-- a new identity, which is a UUID, as each `Uuid` is
+pub record IsNewItem (id : List ℕ) (p : Package) : Type 0 where
+  pub uuid : IsUuid id
+  pub new : has_item p id ≡ false
 
 abbrev pub item_added : Item → Package → Package
 item_added i p = record p { items = put item_key i p.items }
@@ -25,16 +27,21 @@ IsLooseItem id p = (has_item p id ≡ true) × (list_any (names_item id) p.links
 abbrev pub item_deleted : List ℕ → Package → Package
 item_deleted id p = record p { items = without (λ i. i.identity) (id ∷ []) p.items }
 
--- both ends are there, and the link is not
-abbrev pub IsNewLink : Relation → Package → Type 0
-IsNewLink l p = (has link_key (link_key l) p.links ≡ false) × HasEnds p l
+-- both ends are there, and the link is not; the ends are UUIDs, as those of each `Uuid` are
+pub record IsNewLink (l : Relation) (p : Package) : Type 0 where
+  pub base : IsUuid l.base
+  pub media : IsUuid l.media
+  pub new : has link_key (link_key l) p.links ≡ false
+  pub ends : HasEnds p l
 
 abbrev pub link_added : Relation → Package → Package
 link_added l p = record p { links = put link_key l p.links }
 
--- the link is there
-abbrev pub IsLink : Relation → Package → Type 0
-IsLink l p = has link_key (link_key l) p.links ≡ true
+-- the link is there; its ends are UUIDs, as those of each `Uuid` are
+pub record IsLink (l : Relation) (p : Package) : Type 0 where
+  pub base : IsUuid l.base
+  pub media : IsUuid l.media
+  pub there : has link_key (link_key l) p.links ≡ true
 
 abbrev pub link_removed : Relation → Package → Package
 link_removed l p = record p { links = without link_key (link_key l ∷ []) p.links }

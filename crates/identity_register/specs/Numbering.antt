@@ -1,14 +1,14 @@
 -- How the rows of a package's tables stand for items under lasting identities. Items are rows of user data tables (OGC GeoPackage 1.3, 2.2.8 and 2.4.2; OGC 18-000, media), links rows of user-defined mapping tables (OGC 18-000); local numbers and `sheet_identity` are profile.
-use Rattle.std.specs.Prelude.{◌≡◌, ℕ, ℤ, pos, Bool, true, not, Contains, ◌&&◌, if◌then◌else◌, List, [], ◌∷◌, map, filter, find, bytes_eq, flat_map, unsigned_abs}
+use Rattle.std.specs.Prelude.{◌≡◌, ℕ, ℤ, pos, Bool, true, false, not, Contains, Option, None, ◌&&◌, if◌then◌else◌, List, [], ◌∷◌, map, filter, find, bytes_eq, flat_map, unsigned_abs}
 use Rattle.std.specs.Ordering.{int_eq}
-use Rattle.std.specs.List.{AllByRecursion, IsDistinct}
+use Rattle.std.specs.List.{AllByRecursion, IsDistinct, list_any}
 use Rattle.std.specs.Option.{option_map_or}
-use Rattle.sheet_types.specs.Ordered.{put}
+use Rattle.sheet_types.specs.Ordered.{put, has}
 use Rattle.sheet_types.specs.Matrix.{is_within}
 use Rattle.sheet_types.specs.Texts.{uuid_text, kind_of}
 use Rattle.sheet_types.specs.World.{kind_number, kind_is}
 use Rattle.sheet_types.specs.declared.receipt.MovedKind.{MovedKind}
-use Rattle.sheet_types.specs.declared.receipt.MovedKind.TheVariants.{TileItem, MediaItem, RowItem}
+use Rattle.sheet_types.specs.declared.receipt.MovedKind.TheVariants.{TileItem, MediaItem, RowItem, TilesMediaLink, RowsMediaLink}
 use Rattle.sheet_types.specs.Lines.{IsUuid}
 use Rattle.sheet_types.specs.declared.command.Content.{Content}
 use Rattle.sheet_types.specs.declared.command.Content.TheVariants.{Tile, Media, Row}
@@ -18,6 +18,8 @@ use Rattle.sheet_types.specs.declared.command.Mapping.TheVariants.{TilesMedia, R
 use Rattle.sheet_types.specs.declared.command.Relation.{Relation}
 use Rattle.package_tables.specs.Shapes.{tile_shape, medium_shape, attribute_shape, identity_shape, tiles_media_shape, rows_media_shape}
 use Rattle.package_tables.specs.Package.{Tables}
+use Rattle.package_tables.specs.Calls.{IsGreatest}
+use Rattle.package_tables.specs.Changes.{AddsTile, AddsMedium, AddsAttribute, AddsTilesMedia, AddsRowsMedia, DropsTilesMedia, DropsRowsMedia}
 use Rattle.package_tables.specs.declared.rows.TileRow.{TileRow}
 use Rattle.package_tables.specs.declared.rows.MediaRow.{MediaRow}
 use Rattle.package_tables.specs.declared.rows.AttributeRow.{AttributeRow}
@@ -142,3 +144,37 @@ DropsRows kind number before after = after ≡ without_identity kind number (wit
 -- the identity row of a UUID
 abbrev pub IsRowOf : List ℕ → Tables → IdentityRow → Type 0
 IsRowOf id t r = Contains t.identities r × (bytes_eq r.uuid (uuid_text id) ≡ true)
+
+-- a mapping row comes in, where no row has its ends
+abbrev pub AddsLink : Mapping → ℤ → ℤ → Tables → Tables → Type 0
+AddsLink TilesMedia base related before after = AddsTilesMedia (record { base_id = base; related_id = related }) before after
+AddsLink RowsMedia base related before after = AddsRowsMedia (record { base_id = base; related_id = related }) before after
+
+-- the mapping row of these ends goes
+abbrev pub DropsLink : Mapping → ℤ → ℤ → Tables → Tables → Type 0
+DropsLink TilesMedia base related before after = DropsTilesMedia base related before after
+DropsLink RowsMedia base related before after = DropsRowsMedia base related before after
+
+-- ---- a free number
+
+-- the greatest number in the table of a kind
+abbrev pub IsGreatestOf : MovedKind → Tables → Option ℤ → Type 0
+IsGreatestOf TileItem t found = IsGreatest (λ x. x.id) t.tiles found
+IsGreatestOf MediaItem t found = IsGreatest (λ x. x.id) t.media found
+IsGreatestOf RowItem t found = IsGreatest (λ x. x.id) t.rows found
+IsGreatestOf TilesMediaLink t found = found ≡ None
+IsGreatestOf RowsMediaLink t found = found ≡ None
+
+-- a number that no identity row of the kind has
+abbrev pub IsGap : ℤ → Tables → ℤ → Type 0
+IsGap kind t number = (is_within (pos 1) greatest_number number ≡ true) × (list_any (λ x. int_eq x.kind kind && int_eq x.local_id number) t.identities ≡ false)
+
+-- a number that an item of the kind may have
+abbrev pub IsFreeNumber : MovedKind → Tables → ℤ → Type 0
+IsFreeNumber kind t number = (is_within (pos 1) greatest_number number ≡ true) × (has identity_shape.key (kind_number kind ∷ unsigned_abs number ∷ []) t.identities ≡ false)
+
+-- the row of a content comes in, where its number is free
+abbrev pub AddsContent : ℤ → Content → Tables → Tables → Type 0
+AddsContent number (Tile zoom column row bytes) before after = AddsTile (record { id = number; zoom_level = zoom; tile_column = column; tile_row = row; tile_data = bytes }) before after
+AddsContent number (Media content_type bytes) before after = AddsMedium (record { id = number; «data» = bytes; content_type = content_type }) before after
+AddsContent number (Row x y code label) before after = AddsAttribute (record { id = number; x = x; y = y; code = code; label = label }) before after

@@ -4,17 +4,26 @@ ghost use Rattle.sqlite.specs.Held.{state};
 ghost use Rattle.sql_meaning.specs.Transactions.{Steps};
 ghost use Rattle.package_tables.specs.Calls.{OnTables, Answers};
 ghost use Rattle.identity_register.specs.Calls.{Becomes};
-ghost use Rattle.identity_register.specs.Changes.{IsLooseItem, item_deleted};
-ghost use Rattle.identity_register.specs.Numbering.{IsRowOf, DropsContent, DropsRows};
+ghost use Rattle.identity_register.specs.Changes.{IsLooseItem, item_deleted, IsNewLink, link_added, IsLink, link_removed};
+ghost use Rattle.identity_register.specs.Numbering.{IsRowOf, DropsContent, DropsRows, AddsLink, DropsLink};
 
 use package_tables::attributes::delete_attribute;
 use package_tables::fault::Fault;
 use package_tables::identities::{delete_identity, identity_by_uuid_inside};
+use package_tables::mappings::{
+    delete_rows_media, delete_tiles_media, insert_rows_media, insert_tiles_media,
+};
 use package_tables::media::delete_medium;
 use package_tables::rows::IdentityRow;
 use package_tables::tiles::delete_tile;
+use sheet_types::command::{Mapping, Relation};
 use sqlite::{Alter, Transaction};
 use uuid::Uuid;
+
+// The kinds of items as they are stored.
+const TILE: i64 = 1;
+const MEDIUM: i64 = 2;
+const ROW: i64 = 3;
 
 /// The row that stands for an item: its kind and local number.
 fn row_of_item<S: Alter>(
@@ -39,12 +48,16 @@ fn drop_content<S: Alter>(
     ensures same_reference { tx.new.conn.ghost_name ≡ tx.old.conn.ghost_name }
     ensures steps { Steps (λ _. OnTables (DropsContent kind number)) (state S.Store tx.old.conn.now) (state S.Store tx.new.conn.now) result }
 {
-    match kind {
-        1 => delete_tile(tx, number),
-        2 => delete_medium(tx, number),
-        3 => delete_attribute(tx, number),
-        _ => Err(Fault::StoreFault),
+    if kind == TILE {
+        return delete_tile(tx, number);
     }
+    if kind == MEDIUM {
+        return delete_medium(tx, number);
+    }
+    if kind == ROW {
+        return delete_attribute(tx, number);
+    }
+    Err(Fault::StoreFault)
 }
 
 /// Takes out the row of a user table and its identity.
@@ -67,4 +80,56 @@ pub fn delete<S: Alter>(tx: &mut Transaction<'_, S>, identity: Uuid) -> Result<(
 {
     let row = row_of_item(tx, identity)?;
     drop_rows(tx, row.kind, row.local_id)
+}
+
+/// Puts a mapping row in.
+fn put_pair<S: Alter>(
+    tx: &mut Transaction<'_, S>,
+    mapping: Mapping,
+    base: i64,
+    related: i64,
+) -> Result<(), Fault>
+    ensures same_reference { tx.new.conn.ghost_name ≡ tx.old.conn.ghost_name }
+    ensures steps { Steps (λ _. OnTables (AddsLink mapping base related)) (state S.Store tx.old.conn.now) (state S.Store tx.new.conn.now) result }
+{
+    match mapping {
+        Mapping::TilesMedia => insert_tiles_media(tx, base, related),
+        Mapping::RowsMedia => insert_rows_media(tx, base, related),
+    }
+}
+
+/// Takes a mapping row out.
+fn drop_pair<S: Alter>(
+    tx: &mut Transaction<'_, S>,
+    mapping: Mapping,
+    base: i64,
+    related: i64,
+) -> Result<(), Fault>
+    ensures same_reference { tx.new.conn.ghost_name ≡ tx.old.conn.ghost_name }
+    ensures steps { Steps (λ _. OnTables (DropsLink mapping base related)) (state S.Store tx.old.conn.now) (state S.Store tx.new.conn.now) result }
+{
+    match mapping {
+        Mapping::TilesMedia => delete_tiles_media(tx, base, related),
+        Mapping::RowsMedia => delete_rows_media(tx, base, related),
+    }
+}
+
+/// Links two items of the kinds that the mapping joins.
+pub fn link<S: Alter>(tx: &mut Transaction<'_, S>, relation: Relation) -> Result<(), Fault>
+    ensures same_reference { tx.new.conn.ghost_name ≡ tx.old.conn.ghost_name }
+    ensures steps { Steps (λ _. Becomes (IsNewLink relation) (link_added relation)) (state S.Store tx.old.conn.now) (state S.Store tx.new.conn.now) result }
+{
+    let base = row_of_item(tx, relation.base)?;
+    let media = row_of_item(tx, relation.media)?;
+    put_pair(tx, relation.mapping, base.local_id, media.local_id)
+}
+
+/// Takes a link out that is there.
+pub fn unlink<S: Alter>(tx: &mut Transaction<'_, S>, relation: Relation) -> Result<(), Fault>
+    ensures same_reference { tx.new.conn.ghost_name ≡ tx.old.conn.ghost_name }
+    ensures steps { Steps (λ _. Becomes (IsLink relation) (link_removed relation)) (state S.Store tx.old.conn.now) (state S.Store tx.new.conn.now) result }
+{
+    let base = row_of_item(tx, relation.base)?;
+    let media = row_of_item(tx, relation.media)?;
+    drop_pair(tx, relation.mapping, base.local_id, media.local_id)
 }

@@ -239,7 +239,7 @@ module _ (Store : Type 0) (head : Store → Option Head) (claims : Store → Lis
   -- a loan is there once
   loan_once : (s : Store) (l : Lent s) → In s lives → count_by (makes l.claim) stores ≤ 1
   loan_once s l i = at_most_one (count_by (makes l.claim) stores) (false_from_ne_true (nat_le 2 (count_by (makes l.claim) stores)) (λ twice.
-      stands.in_order.no_copies (read s).uuid (l.parent, l.claim, Contains-In l.parent stores (live_in l.parent l.parent_live).0, l.open', sym (loan_uuid s l.claim i l.loan), twice)))
+      stands.in_order.no_copies (read s).uuid (l.parent, l.claim, Contains-In l.parent stores (live_in l.parent l.parent_live).0, l.open', (reads_at s i).uuid, sym (loan_uuid s l.claim i l.loan), twice)))
 
   abbrev of_uuid : List ℕ → Store → Bool
   of_uuid k s = bytes_eq (read s).uuid k
@@ -378,7 +378,7 @@ module _ (Store : Type 0) (head : Store → Option Head) (claims : Store → Lis
       let split_of : IsOpenSplitOf Store head claims IsFormed IsTied frame_of read stores o.0 c =
       (first.0, first.2, Contains-In c (claims o.0) claimed, open_falls Store head claims IsFormed IsTied frame_of read stores first.0 (length stores) c first.1 told') in
       let some : list_any (makes c) stores ≡ true = not_none (list_any (makes c) stores) (λ none.
-      stands.in_order.none_missing t.0 (o.0, c, Contains-In o.0 stores (live_in o.0 o.1).0, split_of, text, eq-eqb (count_by (makes c) stores) 0 (any_none (makes c) stores none))) in
+      stands.in_order.none_missing t.0 (o.0, c, Contains-In o.0 stores (live_in o.0 o.1).0, split_of, t.2, text, eq-eqb (count_by (makes c) stores) 0 (any_none (makes c) stores none))) in
       let z : (z : Store) × In z stores × (makes c z ≡ true) = any_at (makes c) stores some in
       let made : list_any (λ x. makes x z.0 && is_open_claim (told (length stores)) x) (told (length stores)) ≡ true =
       any_in (λ x. makes x z.0 && is_open_claim (told (length stores)) x) c (told (length stores)) (In-flat_map claims o.0 c lives o.1 claimed) (and_from (makes c z.0) (is_open_claim (told (length stores)) c) z.2 told') in

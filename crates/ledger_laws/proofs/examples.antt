@@ -19,3 +19,6 @@ pub mod ShortUuids
 pub mod Altered
 pub mod Sound
 pub mod LinesReadWhole
+pub mod UnsoundReceipts
+pub mod UnbalancedWorlds
+pub mod LeftOutOrDoubled

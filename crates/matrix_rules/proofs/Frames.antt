@@ -1,10 +1,9 @@
 -- What a good frame's rules say, each as a fact.
-use Rattle.std.specs.Prelude.{◌≡◌, ℕ, ◌^◌, Bool, true, false, not, ◌&&◌, Option, Some, None, is_none, IsTrue, List, [], ◌∷◌, refl, ℤ, pos, negsuc, ◌+ℤ◌, ◌-ℤ◌, ◌*ℤ◌, ◌≤ℤ◌, ◌<ℤ◌, int_le, int_lt, unsigned_abs}
+use Rattle.std.specs.Prelude.{◌≡◌, Bool, true, false, not, ◌&&◌, is_none, IsTrue, [], ◌∷◌, refl, ℤ, pos, negsuc, ◌+ℤ◌, ◌-ℤ◌, ◌*ℤ◌, ◌≤ℤ◌, ◌<ℤ◌, int_le, int_lt}
 use Rattle.std.proofs.Common.{arith}
 use Rattle.std.proofs.lemmas.Bool.{and_parts}
 use Rattle.std.proofs.lemmas.Int.{ints}
 use Rattle.sheet_types.specs.declared.frame.Frame.{Frame}
-use Rattle.sheet_types.specs.declared.frame.FrameFault.{FrameFault}
 use Rattle.sheet_types.specs.declared.frame.FrameFault.TheVariants.{BadSrs, BadBounds, BadTile, BadZoom, BadMatrix, Uneven}
 use Rattle.sheet_types.specs.Matrix.{is_within, first_row, is_good_bound, ten_to_12, divides, width_at, height_at, last_level, is_good_frame, has_level}
 
@@ -56,11 +55,11 @@ six a b c d e g h =
 pub good_frame : (f : Frame) → IsTrue (is_good_frame f) → GoodFrame f
 good_frame f h =
     let rules = rules_hold (is_within (negsuc 0) (pos 999999) f.srs_id)
-        (is_good_bound f.min_x && is_good_bound f.min_y && is_good_bound f.max_x && is_good_bound f.max_y && int_lt f.min_x f.max_x && int_lt f.min_y f.max_y)
-        (is_within (pos 1) (pos 4096) f.tile_width && is_within (pos 1) (pos 4096) f.tile_height)
-        (int_le (pos 0) f.first_zoom && int_le (pos 1) f.levels && int_le (f.first_zoom +ℤ f.levels) (pos 21))
-        (is_within (pos 1) (pos 2 *ℤ ten_to_12) f.matrix_width && is_within (pos 1) (pos 2 *ℤ ten_to_12) f.matrix_height)
-        (divides (width_at f (last_level f) *ℤ f.tile_width) (f.max_x -ℤ f.min_x) && divides (height_at f (last_level f) *ℤ f.tile_height) (f.max_y -ℤ f.min_y)) h in
+    (is_good_bound f.min_x && is_good_bound f.min_y && is_good_bound f.max_x && is_good_bound f.max_y && int_lt f.min_x f.max_x && int_lt f.min_y f.max_y)
+    (is_within (pos 1) (pos 4096) f.tile_width && is_within (pos 1) (pos 4096) f.tile_height)
+    (int_le (pos 0) f.first_zoom && int_le (pos 1) f.levels && int_le (f.first_zoom +ℤ f.levels) (pos 21))
+    (is_within (pos 1) (pos 2 *ℤ ten_to_12) f.matrix_width && is_within (pos 1) (pos 2 *ℤ ten_to_12) f.matrix_height)
+    (divides (width_at f (last_level f) *ℤ f.tile_width) (f.max_x -ℤ f.min_x) && divides (height_at f (last_level f) *ℤ f.tile_height) (f.max_y -ℤ f.min_y)) h in
     let bounds = six (is_good_bound f.min_x) (is_good_bound f.min_y) (is_good_bound f.max_x) (is_good_bound f.max_y) (int_lt f.min_x f.max_x) (int_lt f.min_y f.max_y) rules.0 in
     let tile = and_parts (is_within (pos 1) (pos 4096) f.tile_width) (is_within (pos 1) (pos 4096) f.tile_height) rules.1 in
     let zooms = three (int_le (pos 0) f.first_zoom) (int_le (pos 1) f.levels) (int_le (f.first_zoom +ℤ f.levels) (pos 21)) rules.2 in

@@ -96,10 +96,10 @@ pub grid_x : (f : Frame) (zoom : ℤ) → GoodFrame f → has_level f zoom ≡ t
 grid_x f zoom good level =
     let range = level_range f zoom good level in
     grid_of f.min_x f.max_x (f.max_x -ℤ f.min_x) f.tile_width f.matrix_width (last_level f) (level_of f zoom) refl (omega (arith, ints)) (omega (arith, ints)) good.tile_width.0 good.matrix_width.0
-        (depth_below (zoom -ℤ f.first_zoom) (f.levels -ℤ pos 1) range.0 range.1) good.even_x
+    (depth_below (zoom -ℤ f.first_zoom) (f.levels -ℤ pos 1) range.0 range.1) good.even_x
 
 pub grid_y : (f : Frame) (zoom : ℤ) → GoodFrame f → has_level f zoom ≡ true → Grid f.min_y f.max_y (height_at f (level_of f zoom)) f.tile_height (tile_span_y f zoom)
 grid_y f zoom good level =
     let range = level_range f zoom good level in
     grid_of f.min_y f.max_y (f.max_y -ℤ f.min_y) f.tile_height f.matrix_height (last_level f) (level_of f zoom) refl (omega (arith, ints)) (omega (arith, ints)) good.tile_height.0 good.matrix_height.0
-        (depth_below (zoom -ℤ f.first_zoom) (f.levels -ℤ pos 1) range.0 range.1) good.even_y
+    (depth_below (zoom -ℤ f.first_zoom) (f.levels -ℤ pos 1) range.0 range.1) good.even_y

@@ -1,5 +1,5 @@
 -- A place is inside a rectangle where its column and its row lie between the rectangle's edges.
-use Rattle.std.specs.Prelude.{◌≡◌, ℕ, suc, ◌+◌, ◌*◌, ◌<◌, ◌≤◌, Bool, true, false, ◌&&◌, ℤ, pos, negsuc, ◌+ℤ◌, ◌-ℤ◌, ◌*ℤ◌, ◌≤ℤ◌, ◌<ℤ◌, int_le, int_lt, refl}
+use Rattle.std.specs.Prelude.{◌≡◌, suc, ◌+◌, ◌*◌, ◌<◌, ◌≤◌, Bool, true, false, ◌&&◌, ℤ, pos, negsuc, ◌+ℤ◌, ◌-ℤ◌, ◌*ℤ◌, ◌≤ℤ◌, ◌<ℤ◌, int_le, int_lt, refl}
 use Rattle.std.proofs.Common.{arith, ap, sym, ◌∙◌}
 use Rattle.std.proofs.lemmas.Bool.{and_parts}
 use Rattle.std.proofs.lemmas.Int.{ints}
@@ -7,7 +7,7 @@ use Rattle.std.proofs.Math.Nat.{le_of_mul-le-mul_right}
 use Rattle.sheet_types.specs.declared.frame.Frame.{Frame}
 use Rattle.sheet_types.specs.declared.frame.Rect.{Rect}
 use Rattle.sheet_types.specs.declared.frame.Ground.{Ground}
-use Rattle.sheet_types.specs.Matrix.{has_level, has_place, width_at, height_at, level_of, tile_span_x, tile_span_y, is_within, is_good_rect, tile_inside, block_ground, lies_within, one_tile}
+use Rattle.sheet_types.specs.Matrix.{has_level, has_place, width_at, height_at, level_of, tile_span_x, tile_span_y, is_within, is_good_rect, block_ground, lies_within}
 use Rattle.matrix_rules.specs.Places.{is_inside, is_between}
 use Rattle.matrix_rules.proofs.Frames.{GoodFrame}
 use Rattle.matrix_rules.proofs.Grids.{Grid, grid_x, grid_y}
@@ -88,7 +88,7 @@ measured : (min_x max_y : ℤ) (outer : Ground) (west east north south : ℤ)
     ≡ ((int_le (outer.west -ℤ min_x) west && int_le east (outer.east -ℤ min_x)) && (int_le (max_y -ℤ outer.north) north && int_le south (max_y -ℤ outer.south)))
 measured min_x max_y outer west east north south =
     rw (less_left outer.west min_x west, less_right outer.east min_x east, more_left outer.south max_y south, more_right outer.north max_y north)
-        (regrouped (int_le (outer.west -ℤ min_x) west) (int_le east (outer.east -ℤ min_x)) (int_le south (max_y -ℤ outer.south)) (int_le (max_y -ℤ outer.north) north))
+    (regrouped (int_le (outer.west -ℤ min_x) west) (int_le east (outer.east -ℤ min_x)) (int_le south (max_y -ℤ outer.south)) (int_le (max_y -ℤ outer.north) north))
 
 -- parts of both axes between edges of the frame are a place
 measured_place : (f : Frame) (outer : Ground) (zoom column row : ℤ) → GoodFrame f → has_level f zoom ≡ true
@@ -105,7 +105,7 @@ measured_place f outer zoom column row good level west east south north h =
 
 pub inside_is : (f : Frame) (r : Rect) (zoom column row : ℤ) → GoodFrame f → is_good_rect f r ≡ true → has_level f zoom ≡ true
     → is_inside f r zoom column row ≡ (is_between ((block_ground f r).west -ℤ f.min_x) ((block_ground f r).east -ℤ f.min_x) (tile_span_x f zoom) column
-        && is_between (f.max_y -ℤ (block_ground f r).north) (f.max_y -ℤ (block_ground f r).south) (tile_span_y f zoom) row)
+    && is_between (f.max_y -ℤ (block_ground f r).north) (f.max_y -ℤ (block_ground f r).south) (tile_span_y f zoom) row)
 inside_is f r zoom column row good rect level =
     let bounds = edges f r good rect in
     ap (λ b. has_place f zoom column row && b) (measured f.min_x f.max_y (block_ground f r) (column *ℤ tile_span_x f zoom) ((column +ℤ pos 1) *ℤ tile_span_x f zoom) (row *ℤ tile_span_y f zoom) ((row +ℤ pos 1) *ℤ tile_span_y f zoom))

@@ -1,7 +1,7 @@
 -- Which of equal parts lie between two ends.
 use Rattle.std.specs.Prelude.{◌≡◌, ◌↔◌, ℕ, suc, ◌+◌, ◌-◌, ◌*◌, ◌/◌, ◌<◌, ◌≤◌, Bool, true, false, ◌&&◌, ℤ, pos, negsuc, ◌+ℤ◌, ◌-ℤ◌, ◌*ℤ◌, ◌≤ℤ◌, ◌<ℤ◌, int_le, int_div, refl}
 use Rattle.std.proofs.Common.{arith, sym}
-use Rattle.std.proofs.lemmas.Bool.{le-leb, leb-true, and_parts, and_from, lt-leb, false_from_ne_true}
+use Rattle.std.proofs.lemmas.Bool.{and_parts, and_from, false_from_ne_true}
 use Rattle.std.proofs.lemmas.Int.{ints}
 use Rattle.std.proofs.Math.Nat.{div-lt_iff_lt-mul, le-div_iff_mul-le, mul-le-mul_right, div-le_self}
 use Rattle.sheet_types.specs.Matrix.{is_within}
@@ -37,20 +37,20 @@ before_axis start length c some = let more = positive_product c length some in s
 between : (start end length : ℕ) (part : ℤ) → 0 < length → is_between (pos start) (pos end) (pos length) part ≡ is_within (pos ((start + length - 1) / length)) (pos (end / length) -ℤ pos 1) part
 between start end length (pos c) some =
     same_test (int_le (pos start) (pos (c * length)) && int_le (pos ((c + 1) * length)) (pos end)) (int_le (pos ((start + length - 1) / length)) (pos c) && int_le (pos c) (pos (end / length) -ℤ pos 1))
-        (λ h.
-            let parts = and_parts (int_le (pos start) (pos (c * length))) (int_le (pos ((c + 1) * length)) (pos end)) h in
-            let low : (start + length - 1) / length ≤ c = (starts start length c some).0 (omega (arith, ints, parts.0)) in
-            let high : c < end / length = (ends end length c some).0 (omega (arith, ints, parts.1)) in
-            let left : true ≡ int_le (pos ((start + length - 1) / length)) (pos c) = omega (arith, ints, low) in
-            let right : true ≡ int_le (pos c) (pos (end / length) -ℤ pos 1) = omega (arith, ints, high) in
-            and_from _ _ (sym left) (sym right))
-        (λ h.
-            let parts = and_parts (int_le (pos ((start + length - 1) / length)) (pos c)) (int_le (pos c) (pos (end / length) -ℤ pos 1)) h in
-            let low : start ≤ c * length = (starts start length c some).1 (omega (arith, ints, parts.0)) in
-            let high : (c + 1) * length ≤ end = (ends end length c some).1 (omega (arith, ints, parts.1)) in
-            let left : true ≡ int_le (pos start) (pos (c * length)) = omega (arith, ints, low) in
-            let right : true ≡ int_le (pos ((c + 1) * length)) (pos end) = omega (arith, ints, high) in
-            and_from _ _ (sym left) (sym right))
+    (λ h.
+    let parts = and_parts (int_le (pos start) (pos (c * length))) (int_le (pos ((c + 1) * length)) (pos end)) h in
+    let low : (start + length - 1) / length ≤ c = (starts start length c some).0 (omega (arith, ints, parts.0)) in
+    let high : c < end / length = (ends end length c some).0 (omega (arith, ints, parts.1)) in
+    let left : true ≡ int_le (pos ((start + length - 1) / length)) (pos c) = omega (arith, ints, low) in
+    let right : true ≡ int_le (pos c) (pos (end / length) -ℤ pos 1) = omega (arith, ints, high) in
+    and_from _ _ (sym left) (sym right))
+    (λ h.
+    let parts = and_parts (int_le (pos ((start + length - 1) / length)) (pos c)) (int_le (pos c) (pos (end / length) -ℤ pos 1)) h in
+    let low : start ≤ c * length = (starts start length c some).1 (omega (arith, ints, parts.0)) in
+    let high : (c + 1) * length ≤ end = (ends end length c some).1 (omega (arith, ints, parts.1)) in
+    let left : true ≡ int_le (pos start) (pos (c * length)) = omega (arith, ints, low) in
+    let right : true ≡ int_le (pos ((c + 1) * length)) (pos end) = omega (arith, ints, high) in
+    and_from _ _ (sym left) (sym right))
 between start end length (negsuc c) some = rw (before_axis start length c some) refl
 
 -- which parts lie between two ends of an axis

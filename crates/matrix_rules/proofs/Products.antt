@@ -1,5 +1,5 @@
 -- Products and powers between bounds.
-use Rattle.std.specs.Prelude.{◌≡◌, ℕ, ◌+◌, ◌*◌, ◌^◌, ◌<◌, ◌≤◌, ℤ, pos, negsuc, ◌*ℤ◌, ◌≤ℤ◌, ◌<ℤ◌, unsigned_abs, int_div, ◌/◌}
+use Rattle.std.specs.Prelude.{◌≡◌, ℕ, ◌*◌, ◌^◌, ◌<◌, ◌≤◌, ℤ, pos, negsuc, ◌*ℤ◌, ◌≤ℤ◌, unsigned_abs, int_div, ◌/◌}
 use mir.Syntax.{Width}
 use mir.Val.{hbits}
 use Rattle.std.proofs.Common.{arith, FitsSigned, ◌%◌, w64, to_z, of_z}

@@ -54,14 +54,20 @@ fn is_bound(x: i64) -> bool
 fn has_good_bounds(frame: &Frame) -> bool
     ensures { result ≡ (is_good_bound frame.now.min_x && is_good_bound frame.now.min_y && is_good_bound frame.now.max_x && is_good_bound frame.now.max_y && int_lt frame.now.min_x frame.now.max_x && int_lt frame.now.min_y frame.now.max_y) }
 {
-    let bounds = is_bound(frame.min_x) & is_bound(frame.min_y) & is_bound(frame.max_x) & is_bound(frame.max_y);
+    let bounds = is_bound(frame.min_x)
+        & is_bound(frame.min_y)
+        & is_bound(frame.max_x)
+        & is_bound(frame.max_y);
     bounds & (frame.min_x < frame.max_x) & (frame.min_y < frame.max_y)
 }
 
 fn has_good_tile(frame: &Frame) -> bool
     ensures { result ≡ (is_within (pos 1) (pos 4096) frame.now.tile_width && is_within (pos 1) (pos 4096) frame.now.tile_height) }
 {
-    1 <= frame.tile_width && frame.tile_width <= 4096 && 1 <= frame.tile_height && frame.tile_height <= 4096
+    1 <= frame.tile_width
+        && frame.tile_width <= 4096
+        && 1 <= frame.tile_height
+        && frame.tile_height <= 4096
 }
 
 /// The first zoom that the frame no longer has.
@@ -149,7 +155,19 @@ fn has_even_pixels(frame: &Frame) -> bool
     requires matrix { IsTrue (is_within (pos 1) (pos 2 *ℤ ten_to_12) frame.now.matrix_width && is_within (pos 1) (pos 2 *ℤ ten_to_12) frame.now.matrix_height) }
     ensures { result ≡ (divides (width_at frame.now (last_level frame.now) *ℤ frame.now.tile_width) (frame.now.max_x -ℤ frame.now.min_x) && divides (height_at frame.now (last_level frame.now) *ℤ frame.now.tile_height) (frame.now.max_y -ℤ frame.now.min_y)) }
 {
-    let across = is_even(frame.min_x, frame.max_x, frame.matrix_width, frame.tile_width, frame.levels);
-    let down = is_even(frame.min_y, frame.max_y, frame.matrix_height, frame.tile_height, frame.levels);
+    let across = is_even(
+        frame.min_x,
+        frame.max_x,
+        frame.matrix_width,
+        frame.tile_width,
+        frame.levels,
+    );
+    let down = is_even(
+        frame.min_y,
+        frame.max_y,
+        frame.matrix_height,
+        frame.tile_height,
+        frame.levels,
+    );
     across & down
 }

@@ -1,10 +1,9 @@
 // The ground of tiles and of rectangles, and what lies inside.
 ghost use Rattle.std.specs.Prelude.{◌≡◌, ℕ, ◌^◌, ◌+◌, ◌&&◌, ◌+ℤ◌, ◌-ℤ◌, ◌*ℤ◌, pos, negsuc, ◌≤ℤ◌, ◌<ℤ◌, int_div, IsTrue, true};
-ghost use Rattle.sheet_types.specs.Matrix.{is_good_frame, has_level, width_at, height_at, level_of, tile_span_x, tile_span_y, has_place, block_ground, ground, is_good_rect, lies_within, tile_inside, has_point, point_inside, in_frame, one_tile};
-
-use sheet_types::frame::{Frame, Ground, Rect};
+ghost use Rattle.sheet_types.specs.Matrix.{is_good_frame, has_level, width_at, height_at, level_of, tile_span_x, tile_span_y, has_place, block_ground, tile_ground, is_good_rect, lies_within, tile_inside, has_point, point_inside, in_frame, one_tile};
 
 use crate::check::tiles_at;
+use sheet_types::frame::{Frame, Ground, Rect};
 
 pub(crate) fn has_level(frame: &Frame, zoom: i64) -> bool
     requires { IsTrue (is_good_frame frame.now) }
@@ -14,7 +13,8 @@ pub(crate) fn has_level(frame: &Frame, zoom: i64) -> bool
     (frame.first_zoom <= zoom) & (zoom < end)
 }
 
-fn columns_at(frame: &Frame, zoom: i64) -> i64
+/// The columns of a zoom level.
+pub fn columns_at(frame: &Frame, zoom: i64) -> i64
     requires good { IsTrue (is_good_frame frame.now) }
     requires level { IsTrue (has_level frame.now zoom) }
     ensures { result ≡ width_at frame.now (level_of frame.now zoom) }
@@ -22,7 +22,8 @@ fn columns_at(frame: &Frame, zoom: i64) -> i64
     tiles_at(frame.matrix_width, zoom - frame.first_zoom)
 }
 
-fn rows_at(frame: &Frame, zoom: i64) -> i64
+/// The rows of a zoom level.
+pub fn rows_at(frame: &Frame, zoom: i64) -> i64
     requires good { IsTrue (is_good_frame frame.now) }
     requires level { IsTrue (has_level frame.now zoom) }
     ensures { result ≡ height_at frame.now (level_of frame.now zoom) }
@@ -67,7 +68,11 @@ pub(crate) fn column_span(frame: &Frame, zoom: i64) -> i64
     requires level { IsTrue (has_level frame.now zoom) }
     ensures { result ≡ tile_span_x frame.now zoom }
 {
-    tile_span(frame.max_x - frame.min_x, frame.tile_width, columns_at(frame, zoom))
+    tile_span(
+        frame.max_x - frame.min_x,
+        frame.tile_width,
+        columns_at(frame, zoom),
+    )
 }
 
 pub(crate) fn row_span(frame: &Frame, zoom: i64) -> i64
@@ -75,7 +80,11 @@ pub(crate) fn row_span(frame: &Frame, zoom: i64) -> i64
     requires level { IsTrue (has_level frame.now zoom) }
     ensures { result ≡ tile_span_y frame.now zoom }
 {
-    tile_span(frame.max_y - frame.min_y, frame.tile_height, rows_at(frame, zoom))
+    tile_span(
+        frame.max_y - frame.min_y,
+        frame.tile_height,
+        rows_at(frame, zoom),
+    )
 }
 
 /// The west edge of a column, and the east edge of the last where the column is one past it.
@@ -115,16 +124,26 @@ pub(crate) fn block(frame: &Frame, rect: &Rect) -> Ground
 /// The ground of a tile, or `None` where there is no such place. Row 0 is uppermost. OGC GeoPackage 1.3, tile matrix.
 pub fn ground(frame: &Frame, zoom: i64, column: i64, row: i64) -> Option<Ground>
     requires { IsTrue (is_good_frame frame.now) }
-    ensures { result ≡ ground frame.now zoom column row }
+    ensures { result ≡ tile_ground frame.now zoom column row }
 {
-    if has_place(frame, zoom, column, row) { Some(block(frame, &one_tile(zoom, column, row))) } else { None }
+    if has_place(frame, zoom, column, row) {
+        Some(block(frame, &one_tile(zoom, column, row)))
+    } else {
+        None
+    }
 }
 
 /// One tile as a rectangle.
 fn one_tile(zoom: i64, column: i64, row: i64) -> Rect
     ensures { result ≡ one_tile zoom column row }
 {
-    Rect { zoom, column, last_column: column, row, last_row: row }
+    Rect {
+        zoom,
+        column,
+        last_column: column,
+        row,
+        last_row: row,
+    }
 }
 
 /// Whether a tile of any zoom, which is a place of the frame, lies inside the rectangle, edges allowed.
@@ -134,13 +153,18 @@ pub fn tile_inside(frame: &Frame, rect: &Rect, zoom: i64, column: i64, row: i64)
     requires place { IsTrue (has_place frame.now zoom column row) }
     ensures { result ≡ tile_inside frame.now rect.now zoom column row }
 {
-    lies_within(&block(frame, rect), &block(frame, &one_tile(zoom, column, row)))
+    let outer = block(frame, rect);
+    let tile = block(frame, &one_tile(zoom, column, row));
+    lies_within(&outer, &tile)
 }
 
 fn lies_within(outer: &Ground, inner: &Ground) -> bool
     ensures { result ≡ lies_within outer.now inner.now }
 {
-    (outer.west <= inner.west) & (inner.east <= outer.east) & (outer.south <= inner.south) & (inner.north <= outer.north)
+    (outer.west <= inner.west)
+        & (inner.east <= outer.east)
+        & (outer.south <= inner.south)
+        & (inner.north <= outer.north)
 }
 
 /// Whether a point lies inside the rectangle: on its west and north edges it does, on its east and south edges it doesn't.
@@ -157,11 +181,17 @@ pub fn in_frame(frame: &Frame, x: i64, y: i64) -> bool
     requires { IsTrue (is_good_frame frame.now) }
     ensures { result ≡ in_frame frame.now x y }
 {
-    has_point(&Ground { west: frame.min_x, south: frame.min_y, east: frame.max_x, north: frame.max_y }, x, y)
+    let whole = Ground {
+        west: frame.min_x,
+        south: frame.min_y,
+        east: frame.max_x,
+        north: frame.max_y,
+    };
+    has_point(&whole, x, y)
 }
 
-fn has_point(ground: &Ground, x: i64, y: i64) -> bool
-    ensures { result ≡ has_point ground.now x y }
+fn has_point(area: &Ground, x: i64, y: i64) -> bool
+    ensures { result ≡ has_point area.now x y }
 {
-    (ground.west <= x) & (x < ground.east) & (ground.south < y) & (y <= ground.north)
+    (area.west <= x) & (x < area.east) & (area.south < y) & (y <= area.north)
 }

@@ -5,3 +5,5 @@ pub mod check;
 pub mod ground;
 pub mod reach;
 pub mod spans;
+#[cfg(test)]
+mod tests;

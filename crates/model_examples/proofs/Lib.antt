@@ -1,1 +1,4 @@
+pub mod Full
 pub mod Replies
+pub mod Soundness
+pub mod Stores

@@ -1,8 +1,8 @@
 -- What follows of the three cases of a reply.
-use Rattle.std.specs.Prelude.{◌≡◌, Option, Some, None, Result, Ok, Err, refl}
-use Rattle.std.proofs.Common.{inl, inr, ◌∙◌, ap, subst}
+use Rattle.std.specs.Prelude.{◌≡◌, Option, Some, None, Err, refl}
+use Rattle.std.proofs.Common.{inl, inr, ◌∙◌, ap}
 use Rattle.sheet_types.specs.World.{World}
-use Rattle.sheet_types.specs.Step.{outcome, outcome_by, kept_reply, refuses}
+use Rattle.sheet_types.specs.Step.{outcome_by, kept_reply, refuses}
 use Rattle.sheet_types.specs.declared.command.Request.{Request}
 use Rattle.sheet_types.specs.declared.receipt.Receipt.{Receipt}
 use Rattle.sheet_types.specs.declared.refusal.Refusal.{Refusal}

@@ -1,7 +1,12 @@
 pub mod Sheets
 pub mod Adding
+pub mod Answering
 pub mod Frames
+pub mod Ledgers
 pub mod Lending
+pub mod Opening
 pub mod Returning
 pub mod Story
 pub mod Steps
+pub mod Refusing
+pub mod Limits

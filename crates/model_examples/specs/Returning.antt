@@ -3,12 +3,13 @@ use Rattle.std.specs.Prelude.{◌≡◌, [], ◌∷◌, map, length, Some, None,
 use Rattle.sheet_types.specs.World.{World, holdings}
 use Rattle.sheet_types.specs.Step.{outcome}
 use Rattle.sheet_types.specs.declared.command.Command.{Command}
-use Rattle.sheet_types.specs.declared.command.Command.TheVariants.{Add, Delete, Link, Split, Merge}
+use Rattle.sheet_types.specs.declared.command.Command.TheVariants.{Add, Delete, Link, Unlink, Split, Merge}
 use Rattle.sheet_types.specs.declared.command.Mapping.TheVariants.{TilesMedia}
 use Rattle.sheet_types.specs.declared.command.Mode.TheVariants.{Strict}
 use Rattle.sheet_types.specs.declared.command.Request.{Request}
 use Rattle.sheet_types.specs.declared.frame.Rect.{Rect}
 use Rattle.sheet_types.specs.declared.refusal.Refusal.TheVariants.{IdReused, UnknownPackage, PackageUsed, TooDeep, Foreign, Stale, Collides}
+use Rattle.model_examples.specs.Story.{kept_as, archive_with, crew_with, world_with}
 use Rattle.model_examples.specs.Sheets.{new_archive, after_all, ask, ask_at, noon, archive, crew, second_crew, third_crew, item, tile, tile_of, picture, block, quarter, tile_link, replied, answer, held, links_held}
 
 -- ---- there and back: of two tiles of two bytes, over the upper row of the sheet and over its left column
@@ -135,3 +136,19 @@ RefusedReturns = (answer two_loans (ask 6 (Merge crew archive (pos 3))) ≡ Err 
     × (answer two_loans (ask 6 (Merge archive crew (pos 3))) ≡ Err Foreign)
     × (answer two_loans (ask 6 (Split crew third_crew Strict quarter)) ≡ Err TooDeep)
     × (answer two_loans (ask 6 (Split archive second_crew Strict quarter)) ≡ Err PackageUsed)
+
+-- ---- what comes back takes its place among what stayed
+
+abbrev interleaved : World
+interleaved = world_with (
+    archive_with (kept_as 2 (tile 1 0 0) ∷ kept_as 4 (tile 1 1 0) ∷ kept_as 6 picture ∷ []) (tile_link 2 6 ∷ tile_link 4 6 ∷ []) []
+    ∷ crew_with (kept_as 3 (tile 1 0 1) ∷ kept_as 5 (tile 1 1 1) ∷ kept_as 7 picture ∷ []) (tile_link 3 7 ∷ tile_link 5 7 ∷ []) [] ∷ []
+    )
+
+abbrev pub InPlace : Type 0
+InPlace = (held (outcome interleaved (ask 1 (Merge crew archive (pos 0)))).1 archive ≡ item 2 ∷ item 3 ∷ item 4 ∷ item 5 ∷ item 6 ∷ item 7 ∷ [])
+    × (links_held (outcome interleaved (ask 1 (Merge crew archive (pos 0)))).1 archive ≡ tile_link 2 6 ∷ tile_link 3 7 ∷ tile_link 4 6 ∷ tile_link 5 7 ∷ [])
+    -- of two links of a tile one is taken out
+    × (links_held (outcome interleaved (ask 1 (Unlink archive TilesMedia (item 2) (item 6)))).1 archive ≡ tile_link 4 6 ∷ [])
+    -- a loan takes its place among the packages
+    × (map (λ p. p.uuid) (outcome interleaved (ask 1 (Split archive (item 1) Strict (block 0 0 0 0 0)))).1.packages ≡ item 1 ∷ archive ∷ crew ∷ [])

@@ -1,5 +1,5 @@
 -- A step of the register, and a run of steps.
-use Rattle.std.specs.Prelude.{◌≡◌, List, [], ◌∷◌, Result, Some, Ok, Err, pos}
+use Rattle.std.specs.Prelude.{◌≡◌, [], ◌∷◌, Result, Some, Ok, Err}
 use Rattle.sheet_types.specs.World.{World}
 use Rattle.sheet_types.specs.Step.{outcome, kept_reply, Step, Run}
 use Rattle.sheet_types.specs.declared.command.Command.TheVariants.{Add, Split}
@@ -9,7 +9,7 @@ use Rattle.sheet_types.specs.declared.receipt.Receipt.{Receipt}
 use Rattle.sheet_types.specs.declared.refusal.Refusal.{Refusal}
 use Rattle.sheet_types.specs.declared.refusal.Refusal.TheVariants.{NothingToLend, OutOfMemory, StoreFault}
 use Rattle.model_examples.specs.Sheets.{ask, archive, second_crew, item, block}
-use Rattle.model_examples.specs.Story.{gate, receipt_1, world_0, world_1, world_4}
+use Rattle.model_examples.specs.Story.{gate, receipt_1, world_0, world_1}
 
 -- whatever is refused, the world stays
 abbrev pub RefusedChangesNothing : Type 0

@@ -2,8 +2,13 @@
 #![tactic(auto)]
 
 pub mod adding;
+pub mod answering;
 pub mod frames;
+pub mod ledgers;
 pub mod lending;
+pub mod limits;
+pub mod opening;
+pub mod refusing;
 pub mod returning;
 pub mod steps;
 pub mod story;

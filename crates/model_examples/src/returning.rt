@@ -1,5 +1,5 @@
 // What comes back by a merge, what may come twice, and what is gone.
-ghost use Rattle.model_examples.specs.Returning.{ThereAndBack, ColumnThereAndBack, CrossedLinks, ContentsAndLinks, CollisionOnReturn, ColumnCollision, SplitThatComesTwice, KeptAfterMerge, RefusedReturns};
+ghost use Rattle.model_examples.specs.Returning.{ThereAndBack, ColumnThereAndBack, CrossedLinks, ContentsAndLinks, CollisionOnReturn, ColumnCollision, SplitThatComesTwice, KeptAfterMerge, RefusedReturns, InPlace};
 
 /// Two tiles are lent and brought back, their bytes as before.
 pub fn there_and_back()
@@ -44,4 +44,9 @@ pub fn kept_after_merge()
 /// Merges and splits that are refused, each for one reason.
 pub fn refused_returns()
     ensures { RefusedReturns }
+{}
+
+/// What comes back, and what is taken out, leaves all in its order.
+pub fn in_place()
+    ensures { InPlace }
 {}

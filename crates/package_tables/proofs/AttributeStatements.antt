@@ -1,26 +1,26 @@
 -- The statements on `sheet_rows`. Written by tools/statements.py.
-use Rattle.std.proofs.Common.{◌≡◌, ℕ, ℤ, List, [], ◌∷◌, Bool, true, codes, refl}
-use Rattle.std.specs.Prelude.{◌&&◌, bytes_eq}
-use Rattle.std.specs.Ordering.{int_eq}
+use Rattle.std.proofs.Common.{ℕ, ℤ, List, [], ◌∷◌, true, codes, refl}
+use Rattle.std.specs.Ordering.{int_eq, int_cmp, on}
+use Rattle.std.proofs.lemmas.Cmp.{on_total, int_cmp_total}
 use Rattle.sqlite.specs.Order.{Row}
 use Rattle.sqlite.specs.Term.{col}
-use Rattle.sqlite.specs.Edit.{next_rowid}
-use Rattle.sqlite.specs.declared.types.Value.TheVariants.{Int, Null, Text, Blob}
+use Rattle.sqlite.specs.declared.types.Value.TheVariants.{Int, Null, Text}
 use Rattle.sqlite_tied.specs.Compute.{everything}
 use Rattle.sql_meaning.specs.Resolving.{resolving}
-use Rattle.sql_meaning.specs.Reading.{always, equals, both, ascending, descending}
+use Rattle.sql_meaning.specs.Reading.{always, equals, ascending, descending}
 use Rattle.sql_meaning.proofs.Insert.{IsInsert, IsRow}
 use Rattle.sql_meaning.proofs.Delete.{IsDelete, IsPlannedDelete}
 use Rattle.sql_meaning.proofs.Resolve.{one_table, one_source}
 use Rattle.sql_meaning.proofs.Select.{IsSelect, IsPlannedSelect}
 use Rattle.sql_meaning.proofs.First.{IsFirst, IsPlannedFirst}
 use Rattle.package_tables.specs.Tables.{sheet_rows}
-use Rattle.package_tables.specs.Shapes.{attribute_shape, int_at, text_at, blob_at}
+use Rattle.package_tables.specs.Shapes.{attribute_shape, int_at, text_at}
 use Rattle.package_tables.specs.Shown.{attribute_shown}
 use Rattle.package_tables.specs.declared.rows.AttributeRow.{AttributeRow}
-use Rattle.package_tables.proofs.Looking.{IsKnown, IsRead}
+use Rattle.package_tables.proofs.Looking.{IsKnown, IsRead, IsRanked}
 use Rattle.package_tables.proofs.Newest.{IsNewest}
-use Rattle.package_tables.proofs.Values.{same_number, same_text, both_same}
+use Rattle.package_tables.proofs.Ranking.{one_number}
+use Rattle.package_tables.proofs.Values.{same_number}
 use Rattle.package_tables.proofs.Written.{attribute_shape_is}
 
 pub insert_text : (tree : ℕ) → IsInsert (codes "INSERT INTO sheet_rows VALUES (?1, ?2, ?3, ?4, ?5)") (sheet_rows tree)
@@ -91,6 +91,10 @@ all_plan tree schema at h = rw (h.stored, h.by_tree) refl
 
 pub all : IsRead attribute_shape attribute_shown (codes "SELECT * FROM sheet_rows ORDER BY id") [] (λ x. true)
 all = record { test = _; by = _; selects = all_text; planned = all_plan; given = refl; listing = _; is = λ tree. refl; shows = λ v x. refl; passing = λ v x. refl }
+
+pub all_ranked : IsRanked all (on (λ x. x.id) int_cmp)
+unfolding all
+all_ranked = record { keys = λ x. Int x.id ∷ []; keyed = λ v x. refl; total = (on_total (λ x. x.id) int_cmp_total); alike = λ x y. one_number x.id y.id }
 
 newest_text : (tree : ℕ) → IsFirst (codes "SELECT * FROM sheet_rows ORDER BY id DESC LIMIT 1") (sheet_rows tree) always ((col 1 0, descending) ∷ [])
 unfolding everything

@@ -1,7 +1,7 @@
 -- What an UPDATE of one row makes of a table's values.
-use Rattle.std.proofs.Common.{◌≡◌, ℕ, ℤ, ◌≤◌, List, [], ◌∷◌, map, length, Bool, true, false, cond, refl, sym, ap, subst, ◌∙◌, Less, arith}
+use Rattle.std.proofs.Common.{◌≡◌, ℕ, ◌≤◌, List, [], ◌∷◌, map, length, Bool, true, false, cond, refl, sym, ap, subst, ◌∙◌, Less, arith}
 use Rattle.std.proofs.lemmas.List.{length-map}
-use Rattle.std.specs.Prelude.{not, ◌&&◌, filter, bytes_eq, if◌then◌else◌}
+use Rattle.std.specs.Prelude.{◌&&◌, filter, bytes_eq, if◌then◌else◌}
 use Rattle.std.specs.List.{AllByRecursion}
 use Rattle.std.proofs.lemmas.Bool.{true≢false, false≢true}
 use Rattle.std.proofs.lemmas.Slice.Eq.{bytes_eq-Decides}
@@ -17,7 +17,7 @@ use Rattle.sheet_types.specs.Ordered.{is_before, arranged, put, IsArranged}
 use Rattle.sheet_types.proofs.Basics.{before-differs}
 use Rattle.sql_meaning.specs.Known.{HasTable, IsQuiet}
 use Rattle.sql_meaning.specs.Kinds.{has_kinds}
-use Rattle.sql_meaning.specs.Writing.{Updates, Updated, Spares, IsKeyed}
+use Rattle.sql_meaning.specs.Writing.{Updates, Spares, IsKeyed}
 use Rattle.package_tables.specs.Shape.{Shape, IsShape, IsFormed, IsStored, stored_rows, rows_of}
 use Rattle.package_tables.specs.Package.{Tables, tables_of, AreFormed}
 use Rattle.package_tables.proofs.Shapes.{rows_placed, arranged-filter}

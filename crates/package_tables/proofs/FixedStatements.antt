@@ -1,5 +1,5 @@
 -- The statements on `gpkg_spatial_ref_sys`, `gpkg_contents`, `gpkg_tile_matrix_set`, `gpkg_tile_matrix`, `gpkgext_relations`.
-use Rattle.std.proofs.Common.{ℕ, ℤ, List, [], ◌∷◌, codes, refl}
+use Rattle.std.proofs.Common.{ℕ, List, [], ◌∷◌, codes, refl}
 use Rattle.sqlite.specs.Order.{Row}
 use Rattle.sqlite.specs.Edit.{next_rowid}
 use Rattle.sqlite.specs.declared.types.Value.TheVariants.{Int, Null, Text}
@@ -21,6 +21,17 @@ use Rattle.package_tables.specs.declared.rows.ContentsRow.{ContentsRow}
 use Rattle.package_tables.specs.declared.rows.TileMatrixSetRow.{TileMatrixSetRow}
 use Rattle.package_tables.specs.declared.rows.TileMatrixRow.{TileMatrixRow}
 use Rattle.package_tables.specs.declared.rows.RelationRow.{RelationRow}
+use Rattle.sql_meaning.specs.Reading.{always, ascending}
+use Rattle.sql_meaning.proofs.Resolve.{one_table}
+use Rattle.sql_meaning.proofs.Select.{IsSelect, IsPlannedSelect}
+use Rattle.package_tables.specs.Shapes.{int_at, text_at}
+use Rattle.package_tables.specs.Shown.{spatial_ref_sys_shown, contents_shown, tile_matrix_set_shown, tile_matrix_shown, relation_shown}
+use Rattle.package_tables.proofs.Looking.{IsKnown, IsRead}
+use Rattle.package_tables.proofs.Written.{spatial_ref_sys_shape_is, contents_shape_is, tile_matrix_set_shape_is, tile_matrix_shape_is, relation_shape_is}
+use Rattle.std.specs.Ordering.{on, int_cmp}
+use Rattle.std.proofs.lemmas.Cmp.{on_total, int_cmp_total}
+use Rattle.package_tables.proofs.Looking.{IsRanked}
+use Rattle.package_tables.proofs.Ranking.{one_number}
 
 pub spatial_ref_sys_insert_text : (tree : ℕ) → IsInsert (codes "INSERT INTO gpkg_spatial_ref_sys VALUES (?1, ?2, ?3, ?4, ?5, ?6)") (gpkg_spatial_ref_sys tree)
 unfolding everything
@@ -75,3 +86,155 @@ contents_kinds tree Null c h = absurd cc
 contents_kinds tree (Real x) c h = absurd cc
 contents_kinds tree (Text t) c h = absurd cc
 contents_kinds tree (Blob b) c h = absurd cc
+
+pub spatial_ref_sys_known : IsKnown spatial_ref_sys_shape (λ t. t.spatial_ref_sys) spatial_ref_sys_shown
+spatial_ref_sys_known = record { laws = spatial_ref_sys_shape_is; formed = λ db f. f.spatial_ref_sys; lists = λ db. refl; back = λ r. record { srs_name = text_at r 0; srs_id = int_at r 1; organization = text_at r 2; organization_coordsys_id = int_at r 3; definition = text_at r 4; description = text_at r 5 }; returns = λ x. refl }
+
+all_spatial_ref_sys_text : (tree : ℕ) → IsSelect (codes "SELECT * FROM gpkg_spatial_ref_sys ORDER BY srs_id") (gpkg_spatial_ref_sys tree) always ((col 1 0, ascending) ∷ [])
+unfolding everything
+all_spatial_ref_sys_text tree = record {
+  parse = _;
+  asks = _;
+  src = _;
+  item = _;
+  parsed = refl;
+  statement = refl;
+  formats = refl;
+  one = one_table refl refl refl refl refl refl refl refl refl refl refl refl refl refl refl;
+  condition = refl;
+  enough = refl;
+  few = λ at. refl;
+  some = λ at. refl;
+  sorted = λ schema at. (_, refl, refl);
+}
+
+all_spatial_ref_sys_plan : (tree : ℕ) → IsPlannedSelect (gpkg_spatial_ref_sys tree) always ((col 1 0, ascending) ∷ [])
+unfolding resolving
+all_spatial_ref_sys_plan tree schema at h = rw (h.stored, h.by_tree) refl
+
+pub all_spatial_ref_sys : IsRead spatial_ref_sys_shape spatial_ref_sys_shown (codes "SELECT * FROM gpkg_spatial_ref_sys ORDER BY srs_id") [] (λ x. true)
+all_spatial_ref_sys = record { test = _; by = _; selects = all_spatial_ref_sys_text; planned = all_spatial_ref_sys_plan; given = refl; listing = _; is = λ tree. refl; shows = λ v x. refl; passing = λ v x. refl }
+
+pub contents_known : IsKnown contents_shape (λ t. t.contents) contents_shown
+contents_known = record { laws = contents_shape_is; formed = λ db f. f.contents; lists = λ db. refl; back = λ r. record { table_name = text_at r 0; data_type = text_at r 1; identifier = text_at r 2; description = text_at r 3; last_change = text_at r 4; min_x = int_at r 5; min_y = int_at r 6; max_x = int_at r 7; max_y = int_at r 8; srs_id = int_at r 9 }; returns = λ x. refl }
+
+all_contents_text : (tree : ℕ) → IsSelect (codes "SELECT * FROM gpkg_contents ORDER BY table_name") (gpkg_contents tree) always ((col 1 1, ascending) ∷ [])
+unfolding everything
+all_contents_text tree = record {
+  parse = _;
+  asks = _;
+  src = _;
+  item = _;
+  parsed = refl;
+  statement = refl;
+  formats = refl;
+  one = one_table refl refl refl refl refl refl refl refl refl refl refl refl refl refl refl;
+  condition = refl;
+  enough = refl;
+  few = λ at. refl;
+  some = λ at. refl;
+  sorted = λ schema at. (_, refl, refl);
+}
+
+all_contents_plan : (tree : ℕ) → IsPlannedSelect (gpkg_contents tree) always ((col 1 1, ascending) ∷ [])
+unfolding resolving
+all_contents_plan tree schema at h = rw (h.stored, h.by_tree) refl
+
+pub all_contents : IsRead contents_shape contents_shown (codes "SELECT * FROM gpkg_contents ORDER BY table_name") [] (λ x. true)
+all_contents = record { test = _; by = _; selects = all_contents_text; planned = all_contents_plan; given = refl; listing = _; is = λ tree. refl; shows = λ v x. refl; passing = λ v x. refl }
+
+pub tile_matrix_set_known : IsKnown tile_matrix_set_shape (λ t. t.tile_matrix_set) tile_matrix_set_shown
+tile_matrix_set_known = record { laws = tile_matrix_set_shape_is; formed = λ db f. f.tile_matrix_set; lists = λ db. refl; back = λ r. record { table_name = text_at r 0; srs_id = int_at r 1; min_x = int_at r 2; min_y = int_at r 3; max_x = int_at r 4; max_y = int_at r 5 }; returns = λ x. refl }
+
+all_tile_matrix_sets_text : (tree : ℕ) → IsSelect (codes "SELECT * FROM gpkg_tile_matrix_set ORDER BY table_name") (gpkg_tile_matrix_set tree) always ((col 1 1, ascending) ∷ [])
+unfolding everything
+all_tile_matrix_sets_text tree = record {
+  parse = _;
+  asks = _;
+  src = _;
+  item = _;
+  parsed = refl;
+  statement = refl;
+  formats = refl;
+  one = one_table refl refl refl refl refl refl refl refl refl refl refl refl refl refl refl;
+  condition = refl;
+  enough = refl;
+  few = λ at. refl;
+  some = λ at. refl;
+  sorted = λ schema at. (_, refl, refl);
+}
+
+all_tile_matrix_sets_plan : (tree : ℕ) → IsPlannedSelect (gpkg_tile_matrix_set tree) always ((col 1 1, ascending) ∷ [])
+unfolding resolving
+all_tile_matrix_sets_plan tree schema at h = rw (h.stored, h.by_tree) refl
+
+pub all_tile_matrix_sets : IsRead tile_matrix_set_shape tile_matrix_set_shown (codes "SELECT * FROM gpkg_tile_matrix_set ORDER BY table_name") [] (λ x. true)
+all_tile_matrix_sets = record { test = _; by = _; selects = all_tile_matrix_sets_text; planned = all_tile_matrix_sets_plan; given = refl; listing = _; is = λ tree. refl; shows = λ v x. refl; passing = λ v x. refl }
+
+pub tile_matrix_known : IsKnown tile_matrix_shape (λ t. t.tile_matrix) tile_matrix_shown
+tile_matrix_known = record { laws = tile_matrix_shape_is; formed = λ db f. f.tile_matrix; lists = λ db. refl; back = λ r. record { table_name = text_at r 0; zoom_level = int_at r 1; matrix_width = int_at r 2; matrix_height = int_at r 3; tile_width = int_at r 4; tile_height = int_at r 5; pixel_x_size = int_at r 6; pixel_y_size = int_at r 7 }; returns = λ x. refl }
+
+all_tile_matrices_text : (tree : ℕ) → IsSelect (codes "SELECT * FROM gpkg_tile_matrix ORDER BY zoom_level") (gpkg_tile_matrix tree) always ((col 1 2, ascending) ∷ [])
+unfolding everything
+all_tile_matrices_text tree = record {
+  parse = _;
+  asks = _;
+  src = _;
+  item = _;
+  parsed = refl;
+  statement = refl;
+  formats = refl;
+  one = one_table refl refl refl refl refl refl refl refl refl refl refl refl refl refl refl;
+  condition = refl;
+  enough = refl;
+  few = λ at. refl;
+  some = λ at. refl;
+  sorted = λ schema at. (_, refl, refl);
+}
+
+all_tile_matrices_plan : (tree : ℕ) → IsPlannedSelect (gpkg_tile_matrix tree) always ((col 1 2, ascending) ∷ [])
+unfolding resolving
+all_tile_matrices_plan tree schema at h = rw (h.stored, h.by_tree) refl
+
+pub all_tile_matrices : IsRead tile_matrix_shape tile_matrix_shown (codes "SELECT * FROM gpkg_tile_matrix ORDER BY zoom_level") [] (λ x. true)
+all_tile_matrices = record { test = _; by = _; selects = all_tile_matrices_text; planned = all_tile_matrices_plan; given = refl; listing = _; is = λ tree. refl; shows = λ v x. refl; passing = λ v x. refl }
+
+pub relations_known : IsKnown relation_shape (λ t. t.relations) relation_shown
+relations_known = record { laws = relation_shape_is; formed = λ db f. f.relations; lists = λ db. refl; back = λ r. record { id = int_at r 0; base_table_name = text_at r 1; base_primary_column = text_at r 2; related_table_name = text_at r 3; related_primary_column = text_at r 4; relation_name = text_at r 5; mapping_table_name = text_at r 6 }; returns = λ x. refl }
+
+all_relations_text : (tree : ℕ) → IsSelect (codes "SELECT * FROM gpkgext_relations ORDER BY id") (gpkgext_relations tree) always ((col 1 0, ascending) ∷ [])
+unfolding everything
+all_relations_text tree = record {
+  parse = _;
+  asks = _;
+  src = _;
+  item = _;
+  parsed = refl;
+  statement = refl;
+  formats = refl;
+  one = one_table refl refl refl refl refl refl refl refl refl refl refl refl refl refl refl;
+  condition = refl;
+  enough = refl;
+  few = λ at. refl;
+  some = λ at. refl;
+  sorted = λ schema at. (_, refl, refl);
+}
+
+all_relations_plan : (tree : ℕ) → IsPlannedSelect (gpkgext_relations tree) always ((col 1 0, ascending) ∷ [])
+unfolding resolving
+all_relations_plan tree schema at h = rw (h.stored, h.by_tree) refl
+
+pub all_relations : IsRead relation_shape relation_shown (codes "SELECT * FROM gpkgext_relations ORDER BY id") [] (λ x. true)
+all_relations = record { test = _; by = _; selects = all_relations_text; planned = all_relations_plan; given = refl; listing = _; is = λ tree. refl; shows = λ v x. refl; passing = λ v x. refl }
+
+pub all_spatial_ref_sys_ranked : IsRanked all_spatial_ref_sys (on (λ x. x.srs_id) int_cmp)
+unfolding all_spatial_ref_sys
+all_spatial_ref_sys_ranked = record { keys = λ x. Int x.srs_id ∷ []; keyed = λ v x. refl; total = (on_total (λ x. x.srs_id) int_cmp_total); alike = λ x y. one_number x.srs_id y.srs_id }
+
+pub all_tile_matrices_ranked : IsRanked all_tile_matrices (on (λ x. x.zoom_level) int_cmp)
+unfolding all_tile_matrices
+all_tile_matrices_ranked = record { keys = λ x. Int x.zoom_level ∷ []; keyed = λ v x. refl; total = (on_total (λ x. x.zoom_level) int_cmp_total); alike = λ x y. one_number x.zoom_level y.zoom_level }
+
+pub all_relations_ranked : IsRanked all_relations (on (λ x. x.id) int_cmp)
+unfolding all_relations
+all_relations_ranked = record { keys = λ x. Int x.id ∷ []; keyed = λ v x. refl; total = (on_total (λ x. x.id) int_cmp_total); alike = λ x y. one_number x.id y.id }

@@ -1,25 +1,25 @@
 -- The statements on `sheet_identity`. Written by tools/statements.py.
-use Rattle.std.proofs.Common.{◌≡◌, ℕ, ℤ, List, [], ◌∷◌, Bool, true, codes, refl}
+use Rattle.std.proofs.Common.{ℕ, ℤ, List, [], ◌∷◌, true, codes, refl}
 use Rattle.std.specs.Prelude.{◌&&◌, bytes_eq}
-use Rattle.std.specs.Ordering.{int_eq}
+use Rattle.std.specs.Ordering.{int_eq, int_cmp, on, then_cmp}
+use Rattle.std.proofs.lemmas.Cmp.{on_total, then_total, int_cmp_total}
 use Rattle.sqlite.specs.Order.{Row}
 use Rattle.sqlite.specs.Term.{col}
 use Rattle.sqlite.specs.Edit.{next_rowid}
-use Rattle.sqlite.specs.declared.types.Value.TheVariants.{Int, Null, Text, Blob}
+use Rattle.sqlite.specs.declared.types.Value.TheVariants.{Int, Text}
 use Rattle.sqlite_tied.specs.Compute.{everything}
 use Rattle.sql_meaning.specs.Resolving.{resolving}
-use Rattle.sql_meaning.specs.Reading.{always, equals, both, ascending, descending}
+use Rattle.sql_meaning.specs.Reading.{always, equals, both, ascending}
 use Rattle.sql_meaning.proofs.Insert.{IsInsert, IsRow}
 use Rattle.sql_meaning.proofs.Delete.{IsDelete, IsPlannedDelete}
-use Rattle.sql_meaning.proofs.Resolve.{one_table, one_source}
+use Rattle.sql_meaning.proofs.Resolve.{one_table}
 use Rattle.sql_meaning.proofs.Select.{IsSelect, IsPlannedSelect}
-use Rattle.sql_meaning.proofs.First.{IsFirst, IsPlannedFirst}
 use Rattle.package_tables.specs.Tables.{sheet_identity}
-use Rattle.package_tables.specs.Shapes.{identity_shape, int_at, text_at, blob_at}
+use Rattle.package_tables.specs.Shapes.{identity_shape, int_at, text_at}
 use Rattle.package_tables.specs.Shown.{identity_shown}
 use Rattle.package_tables.specs.declared.rows.IdentityRow.{IdentityRow}
-use Rattle.package_tables.proofs.Looking.{IsKnown, IsRead}
-use Rattle.package_tables.proofs.Newest.{IsNewest}
+use Rattle.package_tables.proofs.Looking.{IsKnown, IsRead, IsRanked}
+use Rattle.package_tables.proofs.Ranking.{two_numbers}
 use Rattle.package_tables.proofs.Values.{same_number, same_text, both_same}
 use Rattle.package_tables.proofs.Written.{identity_shape_is}
 
@@ -116,3 +116,7 @@ all_plan tree schema at h = rw (h.stored, h.by_tree) refl
 
 pub all : IsRead identity_shape identity_shown (codes "SELECT * FROM sheet_identity ORDER BY kind, local_id") [] (λ x. true)
 all = record { test = _; by = _; selects = all_text; planned = all_plan; given = refl; listing = _; is = λ tree. refl; shows = λ v x. refl; passing = λ v x. refl }
+
+pub all_ranked : IsRanked all (then_cmp (on (λ x. x.kind) int_cmp) (on (λ x. x.local_id) int_cmp))
+unfolding all
+all_ranked = record { keys = λ x. Int x.kind ∷ Int x.local_id ∷ []; keyed = λ v x. refl; total = then_total (on_total (λ x. x.kind) int_cmp_total) (on_total (λ x. x.local_id) int_cmp_total); alike = λ x y. two_numbers x.kind y.kind x.local_id y.local_id }

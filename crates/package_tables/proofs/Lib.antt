@@ -2,6 +2,7 @@ pub mod Shapes
 pub mod Written
 pub mod Making
 pub mod Reading
+pub mod Ranking
 pub mod Looking
 pub mod Newest
 pub mod Values
@@ -20,3 +21,10 @@ pub mod SchemaMakes
 pub mod Texts
 pub mod NewPackage
 pub mod Stepping
+pub mod InTurn
+pub mod FixedRows
+pub mod Creating
+pub mod Columns
+pub mod NewestOf
+pub mod Ranked
+pub mod FixedKept

@@ -1,9 +1,10 @@
 -- From the clauses of `query_all` to what a look-up answers of the tables, inside a transaction and at rest.
-use Rattle.std.proofs.Common.{◌≡◌, ◌⊎◌, inl, inr, ℕ, List, [], ◌∷◌, map, Bool, true, false, Option, Some, None, Result, Ok, Err, IsTrue, refl, sym, ap, subst, ◌∙◌}
-use Rattle.std.specs.Prelude.{slice_get, filter, MatchOption, IfOk, IfErr, IsOkAnd, OnErr}
+use Rattle.std.proofs.Common.{◌≡◌, ◌⊎◌, inl, inr, Ordering, ℕ, ℤ, List, [], ◌∷◌, map, Bool, true, false, Option, Some, Result, Ok, Err, IsTrue, refl, sym, ap, subst}
+use Rattle.std.specs.Prelude.{slice_get, filter, MatchOption, IfOk, IfErr, IsOkAnd, IsPermutation}
+use Rattle.std.specs.Cmp.{IsTotalOrder}
+use Rattle.sqlite.specs.Query.{key_cmp}
 use Rattle.sqlite.specs.Order.{Row}
 use Rattle.sqlite.specs.Term.{Term}
-use Rattle.sqlite.specs.Tree.{Trees}
 use Rattle.sqlite.specs.Store.{Ghosts}
 use Rattle.sqlite.specs.Effect.{Database}
 use Rattle.sqlite.specs.Held.{Held, state}
@@ -13,16 +14,21 @@ use Rattle.sqlite.specs.State.{State, HasCleanDisk, IsUnchanged, IsRolledBack, S
 use Rattle.sqlite_value.specs.declared.keys.Key.{Key}
 use Rattle.sql_meaning.specs.Known.{HasTable}
 use Rattle.sql_meaning.specs.Reading.{Test, Listing, IsListing, Finds}
-use Rattle.sql_meaning.specs.Transactions.{Rests, Looks}
+use Rattle.sql_meaning.specs.Transactions.{Rests}
 use Rattle.sql_meaning.proofs.Where.{are_given}
 use Rattle.sql_meaning.proofs.Select.{IsSelect, IsPlannedSelect, listing_of, listed}
 use Rattle.sql_meaning.proofs.Answering.{shown_unchanged, failed_unchanged, found_looks}
 use Rattle.sql_meaning.proofs.Transactions.{Shuts, Settles}
 use Rattle.package_tables.specs.Shape.{Shape, IsShape, IsFormed, rows_of}
 use Rattle.package_tables.specs.Package.{Tables, tables_of, AreFormed}
-use Rattle.package_tables.specs.Calls.{TellsInside, Tells, Answers, LooksUp, IsOneOf, AreThose}
+use Rattle.package_tables.specs.Calls.{TellsInside, Tells, Answers, LooksUp, IsOneOf, AreThose, AreAll, Rises}
 use Rattle.package_tables.specs.declared.fault.Fault.{Fault}
 use Rattle.package_tables.proofs.Reading.{those, one_of}
+use Rattle.package_tables.proofs.Ranking.{in_order}
+
+filter_every : {R : Type 0} {keeps : R → Bool} → ((x : R) → keeps x ≡ true) → (xs : List R) → filter keeps xs ≡ xs
+filter_every every [] = refl
+filter_every every (x ∷ xs) = rw (every x) (ap (λ k. x ∷ k) (filter_every every xs))
 
 -- the table is one of the fourteen, and a SELECT * shows its values so
 pub record IsKnown {R : Type 0} (shape : Shape R) (list : Tables → List R) (shown : R → Row) : Type 0 where
@@ -43,6 +49,13 @@ pub record IsRead {R : Type 0} (shape : Shape R) (shown : R → Row) (text : Lis
   pub is : (tree : ℕ) → listing_of (shape.table tree) test by params ≡ listing
   pub shows : (v : Value) (x : R) → listing.shown (shape.stored v x) ≡ shown x
   pub passing : (v : Value) (x : R) → listing.keeps (shape.stored v x) ≡ keeps x
+
+-- the rows come by these keys, which order the values so
+pub record IsRanked {R : Type 0} {shape : Shape R} {shown : R → Row} {text : List ℕ} {params : Row} {keeps : R → Bool} (read : IsRead shape shown text params keeps) (cmp : R → R → Ordering) : Type 0 where
+  pub keys : R → Row
+  pub keyed : (v : Value) (x : R) → read.listing.key (shape.stored v x) ≡ keys x
+  pub total : IsTotalOrder cmp
+  pub alike : (x y : R) → key_cmp 0 read.listing.by (keys x) (keys y) ≡ cmp x y
 
 -- the rows of an answer, as a function reads them, say this
 abbrev pub AreSaid : {X Y F : Type 0} → (Y → List Row) → (List Row → X → Type 0) → Result Y Error → Result X F → Type 0
@@ -133,5 +146,23 @@ module _ {R : Type 0} {shape : Shape R} {list : Tables → List R} {shown : R �
       pub looks_one : (result : Result (Option R) Fault) → AreSaid items (HasHead shown) answer result → LooksUp (λ t. IsOneOf keeps (list t)) (state g old) (state g new) result
       looks_one result said = answers (HasHead shown) (λ t. IsOneOf keeps (list t)) first_means result said
 
+      -- every row, in order
+      pub looks_in_order : {X : Type 0} (every : (x : R) → keeps x ≡ true) {cmp : R → R → Ordering} (ranked : IsRanked read cmp) (of : X → List R) (result : Result X Fault) → AreSaid items (λ rows x. AreShown shown rows (of x)) answer result
+          → LooksUp (λ t x. AreAll cmp (list t) (of x)) (state g old) (state g new) result
+      looks_in_order every {cmp} ranked of result said =
+          answers (λ rows x. AreShown shown rows (of x)) (λ t x. AreAll cmp (list t) (of x))
+          (λ db formed rows listing x are. (
+            subst (λ k. IsPermutation k (of x)) (filter_every every (list (tables_of db))) (all_mean db formed rows listing (of x) are),
+            in_order shape known.laws shown known.back known.returns read.listing read.shows ranked.keys ranked.keyed cmp ranked.total ranked.alike db (known.formed db formed) rows listing (of x) are,
+          ))
+          result said
+
       pub looks_all : {X : Type 0} (of : X → List R) (result : Result X Fault) → AreSaid items (λ rows x. AreShown shown rows (of x)) answer result → LooksUp (λ t x. AreThose keeps (list t) (of x)) (state g old) (state g new) result
       looks_all of result said = answers (λ rows x. AreShown shown rows (of x)) (λ t x. AreThose keeps (list t) (of x)) (λ db formed rows listing x are. all_mean db formed rows listing (of x) are) result said
+
+      -- all rows that pass, in the order of a number
+      pub looks_ranked : {X : Type 0} (of : X → List R) (number : R → ℤ) → ((there rows : List Row) → IsListing read.listing.key read.listing.shown read.listing.by there rows → (xs : List R) → AreShown shown rows xs → Rises number xs)
+          → (result : Result X Fault) → AreSaid items (λ rows x. AreShown shown rows (of x)) answer result → LooksUp (λ t x. AreThose keeps (list t) (of x) × Rises number (of x)) (state g old) (state g new) result
+      looks_ranked of number rank result said =
+          answers (λ rows x. AreShown shown rows (of x)) (λ t x. AreThose keeps (list t) (of x) × Rises number (of x))
+          (λ db formed rows listing x are. let p = (known.formed db formed).placed in (all_mean db formed rows listing (of x) are, rank (filter read.listing.keeps (db.trees (shape.table p.tree).tree)) rows (listing p.at p.tree p.has) (of x) are)) result said

@@ -1,7 +1,6 @@
 -- From what a statement makes of a database to what a call makes of the tables.
-use Rattle.std.proofs.Common.{◌≡◌, ℕ, ℤ, List, Bool, true, false, Result, Ok, Err, sym, ap, subst, ◌∙◌}
-use Rattle.std.specs.Prelude.{not, filter, IsOk, IsErr, MatchResult}
-use Rattle.sqlite.specs.Table.{Table}
+use Rattle.std.proofs.Common.{◌≡◌, ℕ, List, Bool, true, false, Result, Ok, Err, ap, ◌∙◌}
+use Rattle.std.specs.Prelude.{not, filter, IsOk, MatchResult}
 use Rattle.sqlite.specs.Order.{Row}
 use Rattle.sqlite.specs.Effect.{Database}
 use Rattle.sqlite.specs.declared.error.Error.{Error}
@@ -9,7 +8,6 @@ use Rattle.sqlite.specs.declared.types.Value.{Value}
 use Rattle.sqlite.specs.State.{State}
 use Rattle.sqlite_trees.specs.View.{is_int}
 use Rattle.sheet_types.specs.Ordered.{put, has}
-use Rattle.sql_meaning.specs.Known.{HasTable}
 use Rattle.sql_meaning.specs.Writing.{Inserts, Deletes, Spares, WritesInside}
 use Rattle.package_tables.specs.Shape.{Shape, IsShape, IsFormed, rows_of}
 use Rattle.package_tables.specs.Package.{Tables, tables_of, AreFormed}

@@ -1,14 +1,13 @@
 -- The statements on `sheet_media`. Written by tools/statements.py.
-use Rattle.std.proofs.Common.{◌≡◌, ℕ, ℤ, List, [], ◌∷◌, Bool, true, codes, refl}
-use Rattle.std.specs.Prelude.{◌&&◌, bytes_eq}
-use Rattle.std.specs.Ordering.{int_eq}
+use Rattle.std.proofs.Common.{ℕ, ℤ, List, [], ◌∷◌, true, codes, refl}
+use Rattle.std.specs.Ordering.{int_eq, int_cmp, on}
+use Rattle.std.proofs.lemmas.Cmp.{on_total, int_cmp_total}
 use Rattle.sqlite.specs.Order.{Row}
 use Rattle.sqlite.specs.Term.{col}
-use Rattle.sqlite.specs.Edit.{next_rowid}
 use Rattle.sqlite.specs.declared.types.Value.TheVariants.{Int, Null, Text, Blob}
 use Rattle.sqlite_tied.specs.Compute.{everything}
 use Rattle.sql_meaning.specs.Resolving.{resolving}
-use Rattle.sql_meaning.specs.Reading.{always, equals, both, ascending, descending}
+use Rattle.sql_meaning.specs.Reading.{always, equals, ascending, descending}
 use Rattle.sql_meaning.proofs.Insert.{IsInsert, IsRow}
 use Rattle.sql_meaning.proofs.Delete.{IsDelete, IsPlannedDelete}
 use Rattle.sql_meaning.proofs.Resolve.{one_table, one_source}
@@ -18,9 +17,10 @@ use Rattle.package_tables.specs.Tables.{sheet_media}
 use Rattle.package_tables.specs.Shapes.{medium_shape, int_at, text_at, blob_at}
 use Rattle.package_tables.specs.Shown.{medium_shown}
 use Rattle.package_tables.specs.declared.rows.MediaRow.{MediaRow}
-use Rattle.package_tables.proofs.Looking.{IsKnown, IsRead}
+use Rattle.package_tables.proofs.Looking.{IsKnown, IsRead, IsRanked}
 use Rattle.package_tables.proofs.Newest.{IsNewest}
-use Rattle.package_tables.proofs.Values.{same_number, same_text, both_same}
+use Rattle.package_tables.proofs.Ranking.{one_number}
+use Rattle.package_tables.proofs.Values.{same_number}
 use Rattle.package_tables.proofs.Written.{medium_shape_is}
 
 pub insert_text : (tree : ℕ) → IsInsert (codes "INSERT INTO sheet_media VALUES (?1, ?2, ?3)") (sheet_media tree)
@@ -91,6 +91,10 @@ all_plan tree schema at h = rw (h.stored, h.by_tree) refl
 
 pub all : IsRead medium_shape medium_shown (codes "SELECT * FROM sheet_media ORDER BY id") [] (λ x. true)
 all = record { test = _; by = _; selects = all_text; planned = all_plan; given = refl; listing = _; is = λ tree. refl; shows = λ v x. refl; passing = λ v x. refl }
+
+pub all_ranked : IsRanked all (on (λ x. x.id) int_cmp)
+unfolding all
+all_ranked = record { keys = λ x. Int x.id ∷ []; keyed = λ v x. refl; total = (on_total (λ x. x.id) int_cmp_total); alike = λ x y. one_number x.id y.id }
 
 newest_text : (tree : ℕ) → IsFirst (codes "SELECT * FROM sheet_media ORDER BY id DESC LIMIT 1") (sheet_media tree) always ((col 1 0, descending) ∷ [])
 unfolding everything

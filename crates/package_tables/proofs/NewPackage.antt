@@ -1,20 +1,25 @@
 -- A new package has the form of a package, and no rows.
-use Rattle.std.proofs.Common.{◌≡◌, ℕ, List, [], Ok, Err, Result, OnOk, IfErr, refl, sym, subst}
+use Rattle.std.proofs.Common.{◌≡◌, List, [], ◌∷◌, Ok, Err, Result, OnOk, IfErr, true, refl, sym, subst}
 use Rattle.std.specs.List.{AllByRecursion}
 use Rattle.sqlite.specs.Table.{Table}
 use Rattle.sqlite.specs.Schema.{Schema}
 use Rattle.sqlite.specs.Tree.{Trees}
-use Rattle.sqlite.specs.Effect.{Database}
+use Rattle.sqlite.specs.Effect.{Database, IsDatabase}
 use Rattle.sqlite_schema.specs.Names.{same_name}
+use Rattle.sql_meaning.specs.Writing.{IsKeyed}
 use Rattle.sql_meaning.specs.Known.{IsQuiet}
 use Rattle.sql_meaning.specs.Blank.{IsBlank, no_schema}
 use Rattle.package_tables.specs.Tables.{gpkg_spatial_ref_sys, gpkg_contents, gpkg_tile_matrix_set, gpkg_tile_matrix, gpkgext_relations, sheet_tiles, sheet_media, sheet_rows, tiles_media, rows_media, sheet_package, sheet_identity, sheet_receipts, sheet_items}
-use Rattle.package_tables.specs.Form.{IsPlaced, HasForm, tree_named, rows_named}
+use Rattle.package_tables.specs.Form.{IsPlaced, HasForm, tree_named}
+use Rattle.package_tables.specs.Shape.{Shape, IsFormed, stored_rows, rows_of}
+use Rattle.package_tables.specs.Shapes.{spatial_ref_sys_shape, contents_shape, tile_matrix_set_shape, tile_matrix_shape, relation_shape, tile_shape, medium_shape, attribute_shape, tiles_media_shape, rows_media_shape, head_shape, identity_shape, receipt_shape, moved_shape}
+use Rattle.package_tables.specs.Package.{tables_of, AreFormed}
 use Rattle.package_tables.specs.SchemaMaking.{MadeBy, ChangedInside, FailsInside, FailsToMakeBy}
 use Rattle.package_tables.proofs.Texts.{texts, plan}
-use Rattle.sqlite.specs.State.{State}
+use Rattle.sqlite.specs.State.{State, HasCleanDisk, KeepsCommit, Survives}
+use Rattle.sql_meaning.specs.Transactions.{Made, Steps}
 use Rattle.sqlite.specs.declared.error.Error.{Error}
-use Rattle.package_tables.specs.SchemaMade.{package_schema, table_names, IsEmptyForm, IsNewPackage}
+use Rattle.package_tables.specs.SchemaMade.{package_schema, table_names, empty_tables, IsEmptyForm, IsNewPackage, BecomesPackage}
 
 quiet : IsQuiet package_schema
 unfolding same_name
@@ -104,19 +109,62 @@ no_rows : (trees : Trees) → AllByRecursion (λ (t : Table). trees t.tree ≡ [
 unfolding same_name
 no_rows trees (spatial, (contents, (sets, (matrices, (relations, (tiles, (counts, (media, (rows, (links, (others, (head, (identities, (receipts, (items, end))))))))))))))) = (spatial, (contents, (sets, (matrices, (relations, (tiles, (media, (rows, (links, (others, (head, (identities, (receipts, (items, end))))))))))))))
 
-pub new_package : (db : Database) → IsBlank package_schema db → IsNewPackage db
-new_package db blank = record {
-  blank = blank;
-  form = record {
-    form = subst HasForm (sym blank.is) form;
-    empty = subst (λ (s : Schema). AllByRecursion (λ name. db.trees (tree_named s name) ≡ []) table_names) (sym blank.is) (no_rows db.trees blank.empty);
-  };
+-- a table that is there and has no rows holds rows of its kinds
+no_rows_formed : {R : Type 0} (shape : Shape R) (db : Database) → IsPlaced db.schema shape.table → stored_rows shape db ≡ [] → IsFormed shape db
+no_rows_formed shape db placed none = record { placed = placed; keyed = rw none (record { ints = refl; rises = tt }); stored = rw none tt }
+
+no_rows_say : {R : Type 0} (shape : Shape R) (db : Database) → stored_rows shape db ≡ [] → rows_of shape db ≡ []
+no_rows_say shape db none = rw none refl
+
+empty_form : (db : Database) → IsBlank package_schema db → IsEmptyForm db
+empty_form db blank = record {
+  form = subst HasForm (sym blank.is) form;
+  empty = subst (λ (s : Schema). AllByRecursion (λ name. db.trees (tree_named s name) ≡ []) table_names) (sym blank.is) (no_rows db.trees blank.empty);
 }
 
-pub package_made : (old new : State) (r : Result (Unit {0}) Error) → OnOk r (ChangedInside (MadeBy texts) old new) → IsBlank no_schema old.now → OnOk r (ChangedInside (λ _ db. IsNewPackage db) old new)
-package_made old new (Ok done) made blank = record { shown = made.shown; changed = new_package new.now (made.changed no_schema package_schema plan blank) }
-package_made old new (Err e) made blank = tt
+module _ (db : Database) (it : IsEmptyForm db) where
+  formed : AreFormed db
+  formed = record {
+    quiet = it.form.quiet;
+    spatial_ref_sys = no_rows_formed spatial_ref_sys_shape db it.form.spatial_ref_sys it.empty.0;
+    contents = no_rows_formed contents_shape db it.form.contents it.empty.1.0;
+    tile_matrix_set = no_rows_formed tile_matrix_set_shape db it.form.tile_matrix_set it.empty.1.1.0;
+    tile_matrix = no_rows_formed tile_matrix_shape db it.form.tile_matrix it.empty.1.1.1.0;
+    relations = no_rows_formed relation_shape db it.form.relations it.empty.1.1.1.1.0;
+    tiles = no_rows_formed tile_shape db it.form.tiles it.empty.1.1.1.1.1.0;
+    media = no_rows_formed medium_shape db it.form.media it.empty.1.1.1.1.1.1.0;
+    rows = no_rows_formed attribute_shape db it.form.rows it.empty.1.1.1.1.1.1.1.0;
+    tiles_media = no_rows_formed tiles_media_shape db it.form.tiles_media it.empty.1.1.1.1.1.1.1.1.0;
+    rows_media = no_rows_formed rows_media_shape db it.form.rows_media it.empty.1.1.1.1.1.1.1.1.1.0;
+    heads = no_rows_formed head_shape db it.form.head it.empty.1.1.1.1.1.1.1.1.1.1.0;
+    identities = no_rows_formed identity_shape db it.form.identities it.empty.1.1.1.1.1.1.1.1.1.1.1.0;
+    receipts = no_rows_formed receipt_shape db it.form.receipts it.empty.1.1.1.1.1.1.1.1.1.1.1.1.0;
+    moved = no_rows_formed moved_shape db it.form.receipt_items it.empty.1.1.1.1.1.1.1.1.1.1.1.1.1.0;
+  }
+
+  says : tables_of db ≡ empty_tables
+  says = rw (no_rows_say spatial_ref_sys_shape db it.empty.0, no_rows_say contents_shape db it.empty.1.0, no_rows_say tile_matrix_set_shape db it.empty.1.1.0, no_rows_say tile_matrix_shape db it.empty.1.1.1.0, no_rows_say relation_shape db it.empty.1.1.1.1.0, no_rows_say tile_shape db it.empty.1.1.1.1.1.0, no_rows_say medium_shape db it.empty.1.1.1.1.1.1.0, no_rows_say attribute_shape db it.empty.1.1.1.1.1.1.1.0, no_rows_say tiles_media_shape db it.empty.1.1.1.1.1.1.1.1.0, no_rows_say rows_media_shape db it.empty.1.1.1.1.1.1.1.1.1.0, no_rows_say head_shape db it.empty.1.1.1.1.1.1.1.1.1.1.0, no_rows_say identity_shape db it.empty.1.1.1.1.1.1.1.1.1.1.1.0, no_rows_say receipt_shape db it.empty.1.1.1.1.1.1.1.1.1.1.1.1.0, no_rows_say moved_shape db it.empty.1.1.1.1.1.1.1.1.1.1.1.1.1.0) refl
+
+keyed_if_empty : (trees : Trees) (tables : List Table) → AllByRecursion (λ (t : Table). trees t.tree ≡ []) tables → AllByRecursion (λ (t : Table). IsKeyed (trees t.tree)) tables
+keyed_if_empty trees [] h = tt
+keyed_if_empty trees (t ∷ tables) h = (subst IsKeyed (sym h.0) (record { ints = refl; rises = tt }), keyed_if_empty trees tables h.1)
+
+pub new_package : (db : Database) → IsBlank package_schema db → IsDatabase db → IsNewPackage db
+new_package db blank sound = let it = empty_form db blank in record { blank = blank; form = it; formed = formed db it; sound = sound; keyed = subst (λ (s : Schema). AllByRecursion (λ (t : Table). IsKeyed (db.trees t.tree)) s.tables) (sym blank.is) (keyed_if_empty db.trees package_schema.tables blank.empty); says = says db it }
+
+pub package_made : (old new : State) (r : Result (Unit {0}) Error) → OnOk r (ChangedInside (MadeBy texts) old new) → OnOk r (ChangedInside BecomesPackage old new)
+package_made old new (Ok done) made = record { shown = made.shown; changed = λ blank. let it = made.changed no_schema package_schema plan blank in new_package new.now it.0 it.1 }
+package_made old new (Err e) made = tt
 
 pub package_failed : (old new : State) (r : Result (Unit {0}) Error) → IfErr r (FailsToMakeBy texts old new) → IsBlank no_schema old.now → IfErr r (FailsInside old new)
 package_failed old new (Ok done) failed blank = tt
 package_failed old new (Err e) failed blank = failed no_schema package_schema plan blank
+
+-- the schema is one of the steps of a transaction
+pub schema_steps : (old new : State) (r : Result (Unit {0}) Error) → (HasCleanDisk new → old.in_transaction ≡ true → OnOk r (ChangedInside BecomesPackage old new)) → (HasCleanDisk new → KeepsCommit old new) → Survives old new (λ _. ⊥)
+    → Steps (λ _. BecomesPackage) old new r
+schema_steps old new r made kept survives = record { made = λ clean inside. at r (made clean inside) (kept clean); survives = survives }
+  where
+    at : (r : Result (Unit {0}) Error) → OnOk r (ChangedInside BecomesPackage old new) → KeepsCommit old new → Made (λ _. BecomesPackage) old new r
+    at (Ok done) it keeps = (it.shown.mode, keeps, it.changed)
+    at (Err e) it keeps = keeps

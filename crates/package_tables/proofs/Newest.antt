@@ -1,6 +1,6 @@
 -- From `SELECT * .. ORDER BY id DESC LIMIT 1` to the greatest number of a table.
-use Rattle.std.proofs.Common.{◌≡◌, ◌⊎◌, inl, inr, ℕ, ℤ, ◌≤ℤ◌, List, [], ◌∷◌, map, Bool, true, false, Option, Some, None, Result, Ok, Err, IsTrue, refl, sym, ap, subst, ◌∙◌, Ordering, Less, Equal, Greater, arith, zero, suc}
-use Rattle.std.specs.Prelude.{slice_get, filter, MatchOption, IfOk, IfErr, IsOkAnd, All, Contains, ◌<ℤ◌}
+use Rattle.std.proofs.Common.{◌≡◌, ◌⊎◌, inl, inr, ℕ, ℤ, ◌≤ℤ◌, List, [], ◌∷◌, map, true, false, Option, Some, None, Result, Ok, Err, refl, sym, ap, subst, ◌∙◌, Ordering, Less, Equal, Greater, arith, suc}
+use Rattle.std.specs.Prelude.{filter, IfOk, IfErr, Contains, ◌<ℤ◌}
 use Rattle.std.specs.List.{AllByRecursion}
 use Rattle.std.specs.Ordering.{is_gt, int_cmp, MatchOrdering}
 use Rattle.std.specs.Cmp.{int_ranks, int_chain}
@@ -25,7 +25,7 @@ use Rattle.sqlite_value.specs.declared.keys.Key.{Key}
 use Rattle.sheet_types.specs.Ordered.{arranged}
 use Rattle.sheet_types.proofs.Order.{All-arranged}
 use Rattle.sql_meaning.specs.Known.{HasTable}
-use Rattle.sql_meaning.specs.Reading.{Listing, ComesFirst, ShowsFirst, always, descending}
+use Rattle.sql_meaning.specs.Reading.{Listing, ShowsFirst, always, descending}
 use Rattle.sql_meaning.proofs.Select.{listing_of, paged_query, page_is, page_of, shown_terms}
 use Rattle.sql_meaning.proofs.First.{IsFirst, IsPlannedFirst, one_row, listing_first}
 use Rattle.sql_meaning.proofs.Where.{terms_of_test}
@@ -37,8 +37,8 @@ use Rattle.sqlite_trees.proofs.ListLemmas.{map-map}
 use Rattle.sql_meaning.proofs.Greatest.{greatest_of}
 use Rattle.sql_meaning.proofs.Rowids.{filter_all}
 use Rattle.sql_meaning.proofs.Answering.{shown_unchanged, failed_unchanged}
-use Rattle.package_tables.specs.Shape.{Shape, IsShape, IsFormed, IsStored, stored_rows, rows_of}
-use Rattle.package_tables.specs.Package.{Tables, tables_of, AreFormed}
+use Rattle.package_tables.specs.Shape.{Shape, IsStored, stored_rows, rows_of}
+use Rattle.package_tables.specs.Package.{Tables, AreFormed}
 use Rattle.package_tables.specs.Calls.{TellsInside, Tells, IsGreatest}
 use Rattle.package_tables.specs.Shown.{BeginsWith}
 use Rattle.package_tables.specs.declared.fault.Fault.{Fault}
@@ -46,7 +46,7 @@ use Rattle.package_tables.proofs.Shapes.{rows_placed}
 use Rattle.package_tables.proofs.Reading.{arranged_permutation}
 use Rattle.package_tables.proofs.Looking.{IsKnown, AreSaid}
 
-not_above : (a b : ℤ) → is_gt (int_cmp a b) ≡ false → a ≤ℤ b
+pub not_above : (a b : ℤ) → is_gt (int_cmp a b) ≡ false → a ≤ℤ b
 not_above a b h = one (int_cmp a b) (int_ranks a b) h
   where
     one : (o : Ordering) → MatchOrdering o (a <ℤ b) (a ≡ b) (b <ℤ a) → is_gt o ≡ false → a ≤ℤ b
@@ -64,7 +64,7 @@ pub record IsNewest {R : Type 0} (shape : Shape R) (number : R → ℤ) (text : 
   pub begins : (v : Value) (x : R) → column (shown (shape.stored v x)) 0 ≡ Int (number x)
   pub keyed : (v : Value) (x : R) → column (shape.stored v x) 0 ≡ Int (number x)
 
-has_mapped : {A B : Type 0} (f : A → B) (xs : List A) (x : A) → Has xs x → Contains (map f xs) (f x)
+pub has_mapped : {A B : Type 0} (f : A → B) (xs : List A) (x : A) → Has xs x → Contains (map f xs) (f x)
 has_mapped f [] x h = absurd h
 has_mapped f (y ∷ xs) x (inl same) = (0, omega arith, ap f (sym same))
 has_mapped f (y ∷ xs) x (inr later) = let (k, below, is) = has_mapped f xs x later in (suc k, omega (arith, below), is)

@@ -1,34 +1,34 @@
 -- Statements that make a schema, one after the other.
-use Rattle.std.proofs.Common.{◌≡◌, inl, inr, ℕ, zero, suc, ◌+◌, ◌<◌, List, [], ◌∷◌, drop, length, get_or, map, true, Ok, Err, Result, IfErr, IsTrue, IsUtf8, false, ◌≤◌, refl, sym, ap, subst, ◌∙◌, arith}
+use Rattle.std.proofs.Common.{◌≡◌, inl, inr, ℕ, ◌+◌, ◌<◌, List, [], ◌∷◌, drop, length, get_or, map, true, Ok, Err, Result, IfErr, IsErrAnd, IsTrue, IsUtf8, ◌≤◌, refl, sym, ap, subst, ◌∙◌, arith}
 use Rattle.std.proofs.lemmas.List.{drop_more, drop-map}
 use Rattle.std.proofs.lemmas.Bool.{false_from_ne_true, both_ways}
 use Rattle.sqlite_trees.specs.declared.error.StoreError.{StoreError}
 use Rattle.sqlite_trees.specs.declared.error.StoreError.TheVariants.{OutOfMemory, Io, Corrupt, Full, Broken, Unstorable}
 use Rattle.sql_meaning.proofs.Making.{table_fails, index_fails}
-use Rattle.sqlite.specs.Table.{Table}
 use Rattle.sqlite.specs.Schema.{Schema}
 use Rattle.sqlite.specs.declared.error.Error.{Error}
-use Rattle.sqlite.specs.Effect.{Database}
-use Rattle.sqlite.specs.State.{State, HasCleanDisk, Shows, Fails, HasCause, KeepsCommit, Survives, Executes, ExecutesInside}
+use Rattle.sqlite.specs.Effect.{Database, IsDatabase}
+use Rattle.sqlite.specs.State.{State, HasCleanDisk, Shows, Fails, HasCause, KeepsCommit, Survives, ExecutesInside}
 use Rattle.sqlite.proofs.InsideLemmas.{keeps_then}
 use Rattle.sqlite.proofs.StateLemmas.{survives_then}
 use Rattle.sql_meaning.specs.Known.{HasTable}
 use Rattle.sql_meaning.specs.Blank.{IsFree, IsBlank}
 use Rattle.sql_meaning.specs.Writing.{WritesInside}
-use Rattle.sql_meaning.proofs.Create.{whole}
-use Rattle.sql_meaning.proofs.Indexes.{makes_index, blank_after}
-use Rattle.package_tables.specs.SchemaMaking.{Extends, ExtendsBy, Made, MadeBy, ChangedInside, FailsInside, FailsToMake, FailsToMakeBy}
+use Rattle.sql_meaning.proofs.Create.{grown_inside}
+use Rattle.sql_meaning.proofs.Indexes.{makes_index, index_sound, blank_after}
+use Rattle.package_tables.specs.SchemaMaking.{ExtendsBy, Made, FailsInside, FailsToMake, FailsToMakeBy}
 
-one_made : (old new : State) (text : List ℕ) (count : ℕ) → Executes text [] old new (Ok count) → Made text old.now new.now
-one_made old new text count h first last (inl it) blank = subst (λ (s : Schema). IsBlank s new.now) (sym it.4) (whole old new text count h first it.0 it.1 it.2 blank)
+one_made : (old new : State) (text : List ℕ) (count : ℕ) → ExecutesInside 0 text [] old new (Ok count) → Made text old.now new.now
+one_made old new text count h first last (inl it) blank =
+    let grown = (grown_inside old new text (Ok count) h).1 in (subst (λ (s : Schema). IsBlank s new.now) (sym it.4) (grown.0 first it.0 it.1 it.2 blank), grown.1 first it.0 it.1 it.2 blank)
 one_made old new text count h first last (inr it) blank =
     let has = subst (λ (s : Schema). HasTable s it.0 it.1) (sym blank.is) it.4 in
     let free = subst (λ (s : Schema). IsFree s it.2.name) (sym blank.is) it.5 in
-    let made = makes_index old new text it.3.0 it.3.1 it.0 it.1 it.2 count it.3.2 has free h in
-    subst (λ (s : Schema). IsBlank s new.now) (sym it.7) (blank_after first it.1 it.2 old.now new.now blank made)
+    let made = makes_index old new text it.3.0 it.3.1 it.0 it.1 it.2 count it.3.2 has free h.0 in
+    (subst (λ (s : Schema). IsBlank s new.now) (sym it.7) (blank_after first it.1 it.2 old.now new.now blank made), index_sound old new text it.3.0 it.3.1 it.0 it.1 it.2 count it.3.2 has free h.0)
 
 pub made_inside : (old new : State) (text : List ℕ) (r : Result ℕ Error) → ExecutesInside 0 text [] old new r → WritesInside (Made text) old new r
-made_inside old new text (Ok count) h = (h.1, one_made old new text count h.0)
+made_inside old new text (Ok count) h = (h.1, one_made old new text count h)
 made_inside old new text (Err e) (inl h) = h.1
 made_inside old new text (Err e) (inr h) = inl h.2
 
@@ -57,7 +57,7 @@ pub record Along (texts : List (List ℕ)) (done : ℕ) (old now : State) : Type
   pub stays_open : HasCleanDisk now → old.in_transaction ≡ true → IsTrue old.is_open → IsTrue now.is_open
   pub shown : 0 < done → HasCleanDisk now → old.in_transaction ≡ true → Shows old now now.now old.committed true
   pub left : HasCleanDisk now → old.in_transaction ≡ true → (first last : Schema) → ExtendsBy texts first last → IsBlank first old.now
-      → (mid : Schema) × IsBlank mid now.now × ExtendsBy (drop done texts) mid last
+      → (mid : Schema) × IsBlank mid now.now × ExtendsBy (drop done texts) mid last × (0 < done → IsDatabase now.now)
 
 shows_on : (old mid new : State) → KeepsCommit old mid → Shows mid new new.now mid.committed true → Shows old new new.now old.committed true
 shows_on old mid new kept shown = record {
@@ -69,14 +69,15 @@ shows_on old mid new kept shown = record {
 }
 
 left_on : (texts : List (List ℕ)) (done : ℕ) (mid new : Database) (text : List ℕ) (last : Schema) → drop done texts ≡ text ∷ drop (done + 1) texts
-    → (s : Schema) × IsBlank s mid × ExtendsBy (drop done texts) s last → Made text mid new → (s : Schema) × IsBlank s new × ExtendsBy (drop (done + 1) texts) s last
+    → (s : Schema) × IsBlank s mid × ExtendsBy (drop done texts) s last × (0 < done → IsDatabase mid) → Made text mid new
+    → (s : Schema) × IsBlank s new × ExtendsBy (drop (done + 1) texts) s last × (0 < done + 1 → IsDatabase new)
 left_on texts done mid new text last next left made =
     let more : ExtendsBy (text ∷ drop (done + 1) texts) left.0 last = subst (λ some. ExtendsBy some left.0 last) next left.2 in
-    (more.0, made left.0 more.0 more.1 left.1, more.2)
+    let both = made left.0 more.0 more.1 left.1 in (more.0, both.0, more.2, λ _. both.1)
 
-pub along_step : (texts : List (List ℕ)) (done : ℕ) (old mid new : State) (text : List ℕ) (count : ℕ) → drop done texts ≡ text ∷ drop (done + 1) texts → Along texts done old mid
-    → (HasCleanDisk new → mid.in_transaction ≡ true → WritesInside {X = ℕ} (Made text) mid new (Ok count)) → (HasCleanDisk new → KeepsCommit mid new) → Survives mid new (λ _. ⊥) → Along texts (done + 1) old new
-along_step texts done old mid new text count next so made kept survives =
+pub along_step : (texts : List (List ℕ)) (done : ℕ) (old mid new : State) (text : List ℕ) → drop done texts ≡ text ∷ drop (done + 1) texts → Along texts done old mid
+    → (HasCleanDisk new → mid.in_transaction ≡ true → WritesInside {X = Unit {0}} (Made text) mid new (Ok tt)) → (HasCleanDisk new → KeepsCommit mid new) → Survives mid new (λ _. ⊥) → Along texts (done + 1) old new
+along_step texts done old mid new text next so made kept survives =
     let was = λ (clean : HasCleanDisk new). let before : HasCleanDisk mid = omega (arith, survives.clean, clean) in before in
     let ran = λ (clean : HasCleanDisk new) (inside : old.in_transaction ≡ true). made clean (so.inside (was clean) inside) in record {
       kept = λ clean. keeps_then old mid new (so.kept (was clean)) (kept clean);
@@ -114,3 +115,8 @@ along_failed texts done old mid new text e next so clean inside fails first last
       ended = it.ended;
       undone = λ is_open. let was = it.undone is_open in (kept.was_open was.0, was.1 ∙ kept.committed was.0, was.2 ∙ kept.committed was.0);
     }
+
+-- an error that `?` passes on
+pub passed_on : (r : Result (Unit {0}) Error) (e : Error) → IsErrAnd r (λ x. x ≡ e) → r ≡ Err e
+passed_on (Ok done) e h = absurd h
+passed_on (Err x) e h = ap Err h

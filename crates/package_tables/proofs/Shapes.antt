@@ -1,7 +1,7 @@
 -- What an INSERT, a DELETE and a write to another table make of a table's values.
-use Rattle.std.proofs.Common.{◌≡◌, ℕ, ℤ, List, [], ◌∷◌, ◌++◌, map, Bool, true, false, cond, refl, sym, ap, subst, ◌∙◌, Less, Equal, Greater, Ordering, Some, None}
+use Rattle.std.proofs.Common.{◌≡◌, ℕ, List, [], ◌∷◌, map, Bool, true, false, cond, refl, sym, ap, subst, ◌∙◌, Less, Equal, Greater, Ordering}
 use Rattle.std.specs.Prelude.{not, ◌&&◌, ◌||◌, filter, bytes_eq}
-use Rattle.std.specs.List.{AllByRecursion, list_any, list_all}
+use Rattle.std.specs.List.{AllByRecursion}
 use Rattle.std.specs.Ordering.{is_eq, match_ordering}
 use Rattle.std.proofs.lemmas.Bool.{true≢false, false≢true}
 use Rattle.sqlite_value.specs.Order.{value_cmp}
@@ -12,7 +12,6 @@ use Rattle.sqlite.specs.Order.{Row}
 use Rattle.sqlite.specs.Tree.{rowid, put_row, IsTable}
 use Rattle.sqlite.specs.Edit.{is_taken, have_rowids}
 use Rattle.sqlite.specs.declared.types.Value.{Value}
-use Rattle.sqlite.specs.declared.types.Value.TheVariants.{Int}
 use Rattle.sqlite.specs.Effect.{Database}
 use Rattle.sqlite_trees.specs.View.{is_int}
 use Rattle.sheet_types.specs.Ordered.{arranged, put, has}
@@ -20,8 +19,8 @@ use Rattle.sheet_types.proofs.Arranging.{put_put, filter-arranged}
 use Rattle.sheet_types.proofs.Every.{none_pass}
 use Rattle.sheet_types.proofs.Order.{list_any-arranged}
 use Rattle.sql_meaning.specs.Known.{HasTable, IsQuiet, is_other, sequence_name}
-use Rattle.sql_meaning.specs.Writing.{Inserts, Inserted, Deletes, Deleted, Spares, IsKeyed}
-use Rattle.package_tables.specs.Form.{IsPlaced, tree_named, rows_named}
+use Rattle.sql_meaning.specs.Writing.{Inserts, Deletes, Spares, IsKeyed}
+use Rattle.package_tables.specs.Form.{IsPlaced, tree_named}
 use Rattle.package_tables.specs.Shape.{Shape, IsShape, IsFormed, IsStored, stored_rows, rows_of}
 
 -- the tree of a table that is there
@@ -87,7 +86,7 @@ module _ {R : Type 0} (key : R → List ℕ) (typed : Row → R) where
   pub arranged-filter : (keeps : R → Bool) (test : Row → Bool) (rows : List Row) → AllByRecursion (λ r. test r ≡ keeps (typed r)) rows → arranged key (map typed (filter test rows)) ≡ filter keeps (arranged key (map typed rows))
   arranged-filter keeps test rows h = ap (arranged key) (filter-typed keeps test rows h) ∙ sym (filter-arranged key keeps (map typed rows))
 
-all_filter : (P : Row → Type 0) (t : Row → Bool) (rows : List Row) → AllByRecursion P rows → AllByRecursion P (filter t rows)
+pub all_filter : (P : Row → Type 0) (t : Row → Bool) (rows : List Row) → AllByRecursion P rows → AllByRecursion P (filter t rows)
 all_filter P t [] h = tt
 all_filter P t (r ∷ rows) h = elim (t r) as (λ v. AllByRecursion P (cond v (r ∷ filter t rows) (filter t rows))) [ true ↦ (h.0, all_filter P t rows h.1) | false ↦ all_filter P t rows h.1 ]
 

@@ -1,10 +1,9 @@
 -- Calls on the tables as steps of a transaction.
-use Rattle.std.proofs.Common.{◌≡◌, ◌⊎◌, inl, inr, true, Result, Ok, Err, IsTrue, refl, sym, subst, ◌∙◌}
-use Rattle.sqlite.specs.Effect.{Database}
-use Rattle.sqlite.specs.State.{State, HasCleanDisk, Survives, IsUnchanged, IsRolledBack}
+use Rattle.std.proofs.Common.{◌≡◌, true, Result, Ok, Err, IsTrue, ◌∙◌}
+use Rattle.sqlite.specs.State.{State, Survives}
 use Rattle.sql_meaning.specs.Transactions.{Made, Steps}
 use Rattle.sqlite.proofs.InsideLemmas.{unchanged_keeps}
-use Rattle.package_tables.specs.Package.{Tables, tables_of, AreFormed}
+use Rattle.package_tables.specs.Package.{Tables}
 use Rattle.package_tables.specs.Calls.{MakesInside, Makes, TellsInside, Tells, Answers, OnTables}
 
 -- a write

@@ -1,26 +1,26 @@
 -- The statements on `tiles_media`. Written by tools/statements.py.
-use Rattle.std.proofs.Common.{◌≡◌, ℕ, ℤ, List, [], ◌∷◌, Bool, true, codes, refl}
-use Rattle.std.specs.Prelude.{◌&&◌, bytes_eq}
-use Rattle.std.specs.Ordering.{int_eq}
+use Rattle.std.proofs.Common.{ℕ, ℤ, List, [], ◌∷◌, true, codes, refl}
+use Rattle.std.specs.Prelude.{◌&&◌}
+use Rattle.std.specs.Ordering.{int_eq, int_cmp, on, then_cmp}
+use Rattle.std.proofs.lemmas.Cmp.{on_total, then_total, int_cmp_total}
 use Rattle.sqlite.specs.Order.{Row}
 use Rattle.sqlite.specs.Term.{col}
 use Rattle.sqlite.specs.Edit.{next_rowid}
-use Rattle.sqlite.specs.declared.types.Value.TheVariants.{Int, Null, Text, Blob}
+use Rattle.sqlite.specs.declared.types.Value.TheVariants.{Int}
 use Rattle.sqlite_tied.specs.Compute.{everything}
 use Rattle.sql_meaning.specs.Resolving.{resolving}
-use Rattle.sql_meaning.specs.Reading.{always, equals, both, ascending, descending}
+use Rattle.sql_meaning.specs.Reading.{always, equals, both, ascending}
 use Rattle.sql_meaning.proofs.Insert.{IsInsert, IsRow}
 use Rattle.sql_meaning.proofs.Delete.{IsDelete, IsPlannedDelete}
-use Rattle.sql_meaning.proofs.Resolve.{one_table, one_source}
+use Rattle.sql_meaning.proofs.Resolve.{one_table}
 use Rattle.sql_meaning.proofs.Select.{IsSelect, IsPlannedSelect}
-use Rattle.sql_meaning.proofs.First.{IsFirst, IsPlannedFirst}
 use Rattle.package_tables.specs.Tables.{tiles_media}
-use Rattle.package_tables.specs.Shapes.{tiles_media_shape, int_at, text_at, blob_at}
+use Rattle.package_tables.specs.Shapes.{tiles_media_shape, int_at}
 use Rattle.package_tables.specs.Shown.{mapping_shown}
 use Rattle.package_tables.specs.declared.rows.MappingRow.{MappingRow}
-use Rattle.package_tables.proofs.Looking.{IsKnown, IsRead}
-use Rattle.package_tables.proofs.Newest.{IsNewest}
-use Rattle.package_tables.proofs.Values.{same_number, same_text, both_same}
+use Rattle.package_tables.proofs.Looking.{IsKnown, IsRead, IsRanked}
+use Rattle.package_tables.proofs.Ranking.{two_numbers}
+use Rattle.package_tables.proofs.Values.{same_number, both_same}
 use Rattle.package_tables.proofs.Written.{tiles_media_shape_is}
 
 pub insert_text : (tree : ℕ) → IsInsert (codes "INSERT INTO tiles_media VALUES (?1, ?2)") (tiles_media tree)
@@ -141,3 +141,7 @@ all_plan tree schema at h = rw (h.stored, h.by_tree) refl
 
 pub all : IsRead tiles_media_shape mapping_shown (codes "SELECT * FROM tiles_media ORDER BY base_id, related_id") [] (λ x. true)
 all = record { test = _; by = _; selects = all_text; planned = all_plan; given = refl; listing = _; is = λ tree. refl; shows = λ v x. refl; passing = λ v x. refl }
+
+pub all_ranked : IsRanked all (then_cmp (on (λ x. x.base_id) int_cmp) (on (λ x. x.related_id) int_cmp))
+unfolding all
+all_ranked = record { keys = λ x. Int x.base_id ∷ Int x.related_id ∷ []; keyed = λ v x. refl; total = then_total (on_total (λ x. x.base_id) int_cmp_total) (on_total (λ x. x.related_id) int_cmp_total); alike = λ x y. two_numbers x.base_id y.base_id x.related_id y.related_id }

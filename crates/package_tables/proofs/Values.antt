@@ -1,8 +1,7 @@
 -- When two stored values are the same, as SQLite compares them.
-use Rattle.std.proofs.Common.{◌≡◌, ℤ, List, ℕ, Bool, true, false, refl, sym, ap, ◌∙◌, Ordering, Less, Equal, Greater}
+use Rattle.std.proofs.Common.{◌≡◌, ℤ, List, ℕ, Bool, refl, ap, ◌∙◌}
 use Rattle.std.specs.Prelude.{◌&&◌, bytes_eq}
-use Rattle.std.specs.Ordering.{is_eq, int_cmp, int_eq}
-use Rattle.std.specs.Cmp.{int_ranks, signed_Decides}
+use Rattle.std.specs.Ordering.{is_eq, int_eq}
 use Rattle.std.proofs.lemmas.Map.Text.{is_eq-slice_cmp}
 use Rattle.sqlite_value.proofs.OrderLemmas.{value_cmp-Int, value_cmp-Text}
 use Rattle.sqlite.specs.declared.types.Value.TheVariants.{Int, Text}

@@ -6,7 +6,7 @@ use Rattle.sql_meaning.specs.Writing.{Spares}
 use Rattle.package_tables.specs.Tables.{gpkg_spatial_ref_sys, gpkg_contents, gpkg_tile_matrix_set, gpkg_tile_matrix, gpkgext_relations, sheet_tiles, sheet_media, sheet_rows, tiles_media, rows_media, sheet_package, sheet_identity, sheet_receipts, sheet_items}
 use Rattle.package_tables.specs.Shape.{IsShape, IsFormed, rows_of}
 use Rattle.package_tables.specs.Shapes.{spatial_ref_sys_shape, contents_shape, tile_matrix_set_shape, tile_matrix_shape, relation_shape, tile_shape, medium_shape, attribute_shape, tiles_media_shape, rows_media_shape, head_shape, identity_shape, receipt_shape, moved_shape}
-use Rattle.package_tables.specs.Package.{Tables, tables_of, AreFormed}
+use Rattle.package_tables.specs.Package.{tables_of, AreFormed}
 use Rattle.package_tables.proofs.Shapes.{spared}
 
 -- ---- the shapes meet what they have to

@@ -1,6 +1,7 @@
 -- What a call on a package's tables does.
-use Rattle.std.specs.Prelude.{◌≡◌, ◌⊎◌, ℤ, ◌≤ℤ◌, Bool, true, false, List, [], map, All, Option, Result, Ok, Err, IsTrue, MatchOption, Contains, IsPermutation, filter}
-use Rattle.std.specs.List.{list_any}
+use Rattle.std.specs.Prelude.{◌≡◌, ◌⊎◌, ℤ, ◌≤ℤ◌, Bool, true, false, List, [], ◌∷◌, map, All, Option, Result, Ok, Err, IsTrue, MatchOption, Contains, IsPermutation, IsSorted, filter}
+use Rattle.std.specs.declared.cmp.Ordering.{Ordering}
+use Rattle.std.specs.List.{list_any, AllByRecursion}
 use Rattle.sqlite.specs.Effect.{Database}
 use Rattle.sqlite.specs.State.{State, HasCleanDisk, Shows, IsUnchanged, IsRolledBack}
 use Rattle.sql_meaning.specs.Transactions.{Looks}
@@ -43,6 +44,15 @@ IsOneOf keeps rows found = MatchOption found (list_any keeps rows ≡ false) (λ
 -- the rows that pass, each as often as it is there, in any order
 abbrev pub AreThose : {R : Type 0} → (R → Bool) → List R → List R → Type 0
 AreThose keeps rows found = IsPermutation (filter keeps rows) found
+
+-- all the rows, each as often as it is there, in this order
+abbrev pub AreAll : {R : Type 0} → (R → R → Ordering) → List R → List R → Type 0
+AreAll cmp rows found = IsPermutation rows found × IsSorted cmp found
+
+-- each number is at most those after it
+abbrev pub Rises : {R : Type 0} → (R → ℤ) → List R → Type 0
+Rises number [] = Unit {0}
+Rises number (x ∷ xs) = AllByRecursion (λ y. number x ≤ℤ number y) xs × Rises number xs
 
 -- the greatest number of the rows, if there are any
 abbrev pub IsGreatest : {R : Type 0} → (R → ℤ) → List R → Option ℤ → Type 0

@@ -1,5 +1,5 @@
 -- The changes that writes make: each names the one list that it changes, and what comes in or goes.
-use Rattle.std.specs.Prelude.{◌≡◌, ◌&&◌, ℤ, false, not, List, filter}
+use Rattle.std.specs.Prelude.{◌≡◌, ◌&&◌, ℤ, false, not, filter}
 use Rattle.std.specs.Ordering.{int_eq}
 use Rattle.sheet_types.specs.Ordered.{put, has}
 use Rattle.package_tables.specs.Shapes.{tile_shape, medium_shape, attribute_shape, tiles_media_shape, rows_media_shape, identity_shape}

@@ -8,6 +8,7 @@ pub mod Calls
 pub mod Changes
 pub mod Fixed
 pub mod Entries
+pub mod Creation
 pub mod SchemaMaking
 pub mod SchemaMade
 pub mod Shown

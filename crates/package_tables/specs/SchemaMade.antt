@@ -3,14 +3,16 @@ use Rattle.std.specs.Prelude.{◌≡◌, ℕ, ◌+◌, List, [], ◌∷◌, ◌+
 use Rattle.std.specs.List.{AllByRecursion, flat_map}
 use Rattle.sqlite.specs.Table.{Table}
 use Rattle.sqlite.specs.Schema.{Schema}
-use Rattle.sqlite.specs.Effect.{Database}
+use Rattle.sqlite.specs.Effect.{Database, IsDatabase}
 use Rattle.sqlite.specs.Change.{automatics}
 use Rattle.sqlite_schema.specs.declared.schema.Index.{Index}
 use Rattle.sqlite_value.specs.Keys.{plain}
 use Rattle.sql_meaning.specs.Known.{counters}
-use Rattle.sql_meaning.specs.Blank.{IsBlank}
+use Rattle.sql_meaning.specs.Writing.{AreKeyed}
+use Rattle.sql_meaning.specs.Blank.{IsBlank, no_schema}
 use Rattle.package_tables.specs.Tables.{gpkg_spatial_ref_sys, gpkg_contents, gpkg_tile_matrix_set, gpkg_tile_matrix, gpkgext_relations, sheet_tiles, sheet_media, sheet_rows, tiles_media, rows_media, sheet_package, sheet_identity, sheet_receipts, sheet_items}
 use Rattle.package_tables.specs.Form.{HasForm, rows_named}
+use Rattle.package_tables.specs.Package.{Tables, tables_of, AreFormed}
 
 -- SQLite makes its table of the highest rowids with the first table that counts.
 abbrev pub tables_made : List Table
@@ -64,7 +66,34 @@ pub record IsEmptyForm (db : Database) : Type 0 where
   pub form : HasForm db.schema
   pub empty : AllByRecursion (λ name. rows_named db name ≡ []) table_names
 
--- a database with the tables and indexes of a package and no others, and no rows
+-- what the tables of a new package say
+abbrev pub empty_tables : Tables
+empty_tables = record {
+  spatial_ref_sys = [];
+  contents = [];
+  tile_matrix_set = [];
+  tile_matrix = [];
+  relations = [];
+  tiles = [];
+  media = [];
+  rows = [];
+  tiles_media = [];
+  rows_media = [];
+  heads = [];
+  identities = [];
+  receipts = [];
+  moved = [];
+}
+
+-- a database with the tables and indexes of a package and no others, and no rows; its trees list its schema
 pub record IsNewPackage (db : Database) : Type 0 where
   pub blank : IsBlank package_schema db
   pub form : IsEmptyForm db
+  pub formed : AreFormed db
+  pub sound : IsDatabase db
+  pub keyed : AreKeyed db
+  pub says : tables_of db ≡ empty_tables
+
+-- a database without objects became a new package
+abbrev pub BecomesPackage : Database → Database → Type 0
+BecomesPackage old new = IsBlank no_schema old → IsNewPackage new

@@ -1,9 +1,9 @@
 -- Schemas that statements make one after the other, of a database without rows.
-use Rattle.std.specs.Prelude.{◌≡◌, ◌⊎◌, ◌<◌, ℕ, List, [], ◌∷◌, length, true, false, IsTrue}
+use Rattle.std.specs.Prelude.{◌≡◌, ◌⊎◌, ℕ, List, [], ◌∷◌, true, false, IsTrue}
 use Rattle.sqlite.specs.Table.{Table}
 use Rattle.sqlite.specs.Schema.{Schema}
 use Rattle.sqlite_schema.specs.declared.schema.Index.{Index}
-use Rattle.sqlite.specs.Effect.{Database}
+use Rattle.sqlite.specs.Effect.{Database, IsDatabase}
 use Rattle.sqlite.specs.Change.{indexed}
 use Rattle.sqlite.specs.State.{State, Shows, HasCause, store_error}
 use Rattle.sqlite.specs.declared.error.Error.{Error}
@@ -25,13 +25,13 @@ abbrev pub ExtendsBy : List (List ℕ) → Schema → Schema → Type 0
 ExtendsBy [] old new = new ≡ old
 ExtendsBy (text ∷ texts) old new = (mid : Schema) × Extends text old mid × ExtendsBy texts mid new
 
--- the text was run on a database, which had no rows and has none
+-- the text was run on a database, which had no rows and has none, and which obeys its schema
 abbrev pub Made : List ℕ → Database → Database → Type 0
-Made text old new = (first last : Schema) → Extends text first last → IsBlank first old → IsBlank last new
+Made text old new = (first last : Schema) → Extends text first last → IsBlank first old → IsBlank last new × IsDatabase new
 
 -- the same, for texts that ran in turn
 abbrev pub MadeBy : List (List ℕ) → Database → Database → Type 0
-MadeBy texts old new = (first last : Schema) → ExtendsBy texts first last → IsBlank first old → IsBlank last new
+MadeBy texts old new = (first last : Schema) → ExtendsBy texts first last → IsBlank first old → IsBlank last new × IsDatabase new
 
 -- inside a transaction, a call made this change of what the connection sees, and committed nothing
 pub record ChangedInside (Changes : Database → Database → Type 0) (old new : State) : Type 0 where

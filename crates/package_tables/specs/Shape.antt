@@ -1,11 +1,10 @@
 -- How the rows of a table stand for values of a type.
-use Rattle.std.specs.Prelude.{◌≡◌, ℕ, true, List, map, bytes_eq, filter}
+use Rattle.std.specs.Prelude.{◌≡◌, ℕ, true, List, map}
 use Rattle.std.specs.List.{AllByRecursion}
 use Rattle.sqlite.specs.Table.{Table}
 use Rattle.sqlite.specs.Order.{Row}
 use Rattle.sqlite.specs.Tree.{rowid}
 use Rattle.sqlite.specs.declared.types.Value.{Value}
-use Rattle.sqlite.specs.declared.types.Value.TheVariants.{Int}
 use Rattle.sqlite.specs.Effect.{Database}
 use Rattle.sqlite_trees.specs.View.{is_int}
 use Rattle.sheet_types.specs.Ordered.{arranged}

@@ -1,10 +1,10 @@
 // The statements on `sheet_rows`.
-ghost use Rattle.std.specs.Prelude.{◌≡◌, true};
-ghost use Rattle.std.specs.Ordering.{int_eq};
+ghost use Rattle.std.specs.Prelude.{◌≡◌};
+ghost use Rattle.std.specs.Ordering.{int_eq, int_cmp, on};
 ghost use Rattle.sqlite.specs.State.{Survives};
 ghost use Rattle.sqlite.specs.Held.{state};
 ghost use Rattle.sql_meaning.specs.Transactions.{Rests};
-ghost use Rattle.package_tables.specs.Calls.{Makes, Tells, LooksUp, IsOneOf, AreThose, IsGreatest};
+ghost use Rattle.package_tables.specs.Calls.{Makes, Tells, LooksUp, IsOneOf, AreAll, IsGreatest};
 ghost use Rattle.package_tables.specs.Changes.{AddsAttribute, DropsAttribute};
 
 use crate::fault::{Fault, settled};
@@ -84,13 +84,13 @@ pub fn attribute_by_id_inside<S: Alter>(
     first_of(tx.query_all("SELECT * FROM sheet_rows WHERE id = ?1", params![id]))
 }
 
-/// All attributes rows.
+/// All attributes rows, by their numbers.
 pub fn all_attributes<S: Alter>(
     conn: &mut Connection<S>,
     alloc: Global,
 ) -> Result<Vec<AttributeRow>, Fault>
     requires { Rests (state S.Store conn.old) }
-    ensures { LooksUp (λ t found. AreThose (λ _. true) t.rows found.items) (state S.Store conn.old) (state S.Store conn.new) result }
+    ensures { LooksUp (λ t found. AreAll (on (λ x. x.id) int_cmp) t.rows found.items) (state S.Store conn.old) (state S.Store conn.new) result }
 {
     all_of(
         alloc,

@@ -1,15 +1,21 @@
 // The statements on the tables that are the same in every package but for the frame: reference systems, contents, tile matrices and relations.
-ghost use Rattle.std.specs.Prelude.{◌≡◌};
+ghost use Rattle.std.specs.Prelude.{◌≡◌, true};
+ghost use Rattle.std.specs.Ordering.{on, int_cmp};
 ghost use Rattle.sqlite.specs.State.{Survives};
 ghost use Rattle.sqlite.specs.Held.{state};
-ghost use Rattle.package_tables.specs.Calls.{Makes};
+ghost use Rattle.sql_meaning.specs.Transactions.{Rests};
+ghost use Rattle.package_tables.specs.Calls.{Makes, LooksUp, AreThose, AreAll};
 ghost use Rattle.package_tables.specs.Entries.{AddsSpatialRefSys, AddsContents, AddsTileMatrixSet, AddsTileMatrix, AddsRelation, SetsLastChange};
 ghost use Rattle.sheet_types.specs.Ordered.{IsArranged};
 ghost use Rattle.package_tables.specs.Package.{tables_of};
 ghost use Rattle.package_tables.specs.Shapes.{contents_shape};
 
 use crate::fault::{Fault, settled};
-use sqlite::{Alter, Transaction, params};
+use crate::from_row::{FromRow, all_of};
+use crate::rows::{ContentsRow, RelationRow, SpatialRefSysRow, TileMatrixRow, TileMatrixSetRow};
+use sheet_types::collections::Text;
+use sqlite::{Alter, Connection, Row, Transaction, params};
+use std::alloc::Global;
 
 /// Enters a reference system, under a number that is free.
 pub fn insert_spatial_ref_sys<S: Alter>(
@@ -167,4 +173,184 @@ pub fn set_last_change<S: Alter>(
         "UPDATE gpkg_contents SET last_change = ?1 WHERE table_name = ?2",
         params![at, table_name],
     ))
+}
+
+impl FromRow for SpatialRefSysRow {
+    ghost use Rattle.package_tables.specs.Shown.{spatial_ref_sys_shown};
+
+    ghost shown = { spatial_ref_sys_shown };
+
+    fn from_row(row: &Row) -> Result<SpatialRefSysRow, Fault> {
+        if row.column_count() != 6 {
+            return Err(Fault::StoreFault);
+        }
+        Ok(SpatialRefSysRow {
+            srs_name: Text::from_string(row.get(0)?),
+            srs_id: row.get(1)?,
+            organization: Text::from_string(row.get(2)?),
+            organization_coordsys_id: row.get(3)?,
+            definition: Text::from_string(row.get(4)?),
+            description: Text::from_string(row.get(5)?),
+        })
+    }
+}
+
+/// All reference systems.
+pub fn all_spatial_ref_sys<S: Alter>(
+    conn: &mut Connection<S>,
+    alloc: Global,
+) -> Result<Vec<SpatialRefSysRow>, Fault>
+    requires { Rests (state S.Store conn.old) }
+    ensures { LooksUp (λ t found. AreAll (on (λ x. x.srs_id) int_cmp) t.spatial_ref_sys found.items) (state S.Store conn.old) (state S.Store conn.new) result }
+{
+    all_of(
+        alloc,
+        conn.query_all("SELECT * FROM gpkg_spatial_ref_sys ORDER BY srs_id", &[]),
+    )
+}
+
+impl FromRow for ContentsRow {
+    ghost use Rattle.package_tables.specs.Shown.{contents_shown};
+
+    ghost shown = { contents_shown };
+
+    fn from_row(row: &Row) -> Result<ContentsRow, Fault> {
+        if row.column_count() != 10 {
+            return Err(Fault::StoreFault);
+        }
+        Ok(ContentsRow {
+            table_name: Text::from_string(row.get(0)?),
+            data_type: Text::from_string(row.get(1)?),
+            identifier: Text::from_string(row.get(2)?),
+            description: Text::from_string(row.get(3)?),
+            last_change: Text::from_string(row.get(4)?),
+            min_x: row.get(5)?,
+            min_y: row.get(6)?,
+            max_x: row.get(7)?,
+            max_y: row.get(8)?,
+            srs_id: row.get(9)?,
+        })
+    }
+}
+
+/// All tables of the contents.
+pub fn all_contents<S: Alter>(
+    conn: &mut Connection<S>,
+    alloc: Global,
+) -> Result<Vec<ContentsRow>, Fault>
+    requires { Rests (state S.Store conn.old) }
+    ensures { LooksUp (λ t found. AreThose (λ _. true) t.contents found.items) (state S.Store conn.old) (state S.Store conn.new) result }
+{
+    all_of(
+        alloc,
+        conn.query_all("SELECT * FROM gpkg_contents ORDER BY table_name", &[]),
+    )
+}
+
+impl FromRow for TileMatrixSetRow {
+    ghost use Rattle.package_tables.specs.Shown.{tile_matrix_set_shown};
+
+    ghost shown = { tile_matrix_set_shown };
+
+    fn from_row(row: &Row) -> Result<TileMatrixSetRow, Fault> {
+        if row.column_count() != 6 {
+            return Err(Fault::StoreFault);
+        }
+        Ok(TileMatrixSetRow {
+            table_name: Text::from_string(row.get(0)?),
+            srs_id: row.get(1)?,
+            min_x: row.get(2)?,
+            min_y: row.get(3)?,
+            max_x: row.get(4)?,
+            max_y: row.get(5)?,
+        })
+    }
+}
+
+/// All tile matrix sets.
+pub fn all_tile_matrix_sets<S: Alter>(
+    conn: &mut Connection<S>,
+    alloc: Global,
+) -> Result<Vec<TileMatrixSetRow>, Fault>
+    requires { Rests (state S.Store conn.old) }
+    ensures { LooksUp (λ t found. AreThose (λ _. true) t.tile_matrix_set found.items) (state S.Store conn.old) (state S.Store conn.new) result }
+{
+    all_of(
+        alloc,
+        conn.query_all(
+            "SELECT * FROM gpkg_tile_matrix_set ORDER BY table_name",
+            &[],
+        ),
+    )
+}
+
+impl FromRow for TileMatrixRow {
+    ghost use Rattle.package_tables.specs.Shown.{tile_matrix_shown};
+
+    ghost shown = { tile_matrix_shown };
+
+    fn from_row(row: &Row) -> Result<TileMatrixRow, Fault> {
+        if row.column_count() != 8 {
+            return Err(Fault::StoreFault);
+        }
+        Ok(TileMatrixRow {
+            table_name: Text::from_string(row.get(0)?),
+            zoom_level: row.get(1)?,
+            matrix_width: row.get(2)?,
+            matrix_height: row.get(3)?,
+            tile_width: row.get(4)?,
+            tile_height: row.get(5)?,
+            pixel_x_size: row.get(6)?,
+            pixel_y_size: row.get(7)?,
+        })
+    }
+}
+
+/// All tile matrices.
+pub fn all_tile_matrices<S: Alter>(
+    conn: &mut Connection<S>,
+    alloc: Global,
+) -> Result<Vec<TileMatrixRow>, Fault>
+    requires { Rests (state S.Store conn.old) }
+    ensures { LooksUp (λ t found. AreAll (on (λ x. x.zoom_level) int_cmp) t.tile_matrix found.items) (state S.Store conn.old) (state S.Store conn.new) result }
+{
+    all_of(
+        alloc,
+        conn.query_all("SELECT * FROM gpkg_tile_matrix ORDER BY zoom_level", &[]),
+    )
+}
+
+impl FromRow for RelationRow {
+    ghost use Rattle.package_tables.specs.Shown.{relation_shown};
+
+    ghost shown = { relation_shown };
+
+    fn from_row(row: &Row) -> Result<RelationRow, Fault> {
+        if row.column_count() != 7 {
+            return Err(Fault::StoreFault);
+        }
+        Ok(RelationRow {
+            id: row.get(0)?,
+            base_table_name: Text::from_string(row.get(1)?),
+            base_primary_column: Text::from_string(row.get(2)?),
+            related_table_name: Text::from_string(row.get(3)?),
+            related_primary_column: Text::from_string(row.get(4)?),
+            relation_name: Text::from_string(row.get(5)?),
+            mapping_table_name: Text::from_string(row.get(6)?),
+        })
+    }
+}
+
+/// All relations.
+pub fn all_relations<S: Alter>(
+    conn: &mut Connection<S>,
+    alloc: Global,
+) -> Result<Vec<RelationRow>, Fault>
+    requires { Rests (state S.Store conn.old) }
+    ensures { LooksUp (λ t found. AreAll (on (λ x. x.id) int_cmp) t.relations found.items) (state S.Store conn.old) (state S.Store conn.new) result }
+{
+    all_of(
+        alloc,
+        conn.query_all("SELECT * FROM gpkgext_relations ORDER BY id", &[]),
+    )
 }

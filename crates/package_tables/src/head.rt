@@ -1,12 +1,18 @@
 // The statements on `sheet_package`.
-ghost use Rattle.std.specs.Prelude.{◌≡◌};
+ghost use Rattle.std.specs.Prelude.{◌≡◌, true};
+ghost use Rattle.std.specs.Ordering.{on, int_cmp};
 ghost use Rattle.sqlite.specs.State.{Survives};
 ghost use Rattle.sqlite.specs.Held.{state};
-ghost use Rattle.package_tables.specs.Calls.{Makes};
+ghost use Rattle.sql_meaning.specs.Transactions.{Rests};
+ghost use Rattle.package_tables.specs.Calls.{Makes, LooksUp, AreThose, AreAll};
 ghost use Rattle.package_tables.specs.Entries.{AddsHead};
 
 use crate::fault::{Fault, settled};
-use sqlite::{Alter, Transaction, params};
+use crate::from_row::{FromRow, all_of};
+use crate::rows::HeadRow;
+use sheet_types::collections::Text;
+use sqlite::{Alter, Connection, Row, Transaction, params};
+use std::alloc::Global;
 
 /// Enters the head of the package.
 pub fn insert_head<S: Alter>(
@@ -27,4 +33,36 @@ pub fn insert_head<S: Alter>(
         "INSERT INTO sheet_package VALUES (?1, ?2, ?3, ?4, ?5, ?6, ?7)",
         params![id, version, package, parent, depth, loan, created],
     ))
+}
+
+impl FromRow for HeadRow {
+    ghost use Rattle.package_tables.specs.Shown.{head_shown};
+
+    ghost shown = { head_shown };
+
+    fn from_row(row: &Row) -> Result<HeadRow, Fault> {
+        if row.column_count() != 7 {
+            return Err(Fault::StoreFault);
+        }
+        Ok(HeadRow {
+            id: row.get(0)?,
+            version: row.get(1)?,
+            package: Text::from_string(row.get(2)?),
+            parent: Text::from_string(row.get(3)?),
+            depth: row.get(4)?,
+            loan: row.get(5)?,
+            created: Text::from_string(row.get(6)?),
+        })
+    }
+}
+
+/// The heads; a package has one.
+pub fn all_heads<S: Alter>(conn: &mut Connection<S>, alloc: Global) -> Result<Vec<HeadRow>, Fault>
+    requires { Rests (state S.Store conn.old) }
+    ensures { LooksUp (λ t found. AreAll (on (λ x. x.id) int_cmp) t.heads found.items) (state S.Store conn.old) (state S.Store conn.new) result }
+{
+    all_of(
+        alloc,
+        conn.query_all("SELECT * FROM sheet_package ORDER BY id", &[]),
+    )
 }

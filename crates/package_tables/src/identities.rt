@@ -1,10 +1,10 @@
 // The statements on `sheet_identity`.
-ghost use Rattle.std.specs.Prelude.{◌≡◌, true, ◌&&◌, bytes_eq};
-ghost use Rattle.std.specs.Ordering.{int_eq};
+ghost use Rattle.std.specs.Prelude.{◌≡◌, ◌&&◌, bytes_eq};
+ghost use Rattle.std.specs.Ordering.{int_eq, int_cmp, on, then_cmp};
 ghost use Rattle.sqlite.specs.State.{Survives};
 ghost use Rattle.sqlite.specs.Held.{state};
 ghost use Rattle.sql_meaning.specs.Transactions.{Rests};
-ghost use Rattle.package_tables.specs.Calls.{Makes, Tells, LooksUp, IsOneOf, AreThose};
+ghost use Rattle.package_tables.specs.Calls.{Makes, Tells, LooksUp, IsOneOf, AreAll};
 ghost use Rattle.package_tables.specs.Changes.{AddsIdentity, DropsIdentity};
 
 use crate::fault::{Fault, settled};
@@ -13,6 +13,10 @@ use crate::rows::IdentityRow;
 use sheet_types::collections::Text;
 use sqlite::{Alter, Connection, Row, Transaction, params};
 use std::alloc::Global;
+
+const BY_UUID: &str = "SELECT * FROM sheet_identity WHERE uuid = ?1";
+
+const BY_KEY: &str = "SELECT * FROM sheet_identity WHERE kind = ?1 AND local_id = ?2";
 
 impl FromRow for IdentityRow {
     ghost use Rattle.package_tables.specs.Shown.{identity_shown};
@@ -72,10 +76,7 @@ pub fn identity_by_uuid<S: Alter>(
     requires { Rests (state S.Store conn.old) }
     ensures { LooksUp (λ t. IsOneOf (λ x. bytes_eq x.uuid uuid.now) t.identities) (state S.Store conn.old) (state S.Store conn.new) result }
 {
-    first_of(conn.query_all(
-        "SELECT * FROM sheet_identity WHERE uuid = ?1",
-        params![uuid],
-    ))
+    first_of(conn.query_all(BY_UUID, params![uuid]))
 }
 
 /// The row that has this lasting identity, inside a transaction.
@@ -87,10 +88,7 @@ pub fn identity_by_uuid_inside<S: Alter>(
     ensures told { Tells (λ t. IsOneOf (λ x. bytes_eq x.uuid uuid.now) t.identities) (state S.Store tx.old.conn.now) (state S.Store tx.new.conn.now) result }
     ensures survives { Survives (state S.Store tx.old.conn.now) (state S.Store tx.new.conn.now) (λ _. ⊥) }
 {
-    first_of(tx.query_all(
-        "SELECT * FROM sheet_identity WHERE uuid = ?1",
-        params![uuid],
-    ))
+    first_of(tx.query_all(BY_UUID, params![uuid]))
 }
 
 /// The lasting identity of this row.
@@ -102,10 +100,7 @@ pub fn identity_by_key<S: Alter>(
     requires { Rests (state S.Store conn.old) }
     ensures { LooksUp (λ t. IsOneOf (λ x. int_eq x.kind kind && int_eq x.local_id local_id) t.identities) (state S.Store conn.old) (state S.Store conn.new) result }
 {
-    first_of(conn.query_all(
-        "SELECT * FROM sheet_identity WHERE kind = ?1 AND local_id = ?2",
-        params![kind, local_id],
-    ))
+    first_of(conn.query_all(BY_KEY, params![kind, local_id]))
 }
 
 /// The lasting identity of this row, inside a transaction.
@@ -118,19 +113,16 @@ pub fn identity_by_key_inside<S: Alter>(
     ensures told { Tells (λ t. IsOneOf (λ x. int_eq x.kind kind && int_eq x.local_id local_id) t.identities) (state S.Store tx.old.conn.now) (state S.Store tx.new.conn.now) result }
     ensures survives { Survives (state S.Store tx.old.conn.now) (state S.Store tx.new.conn.now) (λ _. ⊥) }
 {
-    first_of(tx.query_all(
-        "SELECT * FROM sheet_identity WHERE kind = ?1 AND local_id = ?2",
-        params![kind, local_id],
-    ))
+    first_of(tx.query_all(BY_KEY, params![kind, local_id]))
 }
 
-/// All lasting identities.
+/// All lasting identities, by their kinds and numbers.
 pub fn all_identities<S: Alter>(
     conn: &mut Connection<S>,
     alloc: Global,
 ) -> Result<Vec<IdentityRow>, Fault>
     requires { Rests (state S.Store conn.old) }
-    ensures { LooksUp (λ t found. AreThose (λ _. true) t.identities found.items) (state S.Store conn.old) (state S.Store conn.new) result }
+    ensures { LooksUp (λ t found. AreAll (then_cmp (on (λ x. x.kind) int_cmp) (on (λ x. x.local_id) int_cmp)) t.identities found.items) (state S.Store conn.old) (state S.Store conn.new) result }
 {
     all_of(
         alloc,

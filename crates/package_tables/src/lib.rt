@@ -2,14 +2,20 @@
 #![tactic(auto)]
 
 pub mod attributes;
+pub mod create;
+#[cfg(test)]
+mod create_tests;
 pub mod fault;
 pub mod fixed;
+mod fixed_rows;
 pub(crate) mod from_row;
 pub mod head;
 pub mod identities;
+mod levels;
 pub mod mappings;
 pub mod media;
 pub mod moved;
+pub mod package;
 pub mod receipts;
 pub mod rows;
 pub mod schema;

@@ -1,10 +1,10 @@
 // The statements on `tiles_media` and `rows_media`.
-ghost use Rattle.std.specs.Prelude.{◌≡◌, true, ◌&&◌};
-ghost use Rattle.std.specs.Ordering.{int_eq};
+ghost use Rattle.std.specs.Prelude.{◌≡◌, ◌&&◌};
+ghost use Rattle.std.specs.Ordering.{int_eq, int_cmp, on, then_cmp};
 ghost use Rattle.sqlite.specs.State.{Survives};
 ghost use Rattle.sqlite.specs.Held.{state};
 ghost use Rattle.sql_meaning.specs.Transactions.{Rests};
-ghost use Rattle.package_tables.specs.Calls.{Makes, LooksUp, IsOneOf, AreThose};
+ghost use Rattle.package_tables.specs.Calls.{Makes, LooksUp, IsOneOf, AreAll};
 ghost use Rattle.package_tables.specs.Changes.{AddsTilesMedia, DropsTilesMedia, AddsRowsMedia, DropsRowsMedia};
 
 use crate::fault::{Fault, settled};
@@ -104,13 +104,13 @@ pub fn tiles_media_of_related<S: Alter>(
     ))
 }
 
-/// All relations of tiles to media.
+/// All relations of tiles to media, by both numbers.
 pub fn all_tiles_media<S: Alter>(
     conn: &mut Connection<S>,
     alloc: Global,
 ) -> Result<Vec<MappingRow>, Fault>
     requires { Rests (state S.Store conn.old) }
-    ensures { LooksUp (λ t found. AreThose (λ _. true) t.tiles_media found.items) (state S.Store conn.old) (state S.Store conn.new) result }
+    ensures { LooksUp (λ t found. AreAll (then_cmp (on (λ x. x.base_id) int_cmp) (on (λ x. x.related_id) int_cmp)) t.tiles_media found.items) (state S.Store conn.old) (state S.Store conn.new) result }
 {
     all_of(
         alloc,
@@ -196,13 +196,13 @@ pub fn rows_media_of_related<S: Alter>(
     ))
 }
 
-/// All relations of attributes rows to media.
+/// All relations of attributes rows to media, by both numbers.
 pub fn all_rows_media<S: Alter>(
     conn: &mut Connection<S>,
     alloc: Global,
 ) -> Result<Vec<MappingRow>, Fault>
     requires { Rests (state S.Store conn.old) }
-    ensures { LooksUp (λ t found. AreThose (λ _. true) t.rows_media found.items) (state S.Store conn.old) (state S.Store conn.new) result }
+    ensures { LooksUp (λ t found. AreAll (then_cmp (on (λ x. x.base_id) int_cmp) (on (λ x. x.related_id) int_cmp)) t.rows_media found.items) (state S.Store conn.old) (state S.Store conn.new) result }
 {
     all_of(
         alloc,

@@ -1,12 +1,18 @@
 // The statements on `sheet_items`.
-ghost use Rattle.std.specs.Prelude.{◌≡◌};
+ghost use Rattle.std.specs.Prelude.{◌≡◌, true, bytes_eq};
+ghost use Rattle.std.specs.Ordering.{int_cmp, int_eq, on};
 ghost use Rattle.sqlite.specs.State.{Survives};
 ghost use Rattle.sqlite.specs.Held.{state};
-ghost use Rattle.package_tables.specs.Calls.{Makes};
+ghost use Rattle.sql_meaning.specs.Transactions.{Rests};
+ghost use Rattle.package_tables.specs.Calls.{Makes, LooksUp, IsOneOf, AreThose, Rises, AreAll};
 ghost use Rattle.package_tables.specs.Entries.{AddsMoved};
 
 use crate::fault::{Fault, settled};
-use sqlite::{Alter, Transaction, params};
+use crate::from_row::{FromRow, all_of, first_of};
+use crate::rows::MovedRow;
+use sheet_types::collections::Text;
+use sqlite::{Alter, Connection, Row, Transaction, params};
+use std::alloc::Global;
 
 /// Enters one thing that a receipt moved, at a position of it that is free.
 pub fn insert_moved<S: Alter>(
@@ -27,4 +33,65 @@ pub fn insert_moved<S: Alter>(
         "INSERT INTO sheet_items VALUES (?1, ?2, ?3, ?4, ?5, ?6, ?7)",
         params![seq, position, kind, base, other, size, fingerprint],
     ))
+}
+
+impl FromRow for MovedRow {
+    ghost use Rattle.package_tables.specs.Shown.{moved_shown};
+
+    ghost shown = { moved_shown };
+
+    fn from_row(row: &Row) -> Result<MovedRow, Fault> {
+        if row.column_count() != 7 {
+            return Err(Fault::StoreFault);
+        }
+        Ok(MovedRow {
+            seq: row.get(0)?,
+            position: row.get(1)?,
+            kind: row.get(2)?,
+            base: Text::from_string(row.get(3)?),
+            other: Text::from_string(row.get(4)?),
+            size: row.get(5)?,
+            fingerprint: Text::from_string(row.get(6)?),
+        })
+    }
+}
+
+/// What a receipt moved, in the order of the positions.
+pub fn moved_of<S: Alter>(
+    conn: &mut Connection<S>,
+    alloc: Global,
+    seq: i64,
+) -> Result<Vec<MovedRow>, Fault>
+    requires { Rests (state S.Store conn.old) }
+    ensures { LooksUp (λ t found. AreThose (λ x. int_eq x.seq seq) t.moved found.items × Rises (λ x. x.position) found.items) (state S.Store conn.old) (state S.Store conn.new) result }
+{
+    all_of(
+        alloc,
+        conn.query_all(
+            "SELECT * FROM sheet_items WHERE seq = ?1 ORDER BY position",
+            params![seq],
+        ),
+    )
+}
+
+/// Some thing that was moved and has this identity, where there is one.
+pub fn moved_with_base<S: Alter>(
+    conn: &mut Connection<S>,
+    base: &str,
+) -> Result<Option<MovedRow>, Fault>
+    requires { Rests (state S.Store conn.old) }
+    ensures { LooksUp (λ t. IsOneOf (λ x. bytes_eq x.base base.now) t.moved) (state S.Store conn.old) (state S.Store conn.new) result }
+{
+    first_of(conn.query_all("SELECT * FROM sheet_items WHERE base = ?1", params![base]))
+}
+
+/// All that receipts moved.
+pub fn all_moved<S: Alter>(conn: &mut Connection<S>, alloc: Global) -> Result<Vec<MovedRow>, Fault>
+    requires { Rests (state S.Store conn.old) }
+    ensures { LooksUp (λ t found. AreAll (on (λ x. x.seq) int_cmp) t.moved found.items) (state S.Store conn.old) (state S.Store conn.new) result }
+{
+    all_of(
+        alloc,
+        conn.query_all("SELECT * FROM sheet_items ORDER BY seq", &[]),
+    )
 }

@@ -1,12 +1,18 @@
 // The statements on `sheet_receipts`.
-ghost use Rattle.std.specs.Prelude.{◌≡◌};
+ghost use Rattle.std.specs.Prelude.{◌≡◌, true, bytes_eq, filter};
+ghost use Rattle.std.specs.Ordering.{int_cmp, int_eq, on};
 ghost use Rattle.sqlite.specs.State.{Survives};
 ghost use Rattle.sqlite.specs.Held.{state};
-ghost use Rattle.package_tables.specs.Calls.{Makes};
+ghost use Rattle.sql_meaning.specs.Transactions.{Rests};
+ghost use Rattle.package_tables.specs.Calls.{Makes, LooksUp, IsOneOf, IsGreatest, AreAll};
 ghost use Rattle.package_tables.specs.Entries.{AddsReceipt};
 
 use crate::fault::{Fault, settled};
-use sqlite::{Alter, Transaction, params};
+use crate::from_row::{FromRow, all_of, first_of, number_of};
+use crate::rows::ReceiptRow;
+use sheet_types::collections::Text;
+use sqlite::{Alter, Connection, Row, Transaction, params};
+use std::alloc::Global;
 
 /// Enters a receipt, under a number and a request that are free.
 pub fn insert_receipt<S: Alter>(
@@ -32,5 +38,97 @@ pub fn insert_receipt<S: Alter>(
         params![
             seq, request, at, line, source, target, n_tiles, n_media, n_rows, n_links, n_bytes
         ],
+    ))
+}
+
+impl FromRow for ReceiptRow {
+    ghost use Rattle.package_tables.specs.Shown.{receipt_shown};
+
+    ghost shown = { receipt_shown };
+
+    fn from_row(row: &Row) -> Result<ReceiptRow, Fault> {
+        if row.column_count() != 11 {
+            return Err(Fault::StoreFault);
+        }
+        Ok(ReceiptRow {
+            seq: row.get(0)?,
+            request: Text::from_string(row.get(1)?),
+            at: Text::from_string(row.get(2)?),
+            line: Text::from_string(row.get(3)?),
+            source: Text::from_string(row.get(4)?),
+            target: Text::from_string(row.get(5)?),
+            n_tiles: row.get(6)?,
+            n_media: row.get(7)?,
+            n_rows: row.get(8)?,
+            n_links: row.get(9)?,
+            n_bytes: row.get(10)?,
+        })
+    }
+}
+
+/// The receipt of a request.
+pub fn receipt_by_request<S: Alter>(
+    conn: &mut Connection<S>,
+    request: &str,
+) -> Result<Option<ReceiptRow>, Fault>
+    requires { Rests (state S.Store conn.old) }
+    ensures { LooksUp (λ t. IsOneOf (λ x. bytes_eq x.request request.now) t.receipts) (state S.Store conn.old) (state S.Store conn.new) result }
+{
+    first_of(conn.query_all(
+        "SELECT * FROM sheet_receipts WHERE request = ?1",
+        params![request],
+    ))
+}
+
+/// The receipt of this number.
+pub fn receipt_by_seq<S: Alter>(
+    conn: &mut Connection<S>,
+    seq: i64,
+) -> Result<Option<ReceiptRow>, Fault>
+    requires { Rests (state S.Store conn.old) }
+    ensures { LooksUp (λ t. IsOneOf (λ x. int_eq x.seq seq) t.receipts) (state S.Store conn.old) (state S.Store conn.new) result }
+{
+    first_of(conn.query_all("SELECT * FROM sheet_receipts WHERE seq = ?1", params![seq]))
+}
+
+/// All receipts, in the order of their numbers.
+pub fn all_receipts<S: Alter>(
+    conn: &mut Connection<S>,
+    alloc: Global,
+) -> Result<Vec<ReceiptRow>, Fault>
+    requires { Rests (state S.Store conn.old) }
+    ensures { LooksUp (λ t found. AreAll (on (λ x. x.seq) int_cmp) t.receipts found.items) (state S.Store conn.old) (state S.Store conn.new) result }
+{
+    all_of(
+        alloc,
+        conn.query_all("SELECT * FROM sheet_receipts ORDER BY seq", &[]),
+    )
+}
+
+/// The greatest number of a receipt with this source, where there is one.
+pub fn greatest_seq_from<S: Alter>(
+    conn: &mut Connection<S>,
+    source: &str,
+) -> Result<Option<i64>, Fault>
+    requires { Rests (state S.Store conn.old) }
+    ensures { LooksUp (λ t. IsGreatest (λ x. x.seq) (filter (λ x. bytes_eq x.source source.now) t.receipts)) (state S.Store conn.old) (state S.Store conn.new) result }
+{
+    number_of(conn.query_all(
+        "SELECT * FROM sheet_receipts WHERE source = ?1 ORDER BY seq DESC LIMIT 1",
+        params![source],
+    ))
+}
+
+/// The greatest number of a receipt with this target, where there is one.
+pub fn greatest_seq_to<S: Alter>(
+    conn: &mut Connection<S>,
+    target: &str,
+) -> Result<Option<i64>, Fault>
+    requires { Rests (state S.Store conn.old) }
+    ensures { LooksUp (λ t. IsGreatest (λ x. x.seq) (filter (λ x. bytes_eq x.target target.now) t.receipts)) (state S.Store conn.old) (state S.Store conn.new) result }
+{
+    number_of(conn.query_all(
+        "SELECT * FROM sheet_receipts WHERE target = ?1 ORDER BY seq DESC LIMIT 1",
+        params![target],
     ))
 }

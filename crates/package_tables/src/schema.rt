@@ -1,14 +1,17 @@
 //! The tables and indexes of a new package.
+//!
+//! `create_schema` is one step of a transaction. It tells the whole schema, so that each statement of this crate may be run on it.
+//! An edit of a text needs its facts anew: `tools/schema_facts.py` writes proofs/Texts, and the check decides.
 
-ghost use Rattle.std.specs.Prelude.{◌≡◌, ◌<◌, true, length, map, IfErr, OnOk};
+ghost use Rattle.std.specs.Prelude.{◌≡◌, ◌<◌, true, false, length, map, Err, IfErr, OnOk};
 ghost use Rattle.sqlite.specs.State.{HasCleanDisk, KeepsCommit, Survives};
 ghost use Rattle.sqlite.specs.Held.{state};
 ghost use Rattle.sql_meaning.specs.Writing.{WritesInside};
 ghost use Rattle.sql_meaning.specs.Blank.{IsBlank, no_schema};
 ghost use Rattle.package_tables.specs.SchemaMaking.{Made, MadeBy, ChangedInside, FailsToMake, FailsToMakeBy, FailsInside};
-ghost use Rattle.package_tables.specs.SchemaMade.{IsNewPackage};
+ghost use Rattle.package_tables.specs.SchemaMade.{BecomesPackage};
 
-use sqlite::{Alter, Error, Transaction};
+use sqlite::{Alter, Error, ErrorCode, Transaction};
 
 // The statements stand in an order in which each reference names a table that is there.
 const SPATIAL_REFERENCE_SYSTEMS: &str =
@@ -89,14 +92,16 @@ const STATEMENTS: [&str; 20] = [
 ];
 
 /// Makes the table or the index that the text defines.
-fn make<S: Alter>(tx: &mut Transaction<'_, S>, sql: &str) -> Result<usize, Error>
+fn make<S: Alter>(tx: &mut Transaction<'_, S>, sql: &str) -> Result<(), Error>
     ensures same_reference { tx.new.conn.ghost_name ≡ tx.old.conn.ghost_name }
     ensures made { HasCleanDisk (state S.Store tx.new.conn.now) → tx.old.conn.now.in_transaction ≡ true → WritesInside (Made sql.now) (state S.Store tx.old.conn.now) (state S.Store tx.new.conn.now) result }
     ensures failed { HasCleanDisk (state S.Store tx.new.conn.now) → tx.old.conn.now.in_transaction ≡ true → IfErr result (FailsToMake sql.now (state S.Store tx.old.conn.now) (state S.Store tx.new.conn.now)) }
+    ensures ended { tx.old.conn.now.in_transaction ≡ false → (result ≡ Err (Error.SqliteFailure ErrorCode.TransactionState)) × (tx.new.conn.now ≡ tx.old.conn.now) }
     ensures kept { HasCleanDisk (state S.Store tx.new.conn.now) → KeepsCommit (state S.Store tx.old.conn.now) (state S.Store tx.new.conn.now) }
     ensures survives { Survives (state S.Store tx.old.conn.now) (state S.Store tx.new.conn.now) (λ _. ⊥) }
 {
-    tx.execute(sql, &[])
+    tx.execute(sql, &[])?;
+    Ok(())
 }
 
 /// Makes what each of the texts defines, in order, up to the first that fails.
@@ -104,6 +109,7 @@ fn make_each<S: Alter>(tx: &mut Transaction<'_, S>, texts: &[&str]) -> Result<()
     ensures same_reference { tx.new.conn.ghost_name ≡ tx.old.conn.ghost_name }
     ensures made { 0 < length texts.now → HasCleanDisk (state S.Store tx.new.conn.now) → tx.old.conn.now.in_transaction ≡ true → OnOk result (ChangedInside (MadeBy (map (λ text. text.now) texts.now)) (state S.Store tx.old.conn.now) (state S.Store tx.new.conn.now)) }
     ensures failed { HasCleanDisk (state S.Store tx.new.conn.now) → tx.old.conn.now.in_transaction ≡ true → IfErr result (FailsToMakeBy (map (λ text. text.now) texts.now) (state S.Store tx.old.conn.now) (state S.Store tx.new.conn.now)) }
+    ensures ended { 0 < length texts.now → tx.old.conn.now.in_transaction ≡ false → (result ≡ Err (Error.SqliteFailure ErrorCode.TransactionState)) × (tx.new.conn.now ≡ tx.old.conn.now) }
     ensures kept { HasCleanDisk (state S.Store tx.new.conn.now) → KeepsCommit (state S.Store tx.old.conn.now) (state S.Store tx.new.conn.now) }
     ensures survives { Survives (state S.Store tx.old.conn.now) (state S.Store tx.new.conn.now) (λ _. ⊥) }
 {
@@ -124,8 +130,9 @@ fn make_each<S: Alter>(tx: &mut Transaction<'_, S>, texts: &[&str]) -> Result<()
 /// connection was shut before. The transaction is rolled back then. Where it had ended before the call, the error is `TransactionState`.
 pub fn create_schema<S: Alter>(tx: &mut Transaction<'_, S>) -> Result<(), Error>
     ensures same_reference { tx.new.conn.ghost_name ≡ tx.old.conn.ghost_name }
-    ensures made { HasCleanDisk (state S.Store tx.new.conn.now) → tx.old.conn.now.in_transaction ≡ true → IsBlank no_schema (state S.Store tx.old.conn.now).now → OnOk result (ChangedInside (λ _ db. IsNewPackage db) (state S.Store tx.old.conn.now) (state S.Store tx.new.conn.now)) }
+    ensures made { HasCleanDisk (state S.Store tx.new.conn.now) → tx.old.conn.now.in_transaction ≡ true → OnOk result (ChangedInside BecomesPackage (state S.Store tx.old.conn.now) (state S.Store tx.new.conn.now)) }
     ensures failed { HasCleanDisk (state S.Store tx.new.conn.now) → tx.old.conn.now.in_transaction ≡ true → IsBlank no_schema (state S.Store tx.old.conn.now).now → IfErr result (FailsInside (state S.Store tx.old.conn.now) (state S.Store tx.new.conn.now)) }
+    ensures ended { tx.old.conn.now.in_transaction ≡ false → (result ≡ Err (Error.SqliteFailure ErrorCode.TransactionState)) × (tx.new.conn.now ≡ tx.old.conn.now) }
     ensures kept { HasCleanDisk (state S.Store tx.new.conn.now) → KeepsCommit (state S.Store tx.old.conn.now) (state S.Store tx.new.conn.now) }
     ensures survives { Survives (state S.Store tx.old.conn.now) (state S.Store tx.new.conn.now) (λ _. ⊥) }
 {

@@ -1,7 +1,7 @@
 #!/usr/bin/env python3
 """Writes proofs/Texts.antt and proofs/Texts/: what each text of src/schema.rt makes of the schema that the texts before it made.
 
-Run it in the crate's folder after an edit of the texts; the check decides whether what it wrote is true.
+Run it in the crate's folder after an edit of the texts, and then `rt fmt`. The check decides whether what it wrote is true.
 """
 import pathlib
 import re

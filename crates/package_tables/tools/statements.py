@@ -1,6 +1,6 @@
 #!/usr/bin/env python3
 """Writes what is alike in the proofs of the statements: proofs/*Statements.antt, and the answer file of each function.
-Run it in the crate's folder, and then rt fmt. The Rust functions are written by hand; each takes the arguments of its
+Run it in the crate's folder, and then rt fmt and rt tidy. The Rust functions are written by hand; each takes the arguments of its
 statement in the order of the parameters."""
 import os
 
@@ -122,6 +122,26 @@ def all_text(t):
     return "SELECT * FROM %s ORDER BY %s" % (t["table"], ", ".join(t["by"]))
 
 
+def order_of(t):
+    return nested(lambda a, b: "(then_cmp %s %s)" % (a, b), ["(on (λ x. x.%s) int_cmp)" % c for c in t["by"]])
+
+
+def ranked(t):
+    one = ["x.%s y.%s" % (c, c) for c in t["by"]]
+    return [
+        "",
+        "pub all_ranked : IsRanked all %s" % order_of(t),
+        "unfolding all",
+        "all_ranked = record { keys = λ x. %s[]; keyed = λ v x. refl; total = %s; alike = λ x y. %s %s }"
+        % (
+            "".join("Int x.%s ∷ " % c for c in t["by"]),
+            nested(lambda a, b: "then_total %s %s" % (a, b), ["(on_total (λ x. x.%s) int_cmp_total)" % c for c in t["by"]]),
+            "one_number" if len(one) == 1 else "two_numbers",
+            " ".join(one),
+        ),
+    ]
+
+
 def newest_text(t):
     return "SELECT * FROM %s ORDER BY %s DESC LIMIT 1" % (t["table"], t["by"][0])
 
@@ -180,7 +200,8 @@ def statements(t):
         "-- The statements on `%s`. Written by tools/statements.py." % t["table"],
         "use Rattle.std.proofs.Common.{◌≡◌, ℕ, ℤ, List, [], ◌∷◌, Bool, true, codes, refl}",
         "use Rattle.std.specs.Prelude.{◌&&◌, bytes_eq}",
-        "use Rattle.std.specs.Ordering.{int_eq}",
+        "use Rattle.std.specs.Ordering.{int_eq, int_cmp, on, then_cmp}",
+        "use Rattle.std.proofs.lemmas.Cmp.{on_total, then_total, int_cmp_total}",
         "use Rattle.sqlite.specs.Order.{Row}",
         "use Rattle.sqlite.specs.Term.{col}",
         "use Rattle.sqlite.specs.Edit.{next_rowid}",
@@ -197,8 +218,9 @@ def statements(t):
         "use Rattle.package_tables.specs.Shapes.{%s, int_at, text_at, blob_at}" % t["shape"],
         "use Rattle.package_tables.specs.Shown.{%s}" % t["shown"],
         "use Rattle.package_tables.specs.declared.rows.%s.{%s}" % (t["row"], t["row"]),
-        "use Rattle.package_tables.proofs.Looking.{IsKnown, IsRead}",
+        "use Rattle.package_tables.proofs.Looking.{IsKnown, IsRead, IsRanked}",
         "use Rattle.package_tables.proofs.Newest.{IsNewest}",
+        "use Rattle.package_tables.proofs.Ranking.{one_number, two_numbers}",
         "use Rattle.package_tables.proofs.Values.{same_number, same_text, both_same}",
         "use Rattle.package_tables.proofs.Written.{%s_is}" % t["shape"],
         "",
@@ -235,6 +257,7 @@ def statements(t):
     by = "(%s[])" % "".join("(col 1 %d, ascending) ∷ " % place(t, c) for c in t["by"])
     out += text_of("all", all_text(t), t, "always", by, "refl")
     out += ["", "pub all : IsRead %s %s (codes \"%s\") [] (λ x. true)" % (t["shape"], t["shown"], all_text(t)), "all = %s" % read_record("all", "λ v x. refl")]
+    out += ranked(t)
     if "greatest" in t:
         out += newest_facts(t)
     return "\n".join(out) + "\n"
@@ -343,15 +366,15 @@ def delete_answer(t):
 
 
 def read_answer(t, name, function, columns, inside, many):
-    lemma = ("tells" if inside else "looks") + ("_all" if many else "_one")
+    lemma = "looks_in_order" if many else "tells_one" if inside else "looks_one"
     step = "all_of" if many else "first_of"
     read = "(%s %s)" % (name, passed(t, columns)) if columns else name
-    values = "(λ found. found.items) " if many else ""
+    values = "(λ x. refl) all_ranked (λ found. found.items) " if many else ""
     head = [
         "use Rattle.std.proofs.Common.{refl, to_z-of_z}",
         "use Rattle.sqlite.specs.Held.{state}",
         "use Rattle.package_tables.proofs.Looking.{%s}" % lemma,
-        "use Rattle.package_tables.proofs.%s.{known, %s}" % (t["file"], name),
+        "use Rattle.package_tables.proofs.%s.{known, %s}" % (t["file"], "all, all_ranked" if many else name),
         "use Rattle.package_tables.proofs.%s.%s.Goals as goal" % (t["module"], function),
         "",
     ]

@@ -1,7 +1,6 @@
 -- A SELECT changes nothing, whatever it answers and however it fails.
-use Rattle.std.proofs.Common.{◌≡◌, ◌⊎◌, inl, inr, ℕ, Bool, true, false, cond, Option, Some, None, List, Result, Ok, Err, IsTrue, IsSome, refl, sym, ap, subst, ◌∙◌, arith}
+use Rattle.std.proofs.Common.{◌≡◌, ◌⊎◌, inl, inr, ℕ, Bool, true, false, cond, Option, None, List, Result, Ok, Err, IsErr, IsTrue, arith, refl, sym, ap, subst, ◌∙◌}
 use Rattle.std.specs.Prelude.{IfOk, IfErr}
-use Rattle.std.proofs.lemmas.Bool.{cases_Bool}
 use Rattle.sqlite.specs.Tree.{Trees}
 use Rattle.sqlite.specs.Store.{Ghosts}
 use Rattle.sqlite_ast.specs.declared.Select.{Select as Written}
@@ -13,7 +12,7 @@ use Rattle.sqlite_resolve.specs.declared.compiled.Compiled.{Compiled}
 use Rattle.sqlite_resolve.specs.declared.error.CompileError.{CompileError}
 use Rattle.sqlite_resolve.specs.declared.error.CompileError.TheVariants.{NoSuchTable}
 use Rattle.sqlite_resolve.specs.Lowering.{Checked, and_then}
-use Rattle.sqlite_resolve.specs.Compile.{first, compiled, planned, meaning, timed, returning, command, with_command}
+use Rattle.sqlite_resolve.specs.Compile.{first, compiled, planned, meaning, timed, returning, with_command}
 use Rattle.sqlite.specs.Listing.{understood, reads_listing, listing_schema, is_select, if_select}
 use Rattle.sqlite.specs.Order.{Row}
 use Rattle.sqlite.specs.Schema.{Schema}
@@ -30,7 +29,8 @@ use Rattle.sql_meaning.specs.Reading.{Test, Listing, Finds}
 use Rattle.sql_meaning.proofs.Where.{are_given}
 use Rattle.sql_meaning.proofs.Select.{IsSelect, IsPlannedSelect, listing_of, listed}
 use Rattle.sql_meaning.specs.Transactions.{Rests, Holds, Made, Steps, Looks}
-use Rattle.sql_meaning.proofs.Transactions.{Shuts, Settles, clean_open}
+use Rattle.sql_meaning.specs.Writing.{Chained}
+use Rattle.sql_meaning.proofs.Transactions.{Shuts, Settles, clean_open, none_left}
 
 -- whatever is compiled has no RETURNING
 abbrev Bare : Result Compiled CompileError → Type 0
@@ -133,6 +133,35 @@ module _ (text : List ℕ) (p : Parsed) (asks : Written) (parsed : first text �
         at : (r : Result X Error) → IfOk r (λ x. Shown text params (state g old) (state g new) (items x)) → IfOk r (λ x. IsTrue (state g new).is_open × Answers x (state g old).now (state g new).now)
         at (Ok x) shown = ((shown_unchanged params (state g old) (state g new) (items x) shown).0.is_open, means x shown)
         at (Err e) shown = tt
+
+-- ---- several reads of a store at rest
+
+-- a read that failed, or whose answer is refused
+pub looks_failed : {X Y E F : Type 0} {P : X → Database → Database → Type 0} {Q : Y → Database → Database → Type 0} {old new : State} {q : Result X E} (r : Result Y F) → IsErr r → Looks P old new q → Looks Q old new r
+looks_failed {X} {Y} {E} {F} {P} {Q} {old} {new} r failed h = record { rests = h.rests; done = λ clean. at r failed; was_open = h.was_open; holds = h.holds; survives = h.survives }
+  where
+    at : (r : Result Y F) → IsErr r → IfOk r (λ y. IsTrue new.is_open × Q y old.now new.now)
+    at (Ok y) failed = absurd (let e = failed in cc)
+    at (Err f) failed = tt
+
+-- the answer in another form
+pub looks_answer : {X Y E F : Type 0} {P : X → Database → Database → Type 0} (Q : Y → Database → Database → Type 0) {old new : State} {x : X} (y : Y) → (P x old.now new.now → Q y old.now new.now) → Looks {E = E} P old new (Ok x) → Looks {E = F} Q old new (Ok y)
+looks_answer Q y f h = record { rests = h.rests; done = λ clean. let it = h.done clean in (it.0, f it.1); was_open = h.was_open; holds = h.holds; survives = h.survives }
+
+-- one read after the other
+pub looks_then : {S : Type 0} (g : Ghosts S) (shuts : Shuts g) (settles : Settles g) {X Y E F : Type 0} {P : X → Database → Database → Type 0} {Q : Y → Database → Database → Type 0} {old mid : State} (new : Held S) {x : X} {r : Result Y F}
+    → Looks {E = E} P old mid (Ok x) → Looks Q mid (state g new) r → Looks (λ y. Chained (P x) (Q y)) old (state g new) r
+looks_then g shuts settles {X} {Y} {E} {F} {P} {Q} {old} {mid} new {x} {r} one two = record {
+  rests = two.rests;
+  done = λ clean. at r (one.done (omega (arith, two.survives.clean, clean))).1 (two.done clean);
+  was_open = λ is_open. one.was_open (two.was_open is_open);
+  holds = λ is_open. subst (Holds (state g new)) (one.holds (two.was_open is_open)).now_is (two.holds is_open);
+  survives = none_left old mid (state g new) one.survives two.survives;
+}
+  where
+    at : (r : Result Y F) → P x old.now mid.now → IfOk r (λ y. IsTrue (state g new).is_open × Q y mid.now (state g new).now) → IfOk r (λ y. IsTrue (state g new).is_open × Chained (P x) (Q y) old.now (state g new).now)
+    at (Ok y) first it = (it.0, (mid.now, first, it.1))
+    at (Err e) first it = tt
 
 -- ---- a SELECT of a known table
 

@@ -1,6 +1,6 @@
 -- A CREATE that the catalogue has no reason to refuse fails only where the store does.
-use Rattle.std.proofs.Common.{◌≡◌, ◌⊎◌, inl, inr, ℕ, ◌+◌, ◌*◌, ◌^◌, ◌≤◌, ◌<◌, nat_lt, List, [], ◌∷◌, length, codes, Bool, true, false, not, ◌&&◌, ◌==◌, Option, None, Some, Ok, Err, Result, IsUtf8, refl, sym, ap, subst, ◌∙◌, arith, MatchBool}
-use Rattle.std.proofs.lemmas.Bool.{cases_Bool, both_ways, ltb-true, leb-true, and_from, and_parts, not_from_false}
+use Rattle.std.proofs.Common.{◌≡◌, inl, inr, ℕ, ◌≤◌, nat_lt, List, [], ◌∷◌, true, false, Option, None, Some, Ok, Err, IsUtf8, sym, subst, ◌∙◌, arith}
+use Rattle.std.proofs.lemmas.Bool.{both_ways, ltb-true, and_from, and_parts, not_from_false}
 use Rattle.std.proofs.lemmas.Str.{IsUtf8-from_is_utf8}
 use Rattle.sqlite.specs.Table.{Table}
 use Rattle.sqlite.specs.Schema.{Schema}
@@ -11,7 +11,7 @@ use Rattle.sqlite_resolve.specs.Compile.{table_defined_by, index_defined_by}
 use Rattle.sqlite_catalog.specs.declared.error.Refusal.{Refusal}
 use Rattle.sqlite_catalog.specs.declared.error.Refusal.TheVariants.{Invalid, NameTaken, BadName, TooBig, BadKey, BadText, Violates}
 use Rattle.sqlite_catalog.specs.Change.{is_used, automatics, indexed}
-use Rattle.sqlite_catalog.specs.Calls.{RefusesTable, IsLongTable, RefusesIndex}
+use Rattle.sqlite_catalog.specs.Calls.{RefusesTable, RefusesIndex}
 use Rattle.sqlite.specs.Does.{MakesTable, MakesIndex}
 use Rattle.sqlite.specs.Order.{Row}
 use Rattle.sqlite.specs.Tree.{Trees}
@@ -20,7 +20,7 @@ use Rattle.sqlite_schema.specs.Rules.{passes}
 use Rattle.sqlite_schema.specs.declared.schema.Constraint.TheVariants.{Unique}
 use Rattle.sqlite.specs.Effect.{Database}
 use Rattle.sqlite.specs.declared.error.Error.{Error}
-use Rattle.sql_meaning.specs.Certain.{IsAlone, FitsTable, FitsGrown, FitsIndex}
+use Rattle.sql_meaning.specs.Certain.{FitsTable, FitsIndex}
 use Rattle.sql_meaning.proofs.Writes.{same_value}
 
 -- a number that is below another is not above it

@@ -1,5 +1,5 @@
 -- A statement that nothing refuses fails only where the store does.
-use Rattle.std.proofs.Common.{◌≡◌, ◌≢◌, ◌⊎◌, inl, inr, ℕ, ◌≤◌, List, [], length, slice_range, true, false, Option, None, Some, Ok, Err, IsUtf8, MatchBool, refl, sym, ap, subst, ◌∙◌}
+use Rattle.std.proofs.Common.{◌≡◌, ◌≢◌, inl, inr, ℕ, ◌≤◌, List, [], length, slice_range, false, Option, None, Some, Ok, Err, refl, sym, ap, subst, ◌∙◌}
 use Rattle.sqlite_syntax.specs.declared.statement.Parsed.{Parsed}
 use Rattle.sqlite_trees.specs.declared.error.StoreError.{StoreError}
 use Rattle.sqlite_trees.specs.declared.error.StoreError.TheVariants.{OutOfMemory, Io, Corrupt, Full, Broken, Unstorable}
@@ -11,9 +11,8 @@ use Rattle.sqlite_resolve.specs.Compile.{with_command}
 use Rattle.sqlite.specs.Listing.{understood}
 use Rattle.sqlite.specs.Clock.{timed}
 use Rattle.sqlite.specs.Does.{Does}
-use Rattle.sqlite.specs.Effect.{is_query}
 use Rattle.sqlite.specs.declared.error.Error.{Error}
-use Rattle.sqlite.specs.State.{State, mode_of, Fails, HasCause, IsMisplaced, Escapes, IsNotRun, IsNoStatement, IsStatement, RunsCommand, RunsAlone, ExecutesIn, ExecutesInside, EndsScope, shows_rows}
+use Rattle.sqlite.specs.State.{State, mode_of, Fails, HasCause, IsMisplaced, Escapes, IsNotRun, IsNoStatement, RunsCommand, RunsAlone, ExecutesIn, ExecutesInside, EndsScope, shows_rows}
 use Rattle.sql_meaning.proofs.Writes.{same_value}
 
 -- the command neither begins nor ends a transaction or a savepoint

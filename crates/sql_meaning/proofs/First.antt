@@ -1,9 +1,9 @@
 -- What `SELECT * FROM t WHERE .. ORDER BY .. LIMIT 1` answers.
-use Rattle.std.proofs.Common.{◌≡◌, ◌⊎◌, inl, inr, ℕ, pos, List, [], ◌∷◌, map, take, Bool, true, false, refl, sym, ap, subst, ◌∙◌, Result, Ok, Err, arith, length, Ordering, Less, Equal, Greater}
+use Rattle.std.proofs.Common.{◌≡◌, ◌⊎◌, inl, inr, ℕ, pos, List, [], ◌∷◌, map, take, true, false, refl, sym, ap, subst, ◌∙◌, Result, arith, length, Ordering, Less, Equal, Greater}
 use Rattle.std.proofs.lemmas.List.{length-map}
 use Rattle.std.specs.Prelude.{filter, IfOk, IfErr}
 use Rattle.std.specs.List.{AllByRecursion}
-use Rattle.std.specs.List.Sorted.{IsPermutation, IsSorted}
+use Rattle.std.specs.List.Sorted.{IsPermutation}
 use Rattle.std.specs.Ordering.{on, is_gt, ordering_reverse}
 use Rattle.std.specs.Cmp.{IsTotalOrder}
 use Rattle.std.proofs.lemmas.Cmp.{on_total}
@@ -26,7 +26,7 @@ use Rattle.sqlite.specs.declared.error.Error.{Error}
 use Rattle.sqlite.specs.Command.TheVariants.{Select}
 use Rattle.sqlite_schema.specs.declared.program.Program.{Program}
 use Rattle.sqlite.proofs.Callers.{IsPlain, command_of, reads_as}
-use Rattle.sql_meaning.specs.Reading.{Test, Listing, IsListing, ComesFirst, ShowsFirst, FindsFirst}
+use Rattle.sql_meaning.specs.Reading.{Test, Listing, IsListing, ShowsFirst, FindsFirst}
 use Rattle.sql_meaning.specs.Transactions.{Rests, Steps, Looks}
 use Rattle.sql_meaning.proofs.Where.{are_given, terms_of_test}
 use Rattle.sql_meaning.proofs.Resolve.{understood_is}
@@ -103,13 +103,13 @@ module _ (text : List ℕ) (table : ℕ → Table) (test : Test) (by : List (Ter
   first_found old new rows shown = record {
     same = (shown_unchanged text (it 0).parse (it 0).asks (it 0).parsed (it 0).statement params old new rows shown).0.now_is;
     first = λ at tree has.
-    let t = table tree in
-    let schema = old.now.schema in
-    let q : Program = record { lets = []; body = paged_query t.tree (terms_of_test t test) (shown_terms t) by one_row } in
-    let known = understood_is schema text _ (page_is schema text at t test by one_row (it tree) has (plan tree)) in
-    let got = reads_as text params old new schema refl (Select q _) (ap command_of known.0) (subst IsPlain (sym known.0) (refl, refl)) known.1 rows shown in
-    let all = page_of schema at t has test (shown_terms t) by one_row old.now.trees params rows given (got.answer Null) in
-    subst (λ (m : Listing). ShowsFirst m.key m.shown m.by (filter m.keeps (old.now.trees t.tree)) rows) (is tree) (listing_first _ _ _ _ all.0 rows all.1 all.2);
+        let t = table tree in
+        let schema = old.now.schema in
+        let q : Program = record { lets = []; body = paged_query t.tree (terms_of_test t test) (shown_terms t) by one_row } in
+        let known = understood_is schema text _ (page_is schema text at t test by one_row (it tree) has (plan tree)) in
+        let got = reads_as text params old new schema refl (Select q _) (ap command_of known.0) (subst IsPlain (sym known.0) (refl, refl)) known.1 rows shown in
+        let all = page_of schema at t has test (shown_terms t) by one_row old.now.trees params rows given (got.answer Null) in
+        subst (λ (m : Listing). ShowsFirst m.key m.shown m.by (filter m.keeps (old.now.trees t.tree)) rows) (is tree) (listing_first _ _ _ _ all.0 rows all.1 all.2);
   }
 
   -- in a transaction

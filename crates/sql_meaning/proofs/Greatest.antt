@@ -1,17 +1,23 @@
 -- The first row of a descending order has the greatest key.
-use Rattle.std.proofs.Common.{◌≡◌, ◌⊎◌, inl, inr, ℕ, List, [], ◌∷◌, ◌++◌, Bool, true, false, refl, sym, ap, subst, ◌∙◌, Ordering, Less, Equal, Greater}
+use Rattle.std.proofs.Common.{◌≡◌, ◌⊎◌, inl, inr, ℕ, List, [], ◌∷◌, ◌++◌, false, sym, ap, subst, ◌∙◌, Ordering, Less}
 use Rattle.std.specs.List.{AllByRecursion}
 use Rattle.std.specs.Ordering.{is_gt}
-use Rattle.sqlite_rules.specs.Lists.{Has}
-use Rattle.sqlite_rules.proofs.ListLemmas.{all_has}
+use Rattle.std.specs.Prelude.{map, filter}
+use Rattle.std.proofs.Common.{reverse, Bool}
 use Rattle.sqlite_trees.specs.Tree.{IsAscending}
+use Rattle.sqlite_value.specs.declared.keys.Key.{Key}
+use Rattle.std.proofs.lemmas.List.Sorted.{IsPermutation-reverse, IsPermutation-sym, IsPermutation-map, IsPermutation-trans}
+use Rattle.sqlite_exec.proofs.ScanLemmas.{ascending-reverse}
+use Rattle.sqlite_trees.proofs.ListLemmas.{ascending-filter, ascending_weaker}
+use Rattle.sql_meaning.specs.Reading.{IsListing}
+use Rattle.sql_meaning.proofs.InOrder.{listed_in_order}
+use Rattle.sqlite_rules.specs.Lists.{Has}
 use Rattle.sqlite_trees.proofs.ListLemmas.{all_weaker}
 use Rattle.sqlite_value.specs.Order.{value_cmp}
 use Rattle.sqlite_value.proofs.OrderLemmas.{then-Equal, value_cmp_total}
 use Rattle.sqlite.specs.Order.{Row, column}
 use Rattle.sqlite.specs.Tree.{IsTable}
 use Rattle.sqlite.specs.Query.{key_cmp}
-use Rattle.sqlite_value.specs.declared.keys.Key.{Key}
 use Rattle.std.specs.Ordering.{ordering_reverse}
 use Rattle.sql_meaning.specs.Reading.{ComesFirst, ShowsFirst, ascending, descending}
 
@@ -49,3 +55,20 @@ newest_is_last shown table rows rises (inl none) = inl none
 newest_is_last shown table rows rises (inr one) =
     let last = last_of table one.0 rises one.1.there (greatest_of 0 table one.0 one.1) in
     inr (last.0, one.0, last.1, one.2)
+
+-- ---- a whole listing, the greatest first
+
+-- the keys rise, and the listing is against them
+pub listed_backwards : (key shown : Row → Row) (by : List Key) (xs rows : List Row) → IsListing key shown by xs rows → IsAscending (λ a b. key_cmp 0 by (key b) (key a) ≡ Less) xs → rows ≡ map shown (reverse xs)
+listed_backwards key shown by xs rows h up =
+    let pair : Row → Row × Row = λ r. (key r, shown r) in
+    let turn = IsPermutation-map pair (reverse xs) xs (IsPermutation-sym xs (reverse xs) (IsPermutation-reverse xs)) in
+    listed_in_order key shown by (reverse xs) rows
+    (record { ordered = h.ordered; same = IsPermutation-trans (map pair (reverse xs)) (map pair xs) h.ordered turn h.same; sorted = h.sorted; shows = h.shows })
+    (ascending-reverse (λ a b. key_cmp 0 by (key b) (key a) ≡ Less) xs up)
+
+-- `ORDER BY key DESC`: what a filter of the table's rows shows, from its end
+pub listed_from_end : (shown : Row → Row) (keeps : Row → Bool) (xs rows : List Row) → IsListing (λ r. column r 0 ∷ []) shown (descending ∷ []) (filter keeps xs) rows → IsTable xs → rows ≡ map shown (reverse (filter keeps xs))
+listed_from_end shown keeps xs rows h rises =
+    listed_backwards (λ r. column r 0 ∷ []) shown (descending ∷ []) (filter keeps xs) rows h
+    (ascending-filter _ keeps xs (ascending_weaker (λ a b. value_cmp (column a 0) (column b 0) ≡ Less) (λ a b. key_cmp 0 (descending ∷ []) (column b 0 ∷ []) (column a 0 ∷ []) ≡ Less) (λ a b less. then-Equal _ ∙ less) xs rises))

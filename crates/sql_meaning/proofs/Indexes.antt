@@ -8,7 +8,7 @@ use Rattle.sqlite_schema.specs.declared.schema.Index.{Index}
 use Rattle.sqlite.specs.Command.TheVariants.{CreateIndex}
 use Rattle.sqlite_resolve.specs.Compile.{compiled, planned, meaning, timed, returning, command, create_index, creates, with_command, index_in, index_defined_by}
 use Rattle.sqlite_schema.specs.Names.{table_named}
-use Rattle.sqlite.specs.Effect.{Database}
+use Rattle.sqlite.specs.Effect.{Database, IsDatabase}
 use Rattle.sqlite.specs.Change.{indexed, KeepsRows}
 use Rattle.sqlite.specs.Does.{Tally, Does}
 use Rattle.sqlite.specs.declared.run.Mode.{Mode}
@@ -49,6 +49,12 @@ makes_index old new text p def at t i count it has free h =
     let w = runs_as text [] old new old.now.schema refl (CreateIndex at) (ap command_of known) (subst IsPlain (sym known) (refl, refl)) count h in
     let here = subst (λ s. Writes old new None (CreateIndex at) s [] count) (ap (statement_of text) known ∙ it.whole) w in
     index_of old.now new.now text at t i here.tally (mode_of old) old.step_limit has.there (index_defined text p def t i it) here.changed
+
+pub index_sound : (old new : State) (text : List ℕ) (p : Parsed) (def : Written) (at : ℕ) (t : Table) (i : Index) (count : ℕ) → MakesIndex text p def t i → HasTable old.now.schema at t → IsFree old.now.schema i.name
+    → Executes text [] old new (Ok count) → IsDatabase new.now
+index_sound old new text p def at t i count it has free h =
+    let known = (understood_is old.now.schema text _ (indexes_in old.now.schema text p def at t i it has (subst (IsFree old.now.schema) (sym it.name) free))).0 in
+    (runs_as text [] old new old.now.schema refl (CreateIndex at) (ap command_of known) (subst IsPlain (sym known) (refl, refl)) count h).sound
 
 -- an index leaves a database without rows as it was
 pub blank_after : (S : Schema) (t : Table) (i : Index) (old new : Database) → IsBlank S old → Indexed t i old new → IsBlank (indexed S t i) new

@@ -1,17 +1,15 @@
 -- What keeps the rowids integers that rise, and where the row of the next rowid stands.
-use Rattle.std.proofs.Common.{◌≡◌, ℤ, pos, ◌+ℤ◌, ◌<ℤ◌, List, [], ◌∷◌, ◌++◌, map, Bool, true, false, refl, sym, ap, subst, ◌∙◌, arith, Ordering, Less, IsTrue}
+use Rattle.std.proofs.Common.{◌≡◌, ℤ, pos, ◌+ℤ◌, ◌<ℤ◌, List, [], ◌∷◌, ◌++◌, map, Bool, true, false, refl, ◌∙◌, arith, Less}
 use Rattle.std.specs.Prelude.{filter, fold, if◌then◌else◌}
 use Rattle.std.specs.List.{AllByRecursion}
 use Rattle.std.specs.Ordering.{int_cmp}
 use Rattle.std.proofs.lemmas.Int.{ints}
-use Rattle.std.proofs.lemmas.Grind.{common_steps}
 use Rattle.std.proofs.lemmas.Bool.Decides.{nat_tests}
 use Rattle.sqlite.specs.Order.{Row}
 use Rattle.sqlite.specs.declared.types.Value.TheVariants.{Int}
 use Rattle.sqlite.specs.Tree.{rowid, put_row, IsTable}
 use Rattle.sqlite.specs.Edit.{have_rowids, next_rowid, id_in}
 use Rattle.sqlite_trees.specs.View.{is_int}
-use Rattle.sqlite_trees.specs.Tree.{IsAscending}
 use Rattle.sqlite_trees.proofs.ListLemmas.{all_weaker, all-filter, all-map, ascending-filter, ascending-map, ascending_weaker}
 use Rattle.sqlite_trees.proofs.TreeLemmas.{all-put_row, IsTable-put_row}
 use Rattle.sqlite_rules.proofs.TableLemmas.{int_is}
@@ -51,7 +49,7 @@ pub map_keyed : (change : Row → Row) (rows : List Row) → ((r : Row) → rowi
 map_keyed change rows keeps keyed = record {
   ints = have_ints (map change rows) (all-map HasInt change rows (all_weaker HasInt (λ r. HasInt (change r)) (λ r h. rw (keeps r) h) rows (ints_of rows keyed.ints)));
   rises = ascending-map (λ a b. value_cmp (rowid a) (rowid b) ≡ Less) change rows
-  (ascending_weaker (λ a b. value_cmp (rowid a) (rowid b) ≡ Less) (λ a b. value_cmp (rowid (change a)) (rowid (change b)) ≡ Less) (λ a b h. rw (keeps a, keeps b) h) rows keyed.rises);
+      (ascending_weaker (λ a b. value_cmp (rowid a) (rowid b) ≡ Less) (λ a b. value_cmp (rowid (change a)) (rowid (change b)) ≡ Less) (λ a b h. rw (keeps a, keeps b) h) rows keyed.rises);
 }
 
 -- the rows that a test hits are changed, and keep their rowids

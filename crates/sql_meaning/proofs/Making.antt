@@ -1,11 +1,10 @@
 -- CREATE on a database without rows, where nothing refuses it.
-use Rattle.std.proofs.Common.{◌≡◌, inl, inr, ℕ, ◌≤◌, List, [], length, Bool, true, false, Option, None, Some, slice_get, Ok, Err, IsUtf8, MatchBool, refl, sym, ap, subst, ◌∙◌}
+use Rattle.std.proofs.Common.{◌≡◌, inl, inr, ℕ, ◌≤◌, List, [], length, true, Option, None, Ok, Err, IsUtf8, MatchBool, refl, sym, ap, subst, ◌∙◌}
 use Rattle.std.proofs.lemmas.Bool.{cases_Bool, leb-true}
 use Rattle.std.proofs.lemmas.Str.{IsUtf8-from_is_utf8}
 use Rattle.std.specs.Prelude.{⊤}
 use Rattle.std.specs.List.{AllByRecursion}
 use Rattle.std.specs.Str.{is_utf8, chars}
-use Rattle.sqlite_ast.specs.declared.CreateTable.{CreateTable as WrittenTable}
 use Rattle.sqlite_syntax.specs.declared.statement.Parsed.{Parsed}
 use Rattle.sqlite_resolve.specs.Compile.{first, table_defined_by, index_defined_by}
 use Rattle.sqlite_rules.proofs.ListLemmas.{all_has}
@@ -15,14 +14,14 @@ use Rattle.sqlite.specs.Schema.{Schema}
 use Rattle.sqlite_schema.specs.declared.schema.Index.{Index}
 use Rattle.sqlite.specs.Command.TheVariants.{CreateTable, CreateIndex}
 use Rattle.sqlite.specs.Change.{created}
-use Rattle.sqlite.specs.Does.{Does, MakesTable, MakesSequence, lacks_sequence, sequence_text}
+use Rattle.sqlite.specs.Does.{Does, MakesSequence, lacks_sequence, sequence_text}
 use Rattle.sqlite.specs.declared.run.Mode.{Mode}
 use Rattle.sqlite.specs.Effect.{Database}
 use Rattle.sqlite.specs.declared.error.Error.{Error}
 use Rattle.sqlite.specs.State.{State, Fails, ExecutesInside, mode_of}
 use Rattle.sql_meaning.specs.Known.{HasTable, counters}
-use Rattle.sql_meaning.specs.Blank.{Makes, MakesText, IsFree, IsBlank}
-use Rattle.sql_meaning.specs.Index.{MakesIndex, MakesIndexText}
+use Rattle.sql_meaning.specs.Blank.{MakesText, IsFree, IsBlank}
+use Rattle.sql_meaning.specs.Index.{MakesIndexText}
 use Rattle.sql_meaning.specs.Certain.{IsAlone, FitsTable, FitsGrown, FitsIndex}
 use Rattle.sql_meaning.proofs.Resolve.{understood_is}
 use Rattle.sql_meaning.proofs.Writes.{same_value, is_in}
@@ -67,7 +66,7 @@ table_fails old new text S t (p, def, it) free fits blank is_text e h =
     let here = subst (λ (s : Schema). IsFree s def.name) (sym blank.is) (subst (IsFree S) (sym it.name) free) in
     let known = (understood_is old.now.schema text _ (creates_in old.now.schema text p def t it here)).0 in
     fails_alone old new text p CreateTable known alone.0 alone.1 it.whole table_ordinary refl
-        (λ params stop. table_does S text t fits (defined_by text p def t it) is_text old.now blank.is old.step_limit (mode_of old) params stop) e h
+    (λ params stop. table_does S text t fits (defined_by text p def t it) is_text old.now blank.is old.step_limit (mode_of old) params stop) e h
 
 index_does : (text : List ℕ) (at : ℕ) (t : Table) (i : Index) (db : Database) → HasTable db.schema at t → FitsIndex db.schema text t i → index_defined_by t text ≡ Ok i → IsUtf8 text → AllByRecursion (λ (u : Table). db.trees u.tree ≡ []) db.schema.tables
     → (limit : Option ℕ) (mode : Mode) (params : Row) (stop : Option Error) → Does limit mode params db text None (CreateIndex at) (Err stop) → ⊥
@@ -87,5 +86,5 @@ index_fails old new text S at t i (p, def, it) has free fits blank is_text e h =
     let found = subst (λ (s : Schema). HasTable s at t) back has in
     let known = (understood_is old.now.schema text _ (indexes_in old.now.schema text p def at t i it found here)).0 in
     fails_alone old new text p (CreateIndex at) known alone.0 alone.1 it.whole (index_ordinary at) refl
-        (λ params stop. index_does text at t i old.now found (subst (λ (s : Schema). FitsIndex s text t i) back fits) (index_defined text p def t i it) is_text (subst (λ (s : Schema). AllByRecursion (λ (u : Table). old.now.trees u.tree ≡ []) s.tables) back blank.empty)
-        old.step_limit (mode_of old) params stop) e h
+    (λ params stop. index_does text at t i old.now found (subst (λ (s : Schema). FitsIndex s text t i) back fits) (index_defined text p def t i it) is_text (subst (λ (s : Schema). AllByRecursion (λ (u : Table). old.now.trees u.tree ≡ []) s.tables) back blank.empty)
+    old.step_limit (mode_of old) params stop) e h

@@ -2,12 +2,12 @@
 use Rattle.std.proofs.Common.{ℕ, ℤ, List, [], ◌∷◌, codes, refl}
 use Rattle.sqlite.specs.Order.{Row}
 use Rattle.sqlite.specs.declared.types.Value.TheVariants.{Int, Text}
-use Rattle.sqlite_sql.specs.declared.ops.CompareOp.TheVariants.{Ge}
+use Rattle.sqlite_sql.specs.declared.ops.CompareOp.TheVariants.{Ge, Lt}
 use Rattle.sqlite.specs.Term.{Term, col}
 use Rattle.sqlite_value.specs.declared.keys.Key.{Key}
 use Rattle.sqlite_tied.specs.Compute.{everything}
 use Rattle.sql_meaning.specs.Resolving.{resolving}
-use Rattle.sql_meaning.specs.Reading.{equals, compares, ascending, descending}
+use Rattle.sql_meaning.specs.Reading.{equals, compares, ascending, descending, Test, both}
 use Rattle.sql_meaning.proofs.Resolve.{one_table, one_source}
 use Rattle.sql_meaning.proofs.Select.{IsSelect, IsPlannedSelect}
 use Rattle.sql_meaning.proofs.First.{IsFirst, IsPlannedFirst}
@@ -75,3 +75,30 @@ from_text tree = record {
 pub from_plan : (tree : ℕ) → IsPlannedSelect (note_table tree) (compares Ge 0 0) by_number
 unfolding resolving
 from_plan tree schema at h = rw (h.stored, h.by_tree) refl
+
+-- ---- of a place, below a number, backwards
+
+abbrev pub in_place_below : Test
+in_place_below = both (equals 1 0) (compares Lt 0 1)
+
+pub before_text : (tree : ℕ) → IsSelect (codes "SELECT * FROM notes WHERE place = ?1 AND seq < ?2 ORDER BY seq DESC") (note_table tree) in_place_below by_newest
+unfolding everything
+before_text tree = record {
+  parse = _;
+  asks = _;
+  src = _;
+  item = _;
+  parsed = refl;
+  statement = refl;
+  formats = refl;
+  one = one_table refl refl refl refl refl refl refl refl refl refl refl refl refl refl refl;
+  condition = (_, refl, (_, _, refl, (_, _, _, _, refl, refl, refl, refl, refl, refl, refl), (_, _, _, _, refl, refl, refl, refl, refl, refl, refl)));
+  enough = refl;
+  few = λ at. refl;
+  some = λ at. refl;
+  sorted = λ schema at. (_, refl, refl);
+}
+
+pub before_plan : (tree : ℕ) → IsPlannedSelect (note_table tree) in_place_below by_newest
+unfolding resolving
+before_plan tree schema at h = rw (h.stored, h.by_tree) refl

@@ -1,10 +1,9 @@
 -- A store keeps each table in the order of its rowids, so a connection that was just made over one shows them so.
-use Rattle.std.proofs.Common.{◌≡◌, ◌⊎◌, inl, inr, ℕ, Bool, true, false, List, [], ◌∷◌, IsTrue, Result, Ok, Err, refl, sym, ap, subst, ◌∙◌, arith, ◌≤◌}
+use Rattle.std.proofs.Common.{◌≡◌, inl, inr, false, List, IsTrue, Result, Ok, Err, sym, subst, arith, ◌≤◌}
 use Rattle.std.specs.Prelude.{IfOk}
-use Rattle.std.specs.List.{AllByRecursion}
 use Rattle.std.proofs.lemmas.Bool.{cases_Bool, both_ways}
 use Rattle.sqlite_trees.specs.declared.store.Shape.TheVariants as shape
-use Rattle.sqlite_trees.specs.View.{View, IsShaped, IsOrdered, IsClean, doubt, IsRolledBack as IsUndone}
+use Rattle.sqlite_trees.specs.View.{View, IsShaped, IsOrdered, IsClean, doubt}
 use Rattle.sqlite_trees.specs.Objects.{catalog_tree, IsListed}
 use Rattle.sqlite_catalog.specs.Listing.{IsSound}
 use Rattle.sqlite_catalog.proofs.LayoutLemmas.{held}
@@ -12,15 +11,12 @@ use Rattle.sqlite_catalog.proofs.StepLemmas.{is_table}
 use Rattle.sqlite.specs.Held.{Serves}
 use Rattle.sqlite.specs.Steps.{IsFresh}
 use Rattle.sqlite.proofs.StateLemmas.{fit_to_run}
-use Rattle.sqlite_rules.specs.Lists.{Has}
 use Rattle.sqlite_rules.proofs.ListLemmas.{all_from}
 use Rattle.sqlite.specs.Order.{Row}
 use Rattle.sqlite.specs.Table.{Table}
 use Rattle.sqlite.specs.Tree.{Trees}
 use Rattle.sqlite.specs.Schema.{Schema}
 use Rattle.sqlite.specs.Effect.{Database}
-use Rattle.sqlite_trees.specs.Tree.{rowid}
-use Rattle.sqlite_trees.specs.View.{is_int}
 use Rattle.sqlite.specs.Store.{Ghosts}
 use Rattle.sqlite.specs.Held.{Held, state}
 use Rattle.sqlite.specs.State.{HasCleanDisk, Opens, IsLive}

@@ -1,7 +1,7 @@
 -- The trees of a store tell its schema.
-use Rattle.std.proofs.Common.{◌≡◌, ◌⊎◌, inl, inr, ℕ, ◌+◌, ◌<◌, ◌^◌, pos, Bool, true, false, Option, Some, None, List, [], ◌∷◌, ◌++◌, slice_get, slice_index_or, codes, Result, Ok, refl, sym, ap, subst, ◌∙◌, arith, IsSome}
+use Rattle.std.proofs.Common.{◌≡◌, inl, inr, ℕ, ◌+◌, ◌<◌, pos, Bool, true, false, Option, Some, None, List, [], ◌∷◌, ◌++◌, slice_get, codes, Result, Ok, refl, sym, ap, subst, ◌∙◌, arith}
 use Rattle.std.specs.Prelude.{MatchBool}
-use Rattle.std.specs.List.{AllZip, AllByRecursion}
+use Rattle.std.specs.List.{AllZip}
 use Rattle.std.specs.Fmt.{decimal}
 use Rattle.std.proofs.lemmas.Fmt.{decimal_injective}
 use Rattle.sqlite.specs.declared.types.Value.{Value}
@@ -9,19 +9,17 @@ use Rattle.sqlite.specs.declared.types.Value.TheVariants as value
 use Rattle.sqlite.specs.Order.{Row, column}
 use Rattle.sqlite.specs.Tree.{Trees}
 use Rattle.sqlite_trees.specs.Tree.{IsAscending}
-use Rattle.sqlite_trees.specs.Objects.{catalog_tree}
 use Rattle.sqlite.specs.Table.{Table}
 use Rattle.sqlite.specs.Schema.{Schema}
 use Rattle.sqlite_schema.specs.declared.schema.Index.{Index}
 use Rattle.sqlite_schema.specs.declared.schema.View.{View}
-use Rattle.sqlite_catalog.specs.Listing.{Describes, IsSound, IsTableRow, IsIndexRow, IsViewRow, IsDefined, IsAside, IsForeign, IsReadable, DefinesTable, automatic, is_table_row, is_index_row, is_view_row, is_unread}
-use Rattle.sqlite_rules.specs.Lists.{Has}
+use Rattle.sqlite_catalog.specs.Listing.{Describes, IsSound, IsTableRow, IsIndexRow, IsViewRow, IsDefined, IsAside, IsForeign, IsReadable}
 use Rattle.sqlite_catalog.proofs.StepLemmas.{same_itself, named_once}
 use Rattle.std.proofs.lemmas.List.{append_cancel_left}
 use Rattle.std.specs.Str.{bytes_eq}
 use Rattle.std.proofs.lemmas.Bool.{both_ways}
 use Rattle.std.proofs.lemmas.Slice.Eq.{bytes_eq-Decides}
-use Rattle.sqlite_resolve.specs.Compile.{table_defined_by, index_defined_by, view_defined_by}
+use Rattle.sqlite_resolve.specs.Compile.{table_defined_by, index_defined_by}
 use Rattle.sqlite_schema.specs.Names.{same_name}
 
 zip_alone : {A B : Type 0} (R : A → B → Type 0) → ((x : A) (y z : B) → R x y → R x z → y ≡ z) → (xs : List A) (ys zs : List B) → AllZip R xs ys → AllZip R xs zs → ys ≡ zs

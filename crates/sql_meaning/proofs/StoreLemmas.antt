@@ -8,8 +8,7 @@ use Rattle.sqlite.specs.Tree.{Trees}
 use Rattle.sqlite.specs.Store.{Ghosts}
 use Rattle.sqlite.specs.State.{HasCleanDisk}
 use Rattle.sqlite.specs.Held.{Held, state}
-use Rattle.sql_meaning.specs.Transactions.{Rests}
-use Rattle.sql_meaning.specs.Stores.{TurnsAt, AllRest, AllClean, MayLeave, EachLeaves, Reached}
+use Rattle.sql_meaning.specs.Stores.{TurnsAt, AllClean, MayLeave, EachLeaves, Reached}
 
 pub at_set : {X : Type 0} (P : X → Type 0) (xs : List X) (i : ℕ) (x : X) → i < length xs → All P (slice_set xs i x) → P x
 at_set P xs i x within all = subst P (get_or-set_same xs i x x within) (all i x (rw (length-set xs i x) within))

@@ -1,12 +1,14 @@
 -- How a transaction goes on and ends, over any store.
-use Rattle.std.proofs.Common.{◌≡◌, ◌⊎◌, inl, inr, ℕ, ◌+◌, ◌∷◌, [], ◌++◌, take, slice_get, Bool, true, false, Option, Some, None, List, Result, Ok, Err, IsErr, IsTrue, refl, sym, ap, subst, ◌∙◌, ◌≤◌, arith}
-use Rattle.std.proofs.lemmas.Bool.{both_ways, cases_Bool}
+use Rattle.std.proofs.Common.{◌≡◌, ◌⊎◌, inl, inr, ℕ, ◌∷◌, [], ◌++◌, true, false, List, Result, Ok, Err, IsErr, IsTrue, refl, sym, ap, subst, ◌∙◌, ◌≤◌, arith}
+use Rattle.std.proofs.lemmas.Bool.{both_ways}
 use Rattle.sqlite_trees.specs.View.{doubt}
 use Rattle.sqlite.specs.Tree.{Trees}
 use Rattle.sqlite.specs.Store.{Ghosts}
 use Rattle.sqlite.specs.declared.error.Error.{Error}
 use Rattle.sqlite.specs.Effect.{Database}
-use Rattle.sqlite.specs.State.{State, HasCleanDisk, KeepsCommit, Survives, IsRolledBack, IsUnchanged, Shows}
+use Rattle.sqlite.specs.State.{State, HasCleanDisk, KeepsCommit, Survives, IsRolledBack, Shows, ExecutesInside, FailsToQuery, IsTooLate}
+use Rattle.sqlite.specs.Order.{Row}
+use Rattle.std.specs.Prelude.{IfErr}
 use Rattle.sqlite.specs.Steps.{FailsToCommit}
 use Rattle.sqlite.specs.Held.{Held, state}
 use Rattle.sqlite.proofs.StateLemmas.{survives_then, clean_if_open}
@@ -14,7 +16,7 @@ use Rattle.sqlite.proofs.InsideLemmas.{unchanged_keeps, keeps_then}
 use Rattle.sqlite.proofs.Callers.{survives_begin}
 use Rattle.sql_meaning.specs.Writing.{WritesInside, Chained, EachChained}
 use Rattle.sql_meaning.proofs.Chain.{each_then}
-use Rattle.sql_meaning.specs.Transactions.{Rests, Holds, Inside, Made, Steps, EachStep, WouldLeave, Turns}
+use Rattle.sql_meaning.specs.Transactions.{Rests, Holds, Inside, Made, Steps, EachStep, WouldLeave, Turns, IsExcused, IsUnanswered}
 
 -- what `transaction` makes of a connection
 abbrev pub begun : {S : Type 0} → Held S → Held S
@@ -38,7 +40,7 @@ same_survives s = record { clean = omega arith; shield = λ h. h; counts = omega
 pub inside_same : (s : State) → Inside s s
 inside_same s = record { kept = λ clean. same_keeps s; survives = same_survives s }
 
-none_left : (a b c : State) → Survives a b (λ _. ⊥) → Survives b c (λ _. ⊥) → Survives a c (λ _. ⊥)
+pub none_left : (a b c : State) → Survives a b (λ _. ⊥) → Survives b c (λ _. ⊥) → Survives a c (λ _. ⊥)
 none_left a b c one two = survives_then a b c _ _ (λ _. ⊥) (λ _ _ none. none) (λ _ _ none. none) one two
 
 pub inside_then : (a b c : State) → Inside a b → Inside b c → Inside a c
@@ -62,6 +64,15 @@ write_steps {X} Changes old new r wrote survives = record { made = λ clean insi
     at : (r : Result X Error) → WritesInside Changes old new r → Made (λ _. Changes) old new r
     at (Ok x) it = (it.0.mode, record { was_open = λ _. it.0.was_open; committed = λ _. it.0.committed_is }, it.1)
     at (Err e) it = unchanged_keeps old new it
+
+-- and why it failed
+pub excused_by : (sql : List ℕ) (params : Row) (old new : State) (r : Result ℕ Error) → (HasCleanDisk new → IsTrue old.in_transaction → ExecutesInside 0 sql params old new r) → IfErr r (IsExcused sql params old new)
+excused_by sql params old new (Ok count) runs = tt
+excused_by sql params old new (Err e) runs = runs
+
+pub unanswered_by : {X : Type 0} (sql : List ℕ) (params : Row) (old new : State) (r : Result X Error) → (HasCleanDisk new → IfErr r (λ e. FailsToQuery sql params old new e ⊎ IsTooLate sql params old new e)) → IfErr r (IsUnanswered sql params old new)
+unanswered_by sql params old new (Ok x) why = tt
+unanswered_by sql params old new (Err e) why = why
 
 -- nothing was done
 pub steps_none : {X E : Type 0} (Changes : X → Database → Database → Type 0) (s : State) (x : X) → Changes x s.now s.now → Steps {E = E} Changes s s (Ok x)

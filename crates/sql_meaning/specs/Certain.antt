@@ -1,5 +1,5 @@
 -- When the catalogue has no reason to refuse a CREATE.
-use Rattle.std.specs.Prelude.{◌≡◌, ℕ, ◌+◌, ◌*◌, ◌^◌, nat_lt, List, [], ◌∷◌, length, codes, Bool, true, false, not, ◌&&◌, ◌==◌, nat_le, MatchBool, ⊤, Ok}
+use Rattle.std.specs.Prelude.{◌≡◌, ℕ, ◌+◌, ◌*◌, ◌^◌, nat_lt, List, [], length, codes, true, false, not, ◌&&◌, ◌==◌, nat_le, MatchBool, ⊤, Ok}
 use Rattle.std.specs.List.{AllByRecursion}
 use Rattle.std.specs.Str.{is_utf8}
 use Rattle.sqlite_syntax.specs.declared.statement.Parsed.{Parsed}

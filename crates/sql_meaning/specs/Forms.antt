@@ -1,5 +1,5 @@
 -- A table as a form has it.
-use Rattle.std.specs.Prelude.{ℕ, Bool, false, List, [], map}
+use Rattle.std.specs.Prelude.{ℕ, false, [], map}
 use Rattle.sqlite.specs.Collation.TheVariants.{Binary}
 use Rattle.sqlite.specs.declared.types.Value.TheVariants.{Null}
 use Rattle.sqlite.specs.Table.{Table}

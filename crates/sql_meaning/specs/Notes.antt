@@ -1,9 +1,9 @@
 -- The table of the worked example.
-use Rattle.std.specs.Prelude.{ℕ, ℤ, Bool, true, false, List, [], ◌∷◌, Some, codes}
+use Rattle.std.specs.Prelude.{ℕ, ℤ, Bool, true, false, ◌&&◌, List, [], ◌∷◌, Some, codes}
 use Rattle.sqlite.specs.Collation.TheVariants.{Binary}
 use Rattle.sqlite.specs.declared.types.Value.TheVariants as value
 use Rattle.sqlite.specs.Order.{Row, column as value_in}
-use Rattle.sqlite_sql.specs.declared.ops.CompareOp.TheVariants.{Ge}
+use Rattle.sqlite_sql.specs.declared.ops.CompareOp.TheVariants.{Ge, Lt}
 use Rattle.sql_meaning.specs.Reading.{Listing, is_same, stands, ascending, descending}
 use Rattle.sqlite.specs.Table.{Table}
 use Rattle.sqlite.specs.Kind.TheVariants.{Integer, Text}
@@ -57,3 +57,8 @@ newest_in place = record { keeps = λ r. is_same (value_in r 2) (value.Int place
 -- the notes from a number on, by their numbers
 abbrev pub notes_from : ℤ → Listing
 notes_from seq = record { keeps = λ r. stands Ge (value_in r 0) (value.Int seq); key = λ r. value_in r 0 ∷ []; shown = shown_note; by = ascending ∷ [] }
+
+-- the notes of a place below a number, the newest first
+abbrev pub notes_before : ℤ → ℤ → Listing
+notes_before place seq =
+    record { keeps = λ r. is_same (value_in r 2) (value.Int place) && stands Lt (value_in r 0) (value.Int seq); key = λ r. value_in r 0 ∷ []; shown = shown_note; by = descending ∷ [] }

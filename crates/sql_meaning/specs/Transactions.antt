@@ -1,10 +1,11 @@
 -- What one transaction makes of one store, and what a crash leaves of it.
-use Rattle.std.specs.Prelude.{◌≡◌, ◌⊎◌, true, false, Result, Ok, Err, IsTrue, IfOk, OnErr, List}
+use Rattle.std.specs.Prelude.{◌≡◌, ℕ, ◌⊎◌, true, false, Result, Ok, Err, IsTrue, IfOk, OnErr, List}
 use Rattle.sqlite.specs.Tree.{Trees}
 use Rattle.sqlite.specs.Effect.{Database, IsDatabase}
 use Rattle.sqlite.specs.declared.error.Error.{Error}
 use Rattle.sql_meaning.specs.Writing.{EachChained, AreKeyed}
-use Rattle.sqlite.specs.State.{State, HasCleanDisk, KeepsCommit, Survives}
+use Rattle.sqlite.specs.State.{State, HasCleanDisk, KeepsCommit, Survives, ExecutesInside, FailsToQuery, IsTooLate}
+use Rattle.sqlite.specs.Order.{Row}
 
 -- The store is not inside a transaction, so it sees what was committed.
 pub record Rests (s : State) : Type 0 where
@@ -64,3 +65,11 @@ pub record IsAdopted (s : State) (trees : Trees) : Type 0 where
   pub trees_are : s.now.trees ≡ trees
   pub sound : IsDatabase s.now
   pub keyed : AreKeyed s.now
+
+-- Why a statement inside a transaction failed: the engine did not take it or refused it on this database, and nothing is changed, or the store failed, and the transaction is undone.
+abbrev pub IsExcused : List ℕ → Row → State → State → Error → Type 0
+IsExcused sql params old new e = HasCleanDisk new → IsTrue old.in_transaction → ExecutesInside 0 sql params old new (Err e)
+
+-- the same of a query
+abbrev pub IsUnanswered : List ℕ → Row → State → State → Error → Type 0
+IsUnanswered sql params old new e = HasCleanDisk new → FailsToQuery sql params old new e ⊎ IsTooLate sql params old new e

@@ -210,7 +210,8 @@ fn first_of_tree(tables: &[Table], tree: u32) -> Option<&Table>
 }
 
 fn is_first_of_tree(tables: &[Table], form: &TableForm<'_>, tree: u32) -> bool
-    ensures { IsTrue result ↔ (find (λ t. t.tree == tree) tables.now ≡ Some (table_of form.now tree)) }
+    ensures { IsTrue result
+        ↔ (find (λ t. t.tree == tree) tables.now ≡ Some (table_of form.now tree)) }
 {
     match first_of_tree(tables, tree) {
         Some(table) => table.tree == tree && is_table(table, form),
@@ -221,8 +222,10 @@ fn is_first_of_tree(tables: &[Table], form: &TableForm<'_>, tree: u32) -> bool
 /// Where the schema has the table of the form, and the number of its tree: every statement on the
 /// table means there what it says. A number from 2^31 on is refused, since the engine keeps those.
 pub fn find_table(schema: &Schema, form: &TableForm<'_>) -> Option<(usize, u32)>
-    ensures found { IfSome result (λ place. HasTable schema.now place.0 (table_of form.now place.1)) }
-    ensures none { IfNone result ((at tree : ℕ) → HasTable schema.now at (table_of form.now tree) → ⊥) }
+    ensures found { IfSome result (λ place.
+        HasTable schema.now place.0 (table_of form.now place.1)) }
+    ensures none { IfNone result ((at tree : ℕ)
+        → HasTable schema.now at (table_of form.now tree) → ⊥) }
 {
     let at = place_of(schema, form.name)?;
     let table = schema.tables.get(at)?;
@@ -237,8 +240,18 @@ pub fn find_table(schema: &Schema, form: &TableForm<'_>) -> Option<(usize, u32)>
 pub const COUNTERS: TableForm<'static> = TableForm {
     name: b"sqlite_sequence",
     columns: &[
-        ColumnForm { name: b"name", kind: Kind::Any, is_strict: false, not_null: false },
-        ColumnForm { name: b"seq", kind: Kind::Any, is_strict: false, not_null: false },
+        ColumnForm {
+            name: b"name",
+            kind: Kind::Any,
+            is_strict: false,
+            not_null: false,
+        },
+        ColumnForm {
+            name: b"seq",
+            kind: Kind::Any,
+            is_strict: false,
+            not_null: false,
+        },
     ],
     key: None,
     primary: &[],
@@ -249,13 +262,16 @@ pub const COUNTERS: TableForm<'static> = TableForm {
 };
 
 fn has_no_action(reference: &Reference) -> bool
-    ensures { IsTrue result ↔ ((reference.now.on_delete ≡ Action.NoAction) × (reference.now.on_update ≡ Action.NoAction)) }
+    ensures { IsTrue result
+        ↔ ((reference.now.on_delete ≡ Action.NoAction) × (reference.now.on_update ≡ Action.NoAction)) }
 {
     reference.on_delete == Action::NoAction && reference.on_update == Action::NoAction
 }
 
 fn have_no_actions(references: &[Reference]) -> bool
-    ensures { IsTrue result ↔ AllByRecursion (λ r. (r.on_delete ≡ Action.NoAction) × (r.on_update ≡ Action.NoAction)) references.now }
+    ensures { IsTrue result
+        ↔ AllByRecursion (λ r. (r.on_delete ≡ Action.NoAction) × (r.on_update ≡ Action.NoAction))
+        references.now }
 {
     references.iter().all(|reference| has_no_action(reference))
 }

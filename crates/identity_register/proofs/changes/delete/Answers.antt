@@ -1,12 +1,9 @@
-use Rattle.std.proofs.Common.{rules, ◌≡◌, ℕ, ◌+◌, ◌-◌, ◌*◌, ◌<◌, ◌≤◌, length, ◌/◌, ◌%◌, Bool, true, false, nat_eq, nat_lt, List, [], ◌∷◌, ◌++◌, slice_index_or, slice_set, bit_and, bit_or, Fits, w8, w32, w64, Bor, MutBor, ℤ, pos, ◌+ℤ◌, ◌-ℤ◌, ◌*ℤ◌, ◌≤ℤ◌, ◌<ℤ◌, FitsSigned, to_z, of_z}
-use Rattle.sqlite.specs.Held.{state}
-use Rattle.sql_meaning.specs.Transactions.{Steps}
-use Rattle.package_tables.specs.Calls.{OnTables, Answers}
-use Rattle.identity_register.specs.Calls.{Becomes}
-use Rattle.identity_register.specs.Changes.{IsLooseItem, item_deleted}
-use Rattle.identity_register.specs.Numbering.{IsRowOf, DropsContent, DropsRows}
+use Rattle.std.proofs.Common.{rules, to_z-of_z, FitsSigned, w64}
+use Rattle.identity_register.proofs.Dropping.{item_steps}
 use Rattle.identity_register.proofs.changes.delete.Goals as goal
 
--- src/changes.rt:64:1
 pub returns-clause-steps : goal.returns-clause-steps
-returns-clause-steps g c = ?
+returns-clause-steps g c =
+    let kind : FitsSigned w64 c.in_ok-row.row.kind = search rules in
+    let number : FitsSigned w64 c.in_ok-row.row.local_id = search rules in
+    item_steps c.args.identity c.in_ok-row.row c.in_ok-row.ensures.steps (simp (to_z-of_z, kind, number) at c.drop_rows.ensures.steps)

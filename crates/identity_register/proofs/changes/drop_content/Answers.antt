@@ -1,20 +1,16 @@
-use Rattle.std.proofs.Common.{rules, ◌≡◌, ℕ, ◌+◌, ◌-◌, ◌*◌, ◌<◌, ◌≤◌, length, ◌/◌, ◌%◌, Bool, true, false, nat_eq, nat_lt, List, [], ◌∷◌, ◌++◌, slice_index_or, slice_set, bit_and, bit_or, Fits, w8, w32, w64, Bor, MutBor, ℤ, pos, ◌+ℤ◌, ◌-ℤ◌, ◌*ℤ◌, ◌≤ℤ◌, ◌<ℤ◌, FitsSigned, to_z, of_z}
-use Rattle.sqlite.specs.Held.{state}
-use Rattle.sql_meaning.specs.Transactions.{Steps}
-use Rattle.package_tables.specs.Calls.{OnTables, Answers}
-use Rattle.identity_register.specs.Calls.{Becomes}
-use Rattle.identity_register.specs.Changes.{IsLooseItem, item_deleted}
-use Rattle.identity_register.specs.Numbering.{IsRowOf, DropsContent, DropsRows}
+use Rattle.std.proofs.Common.{pos, to_z-of_z}
+use Rattle.package_tables.specs.Changes.{DropsTile, DropsMedium, DropsAttribute}
+use Rattle.identity_register.proofs.Dropping.{content_steps, compared}
 use Rattle.identity_register.proofs.changes.drop_content.Goals as goal
 
--- src/changes.rt:34:1
-pub returns-in-1-clause-steps : goal.returns-in-1-clause-steps
-returns-in-1-clause-steps g c = ?
+pub returns-then-kind-eq-TILE-clause-steps : goal.returns-then-kind-eq-TILE-clause-steps
+returns-then-kind-eq-TILE-clause-steps g c =
+    content_steps (DropsTile c.args.number) c.args.kind (pos 1) c.args.number (compared c.args.kind 1 c.ranges.kind c.if-kind-eq-TILE.true) (λ a b h. h) (simp (to_z-of_z, c.ranges.number) at c.delete_tile.ensures.wrote) c.delete_tile.ensures.survives
 
--- src/changes.rt:34:1
-pub returns-in-2-clause-steps : goal.returns-in-2-clause-steps
-returns-in-2-clause-steps g c = ?
+pub returns-then-kind-eq-MEDIUM-clause-steps : goal.returns-then-kind-eq-MEDIUM-clause-steps
+returns-then-kind-eq-MEDIUM-clause-steps g c =
+    content_steps (DropsMedium c.args.number) c.args.kind (pos 2) c.args.number (compared c.args.kind 2 c.ranges.kind c.if-kind-eq-MEDIUM.true) (λ a b h. h) (simp (to_z-of_z, c.ranges.number) at c.delete_medium.ensures.wrote) c.delete_medium.ensures.survives
 
--- src/changes.rt:34:1
-pub returns-in-3-clause-steps : goal.returns-in-3-clause-steps
-returns-in-3-clause-steps g c = ?
+pub returns-then-kind-eq-ROW-clause-steps : goal.returns-then-kind-eq-ROW-clause-steps
+returns-then-kind-eq-ROW-clause-steps g c =
+    content_steps (DropsAttribute c.args.number) c.args.kind (pos 3) c.args.number (compared c.args.kind 3 c.ranges.kind c.if-kind-eq-ROW.true) (λ a b h. h) (simp (to_z-of_z, c.ranges.number) at c.delete_attribute.ensures.wrote) c.delete_attribute.ensures.survives

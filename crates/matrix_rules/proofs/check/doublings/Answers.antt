@@ -1,5 +1,3 @@
-use Rattle.std.proofs.Common.{arith, ◌≡◌, ◌%◌, ◌*◌, ◌^◌, pos, unsigned_abs, w64, to_z, of_z}
-use Rattle.std.proofs.lemmas.Int.{ints}
 use Rattle.matrix_rules.proofs.Products.{doublings_range, shifted}
 use Rattle.matrix_rules.proofs.check.doublings.Goals as goal
 

@@ -1,7 +1,7 @@
 use Rattle.sheet_types.specs.Matrix.{divides}
-use Rattle.std.proofs.Common.{◌≡◌, refl, arith, rules, FitsSigned, ◌-ℤ◌, pos, w64}
+use Rattle.std.proofs.Common.{◌≡◌, refl, rules, FitsSigned, ◌-ℤ◌, pos, w64}
 use mir.Syntax.{w128}
-use Rattle.std.proofs.lemmas.Int.{ints, to_z-of_z}
+use Rattle.std.proofs.lemmas.Int.{to_z-of_z}
 use Rattle.matrix_rules.proofs.check.is_even.Goals as goal
 
 pub returns : goal.returns

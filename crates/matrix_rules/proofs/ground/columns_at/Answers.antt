@@ -1,4 +1,4 @@
-use Rattle.std.proofs.Common.{arith, rules, ◌≡◌, refl, FitsSigned, ◌-ℤ◌, w64}
+use Rattle.std.proofs.Common.{arith, rules, FitsSigned, ◌-ℤ◌, w64}
 use Rattle.std.proofs.lemmas.Int.{ints, to_z-of_z}
 use Rattle.matrix_rules.proofs.Frames.{good_frame, level_range}
 use Rattle.matrix_rules.proofs.ground.columns_at.Goals as goal

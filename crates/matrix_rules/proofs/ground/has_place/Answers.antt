@@ -1,4 +1,4 @@
-use Rattle.std.proofs.Common.{rules, ◌≡◌, true, refl, sym, ◌∙◌, FitsSigned, w64}
+use Rattle.std.proofs.Common.{rules, ◌≡◌, true, refl, FitsSigned, w64}
 use Rattle.std.proofs.lemmas.Int.{to_z-of_z}
 use Rattle.sheet_types.specs.Matrix.{has_level}
 use Rattle.matrix_rules.proofs.ground.has_place.Goals as goal

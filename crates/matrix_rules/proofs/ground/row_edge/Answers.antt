@@ -1,6 +1,6 @@
 use Rattle.std.proofs.Common.{arith, rules, refl, FitsSigned, ◌-ℤ◌, ◌*ℤ◌, w64}
 use Rattle.std.proofs.lemmas.Int.{ints, to_z-of_z}
-use Rattle.sheet_types.specs.Matrix.{tile_span_y, level_of, height_at}
+use Rattle.sheet_types.specs.Matrix.{tile_span_y}
 use Rattle.matrix_rules.proofs.Frames.{good_frame}
 use Rattle.matrix_rules.proofs.Grids.{grid_y}
 use Rattle.matrix_rules.proofs.Blocks.{along}

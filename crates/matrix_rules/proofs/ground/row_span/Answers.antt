@@ -1,6 +1,5 @@
-use Rattle.std.proofs.Common.{arith, rules, FitsSigned, refl, ◌∙◌, ◌-ℤ◌, ◌*ℤ◌, ◌≤ℤ◌, pos, w64}
+use Rattle.std.proofs.Common.{arith, rules, FitsSigned, refl, ◌∙◌, ◌-ℤ◌, w64}
 use Rattle.std.proofs.lemmas.Int.{ints, to_z-of_z}
-use Rattle.sheet_types.specs.Matrix.{height_at, level_of}
 use Rattle.matrix_rules.proofs.Frames.{good_frame}
 use Rattle.matrix_rules.proofs.Grids.{grid_y}
 use Rattle.matrix_rules.proofs.ground.row_span.Goals as goal

@@ -1,4 +1,4 @@
-use Rattle.std.proofs.Common.{rules, refl}
+use Rattle.std.proofs.Common.{refl}
 use Rattle.std.proofs.lemmas.Int.{to_z-of_z}
 use Rattle.matrix_rules.proofs.ground.tile_inside.Goals as goal
 
@@ -8,4 +8,4 @@ returns c =
     let column = c.ranges.column in
     let row = c.ranges.row in
     let tile = simp to_z-of_z at c.one_tile.ensures in
-    rw (c.lies_within.ensures, c.block.ensures, c.block-2.ensures, tile) refl
+    rw (c.lies_within.ensures, c.block-outer.ensures, c.block-tile.ensures, tile) refl

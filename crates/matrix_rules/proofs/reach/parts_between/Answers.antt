@@ -1,4 +1,4 @@
-use Rattle.std.proofs.Common.{arith, rules, ◌≡◌, refl, sym, ◌∙◌, FitsSigned, ◌+ℤ◌, ◌-ℤ◌, pos, w64, ◌<ℤ◌}
+use Rattle.std.proofs.Common.{arith, ◌∙◌, FitsSigned, ◌+ℤ◌, ◌-ℤ◌, pos, w64}
 use Rattle.std.specs.Prelude.{int_div}
 use Rattle.std.proofs.lemmas.Int.{ints, to_z-of_z}
 use Rattle.matrix_rules.proofs.Parts.{are_parts, nothing_within, quotient_range}

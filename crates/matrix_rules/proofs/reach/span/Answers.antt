@@ -1,4 +1,4 @@
-use Rattle.std.proofs.Common.{arith, rules, ◌≡◌, ◌∙◌, refl, ap, ap₂, true, false, FitsSigned, ◌&&◌, w64}
+use Rattle.std.proofs.Common.{rules, ◌≡◌, ◌∙◌, refl, ap₂, true, false, FitsSigned, ◌&&◌, w64}
 use Rattle.std.proofs.lemmas.Bool.{and_left, and_right}
 use Rattle.std.proofs.lemmas.Int.{to_z-of_z}
 use Rattle.sheet_types.specs.Matrix.{has_level}

@@ -1,4 +1,3 @@
-use Rattle.std.specs.Prelude.{refl}
 use Rattle.model_examples.proofs.steps.one_reply_each.Goals as goal
 
 pub returns : goal.returns

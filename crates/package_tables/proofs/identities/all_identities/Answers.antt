@@ -1,11 +1,10 @@
-use Rattle.std.proofs.Common.{refl, to_z-of_z}
-use Rattle.sqlite.specs.Held.{state}
-use Rattle.package_tables.proofs.Looking.{looks_all}
-use Rattle.package_tables.proofs.IdentityStatements.{known, all}
+use Rattle.std.proofs.Common.{refl}
+use Rattle.package_tables.proofs.Looking.{looks_in_order}
+use Rattle.package_tables.proofs.IdentityStatements.{known, all, all_ranked}
 use Rattle.package_tables.proofs.identities.all_identities.Goals as goal
 
 pub returns : goal.returns
 returns g c =
     let e = c.query_all.ensures in
-    looks_all known all (λ rows. rows.items) _ refl g.S.Store g.met.S.Store.shut_if_dirty g.met.S.Store.settled
-    c.args.conn.now c.query_all.new.self c.requires c.query_all.result e.ok e.err e.mode e.survives (λ found. found.items) c.all_of.result c.all_of.ensures
+    looks_in_order known all (λ rows. rows.items) _ refl g.S.Store g.met.S.Store.shut_if_dirty g.met.S.Store.settled
+    c.args.conn.now c.query_all.new.self c.requires c.query_all.result e.ok e.err e.mode e.survives (λ x. refl) all_ranked (λ found. found.items) c.all_of.result c.all_of.ensures

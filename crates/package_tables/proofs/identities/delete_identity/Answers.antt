@@ -1,9 +1,9 @@
 use Rattle.std.proofs.Common.{refl, to_z-of_z}
-use Rattle.std.specs.Prelude.{◌&&◌, bytes_eq}
+use Rattle.std.specs.Prelude.{◌&&◌}
 use Rattle.std.specs.Ordering.{int_eq}
 use Rattle.sqlite.specs.Held.{state}
 use Rattle.sqlite.specs.Order.{column}
-use Rattle.sqlite.specs.declared.types.Value.TheVariants.{Int, Text}
+use Rattle.sqlite.specs.declared.types.Value.TheVariants.{Int}
 use Rattle.sql_meaning.specs.Reading.{equals, both, is_same}
 use Rattle.sql_meaning.specs.Writing.{Deletes}
 use Rattle.sql_meaning.proofs.Delete.{removed_inside}
@@ -13,7 +13,7 @@ use Rattle.package_tables.specs.Changes.{DropsIdentity}
 use Rattle.package_tables.proofs.Making.{makes, drops}
 use Rattle.package_tables.proofs.IdentityStatements.{delete_text, delete_plan}
 use Rattle.package_tables.proofs.Written.{identity_shape_is, identities_written}
-use Rattle.package_tables.proofs.Values.{same_number, same_text, both_same}
+use Rattle.package_tables.proofs.Values.{same_number, both_same}
 use Rattle.package_tables.proofs.identities.delete_identity.Goals as goal
 
 pub returns-clause-wrote : goal.returns-clause-wrote

@@ -1,5 +1,4 @@
-use Rattle.std.proofs.Common.{refl, to_z-of_z}
-use Rattle.sqlite.specs.Held.{state}
+use Rattle.std.proofs.Common.{refl}
 use Rattle.package_tables.proofs.Looking.{looks_one}
 use Rattle.package_tables.proofs.IdentityStatements.{known, identity_by_uuid}
 use Rattle.package_tables.proofs.identities.identity_by_uuid.Goals as goal

@@ -1,4 +1,4 @@
-use Rattle.std.proofs.Common.{refl, to_z-of_z}
+use Rattle.std.proofs.Common.{refl}
 use Rattle.sqlite.specs.Held.{state}
 use Rattle.package_tables.proofs.Looking.{tells_one}
 use Rattle.package_tables.proofs.IdentityStatements.{known, identity_by_uuid}

@@ -1,5 +1,4 @@
 use Rattle.std.proofs.Common.{refl, to_z-of_z}
-use Rattle.sqlite.specs.Held.{state}
 use Rattle.package_tables.proofs.Looking.{looks_one}
 use Rattle.package_tables.proofs.RowsMediaStatements.{known, rows_media_of_pair}
 use Rattle.package_tables.proofs.mappings.rows_media_of_pair.Goals as goal

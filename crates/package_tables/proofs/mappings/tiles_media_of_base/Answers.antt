@@ -1,5 +1,4 @@
 use Rattle.std.proofs.Common.{refl, to_z-of_z}
-use Rattle.sqlite.specs.Held.{state}
 use Rattle.package_tables.proofs.Looking.{looks_one}
 use Rattle.package_tables.proofs.TilesMediaStatements.{known, tiles_media_of_base}
 use Rattle.package_tables.proofs.mappings.tiles_media_of_base.Goals as goal

@@ -1,10 +1,9 @@
 use Rattle.std.proofs.Common.{refl, to_z-of_z}
-use Rattle.std.specs.Prelude.{◌&&◌, bytes_eq}
 use Rattle.std.specs.Ordering.{int_eq}
 use Rattle.sqlite.specs.Held.{state}
 use Rattle.sqlite.specs.Order.{column}
-use Rattle.sqlite.specs.declared.types.Value.TheVariants.{Int, Text}
-use Rattle.sql_meaning.specs.Reading.{equals, both, is_same}
+use Rattle.sqlite.specs.declared.types.Value.TheVariants.{Int}
+use Rattle.sql_meaning.specs.Reading.{equals, is_same}
 use Rattle.sql_meaning.specs.Writing.{Deletes}
 use Rattle.sql_meaning.proofs.Delete.{removed_inside}
 use Rattle.package_tables.specs.Tables.{sheet_media}
@@ -13,7 +12,7 @@ use Rattle.package_tables.specs.Changes.{DropsMedium}
 use Rattle.package_tables.proofs.Making.{makes, drops}
 use Rattle.package_tables.proofs.MediumStatements.{delete_text, delete_plan}
 use Rattle.package_tables.proofs.Written.{medium_shape_is, media_written}
-use Rattle.package_tables.proofs.Values.{same_number, same_text, both_same}
+use Rattle.package_tables.proofs.Values.{same_number}
 use Rattle.package_tables.proofs.media.delete_medium.Goals as goal
 
 pub returns-clause-wrote : goal.returns-clause-wrote

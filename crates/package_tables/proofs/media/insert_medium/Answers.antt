@@ -1,6 +1,5 @@
 use Rattle.std.proofs.Common.{pos, refl, to_z-of_z}
 use Rattle.sqlite.specs.Held.{state}
-use Rattle.sqlite.specs.Edit.{next_rowid}
 use Rattle.sqlite.specs.declared.types.Value.TheVariants.{Int, Null}
 use Rattle.sql_meaning.specs.Writing.{Inserts}
 use Rattle.sql_meaning.proofs.Insert.{inserted_inside}

@@ -1,5 +1,4 @@
 use Rattle.std.proofs.Common.{refl, to_z-of_z}
-use Rattle.sqlite.specs.Held.{state}
 use Rattle.package_tables.proofs.Looking.{looks_one}
 use Rattle.package_tables.proofs.MediumStatements.{known, medium_by_id}
 use Rattle.package_tables.proofs.media.medium_by_id.Goals as goal

@@ -1,5 +1,4 @@
 use Rattle.std.proofs.Common.{refl, to_z-of_z}
-use Rattle.sqlite.specs.Held.{state}
 use Rattle.package_tables.proofs.Looking.{looks_one}
 use Rattle.package_tables.proofs.TileStatements.{known, tile_at}
 use Rattle.package_tables.proofs.tiles.tile_at.Goals as goal

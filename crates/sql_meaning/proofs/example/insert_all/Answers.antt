@@ -1,9 +1,9 @@
-use Rattle.std.proofs.Common.{◌∙◌, rules, take, refl, sym, subst}
+use Rattle.std.proofs.Common.{◌∙◌, refl, sym, subst}
 use Rattle.sqlite.specs.Held.{state}
 use Rattle.std.proofs.lemmas.List.{take_more}
 use Rattle.sql_meaning.specs.Transactions.{EachStep}
 use Rattle.sql_meaning.specs.Notes.{Adds}
-use Rattle.sql_meaning.proofs.Transactions.{each_begins, each_goes_on, each_stops}
+use Rattle.sql_meaning.proofs.Transactions.{each_begins, each_goes_on}
 use Rattle.sql_meaning.proofs.example.insert_all.Goals as goal
 
 pub loop-note-init : goal.loop-note-init

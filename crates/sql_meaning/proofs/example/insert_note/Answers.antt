@@ -2,7 +2,7 @@ use Rattle.std.proofs.Common.{to_z-of_z}
 use Rattle.sqlite.specs.Held.{state}
 use Rattle.sql_meaning.specs.Notes.{note_table, AddsNote}
 use Rattle.sql_meaning.proofs.Insert.{inserted_inside}
-use Rattle.sql_meaning.proofs.Transactions.{write_steps}
+use Rattle.sql_meaning.proofs.Transactions.{write_steps, excused_by}
 use Rattle.sql_meaning.proofs.Notes.{insert_text, insert_row}
 use Rattle.sql_meaning.proofs.example.insert_note.Goals as goal
 
@@ -13,5 +13,10 @@ returns-clause-steps g c =
     let new = state g.S.Store c.execute.new.self.conn.now in
     write_steps (AddsNote a.seq a.place a.text.now) old new c.execute.result
     (λ clean begun. inserted_inside _ note_table insert_text _ _ (insert_row a.seq a.place a.text.now) old new c.execute.result
-        (simp (to_z-of_z, c.ranges.seq, c.ranges.place) at (rw (c.params-to_sql.ensures, c.params-to_sql-2.ensures, c.params-to_sql-3.ensures) at (c.execute.ensures.runs clean begun))))
+    (simp (to_z-of_z, c.ranges.seq, c.ranges.place) at (rw (c.params-to_sql.ensures, c.params-to_sql-2.ensures, c.params-to_sql-3.ensures) at (c.execute.ensures.runs clean begun))))
     c.execute.ensures.survives
+
+pub returns-clause-excused : goal.returns-clause-excused
+returns-clause-excused g c =
+    excused_by _ _ (state g.S.Store c.args.tx.now.conn.now) (state g.S.Store c.execute.new.self.conn.now) c.execute.result
+    (λ clean begun. simp (to_z-of_z, c.ranges.seq, c.ranges.place) at (rw (c.params-to_sql.ensures, c.params-to_sql-2.ensures, c.params-to_sql-3.ensures) at (c.execute.ensures.runs clean begun)))

@@ -1,5 +1,4 @@
 use Rattle.std.proofs.Common.{◌≡◌, IsTrue, false, sym, ◌∙◌, subst, arith}
-use Rattle.sqlite_trees.specs.View.{IsClean}
 use Rattle.sqlite.specs.Held.{state}
 use Rattle.sql_meaning.specs.Transactions.{IsAdopted}
 use Rattle.sql_meaning.proofs.Opened.{open_if_whole}

@@ -1,0 +1,202 @@
+-- The steps that put a link in or take it out, as one change of the package.
+use Rattle.std.proofs.Common.{◌≡◌, ℕ, ℤ, pos, List, [], ◌∷◌, ◌++◌, map, Bool, true, false, Result, Ok, refl, sym, ap, subst, ◌∙◌, length}
+use Rattle.std.specs.Prelude.{◌&&◌, ◌||◌, ◌==◌, bytes_eq, flat_map, unsigned_abs}
+use Rattle.std.specs.List.{AllByRecursion, list_any}
+use Rattle.std.specs.Ordering.{int_eq}
+use Rattle.std.proofs.lemmas.Bool.{true≢false, false≢true}
+use Rattle.std.proofs.lemmas.Slice.Eq.{bytes_eq-Decides}
+use borrow.Author.Tests.{eqb-true}
+use Rattle.sqlite.specs.Effect.{Database}
+use Rattle.sqlite.specs.State.{State, Survives}
+use Rattle.sql_meaning.specs.Transactions.{Steps}
+use Rattle.sql_meaning.specs.Writing.{Chained}
+use Rattle.sql_meaning.proofs.Transactions.{steps_then, steps_weaker}
+use Rattle.package_tables.specs.Package.{Tables, tables_of, AreFormed}
+use Rattle.package_tables.specs.Shapes.{tiles_media_shape, rows_media_shape}
+use Rattle.package_tables.specs.Calls.{Makes, Answers, OnTables}
+use Rattle.package_tables.proofs.Stepping.{makes_steps}
+use Rattle.package_tables.specs.declared.rows.IdentityRow.{IdentityRow}
+use Rattle.package_tables.specs.declared.rows.MappingRow.{MappingRow}
+use Rattle.sheet_types.specs.Ordered.{arranged, has}
+use Rattle.sheet_types.specs.Matrix.{is_within}
+use Rattle.sheet_types.specs.World.{Package, link_key, link_kind, kind_number, base_kind, other_kind, has_kind}
+use Rattle.sheet_types.specs.declared.receipt.MovedKind.{MovedKind}
+use Rattle.sheet_types.proofs.Same.{In}
+use Rattle.package_tables.specs.Changes.{AddsTilesMedia, AddsRowsMedia}
+use Rattle.sheet_types.specs.Lines.{IsUuid}
+use Rattle.sheet_types.specs.Register.{HasEnds}
+use Rattle.sheet_types.specs.declared.command.Mapping.{Mapping}
+use Rattle.sheet_types.specs.declared.command.Mapping.TheVariants.{TilesMedia, RowsMedia}
+use Rattle.sheet_types.specs.declared.command.Relation.{Relation}
+use Rattle.sheet_types.specs.declared.frame.Frame.{Frame}
+use Rattle.sheet_types.proofs.Every.{All-both, none_pass, none_any}
+use Rattle.sheet_types.proofs.Order.{list_any-arranged}
+use Rattle.sheet_types.proofs.LineReading.{uuid_length}
+use Rattle.identity_register.specs.Numbering.{Numbered, greatest_number, identity_row, number_of, mapping_row, tiles_media_rows, rows_media_rows, is_pair, with_link, without_link, AddsLink, DropsLink, IsRowOf}
+use Rattle.identity_register.specs.Reads.{Reads, Says}
+use Rattle.identity_register.specs.Calls.{Becomes}
+use Rattle.identity_register.specs.Changes.{IsNewLink, link_added, IsLink, link_removed}
+use Rattle.identity_register.proofs.Deleting.{All-In, same_number}
+use Rattle.identity_register.proofs.Finding.{row_of_uuid}
+use Rattle.identity_register.proofs.Linking.{links, unlinks, pair_same, end_of, number_is, one_passes, bytes_eq_append}
+
+module _ (f : Frame) (p : Package) (t : Tables) (says : Says f p t) where
+  in_range : (n : Numbered) → In n says.numbered → is_within (pos 1) greatest_number n.number ≡ true
+  in_range n i = All-In (λ m. is_within (pos 1) greatest_number m.number ≡ true) n says.numbered says.numbers.range i
+
+  -- the row that was found gives the number
+  found_number : (id : List ℕ) → IsUuid id → (r : IdentityRow) → IsRowOf id t r → number_of says.numbered id ≡ r.local_id
+  found_number id fit r h =
+      let n = row_of_uuid f p t says id fit r h.0 h.1 in
+      ap (number_of says.numbered) (sym n.3) ∙ number_is f p t says n.0 n.1 ∙ ap (λ x. x.local_id) n.2
+
+  -- pairs of numbers of ends are one where their keys are
+  keys_same : (x l : Relation) → x.mapping ≡ l.mapping → HasEnds p x → HasEnds p l
+      → bytes_eq (tiles_media_shape.key (mapping_row says.numbered x)) (tiles_media_shape.key (mapping_row says.numbered l)) ≡ bytes_eq (link_key x) (link_key l)
+  keys_same x l same hx hl =
+      let a = end_of f p t says (base_kind x.mapping) x.base hx.0 in
+      let b = end_of f p t says (other_kind x.mapping) x.media hx.1 in
+      let c = end_of f p t says (base_kind l.mapping) l.base hl.0 in
+      let d = end_of f p t says (other_kind l.mapping) l.media hl.1 in
+      let base : int_eq (number_of says.numbered x.base) (number_of says.numbered l.base) ≡ (unsigned_abs (number_of says.numbered x.base) == unsigned_abs (number_of says.numbered l.base)) =
+        rw (a.4, c.4) (same_number a.0.number c.0.number (in_range a.0 a.1) (in_range c.0 c.1)) in
+      let other : int_eq (number_of says.numbered x.media) (number_of says.numbered l.media) ≡ (unsigned_abs (number_of says.numbered x.media) == unsigned_abs (number_of says.numbered l.media)) =
+        rw (b.4, d.4) (same_number b.0.number d.0.number (in_range b.0 b.1) (in_range d.0 d.1)) in
+      ap (λ v. (unsigned_abs (number_of says.numbered x.base) == unsigned_abs (number_of says.numbered l.base)) && v) (last (unsigned_abs (number_of says.numbered x.media) == unsigned_abs (number_of says.numbered l.media)))
+      ∙ sym (ap (λ v. v && (unsigned_abs (number_of says.numbered x.media) == unsigned_abs (number_of says.numbered l.media))) base)
+      ∙ sym (ap (λ v. int_eq (number_of says.numbered x.base) (number_of says.numbered l.base) && v) other)
+      ∙ pair_same f p t says x l same hx hl
+    where
+      last : (v : Bool) → (v && true) ≡ v
+      last true = refl
+      last false = refl
+
+  either_false : (a b : Bool) → a ≡ false → b ≡ false → (a || b) ≡ false
+  either_false a b e g = rw (e, g) refl
+
+  no_tiles_media : (l : Relation) → l.mapping ≡ TilesMedia → HasEnds p l → (xs : List Relation) → AllByRecursion (HasEnds p) xs → AllByRecursion (λ x. bytes_eq (link_key x) (link_key l) ≡ false) xs
+      → list_any (λ r. bytes_eq (tiles_media_shape.key r) (tiles_media_shape.key (mapping_row says.numbered l))) (flat_map (λ x. tiles_media_rows says.numbered x x.mapping) xs) ≡ false
+  no_tiles_media l e hl [] h g = refl
+  no_tiles_media l e hl (x ∷ xs) h g = one x.mapping refl (no_tiles_media l e hl xs h.1 g.1)
+    where
+      one : (m : Mapping) → x.mapping ≡ m → list_any (λ r. bytes_eq (tiles_media_shape.key r) (tiles_media_shape.key (mapping_row says.numbered l))) (flat_map (λ y. tiles_media_rows says.numbered y y.mapping) xs) ≡ false
+          → list_any (λ r. bytes_eq (tiles_media_shape.key r) (tiles_media_shape.key (mapping_row says.numbered l))) (tiles_media_rows says.numbered x m ++ flat_map (λ y. tiles_media_rows says.numbered y y.mapping) xs) ≡ false
+      one TilesMedia k more = either_false _ _ (keys_same x l (k ∙ sym e) h.0 hl ∙ g.0) more
+      one RowsMedia k more = more
+
+  no_rows_media : (l : Relation) → l.mapping ≡ RowsMedia → HasEnds p l → (xs : List Relation) → AllByRecursion (HasEnds p) xs → AllByRecursion (λ x. bytes_eq (link_key x) (link_key l) ≡ false) xs
+      → list_any (λ r. bytes_eq (rows_media_shape.key r) (rows_media_shape.key (mapping_row says.numbered l))) (flat_map (λ x. rows_media_rows says.numbered x x.mapping) xs) ≡ false
+  no_rows_media l e hl [] h g = refl
+  no_rows_media l e hl (x ∷ xs) h g = one x.mapping refl (no_rows_media l e hl xs h.1 g.1)
+    where
+      one : (m : Mapping) → x.mapping ≡ m → list_any (λ r. bytes_eq (rows_media_shape.key r) (rows_media_shape.key (mapping_row says.numbered l))) (flat_map (λ y. rows_media_rows says.numbered y y.mapping) xs) ≡ false
+          → list_any (λ r. bytes_eq (rows_media_shape.key r) (rows_media_shape.key (mapping_row says.numbered l))) (rows_media_rows says.numbered x m ++ flat_map (λ y. rows_media_rows says.numbered y y.mapping) xs) ≡ false
+      one TilesMedia k more = more
+      one RowsMedia k more = either_false _ _ (keys_same x l (k ∙ sym e) h.0 hl ∙ g.0) more
+
+  links_apart : (l : Relation) → has link_key (link_key l) p.links ≡ false → AllByRecursion (λ x. bytes_eq (link_key x) (link_key l) ≡ false) says.linked
+  links_apart l fresh =
+      none_pass (λ x. bytes_eq (link_key x) (link_key l)) says.linked
+      (sym (list_any-arranged link_key (λ x. bytes_eq (link_key x) (link_key l)) says.linked) ∙ ap (list_any (λ x. bytes_eq (link_key x) (link_key l))) (sym says.links) ∙ fresh)
+
+  put_tiles : (l : Relation) (given : MappingRow) (after : Tables) → given ≡ mapping_row says.numbered l → l.mapping ≡ TilesMedia → IsNewLink l p → AddsTilesMedia given t after → after ≡ with_link TilesMedia (mapping_row says.numbered l) t
+  put_tiles l given after row_is e fits adds =
+      let key = tiles_media_shape.key in
+      let free : has key (key (mapping_row says.numbered l)) t.tiles_media ≡ false =
+        rw says.tiles_media (list_any-arranged key (λ r. bytes_eq (key r) (key (mapping_row says.numbered l))) (flat_map (λ x. tiles_media_rows says.numbered x x.mapping) says.linked) ∙ no_tiles_media l e fits.ends says.linked says.ends (links_apart l fits.new)) in
+      adds (subst (λ r. has key (key r) t.tiles_media ≡ false) (sym row_is) free) ∙ ap (λ r. with_link TilesMedia r t) row_is
+
+  put_rows : (l : Relation) (given : MappingRow) (after : Tables) → given ≡ mapping_row says.numbered l → l.mapping ≡ RowsMedia → IsNewLink l p → AddsRowsMedia given t after → after ≡ with_link RowsMedia (mapping_row says.numbered l) t
+  put_rows l given after row_is e fits adds =
+      let key = rows_media_shape.key in
+      let free : has key (key (mapping_row says.numbered l)) t.rows_media ≡ false =
+        rw says.rows_media (list_any-arranged key (λ r. bytes_eq (key r) (key (mapping_row says.numbered l))) (flat_map (λ x. rows_media_rows says.numbered x x.mapping) says.linked) ∙ no_rows_media l e fits.ends says.linked says.ends (links_apart l fits.new)) in
+      adds (subst (λ r. has key (key r) t.rows_media ≡ false) (sym row_is) free) ∙ ap (λ r. with_link RowsMedia r t) row_is
+
+  -- the tables get the row of the link
+  pub link_put : (l : Relation) (b m : ℤ) (after : Tables) → number_of says.numbered l.base ≡ b → number_of says.numbered l.media ≡ m → IsNewLink l p → AddsLink l.mapping b m t after → after ≡ with_link l.mapping (mapping_row says.numbered l) t
+  link_put l b m after is_base is_media fits adds = one l.mapping refl adds
+    where
+      one : (n : Mapping) → l.mapping ≡ n → AddsLink n b m t after → after ≡ with_link n (mapping_row says.numbered l) t
+      one TilesMedia e given = put_tiles l (record { base_id = b; related_id = m }) after (rw (is_base, is_media) refl) e fits given
+      one RowsMedia e given = put_rows l (record { base_id = b; related_id = m }) after (rw (is_base, is_media) refl) e fits given
+
+  -- the tables lose the row of the link
+  pub link_taken : (l : Relation) (b m : ℤ) (after : Tables) → number_of says.numbered l.base ≡ b → number_of says.numbered l.media ≡ m → DropsLink l.mapping b m t after → after ≡ without_link l.mapping (mapping_row says.numbered l) t
+  link_taken l b m after is_base is_media drops = one l.mapping drops
+    where
+      one : (n : Mapping) → DropsLink n b m t after → after ≡ without_link n (mapping_row says.numbered l) t
+      one TilesMedia given = given ∙ rw (is_base, is_media) refl
+      one RowsMedia given = given ∙ rw (is_base, is_media) refl
+
+  -- a link that is there has its ends
+  pub ends_there : (l : Relation) → IsLink l p → HasEnds p l
+  ends_there l fits =
+      let some = one_passes (λ x. bytes_eq (link_key x) (link_key l)) says.linked (sym (list_any-arranged link_key (λ x. bytes_eq (link_key x) (link_key l)) says.linked) ∙ ap (list_any (λ x. bytes_eq (link_key x) (link_key l))) (sym says.links) ∙ fits.there) in
+      let x = some.0 in
+      let hx = All-In (HasEnds p) x says.linked says.ends some.1 in
+      let a = end_of f p t says (base_kind x.mapping) x.base hx.0 in
+      let long : length x.base ≡ length l.base = ap length (sym a.3) ∙ uuid_length a.0.item.identity (All-In (λ m. IsUuid m.item.identity) a.0 says.numbered says.numbers.uuids a.1) ∙ sym (uuid_length l.base fits.base) in
+      let parts = and_parts (kind_number (link_kind x.mapping) == kind_number (link_kind l.mapping)) (bytes_eq (x.base ++ x.media) (l.base ++ l.media)) some.2 in
+      let both = and_parts (bytes_eq x.base l.base) (bytes_eq x.media l.media) (sym (bytes_eq_append x.base x.media l.base l.media long) ∙ parts.1) in
+      let mapping = same_mapping x.mapping l.mapping parts.0 in
+      (subst (λ m. has_kind_at (base_kind m) l.base) mapping (subst (λ b. has_kind_at (base_kind x.mapping) b) ((bytes_eq-Decides x.base l.base).0 both.0) hx.0),
+      subst (λ m. has_kind_at (other_kind m) l.media) mapping (subst (λ b. has_kind_at (other_kind x.mapping) b) ((bytes_eq-Decides x.media l.media).0 both.1) hx.1))
+    where
+      has_kind_at : MovedKind → List ℕ → Type 0
+      has_kind_at kind id = has_kind p kind id ≡ true
+
+      and_parts : (a b : Bool) → (a && b) ≡ true → (a ≡ true) × (b ≡ true)
+      and_parts true b h = (refl, h)
+      and_parts false b h = absurd (false≢true h)
+
+      same_mapping : (a b : Mapping) → (kind_number (link_kind a) == kind_number (link_kind b)) ≡ true → a ≡ b
+      same_mapping TilesMedia TilesMedia h = refl
+      same_mapping TilesMedia RowsMedia h = absurd (false≢true h)
+      same_mapping RowsMedia TilesMedia h = absurd (false≢true h)
+      same_mapping RowsMedia RowsMedia h = refl
+
+-- ---- the steps
+
+-- what two look-ups found of the ends of a link
+abbrev pub FoundEnds : Relation → IdentityRow → IdentityRow → Database → Database → Type 0
+FoundEnds l base media old new = (new ≡ old) × (AreFormed old → IsRowOf l.base (tables_of old) base × IsRowOf l.media (tables_of old) media)
+
+pub ends_steps : {E F : Type 0} (l : Relation) (base media : IdentityRow) {old mid new : State} → Steps {E = E} (Answers (IsRowOf l.base)) old mid (Ok base) → Steps {E = F} (Answers (IsRowOf l.media)) mid new (Ok media)
+    → Steps {E = F} (λ m. FoundEnds l base m) old new (Ok media)
+ends_steps l base media {old} {mid} {new} one two =
+    steps_weaker (λ m. FoundEnds l base m)
+    (λ m chain. (chain.2.0 ∙ chain.1.0, λ formed. (chain.1.1 formed, subst (λ d. IsRowOf l.media (tables_of d) m) chain.1.0 (chain.2.1 (subst AreFormed (sym chain.1.0) formed)))))
+    (steps_then one two)
+
+joined : (l : Relation) (base media : IdentityRow) (old mid new : Database) → FoundEnds l base media old mid → OnTables (AddsLink l.mapping base.local_id media.local_id) mid new → Becomes (IsNewLink l) (link_added l) old new
+joined l base media old mid new found added f p reads fits =
+    let rows = found.1 reads.formed in
+    let did = added (subst AreFormed (sym found.0) reads.formed) in
+    let is_base = found_number f p (tables_of old) reads.says l.base fits.base base rows.0 in
+    let is_media = found_number f p (tables_of old) reads.says l.media fits.media media rows.1 in
+    let after = link_put f p (tables_of old) reads.says l base.local_id media.local_id (tables_of new) is_base is_media fits (subst (λ d. AddsLink l.mapping base.local_id media.local_id (tables_of d) (tables_of new)) found.0 did.1) in
+    record { formed = did.0; says = subst (Says f (link_added l p)) (sym after) (links f p (tables_of old) l reads.says fits.new fits.ends) }
+
+parted : (l : Relation) (base media : IdentityRow) (old mid new : Database) → FoundEnds l base media old mid → OnTables (DropsLink l.mapping base.local_id media.local_id) mid new → Becomes (IsLink l) (link_removed l) old new
+parted l base media old mid new found dropped f p reads fits =
+    let rows = found.1 reads.formed in
+    let did = dropped (subst AreFormed (sym found.0) reads.formed) in
+    let is_base = found_number f p (tables_of old) reads.says l.base fits.base base rows.0 in
+    let is_media = found_number f p (tables_of old) reads.says l.media fits.media media rows.1 in
+    let after = link_taken f p (tables_of old) reads.says l base.local_id media.local_id (tables_of new) is_base is_media (subst (λ d. DropsLink l.mapping base.local_id media.local_id (tables_of d) (tables_of new)) found.0 did.1) in
+    record { formed = did.0; says = subst (Says f (link_removed l p)) (sym after) (unlinks f p (tables_of old) reads.says l (ends_there f p (tables_of old) reads.says l fits)) }
+
+-- both ends are found, and the link comes in
+pub link_steps : {E F : Type 0} (l : Relation) (base media : IdentityRow) {old mid new : State} {r : Result (Unit {0}) F} → Steps {E = E} (λ m. FoundEnds l base m) old mid (Ok media) → Steps (λ _. OnTables (AddsLink l.mapping base.local_id media.local_id)) mid new r
+    → Steps (λ _. Becomes (IsNewLink l) (link_added l)) old new r
+link_steps l base media {old} {mid} {new} first next = steps_weaker (λ _. Becomes (IsNewLink l) (link_added l)) (λ _ chain. joined l base media old.now chain.0 new.now chain.1 chain.2) (steps_then first next)
+
+-- both ends are found, and the link goes
+pub unlink_steps : {E F : Type 0} (l : Relation) (base media : IdentityRow) {old mid new : State} {r : Result (Unit {0}) F} → Steps {E = E} (λ m. FoundEnds l base m) old mid (Ok media) → Steps (λ _. OnTables (DropsLink l.mapping base.local_id media.local_id)) mid new r
+    → Steps (λ _. Becomes (IsLink l) (link_removed l)) old new r
+unlink_steps l base media {old} {mid} {new} first next = steps_weaker (λ _. Becomes (IsLink l) (link_removed l)) (λ _ chain. parted l base media old.now chain.0 new.now chain.1 chain.2) (steps_then first next)
+
+-- a write of the table of a mapping
+pub mapping_steps : {E : Type 0} (Change : Mapping → Tables → Tables → Type 0) (m n : Mapping) {old new : State} {r : Result (Unit {0}) E} → m ≡ n → Makes (Change n) old new r → Survives old new (λ _. ⊥) → Steps (λ _. OnTables (Change m)) old new r
+mapping_steps {E} Change m n {old} {new} {r} same makes survives = subst (λ k. Steps (λ _. OnTables (Change k)) old new r) (sym same) (makes_steps (Change n) makes survives)

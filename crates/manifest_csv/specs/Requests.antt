@@ -1,0 +1,83 @@
+-- Which record of a list is which request (profile, over RFC 9562 for UUIDs).
+use Rattle.std.specs.Prelude.{◌≡◌, ℕ, Bool, true, false, ℤ, FitsSigned, All, List, [], ◌∷◌, length, Option, Some, None, Ok, codes}
+use Rattle.std.specs.Int.{w64}
+use Rattle.std.specs.Option.{option_and_then}
+use Rattle.std.specs.Fmt.{signed_decimal}
+use Rattle.uuid.specs.Text.{parsed_hyphenated}
+use Rattle.hex.specs.Hex.{decode_of}
+use Rattle.csv.specs.Records.{field_at}
+use Rattle.sheet_types.specs.Texts.{kind_word, mapping_word, mode_word}
+use Rattle.sheet_types.specs.declared.command.Content.{Content}
+use Rattle.sheet_types.specs.declared.command.Content.TheVariants.{Tile, Media, Row}
+use Rattle.sheet_types.specs.declared.command.Command.{Command}
+use Rattle.sheet_types.specs.declared.command.Command.TheVariants.{Add, Delete, Link, Unlink, Split, Merge}
+use Rattle.sheet_types.specs.declared.command.Request.{Request}
+use Rattle.sheet_types.specs.declared.receipt.MovedKind.TheVariants.{TileItem, MediaItem, RowItem}
+
+-- the names of the columns, in their order
+abbrev pub header : List (List ℕ)
+header = codes "request" ∷ codes "at" ∷ codes "command" ∷ codes "package" ∷ codes "identity" ∷ codes "other" ∷ codes "kind" ∷ codes "zoom" ∷ codes "column"
+    ∷ codes "row" ∷ codes "last_column" ∷ codes "last_row" ∷ codes "x" ∷ codes "y" ∷ codes "code" ∷ codes "ticket" ∷ codes "text" ∷ codes "data" ∷ []
+
+-- the field of this column is this text
+abbrev pub IsTextAt : List (List ℕ) → ℕ → List ℕ → Type 0
+IsTextAt fields column text = field_at fields column ≡ Some text
+
+-- it is the hyphenated form of this UUID, digits in either case
+abbrev pub IsUuidAt : List (List ℕ) → ℕ → List ℕ → Type 0
+IsUuidAt fields column id = option_and_then parsed_hyphenated (field_at fields column) ≡ Some id
+
+-- it is this number in plain decimal, within 64 bits
+abbrev pub IsNumberAt : List (List ℕ) → ℕ → ℤ → Type 0
+IsNumberAt fields column number = FitsSigned w64 number × IsTextAt fields column (signed_decimal number)
+
+-- it is these bytes in hexadecimal, an even number of digits in either case
+pub record IsHexAt (fields : List (List ℕ)) (column : ℕ) (bytes : List ℕ) : Type 0 where
+  pub text : List ℕ
+  pub there : IsTextAt fields column text
+  pub digits : decode_of text ≡ Ok bytes
+
+-- these columns are empty
+abbrev pub AreEmpty : List (List ℕ) → List ℕ → Type 0
+AreEmpty fields columns = All (λ column. IsTextAt fields column []) columns
+
+-- the fields of a content, and that those of other contents are empty
+abbrev pub IsContent : List (List ℕ) → Content → Type 0
+IsContent fields (Tile zoom column row bytes) = IsTextAt fields 6 (kind_word TileItem) × IsNumberAt fields 7 zoom × IsNumberAt fields 8 column × IsNumberAt fields 9 row × IsHexAt fields 17 bytes
+    × AreEmpty fields (10 ∷ 11 ∷ 12 ∷ 13 ∷ 14 ∷ 16 ∷ [])
+IsContent fields (Media content_type bytes) = IsTextAt fields 6 (kind_word MediaItem) × IsTextAt fields 16 content_type × IsHexAt fields 17 bytes
+    × AreEmpty fields (7 ∷ 8 ∷ 9 ∷ 10 ∷ 11 ∷ 12 ∷ 13 ∷ 14 ∷ [])
+IsContent fields (Row x y code label) = IsTextAt fields 6 (kind_word RowItem) × IsNumberAt fields 12 x × IsNumberAt fields 13 y × IsNumberAt fields 14 code × IsTextAt fields 16 label
+    × AreEmpty fields (7 ∷ 8 ∷ 9 ∷ 10 ∷ 11 ∷ 17 ∷ [])
+
+-- the fields of a command, and that those which it doesn't use are empty
+abbrev pub IsCommand : List (List ℕ) → Command → Type 0
+IsCommand fields (Add target identity content) = IsTextAt fields 2 (codes "add") × IsUuidAt fields 3 target × IsUuidAt fields 4 identity × IsContent fields content
+    × AreEmpty fields (5 ∷ 15 ∷ [])
+IsCommand fields (Delete source identity) = IsTextAt fields 2 (codes "delete") × IsUuidAt fields 3 source × IsUuidAt fields 4 identity
+    × AreEmpty fields (5 ∷ 6 ∷ 7 ∷ 8 ∷ 9 ∷ 10 ∷ 11 ∷ 12 ∷ 13 ∷ 14 ∷ 15 ∷ 16 ∷ 17 ∷ [])
+IsCommand fields (Link target mapping base media) = IsTextAt fields 2 (codes "link") × IsUuidAt fields 3 target × IsTextAt fields 6 (mapping_word mapping) × IsUuidAt fields 4 base × IsUuidAt fields 5 media
+    × AreEmpty fields (7 ∷ 8 ∷ 9 ∷ 10 ∷ 11 ∷ 12 ∷ 13 ∷ 14 ∷ 15 ∷ 16 ∷ 17 ∷ [])
+IsCommand fields (Unlink source mapping base media) = IsTextAt fields 2 (codes "unlink") × IsUuidAt fields 3 source × IsTextAt fields 6 (mapping_word mapping) × IsUuidAt fields 4 base × IsUuidAt fields 5 media
+    × AreEmpty fields (7 ∷ 8 ∷ 9 ∷ 10 ∷ 11 ∷ 12 ∷ 13 ∷ 14 ∷ 15 ∷ 16 ∷ 17 ∷ [])
+IsCommand fields (Split source child mode rect) = IsTextAt fields 2 (codes "split") × IsUuidAt fields 3 source × IsUuidAt fields 5 child × IsTextAt fields 6 (mode_word mode)
+    × IsNumberAt fields 7 rect.zoom × IsNumberAt fields 8 rect.column × IsNumberAt fields 10 rect.last_column × IsNumberAt fields 9 rect.row × IsNumberAt fields 11 rect.last_row
+    × AreEmpty fields (4 ∷ 12 ∷ 13 ∷ 14 ∷ 15 ∷ 16 ∷ 17 ∷ [])
+IsCommand fields (Merge child into ticket) = IsTextAt fields 2 (codes "merge") × IsUuidAt fields 3 child × IsUuidAt fields 5 into × IsNumberAt fields 15 ticket
+    × AreEmpty fields (4 ∷ 6 ∷ 7 ∷ 8 ∷ 9 ∷ 10 ∷ 11 ∷ 12 ∷ 13 ∷ 14 ∷ 16 ∷ 17 ∷ [])
+
+-- a record that is this request
+pub record IsRequest (fields : List (List ℕ)) (r : Request) : Type 0 where
+  pub columns : length fields ≡ 18
+  pub id : IsUuidAt fields 0 r.id
+  pub at : IsTextAt fields 1 r.at
+  pub command : IsCommand fields r.command
+
+-- the commands that are served so far
+abbrev pub is_served : Command → Bool
+is_served (Add target identity content) = true
+is_served (Delete source identity) = true
+is_served (Link target mapping base media) = true
+is_served (Unlink source mapping base media) = true
+is_served (Split source child mode rect) = false
+is_served (Merge child into ticket) = false

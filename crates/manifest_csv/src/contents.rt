@@ -1,0 +1,95 @@
+// The content that a record adds.
+ghost use Rattle.std.specs.Prelude.{◌≡◌, ℕ, ℤ, List, IfOk, IfSome, IfNone};
+ghost use Rattle.csv.specs.Records.{fields_of};
+ghost use Rattle.manifest_csv.specs.Requests.{IsContent};
+ghost use Rattle.sheet_types.specs.declared.command.Content.{Content};
+ghost use Rattle.sheet_types.specs.declared.command.Content.TheVariants as content;
+
+use crate::fields::{are_empty, has_text, hex_at, number_at, text_at};
+use csv::StringRecord;
+use sheet_types::collections::Bytes;
+use sheet_types::command::Content;
+use sheet_types::error::OutOfMemory;
+use std::alloc::Global;
+
+/// The columns that the addition of a tile leaves empty, `other` and `ticket` aside.
+const NOT_OF_TILE: [usize; 6] = [10, 11, 12, 13, 14, 16];
+
+/// The same for a medium.
+const NOT_OF_MEDIA: [usize; 8] = [7, 8, 9, 10, 11, 12, 13, 14];
+
+/// The same for a row.
+const NOT_OF_ROW: [usize; 6] = [7, 8, 9, 10, 11, 17];
+
+/// The tile that a record adds.
+pub fn tile_of(alloc: Global, row: &StringRecord) -> Result<Option<Content>, OutOfMemory>
+    ensures some { IfOk result (λ found. IfSome found (λ tile. IsContent (fields_of row.now) tile)) }
+    ensures none { IfOk result (λ found. IfNone found ((zoom column line : ℤ) (bytes : List ℕ) → ¬ IsContent (fields_of row.now) (content.Tile zoom column line bytes))) }
+{
+    if !has_text(row, 6, "tile") || !are_empty(row, &NOT_OF_TILE) {
+        return Ok(None);
+    }
+    let Some(zoom) = number_at(row, 7) else {
+        return Ok(None);
+    };
+    let Some(column) = number_at(row, 8) else {
+        return Ok(None);
+    };
+    let Some(line) = number_at(row, 9) else {
+        return Ok(None);
+    };
+    let Some(data) = hex_at(alloc, row, 17)? else {
+        return Ok(None);
+    };
+    let bytes = Bytes::from_vec(data);
+    Ok(Some(Content::Tile {
+        zoom,
+        column,
+        row: line,
+        bytes,
+    }))
+}
+
+/// The medium that a record adds.
+pub fn media_of(alloc: Global, row: &StringRecord) -> Result<Option<Content>, OutOfMemory>
+    ensures some { IfOk result (λ found. IfSome found (λ medium. IsContent (fields_of row.now) medium)) }
+    ensures none { IfOk result (λ found. IfNone found ((content_type bytes : List ℕ) → ¬ IsContent (fields_of row.now) (content.Media content_type bytes))) }
+{
+    if !has_text(row, 6, "media") || !are_empty(row, &NOT_OF_MEDIA) {
+        return Ok(None);
+    }
+    let Some(content_type) = text_at(alloc, row, 16)? else {
+        return Ok(None);
+    };
+    let Some(data) = hex_at(alloc, row, 17)? else {
+        return Ok(None);
+    };
+    let bytes = Bytes::from_vec(data);
+    Ok(Some(Content::Media {
+        content_type,
+        bytes,
+    }))
+}
+
+/// The row that a record adds.
+pub fn row_of(alloc: Global, row: &StringRecord) -> Result<Option<Content>, OutOfMemory>
+    ensures some { IfOk result (λ found. IfSome found (λ added. IsContent (fields_of row.now) added)) }
+    ensures none { IfOk result (λ found. IfNone found ((x y code : ℤ) (label : List ℕ) → ¬ IsContent (fields_of row.now) (content.Row x y code label))) }
+{
+    if !has_text(row, 6, "row") || !are_empty(row, &NOT_OF_ROW) {
+        return Ok(None);
+    }
+    let Some(x) = number_at(row, 12) else {
+        return Ok(None);
+    };
+    let Some(y) = number_at(row, 13) else {
+        return Ok(None);
+    };
+    let Some(code) = number_at(row, 14) else {
+        return Ok(None);
+    };
+    let Some(label) = text_at(alloc, row, 16)? else {
+        return Ok(None);
+    };
+    Ok(Some(Content::Row { x, y, code, label }))
+}

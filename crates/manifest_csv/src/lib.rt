@@ -1,0 +1,9 @@
+//! Lists as CSV (RFC 4180, as the crate `csv` reads it): request lists, reports and manifests.
+#![tactic(auto)]
+
+pub mod contents;
+pub mod fields;
+pub mod records;
+pub mod requests;
+#[cfg(test)]
+mod tests;

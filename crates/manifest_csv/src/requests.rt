@@ -1,0 +1,159 @@
+// Which request a record is.
+ghost use Rattle.std.specs.Prelude.{◌≡◌, ℕ, List, IsTrue, IfOk, IfSome, IfNone};
+ghost use Rattle.csv.specs.Records.{fields_of};
+ghost use Rattle.manifest_csv.specs.Requests.{IsCommand, IsContent, IsRequest, is_served};
+ghost use Rattle.sheet_types.specs.declared.command.Command.TheVariants as command;
+ghost use Rattle.sheet_types.specs.declared.command.Command.{Command};
+ghost use Rattle.sheet_types.specs.declared.command.Content.{Content};
+ghost use Rattle.sheet_types.specs.declared.command.Mapping.{Mapping};
+ghost use Rattle.sheet_types.specs.declared.command.Request.{Request};
+
+use crate::contents::{media_of, row_of, tile_of};
+use crate::fields::{are_empty, has_text, mapping_at, text_at, uuid_at};
+use csv::StringRecord;
+use sheet_types::command::{Command, Content, Request};
+use sheet_types::error::OutOfMemory;
+use std::alloc::Global;
+
+/// The columns that a deletion leaves empty.
+const NOT_OF_DELETE: [usize; 13] = [5, 6, 7, 8, 9, 10, 11, 12, 13, 14, 15, 16, 17];
+
+/// The columns that links and unlinks leave empty.
+const NOT_OF_LINK: [usize; 11] = [7, 8, 9, 10, 11, 12, 13, 14, 15, 16, 17];
+
+/// The link that a record asks for.
+pub fn link_of(row: &StringRecord) -> Option<Command>
+    ensures some { IfSome result (λ found. IsCommand (fields_of row.now) found) }
+    ensures served { IfSome result (λ found. IsTrue (is_served found)) }
+    ensures none { IfNone result ((target base media : List ℕ) (mapping : Mapping) → ¬ IsCommand (fields_of row.now) (command.Link target mapping base media)) }
+{
+    if !has_text(row, 2, "link") || !are_empty(row, &NOT_OF_LINK) {
+        return None;
+    }
+    let package = uuid_at(row, 3)?;
+    let mapping = mapping_at(row, 6)?;
+    let base = uuid_at(row, 4)?;
+    let media = uuid_at(row, 5)?;
+    Some(Command::Link {
+        package,
+        mapping,
+        base,
+        media,
+    })
+}
+
+/// The unlink that a record asks for.
+pub fn unlink_of(row: &StringRecord) -> Option<Command>
+    ensures some { IfSome result (λ found. IsCommand (fields_of row.now) found) }
+    ensures served { IfSome result (λ found. IsTrue (is_served found)) }
+    ensures none { IfNone result ((source base media : List ℕ) (mapping : Mapping) → ¬ IsCommand (fields_of row.now) (command.Unlink source mapping base media)) }
+{
+    if !has_text(row, 2, "unlink") || !are_empty(row, &NOT_OF_LINK) {
+        return None;
+    }
+    let package = uuid_at(row, 3)?;
+    let mapping = mapping_at(row, 6)?;
+    let base = uuid_at(row, 4)?;
+    let media = uuid_at(row, 5)?;
+    Some(Command::Unlink {
+        package,
+        mapping,
+        base,
+        media,
+    })
+}
+
+/// The deletion that a record asks for.
+pub fn delete_of(row: &StringRecord) -> Option<Command>
+    ensures some { IfSome result (λ found. IsCommand (fields_of row.now) found) }
+    ensures served { IfSome result (λ found. IsTrue (is_served found)) }
+    ensures none { IfNone result ((source identity : List ℕ) → ¬ IsCommand (fields_of row.now) (command.Delete source identity)) }
+{
+    if !has_text(row, 2, "delete") || !are_empty(row, &NOT_OF_DELETE) {
+        return None;
+    }
+    let package = uuid_at(row, 3)?;
+    let identity = uuid_at(row, 4)?;
+    Some(Command::Delete { package, identity })
+}
+
+/// The content that a record adds, whatever its kind.
+pub fn content_of(alloc: Global, row: &StringRecord) -> Result<Option<Content>, OutOfMemory>
+    ensures some { IfOk result (λ found. IfSome found (λ content. IsContent (fields_of row.now) content)) }
+    ensures none { IfOk result (λ found. IfNone found ((content : Content) → ¬ IsContent (fields_of row.now) content)) }
+{
+    if let Some(tile) = tile_of(alloc, row)? {
+        return Ok(Some(tile));
+    }
+    if let Some(medium) = media_of(alloc, row)? {
+        return Ok(Some(medium));
+    }
+    row_of(alloc, row)
+}
+
+/// The columns that every addition leaves empty.
+const NOT_OF_ADD: [usize; 2] = [5, 15];
+
+/// The addition that a record asks for.
+pub fn add_of(alloc: Global, row: &StringRecord) -> Result<Option<Command>, OutOfMemory>
+    ensures some { IfOk result (λ found. IfSome found (λ addition. IsCommand (fields_of row.now) addition)) }
+    ensures served { IfOk result (λ found. IfSome found (λ addition. IsTrue (is_served addition))) }
+    ensures none { IfOk result (λ found. IfNone found ((target identity : List ℕ) (content : Content) → ¬ IsCommand (fields_of row.now) (command.Add target identity content))) }
+{
+    if !has_text(row, 2, "add") || !are_empty(row, &NOT_OF_ADD) {
+        return Ok(None);
+    }
+    let Some(package) = uuid_at(row, 3) else {
+        return Ok(None);
+    };
+    let Some(identity) = uuid_at(row, 4) else {
+        return Ok(None);
+    };
+    let Some(content) = content_of(alloc, row)? else {
+        return Ok(None);
+    };
+    Ok(Some(Command::Add {
+        package,
+        identity,
+        content,
+    }))
+}
+
+/// The command that a record asks for, where it is served.
+pub fn command_of(alloc: Global, row: &StringRecord) -> Result<Option<Command>, OutOfMemory>
+    ensures some { IfOk result (λ found. IfSome found (λ asked. IsCommand (fields_of row.now) asked)) }
+    ensures served { IfOk result (λ found. IfSome found (λ asked. IsTrue (is_served asked))) }
+    ensures none { IfOk result (λ found. IfNone found ((asked : Command) → IsTrue (is_served asked) → ¬ IsCommand (fields_of row.now) asked)) }
+{
+    if let Some(addition) = add_of(alloc, row)? {
+        return Ok(Some(addition));
+    }
+    if let Some(deletion) = delete_of(row) {
+        return Ok(Some(deletion));
+    }
+    if let Some(link) = link_of(row) {
+        return Ok(Some(link));
+    }
+    Ok(unlink_of(row))
+}
+
+/// The request that a record is, where its command is served.
+pub fn request_of(alloc: Global, row: &StringRecord) -> Result<Option<Request>, OutOfMemory>
+    ensures some { IfOk result (λ found. IfSome found (λ request. IsRequest (fields_of row.now) request)) }
+    ensures served { IfOk result (λ found. IfSome found (λ request. IsTrue (is_served request.command))) }
+    ensures none { IfOk result (λ found. IfNone found ((request : Request) → IsTrue (is_served request.command) → ¬ IsRequest (fields_of row.now) request)) }
+{
+    if row.len() != 18 {
+        return Ok(None);
+    }
+    let Some(id) = uuid_at(row, 0) else {
+        return Ok(None);
+    };
+    let Some(at) = text_at(alloc, row, 1)? else {
+        return Ok(None);
+    };
+    let Some(command) = command_of(alloc, row)? else {
+        return Ok(None);
+    };
+    Ok(Some(Request { id, at, command }))
+}

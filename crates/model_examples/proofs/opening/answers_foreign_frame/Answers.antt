@@ -1,0 +1,5 @@
+use Rattle.model_examples.proofs.opening.answers_foreign_frame.Goals as goal
+use Rattle.model_examples.proofs.Stores.{foreign_frame}
+
+pub returns : goal.returns
+returns c = foreign_frame

@@ -1,0 +1,51 @@
+-- Which tables have the fixed rows of a frame: those of a new package, and what a change of the last change leaves.
+use Rattle.std.proofs.Common.{◌≡◌, ℕ, List, [], ◌∷◌, map, Bool, true, false, cond, refl, sym, ap, subst, ◌∙◌}
+use Rattle.std.specs.Prelude.{if◌then◌else◌, bytes_eq}
+use Rattle.std.specs.List.{AllByRecursion}
+use Rattle.sheet_types.specs.Ordered.{IsArranged, is_before}
+use Rattle.sheet_types.specs.declared.frame.Frame.{Frame}
+use Rattle.package_tables.specs.Shapes.{contents_shape}
+use Rattle.package_tables.specs.Package.{Tables}
+use Rattle.package_tables.specs.Entries.{SetsLastChange}
+use Rattle.package_tables.specs.Fixed.{HasFixed, undated, contents_of}
+use Rattle.package_tables.specs.Creation.{new_tables}
+use Rattle.package_tables.specs.declared.rows.ContentsRow.{ContentsRow}
+use Rattle.package_tables.specs.declared.rows.HeadRow.{HeadRow}
+
+pub new_has_fixed : (f : Frame) (head : HeadRow) → HasFixed f (new_tables f head)
+new_has_fixed f head = record { spatial_ref_sys = refl; contents = refl; tile_matrix_set = refl; tile_matrix = refl; relations = refl }
+
+-- the names of the contents differ, whatever the moments
+apart : (cs : List ContentsRow) → IsArranged contents_shape.key (undated cs) → IsArranged contents_shape.key cs
+apart [] h = tt
+apart (c ∷ cs) h = (later cs h.0, apart cs h.1)
+  where
+    later : (ds : List ContentsRow) → AllByRecursion (λ d. is_before c.table_name (contents_shape.key d) ≡ true) (undated ds) → AllByRecursion (λ d. is_before (contents_shape.key c) (contents_shape.key d) ≡ true) ds
+    later [] h = tt
+    later (d ∷ ds) h = (h.0, later ds h.1)
+
+all_apart : (f : Frame) → IsArranged contents_shape.key (contents_of f [])
+all_apart f = ((refl, (refl, tt)), ((refl, tt), (tt, tt)))
+
+pub names_apart : (f : Frame) (t : Tables) → HasFixed f t → IsArranged contents_shape.key t.contents
+names_apart f t has = apart t.contents (subst (IsArranged contents_shape.key) (sym has.contents) (all_apart f))
+
+still_undated : (at name : List ℕ) (cs : List ContentsRow) → undated (map (λ (c : ContentsRow). if bytes_eq c.table_name name then record c { last_change = at } else c) cs) ≡ undated cs
+still_undated at name [] = refl
+still_undated at name (c ∷ cs) =
+    let rest = still_undated at name cs in
+    let head : record (cond (bytes_eq c.table_name name) (record c { last_change = at }) c) { last_change = [] } ≡ record c { last_change = [] } = one (bytes_eq c.table_name name) in
+    λ i. head i ∷ rest i
+  where
+    one : (b : Bool) → record (cond b (record c { last_change = at }) c) { last_change = [] } ≡ record c { last_change = [] }
+    one true = refl
+    one false = refl
+
+pub fixed_kept : (f : Frame) (at name : List ℕ) (before after : Tables) → HasFixed f before → SetsLastChange at name before after → HasFixed f after
+fixed_kept f at name before after has is = record {
+  spatial_ref_sys = ap (λ (t : Tables). t.spatial_ref_sys) is ∙ has.spatial_ref_sys;
+  contents = ap (λ (t : Tables). undated t.contents) is ∙ still_undated at name before.contents ∙ has.contents;
+  tile_matrix_set = ap (λ (t : Tables). t.tile_matrix_set) is ∙ has.tile_matrix_set;
+  tile_matrix = ap (λ (t : Tables). t.tile_matrix) is ∙ has.tile_matrix;
+  relations = ap (λ (t : Tables). t.relations) is ∙ has.relations;
+}

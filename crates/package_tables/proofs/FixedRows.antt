@@ -1,0 +1,150 @@
+-- The fixed rows, as they come in one after the other.
+use Rattle.std.proofs.Common.{◌≡◌, ◌≢◌, ℕ, ℤ, pos, negsuc, ◌<◌, ◌+◌, List, [], ◌∷◌, Bool, true, false, Result, refl, sym, ◌∙◌, arith, map, unsigned_abs, ◌+ℤ◌, ◌≤ℤ◌, ◌<ℤ◌, Ok, zero, suc, ◌≤◌}
+use Rattle.std.specs.Prelude.{◌||◌, bytes_eq}
+use Rattle.std.specs.List.{AllByRecursion, range_with_len}
+use Rattle.std.specs.Ordering.{int_eq, nat_cmp}
+use Rattle.std.specs.declared.cmp.Ordering.{Ordering}
+use Rattle.std.specs.declared.cmp.Ordering.TheVariants.{Less, Equal, Greater}
+use Rattle.std.proofs.lemmas.Cmp.{ranked}
+use Rattle.std.proofs.lemmas.List.FromFn.{map-range_with_len_more}
+use Rattle.sheet_types.proofs.Order.{put_last}
+use Rattle.sheet_types.proofs.Basics.{before-differs}
+use Rattle.matrix_rules.proofs.Frames.{GoodFrame}
+use Rattle.std.specs.Cmp.{signed_Decides}
+use Rattle.std.proofs.lemmas.Bool.{true≢false}
+use Rattle.std.proofs.lemmas.Slice.Eq.{bytes_eq-Decides}
+use Rattle.std.proofs.lemmas.Int.{ints}
+use Rattle.sqlite.specs.State.{State, Survives}
+use Rattle.sheet_types.specs.Ordered.{put, has, is_before}
+use Rattle.sheet_types.specs.declared.frame.Frame.{Frame}
+use Rattle.sql_meaning.specs.Transactions.{Steps}
+use Rattle.package_tables.specs.Shapes.{spatial_ref_sys_shape, contents_shape, tile_matrix_set_shape, tile_matrix_shape, relation_shape, signed_key}
+use Rattle.package_tables.specs.Calls.{Makes, OnTables}
+use Rattle.package_tables.specs.Entries.{AddsSpatialRefSys, AddsContents, AddsTileMatrixSet, AddsTileMatrix, AddsRelation}
+use Rattle.package_tables.specs.Fixed.{standard_systems, own_system, is_standard, systems_of, level_row, first_levels}
+use Rattle.package_tables.specs.Creation.{SystemsBecome, ContentsBecome, MatrixSetsBecome, MatricesBecome, RelationsBecome}
+use Rattle.package_tables.specs.declared.fault.Fault.{Fault}
+use Rattle.package_tables.specs.declared.rows.SpatialRefSysRow.{SpatialRefSysRow}
+use Rattle.package_tables.specs.declared.rows.ContentsRow.{ContentsRow}
+use Rattle.package_tables.specs.declared.rows.TileMatrixSetRow.{TileMatrixSetRow}
+use Rattle.package_tables.specs.declared.rows.TileMatrixRow.{TileMatrixRow}
+use Rattle.package_tables.specs.declared.rows.RelationRow.{RelationRow}
+use Rattle.package_tables.proofs.InTurn.{steps_of, made_by, made_then}
+
+-- what these calls answer
+abbrev pub Done : Type 0
+Done = Result (Unit {0}) Fault
+
+abbrev pub done : Done
+done = Ok tt
+
+pub system_made : (row : SpatialRefSysRow) (from to : List SpatialRefSysRow) {old new : State} {r : Done} → has spatial_ref_sys_shape.key (spatial_ref_sys_shape.key row) from ≡ false → put spatial_ref_sys_shape.key row from ≡ to
+    → Makes (AddsSpatialRefSys row) old new r → Survives old new (λ _. ⊥) → Steps (λ _. OnTables (SystemsBecome from to)) old new r
+system_made row from to {old} {new} {r} free is wrote survives =
+    made_by (λ t. t.spatial_ref_sys) (λ l t. record t { spatial_ref_sys = l }) spatial_ref_sys_shape.key (λ l t. refl) (λ k l t. refl) row from to free is (steps_of (AddsSpatialRefSys row) old new r wrote survives)
+
+pub systems_then : (j k l : List SpatialRefSysRow) {old mid new : State} {r : Done} → Steps (λ _. OnTables (SystemsBecome j k)) old mid done → Steps (λ _. OnTables (SystemsBecome k l)) mid new r
+    → Steps (λ _. OnTables (SystemsBecome j l)) old new r
+systems_then j k l first next = made_then (λ t. t.spatial_ref_sys) (λ l t. record t { spatial_ref_sys = l }) spatial_ref_sys_shape.key (λ l t. refl) (λ k l t. refl) j k l first next
+
+pub content_made : (row : ContentsRow) (from to : List ContentsRow) {old new : State} {r : Done} → has contents_shape.key (contents_shape.key row) from ≡ false → put contents_shape.key row from ≡ to
+    → Steps (λ _. OnTables (AddsContents row)) old new r → Steps (λ _. OnTables (ContentsBecome from to)) old new r
+content_made row from to free is h = made_by (λ t. t.contents) (λ l t. record t { contents = l }) contents_shape.key (λ l t. refl) (λ k l t. refl) row from to free is h
+
+pub contents_then : (j k l : List ContentsRow) {old mid new : State} {r : Done} → Steps (λ _. OnTables (ContentsBecome j k)) old mid done → Steps (λ _. OnTables (ContentsBecome k l)) mid new r
+    → Steps (λ _. OnTables (ContentsBecome j l)) old new r
+contents_then j k l first next = made_then (λ t. t.contents) (λ l t. record t { contents = l }) contents_shape.key (λ l t. refl) (λ k l t. refl) j k l first next
+
+pub matrix_set_made : (row : TileMatrixSetRow) {old new : State} {r : Done} → Makes (AddsTileMatrixSet row) old new r → Survives old new (λ _. ⊥) → Steps (λ _. OnTables (MatrixSetsBecome [] (row ∷ []))) old new r
+matrix_set_made row {old} {new} {r} wrote survives =
+    made_by (λ t. t.tile_matrix_set) (λ l t. record t { tile_matrix_set = l }) tile_matrix_set_shape.key (λ l t. refl) (λ k l t. refl) row [] (row ∷ []) refl refl (steps_of (AddsTileMatrixSet row) old new r wrote survives)
+
+pub matrix_made : (row : TileMatrixRow) (from to : List TileMatrixRow) {old new : State} {r : Done} → has tile_matrix_shape.key (tile_matrix_shape.key row) from ≡ false → put tile_matrix_shape.key row from ≡ to
+    → Steps (λ _. OnTables (AddsTileMatrix row)) old new r → Steps (λ _. OnTables (MatricesBecome from to)) old new r
+matrix_made row from to free is h = made_by (λ t. t.tile_matrix) (λ l t. record t { tile_matrix = l }) tile_matrix_shape.key (λ l t. refl) (λ k l t. refl) row from to free is h
+
+pub matrices_then : (j k l : List TileMatrixRow) {old mid new : State} {r : Done} → Steps (λ _. OnTables (MatricesBecome j k)) old mid done → Steps (λ _. OnTables (MatricesBecome k l)) mid new r
+    → Steps (λ _. OnTables (MatricesBecome j l)) old new r
+matrices_then j k l first next = made_then (λ t. t.tile_matrix) (λ l t. record t { tile_matrix = l }) tile_matrix_shape.key (λ l t. refl) (λ k l t. refl) j k l first next
+
+pub relation_made : (row : RelationRow) (from to : List RelationRow) {old new : State} {r : Done} → has relation_shape.key (relation_shape.key row) from ≡ false → put relation_shape.key row from ≡ to
+    → Makes (AddsRelation row) old new r → Survives old new (λ _. ⊥) → Steps (λ _. OnTables (RelationsBecome from to)) old new r
+relation_made row from to {old} {new} {r} free is wrote survives =
+    made_by (λ t. t.relations) (λ l t. record t { relations = l }) relation_shape.key (λ l t. refl) (λ k l t. refl) row from to free is (steps_of (AddsRelation row) old new r wrote survives)
+
+pub relations_then : (j k l : List RelationRow) {old mid new : State} {r : Done} → Steps (λ _. OnTables (RelationsBecome j k)) old mid done → Steps (λ _. OnTables (RelationsBecome k l)) mid new r
+    → Steps (λ _. OnTables (RelationsBecome j l)) old new r
+relations_then j k l first next = made_then (λ t. t.relations) (λ l t. record t { relations = l }) relation_shape.key (λ l t. refl) (λ k l t. refl) j k l first next
+
+-- ---- the frame's own reference system
+
+same_signed : (m n : ℤ) → signed_key m ≡ signed_key n → m ≡ n
+same_signed (pos a) (pos b) e = cc
+same_signed (negsuc a) (negsuc b) e = cc
+same_signed (pos a) (negsuc b) e = absurd cc
+same_signed (negsuc a) (pos b) e = absurd cc
+
+other_key : (m n : ℤ) → n ≢ m → bytes_eq (signed_key m) (signed_key n) ≡ false
+other_key m n differ = elim (bytes_eq (signed_key m) (signed_key n)) as (λ b. bytes_eq (signed_key m) (signed_key n) ≡ b → b ≡ false) [
+  | true ↦ λ e. absurd (differ (sym (same_signed m n ((bytes_eq-Decides (signed_key m) (signed_key n)).0 e))))
+  | false ↦ λ e. refl
+] refl
+
+either_false : (a b : Bool) → (a || b) ≡ false → (a ≡ false) × (b ≡ false)
+either_false true b h = absurd (true≢false h)
+either_false false b h = (refl, h)
+
+differs : (n m : ℤ) → int_eq n m ≡ false → n ≢ m
+differs n m h = λ e. true≢false (sym ((signed_Decides n m).1 e) ∙ h)
+
+pub own_free : (n : ℤ) → is_standard n ≡ false → has spatial_ref_sys_shape.key (signed_key n) standard_systems ≡ false
+own_free n h =
+    let last = either_false (int_eq n (negsuc 0) || int_eq n (pos 0)) (int_eq n (pos 4326)) h in
+    let first = either_false (int_eq n (negsuc 0)) (int_eq n (pos 0)) last.0 in
+    rw (other_key (negsuc 0) n (differs n (negsuc 0) first.0), other_key (pos 0) n (differs n (pos 0) first.1), other_key (pos 4326) n (differs n (pos 4326) last.1)) refl
+
+pub own_comes : (n : ℤ) → is_standard n ≡ false → put spatial_ref_sys_shape.key (own_system n) standard_systems ≡ systems_of n
+own_comes n h = rw h refl
+
+pub standard_suffices : (n : ℤ) → is_standard n ≡ true → systems_of n ≡ standard_systems
+standard_suffices n h = rw h refl
+
+-- ---- the levels
+
+less : (m n : ℕ) → m < n → nat_cmp m n ≡ Less
+less m n lt = one (nat_cmp m n) refl
+  where
+    one : (o : Ordering) → o ≡ nat_cmp m n → o ≡ Less
+    one Less e = refl
+    one Equal e = absurd (omega (arith, ranked m n Equal e))
+    one Greater e = absurd (omega (arith, ranked m n Greater e))
+
+above_first : (z : ℤ) (a k : ℕ) → pos 0 ≤ℤ z → a < k → unsigned_abs (z +ℤ pos a) < unsigned_abs (z +ℤ pos k)
+above_first (pos z) a k low lt = omega (arith, ints)
+above_first (negsuc z) a k low lt = absurd (omega (arith, ints, low))
+
+-- a level comes after all those above it
+earlier : (f : Frame) (k a n : ℕ) → pos 0 ≤ℤ f.first_zoom → a + n ≤ k
+    → AllByRecursion (λ y. is_before (tile_matrix_shape.key y) (tile_matrix_shape.key (level_row f (f.first_zoom +ℤ pos k))) ≡ true) (map (λ j. level_row f (f.first_zoom +ℤ pos j)) (range_with_len a n))
+earlier f k a zero low few = tt
+earlier f k a (suc n) low few =
+    (rw (less (unsigned_abs (f.first_zoom +ℤ pos a)) (unsigned_abs (f.first_zoom +ℤ pos k)) (above_first f.first_zoom a k low (omega arith))) refl, earlier f k (a + 1) n low (omega arith))
+
+none_has : {X : Type 0} (key : X → List ℕ) (x : X) (xs : List X) → AllByRecursion (λ y. is_before (key y) (key x) ≡ true) xs → has key (key x) xs ≡ false
+none_has key x [] h = refl
+none_has key x (y ∷ ys) h = rw (before-differs (key y) (key x) h.0) (none_has key x ys h.1)
+
+pub level_free : (f : Frame) (k : ℕ) → pos 0 ≤ℤ f.first_zoom → has tile_matrix_shape.key (tile_matrix_shape.key (level_row f (f.first_zoom +ℤ pos k))) (first_levels f k) ≡ false
+level_free f k low = none_has tile_matrix_shape.key (level_row f (f.first_zoom +ℤ pos k)) (first_levels f k) (earlier f k 0 k low (omega arith))
+
+pub level_comes : (f : Frame) (k : ℕ) → pos 0 ≤ℤ f.first_zoom → put tile_matrix_shape.key (level_row f (f.first_zoom +ℤ pos k)) (first_levels f k) ≡ first_levels f (k + 1)
+level_comes f k low = put_last tile_matrix_shape.key (level_row f (f.first_zoom +ℤ pos k)) (first_levels f k) (earlier f k 0 k low (omega arith)) ∙ sym (map-range_with_len_more (λ j. level_row f (f.first_zoom +ℤ pos j)) 0 k k (omega arith))
+
+-- how far below the first a level of the frame lies
+pub small_level : (f : Frame) (k : ℕ) → GoodFrame f → k < unsigned_abs f.levels → (k < 21) × ((f.first_zoom +ℤ pos k) <ℤ (f.first_zoom +ℤ f.levels)) × ((f.first_zoom +ℤ pos k) ≤ℤ pos 21)
+small_level f k good lt = few f.first_zoom f.levels good.first_zoom good.levels good.zooms lt
+  where
+    few : (z l : ℤ) → pos 0 ≤ℤ z → pos 1 ≤ℤ l → (z +ℤ l) ≤ℤ pos 21 → k < unsigned_abs l → (k < 21) × ((z +ℤ pos k) <ℤ (z +ℤ l)) × ((z +ℤ pos k) ≤ℤ pos 21)
+    few (pos z) (pos l) low some most lt = (omega (arith, ints, most, lt), omega (arith, ints, lt), omega (arith, ints, most, lt))
+    few (negsuc z) l low some most lt = absurd (omega (arith, ints, low))
+    few (pos z) (negsuc l) low some most lt = absurd (omega (arith, ints, some))

@@ -1,0 +1,116 @@
+-- From `SELECT * .. WHERE .. ORDER BY id DESC LIMIT 1` to the greatest number of the rows that pass.
+use Rattle.std.proofs.Common.{◌≡◌, inl, inr, ℕ, ℤ, ◌≤ℤ◌, List, [], ◌∷◌, map, Bool, Option, Some, None, Result, Ok, Err, IsTrue, sym, ap, subst, ◌∙◌, true, false}
+use Rattle.std.specs.Prelude.{filter, IfOk, IfErr, Contains}
+use Rattle.std.specs.List.{AllByRecursion}
+use Rattle.std.specs.Ordering.{is_gt}
+use Rattle.std.proofs.lemmas.List.Elements.{All-from_recursion}
+use Rattle.std.proofs.lemmas.List.Sorted.{IsPermutation-map, Contains-permutation}
+use Rattle.sqlite_rules.proofs.ListLemmas.{all_has}
+use Rattle.sqlite_value.specs.Order.{value_cmp}
+use Rattle.sqlite_value.proofs.OrderLemmas.{value_cmp-Int}
+use Rattle.sqlite_value.specs.declared.keys.Key.{Key}
+use Rattle.sqlite.specs.Order.{Row, column}
+use Rattle.sqlite.specs.Term.{Term}
+use Rattle.sqlite.specs.Tree.{rowid}
+use Rattle.sqlite.specs.Store.{Ghosts}
+use Rattle.sqlite.specs.Effect.{Database}
+use Rattle.sqlite.specs.Held.{Held, state}
+use Rattle.sqlite.specs.declared.error.Error.{Error}
+use Rattle.sqlite.specs.declared.types.Value.{Value}
+use Rattle.sqlite.specs.declared.types.Value.TheVariants.{Int}
+use Rattle.sqlite.specs.State.{HasCleanDisk, Survives, Shown, FailsToQuery, CommitsShowing}
+use Rattle.sqlite_trees.proofs.ListLemmas.{map-map}
+use Rattle.sheet_types.specs.Ordered.{arranged}
+use Rattle.sheet_types.proofs.Order.{All-arranged}
+use Rattle.sql_meaning.specs.Reading.{Test, Listing, ShowsFirst, FindsFirst, descending}
+use Rattle.sql_meaning.specs.Transactions.{Rests}
+use Rattle.sql_meaning.proofs.Select.{listing_of}
+use Rattle.sql_meaning.proofs.First.{IsFirst, IsPlannedFirst, first_looks}
+use Rattle.sql_meaning.proofs.Where.{are_given}
+use Rattle.sql_meaning.proofs.Greatest.{greatest_of}
+use Rattle.sql_meaning.proofs.Transactions.{Shuts, Settles}
+use Rattle.package_tables.specs.Shape.{Shape, IsStored, stored_rows}
+use Rattle.package_tables.specs.Package.{Tables, tables_of, AreFormed}
+use Rattle.package_tables.specs.Calls.{Answers, LooksUp, IsGreatest}
+use Rattle.package_tables.specs.Shown.{BeginsWith}
+use Rattle.package_tables.specs.declared.fault.Fault.{Fault}
+use Rattle.package_tables.proofs.Shapes.{rows_placed, arranged-filter, all_filter}
+use Rattle.package_tables.proofs.Reading.{arranged_permutation}
+use Rattle.package_tables.proofs.Looking.{IsKnown, AreSaid}
+use Rattle.package_tables.proofs.Newest.{not_above, has_mapped}
+
+-- the first of some stored rows in descending order has the greatest number of their values
+module _ {R : Type 0} (shape : Shape R) (number : R → ℤ) (shown : Row → Row) (begins : (v : Value) (x : R) → column (shown (shape.stored v x)) 0 ≡ Int (number x)) (keyed : (v : Value) (x : R) → column (shape.stored v x) 0 ≡ Int (number x)) where
+  none_above : (top : ℤ) (r : Row) → column r 0 ≡ Int top → (rows : List Row) → AllByRecursion (IsStored shape) rows → AllByRecursion (λ x. is_gt (value_cmp (column x 0) (column r 0)) ≡ false) rows → AllByRecursion (λ x. number x ≤ℤ top) (map shape.typed rows)
+  none_above top r is [] stored most = tt
+  none_above top r is (x ∷ rows) stored most =
+      let mine : column x 0 ≡ Int (number (shape.typed x)) = ap (λ s. column s 0) (sym stored.0) ∙ keyed (rowid x) (shape.typed x) in
+      (not_above (number (shape.typed x)) top (ap is_gt (sym (value_cmp-Int (number (shape.typed x)) top)) ∙ rw (← mine, ← is) most.0), none_above top r is rows stored.1 most.1)
+
+  pub greatest_in : (xs rows : List Row) → AllByRecursion (IsStored shape) xs → (found : Option ℤ) → BeginsWith rows found → ShowsFirst (λ r. column r 0 ∷ []) shown (descending ∷ []) xs rows → IsGreatest number (arranged shape.key (map shape.typed xs)) found
+  greatest_in xs rows stored None empty (inl none) = ap (λ k. arranged shape.key (map shape.typed k)) none.0
+  greatest_in xs rows stored None empty (inr one) = absurd (let e = sym one.2 ∙ empty in cc)
+  greatest_in xs rows stored (Some n) head (inl none) = absurd (let e = rw none.1 at head.1 in cc)
+  greatest_in xs rows stored (Some n) head (inr one) =
+      let r = one.0 in
+      let mine : IsStored shape r = all_has (IsStored shape) xs r stored one.1.there in
+      let e = rw one.2 at head.1 in
+      let same : shown r ≡ head.0 = cc in
+      let number_is : Int n ≡ Int (number (shape.typed r)) = sym head.2 ∙ ap (λ k. column k 0) (sym same) ∙ ap (λ k. column (shown k) 0) (sym mine) ∙ begins (rowid r) (shape.typed r) in
+      let n_is : n ≡ number (shape.typed r) = cc in
+      let top : column r 0 ≡ Int n = ap (λ s. column s 0) (sym mine) ∙ keyed (rowid r) (shape.typed r) ∙ sym number_is in
+      let most = none_above n r top xs stored (greatest_of 0 xs r one.1) in
+      let has = has_mapped (λ k. number (shape.typed k)) xs r one.1.there in
+      let mapped : Contains (map number (map shape.typed xs)) n = subst (λ k. Contains k n) (sym (map-map number shape.typed xs)) (subst (Contains (map (λ k. number (shape.typed k)) xs)) (sym n_is) has) in
+      let moved = IsPermutation-map number _ _ (arranged_permutation shape.key (map shape.typed xs)) in
+      (Contains-permutation _ _ n moved mapped, All-from_recursion (λ x. number x ≤ℤ n) _ (All-arranged shape.key (λ x. number x ≤ℤ n) (map shape.typed xs) most))
+
+-- what the text is with these parameters, and how the rows carry their numbers
+pub record IsNewestOf {R : Type 0} (shape : Shape R) (number : R → ℤ) (text : List ℕ) (params : Row) (keeps : R → Bool) : Type 0 where
+  pub test : Test
+  pub by : List (Term × Key)
+  pub selects : (tree : ℕ) → IsFirst text (shape.table tree) test by
+  pub planned : (tree : ℕ) → IsPlannedFirst (shape.table tree) test by
+  pub given : are_given test params ≡ true
+  pub pass : Row → Bool
+  pub shown : Row → Row
+  pub is : (tree : ℕ) → listing_of (shape.table tree) test by params ≡ record { keeps = pass; key = λ r. column r 0 ∷ []; shown = shown; by = descending ∷ [] }
+  pub passing : (v : Value) (x : R) → pass (shape.stored v x) ≡ keeps x
+  pub begins : (v : Value) (x : R) → column (shown (shape.stored v x)) 0 ≡ Int (number x)
+  pub keyed : (v : Value) (x : R) → column (shape.stored v x) 0 ≡ Int (number x)
+
+module _ {R : Type 0} {shape : Shape R} {list : Tables → List R} {shown' : R → Row} (known : IsKnown shape list shown') {number : R → ℤ} {text : List ℕ} {params : Row} {keeps : R → Bool} (newest : IsNewestOf shape number text params keeps) where
+  abbrev listing : Listing
+  listing = record { keeps = newest.pass; key = λ r. column r 0 ∷ []; shown = newest.shown; by = descending ∷ [] }
+
+  tested : (rows : List Row) → AllByRecursion (IsStored shape) rows → AllByRecursion (λ r. newest.pass r ≡ keeps (shape.typed r)) rows
+  tested [] h = tt
+  tested (r ∷ rows) h = (ap newest.pass (sym h.0) ∙ newest.passing (rowid r) (shape.typed r), tested rows h.1)
+
+  answered : (db new : Database) → AreFormed db → (rows : List Row) → FindsFirst shape.table listing rows db new → (found : Option ℤ) → BeginsWith rows found → IsGreatest number (filter keeps (list (tables_of db))) found
+  answered db new formed rows finds found head =
+      let f = known.formed db formed in
+      let p = f.placed in
+      let there = stored_rows shape db in
+      let same : filter newest.pass (db.trees (shape.table p.tree).tree) ≡ filter newest.pass there = ap (filter newest.pass) (ap db.trees (known.laws.treed p.tree) ∙ sym (rows_placed shape known.laws db p.at p.tree p.has)) in
+      let shows = subst (λ k. ShowsFirst (λ r. column r 0 ∷ []) newest.shown (descending ∷ []) k rows) same (finds.first p.at p.tree p.has) in
+      let kept = arranged-filter shape.key shape.typed keeps newest.pass there (tested there f.stored) in
+      subst (λ k. IsGreatest number k found) (kept ∙ ap (filter keeps) (sym (known.lists db)))
+      (greatest_in shape number newest.shown newest.begins newest.keyed (filter newest.pass there) rows (all_filter (IsStored shape) newest.pass there f.stored) found head shows)
+
+  -- at rest; the parameters as they are bound
+  pub looks_greatest : {S Y : Type 0} (items : Y → List Row) (given : Row) (same : given ≡ params) (g : Ghosts S) (shuts : Shuts g) (settles : Settles g) (old new : Held S) (rests : Rests (state g old)) (answer : Result Y Error)
+      → (HasCleanDisk (state g new) → IfOk answer (λ y. Shown text given (state g old) (state g new) (items y))) → (HasCleanDisk (state g new) → IfErr answer (FailsToQuery text given (state g old) (state g new)))
+      → (old.in_transaction ≡ false → new.in_transaction ≡ false) → Survives (state g old) (state g new) (CommitsShowing text given (state g old)) → (result : Result (Option ℤ) Fault) → AreSaid items BeginsWith answer result
+      → LooksUp (λ t. IsGreatest number (filter keeps (list t))) (state g old) (state g new) result
+  looks_greatest {S} {Y} items given same g shuts settles old new rests answer ok err mode survives result said =
+      let found = first_looks text shape.table newest.test newest.by newest.selects newest.planned params newest.given listing newest.is g shuts settles items old new rests answer
+      (subst (λ p. HasCleanDisk (state g new) → IfOk answer (λ y. Shown text p (state g old) (state g new) (items y))) same ok)
+      (subst (λ p. HasCleanDisk (state g new) → IfErr answer (FailsToQuery text p (state g old) (state g new))) same err) mode (subst (λ p. Survives (state g old) (state g new) (CommitsShowing text p (state g old))) same survives) in
+      record { rests = found.rests; done = λ clean. at answer result (found.done clean) said; was_open = found.was_open; holds = found.holds; survives = found.survives }
+    where
+      at : (answer : Result Y Error) (result : Result (Option ℤ) Fault) → IfOk answer (λ y. IsTrue (state g new).is_open × FindsFirst shape.table listing (items y) (state g old).now (state g new).now) → AreSaid items BeginsWith answer result
+          → IfOk result (λ x. IsTrue (state g new).is_open × Answers (λ t. IsGreatest number (filter keeps (list t))) x (state g old).now (state g new).now)
+      at (Ok y) (Ok x) found said = (found.0, (found.1.same, λ formed. answered (state g old).now (state g new).now formed (items y) found.1 x said))
+      at (Err e) (Ok x) found said = absurd said
+      at answer (Err f) found said = tt

@@ -1,0 +1,21 @@
+use Rattle.std.proofs.Common.{[], ◌∷◌, pos, refl, codes}
+use Rattle.sql_meaning.proofs.Transactions.{steps_failed}
+use Rattle.package_tables.specs.Fixed.{relation, two_relations}
+use Rattle.package_tables.specs.declared.rows.RelationRow.{RelationRow}
+use Rattle.package_tables.proofs.FixedRows.{relation_made, relations_then}
+use Rattle.package_tables.proofs.fixed_rows.insert_relations.Goals as goal
+
+abbrev first : RelationRow
+first = relation (pos 1) (codes "sheet_tiles") (codes "tiles_media")
+
+abbrev second : RelationRow
+second = relation (pos 2) (codes "sheet_rows") (codes "rows_media")
+
+pub returns-clause-steps : goal.returns-clause-steps
+returns-clause-steps g c =
+    let one = c.in_ok-insert_relation.ensures in
+    let two = c.insert_relation-2.ensures in
+    relations_then [] (first ∷ []) two_relations (relation_made first [] (first ∷ []) refl refl one.wrote one.survives) (relation_made second (first ∷ []) two_relations refl refl two.wrote two.survives)
+
+pub returns-in_err-insert_relation-clause-steps : goal.returns-in_err-insert_relation-clause-steps
+returns-in_err-insert_relation-clause-steps g c = steps_failed _ c.from_residual.ensures.0 (relation_made first [] (first ∷ []) refl refl c.insert_relation.ensures.wrote c.insert_relation.ensures.survives)

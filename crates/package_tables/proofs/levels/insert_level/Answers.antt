@@ -1,0 +1,21 @@
+use Rattle.std.proofs.Common.{rules, to_z-of_z, FitsSigned, w64}
+use Rattle.sqlite.specs.Held.{state}
+use Rattle.package_tables.specs.Entries.{AddsTileMatrix}
+use Rattle.package_tables.specs.Fixed.{level_row}
+use Rattle.package_tables.proofs.InTurn.{steps_of}
+use Rattle.package_tables.proofs.levels.insert_level.Goals as goal
+
+pub returns-clause-steps : goal.returns-clause-steps
+returns-clause-steps g c =
+    let a = c.args in
+    let zoom = c.ranges.zoom in
+    let tile_width : FitsSigned w64 a.frame.now.tile_width = search rules in
+    let tile_height : FitsSigned w64 a.frame.now.tile_height = search rules in
+    let width : FitsSigned w64 c.columns_at-width.result = search rules in
+    let height : FitsSigned w64 c.rows_at-height.result = search rules in
+    let across : FitsSigned w64 c.pixel_x_size-across.result = search rules in
+    let down : FitsSigned w64 c.pixel_y_size-down.result = search rules in
+    let made = simp (to_z-of_z, zoom, tile_width, tile_height, width, height, across, down) at c.insert_tile_matrix.ensures.wrote in
+    steps_of (AddsTileMatrix (level_row a.frame.now a.zoom)) (state g.S.Store a.tx.now.conn.now) (state g.S.Store c.insert_tile_matrix.new.tx.conn.now) c.insert_tile_matrix.result
+    (rw (simp (to_z-of_z, zoom) at c.columns_at-width.ensures, simp (to_z-of_z, zoom) at c.rows_at-height.ensures, simp (to_z-of_z, zoom) at c.pixel_x_size-across.ensures, simp (to_z-of_z, zoom) at c.pixel_y_size-down.ensures) at made)
+    c.insert_tile_matrix.ensures.survives

@@ -1,0 +1,59 @@
+-- A new package: its head, and what its tables say.
+use Rattle.std.specs.Prelude.{◌≡◌, ℕ, ◌≤◌, pos, List, [], ◌∷◌, Option}
+use Rattle.std.specs.Option.{option_map_or}
+use Rattle.sqlite.specs.Effect.{Database}
+use Rattle.sheet_types.specs.Texts.{uuid_text}
+use Rattle.sheet_types.specs.declared.frame.Frame.{Frame}
+use Rattle.package_tables.specs.Package.{Tables, tables_of, AreFormed}
+use Rattle.package_tables.specs.Fixed.{systems_of, contents_of, matrix_set, levels_of, two_relations}
+use Rattle.package_tables.specs.declared.rows.HeadRow.{HeadRow}
+use Rattle.package_tables.specs.declared.rows.SpatialRefSysRow.{SpatialRefSysRow}
+use Rattle.package_tables.specs.declared.rows.ContentsRow.{ContentsRow}
+use Rattle.package_tables.specs.declared.rows.TileMatrixSetRow.{TileMatrixSetRow}
+use Rattle.package_tables.specs.declared.rows.TileMatrixRow.{TileMatrixRow}
+use Rattle.package_tables.specs.declared.rows.RelationRow.{RelationRow}
+
+-- the head of a package, with the moment at which it was made. The archive has no parent
+abbrev pub head_of : List ℕ → Option (List ℕ) → ℕ → ℕ → List ℕ → HeadRow
+head_of uuid parent depth loan created = record { id = pos 1; version = pos 1; «package» = uuid_text uuid; parent = option_map_or uuid_text parent []; depth = pos depth; loan = pos loan; created = created }
+
+-- tables that have no rows
+abbrev pub no_rows : Tables
+no_rows = record { spatial_ref_sys = []; contents = []; tile_matrix_set = []; tile_matrix = []; relations = []; tiles = []; media = []; rows = []; tiles_media = []; rows_media = []; heads = []; identities = []; receipts = []; moved = [] }
+
+-- the fixed rows alone
+abbrev pub fixed_tables : Frame → List ℕ → Tables
+fixed_tables f at = record no_rows { spatial_ref_sys = systems_of f.srs_id; contents = contents_of f at; tile_matrix_set = matrix_set f ∷ []; tile_matrix = levels_of f; relations = two_relations }
+
+-- the tables of a package with nothing in it
+abbrev pub new_tables : Frame → HeadRow → Tables
+new_tables f head = record (fixed_tables f head.created) { heads = head ∷ [] }
+
+-- the database has the tables of a package, and they say this
+pub record Says (db : Database) (t : Tables) : Type 0 where
+  pub formed : AreFormed db
+  pub says : tables_of db ≡ t
+
+-- tables that said the first say the second
+abbrev pub Becomes : Tables → Tables → Tables → Tables → Type 0
+Becomes from to before after = before ≡ from → after ≡ to
+
+-- one list that was the first becomes the second, and nothing else changes
+abbrev pub SystemsBecome : List SpatialRefSysRow → List SpatialRefSysRow → Tables → Tables → Type 0
+SystemsBecome from to before after = before.spatial_ref_sys ≡ from → after ≡ record before { spatial_ref_sys = to }
+
+abbrev pub ContentsBecome : List ContentsRow → List ContentsRow → Tables → Tables → Type 0
+ContentsBecome from to before after = before.contents ≡ from → after ≡ record before { contents = to }
+
+abbrev pub MatrixSetsBecome : List TileMatrixSetRow → List TileMatrixSetRow → Tables → Tables → Type 0
+MatrixSetsBecome from to before after = before.tile_matrix_set ≡ from → after ≡ record before { tile_matrix_set = to }
+
+abbrev pub MatricesBecome : List TileMatrixRow → List TileMatrixRow → Tables → Tables → Type 0
+MatricesBecome from to before after = before.tile_matrix ≡ from → after ≡ record before { tile_matrix = to }
+
+abbrev pub RelationsBecome : List RelationRow → List RelationRow → Tables → Tables → Type 0
+RelationsBecome from to before after = before.relations ≡ from → after ≡ record before { relations = to }
+
+-- depths are 0 and 1, loans go to a thousand million (profile)
+abbrev pub IsFitInfo : ℕ → ℕ → Type 0
+IsFitInfo depth loan = (depth ≤ 1) × (loan ≤ 1000000000)

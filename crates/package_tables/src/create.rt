@@ -1,0 +1,126 @@
+//! A package with nothing in it: its tables, the rows that each package has, and its head.
+ghost use Rattle.std.specs.Prelude.{◌≡◌, ◌≤◌, List, ℕ, Option, [], string_bytes, IfOk, IsTrue, true, false};
+ghost use Rattle.std.specs.Option.{option_map_or};
+ghost use Rattle.sqlite.specs.State.{HasCleanDisk};
+ghost use Rattle.sqlite.specs.Held.{state};
+ghost use Rattle.sheet_types.specs.Matrix.{is_good_frame};
+ghost use Rattle.sheet_types.specs.Texts.{uuid_text};
+ghost use Rattle.sql_meaning.specs.Blank.{IsBlank, no_schema};
+ghost use Rattle.sql_meaning.specs.Transactions.{Rests, Holds, Steps, Turns};
+ghost use Rattle.package_tables.specs.Calls.{OnTables};
+ghost use Rattle.package_tables.specs.Entries.{AddsHead};
+ghost use Rattle.package_tables.specs.Creation.{head_of, new_tables, Says, IsFitInfo};
+
+use crate::fault::Fault;
+use crate::fixed_rows::insert_fixed;
+use crate::head::insert_head;
+use crate::package::Package;
+use crate::schema::create_schema;
+use sheet_types::frame::Frame;
+use sqlite::{Alter, Connection, Transaction};
+use std::alloc::{AllocError, Global};
+use uuid::Uuid;
+
+/// What the head of a package says: its name, its parent (none for the archive), how deep it lies (0 or 1), its loan, and the moment at which it was made.
+#[derive(Clone, Copy)]
+pub struct Info<'t> {
+    pub package: Uuid,
+    pub parent: Option<Uuid>,
+    pub depth: u64,
+    pub loan: u64,
+    pub created: &'t str,
+}
+
+/// A UUID that may be missing: the empty text where it is.
+fn parent_text(alloc: Global, parent: Option<Uuid>) -> Result<String, AllocError>
+    ensures { IfOk result (λ text. string_bytes text ≡ option_map_or uuid_text parent []) }
+{
+    match parent {
+        Some(uuid) => format!(in alloc; "{uuid}"),
+        None => Ok(String::new(alloc)),
+    }
+}
+
+/// The row of the head.
+fn insert_info<S: Alter>(
+    alloc: Global,
+    tx: &mut Transaction<'_, S>,
+    info: &Info<'_>,
+) -> Result<(), Fault>
+    requires { IsFitInfo info.now.depth info.now.loan }
+    ensures same_reference { tx.new.conn.ghost_name ≡ tx.old.conn.ghost_name }
+    ensures steps { Steps (λ _. OnTables (AddsHead (head_of info.now.package info.now.parent info.now.depth info.now.loan info.now.created.now))) (state S.Store tx.old.conn.now) (state S.Store tx.new.conn.now) result }
+{
+    let uuid = info.package;
+    let package = format!(in alloc; "{uuid}")?;
+    let parent = parent_text(alloc, info.parent)?;
+    let depth = info.depth as i64;
+    let loan = info.loan as i64;
+    insert_head(
+        tx,
+        1,
+        1,
+        package.as_str(),
+        parent.as_str(),
+        depth,
+        loan,
+        info.created,
+    )
+}
+
+/// All that a new package has.
+fn fill<S: Alter>(
+    alloc: Global,
+    tx: &mut Transaction<'_, S>,
+    frame: &Frame,
+    info: &Info<'_>,
+) -> Result<(), Fault>
+    requires frame { IsTrue (is_good_frame frame.now) }
+    requires info { IsFitInfo info.now.depth info.now.loan }
+    ensures same_reference { tx.new.conn.ghost_name ≡ tx.old.conn.ghost_name }
+    ensures steps { IsBlank no_schema (state S.Store tx.old.conn.now).now → Steps (λ _ _ new. Says new (new_tables frame.now (head_of info.now.package info.now.parent info.now.depth info.now.loan info.now.created.now))) (state S.Store tx.old.conn.now) (state S.Store tx.new.conn.now) result }
+{
+    create_schema(tx)?;
+    insert_fixed(alloc, tx, frame, info.created)?;
+    insert_info(alloc, tx, info)
+}
+
+/// Makes a package in a store that is blank, in one transaction.
+fn make<S: Alter>(
+    alloc: Global,
+    conn: &mut Connection<S>,
+    frame: &Frame,
+    info: &Info<'_>,
+) -> Result<(), Fault>
+    requires rests { Rests (state S.Store conn.old) }
+    requires frame { IsTrue (is_good_frame frame.now) }
+    requires info { IsFitInfo info.now.depth info.now.loan }
+    ensures turns { IsBlank no_schema (state S.Store conn.old).now → Turns (λ _ _ new. Says new (new_tables frame.now (head_of info.now.package info.now.parent info.now.depth info.now.loan info.now.created.now))) (state S.Store conn.old) (state S.Store conn.new) result }
+{
+    let mut tx = conn.transaction();
+    fill(alloc, &mut tx, frame, info)?;
+    tx.commit()?;
+    Ok(())
+}
+
+/// Makes a package with nothing in it in a store that is blank: its tables, the rows that each package has (OGC GeoPackage 1.3 and OGC 18-000), and its head.
+///
+/// # Errors
+///
+/// Where it fails, nothing is committed but where the commit itself failed, and the connection is dropped.
+pub fn create<S: Alter + Drop>(
+    alloc: Global,
+    mut conn: Connection<S>,
+    frame: &Frame,
+    info: &Info<'_>,
+) -> Result<Package<S>, Fault>
+    requires rests { Rests (state S.Store conn) }
+    requires frame { IsTrue (is_good_frame frame.now) }
+    requires info { IsFitInfo info.now.depth info.now.loan }
+    ensures made { IsBlank no_schema (state S.Store conn).now → IfOk result (λ made. HasCleanDisk (state S.Store made.conn)
+        → Says (state S.Store made.conn).now (new_tables frame.now (head_of info.now.package info.now.parent info.now.depth info.now.loan info.now.created.now)) × Holds (state S.Store made.conn) (state S.Store made.conn).now) }
+    ensures rests { IsBlank no_schema (state S.Store conn).now → IfOk result (λ made. Rests (state S.Store made.conn)) }
+{
+    make(alloc, &mut conn, frame, info)?;
+    Ok(Package { conn })
+}

@@ -1,0 +1,409 @@
+// A new package, in memory and on a disk, and what comes into it. The expected rows are those of the GeoPackage standard and of the profile.
+ghost use Rattle.std.specs.Prelude.{IfOk, IsTrue};
+ghost use Rattle.sqlite_disk.specs.Memory.{memory_is_usable};
+ghost use Rattle.sqlite.specs.Held.{state};
+ghost use Rattle.sql_meaning.specs.Transactions.{Rests};
+
+use crate::create::{Info, create};
+use crate::fault::Fault;
+use crate::fixed::{
+    all_contents, all_relations, all_spatial_ref_sys, all_tile_matrices, all_tile_matrix_sets,
+    set_last_change,
+};
+use crate::head::all_heads;
+use crate::moved::{all_moved, insert_moved, moved_of, moved_with_base};
+use crate::package::{Package, begin};
+use crate::receipts::{
+    all_receipts, greatest_seq_from, greatest_seq_to, insert_receipt, receipt_by_request,
+    receipt_by_seq,
+};
+use crate::rows::{MovedRow, ReceiptRow};
+use sheet_types::frame::Frame;
+use sqlite::{Alter, Connection, Error, FileStore, Files, Options, Transaction};
+use sqlite_disk::{Disk, Memory};
+use std::alloc::{AllocError, Global};
+use std::test::Fail;
+use uuid::Uuid;
+
+const AT: &str = "2026-11-22T09:00:00.000Z";
+
+const LATER: &str = "2026-11-23T09:00:00.000Z";
+
+const SYSTEMS: &str =
+    "-1 undefined cartesian NONE -1 undefined |0 undefined geographic NONE 0 undefined |4326 WGS 84 EPSG 4326 profile |25832 srs 25832 EPSG 25832 profile |";
+
+const MATRICES: &str =
+    "sheet_tiles 0 1 1 256 256 16 16|sheet_tiles 1 2 2 256 256 8 8|sheet_tiles 2 4 4 256 256 4 4|";
+
+const RELATIONS: &str =
+    "1 sheet_tiles id sheet_media id media tiles_media|2 sheet_rows id sheet_media id media rows_media|";
+
+fn guarded<S: Alter>(conn: &Connection<S>) -> bool
+    ensures { IsTrue result → Rests (state S.Store conn.now) }
+{
+    conn.is_autocommit()
+}
+
+// A package of the frame 25832, 4096 by 4096, three levels of tiles of 256 pixels.
+fn made<S: Alter + Drop>(alloc: Global, conn: Connection<S>) -> Result<Package<S>, Fault> {
+    if !guarded(&conn) {
+        return Err(Fault::StoreFault);
+    }
+    let frame = Frame {
+        srs_id: 25832,
+        min_x: 0,
+        min_y: 0,
+        max_x: 4096,
+        max_y: 4096,
+        tile_width: 256,
+        tile_height: 256,
+        first_zoom: 0,
+        levels: 3,
+        matrix_width: 1,
+        matrix_height: 1,
+    };
+    let info = Info {
+        package: Uuid::from_u128(1),
+        parent: None,
+        depth: 0,
+        loan: 0,
+        created: AT,
+    };
+    create(alloc, conn, &frame, &info)
+}
+
+fn systems<S: Alter>(alloc: Global, conn: &mut Connection<S>) -> Result<String, Fault> {
+    if !guarded(conn) {
+        return Err(Fault::StoreFault);
+    }
+    let mut told = String::new(alloc);
+    for row in &all_spatial_ref_sys(conn, alloc)? {
+        let line = format!(in alloc;
+            "{} {} {} {} {} {}|",
+            row.srs_id,
+            row.srs_name.as_str(),
+            row.organization.as_str(),
+            row.organization_coordsys_id,
+            row.definition.as_str(),
+            row.description.as_str()
+        )?;
+        told.push_str(line.as_str())?;
+    }
+    Ok(told)
+}
+
+fn contents<S: Alter>(alloc: Global, conn: &mut Connection<S>) -> Result<String, Fault> {
+    if !guarded(conn) {
+        return Err(Fault::StoreFault);
+    }
+    let mut told = String::new(alloc);
+    for row in &all_contents(conn, alloc)? {
+        let names = format!(in alloc;
+            "{} {} {} {} {}",
+            row.table_name.as_str(),
+            row.data_type.as_str(),
+            row.identifier.as_str(),
+            row.description.as_str(),
+            row.last_change.as_str()
+        )?;
+        let line = format!(in alloc;
+            "{} {} {} {} {} {}|",
+            names.as_str(),
+            row.min_x,
+            row.min_y,
+            row.max_x,
+            row.max_y,
+            row.srs_id
+        )?;
+        told.push_str(line.as_str())?;
+    }
+    Ok(told)
+}
+
+fn matrix_sets<S: Alter>(alloc: Global, conn: &mut Connection<S>) -> Result<String, Fault> {
+    if !guarded(conn) {
+        return Err(Fault::StoreFault);
+    }
+    let mut told = String::new(alloc);
+    for row in &all_tile_matrix_sets(conn, alloc)? {
+        let line = format!(in alloc;
+            "{} {} {} {} {} {}|",
+            row.table_name.as_str(),
+            row.srs_id,
+            row.min_x,
+            row.min_y,
+            row.max_x,
+            row.max_y
+        )?;
+        told.push_str(line.as_str())?;
+    }
+    Ok(told)
+}
+
+fn matrices<S: Alter>(alloc: Global, conn: &mut Connection<S>) -> Result<String, Fault> {
+    if !guarded(conn) {
+        return Err(Fault::StoreFault);
+    }
+    let mut told = String::new(alloc);
+    for row in &all_tile_matrices(conn, alloc)? {
+        let line = format!(in alloc;
+            "{} {} {} {} {} {} {} {}|",
+            row.table_name.as_str(),
+            row.zoom_level,
+            row.matrix_width,
+            row.matrix_height,
+            row.tile_width,
+            row.tile_height,
+            row.pixel_x_size,
+            row.pixel_y_size
+        )?;
+        told.push_str(line.as_str())?;
+    }
+    Ok(told)
+}
+
+fn relations<S: Alter>(alloc: Global, conn: &mut Connection<S>) -> Result<String, Fault> {
+    if !guarded(conn) {
+        return Err(Fault::StoreFault);
+    }
+    let mut told = String::new(alloc);
+    for row in &all_relations(conn, alloc)? {
+        let base = format!(in alloc;
+            "{} {} {}",
+            row.id,
+            row.base_table_name.as_str(),
+            row.base_primary_column.as_str()
+        )?;
+        let line = format!(in alloc;
+            "{} {} {} {} {}|",
+            base.as_str(),
+            row.related_table_name.as_str(),
+            row.related_primary_column.as_str(),
+            row.relation_name.as_str(),
+            row.mapping_table_name.as_str()
+        )?;
+        told.push_str(line.as_str())?;
+    }
+    Ok(told)
+}
+
+fn heads<S: Alter>(alloc: Global, conn: &mut Connection<S>) -> Result<String, Fault> {
+    if !guarded(conn) {
+        return Err(Fault::StoreFault);
+    }
+    let mut told = String::new(alloc);
+    for row in &all_heads(conn, alloc)? {
+        let line = format!(in alloc;
+            "{} {} {} {} {} {} {}|",
+            row.id,
+            row.version,
+            row.package.as_str(),
+            row.parent.as_str(),
+            row.depth,
+            row.loan,
+            row.created.as_str()
+        )?;
+        told.push_str(line.as_str())?;
+    }
+    Ok(told)
+}
+
+fn receipt(alloc: Global, row: Option<ReceiptRow>) -> Result<String, AllocError> {
+    match row {
+        None => format!(in alloc; "-"),
+        Some(r) => format!(in alloc;
+            "{} {} {} {} {}",
+            r.seq,
+            r.request.as_str(),
+            r.line.as_str(),
+            r.target.as_str(),
+            r.n_bytes
+        ),
+    }
+}
+
+fn moved(alloc: Global, row: Option<MovedRow>) -> Result<String, AllocError> {
+    match row {
+        None => format!(in alloc; "-"),
+        Some(m) => format!(in alloc;
+            "{} {} {} {} {} {} {}",
+            m.seq,
+            m.position,
+            m.kind,
+            m.base.as_str(),
+            m.other.as_str(),
+            m.size,
+            m.fingerprint.as_str()
+        ),
+    }
+}
+
+fn enter<S: Alter>(tx: &mut Transaction<'_, S>) -> Result<(), Fault> {
+    insert_receipt(tx, 1, "q1", AT, "first", "", "A", 1, 0, 0, 0, 5)?;
+    insert_receipt(tx, 2, "q2", LATER, "second", "A", "", 0, 1, 0, 0, 7)?;
+    insert_receipt(tx, 3, "q3", LATER, "third", "A", "B", 0, 1, 0, 0, 7)?;
+    insert_moved(tx, 1, 0, 1, "i1", "", 5, "f1")?;
+    insert_moved(tx, 2, 1, 2, "i3", "", 4, "f3")?;
+    insert_moved(tx, 2, 0, 2, "i2", "", 3, "f2")?;
+    set_last_change(tx, LATER, "sheet_media")
+}
+
+fn entered<S: Alter>(conn: &mut Connection<S>) -> Result<bool, Fault> {
+    if !conn.is_autocommit() {
+        return Ok(false);
+    }
+    let mut tx = begin(conn);
+    enter(&mut tx)?;
+    tx.commit()?;
+    Ok(true)
+}
+
+fn by_request<S: Alter>(
+    alloc: Global,
+    conn: &mut Connection<S>,
+    request: &str,
+) -> Result<String, Fault> {
+    if !guarded(conn) {
+        return Err(Fault::StoreFault);
+    }
+    let row = receipt_by_request(conn, request)?;
+    Ok(receipt(alloc, row)?)
+}
+
+fn by_seq<S: Alter>(alloc: Global, conn: &mut Connection<S>, seq: i64) -> Result<String, Fault> {
+    if !guarded(conn) {
+        return Err(Fault::StoreFault);
+    }
+    let row = receipt_by_seq(conn, seq)?;
+    Ok(receipt(alloc, row)?)
+}
+
+// The greatest number of a receipt from a package, and of one to it; -1 where there is none.
+fn greatest<S: Alter>(conn: &mut Connection<S>, package: &str) -> Result<(i64, i64), Fault> {
+    if !guarded(conn) {
+        return Err(Fault::StoreFault);
+    }
+    let from = greatest_seq_from(conn, package)?.unwrap_or(-1);
+    let to = greatest_seq_to(conn, package)?.unwrap_or(-1);
+    Ok((from, to))
+}
+
+fn receipt_count<S: Alter>(alloc: Global, conn: &mut Connection<S>) -> Result<usize, Fault> {
+    if !guarded(conn) {
+        return Err(Fault::StoreFault);
+    }
+    Ok(all_receipts(conn, alloc)?.len())
+}
+
+fn moved_count<S: Alter>(alloc: Global, conn: &mut Connection<S>) -> Result<usize, Fault> {
+    if !guarded(conn) {
+        return Err(Fault::StoreFault);
+    }
+    Ok(all_moved(conn, alloc)?.len())
+}
+
+fn of_seq<S: Alter>(alloc: Global, conn: &mut Connection<S>, seq: i64) -> Result<String, Fault> {
+    if !guarded(conn) {
+        return Err(Fault::StoreFault);
+    }
+    let mut told = String::new(alloc);
+    for row in &moved_of(conn, alloc, seq)? {
+        let line = format!(in alloc; "{} {} {}|", row.seq, row.position, row.base.as_str())?;
+        told.push_str(line.as_str())?;
+    }
+    Ok(told)
+}
+
+fn with_base<S: Alter>(
+    alloc: Global,
+    conn: &mut Connection<S>,
+    base: &str,
+) -> Result<String, Fault> {
+    if !guarded(conn) {
+        return Err(Fault::StoreFault);
+    }
+    let row = moved_with_base(conn, base)?;
+    Ok(moved(alloc, row)?)
+}
+
+fn open(alloc: Global, db: Memory) -> Result<Connection<FileStore<Memory>>, Error>
+    requires { IsTrue (memory_is_usable db) }
+{
+    let files = Files {
+        log: Memory::new(alloc),
+        db,
+    };
+    match Connection::open_files(alloc, files, Options::new(1)) {
+        Ok(conn) => Ok(conn),
+        Err((error, _)) => Err(error),
+    }
+}
+
+fn close(conn: Connection<FileStore<Memory>>) -> Result<Memory, Error>
+    ensures { IfOk result (λ db. IsTrue (memory_is_usable db)) }
+{
+    match conn.close_files() {
+        Ok(Files { log: _, db }) => Ok(db),
+        Err(failed) => Err(failed.0),
+    }
+}
+
+#[test]
+fn a_new_package_has_its_fixed_rows(rt: HostRuntime) -> Result<(), Fail> {
+    let alloc = rt.alloc();
+    let mut package = made(alloc, Connection::open_in_memory(alloc)?)?;
+    assert_eq!(rt; systems(alloc, &mut package.conn)?.as_str(), SYSTEMS);
+    assert_eq!(rt;
+        contents(alloc, &mut package.conn)?.as_str(),
+        "sheet_media attributes sheet_media  2026-11-22T09:00:00.000Z 0 0 4096 4096 25832|sheet_rows attributes sheet_rows  2026-11-22T09:00:00.000Z 0 0 4096 4096 25832|sheet_tiles tiles sheet_tiles  2026-11-22T09:00:00.000Z 0 0 4096 4096 25832|"
+    );
+    assert_eq!(rt;
+        matrix_sets(alloc, &mut package.conn)?.as_str(),
+        "sheet_tiles 25832 0 0 4096 4096|"
+    );
+    assert_eq!(rt; matrices(alloc, &mut package.conn)?.as_str(), MATRICES);
+    assert_eq!(rt; relations(alloc, &mut package.conn)?.as_str(), RELATIONS);
+    assert_eq!(rt;
+        heads(alloc, &mut package.conn)?.as_str(),
+        "1 1 00000000-0000-0000-0000-000000000001  0 0 2026-11-22T09:00:00.000Z|"
+    );
+    Ok(())
+}
+
+#[test]
+fn receipts_and_what_they_moved_are_found(rt: HostRuntime) -> Result<(), Fail> {
+    let alloc = rt.alloc();
+    let mut conn = made(alloc, Connection::open_in_memory(alloc)?)?.into_connection();
+    assert!(rt; entered(&mut conn)?);
+    assert_eq!(rt;
+        by_request(alloc, &mut conn, "q2")?.as_str(),
+        "2 q2 second  7"
+    );
+    assert_eq!(rt; by_request(alloc, &mut conn, "q4")?.as_str(), "-");
+    assert_eq!(rt; by_seq(alloc, &mut conn, 1)?.as_str(), "1 q1 first A 5");
+    assert_eq!(rt; receipt_count(alloc, &mut conn)?, 3);
+    assert!(rt; greatest(&mut conn, "A")? == (3, 1));
+    assert!(rt; greatest(&mut conn, "B")? == (-1, 3));
+    assert_eq!(rt; moved_count(alloc, &mut conn)?, 3);
+    assert_eq!(rt; of_seq(alloc, &mut conn, 2)?.as_str(), "2 0 i2|2 1 i3|");
+    assert_eq!(rt;
+        with_base(alloc, &mut conn, "i1")?.as_str(),
+        "1 0 1 i1  5 f1"
+    );
+    assert_eq!(rt; with_base(alloc, &mut conn, "i9")?.as_str(), "-");
+    assert_eq!(rt;
+        contents(alloc, &mut conn)?.as_str(),
+        "sheet_media attributes sheet_media  2026-11-23T09:00:00.000Z 0 0 4096 4096 25832|sheet_rows attributes sheet_rows  2026-11-22T09:00:00.000Z 0 0 4096 4096 25832|sheet_tiles tiles sheet_tiles  2026-11-22T09:00:00.000Z 0 0 4096 4096 25832|"
+    );
+    Ok(())
+}
+
+#[test]
+fn a_new_package_is_there_when_its_disk_is_opened_again(rt: HostRuntime) -> Result<(), Fail> {
+    let alloc = rt.alloc();
+    let conn = made(alloc, open(alloc, Memory::new(alloc))?)?.into_connection();
+    let mut again = open(alloc, close(conn)?)?;
+    assert_eq!(rt; systems(alloc, &mut again)?.as_str(), SYSTEMS);
+    assert_eq!(rt; matrices(alloc, &mut again)?.as_str(), MATRICES);
+    Ok(())
+}

@@ -1,0 +1,112 @@
+// The tile matrices of a frame's zoom levels. OGC GeoPackage 1.3, tile matrix.
+ghost use Rattle.std.specs.Prelude.{◌≡◌, pos, ◌<◌, ◌+ℤ◌, ◌-ℤ◌, ◌*ℤ◌, ◌≤ℤ◌, int_div, unsigned_abs, [], IsTrue};
+ghost use Rattle.sqlite.specs.Held.{state};
+ghost use Rattle.sheet_types.specs.Matrix.{is_good_frame, has_level, width_at, height_at, level_of};
+ghost use Rattle.sql_meaning.specs.Transactions.{Steps};
+ghost use Rattle.package_tables.specs.Calls.{OnTables};
+ghost use Rattle.package_tables.specs.Entries.{AddsTileMatrix};
+ghost use Rattle.package_tables.specs.Fixed.{level_row, levels_of};
+ghost use Rattle.package_tables.specs.Creation.{MatricesBecome};
+
+use crate::fault::Fault;
+use crate::fixed::insert_tile_matrix;
+use matrix_rules::ground::{columns_at, rows_at};
+use sheet_types::frame::Frame;
+use sqlite::{Alter, Transaction};
+
+/// The size of a pixel along an axis of this extent that so many tiles make up.
+fn pixel_size(extent: i64, tile: i64, tiles: i64) -> i64
+    requires tile { pos 1 ≤ℤ tile }
+    requires tiles { pos 1 ≤ℤ tiles }
+    requires fits { (tiles *ℤ tile) ≤ℤ extent }
+    requires extent { extent ≤ℤ pos 2000000000000 }
+    ensures { result ≡ int_div extent (tiles *ℤ tile) }
+{
+    extent / (tiles * tile)
+}
+
+fn pixel_x_size(frame: &Frame, zoom: i64) -> i64
+    requires good { IsTrue (is_good_frame frame.now) }
+    requires level { IsTrue (has_level frame.now zoom) }
+    ensures { result ≡ int_div (frame.now.max_x -ℤ frame.now.min_x) (width_at frame.now (level_of frame.now zoom) *ℤ frame.now.tile_width) }
+{
+    pixel_size(
+        frame.max_x - frame.min_x,
+        frame.tile_width,
+        columns_at(frame, zoom),
+    )
+}
+
+fn pixel_y_size(frame: &Frame, zoom: i64) -> i64
+    requires good { IsTrue (is_good_frame frame.now) }
+    requires level { IsTrue (has_level frame.now zoom) }
+    ensures { result ≡ int_div (frame.now.max_y -ℤ frame.now.min_y) (height_at frame.now (level_of frame.now zoom) *ℤ frame.now.tile_height) }
+{
+    pixel_size(
+        frame.max_y - frame.min_y,
+        frame.tile_height,
+        rows_at(frame, zoom),
+    )
+}
+
+/// The tile matrix of one zoom level.
+fn insert_level<S: Alter>(
+    tx: &mut Transaction<'_, S>,
+    frame: &Frame,
+    zoom: i64,
+) -> Result<(), Fault>
+    requires good { IsTrue (is_good_frame frame.now) }
+    requires level { IsTrue (has_level frame.now zoom) }
+    ensures same_reference { tx.new.conn.ghost_name ≡ tx.old.conn.ghost_name }
+    ensures steps { Steps (λ _. OnTables (AddsTileMatrix (level_row frame.now zoom))) (state S.Store tx.old.conn.now) (state S.Store tx.new.conn.now) result }
+{
+    let width = columns_at(frame, zoom);
+    let height = rows_at(frame, zoom);
+    let across = pixel_x_size(frame, zoom);
+    let down = pixel_y_size(frame, zoom);
+    insert_tile_matrix(
+        tx,
+        "sheet_tiles",
+        zoom,
+        width,
+        height,
+        frame.tile_width,
+        frame.tile_height,
+        across,
+        down,
+    )
+}
+
+/// The number of zoom levels.
+fn level_count(frame: &Frame) -> u64
+    requires { IsTrue (is_good_frame frame.now) }
+    ensures { result ≡ unsigned_abs frame.now.levels }
+{
+    frame.levels.unsigned_abs()
+}
+
+/// The zoom of the level that lies so far below the first.
+fn zoom_at(frame: &Frame, level: u64) -> i64
+    requires good { IsTrue (is_good_frame frame.now) }
+    requires level { level < unsigned_abs frame.now.levels }
+    ensures zoom { result ≡ frame.now.first_zoom +ℤ pos level }
+    ensures level { IsTrue (has_level frame.now result) }
+{
+    frame.first_zoom + level as i64
+}
+
+/// The tile matrices of all zoom levels of a frame.
+pub(crate) fn insert_levels<S: Alter>(
+    tx: &mut Transaction<'_, S>,
+    frame: &Frame,
+) -> Result<(), Fault>
+    requires { IsTrue (is_good_frame frame.now) }
+    ensures same_reference { tx.new.conn.ghost_name ≡ tx.old.conn.ghost_name }
+    ensures steps { Steps (λ _. OnTables (MatricesBecome [] (levels_of frame.now))) (state S.Store tx.old.conn.now) (state S.Store tx.new.conn.now) result }
+{
+    let levels = level_count(frame);
+    for level in 0..levels {
+        insert_level(tx, frame, zoom_at(frame, level))?;
+    }
+    Ok(())
+}
