@@ -34,7 +34,7 @@ use Rattle.identity_register.proofs.Finding.{row_numbered, same_uuid, no_row_of_
 use Rattle.identity_register.proofs.Linking.{find_itself}
 
 -- a kind is known by its number
-kind_number_tells : (a b : MovedKind) → kind_number a ≡ kind_number b → a ≡ b
+pub kind_number_tells : (a b : MovedKind) → kind_number a ≡ kind_number b → a ≡ b
 kind_number_tells TileItem TileItem e = refl
 kind_number_tells TileItem MediaItem e = cc
 kind_number_tells TileItem RowItem e = cc
@@ -103,6 +103,16 @@ abbrev pub IsRowFor : List ℕ → Tables → Option IdentityRow → Type 0
 IsRowFor id t = IsOneOf (λ x. bytes_eq x.uuid (uuid_text id)) t.identities
 
 module _ (f : Frame) (p : Package) (t : Tables) (says : Says f p t) where
+  -- an identity names one item
+  pub same_item : (m n : Numbered) → In m says.numbered → In n says.numbered → m.item.identity ≡ n.item.identity → m ≡ n
+  same_item m n i j same =
+      let mine : find (λ y. bytes_eq y.item.identity n.item.identity) says.numbered ≡ Some n = find_itself n says.numbered says.numbers.identities j in
+      let theirs : find (λ y. bytes_eq y.item.identity m.item.identity) says.numbered ≡ Some m = find_itself m says.numbered says.numbers.identities i in
+      some_same (sym (subst (λ id. find (λ y. bytes_eq y.item.identity id) says.numbered ≡ Some m) same theirs) ∙ mine)
+    where
+      some_same : {X : Type 0} {x y : X} → Some x ≡ Some y → x ≡ y
+      some_same e = cc
+
   -- an item is found under its identity
   pub item_is : (n : Numbered) → In n says.numbered → item_of p n.item.identity ≡ Some n.item
   item_is n i =
@@ -114,13 +124,8 @@ module _ (f : Frame) (p : Package) (t : Tables) (says : Says f p t) where
       let here = All-found (λ x. In x items) q it.0 p.items it.1 all in
       let m = in_map (λ y. y.item) it.0 says.numbered here.0 in
       let same : m.0.item.identity ≡ n.item.identity = ap (λ x. x.identity) m.2 ∙ (bytes_eq-Decides it.0.identity n.item.identity).0 here.1 in
-      let mine : find (λ y. bytes_eq y.item.identity n.item.identity) says.numbered ≡ Some n = find_itself n says.numbered says.numbers.identities i in
-      let theirs : find (λ y. bytes_eq y.item.identity m.0.item.identity) says.numbered ≡ Some m.0 = find_itself m.0 says.numbered says.numbers.identities m.1 in
-      let one : m.0 ≡ n = some_same (sym (subst (λ id. find (λ y. bytes_eq y.item.identity id) says.numbered ≡ Some m.0) same theirs) ∙ mine) in
+      let one : m.0 ≡ n = same_item m.0 n m.1 i same in
       it.1 ∙ ap Some (sym m.2 ∙ ap (λ y. y.item) one)
-    where
-      some_same : {X : Type 0} {x y : X} → Some x ≡ Some y → x ≡ y
-      some_same e = cc
 
   -- no row has the text of the identity
   pub no_item : (id : List ℕ) → list_any (λ r. bytes_eq r.uuid (uuid_text id)) t.identities ≡ false → item_of p id ≡ None

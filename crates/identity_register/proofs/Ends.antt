@@ -203,8 +203,7 @@ module _ (f : Frame) (p : Package) (t : Tables) (says : Says f p t) where
       let parts = and_true (bytes_eq x.base l.base) (bytes_eq x.media l.media) (sym (bytes_eq_append x.base x.media l.base l.media long) ∙ key.1) in
       let mapping : x.mapping ≡ l.mapping = same_mapping x.mapping l.mapping key.0 in
       let base_is : x.base ≡ l.base = (bytes_eq-Decides x.base l.base).0 parts.0 in
-      let media_is : x.media ≡ l.media = (bytes_eq-Decides x.media l.media).0 parts.1 in
-      (
+      let media_is : x.media ≡ l.media = (bytes_eq-Decides x.media l.media).0 parts.1 in (
         subst (λ b. has item_key (kind_number (base_kind l.mapping) ∷ b) p.items ≡ true) base_is (subst (λ m. has item_key (kind_number (base_kind m) ∷ x.base) p.items ≡ true) mapping ends.0),
         subst (λ b. has item_key (kind_number (other_kind l.mapping) ∷ b) p.items ≡ true) media_is (subst (λ m. has item_key (kind_number (other_kind m) ∷ x.media) p.items ≡ true) mapping ends.1),
       )
@@ -247,9 +246,10 @@ module _ (f : Frame) (p : Package) (t : Tables) (says : Says f p t) where
 
     right_ends : are_ends l.mapping (identity_row n).kind (identity_row m).kind ≡ true → HasEnds p l
     right_ends right =
-        let parts = and_true (int_eq (pos (kind_number (base_kind l.mapping))) (identity_row n).kind) (int_eq (pos (kind_number (other_kind l.mapping))) (identity_row m).kind) right in
-        (rw (sym base_named) (there_of_kind n base_in (base_kind l.mapping) (sym (eqb-true _ _ (sym (pos_same _ _) ∙ parts.0)))),
-         rw (sym other_named) (there_of_kind m other_in (other_kind l.mapping) (sym (eqb-true _ _ (sym (pos_same _ _) ∙ parts.1)))))
+        let parts = and_true (int_eq (pos (kind_number (base_kind l.mapping))) (identity_row n).kind) (int_eq (pos (kind_number (other_kind l.mapping))) (identity_row m).kind) right in (
+          rw (sym base_named) (there_of_kind n base_in (base_kind l.mapping) (sym (eqb-true _ _ (sym (pos_same _ _) ∙ parts.0)))),
+          rw (sym other_named) (there_of_kind m other_in (other_kind l.mapping) (sym (eqb-true _ _ (sym (pos_same _ _) ∙ parts.1)))),
+        )
 
     row_is : mapping_row says.numbered l ≡ record { base_id = n.number; related_id = m.number }
     row_is = rw (sym base_named, sym other_named, number_is f p t says n base_in, number_is f p t says m other_in) refl
@@ -281,11 +281,11 @@ module _ (f : Frame) (p : Package) (t : Tables) (says : Says f p t) where
     no_such_link wrong =
         let n = item_of_row f p t says l.base base_fit base base_row in
         let m = item_of_row f p t says l.media other_fit other other_row in
-        wrong_ends l n.0 m.0 n.1 m.1 n.3 m.3 base_fit (rw (n.2, m.2) wrong)
+        wrong_ends l n.0 m.0 n.1 m.1 n.3 m.3 base_fit (ap (λ r. are_ends l.mapping r.kind (identity_row m.0).kind) n.2 ∙ ap (λ r. are_ends l.mapping base.kind r.kind) m.2 ∙ wrong)
 
     pub link_by_rows : are_ends l.mapping base.kind other.kind ≡ true → list_any (λ r. is_pair r (record { base_id = base.local_id; related_id = other.local_id })) (mapping_rows l.mapping t) ≡ has link_key (link_key l) p.links
     link_by_rows right =
         let n = item_of_row f p t says l.base base_fit base base_row in
         let m = item_of_row f p t says l.media other_fit other other_row in
         let row : mapping_row says.numbered l ≡ record { base_id = base.local_id; related_id = other.local_id } = row_is l n.0 m.0 n.1 m.1 n.3 m.3 ∙ ap (λ r. record { base_id = r.local_id; related_id = m.0.number }) n.2 ∙ ap (λ r. record { base_id = base.local_id; related_id = r.local_id }) m.2 in
-        subst (λ row. list_any (λ r. is_pair r row) (mapping_rows l.mapping t) ≡ has link_key (link_key l) p.links) row (pair_told l n.0 m.0 n.1 m.1 n.3 m.3 (right_ends l n.0 m.0 n.1 m.1 n.3 m.3 (rw (n.2, m.2) right)))
+        subst (λ row. list_any (λ r. is_pair r row) (mapping_rows l.mapping t) ≡ has link_key (link_key l) p.links) row (pair_told l n.0 m.0 n.1 m.1 n.3 m.3 (right_ends l n.0 m.0 n.1 m.1 n.3 m.3 (ap (λ r. are_ends l.mapping r.kind (identity_row m.0).kind) n.2 ∙ ap (λ r. are_ends l.mapping base.kind r.kind) m.2 ∙ right)))

@@ -9,3 +9,5 @@ mod Looking
 mod Uuids
 mod Answering
 mod Ends
+mod Contents
+mod OnePackage

@@ -29,10 +29,10 @@ pub looked_then : {X E : Type 0} {Fact : Tables → Type 0} (Answer : Tables →
 looked_then {Fact} Answer {a} {b} {c} {r} {x} first is looks = record {
   stays = stays_then first.stays next.stays;
   told = λ clean.
-    let before : HasCleanDisk b = omega (arith, next.stays.survives.clean, clean) in
-    let d = first.told before in
-    let e = next.told clean in
-    (e.0, e.1 ∙ d.1, λ formed. (d.2 formed, subst (λ db. Answer (tables_of db) x) d.1 (e.2 (subst AreFormed (sym d.1) formed))));
+      let before : HasCleanDisk b = omega (arith, next.stays.survives.clean, clean) in
+      let d = first.told before in
+      let e = next.told clean in
+      (e.0, e.1 ∙ d.1, λ formed. (d.2 formed, subst (λ db. Answer (tables_of db) x) d.1 (e.2 (subst AreFormed (sym d.1) formed))));
 }
   where
     next : Looked (λ t. Answer t x) b c

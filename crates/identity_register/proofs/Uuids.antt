@@ -37,10 +37,10 @@ simple_fits hex u = one ((length hex == 32) && list_all is_hex_digit hex) refl
         let parts = and_parts (length hex == 32) (list_all is_hex_digit hex) e in
         let long : length hex ≡ 32 = eqb-true (length hex) 32 parts.0 in
         rw (sym (some_same h)) (bytes_fit 16 (by_index 16 (byte_of_digits hex)) (by_index_length 16 (byte_of_digits hex)) (small_at (by_index 16 (byte_of_digits hex)) (λ k lt.
-          let within : k < 16 = omega (arith, by_index_length 16 (byte_of_digits hex), lt) in
-          let high = digit_small (get_or hex (2 * k) 0) (all_at is_hex_digit hex (2 * k) parts.1 (omega arith)) in
-          let low = digit_small (get_or hex (2 * k + 1) 0) (all_at is_hex_digit hex (2 * k + 1) parts.1 (omega arith)) in
-          rw (by_index_at 16 (byte_of_digits hex) k 0 within) (omega arith))))
+        let within : k < 16 = omega (arith, by_index_length 16 (byte_of_digits hex), lt) in
+        let high = digit_small (get_or hex (2 * k) 0) (all_at is_hex_digit hex (2 * k) parts.1 (omega arith)) in
+        let low = digit_small (get_or hex (2 * k + 1) 0) (all_at is_hex_digit hex (2 * k + 1) parts.1 (omega arith)) in
+        rw (by_index_at 16 (byte_of_digits hex) k 0 within) (omega arith))))
 
 pub hyphenated_fits : (text u : List ℕ) → parsed_hyphenated text ≡ Some u → IsUuid u
 hyphenated_fits text u = one ((length text == 36) && has_hyphens text)

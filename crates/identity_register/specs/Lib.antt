@@ -3,3 +3,4 @@ pub mod Reads
 pub mod Calls
 pub mod Changes
 pub mod Answers
+pub mod Laws

@@ -3,4 +3,5 @@
 
 pub mod additions;
 pub mod changes;
+pub mod laws;
 pub mod look_ups;

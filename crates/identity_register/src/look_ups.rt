@@ -9,30 +9,28 @@ ghost use Rattle.sheet_types.specs.Refuse.{is_at};
 ghost use Rattle.sheet_types.specs.Texts.{kind_of, uuid_text};
 ghost use Rattle.sheet_types.specs.World.{item_of, link_key, kind_number};
 ghost use Rattle.package_tables.specs.Calls.{LooksUp, IsOneOf};
-ghost use Rattle.identity_register.specs.Answers.{is_linked_medium, is_linked_row, mapping_rows, are_ends};
+ghost use Rattle.identity_register.specs.Answers.{is_linked_medium, is_linked_row, mapping_rows, are_ends, IsContentOf};
 ghost use Rattle.identity_register.specs.Calls.{Sees};
 ghost use Rattle.identity_register.specs.Changes.{names_item};
 ghost use Rattle.identity_register.specs.Numbering.{is_pair};
 
+use package_tables::attributes::attribute_by_id;
 use package_tables::fault::Fault;
 use package_tables::identities::identity_by_uuid;
 use package_tables::mappings::{
     rows_media_of_base, rows_media_of_pair, rows_media_of_related, tiles_media_of_base,
     tiles_media_of_pair, tiles_media_of_related,
 };
+use package_tables::media::medium_by_id;
 use package_tables::rows::IdentityRow;
-use package_tables::tiles::tile_at;
-use sheet_types::command::{Item, Mapping, Relation};
+use package_tables::tiles::{tile_at, tile_by_id};
+use sheet_types::command::{Content, Item, Mapping, Relation};
 use sheet_types::receipt::MovedKind;
 use sqlite::{Alter, Connection};
-use std::alloc::Global;
 use uuid::Uuid;
 
 /// The row that stands for an item.
-fn row_of<S: Alter>(
-    conn: &mut Connection<S>,
-    identity: Uuid,
-) -> Result<Option<IdentityRow>, Fault>
+fn row_of<S: Alter>(conn: &mut Connection<S>, identity: Uuid) -> Result<Option<IdentityRow>, Fault>
     requires { Rests (state S.Store conn.old) }
     ensures looked { LooksUp (λ t. IsOneOf (λ x. bytes_eq x.uuid (uuid_text identity)) t.identities) (state S.Store conn.old) (state S.Store conn.new) result }
     ensures fit { IsUuid identity }
@@ -69,15 +67,6 @@ pub fn kind_of_item<S: Alter>(
             Ok(Some(kind))
         }
     }
-}
-
-/// The item of this identity, with its content.
-pub fn find<S: Alter>(_conn: &mut Connection<S>, _identity: Uuid) -> Result<Option<Item>, Fault>
-    requires { Rests (state S.Store _conn.old) }
-    ensures { Looks (Sees (λ f p found. found ≡ item_of p _identity)) (state S.Store _conn.old) (state S.Store _conn.new) result }
-{
-    let _settled = _conn.is_autocommit();
-    Err(Fault::OutOfMemory)
 }
 
 /// Whether the package has a tile at this place.
@@ -154,11 +143,7 @@ fn medium_is_linked<S: Alter>(conn: &mut Connection<S>, number: i64) -> Result<b
 }
 
 /// Whether a mapping table names the row of this kind and number.
-fn row_is_linked<S: Alter>(
-    conn: &mut Connection<S>,
-    kind: i64,
-    number: i64,
-) -> Result<bool, Fault>
+fn row_is_linked<S: Alter>(conn: &mut Connection<S>, kind: i64, number: i64) -> Result<bool, Fault>
     requires { Rests (state S.Store conn.old) }
     ensures { LooksUp (λ t found. found ≡ is_linked_row kind number t) (state S.Store conn.old) (state S.Store conn.new) result }
 {
@@ -186,20 +171,75 @@ pub fn is_linked<S: Alter>(conn: &mut Connection<S>, identity: Uuid) -> Result<b
     }
 }
 
-/// All items, by kind and identity.
-pub fn items<S: Alter>(_conn: &mut Connection<S>, _alloc: Global) -> Result<Vec<Item>, Fault>
-    requires { Rests (state S.Store _conn.old) }
-    ensures { Looks (Sees (λ f p found. found.items ≡ p.items)) (state S.Store _conn.old) (state S.Store _conn.new) result }
+/// The tile of this number.
+fn tile_content<S: Alter>(conn: &mut Connection<S>, number: i64) -> Result<Content, Fault>
+    requires { Rests (state S.Store conn.old) }
+    ensures { LooksUp (IsContentOf (pos 1) number) (state S.Store conn.old) (state S.Store conn.new) result }
 {
-    let _settled = _conn.is_autocommit();
-    Err(Fault::OutOfMemory)
+    let Some(tile) = tile_by_id(conn, number)? else {
+        return Err(Fault::StoreFault);
+    };
+    Ok(Content::Tile {
+        zoom: tile.zoom_level,
+        column: tile.tile_column,
+        row: tile.tile_row,
+        bytes: tile.tile_data,
+    })
 }
 
-/// All links, by mapping, base and medium.
-pub fn links<S: Alter>(_conn: &mut Connection<S>, _alloc: Global) -> Result<Vec<Relation>, Fault>
-    requires { Rests (state S.Store _conn.old) }
-    ensures { Looks (Sees (λ f p found. found.items ≡ p.links)) (state S.Store _conn.old) (state S.Store _conn.new) result }
+/// The medium of this number.
+fn medium_content<S: Alter>(conn: &mut Connection<S>, number: i64) -> Result<Content, Fault>
+    requires { Rests (state S.Store conn.old) }
+    ensures { LooksUp (IsContentOf (pos 2) number) (state S.Store conn.old) (state S.Store conn.new) result }
 {
-    let _settled = _conn.is_autocommit();
-    Err(Fault::OutOfMemory)
+    let Some(medium) = medium_by_id(conn, number)? else {
+        return Err(Fault::StoreFault);
+    };
+    Ok(Content::Media {
+        content_type: medium.content_type,
+        bytes: medium.data,
+    })
+}
+
+/// The attributes row of this number.
+fn attributes_content<S: Alter>(conn: &mut Connection<S>, number: i64) -> Result<Content, Fault>
+    requires { Rests (state S.Store conn.old) }
+    ensures { LooksUp (IsContentOf (pos 3) number) (state S.Store conn.old) (state S.Store conn.new) result }
+{
+    let Some(row) = attribute_by_id(conn, number)? else {
+        return Err(Fault::StoreFault);
+    };
+    Ok(Content::Row {
+        x: row.x,
+        y: row.y,
+        code: row.code,
+        label: row.label,
+    })
+}
+
+/// What the row of this kind and number holds.
+fn content_of<S: Alter>(conn: &mut Connection<S>, kind: i64, number: i64) -> Result<Content, Fault>
+    requires { Rests (state S.Store conn.old) }
+    ensures { LooksUp (IsContentOf kind number) (state S.Store conn.old) (state S.Store conn.new) result }
+{
+    match kind {
+        1 => tile_content(conn, number),
+        2 => medium_content(conn, number),
+        3 => attributes_content(conn, number),
+        _ => Err(Fault::StoreFault),
+    }
+}
+
+/// The item of this identity, with its content.
+pub fn find<S: Alter>(conn: &mut Connection<S>, identity: Uuid) -> Result<Option<Item>, Fault>
+    requires { Rests (state S.Store conn.old) }
+    ensures { Looks (Sees (λ f p found. found ≡ item_of p identity)) (state S.Store conn.old) (state S.Store conn.new) result }
+{
+    match row_of(conn, identity)? {
+        None => Ok(None),
+        Some(row) => {
+            let content = content_of(conn, row.kind, row.local_id)?;
+            Ok(Some(Item { identity, content }))
+        }
+    }
 }

@@ -1,7 +1,6 @@
 -- A tile row is at the place where a tile of the package is.
-use Rattle.std.proofs.Common.{◌≡◌, ◌∙◌}
+use Rattle.std.proofs.Common.{◌∙◌}
 use Rattle.std.proofs.lemmas.Int.{to_z-of_z}
-use Rattle.package_tables.specs.Calls.{IsOneOf}
 use Rattle.identity_register.proofs.Looking.{looked, sees}
 use Rattle.identity_register.proofs.Answering.{IsTileAt, is_tile_at, one_tells, tiles_at}
 use Rattle.identity_register.proofs.look_ups.has_tile_at.Goals as goal

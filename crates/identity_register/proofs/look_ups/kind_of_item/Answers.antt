@@ -1,13 +1,10 @@
 -- The kind that the row of an item tells is that of its content.
-use Rattle.std.proofs.Common.{◌≡◌, ◌∙◌, sym, ap, subst, Some, None, Ok, arith, pos, Option}
-use Rattle.std.specs.Prelude.{option_map, bytes_eq}
+use Rattle.std.proofs.Common.{◌≡◌, ◌∙◌, sym, ap, Ok, arith, pos}
+use Rattle.std.specs.Prelude.{option_map}
 use Rattle.std.proofs.lemmas.Int.{ints}
 use Rattle.sql_meaning.proofs.Staying.{looks_stays}
-use Rattle.sheet_types.specs.Texts.{kind_of, uuid_text}
+use Rattle.sheet_types.specs.Texts.{kind_of}
 use Rattle.sheet_types.specs.World.{kind_number}
-use Rattle.package_tables.specs.Calls.{IsOneOf}
-use Rattle.package_tables.specs.Package.{Tables}
-use Rattle.package_tables.specs.declared.rows.IdentityRow.{IdentityRow}
 use Rattle.identity_register.proofs.Looking.{looked, sees, fails}
 use Rattle.identity_register.proofs.Answering.{IsRowFor, no_item, kind_of_row}
 use Rattle.identity_register.proofs.look_ups.kind_of_item.Goals as goal

@@ -33,4 +33,4 @@ returns-else-is_some g c =
     let both = looked_then (InRows c.args.number) (looked (InTiles c.args.number) c.in_ok-to_tile.was (simp to_z-of_z at c.tiles_media_of_related.ensures)) c.in_ok-to_row.was (simp to_z-of_z at c.rows_media_of_related.ensures) in
     tells (λ t found. found ≡ is_linked_medium c.args.number t) both
     (λ t h. or_else c.is_some.result c.is_some-else-is_some.result _ _ c.if-is_some.false (c.is_some.ensures ∙ one_tells (λ x. int_eq x.related_id c.args.number) t.tiles_media c.in_ok-to_tile.to_tile h.0)
-      (c.is_some-else-is_some.ensures ∙ one_tells (λ x. int_eq x.related_id c.args.number) t.rows_media c.in_ok-to_row.to_row h.1))
+    (c.is_some-else-is_some.ensures ∙ one_tells (λ x. int_eq x.related_id c.args.number) t.rows_media c.in_ok-to_row.to_row h.1))

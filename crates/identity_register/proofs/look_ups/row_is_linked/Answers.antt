@@ -3,8 +3,6 @@ use Rattle.std.proofs.Common.{◌≡◌, ◌∙◌, ap, sym, refl, pos, arith, f
 use Rattle.std.specs.Ordering.{int_eq}
 use Rattle.std.proofs.lemmas.Int.{to_z-of_z, ints}
 use Rattle.package_tables.specs.Calls.{IsOneOf}
-use Rattle.package_tables.specs.Package.{Tables}
-use Rattle.package_tables.specs.declared.rows.MappingRow.{MappingRow}
 use Rattle.identity_register.specs.Answers.{is_linked_medium, is_linked_row}
 use Rattle.identity_register.proofs.Looking.{looked, tells, tells_so}
 use Rattle.identity_register.proofs.Answering.{one_tells}
