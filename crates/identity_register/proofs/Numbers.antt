@@ -1,6 +1,6 @@
 -- A number that is free in a kind, and the rows of an item that comes in under it.
-use Rattle.std.proofs.Common.{◌≡◌, ℕ, ℤ, pos, List, [], ◌∷◌, ◌++◌, map, Bool, true, false, Result, Ok, refl, sym, ap, subst, ◌∙◌}
-use Rattle.std.specs.Prelude.{◌&&◌, ◌||◌, ◌==◌, bytes_eq, flat_map, unsigned_abs}
+use Rattle.std.proofs.Common.{◌≡◌, ℕ, ℤ, pos, List, [], ◌∷◌, ◌++◌, map, Bool, true, false, Option, Some, None, Result, Ok, refl, sym, ap, subst, ◌∙◌}
+use Rattle.std.specs.Prelude.{◌&&◌, ◌||◌, ◌==◌, bytes_eq, flat_map, unsigned_abs, MatchOption}
 use Rattle.std.specs.List.{AllByRecursion, list_any}
 use Rattle.std.specs.Ordering.{int_eq}
 use Rattle.std.proofs.lemmas.Bool.{true≢false, false≢true}
@@ -8,12 +8,14 @@ use Rattle.sqlite.specs.Effect.{Database}
 use Rattle.sqlite.specs.State.{State, Survives}
 use Rattle.sql_meaning.specs.Transactions.{Steps}
 use Rattle.sql_meaning.specs.Writing.{Chained}
-use Rattle.sql_meaning.proofs.Transactions.{steps_then, steps_weaker}
+use Rattle.sql_meaning.proofs.Transactions.{steps_then, steps_weaker, steps_answer}
 use Rattle.package_tables.specs.Package.{Tables, tables_of, AreFormed}
 use Rattle.package_tables.specs.Shapes.{tile_shape, medium_shape, attribute_shape, identity_shape}
-use Rattle.package_tables.specs.Calls.{Makes, Answers, OnTables}
+use Rattle.package_tables.specs.Calls.{Makes, Tells, Answers, OnTables, IsOneOf}
+use Rattle.std.specs.Option.{is_some}
+use Rattle.package_tables.specs.declared.rows.IdentityRow.{IdentityRow}
 use Rattle.package_tables.specs.Changes.{AddsIdentity}
-use Rattle.package_tables.proofs.Stepping.{makes_steps}
+use Rattle.package_tables.proofs.Stepping.{makes_steps, tells_steps}
 use Rattle.sheet_types.specs.Ordered.{arranged, put, has}
 use Rattle.sheet_types.specs.Matrix.{is_within}
 use Rattle.sheet_types.specs.Texts.{kind_of}
@@ -39,11 +41,11 @@ either_none false b h g = g
 
 any-append : {X : Type 0} (q : X → Bool) (xs ys : List X) → list_any q xs ≡ false → list_any q ys ≡ false → list_any q (xs ++ ys) ≡ false
 any-append q [] ys h g = g
-any-append q (x ∷ xs) ys h g = one (q x) refl h
+any-append q (x ∷ xs) ys h g = one (q x) refl h (λ k. any-append q xs ys k g)
   where
-    one : (a : Bool) → q x ≡ a → (a || list_any q xs) ≡ false → (q x || list_any q (xs ++ ys)) ≡ false
-    one true e k = absurd (true≢false k)
-    one false e k = either_none (q x) _ e (any-append q xs ys k g)
+    one : (a : Bool) → q x ≡ a → (a || list_any q xs) ≡ false → (list_any q xs ≡ false → list_any q (xs ++ ys) ≡ false) → (q x || list_any q (xs ++ ys)) ≡ false
+    one true e k rest = absurd (true≢false k)
+    one false e k rest = either_none (q x) _ e (rest k)
 
 any-flat_map : {X Y : Type 0} (q : Y → Bool) (f : X → List Y) (xs : List X) → AllByRecursion (λ x. list_any q (f x) ≡ false) xs → list_any q (flat_map f xs) ≡ false
 any-flat_map q f [] h = refl
@@ -88,14 +90,14 @@ module _ (f : Frame) (p : Package) (t : Tables) (says : Says f p t) where
   apart_of n range gap =
       let none = sym (list_any-arranged identity_shape.key (λ x. int_eq x.kind (identity_row n).kind && int_eq x.local_id n.number) (map identity_row says.numbered)) ∙ (rw says.identities at gap) in
       let each = All-of_map (λ x. (int_eq x.kind (identity_row n).kind && int_eq x.local_id n.number) ≡ false) identity_row says.numbered (none_pass _ (map identity_row says.numbered) none) in
-      All-weaker _ _ (λ m both. sym (same_row m n both.0 range) ∙ both.1) says.numbered (All-both _ _ says.numbered says.numbers.range each)
+      All-both _ _ (IsApart (kind_number (kind_of n.item.content)) n.number) (λ m fit other. sym (same_row m n fit range) ∙ other) says.numbered says.numbers.range each
 
   identity_free : (kind : ℕ) (number : ℤ) → AreApart kind number → has identity_shape.key (kind ∷ unsigned_abs number ∷ []) t.identities ≡ false
   identity_free kind number apart =
       rw says.identities (list_any-arranged identity_shape.key (λ r. bytes_eq (identity_shape.key r) (kind ∷ unsigned_abs number ∷ [])) (map identity_row says.numbered)
       ∙ none_any _ (map identity_row says.numbered) (All-map (λ r. bytes_eq (identity_shape.key r) (kind ∷ unsigned_abs number ∷ []) ≡ false) identity_row says.numbered apart))
 
-  with_content : ℤ → Content → Tables
+  abbrev with_content : ℤ → Content → Tables
   with_content number c = record t {
     tiles = puts tile_shape.key (tile_rows number c) t.tiles;
     media = puts medium_shape.key (media_rows number c) t.media;
@@ -116,7 +118,7 @@ module _ (f : Frame) (p : Package) (t : Tables) (says : Says f p t) where
   both_in n u v apart content identity =
       let e = content_in n.number n.item.content u apart content in
       let free : has identity_shape.key (identity_shape.key (identity_row n)) u.identities ≡ false = ap (λ x. has identity_shape.key (identity_shape.key (identity_row n)) x.identities) e ∙ identity_free (kind_number (kind_of n.item.content)) n.number apart in
-      sym (identity free ∙ ap (λ x. record x { identities = put identity_shape.key (identity_row n) x.identities }) e)
+      sym (identity free ∙ ap {A = Tables} (λ x. record x { identities = put identity_shape.key (identity_row n) x.identities }) e)
 
 item_in : (n : Numbered) (old mid last new : Database) → Answers (IsGap (identity_row n).kind) n.number old mid → OnTables (AddsContent n.number n.item.content) mid last → OnTables (AddsIdentity (identity_row n)) last new
     → Becomes (IsNewItem n.item.identity) (item_added n.item) old new
@@ -137,3 +139,28 @@ add_steps n {old} {mid} {last} {new} one two makes survives =
     steps_weaker (λ _. Becomes (IsNewItem n.item.identity) (item_added n.item))
     (λ _ chain. item_in n old.now chain.0 chain.2.0 new.now chain.1 chain.2.1 chain.2.2)
     (steps_then one (steps_then two (makes_steps (AddsIdentity (identity_row n)) makes survives)))
+
+-- ---- steps
+
+-- a row that is put into the table of its content
+pub content_put : {E : Type 0} (number : ℤ) (a b : Content) {old new : State} {r : Result (Unit {0}) E} → a ≡ b → Makes (AddsContent number b) old new r → Survives old new (λ _. ⊥) → Steps (λ _. OnTables (AddsContent number a)) old new r
+content_put {E} number a b {old} {new} {r} same makes survives = subst (λ k. Steps (λ _. OnTables (AddsContent number k)) old new r) (sym same) (makes_steps (AddsContent number b) makes survives)
+
+none_found : {X : Type 0} (A : Type 0) (B : X → Type 0) (found : Option X) → is_some found ≡ false → MatchOption found A B → A
+none_found A B None e h = h
+none_found A B (Some x) e h = absurd (true≢false e)
+
+-- no row of a kind has a number that was looked up
+pub gap_steps : {X E F : Type 0} (Q : Tables → X → Type 0) (kind k number : ℤ) (found : Option IdentityRow) {old mid new : State} {x : X} → kind ≡ k → is_within (pos 1) greatest_number number ≡ true → is_some found ≡ false → Steps {E = E} (Answers Q) old mid (Ok x)
+    → Tells {E = F} (λ t. IsOneOf (λ r. int_eq r.kind kind && int_eq r.local_id number) t.identities) mid new (Ok found) → Survives mid new (λ _. ⊥) → Steps {E = F} (Answers (IsGap k)) old new (Ok number)
+gap_steps {X} {E} {F} Q kind k number found {old} {mid} {new} {x} same range none first told survives =
+    subst (λ z. Steps {E = F} (Answers (IsGap z)) old new (Ok number)) same
+    (steps_answer (Answers (IsGap kind)) number
+    (λ chain. (chain.2.0 ∙ chain.1.0, λ formed. (range, none_found _ _ found none (subst (λ d. AreFormed d → IsOneOf (λ r. int_eq r.kind kind && int_eq r.local_id number) (tables_of d).identities found) chain.1.0 chain.2.1 formed))))
+    (steps_then first (tells_steps (λ t. IsOneOf (λ r. int_eq r.kind kind && int_eq r.local_id number) t.identities) told survives)))
+
+-- an identity row, by what its parts are
+pub identity_makes : {E : Type 0} (kind k number : ℤ) (text u : List ℕ) (old new : State) (r : Result (Unit {0}) E) → kind ≡ k → text ≡ u → Makes (AddsIdentity (record { kind = kind; local_id = number; uuid = text })) old new r
+    → Makes (AddsIdentity (record { kind = k; local_id = number; uuid = u })) old new r
+identity_makes {E} kind k number text u old new r same texts makes =
+    subst (λ z. Makes (AddsIdentity (record { kind = z; local_id = number; uuid = u })) old new r) same (subst (λ z. Makes (AddsIdentity (record { kind = kind; local_id = number; uuid = z })) old new r) texts makes)
