@@ -123,7 +123,7 @@ adds f p t n says fresh uuid range free =
     let ns = says.numbered in
     record {
       good = says.good;
-      fixed = says.fixed;
+      fixed = record { spatial_ref_sys = says.fixed.spatial_ref_sys; contents = says.fixed.contents; tile_matrix_set = says.fixed.tile_matrix_set; tile_matrix = says.fixed.tile_matrix; relations = says.fixed.relations };
       created = says.created;
       fit_head = record { uuid = says.fit_head.uuid; parent = says.fit_head.parent };
       head = says.head;

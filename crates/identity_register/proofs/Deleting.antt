@@ -323,7 +323,7 @@ deletes f p t says n there free =
     let unnamed : AllByRecursion (λ l. names id l ≡ false) says.linked = none_pass (names id) says.linked (sym (list_any-arranged link_key (names id) says.linked) ∙ ap (list_any (names id)) (sym says.links) ∙ free) in
     record {
       good = says.good;
-      fixed = says.fixed;
+      fixed = record { spatial_ref_sys = says.fixed.spatial_ref_sys; contents = says.fixed.contents; tile_matrix_set = says.fixed.tile_matrix_set; tile_matrix = says.fixed.tile_matrix; relations = says.fixed.relations };
       created = says.created;
       fit_head = record { uuid = says.fit_head.uuid; parent = says.fit_head.parent };
       head = says.head;

@@ -54,7 +54,7 @@ links f p t l says fresh ends = one l.mapping refl
     one : (m : Mapping) → l.mapping ≡ m → Says f (record p { links = put link_key l p.links }) (with_link m (mapping_row says.numbered l) t)
     one TilesMedia e = record {
       good = says.good;
-      fixed = says.fixed;
+      fixed = record { spatial_ref_sys = says.fixed.spatial_ref_sys; contents = says.fixed.contents; tile_matrix_set = says.fixed.tile_matrix_set; tile_matrix = says.fixed.tile_matrix; relations = says.fixed.relations };
       created = says.created;
       fit_head = record { uuid = says.fit_head.uuid; parent = says.fit_head.parent };
       head = says.head;
@@ -80,7 +80,7 @@ links f p t l says fresh ends = one l.mapping refl
     }
     one RowsMedia e = record {
       good = says.good;
-      fixed = says.fixed;
+      fixed = record { spatial_ref_sys = says.fixed.spatial_ref_sys; contents = says.fixed.contents; tile_matrix_set = says.fixed.tile_matrix_set; tile_matrix = says.fixed.tile_matrix; relations = says.fixed.relations };
       created = says.created;
       fit_head = record { uuid = says.fit_head.uuid; parent = says.fit_head.parent };
       head = says.head;
@@ -264,7 +264,7 @@ module _ (f : Frame) (p : Package) (t : Tables) (says : Says f p t) (l : Relatio
       one : (m : Mapping) → l.mapping ≡ m → Says f (record p { links = without link_key (link_key l ∷ []) p.links }) (without_link m row t)
       one TilesMedia e = record {
         good = says.good;
-        fixed = says.fixed;
+        fixed = record { spatial_ref_sys = says.fixed.spatial_ref_sys; contents = says.fixed.contents; tile_matrix_set = says.fixed.tile_matrix_set; tile_matrix = says.fixed.tile_matrix; relations = says.fixed.relations };
         created = says.created;
         fit_head = record { uuid = says.fit_head.uuid; parent = says.fit_head.parent };
         head = says.head;
@@ -292,7 +292,7 @@ module _ (f : Frame) (p : Package) (t : Tables) (says : Says f p t) (l : Relatio
       }
       one RowsMedia e = record {
         good = says.good;
-        fixed = says.fixed;
+        fixed = record { spatial_ref_sys = says.fixed.spatial_ref_sys; contents = says.fixed.contents; tile_matrix_set = says.fixed.tile_matrix_set; tile_matrix = says.fixed.tile_matrix; relations = says.fixed.relations };
         created = says.created;
         fit_head = record { uuid = says.fit_head.uuid; parent = says.fit_head.parent };
         head = says.head;
