@@ -236,7 +236,7 @@ module _ {R : Type 0} (kind : MovedKind) (rows : ℤ → Content → List R) (id
 pub pos_same : (a b : ℕ) → int_eq (pos a) (pos b) ≡ (a == b)
 pos_same a b = grind (arith)
 
-same_row : (m n : Numbered) → is_within (pos 1) greatest_number m.number ≡ true → is_within (pos 1) greatest_number n.number ≡ true
+pub same_row : (m n : Numbered) → is_within (pos 1) greatest_number m.number ≡ true → is_within (pos 1) greatest_number n.number ≡ true
     → (int_eq (identity_row m).kind (identity_row n).kind && int_eq m.number n.number) ≡ bytes_eq (place_in_tables m) (place_in_tables n)
 same_row m n a b =
     ap (λ x. x && int_eq m.number n.number) (pos_same (kind_number (kind_of m.item.content)) (kind_number (kind_of n.item.content)))

@@ -1,63 +1,139 @@
 -- A number that is free in a kind, and the rows of an item that comes in under it.
-use Rattle.std.proofs.Common.{◌≡◌, ℕ, ℤ, pos, negsuc, List, [], ◌∷◌, ◌++◌, map, Bool, true, false, Option, Some, None, Result, Ok, refl, sym, ap, subst, ◌∙◌, inl, inr, arith, ints, ◌+ℤ◌, ◌≤ℤ◌, ◌<ℤ◌}
-use Rattle.std.specs.Prelude.{◌&&◌, ◌||◌, ◌==◌, bytes_eq, flat_map, unsigned_abs, MatchOption, Contains, All}
+use Rattle.std.proofs.Common.{◌≡◌, ℕ, ℤ, pos, List, [], ◌∷◌, ◌++◌, map, Bool, true, false, Result, Ok, refl, sym, ap, subst, ◌∙◌}
+use Rattle.std.specs.Prelude.{◌&&◌, ◌||◌, ◌==◌, bytes_eq, flat_map, unsigned_abs}
 use Rattle.std.specs.List.{AllByRecursion, list_any}
 use Rattle.std.specs.Ordering.{int_eq}
 use Rattle.std.proofs.lemmas.Bool.{true≢false, false≢true}
-use Rattle.std.proofs.lemmas.List.Elements.{recursion_from_All}
-use borrow.Author.Tests.{eqb-true, eq-eqb}
 use Rattle.sqlite.specs.Effect.{Database}
 use Rattle.sqlite.specs.State.{State, Survives}
 use Rattle.sql_meaning.specs.Transactions.{Steps}
+use Rattle.sql_meaning.specs.Writing.{Chained}
 use Rattle.sql_meaning.proofs.Transactions.{steps_then, steps_weaker}
 use Rattle.package_tables.specs.Package.{Tables, tables_of, AreFormed}
 use Rattle.package_tables.specs.Shapes.{tile_shape, medium_shape, attribute_shape, identity_shape}
-use Rattle.package_tables.specs.Calls.{Makes, Answers, OnTables, IsGreatest}
+use Rattle.package_tables.specs.Calls.{Makes, Answers, OnTables}
 use Rattle.package_tables.specs.Changes.{AddsIdentity}
 use Rattle.package_tables.proofs.Stepping.{makes_steps}
 use Rattle.sheet_types.specs.Ordered.{arranged, put, has}
 use Rattle.sheet_types.specs.Matrix.{is_within}
 use Rattle.sheet_types.specs.Texts.{kind_of}
-use Rattle.sheet_types.specs.World.{Package, kind_number, kind_is}
+use Rattle.sheet_types.specs.World.{Package, kind_number}
 use Rattle.sheet_types.specs.declared.command.Content.{Content}
 use Rattle.sheet_types.specs.declared.command.Content.TheVariants.{Tile, Media, Row}
 use Rattle.sheet_types.specs.declared.command.Item.{Item}
 use Rattle.sheet_types.specs.declared.frame.Frame.{Frame}
-use Rattle.sheet_types.specs.declared.receipt.MovedKind.{MovedKind}
-use Rattle.sheet_types.specs.declared.receipt.MovedKind.TheVariants.{TileItem, MediaItem, RowItem, TilesMediaLink, RowsMediaLink}
-use Rattle.sheet_types.proofs.Every.{All-weaker, All-both, All-map, none_pass, none_any}
-use Rattle.sheet_types.proofs.Order.{list_any-arranged, All-arranged, All-of_arranged}
-use Rattle.sheet_types.proofs.Same.{In}
-use Rattle.identity_register.specs.Numbering.{Numbered, greatest_number, place_in_tables, identity_row, tile_rows, media_rows, attribute_rows, puts, with_item, IsGreatestOf, IsGap, IsFreeNumber, AddsContent}
+use Rattle.sheet_types.proofs.Every.{All-weaker, All-both, All-map, All-of_map, none_pass, none_any}
+use Rattle.sheet_types.proofs.Order.{list_any-arranged}
+use Rattle.identity_register.specs.Numbering.{Numbered, greatest_number, place_in_tables, identity_row, tile_rows, media_rows, attribute_rows, puts, with_item, IsGap, AddsContent}
 use Rattle.identity_register.specs.Reads.{Reads, Says}
 use Rattle.identity_register.specs.Calls.{Becomes}
 use Rattle.identity_register.specs.Changes.{IsNewItem, item_added}
 use Rattle.identity_register.proofs.Adding.{adds}
-use Rattle.identity_register.proofs.Deleting.{All-In, IsOfKind, tiles_of_kind, media_of_kind, attributes_of_kind, same_number, pos_same}
-use Rattle.identity_register.proofs.Finding.{contained, in_arranged, in_map, in_flat_map}
+use Rattle.identity_register.proofs.Deleting.{same_row}
 
--- ---- numbers
+-- ---- rows of other numbers
 
--- from 1 to the greatest
-abbrev IsNumber : ℤ → Type 0
-IsNumber n = is_within (pos 1) greatest_number n ≡ true
+either_none : (a b : Bool) → a ≡ false → b ≡ false → (a || b) ≡ false
+either_none true b h g = absurd (true≢false h)
+either_none false b h g = g
 
-and_true : (a b : Bool) → (a && b) ≡ true → (a ≡ true) × (b ≡ true)
-and_true true b h = (refl, h)
-and_true false b h = absurd (false≢true h)
+any-append : {X : Type 0} (q : X → Bool) (xs ys : List X) → list_any q xs ≡ false → list_any q ys ≡ false → list_any q (xs ++ ys) ≡ false
+any-append q [] ys h g = g
+any-append q (x ∷ xs) ys h g = one (q x) refl h
+  where
+    one : (a : Bool) → q x ≡ a → (a || list_any q xs) ≡ false → (q x || list_any q (xs ++ ys)) ≡ false
+    one true e k = absurd (true≢false k)
+    one false e k = either_none (q x) _ e (any-append q xs ys k g)
 
--- a number above one of the same kind is another
-apart_above : (m g : ℤ) → IsNumber m → IsNumber g → m ≤ℤ g → (unsigned_abs m == unsigned_abs (g +ℤ pos 1)) ≡ false
-apart_above (pos m) (pos g) hm hg le = grind (arith, ints)
-apart_above (negsuc m) g hm hg le = absurd (false≢true hm)
-apart_above (pos m) (negsuc g) hm hg le = absurd (false≢true hg)
+any-flat_map : {X Y : Type 0} (q : Y → Bool) (f : X → List Y) (xs : List X) → AllByRecursion (λ x. list_any q (f x) ≡ false) xs → list_any q (flat_map f xs) ≡ false
+any-flat_map q f [] h = refl
+any-flat_map q f (x ∷ xs) h = any-append q (f x) (flat_map f xs) h.0 (any-flat_map q f xs h.1)
 
-next_in_range : (g : ℤ) → IsNumber g → g <ℤ greatest_number → IsNumber (g +ℤ pos 1)
-next_in_range (pos g) h less = grind (arith, ints)
-next_in_range (negsuc g) h less = absurd (false≢true h)
+-- a place that is not one under a number of a kind
+abbrev IsApart : ℕ → ℤ → Numbered → Type 0
+IsApart kind number m = bytes_eq (place_in_tables m) (kind ∷ unsigned_abs number ∷ []) ≡ false
 
-module _ (f : Frame) (p : Package) (t : Tables) (says : Says f p t) (kind : MovedKind) where
-  -- no item of the kind has a greater number
-  Bounds : Option ℤ → Type 0
-  Bounds None = AllByRecursion (λ m. kind_is kind (kind_of m.item.content) ≡ false) says.numbered
-  Bounds (Some g) = IsNumber g × AllByRecursion (λ m. kind_is kind (kind_of m.item.content) ≡ true → m.number ≤ℤ g) says.numbered
+tile_apart : (number : ℤ) (m : Numbered) → IsApart 1 number m → list_any (λ r. bytes_eq (tile_shape.key r) (unsigned_abs number ∷ [])) (tile_rows m.number m.item.content) ≡ false
+tile_apart number m h = at m.item.content h
+  where
+    at : (c : Content) → bytes_eq (kind_number (kind_of c) ∷ unsigned_abs m.number ∷ []) (1 ∷ unsigned_abs number ∷ []) ≡ false → list_any (λ r. bytes_eq (tile_shape.key r) (unsigned_abs number ∷ [])) (tile_rows m.number c) ≡ false
+    at (Tile zoom column row bytes) k = either_none _ false k refl
+    at (Media content_type bytes) k = refl
+    at (Row x y code label) k = refl
+
+medium_apart : (number : ℤ) (m : Numbered) → IsApart 2 number m → list_any (λ r. bytes_eq (medium_shape.key r) (unsigned_abs number ∷ [])) (media_rows m.number m.item.content) ≡ false
+medium_apart number m h = at m.item.content h
+  where
+    at : (c : Content) → bytes_eq (kind_number (kind_of c) ∷ unsigned_abs m.number ∷ []) (2 ∷ unsigned_abs number ∷ []) ≡ false → list_any (λ r. bytes_eq (medium_shape.key r) (unsigned_abs number ∷ [])) (media_rows m.number c) ≡ false
+    at (Tile zoom column row bytes) k = refl
+    at (Media content_type bytes) k = either_none _ false k refl
+    at (Row x y code label) k = refl
+
+attribute_apart : (number : ℤ) (m : Numbered) → IsApart 3 number m → list_any (λ r. bytes_eq (attribute_shape.key r) (unsigned_abs number ∷ [])) (attribute_rows m.number m.item.content) ≡ false
+attribute_apart number m h = at m.item.content h
+  where
+    at : (c : Content) → bytes_eq (kind_number (kind_of c) ∷ unsigned_abs m.number ∷ []) (3 ∷ unsigned_abs number ∷ []) ≡ false → list_any (λ r. bytes_eq (attribute_shape.key r) (unsigned_abs number ∷ [])) (attribute_rows m.number c) ≡ false
+    at (Tile zoom column row bytes) k = refl
+    at (Media content_type bytes) k = refl
+    at (Row x y code label) k = either_none _ false k refl
+
+-- ---- an item under a number that no identity row has
+
+module _ (f : Frame) (p : Package) (t : Tables) (says : Says f p t) where
+  abbrev AreApart : ℕ → ℤ → Type 0
+  AreApart kind number = AllByRecursion (IsApart kind number) says.numbered
+
+  apart_of : (n : Numbered) → is_within (pos 1) greatest_number n.number ≡ true → list_any (λ x. int_eq x.kind (identity_row n).kind && int_eq x.local_id n.number) t.identities ≡ false
+      → AreApart (kind_number (kind_of n.item.content)) n.number
+  apart_of n range gap =
+      let none = sym (list_any-arranged identity_shape.key (λ x. int_eq x.kind (identity_row n).kind && int_eq x.local_id n.number) (map identity_row says.numbered)) ∙ (rw says.identities at gap) in
+      let each = All-of_map (λ x. (int_eq x.kind (identity_row n).kind && int_eq x.local_id n.number) ≡ false) identity_row says.numbered (none_pass _ (map identity_row says.numbered) none) in
+      All-weaker _ _ (λ m both. sym (same_row m n both.0 range) ∙ both.1) says.numbered (All-both _ _ says.numbered says.numbers.range each)
+
+  identity_free : (kind : ℕ) (number : ℤ) → AreApart kind number → has identity_shape.key (kind ∷ unsigned_abs number ∷ []) t.identities ≡ false
+  identity_free kind number apart =
+      rw says.identities (list_any-arranged identity_shape.key (λ r. bytes_eq (identity_shape.key r) (kind ∷ unsigned_abs number ∷ [])) (map identity_row says.numbered)
+      ∙ none_any _ (map identity_row says.numbered) (All-map (λ r. bytes_eq (identity_shape.key r) (kind ∷ unsigned_abs number ∷ []) ≡ false) identity_row says.numbered apart))
+
+  with_content : ℤ → Content → Tables
+  with_content number c = record t {
+    tiles = puts tile_shape.key (tile_rows number c) t.tiles;
+    media = puts medium_shape.key (media_rows number c) t.media;
+    rows = puts attribute_shape.key (attribute_rows number c) t.rows;
+  }
+
+  -- the row of the content is new, and so it comes in
+  content_in : (number : ℤ) (c : Content) (u : Tables) → AreApart (kind_number (kind_of c)) number → AddsContent number c t u → u ≡ with_content number c
+  content_in number (Tile zoom column row bytes) u apart adds =
+      adds (rw says.tiles (list_any-arranged tile_shape.key (λ r. bytes_eq (tile_shape.key r) (unsigned_abs number ∷ [])) _ ∙ any-flat_map _ (λ m. tile_rows m.number m.item.content) says.numbered (All-weaker _ _ (tile_apart number) says.numbered apart)))
+  content_in number (Media content_type bytes) u apart adds =
+      adds (rw says.media (list_any-arranged medium_shape.key (λ r. bytes_eq (medium_shape.key r) (unsigned_abs number ∷ [])) _ ∙ any-flat_map _ (λ m. media_rows m.number m.item.content) says.numbered (All-weaker _ _ (medium_apart number) says.numbered apart)))
+  content_in number (Row x y code label) u apart adds =
+      adds (rw says.rows (list_any-arranged attribute_shape.key (λ r. bytes_eq (attribute_shape.key r) (unsigned_abs number ∷ [])) _ ∙ any-flat_map _ (λ m. attribute_rows m.number m.item.content) says.numbered (All-weaker _ _ (attribute_apart number) says.numbered apart)))
+
+  -- and then its identity
+  both_in : (n : Numbered) (u v : Tables) → AreApart (kind_number (kind_of n.item.content)) n.number → AddsContent n.number n.item.content t u → AddsIdentity (identity_row n) u v → with_item n t ≡ v
+  both_in n u v apart content identity =
+      let e = content_in n.number n.item.content u apart content in
+      let free : has identity_shape.key (identity_shape.key (identity_row n)) u.identities ≡ false = ap (λ x. has identity_shape.key (identity_shape.key (identity_row n)) x.identities) e ∙ identity_free (kind_number (kind_of n.item.content)) n.number apart in
+      sym (identity free ∙ ap (λ x. record x { identities = put identity_shape.key (identity_row n) x.identities }) e)
+
+item_in : (n : Numbered) (old mid last new : Database) → Answers (IsGap (identity_row n).kind) n.number old mid → OnTables (AddsContent n.number n.item.content) mid last → OnTables (AddsIdentity (identity_row n)) last new
+    → Becomes (IsNewItem n.item.identity) (item_added n.item) old new
+item_in n old mid last new found content identity f p reads fits =
+    let formed_mid = subst AreFormed (sym found.0) reads.formed in
+    let gap = found.1 reads.formed in
+    let one = content formed_mid in
+    let two = identity one.0 in
+    let apart = apart_of f p (tables_of old) reads.says n gap.0 gap.1 in
+    let e = both_in f p (tables_of old) reads.says n (tables_of last) (tables_of new) apart (subst (λ d. AddsContent n.number n.item.content (tables_of d) (tables_of last)) found.0 one.1) two.1 in
+    let says = adds f p (tables_of old) n reads.says fits.new fits.uuid gap.0 (identity_free f p (tables_of old) reads.says (kind_number (kind_of n.item.content)) n.number apart) in
+    record { formed = two.0; says = subst (Says f (item_added n.item p)) e says }
+
+-- a free number is found, and the rows are put under it
+pub add_steps : {E F G : Type 0} (n : Numbered) {old mid last new : State} {x : Unit {0}} {r : Result (Unit {0}) G} → Steps {E = E} (Answers (IsGap (identity_row n).kind)) old mid (Ok n.number) → Steps {E = F} (λ _. OnTables (AddsContent n.number n.item.content)) mid last (Ok x)
+    → Makes (AddsIdentity (identity_row n)) last new r → Survives last new (λ _. ⊥) → Steps (λ _. Becomes (IsNewItem n.item.identity) (item_added n.item)) old new r
+add_steps n {old} {mid} {last} {new} one two makes survives =
+    steps_weaker (λ _. Becomes (IsNewItem n.item.identity) (item_added n.item))
+    (λ _ chain. item_in n old.now chain.0 chain.2.0 new.now chain.1 chain.2.1 chain.2.2)
+    (steps_then one (steps_then two (makes_steps (AddsIdentity (identity_row n)) makes survives)))

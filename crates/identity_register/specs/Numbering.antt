@@ -3,7 +3,7 @@ use Rattle.std.specs.Prelude.{◌≡◌, ℕ, ℤ, pos, Bool, true, false, not, 
 use Rattle.std.specs.Ordering.{int_eq}
 use Rattle.std.specs.List.{AllByRecursion, IsDistinct, list_any}
 use Rattle.std.specs.Option.{option_map_or}
-use Rattle.sheet_types.specs.Ordered.{put, has}
+use Rattle.sheet_types.specs.Ordered.{put}
 use Rattle.sheet_types.specs.Matrix.{is_within}
 use Rattle.sheet_types.specs.Texts.{uuid_text, kind_of}
 use Rattle.sheet_types.specs.World.{kind_number, kind_is}
@@ -168,10 +168,6 @@ IsGreatestOf RowsMediaLink t found = found ≡ None
 -- a number that no identity row of the kind has
 abbrev pub IsGap : ℤ → Tables → ℤ → Type 0
 IsGap kind t number = (is_within (pos 1) greatest_number number ≡ true) × (list_any (λ x. int_eq x.kind kind && int_eq x.local_id number) t.identities ≡ false)
-
--- a number that an item of the kind may have
-abbrev pub IsFreeNumber : MovedKind → Tables → ℤ → Type 0
-IsFreeNumber kind t number = (is_within (pos 1) greatest_number number ≡ true) × (has identity_shape.key (kind_number kind ∷ unsigned_abs number ∷ []) t.identities ≡ false)
 
 -- the row of a content comes in, where its number is free
 abbrev pub AddsContent : ℤ → Content → Tables → Tables → Type 0

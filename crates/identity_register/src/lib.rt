@@ -1,6 +1,7 @@
 //! A package as a set of identified items and links: nothing above this crate knows a local number.
 #![tactic(auto)]
 
+pub mod additions;
 pub mod changes;
 pub mod laws;
 pub mod look_ups;
