@@ -10,4 +10,5 @@ mod Uuids
 mod Answering
 mod Ends
 mod Contents
+mod OneFrame
 mod OnePackage

@@ -49,6 +49,7 @@ use Rattle.identity_register.proofs.Answering.{kind_number_tells}
 use Rattle.identity_register.proofs.Contents.{content_by_row}
 use Rattle.identity_register.proofs.Deleting.{pos_same}
 use Rattle.identity_register.proofs.Ends.{link_by_rows}
+use Rattle.identity_register.proofs.OneFrame.{one_frame}
 use Rattle.identity_register.proofs.Linking.{end_of, bytes_eq_append}
 use Rattle.identity_register.proofs.Finding.{contained, in_arranged, in_map, in_flat_map, same_uuid}
 
@@ -342,12 +343,14 @@ module _ (f : Frame) (t : Tables) where
       kept_there : (p q : Package) (one : Says f p t) (two : Says f q t) (r : Receipt) → In r p.receipts → In r q.receipts
       kept_there p q one two r i = subst (In r) (sym two.kept) (to_arranged receipt_key r two.entered (receipt_there p q one two r (in_arranged receipt_key one.entered r (subst (In r) one.kept i))))
 
--- a store reads as at most one package
+-- a store reads as at most one package, of one frame
 pub reads_alone : ReadsAlone
-reads_alone f p q db one two = one_package f (tables_of db) p q one.says two.says
+reads_alone f g p q db one two =
+    let frame : f ≡ g = one_frame f g (tables_of db) one.says.good two.says.good one.says.fixed two.says.fixed in
+    (frame, one_package g (tables_of db) p q (subst (λ h. Says h p (tables_of db)) frame one.says) two.says)
 
 -- so do its trees, whatever schema they are read by
 pub trees_read_alone : TreesReadAlone
-trees_read_alone f p q one two trees sound other reads reads' =
+trees_read_alone f g p q one two trees sound other reads reads' =
     let same : one ≡ two = sound_alone one two trees sound other in
-    reads_alone f p q (record { schema = two; trees = trees }) (subst (λ s. Reads f p (record { schema = s; trees = trees })) same reads) reads'
+    reads_alone f g p q (record { schema = two; trees = trees }) (subst (λ s. Reads f p (record { schema = s; trees = trees })) same reads) reads'

@@ -8,11 +8,11 @@ use Rattle.sheet_types.specs.World.{Package}
 use Rattle.sheet_types.specs.declared.frame.Frame.{Frame}
 use Rattle.identity_register.specs.Reads.{Reads}
 
--- A store reads as at most one package of a frame.
+-- A store reads as at most one package, of one frame.
 abbrev pub ReadsAlone : Type 0
-ReadsAlone = (f : Frame) (p q : Package) (db : Database) → Reads f p db → Reads f q db → p ≡ q
+ReadsAlone = (f g : Frame) (p q : Package) (db : Database) → Reads f p db → Reads g q db → (f ≡ g) × (p ≡ q)
 
 -- So do trees, by any schema that they list.
 abbrev pub TreesReadAlone : Type 0
-TreesReadAlone = (f : Frame) (p q : Package) (one two : Schema) (trees : Trees) → IsSound one trees → IsSound two trees
-    → Reads f p (record { schema = one; trees = trees }) → Reads f q (record { schema = two; trees = trees }) → p ≡ q
+TreesReadAlone = (f g : Frame) (p q : Package) (one two : Schema) (trees : Trees) → IsSound one trees → IsSound two trees
+    → Reads f p (record { schema = one; trees = trees }) → Reads g q (record { schema = two; trees = trees }) → (f ≡ g) × (p ≡ q)
