@@ -2,6 +2,8 @@
 #![tactic(auto)]
 
 pub mod additions;
+#[cfg(test)]
+mod change_tests;
 pub mod changes;
 pub mod laws;
 pub mod look_ups;

@@ -1,0 +1,242 @@
+// What the changes do to the tables of a package in memory. The expected rows are written by hand, from what each change
+// is to put in or take out.
+ghost use Rattle.std.specs.Prelude.{IsTrue};
+ghost use Rattle.sqlite.specs.Held.{state};
+ghost use Rattle.sql_meaning.specs.Transactions.{Rests};
+
+use crate::changes::{delete, link, unlink};
+use package_tables::attributes::{all_attributes, insert_attribute};
+use package_tables::fault::Fault;
+use package_tables::identities::{all_identities, insert_identity};
+use package_tables::mappings::{all_rows_media, all_tiles_media};
+use package_tables::media::{all_media, insert_medium};
+use package_tables::schema::create_schema;
+use package_tables::tiles::{all_tiles, insert_tile};
+use sheet_types::command::{Mapping, Relation};
+use sqlite::{Alter, Connection, Transaction};
+use std::alloc::Global;
+use std::test::Fail;
+use uuid::Uuid;
+
+const FIRST_TILE: &str = "00000000-0000-4000-8000-000000000001";
+
+const SECOND_TILE: &str = "00000000-0000-4000-8000-000000000002";
+
+const FIRST_MEDIUM: &str = "00000000-0000-4000-8000-000000000003";
+
+const SECOND_MEDIUM: &str = "00000000-0000-4000-8000-000000000004";
+
+const FIRST_ROW: &str = "00000000-0000-4000-8000-000000000005";
+
+fn first_tile() -> Uuid {
+    Uuid::from_u128(0x00000000_0000_4000_8000_000000000001)
+}
+
+fn first_medium() -> Uuid {
+    Uuid::from_u128(0x00000000_0000_4000_8000_000000000003)
+}
+
+fn second_medium() -> Uuid {
+    Uuid::from_u128(0x00000000_0000_4000_8000_000000000004)
+}
+
+fn first_row() -> Uuid {
+    Uuid::from_u128(0x00000000_0000_4000_8000_000000000005)
+}
+
+fn tile_to_medium() -> Relation {
+    Relation {
+        mapping: Mapping::TilesMedia,
+        base: first_tile(),
+        media: first_medium(),
+    }
+}
+
+fn row_to_medium() -> Relation {
+    Relation {
+        mapping: Mapping::RowsMedia,
+        base: first_row(),
+        media: second_medium(),
+    }
+}
+
+// ---- steps; they have no clause, so that the proof of a test does not carry the state of each call
+
+// The first tile and the second medium have the same local number.
+fn fill_contents<S: Alter>(tx: &mut Transaction<'_, S>) -> Result<(), Fault> {
+    insert_tile(tx, 7, 2, 3, 1, b"ab")?;
+    insert_tile(tx, 9, 2, 0, 0, b"c")?;
+    insert_medium(tx, 4, b"png", "image/png")?;
+    insert_medium(tx, 7, b"", "image/jpeg")?;
+    insert_attribute(tx, 3, 100, -7, 31, "well")
+}
+
+fn fill_identities<S: Alter>(tx: &mut Transaction<'_, S>) -> Result<(), Fault> {
+    insert_identity(tx, 1, 7, FIRST_TILE)?;
+    insert_identity(tx, 1, 9, SECOND_TILE)?;
+    insert_identity(tx, 2, 4, FIRST_MEDIUM)?;
+    insert_identity(tx, 2, 7, SECOND_MEDIUM)?;
+    insert_identity(tx, 3, 3, FIRST_ROW)
+}
+
+fn filled<S: Alter>(conn: &mut Connection<S>) -> Result<bool, Fault> {
+    if !conn.is_autocommit() {
+        return Ok(false);
+    }
+    let mut tx = conn.transaction();
+    create_schema(&mut tx)?;
+    fill_contents(&mut tx)?;
+    fill_identities(&mut tx)?;
+    tx.commit()?;
+    Ok(true)
+}
+
+fn linked<S: Alter>(conn: &mut Connection<S>, relation: Relation) -> Result<bool, Fault> {
+    if !conn.is_autocommit() {
+        return Ok(false);
+    }
+    let mut tx = conn.transaction();
+    link(&mut tx, relation)?;
+    tx.commit()?;
+    Ok(true)
+}
+
+fn unlinked<S: Alter>(conn: &mut Connection<S>, relation: Relation) -> Result<bool, Fault> {
+    if !conn.is_autocommit() {
+        return Ok(false);
+    }
+    let mut tx = conn.transaction();
+    unlink(&mut tx, relation)?;
+    tx.commit()?;
+    Ok(true)
+}
+
+fn deleted<S: Alter>(conn: &mut Connection<S>, identity: Uuid) -> Result<bool, Fault> {
+    if !conn.is_autocommit() {
+        return Ok(false);
+    }
+    let mut tx = conn.transaction();
+    delete(&mut tx, identity)?;
+    tx.commit()?;
+    Ok(true)
+}
+
+// ---- the tables as texts, on a connection that is at rest
+
+fn guarded<S: Alter>(conn: &Connection<S>) -> bool
+    ensures { IsTrue result → Rests (state S.Store conn.now) }
+{
+    conn.is_autocommit()
+}
+
+fn tiles<S: Alter>(alloc: Global, conn: &mut Connection<S>) -> Result<String, Fault> {
+    if !guarded(conn) {
+        return Err(Fault::StoreFault);
+    }
+    let mut told = String::new(alloc);
+    for row in all_tiles(conn, alloc)? {
+        told.push_str(format!(in alloc; "{};", row.id)?.as_str())?;
+    }
+    Ok(told)
+}
+
+fn media<S: Alter>(alloc: Global, conn: &mut Connection<S>) -> Result<String, Fault> {
+    if !guarded(conn) {
+        return Err(Fault::StoreFault);
+    }
+    let mut told = String::new(alloc);
+    for row in all_media(conn, alloc)? {
+        told.push_str(format!(in alloc; "{};", row.id)?.as_str())?;
+    }
+    Ok(told)
+}
+
+fn attributes<S: Alter>(alloc: Global, conn: &mut Connection<S>) -> Result<String, Fault> {
+    if !guarded(conn) {
+        return Err(Fault::StoreFault);
+    }
+    let mut told = String::new(alloc);
+    for row in all_attributes(conn, alloc)? {
+        told.push_str(format!(in alloc; "{};", row.id)?.as_str())?;
+    }
+    Ok(told)
+}
+
+fn tiles_media<S: Alter>(alloc: Global, conn: &mut Connection<S>) -> Result<String, Fault> {
+    if !guarded(conn) {
+        return Err(Fault::StoreFault);
+    }
+    let mut told = String::new(alloc);
+    for row in all_tiles_media(conn, alloc)? {
+        told.push_str(format!(in alloc; "{} {};", row.base_id, row.related_id)?.as_str())?;
+    }
+    Ok(told)
+}
+
+fn rows_media<S: Alter>(alloc: Global, conn: &mut Connection<S>) -> Result<String, Fault> {
+    if !guarded(conn) {
+        return Err(Fault::StoreFault);
+    }
+    let mut told = String::new(alloc);
+    for row in all_rows_media(conn, alloc)? {
+        told.push_str(format!(in alloc; "{} {};", row.base_id, row.related_id)?.as_str())?;
+    }
+    Ok(told)
+}
+
+// Each identity as its kind and its local number.
+fn identities<S: Alter>(alloc: Global, conn: &mut Connection<S>) -> Result<String, Fault> {
+    if !guarded(conn) {
+        return Err(Fault::StoreFault);
+    }
+    let mut told = String::new(alloc);
+    for row in all_identities(conn, alloc)? {
+        told.push_str(format!(in alloc; "{} {};", row.kind, row.local_id)?.as_str())?;
+    }
+    Ok(told)
+}
+
+// ---- tests
+
+#[test]
+fn a_link_comes_and_goes(rt: HostRuntime) -> Result<(), Fail> {
+    let a = rt.alloc();
+    let mut conn = Connection::open_in_memory(a)?;
+    let conn = &mut conn;
+    assert!(rt; filled(conn)?);
+    assert!(rt; linked(conn, tile_to_medium())?);
+    assert_eq!(rt; tiles_media(a, conn)?.as_str(), "7 4;");
+    assert_eq!(rt; rows_media(a, conn)?.as_str(), "");
+    assert!(rt; linked(conn, row_to_medium())?);
+    assert_eq!(rt; tiles_media(a, conn)?.as_str(), "7 4;");
+    assert_eq!(rt; rows_media(a, conn)?.as_str(), "3 7;");
+    assert!(rt; unlinked(conn, tile_to_medium())?);
+    assert_eq!(rt; tiles_media(a, conn)?.as_str(), "");
+    assert_eq!(rt; rows_media(a, conn)?.as_str(), "3 7;");
+    assert!(rt; unlinked(conn, row_to_medium())?);
+    assert_eq!(rt; rows_media(a, conn)?.as_str(), "");
+    assert_eq!(rt; identities(a, conn)?.as_str(), "1 7;1 9;2 4;2 7;3 3;");
+    Ok(())
+}
+
+#[test]
+fn an_item_of_each_kind_is_deleted(rt: HostRuntime) -> Result<(), Fail> {
+    let a = rt.alloc();
+    let mut conn = Connection::open_in_memory(a)?;
+    let conn = &mut conn;
+    assert!(rt; filled(conn)?);
+    assert!(rt; linked(conn, tile_to_medium())?);
+    assert!(rt; unlinked(conn, tile_to_medium())?);
+    assert!(rt; deleted(conn, first_tile())?);
+    assert_eq!(rt; tiles(a, conn)?.as_str(), "9;");
+    assert_eq!(rt; media(a, conn)?.as_str(), "4;7;");
+    assert_eq!(rt; identities(a, conn)?.as_str(), "1 9;2 4;2 7;3 3;");
+    assert!(rt; deleted(conn, second_medium())?);
+    assert_eq!(rt; media(a, conn)?.as_str(), "4;");
+    assert_eq!(rt; identities(a, conn)?.as_str(), "1 9;2 4;3 3;");
+    assert!(rt; deleted(conn, first_row())?);
+    assert_eq!(rt; attributes(a, conn)?.as_str(), "");
+    assert_eq!(rt; tiles(a, conn)?.as_str(), "9;");
+    assert_eq!(rt; identities(a, conn)?.as_str(), "1 9;2 4;");
+    Ok(())
+}
