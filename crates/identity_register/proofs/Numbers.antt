@@ -155,7 +155,7 @@ pub gap_steps : {X E F : Type 0} (Q : Tables → X → Type 0) (kind k number : 
     → Tells {E = F} (λ t. IsOneOf (λ r. int_eq r.kind kind && int_eq r.local_id number) t.identities) mid new (Ok found) → Survives mid new (λ _. ⊥) → Steps {E = F} (Answers (IsGap k)) old new (Ok number)
 gap_steps {X} {E} {F} Q kind k number found {old} {mid} {new} {x} same range none first told survives =
     subst (λ z. Steps {E = F} (Answers (IsGap z)) old new (Ok number)) same
-    (steps_answer (Answers (IsGap kind)) number
+    (steps_answer {E = F} (Answers (IsGap kind)) number
     (λ chain. (chain.2.0 ∙ chain.1.0, λ formed. (range, none_found _ _ found none (subst (λ d. AreFormed d → IsOneOf (λ r. int_eq r.kind kind && int_eq r.local_id number) (tables_of d).identities found) chain.1.0 chain.2.1 formed))))
     (steps_then first (tells_steps (λ t. IsOneOf (λ r. int_eq r.kind kind && int_eq r.local_id number) t.identities) told survives)))
 
