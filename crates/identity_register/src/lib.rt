@@ -4,4 +4,6 @@
 pub mod additions;
 pub mod changes;
 pub mod laws;
+#[cfg(test)]
+mod look_up_tests;
 pub mod look_ups;
