@@ -47,7 +47,7 @@ one_frame f g t good_f good_g one two =
     let some_f = some_levels f good_f in
     let some_g = some_levels g good_g in
     let count : unsigned_abs f.levels ≡ unsigned_abs g.levels =
-        sym (counted (λ k. level_row f (f.first_zoom +ℤ pos k)) 0 (unsigned_abs f.levels)) ∙ ap length rows ∙ counted (λ k. level_row g (g.first_zoom +ℤ pos k)) 0 (unsigned_abs g.levels) in
+    sym (counted (λ k. level_row f (f.first_zoom +ℤ pos k)) 0 (unsigned_abs f.levels)) ∙ ap length rows ∙ counted (λ k. level_row g (g.first_zoom +ℤ pos k)) 0 (unsigned_abs g.levels) in
     let levels : f.levels ≡ g.levels = positive f.levels g.levels some_f some_g count in
     let row = first_same f g (unsigned_abs f.levels) (unsigned_abs g.levels) (above f.levels some_f) (above g.levels some_g) rows in
     let zoom_plus : (f.first_zoom +ℤ pos 0) ≡ (g.first_zoom +ℤ pos 0) = ap (λ r. r.zoom_level) row in

@@ -6,4 +6,6 @@ pub mod additions;
 mod change_tests;
 pub mod changes;
 pub mod laws;
+#[cfg(test)]
+mod look_up_tests;
 pub mod look_ups;

@@ -1,0 +1,108 @@
+// What the look-ups answer of a package in memory: a tile with a medium, and a row that is linked to nothing.
+ghost use Rattle.std.specs.Prelude.{IsTrue};
+ghost use Rattle.sqlite.specs.Held.{state};
+ghost use Rattle.sql_meaning.specs.Transactions.{Rests};
+
+use crate::look_ups::{find, has_link, has_tile_at, is_linked, kind_of_item};
+use package_tables::attributes::insert_attribute;
+use package_tables::fault::Fault;
+use package_tables::identities::insert_identity;
+use package_tables::mappings::insert_tiles_media;
+use package_tables::media::insert_medium;
+use package_tables::schema::create_schema;
+use package_tables::tiles::insert_tile;
+use sheet_types::command::{Content, Mapping, Relation};
+use sheet_types::receipt::MovedKind;
+use sqlite::{Alter, Connection};
+use std::test::Fail;
+use uuid::Uuid;
+
+fn guarded<S: Alter>(conn: &Connection<S>) -> bool
+    ensures { IsTrue result → Rests (state S.Store conn.now) }
+{
+    conn.is_autocommit()
+}
+
+fn filled<S: Alter>(conn: &mut Connection<S>) -> Result<bool, Fault> {
+    if !conn.is_autocommit() {
+        return Ok(false);
+    }
+    let mut tx = conn.transaction();
+    create_schema(&mut tx)?;
+    insert_tile(&mut tx, 7, 2, 3, 1, b"ab")?;
+    insert_identity(&mut tx, 1, 7, "00000000-0000-0000-0000-000000000001")?;
+    insert_medium(&mut tx, 4, b"png", "image/png")?;
+    insert_identity(&mut tx, 2, 4, "00000000-0000-0000-0000-000000000002")?;
+    insert_attribute(&mut tx, 4, 100, -7, 31, "well")?;
+    insert_identity(&mut tx, 3, 4, "00000000-0000-0000-0000-000000000003")?;
+    insert_tiles_media(&mut tx, 7, 4)?;
+    tx.commit()?;
+    Ok(true)
+}
+
+fn kind<S: Alter>(conn: &mut Connection<S>, id: u128) -> Result<Option<MovedKind>, Fault> {
+    if !guarded(conn) {
+        return Err(Fault::StoreFault);
+    }
+    kind_of_item(conn, Uuid::from_u128(id))
+}
+
+fn linked<S: Alter>(conn: &mut Connection<S>, id: u128) -> Result<bool, Fault> {
+    if !guarded(conn) {
+        return Err(Fault::StoreFault);
+    }
+    is_linked(conn, Uuid::from_u128(id))
+}
+
+fn placed<S: Alter>(conn: &mut Connection<S>, column: i64, row: i64) -> Result<bool, Fault> {
+    if !guarded(conn) {
+        return Err(Fault::StoreFault);
+    }
+    has_tile_at(conn, 2, column, row)
+}
+
+fn related<S: Alter>(conn: &mut Connection<S>, base: u128, media: u128) -> Result<bool, Fault> {
+    if !guarded(conn) {
+        return Err(Fault::StoreFault);
+    }
+    has_link(
+        conn,
+        Relation {
+            mapping: Mapping::TilesMedia,
+            base: Uuid::from_u128(base),
+            media: Uuid::from_u128(media),
+        },
+    )
+}
+
+fn code<S: Alter>(conn: &mut Connection<S>, id: u128) -> Result<i64, Fault> {
+    if !guarded(conn) {
+        return Err(Fault::StoreFault);
+    }
+    match find(conn, Uuid::from_u128(id))? {
+        None => Ok(-1),
+        Some(item) => match item.content {
+            Content::Row { code, .. } => Ok(code),
+            _ => Ok(0),
+        },
+    }
+}
+
+#[test]
+fn look_ups_answer_of_the_package(rt: HostRuntime) -> Result<(), Fail> {
+    let mut conn = Connection::open_in_memory(rt.alloc())?;
+    assert!(rt; filled(&mut conn)?);
+    assert!(rt; kind(&mut conn, 1)? == Some(MovedKind::TileItem));
+    assert!(rt; kind(&mut conn, 3)? == Some(MovedKind::RowItem));
+    assert!(rt; kind(&mut conn, 4)? == None);
+    assert!(rt; linked(&mut conn, 1)?);
+    assert!(rt; linked(&mut conn, 2)?);
+    assert!(rt; !linked(&mut conn, 3)?);
+    assert!(rt; placed(&mut conn, 3, 1)?);
+    assert!(rt; !placed(&mut conn, 1, 3)?);
+    assert!(rt; related(&mut conn, 1, 2)?);
+    assert!(rt; !related(&mut conn, 1, 3)?);
+    assert!(rt; code(&mut conn, 3)? == 31);
+    assert!(rt; code(&mut conn, 9)? == -1);
+    Ok(())
+}
