@@ -39,7 +39,7 @@ use Rattle.custody.specs.Entries.{Enters, rows_from}
 -- ---- keys
 
 -- keys that are one are equal
-differ : (a b : List ℕ) → (a ≡ b → ⊥) → bytes_eq a b ≡ false
+pub differ : (a b : List ℕ) → (a ≡ b → ⊥) → bytes_eq a b ≡ false
 differ a b unequal = one (bytes_eq a b) refl
   where
     one : (v : Bool) → bytes_eq a b ≡ v → v ≡ false
@@ -54,7 +54,7 @@ second_of : List ℕ → ℕ
 second_of [] = 0
 second_of (x ∷ xs) = head_of xs
 
-apart : {a b : List ℕ} → bytes_eq a b ≡ false → a ≡ b → ⊥
+pub apart : {a b : List ℕ} → bytes_eq a b ≡ false → a ≡ b → ⊥
 apart {a} {b} h e = true≢false (sym ((bytes_eq-Decides a b).1 e) ∙ h)
 
 -- a later position is another

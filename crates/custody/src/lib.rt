@@ -1,26 +1,29 @@
 //! The receipts that stand in a package: which are entered, and which is kept for a request.
 #![tactic(auto)]
 
-ghost use Rattle.std.specs.Prelude.{◌≡◌, ◌≤◌, [], pos, IfOk, length};
+ghost use Rattle.std.specs.Prelude.{◌≡◌, ◌≤◌, ◌||◌, [], pos, IfOk, length};
+ghost use Rattle.std.specs.List.{list_any};
 ghost use Rattle.std.specs.Option.{option_map_or};
 ghost use Rattle.hex.specs.Hex.{encode_lower};
 ghost use Rattle.sqlite.specs.Held.{state};
-ghost use Rattle.sql_meaning.specs.Transactions.{Steps};
+ghost use Rattle.sql_meaning.specs.Transactions.{Rests, Looks, Steps};
 ghost use Rattle.sql_meaning.specs.Writing.{EachChained};
+ghost use Rattle.sheet_types.specs.Lines.{uuid_in};
+ghost use Rattle.sheet_types.specs.Texts.{uuid_text};
 ghost use Rattle.sheet_types.specs.World.{with_receipt};
-ghost use Rattle.package_tables.specs.Calls.{OnTables};
+ghost use Rattle.package_tables.specs.Calls.{LooksUp, OnTables};
 ghost use Rattle.package_tables.specs.Entries.{AddsReceipt};
-ghost use Rattle.identity_register.specs.Calls.{Becomes};
+ghost use Rattle.identity_register.specs.Calls.{Becomes, Sees};
 ghost use Rattle.identity_register.specs.Reads.{end_text, receipt_row, moved_row};
-ghost use Rattle.custody.specs.Entries.{Enters, rows_from};
-ghost use Rattle.custody.specs.Receipts.{IsNewReceipt};
+ghost use Rattle.custody.specs.Entries.{Enters, rows_from, is_of};
+ghost use Rattle.custody.specs.Receipts.{IsNewReceipt, is_named};
 
 use package_tables::fault::Fault;
-use package_tables::moved::insert_moved;
+use package_tables::moved::{insert_moved, moved_of_kind};
 use package_tables::receipts::insert_receipt;
 use sheet_types::fingerprints::spell;
 use sheet_types::receipt::{Moved, Receipt};
-use sqlite::{Alter, Transaction};
+use sqlite::{Alter, Connection, Transaction};
 use uuid::Uuid;
 
 const GREATEST_STORED: u64 = 9_223_372_036_854_775_807;
@@ -125,4 +128,38 @@ pub fn enter<S: Alter>(tx: &mut Transaction<'_, S>, receipt: &Receipt) -> Result
 {
     enter_row(tx, receipt)?;
     enter_things(tx, receipt.seq, receipt.items.as_slice())
+}
+
+/// Whether the row of a thing has this identity and the kind of this number.
+fn is_moved_as<S: Alter>(
+    conn: &mut Connection<S>,
+    identity: Uuid,
+    kind: i64,
+) -> Result<bool, Fault>
+    requires { Rests (state S.Store conn.old) }
+    ensures looked { LooksUp (λ t found. found ≡ list_any (is_of identity kind) t.moved) (state S.Store conn.old) (state S.Store conn.new) result }
+    ensures back { uuid_in (uuid_text identity) ≡ identity }
+{
+    let mut buffer = Uuid::encode_buffer();
+    let text = identity.hyphenated().encode_lower(&mut buffer);
+    let found = moved_of_kind(conn, text, kind)?;
+    Ok(found.is_some())
+}
+
+/// Whether one of three holds.
+fn any_of_three(a: bool, b: bool, c: bool) -> bool
+    ensures { result ≡ (a || b || c) }
+{
+    a || b || c
+}
+
+/// Whether a receipt of the package names this identity as that of an item.
+pub fn names<S: Alter>(conn: &mut Connection<S>, identity: Uuid) -> Result<bool, Fault>
+    requires { Rests (state S.Store conn.old) }
+    ensures { Looks (Sees (λ f p found. found ≡ is_named p identity)) (state S.Store conn.old) (state S.Store conn.new) result }
+{
+    let tile = is_moved_as(conn, identity, 1)?;
+    let medium = is_moved_as(conn, identity, 2)?;
+    let row = is_moved_as(conn, identity, 3)?;
+    Ok(any_of_three(tile, medium, row))
 }

@@ -9,17 +9,17 @@ use Rattle.package_tables.specs.Tables.{sheet_items}
 use Rattle.package_tables.specs.Shapes.{moved_shape}
 use Rattle.package_tables.specs.declared.rows.MovedRow.{MovedRow}
 use Rattle.std.proofs.Common.{true}
-use Rattle.std.specs.Prelude.{bytes_eq}
+use Rattle.std.specs.Prelude.{◌&&◌, bytes_eq}
 use Rattle.std.specs.Ordering.{int_eq}
 use Rattle.sqlite.specs.Term.{col}
 use Rattle.sql_meaning.specs.Resolving.{resolving}
-use Rattle.sql_meaning.specs.Reading.{equals, always, ascending}
+use Rattle.sql_meaning.specs.Reading.{both, equals, always, ascending}
 use Rattle.sql_meaning.proofs.Resolve.{one_table}
 use Rattle.sql_meaning.proofs.Select.{IsSelect, IsPlannedSelect}
 use Rattle.package_tables.specs.Shapes.{int_at, text_at}
 use Rattle.package_tables.specs.Shown.{moved_shown}
 use Rattle.package_tables.proofs.Looking.{IsKnown, IsRead}
-use Rattle.package_tables.proofs.Values.{same_number, same_text}
+use Rattle.package_tables.proofs.Values.{same_number, same_text, both_same}
 use Rattle.package_tables.proofs.Written.{moved_shape_is}
 
 pub insert_text : (tree : ℕ) → IsInsert (codes "INSERT INTO sheet_items VALUES (?1, ?2, ?3, ?4, ?5, ?6, ?7)") (sheet_items tree)
@@ -106,3 +106,28 @@ all_moved_plan tree schema at h = rw (h.stored, h.by_tree) refl
 
 pub all_moved : IsRead moved_shape moved_shown (codes "SELECT * FROM sheet_items ORDER BY seq") [] (λ x. true)
 all_moved = record { test = _; by = _; selects = all_moved_text; planned = all_moved_plan; given = refl; listing = _; is = λ tree. refl; shows = λ v x. refl; passing = λ v x. refl }
+
+moved_of_kind_text : (tree : ℕ) → IsSelect (codes "SELECT * FROM sheet_items WHERE base = ?1 AND kind = ?2") (sheet_items tree) (both (equals 3 0) (equals 2 1)) []
+unfolding everything
+moved_of_kind_text tree = record {
+  parse = _;
+  asks = _;
+  src = _;
+  item = _;
+  parsed = refl;
+  statement = refl;
+  formats = refl;
+  one = one_table refl refl refl refl refl refl refl refl refl refl refl refl refl refl refl;
+  condition = (_, refl, (_, _, refl, (_, _, _, _, refl, refl, refl, refl, refl, refl, refl), (_, _, _, _, refl, refl, refl, refl, refl, refl, refl)));
+  enough = refl;
+  few = λ at. refl;
+  some = λ at. refl;
+  sorted = λ schema at. (_, refl, refl);
+}
+
+moved_of_kind_plan : (tree : ℕ) → IsPlannedSelect (sheet_items tree) (both (equals 3 0) (equals 2 1)) []
+unfolding resolving
+moved_of_kind_plan tree schema at h = rw (h.stored, h.by_tree) refl
+
+pub moved_of_kind : (base : List ℕ) (kind : ℤ) → IsRead moved_shape moved_shown (codes "SELECT * FROM sheet_items WHERE base = ?1 AND kind = ?2") (Text base ∷ Int kind ∷ []) (λ x. bytes_eq x.base base && int_eq x.kind kind)
+moved_of_kind base kind = record { test = _; by = _; selects = moved_of_kind_text; planned = moved_of_kind_plan; given = refl; listing = _; is = λ tree. refl; shows = λ v x. refl; passing = λ v x. both_same (same_text x.base base) (same_number x.kind kind) }
