@@ -1,5 +1,8 @@
-//! The receipts that stand in a package: which are entered, and which is kept for a request.
+//! The receipts that stand in a package: which are entered, and what they name.
 #![tactic(auto)]
+
+#[cfg(test)]
+mod tests;
 
 ghost use Rattle.std.specs.Prelude.{◌≡◌, ◌≤◌, ◌||◌, [], pos, IfOk, length};
 ghost use Rattle.std.specs.List.{list_any};
