@@ -112,7 +112,10 @@ fn enter_row<S: Alter>(tx: &mut Transaction<'_, S>, receipt: &Receipt) -> Result
     let links = stored(receipt.links)?;
     let bytes = stored(receipt.bytes)?;
     let mut request_buffer = Uuid::encode_buffer();
-    let request = receipt.request.hyphenated().encode_lower(&mut request_buffer);
+    let request = receipt
+        .request
+        .hyphenated()
+        .encode_lower(&mut request_buffer);
     let mut source_buffer = Uuid::encode_buffer();
     let source = end_text(receipt.source, &mut source_buffer);
     let mut target_buffer = Uuid::encode_buffer();
@@ -134,11 +137,7 @@ pub fn enter<S: Alter>(tx: &mut Transaction<'_, S>, receipt: &Receipt) -> Result
 }
 
 /// Whether the row of a thing has this identity and the kind of this number.
-fn is_moved_as<S: Alter>(
-    conn: &mut Connection<S>,
-    identity: Uuid,
-    kind: i64,
-) -> Result<bool, Fault>
+fn is_moved_as<S: Alter>(conn: &mut Connection<S>, identity: Uuid, kind: i64) -> Result<bool, Fault>
     requires { Rests (state S.Store conn.old) }
     ensures looked { LooksUp (λ t found. found ≡ list_any (is_of identity kind) t.moved) (state S.Store conn.old) (state S.Store conn.new) result }
     ensures back { uuid_in (uuid_text identity) ≡ identity }

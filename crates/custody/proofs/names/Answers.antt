@@ -14,8 +14,8 @@ returns-in_err-row g c =
 pub returns : goal.returns
 returns g c =
     let all = looked_then (λ t found. found ≡ list_any (is_of c.args.identity (pos 3)) t.moved)
-        (looked_then (λ t found. found ≡ list_any (is_of c.args.identity (pos 2)) t.moved)
-          (looked (λ t found. found ≡ list_any (is_of c.args.identity (pos 1)) t.moved) c.in_ok-tile.was c.is_moved_as.ensures.looked)
-        c.in_ok-medium.was c.is_moved_as-2.ensures.looked)
-      c.in_ok-row.was c.is_moved_as-3.ensures.looked in
+    (looked_then (λ t found. found ≡ list_any (is_of c.args.identity (pos 2)) t.moved)
+    (looked (λ t found. found ≡ list_any (is_of c.args.identity (pos 1)) t.moved) c.in_ok-tile.was c.is_moved_as.ensures.looked)
+    c.in_ok-medium.was c.is_moved_as-2.ensures.looked)
+    c.in_ok-row.was c.is_moved_as-3.ensures.looked in
     sees all (λ f p t says h. c.any_of_three.ensures ∙ (λ i. h.0.0 i || h.0.1 i || h.1 i) ∙ named_by_rows c.args.identity c.is_moved_as.ensures.back f p t says)
