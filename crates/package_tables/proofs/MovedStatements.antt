@@ -9,11 +9,11 @@ use Rattle.package_tables.specs.Tables.{sheet_items}
 use Rattle.package_tables.specs.Shapes.{moved_shape}
 use Rattle.package_tables.specs.declared.rows.MovedRow.{MovedRow}
 use Rattle.std.proofs.Common.{true}
-use Rattle.std.specs.Prelude.{◌≡◌, bytes_eq}
+use Rattle.std.specs.Prelude.{◌≡◌, ◌&&◌, bytes_eq}
 use Rattle.std.specs.Ordering.{int_eq}
 use Rattle.sqlite.specs.Term.{col}
 use Rattle.sql_meaning.specs.Resolving.{resolving}
-use Rattle.sql_meaning.specs.Reading.{equals, always, ascending}
+use Rattle.sql_meaning.specs.Reading.{both, equals, always, ascending}
 use Rattle.sql_meaning.proofs.Resolve.{one_table}
 use Rattle.sql_meaning.proofs.Select.{IsSelect, IsPlannedSelect}
 use Rattle.package_tables.specs.Shapes.{int_at, text_at}
@@ -23,7 +23,7 @@ use Rattle.sql_meaning.specs.Reading.{IsListing}
 use Rattle.package_tables.specs.Calls.{Rises}
 use Rattle.package_tables.proofs.Looking.{IsKnown, IsRead}
 use Rattle.package_tables.proofs.Ranked.{ranked}
-use Rattle.package_tables.proofs.Values.{same_number, same_text}
+use Rattle.package_tables.proofs.Values.{same_number, same_text, both_same}
 use Rattle.package_tables.proofs.Written.{moved_shape_is}
 use Rattle.std.specs.Ordering.{on, int_cmp}
 use Rattle.std.proofs.lemmas.Cmp.{on_total, int_cmp_total}
@@ -122,3 +122,28 @@ moved_of_ranked seq there rows h xs are = ranked moved_shown (λ x. x.position) 
 pub all_moved_ranked : IsRanked all_moved (on (λ x. x.seq) int_cmp)
 unfolding all_moved
 all_moved_ranked = record { keys = λ x. Int x.seq ∷ []; keyed = λ v x. refl; total = (on_total (λ x. x.seq) int_cmp_total); alike = λ x y. one_number x.seq y.seq }
+
+moved_of_kind_text : (tree : ℕ) → IsSelect (codes "SELECT * FROM sheet_items WHERE base = ?1 AND kind = ?2") (sheet_items tree) (both (equals 3 0) (equals 2 1)) []
+unfolding everything
+moved_of_kind_text tree = record {
+  parse = _;
+  asks = _;
+  src = _;
+  item = _;
+  parsed = refl;
+  statement = refl;
+  formats = refl;
+  one = one_table refl refl refl refl refl refl refl refl refl refl refl refl refl refl refl;
+  condition = (_, refl, (_, _, refl, (_, _, _, _, refl, refl, refl, refl, refl, refl, refl), (_, _, _, _, refl, refl, refl, refl, refl, refl, refl)));
+  enough = refl;
+  few = λ at. refl;
+  some = λ at. refl;
+  sorted = λ schema at. (_, refl, refl);
+}
+
+moved_of_kind_plan : (tree : ℕ) → IsPlannedSelect (sheet_items tree) (both (equals 3 0) (equals 2 1)) []
+unfolding resolving
+moved_of_kind_plan tree schema at h = rw (h.stored, h.by_tree) refl
+
+pub moved_of_kind : (base : List ℕ) (kind : ℤ) → IsRead moved_shape moved_shown (codes "SELECT * FROM sheet_items WHERE base = ?1 AND kind = ?2") (Text base ∷ Int kind ∷ []) (λ x. bytes_eq x.base base && int_eq x.kind kind)
+moved_of_kind base kind = record { test = _; by = _; selects = moved_of_kind_text; planned = moved_of_kind_plan; given = refl; listing = _; is = λ tree. refl; shows = λ v x. refl; passing = λ v x. both_same (same_text x.base base) (same_number x.kind kind) }

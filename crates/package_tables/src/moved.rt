@@ -1,5 +1,5 @@
 // The statements on `sheet_items`.
-ghost use Rattle.std.specs.Prelude.{◌≡◌, true, bytes_eq};
+ghost use Rattle.std.specs.Prelude.{◌≡◌, true, ◌&&◌, bytes_eq};
 ghost use Rattle.std.specs.Ordering.{int_cmp, int_eq, on};
 ghost use Rattle.sqlite.specs.State.{Survives};
 ghost use Rattle.sqlite.specs.Held.{state};
@@ -83,6 +83,21 @@ pub fn moved_with_base<S: Alter>(
     ensures { LooksUp (λ t. IsOneOf (λ x. bytes_eq x.base base.now) t.moved) (state S.Store conn.old) (state S.Store conn.new) result }
 {
     first_of(conn.query_all("SELECT * FROM sheet_items WHERE base = ?1", params![base]))
+}
+
+/// Some thing that was moved, has this identity and is of the kind of this number, where there is one.
+pub fn moved_of_kind<S: Alter>(
+    conn: &mut Connection<S>,
+    base: &str,
+    kind: i64,
+) -> Result<Option<MovedRow>, Fault>
+    requires { Rests (state S.Store conn.old) }
+    ensures { LooksUp (λ t. IsOneOf (λ x. bytes_eq x.base base.now && int_eq x.kind kind) t.moved) (state S.Store conn.old) (state S.Store conn.new) result }
+{
+    first_of(conn.query_all(
+        "SELECT * FROM sheet_items WHERE base = ?1 AND kind = ?2",
+        params![base, kind],
+    ))
 }
 
 /// All that receipts moved.

@@ -1,0 +1,124 @@
+-- Whether a receipt names an identity as that of an item, by the rows of the things that were moved.
+use Rattle.std.proofs.Common.{◌≡◌, ℕ, ◌+◌, ℤ, pos, List, [], ◌∷◌, ◌++◌, map, Bool, true, false, Option, Some, None, refl, sym, ap, ◌∙◌}
+use Rattle.std.specs.Prelude.{◌&&◌, ◌||◌, bytes_eq, flat_map, is_some, unwrap_or}
+use Rattle.uuid.specs.Text.{parsed}
+use Rattle.uuid.proofs.TextLemmas.{by_index_length}
+use Rattle.sheet_types.proofs.UuidTexts.{parsed_36}
+use Rattle.std.specs.List.{AllByRecursion, list_any}
+use Rattle.std.specs.Ordering.{int_eq}
+use Rattle.std.specs.Option.{option_map_or}
+use Rattle.std.proofs.lemmas.Slice.Eq.{bytes_eq-Decides}
+use Rattle.sheet_types.specs.Texts.{uuid_text}
+use Rattle.sheet_types.specs.Lines.{is_uuid, is_bytes, uuid_in}
+use Rattle.sheet_types.specs.World.{Package, is_item_kind, kind_number, receipt_key}
+use Rattle.sheet_types.specs.declared.frame.Frame.{Frame}
+use Rattle.sheet_types.specs.declared.receipt.Moved.{Moved}
+use Rattle.sheet_types.specs.declared.receipt.MovedKind.{MovedKind}
+use Rattle.sheet_types.specs.declared.receipt.MovedKind.TheVariants.{TileItem, MediaItem, RowItem, TilesMediaLink, RowsMediaLink}
+use Rattle.sheet_types.specs.declared.receipt.Receipt.{Receipt}
+use Rattle.sheet_types.proofs.LineReading.{uuid_back}
+use Rattle.sheet_types.proofs.Order.{list_any-arranged}
+use Rattle.sheet_types.proofs.Same.{any_in}
+use Rattle.package_tables.specs.Calls.{IsOneOf}
+use Rattle.identity_register.proofs.Finding.{contained}
+use Rattle.package_tables.specs.Package.{Tables}
+use Rattle.package_tables.specs.Shapes.{moved_shape}
+use Rattle.package_tables.specs.declared.rows.MovedRow.{MovedRow}
+use Rattle.identity_register.specs.Reads.{Says, IsFitReceipt, is_fit_end, is_fit_moved, moved_rows}
+use Rattle.custody.specs.Receipts.{names_identity, is_named}
+use Rattle.custody.specs.Entries.{rows_from, is_of}
+use Rattle.custody.proofs.Entering.{differ, apart}
+
+-- ---- one thing
+
+-- a text that reads as a UUID reads as it in a line
+pub read_back : (id : List ℕ) → parsed (uuid_text id) ≡ Some id → uuid_in (uuid_text id) ≡ id
+read_back id h = ap (λ o. unwrap_or o []) (sym (parsed_36 (uuid_text id) (by_index_length 36 _)) ∙ h)
+
+-- the texts of two UUIDs are one where the UUIDs are
+texts_same : (a b : List ℕ) → uuid_in (uuid_text a) ≡ a → uuid_in (uuid_text b) ≡ b → bytes_eq (uuid_text a) (uuid_text b) ≡ bytes_eq a b
+texts_same a b ha hb = one (bytes_eq a b) refl
+  where
+    one : (v : Bool) → bytes_eq a b ≡ v → bytes_eq (uuid_text a) (uuid_text b) ≡ bytes_eq a b
+    one true e = (bytes_eq-Decides (uuid_text a) (uuid_text b)).1 (ap uuid_text ((bytes_eq-Decides a b).0 e)) ∙ sym e
+    one false e = differ (uuid_text a) (uuid_text b) (λ f. apart e (sym ha ∙ ap uuid_in f ∙ hb)) ∙ sym e
+
+-- the kinds of items are those of the numbers 1 to 3
+three_kinds : (b : Bool) (k : MovedKind) → ((b && int_eq (pos (kind_number k)) (pos 1)) || (b && int_eq (pos (kind_number k)) (pos 2)) || (b && int_eq (pos (kind_number k)) (pos 3))) ≡ (is_item_kind k && b)
+three_kinds true TileItem = refl
+three_kinds true MediaItem = refl
+three_kinds true RowItem = refl
+three_kinds true TilesMediaLink = refl
+three_kinds true RowsMediaLink = refl
+three_kinds false TileItem = refl
+three_kinds false MediaItem = refl
+three_kinds false RowItem = refl
+three_kinds false TilesMediaLink = refl
+three_kinds false RowsMediaLink = refl
+
+-- ---- lists
+
+any_append : {X : Type 0} (p : X → Bool) (xs ys : List X) → list_any p (xs ++ ys) ≡ (list_any p xs || list_any p ys)
+any_append p [] ys = refl
+any_append p (x ∷ xs) ys = one (p x) (any_append p xs ys)
+  where
+    one : (b : Bool) → list_any p (xs ++ ys) ≡ (list_any p xs || list_any p ys) → (b || list_any p (xs ++ ys)) ≡ ((b || list_any p xs) || list_any p ys)
+    one true h = refl
+    one false h = h
+
+any_flat : {X Y : Type 0} (p : Y → Bool) (f : X → List Y) (xs : List X) → list_any p (flat_map f xs) ≡ list_any (λ x. list_any p (f x)) xs
+any_flat p f [] = refl
+any_flat p f (x ∷ xs) = any_append p (f x) (flat_map f xs) ∙ ap (λ b. list_any p (f x) || b) (any_flat p f xs)
+
+-- one of two tests passes somewhere
+any_or : {X : Type 0} (p q : X → Bool) (xs : List X) → (list_any p xs || list_any q xs) ≡ list_any (λ x. p x || q x) xs
+any_or p q [] = refl
+any_or p q (x ∷ xs) = one (p x) (q x) (list_any p xs) (list_any q xs) (any_or p q xs)
+  where
+    one : (a b c d : Bool) → (c || d) ≡ list_any (λ y. p y || q y) xs → ((a || c) || (b || d)) ≡ ((a || b) || list_any (λ y. p y || q y) xs)
+    one true b c d h = refl
+    one false true true d h = refl
+    one false true false d h = refl
+    one false false c d h = h
+
+any_same : {X : Type 0} (p q : X → Bool) (xs : List X) → AllByRecursion (λ x. p x ≡ q x) xs → list_any p xs ≡ list_any q xs
+any_same p q [] h = refl
+any_same p q (x ∷ xs) h = (λ i. h.0 i || any_same p q xs h.1 i)
+
+-- a row is found where one passes
+pub found_passes : {X : Type 0} (p : X → Bool) (xs : List X) (found : Option X) → IsOneOf p xs found → is_some found ≡ list_any p xs
+found_passes p xs None h = sym h
+found_passes p xs (Some x) h = sym (any_in p x xs (contained xs x h.0) h.1)
+
+-- ---- the tables
+
+module _ (id : List ℕ) (back : uuid_in (uuid_text id) ≡ id) where
+  one_thing : (seq n : ℕ) (m : Moved) → is_fit_moved m ≡ true → list_any (λ x. is_of id (pos 1) x || is_of id (pos 2) x || is_of id (pos 3) x) (rows_from seq n (m ∷ [])) ≡ list_any (λ y. is_item_kind y.kind && bytes_eq y.base id) (m ∷ [])
+  one_thing seq n m fit =
+      ap (λ b. b || false) (three_kinds (bytes_eq (uuid_text m.base) (uuid_text id)) m.kind ∙ ap (λ b. is_item_kind m.kind && b) (texts_same m.base id (uuid_back m.base (and_first (is_uuid m.base) (is_fit_end m.other) (and_first (is_uuid m.base && is_fit_end m.other) (option_map_or (is_bytes 32) m.fingerprint true) fit))) back))
+    where
+      and_first : (a b : Bool) → (a && b) ≡ true → a ≡ true
+      and_first true b h = refl
+      and_first false b h = h
+
+  things : (seq n : ℕ) (ms : List Moved) → AllByRecursion (λ m. is_fit_moved m ≡ true) ms → list_any (λ x. is_of id (pos 1) x || is_of id (pos 2) x || is_of id (pos 3) x) (rows_from seq n ms) ≡ list_any (λ y. is_item_kind y.kind && bytes_eq y.base id) ms
+  things seq n [] h = refl
+  things seq n (m ∷ ms) h =
+      any_append (λ x. is_of id (pos 1) x || is_of id (pos 2) x || is_of id (pos 3) x) (rows_from seq n (m ∷ [])) (rows_from seq (n + 1) ms)
+      ∙ (λ i. one_thing seq n m h.0 i || things seq (n + 1) ms h.1 i)
+      ∙ sym (any_append (λ y. is_item_kind y.kind && bytes_eq y.base id) (m ∷ []) ms)
+
+  entered_names : (rs : List Receipt) → AllByRecursion IsFitReceipt rs → AllByRecursion (λ r. list_any (λ x. is_of id (pos 1) x || is_of id (pos 2) x || is_of id (pos 3) x) (moved_rows r) ≡ names_identity id r) rs
+  entered_names [] h = tt
+  entered_names (r ∷ rs) h = (things r.seq 0 r.items h.0.items, entered_names rs h.1)
+
+  -- the rows of three kinds tell whether a receipt names the identity
+  pub named_by_rows : (f : Frame) (p : Package) (t : Tables) → Says f p t → (list_any (is_of id (pos 1)) t.moved || list_any (is_of id (pos 2)) t.moved || list_any (is_of id (pos 3)) t.moved) ≡ is_named p id
+  named_by_rows f p t says =
+      ap (λ b. b || list_any (is_of id (pos 3)) t.moved) (any_or (is_of id (pos 1)) (is_of id (pos 2)) t.moved)
+      ∙ any_or (λ x. is_of id (pos 1) x || is_of id (pos 2) x) (is_of id (pos 3)) t.moved
+      ∙ ap (list_any (λ x. is_of id (pos 1) x || is_of id (pos 2) x || is_of id (pos 3) x)) says.moved
+      ∙ list_any-arranged moved_shape.key (λ x. is_of id (pos 1) x || is_of id (pos 2) x || is_of id (pos 3) x) (flat_map moved_rows says.entered)
+      ∙ any_flat (λ x. is_of id (pos 1) x || is_of id (pos 2) x || is_of id (pos 3) x) moved_rows says.entered
+      ∙ any_same _ (names_identity id) says.entered (entered_names says.entered says.fit)
+      ∙ sym (ap (list_any (names_identity id)) says.kept ∙ list_any-arranged receipt_key (names_identity id) says.entered)

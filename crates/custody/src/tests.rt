@@ -1,0 +1,168 @@
+// A receipt that comes into a new package in memory. The expected rows follow from the columns of the profile.
+ghost use Rattle.std.specs.Prelude.{IsTrue};
+ghost use Rattle.sqlite.specs.Held.{state};
+ghost use Rattle.sql_meaning.specs.Transactions.{Rests};
+
+use crate::{enter, names};
+use package_tables::create::{Info, create};
+use package_tables::fault::Fault;
+use package_tables::moved::moved_of;
+use package_tables::package::begin;
+use package_tables::receipts::receipt_by_request;
+use sheet_types::collections::{MovedList, Text};
+use sheet_types::frame::Frame;
+use sheet_types::receipt::{Moved, MovedKind, Receipt};
+use sqlite::{Alter, Connection};
+use std::alloc::Global;
+use std::test::Fail;
+use uuid::Uuid;
+
+const AT: &str = "2026-11-22T09:00:00.000Z";
+
+fn guarded<S: Alter>(conn: &Connection<S>) -> bool
+    ensures { IsTrue result → Rests (state S.Store conn.now) }
+{
+    conn.is_autocommit()
+}
+
+fn text(alloc: Global, s: &str) -> Result<Text, Fault> {
+    let mut inner = String::new(alloc);
+    inner.push_str(s)?;
+    Ok(Text::from_string(inner))
+}
+
+// The loan of a medium, with its link to a tile.
+fn loan(alloc: Global) -> Result<Receipt, Fault> {
+    let mut things = Vec::new(alloc);
+    things.push(Moved {
+        kind: MovedKind::MediaItem,
+        base: Uuid::from_u128(2),
+        other: None,
+        size: 5,
+        fingerprint: Some([171; 32]),
+    })?;
+    things.push(Moved {
+        kind: MovedKind::TilesMediaLink,
+        base: Uuid::from_u128(3),
+        other: Some(Uuid::from_u128(2)),
+        size: 0,
+        fingerprint: None,
+    })?;
+    Ok(Receipt {
+        seq: 7,
+        request: Uuid::from_u128(9),
+        at: text(alloc, AT)?,
+        line: text(alloc, "the line")?,
+        source: Some(Uuid::from_u128(1)),
+        target: None,
+        items: MovedList::from_vec(things),
+        tiles: 0,
+        media: 1,
+        rows: 0,
+        links: 1,
+        bytes: 5,
+    })
+}
+
+fn made<S: Alter + Drop>(alloc: Global, conn: Connection<S>) -> Result<Connection<S>, Fault> {
+    if !guarded(&conn) {
+        return Err(Fault::StoreFault);
+    }
+    let frame = Frame {
+        srs_id: 25832,
+        min_x: 0,
+        min_y: 0,
+        max_x: 4096,
+        max_y: 4096,
+        tile_width: 256,
+        tile_height: 256,
+        first_zoom: 0,
+        levels: 3,
+        matrix_width: 1,
+        matrix_height: 1,
+    };
+    let info = Info {
+        package: Uuid::from_u128(1),
+        parent: None,
+        depth: 0,
+        loan: 0,
+        created: AT,
+    };
+    Ok(create(alloc, conn, &frame, &info)?.into_connection())
+}
+
+fn entered<S: Alter>(conn: &mut Connection<S>, receipt: &Receipt) -> Result<bool, Fault> {
+    if !conn.is_autocommit() {
+        return Ok(false);
+    }
+    let mut tx = begin(conn);
+    enter(&mut tx, receipt)?;
+    tx.commit()?;
+    Ok(true)
+}
+
+fn is_named<S: Alter>(conn: &mut Connection<S>, identity: u128) -> Result<bool, Fault> {
+    if !guarded(conn) {
+        return Err(Fault::StoreFault);
+    }
+    names(conn, Uuid::from_u128(identity))
+}
+
+fn receipt_row<S: Alter>(alloc: Global, conn: &mut Connection<S>) -> Result<String, Fault> {
+    if !guarded(conn) {
+        return Err(Fault::StoreFault);
+    }
+    let Some(r) = receipt_by_request(conn, "00000000-0000-0000-0000-000000000009")? else {
+        return Err(Fault::StoreFault);
+    };
+    let told = format!(in alloc;
+        "{} {} {} {} {} {}",
+        r.seq,
+        r.line.as_str(),
+        r.source.as_str(),
+        r.target.as_str(),
+        r.n_media,
+        r.n_bytes
+    )?;
+    Ok(told)
+}
+
+fn moved_rows<S: Alter>(alloc: Global, conn: &mut Connection<S>) -> Result<String, Fault> {
+    if !guarded(conn) {
+        return Err(Fault::StoreFault);
+    }
+    let mut told = String::new(alloc);
+    for m in &moved_of(conn, alloc, 7)? {
+        let line = format!(in alloc;
+            "{} {} {} {} {} {}|",
+            m.position,
+            m.kind,
+            m.base.as_str(),
+            m.other.as_str(),
+            m.size,
+            m.fingerprint.as_str()
+        )?;
+        told.push_str(line.as_str())?;
+    }
+    Ok(told)
+}
+
+#[test]
+fn a_receipt_is_entered_and_names_its_items(rt: HostRuntime) -> Result<(), Fail> {
+    let alloc = rt.alloc();
+    let mut conn = made(alloc, Connection::open_in_memory(alloc)?)?;
+    assert!(rt; !is_named(&mut conn, 2)?);
+    let receipt = loan(alloc)?;
+    assert!(rt; entered(&mut conn, &receipt)?);
+    assert_eq!(rt;
+        receipt_row(alloc, &mut conn)?.as_str(),
+        "7 the line 00000000-0000-0000-0000-000000000001  1 5"
+    );
+    assert_eq!(rt;
+        moved_rows(alloc, &mut conn)?.as_str(),
+        "0 2 00000000-0000-0000-0000-000000000002  5 abababababababababababababababababababababababababababababababab|1 4 00000000-0000-0000-0000-000000000003 00000000-0000-0000-0000-000000000002 0 |"
+    );
+    assert!(rt; is_named(&mut conn, 2)?);
+    assert!(rt; !is_named(&mut conn, 3)?);
+    Ok(())
+}

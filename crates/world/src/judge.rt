@@ -1,1 +1,0 @@
-// Why a request is refused.
