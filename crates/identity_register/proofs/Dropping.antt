@@ -65,10 +65,10 @@ item_dropped id row old mid new found dropped f p reads fits =
     let n = row_of_uuid f p (tables_of old) reads.says id fit row there.0 there.1 in
     let says = deletes f p (tables_of old) reads.says n.0 n.1 (subst (λ i. list_any (names_item i) p.links ≡ false) (sym n.3) fits.1) in
     let less : without_item (kind_of n.0.item.content) n.0.number (tables_of old) ≡ tables_of new =
-        sym (same_less (kind_of n.0.item.content) n.0.number (tables_of old))
-        ∙ ap (λ r. without_identity r.kind r.local_id (without_content r.kind r.local_id (tables_of old))) n.2
-        ∙ ap (λ d. without_identity row.kind row.local_id (without_content row.kind row.local_id (tables_of d))) (sym found.0)
-        ∙ sym did.1 in
+    sym (same_less (kind_of n.0.item.content) n.0.number (tables_of old))
+    ∙ ap (λ r. without_identity r.kind r.local_id (without_content r.kind r.local_id (tables_of old))) n.2
+    ∙ ap (λ d. without_identity row.kind row.local_id (without_content row.kind row.local_id (tables_of d))) (sym found.0)
+    ∙ sym did.1 in
     record { formed = did.0; says = subst (Says f (item_deleted id p)) less (subst (λ i. Says f (item_deleted i p) (without_item (kind_of n.0.item.content) n.0.number (tables_of old))) n.3 says) }
 
 -- an item is found and its rows are dropped

@@ -59,9 +59,9 @@ module _ (f : Frame) (p : Package) (t : Tables) (says : Says f p t) where
       let c = end_of f p t says (base_kind l.mapping) l.base hl.0 in
       let d = end_of f p t says (other_kind l.mapping) l.media hl.1 in
       let base : int_eq (number_of says.numbered x.base) (number_of says.numbered l.base) ≡ (unsigned_abs (number_of says.numbered x.base) == unsigned_abs (number_of says.numbered l.base)) =
-        rw (a.4, c.4) (same_number a.0.number c.0.number (in_range a.0 a.1) (in_range c.0 c.1)) in
+      rw (a.4, c.4) (same_number a.0.number c.0.number (in_range a.0 a.1) (in_range c.0 c.1)) in
       let other : int_eq (number_of says.numbered x.media) (number_of says.numbered l.media) ≡ (unsigned_abs (number_of says.numbered x.media) == unsigned_abs (number_of says.numbered l.media)) =
-        rw (b.4, d.4) (same_number b.0.number d.0.number (in_range b.0 b.1) (in_range d.0 d.1)) in
+      rw (b.4, d.4) (same_number b.0.number d.0.number (in_range b.0 b.1) (in_range d.0 d.1)) in
       ap (λ v. (unsigned_abs (number_of says.numbered x.base) == unsigned_abs (number_of says.numbered l.base)) && v) (last (unsigned_abs (number_of says.numbered x.media) == unsigned_abs (number_of says.numbered l.media)))
       ∙ sym (ap (λ v. v && (unsigned_abs (number_of says.numbered x.media) == unsigned_abs (number_of says.numbered l.media))) base)
       ∙ sym (ap (λ v. int_eq (number_of says.numbered x.base) (number_of says.numbered l.base) && v) other)
@@ -103,14 +103,14 @@ module _ (f : Frame) (p : Package) (t : Tables) (says : Says f p t) where
   put_tiles l given after row_is e fits adds =
       let key = tiles_media_shape.key in
       let free : has key (key (mapping_row says.numbered l)) t.tiles_media ≡ false =
-        rw says.tiles_media (list_any-arranged key (λ r. bytes_eq (key r) (key (mapping_row says.numbered l))) (flat_map (λ x. tiles_media_rows says.numbered x x.mapping) says.linked) ∙ no_tiles_media l e fits.ends says.linked says.ends (links_apart l fits.new)) in
+      rw says.tiles_media (list_any-arranged key (λ r. bytes_eq (key r) (key (mapping_row says.numbered l))) (flat_map (λ x. tiles_media_rows says.numbered x x.mapping) says.linked) ∙ no_tiles_media l e fits.ends says.linked says.ends (links_apart l fits.new)) in
       adds (subst (λ r. has key (key r) t.tiles_media ≡ false) (sym row_is) free) ∙ ap (λ r. with_link TilesMedia r t) row_is
 
   put_rows : (l : Relation) (given : MappingRow) (after : Tables) → given ≡ mapping_row says.numbered l → l.mapping ≡ RowsMedia → IsNewLink l p → AddsRowsMedia given t after → after ≡ with_link RowsMedia (mapping_row says.numbered l) t
   put_rows l given after row_is e fits adds =
       let key = rows_media_shape.key in
       let free : has key (key (mapping_row says.numbered l)) t.rows_media ≡ false =
-        rw says.rows_media (list_any-arranged key (λ r. bytes_eq (key r) (key (mapping_row says.numbered l))) (flat_map (λ x. rows_media_rows says.numbered x x.mapping) says.linked) ∙ no_rows_media l e fits.ends says.linked says.ends (links_apart l fits.new)) in
+      rw says.rows_media (list_any-arranged key (λ r. bytes_eq (key r) (key (mapping_row says.numbered l))) (flat_map (λ x. rows_media_rows says.numbered x x.mapping) says.linked) ∙ no_rows_media l e fits.ends says.linked says.ends (links_apart l fits.new)) in
       adds (subst (λ r. has key (key r) t.rows_media ≡ false) (sym row_is) free) ∙ ap (λ r. with_link RowsMedia r t) row_is
 
   -- the tables get the row of the link
@@ -139,9 +139,10 @@ module _ (f : Frame) (p : Package) (t : Tables) (says : Says f p t) where
       let long : length x.base ≡ length l.base = ap length (sym a.3) ∙ uuid_length a.0.item.identity (All-In (λ m. IsUuid m.item.identity) a.0 says.numbered says.numbers.uuids a.1) ∙ sym (uuid_length l.base fits.base) in
       let parts = and_parts (kind_number (link_kind x.mapping) == kind_number (link_kind l.mapping)) (bytes_eq (x.base ++ x.media) (l.base ++ l.media)) some.2 in
       let both = and_parts (bytes_eq x.base l.base) (bytes_eq x.media l.media) (sym (bytes_eq_append x.base x.media l.base l.media long) ∙ parts.1) in
-      let mapping = same_mapping x.mapping l.mapping parts.0 in
-      (subst (λ m. has_kind_at (base_kind m) l.base) mapping (subst (λ b. has_kind_at (base_kind x.mapping) b) ((bytes_eq-Decides x.base l.base).0 both.0) hx.0),
-      subst (λ m. has_kind_at (other_kind m) l.media) mapping (subst (λ b. has_kind_at (other_kind x.mapping) b) ((bytes_eq-Decides x.media l.media).0 both.1) hx.1))
+      let mapping = same_mapping x.mapping l.mapping parts.0 in (
+        subst (λ m. has_kind_at (base_kind m) l.base) mapping (subst (λ b. has_kind_at (base_kind x.mapping) b) ((bytes_eq-Decides x.base l.base).0 both.0) hx.0),
+        subst (λ m. has_kind_at (other_kind m) l.media) mapping (subst (λ b. has_kind_at (other_kind x.mapping) b) ((bytes_eq-Decides x.media l.media).0 both.1) hx.1),
+      )
     where
       has_kind_at : MovedKind → List ℕ → Type 0
       has_kind_at kind id = has_kind p kind id ≡ true

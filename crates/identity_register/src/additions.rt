@@ -21,7 +21,9 @@ use uuid::Uuid;
 
 // The kinds of items as they are stored.
 const TILE: i64 = 1;
+
 const MEDIUM: i64 = 2;
+
 const ROW: i64 = 3;
 
 // The greatest local number of a package (profile).
@@ -39,10 +41,7 @@ fn stored_kind(content: &Content) -> i64
 }
 
 /// The greatest number in the table that a content belongs to.
-fn greatest<S: Alter>(
-    tx: &mut Transaction<'_, S>,
-    content: &Content,
-) -> Result<Option<i64>, Fault>
+fn greatest<S: Alter>(tx: &mut Transaction<'_, S>, content: &Content) -> Result<Option<i64>, Fault>
     ensures same_reference { tx.new.conn.ghost_name ≡ tx.old.conn.ghost_name }
     ensures steps { Steps (Answers (IsGreatestOf (kind_of content.now))) (state S.Store tx.old.conn.now) (state S.Store tx.new.conn.now) result }
 {

@@ -22,14 +22,13 @@ use uuid::Uuid;
 
 // The kinds of items as they are stored.
 const TILE: i64 = 1;
+
 const MEDIUM: i64 = 2;
+
 const ROW: i64 = 3;
 
 /// The row that stands for an item: its kind and local number.
-fn row_of_item<S: Alter>(
-    tx: &mut Transaction<'_, S>,
-    identity: Uuid,
-) -> Result<IdentityRow, Fault>
+fn row_of_item<S: Alter>(tx: &mut Transaction<'_, S>, identity: Uuid) -> Result<IdentityRow, Fault>
     ensures same_reference { tx.new.conn.ghost_name ≡ tx.old.conn.ghost_name }
     ensures steps { Steps (Answers (IsRowOf identity)) (state S.Store tx.old.conn.now) (state S.Store tx.new.conn.now) result }
 {
@@ -40,11 +39,7 @@ fn row_of_item<S: Alter>(
 }
 
 /// Takes out the row of a user table, by its kind and number.
-fn drop_content<S: Alter>(
-    tx: &mut Transaction<'_, S>,
-    kind: i64,
-    number: i64,
-) -> Result<(), Fault>
+fn drop_content<S: Alter>(tx: &mut Transaction<'_, S>, kind: i64, number: i64) -> Result<(), Fault>
     ensures same_reference { tx.new.conn.ghost_name ≡ tx.old.conn.ghost_name }
     ensures steps { Steps (λ _. OnTables (DropsContent kind number)) (state S.Store tx.old.conn.now) (state S.Store tx.new.conn.now) result }
 {
@@ -61,11 +56,7 @@ fn drop_content<S: Alter>(
 }
 
 /// Takes out the row of a user table and its identity.
-fn drop_rows<S: Alter>(
-    tx: &mut Transaction<'_, S>,
-    kind: i64,
-    number: i64,
-) -> Result<(), Fault>
+fn drop_rows<S: Alter>(tx: &mut Transaction<'_, S>, kind: i64, number: i64) -> Result<(), Fault>
     ensures same_reference { tx.new.conn.ghost_name ≡ tx.old.conn.ghost_name }
     ensures steps { Steps (λ _. OnTables (DropsRows kind number)) (state S.Store tx.old.conn.now) (state S.Store tx.new.conn.now) result }
 {

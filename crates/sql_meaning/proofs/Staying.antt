@@ -15,8 +15,8 @@ stays_then {a} {b} {c} first next = record {
   rests = next.rests;
   was_open = λ is_open. first.was_open (next.was_open is_open);
   holds = λ is_open.
-    let late = next.holds is_open in
-    let early = first.holds (next.was_open is_open) in
-    subst (Holds c) early.now_is late;
+      let late = next.holds is_open in
+      let early = first.holds (next.was_open is_open) in
+      subst (Holds c) early.now_is late;
   survives = survives_then _ _ _ _ _ _ (λ _ db none. absurd none) (λ _ db none. absurd none) first.survives next.survives;
 }
