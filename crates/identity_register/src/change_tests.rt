@@ -4,6 +4,7 @@ ghost use Rattle.std.specs.Prelude.{IsTrue};
 ghost use Rattle.sqlite.specs.Held.{state};
 ghost use Rattle.sql_meaning.specs.Transactions.{Rests};
 
+use crate::additions::add;
 use crate::changes::{delete, link, unlink};
 use package_tables::attributes::{all_attributes, insert_attribute};
 use package_tables::fault::Fault;
@@ -12,7 +13,8 @@ use package_tables::mappings::{all_rows_media, all_tiles_media};
 use package_tables::media::{all_media, insert_medium};
 use package_tables::schema::create_schema;
 use package_tables::tiles::{all_tiles, insert_tile};
-use sheet_types::command::{Mapping, Relation};
+use sheet_types::collections::{Bytes, Text};
+use sheet_types::command::{Content, Mapping, Relation};
 use sqlite::{Alter, Connection, Transaction};
 use std::alloc::Global;
 use std::test::Fail;
@@ -119,6 +121,45 @@ fn deleted<S: Alter>(conn: &mut Connection<S>, identity: Uuid) -> Result<bool, F
     delete(&mut tx, identity)?;
     tx.commit()?;
     Ok(true)
+}
+
+fn added<S: Alter>(
+    conn: &mut Connection<S>,
+    identity: Uuid,
+    content: &Content,
+) -> Result<bool, Fault> {
+    if !conn.is_autocommit() {
+        return Ok(false);
+    }
+    let mut tx = conn.transaction();
+    add(&mut tx, identity, content)?;
+    tx.commit()?;
+    Ok(true)
+}
+
+fn a_tile(alloc: Global) -> Result<Content, Fault> {
+    Ok(Content::Tile {
+        zoom: 2,
+        column: 1,
+        row: 3,
+        bytes: Bytes::from_vec(b"webp".to_vec(alloc)?),
+    })
+}
+
+fn a_medium(alloc: Global) -> Result<Content, Fault> {
+    Ok(Content::Media {
+        content_type: Text::from_string("image/png".to_string(alloc)?),
+        bytes: Bytes::from_vec(b"png".to_vec(alloc)?),
+    })
+}
+
+fn a_row(alloc: Global) -> Result<Content, Fault> {
+    Ok(Content::Row {
+        x: 5,
+        y: -6,
+        code: 7,
+        label: Text::from_string("spring".to_string(alloc)?),
+    })
 }
 
 // ---- the tables as texts, on a connection that is at rest
@@ -238,5 +279,24 @@ fn an_item_of_each_kind_is_deleted(rt: HostRuntime) -> Result<(), Fail> {
     assert_eq!(rt; attributes(a, conn)?.as_str(), "");
     assert_eq!(rt; tiles(a, conn)?.as_str(), "9;");
     assert_eq!(rt; identities(a, conn)?.as_str(), "1 9;2 4;");
+    Ok(())
+}
+
+#[test]
+fn an_item_of_each_kind_is_added(rt: HostRuntime) -> Result<(), Fail> {
+    let a = rt.alloc();
+    let mut conn = Connection::open_in_memory(a)?;
+    let conn = &mut conn;
+    assert!(rt; filled(conn)?);
+    assert!(rt; added(conn, Uuid::from_u128(6), &a_tile(a)?)?);
+    assert_eq!(rt; tiles(a, conn)?.as_str(), "7;9;10;");
+    assert!(rt; added(conn, Uuid::from_u128(7), &a_medium(a)?)?);
+    assert_eq!(rt; media(a, conn)?.as_str(), "4;7;8;");
+    assert!(rt; added(conn, Uuid::from_u128(8), &a_row(a)?)?);
+    assert_eq!(rt; attributes(a, conn)?.as_str(), "3;4;");
+    assert_eq!(rt;
+        identities(a, conn)?.as_str(),
+        "1 7;1 9;1 10;2 4;2 7;2 8;3 3;3 4;"
+    );
     Ok(())
 }
