@@ -1,9 +1,10 @@
 -- A number that is free in a kind, and the rows of an item that comes in under it.
-use Rattle.std.proofs.Common.{◌≡◌, ℕ, ℤ, pos, List, [], ◌∷◌, ◌++◌, map, Bool, true, false, Option, Some, None, Result, Ok, refl, sym, ap, subst, ◌∙◌}
-use Rattle.std.specs.Prelude.{◌&&◌, ◌||◌, ◌==◌, bytes_eq, flat_map, unsigned_abs, MatchOption}
+use Rattle.std.proofs.Common.{◌≡◌, ℕ, ℤ, pos, ◌≤ℤ◌, ◌+ℤ◌, arith, FitsSigned, w64, to_z, of_z, to_z-of_z, List, [], ◌∷◌, ◌++◌, map, Bool, true, false, Option, Some, None, Result, Ok, refl, sym, ap, subst, ◌∙◌}
+use Rattle.std.specs.Prelude.{int_le, ◌&&◌, ◌||◌, ◌==◌, bytes_eq, flat_map, unsigned_abs, MatchOption}
 use Rattle.std.specs.List.{AllByRecursion, list_any}
 use Rattle.std.specs.Ordering.{int_eq}
-use Rattle.std.proofs.lemmas.Bool.{true≢false, false≢true}
+use Rattle.std.proofs.lemmas.Bool.{true≢false, false≢true, and_from}
+use Rattle.std.proofs.lemmas.Int.{ints}
 use Rattle.sqlite.specs.Effect.{Database}
 use Rattle.sqlite.specs.State.{State, Survives}
 use Rattle.sql_meaning.specs.Transactions.{Steps}
@@ -26,12 +27,13 @@ use Rattle.sheet_types.specs.declared.command.Item.{Item}
 use Rattle.sheet_types.specs.declared.frame.Frame.{Frame}
 use Rattle.sheet_types.proofs.Every.{All-weaker, All-both, All-map, All-of_map, none_pass, none_any}
 use Rattle.sheet_types.proofs.Order.{list_any-arranged}
-use Rattle.identity_register.specs.Numbering.{Numbered, greatest_number, place_in_tables, identity_row, tile_rows, media_rows, attribute_rows, puts, with_item, IsGap, AddsContent}
+use Rattle.identity_register.specs.Numbering.{Numbered, greatest_number, place_in_tables, identity_row, tile_rows, media_rows, attribute_rows, puts, with_item, IsTaken, IsGap, AddsContent}
 use Rattle.identity_register.specs.Reads.{Reads, Says}
 use Rattle.identity_register.specs.Calls.{Becomes}
 use Rattle.identity_register.specs.Changes.{IsNewItem, item_added}
 use Rattle.identity_register.proofs.Adding.{adds}
 use Rattle.identity_register.proofs.Deleting.{same_row}
+use Rattle.identity_register.proofs.Answering.{one_tells}
 
 -- ---- rows of other numbers
 
@@ -146,18 +148,38 @@ add_steps n {old} {mid} {last} {new} one two makes survives =
 pub content_put : {E : Type 0} (number : ℤ) (a b : Content) {old new : State} {r : Result (Unit {0}) E} → a ≡ b → Makes (AddsContent number b) old new r → Survives old new (λ _. ⊥) → Steps (λ _. OnTables (AddsContent number a)) old new r
 content_put {E} number a b {old} {new} {r} same makes survives = subst (λ k. Steps (λ _. OnTables (AddsContent number k)) old new r) (sym same) (makes_steps (AddsContent number b) makes survives)
 
-none_found : {X : Type 0} (A : Type 0) (B : X → Type 0) (found : Option X) → is_some found ≡ false → MatchOption found A B → A
-none_found A B None e h = h
-none_found A B (Some x) e h = absurd (true≢false e)
+-- ---- numbers from 1 to the greatest, in turn
 
--- no row of a kind has a number that was looked up
-pub gap_steps : {X E F : Type 0} (Q : Tables → X → Type 0) (kind k number : ℤ) (found : Option IdentityRow) {old mid new : State} {x : X} → kind ≡ k → is_within (pos 1) greatest_number number ≡ true → is_some found ≡ false → Steps {E = E} (Answers Q) old mid (Ok x)
-    → Tells {E = F} (λ t. IsOneOf (λ r. int_eq r.kind kind && int_eq r.local_id number) t.identities) mid new (Ok found) → Survives mid new (λ _. ⊥) → Steps {E = F} (Answers (IsGap k)) old new (Ok number)
-gap_steps {X} {E} {F} Q kind k number found {old} {mid} {new} {x} same range none first told survives =
-    subst (λ z. Steps {E = F} (Answers (IsGap z)) old new (Ok number)) same
-    (steps_answer {E = F} (Answers (IsGap kind)) number
-    (λ chain. (chain.2.0 ∙ chain.1.0, λ formed. (range, none_found _ _ found none (subst (λ d. AreFormed d → IsOneOf (λ r. int_eq r.kind kind && int_eq r.local_id number) (tables_of d).identities found) chain.1.0 chain.2.1 formed))))
-    (steps_then first (tells_steps (λ t. IsOneOf (λ r. int_eq r.kind kind && int_eq r.local_id number) t.identities) told survives)))
+pub within_from : (n : ℤ) → pos 1 ≤ℤ n → int_le n greatest_number ≡ true → is_within (pos 1) greatest_number n ≡ true
+within_from n low high = and_from (int_le (pos 1) n) (int_le n greatest_number) (grind (arith, ints)) high
+
+pub next_from : (n : ℤ) → pos 1 ≤ℤ n → int_le n greatest_number ≡ true → pos 1 ≤ℤ to_z w64 (of_z w64 (n +ℤ pos 1))
+next_from n low high = let fits : FitsSigned w64 (n +ℤ pos 1) = omega (arith, ints) in simp (to_z-of_z, fits) (omega (arith, ints))
+
+-- ---- free numbers
+
+-- whether a number is taken, by the row that was looked up
+pub taken_steps : {E : Type 0} (kind number : ℤ) (found : Option IdentityRow) {old new : State} → Tells {E = E} (λ t. IsOneOf (λ r. int_eq r.kind kind && int_eq r.local_id number) t.identities) old new (Ok found) → Survives old new (λ _. ⊥)
+    → Steps {E = E} (Answers (IsTaken kind number)) old new (Ok (is_some found))
+taken_steps {E} kind number found told survives =
+    steps_answer {E = E} {F = E} (Answers (IsTaken kind number)) (is_some found) (λ it. (it.0, λ formed. one_tells (λ r. int_eq r.kind kind && int_eq r.local_id number) _ found (it.1 formed)))
+    (tells_steps (λ t. IsOneOf (λ r. int_eq r.kind kind && int_eq r.local_id number) t.identities) told survives)
+
+-- steps that leave the store as it was, and then an answer
+pub same_then : {X Y E F : Type 0} {First : X → Database → Database → Type 0} (Answer : Tables → Y → Type 0) {old mid new : State} {x : X} {r : Result Y F} → ((a b : Database) → First x a b → b ≡ a) → Steps {E = E} First old mid (Ok x)
+    → Steps {E = F} (Answers Answer) mid new r → Steps {E = F} (Answers Answer) old new r
+same_then {X} {Y} {E} {F} {First} Answer {old} {mid} {new} {x} {r} same one two =
+    steps_weaker {X = Y} {E = F} (Answers Answer)
+    (λ y chain. let e = same old.now chain.0 chain.1 in (chain.2.0 ∙ e, subst (λ d. AreFormed d → Answer (tables_of d) y) e chain.2.1))
+    (steps_then {X = X} {E = E} {First = First} {x = x} one two)
+
+-- a number that is not taken is a gap
+pub gap_steps : {E F : Type 0} (kind number : ℤ) (taken : Bool) {old new : State} → is_within (pos 1) greatest_number number ≡ true → taken ≡ false → Steps {E = E} (Answers (IsTaken kind number)) old new (Ok taken) → Steps {E = F} (Answers (IsGap kind)) old new (Ok number)
+gap_steps {E} {F} kind number taken range none told = steps_answer {E = E} {F = F} (Answers (IsGap kind)) number (λ it. (it.0, λ formed. (range, sym (it.1 formed) ∙ none))) told
+
+-- a gap of a kind, by what its number is
+pub gap_of : {E : Type 0} {kind k : ℤ} {old new : State} {r : Result ℤ E} → kind ≡ k → Steps (Answers (IsGap kind)) old new r → Steps (Answers (IsGap k)) old new r
+gap_of {E} {kind} {k} {old} {new} {r} same gap = subst (λ z. Steps (Answers (IsGap z)) old new r) same gap
 
 -- an identity row, by what its parts are
 pub identity_makes : {E : Type 0} (kind k number : ℤ) (text u : List ℕ) (old new : State) (r : Result (Unit {0}) E) → kind ≡ k → text ≡ u → Makes (AddsIdentity (record { kind = kind; local_id = number; uuid = text })) old new r
