@@ -18,12 +18,13 @@ use Rattle.sheet_types.specs.Lines.{IsUuid}
 use Rattle.sheet_types.specs.declared.receipt.MovedKind.{MovedKind}
 use Rattle.sheet_types.specs.declared.receipt.MovedKind.TheVariants.{TileItem, MediaItem, RowItem, TilesMediaLink, RowsMediaLink}
 use Rattle.sheet_types.specs.declared.frame.Frame.{Frame}
+use Rattle.sheet_types.proofs.Same.{All-In}
 use Rattle.identity_register.specs.Numbering.{Numbered, identity_row, without_item, without_content, without_identity, DropsContent, DropsRows, IsRowOf}
 use Rattle.identity_register.specs.Reads.{Reads, Says}
 use Rattle.identity_register.specs.Calls.{Becomes}
 use Rattle.std.specs.List.{list_any}
 use Rattle.identity_register.specs.Changes.{IsLooseItem, item_deleted, names_item}
-use Rattle.identity_register.proofs.Deleting.{All-In, deletes}
+use Rattle.identity_register.proofs.Deleting.{deletes}
 use Rattle.identity_register.proofs.Finding.{row_of_uuid}
 use Rattle.identity_register.proofs.Linking.{numbered_item}
 

@@ -3,7 +3,7 @@ use Rattle.std.proofs.Common.{◌≡◌, ℕ, ℤ, pos, ◌≤ℤ◌, ◌+ℤ◌
 use Rattle.std.specs.Prelude.{int_le, ◌&&◌, ◌||◌, ◌==◌, bytes_eq, flat_map, unsigned_abs, MatchOption}
 use Rattle.std.specs.List.{AllByRecursion, list_any}
 use Rattle.std.specs.Ordering.{int_eq}
-use Rattle.std.proofs.lemmas.Bool.{true≢false, false≢true, and_from}
+use Rattle.std.proofs.lemmas.Bool.{and_from, or_from}
 use Rattle.std.proofs.lemmas.Int.{ints}
 use Rattle.sqlite.specs.Effect.{Database}
 use Rattle.sqlite.specs.State.{State, Survives}
@@ -25,7 +25,7 @@ use Rattle.sheet_types.specs.declared.command.Content.{Content}
 use Rattle.sheet_types.specs.declared.command.Content.TheVariants.{Tile, Media, Row}
 use Rattle.sheet_types.specs.declared.command.Item.{Item}
 use Rattle.sheet_types.specs.declared.frame.Frame.{Frame}
-use Rattle.sheet_types.proofs.Every.{All-weaker, All-both, All-map, All-of_map, none_pass, none_any}
+use Rattle.sheet_types.proofs.Every.{All-weaker, All-both, All-map, All-of_map, All-each, none_pass, none_any}
 use Rattle.sheet_types.proofs.Order.{list_any-arranged}
 use Rattle.identity_register.specs.Numbering.{Numbered, greatest_number, place_in_tables, identity_row, tile_rows, media_rows, attribute_rows, puts, with_item, IsTaken, IsGap, AddsContent}
 use Rattle.identity_register.specs.Reads.{Reads, Says}
@@ -33,25 +33,13 @@ use Rattle.identity_register.specs.Calls.{Becomes}
 use Rattle.identity_register.specs.Changes.{IsNewItem, item_added}
 use Rattle.identity_register.proofs.Adding.{adds}
 use Rattle.identity_register.proofs.Deleting.{same_row}
-use Rattle.identity_register.proofs.Answering.{one_tells}
+use Rattle.identity_register.proofs.Answering.{one_tells, any_flat_map}
 
 -- ---- rows of other numbers
 
-either_none : (a b : Bool) → a ≡ false → b ≡ false → (a || b) ≡ false
-either_none true b h g = absurd (true≢false h)
-either_none false b h g = g
-
-any-append : {X : Type 0} (q : X → Bool) (xs ys : List X) → list_any q xs ≡ false → list_any q ys ≡ false → list_any q (xs ++ ys) ≡ false
-any-append q [] ys h g = g
-any-append q (x ∷ xs) ys h g = one (q x) refl h (λ k. any-append q xs ys k g)
-  where
-    one : (a : Bool) → q x ≡ a → (a || list_any q xs) ≡ false → (list_any q xs ≡ false → list_any q (xs ++ ys) ≡ false) → (q x || list_any q (xs ++ ys)) ≡ false
-    one true e k rest = absurd (true≢false k)
-    one false e k rest = either_none (q x) _ e (rest k)
-
-any-flat_map : {X Y : Type 0} (q : Y → Bool) (f : X → List Y) (xs : List X) → AllByRecursion (λ x. list_any q (f x) ≡ false) xs → list_any q (flat_map f xs) ≡ false
-any-flat_map q f [] h = refl
-any-flat_map q f (x ∷ xs) h = any-append q (f x) (flat_map f xs) h.0 (any-flat_map q f xs h.1)
+-- no row passes where none of any element does
+no_rows : {X Y : Type 0} (q : Y → Bool) (f : X → List Y) (xs : List X) → AllByRecursion (λ x. list_any q (f x) ≡ false) xs → list_any q (flat_map f xs) ≡ false
+no_rows q f xs h = any_flat_map f q (λ x. false) xs h ∙ none_any (λ x. false) xs (All-each _ (λ x. refl) xs)
 
 -- a place that is not one under a number of a kind
 abbrev IsApart : ℕ → ℤ → Numbered → Type 0
@@ -61,7 +49,7 @@ tile_apart : (number : ℤ) (m : Numbered) → IsApart 1 number m → list_any (
 tile_apart number m h = at m.item.content h
   where
     at : (c : Content) → bytes_eq (kind_number (kind_of c) ∷ unsigned_abs m.number ∷ []) (1 ∷ unsigned_abs number ∷ []) ≡ false → list_any (λ r. bytes_eq (tile_shape.key r) (unsigned_abs number ∷ [])) (tile_rows m.number c) ≡ false
-    at (Tile zoom column row bytes) k = either_none _ false k refl
+    at (Tile zoom column row bytes) k = or_from _ false k refl
     at (Media content_type bytes) k = refl
     at (Row x y code label) k = refl
 
@@ -70,7 +58,7 @@ medium_apart number m h = at m.item.content h
   where
     at : (c : Content) → bytes_eq (kind_number (kind_of c) ∷ unsigned_abs m.number ∷ []) (2 ∷ unsigned_abs number ∷ []) ≡ false → list_any (λ r. bytes_eq (medium_shape.key r) (unsigned_abs number ∷ [])) (media_rows m.number c) ≡ false
     at (Tile zoom column row bytes) k = refl
-    at (Media content_type bytes) k = either_none _ false k refl
+    at (Media content_type bytes) k = or_from _ false k refl
     at (Row x y code label) k = refl
 
 attribute_apart : (number : ℤ) (m : Numbered) → IsApart 3 number m → list_any (λ r. bytes_eq (attribute_shape.key r) (unsigned_abs number ∷ [])) (attribute_rows m.number m.item.content) ≡ false
@@ -79,7 +67,7 @@ attribute_apart number m h = at m.item.content h
     at : (c : Content) → bytes_eq (kind_number (kind_of c) ∷ unsigned_abs m.number ∷ []) (3 ∷ unsigned_abs number ∷ []) ≡ false → list_any (λ r. bytes_eq (attribute_shape.key r) (unsigned_abs number ∷ [])) (attribute_rows m.number c) ≡ false
     at (Tile zoom column row bytes) k = refl
     at (Media content_type bytes) k = refl
-    at (Row x y code label) k = either_none _ false k refl
+    at (Row x y code label) k = or_from _ false k refl
 
 -- ---- an item under a number that no identity row has
 
@@ -109,11 +97,11 @@ module _ (f : Frame) (p : Package) (t : Tables) (says : Says f p t) where
   -- the row of the content is new, and so it comes in
   content_in : (number : ℤ) (c : Content) (u : Tables) → AreApart (kind_number (kind_of c)) number → AddsContent number c t u → u ≡ with_content number c
   content_in number (Tile zoom column row bytes) u apart adds =
-      adds (rw says.tiles (list_any-arranged tile_shape.key (λ r. bytes_eq (tile_shape.key r) (unsigned_abs number ∷ [])) _ ∙ any-flat_map _ (λ m. tile_rows m.number m.item.content) says.numbered (All-weaker _ _ (tile_apart number) says.numbered apart)))
+      adds (rw says.tiles (list_any-arranged tile_shape.key (λ r. bytes_eq (tile_shape.key r) (unsigned_abs number ∷ [])) _ ∙ no_rows _ (λ m. tile_rows m.number m.item.content) says.numbered (All-weaker _ _ (tile_apart number) says.numbered apart)))
   content_in number (Media content_type bytes) u apart adds =
-      adds (rw says.media (list_any-arranged medium_shape.key (λ r. bytes_eq (medium_shape.key r) (unsigned_abs number ∷ [])) _ ∙ any-flat_map _ (λ m. media_rows m.number m.item.content) says.numbered (All-weaker _ _ (medium_apart number) says.numbered apart)))
+      adds (rw says.media (list_any-arranged medium_shape.key (λ r. bytes_eq (medium_shape.key r) (unsigned_abs number ∷ [])) _ ∙ no_rows _ (λ m. media_rows m.number m.item.content) says.numbered (All-weaker _ _ (medium_apart number) says.numbered apart)))
   content_in number (Row x y code label) u apart adds =
-      adds (rw says.rows (list_any-arranged attribute_shape.key (λ r. bytes_eq (attribute_shape.key r) (unsigned_abs number ∷ [])) _ ∙ any-flat_map _ (λ m. attribute_rows m.number m.item.content) says.numbered (All-weaker _ _ (attribute_apart number) says.numbered apart)))
+      adds (rw says.rows (list_any-arranged attribute_shape.key (λ r. bytes_eq (attribute_shape.key r) (unsigned_abs number ∷ [])) _ ∙ no_rows _ (λ m. attribute_rows m.number m.item.content) says.numbered (All-weaker _ _ (attribute_apart number) says.numbered apart)))
 
   -- and then its identity
   both_in : (n : Numbered) (u v : Tables) → AreApart (kind_number (kind_of n.item.content)) n.number → AddsContent n.number n.item.content t u → AddsIdentity (identity_row n) u v → with_item n t ≡ v
