@@ -1,31 +1,26 @@
 -- An item that is added under a free number and a new identity.
-use Rattle.std.proofs.Common.{◌≡◌, ℕ, ℤ, pos, List, [], ◌∷◌, ◌++◌, map, Bool, true, false, cond, Some, None, refl, sym, ap, subst, ◌∙◌}
-use Rattle.std.specs.Prelude.{not, ◌&&◌, ◌||◌, ◌==◌, find, bytes_eq, flat_map, unsigned_abs}
+use Rattle.std.proofs.Common.{◌≡◌, ℕ, pos, List, [], ◌∷◌, ◌++◌, map, Bool, true, false, refl, sym, ap, subst, ◌∙◌}
+use Rattle.std.specs.Prelude.{◌||◌, ◌==◌, bytes_eq, flat_map}
 use Rattle.std.specs.List.{AllByRecursion, IsDistinct, list_any}
-use Rattle.std.specs.Option.{option_map_or}
 use Rattle.std.proofs.lemmas.Bool.{true≢false, and_parts}
 use Rattle.std.proofs.lemmas.Slice.Eq.{bytes_eq-Decides}
 use Rattle.sheet_types.specs.Ordered.{arranged, put, has}
 use Rattle.sheet_types.specs.Matrix.{is_within}
-use Rattle.sheet_types.specs.Texts.{uuid_text, kind_of}
-use Rattle.sheet_types.specs.World.{Package, item_key, link_key, kind_number, has_kind, base_kind, other_kind, has_item}
+use Rattle.sheet_types.specs.Texts.{kind_of}
+use Rattle.sheet_types.specs.World.{Package, item_key, kind_number, base_kind, other_kind, has_item}
 use Rattle.sheet_types.specs.Register.{HasEnds}
 use Rattle.sheet_types.specs.Lines.{IsUuid}
-use Rattle.sheet_types.specs.declared.command.Content.{Content}
-use Rattle.sheet_types.specs.declared.command.Content.TheVariants.{Tile, Media, Row}
 use Rattle.sheet_types.specs.declared.command.Item.{Item}
 use Rattle.sheet_types.specs.declared.command.Mapping.{Mapping}
 use Rattle.sheet_types.specs.declared.command.Mapping.TheVariants.{TilesMedia, RowsMedia}
 use Rattle.sheet_types.specs.declared.command.Relation.{Relation}
 use Rattle.sheet_types.specs.declared.frame.Frame.{Frame}
-use Rattle.sheet_types.proofs.Every.{All-weaker, All-both, All-of_map, All-map, none_pass}
+use Rattle.sheet_types.proofs.Every.{All-weaker, All-of_map, All-map, none_pass}
 use Rattle.sheet_types.proofs.Order.{list_any-put, list_any-arranged}
 use Rattle.sheet_types.proofs.Basics.{bytes_eq_swap, or-true}
 use Rattle.package_tables.specs.Shapes.{tile_shape, medium_shape, attribute_shape, identity_shape, tiles_media_shape, rows_media_shape}
 use Rattle.package_tables.specs.Package.{Tables}
-use Rattle.package_tables.specs.declared.rows.IdentityRow.{IdentityRow}
-use Rattle.package_tables.specs.declared.rows.MappingRow.{MappingRow}
-use Rattle.identity_register.specs.Numbering.{Numbered, IsNumbering, greatest_number, place_in_tables, tile_rows, media_rows, attribute_rows, identity_row, number_of, mapping_row, tiles_media_rows, rows_media_rows, puts, with_item}
+use Rattle.identity_register.specs.Numbering.{Numbered, greatest_number, place_in_tables, tile_rows, media_rows, attribute_rows, identity_row, number_of, mapping_row, tiles_media_rows, rows_media_rows, puts, with_item}
 use Rattle.identity_register.specs.Reads.{Says}
 use Rattle.identity_register.proofs.Deleting.{flat_map_same}
 

@@ -1,18 +1,15 @@
 -- From a row that a table has to the item or link that it stands for.
-use Rattle.std.proofs.Common.{◌≡◌, ℕ, ℤ, pos, List, [], ◌∷◌, ◌++◌, map, Bool, true, false, cond, Some, None, refl, sym, ap, subst, ◌∙◌, inl, inr}
-use Rattle.std.specs.Prelude.{◌⊎◌, not, ◌&&◌, ◌||◌, ◌==◌, find, bytes_eq, flat_map, Contains, All, MatchOption, Option, unsigned_abs, ◌≤ℤ◌}
-use Rattle.std.specs.List.{AllByRecursion, IsDistinct, list_any}
-use Rattle.std.specs.Ordering.{int_eq}
+use Rattle.std.proofs.Common.{◌≡◌, ℕ, List, [], ◌∷◌, ◌++◌, map, Bool, true, false, refl, sym, ap, subst, ◌∙◌, inl, inr}
+use Rattle.std.specs.Prelude.{◌⊎◌, bytes_eq, flat_map, Contains, All}
+use Rattle.std.specs.List.{list_any}
 use Rattle.std.proofs.lemmas.Bool.{true≢false, or_parts}
-use Rattle.std.proofs.lemmas.List.Elements.{All-from_recursion, recursion_from_All}
+use Rattle.std.proofs.lemmas.List.Elements.{All-from_recursion}
 use Rattle.std.proofs.lemmas.Slice.Eq.{bytes_eq-Decides}
-use Rattle.sheet_types.specs.Ordered.{arranged, put}
-use Rattle.sheet_types.specs.Texts.{uuid_text, kind_of}
-use Rattle.sheet_types.specs.World.{Package, item_key, kind_number, kind_is, item_of, has_item}
+use Rattle.sheet_types.specs.Ordered.{arranged}
+use Rattle.sheet_types.specs.Texts.{uuid_text}
+use Rattle.sheet_types.specs.World.{Package, item_key, has_item}
 use Rattle.sheet_types.specs.Lines.{IsUuid, uuid_in}
-use Rattle.sheet_types.specs.declared.command.Item.{Item}
 use Rattle.sheet_types.specs.declared.frame.Frame.{Frame}
-use Rattle.sheet_types.proofs.Every.{All-weaker, All-map, none_pass}
 use Rattle.sheet_types.proofs.Order.{All-arranged, list_any-arranged}
 use Rattle.sheet_types.proofs.Same.{In, In-all, In-of_map, All-In}
 use Rattle.sheet_types.proofs.LineReading.{uuid_back}

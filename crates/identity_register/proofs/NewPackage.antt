@@ -1,7 +1,6 @@
 -- The tables of a package with nothing in it read as that package.
-use Rattle.std.proofs.Common.{◌≡◌, ℕ, List, [], Bool, true, Option, IsTrue, refl, sym, subst}
+use Rattle.std.proofs.Common.{◌≡◌, ℕ, List, [], true, Option, IsTrue, refl, sym, subst}
 use Rattle.std.specs.List.{IsDistinct}
-use Rattle.sqlite.specs.Tree.{Trees}
 use Rattle.sqlite.specs.Effect.{Database}
 use Rattle.sqlite.specs.State.{State}
 use Rattle.sql_meaning.specs.Transactions.{Holds}

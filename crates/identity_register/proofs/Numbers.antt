@@ -1,6 +1,6 @@
 -- A number that is free in a kind, and the rows of an item that comes in under it.
-use Rattle.std.proofs.Common.{◌≡◌, ℕ, ℤ, pos, ◌≤ℤ◌, ◌+ℤ◌, arith, FitsSigned, w64, to_z, of_z, to_z-of_z, List, [], ◌∷◌, ◌++◌, map, Bool, true, false, Option, Some, None, Result, Ok, refl, sym, ap, subst, ◌∙◌}
-use Rattle.std.specs.Prelude.{int_le, ◌&&◌, ◌||◌, ◌==◌, bytes_eq, flat_map, unsigned_abs, MatchOption}
+use Rattle.std.proofs.Common.{◌≡◌, ℕ, ℤ, pos, ◌≤ℤ◌, ◌+ℤ◌, arith, FitsSigned, w64, to_z, of_z, to_z-of_z, List, [], ◌∷◌, map, Bool, true, false, Option, Result, Ok, refl, sym, ap, subst, ◌∙◌}
+use Rattle.std.specs.Prelude.{int_le, ◌&&◌, bytes_eq, flat_map, unsigned_abs}
 use Rattle.std.specs.List.{AllByRecursion, list_any}
 use Rattle.std.specs.Ordering.{int_eq}
 use Rattle.std.proofs.lemmas.Bool.{and_from, or_from}
@@ -8,7 +8,6 @@ use Rattle.std.proofs.lemmas.Int.{ints}
 use Rattle.sqlite.specs.Effect.{Database}
 use Rattle.sqlite.specs.State.{State, Survives}
 use Rattle.sql_meaning.specs.Transactions.{Steps}
-use Rattle.sql_meaning.specs.Writing.{Chained}
 use Rattle.sql_meaning.proofs.Transactions.{steps_then, steps_weaker, steps_answer}
 use Rattle.package_tables.specs.Package.{Tables, tables_of, AreFormed}
 use Rattle.package_tables.specs.Shapes.{tile_shape, medium_shape, attribute_shape, identity_shape}
@@ -17,18 +16,17 @@ use Rattle.std.specs.Option.{is_some}
 use Rattle.package_tables.specs.declared.rows.IdentityRow.{IdentityRow}
 use Rattle.package_tables.specs.Changes.{AddsIdentity}
 use Rattle.package_tables.proofs.Stepping.{makes_steps, tells_steps}
-use Rattle.sheet_types.specs.Ordered.{arranged, put, has}
+use Rattle.sheet_types.specs.Ordered.{put, has}
 use Rattle.sheet_types.specs.Matrix.{is_within}
 use Rattle.sheet_types.specs.Texts.{kind_of}
 use Rattle.sheet_types.specs.World.{Package, kind_number}
 use Rattle.sheet_types.specs.declared.command.Content.{Content}
 use Rattle.sheet_types.specs.declared.command.Content.TheVariants.{Tile, Media, Row}
-use Rattle.sheet_types.specs.declared.command.Item.{Item}
 use Rattle.sheet_types.specs.declared.frame.Frame.{Frame}
 use Rattle.sheet_types.proofs.Every.{All-weaker, All-both, All-map, All-of_map, All-each, none_pass, none_any}
 use Rattle.sheet_types.proofs.Order.{list_any-arranged}
 use Rattle.identity_register.specs.Numbering.{Numbered, greatest_number, place_in_tables, identity_row, tile_rows, media_rows, attribute_rows, puts, with_item, IsTaken, IsGap, AddsContent}
-use Rattle.identity_register.specs.Reads.{Reads, Says}
+use Rattle.identity_register.specs.Reads.{Says}
 use Rattle.identity_register.specs.Calls.{Becomes}
 use Rattle.identity_register.specs.Changes.{IsNewItem, item_added}
 use Rattle.identity_register.proofs.Adding.{adds}

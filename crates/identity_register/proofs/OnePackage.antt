@@ -1,11 +1,11 @@
 -- The tables read as at most one package.
-use Rattle.std.proofs.Common.{◌≡◌, ℕ, zero, suc, ◌+◌, ◌*◌, ◌≤◌, ◌<◌, ℤ, pos, List, [], ◌∷◌, ◌++◌, map, Bool, true, false, cond, Option, Some, None, refl, sym, ap, subst, ◌∙◌, inl, inr, length, arith}
-use Rattle.std.specs.Prelude.{◌⊎◌, ◌==◌, ◌&&◌, ◌||◌, bytes_eq, flat_map, unsigned_abs, Contains, nat_lt}
-use Rattle.std.specs.List.{AllByRecursion, IsDistinct, list_any, list_all, enumerate_from}
+use Rattle.std.proofs.Common.{◌≡◌, ℕ, zero, suc, ◌+◌, ◌*◌, ◌≤◌, ◌<◌, pos, List, [], ◌∷◌, ◌++◌, map, Bool, true, false, cond, Option, Some, None, refl, sym, ap, subst, ◌∙◌, inl, inr, length, arith}
+use Rattle.std.specs.Prelude.{◌⊎◌, ◌==◌, ◌&&◌, bytes_eq, flat_map, unsigned_abs, Contains, nat_lt}
+use Rattle.std.specs.List.{AllByRecursion, IsDistinct, list_all, enumerate_from}
 use Rattle.std.specs.Ordering.{int_eq}
 use Rattle.std.specs.Option.{option_map_or}
 use Rattle.std.specs.Result.{result_unwrap_or}
-use Rattle.std.proofs.lemmas.Bool.{and_parts, and_from, true≢false, false≢true}
+use Rattle.std.proofs.lemmas.Bool.{and_parts, and_from, true≢false}
 use Rattle.std.proofs.lemmas.Slice.Eq.{bytes_eq-Decides}
 use borrow.Author.Tests.{eqb-true, eq-eqb}
 use Rattle.hex.specs.Hex.{encode_lower, IsBytes, lower_digits}
@@ -19,8 +19,6 @@ use Rattle.sheet_types.specs.Register.{HasEnds}
 use Rattle.sheet_types.specs.declared.command.Content.{Content}
 use Rattle.sheet_types.specs.declared.command.Content.TheVariants.{Tile, Media, Row}
 use Rattle.sheet_types.specs.declared.command.Item.{Item}
-use Rattle.sheet_types.specs.declared.command.Mapping.{Mapping}
-use Rattle.sheet_types.specs.declared.command.Mapping.TheVariants.{TilesMedia, RowsMedia}
 use Rattle.sheet_types.specs.declared.command.Relation.{Relation}
 use Rattle.sheet_types.specs.declared.frame.Frame.{Frame}
 use Rattle.sheet_types.specs.declared.receipt.Moved.{Moved}
@@ -30,7 +28,7 @@ use Rattle.sheet_types.proofs.Found.{found, All-found}
 use Rattle.sheet_types.proofs.Basics.{bytes_eq_itself, bytes_eq_swap}
 use Rattle.sheet_types.proofs.Every.{All-weaker, All-of_map, All-map}
 use Rattle.sheet_types.proofs.LineReading.{uuid_length, small_bytes}
-use Rattle.sheet_types.proofs.Order.{put_arranged, All-arranged, list_any-arranged}
+use Rattle.sheet_types.proofs.Order.{put_arranged, All-arranged}
 use Rattle.sheet_types.proofs.Same.{In, In-all, In-map, In-of_map, In-flat_map, All-In, Contains-In, any_in, same_list}
 use Rattle.sql_meaning.proofs.Schemas.{sound_alone}
 use Rattle.package_tables.specs.Package.{Tables, tables_of}
@@ -38,7 +36,6 @@ use Rattle.package_tables.specs.Shapes.{tile_shape, medium_shape, attribute_shap
 use Rattle.package_tables.specs.declared.rows.AttributeRow.{AttributeRow}
 use Rattle.package_tables.specs.declared.rows.MediaRow.{MediaRow}
 use Rattle.package_tables.specs.declared.rows.TileRow.{TileRow}
-use Rattle.package_tables.specs.declared.rows.IdentityRow.{IdentityRow}
 use Rattle.package_tables.specs.declared.rows.MovedRow.{MovedRow}
 use Rattle.package_tables.specs.declared.rows.ReceiptRow.{ReceiptRow}
 use Rattle.identity_register.specs.Answers.{IsContentOf, are_ends}
@@ -51,7 +48,7 @@ use Rattle.identity_register.proofs.Deleting.{pos_same}
 use Rattle.identity_register.proofs.Ends.{link_by_rows}
 use Rattle.identity_register.proofs.OneFrame.{one_frame}
 use Rattle.identity_register.proofs.Linking.{same_mapping, end_of, bytes_eq_append}
-use Rattle.identity_register.proofs.Finding.{contained, in_arranged, in_flat_map, same_uuid}
+use Rattle.identity_register.proofs.Finding.{in_arranged, in_flat_map, same_uuid}
 
 -- ---- arranged lists
 

@@ -1,5 +1,5 @@
 -- How the rows of a package's tables stand for items under lasting identities. Items are rows of user data tables (OGC GeoPackage 1.3, 2.2.8 and 2.4.2; OGC 18-000, media), links rows of user-defined mapping tables (OGC 18-000); local numbers and `sheet_identity` are profile.
-use Rattle.std.specs.Prelude.{◌≡◌, ℕ, ℤ, pos, Bool, true, false, not, Contains, Option, Some, None, ◌+ℤ◌, ◌&&◌, if◌then◌else◌, List, [], ◌∷◌, map, filter, find, bytes_eq, flat_map, unsigned_abs}
+use Rattle.std.specs.Prelude.{◌≡◌, ℕ, ℤ, pos, Bool, true, false, not, Contains, Option, Some, None, ◌+ℤ◌, ◌&&◌, if◌then◌else◌, List, [], ◌∷◌, map, filter, find, bytes_eq, unsigned_abs}
 use Rattle.std.specs.Ordering.{int_eq}
 use Rattle.std.specs.List.{AllByRecursion, IsDistinct, list_any}
 use Rattle.std.specs.Option.{option_map_or}

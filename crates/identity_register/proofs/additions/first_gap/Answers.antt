@@ -1,11 +1,9 @@
-use Rattle.std.proofs.Common.{◌≡◌, ℤ, ◌∙◌, pos, true, refl, sym, rules, arith, Err, to_z-of_z, FitsSigned, w64, to_z}
+use Rattle.std.proofs.Common.{◌≡◌, ℤ, ◌∙◌, pos, true, refl, arith, to_z-of_z, w64, to_z}
 use Rattle.std.proofs.lemmas.Int.{ints}
-use Rattle.sqlite.specs.Held.{state}
 use Rattle.sheet_types.specs.Matrix.{is_within}
-use Rattle.sql_meaning.proofs.Transactions.{steps_none, steps_answer, steps_failed}
+use Rattle.sql_meaning.proofs.Transactions.{steps_none, steps_answer}
 use Rattle.package_tables.specs.declared.fault.Fault.{Fault}
-use Rattle.package_tables.specs.declared.fault.Fault.TheVariants.{StoreFault}
-use Rattle.identity_register.specs.Numbering.{IsTaken, IsGap, greatest_number}
+use Rattle.identity_register.specs.Numbering.{IsTaken, greatest_number}
 use Rattle.identity_register.proofs.Numbers.{within_from, next_from, same_then, gap_steps}
 use Rattle.identity_register.proofs.additions.first_gap.Goals as goal
 

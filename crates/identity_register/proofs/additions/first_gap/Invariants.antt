@@ -1,4 +1,4 @@
-use Rattle.std.proofs.Common.{◌≡◌, ◌≤ℤ◌, pos, to_z, w64, Ok}
+use Rattle.std.proofs.Common.{◌≡◌, ◌≤ℤ◌, pos, Ok}
 use Rattle.sqlite.specs.Held.{state}
 use Rattle.sql_meaning.specs.Transactions.{Steps}
 use Rattle.package_tables.specs.declared.fault.Fault.{Fault}

@@ -1,7 +1,4 @@
-use Rattle.std.proofs.Common.{◌≡◌, rules, pos, Result, refl, sym, subst, to_z-of_z, FitsSigned, w64}
-use Rattle.sqlite.specs.State.{State}
-use Rattle.sheet_types.specs.Texts.{kind_of}
-use Rattle.sheet_types.specs.World.{kind_number}
+use Rattle.std.proofs.Common.{rules, to_z-of_z, FitsSigned, w64}
 use Rattle.sql_meaning.proofs.Transactions.{steps_then, steps_failed}
 use Rattle.identity_register.specs.Numbering.{IsTaken, IsGap}
 use Rattle.identity_register.proofs.Numbers.{same_then, gap_steps, gap_of}

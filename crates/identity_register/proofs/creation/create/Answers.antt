@@ -1,4 +1,3 @@
-use Rattle.sqlite.specs.Held.{state}
 use Rattle.identity_register.proofs.NewPackage.{new_keeps}
 use Rattle.identity_register.proofs.creation.create.Goals as goal
 
