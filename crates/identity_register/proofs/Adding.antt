@@ -1,32 +1,28 @@
 -- An item that is added under a free number and a new identity.
-use Rattle.std.proofs.Common.{◌≡◌, ℕ, ℤ, pos, List, [], ◌∷◌, ◌++◌, map, Bool, true, false, cond, Some, None, refl, sym, ap, subst, ◌∙◌}
-use Rattle.std.specs.Prelude.{not, ◌&&◌, ◌||◌, ◌==◌, find, bytes_eq, flat_map, unsigned_abs}
+use Rattle.std.proofs.Common.{◌≡◌, ℕ, pos, List, [], ◌∷◌, ◌++◌, map, Bool, true, false, refl, sym, ap, subst, ◌∙◌}
+use Rattle.std.specs.Prelude.{◌||◌, ◌==◌, bytes_eq, flat_map}
 use Rattle.std.specs.List.{AllByRecursion, IsDistinct, list_any}
-use Rattle.std.specs.Option.{option_map_or}
-use Rattle.std.proofs.lemmas.Bool.{true≢false, false≢true}
+use Rattle.std.proofs.lemmas.Bool.{true≢false, and_parts}
 use Rattle.std.proofs.lemmas.Slice.Eq.{bytes_eq-Decides}
 use Rattle.sheet_types.specs.Ordered.{arranged, put, has}
 use Rattle.sheet_types.specs.Matrix.{is_within}
-use Rattle.sheet_types.specs.Texts.{uuid_text, kind_of}
-use Rattle.sheet_types.specs.World.{Package, item_key, link_key, kind_number, has_kind, base_kind, other_kind, has_item}
+use Rattle.sheet_types.specs.Texts.{kind_of}
+use Rattle.sheet_types.specs.World.{Package, item_key, kind_number, base_kind, other_kind, has_item}
 use Rattle.sheet_types.specs.Register.{HasEnds}
 use Rattle.sheet_types.specs.Lines.{IsUuid}
-use Rattle.sheet_types.specs.declared.command.Content.{Content}
-use Rattle.sheet_types.specs.declared.command.Content.TheVariants.{Tile, Media, Row}
 use Rattle.sheet_types.specs.declared.command.Item.{Item}
 use Rattle.sheet_types.specs.declared.command.Mapping.{Mapping}
 use Rattle.sheet_types.specs.declared.command.Mapping.TheVariants.{TilesMedia, RowsMedia}
 use Rattle.sheet_types.specs.declared.command.Relation.{Relation}
 use Rattle.sheet_types.specs.declared.frame.Frame.{Frame}
-use Rattle.sheet_types.proofs.Every.{All-weaker, All-both, All-of_map, All-map, none_pass}
+use Rattle.sheet_types.proofs.Every.{All-weaker, All-of_map, All-map, none_pass}
 use Rattle.sheet_types.proofs.Order.{list_any-put, list_any-arranged}
 use Rattle.sheet_types.proofs.Basics.{bytes_eq_swap, or-true}
 use Rattle.package_tables.specs.Shapes.{tile_shape, medium_shape, attribute_shape, identity_shape, tiles_media_shape, rows_media_shape}
 use Rattle.package_tables.specs.Package.{Tables}
-use Rattle.package_tables.specs.declared.rows.IdentityRow.{IdentityRow}
-use Rattle.package_tables.specs.declared.rows.MappingRow.{MappingRow}
-use Rattle.identity_register.specs.Numbering.{Numbered, IsNumbering, greatest_number, place_in_tables, tile_rows, media_rows, attribute_rows, identity_row, number_of, mapping_row, tiles_media_rows, rows_media_rows, puts, with_item}
+use Rattle.identity_register.specs.Numbering.{Numbered, greatest_number, place_in_tables, tile_rows, media_rows, attribute_rows, identity_row, number_of, mapping_row, tiles_media_rows, rows_media_rows, puts, with_item}
 use Rattle.identity_register.specs.Reads.{Says}
+use Rattle.identity_register.proofs.Deleting.{flat_map_same}
 
 -- ---- who has an identity
 
@@ -39,13 +35,9 @@ weaker_any p q f (x ∷ xs) h = one (p x) (q x) refl refl h (weaker_any p q f xs
     one true false e g h rest = absurd (true≢false (sym (f x e) ∙ g))
     one false false e g h rest = rw e (rest h)
 
-and_second : (a b : Bool) → (a && b) ≡ true → b ≡ true
-and_second true b h = h
-and_second false b h = absurd (false≢true h)
-
 -- what has a kind and an identity has the identity
 item_from_kind : (kind : ℕ) (id : List ℕ) (i : Item) → bytes_eq (item_key i) (kind ∷ id) ≡ true → bytes_eq i.identity id ≡ true
-item_from_kind kind id i h = and_second (kind_number (kind_of i.content) == kind) (bytes_eq i.identity id) h
+item_from_kind kind id i h = (and_parts (kind_number (kind_of i.content) == kind) (bytes_eq i.identity id) h).1
 
 -- an identity that no item has is the end of no link
 pub other_end : (p : Package) (kind : ℕ) (new id : List ℕ) → has_item p new ≡ false → has item_key (kind ∷ id) p.items ≡ true → bytes_eq new id ≡ false
@@ -66,10 +58,6 @@ other_end p kind new id fresh there = one (bytes_eq new id) refl
 arranged-puts : {X : Type 0} (key : X → List ℕ) (new xs : List X) → arranged key (new ++ xs) ≡ puts key new (arranged key xs)
 arranged-puts key [] xs = refl
 arranged-puts key (x ∷ new) xs = ap (put key x) (arranged-puts key new xs)
-
-flat_map_same : {X Y : Type 0} (f g : X → List Y) (xs : List X) → AllByRecursion (λ x. f x ≡ g x) xs → flat_map f xs ≡ flat_map g xs
-flat_map_same f g [] h = refl
-flat_map_same f g (x ∷ xs) h = rw (h.0, flat_map_same f g xs h.1) refl
 
 module _ (p : Package) (n : Numbered) (fresh : has_item p n.item.identity ≡ false) where
   -- numbers of identities that were there stay
@@ -112,7 +100,8 @@ item_identities id numbered h =
     All-of_map (λ i. bytes_eq i.identity id ≡ false) (λ n. n.item) numbered
     (none_pass (λ i. bytes_eq i.identity id) (map (λ n. n.item) numbered) (sym (list_any-arranged item_key (λ i. bytes_eq i.identity id) (map (λ n. n.item) numbered)) ∙ h))
 
-turned : {X : Type 0} (f : X → List ℕ) (k : List ℕ) (xs : List X) → AllByRecursion (λ x. bytes_eq (f x) k ≡ false) xs → AllByRecursion (λ y. bytes_eq k y ≡ false) (map f xs)
+-- a key that none has is none of the keys
+pub turned : {X : Type 0} (f : X → List ℕ) (k : List ℕ) (xs : List X) → AllByRecursion (λ x. bytes_eq (f x) k ≡ false) xs → AllByRecursion (λ y. bytes_eq k y ≡ false) (map f xs)
 turned f k xs h = All-map (λ y. bytes_eq k y ≡ false) f xs (All-weaker _ _ (λ x e. bytes_eq_swap k (f x) ∙ e) xs h)
 
 -- one item more, under a number that is free in its kind

@@ -1,16 +1,14 @@
 -- What an answer of the tables says of the package that they are read as.
-use Rattle.std.proofs.Common.{◌≡◌, ℕ, ℤ, pos, List, [], ◌∷◌, ◌++◌, map, Bool, true, false, cond, Option, Some, None, refl, sym, ap, subst, ◌∙◌, inl, inr, arith}
-use Rattle.std.specs.Prelude.{◌⊎◌, not, ◌&&◌, ◌||◌, ◌==◌, find, bytes_eq, flat_map, Contains, MatchOption, option_map, unsigned_abs, is_some}
-use Rattle.std.specs.List.{AllByRecursion, IsDistinct, list_any}
+use Rattle.std.proofs.Common.{◌≡◌, ℕ, ℤ, pos, List, [], ◌∷◌, ◌++◌, map, Bool, true, false, Option, Some, None, refl, sym, ap, subst, ◌∙◌, arith}
+use Rattle.std.specs.Prelude.{◌&&◌, ◌||◌, find, bytes_eq, flat_map, Contains, option_map, unsigned_abs, is_some}
+use Rattle.std.specs.List.{AllByRecursion, list_any}
 use Rattle.std.specs.Ordering.{int_eq}
 use Rattle.std.proofs.lemmas.Int.{ints}
-use Rattle.std.proofs.lemmas.Bool.{true≢false, false≢true}
 use Rattle.std.proofs.lemmas.Slice.Eq.{bytes_eq-Decides}
-use Rattle.sheet_types.specs.Ordered.{arranged}
 use Rattle.sheet_types.specs.Matrix.{is_within}
 use Rattle.sheet_types.specs.Refuse.{is_at}
 use Rattle.sheet_types.specs.Texts.{uuid_text, kind_of}
-use Rattle.sheet_types.specs.World.{Package, item_key, kind_number, item_of, has_item}
+use Rattle.sheet_types.specs.World.{Package, item_key, kind_number, item_of}
 use Rattle.sheet_types.specs.Lines.{IsUuid}
 use Rattle.sheet_types.specs.declared.command.Content.{Content}
 use Rattle.sheet_types.specs.declared.command.Content.TheVariants.{Tile, Media, Row}
@@ -22,7 +20,7 @@ use Rattle.sheet_types.proofs.Basics.{bytes_eq_itself, or-false}
 use Rattle.sheet_types.proofs.Every.{All-each}
 use Rattle.sheet_types.proofs.Found.{found, not_found, All-found}
 use Rattle.sheet_types.proofs.Order.{All-arranged, list_any-arranged}
-use Rattle.sheet_types.proofs.Same.{In, In-all, In-map, All-In, any_in}
+use Rattle.sheet_types.proofs.Same.{In, In-all, In-map, In-of_map, All-In, any_in}
 use Rattle.package_tables.specs.Calls.{IsOneOf}
 use Rattle.package_tables.specs.Package.{Tables}
 use Rattle.package_tables.specs.Shapes.{tile_shape}
@@ -30,7 +28,7 @@ use Rattle.package_tables.specs.declared.rows.TileRow.{TileRow}
 use Rattle.package_tables.specs.declared.rows.IdentityRow.{IdentityRow}
 use Rattle.identity_register.specs.Numbering.{Numbered, identity_row, tile_rows}
 use Rattle.identity_register.specs.Reads.{Says}
-use Rattle.identity_register.proofs.Finding.{row_numbered, same_uuid, no_row_of_uuid, contained, in_map}
+use Rattle.identity_register.proofs.Finding.{row_numbered, same_uuid, no_row_of_uuid, contained}
 use Rattle.identity_register.proofs.Linking.{find_itself}
 
 -- a kind is known by its number
@@ -122,7 +120,7 @@ module _ (f : Frame) (p : Package) (t : Tables) (says : Says f p t) where
       let it = found q p.items any in
       let all : AllByRecursion (λ x. In x items) p.items = subst (AllByRecursion (λ x. In x items)) (sym says.items) (All-arranged item_key (λ x. In x items) items (In-all items)) in
       let here = All-found (λ x. In x items) q it.0 p.items it.1 all in
-      let m = in_map (λ y. y.item) it.0 says.numbered here.0 in
+      let m = In-of_map (λ y. y.item) it.0 says.numbered here.0 in
       let same : m.0.item.identity ≡ n.item.identity = ap (λ x. x.identity) m.2 ∙ (bytes_eq-Decides it.0.identity n.item.identity).0 here.1 in
       let one : m.0 ≡ n = same_item m.0 n m.1 i same in
       it.1 ∙ ap Some (sym m.2 ∙ ap (λ y. y.item) one)

@@ -1,10 +1,9 @@
 -- An item that is taken out, with the rows of its number.
-use Rattle.std.proofs.Common.{◌≡◌, ℕ, ℤ, pos, negsuc, List, [], ◌∷◌, ◌++◌, map, Bool, true, false, cond, Some, None, refl, sym, ap, subst, ◌∙◌, inl, inr, Less, Equal, Greater, Ordering, arith}
-use Rattle.std.specs.Prelude.{not, ◌&&◌, ◌||◌, ◌==◌, if◌then◌else◌, filter, find, bytes_eq, flat_map, unsigned_abs, ◌⊎◌}
+use Rattle.std.proofs.Common.{◌≡◌, ℕ, ℤ, pos, negsuc, List, [], ◌∷◌, ◌++◌, map, Bool, true, false, cond, refl, sym, ap, subst, ◌∙◌, inl, inr, arith}
+use Rattle.std.specs.Prelude.{not, ◌&&◌, ◌||◌, ◌==◌, if◌then◌else◌, filter, find, bytes_eq, flat_map, unsigned_abs}
 use Rattle.std.specs.List.{AllByRecursion, IsDistinct, list_any}
 use Rattle.std.specs.Ordering.{int_eq}
-use Rattle.std.specs.Cmp.{signed_Decides}
-use Rattle.std.proofs.lemmas.Bool.{true≢false, false≢true}
+use Rattle.std.proofs.lemmas.Bool.{true≢false, false≢true, and_parts, or_parts}
 use borrow.Author.Tests.{eqb-true, eq-eqb}
 use Rattle.std.proofs.lemmas.Slice.Eq.{bytes_eq-Decides}
 use Rattle.sheet_types.specs.Ordered.{arranged, without, is_among}
@@ -25,11 +24,11 @@ use Rattle.sheet_types.proofs.Every.{All-weaker, All-both, All-each, All-of_map,
 use Rattle.sheet_types.proofs.Order.{list_any-arranged}
 use Rattle.sheet_types.proofs.Arranging.{filter-arranged}
 use Rattle.sheet_types.proofs.Found.{any_filter}
-use Rattle.sheet_types.proofs.Same.{In}
-use Rattle.sheet_types.proofs.Basics.{bytes_eq_itself, bytes_eq_swap}
+use Rattle.sheet_types.proofs.Same.{In, All-In}
+use Rattle.sheet_types.proofs.Basics.{bytes_eq_itself, bytes_eq_swap, or-false}
 use Rattle.package_tables.specs.Shapes.{tile_shape, medium_shape, attribute_shape, identity_shape, tiles_media_shape, rows_media_shape}
 use Rattle.package_tables.specs.Package.{Tables}
-use Rattle.identity_register.specs.Numbering.{Numbered, IsNumbering, greatest_number, place_in_tables, tile_rows, media_rows, attribute_rows, identity_row, number_of, mapping_row, tiles_media_rows, rows_media_rows, without_item}
+use Rattle.identity_register.specs.Numbering.{Numbered, greatest_number, place_in_tables, tile_rows, media_rows, attribute_rows, identity_row, number_of, mapping_row, tiles_media_rows, rows_media_rows, without_item}
 use Rattle.identity_register.specs.Reads.{Says}
 
 -- ---- lists
@@ -108,6 +107,11 @@ same_tests {X} f g n (x ∷ xs) hf hg i = elim i [
     apart' [] h j = absurd j
     apart' (y ∷ ys) h j = elim j [ inl e ↦ subst (λ z. bytes_eq (g x) (g z) ≡ false) e h.0 | inr k ↦ apart' ys h.1 k ]
 
+-- a test and nothing more
+pub and-true : (b : Bool) → (b && true) ≡ b
+and-true true = refl
+and-true false = refl
+
 -- numbers from 1 on are one where their absolute values are
 pub same_number : (a b : ℤ) → is_within (pos 1) greatest_number a ≡ true → is_within (pos 1) greatest_number b ≡ true → int_eq a b ≡ (unsigned_abs a == unsigned_abs b)
 same_number (pos a) (pos b) h g = grind (arith)
@@ -159,10 +163,6 @@ attributes_of_kind = record { mine = mine; others = others }
     others number (Tile zoom column row bytes) h = refl
     others number (Media content_type bytes) h = refl
     others number (Row x y code label) h = absurd (true≢false h)
-
-and_true : (a b : Bool) → (a && b) ≡ true → (a ≡ true) × (b ≡ true)
-and_true true b h = (refl, h)
-and_true false b h = absurd (false≢true h)
 
 kinds_same : (k : MovedKind) (a b : MovedKind) → (kind_number a == kind_number b) ≡ true → kind_is k b ≡ kind_is k a
 kinds_same k a b h = ap (λ n. kind_number k == n) (sym (eqb-true (kind_number a) (kind_number b) h))
@@ -218,7 +218,7 @@ module _ {R : Type 0} (kind : MovedKind) (rows : ℤ → Content → List R) (id
       one false e = refl
       one true e =
           let place : bytes_eq (place_in_tables m) (place_in_tables n) ≡ true = same ∙ named (bytes_eq m.item.identity n.item.identity) gone in
-          let kind_same = (and_true (kind_number (kind_of m.item.content) == kind_number (kind_of n.item.content)) _ place).0 in
+          let kind_same = (and_parts (kind_number (kind_of m.item.content) == kind_number (kind_of n.item.content)) _ place).0 in
           absurd (true≢false (sym e ∙ sym (kinds_same kind (kind_of m.item.content) (kind_of n.item.content) kind_same) ∙ elsewhere))
 
   pub rows_less : (table : List R) → table ≡ arranged key (flat_map rows_of_item ns)
@@ -240,26 +240,14 @@ pub same_row : (m n : Numbered) → is_within (pos 1) greatest_number m.number �
     → (int_eq (identity_row m).kind (identity_row n).kind && int_eq m.number n.number) ≡ bytes_eq (place_in_tables m) (place_in_tables n)
 same_row m n a b =
     ap (λ x. x && int_eq m.number n.number) (pos_same (kind_number (kind_of m.item.content)) (kind_number (kind_of n.item.content)))
-    ∙ ap (λ x. (kind_number (kind_of m.item.content) == kind_number (kind_of n.item.content)) && x) (same_number m.number n.number a b ∙ sym (last (unsigned_abs m.number == unsigned_abs n.number)))
-  where
-    last : (x : Bool) → (x && true) ≡ x
-    last true = refl
-    last false = refl
-
--- what holds of all holds of an element
-pub All-In : {X : Type 0} (P : X → Type 0) (x : X) (xs : List X) → AllByRecursion P xs → In x xs → P x
-All-In P x [] h i = absurd i
-All-In P x (y ∷ ys) h i = elim i [ inl e ↦ subst P e h.0 | inr j ↦ All-In P x ys h.1 j ]
+    ∙ ap (λ x. (kind_number (kind_of m.item.content) == kind_number (kind_of n.item.content)) && x) (same_number m.number n.number a b ∙ sym (and-true (unsigned_abs m.number == unsigned_abs n.number)))
 
 -- what names neither end
 abbrev pub names : List ℕ → Relation → Bool
 names id l = bytes_eq l.base id || bytes_eq l.media id
 
-either_false : (a b : Bool) → (a || b) ≡ false → (a ≡ false) × (b ≡ false)
-either_false true b h = absurd (true≢false h)
-either_false false b h = (refl, h)
-
-flat_map_same : {X Y : Type 0} (f g : X → List Y) (xs : List X) → AllByRecursion (λ x. f x ≡ g x) xs → flat_map f xs ≡ flat_map g xs
+-- the same rows of each element
+pub flat_map_same : {X Y : Type 0} (f g : X → List Y) (xs : List X) → AllByRecursion (λ x. f x ≡ g x) xs → flat_map f xs ≡ flat_map g xs
 flat_map_same f g [] h = refl
 flat_map_same f g (x ∷ xs) h = rw (h.0, flat_map_same f g xs h.1) refl
 
@@ -272,11 +260,7 @@ module _ (p : Package) (n : Numbered) where
 
   -- the test by which a package loses an item
   gone_test : (i : Item) → not (is_among (id ∷ []) i.identity) ≡ not (bytes_eq i.identity id)
-  gone_test i = ap not (last (bytes_eq id i.identity) ∙ bytes_eq_swap id i.identity)
-    where
-      last : (x : Bool) → (x || false) ≡ x
-      last true = refl
-      last false = refl
+  gone_test i = ap not (or-false (bytes_eq id i.identity) ∙ bytes_eq_swap id i.identity)
 
   apart : (a : List ℕ) → bytes_eq a id ≡ false → (m : Numbered) → bytes_eq m.item.identity a ≡ true → kept m ≡ true
   apart a other m same = ap not (ap (λ x. bytes_eq x id) ((bytes_eq-Decides m.item.identity a).0 same) ∙ other)
@@ -290,7 +274,7 @@ module _ (p : Package) (n : Numbered) where
 
   row_left : (ns : List Numbered) (l : Relation) → names id l ≡ false → mapping_row (filter kept ns) l ≡ mapping_row ns l
   row_left ns l free =
-      let both = either_false (bytes_eq l.base id) (bytes_eq l.media id) free in
+      let both = or_parts (bytes_eq l.base id) (bytes_eq l.media id) free in
       rw (number_left ns l.base both.0, number_left ns l.media both.1) refl
 
   tiles_media_left : (ns : List Numbered) (l : Relation) (m : Mapping) → names id l ≡ false → tiles_media_rows (filter kept ns) l m ≡ tiles_media_rows ns l m
@@ -305,11 +289,11 @@ module _ (p : Package) (n : Numbered) where
   less_items = without (λ i. i.identity) (id ∷ []) p.items
 
   still_has : (kind : ℕ) (a : List ℕ) → bytes_eq a id ≡ false → list_any (λ i. bytes_eq (item_key i) (kind ∷ a)) p.items ≡ true → list_any (λ i. bytes_eq (item_key i) (kind ∷ a)) less_items ≡ true
-  still_has kind a other there = any_filter (λ i. bytes_eq (item_key i) (kind ∷ a)) (λ i. not (is_among (id ∷ []) i.identity)) p.items (λ i h. gone_test i ∙ ap not (ap (λ x. bytes_eq x id) ((bytes_eq-Decides i.identity a).0 (and_true (kind_number (kind_of i.content) == kind) (bytes_eq i.identity a) h).1) ∙ other)) there
+  still_has kind a other there = any_filter (λ i. bytes_eq (item_key i) (kind ∷ a)) (λ i. not (is_among (id ∷ []) i.identity)) p.items (λ i h. gone_test i ∙ ap not (ap (λ x. bytes_eq x id) ((bytes_eq-Decides i.identity a).0 (and_parts (kind_number (kind_of i.content) == kind) (bytes_eq i.identity a) h).1) ∙ other)) there
 
   ends_left : (l : Relation) → names id l ≡ false → HasEnds p l → HasEnds (record p { items = without (λ i. i.identity) (id ∷ []) p.items }) l
   ends_left l free h =
-      let both = either_false (bytes_eq l.base id) (bytes_eq l.media id) free in
+      let both = or_parts (bytes_eq l.base id) (bytes_eq l.media id) free in
       (still_has (kind_number (base_kind l.mapping)) l.base both.0 h.0, still_has (kind_number (other_kind l.mapping)) l.media both.1 h.1)
 
 -- one item less, of which no link speaks

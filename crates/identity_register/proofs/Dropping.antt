@@ -1,11 +1,10 @@
 -- The steps that take an item out, as one change of the package.
-use Rattle.std.proofs.Common.{◌≡◌, ℕ, ℤ, pos, List, [], ◌∷◌, Bool, true, false, Result, Ok, refl, sym, ap, subst, ◌∙◌, FitsSigned, w64, to_z, of_z, to_z-of_z}
+use Rattle.std.proofs.Common.{◌≡◌, ℕ, ℤ, pos, List, false, Result, Ok, refl, sym, ap, subst, ◌∙◌, FitsSigned, w64, to_z, of_z, to_z-of_z}
 use Rattle.std.specs.Prelude.{bytes_eq}
 use Rattle.std.proofs.lemmas.Slice.Eq.{bytes_eq-Decides}
 use Rattle.sqlite.specs.Effect.{Database}
 use Rattle.sqlite.specs.State.{State, Survives}
 use Rattle.sql_meaning.specs.Transactions.{Steps}
-use Rattle.sql_meaning.specs.Writing.{Chained}
 use Rattle.sql_meaning.proofs.Transactions.{steps_then, steps_weaker}
 use Rattle.package_tables.specs.Package.{Tables, tables_of, AreFormed}
 use Rattle.package_tables.specs.Calls.{Makes, Answers, OnTables}
@@ -13,17 +12,17 @@ use Rattle.package_tables.specs.Changes.{DropsIdentity}
 use Rattle.package_tables.specs.declared.rows.IdentityRow.{IdentityRow}
 use Rattle.package_tables.proofs.Stepping.{makes_steps}
 use Rattle.sheet_types.specs.Texts.{kind_of}
-use Rattle.sheet_types.specs.World.{Package, kind_number}
+use Rattle.sheet_types.specs.World.{kind_number}
 use Rattle.sheet_types.specs.Lines.{IsUuid}
 use Rattle.sheet_types.specs.declared.receipt.MovedKind.{MovedKind}
 use Rattle.sheet_types.specs.declared.receipt.MovedKind.TheVariants.{TileItem, MediaItem, RowItem, TilesMediaLink, RowsMediaLink}
-use Rattle.sheet_types.specs.declared.frame.Frame.{Frame}
-use Rattle.identity_register.specs.Numbering.{Numbered, identity_row, without_item, without_content, without_identity, DropsContent, DropsRows, IsRowOf}
-use Rattle.identity_register.specs.Reads.{Reads, Says}
+use Rattle.sheet_types.proofs.Same.{All-In}
+use Rattle.identity_register.specs.Numbering.{without_item, without_content, without_identity, DropsContent, DropsRows, IsRowOf}
+use Rattle.identity_register.specs.Reads.{Says}
 use Rattle.identity_register.specs.Calls.{Becomes}
 use Rattle.std.specs.List.{list_any}
 use Rattle.identity_register.specs.Changes.{IsLooseItem, item_deleted, names_item}
-use Rattle.identity_register.proofs.Deleting.{All-In, deletes}
+use Rattle.identity_register.proofs.Deleting.{deletes}
 use Rattle.identity_register.proofs.Finding.{row_of_uuid}
 use Rattle.identity_register.proofs.Linking.{numbered_item}
 

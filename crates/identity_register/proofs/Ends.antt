@@ -1,15 +1,15 @@
 -- What the rows of the mapping tables say of the links of a package.
-use Rattle.std.proofs.Common.{◌≡◌, ℕ, ℤ, pos, List, [], ◌∷◌, ◌++◌, map, Bool, true, false, cond, Option, Some, None, refl, sym, ap, subst, ◌∙◌, inl, inr, length, arith}
-use Rattle.std.specs.Prelude.{◌⊎◌, not, ◌&&◌, ◌||◌, ◌==◌, if◌then◌else◌, find, bytes_eq, flat_map, unsigned_abs, Contains}
-use Rattle.std.specs.List.{AllByRecursion, IsDistinct, list_any}
+use Rattle.std.proofs.Common.{◌≡◌, ℕ, pos, List, [], ◌∷◌, ◌++◌, map, Bool, true, false, refl, sym, ap, subst, ◌∙◌, length}
+use Rattle.std.specs.Prelude.{◌&&◌, ◌||◌, ◌==◌, bytes_eq, flat_map, unsigned_abs, Contains}
+use Rattle.std.specs.List.{AllByRecursion, list_any}
 use Rattle.std.specs.Ordering.{int_eq}
-use Rattle.std.proofs.lemmas.Bool.{true≢false, false≢true}
+use Rattle.std.proofs.lemmas.Bool.{true≢false, and_parts, and_from}
 use Rattle.std.proofs.lemmas.Slice.Eq.{bytes_eq-Decides}
-use borrow.Author.Tests.{eqb-true, eq-eqb}
-use Rattle.sheet_types.specs.Ordered.{arranged, has}
+use borrow.Author.Tests.{eqb-true}
+use Rattle.sheet_types.specs.Ordered.{has}
 use Rattle.sheet_types.specs.Matrix.{is_within}
 use Rattle.sheet_types.specs.Texts.{uuid_text, kind_of}
-use Rattle.sheet_types.specs.World.{Package, item_key, link_key, link_kind, kind_number, base_kind, other_kind, item_of, has_item}
+use Rattle.sheet_types.specs.World.{Package, item_key, link_key, link_kind, kind_number, base_kind, other_kind, has_item}
 use Rattle.sheet_types.specs.Lines.{IsUuid}
 use Rattle.sheet_types.specs.Register.{HasEnds}
 use Rattle.sheet_types.specs.declared.command.Content.{Content}
@@ -21,10 +21,10 @@ use Rattle.sheet_types.specs.declared.command.Relation.{Relation}
 use Rattle.sheet_types.specs.declared.frame.Frame.{Frame}
 use Rattle.sheet_types.specs.declared.receipt.MovedKind.{MovedKind}
 use Rattle.sheet_types.specs.declared.receipt.MovedKind.TheVariants.{TileItem, MediaItem, RowItem}
-use Rattle.sheet_types.proofs.Every.{All-weaker, All-both, All-each, none_any}
+use Rattle.sheet_types.proofs.Every.{All-weaker, All-each, none_any}
 use Rattle.sheet_types.proofs.Basics.{bytes_eq_itself, bytes_eq_swap, or-false}
-use Rattle.sheet_types.proofs.Order.{All-arranged, list_any-arranged}
-use Rattle.sheet_types.proofs.Same.{In, In-all, In-map, All-In, any_in}
+use Rattle.sheet_types.proofs.Order.{list_any-arranged}
+use Rattle.sheet_types.proofs.Same.{In, In-map, All-In, any_in}
 use Rattle.sheet_types.proofs.LineReading.{uuid_length}
 use Rattle.package_tables.specs.Package.{Tables}
 use Rattle.package_tables.specs.Shapes.{tiles_media_shape, rows_media_shape}
@@ -34,8 +34,8 @@ use Rattle.identity_register.specs.Changes.{names_item}
 use Rattle.identity_register.specs.Answers.{is_linked_row, mapping_rows, are_ends}
 use Rattle.identity_register.specs.Numbering.{Numbered, greatest_number, place_in_tables, identity_row, number_of, mapping_row, tiles_media_rows, rows_media_rows, is_pair}
 use Rattle.identity_register.specs.Reads.{Says}
-use Rattle.identity_register.proofs.Deleting.{same_tests, same_number, pos_same}
-use Rattle.identity_register.proofs.Linking.{end_of, number_is, pair_same, one_passes, bytes_eq_append}
+use Rattle.identity_register.proofs.Deleting.{and-true, same_tests, same_number, pos_same}
+use Rattle.identity_register.proofs.Linking.{same_mapping, end_of, number_is, pair_same, one_passes, bytes_eq_append}
 use Rattle.identity_register.proofs.Adding.{other_end}
 use Rattle.identity_register.proofs.Answering.{any_flat_map, item_of_row}
 use Rattle.identity_register.proofs.Finding.{no_row_of_uuid}
@@ -49,10 +49,6 @@ or_then r false b h e = absurd (true≢false (sym h ∙ e))
 pub or_else : (r s a b : Bool) → r ≡ false → r ≡ a → s ≡ b → s ≡ (a || b)
 or_else r s true b h e g = absurd (true≢false (sym e ∙ h))
 or_else r s false b h e g = g
-
-and_true : (a b : Bool) → (a && b) ≡ true → (a ≡ true) × (b ≡ true)
-and_true true b h = (refl, h)
-and_true false b h = absurd (false≢true h)
 
 or_both : (a b c d : Bool) → (a || b) || (c || d) ≡ ((a || c) || (b || d))
 or_both true b c d = refl
@@ -85,13 +81,9 @@ module _ (f : Frame) (p : Package) (t : Tables) (says : Says f p t) where
       let k : ℕ = kind_number (kind_of n.item.content) in
       ap (λ x. (x == k) && int_eq (number_of says.numbered id) n.number) (sym m.2)
       ∙ ap (λ x. (kind_number (kind_of m.0.item.content) == k) && int_eq x n.number) m.4
-      ∙ ap (λ b. (kind_number (kind_of m.0.item.content) == k) && b) (same_number m.0.number n.number (in_range m.0 m.1) (in_range n i) ∙ sym (last (unsigned_abs m.0.number == unsigned_abs n.number)))
+      ∙ ap (λ b. (kind_number (kind_of m.0.item.content) == k) && b) (same_number m.0.number n.number (in_range m.0 m.1) (in_range n i) ∙ sym (and-true (unsigned_abs m.0.number == unsigned_abs n.number)))
       ∙ All-In (λ y. bytes_eq (place_in_tables y) (place_in_tables n) ≡ bytes_eq y.item.identity n.item.identity) m.0 says.numbered (same_tests place_in_tables (λ y. y.item.identity) n says.numbered says.numbers.numbers says.numbers.identities i) m.1
       ∙ ap (λ x. bytes_eq x n.item.identity) m.3
-    where
-      last : (x : Bool) → (x && true) ≡ x
-      last true = refl
-      last false = refl
 
   -- what the rows of a mapping table tell of the links
   tiles_media_tell : (q : MappingRow → Bool) (test : Relation → Bool) → AllByRecursion (λ x. list_any q (tiles_media_rows says.numbered x x.mapping) ≡ test x) says.linked → list_any q t.tiles_media ≡ list_any test says.linked
@@ -185,22 +177,16 @@ module _ (f : Frame) (p : Package) (t : Tables) (says : Says f p t) where
 
   -- ---- one link
 
-  same_mapping : (a b : Mapping) → (kind_number (link_kind a) == kind_number (link_kind b)) ≡ true → a ≡ b
-  same_mapping TilesMedia TilesMedia e = refl
-  same_mapping TilesMedia RowsMedia e = cc
-  same_mapping RowsMedia TilesMedia e = cc
-  same_mapping RowsMedia RowsMedia e = refl
-
   -- a link that the package has, by its key, has its ends there
   pub ends_there : (l : Relation) → IsUuid l.base → has link_key (link_key l) p.links ≡ true → HasEnds p l
   ends_there l fit h =
       let it = one_passes (λ x. bytes_eq (link_key x) (link_key l)) says.linked (of_links (λ x. bytes_eq (link_key x) (link_key l)) ∙ h) in
       let x = it.0 in
       let ends : HasEnds p x = All-In (HasEnds p) x says.linked says.ends it.1 in
-      let key = and_true (kind_number (link_kind x.mapping) == kind_number (link_kind l.mapping)) (bytes_eq (x.base ++ x.media) (l.base ++ l.media)) it.2 in
+      let key = and_parts (kind_number (link_kind x.mapping) == kind_number (link_kind l.mapping)) (bytes_eq (x.base ++ x.media) (l.base ++ l.media)) it.2 in
       let base = end_of f p t says (base_kind x.mapping) x.base ends.0 in
       let long : length x.base ≡ length l.base = ap length (sym base.3) ∙ uuid_length base.0.item.identity (All-In (λ y. IsUuid y.item.identity) base.0 says.numbered says.numbers.uuids base.1) ∙ sym (uuid_length l.base fit) in
-      let parts = and_true (bytes_eq x.base l.base) (bytes_eq x.media l.media) (sym (bytes_eq_append x.base x.media l.base l.media long) ∙ key.1) in
+      let parts = and_parts (bytes_eq x.base l.base) (bytes_eq x.media l.media) (sym (bytes_eq_append x.base x.media l.base l.media long) ∙ key.1) in
       let mapping : x.mapping ≡ l.mapping = same_mapping x.mapping l.mapping key.0 in
       let base_is : x.base ≡ l.base = (bytes_eq-Decides x.base l.base).0 parts.0 in
       let media_is : x.media ≡ l.media = (bytes_eq-Decides x.media l.media).0 parts.1 in (
@@ -227,7 +213,7 @@ module _ (f : Frame) (p : Package) (t : Tables) (says : Says f p t) where
 
   -- the kind of an end, by its row
   kind_there : (n : Numbered) → In n says.numbered → (kind : MovedKind) → has item_key (kind_number kind ∷ n.item.identity) p.items ≡ true → (kind_number kind == kind_number (kind_of n.item.content)) ≡ true
-  kind_there n i kind h = (and_true (kind_number kind == kind_number (kind_of n.item.content)) (int_eq (number_of says.numbered n.item.identity) n.number) (end_is n i kind n.item.identity h ∙ bytes_eq_itself n.item.identity)).0
+  kind_there n i kind h = (and_parts (kind_number kind == kind_number (kind_of n.item.content)) (int_eq (number_of says.numbered n.item.identity) n.number) (end_is n i kind n.item.identity h ∙ bytes_eq_itself n.item.identity)).0
 
   there_of_kind : (n : Numbered) → In n says.numbered → (kind : MovedKind) → kind_number (kind_of n.item.content) ≡ kind_number kind → has item_key (kind_number kind ∷ n.item.identity) p.items ≡ true
   there_of_kind n i kind e =
@@ -237,16 +223,13 @@ module _ (f : Frame) (p : Package) (t : Tables) (says : Says f p t) where
 
   module _ (l : Relation) (n m : Numbered) (base_in : In n says.numbered) (other_in : In m says.numbered) (base_named : n.item.identity ≡ l.base) (other_named : m.item.identity ≡ l.media) where
     wrong_ends : IsUuid l.base → are_ends l.mapping (identity_row n).kind (identity_row m).kind ≡ false → has link_key (link_key l) p.links ≡ false
-    wrong_ends fit wrong = no_link_unless l fit (λ ends. true≢false (sym (both
+    wrong_ends fit wrong = no_link_unless l fit (λ ends. true≢false (sym (and_from _ _
         (pos_same _ _ ∙ kind_there n base_in (base_kind l.mapping) (rw base_named ends.0))
         (pos_same _ _ ∙ kind_there m other_in (other_kind l.mapping) (rw other_named ends.1))) ∙ wrong))
-      where
-        both : {a b : Bool} → a ≡ true → b ≡ true → (a && b) ≡ true
-        both e g = rw (e, g) refl
 
     right_ends : are_ends l.mapping (identity_row n).kind (identity_row m).kind ≡ true → HasEnds p l
     right_ends right =
-        let parts = and_true (int_eq (pos (kind_number (base_kind l.mapping))) (identity_row n).kind) (int_eq (pos (kind_number (other_kind l.mapping))) (identity_row m).kind) right in (
+        let parts = and_parts (int_eq (pos (kind_number (base_kind l.mapping))) (identity_row n).kind) (int_eq (pos (kind_number (other_kind l.mapping))) (identity_row m).kind) right in (
           rw (sym base_named) (there_of_kind n base_in (base_kind l.mapping) (sym (eqb-true _ _ (sym (pos_same _ _) ∙ parts.0)))),
           rw (sym other_named) (there_of_kind m other_in (other_kind l.mapping) (sym (eqb-true _ _ (sym (pos_same _ _) ∙ parts.1)))),
         )

@@ -1,20 +1,17 @@
 -- From a row that a table has to the item or link that it stands for.
-use Rattle.std.proofs.Common.{◌≡◌, ℕ, ℤ, pos, List, [], ◌∷◌, ◌++◌, map, Bool, true, false, cond, Some, None, refl, sym, ap, subst, ◌∙◌, inl, inr}
-use Rattle.std.specs.Prelude.{◌⊎◌, not, ◌&&◌, ◌||◌, ◌==◌, find, bytes_eq, flat_map, Contains, All, MatchOption, Option, unsigned_abs, ◌≤ℤ◌}
-use Rattle.std.specs.List.{AllByRecursion, IsDistinct, list_any}
-use Rattle.std.specs.Ordering.{int_eq}
-use Rattle.std.proofs.lemmas.Bool.{true≢false, false≢true}
-use Rattle.std.proofs.lemmas.List.Elements.{All-from_recursion, recursion_from_All}
+use Rattle.std.proofs.Common.{◌≡◌, ℕ, List, [], ◌∷◌, ◌++◌, map, Bool, true, false, refl, sym, ap, subst, ◌∙◌, inl, inr}
+use Rattle.std.specs.Prelude.{◌⊎◌, bytes_eq, flat_map, Contains, All}
+use Rattle.std.specs.List.{list_any}
+use Rattle.std.proofs.lemmas.Bool.{true≢false, or_parts}
+use Rattle.std.proofs.lemmas.List.Elements.{All-from_recursion}
 use Rattle.std.proofs.lemmas.Slice.Eq.{bytes_eq-Decides}
-use Rattle.sheet_types.specs.Ordered.{arranged, put}
-use Rattle.sheet_types.specs.Texts.{uuid_text, kind_of}
-use Rattle.sheet_types.specs.World.{Package, item_key, kind_number, kind_is, item_of, has_item}
+use Rattle.sheet_types.specs.Ordered.{arranged}
+use Rattle.sheet_types.specs.Texts.{uuid_text}
+use Rattle.sheet_types.specs.World.{Package, item_key, has_item}
 use Rattle.sheet_types.specs.Lines.{IsUuid, uuid_in}
-use Rattle.sheet_types.specs.declared.command.Item.{Item}
 use Rattle.sheet_types.specs.declared.frame.Frame.{Frame}
-use Rattle.sheet_types.proofs.Every.{All-weaker, All-map, none_pass}
 use Rattle.sheet_types.proofs.Order.{All-arranged, list_any-arranged}
-use Rattle.sheet_types.proofs.Same.{In, In-all}
+use Rattle.sheet_types.proofs.Same.{In, In-all, In-of_map, All-In}
 use Rattle.sheet_types.proofs.LineReading.{uuid_back}
 use Rattle.sheet_types.proofs.Basics.{bytes_eq_itself}
 use Rattle.package_tables.specs.Package.{Tables}
@@ -22,7 +19,6 @@ use Rattle.package_tables.specs.Shapes.{identity_shape}
 use Rattle.package_tables.specs.declared.rows.IdentityRow.{IdentityRow}
 use Rattle.identity_register.specs.Numbering.{Numbered, identity_row}
 use Rattle.identity_register.specs.Reads.{Says}
-use Rattle.identity_register.proofs.Deleting.{All-In}
 
 -- ---- elements
 
@@ -34,10 +30,6 @@ contained xs x h = all_contains (λ y. In y xs) xs x (All-from_recursion (λ y. 
 
 pub in_arranged : {X : Type 0} (key : X → List ℕ) (xs : List X) (x : X) → In x (arranged key xs) → In x xs
 in_arranged key xs x i = All-In (λ y. In y xs) x (arranged key xs) (All-arranged key (λ y. In y xs) xs (In-all xs)) i
-
-pub in_map : {X Y : Type 0} (f : X → Y) (y : Y) (xs : List X) → In y (map f xs) → (x : X) × In x xs × (f x ≡ y)
-in_map f y [] i = absurd i
-in_map f y (x ∷ xs) i = elim i [ inl e ↦ (x, inl refl, e) | inr j ↦ let it = in_map f y xs j in (it.0, inr it.1, it.2) ]
 
 in_append : {X : Type 0} (y : X) (xs ys : List X) → In y (xs ++ ys) → In y xs ⊎ In y ys
 in_append y [] ys i = inr i
@@ -57,7 +49,7 @@ module _ (f : Frame) (p : Package) (t : Tables) (says : Says f p t) where
   -- the item that an identity row is of
   pub row_numbered : (r : IdentityRow) → Contains t.identities r → (n : Numbered) × In n says.numbered × (identity_row n ≡ r)
   row_numbered r h =
-      in_map identity_row r says.numbered (in_arranged identity_shape.key (map identity_row says.numbered) r (subst (In r) says.identities (contained t.identities r h)))
+      In-of_map identity_row r says.numbered (in_arranged identity_shape.key (map identity_row says.numbered) r (subst (In r) says.identities (contained t.identities r h)))
 
   uuid_of : (n : Numbered) → In n says.numbered → IsUuid n.item.identity
   uuid_of n i = All-In (λ m. IsUuid m.item.identity) n says.numbered says.numbers.uuids i
@@ -75,15 +67,11 @@ module _ (f : Frame) (p : Package) (t : Tables) (says : Says f p t) where
     where
       rows_fail : (ns : List Numbered) → list_any (λ r. bytes_eq r.uuid (uuid_text id)) (map identity_row ns) ≡ false → list_any (λ i. bytes_eq i.identity id) (map (λ n. n.item) ns) ≡ false
       rows_fail [] h = refl
-      rows_fail (n ∷ ns) h = one (bytes_eq n.item.identity id) refl (rows_fail ns (part (bytes_eq (uuid_text n.item.identity) (uuid_text id)) _ h).1)
+      rows_fail (n ∷ ns) h = one (bytes_eq n.item.identity id) refl (rows_fail ns (or_parts (bytes_eq (uuid_text n.item.identity) (uuid_text id)) _ h).1)
         where
-          part : (a b : Bool) → (a || b) ≡ false → (a ≡ false) × (b ≡ false)
-          part true b e = absurd (true≢false e)
-          part false b e = (refl, e)
-
           one : (b : Bool) → bytes_eq n.item.identity id ≡ b → list_any (λ i. bytes_eq i.identity id) (map (λ m. m.item) ns) ≡ false → list_any (λ i. bytes_eq i.identity id) (map (λ m. m.item) (n ∷ ns)) ≡ false
           one false e rest = rw e rest
-          one true e rest = absurd (true≢false (sym (ap (λ x. bytes_eq (uuid_text x) (uuid_text id)) ((bytes_eq-Decides n.item.identity id).0 e) ∙ bytes_eq_itself (uuid_text id)) ∙ (part (bytes_eq (uuid_text n.item.identity) (uuid_text id)) _ h).0))
+          one true e rest = absurd (true≢false (sym (ap (λ x. bytes_eq (uuid_text x) (uuid_text id)) ((bytes_eq-Decides n.item.identity id).0 e) ∙ bytes_eq_itself (uuid_text id)) ∙ (or_parts (bytes_eq (uuid_text n.item.identity) (uuid_text id)) _ h).0))
 
       fails : (ns : List Numbered) → list_any (λ r. bytes_eq r.uuid (uuid_text id)) (arranged identity_shape.key (map identity_row ns)) ≡ false → list_any (λ i. bytes_eq i.identity id) (map (λ n. n.item) ns) ≡ false
       fails ns h = rows_fail ns (sym (list_any-arranged identity_shape.key (λ r. bytes_eq r.uuid (uuid_text id)) (map identity_row ns)) ∙ h)

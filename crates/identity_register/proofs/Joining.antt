@@ -1,15 +1,12 @@
 -- The steps that put a link in or take it out, as one change of the package.
-use Rattle.std.proofs.Common.{◌≡◌, ℕ, ℤ, pos, List, [], ◌∷◌, ◌++◌, map, Bool, true, false, Result, Ok, refl, sym, ap, subst, ◌∙◌, length}
-use Rattle.std.specs.Prelude.{◌&&◌, ◌||◌, ◌==◌, bytes_eq, flat_map, unsigned_abs}
+use Rattle.std.proofs.Common.{◌≡◌, ℕ, ℤ, pos, List, [], ◌∷◌, ◌++◌, true, false, Result, Ok, refl, sym, ap, subst, ◌∙◌}
+use Rattle.std.specs.Prelude.{◌&&◌, ◌==◌, bytes_eq, flat_map, unsigned_abs}
 use Rattle.std.specs.List.{AllByRecursion, list_any}
 use Rattle.std.specs.Ordering.{int_eq}
-use Rattle.std.proofs.lemmas.Bool.{true≢false, false≢true}
-use Rattle.std.proofs.lemmas.Slice.Eq.{bytes_eq-Decides}
-use borrow.Author.Tests.{eqb-true}
+use Rattle.std.proofs.lemmas.Bool.{or_from}
 use Rattle.sqlite.specs.Effect.{Database}
 use Rattle.sqlite.specs.State.{State, Survives}
 use Rattle.sql_meaning.specs.Transactions.{Steps}
-use Rattle.sql_meaning.specs.Writing.{Chained}
 use Rattle.sql_meaning.proofs.Transactions.{steps_then, steps_weaker}
 use Rattle.package_tables.specs.Package.{Tables, tables_of, AreFormed}
 use Rattle.package_tables.specs.Shapes.{tiles_media_shape, rows_media_shape}
@@ -17,11 +14,10 @@ use Rattle.package_tables.specs.Calls.{Makes, Answers, OnTables}
 use Rattle.package_tables.proofs.Stepping.{makes_steps}
 use Rattle.package_tables.specs.declared.rows.IdentityRow.{IdentityRow}
 use Rattle.package_tables.specs.declared.rows.MappingRow.{MappingRow}
-use Rattle.sheet_types.specs.Ordered.{arranged, has}
+use Rattle.sheet_types.specs.Ordered.{has}
 use Rattle.sheet_types.specs.Matrix.{is_within}
-use Rattle.sheet_types.specs.World.{Package, link_key, link_kind, kind_number, base_kind, other_kind, has_kind}
-use Rattle.sheet_types.specs.declared.receipt.MovedKind.{MovedKind}
-use Rattle.sheet_types.proofs.Same.{In}
+use Rattle.sheet_types.specs.World.{Package, link_key, base_kind, other_kind}
+use Rattle.sheet_types.proofs.Same.{In, All-In}
 use Rattle.package_tables.specs.Changes.{AddsTilesMedia, AddsRowsMedia}
 use Rattle.sheet_types.specs.Lines.{IsUuid}
 use Rattle.sheet_types.specs.Register.{HasEnds}
@@ -29,16 +25,16 @@ use Rattle.sheet_types.specs.declared.command.Mapping.{Mapping}
 use Rattle.sheet_types.specs.declared.command.Mapping.TheVariants.{TilesMedia, RowsMedia}
 use Rattle.sheet_types.specs.declared.command.Relation.{Relation}
 use Rattle.sheet_types.specs.declared.frame.Frame.{Frame}
-use Rattle.sheet_types.proofs.Every.{All-both, none_pass, none_any}
+use Rattle.sheet_types.proofs.Every.{none_pass}
 use Rattle.sheet_types.proofs.Order.{list_any-arranged}
-use Rattle.sheet_types.proofs.LineReading.{uuid_length}
-use Rattle.identity_register.specs.Numbering.{Numbered, greatest_number, identity_row, number_of, mapping_row, tiles_media_rows, rows_media_rows, is_pair, with_link, without_link, AddsLink, DropsLink, IsRowOf}
-use Rattle.identity_register.specs.Reads.{Reads, Says}
+use Rattle.identity_register.specs.Numbering.{Numbered, greatest_number, number_of, mapping_row, tiles_media_rows, rows_media_rows, with_link, without_link, AddsLink, DropsLink, IsRowOf}
+use Rattle.identity_register.specs.Reads.{Says}
 use Rattle.identity_register.specs.Calls.{Becomes}
 use Rattle.identity_register.specs.Changes.{IsNewLink, link_added, IsLink, link_removed}
-use Rattle.identity_register.proofs.Deleting.{All-In, same_number}
+use Rattle.identity_register.proofs.Deleting.{and-true, same_number}
 use Rattle.identity_register.proofs.Finding.{row_of_uuid}
-use Rattle.identity_register.proofs.Linking.{links, unlinks, pair_same, end_of, number_is, one_passes, bytes_eq_append}
+use Rattle.identity_register.proofs.Linking.{links, unlinks, pair_same, end_of, number_is}
+use Rattle.identity_register.proofs.Ends.{ends_there}
 
 module _ (f : Frame) (p : Package) (t : Tables) (says : Says f p t) where
   in_range : (n : Numbered) → In n says.numbered → is_within (pos 1) greatest_number n.number ≡ true
@@ -62,17 +58,10 @@ module _ (f : Frame) (p : Package) (t : Tables) (says : Says f p t) where
       rw (a.4, c.4) (same_number a.0.number c.0.number (in_range a.0 a.1) (in_range c.0 c.1)) in
       let other : int_eq (number_of says.numbered x.media) (number_of says.numbered l.media) ≡ (unsigned_abs (number_of says.numbered x.media) == unsigned_abs (number_of says.numbered l.media)) =
       rw (b.4, d.4) (same_number b.0.number d.0.number (in_range b.0 b.1) (in_range d.0 d.1)) in
-      ap (λ v. (unsigned_abs (number_of says.numbered x.base) == unsigned_abs (number_of says.numbered l.base)) && v) (last (unsigned_abs (number_of says.numbered x.media) == unsigned_abs (number_of says.numbered l.media)))
+      ap (λ v. (unsigned_abs (number_of says.numbered x.base) == unsigned_abs (number_of says.numbered l.base)) && v) (and-true (unsigned_abs (number_of says.numbered x.media) == unsigned_abs (number_of says.numbered l.media)))
       ∙ sym (ap (λ v. v && (unsigned_abs (number_of says.numbered x.media) == unsigned_abs (number_of says.numbered l.media))) base)
       ∙ sym (ap (λ v. int_eq (number_of says.numbered x.base) (number_of says.numbered l.base) && v) other)
       ∙ pair_same f p t says x l same hx hl
-    where
-      last : (v : Bool) → (v && true) ≡ v
-      last true = refl
-      last false = refl
-
-  either_false : (a b : Bool) → a ≡ false → b ≡ false → (a || b) ≡ false
-  either_false a b e g = rw (e, g) refl
 
   no_tiles_media : (l : Relation) → l.mapping ≡ TilesMedia → HasEnds p l → (xs : List Relation) → AllByRecursion (HasEnds p) xs → AllByRecursion (λ x. bytes_eq (link_key x) (link_key l) ≡ false) xs
       → list_any (λ r. bytes_eq (tiles_media_shape.key r) (tiles_media_shape.key (mapping_row says.numbered l))) (flat_map (λ x. tiles_media_rows says.numbered x x.mapping) xs) ≡ false
@@ -81,7 +70,7 @@ module _ (f : Frame) (p : Package) (t : Tables) (says : Says f p t) where
     where
       one : (m : Mapping) → x.mapping ≡ m → list_any (λ r. bytes_eq (tiles_media_shape.key r) (tiles_media_shape.key (mapping_row says.numbered l))) (flat_map (λ y. tiles_media_rows says.numbered y y.mapping) xs) ≡ false
           → list_any (λ r. bytes_eq (tiles_media_shape.key r) (tiles_media_shape.key (mapping_row says.numbered l))) (tiles_media_rows says.numbered x m ++ flat_map (λ y. tiles_media_rows says.numbered y y.mapping) xs) ≡ false
-      one TilesMedia k more = either_false _ _ (keys_same x l (k ∙ sym e) h.0 hl ∙ g.0) more
+      one TilesMedia k more = or_from _ _ (keys_same x l (k ∙ sym e) h.0 hl ∙ g.0) more
       one RowsMedia k more = more
 
   no_rows_media : (l : Relation) → l.mapping ≡ RowsMedia → HasEnds p l → (xs : List Relation) → AllByRecursion (HasEnds p) xs → AllByRecursion (λ x. bytes_eq (link_key x) (link_key l) ≡ false) xs
@@ -92,7 +81,7 @@ module _ (f : Frame) (p : Package) (t : Tables) (says : Says f p t) where
       one : (m : Mapping) → x.mapping ≡ m → list_any (λ r. bytes_eq (rows_media_shape.key r) (rows_media_shape.key (mapping_row says.numbered l))) (flat_map (λ y. rows_media_rows says.numbered y y.mapping) xs) ≡ false
           → list_any (λ r. bytes_eq (rows_media_shape.key r) (rows_media_shape.key (mapping_row says.numbered l))) (rows_media_rows says.numbered x m ++ flat_map (λ y. rows_media_rows says.numbered y y.mapping) xs) ≡ false
       one TilesMedia k more = more
-      one RowsMedia k more = either_false _ _ (keys_same x l (k ∙ sym e) h.0 hl ∙ g.0) more
+      one RowsMedia k more = or_from _ _ (keys_same x l (k ∙ sym e) h.0 hl ∙ g.0) more
 
   links_apart : (l : Relation) → has link_key (link_key l) p.links ≡ false → AllByRecursion (λ x. bytes_eq (link_key x) (link_key l) ≡ false) says.linked
   links_apart l fresh =
@@ -129,34 +118,6 @@ module _ (f : Frame) (p : Package) (t : Tables) (says : Says f p t) where
       one TilesMedia given = given ∙ rw (is_base, is_media) refl
       one RowsMedia given = given ∙ rw (is_base, is_media) refl
 
-  -- a link that is there has its ends
-  pub ends_there : (l : Relation) → IsLink l p → HasEnds p l
-  ends_there l fits =
-      let some = one_passes (λ x. bytes_eq (link_key x) (link_key l)) says.linked (sym (list_any-arranged link_key (λ x. bytes_eq (link_key x) (link_key l)) says.linked) ∙ ap (list_any (λ x. bytes_eq (link_key x) (link_key l))) (sym says.links) ∙ fits.there) in
-      let x = some.0 in
-      let hx = All-In (HasEnds p) x says.linked says.ends some.1 in
-      let a = end_of f p t says (base_kind x.mapping) x.base hx.0 in
-      let long : length x.base ≡ length l.base = ap length (sym a.3) ∙ uuid_length a.0.item.identity (All-In (λ m. IsUuid m.item.identity) a.0 says.numbered says.numbers.uuids a.1) ∙ sym (uuid_length l.base fits.base) in
-      let parts = and_parts (kind_number (link_kind x.mapping) == kind_number (link_kind l.mapping)) (bytes_eq (x.base ++ x.media) (l.base ++ l.media)) some.2 in
-      let both = and_parts (bytes_eq x.base l.base) (bytes_eq x.media l.media) (sym (bytes_eq_append x.base x.media l.base l.media long) ∙ parts.1) in
-      let mapping = same_mapping x.mapping l.mapping parts.0 in (
-        subst (λ m. has_kind_at (base_kind m) l.base) mapping (subst (λ b. has_kind_at (base_kind x.mapping) b) ((bytes_eq-Decides x.base l.base).0 both.0) hx.0),
-        subst (λ m. has_kind_at (other_kind m) l.media) mapping (subst (λ b. has_kind_at (other_kind x.mapping) b) ((bytes_eq-Decides x.media l.media).0 both.1) hx.1),
-      )
-    where
-      has_kind_at : MovedKind → List ℕ → Type 0
-      has_kind_at kind id = has_kind p kind id ≡ true
-
-      and_parts : (a b : Bool) → (a && b) ≡ true → (a ≡ true) × (b ≡ true)
-      and_parts true b h = (refl, h)
-      and_parts false b h = absurd (false≢true h)
-
-      same_mapping : (a b : Mapping) → (kind_number (link_kind a) == kind_number (link_kind b)) ≡ true → a ≡ b
-      same_mapping TilesMedia TilesMedia h = refl
-      same_mapping TilesMedia RowsMedia h = absurd (false≢true h)
-      same_mapping RowsMedia TilesMedia h = absurd (false≢true h)
-      same_mapping RowsMedia RowsMedia h = refl
-
 -- ---- the steps
 
 -- what two look-ups found of the ends of a link
@@ -186,7 +147,7 @@ parted l base media old mid new found dropped f p reads fits =
     let is_base = found_number f p (tables_of old) reads.says l.base fits.base base rows.0 in
     let is_media = found_number f p (tables_of old) reads.says l.media fits.media media rows.1 in
     let after = link_taken f p (tables_of old) reads.says l base.local_id media.local_id (tables_of new) is_base is_media (subst (λ d. DropsLink l.mapping base.local_id media.local_id (tables_of d) (tables_of new)) found.0 did.1) in
-    record { formed = did.0; says = subst (Says f (link_removed l p)) (sym after) (unlinks f p (tables_of old) reads.says l (ends_there f p (tables_of old) reads.says l fits)) }
+    record { formed = did.0; says = subst (Says f (link_removed l p)) (sym after) (unlinks f p (tables_of old) reads.says l (ends_there f p (tables_of old) reads.says l fits.base fits.there)) }
 
 -- both ends are found, and the link comes in
 pub link_steps : {E F : Type 0} (l : Relation) (base media : IdentityRow) {old mid new : State} {r : Result (Unit {0}) F} → Steps {E = E} (λ m. FoundEnds l base m) old mid (Ok media) → Steps (λ _. OnTables (AddsLink l.mapping base.local_id media.local_id)) mid new r

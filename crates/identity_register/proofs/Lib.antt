@@ -5,7 +5,8 @@ pub mod Finding
 pub mod Dropping
 pub mod Joining
 pub mod Numbers
-mod Looking
+pub mod NewPackage
+pub mod Looking
 mod Uuids
 mod Answering
 mod Ends

@@ -1,15 +1,15 @@
 -- Links that come in and go, by the numbers of their ends.
-use Rattle.std.proofs.Common.{◌≡◌, ℕ, ℤ, pos, List, [], ◌∷◌, ◌++◌, map, Bool, true, false, cond, Some, None, refl, sym, ap, subst, ◌∙◌, inl, inr, length, arith}
-use Rattle.std.specs.Prelude.{not, ◌&&◌, ◌||◌, ◌==◌, filter, find, bytes_eq, flat_map, unsigned_abs, ◌⊎◌}
+use Rattle.std.proofs.Common.{◌≡◌, ℕ, pos, List, [], ◌∷◌, ◌++◌, map, Bool, true, false, cond, Some, refl, sym, ap, subst, ◌∙◌, inl, inr, length, arith}
+use Rattle.std.specs.Prelude.{not, ◌&&◌, ◌||◌, ◌==◌, filter, find, bytes_eq, flat_map, unsigned_abs}
 use Rattle.std.specs.List.{AllByRecursion, IsDistinct, list_any}
 use Rattle.std.specs.Ordering.{int_eq}
-use Rattle.std.proofs.lemmas.Bool.{true≢false, false≢true}
+use Rattle.std.proofs.lemmas.Bool.{true≢false, false≢true, and_parts}
 use Rattle.std.proofs.lemmas.Slice.Eq.{bytes_eq-Decides}
 use borrow.Author.Tests.{eqb-true, eq-eqb}
 use Rattle.sheet_types.specs.Ordered.{arranged, put, without, has, is_among}
 use Rattle.sheet_types.specs.Matrix.{is_within}
 use Rattle.sheet_types.specs.Texts.{kind_of}
-use Rattle.sheet_types.specs.World.{Package, item_key, link_key, link_kind, kind_number, kind_is, base_kind, other_kind}
+use Rattle.sheet_types.specs.World.{Package, item_key, link_key, link_kind, kind_number, base_kind, other_kind}
 use Rattle.sheet_types.specs.Lines.{IsUuid}
 use Rattle.sheet_types.specs.Register.{HasEnds}
 use Rattle.sheet_types.specs.declared.command.Item.{Item}
@@ -18,24 +18,22 @@ use Rattle.sheet_types.specs.declared.command.Mapping.TheVariants.{TilesMedia, R
 use Rattle.sheet_types.specs.declared.command.Relation.{Relation}
 use Rattle.sheet_types.specs.declared.frame.Frame.{Frame}
 use Rattle.sheet_types.specs.declared.receipt.MovedKind.{MovedKind}
-use Rattle.sheet_types.proofs.Every.{All-weaker, All-both, All-each, All-of_map, All-map, All-filter, none_pass}
+use Rattle.sheet_types.proofs.Every.{All-weaker, All-each, All-of_map, All-filter, none_pass}
 use Rattle.sheet_types.proofs.Order.{list_any-arranged}
 use Rattle.sheet_types.proofs.Arranging.{filter-arranged}
 use Rattle.sheet_types.proofs.LineReading.{uuid_length}
 use Rattle.sheet_types.proofs.Found.{filter_same}
-use Rattle.sheet_types.proofs.Same.{In}
-use Rattle.sheet_types.proofs.Basics.{bytes_eq_itself, bytes_eq_swap}
+use Rattle.sheet_types.proofs.Same.{In, In-of_map, All-In}
+use Rattle.sheet_types.proofs.Basics.{bytes_eq_itself, bytes_eq_swap, or-false}
 use Rattle.package_tables.specs.Shapes.{tiles_media_shape, rows_media_shape}
 use Rattle.package_tables.specs.Package.{Tables}
 use Rattle.package_tables.specs.declared.rows.MappingRow.{MappingRow}
-use Rattle.identity_register.specs.Numbering.{Numbered, IsNumbering, greatest_number, place_in_tables, number_of, mapping_row, tiles_media_rows, rows_media_rows, with_link, without_link, is_pair}
+use Rattle.identity_register.specs.Numbering.{Numbered, greatest_number, place_in_tables, number_of, mapping_row, tiles_media_rows, rows_media_rows, with_link, without_link, is_pair}
 use Rattle.identity_register.specs.Reads.{Says}
-use Rattle.identity_register.proofs.Deleting.{filter-flat_map, flat_map-kept, distinct_filter, same_tests, same_number, All-In}
+use Rattle.identity_register.proofs.Adding.{turned}
+use Rattle.identity_register.proofs.Deleting.{filter-flat_map, flat_map-kept, distinct_filter, same_tests, same_number}
 
 -- ---- a link more
-
-turned : {X : Type 0} (f : X → List ℕ) (k : List ℕ) (xs : List X) → AllByRecursion (λ x. bytes_eq (f x) k ≡ false) xs → AllByRecursion (λ y. bytes_eq k y ≡ false) (map f xs)
-turned f k xs h = All-map (λ y. bytes_eq k y ≡ false) f xs (All-weaker _ _ (λ x e. bytes_eq_swap k (f x) ∙ e) xs h)
 
 pub links : (f : Frame) (p : Package) (t : Tables) (l : Relation) (says : Says f p t) → has link_key (link_key l) p.links ≡ false → HasEnds p l
     → Says f (record p { links = put link_key l p.links }) (with_link l.mapping (mapping_row says.numbered l) t)
@@ -127,13 +125,12 @@ one_passes {X} q (x ∷ xs) h = one (q x) refl (one_passes q xs)
     one true e rest = (x, inl refl, e)
     one false e rest = let it = rest (sym (ap (λ b. b || list_any q xs) e) ∙ h) in (it.0, inr it.1, it.2)
 
-map_In : {X Y : Type 0} (f : X → Y) (y : Y) (xs : List X) → In y (map f xs) → (x : X) × In x xs × (f x ≡ y)
-map_In f y [] i = absurd i
-map_In f y (x ∷ xs) i = elim i [ inl e ↦ (x, inl refl, e) | inr j ↦ let it = map_In f y xs j in (it.0, inr it.1, it.2) ]
-
-and_true : (a b : Bool) → (a && b) ≡ true → (a ≡ true) × (b ≡ true)
-and_true true b h = (refl, h)
-and_true false b h = absurd (false≢true h)
+-- a mapping is known by the number of its links
+pub same_mapping : (a b : Mapping) → (kind_number (link_kind a) == kind_number (link_kind b)) ≡ true → a ≡ b
+same_mapping TilesMedia TilesMedia h = refl
+same_mapping TilesMedia RowsMedia h = absurd (false≢true h)
+same_mapping RowsMedia TilesMedia h = absurd (false≢true h)
+same_mapping RowsMedia RowsMedia h = refl
 
 pub find_itself : (n : Numbered) (ns : List Numbered) → IsDistinct bytes_eq (map (λ m. m.item.identity) ns) → In n ns → find (λ m. bytes_eq m.item.identity n.item.identity) ns ≡ Some n
 unfolding IsDistinct
@@ -148,7 +145,7 @@ module _ (f : Frame) (p : Package) (t : Tables) (says : Says f p t) where
   pub numbered_item : (q : Item → Bool) → list_any q p.items ≡ true → (n : Numbered) × In n says.numbered × (q n.item ≡ true)
   numbered_item q h =
       let it = one_passes q (map (λ m. m.item) says.numbered) (sym (list_any-arranged item_key q (map (λ m. m.item) says.numbered)) ∙ ap (list_any q) (sym says.items) ∙ h) in
-      let n = map_In (λ m. m.item) it.0 says.numbered it.1 in
+      let n = In-of_map (λ m. m.item) it.0 says.numbered it.1 in
       (n.0, n.1, ap q n.2 ∙ it.2)
 
   pub number_is : (n : Numbered) → In n says.numbered → number_of says.numbered n.item.identity ≡ n.number
@@ -159,7 +156,7 @@ module _ (f : Frame) (p : Package) (t : Tables) (says : Says f p t) where
       → (n : Numbered) × In n says.numbered × (kind_number (kind_of n.item.content) ≡ kind_number kind) × (n.item.identity ≡ id) × (number_of says.numbered id ≡ n.number)
   end_of kind id h =
       let it = numbered_item (λ i. bytes_eq (item_key i) (kind_number kind ∷ id)) h in
-      let both = and_true (kind_number (kind_of it.0.item.content) == kind_number kind) (bytes_eq it.0.item.identity id) it.2 in
+      let both = and_parts (kind_number (kind_of it.0.item.content) == kind_number kind) (bytes_eq it.0.item.identity id) it.2 in
       let named = (bytes_eq-Decides it.0.item.identity id).0 both.1 in
       (it.0, it.1, eqb-true (kind_number (kind_of it.0.item.content)) (kind_number kind) both.0, named, ap (number_of says.numbered) (sym named) ∙ number_is it.0 it.1)
 
@@ -251,11 +248,7 @@ module _ (f : Frame) (p : Package) (t : Tables) (says : Says f p t) (l : Relatio
   links_less : without link_key (link_key l ∷ []) p.links ≡ arranged link_key (filter keep says.linked)
   links_less =
       ap (filter (λ x. not (is_among (link_key l ∷ []) (link_key x)))) says.links ∙ filter-arranged link_key (λ x. not (is_among (link_key l ∷ []) (link_key x))) says.linked
-      ∙ ap (arranged link_key) (filter_same (λ x. not (is_among (link_key l ∷ []) (link_key x))) keep says.linked (All-each _ (λ x. ap not (last (bytes_eq (link_key l) (link_key x)) ∙ bytes_eq_swap (link_key l) (link_key x))) says.linked))
-    where
-      last : (x : Bool) → (x || false) ≡ x
-      last true = refl
-      last false = refl
+      ∙ ap (arranged link_key) (filter_same (λ x. not (is_among (link_key l ∷ []) (link_key x))) keep says.linked (All-each _ (λ x. ap not (or-false (bytes_eq (link_key l) (link_key x)) ∙ bytes_eq_swap (link_key l) (link_key x))) says.linked))
 
   -- the link goes, and its row
   pub unlinks : Says f (record p { links = without link_key (link_key l ∷ []) p.links }) (without_link l.mapping row t)

@@ -1,13 +1,13 @@
 -- A number that is free in a kind, and the rows of an item that comes in under it.
-use Rattle.std.proofs.Common.{◌≡◌, ℕ, ℤ, pos, List, [], ◌∷◌, ◌++◌, map, Bool, true, false, Option, Some, None, Result, Ok, refl, sym, ap, subst, ◌∙◌}
-use Rattle.std.specs.Prelude.{◌&&◌, ◌||◌, ◌==◌, bytes_eq, flat_map, unsigned_abs, MatchOption}
+use Rattle.std.proofs.Common.{◌≡◌, ℕ, ℤ, pos, ◌≤ℤ◌, ◌+ℤ◌, arith, FitsSigned, w64, to_z, of_z, to_z-of_z, List, [], ◌∷◌, map, Bool, true, false, Option, Result, Ok, refl, sym, ap, subst, ◌∙◌}
+use Rattle.std.specs.Prelude.{int_le, ◌&&◌, bytes_eq, flat_map, unsigned_abs}
 use Rattle.std.specs.List.{AllByRecursion, list_any}
 use Rattle.std.specs.Ordering.{int_eq}
-use Rattle.std.proofs.lemmas.Bool.{true≢false, false≢true}
+use Rattle.std.proofs.lemmas.Bool.{and_from, or_from}
+use Rattle.std.proofs.lemmas.Int.{ints}
 use Rattle.sqlite.specs.Effect.{Database}
 use Rattle.sqlite.specs.State.{State, Survives}
 use Rattle.sql_meaning.specs.Transactions.{Steps}
-use Rattle.sql_meaning.specs.Writing.{Chained}
 use Rattle.sql_meaning.proofs.Transactions.{steps_then, steps_weaker, steps_answer}
 use Rattle.package_tables.specs.Package.{Tables, tables_of, AreFormed}
 use Rattle.package_tables.specs.Shapes.{tile_shape, medium_shape, attribute_shape, identity_shape}
@@ -16,40 +16,28 @@ use Rattle.std.specs.Option.{is_some}
 use Rattle.package_tables.specs.declared.rows.IdentityRow.{IdentityRow}
 use Rattle.package_tables.specs.Changes.{AddsIdentity}
 use Rattle.package_tables.proofs.Stepping.{makes_steps, tells_steps}
-use Rattle.sheet_types.specs.Ordered.{arranged, put, has}
+use Rattle.sheet_types.specs.Ordered.{put, has}
 use Rattle.sheet_types.specs.Matrix.{is_within}
 use Rattle.sheet_types.specs.Texts.{kind_of}
 use Rattle.sheet_types.specs.World.{Package, kind_number}
 use Rattle.sheet_types.specs.declared.command.Content.{Content}
 use Rattle.sheet_types.specs.declared.command.Content.TheVariants.{Tile, Media, Row}
-use Rattle.sheet_types.specs.declared.command.Item.{Item}
 use Rattle.sheet_types.specs.declared.frame.Frame.{Frame}
-use Rattle.sheet_types.proofs.Every.{All-weaker, All-both, All-map, All-of_map, none_pass, none_any}
+use Rattle.sheet_types.proofs.Every.{All-weaker, All-both, All-map, All-of_map, All-each, none_pass, none_any}
 use Rattle.sheet_types.proofs.Order.{list_any-arranged}
-use Rattle.identity_register.specs.Numbering.{Numbered, greatest_number, place_in_tables, identity_row, tile_rows, media_rows, attribute_rows, puts, with_item, IsGap, AddsContent}
-use Rattle.identity_register.specs.Reads.{Reads, Says}
+use Rattle.identity_register.specs.Numbering.{Numbered, greatest_number, place_in_tables, identity_row, tile_rows, media_rows, attribute_rows, puts, with_item, IsTaken, IsGap, AddsContent}
+use Rattle.identity_register.specs.Reads.{Says}
 use Rattle.identity_register.specs.Calls.{Becomes}
 use Rattle.identity_register.specs.Changes.{IsNewItem, item_added}
 use Rattle.identity_register.proofs.Adding.{adds}
 use Rattle.identity_register.proofs.Deleting.{same_row}
+use Rattle.identity_register.proofs.Answering.{one_tells, any_flat_map}
 
 -- ---- rows of other numbers
 
-either_none : (a b : Bool) → a ≡ false → b ≡ false → (a || b) ≡ false
-either_none true b h g = absurd (true≢false h)
-either_none false b h g = g
-
-any-append : {X : Type 0} (q : X → Bool) (xs ys : List X) → list_any q xs ≡ false → list_any q ys ≡ false → list_any q (xs ++ ys) ≡ false
-any-append q [] ys h g = g
-any-append q (x ∷ xs) ys h g = one (q x) refl h (λ k. any-append q xs ys k g)
-  where
-    one : (a : Bool) → q x ≡ a → (a || list_any q xs) ≡ false → (list_any q xs ≡ false → list_any q (xs ++ ys) ≡ false) → (q x || list_any q (xs ++ ys)) ≡ false
-    one true e k rest = absurd (true≢false k)
-    one false e k rest = either_none (q x) _ e (rest k)
-
-any-flat_map : {X Y : Type 0} (q : Y → Bool) (f : X → List Y) (xs : List X) → AllByRecursion (λ x. list_any q (f x) ≡ false) xs → list_any q (flat_map f xs) ≡ false
-any-flat_map q f [] h = refl
-any-flat_map q f (x ∷ xs) h = any-append q (f x) (flat_map f xs) h.0 (any-flat_map q f xs h.1)
+-- no row passes where none of any element does
+no_rows : {X Y : Type 0} (q : Y → Bool) (f : X → List Y) (xs : List X) → AllByRecursion (λ x. list_any q (f x) ≡ false) xs → list_any q (flat_map f xs) ≡ false
+no_rows q f xs h = any_flat_map f q (λ x. false) xs h ∙ none_any (λ x. false) xs (All-each _ (λ x. refl) xs)
 
 -- a place that is not one under a number of a kind
 abbrev IsApart : ℕ → ℤ → Numbered → Type 0
@@ -59,7 +47,7 @@ tile_apart : (number : ℤ) (m : Numbered) → IsApart 1 number m → list_any (
 tile_apart number m h = at m.item.content h
   where
     at : (c : Content) → bytes_eq (kind_number (kind_of c) ∷ unsigned_abs m.number ∷ []) (1 ∷ unsigned_abs number ∷ []) ≡ false → list_any (λ r. bytes_eq (tile_shape.key r) (unsigned_abs number ∷ [])) (tile_rows m.number c) ≡ false
-    at (Tile zoom column row bytes) k = either_none _ false k refl
+    at (Tile zoom column row bytes) k = or_from _ false k refl
     at (Media content_type bytes) k = refl
     at (Row x y code label) k = refl
 
@@ -68,7 +56,7 @@ medium_apart number m h = at m.item.content h
   where
     at : (c : Content) → bytes_eq (kind_number (kind_of c) ∷ unsigned_abs m.number ∷ []) (2 ∷ unsigned_abs number ∷ []) ≡ false → list_any (λ r. bytes_eq (medium_shape.key r) (unsigned_abs number ∷ [])) (media_rows m.number c) ≡ false
     at (Tile zoom column row bytes) k = refl
-    at (Media content_type bytes) k = either_none _ false k refl
+    at (Media content_type bytes) k = or_from _ false k refl
     at (Row x y code label) k = refl
 
 attribute_apart : (number : ℤ) (m : Numbered) → IsApart 3 number m → list_any (λ r. bytes_eq (attribute_shape.key r) (unsigned_abs number ∷ [])) (attribute_rows m.number m.item.content) ≡ false
@@ -77,7 +65,7 @@ attribute_apart number m h = at m.item.content h
     at : (c : Content) → bytes_eq (kind_number (kind_of c) ∷ unsigned_abs m.number ∷ []) (3 ∷ unsigned_abs number ∷ []) ≡ false → list_any (λ r. bytes_eq (attribute_shape.key r) (unsigned_abs number ∷ [])) (attribute_rows m.number c) ≡ false
     at (Tile zoom column row bytes) k = refl
     at (Media content_type bytes) k = refl
-    at (Row x y code label) k = either_none _ false k refl
+    at (Row x y code label) k = or_from _ false k refl
 
 -- ---- an item under a number that no identity row has
 
@@ -107,11 +95,11 @@ module _ (f : Frame) (p : Package) (t : Tables) (says : Says f p t) where
   -- the row of the content is new, and so it comes in
   content_in : (number : ℤ) (c : Content) (u : Tables) → AreApart (kind_number (kind_of c)) number → AddsContent number c t u → u ≡ with_content number c
   content_in number (Tile zoom column row bytes) u apart adds =
-      adds (rw says.tiles (list_any-arranged tile_shape.key (λ r. bytes_eq (tile_shape.key r) (unsigned_abs number ∷ [])) _ ∙ any-flat_map _ (λ m. tile_rows m.number m.item.content) says.numbered (All-weaker _ _ (tile_apart number) says.numbered apart)))
+      adds (rw says.tiles (list_any-arranged tile_shape.key (λ r. bytes_eq (tile_shape.key r) (unsigned_abs number ∷ [])) _ ∙ no_rows _ (λ m. tile_rows m.number m.item.content) says.numbered (All-weaker _ _ (tile_apart number) says.numbered apart)))
   content_in number (Media content_type bytes) u apart adds =
-      adds (rw says.media (list_any-arranged medium_shape.key (λ r. bytes_eq (medium_shape.key r) (unsigned_abs number ∷ [])) _ ∙ any-flat_map _ (λ m. media_rows m.number m.item.content) says.numbered (All-weaker _ _ (medium_apart number) says.numbered apart)))
+      adds (rw says.media (list_any-arranged medium_shape.key (λ r. bytes_eq (medium_shape.key r) (unsigned_abs number ∷ [])) _ ∙ no_rows _ (λ m. media_rows m.number m.item.content) says.numbered (All-weaker _ _ (medium_apart number) says.numbered apart)))
   content_in number (Row x y code label) u apart adds =
-      adds (rw says.rows (list_any-arranged attribute_shape.key (λ r. bytes_eq (attribute_shape.key r) (unsigned_abs number ∷ [])) _ ∙ any-flat_map _ (λ m. attribute_rows m.number m.item.content) says.numbered (All-weaker _ _ (attribute_apart number) says.numbered apart)))
+      adds (rw says.rows (list_any-arranged attribute_shape.key (λ r. bytes_eq (attribute_shape.key r) (unsigned_abs number ∷ [])) _ ∙ no_rows _ (λ m. attribute_rows m.number m.item.content) says.numbered (All-weaker _ _ (attribute_apart number) says.numbered apart)))
 
   -- and then its identity
   both_in : (n : Numbered) (u v : Tables) → AreApart (kind_number (kind_of n.item.content)) n.number → AddsContent n.number n.item.content t u → AddsIdentity (identity_row n) u v → with_item n t ≡ v
@@ -146,18 +134,38 @@ add_steps n {old} {mid} {last} {new} one two makes survives =
 pub content_put : {E : Type 0} (number : ℤ) (a b : Content) {old new : State} {r : Result (Unit {0}) E} → a ≡ b → Makes (AddsContent number b) old new r → Survives old new (λ _. ⊥) → Steps (λ _. OnTables (AddsContent number a)) old new r
 content_put {E} number a b {old} {new} {r} same makes survives = subst (λ k. Steps (λ _. OnTables (AddsContent number k)) old new r) (sym same) (makes_steps (AddsContent number b) makes survives)
 
-none_found : {X : Type 0} (A : Type 0) (B : X → Type 0) (found : Option X) → is_some found ≡ false → MatchOption found A B → A
-none_found A B None e h = h
-none_found A B (Some x) e h = absurd (true≢false e)
+-- ---- numbers from 1 to the greatest, in turn
 
--- no row of a kind has a number that was looked up
-pub gap_steps : {X E F : Type 0} (Q : Tables → X → Type 0) (kind k number : ℤ) (found : Option IdentityRow) {old mid new : State} {x : X} → kind ≡ k → is_within (pos 1) greatest_number number ≡ true → is_some found ≡ false → Steps {E = E} (Answers Q) old mid (Ok x)
-    → Tells {E = F} (λ t. IsOneOf (λ r. int_eq r.kind kind && int_eq r.local_id number) t.identities) mid new (Ok found) → Survives mid new (λ _. ⊥) → Steps {E = F} (Answers (IsGap k)) old new (Ok number)
-gap_steps {X} {E} {F} Q kind k number found {old} {mid} {new} {x} same range none first told survives =
-    subst (λ z. Steps {E = F} (Answers (IsGap z)) old new (Ok number)) same
-    (steps_answer {E = F} (Answers (IsGap kind)) number
-    (λ chain. (chain.2.0 ∙ chain.1.0, λ formed. (range, none_found _ _ found none (subst (λ d. AreFormed d → IsOneOf (λ r. int_eq r.kind kind && int_eq r.local_id number) (tables_of d).identities found) chain.1.0 chain.2.1 formed))))
-    (steps_then first (tells_steps (λ t. IsOneOf (λ r. int_eq r.kind kind && int_eq r.local_id number) t.identities) told survives)))
+pub within_from : (n : ℤ) → pos 1 ≤ℤ n → int_le n greatest_number ≡ true → is_within (pos 1) greatest_number n ≡ true
+within_from n low high = and_from (int_le (pos 1) n) (int_le n greatest_number) (grind (arith, ints)) high
+
+pub next_from : (n : ℤ) → pos 1 ≤ℤ n → int_le n greatest_number ≡ true → pos 1 ≤ℤ to_z w64 (of_z w64 (n +ℤ pos 1))
+next_from n low high = let fits : FitsSigned w64 (n +ℤ pos 1) = omega (arith, ints) in simp (to_z-of_z, fits) (omega (arith, ints))
+
+-- ---- free numbers
+
+-- whether a number is taken, by the row that was looked up
+pub taken_steps : {E : Type 0} (kind number : ℤ) (found : Option IdentityRow) {old new : State} → Tells {E = E} (λ t. IsOneOf (λ r. int_eq r.kind kind && int_eq r.local_id number) t.identities) old new (Ok found) → Survives old new (λ _. ⊥)
+    → Steps {E = E} (Answers (IsTaken kind number)) old new (Ok (is_some found))
+taken_steps {E} kind number found told survives =
+    steps_answer {E = E} {F = E} (Answers (IsTaken kind number)) (is_some found) (λ it. (it.0, λ formed. one_tells (λ r. int_eq r.kind kind && int_eq r.local_id number) _ found (it.1 formed)))
+    (tells_steps (λ t. IsOneOf (λ r. int_eq r.kind kind && int_eq r.local_id number) t.identities) told survives)
+
+-- steps that leave the store as it was, and then an answer
+pub same_then : {X Y E F : Type 0} {First : X → Database → Database → Type 0} (Answer : Tables → Y → Type 0) {old mid new : State} {x : X} {r : Result Y F} → ((a b : Database) → First x a b → b ≡ a) → Steps {E = E} First old mid (Ok x)
+    → Steps {E = F} (Answers Answer) mid new r → Steps {E = F} (Answers Answer) old new r
+same_then {X} {Y} {E} {F} {First} Answer {old} {mid} {new} {x} {r} same one two =
+    steps_weaker {X = Y} {E = F} (Answers Answer)
+    (λ y chain. let e = same old.now chain.0 chain.1 in (chain.2.0 ∙ e, subst (λ d. AreFormed d → Answer (tables_of d) y) e chain.2.1))
+    (steps_then {X = X} {E = E} {First = First} {x = x} one two)
+
+-- a number that is not taken is a gap
+pub gap_steps : {E F : Type 0} (kind number : ℤ) (taken : Bool) {old new : State} → is_within (pos 1) greatest_number number ≡ true → taken ≡ false → Steps {E = E} (Answers (IsTaken kind number)) old new (Ok taken) → Steps {E = F} (Answers (IsGap kind)) old new (Ok number)
+gap_steps {E} {F} kind number taken range none told = steps_answer {E = E} {F = F} (Answers (IsGap kind)) number (λ it. (it.0, λ formed. (range, sym (it.1 formed) ∙ none))) told
+
+-- a gap of a kind, by what its number is
+pub gap_of : {E : Type 0} {kind k : ℤ} {old new : State} {r : Result ℤ E} → kind ≡ k → Steps (Answers (IsGap kind)) old new r → Steps (Answers (IsGap k)) old new r
+gap_of {E} {kind} {k} {old} {new} {r} same gap = subst (λ z. Steps (Answers (IsGap z)) old new r) same gap
 
 -- an identity row, by what its parts are
 pub identity_makes : {E : Type 0} (kind k number : ℤ) (text u : List ℕ) (old new : State) (r : Result (Unit {0}) E) → kind ≡ k → text ≡ u → Makes (AddsIdentity (record { kind = kind; local_id = number; uuid = text })) old new r

@@ -1,11 +1,11 @@
 -- The tables read as at most one package.
-use Rattle.std.proofs.Common.{◌≡◌, ℕ, zero, suc, ◌+◌, ◌*◌, ◌≤◌, ◌<◌, ℤ, pos, List, [], ◌∷◌, ◌++◌, map, Bool, true, false, cond, Option, Some, None, refl, sym, ap, subst, ◌∙◌, inl, inr, length, arith}
-use Rattle.std.specs.Prelude.{◌⊎◌, ◌==◌, ◌&&◌, ◌||◌, bytes_eq, flat_map, unsigned_abs, Contains, nat_lt}
-use Rattle.std.specs.List.{AllByRecursion, IsDistinct, list_any, list_all, enumerate_from}
+use Rattle.std.proofs.Common.{◌≡◌, ℕ, zero, suc, ◌+◌, ◌*◌, ◌≤◌, ◌<◌, pos, List, [], ◌∷◌, ◌++◌, map, Bool, true, false, cond, Option, Some, None, refl, sym, ap, subst, ◌∙◌, inl, inr, length, arith}
+use Rattle.std.specs.Prelude.{◌⊎◌, ◌==◌, ◌&&◌, bytes_eq, flat_map, unsigned_abs, Contains, nat_lt}
+use Rattle.std.specs.List.{AllByRecursion, IsDistinct, list_all, enumerate_from}
 use Rattle.std.specs.Ordering.{int_eq}
 use Rattle.std.specs.Option.{option_map_or}
 use Rattle.std.specs.Result.{result_unwrap_or}
-use Rattle.std.proofs.lemmas.Bool.{and_parts, true≢false, false≢true}
+use Rattle.std.proofs.lemmas.Bool.{and_parts, and_from, true≢false}
 use Rattle.std.proofs.lemmas.Slice.Eq.{bytes_eq-Decides}
 use borrow.Author.Tests.{eqb-true, eq-eqb}
 use Rattle.hex.specs.Hex.{encode_lower, IsBytes, lower_digits}
@@ -19,8 +19,6 @@ use Rattle.sheet_types.specs.Register.{HasEnds}
 use Rattle.sheet_types.specs.declared.command.Content.{Content}
 use Rattle.sheet_types.specs.declared.command.Content.TheVariants.{Tile, Media, Row}
 use Rattle.sheet_types.specs.declared.command.Item.{Item}
-use Rattle.sheet_types.specs.declared.command.Mapping.{Mapping}
-use Rattle.sheet_types.specs.declared.command.Mapping.TheVariants.{TilesMedia, RowsMedia}
 use Rattle.sheet_types.specs.declared.command.Relation.{Relation}
 use Rattle.sheet_types.specs.declared.frame.Frame.{Frame}
 use Rattle.sheet_types.specs.declared.receipt.Moved.{Moved}
@@ -30,15 +28,14 @@ use Rattle.sheet_types.proofs.Found.{found, All-found}
 use Rattle.sheet_types.proofs.Basics.{bytes_eq_itself, bytes_eq_swap}
 use Rattle.sheet_types.proofs.Every.{All-weaker, All-of_map, All-map}
 use Rattle.sheet_types.proofs.LineReading.{uuid_length, small_bytes}
-use Rattle.sheet_types.proofs.Order.{put_arranged, All-arranged, list_any-arranged}
-use Rattle.sheet_types.proofs.Same.{In, In-all, In-map, In-flat_map, All-In, Contains-In, any_in, same_list}
+use Rattle.sheet_types.proofs.Order.{put_arranged, All-arranged}
+use Rattle.sheet_types.proofs.Same.{In, In-all, In-map, In-of_map, In-flat_map, All-In, Contains-In, any_in, same_list}
 use Rattle.sql_meaning.proofs.Schemas.{sound_alone}
 use Rattle.package_tables.specs.Package.{Tables, tables_of}
 use Rattle.package_tables.specs.Shapes.{tile_shape, medium_shape, attribute_shape, identity_shape, receipt_shape, moved_shape}
 use Rattle.package_tables.specs.declared.rows.AttributeRow.{AttributeRow}
 use Rattle.package_tables.specs.declared.rows.MediaRow.{MediaRow}
 use Rattle.package_tables.specs.declared.rows.TileRow.{TileRow}
-use Rattle.package_tables.specs.declared.rows.IdentityRow.{IdentityRow}
 use Rattle.package_tables.specs.declared.rows.MovedRow.{MovedRow}
 use Rattle.package_tables.specs.declared.rows.ReceiptRow.{ReceiptRow}
 use Rattle.identity_register.specs.Answers.{IsContentOf, are_ends}
@@ -50,8 +47,8 @@ use Rattle.identity_register.proofs.Contents.{content_by_row}
 use Rattle.identity_register.proofs.Deleting.{pos_same}
 use Rattle.identity_register.proofs.Ends.{link_by_rows}
 use Rattle.identity_register.proofs.OneFrame.{one_frame}
-use Rattle.identity_register.proofs.Linking.{end_of, bytes_eq_append}
-use Rattle.identity_register.proofs.Finding.{contained, in_arranged, in_map, in_flat_map, same_uuid}
+use Rattle.identity_register.proofs.Linking.{same_mapping, end_of, bytes_eq_append}
+use Rattle.identity_register.proofs.Finding.{in_arranged, in_flat_map, same_uuid}
 
 -- ---- arranged lists
 
@@ -193,7 +190,7 @@ module _ (f : Frame) (t : Tables) where
       let row : MovedRow = moved_row r.seq z.0 z.1 in
       let stored : In row t.moved = subst (In row) (sym one.moved) (to_arranged moved_shape.key row (flat_map moved_rows one.entered) (In-flat_map moved_rows r row one.entered i (In-map (λ m. moved_row r.seq m.0 m.1) z (enumerate_from 0 r.items) at))) in
       let it = in_flat_map moved_rows row two.entered (in_arranged moved_shape.key (flat_map moved_rows two.entered) row (subst (In row) two.moved stored)) in
-      let w = in_map (λ m. moved_row it.0.seq m.0 m.1) row (enumerate_from 0 it.0.items) it.2 in
+      let w = In-of_map (λ m. moved_row it.0.seq m.0 m.1) row (enumerate_from 0 it.0.items) it.2 in
       let receipt : it.0 ≡ s = one_of_key receipt_key two.entered it.0 s two.distinct_receipts it.1 j (ap (λ k. k ∷ []) (nat_of it.0.seq r.seq (ap (λ x. x.seq) w.2) ∙ sym same)) in
       let fit_w = All-In (λ m. is_fit_moved m ≡ true) w.0.1 it.0.items (All-In IsFitReceipt it.0 two.entered two.fit it.1).items (in_place 0 w.0 it.0.items w.1) in
       let fit_z = All-In (λ m. is_fit_moved m ≡ true) z.1 r.items (All-In IsFitReceipt r one.entered one.fit i).items (in_place 0 z r.items at) in
@@ -206,7 +203,7 @@ module _ (f : Frame) (t : Tables) where
   receipt_there p q one two r i =
       let row : ReceiptRow = receipt_row r in
       let stored : In row t.receipts = subst (In row) (sym one.receipts) (to_arranged receipt_shape.key row (map receipt_row one.entered) (In-map receipt_row r one.entered i)) in
-      let it = in_map receipt_row row two.entered (in_arranged receipt_shape.key (map receipt_row two.entered) row (subst (In row) two.receipts stored)) in
+      let it = In-of_map receipt_row row two.entered (in_arranged receipt_shape.key (map receipt_row two.entered) row (subst (In row) two.receipts stored)) in
       let s = it.0 in
       let e = it.2 in
       let mine = All-In IsFitReceipt r one.entered one.fit i in
@@ -248,7 +245,7 @@ module _ (f : Frame) (t : Tables) where
 
   item_there : (p q : Package) (one : Says f p t) (two : Says f q t) (x : Item) → In x p.items → In x q.items
   item_there p q one two x i =
-      let it = in_map (λ n. n.item) x one.numbered (in_arranged item_key (map (λ n. n.item) one.numbered) x (subst (In x) one.items i)) in
+      let it = In-of_map (λ n. n.item) x one.numbered (in_arranged item_key (map (λ n. n.item) one.numbered) x (subst (In x) one.items i)) in
       let n = it.0 in
       let fit = All-In (λ m. IsUuid m.item.identity) n one.numbered one.numbers.uuids it.1 in
       let told = content_by_row f q t two n.item.identity fit (identity_row n) n.item.content (row_stored p one n it.1, bytes_eq_itself (uuid_text n.item.identity)) (content_stored p one n it.1) in
@@ -265,12 +262,6 @@ module _ (f : Frame) (t : Tables) where
       let base : a.base ≡ b.base = (bytes_eq-Decides a.base b.base).0 ends.0 in
       let media : a.media ≡ b.media = (bytes_eq-Decides a.media b.media).0 ends.1 in
       λ n. record { mapping = mapping n; base = base n; media = media n }
-    where
-      same_mapping : (k l : Mapping) → (kind_number (link_kind k) == kind_number (link_kind l)) ≡ true → k ≡ l
-      same_mapping TilesMedia TilesMedia e = refl
-      same_mapping TilesMedia RowsMedia e = cc
-      same_mapping RowsMedia TilesMedia e = cc
-      same_mapping RowsMedia RowsMedia e = refl
 
   -- the ends of a link are UUIDs
   end_fit : (p : Package) (one : Says f p t) (kind : MovedKind) (id : List ℕ) → has item_key (kind_number kind ∷ id) p.items ≡ true → IsUuid id
@@ -291,7 +282,7 @@ module _ (f : Frame) (t : Tables) where
       let other_fit : IsUuid l.media = end_fit p one (other_kind l.mapping) l.media ends.1 in
       let base_row : Contains t.identities (identity_row n.0) × (bytes_eq (identity_row n.0).uuid (uuid_text l.base) ≡ true) = (row_stored p one n.0 n.1, subst (λ id. bytes_eq (uuid_text n.0.item.identity) (uuid_text id) ≡ true) n.3 (bytes_eq_itself (uuid_text n.0.item.identity))) in
       let other_row : Contains t.identities (identity_row m.0) × (bytes_eq (identity_row m.0).uuid (uuid_text l.media) ≡ true) = (row_stored p one m.0 m.1, subst (λ id. bytes_eq (uuid_text m.0.item.identity) (uuid_text id) ≡ true) m.3 (bytes_eq_itself (uuid_text m.0.item.identity))) in
-      let right : are_ends l.mapping (identity_row n.0).kind (identity_row m.0).kind ≡ true = both (kind_is_it _ _ n.2) (kind_is_it _ _ m.2) in
+      let right : are_ends l.mapping (identity_row n.0).kind (identity_row m.0).kind ≡ true = and_from _ _ (kind_is_it _ _ n.2) (kind_is_it _ _ m.2) in
       let mine = link_by_rows f p t one l base_fit other_fit (identity_row n.0) (identity_row m.0) base_row other_row right in
       let theirs = link_by_rows f q t two l base_fit other_fit (identity_row n.0) (identity_row m.0) base_row other_row right in
       let has_it : has link_key (link_key l) q.links ≡ true = sym theirs ∙ mine ∙ any_in (λ x. bytes_eq (link_key x) (link_key l)) l p.links i (bytes_eq_itself (link_key l)) in
@@ -299,9 +290,6 @@ module _ (f : Frame) (t : Tables) where
       let at = All-found (λ y. In y q.links) (λ y. bytes_eq (link_key y) (link_key l)) x.0 q.links x.1 (In-all q.links) in
       subst (λ y. In y q.links) (same_link x.0 l (end_fit q two (base_kind x.0.mapping) x.0.base (link_ends q two x.0 at.0).0) base_fit at.1) at.0
     where
-      both : {a b : Bool} → a ≡ true → b ≡ true → (a && b) ≡ true
-      both e g = rw (e, g) refl
-
       kind_is_it : (a b : ℕ) → a ≡ b → int_eq (pos b) (pos a) ≡ true
       kind_is_it a b e = pos_same b a ∙ eq-eqb b a (sym e)
 

@@ -1,14 +1,16 @@
 -- What reads as a UUID has 16 bytes (RFC 9562, section 4).
-use Rattle.std.proofs.Common.{◌≡◌, ℕ, zero, suc, ◌<◌, ◌+◌, ◌*◌, List, [], ◌∷◌, Bool, true, false, cond, Option, Some, None, refl, sym, ap, ◌∙◌, length, get_or, arith}
-use Rattle.std.specs.Prelude.{◌&&◌, ◌==◌, slice_index}
+use Rattle.std.proofs.Common.{◌≡◌, ℕ, zero, suc, ◌<◌, ◌+◌, ◌*◌, List, [], ◌∷◌, Bool, true, false, cond, Some, None, refl, sym, ap, ◌∙◌, length, get_or, arith}
+use Rattle.std.specs.Prelude.{◌&&◌, ◌==◌}
 use Rattle.std.specs.List.{AllByRecursion, list_all}
 use Rattle.std.proofs.lemmas.Bool.{and_parts}
 use Rattle.std.proofs.lemmas.Bool.Decides.{nat_tests}
 use borrow.Author.Tests.{eqb-true}
-use Rattle.uuid.specs.Text.{parsed_hyphenated, parsed_simple, digits_of, has_hyphens, is_hex_digit, value_of, byte_of_digits, by_index}
+use Rattle.uuid.specs.Text.{parsed, parsed_hyphenated, parsed_simple, digits_of, has_hyphens, is_hex_digit, value_of, byte_of_digits, by_index}
 use Rattle.uuid.proofs.TextLemmas.{by_index_length, by_index_at}
 use Rattle.sheet_types.specs.Lines.{IsUuid}
+use Rattle.sheet_types.specs.Texts.{uuid_text}
 use Rattle.sheet_types.proofs.Fitting.{bytes_fit}
+use Rattle.sheet_types.proofs.UuidTexts.{parsed_36}
 
 -- what holds at each index holds of all
 small_at : (xs : List ℕ) → ((k : ℕ) → k < length xs → get_or xs k 0 < 256) → AllByRecursion (λ b. b < 256) xs
@@ -48,3 +50,7 @@ hyphenated_fits text u = one ((length text == 36) && has_hyphens text)
     one : (b : Bool) → cond b (parsed_simple (digits_of text)) None ≡ Some u → IsUuid u
     one false h = cc
     one true h = simple_fits (digits_of text) u h
+
+-- what reads back out of its own text is a UUID
+pub fits_by_text : (id text : List ℕ) → text ≡ uuid_text id → Some id ≡ parsed text → IsUuid id
+fits_by_text id text same back = hyphenated_fits (uuid_text id) id (sym (parsed_36 (uuid_text id) (by_index_length 36 _)) ∙ ap parsed (sym same) ∙ sym back)

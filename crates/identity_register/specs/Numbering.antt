@@ -1,5 +1,5 @@
 -- How the rows of a package's tables stand for items under lasting identities. Items are rows of user data tables (OGC GeoPackage 1.3, 2.2.8 and 2.4.2; OGC 18-000, media), links rows of user-defined mapping tables (OGC 18-000); local numbers and `sheet_identity` are profile.
-use Rattle.std.specs.Prelude.{◌≡◌, ℕ, ℤ, pos, Bool, true, false, not, Contains, Option, None, ◌&&◌, if◌then◌else◌, List, [], ◌∷◌, map, filter, find, bytes_eq, flat_map, unsigned_abs}
+use Rattle.std.specs.Prelude.{◌≡◌, ℕ, ℤ, pos, Bool, true, false, not, Contains, Option, Some, None, ◌+ℤ◌, ◌&&◌, if◌then◌else◌, List, [], ◌∷◌, map, filter, find, bytes_eq, unsigned_abs}
 use Rattle.std.specs.Ordering.{int_eq}
 use Rattle.std.specs.List.{AllByRecursion, IsDistinct, list_any}
 use Rattle.std.specs.Option.{option_map_or}
@@ -165,9 +165,21 @@ IsGreatestOf RowItem t found = IsGreatest (λ x. x.id) t.rows found
 IsGreatestOf TilesMediaLink t found = found ≡ None
 IsGreatestOf RowsMediaLink t found = found ≡ None
 
+-- the number after the greatest of a table; 1 where there is none, or where none comes after it
+abbrev pub number_after : Option ℤ → ℤ
+number_after None = pos 1
+number_after (Some n) = if is_within (pos 1) (pos 999999) n then n +ℤ pos 1 else pos 1
+
+-- an identity row has this kind and number
+abbrev pub is_taken : ℤ → ℤ → Tables → Bool
+is_taken kind number t = list_any (λ x. int_eq x.kind kind && int_eq x.local_id number) t.identities
+
+abbrev pub IsTaken : ℤ → ℤ → Tables → Bool → Type 0
+IsTaken kind number t taken = taken ≡ is_taken kind number t
+
 -- a number that no identity row of the kind has
 abbrev pub IsGap : ℤ → Tables → ℤ → Type 0
-IsGap kind t number = (is_within (pos 1) greatest_number number ≡ true) × (list_any (λ x. int_eq x.kind kind && int_eq x.local_id number) t.identities ≡ false)
+IsGap kind t number = (is_within (pos 1) greatest_number number ≡ true) × (is_taken kind number t ≡ false)
 
 -- the row of a content comes in, where its number is free
 abbrev pub AddsContent : ℤ → Content → Tables → Tables → Type 0

@@ -8,7 +8,7 @@ ghost use Rattle.sheet_types.specs.World.{kind_number};
 ghost use Rattle.package_tables.specs.Calls.{OnTables, Answers};
 ghost use Rattle.identity_register.specs.Calls.{Becomes};
 ghost use Rattle.identity_register.specs.Changes.{IsNewItem, item_added};
-ghost use Rattle.identity_register.specs.Numbering.{IsGreatestOf, IsGap, AddsContent, greatest_number};
+ghost use Rattle.identity_register.specs.Numbering.{IsGreatestOf, IsTaken, IsGap, AddsContent, greatest_number, number_after};
 
 use package_tables::attributes::{greatest_attribute_id, insert_attribute};
 use package_tables::fault::Fault;
@@ -19,13 +19,6 @@ use sheet_types::command::Content;
 use sqlite::{Alter, Transaction};
 use uuid::Uuid;
 
-// The kinds of items as they are stored.
-const TILE: i64 = 1;
-
-const MEDIUM: i64 = 2;
-
-const ROW: i64 = 3;
-
 // The greatest local number of a package (profile).
 const GREATEST: i64 = 1_000_000;
 
@@ -33,11 +26,7 @@ const GREATEST: i64 = 1_000_000;
 fn stored_kind(content: &Content) -> i64
     ensures { result ≡ pos (kind_number (kind_of content.now)) }
 {
-    match content {
-        Content::Tile { .. } => TILE,
-        Content::Media { .. } => MEDIUM,
-        Content::Row { .. } => ROW,
-    }
+    content.kind().number() as i64
 }
 
 /// The greatest number in the table that a content belongs to.
@@ -54,7 +43,8 @@ fn greatest<S: Alter>(tx: &mut Transaction<'_, S>, content: &Content) -> Result<
 
 /// The number after the greatest, or the first where there is none or it is the last that may be.
 fn number_after(greatest: Option<i64>) -> i64
-    ensures { is_within (pos 1) greatest_number result ≡ true }
+    ensures next { result ≡ number_after greatest }
+    ensures range { is_within (pos 1) greatest_number result ≡ true }
 {
     match greatest {
         Some(number) if number >= 1 && number < GREATEST => number + 1,
@@ -62,15 +52,39 @@ fn number_after(greatest: Option<i64>) -> i64
     }
 }
 
-/// A number that no item of the kind has: the one after the greatest.
+/// Whether an item of the kind has this number.
+fn is_taken<S: Alter>(tx: &mut Transaction<'_, S>, kind: i64, number: i64) -> Result<bool, Fault>
+    ensures same_reference { tx.new.conn.ghost_name ≡ tx.old.conn.ghost_name }
+    ensures steps { Steps (Answers (IsTaken kind number)) (state S.Store tx.old.conn.now) (state S.Store tx.new.conn.now) result }
+{
+    let found = identity_by_key_inside(tx, kind, number)?;
+    Ok(found.is_some())
+}
+
+/// The first number that no item of the kind has.
+fn first_gap<S: Alter>(tx: &mut Transaction<'_, S>, kind: i64) -> Result<i64, Fault>
+    ensures same_reference { tx.new.conn.ghost_name ≡ tx.old.conn.ghost_name }
+    ensures steps { Steps (Answers (IsGap kind)) (state S.Store tx.old.conn.now) (state S.Store tx.new.conn.now) result }
+{
+    for number in 1..=GREATEST {
+        let taken = is_taken(tx, kind, number)?;
+        if !taken {
+            return Ok(number);
+        }
+    }
+    Err(Fault::StoreFault)
+}
+
+/// A number that no item of the kind has: the one after the greatest, and where that is taken, as where the greatest is the last that may be, the first.
 fn free_number<S: Alter>(tx: &mut Transaction<'_, S>, content: &Content) -> Result<i64, Fault>
     ensures same_reference { tx.new.conn.ghost_name ≡ tx.old.conn.ghost_name }
     ensures steps { Steps (Answers (IsGap (pos (kind_number (kind_of content.now))))) (state S.Store tx.old.conn.now) (state S.Store tx.new.conn.now) result }
 {
+    let kind = stored_kind(content);
     let number = number_after(greatest(tx, content)?);
-    let taken = identity_by_key_inside(tx, stored_kind(content), number)?;
-    if taken.is_some() {
-        return Err(Fault::StoreFault);
+    let taken = is_taken(tx, kind, number)?;
+    if taken {
+        return first_gap(tx, kind);
     }
     Ok(number)
 }

@@ -6,6 +6,7 @@ ghost use Rattle.sql_meaning.specs.Transactions.{Rests};
 
 use crate::additions::add;
 use crate::changes::{delete, link, unlink};
+use crate::look_ups::find;
 use package_tables::attributes::{all_attributes, insert_attribute};
 use package_tables::fault::Fault;
 use package_tables::identities::{all_identities, insert_identity};
@@ -89,6 +90,19 @@ fn filled<S: Alter>(conn: &mut Connection<S>) -> Result<bool, Fault> {
     create_schema(&mut tx)?;
     fill_contents(&mut tx)?;
     fill_identities(&mut tx)?;
+    tx.commit()?;
+    Ok(true)
+}
+
+// A medium of 3 bytes has the last number that may be.
+fn filled_to_the_last<S: Alter>(conn: &mut Connection<S>) -> Result<bool, Fault> {
+    if !conn.is_autocommit() {
+        return Ok(false);
+    }
+    let mut tx = conn.transaction();
+    create_schema(&mut tx)?;
+    insert_medium(&mut tx, 1_000_000, b"tif", "image/tiff")?;
+    insert_identity(&mut tx, 2, 1_000_000, FIRST_MEDIUM)?;
     tx.commit()?;
     Ok(true)
 }
@@ -237,6 +251,24 @@ fn identities<S: Alter>(alloc: Global, conn: &mut Connection<S>) -> Result<Strin
     Ok(told)
 }
 
+// The bytes of a medium; nothing where it is none.
+fn medium_bytes<S: Alter>(
+    alloc: Global,
+    conn: &mut Connection<S>,
+    identity: Uuid,
+) -> Result<Vec<u8>, Fault> {
+    if !guarded(conn) {
+        return Err(Fault::StoreFault);
+    }
+    match find(conn, identity)? {
+        None => Ok(Vec::new(alloc)),
+        Some(item) => match item.content {
+            Content::Media { bytes, .. } => Ok(bytes.as_slice().to_vec(alloc)?),
+            _ => Ok(Vec::new(alloc)),
+        },
+    }
+}
+
 // ---- tests
 
 #[test]
@@ -298,5 +330,22 @@ fn an_item_of_each_kind_is_added(rt: HostRuntime) -> Result<(), Fail> {
         identities(a, conn)?.as_str(),
         "1 7;1 9;1 10;2 4;2 7;2 8;3 3;3 4;"
     );
+    Ok(())
+}
+
+#[test]
+fn numbers_are_found_below_the_last_that_may_be(rt: HostRuntime) -> Result<(), Fail> {
+    let a = rt.alloc();
+    let mut conn = Connection::open_in_memory(a)?;
+    let conn = &mut conn;
+    assert!(rt; filled_to_the_last(conn)?);
+    assert!(rt; added(conn, Uuid::from_u128(6), &a_medium(a)?)?);
+    assert_eq!(rt; media(a, conn)?.as_str(), "1;1000000;");
+    assert!(rt; medium_bytes(a, conn, Uuid::from_u128(6))?.as_slice() == b"png".as_slice());
+    assert!(rt; medium_bytes(a, conn, first_medium())?.as_slice() == b"tif".as_slice());
+    assert!(rt; added(conn, Uuid::from_u128(7), &a_medium(a)?)?);
+    assert_eq!(rt; media(a, conn)?.as_str(), "1;2;1000000;");
+    assert!(rt; added(conn, Uuid::from_u128(8), &a_tile(a)?)?);
+    assert_eq!(rt; identities(a, conn)?.as_str(), "1 1;2 1;2 2;2 1000000;");
     Ok(())
 }

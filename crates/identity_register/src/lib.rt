@@ -5,6 +5,9 @@ pub mod additions;
 #[cfg(test)]
 mod change_tests;
 pub mod changes;
+pub mod creation;
+#[cfg(test)]
+mod creation_tests;
 pub mod laws;
 #[cfg(test)]
 mod look_up_tests;

@@ -6,7 +6,7 @@ use Rattle.sheet_types.specs.Texts.{uuid_text}
 use Rattle.std.specs.List.{list_any}
 use Rattle.package_tables.specs.Calls.{IsOneOf}
 use Rattle.custody.specs.Entries.{is_of}
-use Rattle.custody.proofs.Looking.{asked, looked, tells}
+use Rattle.identity_register.proofs.Looking.{asked, looked, tells}
 use Rattle.custody.proofs.Naming.{found_passes, read_back}
 use Rattle.custody.proofs.is_moved_as.Goals as goal
 

@@ -1,28 +1,26 @@
-use Rattle.std.proofs.Common.{rules, pos, Err, refl, sym, ◌∙◌, to_z-of_z, FitsSigned, w64}
-use Rattle.std.specs.Prelude.{◌&&◌}
-use Rattle.std.specs.Ordering.{int_eq}
-use Rattle.sheet_types.specs.Texts.{kind_of}
-use Rattle.sheet_types.specs.World.{kind_number}
+use Rattle.std.proofs.Common.{rules, to_z-of_z, FitsSigned, w64}
 use Rattle.sql_meaning.proofs.Transactions.{steps_then, steps_failed}
-use Rattle.package_tables.specs.Calls.{IsOneOf}
-use Rattle.package_tables.specs.declared.fault.Fault.TheVariants.{StoreFault}
-use Rattle.package_tables.proofs.Stepping.{tells_steps}
-use Rattle.identity_register.specs.Numbering.{IsGreatestOf}
-use Rattle.identity_register.proofs.Numbers.{gap_steps}
+use Rattle.identity_register.specs.Numbering.{IsTaken, IsGap}
+use Rattle.identity_register.proofs.Numbers.{same_then, gap_steps, gap_of}
 use Rattle.identity_register.proofs.additions.free_number.Goals as goal
 
-pub returns-then-is_some-clause-steps : goal.returns-then-is_some-clause-steps
-returns-then-is_some-clause-steps g c =
+pub returns-in_err-taken-clause-steps : goal.returns-in_err-taken-clause-steps
+returns-in_err-taken-clause-steps g c = steps_failed _ c.from_residual-in_err-taken.ensures.0 (steps_then c.in_ok-greatest.ensures.steps c.is_taken.ensures.steps)
+
+pub returns-then-taken-clause-steps : goal.returns-then-taken-clause-steps
+returns-then-taken-clause-steps g c =
     let number : FitsSigned w64 c.number_after-number.result = search rules in
-    let kind : FitsSigned w64 c.stored_kind.result = search rules in
-    steps_failed (Err StoreFault) refl
-    (steps_then c.in_ok-greatest.ensures.steps
-    (tells_steps (λ t. IsOneOf (λ r. int_eq r.kind c.stored_kind.result && int_eq r.local_id c.number_after-number.result) t.identities) (simp (to_z-of_z, number, kind) at c.identity_by_key_inside.ensures.told) c.identity_by_key_inside.ensures.survives))
+    let kind : FitsSigned w64 c.stored_kind-kind.result = search rules in
+    gap_of c.stored_kind-kind.ensures
+    (same_then (IsGap c.stored_kind-kind.result) (λ a b it. it.0)
+    (same_then (IsTaken c.stored_kind-kind.result c.number_after-number.result) (λ a b it. it.0) c.in_ok-greatest.ensures.steps (simp (to_z-of_z, number, kind) at c.in_ok-taken.ensures.steps))
+    (simp (to_z-of_z, kind) at c.first_gap.ensures.steps))
 
 pub returns-clause-steps : goal.returns-clause-steps
 returns-clause-steps g c =
     let number : FitsSigned w64 c.number_after-number.result = search rules in
-    let kind : FitsSigned w64 c.stored_kind.result = search rules in
+    let kind : FitsSigned w64 c.stored_kind-kind.result = search rules in
     simp (to_z-of_z, number)
-    (gap_steps (IsGreatestOf (kind_of c.args.content.now)) c.stored_kind.result (pos (kind_number (kind_of c.args.content.now))) c.number_after-number.result c.in_ok-taken.taken c.stored_kind.ensures c.number_after-number.ensures
-    (sym c.is_some.ensures ∙ c.if-is_some.false) c.in_ok-greatest.ensures.steps (simp (to_z-of_z, number, kind) at c.in_ok-taken.ensures.told) c.in_ok-taken.ensures.survives)
+    (gap_of c.stored_kind-kind.ensures
+    (gap_steps c.stored_kind-kind.result c.number_after-number.result c.in_ok-taken.taken c.number_after-number.ensures.range c.if-taken.false
+    (same_then (IsTaken c.stored_kind-kind.result c.number_after-number.result) (λ a b it. it.0) c.in_ok-greatest.ensures.steps (simp (to_z-of_z, number, kind) at c.in_ok-taken.ensures.steps))))

@@ -1,0 +1,18 @@
+-- A package that was just made.
+use Rattle.std.specs.Prelude.{ℕ, List, Option}
+use Rattle.sqlite.specs.Tree.{Trees}
+use Rattle.sqlite.specs.State.{State}
+use Rattle.sql_meaning.specs.Transactions.{Holds}
+use Rattle.sheet_types.specs.World.{Package, no_package}
+use Rattle.sheet_types.specs.declared.frame.Frame.{Frame}
+use Rattle.identity_register.specs.Reads.{Reads}
+
+-- the package that a head tells, with no items, no links and no receipts
+abbrev pub new_package : List ℕ → Option (List ℕ) → ℕ → ℕ → Package
+new_package uuid parent depth loan = record no_package { uuid = uuid; parent = parent; depth = depth; loan = loan }
+
+-- The store is open and at rest and reads as this package, and so does all that a crash leaves of it.
+pub record Keeps (f : Frame) (p : Package) (s : State) : Type 0 where
+  pub holds : Holds s s.now
+  pub reads : Reads f p s.now
+  pub left : (trees : Trees) → s.may_leave trees → Reads f p (record { schema = s.now.schema; trees = trees })
