@@ -1,3 +1,5 @@
 pub mod Entering
+pub mod Kept
 pub mod Looking
 pub mod Naming
+pub mod Things
