@@ -42,28 +42,27 @@ in_permutation xs ys x same i = contained ys x (Contains-permutation xs ys x sam
 abbrev pub IsRowFor : List ℕ → Tables → Option ReceiptRow → Type 0
 IsRowFor id t found = IsOneOf (λ x. bytes_eq x.request (uuid_text id)) t.receipts found
 
+-- a row under a number
+abbrev is_under : ℕ → MovedRow → Bool
+is_under seq x = int_eq x.seq (pos seq)
+
 module _ (f : Frame) (p : Package) (t : Tables) (says : Says f p t) where
   -- the things whose rows are those of a receipt's number are what it moved
   things_kept : (s : Receipt) → In s says.entered → (things : List Moved) → AllByRecursion (λ m. is_fit_moved m ≡ true) things → AreThose (λ x. int_eq x.seq (pos s.seq)) t.moved (rows_from s.seq 0 things) → things ≡ s.items
   things_kept s i things fit are = by_places 0 things s.items to fro
     where
-      test : MovedRow → Bool
-      test x = int_eq x.seq (pos s.seq)
-
       to : (z : ℕ × Moved) → In z (enumerate_from 0 things) → In z (enumerate_from 0 s.items)
-      unfolding test
       to z at =
           let row : MovedRow = moved_row s.seq z.0 z.1 in
           let found : In row (rows_from s.seq 0 things) = In-map (λ m. moved_row s.seq m.0 m.1) z (enumerate_from 0 things) at in
-          let passing : In row (filter test t.moved) = in_permutation (rows_from s.seq 0 things) (filter test t.moved) row (IsPermutation-sym (filter test t.moved) (rows_from s.seq 0 things) are) found in
-          thing_moved f t p says s i z (All-In (λ m. is_fit_moved m ≡ true) z.1 things fit (in_place 0 z things at)) (of_filter test row t.moved passing)
+          let passing : In row (filter (is_under s.seq) t.moved) = in_permutation (rows_from s.seq 0 things) (filter (is_under s.seq) t.moved) row (IsPermutation-sym (filter (is_under s.seq) t.moved) (rows_from s.seq 0 things) are) found in
+          thing_moved f t p says s i z (All-In (λ m. is_fit_moved m ≡ true) z.1 things fit (in_place 0 z things at)) (of_filter (is_under s.seq) row t.moved passing)
 
       fro : (z : ℕ × Moved) → In z (enumerate_from 0 s.items) → In z (enumerate_from 0 things)
-      unfolding test
       fro z at =
           let row : MovedRow = moved_row s.seq z.0 z.1 in
-          let passing : In row (filter test t.moved) = In-filter test row t.moved (thing_stored f t p says s i z at) (pos_same s.seq s.seq ∙ eq-eqb s.seq s.seq refl) in
-          let w = in_map (λ m. moved_row s.seq m.0 m.1) row (enumerate_from 0 things) (in_permutation (filter test t.moved) (rows_from s.seq 0 things) row are passing) in
+          let passing : In row (filter (is_under s.seq) t.moved) = In-filter (is_under s.seq) row t.moved (thing_stored f t p says s i z at) (pos_same s.seq s.seq ∙ eq-eqb s.seq s.seq refl) in
+          let w = in_map (λ m. moved_row s.seq m.0 m.1) row (enumerate_from 0 things) (in_permutation (filter (is_under s.seq) t.moved) (rows_from s.seq 0 things) row are passing) in
           let fit_w = All-In (λ m. is_fit_moved m ≡ true) w.0.1 things fit (in_place 0 w.0 things w.1) in
           let fit_z = All-In (λ m. is_fit_moved m ≡ true) z.1 s.items (All-In IsFitReceipt s says.entered says.fit i).items (in_place 0 z s.items at) in
           subst (λ v. In v (enumerate_from 0 things)) (same_place w.0 z s.seq s.seq fit_w fit_z w.2) w.1

@@ -51,11 +51,11 @@ fn kind_of_number(number: i64) -> Result<MovedKind, Fault>
     }
 }
 
-// Each byte fits, which no clause can say of an array: the walk reads them.
-fn bytes_fit(bytes: &[u8])
-    ensures { All (λ b. b < 256) bytes.now }
+// Each byte of an array fits, which no clause can say of it: the walk reads them.
+fn bytes_fit<const N: usize>(bytes: &[u8; N])
+    ensures { is_bytes N bytes.now ≡ true }
 {
-    for place in 0..bytes.len() {
+    for place in 0..N {
         let _ = bytes[place];
     }
 }
@@ -99,8 +99,16 @@ fn digest_of(text: &str) -> Result<Option<[u8; 32]>, Fault>
     Ok(Some(digest))
 }
 
-/// The thing that the row of a number and a position stands for; another row is a fault.
-fn thing_at(row: &MovedRow, seq: i64, position: usize) -> Result<Moved, Fault>
+/// The thing that the row of a number and a position stands for, its ends as they were read; another row is a fault.
+fn thing_at(
+    row: &MovedRow,
+    seq: i64,
+    position: usize,
+    base: Uuid,
+    other: Option<Uuid>,
+) -> Result<Moved, Fault>
+    requires base { (row.now.base ≡ uuid_text base) × IsUuid base }
+    requires other { (row.now.other ≡ end_text other) × (is_fit_end other ≡ true) }
     ensures row { IfOk result (λ thing. row.now ≡ row_at seq position thing) }
     ensures fit { IfOk result (λ thing. is_fit_moved thing ≡ true) }
 {
@@ -109,8 +117,6 @@ fn thing_at(row: &MovedRow, seq: i64, position: usize) -> Result<Moved, Fault>
         return Err(Fault::StoreFault);
     }
     let kind = kind_of_number(row.kind)?;
-    let base = uuid_of(row.base.as_str())?;
-    let other = end_of(row.other.as_str())?;
     let size = counted(row.size)?;
     let fingerprint = digest_of(row.fingerprint.as_str())?;
     Ok(Moved {
@@ -128,9 +134,11 @@ fn things_of(alloc: Global, seq: i64, rows: &[MovedRow]) -> Result<MovedList, Fa
     ensures fit { IfOk result (λ things. AllByRecursion (λ m. is_fit_moved m ≡ true) things) }
 {
     let mut things = Vec::new(alloc);
-    for row in rows {
-        let thing = thing_at(row, seq, things.len())?;
-        things.push(thing)?;
+    for position in 0..rows.len() {
+        let row = &rows[position];
+        let base = uuid_of(row.base.as_str())?;
+        let other = end_of(row.other.as_str())?;
+        things.push(thing_at(row, seq, position, base, other)?)?;
     }
     Ok(MovedList::from_vec(things))
 }

@@ -5,10 +5,10 @@ pub mod Finding
 pub mod Dropping
 pub mod Joining
 pub mod Numbers
-mod Looking
-mod Uuids
+pub mod Looking
+pub mod Uuids
 mod Answering
 mod Ends
 mod Contents
 mod OneFrame
-mod OnePackage
+pub mod OnePackage
