@@ -1,6 +1,6 @@
 -- The receipt that is read back from the rows of a request is the one that the package keeps.
 use Rattle.std.proofs.Common.{◌≡◌, ℕ, pos, List, [], ◌∷◌, map, Bool, true, false, refl, sym, ap, subst, ◌∙◌, Option, Some, None}
-use Rattle.std.specs.Prelude.{◌||◌, bytes_eq, filter, flat_map, Contains, IsPermutation}
+use Rattle.std.specs.Prelude.{bytes_eq, filter, Contains, IsPermutation}
 use Rattle.std.specs.List.{AllByRecursion, list_any, enumerate_from}
 use Rattle.std.specs.Ordering.{int_eq}
 use Rattle.std.proofs.lemmas.Bool.{true≢false, or_parts}

@@ -1,5 +1,5 @@
 -- The rows of things, as far as a loop has read them, and the values that are fit by their types.
-use Rattle.std.proofs.Common.{◌≡◌, ℕ, zero, suc, ℤ, pos, ◌<◌, ◌≤◌, ◌+◌, take, get_or, length, List, [], ◌∷◌, ◌++◌, map, refl, sym, ap, subst, ◌∙◌, true, arith}
+use Rattle.std.proofs.Common.{◌≡◌, ℕ, suc, ℤ, ◌<◌, ◌≤◌, ◌+◌, take, get_or, length, List, [], ◌∷◌, ◌++◌, map, refl, sym, ap, subst, ◌∙◌, true, arith}
 use Rattle.std.specs.List.{AllByRecursion, enumerate_from}
 use Rattle.std.proofs.lemmas.List.{take_more, take_all, length_push}
 use Rattle.sheet_types.specs.Lines.{is_bytes}

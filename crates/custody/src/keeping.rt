@@ -129,6 +129,7 @@ fn thing_at(
 }
 
 /// The things of the rows of a number, which stand at their positions from 0.
+// The ends are read here, since the borrow checker plans a loop over the types alone that its body names.
 fn things_of(alloc: Global, seq: i64, rows: &[MovedRow]) -> Result<MovedList, Fault>
     ensures rows { IfOk result (λ things. rows.now ≡ rows_at seq things) }
     ensures fit { IfOk result (λ things. AllByRecursion (λ m. is_fit_moved m ≡ true) things) }
@@ -144,11 +145,7 @@ fn things_of(alloc: Global, seq: i64, rows: &[MovedRow]) -> Result<MovedList, Fa
 }
 
 /// What the receipt of a number moved.
-fn items_of<S: Alter>(
-    conn: &mut Connection<S>,
-    alloc: Global,
-    seq: i64,
-) -> Result<MovedList, Fault>
+fn items_of<S: Alter>(conn: &mut Connection<S>, alloc: Global, seq: i64) -> Result<MovedList, Fault>
     requires { Rests (state S.Store conn.old) }
     ensures looked { LooksUp (λ t things. AreThose (λ x. int_eq x.seq seq) t.moved (rows_at seq things)) (state S.Store conn.old) (state S.Store conn.new) result }
     ensures fit { IfOk result (λ things. AllByRecursion (λ m. is_fit_moved m ≡ true) things) }

@@ -1,4 +1,4 @@
-use Rattle.std.proofs.Common.{◌≡◌, ◌≤◌, ◌<◌, ◌+◌, ◌∙◌, sym, ap, subst, take, length, to_z-of_z, arith}
+use Rattle.std.proofs.Common.{◌≤◌, ◌<◌, ◌+◌, ◌∙◌, sym, ap, subst, take, length, to_z-of_z, arith}
 use Rattle.custody.proofs.Things.{AreRead, none_read, one_read, all_read, pushed}
 use Rattle.custody.proofs.keeping.things_of.Goals as goal
 
