@@ -1,2 +1,4 @@
 pub mod Entering
+pub mod Kept
 pub mod Naming
+pub mod Things

@@ -1,6 +1,7 @@
 //! The receipts that stand in a package: which are entered, and what they name.
 #![tactic(auto)]
 
+pub mod keeping;
 #[cfg(test)]
 mod tests;
 

@@ -3,6 +3,7 @@ ghost use Rattle.std.specs.Prelude.{IsTrue};
 ghost use Rattle.sqlite.specs.Held.{state};
 ghost use Rattle.sql_meaning.specs.Transactions.{Rests};
 
+use crate::keeping::kept;
 use crate::{enter, names};
 use package_tables::create::{Info, create};
 use package_tables::fault::Fault;
@@ -61,6 +62,32 @@ fn loan(alloc: Global) -> Result<Receipt, Fault> {
         rows: 0,
         links: 1,
         bytes: 5,
+    })
+}
+
+// The return of a tile, from one package to another.
+fn give_back(alloc: Global) -> Result<Receipt, Fault> {
+    let mut things = Vec::new(alloc);
+    things.push(Moved {
+        kind: MovedKind::TileItem,
+        base: Uuid::from_u128(6),
+        other: None,
+        size: 9,
+        fingerprint: Some([205; 32]),
+    })?;
+    Ok(Receipt {
+        seq: 8,
+        request: Uuid::from_u128(10),
+        at: text(alloc, AT)?,
+        line: text(alloc, "another line")?,
+        source: Some(Uuid::from_u128(5)),
+        target: Some(Uuid::from_u128(1)),
+        items: MovedList::from_vec(things),
+        tiles: 1,
+        media: 0,
+        rows: 0,
+        links: 0,
+        bytes: 9,
     })
 }
 
@@ -164,5 +191,55 @@ fn a_receipt_is_entered_and_names_its_items(rt: HostRuntime) -> Result<(), Fail>
     );
     assert!(rt; is_named(&mut conn, 2)?);
     assert!(rt; !is_named(&mut conn, 3)?);
+    Ok(())
+}
+
+fn is_same(a: &Receipt, b: &Receipt) -> bool {
+    let heads = a.seq == b.seq && a.request == b.request;
+    let texts = a.at.as_str() == b.at.as_str() && a.line.as_str() == b.line.as_str();
+    let ends = a.source == b.source && a.target == b.target;
+    let items = a.items.as_slice() == b.items.as_slice();
+    let counts = a.tiles == b.tiles && a.media == b.media && a.rows == b.rows;
+    heads && texts && ends && items && counts && a.links == b.links && a.bytes == b.bytes
+}
+
+fn is_kept<S: Alter>(
+    alloc: Global,
+    conn: &mut Connection<S>,
+    receipt: &Receipt,
+) -> Result<bool, Fault> {
+    if !guarded(conn) {
+        return Err(Fault::StoreFault);
+    }
+    match kept(conn, alloc, receipt.request)? {
+        None => Ok(false),
+        Some(found) => Ok(is_same(&found, receipt)),
+    }
+}
+
+fn has_kept<S: Alter>(
+    alloc: Global,
+    conn: &mut Connection<S>,
+    request: u128,
+) -> Result<bool, Fault> {
+    if !guarded(conn) {
+        return Err(Fault::StoreFault);
+    }
+    let found = kept(conn, alloc, Uuid::from_u128(request))?;
+    Ok(found.is_some())
+}
+
+#[test]
+fn a_receipt_is_kept_for_its_request(rt: HostRuntime) -> Result<(), Fail> {
+    let alloc = rt.alloc();
+    let mut conn = made(alloc, Connection::open_in_memory(alloc)?)?;
+    let lent = loan(alloc)?;
+    let back = give_back(alloc)?;
+    assert!(rt; !has_kept(alloc, &mut conn, 9)?);
+    assert!(rt; entered(&mut conn, &lent)?);
+    assert!(rt; entered(&mut conn, &back)?);
+    assert!(rt; is_kept(alloc, &mut conn, &lent)?);
+    assert!(rt; is_kept(alloc, &mut conn, &back)?);
+    assert!(rt; !has_kept(alloc, &mut conn, 11)?);
     Ok(())
 }

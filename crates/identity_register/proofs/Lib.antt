@@ -7,9 +7,9 @@ pub mod Joining
 pub mod Numbers
 pub mod NewPackage
 pub mod Looking
-mod Uuids
+pub mod Uuids
 mod Answering
 mod Ends
 mod Contents
 mod OneFrame
-mod OnePackage
+pub mod OnePackage

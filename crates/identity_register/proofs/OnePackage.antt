@@ -89,7 +89,7 @@ from_place n z [] i = absurd i
 from_place n z (x ∷ xs) i = elim i [ inl e ↦ let same = ap (λ v. v.0) e in omega arith | inr j ↦ let later = from_place (n + 1) z xs j in omega arith ]
 
 -- two lists are one where they have the same element in each place
-by_places : {X : Type 0} (n : ℕ) (xs ys : List X) → ((z : ℕ × X) → In z (enumerate_from n xs) → In z (enumerate_from n ys)) → ((z : ℕ × X) → In z (enumerate_from n ys) → In z (enumerate_from n xs)) → xs ≡ ys
+pub by_places : {X : Type 0} (n : ℕ) (xs ys : List X) → ((z : ℕ × X) → In z (enumerate_from n xs) → In z (enumerate_from n ys)) → ((z : ℕ × X) → In z (enumerate_from n ys) → In z (enumerate_from n xs)) → xs ≡ ys
 by_places n [] [] to fro = refl
 by_places n [] (y ∷ ys) to fro = absurd (fro (n, y) (inl refl))
 by_places n (x ∷ xs) [] to fro = absurd (to (n, x) (inl refl))
@@ -106,7 +106,7 @@ by_places {X} n (x ∷ xs) (y ∷ ys) to fro = joined (head (to (n, x) (inl refl
 
 -- ---- texts
 
-nat_of : (a b : ℕ) → pos a ≡ pos b → a ≡ b
+pub nat_of : (a b : ℕ) → pos a ≡ pos b → a ≡ b
 nat_of a b e = ap unsigned_abs e
 
 text_long : (id : List ℕ) → length (uuid_text id) ≡ 36
@@ -153,7 +153,7 @@ same_print (Some a) (Some b) h g e = ap Some (sym (digest_back a h) ∙ ap diges
 -- ---- receipts
 
 -- what was moved, by its row
-same_moved : (a b : Moved) (s k s' k' : ℕ) → is_fit_moved a ≡ true → is_fit_moved b ≡ true → moved_row s k a ≡ moved_row s' k' b → a ≡ b
+pub same_moved : (a b : Moved) (s k s' k' : ℕ) → is_fit_moved a ≡ true → is_fit_moved b ≡ true → moved_row s k a ≡ moved_row s' k' b → a ≡ b
 unfolding is_fit_print print_text
 same_moved a b s k s' k' h g e =
     let ha = and_parts (is_uuid a.base && is_fit_end a.other) (option_map_or (is_bytes 32) a.fingerprint true) h in
@@ -167,9 +167,32 @@ same_moved a b s k s' k' h g e =
     let print : a.fingerprint ≡ b.fingerprint = same_print a.fingerprint b.fingerprint ha.1 hb.1 (ap (λ r. r.fingerprint) e) in
     λ n. record { kind = kind n; base = base n; other = other n; size = size n; fingerprint = print n }
 
-in_place : {X : Type 0} (n : ℕ) (z : ℕ × X) (xs : List X) → In z (enumerate_from n xs) → In z.1 xs
+pub in_place : {X : Type 0} (n : ℕ) (z : ℕ × X) (xs : List X) → In z (enumerate_from n xs) → In z.1 xs
 in_place n z [] i = i
 in_place n z (x ∷ xs) i = elim i [ inl e ↦ inl (ap (λ v. v.1) e) | inr j ↦ inr (in_place (n + 1) z xs j) ]
+
+-- what stands at a place, by its row
+pub same_place : (w z : ℕ × Moved) (s s' : ℕ) → is_fit_moved w.1 ≡ true → is_fit_moved z.1 ≡ true → moved_row s w.0 w.1 ≡ moved_row s' z.0 z.1 → w ≡ z
+same_place w z s s' fit_w fit_z e =
+    let place : w.0 ≡ z.0 = nat_of w.0 z.0 (ap (λ x. x.position) e) in
+    let thing : w.1 ≡ z.1 = same_moved w.1 z.1 s w.0 s' z.0 fit_w fit_z e in
+    λ n. (place n, thing n)
+
+-- a receipt is known by its row and by what it moved
+pub same_receipt : (s r : Receipt) → IsFitReceipt s → IsFitReceipt r → receipt_row s ≡ receipt_row r → s.items ≡ r.items → s ≡ r
+same_receipt s r theirs mine e items =
+    let seq : s.seq ≡ r.seq = nat_of s.seq r.seq (ap (λ x. x.seq) e) in
+    let request : s.request ≡ r.request = same_uuid s.request r.request theirs.request mine.request (ap (λ x. x.request) e) in
+    let at : s.at ≡ r.at = ap (λ x. x.at) e in
+    let line : s.line ≡ r.line = ap (λ x. x.line) e in
+    let source : s.source ≡ r.source = same_end s.source r.source theirs.source mine.source (ap (λ x. x.source) e) in
+    let target : s.target ≡ r.target = same_end s.target r.target theirs.target mine.target (ap (λ x. x.target) e) in
+    let tiles : s.tiles ≡ r.tiles = nat_of s.tiles r.tiles (ap (λ x. x.n_tiles) e) in
+    let media : s.media ≡ r.media = nat_of s.media r.media (ap (λ x. x.n_media) e) in
+    let rows : s.rows ≡ r.rows = nat_of s.rows r.rows (ap (λ x. x.n_rows) e) in
+    let links : s.links ≡ r.links = nat_of s.links r.links (ap (λ x. x.n_links) e) in
+    let bytes : s.bytes ≡ r.bytes = nat_of s.bytes r.bytes (ap (λ x. x.n_bytes) e) in
+    λ n. record { seq = seq n; request = request n; at = at n; line = line n; source = source n; target = target n; items = items n; tiles = tiles n; media = media n; rows = rows n; links = links n; bytes = bytes n }
 
 -- an element is known by its key
 one_of_key : {X : Type 0} (key : X → List ℕ) (xs : List X) (a b : X) → IsDistinct bytes_eq (map key xs) → In a xs → In b xs → key a ≡ key b → a ≡ b
@@ -184,20 +207,28 @@ one_of_key {X} key (x ∷ xs) a b d i j e = elim i [
     apart y k same = true≢false (sym (bytes_eq_itself (key y)) ∙ ap (λ v. bytes_eq v (key y)) (sym same) ∙ All-In (λ z. bytes_eq (key x) (key z) ≡ false) y xs (All-of_map (λ v. bytes_eq (key x) v ≡ false) key xs d.0) k)
 
 module _ (f : Frame) (t : Tables) where
+  -- the row of a thing that a receipt moved is stored
+  pub thing_stored : (p : Package) (one : Says f p t) (r : Receipt) → In r one.entered → (z : ℕ × Moved) → In z (enumerate_from 0 r.items) → In (moved_row r.seq z.0 z.1) t.moved
+  thing_stored p one r i z at =
+      let row : MovedRow = moved_row r.seq z.0 z.1 in
+      subst (In row) (sym one.moved) (to_arranged moved_shape.key row (flat_map moved_rows one.entered) (In-flat_map moved_rows r row one.entered i (In-map (λ m. moved_row r.seq m.0 m.1) z (enumerate_from 0 r.items) at)))
+
+  -- a thing whose row is stored under the number of a receipt was moved by it
+  pub thing_moved : (q : Package) (two : Says f q t) (s : Receipt) → In s two.entered → (z : ℕ × Moved) → is_fit_moved z.1 ≡ true → In (moved_row s.seq z.0 z.1) t.moved → In z (enumerate_from 0 s.items)
+  thing_moved q two s j z fit_z stored =
+      let row : MovedRow = moved_row s.seq z.0 z.1 in
+      let it = in_flat_map moved_rows row two.entered (in_arranged moved_shape.key (flat_map moved_rows two.entered) row (subst (In row) two.moved stored)) in
+      let w = In-of_map (λ m. moved_row it.0.seq m.0 m.1) row (enumerate_from 0 it.0.items) it.2 in
+      let receipt : it.0 ≡ s = one_of_key receipt_key two.entered it.0 s two.distinct_receipts it.1 j (ap (λ k. k ∷ []) (nat_of it.0.seq s.seq (ap (λ x. x.seq) w.2))) in
+      let fit_w = All-In (λ m. is_fit_moved m ≡ true) w.0.1 it.0.items (All-In IsFitReceipt it.0 two.entered two.fit it.1).items (in_place 0 w.0 it.0.items w.1) in
+      let whole : w.0 ≡ z = same_place w.0 z it.0.seq s.seq fit_w fit_z w.2 in
+      subst (λ x. In z (enumerate_from 0 x.items)) receipt (subst (λ v. In v (enumerate_from 0 it.0.items)) whole w.1)
+
   -- what a receipt of one reading moved, a receipt of the same number moved in another
   places_there : (p q : Package) (one : Says f p t) (two : Says f q t) (r s : Receipt) → In r one.entered → In s two.entered → s.seq ≡ r.seq → (z : ℕ × Moved) → In z (enumerate_from 0 r.items) → In z (enumerate_from 0 s.items)
   places_there p q one two r s i j same z at =
-      let row : MovedRow = moved_row r.seq z.0 z.1 in
-      let stored : In row t.moved = subst (In row) (sym one.moved) (to_arranged moved_shape.key row (flat_map moved_rows one.entered) (In-flat_map moved_rows r row one.entered i (In-map (λ m. moved_row r.seq m.0 m.1) z (enumerate_from 0 r.items) at))) in
-      let it = in_flat_map moved_rows row two.entered (in_arranged moved_shape.key (flat_map moved_rows two.entered) row (subst (In row) two.moved stored)) in
-      let w = In-of_map (λ m. moved_row it.0.seq m.0 m.1) row (enumerate_from 0 it.0.items) it.2 in
-      let receipt : it.0 ≡ s = one_of_key receipt_key two.entered it.0 s two.distinct_receipts it.1 j (ap (λ k. k ∷ []) (nat_of it.0.seq r.seq (ap (λ x. x.seq) w.2) ∙ sym same)) in
-      let fit_w = All-In (λ m. is_fit_moved m ≡ true) w.0.1 it.0.items (All-In IsFitReceipt it.0 two.entered two.fit it.1).items (in_place 0 w.0 it.0.items w.1) in
       let fit_z = All-In (λ m. is_fit_moved m ≡ true) z.1 r.items (All-In IsFitReceipt r one.entered one.fit i).items (in_place 0 z r.items at) in
-      let place : w.0.0 ≡ z.0 = nat_of w.0.0 z.0 (ap (λ x. x.position) w.2) in
-      let thing : w.0.1 ≡ z.1 = same_moved w.0.1 z.1 it.0.seq w.0.0 r.seq z.0 fit_w fit_z w.2 in
-      let whole : w.0 ≡ z = λ n. (place n, thing n) in
-      subst (λ x. In z (enumerate_from 0 x.items)) receipt (subst (λ v. In v (enumerate_from 0 it.0.items)) whole w.1)
+      thing_moved q two s j z fit_z (subst (λ n. In (moved_row n z.0 z.1) t.moved) (sym same) (thing_stored p one r i z at))
 
   receipt_there : (p q : Package) (one : Says f p t) (two : Says f q t) (r : Receipt) → In r one.entered → In r two.entered
   receipt_there p q one two r i =
@@ -205,23 +236,11 @@ module _ (f : Frame) (t : Tables) where
       let stored : In row t.receipts = subst (In row) (sym one.receipts) (to_arranged receipt_shape.key row (map receipt_row one.entered) (In-map receipt_row r one.entered i)) in
       let it = In-of_map receipt_row row two.entered (in_arranged receipt_shape.key (map receipt_row two.entered) row (subst (In row) two.receipts stored)) in
       let s = it.0 in
-      let e = it.2 in
       let mine = All-In IsFitReceipt r one.entered one.fit i in
       let theirs = All-In IsFitReceipt s two.entered two.fit it.1 in
-      let seq : s.seq ≡ r.seq = nat_of s.seq r.seq (ap (λ x. x.seq) e) in
-      let request : s.request ≡ r.request = same_uuid s.request r.request theirs.request mine.request (ap (λ x. x.request) e) in
-      let at : s.at ≡ r.at = ap (λ x. x.at) e in
-      let line : s.line ≡ r.line = ap (λ x. x.line) e in
-      let source : s.source ≡ r.source = same_end s.source r.source theirs.source mine.source (ap (λ x. x.source) e) in
-      let target : s.target ≡ r.target = same_end s.target r.target theirs.target mine.target (ap (λ x. x.target) e) in
+      let seq : s.seq ≡ r.seq = nat_of s.seq r.seq (ap (λ x. x.seq) it.2) in
       let items : s.items ≡ r.items = by_places 0 s.items r.items (places_there q p two one s r it.1 i (sym seq)) (places_there p q one two r s i it.1 seq) in
-      let tiles : s.tiles ≡ r.tiles = nat_of s.tiles r.tiles (ap (λ x. x.n_tiles) e) in
-      let media : s.media ≡ r.media = nat_of s.media r.media (ap (λ x. x.n_media) e) in
-      let rows : s.rows ≡ r.rows = nat_of s.rows r.rows (ap (λ x. x.n_rows) e) in
-      let links : s.links ≡ r.links = nat_of s.links r.links (ap (λ x. x.n_links) e) in
-      let bytes : s.bytes ≡ r.bytes = nat_of s.bytes r.bytes (ap (λ x. x.n_bytes) e) in
-      let whole : s ≡ r = λ n. record { seq = seq n; request = request n; at = at n; line = line n; source = source n; target = target n; items = items n; tiles = tiles n; media = media n; rows = rows n; links = links n; bytes = bytes n } in
-      subst (λ x. In x two.entered) whole it.1
+      subst (λ x. In x two.entered) (same_receipt s r theirs mine it.2 items) it.1
 
   -- ---- items
 

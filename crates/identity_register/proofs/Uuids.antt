@@ -13,7 +13,7 @@ use Rattle.sheet_types.proofs.Fitting.{bytes_fit}
 use Rattle.sheet_types.proofs.UuidTexts.{parsed_36}
 
 -- what holds at each index holds of all
-small_at : (xs : List ℕ) → ((k : ℕ) → k < length xs → get_or xs k 0 < 256) → AllByRecursion (λ b. b < 256) xs
+pub small_at : (xs : List ℕ) → ((k : ℕ) → k < length xs → get_or xs k 0 < 256) → AllByRecursion (λ b. b < 256) xs
 small_at [] h = tt
 small_at (x ∷ xs) h = (h 0 (omega arith), small_at xs (λ k lt. h (suc k) (omega arith)))
 

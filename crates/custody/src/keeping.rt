@@ -1,0 +1,218 @@
+// The receipt that a package keeps for a request, read back from the rows that say it.
+ghost use Rattle.std.specs.Prelude.{◌≡◌, ◌<◌, true, pos, [], bytes_eq, All, IfOk};
+ghost use Rattle.std.specs.List.{AllByRecursion};
+ghost use Rattle.std.specs.Option.{option_map_or};
+ghost use Rattle.std.specs.Ordering.{int_eq};
+ghost use Rattle.hex.specs.Hex.{encode_lower};
+ghost use Rattle.sqlite.specs.Held.{state};
+ghost use Rattle.sql_meaning.specs.Transactions.{Rests, Looks};
+ghost use Rattle.sheet_types.specs.Lines.{IsUuid, is_bytes};
+ghost use Rattle.sheet_types.specs.Texts.{uuid_text};
+ghost use Rattle.sheet_types.specs.World.{kind_number};
+ghost use Rattle.package_tables.specs.Calls.{LooksUp, IsOneOf, AreThose};
+ghost use Rattle.identity_register.specs.Calls.{Sees};
+ghost use Rattle.identity_register.specs.Reads.{IsFitReceipt, end_text, is_fit_end, is_fit_moved, receipt_row};
+ghost use Rattle.custody.specs.Entries.{row_at, rows_at};
+ghost use Rattle.custody.specs.Receipts.{IsKept};
+
+use package_tables::fault::Fault;
+use package_tables::moved::moved_of;
+use package_tables::receipts::receipt_by_request;
+use package_tables::rows::{MovedRow, ReceiptRow};
+use sheet_types::collections::MovedList;
+use sheet_types::fingerprints::read_fingerprint;
+use sheet_types::reading::read_stored_uuid;
+use sheet_types::receipt::{Moved, MovedKind, Receipt};
+use sqlite::{Alter, Connection};
+use std::alloc::Global;
+use uuid::Uuid;
+
+/// A number that a receipt says, which is not below zero.
+fn counted(number: i64) -> Result<u64, Fault>
+    ensures { IfOk result (λ counted. number ≡ pos counted) }
+{
+    if number < 0 {
+        return Err(Fault::StoreFault);
+    }
+    Ok(number as u64)
+}
+
+/// The kind of a thing that is stored by this number (profile).
+fn kind_of_number(number: i64) -> Result<MovedKind, Fault>
+    ensures { IfOk result (λ kind. number ≡ pos (kind_number kind)) }
+{
+    match number {
+        1 => Ok(MovedKind::TileItem),
+        2 => Ok(MovedKind::MediaItem),
+        3 => Ok(MovedKind::RowItem),
+        4 => Ok(MovedKind::TilesMediaLink),
+        5 => Ok(MovedKind::RowsMediaLink),
+        _ => Err(Fault::StoreFault),
+    }
+}
+
+// Each byte of an array fits, which no clause can say of it: the walk reads them.
+fn bytes_fit<const N: usize>(bytes: &[u8; N])
+    ensures { is_bytes N bytes.now ≡ true }
+{
+    for place in 0..N {
+        let _ = bytes[place];
+    }
+}
+
+/// The UUID of a stored text.
+fn uuid_of(text: &str) -> Result<Uuid, Fault>
+    ensures text { IfOk result (λ id. text.now ≡ uuid_text id) }
+    ensures fit { IfOk result IsUuid }
+{
+    let Some(id) = read_stored_uuid(text) else {
+        return Err(Fault::StoreFault);
+    };
+    bytes_fit(id.as_bytes());
+    Ok(id)
+}
+
+/// The UUID of a stored text, which is empty where there is none.
+fn end_of(text: &str) -> Result<Option<Uuid>, Fault>
+    ensures text { IfOk result (λ end. text.now ≡ end_text end) }
+    ensures fit { IfOk result (λ end. is_fit_end end ≡ true) }
+{
+    if text.is_empty() {
+        return Ok(None);
+    }
+    let id = uuid_of(text)?;
+    Ok(Some(id))
+}
+
+/// The fingerprint of a stored text, which is empty where there is none.
+fn digest_of(text: &str) -> Result<Option<[u8; 32]>, Fault>
+    ensures text { IfOk result (λ digest. text.now ≡ option_map_or encode_lower digest []) }
+    ensures fit { IfOk result (λ digest. option_map_or (is_bytes 32) digest true ≡ true) }
+{
+    if text.is_empty() {
+        return Ok(None);
+    }
+    let Some(digest) = read_fingerprint(text) else {
+        return Err(Fault::StoreFault);
+    };
+    bytes_fit(&digest);
+    Ok(Some(digest))
+}
+
+/// The thing that the row of a number and a position stands for, its ends as they were read; another row is a fault.
+fn thing_at(
+    row: &MovedRow,
+    seq: i64,
+    position: usize,
+    base: Uuid,
+    other: Option<Uuid>,
+) -> Result<Moved, Fault>
+    requires base { (row.now.base ≡ uuid_text base) × IsUuid base }
+    requires other { (row.now.other ≡ end_text other) × (is_fit_end other ≡ true) }
+    ensures row { IfOk result (λ thing. row.now ≡ row_at seq position thing) }
+    ensures fit { IfOk result (λ thing. is_fit_moved thing ≡ true) }
+{
+    let place = counted(row.position)?;
+    if row.seq != seq || place != position as u64 {
+        return Err(Fault::StoreFault);
+    }
+    let kind = kind_of_number(row.kind)?;
+    let size = counted(row.size)?;
+    let fingerprint = digest_of(row.fingerprint.as_str())?;
+    Ok(Moved {
+        kind,
+        base,
+        other,
+        size,
+        fingerprint,
+    })
+}
+
+/// The things of the rows of a number, which stand at their positions from 0.
+// The ends are read here, since the borrow checker plans a loop over the types alone that its body names.
+fn things_of(alloc: Global, seq: i64, rows: &[MovedRow]) -> Result<MovedList, Fault>
+    ensures rows { IfOk result (λ things. rows.now ≡ rows_at seq things) }
+    ensures fit { IfOk result (λ things. AllByRecursion (λ m. is_fit_moved m ≡ true) things) }
+{
+    let mut things = Vec::new(alloc);
+    for position in 0..rows.len() {
+        let row = &rows[position];
+        let base = uuid_of(row.base.as_str())?;
+        let other = end_of(row.other.as_str())?;
+        things.push(thing_at(row, seq, position, base, other)?)?;
+    }
+    Ok(MovedList::from_vec(things))
+}
+
+/// What the receipt of a number moved.
+fn items_of<S: Alter>(conn: &mut Connection<S>, alloc: Global, seq: i64) -> Result<MovedList, Fault>
+    requires { Rests (state S.Store conn.old) }
+    ensures looked { LooksUp (λ t things. AreThose (λ x. int_eq x.seq seq) t.moved (rows_at seq things)) (state S.Store conn.old) (state S.Store conn.new) result }
+    ensures fit { IfOk result (λ things. AllByRecursion (λ m. is_fit_moved m ≡ true) things) }
+{
+    let rows = moved_of(conn, alloc, seq)?;
+    let things = things_of(alloc, seq, rows.as_slice())?;
+    Ok(things)
+}
+
+/// The receipt of a row, which moved these things.
+fn receipt_of(row: ReceiptRow, items: MovedList) -> Result<Receipt, Fault>
+    requires { AllByRecursion (λ m. is_fit_moved m ≡ true) items }
+    ensures row { IfOk result (λ receipt. receipt_row receipt ≡ row) }
+    ensures items { IfOk result (λ receipt. receipt.items ≡ items) }
+    ensures fit { IfOk result IsFitReceipt }
+{
+    let seq = counted(row.seq)?;
+    let request = uuid_of(row.request.as_str())?;
+    let source = end_of(row.source.as_str())?;
+    let target = end_of(row.target.as_str())?;
+    let tiles = counted(row.n_tiles)?;
+    let media = counted(row.n_media)?;
+    let rows = counted(row.n_rows)?;
+    let links = counted(row.n_links)?;
+    let bytes = counted(row.n_bytes)?;
+    Ok(Receipt {
+        seq,
+        request,
+        at: row.at,
+        line: row.line,
+        source,
+        target,
+        items,
+        tiles,
+        media,
+        rows,
+        links,
+        bytes,
+    })
+}
+
+/// The row of the receipt of a request.
+fn row_of<S: Alter>(conn: &mut Connection<S>, request: Uuid) -> Result<Option<ReceiptRow>, Fault>
+    requires { Rests (state S.Store conn.old) }
+    ensures looked { LooksUp (λ t. IsOneOf (λ x. bytes_eq x.request (uuid_text request)) t.receipts) (state S.Store conn.old) (state S.Store conn.new) result }
+    ensures fit { IsUuid request }
+{
+    let mut buffer = Uuid::encode_buffer();
+    let text = request.hyphenated().encode_lower(&mut buffer);
+    receipt_by_request(conn, text)
+}
+
+/// The receipt that the package keeps for a request, where it has one.
+pub fn kept<S: Alter>(
+    conn: &mut Connection<S>,
+    alloc: Global,
+    id: Uuid,
+) -> Result<Option<Receipt>, Fault>
+    requires { Rests (state S.Store conn.old) }
+    ensures { Looks (Sees (λ f p found. IsKept p id found)) (state S.Store conn.old) (state S.Store conn.new) result }
+{
+    match row_of(conn, id)? {
+        None => Ok(None),
+        Some(row) => {
+            let items = items_of(conn, alloc, row.seq)?;
+            let receipt = receipt_of(row, items)?;
+            Ok(Some(receipt))
+        }
+    }
+}
