@@ -12,3 +12,4 @@ mod Ends
 mod Contents
 mod OneFrame
 mod OnePackage
+mod Gathering

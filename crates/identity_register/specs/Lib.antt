@@ -4,3 +4,4 @@ pub mod Calls
 pub mod Changes
 pub mod Answers
 pub mod Laws
+pub mod Gathered
