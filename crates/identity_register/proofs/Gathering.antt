@@ -88,9 +88,9 @@ rising key (x ∷ y ∷ ys) h =
     ((first, All-weaker _ _ (λ z later. before_trans (key x) (key y) (key z) first later) ys rest.0), rest)
 
 -- one row more of those that a loop goes over, and what was made of it
-pub zip_more : {A B : Type 0} (R : A → B → Type 0) (rows : List A) (i : ℕ) (row : A) (made now : List B) (x : B) → i < length rows → row ≡ get_or rows i row → now ≡ made ++ x ∷ [] → AllZip R (take i rows) made → R row x → AllZip R (take (i + 1) rows) now
-zip_more R rows i row made now x less is pushed all one =
-    let cut : take (i + 1) rows ≡ take i rows ++ row ∷ [] = take_more rows i row less ∙ ap (λ r. take i rows ++ r ∷ []) (sym is) in
+pub zip_more : {A B : Type 0} (R : A → B → Type 0) (rows : List A) (i : ℕ) (d row : A) (made now : List B) (x : B) → i < length rows → row ≡ get_or rows i d → now ≡ made ++ x ∷ [] → AllZip R (take i rows) made → R row x → AllZip R (take (i + 1) rows) now
+zip_more R rows i d row made now x less is pushed all one =
+    let cut : take (i + 1) rows ≡ take i rows ++ row ∷ [] = take_more rows i d less ∙ ap (λ r. take i rows ++ r ∷ []) (sym is) in
     subst (λ l. AllZip R l now) (sym cut) (subst (AllZip R (take i rows ++ row ∷ [])) (sym pushed) (all_zipped_more R (take i rows) made row x all one))
 
 -- one element more
