@@ -111,7 +111,7 @@ fn is_content(content: &Content, kind: u8, place: u16) -> bool {
                 && *zoom == 9
                 && *column == place as i64
                 && *row == 2
-                && bytes.as_slice() == identity.as_bytes()
+                && bytes.as_slice() == identity.as_bytes().as_slice()
         }
         Content::Media {
             content_type,
@@ -119,7 +119,7 @@ fn is_content(content: &Content, kind: u8, place: u16) -> bool {
         } => {
             kind == 2
                 && content_type.is_text("image/png")
-                && bytes.as_slice() == identity.as_bytes()
+                && bytes.as_slice() == identity.as_bytes().as_slice()
         }
         Content::Row { x, y, code, label } => {
             kind == 3 && *x == place as i64 && *y == -4 && *code == 31 && label.is_text("well")
@@ -153,15 +153,25 @@ fn are_those(found: &[Item], from: usize, kind: u8) -> bool {
 
 // ---- links across
 
-const FIRST: Uuid = Uuid::from_u128(0x1);
+fn first() -> Uuid {
+    Uuid::from_u128(0x1)
+}
 
-const SECOND: Uuid = Uuid::from_u128(0x2);
+fn second() -> Uuid {
+    Uuid::from_u128(0x2)
+}
 
-const THIRD: Uuid = Uuid::from_u128(0x3);
+fn third() -> Uuid {
+    Uuid::from_u128(0x3)
+}
 
-const FIRST_MEDIUM: Uuid = Uuid::from_u128(0x11);
+fn first_medium() -> Uuid {
+    Uuid::from_u128(0x11)
+}
 
-const SECOND_MEDIUM: Uuid = Uuid::from_u128(0x12);
+fn second_medium() -> Uuid {
+    Uuid::from_u128(0x12)
+}
 
 fn of_tile(base: Uuid, media: Uuid) -> Relation {
     Relation {
@@ -183,15 +193,15 @@ fn of_row(base: Uuid, media: Uuid) -> Relation {
 fn put_ends<S: Alter>(tx: &mut Transaction<'_, S>) -> Result<(), Fault> {
     create_schema(tx)?;
     insert_tile(tx, 2, 0, 0, 0, b"a")?;
-    name(tx, 1, 2, FIRST)?;
+    name(tx, 1, 2, first())?;
     insert_tile(tx, 1, 0, 1, 0, b"b")?;
-    name(tx, 1, 1, SECOND)?;
+    name(tx, 1, 1, second())?;
     insert_attribute(tx, 1, 0, 0, 0, "")?;
-    name(tx, 3, 1, THIRD)?;
+    name(tx, 3, 1, third())?;
     insert_medium(tx, 2, b"c", "image/png")?;
-    name(tx, 2, 2, FIRST_MEDIUM)?;
+    name(tx, 2, 2, first_medium())?;
     insert_medium(tx, 1, b"d", "image/png")?;
-    name(tx, 2, 1, SECOND_MEDIUM)
+    name(tx, 2, 1, second_medium())
 }
 
 fn with_ends<S: Alter>(conn: &mut Connection<S>) -> Result<bool, Fault> {
@@ -248,18 +258,18 @@ fn links_across_are_read_back(rt: HostRuntime) -> Result<(), Fail> {
     let conn = &mut conn;
     assert!(rt; with_ends(conn)?);
     assert!(rt; all_links(a, conn)?.is_empty());
-    assert!(rt; linked(conn, of_row(THIRD, FIRST_MEDIUM))?);
-    assert!(rt; linked(conn, of_tile(SECOND, FIRST_MEDIUM))?);
-    assert!(rt; linked(conn, of_tile(FIRST, SECOND_MEDIUM))?);
+    assert!(rt; linked(conn, of_row(third(), first_medium()))?);
+    assert!(rt; linked(conn, of_tile(second(), first_medium()))?);
+    assert!(rt; linked(conn, of_tile(first(), second_medium()))?);
     let expected = [
-        of_tile(FIRST, SECOND_MEDIUM),
-        of_tile(SECOND, FIRST_MEDIUM),
-        of_row(THIRD, FIRST_MEDIUM),
+        of_tile(first(), second_medium()),
+        of_tile(second(), first_medium()),
+        of_row(third(), first_medium()),
     ];
-    assert!(rt; all_links(a, conn)?.as_slice() == &expected);
-    assert!(rt; unlinked(conn, of_tile(FIRST, SECOND_MEDIUM))?);
+    assert!(rt; all_links(a, conn)?.as_slice() == expected.as_slice());
+    assert!(rt; unlinked(conn, of_tile(first(), second_medium()))?);
     assert!(rt; all_links(a, conn)?.as_slice() == &expected[1..]);
-    assert!(rt; linked(conn, of_tile(FIRST, SECOND_MEDIUM))?);
-    assert!(rt; all_links(a, conn)?.as_slice() == &expected);
+    assert!(rt; linked(conn, of_tile(first(), second_medium()))?);
+    assert!(rt; all_links(a, conn)?.as_slice() == expected.as_slice());
     Ok(())
 }
