@@ -47,7 +47,7 @@ attributes_are number (Row x y c l) r i = elim i [ inl e ↦ (ap (λ x. Row x.x 
 
 module _ (f : Frame) (p : Package) (t : Tables) (says : Says f p t) where
   -- a kind and a number name one item
-  one_place : (m n : Numbered) → In m says.numbered → In n says.numbered → kind_number (kind_of m.item.content) ≡ kind_number (kind_of n.item.content) → m.number ≡ n.number → m ≡ n
+  pub one_place : (m n : Numbered) → In m says.numbered → In n says.numbered → kind_number (kind_of m.item.content) ≡ kind_number (kind_of n.item.content) → m.number ≡ n.number → m ≡ n
   one_place m n i j kinds numbers =
       let place : place_in_tables m ≡ place_in_tables n = ap (λ k. k ∷ unsigned_abs m.number ∷ []) kinds ∙ ap (λ k. kind_number (kind_of n.item.content) ∷ unsigned_abs k ∷ []) numbers in
       let tests = All-In (λ y. bytes_eq (place_in_tables y) (place_in_tables n) ≡ bytes_eq y.item.identity n.item.identity) m says.numbered (same_tests place_in_tables (λ y. y.item.identity) n says.numbered says.numbers.numbers says.numbers.identities j) i in

@@ -13,3 +13,4 @@ mod Ends
 mod Contents
 mod OneFrame
 pub mod OnePackage
+mod Gathering

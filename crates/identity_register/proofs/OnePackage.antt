@@ -245,7 +245,7 @@ module _ (f : Frame) (t : Tables) where
   -- ---- items
 
   -- the row of an item is stored
-  row_stored : (p : Package) (one : Says f p t) (n : Numbered) → In n one.numbered → Contains t.identities (identity_row n)
+  pub row_stored : (p : Package) (one : Says f p t) (n : Numbered) → In n one.numbered → Contains t.identities (identity_row n)
   row_stored p one n i = Contains-In (identity_row n) t.identities (subst (In (identity_row n)) (sym one.identities) (to_arranged identity_shape.key (identity_row n) (map identity_row one.numbered) (In-map identity_row n one.numbered i)))
 
   content_stored : (p : Package) (one : Says f p t) (n : Numbered) → In n one.numbered → IsContentOf (pos (kind_number (kind_of n.item.content))) n.number t n.item.content
@@ -314,7 +314,7 @@ module _ (f : Frame) (t : Tables) where
 
   -- ---- the package
 
-  items_arranged : (p : Package) (one : Says f p t) → IsArranged item_key p.items
+  pub items_arranged : (p : Package) (one : Says f p t) → IsArranged item_key p.items
   items_arranged p one =
       subst (IsArranged item_key) (sym one.items) (distinct_arranged item_key (map (λ n. n.item) one.numbered)
       (distinct_by (λ i. i.identity) item_key (λ x y e. apart x y e) (map (λ n. n.item) one.numbered) (distinct_map (λ n. n.item) (λ i. i.identity) one.numbered one.numbers.identities)))

@@ -5,3 +5,4 @@ pub mod Changes
 pub mod Answers
 pub mod Laws
 pub mod Creation
+pub mod Gathered

@@ -12,3 +12,6 @@ pub mod laws;
 #[cfg(test)]
 mod look_up_tests;
 pub mod look_ups;
+pub mod whole;
+#[cfg(test)]
+mod whole_tests;

@@ -1,0 +1,243 @@
+-- The items and links that whole tables give are those of the package.
+use Rattle.std.proofs.Common.{◌≡◌, ℕ, suc, ◌+◌, ◌<◌, ℤ, pos, List, [], ◌∷◌, ◌++◌, map, length, get_or, take, Bool, true, false, Option, Some, None, Result, Ok, Err, refl, sym, ap, subst, ◌∙◌, inl, inr, append_assoc, arith}
+use Rattle.std.specs.Prelude.{◌⊎◌, bytes_eq, flat_map, unsigned_abs, unwrap_or, Contains, IsPermutation}
+use Rattle.std.specs.List.{AllByRecursion, AllZip, AllAdjacentBelow}
+use Rattle.std.proofs.lemmas.List.{map-append, take_more}
+use Rattle.std.proofs.lemmas.List.Elements.{All-contains_itself, recursion_from_All}
+use Rattle.std.proofs.lemmas.Slice.Zip.{all_zipped_more}
+use Rattle.std.proofs.lemmas.List.Sorted.{IsPermutation-sym, Contains-permutation, All-permutation}
+use Rattle.uuid.specs.Text.{parsed_hyphenated}
+use Rattle.sqlite.specs.State.{State}
+use Rattle.sql_meaning.specs.Transactions.{Looks}
+use Rattle.sheet_types.specs.Ordered.{arranged, has, is_before, IsArranged}
+use Rattle.sheet_types.specs.Texts.{uuid_text, kind_of}
+use Rattle.sheet_types.specs.World.{Package, item_key, link_key, kind_number, base_kind, other_kind, item_of}
+use Rattle.sheet_types.specs.Lines.{IsUuid}
+use Rattle.sheet_types.specs.Register.{HasEnds}
+use Rattle.sheet_types.specs.declared.command.Item.{Item}
+use Rattle.sheet_types.specs.declared.command.Mapping.{Mapping}
+use Rattle.sheet_types.specs.declared.command.Mapping.TheVariants.{TilesMedia, RowsMedia}
+use Rattle.sheet_types.specs.declared.command.Relation.{Relation}
+use Rattle.sheet_types.specs.declared.frame.Frame.{Frame}
+use Rattle.sheet_types.specs.declared.receipt.MovedKind.{MovedKind}
+use Rattle.sheet_types.proofs.Basics.{bytes_eq_itself, before_trans}
+use Rattle.sheet_types.proofs.Every.{All-weaker, All-append, All-map}
+use Rattle.sheet_types.proofs.Same.{In, In-map, In-flat_map, All-In, Contains-In, same_list}
+use Rattle.sheet_types.proofs.LineReading.{uuid_back}
+use Rattle.package_tables.specs.Package.{Tables}
+use Rattle.package_tables.specs.Shapes.{identity_shape, tiles_media_shape, rows_media_shape}
+use Rattle.package_tables.specs.declared.rows.AttributeRow.{AttributeRow}
+use Rattle.package_tables.specs.declared.rows.IdentityRow.{IdentityRow}
+use Rattle.package_tables.specs.declared.rows.MappingRow.{MappingRow}
+use Rattle.package_tables.specs.declared.rows.MediaRow.{MediaRow}
+use Rattle.package_tables.specs.declared.rows.TileRow.{TileRow}
+use Rattle.identity_register.specs.Answers.{IsContentOf, mapping_rows}
+use Rattle.identity_register.specs.Calls.{Sees}
+use Rattle.identity_register.specs.Gathered.{tile_placed, medium_placed, attributes_placed, IsPlaced, IsItemOf, IsNamed, IsLinkOf}
+use Rattle.identity_register.specs.Numbering.{Numbered, identity_row, number_of, mapping_row, tiles_media_rows, rows_media_rows}
+use Rattle.identity_register.specs.Reads.{Says}
+use Rattle.identity_register.specs.declared.whole.Placed.{Placed}
+use Rattle.identity_register.proofs.Answering.{same_item, item_is}
+use Rattle.identity_register.proofs.Contents.{content_by_row, one_place}
+use Rattle.identity_register.proofs.Finding.{contained, in_arranged, in_map, in_flat_map, row_numbered, same_uuid}
+use Rattle.identity_register.proofs.Linking.{end_of}
+use Rattle.identity_register.proofs.Looking.{Looked, sees, fails}
+use Rattle.identity_register.proofs.OnePackage.{to_arranged, distinct_arranged, row_stored, items_arranged}
+
+some_same : {X : Type 0} {x y : X} → Some x ≡ Some y → x ≡ y
+some_same e = cc
+
+-- ---- lists
+
+-- an element of one list has one of the other beside it
+zip_left : {A B : Type 0} (R : A → B → Type 0) (x : A) (xs : List A) (ys : List B) → AllZip R xs ys → In x xs → (y : B) × In y ys × R x y
+zip_left R x [] [] h i = absurd i
+zip_left R x [] (y ∷ ys) h i = absurd i
+zip_left R x (z ∷ zs) [] h i = absurd h
+zip_left R x (z ∷ zs) (y ∷ ys) h i = elim i [ inl e ↦ (y, inl refl, subst (λ v. R v y) e h.0) | inr j ↦ let it = zip_left R x zs ys h.1 j in (it.0, inr it.1, it.2) ]
+
+zip_right : {A B : Type 0} (R : A → B → Type 0) (y : B) (xs : List A) (ys : List B) → AllZip R xs ys → In y ys → (x : A) × In x xs × R x y
+zip_right R y [] [] h i = absurd i
+zip_right R y (x ∷ xs) [] h i = absurd i
+zip_right R y [] (z ∷ zs) h i = absurd h
+zip_right R y (x ∷ xs) (z ∷ zs) h i = elim i [ inl e ↦ (x, inl refl, subst (λ v. R x v) e h.0) | inr j ↦ let it = zip_right R y xs zs h.1 j in (it.0, inr it.1, it.2) ]
+
+in_either : {X : Type 0} (x : X) (xs ys : List X) → In x (xs ++ ys) → In x xs ⊎ In x ys
+in_either x [] ys i = inr i
+in_either x (z ∷ zs) ys i = elim i [ inl e ↦ inl (inl e) | inr j ↦ elim (in_either x zs ys j) [ inl a ↦ inl (inr a) | inr b ↦ inr b ] ]
+
+in_first : {X : Type 0} (x : X) (xs ys : List X) → In x xs → In x (xs ++ ys)
+in_first x [] ys i = absurd i
+in_first x (z ∷ zs) ys i = elim i [ inl e ↦ inl e | inr j ↦ inr (in_first x zs ys j) ]
+
+in_second : {X : Type 0} (x : X) (xs ys : List X) → In x ys → In x (xs ++ ys)
+in_second x [] ys i = i
+in_second x (z ∷ zs) ys i = inr (in_second x zs ys i)
+
+-- elements stay elements in another order
+pub moved : {X : Type 0} (x : X) (xs ys : List X) → IsPermutation xs ys → In x xs → In x ys
+moved x xs ys h i = contained ys x (Contains-permutation xs ys x h (Contains-In x xs i))
+
+-- keys that rise from each element to the next rise to each later one
+pub rising : {X : Type 0} (key : X → List ℕ) (xs : List X) → AllAdjacentBelow (λ x y. is_before (key x) (key y) ≡ true) xs (length xs) → IsArranged key xs
+rising key [] h = tt
+rising key (x ∷ []) h = (tt, tt)
+rising key (x ∷ y ∷ ys) h =
+    let rest = rising key (y ∷ ys) (λ k d less. let e : suc k + 1 ≡ suc (k + 1) = omega arith in subst (λ n. is_before (key (get_or (x ∷ y ∷ ys) (suc k) d)) (key (get_or (x ∷ y ∷ ys) n d)) ≡ true) e (h (suc k) d (omega (arith, less)))) in
+    let first : is_before (key x) (key y) ≡ true = h 0 x (omega arith) in
+    ((first, All-weaker _ _ (λ z later. before_trans (key x) (key y) (key z) first later) ys rest.0), rest)
+
+-- one row more of those that a loop goes over, and what was made of it
+pub zip_more : {A B : Type 0} (R : A → B → Type 0) (rows : List A) (i : ℕ) (d row : A) (made now : List B) (x : B) → i < length rows → row ≡ get_or rows i d → now ≡ made ++ x ∷ [] → AllZip R (take i rows) made → R row x → AllZip R (take (i + 1) rows) now
+zip_more R rows i d row made now x less is pushed all one =
+    let cut : take (i + 1) rows ≡ take i rows ++ row ∷ [] = take_more rows i d less ∙ ap (λ r. take i rows ++ r ∷ []) (sym is) in
+    subst (λ l. AllZip R l now) (sym cut) (subst (AllZip R (take i rows ++ row ∷ [])) (sym pushed) (all_zipped_more R (take i rows) made row x all one))
+
+-- one element more
+pub placed_more : {X Y : Type 0} (f : X → Y) (now old : List Y) (xs : List X) (x : X) → now ≡ old ++ map f xs → now ++ f x ∷ [] ≡ old ++ map f (xs ++ x ∷ [])
+placed_more f now old xs x e = ap (λ l. l ++ f x ∷ []) e ∙ append_assoc old (map f xs) (f x ∷ []) ∙ ap (λ l. old ++ l) (sym (map-append f xs (x ∷ [])))
+
+-- ---- contents
+
+all_there : {X : Type 0} (xs ys : List X) → IsPermutation xs ys → AllByRecursion (Contains xs) ys
+all_there xs ys h = recursion_from_All (Contains xs) ys (All-permutation (Contains xs) xs ys h (All-contains_itself xs))
+
+-- the rows of the user tables are contents under their kinds and numbers
+pub contents_are : (t : Tables) (tiles : List TileRow) (media : List MediaRow) (rows : List AttributeRow) → IsPermutation t.tiles tiles → IsPermutation t.media media → IsPermutation t.rows rows
+    → AllByRecursion (IsPlaced t) (([] ++ map tile_placed tiles) ++ map medium_placed media ++ map attributes_placed rows)
+contents_are t tiles media rows h i j =
+    All-append (IsPlaced t) (map tile_placed tiles ++ map medium_placed media) (map attributes_placed rows)
+    (All-append (IsPlaced t) (map tile_placed tiles) (map medium_placed media) (All-map (IsPlaced t) tile_placed tiles (All-weaker _ _ (λ r k. (refl, k)) tiles (all_there t.tiles tiles h))) (All-map (IsPlaced t) medium_placed media (All-weaker _ _ (λ r k. (refl, k)) media (all_there t.media media i))))
+    (All-map (IsPlaced t) attributes_placed rows (All-weaker _ _ (λ r k. (refl, k)) rows (all_there t.rows rows j)))
+
+-- ---- items
+
+module _ (f : Frame) (p : Package) (t : Tables) (says : Says f p t) where
+  -- the item that an identity row is of, by the UUID that its text reads as
+  row_item : (r : IdentityRow) → Contains t.identities r → (id : List ℕ) → parsed_hyphenated r.uuid ≡ Some id → (n : Numbered) × In n says.numbered × (identity_row n ≡ r) × (n.item.identity ≡ id)
+  row_item r h id e =
+      let it = row_numbered f p t says r h in
+      let fit : IsUuid it.0.item.identity = All-In (λ m. IsUuid m.item.identity) it.0 says.numbered says.numbers.uuids it.1 in
+      (it.0, it.1, it.2, sym (uuid_back it.0.item.identity fit) ∙ ap (λ o. unwrap_or o []) (ap (λ x. parsed_hyphenated x.uuid) it.2 ∙ e))
+
+  -- so is the item that was made of the row and its content
+  item_there : (r : IdentityRow) → Contains t.identities r → (placed : List Placed) → AllByRecursion (IsPlaced t) placed → (i : Item) → IsItemOf placed r i → (n : Numbered) × In n says.numbered × (identity_row n ≡ r) × (n.item ≡ i)
+  item_there r h placed all i it =
+      let n = row_item r h i.identity it.identity in
+      let fit : IsUuid n.0.item.identity = All-In (λ m. IsUuid m.item.identity) n.0 says.numbered says.numbers.uuids n.1 in
+      let named : bytes_eq r.uuid (uuid_text n.0.item.identity) ≡ true = subst (λ x. bytes_eq x.uuid (uuid_text n.0.item.identity) ≡ true) n.2 (bytes_eq_itself (uuid_text n.0.item.identity)) in
+      let content : IsContentOf r.kind r.local_id t i.content = All-In (IsPlaced t) (record { kind = r.kind; number = r.local_id; content = i.content }) placed all (contained placed _ it.content) in
+      let told = content_by_row f p t says n.0.item.identity fit r i.content (h, named) content in
+      let whole : ◌≡◌ {A = Item} (record { identity = n.0.item.identity; content = i.content }) n.0.item = some_same (told ∙ item_is f p t says n.0 n.1) in
+      let same : ◌≡◌ {A = Item} (record { identity = n.0.item.identity; content = i.content }) i = ap {A = List ℕ} (λ x. record { identity = x; content = i.content }) n.3 in
+      (n.0, n.1, n.2, sym whole ∙ same)
+
+  -- a row is of one item
+  one_row : (m n : Numbered) → In m says.numbered → In n says.numbered → identity_row m ≡ identity_row n → m ≡ n
+  one_row m n i j e =
+      same_item f p t says m n i j (same_uuid m.item.identity n.item.identity (All-In (λ x. IsUuid x.item.identity) m says.numbered says.numbers.uuids i) (All-In (λ x. IsUuid x.item.identity) n says.numbered says.numbers.uuids j) (ap (λ r. r.uuid) e))
+
+  -- all identity rows with their contents give all items
+  pub items_are : (rows : List IdentityRow) (placed : List Placed) (made found : List Item) → IsPermutation t.identities rows → AllByRecursion (IsPlaced t) placed → AllZip (IsItemOf placed) rows made → IsPermutation made found → IsArranged item_key found → found ≡ p.items
+  items_are rows placed made found all contents zipped moves order = same_list item_key found p.items order (items_arranged f t p says) to fro
+    where
+      to : (x : Item) → In x found → In x p.items
+      to x i =
+          let it = zip_right (IsItemOf placed) x rows made zipped (moved x found made (IsPermutation-sym made found moves) i) in
+          let n = item_there it.0 (Contains-In it.0 t.identities (moved it.0 rows t.identities (IsPermutation-sym t.identities rows all) it.1)) placed contents x it.2 in
+          subst (λ y. In y p.items) n.3 (subst (In n.0.item) (sym says.items) (to_arranged item_key n.0.item (map (λ m. m.item) says.numbered) (In-map (λ m. m.item) n.0 says.numbered n.1)))
+
+      fro : (x : Item) → In x p.items → In x found
+      fro x i =
+          let n = in_map (λ m. m.item) x says.numbered (in_arranged item_key (map (λ m. m.item) says.numbered) x (subst (In x) says.items i)) in
+          let stored : Contains t.identities (identity_row n.0) = row_stored f t p says n.0 n.1 in
+          let it = zip_left (IsItemOf placed) (identity_row n.0) rows made zipped (moved (identity_row n.0) t.identities rows all (contained t.identities (identity_row n.0) stored)) in
+          let m = item_there (identity_row n.0) stored placed contents it.0 it.2 in
+          let same : it.0 ≡ x = sym m.3 ∙ ap (λ y. y.item) (one_row m.0 n.0 m.1 n.1 m.2) ∙ n.2 in
+          subst (λ y. In y found) same (moved it.0 made found moves it.1)
+
+  -- ---- links
+
+  -- the identity of an end, by the number that its mapping row has
+  named_is : (rows : List IdentityRow) → IsPermutation t.identities rows → (kind : MovedKind) (id found : List ℕ) → has item_key (kind_number kind ∷ id) p.items ≡ true → IsNamed rows (pos (kind_number kind)) (number_of says.numbered id) found → found ≡ id
+  named_is rows all kind id found there it =
+      let m = end_of f p t says kind id there in
+      let n = row_item it.row (Contains-permutation rows t.identities it.row (IsPermutation-sym t.identities rows all) it.there) found it.identity in
+      let kinds : kind_number (kind_of n.0.item.content) ≡ kind_number (kind_of m.0.item.content) = ap unsigned_abs (ap (λ r. r.kind) n.2 ∙ it.kind_is) ∙ sym m.2 in
+      let numbers : n.0.number ≡ m.0.number = ap (λ r. r.local_id) n.2 ∙ it.number_is ∙ m.4 in
+      sym n.3 ∙ ap (λ x. x.item.identity) (one_place f p t says n.0 m.0 n.1 m.1 kinds numbers) ∙ m.3
+
+  link_is : (rows : List IdentityRow) → IsPermutation t.identities rows → (l found : Relation) → HasEnds p l → IsLinkOf l.mapping rows (mapping_row says.numbered l) found → found ≡ l
+  link_is rows all l found ends it =
+      let base : found.base ≡ l.base = named_is rows all (base_kind l.mapping) l.base found.base ends.0 it.base in
+      let media : found.media ≡ l.media = named_is rows all (other_kind l.mapping) l.media found.media ends.1 it.media in
+      let mapping : found.mapping ≡ l.mapping = it.mapping in
+      λ n. record { mapping = mapping n; base = base n; media = media n }
+
+  -- a mapping row is of a link, and a link has its row
+  link_of_row : (m : Mapping) (r : MappingRow) → In r (mapping_rows m t) → (l : Relation) × In l says.linked × (l.mapping ≡ m) × (mapping_row says.numbered l ≡ r)
+  link_of_row TilesMedia r i =
+      let it = in_flat_map (λ l. tiles_media_rows says.numbered l l.mapping) r says.linked (in_arranged tiles_media_shape.key (flat_map (λ l. tiles_media_rows says.numbered l l.mapping) says.linked) r (subst (In r) says.tiles_media i)) in
+      let is = one it.0 it.0.mapping refl it.2 in
+      (it.0, it.1, is.0, is.1)
+    where
+      one : (l : Relation) (m : Mapping) → l.mapping ≡ m → In r (tiles_media_rows says.numbered l m) → (l.mapping ≡ TilesMedia) × (mapping_row says.numbered l ≡ r)
+      one l TilesMedia e j = elim j [ inl same ↦ (e, same) | inr k ↦ absurd k ]
+      one l RowsMedia e j = absurd j
+  link_of_row RowsMedia r i =
+      let it = in_flat_map (λ l. rows_media_rows says.numbered l l.mapping) r says.linked (in_arranged rows_media_shape.key (flat_map (λ l. rows_media_rows says.numbered l l.mapping) says.linked) r (subst (In r) says.rows_media i)) in
+      let is = one it.0 it.0.mapping refl it.2 in
+      (it.0, it.1, is.0, is.1)
+    where
+      one : (l : Relation) (m : Mapping) → l.mapping ≡ m → In r (rows_media_rows says.numbered l m) → (l.mapping ≡ RowsMedia) × (mapping_row says.numbered l ≡ r)
+      one l TilesMedia e j = absurd j
+      one l RowsMedia e j = elim j [ inl same ↦ (e, same) | inr k ↦ absurd k ]
+
+  row_of_link : (l : Relation) (m : Mapping) → l.mapping ≡ m → In l says.linked → In (mapping_row says.numbered l) (mapping_rows m t)
+  row_of_link l TilesMedia e i =
+      let row : MappingRow = mapping_row says.numbered l in
+      subst (In row) (sym says.tiles_media) (to_arranged tiles_media_shape.key row (flat_map (λ x. tiles_media_rows says.numbered x x.mapping) says.linked) (In-flat_map (λ x. tiles_media_rows says.numbered x x.mapping) l row says.linked i (subst (λ m. In row (tiles_media_rows says.numbered l m)) (sym e) (inl refl))))
+  row_of_link l RowsMedia e i =
+      let row : MappingRow = mapping_row says.numbered l in
+      subst (In row) (sym says.rows_media) (to_arranged rows_media_shape.key row (flat_map (λ x. rows_media_rows says.numbered x x.mapping) says.linked) (In-flat_map (λ x. rows_media_rows says.numbered x x.mapping) l row says.linked i (subst (λ m. In row (rows_media_rows says.numbered l m)) (sym e) (inl refl))))
+
+  ends_of : (l : Relation) → In l says.linked → HasEnds p l
+  ends_of l i = All-In (HasEnds p) l says.linked says.ends i
+
+  -- what was made of the rows of one mapping table are its links
+  made_of : (rows : List IdentityRow) → IsPermutation t.identities rows → (m : Mapping) (stored : List MappingRow) (made : List Relation) → IsPermutation (mapping_rows m t) stored → AllZip (IsLinkOf m rows) stored made → (x : Relation) → In x made → In x p.links
+  made_of rows all m stored made moves zipped x i =
+      let it = zip_right (IsLinkOf m rows) x stored made zipped i in
+      let l = link_of_row m it.0 (moved it.0 stored (mapping_rows m t) (IsPermutation-sym (mapping_rows m t) stored moves) it.1) in
+      let same : x ≡ l.0 = link_is rows all l.0 x (ends_of l.0 l.1) (subst (λ k. IsLinkOf k rows (mapping_row says.numbered l.0) x) (sym l.2) (subst (λ r. IsLinkOf m rows r x) (sym l.3) it.2)) in
+      subst (λ y. In y p.links) (sym same) (subst (In l.0) (sym says.links) (to_arranged link_key l.0 says.linked l.1))
+
+  is_made : (rows : List IdentityRow) → IsPermutation t.identities rows → (m : Mapping) (stored : List MappingRow) (made : List Relation) → IsPermutation (mapping_rows m t) stored → AllZip (IsLinkOf m rows) stored made → (l : Relation) → l.mapping ≡ m → In l says.linked → In l made
+  is_made rows all m stored made moves zipped l e i =
+      let it = zip_left (IsLinkOf m rows) (mapping_row says.numbered l) stored made zipped (moved (mapping_row says.numbered l) (mapping_rows m t) stored moves (row_of_link l m e i)) in
+      subst (λ y. In y made) (link_is rows all l it.0 (ends_of l i) (subst (λ k. IsLinkOf k rows (mapping_row says.numbered l) it.0) (sym e) it.2)) it.1
+
+  -- the rows of both mapping tables give all links
+  pub links_are : (rows : List IdentityRow) (of_tiles of_rows : List MappingRow) (made others found : List Relation) → IsPermutation t.identities rows → IsPermutation t.tiles_media of_tiles → IsPermutation t.rows_media of_rows
+      → AllZip (IsLinkOf TilesMedia rows) of_tiles made → AllZip (IsLinkOf RowsMedia rows) of_rows others → IsPermutation (made ++ others) found → IsArranged link_key found → found ≡ p.links
+  links_are rows of_tiles of_rows made others found all first second tiles media moves order =
+      same_list link_key found p.links order (subst (IsArranged link_key) (sym says.links) (distinct_arranged link_key says.linked says.distinct_links)) to fro
+    where
+      to : (x : Relation) → In x found → In x p.links
+      to x i = elim (in_either x made others (moved x found (made ++ others) (IsPermutation-sym (made ++ others) found moves) i)) [
+        | inl a ↦ made_of rows all TilesMedia of_tiles made first tiles x a
+        | inr b ↦ made_of rows all RowsMedia of_rows others second media x b
+      ]
+
+      fro : (x : Relation) → In x p.links → In x found
+      fro x i = moved x (made ++ others) found moves (one x.mapping refl (in_arranged link_key says.linked x (subst (In x) says.links i)))
+        where
+          one : (m : Mapping) → x.mapping ≡ m → In x says.linked → In x (made ++ others)
+          one TilesMedia e j = in_first x made others (is_made rows all TilesMedia of_tiles made first tiles x e j)
+          one RowsMedia e j = in_second x made others (is_made rows all RowsMedia of_rows others second media x e j)
+
+-- what was looked at says of a last value what the package has
+pub sees_if : {X E : Type 0} {Fact : Tables → Type 0} {Answer : Frame → Package → X → Type 0} {old new : State} (r : Result X E) → Looked Fact old new
+    → ((x : X) → r ≡ Ok x → (f : Frame) (p : Package) (t : Tables) → Says f p t → Fact t → Answer f p x) → Looks {X = X} {E = E} (Sees Answer) old new r
+sees_if (Ok x) it says = sees it (says x refl)
+sees_if (Err e) it says = fails (Err e) refl it.stays

@@ -1,0 +1,8 @@
+-- Each was found before the next.
+use Rattle.std.proofs.Common.{arith}
+use Rattle.sheet_types.specs.World.{link_key}
+use Rattle.identity_register.proofs.Gathering.{rising}
+use Rattle.identity_register.proofs.whole.links_rise.Goals as goal
+
+pub returns : goal.returns
+returns c = λ _. rising link_key c.args.links.now (λ k d less. c.loop-place.invariant k d (omega (arith, less, c.loop-place-test.false)))

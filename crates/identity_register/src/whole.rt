@@ -1,0 +1,268 @@
+// What a whole package holds, read by one statement a table. Identity rows and the rows of the user tables are both read
+// in the order of kind and number, so that each identity meets its content without a look-up.
+ghost use Rattle.std.specs.Prelude.{◌≡◌, ◌++◌, map, pos, Some, IfOk, OnOk, IsTrue, IsPermutation};
+ghost use Rattle.std.specs.List.{AllByRecursion, AllZip};
+ghost use Rattle.sqlite.specs.Held.{state};
+ghost use Rattle.sql_meaning.specs.Transactions.{Rests, Looks};
+ghost use Rattle.uuid.specs.Text.{parsed_hyphenated};
+ghost use Rattle.sheet_types.specs.Ordered.{IsArranged};
+ghost use Rattle.sheet_types.specs.World.{item_key, link_key, kind_number, base_kind};
+ghost use Rattle.package_tables.specs.Calls.{LooksUp};
+ghost use Rattle.identity_register.specs.Calls.{Sees};
+ghost use Rattle.identity_register.specs.Gathered.{tile_placed, medium_placed, attributes_placed, IsPlaced, IsItemOf, IsNamed, IsLinkOf};
+
+use package_tables::attributes::all_attributes;
+use package_tables::fault::Fault;
+use package_tables::identities::all_identities;
+use package_tables::mappings::{all_rows_media, all_tiles_media};
+use package_tables::media::all_media;
+use package_tables::rows::{AttributeRow, IdentityRow, MappingRow, MediaRow, TileRow};
+use package_tables::tiles::all_tiles;
+use sheet_types::command::{Content, Item, Mapping, Relation};
+use sheet_types::reading::read_uuid;
+use sheet_types::sorting::{item_is_before, link_is_before};
+use sqlite::{Alter, Connection};
+use std::alloc::Global;
+use uuid::Uuid;
+
+/// The content of a row of a user table, under its kind and its number.
+#[derive(Drop)]
+pub struct Placed {
+    pub kind: i64,
+    pub number: i64,
+    pub content: Content,
+}
+
+/// Puts the tiles behind the contents that are there.
+fn place_tiles(tiles: Vec<TileRow>, placed: &mut Vec<Placed>) -> Result<(), Fault>
+    ensures { OnOk result (placed.new.items ≡ placed.old.items ++ map tile_placed tiles.items) }
+{
+    for tile in tiles {
+        placed.push(Placed {
+            kind: 1,
+            number: tile.id,
+            content: Content::Tile {
+                zoom: tile.zoom_level,
+                column: tile.tile_column,
+                row: tile.tile_row,
+                bytes: tile.tile_data,
+            },
+        })?;
+    }
+    Ok(())
+}
+
+/// Puts the media behind the contents that are there.
+fn place_media(media: Vec<MediaRow>, placed: &mut Vec<Placed>) -> Result<(), Fault>
+    ensures { OnOk result (placed.new.items ≡ placed.old.items ++ map medium_placed media.items) }
+{
+    for medium in media {
+        placed.push(Placed {
+            kind: 2,
+            number: medium.id,
+            content: Content::Media {
+                content_type: medium.content_type,
+                bytes: medium.data,
+            },
+        })?;
+    }
+    Ok(())
+}
+
+/// Puts the attributes rows behind the contents that are there.
+fn place_attributes(rows: Vec<AttributeRow>, placed: &mut Vec<Placed>) -> Result<(), Fault>
+    ensures { OnOk result (placed.new.items ≡ placed.old.items ++ map attributes_placed rows.items) }
+{
+    for row in rows {
+        placed.push(Placed {
+            kind: 3,
+            number: row.id,
+            content: Content::Row {
+                x: row.x,
+                y: row.y,
+                code: row.code,
+                label: row.label,
+            },
+        })?;
+    }
+    Ok(())
+}
+
+/// What the user tables hold, by kind and number.
+fn all_contents<S: Alter>(conn: &mut Connection<S>, alloc: Global) -> Result<Vec<Placed>, Fault>
+    requires { Rests (state S.Store conn.old) }
+    ensures { LooksUp (λ t placed. AllByRecursion (IsPlaced t) placed.items) (state S.Store conn.old) (state S.Store conn.new) result }
+{
+    let tiles = all_tiles(conn, alloc)?;
+    let media = all_media(conn, alloc)?;
+    let rows = all_attributes(conn, alloc)?;
+    let mut placed = Vec::new(alloc);
+    place_tiles(tiles, &mut placed)?;
+    place_media(media, &mut placed)?;
+    place_attributes(rows, &mut placed)?;
+    Ok(placed)
+}
+
+/// The item of an identity row and of the content at its kind and number.
+fn item_at(row: &IdentityRow, placed: Placed) -> Result<Item, Fault>
+    ensures identity { IfOk result (λ i. parsed_hyphenated row.now.uuid ≡ Some i.identity) }
+    ensures content { IfOk result (λ i. placed ≡ record { kind = row.now.kind; number = row.now.local_id; content = i.content }) }
+{
+    if row.kind != placed.kind || row.local_id != placed.number {
+        return Err(Fault::StoreFault);
+    }
+    match read_uuid(row.uuid.as_str()) {
+        Some(identity) => Ok(Item {
+            identity,
+            content: placed.content,
+        }),
+        None => Err(Fault::StoreFault),
+    }
+}
+
+/// The items of identity rows, whose contents come in the same order.
+fn items_of(rows: &[IdentityRow], placed: Vec<Placed>, alloc: Global) -> Result<Vec<Item>, Fault>
+    ensures { IfOk result (λ items. AllZip (IsItemOf placed.items) rows.now items.items) }
+{
+    let mut items = Vec::new(alloc);
+    let mut left = placed.into_iter();
+    for row in rows {
+        let Some(next) = left.next() else {
+            return Err(Fault::StoreFault);
+        };
+        items.push(item_at(row, next)?)?;
+    }
+    Ok(items)
+}
+
+/// Whether each item stands before the next, so that none is there twice.
+fn items_rise(items: &[Item]) -> bool
+    ensures { IsTrue result → IsArranged item_key items.now }
+{
+    for place in 1..items.len() {
+        if !item_is_before(&items[place - 1], &items[place]) {
+            return false;
+        }
+    }
+    true
+}
+
+/// The items by kind and identity; a fault where one is there twice, as in no package.
+fn items_in_order(mut items: Vec<Item>) -> Result<Vec<Item>, Fault>
+    ensures same { IfOk result (λ sorted. IsPermutation items.items sorted.items) }
+    ensures order { IfOk result (λ sorted. IsArranged item_key sorted.items) }
+{
+    items.sort_unstable_by_key(|item| (item.content.kind().number(), item.identity));
+    if items_rise(&items) {
+        Ok(items)
+    } else {
+        Err(Fault::StoreFault)
+    }
+}
+
+/// All items of the package, by kind and identity.
+pub fn items<S: Alter>(conn: &mut Connection<S>, alloc: Global) -> Result<Vec<Item>, Fault>
+    requires { Rests (state S.Store conn.old) }
+    ensures { Looks (Sees (λ f p found. found.items ≡ p.items)) (state S.Store conn.old) (state S.Store conn.new) result }
+{
+    let rows = all_identities(conn, alloc)?;
+    let placed = all_contents(conn, alloc)?;
+    let items = items_of(&rows, placed, alloc)?;
+    items_in_order(items)
+}
+
+/// The UUID that the row of this kind and number has, among identity rows in the order of both.
+fn name_of(rows: &[IdentityRow], kind: i64, number: i64) -> Result<Uuid, Fault>
+    ensures { IfOk result (λ id. IsNamed rows.now kind number id) }
+{
+    let found = rows.binary_search_by_key(&(kind, number), |row| (row.kind, row.local_id));
+    let Ok(place) = found else {
+        return Err(Fault::StoreFault);
+    };
+    let row = &rows[place];
+    if row.kind != kind || row.local_id != number {
+        return Err(Fault::StoreFault);
+    }
+    match read_uuid(row.uuid.as_str()) {
+        Some(identity) => Ok(identity),
+        None => Err(Fault::StoreFault),
+    }
+}
+
+/// The kind that a mapping has at its base, by its number.
+fn base_number(mapping: Mapping) -> i64
+    ensures { result ≡ pos (kind_number (base_kind mapping)) }
+{
+    match mapping {
+        Mapping::TilesMedia => 1,
+        Mapping::RowsMedia => 3,
+    }
+}
+
+/// The link of a row of a mapping table.
+fn link_of(mapping: Mapping, rows: &[IdentityRow], pair: MappingRow) -> Result<Relation, Fault>
+    ensures { IfOk result (λ link. IsLinkOf mapping rows.now pair link) }
+{
+    let base = name_of(rows, base_number(mapping), pair.base_id)?;
+    let media = name_of(rows, 2, pair.related_id)?;
+    Ok(Relation {
+        mapping,
+        base,
+        media,
+    })
+}
+
+/// The links of the rows of a mapping table.
+fn links_of(
+    mapping: Mapping,
+    rows: &[IdentityRow],
+    pairs: &[MappingRow],
+    alloc: Global,
+) -> Result<Vec<Relation>, Fault>
+    ensures { IfOk result (λ links. AllZip (IsLinkOf mapping rows.now) pairs.now links.items) }
+{
+    let mut links = Vec::new(alloc);
+    for pair in pairs {
+        links.push(link_of(mapping, rows, *pair)?)?;
+    }
+    Ok(links)
+}
+
+/// Whether each link stands before the next, so that none is there twice.
+fn links_rise(links: &[Relation]) -> bool
+    ensures { IsTrue result → IsArranged link_key links.now }
+{
+    for place in 1..links.len() {
+        if !link_is_before(&links[place - 1], &links[place]) {
+            return false;
+        }
+    }
+    true
+}
+
+/// The links by mapping, base and medium; a fault where one is there twice, as in no package.
+fn links_in_order(mut links: Vec<Relation>) -> Result<Vec<Relation>, Fault>
+    ensures same { IfOk result (λ sorted. IsPermutation links.items sorted.items) }
+    ensures order { IfOk result (λ sorted. IsArranged link_key sorted.items) }
+{
+    links.sort_unstable_by_key(|link| (link.mapping.link_kind().number(), link.base, link.media));
+    if links_rise(&links) {
+        Ok(links)
+    } else {
+        Err(Fault::StoreFault)
+    }
+}
+
+/// All links of the package, by mapping, base and medium.
+pub fn links<S: Alter>(conn: &mut Connection<S>, alloc: Global) -> Result<Vec<Relation>, Fault>
+    requires { Rests (state S.Store conn.old) }
+    ensures { Looks (Sees (λ f p found. found.items ≡ p.links)) (state S.Store conn.old) (state S.Store conn.new) result }
+{
+    let rows = all_identities(conn, alloc)?;
+    let of_tiles = all_tiles_media(conn, alloc)?;
+    let of_rows = all_rows_media(conn, alloc)?;
+    let mut links = links_of(Mapping::TilesMedia, &rows, &of_tiles, alloc)?;
+    let others = links_of(Mapping::RowsMedia, &rows, &of_rows, alloc)?;
+    links.extend_from_slice(&others)?;
+    links_in_order(links)
+}

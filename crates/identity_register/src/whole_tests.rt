@@ -1,0 +1,275 @@
+// Whole packages in memory, read back. What is expected follows from what was put in: items by kind and UUID, links by
+// mapping, base and medium, however the local numbers stand.
+ghost use Rattle.std.specs.Prelude.{IsTrue};
+ghost use Rattle.sqlite.specs.Held.{state};
+ghost use Rattle.sql_meaning.specs.Transactions.{Rests};
+
+use crate::changes::{link, unlink};
+use crate::whole::{items, links};
+use package_tables::attributes::insert_attribute;
+use package_tables::fault::Fault;
+use package_tables::identities::insert_identity;
+use package_tables::media::insert_medium;
+use package_tables::schema::create_schema;
+use package_tables::tiles::insert_tile;
+use sheet_types::command::{Content, Item, Mapping, Relation};
+use sqlite::{Alter, Connection, Transaction};
+use std::alloc::Global;
+use std::test::Fail;
+use uuid::Uuid;
+
+fn guarded<S: Alter>(conn: &Connection<S>) -> bool
+    ensures { IsTrue result → Rests (state S.Store conn.now) }
+{
+    conn.is_autocommit()
+}
+
+fn all_items<S: Alter>(alloc: Global, conn: &mut Connection<S>) -> Result<Vec<Item>, Fault> {
+    if !guarded(conn) {
+        return Err(Fault::StoreFault);
+    }
+    items(conn, alloc)
+}
+
+fn all_links<S: Alter>(alloc: Global, conn: &mut Connection<S>) -> Result<Vec<Relation>, Fault> {
+    if !guarded(conn) {
+        return Err(Fault::StoreFault);
+    }
+    links(conn, alloc)
+}
+
+fn name<S: Alter>(
+    tx: &mut Transaction<'_, S>,
+    kind: i64,
+    number: i64,
+    identity: Uuid,
+) -> Result<(), Fault> {
+    let mut buffer = Uuid::encode_buffer();
+    let text = identity.hyphenated().encode_lower(&mut buffer);
+    insert_identity(tx, kind, number, text)
+}
+
+// ---- three hundred items of each kind
+
+// The kinds take turns. 149 times 68 is 1 modulo 307, so the thing at a rank is that of the place 68 times the rank.
+fn identity_of(kind: u8, place: u16) -> Uuid {
+    let rank = (place as u32).wrapping_mul(149) % 307;
+    Uuid::from_u128(rank.wrapping_mul(3).wrapping_add(kind as u32) as u128)
+}
+
+fn put_tile<S: Alter>(tx: &mut Transaction<'_, S>, place: u16) -> Result<(), Fault> {
+    let identity = identity_of(1, place);
+    let number = place as i64 + 1;
+    insert_tile(tx, number, 9, place as i64, 2, identity.as_bytes())?;
+    name(tx, 1, number, identity)
+}
+
+fn put_medium<S: Alter>(tx: &mut Transaction<'_, S>, place: u16) -> Result<(), Fault> {
+    let identity = identity_of(2, place);
+    let number = 70000 - place as i64;
+    insert_medium(tx, number, identity.as_bytes(), "image/png")?;
+    name(tx, 2, number, identity)
+}
+
+fn put_row<S: Alter>(tx: &mut Transaction<'_, S>, place: u16) -> Result<(), Fault> {
+    let identity = identity_of(3, place);
+    let number = place as i64 + 1000;
+    insert_attribute(tx, number, place as i64, -4, 31, "well")?;
+    name(tx, 3, number, identity)
+}
+
+fn fill<S: Alter>(tx: &mut Transaction<'_, S>) -> Result<(), Fault> {
+    create_schema(tx)?;
+    for place in 0..300u16 {
+        put_tile(tx, place)?;
+        put_medium(tx, place)?;
+        put_row(tx, place)?;
+    }
+    Ok(())
+}
+
+fn filled<S: Alter>(conn: &mut Connection<S>) -> Result<bool, Fault> {
+    if !conn.is_autocommit() {
+        return Ok(false);
+    }
+    let mut tx = conn.transaction();
+    fill(&mut tx)?;
+    tx.commit()?;
+    Ok(true)
+}
+
+fn is_content(content: &Content, kind: u8, place: u16) -> bool {
+    let identity = identity_of(kind, place);
+    match content {
+        Content::Tile {
+            zoom,
+            column,
+            row,
+            bytes,
+        } => {
+            kind == 1
+                && *zoom == 9
+                && *column == place as i64
+                && *row == 2
+                && bytes.as_slice() == identity.as_bytes().as_slice()
+        }
+        Content::Media {
+            content_type,
+            bytes,
+        } => {
+            kind == 2
+                && content_type.is_text("image/png")
+                && bytes.as_slice() == identity.as_bytes().as_slice()
+        }
+        Content::Row { x, y, code, label } => {
+            kind == 3 && *x == place as i64 && *y == -4 && *code == 31 && label.is_text("well")
+        }
+    }
+}
+
+fn is_thing(item: Option<&Item>, kind: u8, place: u16) -> bool {
+    match item {
+        Some(item) => {
+            item.identity == identity_of(kind, place) && is_content(&item.content, kind, place)
+        }
+        None => false,
+    }
+}
+
+// The things of a kind by their ranks, from an index on.
+fn are_those(found: &[Item], from: usize, kind: u8) -> bool {
+    let mut next = from;
+    for rank in 0..307u32 {
+        let place = (rank.wrapping_mul(68) % 307) as u16;
+        if place < 300 {
+            if !is_thing(found.get(next), kind, place) {
+                return false;
+            }
+            next = next.wrapping_add(1);
+        }
+    }
+    true
+}
+
+// ---- links across
+
+fn first() -> Uuid {
+    Uuid::from_u128(0x1)
+}
+
+fn second() -> Uuid {
+    Uuid::from_u128(0x2)
+}
+
+fn third() -> Uuid {
+    Uuid::from_u128(0x3)
+}
+
+fn first_medium() -> Uuid {
+    Uuid::from_u128(0x11)
+}
+
+fn second_medium() -> Uuid {
+    Uuid::from_u128(0x12)
+}
+
+fn of_tile(base: Uuid, media: Uuid) -> Relation {
+    Relation {
+        mapping: Mapping::TilesMedia,
+        base,
+        media,
+    }
+}
+
+fn of_row(base: Uuid, media: Uuid) -> Relation {
+    Relation {
+        mapping: Mapping::RowsMedia,
+        base,
+        media,
+    }
+}
+
+// The numbers stand the other way round than the UUIDs.
+fn put_ends<S: Alter>(tx: &mut Transaction<'_, S>) -> Result<(), Fault> {
+    create_schema(tx)?;
+    insert_tile(tx, 2, 0, 0, 0, b"a")?;
+    name(tx, 1, 2, first())?;
+    insert_tile(tx, 1, 0, 1, 0, b"b")?;
+    name(tx, 1, 1, second())?;
+    insert_attribute(tx, 1, 0, 0, 0, "")?;
+    name(tx, 3, 1, third())?;
+    insert_medium(tx, 2, b"c", "image/png")?;
+    name(tx, 2, 2, first_medium())?;
+    insert_medium(tx, 1, b"d", "image/png")?;
+    name(tx, 2, 1, second_medium())
+}
+
+fn with_ends<S: Alter>(conn: &mut Connection<S>) -> Result<bool, Fault> {
+    if !conn.is_autocommit() {
+        return Ok(false);
+    }
+    let mut tx = conn.transaction();
+    put_ends(&mut tx)?;
+    tx.commit()?;
+    Ok(true)
+}
+
+fn linked<S: Alter>(conn: &mut Connection<S>, relation: Relation) -> Result<bool, Fault> {
+    if !conn.is_autocommit() {
+        return Ok(false);
+    }
+    let mut tx = conn.transaction();
+    link(&mut tx, relation)?;
+    tx.commit()?;
+    Ok(true)
+}
+
+fn unlinked<S: Alter>(conn: &mut Connection<S>, relation: Relation) -> Result<bool, Fault> {
+    if !conn.is_autocommit() {
+        return Ok(false);
+    }
+    let mut tx = conn.transaction();
+    unlink(&mut tx, relation)?;
+    tx.commit()?;
+    Ok(true)
+}
+
+// ---- tests
+
+#[test]
+fn many_items_are_read_back(rt: HostRuntime) -> Result<(), Fail> {
+    let a = rt.alloc();
+    let mut conn = Connection::open_in_memory(a)?;
+    let conn = &mut conn;
+    assert!(rt; filled(conn)?);
+    let found = all_items(a, conn)?;
+    assert!(rt; found.len() == 900);
+    assert!(rt; are_those(&found, 0, 1));
+    assert!(rt; are_those(&found, 300, 2));
+    assert!(rt; are_those(&found, 600, 3));
+    assert!(rt; all_links(a, conn)?.is_empty());
+    Ok(())
+}
+
+#[test]
+fn links_across_are_read_back(rt: HostRuntime) -> Result<(), Fail> {
+    let a = rt.alloc();
+    let mut conn = Connection::open_in_memory(a)?;
+    let conn = &mut conn;
+    assert!(rt; with_ends(conn)?);
+    assert!(rt; all_links(a, conn)?.is_empty());
+    assert!(rt; linked(conn, of_row(third(), first_medium()))?);
+    assert!(rt; linked(conn, of_tile(second(), first_medium()))?);
+    assert!(rt; linked(conn, of_tile(first(), second_medium()))?);
+    let kept = [
+        of_tile(second(), first_medium()),
+        of_row(third(), first_medium()),
+    ];
+    let expected = [of_tile(first(), second_medium()), kept[0], kept[1]];
+    assert!(rt; all_links(a, conn)?.as_slice() == expected.as_slice());
+    assert!(rt; unlinked(conn, of_tile(first(), second_medium()))?);
+    assert!(rt; all_links(a, conn)?.as_slice() == kept.as_slice());
+    assert!(rt; linked(conn, of_tile(first(), second_medium()))?);
+    assert!(rt; all_links(a, conn)?.as_slice() == expected.as_slice());
+    Ok(())
+}
