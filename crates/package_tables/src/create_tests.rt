@@ -262,6 +262,17 @@ fn entered<S: Alter>(conn: &mut Connection<S>) -> Result<bool, Fault> {
     Ok(true)
 }
 
+// A fourth receipt, in a transaction of its own.
+fn entered_once_more<S: Alter>(conn: &mut Connection<S>) -> Result<(), Fault> {
+    if !conn.is_autocommit() {
+        return Err(Fault::StoreFault);
+    }
+    let mut tx = begin(conn);
+    insert_receipt(&mut tx, 4, "q4", LATER, "fourth", "B", "A", 1, 2, 3, 4, 5)?;
+    tx.commit()?;
+    Ok(())
+}
+
 fn by_request<S: Alter>(
     alloc: Global,
     conn: &mut Connection<S>,
@@ -476,6 +487,26 @@ fn receipts_and_what_they_moved_are_found(rt: HostRuntime) -> Result<(), Fail> {
     assert_eq!(rt;
         contents(alloc, &mut conn)?.as_str(),
         "sheet_media attributes sheet_media  2026-11-23T09:00:00.000Z 0 0 4096 4096 25832|sheet_rows attributes sheet_rows  2026-11-22T09:00:00.000Z 0 0 4096 4096 25832|sheet_tiles tiles sheet_tiles  2026-11-22T09:00:00.000Z 0 0 4096 4096 25832|"
+    );
+    Ok(())
+}
+
+// `bench/failing_allocations.sh` runs this test with each allocation refused in turn.
+#[test]
+fn a_receipt_comes_whole_or_not_at_all(rt: HostRuntime) -> Result<(), Fail> {
+    let alloc = rt.alloc();
+    let mut conn = made(alloc, Connection::open_in_memory(alloc)?)?.into_connection();
+    assert!(rt; entered(&mut conn)?);
+    if let Err(fault) = entered_once_more(&mut conn) {
+        assert!(rt; fault == Fault::OutOfMemory);
+        assert_eq!(rt; receipt_count(alloc, &mut conn)?, 3);
+        assert_eq!(rt; by_request(alloc, &mut conn, "q4")?.as_str(), "-");
+        entered_once_more(&mut conn)?;
+    }
+    assert_eq!(rt; receipt_count(alloc, &mut conn)?, 4);
+    assert_eq!(rt;
+        by_request(alloc, &mut conn, "q4")?.as_str(),
+        "4 q4 fourth A 5"
     );
     Ok(())
 }
