@@ -119,5 +119,5 @@ newest_plan : (tree : ℕ) → IsPlannedFirst (sheet_rows tree) always ((col 1 0
 unfolding resolving
 newest_plan tree schema at h = rw (h.stored, h.by_tree) refl
 
-pub newest : IsNewest attribute_shape (λ x. x.id) (codes "SELECT * FROM sheet_rows ORDER BY id DESC LIMIT 1")
-newest = record { by = _; selects = newest_text; planned = newest_plan; shown = _; is = λ tree. refl; begins = λ v x. refl; keyed = λ v x. refl }
+pub newest : IsNewest attribute_shape (λ x. x.id) (codes "SELECT * FROM sheet_rows ORDER BY id DESC LIMIT 1") [] (λ x. true)
+newest = record { test = _; by = _; selects = newest_text; planned = newest_plan; given = refl; pass = _; shown = _; is = λ tree. refl; passing = λ v x. refl; begins = λ v x. refl; keyed = λ v x. refl }

@@ -25,6 +25,5 @@ pub mod InTurn
 pub mod FixedRows
 pub mod Creating
 pub mod Columns
-pub mod NewestOf
 pub mod Ranked
 pub mod FixedKept

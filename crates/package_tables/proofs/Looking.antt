@@ -26,7 +26,7 @@ use Rattle.package_tables.specs.declared.fault.Fault.{Fault}
 use Rattle.package_tables.proofs.Reading.{those, one_of}
 use Rattle.package_tables.proofs.Ranking.{in_order}
 
-filter_every : {R : Type 0} {keeps : R → Bool} → ((x : R) → keeps x ≡ true) → (xs : List R) → filter keeps xs ≡ xs
+pub filter_every : {R : Type 0} {keeps : R → Bool} → ((x : R) → keeps x ≡ true) → (xs : List R) → filter keeps xs ≡ xs
 filter_every every [] = refl
 filter_every every (x ∷ xs) = rw (every x) (ap (λ k. x ∷ k) (filter_every every xs))
 
@@ -83,6 +83,19 @@ module _ {R : Type 0} {shape : Shape R} {list : Tables → List R} {shown : R �
   all_mean db formed rows listing xs are =
       subst (λ k. AreThose keeps k xs) (sym (known.lists db)) (those shape known.laws shown known.back known.returns read.listing keeps read.shows read.passing db (known.formed db formed) rows listing xs are)
 
+  -- every row, in order
+  module _ (every : (x : R) → keeps x ≡ true) {cmp : R → R → Ordering} (ranked : IsRanked read cmp) where
+    in_order_mean : Means (AreShown shown) (λ t. AreAll cmp (list t))
+    in_order_mean db formed rows listing xs are = (
+      subst (λ k. IsPermutation k xs) (filter_every every (list (tables_of db))) (all_mean db formed rows listing xs are),
+      in_order shape known.laws shown known.back known.returns read.listing read.shows ranked.keys ranked.keyed cmp ranked.total ranked.alike db (known.formed db formed) rows listing xs are,
+    )
+
+  -- all rows that pass, in the order of a number
+  module _ (number : R → ℤ) (rank : (there rows : List Row) → IsListing read.listing.key read.listing.shown read.listing.by there rows → (xs : List R) → AreShown shown rows xs → Rises number xs) where
+    ranked_mean : Means (AreShown shown) (λ t xs. AreThose keeps (list t) xs × Rises number xs)
+    ranked_mean db formed rows listing xs are = let p = (known.formed db formed).placed in (all_mean db formed rows listing xs are, rank (filter read.listing.keeps (db.trees (shape.table p.tree).tree)) rows (listing p.at p.tree p.has) xs are)
+
   module _ {X Y : Type 0} (items : Y → List Row) (Says : List Row → X → Type 0) (Answer : Tables → X → Type 0) (means : Means Says Answer) where
     bare : (old new : State) (rows : List Row) → Shown text params old new rows → IsUnchanged old new
     bare old new rows said = shown_unchanged text (read.selects 0).parse (read.selects 0).asks (read.selects 0).parsed (read.selects 0).statement params old new rows said
@@ -135,6 +148,18 @@ module _ {R : Type 0} {shape : Shape R} {list : Tables → List R} {shown : R �
       tells_all of result said =
           tells items (λ rows x. AreShown shown rows (of x)) (λ t x. AreThose keeps (list t) (of x)) (λ db formed rows listing x are. all_mean db formed rows listing (of x) are) old new answer result shows fails said
 
+      -- every row, in order
+      pub tells_in_order : {X : Type 0} (every : (x : R) → keeps x ≡ true) {cmp : R → R → Ordering} (ranked : IsRanked read cmp) (of : X → List R) (result : Result X Fault) → AreSaid items (λ rows x. AreShown shown rows (of x)) answer result
+          → Tells (λ t x. AreAll cmp (list t) (of x)) old new result
+      tells_in_order every {cmp} ranked of result said =
+          tells items (λ rows x. AreShown shown rows (of x)) (λ t x. AreAll cmp (list t) (of x)) (λ db formed rows listing x are. in_order_mean every ranked db formed rows listing (of x) are) old new answer result shows fails said
+
+      -- all rows that pass, in the order of a number
+      pub tells_ranked : {X : Type 0} (of : X → List R) (number : R → ℤ) → ((there rows : List Row) → IsListing read.listing.key read.listing.shown read.listing.by there rows → (xs : List R) → AreShown shown rows xs → Rises number xs)
+          → (result : Result X Fault) → AreSaid items (λ rows x. AreShown shown rows (of x)) answer result → Tells (λ t x. AreThose keeps (list t) (of x) × Rises number (of x)) old new result
+      tells_ranked of number rank result said =
+          tells items (λ rows x. AreShown shown rows (of x)) (λ t x. AreThose keeps (list t) (of x) × Rises number (of x)) (λ db formed rows listing x are. ranked_mean number rank db formed rows listing (of x) are) old new answer result shows fails said
+
     module _ {S : Type 0} (g : Ghosts S) (shuts : Shuts g) (settles : Settles g) (old new : Held S) (rests : Rests (state g old)) (answer : Result Y Error) (ok : HasCleanDisk (state g new) → IfOk answer (λ y. Shown text given (state g old) (state g new) (items y)))
         (err : HasCleanDisk (state g new) → IfErr answer (FailsToQuery text given (state g old) (state g new))) (mode : old.in_transaction ≡ false → new.in_transaction ≡ false)
         (survives : Survives (state g old) (state g new) (CommitsShowing text given (state g old))) where
@@ -150,12 +175,7 @@ module _ {R : Type 0} {shape : Shape R} {list : Tables → List R} {shown : R �
       pub looks_in_order : {X : Type 0} (every : (x : R) → keeps x ≡ true) {cmp : R → R → Ordering} (ranked : IsRanked read cmp) (of : X → List R) (result : Result X Fault) → AreSaid items (λ rows x. AreShown shown rows (of x)) answer result
           → LooksUp (λ t x. AreAll cmp (list t) (of x)) (state g old) (state g new) result
       looks_in_order every {cmp} ranked of result said =
-          answers (λ rows x. AreShown shown rows (of x)) (λ t x. AreAll cmp (list t) (of x))
-          (λ db formed rows listing x are. (
-            subst (λ k. IsPermutation k (of x)) (filter_every every (list (tables_of db))) (all_mean db formed rows listing (of x) are),
-            in_order shape known.laws shown known.back known.returns read.listing read.shows ranked.keys ranked.keyed cmp ranked.total ranked.alike db (known.formed db formed) rows listing (of x) are,
-          ))
-          result said
+          answers (λ rows x. AreShown shown rows (of x)) (λ t x. AreAll cmp (list t) (of x)) (λ db formed rows listing x are. in_order_mean every ranked db formed rows listing (of x) are) result said
 
       pub looks_all : {X : Type 0} (of : X → List R) (result : Result X Fault) → AreSaid items (λ rows x. AreShown shown rows (of x)) answer result → LooksUp (λ t x. AreThose keeps (list t) (of x)) (state g old) (state g new) result
       looks_all of result said = answers (λ rows x. AreShown shown rows (of x)) (λ t x. AreThose keeps (list t) (of x)) (λ db formed rows listing x are. all_mean db formed rows listing (of x) are) result said
@@ -164,5 +184,4 @@ module _ {R : Type 0} {shape : Shape R} {list : Tables → List R} {shown : R �
       pub looks_ranked : {X : Type 0} (of : X → List R) (number : R → ℤ) → ((there rows : List Row) → IsListing read.listing.key read.listing.shown read.listing.by there rows → (xs : List R) → AreShown shown rows xs → Rises number xs)
           → (result : Result X Fault) → AreSaid items (λ rows x. AreShown shown rows (of x)) answer result → LooksUp (λ t x. AreThose keeps (list t) (of x) × Rises number (of x)) (state g old) (state g new) result
       looks_ranked of number rank result said =
-          answers (λ rows x. AreShown shown rows (of x)) (λ t x. AreThose keeps (list t) (of x) × Rises number (of x))
-          (λ db formed rows listing x are. let p = (known.formed db formed).placed in (all_mean db formed rows listing (of x) are, rank (filter read.listing.keeps (db.trees (shape.table p.tree).tree)) rows (listing p.at p.tree p.has) (of x) are)) result said
+          answers (λ rows x. AreShown shown rows (of x)) (λ t x. AreThose keeps (list t) (of x) × Rises number (of x)) (λ db formed rows listing x are. ranked_mean number rank db formed rows listing (of x) are) result said

@@ -1,5 +1,5 @@
--- From `SELECT * .. ORDER BY id DESC LIMIT 1` to the greatest number of a table.
-use Rattle.std.proofs.Common.{◌≡◌, ◌⊎◌, inl, inr, ℕ, ℤ, ◌≤ℤ◌, List, [], ◌∷◌, map, true, false, Option, Some, None, Result, Ok, Err, refl, sym, ap, subst, ◌∙◌, Ordering, Less, Equal, Greater, arith, suc}
+-- From `SELECT * .. ORDER BY id DESC LIMIT 1` to the greatest number of the rows that pass, inside a transaction and at rest.
+use Rattle.std.proofs.Common.{◌≡◌, ◌⊎◌, inl, inr, ℕ, ℤ, ◌≤ℤ◌, List, [], ◌∷◌, map, Bool, true, false, Option, Some, None, Result, Ok, Err, IsTrue, refl, sym, ap, subst, ◌∙◌, Ordering, Less, Equal, Greater, arith, suc}
 use Rattle.std.specs.Prelude.{filter, IfOk, IfErr, Contains, ◌<ℤ◌}
 use Rattle.std.specs.List.{AllByRecursion}
 use Rattle.std.specs.Ordering.{is_gt, int_cmp, MatchOrdering}
@@ -13,38 +13,36 @@ use Rattle.sqlite_rules.specs.Lists.{Has}
 use Rattle.sqlite_rules.proofs.ListLemmas.{all_has}
 use Rattle.sqlite_value.specs.Order.{value_cmp}
 use Rattle.sqlite_value.proofs.OrderLemmas.{value_cmp-Int}
+use Rattle.sqlite_value.specs.declared.keys.Key.{Key}
 use Rattle.sqlite.specs.Order.{Row, column}
 use Rattle.sqlite.specs.Term.{Term}
 use Rattle.sqlite.specs.Tree.{rowid}
+use Rattle.sqlite.specs.Store.{Ghosts}
 use Rattle.sqlite.specs.Effect.{Database}
+use Rattle.sqlite.specs.Held.{Held, state}
 use Rattle.sqlite.specs.declared.error.Error.{Error}
 use Rattle.sqlite.specs.declared.types.Value.{Value}
-use Rattle.sqlite.specs.declared.types.Value.TheVariants.{Int, Null}
-use Rattle.sqlite.specs.State.{State, HasCleanDisk, IsUnchanged, IsRolledBack, Shown, FailsToQuery, IsTooLate}
-use Rattle.sqlite_value.specs.declared.keys.Key.{Key}
+use Rattle.sqlite.specs.declared.types.Value.TheVariants.{Int}
+use Rattle.sqlite.specs.State.{State, HasCleanDisk, Survives, IsUnchanged, Shown, FailsToQuery, IsTooLate, CommitsShowing}
+use Rattle.sqlite_trees.proofs.ListLemmas.{map-map}
 use Rattle.sheet_types.specs.Ordered.{arranged}
 use Rattle.sheet_types.proofs.Order.{All-arranged}
-use Rattle.sql_meaning.specs.Known.{HasTable}
-use Rattle.sql_meaning.specs.Reading.{Listing, ShowsFirst, always, descending}
-use Rattle.sql_meaning.proofs.Select.{listing_of, paged_query, page_is, page_of, shown_terms}
-use Rattle.sql_meaning.proofs.First.{IsFirst, IsPlannedFirst, one_row, listing_first}
-use Rattle.sql_meaning.proofs.Where.{terms_of_test}
-use Rattle.sql_meaning.proofs.Resolve.{understood_is}
-use Rattle.sqlite.proofs.Callers.{IsPlain, command_of, reads_as}
-use Rattle.sqlite.specs.Command.TheVariants.{Select}
-use Rattle.sqlite_schema.specs.declared.program.Program.{Program}
-use Rattle.sqlite_trees.proofs.ListLemmas.{map-map}
+use Rattle.sql_meaning.specs.Reading.{Test, Listing, ShowsFirst, FindsFirst, descending}
+use Rattle.sql_meaning.specs.Transactions.{Rests}
+use Rattle.sql_meaning.proofs.Select.{listing_of}
+use Rattle.sql_meaning.proofs.First.{IsFirst, IsPlannedFirst, first_found, first_looks}
+use Rattle.sql_meaning.proofs.Where.{are_given}
 use Rattle.sql_meaning.proofs.Greatest.{greatest_of}
-use Rattle.sql_meaning.proofs.Rowids.{filter_all}
+use Rattle.sql_meaning.proofs.Transactions.{Shuts, Settles}
 use Rattle.sql_meaning.proofs.Answering.{shown_unchanged, failed_unchanged}
-use Rattle.package_tables.specs.Shape.{Shape, IsStored, stored_rows, rows_of}
-use Rattle.package_tables.specs.Package.{Tables, AreFormed}
-use Rattle.package_tables.specs.Calls.{TellsInside, Tells, IsGreatest}
+use Rattle.package_tables.specs.Shape.{Shape, IsStored, stored_rows}
+use Rattle.package_tables.specs.Package.{Tables, tables_of, AreFormed}
+use Rattle.package_tables.specs.Calls.{TellsInside, Tells, Answers, LooksUp, IsGreatest}
 use Rattle.package_tables.specs.Shown.{BeginsWith}
 use Rattle.package_tables.specs.declared.fault.Fault.{Fault}
-use Rattle.package_tables.proofs.Shapes.{rows_placed}
+use Rattle.package_tables.proofs.Shapes.{rows_placed, arranged-filter, all_filter}
 use Rattle.package_tables.proofs.Reading.{arranged_permutation}
-use Rattle.package_tables.proofs.Looking.{IsKnown, AreSaid}
+use Rattle.package_tables.proofs.Looking.{IsKnown, AreSaid, filter_every}
 
 pub not_above : (a b : ℤ) → is_gt (int_cmp a b) ≡ false → a ≤ℤ b
 not_above a b h = one (int_cmp a b) (int_ranks a b) h
@@ -54,84 +52,109 @@ not_above a b h = one (int_cmp a b) (int_ranks a b) h
     one Equal same e = subst (λ c. a ≤ℤ c) same (≤ℤ_refl a)
     one Greater above e = absurd (true≢false e)
 
--- what the text is, and how the rows carry their numbers
-pub record IsNewest {R : Type 0} (shape : Shape R) (number : R → ℤ) (text : List ℕ) : Type 0 where
-  pub by : List (Term × Key)
-  pub selects : (tree : ℕ) → IsFirst text (shape.table tree) always by
-  pub planned : (tree : ℕ) → IsPlannedFirst (shape.table tree) always by
-  pub shown : Row → Row
-  pub is : (tree : ℕ) → listing_of (shape.table tree) always by [] ≡ record { keeps = λ r. true; key = λ r. column r 0 ∷ []; shown = shown; by = descending ∷ [] }
-  pub begins : (v : Value) (x : R) → column (shown (shape.stored v x)) 0 ≡ Int (number x)
-  pub keyed : (v : Value) (x : R) → column (shape.stored v x) 0 ≡ Int (number x)
-
-pub has_mapped : {A B : Type 0} (f : A → B) (xs : List A) (x : A) → Has xs x → Contains (map f xs) (f x)
+has_mapped : {A B : Type 0} (f : A → B) (xs : List A) (x : A) → Has xs x → Contains (map f xs) (f x)
 has_mapped f [] x h = absurd h
 has_mapped f (y ∷ xs) x (inl same) = (0, omega arith, ap f (sym same))
 has_mapped f (y ∷ xs) x (inr later) = let (k, below, is) = has_mapped f xs x later in (suc k, omega (arith, below), is)
 
-module _ {R : Type 0} {shape : Shape R} {list : Tables → List R} {shown' : R → Row} (known : IsKnown shape list shown') {number : R → ℤ} {text : List ℕ} (newest : IsNewest shape number text) where
+-- the first of some stored rows in descending order has the greatest number of their values
+module _ {R : Type 0} (shape : Shape R) (number : R → ℤ) (shown : Row → Row) (begins : (v : Value) (x : R) → column (shown (shape.stored v x)) 0 ≡ Int (number x)) (keyed : (v : Value) (x : R) → column (shape.stored v x) 0 ≡ Int (number x)) where
   none_above : (top : ℤ) (r : Row) → column r 0 ≡ Int top → (rows : List Row) → AllByRecursion (IsStored shape) rows → AllByRecursion (λ x. is_gt (value_cmp (column x 0) (column r 0)) ≡ false) rows → AllByRecursion (λ x. number x ≤ℤ top) (map shape.typed rows)
   none_above top r is [] stored most = tt
   none_above top r is (x ∷ rows) stored most =
-      let mine : column x 0 ≡ Int (number (shape.typed x)) = ap (λ s. column s 0) (sym stored.0) ∙ newest.keyed (rowid x) (shape.typed x) in
+      let mine : column x 0 ≡ Int (number (shape.typed x)) = ap (λ s. column s 0) (sym stored.0) ∙ keyed (rowid x) (shape.typed x) in
       (not_above (number (shape.typed x)) top (ap is_gt (sym (value_cmp-Int (number (shape.typed x)) top)) ∙ rw (← mine, ← is) most.0), none_above top r is rows stored.1 most.1)
 
-  module _ (db : Database) (formed : AreFormed db) (rows : List Row) (first : (at tree : ℕ) → HasTable db.schema at (shape.table tree) → ShowsFirst (λ r. column r 0 ∷ []) newest.shown (descending ∷ []) (filter (λ r. true) (db.trees (shape.table tree).tree)) rows) where
-    shows : ShowsFirst (λ r. column r 0 ∷ []) newest.shown (descending ∷ []) (stored_rows shape db) rows
-    shows =
-        let p = (known.formed db formed).placed in
-        let same : filter (λ r. true) (db.trees (shape.table p.tree).tree) ≡ stored_rows shape db = filter_all _ ∙ ap db.trees (known.laws.treed p.tree) ∙ sym (rows_placed shape known.laws db p.at p.tree p.has) in
-        subst (λ k. ShowsFirst (λ r. column r 0 ∷ []) newest.shown (descending ∷ []) k rows) same (first p.at p.tree p.has)
+  greatest_in : (xs rows : List Row) → AllByRecursion (IsStored shape) xs → (found : Option ℤ) → BeginsWith rows found → ShowsFirst (λ r. column r 0 ∷ []) shown (descending ∷ []) xs rows → IsGreatest number (arranged shape.key (map shape.typed xs)) found
+  greatest_in xs rows stored None empty (inl none) = ap (λ k. arranged shape.key (map shape.typed k)) none.0
+  greatest_in xs rows stored None empty (inr one) = absurd (let e = sym one.2 ∙ empty in cc)
+  greatest_in xs rows stored (Some n) head (inl none) = absurd (let e = rw none.1 at head.1 in cc)
+  greatest_in xs rows stored (Some n) head (inr one) =
+      let r = one.0 in
+      let mine : IsStored shape r = all_has (IsStored shape) xs r stored one.1.there in
+      let e = rw one.2 at head.1 in
+      let same : shown r ≡ head.0 = cc in
+      let number_is : Int n ≡ Int (number (shape.typed r)) = sym head.2 ∙ ap (λ k. column k 0) (sym same) ∙ ap (λ k. column (shown k) 0) (sym mine) ∙ begins (rowid r) (shape.typed r) in
+      let n_is : n ≡ number (shape.typed r) = cc in
+      let top : column r 0 ≡ Int n = ap (λ s. column s 0) (sym mine) ∙ keyed (rowid r) (shape.typed r) ∙ sym number_is in
+      let most = none_above n r top xs stored (greatest_of 0 xs r one.1) in
+      let has = has_mapped (λ k. number (shape.typed k)) xs r one.1.there in
+      let mapped : Contains (map number (map shape.typed xs)) n = subst (λ k. Contains k n) (sym (map-map number shape.typed xs)) (subst (Contains (map (λ k. number (shape.typed k)) xs)) (sym n_is) has) in
+      let moved = IsPermutation-map number _ _ (arranged_permutation shape.key (map shape.typed xs)) in
+      (Contains-permutation _ _ n moved mapped, All-from_recursion (λ x. number x ≤ℤ n) _ (All-arranged shape.key (λ x. number x ≤ℤ n) (map shape.typed xs) most))
 
-    greatest : (found : Option ℤ) → BeginsWith rows found → ShowsFirst (λ r. column r 0 ∷ []) newest.shown (descending ∷ []) (stored_rows shape db) rows → IsGreatest number (rows_of shape db) found
-    greatest None empty (inl none) = ap (λ k. arranged shape.key (map shape.typed k)) none.0
-    greatest None empty (inr one) = absurd (let e = sym one.2 ∙ empty in cc)
-    greatest (Some n) head (inl none) = absurd (let e = rw none.1 at head.1 in cc)
-    greatest (Some n) head (inr one) =
-        let stored = (known.formed db formed).stored in
-        let r = one.0 in
-        let mine : IsStored shape r = all_has (IsStored shape) (stored_rows shape db) r stored one.1.there in
-        let e = rw one.2 at head.1 in
-        let same : newest.shown r ≡ head.0 = cc in
-        let number_is : Int n ≡ Int (number (shape.typed r)) = sym head.2 ∙ ap (λ k. column k 0) (sym same) ∙ ap (λ k. column (newest.shown k) 0) (sym mine) ∙ newest.begins (rowid r) (shape.typed r) in
-        let n_is : n ≡ number (shape.typed r) = cc in
-        let top : column r 0 ≡ Int n = ap (λ s. column s 0) (sym mine) ∙ newest.keyed (rowid r) (shape.typed r) ∙ sym number_is in
-        let most = none_above n r top (stored_rows shape db) stored (greatest_of 0 (stored_rows shape db) r one.1) in
-        let has = has_mapped (λ k. number (shape.typed k)) (stored_rows shape db) r one.1.there in
-        let mapped : Contains (map number (map shape.typed (stored_rows shape db))) n = subst (λ k. Contains k n) (sym (map-map number shape.typed (stored_rows shape db))) (subst (Contains (map (λ k. number (shape.typed k)) (stored_rows shape db))) (sym n_is) has) in
-        let moved = IsPermutation-map number _ _ (arranged_permutation shape.key (map shape.typed (stored_rows shape db))) in
-        (Contains-permutation _ _ n moved mapped, All-from_recursion (λ x. number x ≤ℤ n) _ (All-arranged shape.key (λ x. number x ≤ℤ n) (map shape.typed (stored_rows shape db)) most))
+-- what the text is with these parameters, and how the rows carry their numbers
+pub record IsNewest {R : Type 0} (shape : Shape R) (number : R → ℤ) (text : List ℕ) (params : Row) (keeps : R → Bool) : Type 0 where
+  pub test : Test
+  pub by : List (Term × Key)
+  pub selects : (tree : ℕ) → IsFirst text (shape.table tree) test by
+  pub planned : (tree : ℕ) → IsPlannedFirst (shape.table tree) test by
+  pub given : are_given test params ≡ true
+  pub pass : Row → Bool
+  pub shown : Row → Row
+  pub is : (tree : ℕ) → listing_of (shape.table tree) test by params ≡ record { keeps = pass; key = λ r. column r 0 ∷ []; shown = shown; by = descending ∷ [] }
+  pub passing : (v : Value) (x : R) → pass (shape.stored v x) ≡ keeps x
+  pub begins : (v : Value) (x : R) → column (shown (shape.stored v x)) 0 ≡ Int (number x)
+  pub keyed : (v : Value) (x : R) → column (shape.stored v x) 0 ≡ Int (number x)
 
-    pub answered : (found : Option ℤ) → BeginsWith rows found → IsGreatest number (rows_of shape db) found
-    answered found head = greatest found head shows
+module _ {R : Type 0} {shape : Shape R} {list : Tables → List R} {shown' : R → Row} (known : IsKnown shape list shown') {number : R → ℤ} {text : List ℕ} {params : Row} {keeps : R → Bool} (newest : IsNewest shape number text params keeps) where
+  abbrev listing : Listing
+  listing = record { keeps = newest.pass; key = λ r. column r 0 ∷ []; shown = newest.shown; by = descending ∷ [] }
 
-  bare : (old new : State) (rows : List Row) → Shown text [] old new rows → IsUnchanged old new
-  bare old new rows said = shown_unchanged text (newest.selects 0).parse (newest.selects 0).asks (newest.selects 0).parsed (newest.selects 0).statement [] old new rows said
+  tested : (rows : List Row) → AllByRecursion (IsStored shape) rows → AllByRecursion (λ r. newest.pass r ≡ keeps (shape.typed r)) rows
+  tested [] h = tt
+  tested (r ∷ rows) h = (ap newest.pass (sym h.0) ∙ newest.passing (rowid r) (shape.typed r), tested rows h.1)
 
-  failed : (old new : State) (e : Error) → FailsToQuery text [] old new e → IsUnchanged old new ⊎ IsRolledBack old new
-  failed old new e why = failed_unchanged text (newest.selects 0).parse (newest.selects 0).asks (newest.selects 0).parsed (newest.selects 0).statement [] old new e why
+  answered : (db new : Database) → AreFormed db → (rows : List Row) → FindsFirst shape.table listing rows db new → (found : Option ℤ) → BeginsWith rows found → IsGreatest number (filter keeps (list (tables_of db))) found
+  answered db new formed rows finds found head =
+      let f = known.formed db formed in
+      let p = f.placed in
+      let there = stored_rows shape db in
+      let same : filter newest.pass (db.trees (shape.table p.tree).tree) ≡ filter newest.pass there = ap (filter newest.pass) (ap db.trees (known.laws.treed p.tree) ∙ sym (rows_placed shape known.laws db p.at p.tree p.has)) in
+      let shows = subst (λ k. ShowsFirst (λ r. column r 0 ∷ []) newest.shown (descending ∷ []) k rows) same (finds.first p.at p.tree p.has) in
+      let kept = arranged-filter shape.key shape.typed keeps newest.pass there (tested there f.stored) in
+      subst (λ k. IsGreatest number k found) (kept ∙ ap (filter keeps) (sym (known.lists db)))
+      (greatest_in shape number newest.shown newest.begins newest.keyed (filter newest.pass there) rows (all_filter (IsStored shape) newest.pass there f.stored) found head shows)
 
-  first_shown : (old new : State) (rows : List Row) → Shown text [] old new rows → (at tree : ℕ) → HasTable old.now.schema at (shape.table tree)
-      → ShowsFirst (λ r. column r 0 ∷ []) newest.shown (descending ∷ []) (filter (λ r. true) (old.now.trees (shape.table tree).tree)) rows
-  first_shown old new rows shown at tree has =
-      let t = shape.table tree in
-      let schema = old.now.schema in
-      let q : Program = record { lets = []; body = paged_query t.tree (terms_of_test t always) (shown_terms t) newest.by one_row } in
-      let known = understood_is schema text _ (page_is schema text at t always newest.by one_row (newest.selects tree) has (newest.planned tree)) in
-      let got = reads_as text [] old new schema refl (Select q _) (ap command_of known.0) (subst IsPlain (sym known.0) (refl, refl)) known.1 rows shown in
-      let all = page_of schema at t has always (shown_terms t) newest.by one_row old.now.trees [] rows refl (got.answer Null) in
-      subst (λ (m : Listing). ShowsFirst m.key m.shown m.by (filter m.keeps (old.now.trees t.tree)) rows) (newest.is tree) (listing_first _ _ _ _ all.0 rows all.1 all.2)
-
-  -- inside a transaction
-  pub tells_greatest : {Y : Type 0} (items : Y → List Row) (old new : State) (answer : Result Y Error) → (HasCleanDisk new → IfOk answer (λ y. Shown text [] old new (items y)))
-      → (HasCleanDisk new → IfErr answer (λ e. FailsToQuery text [] old new e ⊎ IsTooLate text [] old new e)) → (result : Result (Option ℤ) Fault) → AreSaid items BeginsWith answer result → Tells (λ t. IsGreatest number (list t)) old new result
-  tells_greatest {Y} items old new answer ok err result said clean = at answer result (ok clean) (err clean) said
+  -- inside a transaction; the parameters as they are bound
+  pub tells_greatest : {Y : Type 0} (items : Y → List Row) (given : Row) (same : given ≡ params) (old new : State) (answer : Result Y Error) → (HasCleanDisk new → IfOk answer (λ y. Shown text given old new (items y)))
+      → (HasCleanDisk new → IfErr answer (λ e. FailsToQuery text given old new e ⊎ IsTooLate text given old new e)) → (result : Result (Option ℤ) Fault) → AreSaid items BeginsWith answer result
+      → Tells (λ t. IsGreatest number (filter keeps (list t))) old new result
+  tells_greatest {Y} items given same old new answer ok err result said clean =
+      at answer result (subst (λ p. IfOk answer (λ y. Shown text p old new (items y))) same (ok clean)) (subst (λ p. IfErr answer (λ e. FailsToQuery text p old new e ⊎ IsTooLate text p old new e)) same (err clean)) said
     where
-      at : (answer : Result Y Error) (result : Result (Option ℤ) Fault) → IfOk answer (λ y. Shown text [] old new (items y)) → IfErr answer (λ e. FailsToQuery text [] old new e ⊎ IsTooLate text [] old new e)
-          → AreSaid items BeginsWith answer result → TellsInside (λ t. IsGreatest number (list t)) old new result
+      bare : (rows : List Row) → Shown text params old new rows → IsUnchanged old new
+      bare rows showing = shown_unchanged text (newest.selects 0).parse (newest.selects 0).asks (newest.selects 0).parsed (newest.selects 0).statement params old new rows showing
+
+      at : (answer : Result Y Error) (result : Result (Option ℤ) Fault) → IfOk answer (λ y. Shown text params old new (items y)) → IfErr answer (λ e. FailsToQuery text params old new e ⊎ IsTooLate text params old new e)
+          → AreSaid items BeginsWith answer result → TellsInside (λ t. IsGreatest number (filter keeps (list t))) old new result
       at (Ok y) (Ok found) showing fails said =
-          (bare old new (items y) showing, λ formed. subst (λ k. IsGreatest number k found) (sym (known.lists old.now)) (answered old.now formed (items y) (first_shown old new (items y) showing) found said))
-      at (Ok y) (Err f) showing fails said = inl (bare old new (items y) showing)
+          (bare (items y) showing, λ formed. answered old.now new.now formed (items y) (first_found text shape.table newest.test newest.by newest.selects newest.planned params newest.given listing newest.is old new (items y) showing) found said)
+      at (Ok y) (Err f) showing fails said = inl (bare (items y) showing)
       at (Err e) (Ok found) showing fails said = absurd said
-      at (Err e) (Err f) showing (inl why) said = failed old new e why
+      at (Err e) (Err f) showing (inl why) said = failed_unchanged text (newest.selects 0).parse (newest.selects 0).asks (newest.selects 0).parsed (newest.selects 0).statement params old new e why
       at (Err e) (Err f) showing (inr late) said = inl late.5
+
+  -- the same of a text that asks for no row in particular
+  pub tells_greatest_of_all : {Y : Type 0} (every : (x : R) → keeps x ≡ true) (items : Y → List Row) (old new : State) (answer : Result Y Error) → (HasCleanDisk new → IfOk answer (λ y. Shown text params old new (items y)))
+      → (HasCleanDisk new → IfErr answer (λ e. FailsToQuery text params old new e ⊎ IsTooLate text params old new e)) → (result : Result (Option ℤ) Fault) → AreSaid items BeginsWith answer result → Tells (λ t. IsGreatest number (list t)) old new result
+  tells_greatest_of_all every items old new answer ok err result said =
+      let whole : (λ t. filter keeps (list t)) ≡ list = λ i. λ t. filter_every every (list t) i in
+      subst (λ (of : Tables → List R). Tells (λ t. IsGreatest number (of t)) old new result) whole (tells_greatest items params refl old new answer ok err result said)
+
+  -- at rest; the parameters as they are bound
+  pub looks_greatest : {S Y : Type 0} (items : Y → List Row) (given : Row) (same : given ≡ params) (g : Ghosts S) (shuts : Shuts g) (settles : Settles g) (old new : Held S) (rests : Rests (state g old)) (answer : Result Y Error)
+      → (HasCleanDisk (state g new) → IfOk answer (λ y. Shown text given (state g old) (state g new) (items y))) → (HasCleanDisk (state g new) → IfErr answer (FailsToQuery text given (state g old) (state g new)))
+      → (old.in_transaction ≡ false → new.in_transaction ≡ false) → Survives (state g old) (state g new) (CommitsShowing text given (state g old)) → (result : Result (Option ℤ) Fault) → AreSaid items BeginsWith answer result
+      → LooksUp (λ t. IsGreatest number (filter keeps (list t))) (state g old) (state g new) result
+  looks_greatest {S} {Y} items given same g shuts settles old new rests answer ok err mode survives result said =
+      let found = first_looks text shape.table newest.test newest.by newest.selects newest.planned params newest.given listing newest.is g shuts settles items old new rests answer
+      (subst (λ p. HasCleanDisk (state g new) → IfOk answer (λ y. Shown text p (state g old) (state g new) (items y))) same ok)
+      (subst (λ p. HasCleanDisk (state g new) → IfErr answer (FailsToQuery text p (state g old) (state g new))) same err) mode (subst (λ p. Survives (state g old) (state g new) (CommitsShowing text p (state g old))) same survives) in
+      record { rests = found.rests; done = λ clean. at answer result (found.done clean) said; was_open = found.was_open; holds = found.holds; survives = found.survives }
+    where
+      at : (answer : Result Y Error) (result : Result (Option ℤ) Fault) → IfOk answer (λ y. IsTrue (state g new).is_open × FindsFirst shape.table listing (items y) (state g old).now (state g new).now) → AreSaid items BeginsWith answer result
+          → IfOk result (λ x. IsTrue (state g new).is_open × Answers (λ t. IsGreatest number (filter keeps (list t))) x (state g old).now (state g new).now)
+      at (Ok y) (Ok x) found said = (found.0, (found.1.same, λ formed. answered (state g old).now (state g new).now formed (items y) found.1 x said))
+      at (Err e) (Ok x) found said = absurd said
+      at answer (Err f) found said = tt

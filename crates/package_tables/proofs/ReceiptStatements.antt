@@ -16,7 +16,7 @@ use Rattle.sql_meaning.specs.Reading.{equals, always, ascending, descending}
 use Rattle.sql_meaning.proofs.Resolve.{one_table, one_source}
 use Rattle.sql_meaning.proofs.Select.{IsSelect, IsPlannedSelect}
 use Rattle.sql_meaning.proofs.First.{IsFirst, IsPlannedFirst}
-use Rattle.package_tables.proofs.NewestOf.{IsNewestOf}
+use Rattle.package_tables.proofs.Newest.{IsNewest}
 use Rattle.package_tables.specs.Shapes.{int_at, text_at}
 use Rattle.package_tables.specs.Shown.{receipt_shown}
 use Rattle.package_tables.proofs.Looking.{IsKnown, IsRead}
@@ -135,7 +135,7 @@ newest_from_plan : (tree : ℕ) → IsPlannedFirst (sheet_receipts tree) (equals
 unfolding resolving
 newest_from_plan tree schema at h = rw (h.stored, h.by_tree) refl
 
-pub newest_from : (source : List ℕ) → IsNewestOf receipt_shape (λ x. x.seq) (codes "SELECT * FROM sheet_receipts WHERE source = ?1 ORDER BY seq DESC LIMIT 1") (Text source ∷ []) (λ x. bytes_eq x.source source)
+pub newest_from : (source : List ℕ) → IsNewest receipt_shape (λ x. x.seq) (codes "SELECT * FROM sheet_receipts WHERE source = ?1 ORDER BY seq DESC LIMIT 1") (Text source ∷ []) (λ x. bytes_eq x.source source)
 newest_from source = record { test = _; by = _; selects = newest_from_text; planned = newest_from_plan; given = refl; pass = _; shown = _; is = λ tree. refl; passing = λ v x. same_text x.source source; begins = λ v x. refl; keyed = λ v x. refl }
 
 newest_to_text : (tree : ℕ) → IsFirst (codes "SELECT * FROM sheet_receipts WHERE target = ?1 ORDER BY seq DESC LIMIT 1") (sheet_receipts tree) (equals 5 0) ((col 1 0, descending) ∷ [])
@@ -161,7 +161,7 @@ newest_to_plan : (tree : ℕ) → IsPlannedFirst (sheet_receipts tree) (equals 5
 unfolding resolving
 newest_to_plan tree schema at h = rw (h.stored, h.by_tree) refl
 
-pub newest_to : (target : List ℕ) → IsNewestOf receipt_shape (λ x. x.seq) (codes "SELECT * FROM sheet_receipts WHERE target = ?1 ORDER BY seq DESC LIMIT 1") (Text target ∷ []) (λ x. bytes_eq x.target target)
+pub newest_to : (target : List ℕ) → IsNewest receipt_shape (λ x. x.seq) (codes "SELECT * FROM sheet_receipts WHERE target = ?1 ORDER BY seq DESC LIMIT 1") (Text target ∷ []) (λ x. bytes_eq x.target target)
 newest_to target = record { test = _; by = _; selects = newest_to_text; planned = newest_to_plan; given = refl; pass = _; shown = _; is = λ tree. refl; passing = λ v x. same_text x.target target; begins = λ v x. refl; keyed = λ v x. refl }
 
 pub all_receipts_ranked : IsRanked all_receipts (on (λ x. x.seq) int_cmp)

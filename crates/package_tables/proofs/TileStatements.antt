@@ -145,5 +145,5 @@ newest_plan : (tree : ℕ) → IsPlannedFirst (sheet_tiles tree) always ((col 1 
 unfolding resolving
 newest_plan tree schema at h = rw (h.stored, h.by_tree) refl
 
-pub newest : IsNewest tile_shape (λ x. x.id) (codes "SELECT * FROM sheet_tiles ORDER BY id DESC LIMIT 1")
-newest = record { by = _; selects = newest_text; planned = newest_plan; shown = _; is = λ tree. refl; begins = λ v x. refl; keyed = λ v x. refl }
+pub newest : IsNewest tile_shape (λ x. x.id) (codes "SELECT * FROM sheet_tiles ORDER BY id DESC LIMIT 1") [] (λ x. true)
+newest = record { test = _; by = _; selects = newest_text; planned = newest_plan; given = refl; pass = _; shown = _; is = λ tree. refl; passing = λ v x. refl; begins = λ v x. refl; keyed = λ v x. refl }

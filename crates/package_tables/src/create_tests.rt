@@ -10,12 +10,16 @@ use crate::fixed::{
     all_contents, all_relations, all_spatial_ref_sys, all_tile_matrices, all_tile_matrix_sets,
     set_last_change,
 };
-use crate::head::all_heads;
-use crate::moved::{all_moved, insert_moved, moved_of, moved_with_base};
+use crate::head::{all_heads, all_heads_inside};
+use crate::moved::{
+    all_moved, insert_moved, moved_of, moved_of_inside, moved_of_kind, moved_of_kind_inside,
+    moved_with_base, moved_with_base_inside,
+};
 use crate::package::{Package, begin};
 use crate::receipts::{
-    all_receipts, greatest_seq_from, greatest_seq_to, insert_receipt, receipt_by_request,
-    receipt_by_seq,
+    all_receipts, greatest_seq_from, greatest_seq_from_inside, greatest_seq_to,
+    greatest_seq_to_inside, insert_receipt, receipt_by_request, receipt_by_request_inside,
+    receipt_by_seq, receipt_by_seq_inside,
 };
 use crate::rows::{MovedRow, ReceiptRow};
 use sheet_types::frame::Frame;
@@ -258,6 +262,17 @@ fn entered<S: Alter>(conn: &mut Connection<S>) -> Result<bool, Fault> {
     Ok(true)
 }
 
+// A fourth receipt, in a transaction of its own.
+fn entered_once_more<S: Alter>(conn: &mut Connection<S>) -> Result<(), Fault> {
+    if !conn.is_autocommit() {
+        return Err(Fault::StoreFault);
+    }
+    let mut tx = begin(conn);
+    insert_receipt(&mut tx, 4, "q4", LATER, "fourth", "B", "A", 1, 2, 3, 4, 5)?;
+    tx.commit()?;
+    Ok(())
+}
+
 fn by_request<S: Alter>(
     alloc: Global,
     conn: &mut Connection<S>,
@@ -326,6 +341,70 @@ fn with_base<S: Alter>(
     Ok(moved(alloc, row)?)
 }
 
+fn of_kind<S: Alter>(
+    alloc: Global,
+    conn: &mut Connection<S>,
+    base: &str,
+    kind: i64,
+) -> Result<String, Fault> {
+    if !guarded(conn) {
+        return Err(Fault::StoreFault);
+    }
+    let row = moved_of_kind(conn, base, kind)?;
+    Ok(moved(alloc, row)?)
+}
+
+fn receipts_inside<S: Alter>(alloc: Global, tx: &mut Transaction<'_, S>) -> Result<String, Fault> {
+    let mut told = receipt(alloc, receipt_by_request_inside(tx, "q2")?)?;
+    told.push(';')?;
+    told.push_str(receipt(alloc, receipt_by_seq_inside(tx, 1)?)?.as_str())?;
+    let from = greatest_seq_from_inside(tx, "A")?.unwrap_or(-1);
+    let to = greatest_seq_to_inside(tx, "A")?.unwrap_or(-1);
+    told.push_str(format!(in alloc; ";{} {}", from, to)?.as_str())?;
+    Ok(told)
+}
+
+fn moved_inside<S: Alter>(alloc: Global, tx: &mut Transaction<'_, S>) -> Result<String, Fault> {
+    let mut told = String::new(alloc);
+    for row in moved_of_inside(tx, alloc, 2)? {
+        told.push_str(moved(alloc, Some(row))?.as_str())?;
+        told.push(';')?;
+    }
+    told.push_str(moved(alloc, moved_with_base_inside(tx, "i1")?)?.as_str())?;
+    told.push(';')?;
+    told.push_str(moved(alloc, moved_of_kind_inside(tx, "i2", 2)?)?.as_str())?;
+    told.push(';')?;
+    told.push_str(moved(alloc, moved_of_kind_inside(tx, "i2", 1)?)?.as_str())?;
+    Ok(told)
+}
+
+fn told_receipts_inside<S: Alter>(
+    alloc: Global,
+    conn: &mut Connection<S>,
+) -> Result<String, Fault> {
+    if !conn.is_autocommit() {
+        return Err(Fault::StoreFault);
+    }
+    let mut tx = begin(conn);
+    receipts_inside(alloc, &mut tx)
+}
+
+fn told_moved_inside<S: Alter>(alloc: Global, conn: &mut Connection<S>) -> Result<String, Fault> {
+    if !conn.is_autocommit() {
+        return Err(Fault::StoreFault);
+    }
+    let mut tx = begin(conn);
+    moved_inside(alloc, &mut tx)
+}
+
+fn head_count_inside<S: Alter>(alloc: Global, conn: &mut Connection<S>) -> Result<usize, Fault> {
+    if !conn.is_autocommit() {
+        return Err(Fault::StoreFault);
+    }
+    let mut tx = begin(conn);
+    Ok(all_heads_inside(&mut tx, alloc)?.len())
+}
+
 fn open(alloc: Global, db: Memory) -> Result<Connection<FileStore<Memory>>, Error>
     requires { IsTrue (memory_is_usable db) }
 {
@@ -392,8 +471,42 @@ fn receipts_and_what_they_moved_are_found(rt: HostRuntime) -> Result<(), Fail> {
     );
     assert_eq!(rt; with_base(alloc, &mut conn, "i9")?.as_str(), "-");
     assert_eq!(rt;
+        of_kind(alloc, &mut conn, "i3", 2)?.as_str(),
+        "2 1 2 i3  4 f3"
+    );
+    assert_eq!(rt; of_kind(alloc, &mut conn, "i3", 1)?.as_str(), "-");
+    assert_eq!(rt;
+        told_receipts_inside(alloc, &mut conn)?.as_str(),
+        "2 q2 second  7;1 q1 first A 5;3 1"
+    );
+    assert_eq!(rt;
+        told_moved_inside(alloc, &mut conn)?.as_str(),
+        "2 0 2 i2  3 f2;2 1 2 i3  4 f3;1 0 1 i1  5 f1;2 0 2 i2  3 f2;-"
+    );
+    assert_eq!(rt; head_count_inside(alloc, &mut conn)?, 1);
+    assert_eq!(rt;
         contents(alloc, &mut conn)?.as_str(),
         "sheet_media attributes sheet_media  2026-11-23T09:00:00.000Z 0 0 4096 4096 25832|sheet_rows attributes sheet_rows  2026-11-22T09:00:00.000Z 0 0 4096 4096 25832|sheet_tiles tiles sheet_tiles  2026-11-22T09:00:00.000Z 0 0 4096 4096 25832|"
+    );
+    Ok(())
+}
+
+// `bench/failing_allocations.sh` runs this test with each allocation refused in turn.
+#[test]
+fn a_receipt_comes_whole_or_not_at_all(rt: HostRuntime) -> Result<(), Fail> {
+    let alloc = rt.alloc();
+    let mut conn = made(alloc, Connection::open_in_memory(alloc)?)?.into_connection();
+    assert!(rt; entered(&mut conn)?);
+    if let Err(fault) = entered_once_more(&mut conn) {
+        assert!(rt; fault == Fault::OutOfMemory);
+        assert_eq!(rt; receipt_count(alloc, &mut conn)?, 3);
+        assert_eq!(rt; by_request(alloc, &mut conn, "q4")?.as_str(), "-");
+        entered_once_more(&mut conn)?;
+    }
+    assert_eq!(rt; receipt_count(alloc, &mut conn)?, 4);
+    assert_eq!(rt;
+        by_request(alloc, &mut conn, "q4")?.as_str(),
+        "4 q4 fourth A 5"
     );
     Ok(())
 }

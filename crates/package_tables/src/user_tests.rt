@@ -15,8 +15,10 @@ use crate::identities::{
 };
 use crate::mappings::{
     all_rows_media, all_tiles_media, delete_rows_media, delete_tiles_media, insert_rows_media,
-    insert_tiles_media, rows_media_of_base, rows_media_of_pair, rows_media_of_related,
-    tiles_media_of_base, tiles_media_of_pair, tiles_media_of_related,
+    insert_tiles_media, rows_media_of_base, rows_media_of_base_inside, rows_media_of_pair,
+    rows_media_of_pair_inside, rows_media_of_related, rows_media_of_related_inside,
+    tiles_media_of_base, tiles_media_of_base_inside, tiles_media_of_pair,
+    tiles_media_of_pair_inside, tiles_media_of_related, tiles_media_of_related_inside,
 };
 use crate::media::{
     all_media, delete_medium, greatest_medium_id, insert_medium, medium_by_id, medium_by_id_inside,
@@ -24,7 +26,8 @@ use crate::media::{
 use crate::rows::{AttributeRow, IdentityRow, MappingRow, MediaRow, TileRow};
 use crate::schema::create_schema;
 use crate::tiles::{
-    all_tiles, delete_tile, greatest_tile_id, insert_tile, tile_at, tile_by_id, tile_by_id_inside,
+    all_tiles, delete_tile, greatest_tile_id, insert_tile, tile_at, tile_at_inside, tile_by_id,
+    tile_by_id_inside,
 };
 use sqlite::{Alter, Connection, Transaction};
 use std::alloc::{AllocError, Global};
@@ -387,6 +390,34 @@ fn rows_inside<S: Alter>(alloc: Global, tx: &mut Transaction<'_, S>) -> Result<S
     told.push_str(medium(alloc, medium_by_id_inside(tx, 5)?)?.as_str())?;
     told.push(';')?;
     told.push_str(attribute(alloc, attribute_by_id_inside(tx, 3)?)?.as_str())?;
+    told.push(';')?;
+    told.push_str(tile(alloc, tile_at_inside(tx, 2, 3, 1)?)?.as_str())?;
+    Ok(told)
+}
+
+fn tiles_media_inside<S: Alter>(
+    alloc: Global,
+    tx: &mut Transaction<'_, S>,
+) -> Result<String, Fault> {
+    let mut told = mapping(alloc, tiles_media_of_pair_inside(tx, 7, 4)?)?;
+    told.push(';')?;
+    told.push_str(mapping(alloc, tiles_media_of_base_inside(tx, 9)?)?.as_str())?;
+    told.push(';')?;
+    told.push_str(mapping(alloc, tiles_media_of_related_inside(tx, 4)?)?.as_str())?;
+    told.push(';')?;
+    told.push_str(mapping(alloc, tiles_media_of_pair_inside(tx, 4, 7)?)?.as_str())?;
+    Ok(told)
+}
+
+fn rows_media_inside<S: Alter>(
+    alloc: Global,
+    tx: &mut Transaction<'_, S>,
+) -> Result<String, Fault> {
+    let mut told = mapping(alloc, rows_media_of_pair_inside(tx, 2, 5)?)?;
+    told.push(';')?;
+    told.push_str(mapping(alloc, rows_media_of_base_inside(tx, 3)?)?.as_str())?;
+    told.push(';')?;
+    told.push_str(mapping(alloc, rows_media_of_related_inside(tx, 5)?)?.as_str())?;
     Ok(told)
 }
 
@@ -416,6 +447,28 @@ fn told_rows_inside<S: Alter>(alloc: Global, conn: &mut Connection<S>) -> Result
     }
     let mut tx = conn.transaction();
     rows_inside(alloc, &mut tx)
+}
+
+fn told_tiles_media_inside<S: Alter>(
+    alloc: Global,
+    conn: &mut Connection<S>,
+) -> Result<String, Fault> {
+    if !conn.is_autocommit() {
+        return Err(Fault::StoreFault);
+    }
+    let mut tx = conn.transaction();
+    tiles_media_inside(alloc, &mut tx)
+}
+
+fn told_rows_media_inside<S: Alter>(
+    alloc: Global,
+    conn: &mut Connection<S>,
+) -> Result<String, Fault> {
+    if !conn.is_autocommit() {
+        return Err(Fault::StoreFault);
+    }
+    let mut tx = conn.transaction();
+    rows_media_inside(alloc, &mut tx)
 }
 
 fn told_identities_inside<S: Alter>(
@@ -487,6 +540,8 @@ fn relations_are_found(rt: HostRuntime) -> Result<(), Fail> {
     assert_eq!(rt; told_rows_media_of_base(a, conn, 3)?.as_str(), "3 4");
     assert_eq!(rt; told_rows_media_of_related(a, conn, 5)?.as_str(), "2 5");
     assert_eq!(rt; told_all_rows_media(a, conn)?.as_str(), "2 5;3 4;");
+    assert_eq!(rt; told_tiles_media_inside(a, conn)?.as_str(), "7 4;9 5;7 4;-");
+    assert_eq!(rt; told_rows_media_inside(a, conn)?.as_str(), "2 5;3 4;2 5");
     Ok(())
 }
 
@@ -519,7 +574,7 @@ fn rows_inside_a_transaction(rt: HostRuntime) -> Result<(), Fail> {
     let mut conn = Connection::open_in_memory(a)?;
     let conn = &mut conn;
     assert!(rt; scheme(conn)?);
-    assert_eq!(rt; told_rows_inside(a, conn)?.as_str(), "-;-;-");
+    assert_eq!(rt; told_rows_inside(a, conn)?.as_str(), "-;-;-;-");
     assert_eq!(rt; told_numbers(a, conn)?.as_str(), "-1 -1 -1");
     Ok(())
 }
@@ -532,7 +587,7 @@ fn one_row_of_each_table_goes(rt: HostRuntime) -> Result<(), Fail> {
     assert!(rt; filled(conn)?);
     assert_eq!(rt;
         told_rows_inside(a, conn)?.as_str(),
-        "7 2 3 1 2;5 0 image/jpeg;3 0 0 0 "
+        "7 2 3 1 2;5 0 image/jpeg;3 0 0 0 ;7 2 3 1 2"
     );
     assert_eq!(rt; told_numbers(a, conn)?.as_str(), "9 5 3");
     assert!(rt; emptied(conn)?);

@@ -11,7 +11,7 @@ INT, TEXT, BLOB = "int", "text", "blob"
 TABLES = [
     dict(file="TileStatements", module="tiles", list="tiles", shape="tile_shape", table="sheet_tiles", row="TileRow", shown="tile_shown", change="Tile", keyed=True,
          columns=[("id", INT), ("zoom_level", INT), ("tile_column", INT), ("tile_row", INT), ("tile_data", BLOB)], by=["id"],
-         insert="insert_tile", delete=("delete_tile", ["id"]), finds=[("tile_by_id", ["id"], True), ("tile_at", ["zoom_level", "tile_column", "tile_row"], False)], all="all_tiles", greatest="greatest_tile_id"),
+         insert="insert_tile", delete=("delete_tile", ["id"]), finds=[("tile_by_id", ["id"], True), ("tile_at", ["zoom_level", "tile_column", "tile_row"], True)], all="all_tiles", greatest="greatest_tile_id"),
     dict(file="MediumStatements", module="media", list="media", shape="medium_shape", table="sheet_media", row="MediaRow", shown="medium_shown", change="Medium", keyed=True,
          columns=[("id", INT), ("data", BLOB), ("content_type", TEXT)], by=["id"],
          insert="insert_medium", delete=("delete_medium", ["id"]), finds=[("medium_by_id", ["id"], True)], all="all_media", greatest="greatest_medium_id"),
@@ -21,11 +21,11 @@ TABLES = [
     dict(file="TilesMediaStatements", module="mappings", list="tiles_media", shape="tiles_media_shape", table="tiles_media", row="MappingRow", shown="mapping_shown", change="TilesMedia", keyed=False,
          columns=[("base_id", INT), ("related_id", INT)], by=["base_id", "related_id"],
          insert="insert_tiles_media", delete=("delete_tiles_media", ["base_id", "related_id"]),
-         finds=[("tiles_media_of_pair", ["base_id", "related_id"], False), ("tiles_media_of_base", ["base_id"], False), ("tiles_media_of_related", ["related_id"], False)], all="all_tiles_media"),
+         finds=[("tiles_media_of_pair", ["base_id", "related_id"], True), ("tiles_media_of_base", ["base_id"], True), ("tiles_media_of_related", ["related_id"], True)], all="all_tiles_media"),
     dict(file="RowsMediaStatements", module="mappings", list="rows_media", shape="rows_media_shape", table="rows_media", row="MappingRow", shown="mapping_shown", change="RowsMedia", keyed=False,
          columns=[("base_id", INT), ("related_id", INT)], by=["base_id", "related_id"],
          insert="insert_rows_media", delete=("delete_rows_media", ["base_id", "related_id"]),
-         finds=[("rows_media_of_pair", ["base_id", "related_id"], False), ("rows_media_of_base", ["base_id"], False), ("rows_media_of_related", ["related_id"], False)], all="all_rows_media"),
+         finds=[("rows_media_of_pair", ["base_id", "related_id"], True), ("rows_media_of_base", ["base_id"], True), ("rows_media_of_related", ["related_id"], True)], all="all_rows_media"),
     dict(file="IdentityStatements", module="identities", list="identities", shape="identity_shape", table="sheet_identity", row="IdentityRow", shown="identity_shown", change="Identity", keyed=False,
          columns=[("kind", INT), ("local_id", INT), ("uuid", TEXT)], by=["kind", "local_id"],
          insert="insert_identity", delete=("delete_identity", ["kind", "local_id"]),
@@ -163,23 +163,24 @@ def newest_facts(t):
         "unfolding resolving",
         "newest_plan tree schema at h = rw (h.stored, h.by_tree) refl",
         "",
-        "pub newest : IsNewest %s (λ x. x.%s) (codes \"%s\")" % (t["shape"], t["by"][0], newest_text(t)),
-        "newest = record { by = _; selects = newest_text; planned = newest_plan; shown = _; is = λ tree. refl; begins = λ v x. refl; keyed = λ v x. refl }",
+        "pub newest : IsNewest %s (λ x. x.%s) (codes \"%s\") [] (λ x. true)" % (t["shape"], t["by"][0], newest_text(t)),
+        "newest = record { test = _; by = _; selects = newest_text; planned = newest_plan; given = refl; pass = _; shown = _; is = λ tree. refl; passing = λ v x. refl; begins = λ v x. refl; keyed = λ v x. refl }",
     ]
 
 
 def newest_answer(t):
     function = t["greatest"]
     return [
+        "use Rattle.std.proofs.Common.{refl}",
         "use Rattle.sqlite.specs.Held.{state}",
-        "use Rattle.package_tables.proofs.Newest.{tells_greatest}",
+        "use Rattle.package_tables.proofs.Newest.{tells_greatest_of_all}",
         "use Rattle.package_tables.proofs.%s.{known, newest}" % t["file"],
         "use Rattle.package_tables.proofs.%s.%s.Goals as goal" % (t["module"], function),
         "",
         "pub returns-clause-told : goal.returns-clause-told",
         "returns-clause-told g c =",
         "    let e = c.query_all.ensures in",
-        "    tells_greatest known newest (λ rows. rows.items) (state g.S.Store c.args.tx.now.conn.now) (state g.S.Store c.query_all.new.self.conn.now) c.query_all.result e.ok e.err c.number_of.result c.number_of.ensures",
+        "    tells_greatest_of_all known newest (λ x. refl) (λ rows. rows.items) (state g.S.Store c.args.tx.now.conn.now) (state g.S.Store c.query_all.new.self.conn.now) c.query_all.result e.ok e.err c.number_of.result c.number_of.ensures",
     ]
 
 

@@ -99,7 +99,7 @@ IsPlannedFirst t test by = IsPlannedPage t test by one_row
 
 module _ (text : List ℕ) (table : ℕ → Table) (test : Test) (by : List (Term × Key)) (it : (tree : ℕ) → IsFirst text (table tree) test by) (plan : (tree : ℕ) → IsPlannedFirst (table tree) test by)
     (params : Row) (given : are_given test params ≡ true) (l : Listing) (is : (tree : ℕ) → listing_of (table tree) test by params ≡ l) where
-  first_found : (old new : State) (rows : List Row) → Shown text params old new rows → FindsFirst table l rows old.now new.now
+  pub first_found : (old new : State) (rows : List Row) → Shown text params old new rows → FindsFirst table l rows old.now new.now
   first_found old new rows shown = record {
     same = (shown_unchanged text (it 0).parse (it 0).asks (it 0).parsed (it 0).statement params old new rows shown).0.now_is;
     first = λ at tree has.

@@ -1,5 +1,5 @@
 use Rattle.std.proofs.Common.{refl}
-use Rattle.package_tables.proofs.NewestOf.{looks_greatest}
+use Rattle.package_tables.proofs.Newest.{looks_greatest}
 use Rattle.package_tables.proofs.ReceiptStatements.{receipts_known, newest_from}
 use Rattle.package_tables.proofs.receipts.greatest_seq_from.Goals as goal
 
