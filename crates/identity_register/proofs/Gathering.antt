@@ -22,7 +22,7 @@ use Rattle.sheet_types.specs.declared.frame.Frame.{Frame}
 use Rattle.sheet_types.specs.declared.receipt.MovedKind.{MovedKind}
 use Rattle.sheet_types.proofs.Basics.{bytes_eq_itself, before_trans}
 use Rattle.sheet_types.proofs.Every.{All-weaker, All-append, All-map}
-use Rattle.sheet_types.proofs.Same.{In, In-map, In-flat_map, All-In, Contains-In, same_list}
+use Rattle.sheet_types.proofs.Same.{In, In-map, In-of_map, In-flat_map, All-In, Contains-In, same_list}
 use Rattle.sheet_types.proofs.LineReading.{uuid_back}
 use Rattle.package_tables.specs.Package.{Tables}
 use Rattle.package_tables.specs.Shapes.{identity_shape, tiles_media_shape, rows_media_shape}
@@ -39,7 +39,7 @@ use Rattle.identity_register.specs.Reads.{Says}
 use Rattle.identity_register.specs.declared.whole.Placed.{Placed}
 use Rattle.identity_register.proofs.Answering.{same_item, item_is}
 use Rattle.identity_register.proofs.Contents.{content_by_row, one_place}
-use Rattle.identity_register.proofs.Finding.{contained, in_arranged, in_map, in_flat_map, row_numbered, same_uuid}
+use Rattle.identity_register.proofs.Finding.{contained, in_arranged, in_flat_map, row_numbered, same_uuid}
 use Rattle.identity_register.proofs.Linking.{end_of}
 use Rattle.identity_register.proofs.Looking.{Looked, sees, fails}
 use Rattle.identity_register.proofs.OnePackage.{to_arranged, distinct_arranged, row_stored, items_arranged}
@@ -149,7 +149,7 @@ module _ (f : Frame) (p : Package) (t : Tables) (says : Says f p t) where
 
       fro : (x : Item) → In x p.items → In x found
       fro x i =
-          let n = in_map (λ m. m.item) x says.numbered (in_arranged item_key (map (λ m. m.item) says.numbered) x (subst (In x) says.items i)) in
+          let n = In-of_map (λ m. m.item) x says.numbered (in_arranged item_key (map (λ m. m.item) says.numbered) x (subst (In x) says.items i)) in
           let stored : Contains t.identities (identity_row n.0) = row_stored f t p says n.0 n.1 in
           let it = zip_left (IsItemOf placed) (identity_row n.0) rows made zipped (moved (identity_row n.0) t.identities rows all (contained t.identities (identity_row n.0) stored)) in
           let m = item_there (identity_row n.0) stored placed contents it.0 it.2 in
