@@ -1,5 +1,6 @@
 //! How long one item takes to be added and to be found, in packages of different sizes. The times go to standard error,
-//! a line a size; nothing goes to standard output. The sizes are the arguments, or 50 and 100 where there are none.
+//! a line a package; nothing goes to standard output. Each argument is the path of a new file or a size: a size is measured
+//! in memory, and on the file that was named before it. With no argument a small package is measured in memory.
 #![tactic(auto)]
 
 ghost use Rattle.std.specs.Prelude.{IsTrue};
@@ -153,26 +154,47 @@ fn time_finds<S: Alter>(
     Ok(least)
 }
 
-/// The line of one size.
-fn report(rt: &HostRuntime, size: u64) -> Result<(), anyhow::Error> {
-    let mut conn = Connection::open_in_memory(rt.alloc())?;
-    prepare(&mut conn)?;
-    fill(&mut conn, rt.alloc(), 0, size)?;
-    let adding = time_additions(rt, &mut conn, size)? / 150;
-    let finding = time_finds(rt, &mut conn, size)? / 150;
-    eprintln!(rt; "{size} of each kind: add {adding} ns, find {finding} ns")?;
+/// Measures a package of this size in a store that is blank.
+fn measure<S: Alter>(
+    rt: &HostRuntime,
+    conn: &mut Connection<S>,
+    place: &str,
+    size: u64,
+) -> Result<(), anyhow::Error> {
+    prepare(conn)?;
+    fill(conn, rt.alloc(), 0, size)?;
+    let adding = time_additions(rt, conn, size)? / 150;
+    let finding = time_finds(rt, conn, size)? / 150;
+    eprintln!(rt; "{place}, {size} of each kind: add {adding} ns, find {finding} ns")?;
     Ok(())
 }
 
+fn in_memory(rt: &HostRuntime, size: u64) -> Result<(), anyhow::Error> {
+    let mut conn = Connection::open_in_memory(rt.alloc())?;
+    measure(rt, &mut conn, "memory", size)
+}
+
+fn on_file(rt: &HostRuntime, path: &str, size: u64) -> Result<(), anyhow::Error> {
+    let mut conn = Connection::open(rt, path)?;
+    measure(rt, &mut conn, "file", size)
+}
+
 fn main(rt: HostRuntime) -> Result<(), anyhow::Error> {
-    let mut given = false;
+    let mut path: Option<String> = None;
+    let mut measured = false;
     for argument in env::args(&rt)?.skip(1) {
-        given = true;
-        report(&rt, argument.parse()?)?;
+        let Ok(size) = argument.parse::<u64>() else {
+            path = Some(argument);
+            continue;
+        };
+        measured = true;
+        in_memory(&rt, size)?;
+        if let Some(file) = path.take() {
+            on_file(&rt, file.as_str(), size)?;
+        }
     }
-    if !given {
-        report(&rt, 50)?;
-        report(&rt, 100)?;
+    if !measured {
+        in_memory(&rt, 50)?;
     }
     Ok(())
 }
