@@ -11,7 +11,6 @@ use Rattle.sheet_types.specs.World.{Package, item_of, has_item, has_kind, kind_i
 use Rattle.sheet_types.specs.declared.command.Relation.{Relation}
 use Rattle.sheet_types.specs.declared.frame.Frame.{Frame}
 use Rattle.sheet_types.specs.declared.receipt.MovedKind.{MovedKind}
-use Rattle.sheet_types.specs.declared.refusal.Refusal.{Refusal}
 use Rattle.sheet_types.specs.declared.refusal.Refusal.TheVariants.{UnknownItem, WrongKind, BadPlace, OutOfFrame, PlaceTaken, LinkThere, Linked}
 use Rattle.package_tables.specs.Package.{Tables}
 use Rattle.identity_register.specs.Changes.{names_item}

@@ -1,7 +1,7 @@
 -- The kind that an item of a package is of says whether the package has an item of a kind under its identity.
-use Rattle.std.proofs.Common.{◌≡◌, ℕ, List, [], ◌∷◌, map, Bool, true, false, cond, Option, Some, None, refl, sym, ap, subst, ◌∙◌, arith}
-use Rattle.std.specs.Prelude.{◌≤◌, ◌&&◌, ◌||◌, ◌==◌, find, bytes_eq, count_by, option_map, is_some}
-use Rattle.std.specs.List.{AllByRecursion, IsDistinct, list_any}
+use Rattle.std.proofs.Common.{◌≡◌, ℕ, List, [], ◌∷◌, map, Bool, true, false, cond, Option, Some, None, refl, sym, ap, ◌∙◌, arith}
+use Rattle.std.specs.Prelude.{◌≤◌, ◌&&◌, ◌||◌, find, bytes_eq, count_by, option_map, is_some}
+use Rattle.std.specs.List.{IsDistinct, list_any}
 use Rattle.std.proofs.lemmas.Slice.Eq.{bytes_eq-Decides}
 use Rattle.sheet_types.specs.Texts.{kind_of}
 use Rattle.sheet_types.specs.World.{Package, item_key, kind_number, kind_is, item_of, has_item, has_kind}
@@ -15,7 +15,7 @@ use Rattle.sheet_types.proofs.Order.{sum_by-arranged}
 use Rattle.sheet_types.proofs.Sums.{sum_by-map}
 use Rattle.package_tables.specs.Package.{Tables}
 use Rattle.identity_register.specs.Numbering.{Numbered}
-use Rattle.identity_register.specs.Reads.{Reads, Says}
+use Rattle.identity_register.specs.Reads.{Says}
 
 -- one passes where one is found
 any_found : {X : Type 0} (q : X → Bool) (xs : List X) → list_any q xs ≡ is_some (find q xs)
@@ -52,7 +52,7 @@ unfolding IsDistinct
 kind_found want id i [] distinct e = absurd (None≢Some e)
 kind_found want id i (x ∷ xs) distinct e =
     elim (bytes_eq x.identity id) as (λ v. bytes_eq x.identity id ≡ v → cond v (Some x) (find (λ y. bytes_eq y.identity id) xs) ≡ Some i
-        → ((kind_is (kind_of x.content) want && v) || list_any (λ y. bytes_eq (item_key y) (kind_number want ∷ id)) xs) ≡ kind_is (kind_of i.content) want) [
+    → ((kind_is (kind_of x.content) want && v) || list_any (λ y. bytes_eq (item_key y) (kind_number want ∷ id)) xs) ≡ kind_is (kind_of i.content) want) [
       | true ↦ λ here is.
           let same : x ≡ i = some_same is in
           let none : list_any (λ y. bytes_eq (item_key y) (kind_number want ∷ id)) xs ≡ false = none_any _ xs (All-weaker _ _ (λ y differs. other y ((bytes_eq-Decides x.identity id).0 here) differs) xs (All-of_map (λ z. bytes_eq x.identity z ≡ false) (λ y. y.identity) xs distinct.0)) in

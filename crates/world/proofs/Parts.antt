@@ -3,7 +3,7 @@ use Rattle.std.proofs.Common.{◌≡◌, ℕ, List, [], ◌∷◌, ◌++◌, Boo
 use Rattle.std.specs.Prelude.{not, ◌&&◌, drop}
 use Rattle.std.specs.Option.{option_or}
 use Rattle.sheet_types.specs.Matrix.{first_row}
-use Rattle.sheet_types.specs.World.{World, Package, is_live, holdings}
+use Rattle.sheet_types.specs.World.{World, is_live, holdings}
 use Rattle.sheet_types.specs.Refuse.{refusal, reasons, id_reused}
 use Rattle.sheet_types.specs.declared.command.Command.{Command}
 use Rattle.sheet_types.specs.declared.command.Command.TheVariants.{Add, Delete, Link, Unlink, Split, Merge}

@@ -1,7 +1,6 @@
 -- Looks at the package of one store, one after the other, and what is judged by them.
-use Rattle.std.proofs.Common.{◌≡◌, refl, sym, subst, ◌∙◌, inl, Result, Ok, Err, IsTrue, IsErr, arith}
+use Rattle.std.proofs.Common.{◌≡◌, refl, sym, subst, ◌∙◌, inl, Result, Ok, Err, IsErr, arith}
 use Rattle.sqlite.specs.Store.{Ghosts}
-use Rattle.sqlite.specs.Effect.{Database}
 use Rattle.sqlite.specs.Held.{Held, state}
 use Rattle.sqlite.specs.State.{State, HasCleanDisk, Survives}
 use Rattle.sql_meaning.specs.Transactions.{Rests, Looks}

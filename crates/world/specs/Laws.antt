@@ -1,5 +1,5 @@
 -- A request is refused for the first of the reasons that its parts are judged by. Profile.
-use Rattle.std.specs.Prelude.{◌≡◌, ℕ, Bool, true, false, not, List, [], ◌∷◌, ◌++◌}
+use Rattle.std.specs.Prelude.{◌≡◌, ℕ, Bool, true, false, List, [], ◌∷◌, ◌++◌}
 use Rattle.sheet_types.specs.Matrix.{first_row}
 use Rattle.sheet_types.specs.World.{World, Package, is_live, holdings}
 use Rattle.sheet_types.specs.Refuse.{refusal, id_reused, identity_used, too_many}

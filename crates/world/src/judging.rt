@@ -48,7 +48,10 @@ fn refusal_of_add<S: Alter>(
 {
     match content {
         Content::Tile {
-            zoom, column, row, ..
+            zoom,
+            column,
+            row,
+            ..
         } => refusal_of_tile(conn, frame, *zoom, *column, *row),
         Content::Media { .. } => Ok(None),
         Content::Row { x, y, .. } => {

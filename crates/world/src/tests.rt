@@ -67,13 +67,7 @@ fn added(content: Content) -> Command {
     }
 }
 
-fn tile(
-    alloc: Global,
-    zoom: i64,
-    column: i64,
-    row: i64,
-    bytes: &[u8],
-) -> Result<Command, Fault> {
+fn tile(alloc: Global, zoom: i64, column: i64, row: i64, bytes: &[u8]) -> Result<Command, Fault> {
     Ok(added(Content::Tile {
         zoom,
         column,
@@ -113,7 +107,11 @@ fn moments(rt: HostRuntime) -> Result<(), Fail> {
         ("2026-13-22T09:00:00.000Z", 4),
         ("2026-11-22 09:00:00.000Z", 4),
     ] {
-        assert_eq!(rt; asked(alloc, at, tile(alloc, 0, 0, 0, b"a")?)?, wanted, "at {at}");
+        assert_eq!(rt;
+            asked(alloc, at, tile(alloc, 0, 0, 0, b"a")?)?,
+            wanted,
+            "at {at}"
+        );
     }
     assert_eq!(rt; asked(alloc, AT, tile(alloc, 0, 0, 0, b"")?)?, 5);
     assert_eq!(rt; asked(alloc, "", tile(alloc, 0, 0, 0, b"")?)?, 4);
@@ -220,9 +218,18 @@ fn items_that_come(rt: HostRuntime) -> Result<(), Fail> {
         (3, 0, 0, 9),
     ] {
         let command = tile(alloc, zoom, column, row, b"a")?;
-        assert_eq!(rt; judged(&mut conn, &FRAME, &command)?, wanted, "at {zoom} {column} {row}");
+        assert_eq!(rt;
+            judged(&mut conn, &FRAME, &command)?,
+            wanted,
+            "at {zoom} {column} {row}"
+        );
     }
-    for (x, y, wanted) in [(0i64, 4096i64, 0u8), (4095, 1, 0), (0, 0, 10), (4096, 1, 10)] {
+    for (x, y, wanted) in [
+        (0i64, 4096i64, 0u8),
+        (4095, 1, 0),
+        (0, 0, 10),
+        (4096, 1, 10),
+    ] {
         let command = attributes_row(x, y, 0, repeated(alloc, "well", 1)?);
         assert_eq!(rt; judged(&mut conn, &FRAME, &command)?, wanted, "at {x} {y}");
     }

@@ -30,5 +30,5 @@ returns-in-Row g c =
     let inside = simp (to_z-of_z, x, y) at c.in_frame.ensures in
     judges_still g.S.Store g.met.S.Store.shut_if_dirty g.met.S.Store.settled c.args.conn.now c.requires.rests
     (λ f p same.
-        let found : c.then_some.result ≡ first_row (content_reasons f p (Row c.in-Row.x c.in-Row.y c.in-Row.code c.in-Row.label)) = c.then_some.ensures ∙ on_frame f c.args.frame.now c.in-Row.x c.in-Row.y c.in_frame.result inside same in
-        found ∙ ap (λ y. first_row (content_reasons f p y)) (sym c.in-Row.is))
+    let found : c.then_some.result ≡ first_row (content_reasons f p (Row c.in-Row.x c.in-Row.y c.in-Row.code c.in-Row.label)) = c.then_some.ensures ∙ on_frame f c.args.frame.now c.in-Row.x c.in-Row.y c.in_frame.result inside same in
+    found ∙ ap (λ y. first_row (content_reasons f p y)) (sym c.in-Row.is))
