@@ -1,0 +1,4 @@
+pub mod Seeing
+pub mod ItemKinds
+pub mod FirstRows
+pub mod Parts

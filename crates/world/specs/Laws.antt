@@ -1,0 +1,47 @@
+-- A request is refused for the first of the reasons that its parts are judged by. Profile.
+use Rattle.std.specs.Prelude.{◌≡◌, ℕ, Bool, true, false, List, [], ◌∷◌, ◌++◌}
+use Rattle.sheet_types.specs.Matrix.{first_row}
+use Rattle.sheet_types.specs.World.{World, Package, is_live, holdings}
+use Rattle.sheet_types.specs.Refuse.{refusal, id_reused, identity_used, too_many}
+use Rattle.sheet_types.specs.declared.command.Command.{Command}
+use Rattle.sheet_types.specs.declared.command.Command.TheVariants.{Add, Delete, Link, Unlink, Split, Merge}
+use Rattle.sheet_types.specs.declared.command.Request.{Request}
+use Rattle.sheet_types.specs.declared.refusal.Refusal.{Refusal}
+use Rattle.sheet_types.specs.declared.refusal.Refusal.TheVariants.{IdReused, UnknownPackage, IdentityUsed, TooMany}
+use Rattle.world.specs.Reasons.{text_reasons, package_reasons}
+
+-- the commands that are served so far: those that change one package
+abbrev pub IsServed : Command → Type 0
+IsServed (Add uuid identity content) = Unit {0}
+IsServed (Delete uuid identity) = Unit {0}
+IsServed (Link uuid mapping base media) = Unit {0}
+IsServed (Unlink uuid mapping base media) = Unit {0}
+IsServed (Split uuid child mode rect) = ⊥
+IsServed (Merge child into ticket) = ⊥
+
+-- the package that a command changes; of a split the one that it takes from, of a merge the one that takes all
+abbrev pub package_of : Command → List ℕ
+package_of (Add uuid identity content) = uuid
+package_of (Delete uuid identity) = uuid
+package_of (Link uuid mapping base media) = uuid
+package_of (Unlink uuid mapping base media) = uuid
+package_of (Split uuid child mode rect) = uuid
+package_of (Merge child into ticket) = into
+
+-- the reasons of a served command whose package is live and is p. next is the world that the request would leave
+abbrev pub live_reasons : World → World → Package → Request → List (Bool × Refusal)
+live_reasons w next p q =
+    (id_reused w q, IdReused)
+    ∷ text_reasons q
+    ++ (identity_used w q.command, IdentityUsed)
+    ∷ package_reasons w.frame p q.command
+    ++ (too_many next, TooMany)
+    ∷ []
+
+-- A served command is refused for the first of these, where its package is live.
+abbrev pub RefusedByParts : Type 0
+RefusedByParts = (w next : World) (p : Package) (q : Request) → IsServed q.command → is_live w (package_of q.command) ≡ true → holdings w (package_of q.command) ≡ p → refusal w next q ≡ first_row (live_reasons w next p q)
+
+-- Where it is not live, what was reused or that it is not known is all that is told.
+abbrev pub RefusedUnlessLive : Type 0
+RefusedUnlessLive = (w next : World) (q : Request) → IsServed q.command → is_live w (package_of q.command) ≡ false → refusal w next q ≡ first_row ((id_reused w q, IdReused) ∷ (true, UnknownPackage) ∷ [])
