@@ -136,9 +136,11 @@ content_put {E} number a b {old} {new} {r} same makes survives = subst (λ k. St
 
 -- ---- numbers from 1 to the greatest, in turn
 
+-- each of them is within the range
 pub within_from : (n : ℤ) → pos 1 ≤ℤ n → int_le n greatest_number ≡ true → is_within (pos 1) greatest_number n ≡ true
 within_from n low high = and_from (int_le (pos 1) n) (int_le n greatest_number) (grind (arith, ints)) high
 
+-- and the next one is from 1 on
 pub next_from : (n : ℤ) → pos 1 ≤ℤ n → int_le n greatest_number ≡ true → pos 1 ≤ℤ to_z w64 (of_z w64 (n +ℤ pos 1))
 next_from n low high = let fits : FitsSigned w64 (n +ℤ pos 1) = omega (arith, ints) in simp (to_z-of_z, fits) (omega (arith, ints))
 
