@@ -1,5 +1,5 @@
 -- The items and links that whole tables give are those of the package.
-use Rattle.std.proofs.Common.{◌≡◌, ℕ, suc, ◌+◌, ◌<◌, ℤ, pos, List, [], ◌∷◌, ◌++◌, map, length, get_or, take, Bool, true, false, Option, Some, None, Result, Ok, Err, refl, sym, ap, subst, ◌∙◌, inl, inr, append_assoc, arith}
+use Rattle.std.proofs.Common.{◌≡◌, ℕ, suc, ◌+◌, ◌<◌, pos, List, [], ◌∷◌, ◌++◌, map, length, get_or, take, true, Some, Result, Ok, Err, refl, sym, ap, subst, ◌∙◌, inl, inr, append_assoc, arith}
 use Rattle.std.specs.Prelude.{◌⊎◌, bytes_eq, flat_map, unsigned_abs, unwrap_or, Contains, IsPermutation}
 use Rattle.std.specs.List.{AllByRecursion, AllZip, AllAdjacentBelow}
 use Rattle.std.proofs.lemmas.List.{map-append, take_more}
@@ -9,9 +9,9 @@ use Rattle.std.proofs.lemmas.List.Sorted.{IsPermutation-sym, Contains-permutatio
 use Rattle.uuid.specs.Text.{parsed_hyphenated}
 use Rattle.sqlite.specs.State.{State}
 use Rattle.sql_meaning.specs.Transactions.{Looks}
-use Rattle.sheet_types.specs.Ordered.{arranged, has, is_before, IsArranged}
+use Rattle.sheet_types.specs.Ordered.{has, is_before, IsArranged}
 use Rattle.sheet_types.specs.Texts.{uuid_text, kind_of}
-use Rattle.sheet_types.specs.World.{Package, item_key, link_key, kind_number, base_kind, other_kind, item_of}
+use Rattle.sheet_types.specs.World.{Package, item_key, link_key, kind_number, base_kind, other_kind}
 use Rattle.sheet_types.specs.Lines.{IsUuid}
 use Rattle.sheet_types.specs.Register.{HasEnds}
 use Rattle.sheet_types.specs.declared.command.Item.{Item}
@@ -25,7 +25,7 @@ use Rattle.sheet_types.proofs.Every.{All-weaker, All-append, All-map}
 use Rattle.sheet_types.proofs.Same.{In, In-map, In-of_map, In-flat_map, All-In, Contains-In, same_list}
 use Rattle.sheet_types.proofs.LineReading.{uuid_back}
 use Rattle.package_tables.specs.Package.{Tables}
-use Rattle.package_tables.specs.Shapes.{identity_shape, tiles_media_shape, rows_media_shape}
+use Rattle.package_tables.specs.Shapes.{tiles_media_shape, rows_media_shape}
 use Rattle.package_tables.specs.declared.rows.AttributeRow.{AttributeRow}
 use Rattle.package_tables.specs.declared.rows.IdentityRow.{IdentityRow}
 use Rattle.package_tables.specs.declared.rows.MappingRow.{MappingRow}

@@ -1,5 +1,5 @@
 -- The items of all identity rows and their contents are those of the package.
-use Rattle.std.proofs.Common.{◌≡◌, sym, subst, IfOk}
+use Rattle.std.proofs.Common.{subst, IfOk}
 use Rattle.std.specs.Prelude.{IsPermutation}
 use Rattle.std.specs.List.{AllByRecursion, AllZip}
 use Rattle.std.specs.Ordering.{int_cmp, on, then_cmp}
