@@ -1,6 +1,7 @@
-//! The world of live packages that requests change. So far: why a request is refused.
+//! The world of live packages that requests change. So far: why a request is refused, and the change of one package with its receipt.
 #![tactic(auto)]
 
+pub mod carrying_out;
 pub mod judging;
 pub mod laws;
 #[cfg(test)]
