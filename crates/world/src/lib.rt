@@ -2,6 +2,8 @@
 #![tactic(auto)]
 
 pub mod carrying_out;
+#[cfg(test)]
+mod carrying_tests;
 pub mod judging;
 pub mod laws;
 #[cfg(test)]
