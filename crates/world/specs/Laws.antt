@@ -1,14 +1,17 @@
 -- A request is refused for the first of the reasons that its parts are judged by. Profile.
 use Rattle.std.specs.Prelude.{◌≡◌, ℕ, Bool, true, false, List, [], ◌∷◌, ◌++◌}
 use Rattle.sheet_types.specs.Matrix.{first_row}
-use Rattle.sheet_types.specs.World.{World, Package, is_live, holdings}
+use Rattle.sheet_types.specs.World.{World, Package, is_live, holdings, changed}
+use Rattle.sheet_types.specs.Step.{carried_out}
 use Rattle.sheet_types.specs.Refuse.{refusal, id_reused, identity_used, too_many}
 use Rattle.sheet_types.specs.declared.command.Command.{Command}
 use Rattle.sheet_types.specs.declared.command.Command.TheVariants.{Add, Delete, Link, Unlink, Split, Merge}
 use Rattle.sheet_types.specs.declared.command.Request.{Request}
 use Rattle.sheet_types.specs.declared.refusal.Refusal.{Refusal}
 use Rattle.sheet_types.specs.declared.refusal.Refusal.TheVariants.{IdReused, UnknownPackage, IdentityUsed, TooMany}
+use Rattle.sheet_types.specs.declared.receipt.Receipt.{Receipt}
 use Rattle.world.specs.Reasons.{text_reasons, package_reasons}
+use Rattle.world.specs.Carrying.{after_command}
 
 -- the commands that are served so far: those that change one package
 abbrev pub IsServed : Command → Type 0
@@ -45,3 +48,7 @@ RefusedByParts = (w next : World) (p : Package) (q : Request) → IsServed q.com
 -- Where it is not live, what was reused or that it is not known is all that is told.
 abbrev pub RefusedUnlessLive : Type 0
 RefusedUnlessLive = (w next : World) (q : Request) → IsServed q.command → is_live w (package_of q.command) ≡ false → refusal w next q ≡ first_row ((id_reused w q, IdReused) ∷ (true, UnknownPackage) ∷ [])
+
+-- A served command is carried out in the world by the change of the one package that it names, with the receipt in it.
+abbrev pub CarriedOutInOne : Type 0
+CarriedOutInOne = (w : World) (r : Receipt) (command : Command) → IsServed command → carried_out w r command ≡ changed (after_command r command) (package_of command) w

@@ -1,0 +1,46 @@
+-- A command's change and the entry of its receipt, as one change of the package.
+use Rattle.std.proofs.Common.{◌≡◌, Result, Ok, Err, IsErr, refl, sym, subst}
+use Rattle.sqlite.specs.State.{State}
+use Rattle.sql_meaning.specs.Transactions.{Steps}
+use Rattle.sql_meaning.proofs.Transactions.{inside_same, steps_then, steps_weaker}
+use Rattle.sheet_types.specs.World.{Package, with_receipt}
+use Rattle.sheet_types.specs.declared.command.Command.{Command}
+use Rattle.sheet_types.specs.declared.command.Command.TheVariants.{Add, Delete, Link, Unlink, Split, Merge}
+use Rattle.sheet_types.specs.declared.receipt.Receipt.{Receipt}
+use Rattle.identity_register.specs.Calls.{Becomes}
+use Rattle.custody.specs.Receipts.{IsNewReceipt}
+use Rattle.world.specs.Carrying.{Meets, changed_by, Fits, after_command}
+use Rattle.world.specs.Laws.{CarriedOutInOne}
+
+-- ---- the model
+
+pub carried_out_in_one : CarriedOutInOne
+carried_out_in_one w r (Add uuid identity content) served = refl
+carried_out_in_one w r (Delete uuid identity) served = refl
+carried_out_in_one w r (Link uuid mapping base media) served = refl
+carried_out_in_one w r (Unlink uuid mapping base media) served = refl
+carried_out_in_one w r (Split uuid child mode rect) served = absurd served
+carried_out_in_one w r (Merge child into ticket) served = absurd served
+
+-- ---- the change
+
+-- the change of a command that is known by its form
+pub change_steps : {E : Type 0} (command form : Command) {old new : State} {r : Result (Unit {0}) E} → command ≡ form → Steps (λ _. Becomes (Meets form) (changed_by form)) old new r → Steps (λ _. Becomes (Meets command) (changed_by command)) old new r
+change_steps command form {old} {new} {r} is steps = subst (λ c. Steps (λ _. Becomes (Meets c) (changed_by c)) old new r) (sym is) steps
+
+-- no change leaves another list of receipts
+still_new : (r : Receipt) (command : Command) (p : Package) → IsNewReceipt r p → IsNewReceipt r (changed_by command p)
+still_new r (Add uuid identity content) p new = record { number = new.number; request = new.request; fit = new.fit }
+still_new r (Delete uuid identity) p new = record { number = new.number; request = new.request; fit = new.fit }
+still_new r (Link uuid mapping base media) p new = record { number = new.number; request = new.request; fit = new.fit }
+still_new r (Unlink uuid mapping base media) p new = record { number = new.number; request = new.request; fit = new.fit }
+still_new r (Split uuid child mode rect) p new = new
+still_new r (Merge child into ticket) p new = new
+
+-- and then its receipt
+pub receipt_then : {E F : Type 0} (r : Receipt) (command : Command) {old mid new : State} {x : Unit {0}} {q : Result (Unit {0}) F} → Steps {E = E} (λ _. Becomes (Meets command) (changed_by command)) old mid (Ok x) → Steps (λ _. Becomes (IsNewReceipt r) (with_receipt r)) mid new q
+    → Steps (λ _. Becomes (Fits r command) (after_command r command)) old new q
+receipt_then r command first next =
+    steps_weaker (λ _. Becomes (Fits r command) (after_command r command))
+    (λ _ chain f p reads fits. chain.2 f (changed_by command p) (chain.1 f p reads fits.meets) (still_new r command p fits.receipt))
+    (steps_then first next)

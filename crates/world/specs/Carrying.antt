@@ -1,0 +1,35 @@
+-- What a command that changes one package makes of it, with its receipt, and what has to hold of the package before. Profile.
+use Rattle.sheet_types.specs.World.{Package, with_receipt}
+use Rattle.sheet_types.specs.Step.{relation, added_item}
+use Rattle.sheet_types.specs.declared.command.Command.{Command}
+use Rattle.sheet_types.specs.declared.command.Command.TheVariants.{Add, Delete, Link, Unlink, Split, Merge}
+use Rattle.sheet_types.specs.declared.receipt.Receipt.{Receipt}
+use Rattle.identity_register.specs.Changes.{IsNewItem, item_added, IsLooseItem, item_deleted, IsNewLink, link_added, IsLink, link_removed}
+use Rattle.custody.specs.Receipts.{IsNewReceipt}
+
+-- The package is as the command's change needs it. A split and a merge change more than one package, so nothing is promised of them.
+abbrev pub Meets : Command → Package → Type 0
+Meets (Add uuid identity content) p = IsNewItem identity p
+Meets (Delete uuid identity) p = IsLooseItem identity p
+Meets (Link uuid mapping base media) p = IsNewLink (relation mapping base media) p
+Meets (Unlink uuid mapping base media) p = IsLink (relation mapping base media) p
+Meets (Split uuid child mode rect) p = ⊥
+Meets (Merge child into ticket) p = ⊥
+
+-- the package after the command's change, without the receipt
+abbrev pub changed_by : Command → Package → Package
+changed_by (Add uuid identity content) p = item_added (added_item identity content) p
+changed_by (Delete uuid identity) p = item_deleted identity p
+changed_by (Link uuid mapping base media) p = link_added (relation mapping base media) p
+changed_by (Unlink uuid mapping base media) p = link_removed (relation mapping base media) p
+changed_by (Split uuid child mode rect) p = p
+changed_by (Merge child into ticket) p = p
+
+-- and the receipt is new to it
+pub record Fits (r : Receipt) (command : Command) (p : Package) : Type 0 where
+  pub meets : Meets command p
+  pub receipt : IsNewReceipt r p
+
+-- the package after the command, with the receipt
+abbrev pub after_command : Receipt → Command → Package → Package
+after_command r command p = with_receipt r (changed_by command p)

@@ -1,0 +1,82 @@
+// The change of one package that a command asks for, with its receipt, in one transaction of the package's store.
+ghost use Rattle.std.specs.Prelude.{◌≡◌};
+ghost use Rattle.sqlite.specs.Held.{state};
+ghost use Rattle.sql_meaning.specs.Transactions.{Rests, Steps, Turns};
+ghost use Rattle.identity_register.specs.Calls.{Becomes};
+ghost use Rattle.world.specs.Carrying.{Meets, changed_by, Fits, after_command};
+
+use custody::enter;
+use identity_register::additions::add;
+use identity_register::changes::{delete, link, unlink};
+use package_tables::fault::Fault;
+use sheet_types::command::{Command, Relation};
+use sheet_types::receipt::Receipt;
+use sqlite::{Alter, Connection, Transaction};
+
+/// Makes the change that a command asks for, without its receipt. A split and a merge are not one change of one package, and are a fault here.
+fn make_change<S: Alter>(tx: &mut Transaction<'_, S>, command: &Command) -> Result<(), Fault>
+    ensures same_reference { tx.new.conn.ghost_name ≡ tx.old.conn.ghost_name }
+    ensures steps { Steps (λ _. Becomes (Meets command.now) (changed_by command.now)) (state S.Store tx.old.conn.now) (state S.Store tx.new.conn.now) result }
+{
+    match command {
+        Command::Add {
+            identity, content, ..
+        } => add(tx, *identity, content),
+        Command::Delete { identity, .. } => delete(tx, *identity),
+        Command::Link {
+            mapping,
+            base,
+            media,
+            ..
+        } => {
+            let relation = Relation {
+                mapping: *mapping,
+                base: *base,
+                media: *media,
+            };
+            link(tx, relation)
+        }
+        Command::Unlink {
+            mapping,
+            base,
+            media,
+            ..
+        } => {
+            let relation = Relation {
+                mapping: *mapping,
+                base: *base,
+                media: *media,
+            };
+            unlink(tx, relation)
+        }
+        Command::Split { .. } | Command::Merge { .. } => Err(Fault::StoreFault),
+    }
+}
+
+/// Makes the change that a command asks for, and enters its receipt.
+pub fn carry_out<S: Alter>(
+    tx: &mut Transaction<'_, S>,
+    command: &Command,
+    receipt: &Receipt,
+) -> Result<(), Fault>
+    ensures same_reference { tx.new.conn.ghost_name ≡ tx.old.conn.ghost_name }
+    ensures steps { Steps (λ _. Becomes (Fits receipt.now command.now) (after_command receipt.now command.now)) (state S.Store tx.old.conn.now) (state S.Store tx.new.conn.now) result }
+{
+    make_change(tx, command)?;
+    enter(tx, receipt)
+}
+
+/// Carries a command out in the store of its package, with its receipt, in one transaction.
+pub fn apply_to_package<S: Alter>(
+    conn: &mut Connection<S>,
+    command: &Command,
+    receipt: &Receipt,
+) -> Result<(), Fault>
+    requires { Rests (state S.Store conn.old) }
+    ensures turns { Turns (λ _. Becomes (Fits receipt.now command.now) (after_command receipt.now command.now)) (state S.Store conn.old) (state S.Store conn.new) result }
+{
+    let mut tx = conn.transaction();
+    carry_out(&mut tx, command, receipt)?;
+    tx.commit()?;
+    Ok(())
+}

@@ -1,0 +1,251 @@
+// Each command that changes one package, carried out with its receipt in a new package in memory. What is expected follows from what the command asks for.
+ghost use Rattle.std.specs.Prelude.{IsTrue};
+ghost use Rattle.sqlite.specs.Held.{state};
+ghost use Rattle.sql_meaning.specs.Transactions.{Rests};
+
+use crate::carrying_out::apply_to_package;
+use custody::names;
+use identity_register::look_ups::{find, has_link};
+use package_tables::create::{Info, create};
+use package_tables::fault::Fault;
+use sheet_types::collections::{Bytes, MovedList, Text};
+use sheet_types::command::{Command, Content, Mapping, Relation};
+use sheet_types::frame::Frame;
+use sheet_types::receipt::{Moved, MovedKind, Receipt};
+use sqlite::{Alter, Connection};
+use std::alloc::Global;
+use std::test::Fail;
+use uuid::Uuid;
+
+const AT: &str = "2026-11-22T09:00:00.000Z";
+
+fn guarded<S: Alter>(conn: &Connection<S>) -> bool
+    ensures { IsTrue result → Rests (state S.Store conn.now) }
+{
+    conn.is_autocommit()
+}
+
+fn package() -> Uuid {
+    Uuid::from_u128(1)
+}
+
+fn tile() -> Uuid {
+    Uuid::from_u128(2)
+}
+
+fn medium() -> Uuid {
+    Uuid::from_u128(3)
+}
+
+fn text(alloc: Global, s: &str) -> Result<Text, Fault> {
+    let mut inner = String::new(alloc);
+    inner.push_str(s)?;
+    Ok(Text::from_string(inner))
+}
+
+fn made<S: Alter + Drop>(alloc: Global, conn: Connection<S>) -> Result<Connection<S>, Fault> {
+    if !guarded(&conn) {
+        return Err(Fault::StoreFault);
+    }
+    let frame = Frame {
+        srs_id: 25832,
+        min_x: 0,
+        min_y: 0,
+        max_x: 4096,
+        max_y: 4096,
+        tile_width: 256,
+        tile_height: 256,
+        first_zoom: 0,
+        levels: 3,
+        matrix_width: 1,
+        matrix_height: 1,
+    };
+    let info = Info {
+        package: package(),
+        parent: None,
+        depth: 0,
+        loan: 0,
+        created: AT,
+    };
+    Ok(create(alloc, conn, &frame, &info)?.into_connection())
+}
+
+// A receipt of this number for one thing.
+fn receipt(
+    alloc: Global,
+    seq: u64,
+    kind: MovedKind,
+    base: Uuid,
+    other: Option<Uuid>,
+) -> Result<Receipt, Fault> {
+    let mut things = Vec::new(alloc);
+    things.push(Moved {
+        kind,
+        base,
+        other,
+        size: 0,
+        fingerprint: None,
+    })?;
+    Ok(Receipt {
+        seq,
+        request: Uuid::from_u128(100 + seq as u128),
+        at: text(alloc, AT)?,
+        line: text(alloc, "the line")?,
+        source: None,
+        target: Some(package()),
+        items: MovedList::from_vec(things),
+        tiles: 0,
+        media: 0,
+        rows: 0,
+        links: 0,
+        bytes: 0,
+    })
+}
+
+fn carried<S: Alter>(
+    conn: &mut Connection<S>,
+    command: &Command,
+    receipt: &Receipt,
+) -> Result<(), Fault> {
+    if !guarded(conn) {
+        return Err(Fault::StoreFault);
+    }
+    apply_to_package(conn, command, receipt)
+}
+
+fn is_named<S: Alter>(conn: &mut Connection<S>, identity: Uuid) -> Result<bool, Fault> {
+    if !guarded(conn) {
+        return Err(Fault::StoreFault);
+    }
+    names(conn, identity)
+}
+
+// The bytes of the tile at zoom 2, column 3 and row 1; empty where it is not there.
+fn tile_bytes<S: Alter>(alloc: Global, conn: &mut Connection<S>) -> Result<Vec<u8>, Fault> {
+    if !guarded(conn) {
+        return Err(Fault::StoreFault);
+    }
+    match find(conn, tile())? {
+        Some(item) => match &item.content {
+            Content::Tile {
+                zoom: 2,
+                column: 3,
+                row: 1,
+                bytes,
+            } => Ok(bytes.as_slice().to_vec(alloc)?),
+            _ => Err(Fault::StoreFault),
+        },
+        None => Ok(Vec::new(alloc)),
+    }
+}
+
+fn is_linked<S: Alter>(conn: &mut Connection<S>) -> Result<bool, Fault> {
+    if !guarded(conn) {
+        return Err(Fault::StoreFault);
+    }
+    let relation = Relation {
+        mapping: Mapping::TilesMedia,
+        base: tile(),
+        media: medium(),
+    };
+    has_link(conn, relation)
+}
+
+fn add_tile<S: Alter>(alloc: Global, conn: &mut Connection<S>, seq: u64) -> Result<(), Fault> {
+    let command = Command::Add {
+        package: package(),
+        identity: tile(),
+        content: Content::Tile {
+            zoom: 2,
+            column: 3,
+            row: 1,
+            bytes: Bytes::from_vec(b"ab".to_vec(alloc)?),
+        },
+    };
+    let receipt = receipt(alloc, seq, MovedKind::TileItem, tile(), None)?;
+    carried(conn, &command, &receipt)
+}
+
+fn add_medium<S: Alter>(alloc: Global, conn: &mut Connection<S>, seq: u64) -> Result<(), Fault> {
+    let command = Command::Add {
+        package: package(),
+        identity: medium(),
+        content: Content::Media {
+            content_type: text(alloc, "image/png")?,
+            bytes: Bytes::from_vec(b"png".to_vec(alloc)?),
+        },
+    };
+    let receipt = receipt(alloc, seq, MovedKind::MediaItem, medium(), None)?;
+    carried(conn, &command, &receipt)
+}
+
+fn link<S: Alter>(alloc: Global, conn: &mut Connection<S>, seq: u64) -> Result<(), Fault> {
+    let command = Command::Link {
+        package: package(),
+        mapping: Mapping::TilesMedia,
+        base: tile(),
+        media: medium(),
+    };
+    let receipt = receipt(
+        alloc,
+        seq,
+        MovedKind::TilesMediaLink,
+        tile(),
+        Some(medium()),
+    )?;
+    carried(conn, &command, &receipt)
+}
+
+fn unlink<S: Alter>(alloc: Global, conn: &mut Connection<S>, seq: u64) -> Result<(), Fault> {
+    let command = Command::Unlink {
+        package: package(),
+        mapping: Mapping::TilesMedia,
+        base: tile(),
+        media: medium(),
+    };
+    let receipt = receipt(
+        alloc,
+        seq,
+        MovedKind::TilesMediaLink,
+        tile(),
+        Some(medium()),
+    )?;
+    carried(conn, &command, &receipt)
+}
+
+fn delete_tile<S: Alter>(alloc: Global, conn: &mut Connection<S>, seq: u64) -> Result<(), Fault> {
+    let command = Command::Delete {
+        package: package(),
+        identity: tile(),
+    };
+    let receipt = receipt(alloc, seq, MovedKind::TileItem, tile(), None)?;
+    carried(conn, &command, &receipt)
+}
+
+#[test]
+fn an_item_comes_and_goes(rt: HostRuntime) -> Result<(), Fail> {
+    let alloc = rt.alloc();
+    let mut conn = made(alloc, Connection::open_in_memory(alloc)?)?;
+    assert!(rt; !is_named(&mut conn, tile())?);
+    add_tile(alloc, &mut conn, 1)?;
+    assert_eq!(rt; tile_bytes(alloc, &mut conn)?.as_slice(), b"ab".as_slice());
+    assert!(rt; is_named(&mut conn, tile())?);
+    assert!(rt; !is_named(&mut conn, medium())?);
+    delete_tile(alloc, &mut conn, 2)?;
+    assert_eq!(rt; tile_bytes(alloc, &mut conn)?.len(), 0);
+    assert!(rt; is_named(&mut conn, tile())?);
+    Ok(())
+}
+
+#[test]
+fn a_link_comes_and_goes(rt: HostRuntime) -> Result<(), Fail> {
+    let alloc = rt.alloc();
+    let mut conn = made(alloc, Connection::open_in_memory(alloc)?)?;
+    add_tile(alloc, &mut conn, 1)?;
+    add_medium(alloc, &mut conn, 2)?;
+    link(alloc, &mut conn, 3)?;
+    assert!(rt; is_linked(&mut conn)?);
+    unlink(alloc, &mut conn, 4)?;
+    assert!(rt; !is_linked(&mut conn)?);
+    Ok(())
+}
