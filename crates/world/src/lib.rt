@@ -3,6 +3,7 @@
 
 pub mod judging;
 pub mod laws;
+pub mod receipts;
 #[cfg(test)]
 mod tests;
 pub mod texts;
