@@ -1,3 +1,4 @@
 pub mod Calls
 pub mod Reasons
 pub mod Laws
+pub mod Register
