@@ -102,7 +102,7 @@ ledger_entered archive past [] h = tt
 ledger_entered archive past (r ∷ rs) h = (h.0.entered, ledger_entered archive (past ++ r ∷ []) rs h.1)
 
 -- an Add receipt names one thing, which is an item
-added_thing : (r : Receipt) (e : Entry) → IsReceiptOf r e → is_add r ≡ true → (m : Moved) × (r.items ≡ m ∷ []) × (is_item_kind m.kind ≡ true) × (m.other ≡ None) × (is_some m.fingerprint ≡ true)
+pub added_thing : (r : Receipt) (e : Entry) → IsReceiptOf r e → is_add r ≡ true → (m : Moved) × (r.items ≡ m ∷ []) × (is_item_kind m.kind ≡ true) × (m.other ≡ None) × (is_some m.fingerprint ≡ true)
 added_thing r (Adds p identity kind size digest) of add =
     let fit : (is_uuid p && is_uuid identity && is_item_kind kind && is_number (pos size) && is_bytes 32 digest) ≡ true = (line-entry_from r.line (Adds p identity kind size digest) of.says).0 in
     let upto : ((is_uuid p && is_uuid identity && is_item_kind kind && is_number (pos size)) ≡ true) × (is_bytes 32 digest ≡ true) = and_parts (is_uuid p && is_uuid identity && is_item_kind kind && is_number (pos size)) (is_bytes 32 digest) fit in

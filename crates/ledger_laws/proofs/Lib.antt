@@ -22,3 +22,4 @@ pub mod First
 pub mod Follow
 pub mod Whole
 pub mod examples
+pub mod Requests

@@ -2,3 +2,4 @@ pub mod Calls
 pub mod Reasons
 pub mod Carrying
 pub mod Laws
+pub mod Register

@@ -7,5 +7,9 @@ mod carrying_tests;
 pub mod judging;
 pub mod laws;
 #[cfg(test)]
+mod receipt_tests;
+pub mod receipts;
+pub mod register_laws;
+#[cfg(test)]
 mod tests;
 pub mod texts;

@@ -1,0 +1,6 @@
+-- The lemma says it.
+use Rattle.world.proofs.Packages.{kept_is_there}
+use Rattle.world.proofs.register_laws.kept_is_there.Goals as goal
+
+pub returns : goal.returns
+returns c = kept_is_there

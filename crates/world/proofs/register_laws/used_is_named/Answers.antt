@@ -1,0 +1,6 @@
+-- The lemma says it.
+use Rattle.world.proofs.Packages.{used_is_named}
+use Rattle.world.proofs.register_laws.used_is_named.Goals as goal
+
+pub returns : goal.returns
+returns c = used_is_named
