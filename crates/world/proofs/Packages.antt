@@ -1,10 +1,9 @@
 -- What each package of a register tells of the whole.
-use Rattle.std.specs.Prelude.{◌≡◌, ℕ, Bool, true, false, ◌||◌, List, [], ◌∷◌, ◌++◌, find, flat_map, refl, bytes_eq, Some, None, Contains}
-use Rattle.std.proofs.Common.{sym, ap, subst, ◌∙◌}
+use Rattle.std.specs.Prelude.{◌≡◌, Bool, true, ◌||◌, List, [], ◌∷◌, find, flat_map, refl, bytes_eq, Some, Contains}
+use Rattle.std.proofs.Common.{ap, ◌∙◌}
 use Rattle.std.proofs.lemmas.List.Elements.{All-contains, All-from_recursion}
 use Rattle.std.proofs.lemmas.List.Folds.{list_any-append}
-use Rattle.std.specs.List.{list_any, AllByRecursion}
-use Rattle.sheet_types.specs.Ordered.{arranged, has}
+use Rattle.std.specs.List.{list_any}
 use Rattle.sheet_types.specs.World.{World, Package, receipt_key, receipts_of}
 use Rattle.sheet_types.specs.Balance.{archive_of, names_identity}
 use Rattle.sheet_types.specs.declared.receipt.Receipt.{Receipt}
