@@ -4,3 +4,5 @@ pub mod FirstRows
 pub mod Parts
 pub mod Carrying
 pub mod Packages
+pub mod StayingOpen
+pub mod MemberLists

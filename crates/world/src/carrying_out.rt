@@ -1,5 +1,5 @@
 // The change of one package that a command asks for, with its receipt, in one transaction of the package's store.
-ghost use Rattle.std.specs.Prelude.{◌≡◌};
+ghost use Rattle.std.specs.Prelude.{◌≡◌, IsTrue};
 ghost use Rattle.sqlite.specs.Held.{state};
 ghost use Rattle.sql_meaning.specs.Transactions.{Rests, Steps, Turns};
 ghost use Rattle.identity_register.specs.Calls.{Becomes};
@@ -76,6 +76,7 @@ pub fn apply_to_package<S: Alter>(
 ) -> Result<(), Fault>
     requires { Rests (state S.Store conn.old) }
     ensures turns { Turns (λ _. Becomes (Fits receipt.now command.now) (after_command receipt.now command.now)) (state S.Store conn.old) (state S.Store conn.new) result }
+    ensures was_open { IsTrue (state S.Store conn.new).is_open → IsTrue (state S.Store conn.old).is_open }
 {
     let mut tx = conn.transaction();
     carry_out(&mut tx, command, receipt)?;

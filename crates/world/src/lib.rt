@@ -14,3 +14,4 @@ pub mod register_laws;
 #[cfg(test)]
 mod tests;
 pub mod texts;
+pub mod turning;

@@ -1,6 +1,7 @@
 -- The three exits of a transaction.
 use Rattle.std.proofs.Common.{◌≡◌, rules}
 use Rattle.sql_meaning.proofs.Transactions.{turn_dropped, turn_uncommitted, turn_committed}
+use Rattle.world.proofs.StayingOpen.{open_if_dropped, open_if_uncommitted, open_if_committed}
 use Rattle.world.proofs.carrying_out.apply_to_package.Goals as goal
 
 pub returns-in_err-carry_out : goal.returns-in_err-carry_out
@@ -8,18 +9,27 @@ returns-in_err-carry_out g c =
     let last = c.carry_out.new.tx.conn.now in
     let same : c.drop-tx.new.self.0 ≡ c.conn-1.given.0 = search rules in
     let d = c.drop-tx.ensures in
-    record { turns = turn_dropped g.S.Store g.met.S.Store.shut_if_dirty g.met.S.Store.settled last c.transaction-tx.ensures.begun same c.requires _ c.from_residual.ensures.0 c.carry_out.ensures.steps d.undone d.survives d.ended }
+    record {
+      turns = turn_dropped g.S.Store g.met.S.Store.shut_if_dirty g.met.S.Store.settled last c.transaction-tx.ensures.begun same c.requires _ c.from_residual.ensures.0 c.carry_out.ensures.steps d.undone d.survives d.ended;
+      was_open = open_if_dropped g.S.Store g.met.S.Store.shut_if_dirty g.met.S.Store.settled c.args.conn.now last c.transaction-tx.ensures.begun same c.carry_out.ensures.steps _ d.survives d.undone;
+    }
 
 pub returns-in_err-commit : goal.returns-in_err-commit
 returns-in_err-commit g c =
     let last = c.carry_out.new.tx.conn.now in
     let same : c.commit.new.self.0 ≡ c.conn-2-1.given.0 = search rules in
     let d = c.in_err-commit.ensures in
-    record { turns = turn_uncommitted g.S.Store g.met.S.Store.shut_if_dirty g.met.S.Store.settled last c.transaction-tx.ensures.begun same c.requires c.in_ok-carry_out.ensures.steps d.ended d.survives _ c.from_residual-in_err-commit.ensures.0 d.err }
+    record {
+      turns = turn_uncommitted g.S.Store g.met.S.Store.shut_if_dirty g.met.S.Store.settled last c.transaction-tx.ensures.begun same c.requires c.in_ok-carry_out.ensures.steps d.ended d.survives _ c.from_residual-in_err-commit.ensures.0 d.err;
+      was_open = open_if_uncommitted g.S.Store g.met.S.Store.shut_if_dirty g.met.S.Store.settled c.args.conn.now last c.transaction-tx.ensures.begun same c.in_ok-carry_out.ensures.steps _ d.survives d.err;
+    }
 
 pub returns : goal.returns
 returns g c =
     let last = c.carry_out.new.tx.conn.now in
     let same : c.commit.new.self.0 ≡ c.conn-2-1.given.0 = search rules in
     let d = c.in_ok-commit.ensures in
-    record { turns = turn_committed g.S.Store g.met.S.Store.shut_if_dirty g.met.S.Store.settled last c.transaction-tx.ensures.begun same c.requires c.in_ok-carry_out.ensures.steps d.ended d.survives (λ clean. (d.ok clean).1) }
+    record {
+      turns = turn_committed g.S.Store g.met.S.Store.shut_if_dirty g.met.S.Store.settled last c.transaction-tx.ensures.begun same c.requires c.in_ok-carry_out.ensures.steps d.ended d.survives (λ clean. (d.ok clean).1);
+      was_open = open_if_committed g.S.Store g.met.S.Store.shut_if_dirty g.met.S.Store.settled c.args.conn.now last c.transaction-tx.ensures.begun same c.in_ok-carry_out.ensures.steps _ d.survives (λ clean. (d.ok clean).1);
+    }
