@@ -4,3 +4,4 @@ pub mod FirstRows
 pub mod Parts
 pub mod Carrying
 pub mod Packages
+pub mod Fitting

@@ -3,3 +3,4 @@ pub mod Reasons
 pub mod Carrying
 pub mod Laws
 pub mod Register
+pub mod Steps

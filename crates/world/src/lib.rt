@@ -10,6 +10,7 @@ pub mod laws;
 mod receipt_tests;
 pub mod receipts;
 pub mod register_laws;
+pub mod step_laws;
 #[cfg(test)]
 mod tests;
 pub mod texts;
