@@ -6,3 +6,4 @@ pub mod Carrying
 pub mod Packages
 pub mod StayingOpen
 pub mod MemberLists
+pub mod Fitting

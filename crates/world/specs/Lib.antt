@@ -5,3 +5,4 @@ pub mod Laws
 pub mod Register
 pub mod Members
 pub mod Turning
+pub mod Steps

@@ -11,6 +11,7 @@ pub mod members;
 mod receipt_tests;
 pub mod receipts;
 pub mod register_laws;
+pub mod step_laws;
 #[cfg(test)]
 mod tests;
 pub mod texts;

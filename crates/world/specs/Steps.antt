@@ -1,0 +1,125 @@
+-- What a request makes of a world, by what is kept of it: the outcome, what each package holds, the limits and the tickets. Profile.
+use Rattle.std.specs.Prelude.{◌≡◌, ◌≤◌, ℕ, ◌+◌, ◌-◌, Bool, true, false, ◌||◌, nat_lt, List, map, length, if◌then◌else◌, Some, None, Ok, Err, bytes_eq}
+use Rattle.std.specs.List.{list_any}
+use Rattle.sheet_types.specs.Answers.{sums_held}
+use Rattle.sheet_types.specs.Custody.{kept, ticket}
+use Rattle.sheet_types.specs.Lines.{IsUuid, HasTypes}
+use Rattle.sheet_types.specs.Matrix.{first_row}
+use Rattle.sheet_types.specs.Refuse.{refusal, identity_used, too_many}
+use Rattle.sheet_types.specs.Register.{IsRegister}
+use Rattle.sheet_types.specs.Step.{accepted, outcome, receipt_of}
+use Rattle.sheet_types.specs.Texts.{line}
+use Rattle.sheet_types.specs.World.{World, is_live, holdings, receipts_of, changed}
+use Rattle.sheet_types.specs.declared.command.Command.{Command}
+use Rattle.sheet_types.specs.declared.command.Command.TheVariants.{Add, Delete, Link, Unlink, Split, Merge}
+use Rattle.sheet_types.specs.declared.command.Request.{Request}
+use Rattle.sheet_types.specs.declared.receipt.Receipt.{Receipt}
+use Rattle.sheet_types.specs.declared.receipt.Sums.{Sums}
+use Rattle.sheet_types.specs.declared.refusal.Refusal.{Refusal}
+use Rattle.sheet_types.specs.declared.refusal.Refusal.TheVariants.{IdReused}
+use Rattle.world.specs.Carrying.{Fits, after_command}
+use Rattle.world.specs.Laws.{IsServed, package_of}
+use Rattle.world.specs.Reasons.{package_reasons}
+
+-- ---- what may be carried out
+
+-- Nothing that is kept speaks against a request: its package is live, it did not come before, its identity is not used, and its package gives no reason. Its texts and the limits are not looked at.
+pub record IsOpenTo (w : World) (q : Request) : Type 0 where
+  pub live : is_live w (package_of q.command) ≡ true
+  pub new : kept w q.id ≡ None
+  pub unused : identity_used w q.command ≡ false
+  pub no_reason : first_row (package_reasons w.frame (holdings w (package_of q.command)) q.command) ≡ None
+
+-- The receipt of such a request is new to its package, which is as the command's change needs it. The identity of the request and the values of its command are those of their types.
+abbrev pub FitsWhereAccepted : Type 0
+FitsWhereAccepted = (w : World) (q : Request) → IsRegister w → IsUuid q.id → HasTypes q.command → IsServed q.command → IsOpenTo w q → Fits (receipt_of w q) q.command (holdings w (package_of q.command))
+
+-- A served request that is new and not refused is such a request.
+abbrev pub AcceptedIsOpen : Type 0
+AcceptedIsOpen = (w next : World) (q : Request) → IsServed q.command → kept w q.id ≡ None → refusal w next q ≡ None → IsOpenTo w q
+
+-- ---- what a package holds
+
+-- how much a receipt moved
+abbrev pub sums_moved : Receipt → Sums
+sums_moved r = record { tiles = r.tiles; media = r.media; rows = r.rows; links = r.links; bytes = r.bytes }
+
+-- so much more, and so much less
+abbrev pub sums_more : Sums → Sums → Sums
+sums_more some held = record { tiles = held.tiles + some.tiles; media = held.media + some.media; rows = held.rows + some.rows; links = held.links + some.links; bytes = held.bytes + some.bytes }
+
+abbrev pub sums_less : Sums → Sums → Sums
+sums_less some held = record { tiles = held.tiles - some.tiles; media = held.media - some.media; rows = held.rows - some.rows; links = held.links - some.links; bytes = held.bytes - some.bytes }
+
+-- so much is there
+pub record IsWithin (some held : Sums) : Type 0 where
+  pub tiles : some.tiles ≤ held.tiles
+  pub media : some.media ≤ held.media
+  pub rows : some.rows ≤ held.rows
+  pub links : some.links ≤ held.links
+  pub bytes : some.bytes ≤ held.bytes
+
+-- what a package holds after a command that moved so much in or out of it. A split and a merge change more than one package, and are not meant
+abbrev pub sums_after : Command → Sums → Sums → Sums
+sums_after (Add uuid identity content) some held = sums_more some held
+sums_after (Delete uuid identity) some held = sums_less some held
+sums_after (Link uuid mapping base media) some held = sums_more some held
+sums_after (Unlink uuid mapping base media) some held = sums_less some held
+sums_after (Split uuid child mode rect) some held = held
+sums_after (Merge child into ticket) some held = held
+
+-- what goes out was there
+abbrev pub HasWhatGoes : Command → Sums → Sums → Type 0
+HasWhatGoes (Add uuid identity content) some held = Unit {0}
+HasWhatGoes (Delete uuid identity) some held = IsWithin some held
+HasWhatGoes (Link uuid mapping base media) some held = Unit {0}
+HasWhatGoes (Unlink uuid mapping base media) some held = IsWithin some held
+HasWhatGoes (Split uuid child mode rect) some held = Unit {0}
+HasWhatGoes (Merge child into ticket) some held = Unit {0}
+
+-- The package of a command that fits holds what it held, with what the receipt moved in or without what it moved out, which was there.
+abbrev pub SumsAfter : Type 0
+SumsAfter = (w : World) (q : Request) → IsRegister w → is_live w (package_of q.command) ≡ true → Fits (receipt_of w q) q.command (holdings w (package_of q.command)) →
+    HasWhatGoes q.command (sums_moved (receipt_of w q)) (sums_held (holdings w (package_of q.command)))
+    × (sums_held (after_command (receipt_of w q) q.command (holdings w (package_of q.command))) ≡ sums_after q.command (sums_moved (receipt_of w q)) (sums_held (holdings w (package_of q.command))))
+
+-- ---- the limits
+
+-- so much is past a limit of a package
+abbrev pub is_past_limits : Sums → Bool
+is_past_limits held = nat_lt 1000000 held.tiles || nat_lt 1000000 held.media || nat_lt 1000000 held.rows || nat_lt 4000000 held.links
+
+-- what each package holds after a request
+abbrev pub sums_next : World → Request → List Sums
+sums_next w q = map (λ x. if bytes_eq x.uuid (package_of q.command) then sums_after q.command (sums_moved (receipt_of w q)) (sums_held x) else sums_held x) w.packages
+
+-- Whether a request would leave too many is told by what each package holds, the number of packages and that of the receipts.
+abbrev pub TooManyBySums : Type 0
+TooManyBySums = (w : World) (q : Request) → IsRegister w → is_live w (package_of q.command) ≡ true → Fits (receipt_of w q) q.command (holdings w (package_of q.command)) →
+    too_many (accepted w q) ≡ (list_any is_past_limits (sums_next w q) || nat_lt 256 (length w.packages) || nat_lt 1000000000 (length (receipts_of w) + 1))
+
+-- ---- the tickets
+
+-- The ticket of the package that a served command names is the new number, and that of every other is as it was.
+abbrev pub TicketAfter : Type 0
+TicketAfter = (w : World) (q : Request) (id : List ℕ) → IsRegister w → IsServed q.command → is_live w (package_of q.command) ≡ true →
+    ticket (accepted w q) id ≡ (if bytes_eq id (package_of q.command) then length (receipts_of w) + 1 else ticket w id)
+
+-- ---- the outcome
+
+-- A request that comes again gets the receipt that is kept, and nothing is changed.
+abbrev pub KeptOutcome : Type 0
+KeptOutcome = (w : World) (q : Request) (r : Receipt) → kept w q.id ≡ Some r → bytes_eq r.line (line q.command) ≡ true → outcome w q ≡ (Ok r, w)
+
+-- One whose identity is kept for another line is told so.
+abbrev pub ReusedOutcome : Type 0
+ReusedOutcome = (w : World) (q : Request) (r : Receipt) → kept w q.id ≡ Some r → bytes_eq r.line (line q.command) ≡ false → outcome w q ≡ (Err IdReused, w)
+
+-- One that is refused is told why.
+abbrev pub RefusedOutcome : Type 0
+RefusedOutcome = (w : World) (q : Request) (why : Refusal) → kept w q.id ≡ None → refusal w (accepted w q) q ≡ Some why → outcome w q ≡ (Err why, w)
+
+-- One that is served and not refused gets its receipt, and the one package that it names is changed, with the receipt in it.
+abbrev pub AcceptedOutcome : Type 0
+AcceptedOutcome = (w : World) (q : Request) → IsServed q.command → kept w q.id ≡ None → refusal w (accepted w q) q ≡ None →
+    outcome w q ≡ (Ok (receipt_of w q), changed (after_command (receipt_of w q) q.command) (package_of q.command) w)

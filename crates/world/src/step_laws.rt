@@ -1,0 +1,12 @@
+// What a request makes of a world, by what is kept of it, so that a request is carried out without looking over the whole world. Each law is the contract of a function that does nothing.
+ghost use Rattle.world.specs.Steps.{FitsWhereAccepted, AcceptedIsOpen};
+
+/// The receipt of a served request that nothing speaks against is new to its package, which is as the command's change needs it.
+pub fn fits_where_accepted()
+    ensures { FitsWhereAccepted }
+{}
+
+/// Nothing speaks against a served request that is new and not refused.
+pub fn accepted_is_open()
+    ensures { AcceptedIsOpen }
+{}
