@@ -5,5 +5,5 @@ pub mod Parts
 pub mod Carrying
 pub mod Packages
 pub mod StayingOpen
-pub mod MemberLists
 pub mod Fitting
+pub mod Changing

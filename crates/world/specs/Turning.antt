@@ -1,13 +1,67 @@
--- The change of one member of a world. Profile.
-use Rattle.std.specs.Prelude.{Result, IsTrue}
+-- The change of one member of a world, and what all members stand for after it. Profile.
+use Rattle.std.specs.Prelude.{◌≡◌, ℕ, ◌+◌, List, All, Some, slice_get, slice_set, length, if◌then◌else◌, bytes_eq, Result, Ok, Err, IsTrue}
+use Rattle.sqlite.specs.Effect.{Database}
+use Rattle.sqlite.specs.Held.{Held, state}
 use Rattle.sqlite.specs.State.{State}
+use Rattle.sqlite.specs.Store.{Ghosts}
+use Rattle.sqlite.specs.Tree.{Trees}
+use Rattle.sheet_types.specs.Answers.{sums_held}
+use Rattle.sheet_types.specs.Custody.{ticket}
+use Rattle.sheet_types.specs.Register.{IsRegister}
+use Rattle.sheet_types.specs.World.{World, Package, receipts_of, changed}
 use Rattle.sheet_types.specs.declared.command.Command.{Command}
+use Rattle.sheet_types.specs.declared.frame.Frame.{Frame}
 use Rattle.sheet_types.specs.declared.receipt.Receipt.{Receipt}
+use Rattle.sheet_types.specs.declared.receipt.Sums.{Sums}
 use Rattle.sql_meaning.specs.Transactions.{Turns}
 use Rattle.identity_register.specs.Calls.{Becomes}
+use Rattle.identity_register.specs.Reads.{Reads}
 use Rattle.world.specs.Carrying.{Fits, after_command}
+use Rattle.world.specs.Laws.{package_of}
+use Rattle.world.specs.declared.members.Member.{Member}
+
+-- ---- the world
+
+-- the world after a command that changes one package, with its receipt in it
+abbrev pub world_after : Receipt → Command → World → World
+world_after r command w = changed (after_command r command) (package_of command) w
+
+-- A command is due at this place: it names the package there and fits it, and the world after it is a register, in which the package holds this much and all else is counted as before.
+pub record IsDue (w : World) (at : ℕ) (r : Receipt) (command : Command) (held : Sums) : Type 0 where
+  pub holds : Package
+  pub place : slice_get w.packages at ≡ Some holds
+  pub named : holds.uuid ≡ package_of command
+  pub fits : Fits r command holds
+  pub sums : held ≡ sums_held (after_command r command holds)
+  pub tickets : (id : List ℕ) → ticket (world_after r command w) id ≡ (if bytes_eq id (package_of command) then r.seq else ticket w id)
+  pub counted : length (receipts_of (world_after r command w)) ≡ length (receipts_of w) + 1
+  pub register : IsRegister (world_after r command w)
+
+-- ---- the stores
 
 -- The store carried the command out with its receipt, in one transaction, or is as it was. A store that was shut stays shut.
 pub record CarriesOut {E : Type 0} (r : Receipt) (command : Command) (old new : State) (reply : Result (Unit {0}) E) : Type 0 where
   pub turns : Turns (λ _. Becomes (Fits r command) (after_command r command)) old new reply
   pub was_open : IsTrue new.is_open → IsTrue old.is_open
+
+-- what a crash left reads as this package
+abbrev pub LeftAs : Frame → Trees → Package → Type 0
+LeftAs f trees p = (db : Database) × (trees ≡ db.trees) × Reads f p db
+
+module _ {S : Type 0} (g : Ghosts S) where
+  -- the member after its store took a turn; where that went well, what is kept of it is this
+  abbrev pub turned : {E : Type 0} → Receipt → Sums → Member S → Held S → Result (Unit {0}) E → Member S
+  turned r sums was last (Ok x) = record was { conn = last; sums = sums; ticket = r.seq }
+  turned r sums was last (Err e) = record was { conn = last }
+
+  -- The store of the member at this place carried the command out or not, and all other members are as they were.
+  pub record CarriesOutAt {E : Type 0} (r : Receipt) (command : Command) (sums : Sums) (old new : List (Member S)) (at : ℕ) (reply : Result (Unit {0}) E) : Type 0 where
+    pub was : Member S
+    pub place : slice_get old at ≡ Some was
+    pub last : Held S
+    pub others : new ≡ slice_set old at (turned r sums was last reply)
+    pub turn : CarriesOut r command (state g was.conn) (state g last) reply
+
+  -- all stores are open
+  abbrev pub AllOpen : List (Member S) → Type 0
+  AllOpen members = All (λ m. IsTrue (state g m.conn).is_open) members

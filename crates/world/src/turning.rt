@@ -1,29 +1,38 @@
 // The change of one member of a world: its store takes a turn, and what is kept of it is brought up to date.
-ghost use Rattle.std.specs.Prelude.{◌≡◌, ◌<◌, length, vec_capacity};
-ghost use Rattle.sqlite.specs.Held.{state};
-ghost use Rattle.world.specs.Members.{AllRest, TurnsAt};
-ghost use Rattle.world.specs.Turning.{CarriesOut};
+ghost use Rattle.std.specs.Prelude.{◌≡◌, ◌<◌, ℕ, ◌+◌, length, vec_capacity, OnOk, OnErr};
+ghost use Rattle.sheet_types.specs.World.{World};
+ghost use Rattle.sql_meaning.specs.Stores.{LeavesEither};
+ghost use Rattle.world.specs.Members.{AllRest, AreMembers};
+ghost use Rattle.world.specs.Turning.{CarriesOutAt, IsDue, AllOpen, LeftAs, world_after};
 
 use crate::carrying_out::apply_to_package;
 use crate::members::Member;
 use package_tables::fault::Fault;
 use sheet_types::command::Command;
-use sheet_types::receipt::Receipt;
+use sheet_types::receipt::{Receipt, Sums};
 use sqlite::Alter;
 
-/// Carries a command out in the store of the member at a place, with its receipt. What is kept of the member stays.
+/// Carries a command out in the store of the member at a place, with its receipt. The sums are those of the member's package after the command; they are kept of it where all went well.
 pub fn turn_at<S: Alter + Drop>(
     members: &mut Vec<Member<S>>,
     at: usize,
     command: &Command,
     receipt: &Receipt,
+    sums: Sums,
 ) -> Result<(), Fault>
     requires within { at < length members.old.items }
     requires rests { AllRest S.Store members.old.items }
-    ensures turned { TurnsAt S.Store members.old.items members.new.items at (λ old new. CarriesOut receipt.now command.now old new result) }
+    ensures turned { CarriesOutAt S.Store receipt.now command.now sums members.old.items members.new.items at result }
     ensures rests { AllRest S.Store members.new.items }
     ensures capacity { vec_capacity members.new ≡ vec_capacity members.old }
+    ensures done { OnOk result ((w : World) (count : ℕ) → AreMembers S.Store members.old.items count w → IsDue w at receipt.now command.now sums → AreMembers S.Store members.new.items (count + 1) (world_after receipt.now command.now w)) }
+    ensures undone { OnErr result ((w : World) (count : ℕ) → AreMembers S.Store members.old.items count w → AreMembers S.Store members.new.items count w) }
+    ensures crash { (w : World) (count : ℕ) → AreMembers S.Store members.old.items count w → IsDue w at receipt.now command.now sums → AllOpen S.Store members.old.items
+        → LeavesEither S.Store (λ m. m.conn) (LeftAs w.frame) members.new.items w.packages (world_after receipt.now command.now w).packages }
 {
     let member = &mut members[at];
-    apply_to_package(&mut member.conn, command, receipt)
+    apply_to_package(&mut member.conn, command, receipt)?;
+    member.sums = sums;
+    member.ticket = receipt.seq;
+    Ok(())
 }

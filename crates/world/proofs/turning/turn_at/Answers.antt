@@ -1,16 +1,34 @@
--- The store of one member takes a turn.
-use Rattle.std.proofs.Common.{◌≡◌, Some, slice_get, refl}
-use Rattle.std.proofs.lemmas.List.Elements.{All-set}
+-- The store of one member takes a turn, and the lemmas say what all members stand for.
+use Rattle.std.proofs.Common.{◌≡◌, Some, Ok, slice_get, refl}
 use Rattle.std.proofs.lemmas.Option.{slice_get_read}
-use Rattle.sqlite.specs.Held.{state}
-use Rattle.sql_meaning.specs.Transactions.{Rests}
-use Rattle.world.specs.declared.members.Member.{Member}
+use Rattle.world.specs.Turning.{CarriesOutAt}
+use Rattle.world.proofs.Changing.{failed_at, undone_so, done_members, crash_members}
 use Rattle.world.proofs.turning.turn_at.Goals as goal
+
+pub returns-in_err-apply_to_package-clause-turned : goal.returns-in_err-apply_to_package-clause-turned
+returns-in_err-apply_to_package-clause-turned g c =
+    let place : slice_get c.args.members.now.items c.args.at ≡ Some c.index_mut-member.result.now = slice_get_read _ _ _ _ refl c.requires.within c.index_mut-member.ensures.value in
+    let t = c.in_err-apply_to_package.ensures in
+    failed_at g.S.Store g.met.S.Store.shut_if_dirty c.args.receipt.now c.args.command.now c.args.sums c.args.members.now.items c.args.at c.index_mut-member.result.now c.apply_to_package.new.conn _ c.from_residual.result c.from_residual.ensures.0 place
+    (record { turns = t.turns; was_open = t.was_open })
+
+pub returns-in_err-apply_to_package-clause-undone : goal.returns-in_err-apply_to_package-clause-undone
+returns-in_err-apply_to_package-clause-undone g c =
+    undone_so g.S.Store g.met.S.Store.shut_if_dirty c.args.receipt.now c.args.command.now c.args.sums c.args.members.now.items _ c.args.at c.from_residual.result (returns-in_err-apply_to_package-clause-turned g c)
+
+pub returns-in_err-apply_to_package-clause-crash : goal.returns-in_err-apply_to_package-clause-crash
+returns-in_err-apply_to_package-clause-crash g c =
+    crash_members g.S.Store g.met.S.Store.shut_if_dirty g.met.S.Store.settled c.args.receipt.now c.args.command.now c.args.sums c.args.members.now.items _ c.args.at c.from_residual.result (returns-in_err-apply_to_package-clause-turned g c) c.requires.rests
 
 pub returns-clause-turned : goal.returns-clause-turned
 returns-clause-turned g c =
     let place : slice_get c.args.members.now.items c.args.at ≡ Some c.index_mut-member.result.now = slice_get_read _ _ _ _ refl c.requires.within c.index_mut-member.ensures.value in
-    record { was = c.index_mut-member.result.now; place = place; last = c.apply_to_package.new.conn; others = refl; turned = record { turns = c.apply_to_package.ensures.turns; was_open = c.apply_to_package.ensures.was_open } }
+    let t = c.in_ok-apply_to_package.ensures in
+    record { was = c.index_mut-member.result.now; place = place; last = c.apply_to_package.new.conn; others = refl; turn = record { turns = t.turns; was_open = t.was_open } }
 
-pub returns-clause-rests : goal.returns-clause-rests
-returns-clause-rests g c = All-set (λ (m : Member g.row.S.Denot). Rests (state g.S.Store m.conn)) c.args.members.now.items c.args.at _ c.apply_to_package.ensures.turns.rests c.requires.rests
+pub returns-clause-done : goal.returns-clause-done
+returns-clause-done g c = done_members g.S.Store g.met.S.Store.shut_if_dirty c.args.receipt.now c.args.command.now c.args.sums c.args.members.now.items _ c.args.at (returns-clause-turned g c)
+
+pub returns-clause-crash : goal.returns-clause-crash
+returns-clause-crash g c =
+    crash_members g.S.Store g.met.S.Store.shut_if_dirty g.met.S.Store.settled c.args.receipt.now c.args.command.now c.args.sums c.args.members.now.items _ c.args.at (Ok tt) (returns-clause-turned g c) c.requires.rests
