@@ -5,3 +5,4 @@ pub mod Parts
 pub mod Carrying
 pub mod Packages
 pub mod Fitting
+pub mod Counting

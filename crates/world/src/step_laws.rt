@@ -1,5 +1,5 @@
 // What a request makes of a world, by what is kept of it, so that a request is carried out without looking over the whole world. Each law is the contract of a function that does nothing.
-ghost use Rattle.world.specs.Steps.{FitsWhereAccepted, AcceptedIsOpen};
+ghost use Rattle.world.specs.Steps.{FitsWhereAccepted, AcceptedIsOpen, SumsAfter};
 
 /// The receipt of a served request that nothing speaks against is new to its package, which is as the command's change needs it.
 pub fn fits_where_accepted()
@@ -9,4 +9,9 @@ pub fn fits_where_accepted()
 /// Nothing speaks against a served request that is new and not refused.
 pub fn accepted_is_open()
     ensures { AcceptedIsOpen }
+{}
+
+/// After a command that fits it, a package holds what it held and what came in, or what it held less what went out, which was there.
+pub fn sums_after_command()
+    ensures { SumsAfter }
 {}
