@@ -6,3 +6,4 @@ pub mod Carrying
 pub mod Packages
 pub mod Fitting
 pub mod Counting
+pub mod Limits
