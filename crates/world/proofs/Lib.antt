@@ -7,3 +7,4 @@ pub mod Packages
 pub mod Fitting
 pub mod Counting
 pub mod Limits
+pub mod Outcomes
