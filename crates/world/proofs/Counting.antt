@@ -1,24 +1,21 @@
 -- What a package holds after a command, by what its receipt moved.
-use Rattle.std.specs.Prelude.{◌≡◌, ◌≤◌, ℕ, ◌+◌, ◌-◌, Bool, true, false, cond, not, ◌||◌, List, [], ◌∷◌, find, length, refl, bytes_eq, Option, Some, None, count_by, sum_by}
+use Rattle.std.specs.Prelude.{◌≡◌, ◌≤◌, ℕ, ◌+◌, ◌-◌, true, cond, not, List, [], ◌∷◌, find, length, refl, bytes_eq, Some, count_by, sum_by}
 use Rattle.std.proofs.Common.{sym, ap, subst, ◌∙◌, arith}
 use Rattle.std.specs.Option.{option_map_or}
 use Rattle.sheet_types.specs.Answers.{sums_held}
-use Rattle.sheet_types.specs.Lines.{HasTypes}
 use Rattle.sheet_types.specs.Ordered.{put, without}
 use Rattle.sheet_types.specs.Register.{IsRegister, IsKeptPackage}
-use Rattle.sheet_types.specs.Step.{receipt_of, receipt_over, added_item, relation, count_of, links_of}
+use Rattle.sheet_types.specs.Step.{receipt_of, added_item, relation, count_of, links_of}
 use Rattle.sheet_types.specs.Texts.{size, kind_of}
-use Rattle.sheet_types.specs.World.{World, Package, is_live, holdings, item_of, item_key, link_key, link_kind, item_moved, link_moved, is_tile, is_medium, is_row, is_item_kind, kind_is}
+use Rattle.sheet_types.specs.World.{World, Package, is_live, holdings, item_of, item_key, link_key, item_moved, link_moved, is_tile, is_medium, is_row, is_item_kind}
 use Rattle.sheet_types.specs.declared.command.Command.{Command}
 use Rattle.sheet_types.specs.declared.command.Command.TheVariants.{Add, Delete, Link, Unlink, Split, Merge}
-use Rattle.sheet_types.specs.declared.command.Mapping.{Mapping}
 use Rattle.sheet_types.specs.declared.command.Mapping.TheVariants.{TilesMedia, RowsMedia}
 use Rattle.sheet_types.specs.declared.command.Item.{Item}
 use Rattle.sheet_types.specs.declared.command.Relation.{Relation}
 use Rattle.sheet_types.specs.declared.command.Request.{Request}
 use Rattle.sheet_types.specs.declared.receipt.Moved.{Moved}
 use Rattle.sheet_types.specs.declared.receipt.MovedKind.TheVariants.{TileItem, MediaItem, RowItem}
-use Rattle.sheet_types.specs.declared.receipt.Receipt.{Receipt}
 use Rattle.sheet_types.specs.declared.receipt.Sums.{Sums}
 use Rattle.sheet_types.proofs.Distinct.{distinct_counts}
 use Rattle.sheet_types.proofs.Fitting.{item_kind_of}
@@ -94,8 +91,7 @@ item_less id i p one is =
     let tiles : sum_by (λ x. cond (is_tile x) 1 0) rest + cond (is_tile i) 1 0 ≡ count_by is_tile p.items = take (λ x. cond (is_tile x) 1 0) in
     let media : sum_by (λ x. cond (is_medium x) 1 0) rest + cond (is_medium i) 1 0 ≡ count_by is_medium p.items = take (λ x. cond (is_medium x) 1 0) in
     let rows : sum_by (λ x. cond (is_row x) 1 0) rest + cond (is_row i) 1 0 ≡ count_by is_row p.items = take (λ x. cond (is_row x) 1 0) in
-    let bytes : sum_by (λ x. size x.content) rest + size i.content ≡ sum_by (λ x. size x.content) p.items = take (λ x. size x.content) in
-    (
+    let bytes : sum_by (λ x. size x.content) rest + size i.content ≡ sum_by (λ x. size x.content) p.items = take (λ x. size x.content) in (
       record {
         tiles = there (count_by is_tile rest) (cond (is_tile i) 1 0) (count_by is_tile p.items) tiles;
         media = there (count_by is_medium rest) (cond (is_medium i) 1 0) (count_by is_medium p.items) media;
@@ -104,24 +100,23 @@ item_less id i p one is =
         bytes = there (sum_by (λ x. size x.content) rest) (size i.content) (sum_by (λ x. size x.content) p.items) bytes;
       },
       same_sums (count_by is_tile rest) (count_by is_medium rest) (count_by is_row rest) (length p.links) (sum_by (λ x. size x.content) rest)
-      (count_by is_tile p.items - cond (is_tile i) 1 0) (count_by is_medium p.items - cond (is_medium i) 1 0) (count_by is_row p.items - cond (is_row i) 1 0) (length p.links - 0) (sum_by (λ x. size x.content) p.items - size i.content)
-      (left (count_by is_tile rest) (cond (is_tile i) 1 0) (count_by is_tile p.items) tiles)
-      (left (count_by is_medium rest) (cond (is_medium i) 1 0) (count_by is_medium p.items) media)
-      (left (count_by is_row rest) (cond (is_row i) 1 0) (count_by is_row p.items) rows)
-      (left (length p.links) 0 (length p.links) (omega arith))
-      (left (sum_by (λ x. size x.content) rest) (size i.content) (sum_by (λ x. size x.content) p.items) bytes),
+          (count_by is_tile p.items - cond (is_tile i) 1 0) (count_by is_medium p.items - cond (is_medium i) 1 0) (count_by is_row p.items - cond (is_row i) 1 0) (length p.links - 0) (sum_by (λ x. size x.content) p.items - size i.content)
+          (left (count_by is_tile rest) (cond (is_tile i) 1 0) (count_by is_tile p.items) tiles)
+          (left (count_by is_medium rest) (cond (is_medium i) 1 0) (count_by is_medium p.items) media)
+          (left (count_by is_row rest) (cond (is_row i) 1 0) (count_by is_row p.items) rows)
+          (left (length p.links) 0 (length p.links) (omega arith))
+          (left (sum_by (λ x. size x.content) rest) (size i.content) (sum_by (λ x. size x.content) p.items) bytes),
     )
 
 link_less : (l m : Relation) (p : Package) → count_by (λ x. bytes_eq (link_key x) (link_key l)) p.links ≤ 1 → find (λ x. bytes_eq (link_key x) (link_key l)) p.links ≡ Some m → Taken sums_of_link p (link_removed l p)
 link_less l m p one is =
     let rest : List Relation = without link_key (link_key l ∷ []) p.links in
     let taken : sum_by (λ _. 1) rest + 1 ≡ sum_by (λ _. 1) p.links = take_one link_key (link_key l) (λ _. 1) m p.links one is in
-    let links : length rest + 1 ≡ length p.links = ap (λ n. n + 1) (sym (length_sum (λ _. 1) (λ _. refl) rest)) ∙ taken ∙ length_sum (λ _. 1) (λ _. refl) p.links in
-    (
+    let links : length rest + 1 ≡ length p.links = ap (λ n. n + 1) (sym (length_sum (λ _. 1) (λ _. refl) rest)) ∙ taken ∙ length_sum (λ _. 1) (λ _. refl) p.links in (
       record { tiles = omega arith; media = omega arith; rows = omega arith; links = there (length rest) 1 (length p.links) links; bytes = omega arith },
       same_sums (count_by is_tile p.items) (count_by is_medium p.items) (count_by is_row p.items) (length rest) (sum_by (λ x. size x.content) p.items)
-      (count_by is_tile p.items - 0) (count_by is_medium p.items - 0) (count_by is_row p.items - 0) (length p.links - 1) (sum_by (λ x. size x.content) p.items - 0)
-      (omega arith) (omega arith) (omega arith) (left (length rest) 1 (length p.links) links) (omega arith),
+          (count_by is_tile p.items - 0) (count_by is_medium p.items - 0) (count_by is_row p.items - 0) (length p.links - 1) (sum_by (λ x. size x.content) p.items - 0)
+          (omega arith) (omega arith) (omega arith) (left (length rest) 1 (length p.links) links) (omega arith),
     )
 
 -- ---- a command

@@ -1,7 +1,6 @@
 -- Whether a request would leave too many, by sums and numbers that are kept; and what it makes of the tickets.
-use Rattle.std.specs.Prelude.{◌≡◌, ◌≤◌, ◌<◌, ℕ, ◌+◌, Bool, true, false, cond, ◌||◌, nat_lt, List, [], ◌∷◌, ◌++◌, map, find, fold, max, length, refl, bytes_eq, Option, Some, None, unwrap_or}
+use Rattle.std.specs.Prelude.{◌≡◌, ◌<◌, ℕ, ◌+◌, true, false, cond, ◌||◌, nat_lt, List, [], ◌∷◌, ◌++◌, map, find, fold, max, length, refl, bytes_eq, Some, unwrap_or}
 use Rattle.std.proofs.Common.{sym, ap, subst, ◌∙◌, arith, length-append}
-use Rattle.std.proofs.lemmas.Bool.{lt-ltb}
 use Rattle.std.proofs.lemmas.List.{length-map}
 use Rattle.std.proofs.lemmas.List.Sums.{fold-append}
 use Rattle.std.proofs.lemmas.Slice.Eq.{bytes_eq-Decides}
@@ -12,7 +11,7 @@ use Rattle.sheet_types.specs.Ordered.{put}
 use Rattle.sheet_types.specs.Refuse.{is_overfull, too_many}
 use Rattle.sheet_types.specs.Register.{IsRegister}
 use Rattle.sheet_types.specs.Step.{accepted, receipt_of}
-use Rattle.sheet_types.specs.World.{World, Package, is_live, holdings, no_package, receipts_of, changed, receipt_key, with_receipt}
+use Rattle.sheet_types.specs.World.{World, Package, is_live, holdings, no_package, receipts_of, changed, receipt_key}
 use Rattle.sheet_types.specs.declared.command.Command.{Command}
 use Rattle.sheet_types.specs.declared.command.Command.TheVariants.{Add, Delete, Link, Unlink, Split, Merge}
 use Rattle.sheet_types.specs.declared.command.Request.{Request}

@@ -1,17 +1,16 @@
 -- The outcome of a request, in the cases in which it is found.
 use Rattle.std.specs.Prelude.{◌≡◌, Bool, true, false, not, List, ◌∷◌, drop, refl, bytes_eq, Option, Some, None, Ok}
-use Rattle.std.proofs.Common.{sym, ap, ◌∙◌}
+use Rattle.std.proofs.Common.{ap, ◌∙◌}
 use Rattle.std.specs.Bool.{then_some}
 use Rattle.std.specs.Option.{option_and_then, option_map_or}
 use Rattle.sheet_types.specs.Custody.{kept}
 use Rattle.sheet_types.specs.Matrix.{first_row}
-use Rattle.sheet_types.specs.Refuse.{refusal, reasons, id_reused}
+use Rattle.sheet_types.specs.Refuse.{reasons, id_reused}
 use Rattle.sheet_types.specs.Step.{accepted, receipt_of, kept_reply, refuses, outcome_by}
 use Rattle.sheet_types.specs.Texts.{line}
 use Rattle.sheet_types.specs.World.{World}
 use Rattle.sheet_types.specs.declared.command.Request.{Request}
 use Rattle.sheet_types.specs.declared.receipt.Receipt.{Receipt}
-use Rattle.sheet_types.specs.declared.refusal.Refusal.{Refusal}
 use Rattle.sheet_types.specs.declared.refusal.Refusal.TheVariants.{IdReused}
 use Rattle.world.specs.Steps.{KeptOutcome, ReusedOutcome, RefusedOutcome, AcceptedOutcome}
 use Rattle.world.proofs.Carrying.{carried_out_in_one}
