@@ -2,4 +2,4 @@ pub mod Seeing
 pub mod ItemKinds
 pub mod FirstRows
 pub mod Parts
-pub mod Packages
+pub mod EachPackage

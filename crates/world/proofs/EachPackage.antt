@@ -1,10 +1,7 @@
 -- What each package of a register tells of the whole.
-use Rattle.std.specs.Prelude.{◌≡◌, ℕ, Bool, true, false, ◌||◌, List, [], ◌∷◌, ◌++◌, find, flat_map, refl, bytes_eq, Some, None, Contains}
-use Rattle.std.proofs.Common.{sym, ap, subst, ◌∙◌}
-use Rattle.std.proofs.lemmas.List.Elements.{All-contains, All-from_recursion}
-use Rattle.std.proofs.lemmas.List.Folds.{list_any-append}
-use Rattle.std.specs.List.{list_any, AllByRecursion}
-use Rattle.sheet_types.specs.Ordered.{arranged, has}
+use Rattle.std.specs.Prelude.{◌≡◌, Bool, true, [], find, flat_map, bytes_eq, Some, Contains}
+use Rattle.std.proofs.Common.{ap, ◌∙◌}
+use Rattle.std.specs.List.{list_any}
 use Rattle.sheet_types.specs.World.{World, Package, receipt_key, receipts_of}
 use Rattle.sheet_types.specs.Balance.{archive_of, names_identity}
 use Rattle.sheet_types.specs.declared.receipt.Receipt.{Receipt}
@@ -14,27 +11,20 @@ use Rattle.sheet_types.proofs.Found.{found, not_found, All-found}
 use Rattle.sheet_types.proofs.Order.{list_any-arranged, All-of_arranged}
 use Rattle.sheet_types.proofs.Same.{In, In-all, All-In, In-flat_map, any_in, one_passes}
 use Rattle.ledger_laws.proofs.Requests.{added_is_named, of_request, one_receipt}
+use Rattle.identity_register.proofs.Finding.{contained}
+use Rattle.custody.proofs.Naming.{any_flat}
 use Rattle.world.specs.Register.{UsedIsNamed, NoneIsKept, KeptIsThere}
-
--- a test of lists in a row is one of each
-list_any-flat_map : {X Y : Type 0} (p : Y → Bool) (f : X → List Y) (xs : List X) → list_any p (flat_map f xs) ≡ list_any (λ x. list_any p (f x)) xs
-list_any-flat_map p f [] = refl
-list_any-flat_map p f (x ∷ xs) = list_any-append p (f x) (flat_map f xs) ∙ ap (λ b. list_any p (f x) || b) (list_any-flat_map p f xs)
 
 -- a test of all receipts is one of each package's
 in_packages : (p : Receipt → Bool) (w : World) → list_any p (receipts_of w) ≡ list_any (λ x. list_any p x.receipts) w.packages
-in_packages p w = list_any-arranged receipt_key p (flat_map (λ x. x.receipts) w.packages) ∙ list_any-flat_map p (λ x. x.receipts) w.packages
-
--- the elements of a list that contains them
-contained : {X : Type 0} (x : X) (xs : List X) → Contains xs x → In x xs
-contained x xs c = All-contains (λ y. In y xs) xs x (All-from_recursion (λ y. In y xs) xs (In-all xs)) c
+in_packages p w = list_any-arranged receipt_key p (flat_map (λ x. x.receipts) w.packages) ∙ any_flat p (λ x. x.receipts) w.packages
 
 -- a receipt of a package is among all of them
 among_receipts : (w : World) (p : Package) (r : Receipt) → Contains w.packages p → Contains p.receipts r → In r (receipts_of w)
 among_receipts w p r here there =
     All-In (λ x. In x (receipts_of w)) r (flat_map (λ x. x.receipts) w.packages)
     (All-of_arranged receipt_key (λ x. In x (receipts_of w)) (flat_map (λ x. x.receipts) w.packages) (In-all (receipts_of w)))
-    (In-flat_map (λ x. x.receipts) p r w.packages (contained p w.packages here) (contained r p.receipts there))
+    (In-flat_map (λ x. x.receipts) p r w.packages (contained w.packages p here) (contained p.receipts r there))
 
 pub used_is_named : UsedIsNamed
 used_is_named w id register = added_is_named (archive_of w) id (receipts_of w) register.balanced.ledger ∙ in_packages (names_identity id) w
