@@ -3,4 +3,4 @@ pub mod ItemKinds
 pub mod FirstRows
 pub mod Parts
 pub mod Carrying
-pub mod Packages
+pub mod EachPackage
