@@ -1,8 +1,8 @@
 -- A command's change and the entry of its receipt, as one change of the package.
-use Rattle.std.proofs.Common.{◌≡◌, Result, Ok, Err, IsErr, refl, sym, subst}
+use Rattle.std.proofs.Common.{◌≡◌, Result, Ok, refl, sym, subst}
 use Rattle.sqlite.specs.State.{State}
 use Rattle.sql_meaning.specs.Transactions.{Steps}
-use Rattle.sql_meaning.proofs.Transactions.{inside_same, steps_then, steps_weaker}
+use Rattle.sql_meaning.proofs.Transactions.{steps_then, steps_weaker}
 use Rattle.sheet_types.specs.World.{Package, with_receipt}
 use Rattle.sheet_types.specs.declared.command.Command.{Command}
 use Rattle.sheet_types.specs.declared.command.Command.TheVariants.{Add, Delete, Link, Unlink, Split, Merge}

@@ -3,7 +3,7 @@ pub mod ItemKinds
 pub mod FirstRows
 pub mod Parts
 pub mod Carrying
-pub mod Packages
+pub mod EachPackage
 pub mod Fitting
 pub mod Counting
 pub mod Limits

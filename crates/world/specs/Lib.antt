@@ -3,4 +3,5 @@ pub mod Reasons
 pub mod Carrying
 pub mod Laws
 pub mod Register
+pub mod Members
 pub mod Steps

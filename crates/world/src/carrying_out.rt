@@ -20,7 +20,9 @@ fn make_change<S: Alter>(tx: &mut Transaction<'_, S>, command: &Command) -> Resu
 {
     match command {
         Command::Add {
-            identity, content, ..
+            identity,
+            content,
+            ..
         } => add(tx, *identity, content),
         Command::Delete { identity, .. } => delete(tx, *identity),
         Command::Link {
