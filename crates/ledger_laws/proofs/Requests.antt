@@ -1,10 +1,10 @@
 -- What a sound ledger says of identities and of requests: an identity that is named as an item was added, and a request has one receipt at most.
-use Rattle.std.specs.Prelude.{◌≡◌, ℕ, ◌≤◌, Bool, true, false, ◌&&◌, ◌||◌, List, [], ◌∷◌, ◌++◌, refl, bytes_eq, Some, None, is_some, count_by}
-use Rattle.std.proofs.Common.{sym, ap, ◌∙◌, arith}
+use Rattle.std.specs.Prelude.{◌+◌, length, ◌≡◌, ℕ, ◌≤◌, Bool, true, false, ◌&&◌, ◌||◌, List, [], ◌∷◌, ◌++◌, refl, bytes_eq, Some, None, is_some, count_by}
+use Rattle.std.proofs.Common.{sym, ap, ◌∙◌, arith, length-append}
 use Rattle.std.proofs.lemmas.Bool.{true≢false, and_parts, and_from, false_from_ne_true}
 use Rattle.std.proofs.lemmas.List.Folds.{list_any-append}
 use Rattle.std.proofs.lemmas.Slice.Eq.{bytes_eq-Decides}
-use Rattle.std.specs.List.{list_any}
+use Rattle.std.specs.List.{list_any, AllByRecursion}
 use Rattle.sheet_types.specs.Ordered.{has}
 use Rattle.sheet_types.specs.World.{is_item_kind}
 use Rattle.sheet_types.specs.Balance.{IsLedger, IsReceiptOf, names_identity}
@@ -68,3 +68,9 @@ one_receipt archive id past (r ∷ rs) h =
           omega (arith, count-cons (of_request id) r rs true e, any_none (of_request id) rs (no_second archive id (past ++ r ∷ []) rs h.1 here))
       | false ↦ λ e. omega (arith, count-cons (of_request id) r rs false e, one_receipt archive id (past ++ r ∷ []) rs h.1)
     ] refl
+
+-- where no number is past n, the receipts are no more than that
+pub no_more_than : (archive : List ℕ) (n : ℕ) (past rs : List Receipt) → IsLedger archive past rs → AllByRecursion (λ r. r.seq ≤ n) rs → length past ≤ n → length past + length rs ≤ n
+no_more_than archive n past [] h within few = omega (arith, few)
+no_more_than archive n past (r ∷ rs) h within few =
+    omega (arith, h.0.number, within.0, length-append past (r ∷ []), no_more_than archive n (past ++ r ∷ []) rs h.1 within.1 (omega (arith, h.0.number, within.0, length-append past (r ∷ []))))

@@ -1,17 +1,17 @@
 -- What nothing speaks against fits the package that it names.
-use Rattle.std.specs.Prelude.{◌≡◌, ℕ, ◌+◌, ◌<◌, Bool, true, false, not, ◌&&◌, ◌||◌, List, [], ◌∷◌, ◌++◌, find, length, flat_map, refl, bytes_eq, Option, Some, None, drop}
-use Rattle.std.proofs.Common.{sym, ap, subst, ◌∙◌, arith}
+use Rattle.std.specs.Prelude.{◌≡◌, ℕ, ◌+◌, ◌<◌, Bool, true, false, ◌&&◌, List, [], ◌∷◌, length, flat_map, refl, bytes_eq, Some, None}
+use Rattle.std.proofs.Common.{sym, ap, ◌∙◌, arith}
 use Rattle.std.proofs.lemmas.Bool.{false≢true, and_parts, and_from, or_parts, false_from_ne_true, lt-ltb}
-use Rattle.std.specs.List.{list_any, AllByRecursion}
+use Rattle.std.specs.List.{AllByRecursion}
 use Rattle.std.specs.Option.{option_map_or}
 use Rattle.sheet_types.specs.Ordered.{has}
 use Rattle.sheet_types.specs.Custody.{kept, custody, is_add, is_used}
 use Rattle.sheet_types.specs.Balance.{archive_of, names_identity, holds, IsThing}
 use Rattle.sheet_types.specs.Lines.{IsUuid, HasTypes, is_uuid, is_bytes}
 use Rattle.sheet_types.specs.Matrix.{first_row}
-use Rattle.sheet_types.specs.Refuse.{refusal, identity_used, id_reused, too_many}
-use Rattle.sheet_types.specs.Register.{IsRegister, IsKeptPackage, HasEnds}
-use Rattle.sheet_types.specs.Step.{moved, receipt_of, source_of, target_of, added_item, relation}
+use Rattle.sheet_types.specs.Refuse.{identity_used, id_reused, too_many}
+use Rattle.sheet_types.specs.Register.{IsRegister}
+use Rattle.sheet_types.specs.Step.{moved, source_of, target_of, added_item, relation}
 use Rattle.sheet_types.specs.Texts.{entry_of, kind_of, fingerprint}
 use Rattle.sheet_types.specs.World.{World, Package, is_live, holdings, receipts_of, has_item, has_kind, item_of, item_thing, item_moved, link_key, base_kind, other_kind, receipt_key, is_item_kind}
 use Rattle.sheet_types.specs.declared.command.Command.{Command}
@@ -19,12 +19,11 @@ use Rattle.sheet_types.specs.declared.command.Command.TheVariants.{Add, Delete, 
 use Rattle.sheet_types.specs.declared.command.Content.{Content}
 use Rattle.sheet_types.specs.declared.command.Item.{Item}
 use Rattle.sheet_types.specs.declared.command.Relation.{Relation}
-use Rattle.sheet_types.specs.declared.command.Request.{Request}
 use Rattle.sheet_types.specs.declared.receipt.Receipt.{Receipt}
 use Rattle.sheet_types.specs.declared.refusal.Refusal.{Refusal}
-use Rattle.sheet_types.specs.declared.refusal.Refusal.TheVariants.{IdReused, UnknownPackage, TooMany, IdentityUsed}
+use Rattle.sheet_types.specs.declared.refusal.Refusal.TheVariants.{IdReused, UnknownPackage, TooMany}
 use Rattle.sheet_types.proofs.Basics.{None≢Some, bytes_eq_itself, not_false, before-differs}
-use Rattle.sheet_types.proofs.Every.{All-weaker, All-left, All-right, none_pass, none_any}
+use Rattle.sheet_types.proofs.Every.{All-weaker, All-left, none_pass, none_any}
 use Rattle.sheet_types.proofs.Fitting.{digest_fits, item_kind_of}
 use Rattle.sheet_types.proofs.Found.{none_found, All-found}
 use Rattle.sheet_types.proofs.Order.{before_numbers, All-of_arranged}
@@ -33,12 +32,10 @@ use Rattle.ledger_laws.proofs.Facts.{kept_at}
 use Rattle.ledger_laws.proofs.Ledger.{ledger_numbers, never_named, custody_none, thing_of, thing_of_item}
 use Rattle.ledger_laws.proofs.Packages.{stand_at}
 use Rattle.ledger_laws.proofs.Shifting.{flat_stand}
-use Rattle.identity_register.specs.Reads.{is_fit_end, is_fit_moved, IsFitReceipt}
-use Rattle.identity_register.specs.Changes.{IsNewItem, IsNewLink, IsLink}
-use Rattle.custody.specs.Receipts.{IsNewReceipt}
-use Rattle.world.specs.Carrying.{Meets, Fits}
+use Rattle.identity_register.specs.Reads.{is_fit_end, is_fit_moved}
+use Rattle.world.specs.Carrying.{Meets}
 use Rattle.world.specs.Laws.{IsServed, package_of, live_reasons}
-use Rattle.world.specs.Reasons.{text_reasons, package_reasons, delete_reasons, link_reasons, unlink_reasons}
+use Rattle.world.specs.Reasons.{package_reasons, delete_reasons, link_reasons, unlink_reasons}
 use Rattle.world.specs.Steps.{IsOpenTo, FitsWhereAccepted, AcceptedIsOpen}
 use Rattle.world.proofs.Parts.{refused_by_parts, refused_unless_live}
 

@@ -7,3 +7,8 @@ pub mod Packages
 pub mod StayingOpen
 pub mod Fitting
 pub mod Changing
+pub mod EachPackage
+pub mod Fitting
+pub mod Counting
+pub mod Limits
+pub mod Outcomes

@@ -1,5 +1,5 @@
 // What a request makes of a world, by what is kept of it, so that a request is carried out without looking over the whole world. Each law is the contract of a function that does nothing.
-ghost use Rattle.world.specs.Steps.{FitsWhereAccepted, AcceptedIsOpen};
+ghost use Rattle.world.specs.Steps.{FitsWhereAccepted, AcceptedIsOpen, SumsAfter, TooManyBySums, TicketAfter, KeptOutcome, ReusedOutcome, RefusedOutcome, AcceptedOutcome};
 
 /// The receipt of a served request that nothing speaks against is new to its package, which is as the command's change needs it.
 pub fn fits_where_accepted()
@@ -9,4 +9,39 @@ pub fn fits_where_accepted()
 /// Nothing speaks against a served request that is new and not refused.
 pub fn accepted_is_open()
     ensures { AcceptedIsOpen }
+{}
+
+/// After a command that fits it, a package holds what it held and what came in, or what it held less what went out, which was there.
+pub fn sums_after_command()
+    ensures { SumsAfter }
+{}
+
+/// Whether a request would leave too many is told by what each package holds and by two numbers.
+pub fn too_many_by_sums()
+    ensures { TooManyBySums }
+{}
+
+/// The ticket of the package that a served command names is its receipt's number, and every other stays.
+pub fn ticket_after()
+    ensures { TicketAfter }
+{}
+
+/// A request that comes again with its line gets the receipt that is kept, and nothing is changed.
+pub fn kept_outcome()
+    ensures { KeptOutcome }
+{}
+
+/// A request whose identity is kept for another line is refused for it.
+pub fn reused_outcome()
+    ensures { ReusedOutcome }
+{}
+
+/// A request that is new and refused is told the refusal, and nothing is changed.
+pub fn refused_outcome()
+    ensures { RefusedOutcome }
+{}
+
+/// A served request that is new and not refused gets its receipt, and changes the one package that it names.
+pub fn accepted_outcome()
+    ensures { AcceptedOutcome }
 {}

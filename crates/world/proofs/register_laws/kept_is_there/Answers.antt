@@ -1,5 +1,5 @@
 -- The lemma says it.
-use Rattle.world.proofs.Packages.{kept_is_there}
+use Rattle.world.proofs.EachPackage.{kept_is_there}
 use Rattle.world.proofs.register_laws.kept_is_there.Goals as goal
 
 pub returns : goal.returns

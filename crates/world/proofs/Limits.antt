@@ -1,0 +1,142 @@
+-- Whether a request would leave too many, by sums and numbers that are kept; and what it makes of the tickets.
+use Rattle.std.specs.Prelude.{◌≡◌, ◌<◌, ℕ, ◌+◌, true, false, cond, ◌||◌, nat_lt, List, [], ◌∷◌, ◌++◌, map, find, fold, max, length, refl, bytes_eq, Some, unwrap_or}
+use Rattle.std.proofs.Common.{sym, ap, subst, ◌∙◌, arith, length-append}
+use Rattle.std.proofs.lemmas.List.{length-map}
+use Rattle.std.proofs.lemmas.List.Sums.{fold-append}
+use Rattle.std.proofs.lemmas.Slice.Eq.{bytes_eq-Decides}
+use Rattle.std.specs.List.{list_any, AllByRecursion}
+use Rattle.sheet_types.specs.Answers.{sums_held}
+use Rattle.sheet_types.specs.Custody.{ticket, names_package}
+use Rattle.sheet_types.specs.Ordered.{put}
+use Rattle.sheet_types.specs.Refuse.{is_overfull, too_many}
+use Rattle.sheet_types.specs.Register.{IsRegister}
+use Rattle.sheet_types.specs.Step.{accepted, receipt_of}
+use Rattle.sheet_types.specs.World.{World, Package, is_live, holdings, no_package, receipts_of, changed, receipt_key}
+use Rattle.sheet_types.specs.declared.command.Command.{Command}
+use Rattle.sheet_types.specs.declared.command.Command.TheVariants.{Add, Delete, Link, Unlink, Split, Merge}
+use Rattle.sheet_types.specs.declared.command.Request.{Request}
+use Rattle.sheet_types.specs.declared.receipt.Receipt.{Receipt}
+use Rattle.sheet_types.specs.declared.receipt.Sums.{Sums}
+use Rattle.sheet_types.proofs.Basics.{or-false, bytes_eq_swap}
+use Rattle.sheet_types.proofs.Every.{All-weaker}
+use Rattle.ledger_laws.proofs.Packages.{at_uuid, each_found, receipts_gained, with_receipt_gains}
+use Rattle.world.specs.Carrying.{Meets, Fits, changed_by, after_command}
+use Rattle.world.specs.Laws.{IsServed, package_of}
+use Rattle.world.specs.Steps.{TooManyBySums, TicketAfter, sums_moved, sums_after, sums_next, is_past_limits}
+use Rattle.world.proofs.Carrying.{carried_out_in_one}
+use Rattle.world.proofs.Counting.{sums_after_command}
+use Rattle.world.proofs.Fitting.{numbers_below}
+
+-- ---- the receipts
+
+-- no change leaves another list of receipts
+same_receipts : (command : Command) (x : Package) → (changed_by command x).receipts ≡ x.receipts
+same_receipts (Add uuid identity content) x = refl
+same_receipts (Delete uuid identity) x = refl
+same_receipts (Link uuid mapping base media) x = refl
+same_receipts (Unlink uuid mapping base media) x = refl
+same_receipts (Split uuid child mode rect) x = refl
+same_receipts (Merge child into ticket) x = refl
+
+-- the receipt of a served command is the last
+pub receipts_next : (w : World) (q : Request) → IsRegister w → IsServed q.command → is_live w (package_of q.command) ≡ true → receipts_of (accepted w q) ≡ receipts_of w ++ receipt_of w q ∷ []
+receipts_next w q register served live =
+    let r : Receipt = receipt_of w q in
+    ap receipts_of (carried_out_in_one w (receipt_of w q) q.command served)
+    ∙ receipts_gained (after_command (receipt_of w q) q.command) w (package_of q.command) (receipt_of w q)
+    (λ x below. ap (put receipt_key (receipt_of w q)) (same_receipts q.command x) ∙ with_receipt_gains (receipt_of w q) x below)
+    (numbers_below w register) register.arranged live
+
+-- ---- the limits
+
+-- a command that a package meets is served
+meets_served : (command : Command) (p : Package) → Meets command p → IsServed command
+meets_served (Add uuid identity content) p meets = tt
+meets_served (Delete uuid identity) p meets = tt
+meets_served (Link uuid mapping base media) p meets = tt
+meets_served (Unlink uuid mapping base media) p meets = tt
+meets_served (Split uuid child mode rect) p meets = meets
+meets_served (Merge child into ticket) p meets = meets
+
+-- the packages that are overfull, by their sums
+overfull_by : (f : Package → Package) (g : Package → Sums) (ps : List Package) → AllByRecursion (λ x. sums_held (f x) ≡ g x) ps → list_any is_overfull (map f ps) ≡ list_any is_past_limits (map g ps)
+overfull_by f g [] h = refl
+overfull_by f g (x ∷ ps) h = ap (λ s. is_past_limits s || list_any is_overfull (map f ps)) h.0 ∙ ap (λ b. is_past_limits (g x) || b) (overfull_by f g ps h.1)
+
+module _ (w : World) (q : Request) (register : IsRegister w) (live : is_live w (package_of q.command) ≡ true) (fits : Fits (receipt_of w q) q.command (holdings w (package_of q.command))) where
+  abbrev p : List ℕ
+  p = package_of q.command
+
+  abbrev after : Package → Package
+  after x = after_command (receipt_of w q) q.command x
+
+  abbrev sums : Sums → Sums
+  sums held = sums_after q.command (sums_moved (receipt_of w q)) held
+
+  -- the package that is found under this UUID
+  at_package : (x : Package) → find (at_uuid x.uuid) w.packages ≡ Some x → sums_held (cond (bytes_eq x.uuid p) (after x) x) ≡ cond (bytes_eq x.uuid p) (sums (sums_held x)) (sums_held x)
+  at_package x is =
+      elim (bytes_eq x.uuid p) as (λ v. bytes_eq x.uuid p ≡ v → sums_held (cond v (after x) x) ≡ cond v (sums (sums_held x)) (sums_held x)) [
+        | true ↦ λ same.
+            let here : holdings w p ≡ x = ap (λ u. unwrap_or (find (at_uuid u) w.packages) no_package) (sym ((bytes_eq-Decides x.uuid p).0 same)) ∙ ap (λ o. unwrap_or o no_package) is in
+            subst (λ y. sums_held (after y) ≡ sums (sums_held y)) here (sums_after_command w q register live fits).1
+        | false ↦ λ _. refl
+      ] refl
+
+  number : length (receipts_of (accepted w q)) ≡ length (receipts_of w) + 1
+  number = ap length (receipts_next w q register (meets_served q.command (holdings w p) fits.meets) live) ∙ length-append (receipts_of w) (receipt_of w q ∷ [])
+
+  overfull : list_any is_overfull (changed after p w).packages ≡ list_any is_past_limits (sums_next w q)
+  overfull = overfull_by (λ x. cond (bytes_eq x.uuid p) (after x) x) (λ x. cond (bytes_eq x.uuid p) (sums (sums_held x)) (sums_held x)) w.packages
+      (All-weaker (λ x. find (at_uuid x.uuid) w.packages ≡ Some x) (λ x. sums_held (cond (bytes_eq x.uuid p) (after x) x) ≡ cond (bytes_eq x.uuid p) (sums (sums_held x)) (sums_held x)) at_package w.packages (each_found w.packages register.arranged))
+
+  count : length (changed after p w).packages ≡ length w.packages
+  count = length-map w.packages (λ x. cond (bytes_eq x.uuid p) (after x) x)
+
+  is_carried : accepted w q ≡ changed after p w
+  is_carried = carried_out_in_one w (receipt_of w q) q.command (meets_served q.command (holdings w p) fits.meets)
+
+  too_many_here : too_many (accepted w q) ≡ (list_any is_past_limits (sums_next w q) || nat_lt 256 (length w.packages) || nat_lt 1000000000 (length (receipts_of w) + 1))
+  too_many_here =
+      ap (λ n. list_any is_overfull (accepted w q).packages || nat_lt 256 (length (accepted w q).packages) || nat_lt 1000000000 n) number
+      ∙ ap (λ v. list_any is_overfull v.packages || nat_lt 256 (length v.packages) || nat_lt 1000000000 (length (receipts_of w) + 1)) is_carried
+      ∙ ap (λ b. b || nat_lt 256 (length (changed after p w).packages) || nat_lt 1000000000 (length (receipts_of w) + 1)) overfull
+      ∙ ap (λ n. list_any is_past_limits (sums_next w q) || nat_lt 256 n || nat_lt 1000000000 (length (receipts_of w) + 1)) count
+
+pub too_many_by_sums : TooManyBySums
+too_many_by_sums w q register live fits = too_many_here w q register live fits
+
+-- ---- the tickets
+
+-- the greatest number of a receipt that names a package
+abbrev ticket_from : ℕ → List ℕ → List Receipt → ℕ
+ticket_from n p rs = fold (λ m r. cond (names_package p r) (max m r.seq) m) n rs
+
+ticket_below : (n : ℕ) (p : List ℕ) (bound : ℕ) (rs : List Receipt) → n < bound → AllByRecursion (λ s. s.seq < bound) rs → ticket_from n p rs < bound
+ticket_below n p bound [] h below = h
+ticket_below n p bound (r ∷ rs) h below =
+    ticket_below (cond (names_package p r) (max n r.seq) n) p bound rs
+    (elim (names_package p r) as (λ v. cond v (max n r.seq) n < bound) [ true ↦ greater n r.seq bound h below.0 | false ↦ h ]) below.1
+  where
+    greater : (a b c : ℕ) → a < c → b < c → max a b < c
+    greater a b c x y = omega arith
+
+-- the receipt of a served command names its package alone
+names_its_own : (w : World) (id at : List ℕ) (command : Command) (p : List ℕ) → IsServed command → names_package p (receipt_of w (record { id = id; at = at; command = command })) ≡ bytes_eq p (package_of command)
+names_its_own w id at (Add uuid identity content) p served = bytes_eq_swap uuid p
+names_its_own w id at (Delete uuid identity) p served = or-false (bytes_eq uuid p) ∙ bytes_eq_swap uuid p
+names_its_own w id at (Link uuid mapping base media) p served = bytes_eq_swap uuid p
+names_its_own w id at (Unlink uuid mapping base media) p served = or-false (bytes_eq uuid p) ∙ bytes_eq_swap uuid p
+names_its_own w id at (Split uuid child mode rect) p served = absurd served
+names_its_own w id at (Merge child into ticket) p served = absurd served
+
+greatest : (a b : ℕ) → a < b → max a b ≡ b
+greatest a b h = omega arith
+
+pub ticket_after : TicketAfter
+ticket_after w q id register served live =
+    let n : ℕ = length (receipts_of w) + 1 in
+    ap (ticket_from 0 id) (receipts_next w q register served live)
+    ∙ fold-append (λ m r. cond (names_package id r) (max m r.seq) m) 0 (receipts_of w) (receipt_of w q ∷ [])
+    ∙ ap (λ b. cond b (max (ticket w id) (length (receipts_of w) + 1)) (ticket w id)) (names_its_own w q.id q.at q.command id served)
+    ∙ ap (λ m. cond (bytes_eq id (package_of q.command)) m (ticket w id)) (greatest (ticket w id) (length (receipts_of w) + 1) (ticket_below 0 id (length (receipts_of w) + 1) (receipts_of w) (omega arith) (numbers_below w register)))
