@@ -3,12 +3,11 @@ pub mod ItemKinds
 pub mod FirstRows
 pub mod Parts
 pub mod Carrying
-pub mod Packages
-pub mod StayingOpen
-pub mod Fitting
-pub mod Changing
 pub mod EachPackage
 pub mod Fitting
 pub mod Counting
 pub mod Limits
 pub mod Outcomes
+pub mod StayingOpen
+pub mod Changing
+pub mod Due

@@ -1,15 +1,19 @@
 -- The change of one member of a world, and what all members stand for after it. Profile.
-use Rattle.std.specs.Prelude.{◌≡◌, ℕ, ◌+◌, List, All, Some, slice_get, slice_set, length, if◌then◌else◌, bytes_eq, Result, Ok, Err, IsTrue}
+use Rattle.std.specs.Prelude.{◌≡◌, ℕ, ◌+◌, List, All, Some, slice_get, slice_set, length, if◌then◌else◌, bytes_eq, None, Result, Ok, Err, IsTrue}
 use Rattle.sqlite.specs.Effect.{Database}
 use Rattle.sqlite.specs.Held.{Held, state}
 use Rattle.sqlite.specs.State.{State}
 use Rattle.sqlite.specs.Store.{Ghosts}
 use Rattle.sqlite.specs.Tree.{Trees}
 use Rattle.sheet_types.specs.Answers.{sums_held}
-use Rattle.sheet_types.specs.Custody.{ticket}
+use Rattle.sheet_types.specs.Custody.{kept, ticket}
+use Rattle.sheet_types.specs.Lines.{IsUuid, HasTypes}
+use Rattle.sheet_types.specs.Refuse.{refusal}
 use Rattle.sheet_types.specs.Register.{IsRegister}
-use Rattle.sheet_types.specs.World.{World, Package, receipts_of, changed}
+use Rattle.sheet_types.specs.Step.{accepted, receipt_of}
+use Rattle.sheet_types.specs.World.{World, Package, holdings, receipts_of, changed}
 use Rattle.sheet_types.specs.declared.command.Command.{Command}
+use Rattle.sheet_types.specs.declared.command.Request.{Request}
 use Rattle.sheet_types.specs.declared.frame.Frame.{Frame}
 use Rattle.sheet_types.specs.declared.receipt.Receipt.{Receipt}
 use Rattle.sheet_types.specs.declared.receipt.Sums.{Sums}
@@ -17,7 +21,8 @@ use Rattle.sql_meaning.specs.Transactions.{Turns}
 use Rattle.identity_register.specs.Calls.{Becomes}
 use Rattle.identity_register.specs.Reads.{Reads}
 use Rattle.world.specs.Carrying.{Fits, after_command}
-use Rattle.world.specs.Laws.{package_of}
+use Rattle.world.specs.Laws.{IsServed, package_of}
+use Rattle.world.specs.Steps.{sums_moved, sums_after}
 use Rattle.world.specs.declared.members.Member.{Member}
 
 -- ---- the world
@@ -36,6 +41,12 @@ pub record IsDue (w : World) (at : ℕ) (r : Receipt) (command : Command) (held 
   pub tickets : (id : List ℕ) → ticket (world_after r command w) id ≡ (if bytes_eq id (package_of command) then r.seq else ticket w id)
   pub counted : length (receipts_of (world_after r command w)) ≡ length (receipts_of w) + 1
   pub register : IsRegister (world_after r command w)
+
+-- A served request that is new and not refused is due where its package stands, with the sums of the package and what its receipt moved. The identity of the request and the values of its command are those of their types.
+abbrev pub DueWhereAccepted : Type 0
+DueWhereAccepted = (w : World) (q : Request) (at : ℕ) → IsRegister w → IsUuid q.id → HasTypes q.command → IsServed q.command → kept w q.id ≡ None → refusal w (accepted w q) q ≡ None →
+    slice_get w.packages at ≡ Some (holdings w (package_of q.command)) →
+    IsDue w at (receipt_of w q) q.command (sums_after q.command (sums_moved (receipt_of w q)) (sums_held (holdings w (package_of q.command))))
 
 -- ---- the stores
 

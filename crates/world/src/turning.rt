@@ -3,7 +3,7 @@ ghost use Rattle.std.specs.Prelude.{◌≡◌, ◌<◌, ℕ, ◌+◌, length, ve
 ghost use Rattle.sheet_types.specs.World.{World};
 ghost use Rattle.sql_meaning.specs.Stores.{LeavesEither};
 ghost use Rattle.world.specs.Members.{AllRest, AreMembers};
-ghost use Rattle.world.specs.Turning.{CarriesOutAt, IsDue, AllOpen, LeftAs, world_after};
+ghost use Rattle.world.specs.Turning.{CarriesOutAt, IsDue, DueWhereAccepted, AllOpen, LeftAs, world_after};
 
 use crate::carrying_out::apply_to_package;
 use crate::members::Member;
@@ -36,3 +36,8 @@ pub fn turn_at<S: Alter + Drop>(
     member.ticket = receipt.seq;
     Ok(())
 }
+
+/// A served request that is new and not refused is due where its package stands, which is what `turn_at` asks of it.
+pub fn due_where_accepted()
+    ensures { DueWhereAccepted }
+{}
