@@ -5,4 +5,5 @@ pub mod Laws
 pub mod Register
 pub mod Members
 pub mod Turning
+pub mod Sums
 pub mod Steps

@@ -12,6 +12,7 @@ mod receipt_tests;
 pub mod receipts;
 pub mod register_laws;
 pub mod step_laws;
+pub mod sums;
 #[cfg(test)]
 mod tests;
 pub mod texts;
