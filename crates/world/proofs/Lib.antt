@@ -4,3 +4,6 @@ pub mod FirstRows
 pub mod Parts
 pub mod Carrying
 pub mod Packages
+pub mod Standing
+pub mod Asked
+pub mod Placed

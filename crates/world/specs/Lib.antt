@@ -4,3 +4,4 @@ pub mod Carrying
 pub mod Laws
 pub mod Register
 pub mod Members
+pub mod Asking
