@@ -1,6 +1,7 @@
 //! The world of live packages that requests change. So far: why a request is refused, and the change of one package with its receipt.
 #![tactic(auto)]
 
+pub mod asking;
 pub mod carrying_out;
 #[cfg(test)]
 mod carrying_tests;
