@@ -38,7 +38,7 @@ use Rattle.identity_register.specs.Reads.{is_fit_end, is_fit_moved}
 use Rattle.world.specs.Carrying.{Meets}
 use Rattle.world.specs.Laws.{IsServed, package_of, live_reasons}
 use Rattle.world.specs.Reasons.{text_reasons, package_reasons, delete_reasons, link_reasons, unlink_reasons}
-use Rattle.world.specs.Steps.{IsOpenTo, FitsWhereAccepted, AcceptedIsOpen, RefusedInTurn, RefusedAsUnknown}
+use Rattle.world.specs.Steps.{NothingAgainst, FitsWhereAccepted, NothingAgainstAccepted, RefusedInTurn, RefusedAsUnknown}
 use Rattle.world.proofs.FirstRows.{last}
 use Rattle.world.proofs.Parts.{refused_by_parts, refused_unless_live, first_of_both}
 
@@ -164,9 +164,9 @@ rows_none : {X : Type 0} (rows : List (Bool × X)) → AllByRecursion (λ row. r
 rows_none [] h = refl
 rows_none (row ∷ rows) h = rw h.0 (rows_none rows h.1)
 
-pub accepted_is_open : AcceptedIsOpen
-accepted_is_open w next q served new none =
-    elim (is_live w (package_of q.command)) as (λ v. is_live w (package_of q.command) ≡ v → IsOpenTo w q) [
+pub nothing_against_accepted : NothingAgainstAccepted
+nothing_against_accepted w next q served new none =
+    elim (is_live w (package_of q.command)) as (λ v. is_live w (package_of q.command) ≡ v → NothingAgainst w q) [
       | true ↦ λ live.
           let x : Package = holdings w (package_of q.command) in
           let fails : AllByRecursion (λ (row : Bool × Refusal). row.0 ≡ false) (live_reasons w next x q) = rows_fail (live_reasons w next x q) (sym (refused_by_parts w next x q served live refl) ∙ none) in

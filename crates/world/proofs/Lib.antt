@@ -8,3 +8,4 @@ pub mod Fitting
 pub mod Counting
 pub mod Limits
 pub mod Outcomes
+pub mod StandingFor

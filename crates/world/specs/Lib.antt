@@ -5,3 +5,4 @@ pub mod Laws
 pub mod Register
 pub mod Members
 pub mod Steps
+pub mod StandingFor

@@ -26,7 +26,7 @@ use Rattle.world.specs.Reasons.{text_reasons, package_reasons}
 -- ---- what may be carried out
 
 -- Nothing that is kept speaks against a request: its package is live, it did not come before, its identity is not used, and its package gives no reason. Its texts and the limits are not looked at.
-pub record IsOpenTo (w : World) (q : Request) : Type 0 where
+pub record NothingAgainst (w : World) (q : Request) : Type 0 where
   pub live : is_live w (package_of q.command) ≡ true
   pub new : kept w q.id ≡ None
   pub unused : identity_used w q.command ≡ false
@@ -34,11 +34,11 @@ pub record IsOpenTo (w : World) (q : Request) : Type 0 where
 
 -- The receipt of such a request is new to its package, which is as the command's change needs it. The identity of the request and the values of its command are those of their types.
 abbrev pub FitsWhereAccepted : Type 0
-FitsWhereAccepted = (w : World) (q : Request) → IsRegister w → IsUuid q.id → HasTypes q.command → IsServed q.command → IsOpenTo w q → Fits (receipt_of w q) q.command (holdings w (package_of q.command))
+FitsWhereAccepted = (w : World) (q : Request) → IsRegister w → IsUuid q.id → HasTypes q.command → IsServed q.command → NothingAgainst w q → Fits (receipt_of w q) q.command (holdings w (package_of q.command))
 
 -- A served request that is new and not refused is such a request.
-abbrev pub AcceptedIsOpen : Type 0
-AcceptedIsOpen = (w next : World) (q : Request) → IsServed q.command → kept w q.id ≡ None → refusal w next q ≡ None → IsOpenTo w q
+abbrev pub NothingAgainstAccepted : Type 0
+NothingAgainstAccepted = (w next : World) (q : Request) → IsServed q.command → kept w q.id ≡ None → refusal w next q ≡ None → NothingAgainst w q
 
 -- ---- why it is not
 
