@@ -1,15 +1,22 @@
 -- What a package holds after a command, by what its receipt moved.
-use Rattle.std.specs.Prelude.{◌≡◌, ◌≤◌, ℕ, ◌+◌, ◌-◌, true, cond, not, List, [], ◌∷◌, find, length, refl, bytes_eq, Some, count_by, sum_by}
+use Rattle.std.specs.Prelude.{◌≡◌, ◌≤◌, ℕ, ◌+◌, ◌-◌, ◌*◌, nat_le, pos, true, cond, not, List, [], ◌∷◌, find, length, refl, bytes_eq, Some, count_by, sum_by}
 use Rattle.std.proofs.Common.{sym, ap, subst, ◌∙◌, arith}
+use Rattle.std.proofs.lemmas.Bool.{and_parts, leb-true}
+use Rattle.std.proofs.lemmas.List.Sums.{sum_by-cons}
+use Rattle.std.specs.List.{AllByRecursion}
 use Rattle.std.specs.Option.{option_map_or}
 use Rattle.sheet_types.specs.Answers.{sums_held}
+use Rattle.sheet_types.specs.Matrix.{is_within}
 use Rattle.sheet_types.specs.Ordered.{put, without}
-use Rattle.sheet_types.specs.Register.{IsRegister, IsKeptPackage}
+use Rattle.sheet_types.specs.Refuse.{has_good_size, is_length_within}
+use Rattle.sheet_types.specs.Register.{IsRegister, IsKeptPackage, IsFit}
 use Rattle.sheet_types.specs.Step.{receipt_of, added_item, relation, count_of, links_of}
 use Rattle.sheet_types.specs.Texts.{size, kind_of}
 use Rattle.sheet_types.specs.World.{World, Package, is_live, holdings, item_of, item_key, link_key, item_moved, link_moved, is_tile, is_medium, is_row, is_item_kind}
 use Rattle.sheet_types.specs.declared.command.Command.{Command}
 use Rattle.sheet_types.specs.declared.command.Command.TheVariants.{Add, Delete, Link, Unlink, Split, Merge}
+use Rattle.sheet_types.specs.declared.command.Content.{Content}
+use Rattle.sheet_types.specs.declared.command.Content.TheVariants.{Tile, Media, Row}
 use Rattle.sheet_types.specs.declared.command.Mapping.TheVariants.{TilesMedia, RowsMedia}
 use Rattle.sheet_types.specs.declared.command.Item.{Item}
 use Rattle.sheet_types.specs.declared.command.Relation.{Relation}
@@ -18,6 +25,7 @@ use Rattle.sheet_types.specs.declared.receipt.Moved.{Moved}
 use Rattle.sheet_types.specs.declared.receipt.MovedKind.TheVariants.{TileItem, MediaItem, RowItem}
 use Rattle.sheet_types.specs.declared.receipt.Sums.{Sums}
 use Rattle.sheet_types.proofs.Distinct.{distinct_counts}
+use Rattle.sheet_types.proofs.Every.{All-weaker}
 use Rattle.sheet_types.proofs.Fitting.{item_kind_of}
 use Rattle.sheet_types.proofs.Found.{found}
 use Rattle.sheet_types.proofs.Order.{sum_by-put, counts_arranged}
@@ -27,7 +35,7 @@ use Rattle.ledger_laws.proofs.Facts.{kept_at}
 use Rattle.identity_register.specs.Changes.{item_added, item_deleted, link_added, link_removed}
 use Rattle.world.specs.Carrying.{Meets, after_command}
 use Rattle.world.specs.Laws.{package_of}
-use Rattle.world.specs.Steps.{SumsAfter, IsWithin, HasWhatGoes, sums_moved, sums_more, sums_less, sums_after}
+use Rattle.world.specs.Steps.{SumsAfter, BytesWithin, IsWithin, HasWhatGoes, sums_moved, sums_more, sums_less, sums_after}
 
 -- ---- sums
 
@@ -159,3 +167,34 @@ module _ (w : World) (id at : List ℕ) (register : IsRegister w) where
 
 pub sums_after_command : SumsAfter
 sums_after_command w q register live fits = counted w q.id q.at register q.command live fits.meets
+
+-- ---- the bytes of items
+
+-- a length within bounds
+is_short : (low high : ℕ) (xs : List ℕ) → is_length_within low high xs ≡ true → length xs ≤ high
+is_short low high xs h = leb-true (length xs) high (and_parts (nat_le low (length xs)) (nat_le (length xs) high) h).1
+
+-- an item of a good size has no more than the greatest, and is of one kind
+bytes_of_one : (id : List ℕ) (content : Content) → has_good_size content ≡ true → size content ≤ 1048576 * ((sums_of_item (added_item id content)).tiles + (sums_of_item (added_item id content)).media + (sums_of_item (added_item id content)).rows)
+bytes_of_one id (Tile zoom column row bytes) good = is_short 1 1048576 bytes good
+bytes_of_one id (Media content_type bytes) good = is_short 1 1048576 bytes (and_parts (is_length_within 1 1048576 bytes) (is_length_within 1 100 content_type) good).0
+bytes_of_one id (Row x y code label) good =
+    let few : length label ≤ 200 = is_short 0 200 label (and_parts (is_length_within 0 200 label) (is_within (pos 0) (pos 999999) code) good).0 in
+    omega (arith, few)
+
+bytes_of_all : (items : List Item) → AllByRecursion (λ i. has_good_size i.content ≡ true) items → sum_by (λ i. size i.content) items ≤ 1048576 * (count_by is_tile items + count_by is_medium items + count_by is_row items)
+bytes_of_all [] h = omega arith
+bytes_of_all (i ∷ items) h = omega (
+  arith,
+  bytes_of_one i.identity i.content h.0,
+  bytes_of_all items h.1,
+  sum_by-cons (λ x. size x.content) i items,
+  sum_by-cons (λ x. cond (is_tile x) 1 0) i items,
+  sum_by-cons (λ x. cond (is_medium x) 1 0) i items,
+  sum_by-cons (λ x. cond (is_row x) 1 0) i items,
+)
+
+pub bytes_within : BytesWithin
+bytes_within w p register live =
+    let k : IsKeptPackage w (holdings w p) = kept_at w p register live in
+    bytes_of_all (holdings w p).items (All-weaker (IsFit w (holdings w p)) (λ i. has_good_size i.content ≡ true) (λ i fit. fit.1) (holdings w p).items k.fit)

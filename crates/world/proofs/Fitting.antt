@@ -1,9 +1,10 @@
 -- What nothing speaks against fits the package that it names.
-use Rattle.std.specs.Prelude.{◌≡◌, ℕ, ◌+◌, ◌<◌, Bool, true, false, ◌&&◌, List, [], ◌∷◌, length, flat_map, refl, bytes_eq, Some, None}
+use Rattle.std.specs.Prelude.{◌≡◌, ℕ, ◌+◌, ◌<◌, Bool, true, false, not, ◌&&◌, List, [], ◌∷◌, ◌++◌, Option, length, flat_map, refl, bytes_eq, Some, None}
 use Rattle.std.proofs.Common.{sym, ap, ◌∙◌, arith}
 use Rattle.std.proofs.lemmas.Bool.{false≢true, and_parts, and_from, or_parts, false_from_ne_true, lt-ltb}
+use Rattle.std.specs.Bool.{then_some}
 use Rattle.std.specs.List.{AllByRecursion}
-use Rattle.std.specs.Option.{option_map_or}
+use Rattle.std.specs.Option.{option_map_or, option_or}
 use Rattle.sheet_types.specs.Ordered.{has}
 use Rattle.sheet_types.specs.Custody.{kept, custody, is_add, is_used}
 use Rattle.sheet_types.specs.Balance.{archive_of, names_identity, holds, IsThing}
@@ -12,16 +13,17 @@ use Rattle.sheet_types.specs.Matrix.{first_row}
 use Rattle.sheet_types.specs.Refuse.{identity_used, id_reused, too_many}
 use Rattle.sheet_types.specs.Register.{IsRegister}
 use Rattle.sheet_types.specs.Step.{moved, source_of, target_of, added_item, relation}
-use Rattle.sheet_types.specs.Texts.{entry_of, kind_of, fingerprint}
+use Rattle.sheet_types.specs.Texts.{entry_of, kind_of, fingerprint, line}
 use Rattle.sheet_types.specs.World.{World, Package, is_live, holdings, receipts_of, has_item, has_kind, item_of, item_thing, item_moved, link_key, base_kind, other_kind, receipt_key, is_item_kind}
 use Rattle.sheet_types.specs.declared.command.Command.{Command}
 use Rattle.sheet_types.specs.declared.command.Command.TheVariants.{Add, Delete, Link, Unlink, Split, Merge}
 use Rattle.sheet_types.specs.declared.command.Content.{Content}
 use Rattle.sheet_types.specs.declared.command.Item.{Item}
 use Rattle.sheet_types.specs.declared.command.Relation.{Relation}
+use Rattle.sheet_types.specs.declared.command.Request.{Request}
 use Rattle.sheet_types.specs.declared.receipt.Receipt.{Receipt}
 use Rattle.sheet_types.specs.declared.refusal.Refusal.{Refusal}
-use Rattle.sheet_types.specs.declared.refusal.Refusal.TheVariants.{IdReused, UnknownPackage, TooMany}
+use Rattle.sheet_types.specs.declared.refusal.Refusal.TheVariants.{IdReused, UnknownPackage, TooMany, IdentityUsed}
 use Rattle.sheet_types.proofs.Basics.{None≢Some, bytes_eq_itself, not_false, before-differs}
 use Rattle.sheet_types.proofs.Every.{All-weaker, All-left, none_pass, none_any}
 use Rattle.sheet_types.proofs.Fitting.{digest_fits, item_kind_of}
@@ -35,9 +37,10 @@ use Rattle.ledger_laws.proofs.Shifting.{flat_stand}
 use Rattle.identity_register.specs.Reads.{is_fit_end, is_fit_moved}
 use Rattle.world.specs.Carrying.{Meets}
 use Rattle.world.specs.Laws.{IsServed, package_of, live_reasons}
-use Rattle.world.specs.Reasons.{package_reasons, delete_reasons, link_reasons, unlink_reasons}
-use Rattle.world.specs.Steps.{IsOpenTo, FitsWhereAccepted, AcceptedIsOpen}
-use Rattle.world.proofs.Parts.{refused_by_parts, refused_unless_live}
+use Rattle.world.specs.Reasons.{text_reasons, package_reasons, delete_reasons, link_reasons, unlink_reasons}
+use Rattle.world.specs.Steps.{NothingAgainst, FitsWhereAccepted, NothingAgainstAccepted, RefusedInTurn, RefusedAsUnknown}
+use Rattle.world.proofs.FirstRows.{last}
+use Rattle.world.proofs.Parts.{refused_by_parts, refused_unless_live, first_of_both}
 
 -- ---- the receipts of a package, among all
 
@@ -161,9 +164,9 @@ rows_none : {X : Type 0} (rows : List (Bool × X)) → AllByRecursion (λ row. r
 rows_none [] h = refl
 rows_none (row ∷ rows) h = rw h.0 (rows_none rows h.1)
 
-pub accepted_is_open : AcceptedIsOpen
-accepted_is_open w next q served new none =
-    elim (is_live w (package_of q.command)) as (λ v. is_live w (package_of q.command) ≡ v → IsOpenTo w q) [
+pub nothing_against_accepted : NothingAgainstAccepted
+nothing_against_accepted w next q served new none =
+    elim (is_live w (package_of q.command)) as (λ v. is_live w (package_of q.command) ≡ v → NothingAgainst w q) [
       | true ↦ λ live.
           let x : Package = holdings w (package_of q.command) in
           let fails : AllByRecursion (λ (row : Bool × Refusal). row.0 ≡ false) (live_reasons w next x q) = rows_fail (live_reasons w next x q) (sym (refused_by_parts w next x q served live refl) ∙ none) in
@@ -177,3 +180,36 @@ accepted_is_open w next q served new none =
           let fails : AllByRecursion (λ (row : Bool × Refusal). row.0 ≡ false) ((id_reused w q, IdReused) ∷ (true, UnknownPackage) ∷ []) = rows_fail ((id_reused w q, IdReused) ∷ (true, UnknownPackage) ∷ []) (sym (refused_unless_live w next q served dead) ∙ none) in
           absurd (false≢true (sym fails.1.0))
     ] refl
+
+-- ---- a new request
+
+-- a request that did not come before reuses no identity
+none_reused : (w : World) (q : Request) → kept w q.id ≡ None → id_reused w q ≡ false
+none_reused w q new = ap (λ k. option_map_or (λ r. not (bytes_eq r.line (line q.command))) k false) new
+
+-- the first row, and then the others
+row_then : {X : Type 0} (b : Bool) (x : X) (rows : List (Bool × X)) → first_row ((b, x) ∷ rows) ≡ option_or (then_some b x) (first_row rows)
+row_then true x rows = refl
+row_then false x rows = refl
+
+passed_over : {X : Type 0} (b : Bool) (x : X) (rows : List (Bool × X)) → b ≡ false → first_row ((b, x) ∷ rows) ≡ first_row rows
+passed_over true x rows h = cc
+passed_over false x rows h = refl
+
+pub refused_in_turn : RefusedInTurn
+refused_in_turn w next q served new live =
+    let x : Package = holdings w (package_of q.command) in
+    let last_rows : List (Bool × Refusal) = (too_many next, TooMany) ∷ [] in
+    let package_rows : List (Bool × Refusal) = package_reasons w.frame x q.command ++ last_rows in
+    let identity_rows : List (Bool × Refusal) = (identity_used w q.command, IdentityUsed) ∷ package_rows in
+    let texts : Option Refusal = first_row (text_reasons q) in
+    let identity : Option Refusal = then_some (identity_used w q.command) IdentityUsed in
+    refused_by_parts w next x q served live refl
+    ∙ passed_over (id_reused w q) IdReused (text_reasons q ++ identity_rows) (none_reused w q new)
+    ∙ first_of_both (text_reasons q) identity_rows
+    ∙ ap (option_or texts) (row_then (identity_used w q.command) IdentityUsed package_rows)
+    ∙ ap (λ o. option_or texts (option_or identity o)) (first_of_both (package_reasons w.frame x q.command) last_rows)
+    ∙ ap (λ o. option_or texts (option_or identity (option_or (first_row (package_reasons w.frame x q.command)) o))) (sym (last (too_many next) TooMany))
+
+pub refused_as_unknown : RefusedAsUnknown
+refused_as_unknown w next q served new dead = refused_unless_live w next q served dead ∙ passed_over (id_reused w q) IdReused ((true, UnknownPackage) ∷ []) (none_reused w q new)

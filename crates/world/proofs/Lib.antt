@@ -14,3 +14,4 @@ pub mod Due
 pub mod Standing
 pub mod Asked
 pub mod Placed
+pub mod StandingFor

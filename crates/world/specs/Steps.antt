@@ -1,6 +1,8 @@
 -- What a request makes of a world, by what is kept of it: the outcome, what each package holds, the limits and the tickets. Profile.
-use Rattle.std.specs.Prelude.{◌≡◌, ◌≤◌, ℕ, ◌+◌, ◌-◌, Bool, true, false, ◌||◌, nat_lt, List, map, length, if◌then◌else◌, Some, None, Ok, Err, bytes_eq}
+use Rattle.std.specs.Prelude.{◌≡◌, ◌≤◌, ℕ, ◌+◌, ◌-◌, ◌*◌, Bool, true, false, ◌||◌, nat_lt, List, map, length, if◌then◌else◌, Some, None, Ok, Err, bytes_eq}
+use Rattle.std.specs.Bool.{then_some}
 use Rattle.std.specs.List.{list_any}
+use Rattle.std.specs.Option.{option_or}
 use Rattle.sheet_types.specs.Answers.{sums_held}
 use Rattle.sheet_types.specs.Custody.{kept, ticket}
 use Rattle.sheet_types.specs.Lines.{IsUuid, HasTypes}
@@ -16,15 +18,15 @@ use Rattle.sheet_types.specs.declared.command.Request.{Request}
 use Rattle.sheet_types.specs.declared.receipt.Receipt.{Receipt}
 use Rattle.sheet_types.specs.declared.receipt.Sums.{Sums}
 use Rattle.sheet_types.specs.declared.refusal.Refusal.{Refusal}
-use Rattle.sheet_types.specs.declared.refusal.Refusal.TheVariants.{IdReused}
+use Rattle.sheet_types.specs.declared.refusal.Refusal.TheVariants.{IdReused, UnknownPackage, IdentityUsed, TooMany}
 use Rattle.world.specs.Carrying.{Fits, after_command}
 use Rattle.world.specs.Laws.{IsServed, package_of}
-use Rattle.world.specs.Reasons.{package_reasons}
+use Rattle.world.specs.Reasons.{text_reasons, package_reasons}
 
 -- ---- what may be carried out
 
 -- Nothing that is kept speaks against a request: its package is live, it did not come before, its identity is not used, and its package gives no reason. Its texts and the limits are not looked at.
-pub record IsOpenTo (w : World) (q : Request) : Type 0 where
+pub record NothingAgainst (w : World) (q : Request) : Type 0 where
   pub live : is_live w (package_of q.command) ≡ true
   pub new : kept w q.id ≡ None
   pub unused : identity_used w q.command ≡ false
@@ -32,11 +34,23 @@ pub record IsOpenTo (w : World) (q : Request) : Type 0 where
 
 -- The receipt of such a request is new to its package, which is as the command's change needs it. The identity of the request and the values of its command are those of their types.
 abbrev pub FitsWhereAccepted : Type 0
-FitsWhereAccepted = (w : World) (q : Request) → IsRegister w → IsUuid q.id → HasTypes q.command → IsServed q.command → IsOpenTo w q → Fits (receipt_of w q) q.command (holdings w (package_of q.command))
+FitsWhereAccepted = (w : World) (q : Request) → IsRegister w → IsUuid q.id → HasTypes q.command → IsServed q.command → NothingAgainst w q → Fits (receipt_of w q) q.command (holdings w (package_of q.command))
 
 -- A served request that is new and not refused is such a request.
-abbrev pub AcceptedIsOpen : Type 0
-AcceptedIsOpen = (w next : World) (q : Request) → IsServed q.command → kept w q.id ≡ None → refusal w next q ≡ None → IsOpenTo w q
+abbrev pub NothingAgainstAccepted : Type 0
+NothingAgainstAccepted = (w next : World) (q : Request) → IsServed q.command → kept w q.id ≡ None → refusal w next q ≡ None → NothingAgainst w q
+
+-- ---- why it is not
+
+-- A new served request whose package is live is refused for its text, else for a used identity, else by its package, else for what would be too many.
+abbrev pub RefusedInTurn : Type 0
+RefusedInTurn = (w next : World) (q : Request) → IsServed q.command → kept w q.id ≡ None → is_live w (package_of q.command) ≡ true →
+    refusal w next q ≡ option_or (first_row (text_reasons q)) (option_or (then_some (identity_used w q.command) IdentityUsed)
+    (option_or (first_row (package_reasons w.frame (holdings w (package_of q.command)) q.command)) (then_some (too_many next) TooMany)))
+
+-- One whose package is not live is refused for that.
+abbrev pub RefusedAsUnknown : Type 0
+RefusedAsUnknown = (w next : World) (q : Request) → IsServed q.command → kept w q.id ≡ None → is_live w (package_of q.command) ≡ false → refusal w next q ≡ Some UnknownPackage
 
 -- ---- what a package holds
 
@@ -82,6 +96,10 @@ abbrev pub SumsAfter : Type 0
 SumsAfter = (w : World) (q : Request) → IsRegister w → is_live w (package_of q.command) ≡ true → Fits (receipt_of w q) q.command (holdings w (package_of q.command)) →
     HasWhatGoes q.command (sums_moved (receipt_of w q)) (sums_held (holdings w (package_of q.command)))
     × (sums_held (after_command (receipt_of w q) q.command (holdings w (package_of q.command))) ≡ sums_after q.command (sums_moved (receipt_of w q)) (sums_held (holdings w (package_of q.command))))
+
+-- The bytes of a package are no more than so many items can have, so that within the limits their number is a small one.
+abbrev pub BytesWithin : Type 0
+BytesWithin = (w : World) (p : List ℕ) → IsRegister w → is_live w p ≡ true → (sums_held (holdings w p)).bytes ≤ 1048576 * ((sums_held (holdings w p)).tiles + (sums_held (holdings w p)).media + (sums_held (holdings w p)).rows)
 
 -- ---- the limits
 

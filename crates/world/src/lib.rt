@@ -7,6 +7,7 @@ pub mod carrying_out;
 mod carrying_tests;
 pub mod judging;
 pub mod laws;
+pub mod member_laws;
 pub mod members;
 #[cfg(test)]
 mod receipt_tests;

@@ -1,5 +1,5 @@
 // What a request makes of a world, by what is kept of it, so that a request is carried out without looking over the whole world. Each law is the contract of a function that does nothing.
-ghost use Rattle.world.specs.Steps.{FitsWhereAccepted, AcceptedIsOpen, SumsAfter, TooManyBySums, TicketAfter, KeptOutcome, ReusedOutcome, RefusedOutcome, AcceptedOutcome};
+ghost use Rattle.world.specs.Steps.{FitsWhereAccepted, NothingAgainstAccepted, RefusedInTurn, RefusedAsUnknown, BytesWithin, SumsAfter, TooManyBySums, TicketAfter, KeptOutcome, ReusedOutcome, RefusedOutcome, AcceptedOutcome};
 
 /// The receipt of a served request that nothing speaks against is new to its package, which is as the command's change needs it.
 pub fn fits_where_accepted()
@@ -7,13 +7,28 @@ pub fn fits_where_accepted()
 {}
 
 /// Nothing speaks against a served request that is new and not refused.
-pub fn accepted_is_open()
-    ensures { AcceptedIsOpen }
+pub fn nothing_against_accepted()
+    ensures { NothingAgainstAccepted }
+{}
+
+/// A new served request whose package is live is refused for its text, else for a used identity, else by its package, else for what would be too many.
+pub fn refused_in_turn()
+    ensures { RefusedInTurn }
+{}
+
+/// A new served request whose package is not live is refused for that.
+pub fn refused_as_unknown()
+    ensures { RefusedAsUnknown }
 {}
 
 /// After a command that fits it, a package holds what it held and what came in, or what it held less what went out, which was there.
 pub fn sums_after_command()
     ensures { SumsAfter }
+{}
+
+/// The bytes of a package are no more than so many items can have.
+pub fn bytes_within()
+    ensures { BytesWithin }
 {}
 
 /// Whether a request would leave too many is told by what each package holds and by two numbers.
