@@ -10,11 +10,11 @@ use Rattle.sheet_types.proofs.Every.{All-each}
 use Rattle.ledger_laws.proofs.Packages.{at_all}
 use Rattle.ledger_laws.proofs.Running.{step_keeps_register}
 use Rattle.world.specs.Laws.{package_of}
-use Rattle.world.specs.Steps.{IsOpenTo}
+use Rattle.world.specs.Steps.{NothingAgainst}
 use Rattle.world.specs.Turning.{DueWhereAccepted, world_after}
 use Rattle.world.proofs.Carrying.{carried_out_in_one}
 use Rattle.world.proofs.Counting.{sums_after_command}
-use Rattle.world.proofs.Fitting.{accepted_is_open, fits_where_accepted}
+use Rattle.world.proofs.Fitting.{nothing_against_accepted, fits_where_accepted}
 use Rattle.world.proofs.Limits.{receipts_next, ticket_after}
 use Rattle.world.proofs.Outcomes.{accepted_outcome}
 
@@ -22,17 +22,17 @@ pub due_where_accepted : DueWhereAccepted
 due_where_accepted w q at register uuid types served new none place =
     let r : Receipt = receipt_of w q in
     let id : List ℕ = package_of q.command in
-    let is_open : IsOpenTo w q = accepted_is_open w (accepted w q) q served new none in
-    let fits = fits_where_accepted w q register uuid types served is_open in
+    let against : NothingAgainst w q = nothing_against_accepted w (accepted w q) q served new none in
+    let fits = fits_where_accepted w q register uuid types served against in
     let is : accepted w q ≡ world_after (receipt_of w q) q.command w = carried_out_in_one w (receipt_of w q) q.command served in
     let keeps : IsRegister (outcome w q).1 = step_keeps_register w q (outcome w q).0 (outcome w q).1 types register (inl (refl, refl)) in
     record {
       holds = holdings w (package_of q.command);
       place = place;
-      named = (at_all w (λ _. Unit {0}) (package_of q.command) (All-each (λ _. Unit {0}) (λ _. tt) w.packages) is_open.live).1;
+      named = (at_all w (λ _. Unit {0}) (package_of q.command) (All-each (λ _. Unit {0}) (λ _. tt) w.packages) against.live).1;
       fits = fits;
-      sums = sym (sums_after_command w q register is_open.live fits).1;
-      tickets = λ p. subst (λ v. ticket v p ≡ (if bytes_eq p (package_of q.command) then length (receipts_of w) + 1 else ticket w p)) is (ticket_after w q p register served is_open.live);
-      counted = subst (λ v. length (receipts_of v) ≡ length (receipts_of w) + 1) is (ap length (receipts_next w q register served is_open.live) ∙ length-append (receipts_of w) (receipt_of w q ∷ []));
+      sums = sym (sums_after_command w q register against.live fits).1;
+      tickets = λ p. subst (λ v. ticket v p ≡ (if bytes_eq p (package_of q.command) then length (receipts_of w) + 1 else ticket w p)) is (ticket_after w q p register served against.live);
+      counted = subst (λ v. length (receipts_of v) ≡ length (receipts_of w) + 1) is (ap length (receipts_next w q register served against.live) ∙ length-append (receipts_of w) (receipt_of w q ∷ []));
       register = subst IsRegister (ap (λ o. o.1) (accepted_outcome w q served new none)) keeps;
     }
