@@ -5,6 +5,7 @@ pub mod asking;
 pub mod carrying_out;
 #[cfg(test)]
 mod carrying_tests;
+pub mod deciding;
 pub mod judging;
 pub mod laws;
 pub mod member_laws;
