@@ -10,3 +10,4 @@ pub mod Steps
 pub mod Asking
 pub mod StandingFor
 pub mod Deciding
+pub mod TooMany

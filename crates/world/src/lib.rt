@@ -2,6 +2,7 @@
 #![tactic(auto)]
 
 pub mod asking;
+pub mod asking_one;
 pub mod carrying_out;
 #[cfg(test)]
 mod carrying_tests;
@@ -19,4 +20,5 @@ pub mod sums;
 #[cfg(test)]
 mod tests;
 pub mod texts;
+pub mod too_many;
 pub mod turning;
