@@ -2,6 +2,7 @@
 #![tactic(auto)]
 
 pub mod asking;
+pub mod asking_one;
 pub mod carrying_out;
 #[cfg(test)]
 mod carrying_tests;
