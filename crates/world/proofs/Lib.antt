@@ -15,4 +15,5 @@ pub mod Standing
 pub mod Asked
 pub mod Placed
 pub mod Questions
+pub mod AskedOne
 pub mod StandingFor

@@ -1,0 +1,26 @@
+-- What one member tells of its package is told of all: the others were not looked at.
+use Rattle.std.proofs.Common.{◌≡◌, refl, ℕ, List, slice_get, Some, Result, Ok, Err}
+use Rattle.sqlite.specs.Store.{Ghosts}
+use Rattle.sheet_types.specs.World.{World, Package}
+use Rattle.sheet_types.specs.declared.frame.Frame.{Frame}
+use Rattle.sql_meaning.specs.Transactions.{Looks}
+use Rattle.sql_meaning.proofs.Staying.{looks_stays}
+use Rattle.sql_meaning.proofs.Transactions.{Shuts, Settles}
+use Rattle.identity_register.specs.Calls.{Sees}
+use Rattle.world.specs.Members.{AllRest, TurnsAt}
+use Rattle.world.specs.Asking.{AsksAll}
+use Rattle.world.specs.declared.members.Member.{Member}
+use Rattle.world.proofs.Standing.{turn_rests, turn_stays, told_at}
+
+module _ {S : Type 0} (g : Ghosts S) (shuts : Shuts g) (settles : Settles g) where
+  -- a look at the package at a place
+  pub looked_at : {X E : Type 0} (Look : Frame → Package → X → Type 0) {Answer : World → X → Type 0} (old new : List (Member S)) (at : ℕ) (r : Result X E) → TurnsAt g old new at (λ a b. Looks {X = X} {E = E} (Sees Look) a b r) → AllRest g old
+      → ((x : X) (w : World) (p : Package) → slice_get w.packages at ≡ Some p → Look w.frame p x → Answer w x) → AsksAll g {X = X} {E = E} Answer old new r
+  looked_at Look old new at (Ok x) turn rests so = record {
+    rests = turn_rests g old new at turn turn.turned.rests rests;
+    stay = turn_stays g shuts settles old new at turn (looks_stays turn.turned) rests;
+    told = λ clean w count are.
+        let one : (p : Package) × (slice_get w.packages at ≡ Some p) × Look w.frame p x = told_at g Look old new at (Ok x) x turn refl clean count w are in
+        so x w one.0 one.1 one.2;
+  }
+  looked_at Look old new at (Err e) turn rests so = record { rests = turn_rests g old new at turn turn.turned.rests rests; stay = turn_stays g shuts settles old new at turn (looks_stays turn.turned) rests; told = λ clean. tt }

@@ -1,0 +1,82 @@
+// What is asked of the one live package that a request names: an item of it, and what a command moves of it. All other members are left alone, so the answers stand beside those of `asking`.
+ghost use Rattle.std.specs.Prelude.{◌≡◌, ◌<◌, [], ◌∷◌, Some, MatchOption, length, slice_get};
+ghost use Rattle.sheet_types.specs.World.{Package, item_of, holdings};
+ghost use Rattle.sheet_types.specs.Step.{moved};
+ghost use Rattle.world.specs.Members.{AllRest};
+ghost use Rattle.world.specs.Asking.{AsksAll};
+ghost use Rattle.world.specs.Laws.{IsServed, package_of};
+
+use crate::members::Member;
+use crate::receipts::item_moved;
+use identity_register::look_ups::find;
+use package_tables::fault::Fault;
+use sheet_types::command::{Command, Item, Relation};
+use sheet_types::receipt::Moved;
+use sqlite::Alter;
+use uuid::Uuid;
+
+/// The item under an identity in the package of the member at a place.
+pub fn item_at<S: Alter + Drop>(
+    members: &mut Vec<Member<S>>,
+    at: usize,
+    identity: Uuid,
+) -> Result<Option<Item>, Fault>
+    requires within { at < length members.old.items }
+    requires rests { AllRest S.Store members.old.items }
+    ensures { AsksAll S.Store (λ w found. (p : Package) → slice_get w.packages at ≡ Some p → found ≡ item_of p identity) members.old.items members.new.items result }
+{
+    let member = &mut members[at];
+    find(&mut member.conn, identity)
+}
+
+/// What a served command moves, which is one thing or, of a delete that finds no item, none. The member at the place is of the package that the command names.
+pub fn thing_moved<S: Alter + Drop>(
+    members: &mut Vec<Member<S>>,
+    at: usize,
+    command: &Command,
+) -> Result<Option<Moved>, Fault>
+    requires within { at < length members.old.items }
+    requires rests { AllRest S.Store members.old.items }
+    ensures { AsksAll S.Store (λ w found. IsServed command.now → slice_get w.packages at ≡ Some (holdings w (package_of command.now)) → MatchOption found (moved w command.now ≡ []) (λ m. moved w command.now ≡ m ∷ [])) members.old.items members.new.items result }
+{
+    match command {
+        Command::Add {
+            identity,
+            content,
+            ..
+        } => Ok(Some(item_moved(*identity, content))),
+        Command::Delete { identity, .. } => {
+            let Some(item) = item_at(members, at, *identity)? else {
+                return Ok(None);
+            };
+            Ok(Some(Moved::of_item(&item)))
+        }
+        Command::Link {
+            mapping,
+            base,
+            media,
+            ..
+        } => {
+            let relation = Relation {
+                mapping: *mapping,
+                base: *base,
+                media: *media,
+            };
+            Ok(Some(Moved::of_link(&relation)))
+        }
+        Command::Unlink {
+            mapping,
+            base,
+            media,
+            ..
+        } => {
+            let relation = Relation {
+                mapping: *mapping,
+                base: *base,
+                media: *media,
+            };
+            Ok(Some(Moved::of_link(&relation)))
+        }
+        Command::Split { .. } | Command::Merge { .. } => Ok(None),
+    }
+}
