@@ -14,4 +14,5 @@ pub mod Due
 pub mod Standing
 pub mod Asked
 pub mod Placed
+pub mod Overfull
 pub mod StandingFor

@@ -9,3 +9,4 @@ pub mod Sums
 pub mod Steps
 pub mod Asking
 pub mod StandingFor
+pub mod TooMany

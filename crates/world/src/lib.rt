@@ -18,4 +18,5 @@ pub mod sums;
 #[cfg(test)]
 mod tests;
 pub mod texts;
+pub mod too_many;
 pub mod turning;
