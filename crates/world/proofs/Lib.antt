@@ -16,4 +16,5 @@ pub mod Asked
 pub mod Placed
 pub mod Questions
 pub mod AskedOne
+pub mod Overfull
 pub mod StandingFor
