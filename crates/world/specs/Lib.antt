@@ -9,5 +9,4 @@ pub mod Sums
 pub mod Steps
 pub mod Asking
 pub mod StandingFor
-pub mod Deciding
 pub mod TooMany

@@ -6,7 +6,6 @@ pub mod asking_one;
 pub mod carrying_out;
 #[cfg(test)]
 mod carrying_tests;
-pub mod deciding;
 pub mod judging;
 pub mod laws;
 pub mod member_laws;
