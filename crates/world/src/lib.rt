@@ -17,3 +17,5 @@ pub mod sums;
 mod tests;
 pub mod texts;
 pub mod turning;
+#[cfg(test)]
+mod turning_tests;
