@@ -2,6 +2,8 @@
 #![tactic(auto)]
 
 pub mod asking;
+#[cfg(test)]
+mod asking_tests;
 pub mod carrying_out;
 #[cfg(test)]
 mod carrying_tests;
