@@ -11,3 +11,6 @@ pub mod Outcomes
 pub mod StayingOpen
 pub mod Changing
 pub mod Due
+pub mod Standing
+pub mod Asked
+pub mod Placed

@@ -7,3 +7,4 @@ pub mod Members
 pub mod Turning
 pub mod Sums
 pub mod Steps
+pub mod Asking

@@ -1,6 +1,9 @@
 //! The world of live packages that requests change. So far: why a request is refused, and the change of one package with its receipt.
 #![tactic(auto)]
 
+pub mod asking;
+#[cfg(test)]
+mod asking_tests;
 pub mod carrying_out;
 #[cfg(test)]
 mod carrying_tests;

@@ -2,8 +2,8 @@
 ghost use Rattle.std.specs.Prelude.{IsTrue};
 ghost use Rattle.sqlite.specs.Held.{state};
 ghost use Rattle.sql_meaning.specs.Transactions.{Rests};
-ghost use Rattle.world.specs.Members.{AllRest};
 
+use crate::asking::are_at_rest;
 use crate::members::Member;
 use crate::sums::{sums_after, sums_moved};
 use crate::turning::turn_at;
@@ -25,17 +25,6 @@ fn guarded<S: Alter>(conn: &Connection<S>) -> bool
     ensures { IsTrue result → Rests (state S.Store conn.now) }
 {
     conn.is_autocommit()
-}
-
-fn all_guarded<S: Alter + Drop>(members: &[Member<S>]) -> bool
-    ensures { IsTrue result → AllRest S.Store members.now }
-{
-    for at in 0..members.len() {
-        if !guarded(&members[at].conn) {
-            return false;
-        }
-    }
-    true
 }
 
 fn package(number: u128) -> Uuid {
@@ -168,7 +157,7 @@ fn turned<S: Alter + Drop>(
     command: &Command,
     receipt: &Receipt,
 ) -> Result<(), Fault> {
-    if members.len() != 2 || !all_guarded(members.as_slice()) {
+    if members.len() != 2 || !are_at_rest(members.as_slice()) {
         return Err(Fault::StoreFault);
     }
     match sums_after(command, sums_moved(receipt), members[1].sums) {
