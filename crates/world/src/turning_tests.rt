@@ -166,11 +166,24 @@ fn turned<S: Alter + Drop>(
     }
 }
 
-fn holds<S: Alter>(conn: &mut Connection<S>) -> Result<bool, Fault> {
+// The member's package has the medium.
+fn holds<S: Alter + Drop>(members: &mut Vec<Member<S>>, at: usize) -> Result<bool, Fault> {
+    if at >= members.len() || !are_at_rest(members.as_slice()) {
+        return Err(Fault::StoreFault);
+    }
+    found(&mut members[at].conn)
+}
+
+fn found<S: Alter>(conn: &mut Connection<S>) -> Result<bool, Fault> {
     if !guarded(conn) {
         return Err(Fault::StoreFault);
     }
     Ok(find(conn, medium())?.is_some())
+}
+
+// So much is kept of a member.
+fn keeps<S: Alter + Drop>(members: &[Member<S>], at: usize, held: Sums, ticket: u64) -> bool {
+    at < members.len() && members[at].sums == held && members[at].ticket == ticket
 }
 
 #[test]
@@ -180,20 +193,16 @@ fn one_member_turns(rt: HostRuntime) -> Result<(), Fail> {
     members.push(member(alloc, Connection::open_in_memory(alloc)?, 1)?)?;
     members.push(member(alloc, Connection::open_in_memory(alloc)?, 2)?)?;
     turned(&mut members, &adding(alloc)?, &receipt(alloc, 7)?)?;
-    assert!(rt; holds(&mut members[1].conn)?);
-    assert!(rt; !holds(&mut members[0].conn)?);
-    assert!(rt; members[1].sums == sums(1, 3));
-    assert_eq!(rt; members[1].ticket, 7);
-    assert!(rt; members[0].sums == sums(0, 0));
-    assert_eq!(rt; members[0].ticket, 0);
+    assert!(rt; holds(&mut members, 1)?);
+    assert!(rt; !holds(&mut members, 0)?);
+    assert!(rt; keeps(members.as_slice(), 1, sums(1, 3), 7));
+    assert!(rt; keeps(members.as_slice(), 0, sums(0, 0), 0));
     assert!(rt; turned(&mut members, &splitting(), &receipt(alloc, 8)?).is_err());
-    assert!(rt; members[1].sums == sums(1, 3));
-    assert_eq!(rt; members[1].ticket, 7);
-    assert!(rt; holds(&mut members[1].conn)?);
+    assert!(rt; keeps(members.as_slice(), 1, sums(1, 3), 7));
+    assert!(rt; holds(&mut members, 1)?);
     turned(&mut members, &deleting(), &receipt(alloc, 8)?)?;
-    assert!(rt; !holds(&mut members[1].conn)?);
-    assert!(rt; members[1].sums == sums(0, 0));
-    assert_eq!(rt; members[1].ticket, 8);
+    assert!(rt; !holds(&mut members, 1)?);
+    assert!(rt; keeps(members.as_slice(), 1, sums(0, 0), 8));
     Ok(())
 }
 

@@ -5,7 +5,7 @@ use Rattle.sheet_types.proofs.Same.{any_in}
 use Rattle.custody.specs.Receipts.{is_named}
 use Rattle.sheet_types.specs.Custody.{is_used}
 use Rattle.world.proofs.Asked.{asked_none, asked_one, asked_all, asked_here, asked_fails}
-use Rattle.world.proofs.Packages.{used_is_named}
+use Rattle.world.proofs.EachPackage.{used_is_named}
 use Rattle.world.proofs.asking.is_named_in_all.Goals as goal
 
 pub loop-at-init : goal.loop-at-init

@@ -4,7 +4,7 @@ use Rattle.sheet_types.proofs.Same.{Contains-In}
 use Rattle.sheet_types.specs.Custody.{kept}
 use Rattle.custody.specs.Receipts.{IsKept}
 use Rattle.world.proofs.Asked.{asked_none, asked_one, asked_all, asked_here, asked_fails}
-use Rattle.world.proofs.Packages.{none_is_kept, kept_is_there}
+use Rattle.world.proofs.EachPackage.{none_is_kept, kept_is_there}
 use Rattle.world.proofs.asking.kept_in_all.Goals as goal
 
 pub loop-at-init : goal.loop-at-init
