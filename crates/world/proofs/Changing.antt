@@ -1,7 +1,6 @@
 -- What the members of a world stand for after one of them took a turn.
-use Rattle.std.specs.Prelude.{◌≡◌, ◌⊎◌, ℕ, zero, suc, ◌+◌, Bool, true, false, cond, List, [], ◌∷◌, map, Some, slice_get, slice_set, length, refl, bytes_eq, Result, Ok, Err, IsErr, IsTrue, OnErr, if◌then◌else◌}
-use Rattle.std.proofs.Common.{sym, ap, subst, ◌∙◌, inl, inr, arith}
-use Rattle.std.proofs.lemmas.Slice.Eq.{bytes_eq-Decides}
+use Rattle.std.specs.Prelude.{◌≡◌, ◌⊎◌, ℕ, zero, suc, ◌+◌, true, false, cond, List, [], ◌∷◌, map, Some, slice_get, slice_set, refl, bytes_eq, Result, Ok, Err, IsErr, IsTrue, OnErr, if◌then◌else◌}
+use Rattle.std.proofs.Common.{sym, ap, subst, ◌∙◌, inl, inr}
 use Rattle.std.specs.List.{AllByRecursion, AllZip}
 use Rattle.std.proofs.lemmas.List.Elements.{recursion_from_All}
 use Rattle.std.proofs.lemmas.Option.{slice_get_within}
@@ -29,6 +28,7 @@ use Rattle.world.specs.Laws.{package_of}
 use Rattle.world.specs.Members.{AllRest, AllClean, IsMember, AreMembers}
 use Rattle.world.specs.Turning.{IsDue, CarriesOut, CarriesOutAt, turned, world_after, LeftAs, AllOpen}
 use Rattle.world.specs.declared.members.Member.{Member}
+use Rattle.world.proofs.Standing.{zip_at}
 
 -- ---- two lists, place by place
 
@@ -44,13 +44,6 @@ zip_set R [] ys at was now f place h = absurd (let e = place in cc)
 zip_set R (x ∷ xs) [] at was now f place h = absurd h
 zip_set R (x ∷ xs) (y ∷ ys) zero was now f place h = let same : x ≡ was = cc in (f y (subst (λ z. R z y) same h.0), h.1)
 zip_set R (x ∷ xs) (y ∷ ys) (suc at) was now f place h = (h.0, zip_set R xs ys at was now f place h.1)
-
--- what stands at a place of two lists goes together
-zip_at : {A B : Type 0} (R : A → B → Type 0) (xs : List A) (ys : List B) (at : ℕ) (x : A) (y : B) → slice_get xs at ≡ Some x → slice_get ys at ≡ Some y → AllZip R xs ys → R x y
-zip_at R [] ys at a b place there h = absurd (let e = place in cc)
-zip_at R (x ∷ xs) [] at a b place there h = absurd h
-zip_at R (x ∷ xs) (y ∷ ys) zero a b place there h = let same : x ≡ a = cc in let also : y ≡ b = cc in subst (λ z. R z b) same (subst (R x) also h.0)
-zip_at R (x ∷ xs) (y ∷ ys) (suc at) a b place there h = zip_at R xs ys at a b place there h.1
 
 -- what goes together by a fact of the first
 zip_so : {A B : Type 0} (P : A → Type 0) (R Q : A → B → Type 0) → ((x : A) (y : B) → P x → R x y → Q x y) → (xs : List A) (ys : List B) → AllByRecursion P xs → AllZip R xs ys → AllZip Q xs ys
@@ -111,37 +104,13 @@ module _ (f : Package → Package) (id : List ℕ) where
 
 -- ---- a command leaves the head of its package
 
-pub same_uuid_after : (r : Receipt) (command : Command) (p : Package) → (after_command r command p).uuid ≡ p.uuid
-same_uuid_after r (Add uuid identity content) p = refl
-same_uuid_after r (Delete uuid identity) p = refl
-same_uuid_after r (Link uuid mapping base media) p = refl
-same_uuid_after r (Unlink uuid mapping base media) p = refl
-same_uuid_after r (Split uuid child mode rect) p = refl
-same_uuid_after r (Merge child into ticket) p = refl
-
-same_parent_after : (r : Receipt) (command : Command) (p : Package) → (after_command r command p).parent ≡ p.parent
-same_parent_after r (Add uuid identity content) p = refl
-same_parent_after r (Delete uuid identity) p = refl
-same_parent_after r (Link uuid mapping base media) p = refl
-same_parent_after r (Unlink uuid mapping base media) p = refl
-same_parent_after r (Split uuid child mode rect) p = refl
-same_parent_after r (Merge child into ticket) p = refl
-
-same_depth_after : (r : Receipt) (command : Command) (p : Package) → (after_command r command p).depth ≡ p.depth
-same_depth_after r (Add uuid identity content) p = refl
-same_depth_after r (Delete uuid identity) p = refl
-same_depth_after r (Link uuid mapping base media) p = refl
-same_depth_after r (Unlink uuid mapping base media) p = refl
-same_depth_after r (Split uuid child mode rect) p = refl
-same_depth_after r (Merge child into ticket) p = refl
-
-same_loan_after : (r : Receipt) (command : Command) (p : Package) → (after_command r command p).loan ≡ p.loan
-same_loan_after r (Add uuid identity content) p = refl
-same_loan_after r (Delete uuid identity) p = refl
-same_loan_after r (Link uuid mapping base media) p = refl
-same_loan_after r (Unlink uuid mapping base media) p = refl
-same_loan_after r (Split uuid child mode rect) p = refl
-same_loan_after r (Merge child into ticket) p = refl
+same_head : (r : Receipt) (command : Command) (p : Package) → after_command r command p ≡ record p { items = (after_command r command p).items; links = (after_command r command p).links; receipts = (after_command r command p).receipts }
+same_head r (Add uuid identity content) p = refl
+same_head r (Delete uuid identity) p = refl
+same_head r (Link uuid mapping base media) p = refl
+same_head r (Unlink uuid mapping base media) p = refl
+same_head r (Split uuid child mode rect) p = refl
+same_head r (Merge child into ticket) p = refl
 
 -- ---- the members
 
@@ -177,10 +146,13 @@ module _ {S : Type 0} (g : Ghosts S) (shuts : Shuts g) where
     where
       f : Package → Package
       f = after_command r command
+
       id : List ℕ
       id = package_of command
+
       next : World
       next = world_after r command w
+
       now : Member S
       now = record it.was { conn = it.last; sums = sums; ticket = r.seq }
 
@@ -197,12 +169,12 @@ module _ {S : Type 0} (g : Ghosts S) (shuts : Shuts g) where
 
       here : IsMember g w it.was due.holds → IsMember g next now (f due.holds)
       here is = record {
-        uuid = is.uuid ∙ sym (same_uuid_after r command due.holds);
-        parent = is.parent ∙ sym (same_parent_after r command due.holds);
-        depth = is.depth ∙ sym (same_depth_after r command due.holds);
-        loan = is.loan ∙ sym (same_loan_after r command due.holds);
+        uuid = is.uuid ∙ sym (ap (λ x. x.uuid) (same_head r command due.holds));
+        parent = is.parent ∙ sym (ap (λ x. x.parent) (same_head r command due.holds));
+        depth = is.depth ∙ sym (ap (λ x. x.depth) (same_head r command due.holds));
+        loan = is.loan ∙ sym (ap (λ x. x.loan) (same_head r command due.holds));
         sums = due.sums;
-        ticket = sym (ap (ticket next) (same_uuid_after r command due.holds) ∙ due.tickets due.holds.uuid ∙ ap (λ b. if b then r.seq else ticket w due.holds.uuid) (ap (λ u. bytes_eq u id) due.named ∙ bytes_eq_itself id));
+        ticket = sym (ap (ticket next) (ap (λ x. x.uuid) (same_head r command due.holds)) ∙ due.tickets due.holds.uuid ∙ ap (λ b. if b then r.seq else ticket w due.holds.uuid) (ap (λ u. bytes_eq u id) due.named ∙ bytes_eq_itself id));
         reads = λ is_open. (it.turn.turns.done (clean_if_open (g.view it.last.store) (shuts it.last.store) is_open)).0 w.frame due.holds (is.reads (it.turn.was_open is_open)) due.fits;
       }
 
@@ -235,7 +207,7 @@ module _ {S : Type 0} (g : Ghosts S) (shuts : Shuts g) (settles : Settles g) whe
       zip_so (λ m. Rests (state g m.conn) × IsTrue (state g m.conn).is_open) (IsMember g w) (λ m p. (trees : Trees) → (state g m.conn).may_leave trees → LeftAs w.frame trees p)
       (λ m p known is trees may. ((state g m.conn).now, (at_rest g shuts settles m.conn known.0 known.1).left trees may, is.reads known.1)) members w.packages
       (All-both (λ m. Rests (state g m.conn)) (λ m. IsTrue (state g m.conn).is_open) (λ m. Rests (state g m.conn) × IsTrue (state g m.conn).is_open) (λ m a b. (a, b)) members (recursion_from_All (λ m. Rests (state g m.conn)) members rests)
-          (recursion_from_All (λ m. IsTrue (state g m.conn).is_open) members open'))
+      (recursion_from_All (λ m. IsTrue (state g m.conn).is_open) members open'))
       are.each
 
   -- of one that took a turn, what it left before or the package after the command
@@ -249,6 +221,7 @@ module _ {S : Type 0} (g : Ghosts S) (shuts : Shuts g) (settles : Settles g) whe
     where
       f : Package → Package
       f = after_command r command
+
       now : Member S
       now = turned g r sums it.was it.last reply
 
@@ -257,7 +230,11 @@ module _ {S : Type 0} (g : Ghosts S) (shuts : Shuts g) (settles : Settles g) whe
           (at_set (λ (m : Member S). HasCleanDisk (state g m.conn)) old at now (slice_get_within old at it.was it.place) (subst (AllClean g) it.others clean))
 
       was_is : IsMember g w it.was due.holds
-      was_is = zip_at (IsMember g w) old w.packages at it.was due.holds it.place due.place are.each
+      was_is =
+          let there = zip_at (IsMember g w) old w.packages at it.was are.each it.place in
+          let both : Some there.0 ≡ Some due.holds = sym there.1 ∙ due.place in
+          let same : there.0 ≡ due.holds = cc in
+          subst (IsMember g w it.was) same there.2
 
       was_open : IsTrue (state g it.was.conn).is_open
       was_open = at_place (λ m. IsTrue (state g m.conn).is_open) old at it.was it.place (recursion_from_All (λ m. IsTrue (state g m.conn).is_open) old open')

@@ -4,7 +4,7 @@ use Rattle.std.proofs.Common.{sym, ap, subst, ◌∙◌, inl, length-append}
 use Rattle.sheet_types.specs.Custody.{ticket}
 use Rattle.sheet_types.specs.Register.{IsRegister}
 use Rattle.sheet_types.specs.Step.{accepted, receipt_of, outcome}
-use Rattle.sheet_types.specs.World.{World, Package, holdings, receipts_of}
+use Rattle.sheet_types.specs.World.{holdings, receipts_of}
 use Rattle.sheet_types.specs.declared.receipt.Receipt.{Receipt}
 use Rattle.sheet_types.proofs.Every.{All-each}
 use Rattle.ledger_laws.proofs.Packages.{at_all}

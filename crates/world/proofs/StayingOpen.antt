@@ -1,5 +1,5 @@
 -- Only what was open is open after a transaction, at each of its three exits.
-use Rattle.std.proofs.Common.{◌≡◌, false, ◌⊎◌, inl, inr, Result, Ok, IsTrue, sym, ap, subst, arith}
+use Rattle.std.proofs.Common.{◌≡◌, false, inl, inr, Result, IsTrue, sym, ap, subst, arith}
 use Rattle.sqlite.specs.Store.{Ghosts}
 use Rattle.sqlite.specs.Effect.{Database}
 use Rattle.sqlite.specs.Held.{Held, state}

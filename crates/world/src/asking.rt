@@ -1,6 +1,7 @@
 // What is looked up in all live packages: a kept receipt, a used identity, and the place of a package. The look-ups are made in the order of the members and stop at the first that answers.
-ghost use Rattle.std.specs.Prelude.{◌≡◌, ◌<◌, length};
-ghost use Rattle.sql_meaning.specs.Transactions.{Looks};
+ghost use Rattle.std.specs.Prelude.{◌≡◌, ◌<◌, IsTrue, length};
+ghost use Rattle.sqlite.specs.Held.{state};
+ghost use Rattle.sql_meaning.specs.Transactions.{Rests, Looks};
 ghost use Rattle.sheet_types.specs.Custody.{kept, is_used};
 ghost use Rattle.identity_register.specs.Calls.{Sees};
 ghost use Rattle.custody.specs.Receipts.{IsKept, is_named};
@@ -12,9 +13,28 @@ use custody::keeping::kept;
 use custody::names;
 use package_tables::fault::Fault;
 use sheet_types::receipt::Receipt;
-use sqlite::Alter;
+use sqlite::{Alter, Connection};
 use std::alloc::Global;
 use uuid::Uuid;
+
+/// Whether a store is not inside a transaction.
+fn is_at_rest<S: Alter>(conn: &Connection<S>) -> bool
+    ensures { IsTrue result → Rests (state S.Store conn.now) }
+{
+    conn.is_autocommit()
+}
+
+/// Whether no member's store is inside a transaction.
+pub fn are_at_rest<S: Alter + Drop>(members: &[Member<S>]) -> bool
+    ensures { IsTrue result → AllRest S.Store members.now }
+{
+    for at in 0..members.len() {
+        if !is_at_rest(&members[at].conn) {
+            return false;
+        }
+    }
+    true
+}
 
 /// The receipt that the package of one member keeps for a request.
 fn kept_by<S: Alter + Drop>(

@@ -3,6 +3,8 @@
 
 pub mod asking;
 pub mod asking_one;
+#[cfg(test)]
+mod asking_tests;
 pub mod carrying_out;
 #[cfg(test)]
 mod carrying_tests;
@@ -21,3 +23,5 @@ mod tests;
 pub mod texts;
 pub mod too_many;
 pub mod turning;
+#[cfg(test)]
+mod turning_tests;

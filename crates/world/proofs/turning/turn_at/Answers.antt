@@ -1,7 +1,6 @@
 -- The store of one member takes a turn, and the lemmas say what all members stand for.
 use Rattle.std.proofs.Common.{◌≡◌, Some, Ok, slice_get, refl}
 use Rattle.std.proofs.lemmas.Option.{slice_get_read}
-use Rattle.world.specs.Turning.{CarriesOutAt}
 use Rattle.world.proofs.Changing.{failed_at, undone_so, done_members, crash_members}
 use Rattle.world.proofs.turning.turn_at.Goals as goal
 

@@ -1,0 +1,219 @@
+// Two packages in memory, of which the second takes turns. What is expected follows from what each command asks for.
+ghost use Rattle.std.specs.Prelude.{IsTrue};
+ghost use Rattle.sqlite.specs.Held.{state};
+ghost use Rattle.sql_meaning.specs.Transactions.{Rests};
+
+use crate::asking::are_at_rest;
+use crate::members::Member;
+use crate::sums::{sums_after, sums_moved};
+use crate::turning::turn_at;
+use identity_register::look_ups::find;
+use package_tables::create::{Info, create};
+use package_tables::fault::Fault;
+use sheet_types::collections::{Bytes, MovedList, Text};
+use sheet_types::command::{Command, Content, Mode};
+use sheet_types::frame::{Frame, Rect};
+use sheet_types::receipt::{Moved, MovedKind, Receipt, Sums};
+use sqlite::{Alter, Connection};
+use std::alloc::Global;
+use std::test::Fail;
+use uuid::Uuid;
+
+const AT: &str = "2026-11-22T09:00:00.000Z";
+
+fn guarded<S: Alter>(conn: &Connection<S>) -> bool
+    ensures { IsTrue result → Rests (state S.Store conn.now) }
+{
+    conn.is_autocommit()
+}
+
+fn package(number: u128) -> Uuid {
+    Uuid::from_u128(number)
+}
+
+fn medium() -> Uuid {
+    Uuid::from_u128(16)
+}
+
+fn text(alloc: Global, s: &str) -> Result<Text, Fault> {
+    let mut inner = String::new(alloc);
+    inner.push_str(s)?;
+    Ok(Text::from_string(inner))
+}
+
+fn sums(media: u64, bytes: u64) -> Sums {
+    Sums {
+        tiles: 0,
+        media,
+        rows: 0,
+        links: 0,
+        bytes,
+    }
+}
+
+// An empty package.
+fn member<S: Alter + Drop>(
+    alloc: Global,
+    conn: Connection<S>,
+    number: u128,
+) -> Result<Member<S>, Fault> {
+    if !guarded(&conn) {
+        return Err(Fault::StoreFault);
+    }
+    let frame = Frame {
+        srs_id: 25832,
+        min_x: 0,
+        min_y: 0,
+        max_x: 4096,
+        max_y: 4096,
+        tile_width: 256,
+        tile_height: 256,
+        first_zoom: 0,
+        levels: 3,
+        matrix_width: 1,
+        matrix_height: 1,
+    };
+    let info = Info {
+        package: package(number),
+        parent: None,
+        depth: 0,
+        loan: 0,
+        created: AT,
+    };
+    Ok(Member {
+        conn: create(alloc, conn, &frame, &info)?.into_connection(),
+        uuid: package(number),
+        parent: None,
+        depth: 0,
+        loan: 0,
+        sums: sums(0, 0),
+        ticket: 0,
+    })
+}
+
+// The receipt of this number for the medium, of 3 bytes.
+fn receipt(alloc: Global, seq: u64) -> Result<Receipt, Fault> {
+    let mut things = Vec::new(alloc);
+    things.push(Moved {
+        kind: MovedKind::MediaItem,
+        base: medium(),
+        other: None,
+        size: 3,
+        fingerprint: None,
+    })?;
+    Ok(Receipt {
+        seq,
+        request: Uuid::from_u128(100 + seq as u128),
+        at: text(alloc, AT)?,
+        line: text(alloc, "the line")?,
+        source: None,
+        target: Some(package(2)),
+        items: MovedList::from_vec(things),
+        tiles: 0,
+        media: 1,
+        rows: 0,
+        links: 0,
+        bytes: 3,
+    })
+}
+
+fn adding(alloc: Global) -> Result<Command, Fault> {
+    Ok(Command::Add {
+        package: package(2),
+        identity: medium(),
+        content: Content::Media {
+            content_type: text(alloc, "image/png")?,
+            bytes: Bytes::from_vec(b"png".to_vec(alloc)?),
+        },
+    })
+}
+
+fn deleting() -> Command {
+    Command::Delete {
+        package: package(2),
+        identity: medium(),
+    }
+}
+
+// A split is no change of one package.
+fn splitting() -> Command {
+    Command::Split {
+        package: package(2),
+        child: package(3),
+        mode: Mode::Strict,
+        rect: Rect {
+            zoom: 0,
+            column: 0,
+            last_column: 0,
+            row: 0,
+            last_row: 0,
+        },
+    }
+}
+
+// The second member takes a turn, with the sums that follow from the receipt.
+fn turned<S: Alter + Drop>(
+    members: &mut Vec<Member<S>>,
+    command: &Command,
+    receipt: &Receipt,
+) -> Result<(), Fault> {
+    if members.len() != 2 || !are_at_rest(members.as_slice()) {
+        return Err(Fault::StoreFault);
+    }
+    match sums_after(command, sums_moved(receipt), members[1].sums) {
+        Some(sums) => turn_at(members, 1, command, receipt, sums),
+        None => Err(Fault::StoreFault),
+    }
+}
+
+// The member's package has the medium.
+fn holds<S: Alter + Drop>(members: &mut Vec<Member<S>>, at: usize) -> Result<bool, Fault> {
+    if at >= members.len() || !are_at_rest(members.as_slice()) {
+        return Err(Fault::StoreFault);
+    }
+    found(&mut members[at].conn)
+}
+
+fn found<S: Alter>(conn: &mut Connection<S>) -> Result<bool, Fault> {
+    if !guarded(conn) {
+        return Err(Fault::StoreFault);
+    }
+    Ok(find(conn, medium())?.is_some())
+}
+
+// So much is kept of a member.
+fn keeps<S: Alter + Drop>(members: &[Member<S>], at: usize, held: Sums, ticket: u64) -> bool {
+    at < members.len() && members[at].sums == held && members[at].ticket == ticket
+}
+
+#[test]
+fn one_member_turns(rt: HostRuntime) -> Result<(), Fail> {
+    let alloc = rt.alloc();
+    let mut members = Vec::new(alloc);
+    members.push(member(alloc, Connection::open_in_memory(alloc)?, 1)?)?;
+    members.push(member(alloc, Connection::open_in_memory(alloc)?, 2)?)?;
+    turned(&mut members, &adding(alloc)?, &receipt(alloc, 7)?)?;
+    assert!(rt; holds(&mut members, 1)?);
+    assert!(rt; !holds(&mut members, 0)?);
+    assert!(rt; keeps(members.as_slice(), 1, sums(1, 3), 7));
+    assert!(rt; keeps(members.as_slice(), 0, sums(0, 0), 0));
+    assert!(rt; turned(&mut members, &splitting(), &receipt(alloc, 8)?).is_err());
+    assert!(rt; keeps(members.as_slice(), 1, sums(1, 3), 7));
+    assert!(rt; holds(&mut members, 1)?);
+    turned(&mut members, &deleting(), &receipt(alloc, 8)?)?;
+    assert!(rt; !holds(&mut members, 1)?);
+    assert!(rt; keeps(members.as_slice(), 1, sums(0, 0), 8));
+    Ok(())
+}
+
+#[test]
+fn sums_that_cannot_be_counted(rt: HostRuntime) -> Result<(), Fail> {
+    let alloc = rt.alloc();
+    let add = adding(alloc)?;
+    assert!(rt; sums_after(&add, sums(1, 3), sums(4, u64::MAX - 3)) == Some(sums(5, u64::MAX)));
+    assert!(rt; sums_after(&add, sums(1, 3), sums(4, u64::MAX - 2)).is_none());
+    assert!(rt; sums_after(&deleting(), sums(1, 3), sums(4, 3)) == Some(sums(3, 0)));
+    assert!(rt; sums_after(&deleting(), sums(1, 3), sums(4, 2)).is_none());
+    assert!(rt; sums_after(&splitting(), sums(1, 3), sums(4, 2)) == Some(sums(4, 2)));
+    Ok(())
+}
