@@ -19,4 +19,6 @@ pub mod sums;
 mod tests;
 pub mod texts;
 pub mod too_many;
+#[cfg(test)]
+mod too_many_tests;
 pub mod turning;
