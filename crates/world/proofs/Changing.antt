@@ -177,13 +177,10 @@ module _ {S : Type 0} (g : Ghosts S) (shuts : Shuts g) where
     where
       f : Package → Package
       f = after_command r command
-
       id : List ℕ
       id = package_of command
-
       next : World
       next = world_after r command w
-
       now : Member S
       now = record it.was { conn = it.last; sums = sums; ticket = r.seq }
 
@@ -238,7 +235,7 @@ module _ {S : Type 0} (g : Ghosts S) (shuts : Shuts g) (settles : Settles g) whe
       zip_so (λ m. Rests (state g m.conn) × IsTrue (state g m.conn).is_open) (IsMember g w) (λ m p. (trees : Trees) → (state g m.conn).may_leave trees → LeftAs w.frame trees p)
       (λ m p known is trees may. ((state g m.conn).now, (at_rest g shuts settles m.conn known.0 known.1).left trees may, is.reads known.1)) members w.packages
       (All-both (λ m. Rests (state g m.conn)) (λ m. IsTrue (state g m.conn).is_open) (λ m. Rests (state g m.conn) × IsTrue (state g m.conn).is_open) (λ m a b. (a, b)) members (recursion_from_All (λ m. Rests (state g m.conn)) members rests)
-      (recursion_from_All (λ m. IsTrue (state g m.conn).is_open) members open'))
+          (recursion_from_All (λ m. IsTrue (state g m.conn).is_open) members open'))
       are.each
 
   -- of one that took a turn, what it left before or the package after the command
@@ -252,7 +249,6 @@ module _ {S : Type 0} (g : Ghosts S) (shuts : Shuts g) (settles : Settles g) whe
     where
       f : Package → Package
       f = after_command r command
-
       now : Member S
       now = turned g r sums it.was it.last reply
 
