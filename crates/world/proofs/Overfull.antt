@@ -89,7 +89,7 @@ module _ (p : List ℕ) (f : Sums → Sums) where
       let same : y ≡ x = cc in
       let own : bytes_eq y.uuid p ≡ true = ap (λ u. bytes_eq u p) (ap (λ z. z.uuid) same ∙ named) ∙ bytes_eq_itself p in
       let others : AllByRecursion (λ z. bytes_eq z.uuid p ≡ false) ps = All-weaker (λ z. is_before y.uuid z.uuid ≡ true) (λ z. bytes_eq z.uuid p ≡ false)
-          (λ z before. bytes_eq_swap z.uuid p ∙ subst (λ u. bytes_eq u z.uuid ≡ false) (ap (λ v. v.uuid) same ∙ named) (before-differs y.uuid z.uuid before)) ps arranged.0 in
+      (λ z before. bytes_eq_swap z.uuid p ∙ subst (λ u. bytes_eq u z.uuid ≡ false) (ap (λ v. v.uuid) same ∙ named) (before-differs y.uuid z.uuid before)) ps arranged.0 in
       ap (λ v. f (sums_held v) ∷ map sums_held ps) (sym same)
       ∙ ap (λ b. cond b (f (sums_held y)) (sums_held y) ∷ map sums_held ps) (sym own)
       ∙ ap (λ ss. next y ∷ ss) (others_hold ps others)

@@ -22,6 +22,8 @@ pub mod sums;
 mod tests;
 pub mod texts;
 pub mod too_many;
+#[cfg(test)]
+mod too_many_tests;
 pub mod turning;
 #[cfg(test)]
 mod turning_tests;

@@ -24,6 +24,6 @@ loop-place-preserved g c = record {
 pub returns : goal.returns
 returns g c =
     let long : length (sums_with c.args.members.now c.args.at c.args.sums) ≡ length c.args.members.now =
-        length-set (map (λ (m : Member g.row.S.Denot). m.sums) c.args.members.now) c.args.at c.args.sums ∙ length-map c.args.members.now (λ (m : Member g.row.S.Denot). m.sums) in
+    length-set (map (λ (m : Member g.row.S.Denot). m.sums) c.args.members.now) c.args.at c.args.sums ∙ length-map c.args.members.now (λ (m : Member g.row.S.Denot). m.sums) in
     let past : length (sums_with c.args.members.now c.args.at c.args.sums) ≤ c.loop-place.place = subst (λ n. n ≤ c.loop-place.place) (sym long) c.loop-place-test.false in
     sym (subst (λ xs. list_any is_past_limits xs ≡ false) (take_all c.loop-place.place (sums_with c.args.members.now c.args.at c.args.sums) past) c.loop-place.invariant.none)

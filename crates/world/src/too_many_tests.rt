@@ -1,0 +1,145 @@
+// What a package holds after each command, and what is too many, by the rules: a package holds up to 1 000 000 items of a kind and 4 000 000 links, there are up to 256 packages and 1 000 000 000 receipts.
+use crate::members::Member;
+use crate::sums::{sums_after, sums_moved};
+use crate::too_many::{any_past_limits, is_past_limits, is_too_many};
+use sheet_types::collections::{Bytes, MovedList, Text};
+use sheet_types::command::{Command, Content, Mapping};
+use sheet_types::receipt::{Receipt, Sums};
+use sqlite::{Alter, Connection};
+use std::test::Fail;
+use uuid::Uuid;
+
+fn identity(number: u128) -> Uuid {
+    Uuid::from_u128(number)
+}
+
+fn sums(tiles: u64, media: u64, rows: u64, links: u64, bytes: u64) -> Sums {
+    Sums {
+        tiles,
+        media,
+        rows,
+        links,
+        bytes,
+    }
+}
+
+fn member<S: Alter + Drop>(conn: Connection<S>, number: u128, sums: Sums) -> Member<S> {
+    Member {
+        conn,
+        uuid: identity(number),
+        parent: None,
+        depth: 0,
+        loan: 0,
+        sums,
+        ticket: 0,
+    }
+}
+
+#[test]
+fn moved_by_a_receipt(rt: HostRuntime) -> Result<(), Fail> {
+    let alloc = rt.alloc();
+    let receipt = Receipt {
+        seq: 1,
+        request: identity(1),
+        at: Text::from_string(String::new(alloc)),
+        line: Text::from_string(String::new(alloc)),
+        source: None,
+        target: None,
+        items: MovedList::from_vec(Vec::new(alloc)),
+        tiles: 1,
+        media: 2,
+        rows: 3,
+        links: 4,
+        bytes: 5,
+    };
+    assert!(rt; sums_moved(&receipt) == sums(1, 2, 3, 4, 5));
+    Ok(())
+}
+
+#[test]
+fn held_after_an_addition_and_a_deletion(rt: HostRuntime) -> Result<(), Fail> {
+    let add = Command::Add {
+        package: identity(1),
+        identity: identity(2),
+        content: Content::Tile {
+            zoom: 0,
+            column: 0,
+            row: 0,
+            bytes: Bytes::from_vec(Vec::from_slice(rt.alloc(), b"abc")?),
+        },
+    };
+    let delete = Command::Delete {
+        package: identity(1),
+        identity: identity(2),
+    };
+    let tile = sums(1, 0, 0, 0, 3);
+    let more = sums_after(&add, tile, sums(5, 6, 7, 8, 90));
+    assert!(rt; more == Some(sums(6, 6, 7, 8, 93)));
+    let less = sums_after(&delete, tile, sums(6, 6, 7, 8, 93));
+    assert!(rt; less == Some(sums(5, 6, 7, 8, 90)));
+    assert!(rt; sums_after(&add, tile, sums(0, 0, 0, 0, u64::MAX - 2)).is_none());
+    assert!(rt; sums_after(&delete, tile, sums(0, 1, 1, 1, 3)).is_none());
+    Ok(())
+}
+
+#[test]
+fn held_after_a_link_comes_and_goes(rt: HostRuntime) -> Result<(), Fail> {
+    let link = Command::Link {
+        package: identity(1),
+        mapping: Mapping::TilesMedia,
+        base: identity(2),
+        media: identity(3),
+    };
+    let unlink = Command::Unlink {
+        package: identity(1),
+        mapping: Mapping::TilesMedia,
+        base: identity(2),
+        media: identity(3),
+    };
+    let one = sums(0, 0, 0, 1, 0);
+    assert!(rt; sums_after(&link, one, sums(5, 6, 7, 8, 90)) == Some(sums(5, 6, 7, 9, 90)));
+    assert!(rt; sums_after(&unlink, one, sums(5, 6, 7, 9, 90)) == Some(sums(5, 6, 7, 8, 90)));
+    Ok(())
+}
+
+#[test]
+fn limits_of_a_package(rt: HostRuntime) -> Result<(), Fail> {
+    assert!(rt; !is_past_limits(sums(1_000_000, 1_000_000, 1_000_000, 4_000_000, u64::MAX)));
+    assert!(rt; is_past_limits(sums(1_000_001, 0, 0, 0, 0)));
+    assert!(rt; is_past_limits(sums(0, 1_000_001, 0, 0, 0)));
+    assert!(rt; is_past_limits(sums(0, 0, 1_000_001, 0, 0)));
+    assert!(rt; is_past_limits(sums(0, 0, 0, 4_000_001, 0)));
+    Ok(())
+}
+
+#[test]
+fn limits_of_the_members(rt: HostRuntime) -> Result<(), Fail> {
+    let alloc = rt.alloc();
+    let most = sums(1_000_000, 0, 0, 0, 1_000_000);
+    let past = sums(1_000_001, 0, 0, 0, 1_000_001);
+    let mut members = Vec::new(alloc);
+    members.push(member(Connection::open_in_memory(alloc)?, 1, most))?;
+    members.push(member(Connection::open_in_memory(alloc)?, 2, past))?;
+    assert!(rt; any_past_limits(members.as_slice(), 0, most));
+    assert!(rt; !any_past_limits(members.as_slice(), 1, most));
+    assert!(rt; any_past_limits(members.as_slice(), 1, past));
+    assert!(rt; is_too_many(members.as_slice(), 0, most, 1));
+    assert!(rt; !is_too_many(members.as_slice(), 1, most, 1));
+    assert!(rt; !is_too_many(members.as_slice(), 1, most, 999_999_999));
+    assert!(rt; is_too_many(members.as_slice(), 1, most, 1_000_000_000));
+    Ok(())
+}
+
+#[test]
+fn limit_of_packages(rt: HostRuntime) -> Result<(), Fail> {
+    let alloc = rt.alloc();
+    let none = sums(0, 0, 0, 0, 0);
+    let mut members = Vec::new(alloc);
+    for number in 0..256 {
+        members.push(member(Connection::open_in_memory(alloc)?, number, none))?;
+    }
+    assert!(rt; !is_too_many(members.as_slice(), 0, none, 1));
+    members.push(member(Connection::open_in_memory(alloc)?, 256, none))?;
+    assert!(rt; is_too_many(members.as_slice(), 0, none, 1));
+    Ok(())
+}
