@@ -3,6 +3,8 @@
 
 pub mod asking;
 pub mod asking_one;
+#[cfg(test)]
+mod asking_one_tests;
 pub mod carrying_out;
 #[cfg(test)]
 mod carrying_tests;
