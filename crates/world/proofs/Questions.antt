@@ -3,7 +3,7 @@ use Rattle.std.proofs.Common.{◌≡◌, subst, ℕ, List, Result, Ok, Err, IsEr
 use Rattle.sqlite.specs.Store.{Ghosts}
 use Rattle.sheet_types.specs.World.{World}
 use Rattle.sql_meaning.proofs.Transactions.{Shuts, Settles}
-use Rattle.world.specs.Members.{AllRest, AllClean, AreMembers}
+use Rattle.world.specs.Members.{AllRest, AreMembers}
 use Rattle.world.specs.Asking.{AsksAll}
 use Rattle.world.specs.declared.members.Member.{Member}
 use Rattle.world.proofs.Standing.{all_still, all_stay_then, members_stay, clean_before}

@@ -225,7 +225,11 @@ fn what_is_moved(rt: HostRuntime) -> Result<(), Fail> {
     let Some(link) = thing(&mut members, &unlinked())? else {
         return Err(Fail::new("a link goes"));
     };
-    assert!(rt; link.kind == MovedKind::TilesMediaLink && link.base == tile() && link.other == Some(medium()));
+    assert!(rt;
+        link.kind == MovedKind::TilesMediaLink
+            && link.base == tile()
+            && link.other == Some(medium())
+    );
     assert_eq!(rt; link.size, 0);
     Ok(())
 }

@@ -1,7 +1,7 @@
 -- The look at the one member is its store's turn, and the package is that of the place.
-use Rattle.std.proofs.Common.{◌≡◌, ◌∙◌, ap, sym, Some, slice_get, refl}
+use Rattle.std.proofs.Common.{◌≡◌, ◌∙◌, ap, Some, slice_get, refl}
 use Rattle.std.proofs.lemmas.Option.{slice_get_read}
-use Rattle.sheet_types.specs.World.{Package, item_of}
+use Rattle.sheet_types.specs.World.{item_of}
 use Rattle.world.proofs.AskedOne.{looked_at}
 use Rattle.world.proofs.asking_one.item_at.Goals as goal
 
