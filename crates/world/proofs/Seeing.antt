@@ -1,5 +1,5 @@
 -- Looks at the package of one store, one after the other, and what is judged by them.
-use Rattle.std.proofs.Common.{◌≡◌, refl, sym, subst, ◌∙◌, inl, Result, Ok, Err, IsErr, arith}
+use Rattle.std.proofs.Common.{◌≡◌, refl, sym, subst, ◌∙◌, inl, Result, Ok, Err, IsErr, IsTrue, arith}
 use Rattle.sqlite.specs.Store.{Ghosts}
 use Rattle.sqlite.specs.Held.{Held, state}
 use Rattle.sqlite.specs.State.{State, HasCleanDisk, Survives}
@@ -16,11 +16,11 @@ use Rattle.world.specs.Calls.{Judges}
 -- what some looks have found of the package so far, the store left as it was
 pub record Seen (Fact : Frame → Package → Type 0) (old new : State) : Type 0 where
   pub stays : Stays old new
-  pub told : HasCleanDisk new → (new.now ≡ old.now) × ((f : Frame) (p : Package) → Reads f p old.now → Fact f p)
+  pub told : HasCleanDisk new → IsTrue old.is_open × ((new.now ≡ old.now) × ((f : Frame) (p : Package) → Reads f p old.now → Fact f p))
 
 -- one look that answered
 pub seen : {X E : Type 0} (Answer : Frame → Package → X → Type 0) {old new : State} {r : Result X E} {x : X} → r ≡ Ok x → Looks {X = X} {E = E} (Sees Answer) old new r → Seen (λ f p. Answer f p x) old new
-seen {X} {E} Answer {old} {new} {r} {x} is looks = record { stays = looks_stays looks; told = λ clean. let d = it.done clean in (d.1.0, d.1.1) }
+seen {X} {E} Answer {old} {new} {r} {x} is looks = record { stays = looks_stays looks; told = λ clean. let d = it.done clean in (it.was_open d.0, (d.1.0, d.1.1)) }
   where
     it : Looks {X = X} {E = E} (Sees Answer) old new (Ok x)
     it = subst (Looks (Sees Answer) old new) is looks
@@ -33,7 +33,7 @@ seen_then {Fact} Answer {a} {b} {c} {r} {x} first is looks = record {
       let before : HasCleanDisk b = omega (arith, next.stays.survives.clean, clean) in
       let d = first.told before in
       let e = next.told clean in
-      (e.0 ∙ d.0, λ f p reads. (d.1 f p reads, e.1 f p (subst (Reads f p) (sym d.0) reads)));
+      (d.0, (e.1.0 ∙ d.1.0, λ f p reads. (d.1.1 f p reads, e.1.1 f p (subst (Reads f p) (sym d.1.0) reads))));
 }
   where
     next : Seen (λ f p. Answer f p x) b c
@@ -42,7 +42,7 @@ seen_then {Fact} Answer {a} {b} {c} {r} {x} first is looks = record {
 -- what was found is judged
 pub judges : {X E : Type 0} {Fact : Frame → Package → Type 0} {Answer : Frame → Package → X → Type 0} {old new : State} {x : X} → Seen Fact old new
     → ((f : Frame) (p : Package) → Reads f p old.now → Fact f p → Answer f p x) → Judges {X = X} {E = E} Answer old new (Ok x)
-judges it so = record { stays = it.stays; told = λ clean f p reads. so f p reads ((it.told clean).1 f p reads) }
+judges it so = record { stays = it.stays; told = λ clean f p reads. let t = it.told clean in so f p (reads t.0) (t.1.1 f p (reads t.0)) }
 
 -- a look that failed tells nothing
 pub judges_not : {X E : Type 0} {Answer : Frame → Package → X → Type 0} {old new : State} (r : Result X E) → IsErr r → Stays old new → Judges {X = X} {E = E} Answer old new r

@@ -1,19 +1,40 @@
-// What is asked of the one live package that a request names: an item of it, and what a command moves of it. All other members are left alone, so the answers stand beside those of `asking`.
-ghost use Rattle.std.specs.Prelude.{◌≡◌, ◌<◌, [], ◌∷◌, Some, MatchOption, length, slice_get};
+// What is asked of the one live package that a request names: why it does not take a command, an item of it, and what a command moves of it. All other members are left alone, so the answers stand beside those of `asking`.
+ghost use Rattle.std.specs.Prelude.{◌≡◌, ◌<◌, [], ◌∷◌, IsTrue, Some, MatchOption, length, slice_get};
+ghost use Rattle.sheet_types.specs.Matrix.{is_good_frame, first_row};
 ghost use Rattle.sheet_types.specs.World.{Package, item_of, holdings};
 ghost use Rattle.sheet_types.specs.Step.{moved};
 ghost use Rattle.world.specs.Members.{AllRest};
 ghost use Rattle.world.specs.Asking.{AsksAll};
 ghost use Rattle.world.specs.Laws.{IsServed, package_of};
+ghost use Rattle.world.specs.Reasons.{package_reasons};
 
+use crate::judging::package_refusal;
 use crate::members::Member;
 use crate::receipts::item_moved;
 use identity_register::look_ups::find;
 use package_tables::fault::Fault;
 use sheet_types::command::{Command, Item, Relation};
+use sheet_types::frame::Frame;
 use sheet_types::receipt::Moved;
+use sheet_types::refusal::Refusal;
 use sqlite::Alter;
 use uuid::Uuid;
+
+/// Why the package of the member at a place and its frame do not take a command, if they do not.
+pub fn refusal_at<S: Alter + Drop>(
+    members: &mut Vec<Member<S>>,
+    at: usize,
+    frame: &Frame,
+    command: &Command,
+) -> Result<Option<Refusal>, Fault>
+    requires within { at < length members.old.items }
+    requires rests { AllRest S.Store members.old.items }
+    requires good { IsTrue (is_good_frame frame.now) }
+    ensures { AsksAll S.Store (λ w found. frame.now ≡ w.frame → (p : Package) → slice_get w.packages at ≡ Some p → found ≡ first_row (package_reasons w.frame p command.now)) members.old.items members.new.items result }
+{
+    let member = &mut members[at];
+    package_refusal(&mut member.conn, frame, command)
+}
 
 /// The item under an identity in the package of the member at a place.
 pub fn item_at<S: Alter + Drop>(

@@ -4,6 +4,8 @@
 pub mod asking;
 pub mod asking_one;
 #[cfg(test)]
+mod asking_one_tests;
+#[cfg(test)]
 mod asking_tests;
 pub mod carrying_out;
 #[cfg(test)]

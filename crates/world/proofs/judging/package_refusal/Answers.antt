@@ -1,9 +1,13 @@
 -- What each command is judged by.
 use Rattle.std.proofs.Common.{◌≡◌, ◌∙◌, ap, sym}
 use Rattle.sheet_types.specs.Matrix.{first_row}
-use Rattle.world.specs.Reasons.{delete_reasons, link_reasons, unlink_reasons, package_reasons}
+use Rattle.world.specs.Reasons.{content_reasons, delete_reasons, link_reasons, unlink_reasons, package_reasons}
 use Rattle.world.proofs.Seeing.{judges_so}
 use Rattle.world.proofs.judging.package_refusal.Goals as goal
+
+pub returns-in-Add : goal.returns-in-Add
+returns-in-Add g c =
+    judges_so (λ f p found. f ≡ c.args.frame.now → found ≡ first_row (content_reasons f p c.in-Add.content)) c.refusal_of_add.result (λ x f p so same. so same ∙ ap (λ y. first_row (package_reasons f p y)) (sym c.in-Add.is)) c.refusal_of_add.ensures
 
 pub returns-in-Delete : goal.returns-in-Delete
 returns-in-Delete g c =
