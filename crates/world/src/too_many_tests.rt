@@ -135,8 +135,8 @@ fn limit_of_packages(rt: HostRuntime) -> Result<(), Fail> {
     let alloc = rt.alloc();
     let none = sums(0, 0, 0, 0, 0);
     let mut members = Vec::new(alloc);
-    for number in 0..256 {
-        members.push(member(Connection::open_in_memory(alloc)?, number, none))?;
+    for number in 0..256u64 {
+        members.push(member(Connection::open_in_memory(alloc)?, u128::from(number), none))?;
     }
     assert!(rt; !is_too_many(members.as_slice(), 0, none, 1));
     members.push(member(Connection::open_in_memory(alloc)?, 256, none))?;
