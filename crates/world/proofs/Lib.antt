@@ -17,4 +17,3 @@ pub mod Placed
 pub mod Questions
 pub mod AskedOne
 pub mod Overfull
-pub mod StandingFor

@@ -8,5 +8,4 @@ pub mod Turning
 pub mod Sums
 pub mod Steps
 pub mod Asking
-pub mod StandingFor
 pub mod TooMany

@@ -1,4 +1,4 @@
-//! The world of live packages that requests change. So far: why a request is refused, and the change of one package with its receipt.
+//! The world of live packages that requests change. So far the parts that a request of four commands needs, over a list of open stores; nothing calls them in turn yet.
 #![tactic(auto)]
 
 pub mod asking;
@@ -12,7 +12,6 @@ pub mod carrying_out;
 mod carrying_tests;
 pub mod judging;
 pub mod laws;
-pub mod member_laws;
 pub mod members;
 #[cfg(test)]
 mod receipt_tests;
