@@ -9,3 +9,4 @@ pub mod Sums
 pub mod Steps
 pub mod Asking
 pub mod TooMany
+pub mod Deciding

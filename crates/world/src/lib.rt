@@ -10,6 +10,7 @@ mod asking_tests;
 pub mod carrying_out;
 #[cfg(test)]
 mod carrying_tests;
+pub mod deciding;
 pub mod judging;
 pub mod laws;
 pub mod members;

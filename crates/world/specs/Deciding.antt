@@ -1,0 +1,46 @@
+-- What a request comes to before anything is written: the reply, or the change that is due. Profile.
+use Rattle.std.specs.Prelude.{◌≡◌, ◌<◌, ℕ, ◌+◌, true, List, length, Option, Some, None, Ok, slice_get}
+use Rattle.std.specs.Bool.{then_some}
+use Rattle.std.specs.Option.{option_or}
+use Rattle.sheet_types.specs.Custody.{kept}
+use Rattle.sheet_types.specs.Matrix.{first_row}
+use Rattle.sheet_types.specs.Refuse.{identity_used}
+use Rattle.sheet_types.specs.Step.{outcome, receipt_of}
+use Rattle.sheet_types.specs.World.{World, is_live, holdings, receipts_of}
+use Rattle.sheet_types.specs.declared.command.Request.{Request}
+use Rattle.sheet_types.specs.declared.frame.Frame.{Frame}
+use Rattle.sheet_types.specs.declared.refusal.Refusal.{Refusal}
+use Rattle.sheet_types.specs.declared.refusal.Refusal.TheVariants.{IdentityUsed}
+use Rattle.world.specs.Laws.{IsServed, package_of}
+use Rattle.world.specs.Reasons.{text_reasons, package_reasons}
+use Rattle.world.specs.Turning.{IsDue, world_after}
+use Rattle.world.specs.declared.deciding.Decision.{Decision}
+use Rattle.world.specs.declared.deciding.Decision.TheVariants.{Answered, Due}
+use Rattle.world.specs.declared.members.Member.{Member}
+
+-- The frame and the number of receipts are those of the world, and the request is one that is served.
+pub record IsAskedOf (f : Frame) (count : ℕ) (q : Request) (w : World) : Type 0 where
+  pub frame : f ≡ w.frame
+  pub counted : count ≡ length (receipts_of w)
+  pub served : IsServed q.command
+
+-- a new request, whose package stands at this place
+pub record IsPlaced (f : Frame) (count at : ℕ) (q : Request) (w : World) : Type 0 where
+  pub asked : IsAskedOf f count q w
+  pub new : kept w q.id ≡ None
+  pub live : is_live w (package_of q.command) ≡ true
+  pub place : slice_get w.packages at ≡ Some (holdings w (package_of q.command))
+
+-- why such a request is refused, but for what it would leave
+abbrev pub refusal_before : World → Request → Option Refusal
+refusal_before w q = option_or (first_row (text_reasons q)) (option_or (then_some (identity_used w q.command) IdentityUsed) (first_row (package_reasons w.frame (holdings w (package_of q.command)) q.command)))
+
+-- Either the reply is that of the world, which stays, or the command is due where its package stands, with the receipt that is the reply.
+abbrev pub Decides : World → Request → Decision → Type 0
+Decides w q (Answered reply) = outcome w q ≡ (reply, w)
+Decides w q (Due due) = (due.receipt ≡ receipt_of w q) × (outcome w q ≡ (Ok due.receipt, world_after due.receipt q.command w)) × IsDue w due.at due.receipt q.command due.sums
+
+-- A change that is due has its place among the members, and its receipt the next number.
+abbrev pub HasPlace : {S : Type 0} → List (Member S) → ℕ → Decision → Type 0
+HasPlace members count (Answered reply) = Unit {0}
+HasPlace members count (Due due) = (due.at < length members) × (due.receipt.seq ≡ count + 1)
