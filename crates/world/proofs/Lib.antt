@@ -11,6 +11,7 @@ pub mod Outcomes
 pub mod StayingOpen
 pub mod Changing
 pub mod Due
+pub mod Decided
 pub mod Standing
 pub mod Asked
 pub mod Placed

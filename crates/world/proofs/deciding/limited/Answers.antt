@@ -1,0 +1,33 @@
+-- The members tell whether it leaves too many, as the sums after it are counted or not.
+use Rattle.std.proofs.Common.{◌≡◌, ◌∙◌, refl, sym, ap, subst, Some, slice_get}
+use Rattle.std.proofs.lemmas.Option.{slice_get_read}
+use Rattle.sheet_types.specs.Step.{receipt_of}
+use Rattle.sheet_types.specs.declared.receipt.Sums.{Sums}
+use Rattle.world.specs.Steps.{sums_moved, sums_after}
+use Rattle.world.specs.Sums.{CanCount}
+use Rattle.world.specs.declared.members.Member.{Member}
+use Rattle.world.proofs.Decided.{limited_uncounted, limited_past, limited_due}
+use Rattle.world.proofs.deciding.limited.Goals as goal
+
+pub returns-in-None-clause-decides : goal.returns-in-None-clause-decides
+returns-in-None-clause-decides g c = λ w are placed before made.
+    let place : slice_get c.args.members.now c.args.at ≡ Some c.index-members-at.result = slice_get_read _ _ _ _ refl c.requires.within c.index-members-at.is in
+    let some : c.sums_moved.result ≡ sums_moved (receipt_of w c.args.request.now) = c.sums_moved.ensures ∙ ap sums_moved made in
+    limited_uncounted g.S.Store c.args.members.now c.args.count c.args.at c.args.request.now w c.index-members-at.result are placed place c.fits.ensures (c.has_types.ensures placed.asked.served) before
+    (λ can. c.in-None.ensures (subst (λ (m : Member g.row.S.Denot). CanCount c.args.request.now.command c.sums_moved.result m.sums) c.index-members-at.is (subst (λ s. CanCount c.args.request.now.command s c.index-members-at.result.sums) (sym some) can)))
+
+pub returns-in-Some-clause-decides : goal.returns-in-Some-clause-decides
+returns-in-Some-clause-decides g c = λ w are placed before made.
+    let place : slice_get c.args.members.now c.args.at ≡ Some c.index-members-at.result = slice_get_read _ _ _ _ refl c.requires.within c.index-members-at.is in
+    let some : c.sums_moved.result ≡ sums_moved (receipt_of w c.args.request.now) = c.sums_moved.ensures ∙ ap sums_moved made in
+    limited_past g.S.Store c.args.members.now c.args.count c.args.at c.args.request.now w c.index-members-at.result are placed place c.fits.ensures (c.has_types.ensures placed.asked.served) before c.in-Some.sums
+    (c.in-Some.ensures.1 ∙ ap (λ (m : Member g.row.S.Denot). sums_after c.args.request.now.command c.sums_moved.result m.sums) (sym c.index-members-at.is)
+    ∙ ap (λ (s : Sums). sums_after c.args.request.now.command s c.index-members-at.result.sums) some) (sym c.is_too_many.ensures ∙ c.if-is_too_many.true)
+
+pub returns-in-Some-2-clause-decides : goal.returns-in-Some-2-clause-decides
+returns-in-Some-2-clause-decides g c = λ w are placed before made.
+    let place : slice_get c.args.members.now c.args.at ≡ Some c.index-members-at.result = slice_get_read _ _ _ _ refl c.requires.within c.index-members-at.is in
+    let some : c.sums_moved.result ≡ sums_moved (receipt_of w c.args.request.now) = c.sums_moved.ensures ∙ ap sums_moved made in
+    limited_due g.S.Store c.args.members.now c.args.count c.args.at c.args.request.now w c.index-members-at.result are placed place c.fits.ensures (c.has_types.ensures placed.asked.served) before c.in-Some.sums c.args.receipt
+    (c.in-Some.ensures.1 ∙ ap (λ (m : Member g.row.S.Denot). sums_after c.args.request.now.command c.sums_moved.result m.sums) (sym c.index-members-at.is)
+    ∙ ap (λ (s : Sums). sums_after c.args.request.now.command s c.index-members-at.result.sums) some) (sym c.is_too_many.ensures ∙ c.if-is_too_many.false) made
