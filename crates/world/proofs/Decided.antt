@@ -1,8 +1,7 @@
 -- What a request comes to, by what the members and the request tell.
-use Rattle.std.proofs.Common.{◌≡◌, ◌<◌, refl, sym, ap, subst, ◌∙◌, ℕ, zero, suc, ◌+◌, List, [], ◌∷◌, Bool, true, false, cond, ◌||◌, length, slice_get, Option, Some, None, Result, Ok, Err, bytes_eq}
-use Rattle.std.specs.Prelude.{find, unwrap_or, if◌then◌else◌}
+use Rattle.std.proofs.Common.{◌≡◌, refl, sym, ap, subst, ◌∙◌, ℕ, zero, suc, ◌+◌, List, [], ◌∷◌, Bool, true, false, cond, length, slice_get, Option, Some, None, Ok, Err, bytes_eq}
+use Rattle.std.specs.Prelude.{find, unwrap_or}
 use Rattle.std.specs.Bool.{then_some}
-use Rattle.std.specs.List.{list_any}
 use Rattle.std.specs.Option.{option_or}
 use Rattle.std.proofs.lemmas.Option.{slice_get_within}
 use Rattle.sqlite.specs.Store.{Ghosts}
@@ -30,7 +29,7 @@ use Rattle.sqlite_trees.proofs.ListLemmas.{all-slice_get}
 use Rattle.world.specs.Asking.{StandsAt}
 use Rattle.world.specs.Carrying.{Fits}
 use Rattle.world.specs.Deciding.{IsAskedOf, IsPlaced, refusal_before, Decides}
-use Rattle.world.specs.Laws.{IsServed, package_of}
+use Rattle.world.specs.Laws.{package_of}
 use Rattle.world.specs.Members.{IsMember, AreMembers}
 use Rattle.world.specs.Reasons.{text_reasons, package_reasons}
 use Rattle.world.specs.Steps.{NothingAgainst, sums_moved, sums_after}
@@ -38,7 +37,6 @@ use Rattle.world.specs.Sums.{CanCount}
 use Rattle.world.specs.TooMany.{leaves_too_many}
 use Rattle.world.specs.Turning.{IsDue, world_after}
 use Rattle.world.specs.declared.deciding.Change.{Change}
-use Rattle.world.specs.declared.deciding.Decision.{Decision}
 use Rattle.world.specs.declared.deciding.Decision.TheVariants.{Answered, Due}
 use Rattle.world.specs.declared.members.Member.{Member}
 use Rattle.world.proofs.Due.{due_where_accepted}

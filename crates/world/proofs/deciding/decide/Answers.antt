@@ -1,5 +1,5 @@
 -- All members are asked whether it came before, and where it did not, what is new is decided.
-use Rattle.std.proofs.Common.{◌≡◌, ◌∙◌, subst, sym, ap, Ok, Some, None}
+use Rattle.std.proofs.Common.{◌∙◌, subst, sym, ap, Ok, Some, None}
 use Rattle.world.specs.Deciding.{Decides}
 use Rattle.world.specs.declared.deciding.Decision.TheVariants.{Answered}
 use Rattle.world.proofs.Decided.{decides_repeated}

@@ -1,7 +1,6 @@
 -- Its package has a member or has none.
 use Rattle.std.proofs.Common.{◌≡◌, subst, sym, Some, false, true, slice_get}
 use Rattle.sheet_types.specs.World.{is_live, holdings}
-use Rattle.world.specs.Laws.{package_of}
 use Rattle.world.specs.Members.{AreMembers}
 use Rattle.world.proofs.Decided.{decides_unknown}
 use Rattle.world.proofs.Questions.{asks_weaker, asks_still}

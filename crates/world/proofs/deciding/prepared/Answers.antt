@@ -1,5 +1,5 @@
 -- The member tells what is moved, and the receipt is made of it.
-use Rattle.std.proofs.Common.{◌≡◌, ◌∙◌, sym, ap, subst, Ok, Some}
+use Rattle.std.proofs.Common.{◌∙◌, sym, ap, subst, Ok, Some}
 use Rattle.world.specs.Members.{AreMembers}
 use Rattle.world.proofs.Decided.{receipt_made, counted_so}
 use Rattle.world.proofs.Questions.{asks_answer}

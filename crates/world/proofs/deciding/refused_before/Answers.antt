@@ -1,5 +1,5 @@
 -- The texts are looked at, then all members for the identity, then the one member.
-use Rattle.std.proofs.Common.{◌<◌, ◌∙◌, subst, ap, Ok, true, false, sym}
+use Rattle.std.proofs.Common.{◌<◌, ◌∙◌, subst, ap, Ok, true}
 use Rattle.sheet_types.specs.World.{holdings}
 use Rattle.world.specs.Laws.{package_of}
 use Rattle.world.proofs.Decided.{before_for_text, before_for_identity, before_by_package}
