@@ -1,8 +1,8 @@
 -- What the members of a world stand for after one of them took a turn.
 use Rattle.std.specs.Prelude.{◌≡◌, ◌⊎◌, ℕ, zero, suc, ◌+◌, true, false, cond, List, [], ◌∷◌, map, Some, slice_get, slice_set, refl, bytes_eq, Result, Ok, Err, IsErr, IsTrue, OnErr, if◌then◌else◌}
-use Rattle.std.proofs.Common.{sym, ap, subst, ◌∙◌, inl, inr}
+use Rattle.std.proofs.Common.{sym, ap, subst, ◌∙◌, inl, inr, arith}
 use Rattle.std.specs.List.{AllByRecursion, AllZip}
-use Rattle.std.proofs.lemmas.List.Elements.{recursion_from_All}
+use Rattle.std.proofs.lemmas.List.Elements.{All-from_recursion, recursion_from_All}
 use Rattle.std.proofs.lemmas.Option.{slice_get_within}
 use Rattle.sqlite.specs.Tree.{Trees}
 use Rattle.sqlite.specs.Store.{Ghosts}
@@ -44,6 +44,12 @@ zip_set R [] ys at was now f place h = absurd (let e = place in cc)
 zip_set R (x ∷ xs) [] at was now f place h = absurd h
 zip_set R (x ∷ xs) (y ∷ ys) zero was now f place h = let same : x ≡ was = cc in (f y (subst (λ z. R z y) same h.0), h.1)
 zip_set R (x ∷ xs) (y ∷ ys) (suc at) was now f place h = (h.0, zip_set R xs ys at was now f place h.1)
+
+-- what all have after one was set, and that one had before
+set_back : {A : Type 0} (P : A → Type 0) (xs : List A) (at : ℕ) (was now : A) → slice_get xs at ≡ Some was → P was → AllByRecursion P (slice_set xs at now) → AllByRecursion P xs
+set_back P [] at was now place here h = tt
+set_back P (x ∷ xs) zero was now place here h = let same : x ≡ was = cc in (subst P (sym same) here, h.1)
+set_back P (x ∷ xs) (suc at) was now place here h = (h.0, set_back P xs at was now place here h.1)
 
 -- what goes together by a fact of the first
 zip_so : {A B : Type 0} (P : A → Type 0) (R Q : A → B → Type 0) → ((x : A) (y : B) → P x → R x y → Q x y) → (xs : List A) (ys : List B) → AllByRecursion P xs → AllZip R xs ys → AllZip Q xs ys
@@ -200,6 +206,16 @@ module _ {S : Type 0} (g : Ghosts S) (shuts : Shuts g) (settles : Settles g) whe
   same_conn : {E : Type 0} (r : Receipt) (sums : Sums) (was : Member S) (last : Held S) (reply : Result (Unit {0}) E) → (turned g r sums was last reply).conn ≡ last
   same_conn r sums was last (Ok x) = refl
   same_conn r sums was last (Err e) = refl
+
+  -- where all disks are clean after a turn, they were so before
+  pub clean_turn : {E : Type 0} (r : Receipt) (command : Command) (sums : Sums) (old new : List (Member S)) (at : ℕ) (reply : Result (Unit {0}) E) → CarriesOutAt g r command sums old new at reply → AllClean g new → AllClean g old
+  clean_turn {E} r command sums old new at reply it clean =
+      let Clean : Member S → Type 0 = λ m. HasCleanDisk (state g m.conn) in
+      let now : Member S = turned g r sums it.was it.last reply in
+      let last : HasCleanDisk (state g it.last) = subst (λ h. HasCleanDisk (state g h)) (same_conn r sums it.was it.last reply)
+          (at_set Clean old at now (slice_get_within old at it.was it.place) (subst (AllClean g) it.others clean)) in
+      let was : Clean it.was = omega (arith, it.turn.turns.survives.clean, last) in
+      All-from_recursion Clean old (set_back Clean old at it.was now it.place was (recursion_from_All Clean (slice_set old at now) (subst (AllClean g) it.others clean)))
 
   -- what a crash leaves of open stores at rest
   each_leaves : (members : List (Member S)) (count : ℕ) (w : World) → AllRest g members → AllOpen g members → AreMembers g members count w → EachLeaves g (λ m. m.conn) (LeftAs w.frame) members w.packages

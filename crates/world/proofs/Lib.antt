@@ -18,3 +18,5 @@ pub mod Placed
 pub mod Questions
 pub mod AskedOne
 pub mod Overfull
+pub mod Served
+pub mod Keeping

@@ -1,5 +1,5 @@
 -- What a request comes to before anything is written: the reply, or the change that is due. Profile.
-use Rattle.std.specs.Prelude.{◌≡◌, ◌<◌, ℕ, ◌+◌, true, List, length, Option, Some, None, Ok, slice_get}
+use Rattle.std.specs.Prelude.{◌≡◌, ◌<◌, ◌≤◌, ℕ, ◌+◌, true, List, length, Option, Some, None, Ok, slice_get}
 use Rattle.std.specs.Bool.{then_some}
 use Rattle.std.specs.Option.{option_or}
 use Rattle.sheet_types.specs.Custody.{kept}
@@ -40,7 +40,7 @@ abbrev pub Decides : World → Request → Decision → Type 0
 Decides w q (Answered reply) = outcome w q ≡ (reply, w)
 Decides w q (Due due) = (due.receipt ≡ receipt_of w q) × (outcome w q ≡ (Ok due.receipt, world_after due.receipt q.command w)) × IsDue w due.at due.receipt q.command due.sums
 
--- A change that is due has its place among the members, and its receipt the next number.
+-- A change that is due has its place among the members, and its receipt the next number, which is not too great.
 abbrev pub HasPlace : {S : Type 0} → List (Member S) → ℕ → Decision → Type 0
 HasPlace members count (Answered reply) = Unit {0}
-HasPlace members count (Due due) = (due.at < length members) × (due.receipt.seq ≡ count + 1)
+HasPlace members count (Due due) = (due.at < length members) × (due.receipt.seq ≡ count + 1) × (count + 1 ≤ 1000000000)

@@ -10,3 +10,6 @@ pub mod Steps
 pub mod Asking
 pub mod TooMany
 pub mod Deciding
+pub mod Serving
+pub mod Faults
+pub mod Worlds

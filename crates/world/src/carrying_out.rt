@@ -1,8 +1,12 @@
 // The change of one package that a command asks for, with its receipt, in one transaction of the package's store.
-ghost use Rattle.std.specs.Prelude.{◌≡◌, IsTrue};
+ghost use Rattle.std.specs.Prelude.{◌≡◌, ◌≢◌, ◌↔◌, IsTrue};
 ghost use Rattle.sqlite.specs.Held.{state};
 ghost use Rattle.sql_meaning.specs.Transactions.{Rests, Steps, Turns};
 ghost use Rattle.identity_register.specs.Calls.{Becomes};
+ghost use Rattle.package_tables.specs.Faults.{fault_of};
+ghost use Rattle.package_tables.specs.declared.fault.Fault.TheVariants.{OutOfMemory};
+ghost use Rattle.world.specs.Faults.{turn_refusal};
+ghost use Rattle.world.specs.declared.carrying_out.TurnFault.TheVariants.{Before, Committing};
 ghost use Rattle.world.specs.Carrying.{Meets, changed_by, Fits, after_command};
 
 use custody::enter;
@@ -11,7 +15,66 @@ use identity_register::changes::{delete, link, unlink};
 use package_tables::fault::Fault;
 use sheet_types::command::{Command, Relation};
 use sheet_types::receipt::Receipt;
-use sqlite::{Alter, Connection, Transaction};
+use sheet_types::refusal::Refusal;
+use sqlite::{Alter, Connection, Error, Transaction};
+use std::fmt;
+
+/// Where the change of a package failed: before its commit, or when it was committed. In the second case the store may have it or not.
+#[derive(Clone, Copy, PartialEq, Eq, Debug, thiserror::Error)]
+pub enum TurnFault {
+    #[error("{0}")]
+    Before(Fault),
+    #[error("{0}")]
+    Committing(Fault),
+}
+
+impl TurnFault {
+    /// Whether the world is not to be used any more: its store failed, or may have a change or not.
+    pub fn is_lasting(&self) -> bool
+        ensures { IsTrue result ↔ (self.now ≢ Before OutOfMemory) }
+    {
+        match self {
+            TurnFault::Before(fault) => *fault == Fault::StoreFault,
+            TurnFault::Committing(_) => true,
+        }
+    }
+
+    /// How it is told in a reply.
+    pub fn refusal(&self) -> Refusal
+        ensures { result ≡ turn_refusal self.now }
+    {
+        match self {
+            TurnFault::Before(fault) | TurnFault::Committing(fault) => match fault {
+                Fault::OutOfMemory => Refusal::OutOfMemory,
+                Fault::StoreFault => Refusal::StoreFault,
+            },
+        }
+    }
+}
+
+impl From<TurnFault> for Fault {
+    fn from(turn: TurnFault) -> Fault {
+        match turn {
+            TurnFault::Before(fault) | TurnFault::Committing(fault) => fault,
+        }
+    }
+}
+
+impl From<Fault> for TurnFault {
+    ghost from_gives = { λ fault turn. turn ≡ Before fault };
+
+    fn from(fault: Fault) -> TurnFault {
+        TurnFault::Before(fault)
+    }
+}
+
+impl From<Error> for TurnFault {
+    ghost from_gives = { λ error turn. turn ≡ Committing (fault_of error) };
+
+    fn from(error: Error) -> TurnFault {
+        TurnFault::Committing(Fault::from(error))
+    }
+}
 
 /// Makes the change that a command asks for, without its receipt. A split and a merge are not one change of one package, and are a fault here.
 fn make_change<S: Alter>(tx: &mut Transaction<'_, S>, command: &Command) -> Result<(), Fault>
@@ -73,7 +136,7 @@ pub fn apply_to_package<S: Alter>(
     conn: &mut Connection<S>,
     command: &Command,
     receipt: &Receipt,
-) -> Result<(), Fault>
+) -> Result<(), TurnFault>
     requires { Rests (state S.Store conn.old) }
     ensures turns { Turns (λ _. Becomes (Fits receipt.now command.now) (after_command receipt.now command.now)) (state S.Store conn.old) (state S.Store conn.new) result }
     ensures was_open { IsTrue (state S.Store conn.new).is_open → IsTrue (state S.Store conn.old).is_open }

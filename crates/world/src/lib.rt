@@ -1,6 +1,7 @@
 //! The world of live packages that requests change. So far the parts that a request of four commands needs, over a list of open stores; nothing calls them in turn yet.
 #![tactic(auto)]
 
+pub mod applying;
 pub mod asking;
 pub mod asking_one;
 #[cfg(test)]
@@ -29,3 +30,4 @@ mod too_many_tests;
 pub mod turning;
 #[cfg(test)]
 mod turning_tests;
+pub mod world;

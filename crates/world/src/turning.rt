@@ -2,12 +2,11 @@
 ghost use Rattle.std.specs.Prelude.{◌≡◌, ◌<◌, ℕ, ◌+◌, length, vec_capacity, OnOk, OnErr};
 ghost use Rattle.sheet_types.specs.World.{World};
 ghost use Rattle.sql_meaning.specs.Stores.{LeavesEither};
-ghost use Rattle.world.specs.Members.{AllRest, AreMembers};
+ghost use Rattle.world.specs.Members.{AllRest, AllClean, AreMembers};
 ghost use Rattle.world.specs.Turning.{CarriesOutAt, IsDue, DueWhereAccepted, AllOpen, LeftAs, world_after};
 
-use crate::carrying_out::apply_to_package;
+use crate::carrying_out::{TurnFault, apply_to_package};
 use crate::members::Member;
-use package_tables::fault::Fault;
 use sheet_types::command::Command;
 use sheet_types::receipt::{Receipt, Sums};
 use sqlite::Alter;
@@ -19,11 +18,12 @@ pub fn turn_at<S: Alter + Drop>(
     command: &Command,
     receipt: &Receipt,
     sums: Sums,
-) -> Result<(), Fault>
+) -> Result<(), TurnFault>
     requires within { at < length members.old.items }
     requires rests { AllRest S.Store members.old.items }
     ensures turned { CarriesOutAt S.Store receipt.now command.now sums members.old.items members.new.items at result }
     ensures rests { AllRest S.Store members.new.items }
+    ensures clean { AllClean S.Store members.new.items → AllClean S.Store members.old.items }
     ensures capacity { vec_capacity members.new ≡ vec_capacity members.old }
     ensures done { OnOk result ((w : World) (count : ℕ) → AreMembers S.Store members.old.items count w → IsDue w at receipt.now command.now sums → AreMembers S.Store members.new.items (count + 1) (world_after receipt.now command.now w)) }
     ensures undone { OnErr result ((w : World) (count : ℕ) → AreMembers S.Store members.old.items count w → AreMembers S.Store members.new.items count w) }

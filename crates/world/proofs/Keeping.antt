@@ -1,0 +1,71 @@
+-- What a world keeps of what it stands for, when one request was served.
+use Rattle.std.proofs.Common.{◌≡◌, refl, sym, ap, subst, ◌∙◌, ℕ, ◌≤◌, Bool, List, Result, Ok, Err, IsErr, IsTrue, inl, inr}
+use Rattle.sqlite.specs.Store.{Ghosts}
+use Rattle.sheet_types.specs.Matrix.{is_good_frame}
+use Rattle.sheet_types.specs.Step.{Step, IsFault, outcome}
+use Rattle.sheet_types.specs.World.{World}
+use Rattle.sheet_types.specs.declared.command.Request.{Request}
+use Rattle.sheet_types.specs.declared.frame.Frame.{Frame}
+use Rattle.sheet_types.specs.declared.receipt.Receipt.{Receipt}
+use Rattle.sheet_types.specs.declared.refusal.Refusal.{Refusal}
+use Rattle.package_tables.specs.declared.fault.Fault.TheVariants as fault
+use Rattle.world.specs.Faults.{turn_refusal}
+use Rattle.world.specs.Members.{AllRest, AllClean, AreMembers}
+use Rattle.world.specs.Serving.{Serves, IsServedBy}
+use Rattle.world.specs.Worlds.{Seen, StandsFor, IsHeld, IsStep, StandsStill}
+use Rattle.world.specs.declared.carrying_out.TurnFault.{TurnFault}
+use Rattle.world.specs.declared.carrying_out.TurnFault.TheVariants.{Before, Committing}
+use Rattle.world.specs.declared.members.Member.{Member}
+
+-- a fault is told as a fault
+is_fault : (e : TurnFault) → IsFault (Err (turn_refusal e))
+is_fault (Before fault.OutOfMemory) = inl refl
+is_fault (Before fault.StoreFault) = inr refl
+is_fault (Committing fault.OutOfMemory) = inl refl
+is_fault (Committing fault.StoreFault) = inr refl
+
+module _ {S : Type 0} (g : Ghosts S) where
+  -- After a step there is a world that it stands for, if there was one before.
+  pub held_after : (q : Request) (old new : Seen S) (reply : Result Receipt Refusal) → IsHeld g old → new.frame ≡ old.frame → AllRest g new.members → new.count ≤ 1000000000 → IsStep g q old reply new → IsHeld g new
+  held_after q old new reply held frame rests counted it = record {
+    rests = rests;
+    good = rw frame held.good;
+    counted = counted;
+    stands = λ clean.
+        let before : (w : World) × StandsFor g old w = held.stands (it.clean clean) in
+        let after = it.step clean before.0 before.1 in
+        (after.0, after.2);
+  }
+
+  module _ (f : Frame) (q : Request) (old new : List (Member S)) (before after : ℕ) (r : Result (Result Receipt Refusal) TurnFault) (it : Serves g f q old new before after r) (was_failed has_failed : Bool) (was : Seen S)
+      (seen : record { frame = f; members = old; count = before; has_failed = was_failed } ≡ was) where
+    stood : (w : World) → StandsFor g was w → (f ≡ w.frame) × AreMembers g old before w
+    stood w stands = (ap (λ s. s.frame) seen ∙ stands.frame, subst (λ ms. AreMembers g ms before w) (sym (ap (λ s. s.members) seen)) (subst (λ n. AreMembers g was.members n w) (sym (ap (λ s. s.count) seen)) stands.members))
+
+    were_clean : AllClean g new → AllClean g was.members
+    were_clean clean = subst (AllClean g) (ap (λ s. s.members) seen) (it.clean clean)
+
+    -- a reply is a step
+    pub step_replied : (reply : Result Receipt Refusal) → r ≡ Ok reply → IsStep g q was reply (record { frame = f; members = new; count = after; has_failed = has_failed })
+    step_replied reply is = record {
+      clean = were_clean;
+      step = λ clean w stands.
+          let both = stood w stands in
+          let served : IsServedBy g w q new after reply = it.told clean reply is w both.0 both.1 in
+          (served.0, inl (sym (ap (λ o. o.0) served.1), sym (ap (λ o. o.1) served.1)), record { frame = both.0 ∙ sym served.2; members = served.3 });
+    }
+
+    -- and so is a fault
+    pub step_failed : (e : TurnFault) → r ≡ Err e → (why : Refusal) → why ≡ turn_refusal e → IsStep g q was (Err why) (record { frame = f; members = new; count = after; has_failed = has_failed })
+    step_failed e is why told = record {
+      clean = were_clean;
+      step = λ clean w stands. (w, inr (subst (λ x. IsFault (Err x)) (sym told) (is_fault e), refl), record { frame = (stood w stands).0; members = it.failed e is w (stood w stands).1 });
+    }
+
+    -- a refusal leaves it standing for what it stood for
+    pub still_replied : (reply : Result Receipt Refusal) → r ≡ Ok reply → StandsStill g was reply (record { frame = f; members = new; count = after; has_failed = has_failed })
+    still_replied (Ok receipt) is refused w stands = absurd (let e = refused in cc)
+    still_replied (Err why) is refused w stands = record { frame = (stood w stands).0; members = it.refused why is w (stood w stands).1 }
+
+    pub still_failed : (e : TurnFault) → r ≡ Err e → (why : Refusal) → StandsStill g was (Err why) (record { frame = f; members = new; count = after; has_failed = has_failed })
+    still_failed e is why refused w stands = record { frame = (stood w stands).0; members = it.failed e is w (stood w stands).1 }

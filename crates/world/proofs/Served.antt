@@ -1,0 +1,111 @@
+-- What serving a request says in each of the ways in which it ends.
+use Rattle.std.proofs.Common.{◌≡◌, refl, sym, ap, subst, ◌∙◌, ℕ, ◌+◌, ◌≤◌, List, Result, Ok, Err, IsErr, OnErr, IsTrue}
+use Rattle.sqlite.specs.Store.{Ghosts}
+use Rattle.sheet_types.specs.Step.{outcome}
+use Rattle.sheet_types.specs.World.{World}
+use Rattle.sheet_types.specs.declared.command.Command.{Command}
+use Rattle.sheet_types.specs.declared.command.Request.{Request}
+use Rattle.sheet_types.specs.declared.frame.Frame.{Frame}
+use Rattle.sheet_types.specs.declared.receipt.Receipt.{Receipt}
+use Rattle.sheet_types.specs.declared.refusal.Refusal.{Refusal}
+use Rattle.package_tables.specs.declared.fault.Fault.{Fault}
+use Rattle.world.specs.Asking.{AsksAll}
+use Rattle.world.specs.Deciding.{IsAskedOf, Decides, HasPlace}
+use Rattle.world.specs.Laws.{IsServed}
+use Rattle.world.specs.Members.{AllRest, AllClean, AreMembers}
+use Rattle.world.specs.Serving.{Changes, Serves, IsServedBy}
+use Rattle.world.specs.Turning.{IsDue, world_after}
+use Rattle.world.specs.declared.carrying_out.TurnFault.{TurnFault}
+use Rattle.world.specs.declared.deciding.Change.{Change}
+use Rattle.world.specs.declared.deciding.Decision.{Decision}
+use Rattle.world.specs.declared.deciding.Decision.TheVariants.{Answered, Due}
+use Rattle.world.specs.declared.members.Member.{Member}
+use Rattle.world.proofs.Standing.{members_stay, clean_before}
+
+not_ok : {X E : Type 0} (r : Result X E) (x : X) → IsErr r → r ≡ Ok x → ⊥
+not_ok (Ok y) x failed is = absurd (let f = failed in cc)
+not_ok (Err e) x failed is = cc
+
+module _ {S : Type 0} (g : Ghosts S) where
+  -- a change that failed
+  pub changes_failed : (change : Change) (command : Command) (old new : List (Member S)) (count : ℕ) (r : Result Receipt TurnFault) → IsErr r → AllRest g new → (AllClean g new → AllClean g old)
+      → ((w : World) (n : ℕ) → AreMembers g old n w → AreMembers g new n w) → Changes g change command old new count count r
+  changes_failed change command old new count r failed rests clean undone = record {
+    rests = rests;
+    clean = clean;
+    ok = λ receipt is. absurd (not_ok r receipt failed is);
+    err = λ fault is. (refl, λ w are. undone w count are);
+  }
+
+  -- and one that was carried out
+  pub changes_done : (change : Change) (command : Command) (old new : List (Member S)) (before after : ℕ) → AllRest g new → (AllClean g new → AllClean g old) → after ≡ before + 1
+      → ((w : World) (n : ℕ) → AreMembers g old n w → IsDue w change.at change.receipt command change.sums → AreMembers g new (n + 1) (world_after change.receipt command w))
+      → Changes g change command old new before after (Ok change.receipt)
+  changes_done change command old new before after rests clean counted done = record {
+    rests = rests;
+    clean = clean;
+    ok = λ receipt is. (let same : receipt ≡ change.receipt = cc in same, counted, λ w are due. done w before are due);
+    err = λ fault is. absurd (let e = is in cc);
+  }
+
+  module _ (f : Frame) (q : Request) (served : IsServed q.command) (old mid : List (Member S)) (before : ℕ) (low : before ≤ 1000000000) where
+    asked : (w : World) → f ≡ w.frame → AreMembers g old before w → IsAskedOf f before q w
+    asked w same are = record { frame = same; counted = are.counted; served = served }
+
+    module _ {E : Type 0} {r : Result Decision E} (it : AsksAll g {X = Decision} {E = E} (λ w decision. IsAskedOf f before q w → Decides w q decision) old mid r) where
+      -- no decision was come to
+      pub serves_undecided : (reply : Result (Result Receipt Refusal) TurnFault) → IsErr reply → Serves g f q old mid before before reply
+      serves_undecided reply failed = record {
+        rests = it.rests;
+        counted = low;
+        clean = clean_before g old mid it.stay;
+        told = λ clean answer is. absurd (not_ok reply answer failed is);
+        refused = λ why is. absurd (not_ok reply (Err why) failed is);
+        failed = λ fault is w are. members_stay g old mid before w it.stay are;
+      }
+
+      told_by : (decision : Decision) → r ≡ Ok decision → AllClean g mid → (w : World) → f ≡ w.frame → AreMembers g old before w → Decides w q decision
+      told_by decision is clean w same are =
+          let here : AsksAll g {X = Decision} {E = E} (λ w decision. IsAskedOf f before q w → Decides w q decision) old mid (Ok decision) = subst (AsksAll g (λ w decision. IsAskedOf f before q w → Decides w q decision) old mid) is it in
+          here.told clean w before are (asked w same are)
+
+      -- it is answered at once
+      pub serves_answered : (answer : Result Receipt Refusal) → r ≡ Ok (Answered answer) → Serves g f q old mid before before (Ok answer)
+      serves_answered answer is = record {
+        rests = it.rests;
+        counted = low;
+        clean = clean_before g old mid it.stay;
+        told = λ clean reply same_reply w same are.
+            let answered : answer ≡ reply = cc in
+            (w, told_by (Answered answer) is clean w same are ∙ ap (λ x. (x, w)) answered, refl, members_stay g old mid before w it.stay are);
+        refused = λ why is w are. members_stay g old mid before w it.stay are;
+        failed = λ fault is. absurd (let e = is in cc);
+      }
+
+      module _ (change : Change) (is : r ≡ Ok (Due change)) (new : List (Member S)) (after : ℕ) where
+        -- the change that was due failed
+        pub serves_failed : {made : Result Receipt TurnFault} {e : TurnFault} → made ≡ Err e → Changes g change q.command mid new before after made → (reply : Result (Result Receipt Refusal) TurnFault) → IsErr reply → Serves g f q old new before after reply
+        serves_failed {made} {e} failed changes reply err = record {
+          rests = changes.rests;
+          counted = rw (changes.err e failed).0 low;
+          clean = λ clean. clean_before g old mid it.stay (changes.clean clean);
+          told = λ clean answer is. absurd (not_ok reply answer err is);
+          refused = λ why is. absurd (not_ok reply (Err why) err is);
+          failed = λ fault is w are. subst (λ n. AreMembers g new n w) (sym (changes.err e failed).0) ((changes.err e failed).1 w (members_stay g old mid before w it.stay are));
+        }
+
+        -- and it was carried out
+        pub serves_carried_out : {made : Result Receipt TurnFault} {receipt : Receipt} → made ≡ Ok receipt → before + 1 ≤ 1000000000 → Changes g change q.command mid new before after made → Serves g f q old new before after (Ok (Ok receipt))
+        serves_carried_out {made} {receipt} went next changes = record {
+          rests = changes.rests;
+          counted = rw (changes.ok receipt went).1 next;
+          clean = λ clean. clean_before g old mid it.stay (changes.clean clean);
+          told = λ clean reply same_reply w same are.
+              let done = changes.ok receipt went in
+              let decided : Decides w q (Due change) = told_by (Due change) is (changes.clean clean) w same are in
+              let replied : Ok receipt ≡ reply = cc in
+              (world_after change.receipt q.command w, decided.1 ∙ ap (λ x. (Ok x, world_after change.receipt q.command w)) (sym done.0) ∙ ap (λ x. (x, world_after change.receipt q.command w)) replied, refl,
+                  subst (λ n. AreMembers g new n (world_after change.receipt q.command w)) (sym done.1) (done.2 w (members_stay g old mid before w it.stay are) decided.2));
+          refused = λ why is. absurd (let e = is in cc);
+          failed = λ fault is. absurd (let e = is in cc);
+        }

@@ -1,0 +1,15 @@
+-- How a fault of a store is told in a reply. Profile.
+use Rattle.sheet_types.specs.declared.refusal.Refusal.{Refusal}
+use Rattle.sheet_types.specs.declared.refusal.Refusal.TheVariants.{OutOfMemory, StoreFault}
+use Rattle.package_tables.specs.declared.fault.Fault.{Fault}
+use Rattle.package_tables.specs.declared.fault.Fault.TheVariants as fault
+use Rattle.world.specs.declared.carrying_out.TurnFault.{TurnFault}
+use Rattle.world.specs.declared.carrying_out.TurnFault.TheVariants.{Before, Committing}
+
+abbrev pub fault_refusal : Fault → Refusal
+fault_refusal fault.OutOfMemory = OutOfMemory
+fault_refusal fault.StoreFault = StoreFault
+
+abbrev pub turn_refusal : TurnFault → Refusal
+turn_refusal (Before fault) = fault_refusal fault
+turn_refusal (Committing fault) = fault_refusal fault

@@ -1,0 +1,37 @@
+-- What one request makes of the members of a world, and what is replied. Profile.
+use Rattle.std.specs.Prelude.{◌≡◌, ◌≤◌, ℕ, ◌+◌, List, Result, Ok, Err, IsTrue}
+use Rattle.sqlite.specs.Store.{Ghosts}
+use Rattle.sheet_types.specs.Step.{outcome}
+use Rattle.sheet_types.specs.World.{World}
+use Rattle.sheet_types.specs.declared.command.Command.{Command}
+use Rattle.sheet_types.specs.declared.command.Request.{Request}
+use Rattle.sheet_types.specs.declared.frame.Frame.{Frame}
+use Rattle.sheet_types.specs.declared.receipt.Receipt.{Receipt}
+use Rattle.sheet_types.specs.declared.refusal.Refusal.{Refusal}
+use Rattle.world.specs.Members.{AllRest, AllClean, AreMembers}
+use Rattle.world.specs.Turning.{IsDue, world_after}
+use Rattle.world.specs.declared.carrying_out.TurnFault.{TurnFault}
+use Rattle.world.specs.declared.deciding.Change.{Change}
+use Rattle.world.specs.declared.members.Member.{Member}
+
+module _ {S : Type 0} (g : Ghosts S) where
+  -- A change that is due was carried out: the receipt is the reply and its number the new count. Or it failed, and nothing has changed.
+  pub record Changes (change : Change) (command : Command) (old new : List (Member S)) (before after : ℕ) (r : Result Receipt TurnFault) : Type 0 where
+    pub rests : AllRest g new
+    pub clean : AllClean g new → AllClean g old
+    pub ok : (receipt : Receipt) → r ≡ Ok receipt → (receipt ≡ change.receipt) × (after ≡ before + 1)
+        × ((w : World) → AreMembers g old before w → IsDue w change.at change.receipt command change.sums → AreMembers g new (before + 1) (world_after change.receipt command w))
+    pub err : (fault : TurnFault) → r ≡ Err fault → (after ≡ before) × ((w : World) → AreMembers g old before w → AreMembers g new before w)
+
+  -- The reply, and what the members stand for afterwards, are those of the model.
+  abbrev pub IsServedBy : World → Request → List (Member S) → ℕ → Result Receipt Refusal → Type 0
+  IsServedBy w q new after reply = (next : World) × (outcome w q ≡ (reply, next)) × (next.frame ≡ w.frame) × AreMembers g new after next
+
+  -- One request was served. Where each disk has given back what was written, it was served as the model says; and unless the reply is a receipt the members stand for what they stood for.
+  pub record Serves (f : Frame) (q : Request) (old new : List (Member S)) (before after : ℕ) (r : Result (Result Receipt Refusal) TurnFault) : Type 0 where
+    pub rests : AllRest g new
+    pub counted : after ≤ 1000000000
+    pub clean : AllClean g new → AllClean g old
+    pub told : AllClean g new → (reply : Result Receipt Refusal) → r ≡ Ok reply → (w : World) → f ≡ w.frame → AreMembers g old before w → IsServedBy w q new after reply
+    pub refused : (why : Refusal) → r ≡ Ok (Err why) → (w : World) → AreMembers g old before w → AreMembers g new after w
+    pub failed : (fault : TurnFault) → r ≡ Err fault → (w : World) → AreMembers g old before w → AreMembers g new after w

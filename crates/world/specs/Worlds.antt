@@ -1,0 +1,69 @@
+-- What a clause sees of a value of `World`, and the world of the model that it stands for. Profile.
+use Rattle.std.specs.Prelude.{◌≡◌, ◌⊎◌, ◌≤◌, ℕ, ℤ, Bool, List, Option, Result, Err, IsTrue, IsErr, IfOk, refl}
+use Rattle.std.specs.Coded.{Coded, code_by, coded×, coded_bool, coded_list, coded_option, coded_ℕ, coded_ℤ}
+use Rattle.sqlite.specs.Store.{Ghosts}
+use Rattle.sqlite.specs.Held.{Held, held_code}
+use Rattle.sheet_types.specs.Matrix.{is_good_frame}
+use Rattle.sheet_types.specs.Step.{Step}
+use Rattle.sheet_types.specs.World.{World}
+use Rattle.sheet_types.specs.declared.command.Request.{Request}
+use Rattle.sheet_types.specs.declared.frame.Frame.{Frame}
+use Rattle.sheet_types.specs.declared.receipt.Receipt.{Receipt}
+use Rattle.sheet_types.specs.declared.receipt.Sums.{Sums}
+use Rattle.sheet_types.specs.declared.refusal.Refusal.{Refusal}
+use Rattle.world.specs.Members.{AllRest, AllClean, AreMembers}
+use Rattle.world.specs.declared.members.Member.{Member}
+
+-- the frame, the members in the order of their UUIDs, the number of all receipts, and whether the world has failed
+pub record Seen (S : Type 0) : Type 0 where
+  pub frame : Frame
+  pub members : List (Member S)
+  pub count : ℕ
+  pub has_failed : Bool
+
+-- ---- as values that a model may have
+
+abbrev Eleven : Type 0
+Eleven = ℤ × (ℤ × (ℤ × (ℤ × (ℤ × (ℤ × (ℤ × (ℤ × (ℤ × (ℤ × ℤ)))))))))
+
+abbrev frame_code : Coded Frame
+frame_code = code_by Eleven (coded× coded_ℤ (coded× coded_ℤ (coded× coded_ℤ (coded× coded_ℤ (coded× coded_ℤ (coded× coded_ℤ (coded× coded_ℤ (coded× coded_ℤ (coded× coded_ℤ (coded× coded_ℤ coded_ℤ))))))))))
+    (λ f. (f.srs_id, (f.min_x, (f.min_y, (f.max_x, (f.max_y, (f.tile_width, (f.tile_height, (f.first_zoom, (f.levels, (f.matrix_width, f.matrix_height)))))))))))
+    (λ p. record { srs_id = p.0; min_x = p.1.0; min_y = p.1.1.0; max_x = p.1.1.1.0; max_y = p.1.1.1.1.0; tile_width = p.1.1.1.1.1.0; tile_height = p.1.1.1.1.1.1.0; first_zoom = p.1.1.1.1.1.1.1.0; levels = p.1.1.1.1.1.1.1.1.0; matrix_width = p.1.1.1.1.1.1.1.1.1.0; matrix_height = p.1.1.1.1.1.1.1.1.1.1 })
+    (λ _. refl)
+
+abbrev sums_code : Coded Sums
+sums_code = code_by (ℕ × (ℕ × (ℕ × (ℕ × ℕ)))) (coded× coded_ℕ (coded× coded_ℕ (coded× coded_ℕ (coded× coded_ℕ coded_ℕ))))
+    (λ s. (s.tiles, (s.media, (s.rows, (s.links, s.bytes))))) (λ p. record { tiles = p.0; media = p.1.0; rows = p.1.1.0; links = p.1.1.1.0; bytes = p.1.1.1.1 }) (λ _. refl)
+
+abbrev member_code : {S : Type 0} → Coded S → Coded (Member S)
+member_code {S} store = code_by (Held S × (List ℕ × (Option (List ℕ) × (ℕ × (ℕ × (Sums × ℕ)))))) (coded× (held_code store) (coded× (coded_list coded_ℕ) (coded× (coded_option (coded_list coded_ℕ)) (coded× coded_ℕ (coded× coded_ℕ (coded× sums_code coded_ℕ))))))
+    (λ m. (m.conn, (m.uuid, (m.parent, (m.depth, (m.loan, (m.sums, m.ticket))))))) (λ p. record { conn = p.0; uuid = p.1.0; parent = p.1.1.0; depth = p.1.1.1.0; loan = p.1.1.1.1.0; sums = p.1.1.1.1.1.0; ticket = p.1.1.1.1.1.1 }) (λ _. refl)
+
+abbrev pub seen_code : {S : Type 0} → Coded S → Coded (Seen S)
+seen_code {S} store = code_by (Frame × (List (Member S) × (ℕ × Bool))) (coded× frame_code (coded× (coded_list (member_code store)) (coded× coded_ℕ coded_bool)))
+    (λ w. (w.frame, (w.members, (w.count, w.has_failed)))) (λ p. record { frame = p.0; members = p.1.0; count = p.1.1.0; has_failed = p.1.1.1 }) (λ _. refl)
+
+-- ---- what it stands for
+
+module _ {S : Type 0} (g : Ghosts S) where
+  -- Its frame is that of the world, and its members are the world's packages.
+  pub record StandsFor (seen : Seen S) (w : World) : Type 0 where
+    pub frame : seen.frame ≡ w.frame
+    pub members : AreMembers g seen.members seen.count w
+
+  -- What each value of `World` keeps. Where each disk has given back what was written, there is a world that it stands for, and so a register.
+  pub record IsHeld (seen : Seen S) : Type 0 where
+    pub rests : AllRest g seen.members
+    pub good : IsTrue (is_good_frame seen.frame)
+    pub counted : seen.count ≤ 1000000000
+    pub stands : AllClean g seen.members → (w : World) × StandsFor seen w
+
+  -- The reply and the world afterwards are a step of each world that it stood for, where each disk has given back what was written.
+  pub record IsStep (q : Request) (old : Seen S) (reply : Result Receipt Refusal) (new : Seen S) : Type 0 where
+    pub clean : AllClean g new.members → AllClean g old.members
+    pub step : AllClean g new.members → (w : World) → StandsFor old w → (next : World) × Step w q reply next × StandsFor new next
+
+  -- After a refusal it stands for each world that it stood for, whatever the disks do.
+  abbrev pub StandsStill : Seen S → Result Receipt Refusal → Seen S → Type 0
+  StandsStill old reply new = IsErr reply → (w : World) → StandsFor old w → StandsFor new w
