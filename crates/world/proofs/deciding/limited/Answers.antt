@@ -1,9 +1,13 @@
 -- The members tell whether it leaves too many, as the sums after it are counted or not.
-use Rattle.std.proofs.Common.{◌≡◌, ◌∙◌, refl, sym, ap, subst, Some, slice_get}
+use Rattle.std.proofs.Common.{◌≡◌, ◌∙◌, refl, sym, ap, subst, Some, slice_get, ◌+◌, ◌||◌, length}
+use Rattle.std.specs.Prelude.{nat_lt}
+use Rattle.std.specs.List.{list_any}
+use Rattle.std.proofs.lemmas.Bool.{or_parts, ltb-false}
+use Rattle.world.specs.TooMany.{sums_with}
 use Rattle.std.proofs.lemmas.Option.{slice_get_read}
 use Rattle.sheet_types.specs.Step.{receipt_of}
 use Rattle.sheet_types.specs.declared.receipt.Sums.{Sums}
-use Rattle.world.specs.Steps.{sums_moved, sums_after}
+use Rattle.world.specs.Steps.{is_past_limits, sums_moved, sums_after}
 use Rattle.world.specs.Sums.{CanCount}
 use Rattle.world.specs.declared.members.Member.{Member}
 use Rattle.world.proofs.Decided.{limited_uncounted, limited_past, limited_due}
@@ -31,3 +35,8 @@ returns-in-Some-2-clause-decides g c = λ w are placed before made.
     limited_due g.S.Store c.args.members.now c.args.count c.args.at c.args.request.now w c.index-members-at.result are placed place c.fits.ensures (c.has_types.ensures placed.asked.served) before c.in-Some.sums c.args.receipt
     (c.in-Some.ensures.1 ∙ ap (λ (m : Member g.row.S.Denot). sums_after c.args.request.now.command c.sums_moved.result m.sums) (sym c.index-members-at.is)
     ∙ ap (λ (s : Sums). sums_after c.args.request.now.command s c.index-members-at.result.sums) some) (sym c.is_too_many.ensures ∙ c.if-is_too_many.false) made
+
+pub returns-in-Some-2-clause-place : goal.returns-in-Some-2-clause-place
+returns-in-Some-2-clause-place g c =
+    let over = or_parts (list_any is_past_limits (sums_with c.args.members.now c.args.at c.in-Some.sums) || nat_lt 256 (length c.args.members.now)) (nat_lt 1000000000 (c.args.count + 1)) (sym c.is_too_many.ensures ∙ c.if-is_too_many.false) in
+    (c.requires.within, c.requires.number, ltb-false 1000000000 (c.args.count + 1) over.1)
