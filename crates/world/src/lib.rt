@@ -12,6 +12,8 @@ pub mod carrying_out;
 #[cfg(test)]
 mod carrying_tests;
 pub mod deciding;
+#[cfg(test)]
+mod deciding_tests;
 pub mod judging;
 pub mod laws;
 pub mod members;
