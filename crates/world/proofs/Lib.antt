@@ -20,3 +20,4 @@ pub mod AskedOne
 pub mod Overfull
 pub mod Served
 pub mod Keeping
+pub mod Beginning

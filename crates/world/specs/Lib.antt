@@ -13,3 +13,4 @@ pub mod Deciding
 pub mod Serving
 pub mod Faults
 pub mod Worlds
+pub mod Creating

@@ -18,7 +18,7 @@ use std::alloc::Global;
 use uuid::Uuid;
 
 /// Whether a store is not inside a transaction.
-fn is_at_rest<S: Alter>(conn: &Connection<S>) -> bool
+pub(crate) fn is_at_rest<S: Alter>(conn: &Connection<S>) -> bool
     ensures { IsTrue result → Rests (state S.Store conn.now) }
 {
     conn.is_autocommit()

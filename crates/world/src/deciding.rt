@@ -104,7 +104,7 @@ fn is_used<S: Alter + Drop>(members: &mut Vec<Member<S>>, command: &Command) -> 
 }
 
 // Each `Uuid` has sixteen bytes, since its text reads back as it (RFC 9562, section 4).
-fn fits(id: Uuid)
+pub(crate) fn fits(id: Uuid)
     ensures { IsUuid id }
 {
     let mut buffer = Uuid::encode_buffer();

@@ -11,6 +11,7 @@ mod asking_tests;
 pub mod carrying_out;
 #[cfg(test)]
 mod carrying_tests;
+pub mod creating;
 pub mod deciding;
 #[cfg(test)]
 mod deciding_tests;

@@ -1,18 +1,27 @@
 // An archive and its loans, and what requests make of them.
-ghost use Rattle.std.specs.Prelude.{◌≡◌, true, false, Err, IsTrue};
+ghost use Rattle.std.specs.Prelude.{◌≡◌, true, false, Err, IfOk, IsTrue};
+ghost use Rattle.sqlite.specs.Held.{state};
+ghost use Rattle.sheet_types.specs.World.{new_world};
+ghost use Rattle.sql_meaning.specs.Blank.{IsBlank, no_schema};
+ghost use Rattle.world.specs.Creating.{IsCreatedOrRefused};
+ghost use Rattle.world.specs.Members.{AllClean};
 ghost use Rattle.sheet_types.specs.declared.refusal.Refusal.TheVariants.{StoreFault};
 ghost use Rattle.world.specs.Laws.{IsServed};
-ghost use Rattle.world.specs.Worlds.{IsStep, StandsStill};
+ghost use Rattle.world.specs.Worlds.{StandsFor, IsStep, StandsStill};
 
 use crate::applying::serve;
+use crate::creating::{CreateFault, archive_alone};
 use crate::members::Member;
+use matrix_rules::check::FrameRules;
 use sheet_types::command::Request;
 use sheet_types::frame::Frame;
+use sheet_types::moments::is_moment;
 use sheet_types::receipt::Receipt;
 use sheet_types::refusal::Refusal;
-use sqlite::Alter;
+use sqlite::{Alter, Connection};
 use std::alloc::Global;
 use std::marker::Model;
+use uuid::Uuid;
 
 /// An archive and its loans: their stores, all of them open, with what is kept of each so that nothing is counted again.
 pub struct World<S: Alter + Drop> {
@@ -35,6 +44,38 @@ impl<S: Alter + Drop> Model for World<S> {
 }
 
 impl<S: Alter + Drop> World<S> {
+    /// The world of an archive alone, with nothing in it, in a store that is blank. The moment is that of its making.
+    ///
+    /// # Errors
+    ///
+    /// The first rule that the frame breaks, or else a text that is no moment; or, in place of a world, want of memory or a store that failed. The connection is dropped then.
+    pub fn create(
+        alloc: Global,
+        conn: Connection<S>,
+        archive: Uuid,
+        at: &str,
+        frame: &Frame,
+    ) -> Result<World<S>, CreateFault>
+        requires blank { IsBlank no_schema (state S.Store conn).now }
+        ensures made { IfOk result (λ world. AllClean S.Store world.members → StandsFor S.Store world (new_world archive frame.now)) }
+        ensures usable { IfOk result (λ world. world.has_failed ≡ false) }
+        ensures refused { IsCreatedOrRefused frame.now at.now result }
+    {
+        if let Err(broken) = frame.check() {
+            return Err(CreateFault::BadFrame(broken));
+        }
+        if !is_moment(at) {
+            return Err(CreateFault::BadText);
+        }
+        let members = archive_alone(alloc, conn, archive, at, frame)?;
+        Ok(World {
+            frame: *frame,
+            members,
+            count: 0,
+            has_failed: false,
+        })
+    }
+
     /// The frame of all packages.
     pub fn frame(&self) -> Frame
         ensures { result ≡ self.now.frame }

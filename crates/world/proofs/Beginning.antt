@@ -1,0 +1,33 @@
+-- The world of an archive with nothing in it.
+use Rattle.std.proofs.Common.{◌≡◌, refl, sym, subst, ℕ, List, [], ◌∷◌, ◌++◌, true, false, None, IsTrue, arith}
+use Rattle.sqlite.specs.Store.{Ghosts}
+use Rattle.sqlite.specs.Held.{Held, state}
+use Rattle.sqlite.specs.State.{HasCleanDisk}
+use Rattle.sheet_types.specs.Lines.{IsUuid}
+use Rattle.sheet_types.specs.Matrix.{is_good_frame, frame_fault}
+use Rattle.sheet_types.specs.World.{World, Package, new_world, no_package}
+use Rattle.sheet_types.specs.declared.frame.Frame.{Frame}
+use Rattle.ledger_laws.proofs.First.{new_world_is_register}
+use Rattle.identity_register.specs.Creation.{new_package, Keeps}
+use Rattle.world.specs.Members.{AllRest, AllClean, IsMember, AreMembers}
+use Rattle.world.specs.Worlds.{Seen, StandsFor, IsHeld}
+use Rattle.world.specs.declared.members.Member.{Member}
+
+module _ {S : Type 0} (g : Ghosts S) where
+  -- the archive's own member
+  abbrev pub first_member : List ℕ → Held S → Member S
+  first_member archive conn = record { conn = conn; uuid = archive; parent = None; depth = 0; loan = 0; sums = record { tiles = 0; media = 0; rows = 0; links = 0; bytes = 0 }; ticket = 0 }
+
+  -- stands for its world, where its store keeps the package
+  pub alone : (archive : List ℕ) (f : Frame) (conn : Held S) → IsUuid archive → is_good_frame f ≡ true → Keeps f (new_package archive None 0 0) (state g conn) → AreMembers g (first_member archive conn ∷ []) 0 (new_world archive f)
+  alone archive f conn uuid good keeps = record { each = (is_member, tt); counted = refl; register = new_world_is_register archive f uuid good }
+    where
+      is_member : IsMember g (new_world archive f) (first_member archive conn) (record no_package { uuid = archive })
+      is_member = record { uuid = refl; parent = refl; depth = refl; loan = refl; sums = refl; ticket = refl; reads = λ is_open. keeps.reads }
+
+  -- so does a world of it
+  pub begins : (archive : List ℕ) (f : Frame) (members : List (Member S)) → (AllClean g members → AreMembers g members 0 (new_world archive f)) → AllClean g members → StandsFor g (record { frame = f; members = members; count = 0; has_failed = false }) (new_world archive f)
+  begins archive f members made clean = record { frame = refl; members = made clean }
+
+  pub held_first : (archive : List ℕ) (f : Frame) (members : List (Member S)) → AllRest g members → is_good_frame f ≡ true → (AllClean g members → AreMembers g members 0 (new_world archive f)) → IsHeld g (record { frame = f; members = members; count = 0; has_failed = false })
+  held_first archive f members rests good made = record { rests = rests; good = good; counted = omega arith; stands = λ clean. (new_world archive f, begins archive f members made clean) }

@@ -1,0 +1,24 @@
+-- When no world is made. Profile.
+use Rattle.std.specs.Prelude.{◌≡◌, ◌⊎◌, ℕ, not, List, Option, Some, None, Result, Err, IfErr, MatchOption}
+use Rattle.std.specs.Bool.{then_some}
+use Rattle.std.specs.Option.{option_or, option_map}
+use Rattle.sheet_types.specs.Matrix.{frame_fault}
+use Rattle.sheet_types.specs.Texts.{is_moment}
+use Rattle.sheet_types.specs.declared.frame.Frame.{Frame}
+use Rattle.package_tables.specs.declared.fault.Fault.{Fault}
+use Rattle.package_tables.specs.declared.fault.Fault.TheVariants as fault
+use Rattle.world.specs.declared.creating.CreateFault.{CreateFault}
+use Rattle.world.specs.declared.creating.CreateFault.TheVariants.{BadFrame, BadText, OutOfMemory, StoreFault}
+
+-- how a fault of the store is told
+abbrev pub told_as : Fault → CreateFault
+told_as fault.OutOfMemory = OutOfMemory
+told_as fault.StoreFault = StoreFault
+
+-- what is wrong with what is handed in: the first rule that the frame breaks, or else the moment
+abbrev pub create_refusal : Frame → List ℕ → Option CreateFault
+create_refusal f at = option_or (option_map BadFrame (frame_fault f)) (then_some (not (is_moment at)) BadText)
+
+-- Where something is wrong that is the answer, and else no other fault than the store's is.
+abbrev pub IsCreatedOrRefused : {X : Type 0} → Frame → List ℕ → Result X CreateFault → Type 0
+IsCreatedOrRefused f at r = MatchOption (create_refusal f at) (IfErr r (λ e. (e ≡ OutOfMemory) ⊎ (e ≡ StoreFault))) (λ why. r ≡ Err why)

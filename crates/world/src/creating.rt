@@ -1,0 +1,96 @@
+// The first member of a world: the archive, with nothing in it.
+ghost use Rattle.std.specs.Prelude.{◌≡◌, ◌<◌, [], ◌∷◌, ◌++◌, IfOk, IsTrue, vec_len, vec_capacity};
+ghost use Rattle.sqlite.specs.Held.{state};
+ghost use Rattle.sheet_types.specs.Matrix.{is_good_frame};
+ghost use Rattle.sheet_types.specs.World.{new_world};
+ghost use Rattle.sql_meaning.specs.Blank.{IsBlank, no_schema};
+ghost use Rattle.world.specs.Members.{AllRest, AllClean, AreMembers};
+
+use crate::asking::is_at_rest;
+use crate::deciding::fits;
+use crate::members::Member;
+use identity_register::creation::create;
+use package_tables::create::Info;
+use package_tables::fault::Fault;
+use sheet_types::frame::{Frame, FrameFault};
+use sheet_types::receipt::Sums;
+use sqlite::{Alter, Connection};
+use std::alloc::Global;
+use std::fmt;
+use uuid::Uuid;
+
+/// Why no world was made: its frame is none, the moment of its making is none, a growth was refused, or the store failed.
+#[derive(Clone, Copy, PartialEq, Eq)]
+pub enum CreateFault {
+    BadFrame(FrameFault),
+    BadText,
+    OutOfMemory,
+    StoreFault,
+}
+
+impl From<Fault> for CreateFault {
+    ghost use Rattle.world.specs.Creating.{told_as};
+
+    ghost from_gives = { λ fault why. why ≡ told_as fault };
+
+    fn from(fault: Fault) -> CreateFault {
+        match fault {
+            Fault::OutOfMemory => CreateFault::OutOfMemory,
+            Fault::StoreFault => CreateFault::StoreFault,
+        }
+    }
+}
+
+/// Takes no memory.
+fn push_reserved<T: Drop>(items: &mut Vec<T>, item: T)
+    requires { vec_len items.old < vec_capacity items.old }
+    ensures { items.new.items ≡ items.old.items ++ item ∷ [] }
+{
+    let _ = items.push(item);
+}
+
+/// The archive alone, in a store that is blank. Its place among the members is there before anything is written.
+pub fn archive_alone<S: Alter + Drop>(
+    alloc: Global,
+    conn: Connection<S>,
+    archive: Uuid,
+    at: &str,
+    frame: &Frame,
+) -> Result<Vec<Member<S>>, Fault>
+    requires blank { IsBlank no_schema (state S.Store conn).now }
+    requires good { IsTrue (is_good_frame frame.now) }
+    ensures rests { IfOk result (λ members. AllRest S.Store members.items) }
+    ensures made { IfOk result (λ members. AllClean S.Store members.items → AreMembers S.Store members.items 0 (new_world archive frame.now)) }
+{
+    if !is_at_rest(&conn) {
+        return Err(Fault::StoreFault);
+    }
+    fits(archive);
+    let mut members = Vec::with_capacity(alloc, 1)?;
+    let info = Info {
+        package: archive,
+        parent: None,
+        depth: 0,
+        loan: 0,
+        created: at,
+    };
+    let conn = create(alloc, conn, frame, &info)?;
+    let sums = Sums {
+        tiles: 0,
+        media: 0,
+        rows: 0,
+        links: 0,
+        bytes: 0,
+    };
+    let member = Member {
+        conn,
+        uuid: archive,
+        parent: None,
+        depth: 0,
+        loan: 0,
+        sums,
+        ticket: 0,
+    };
+    push_reserved(&mut members, member);
+    Ok(members)
+}
