@@ -213,7 +213,7 @@ module _ {S : Type 0} (g : Ghosts S) (shuts : Shuts g) (settles : Settles g) whe
       let Clean : Member S → Type 0 = λ m. HasCleanDisk (state g m.conn) in
       let now : Member S = turned g r sums it.was it.last reply in
       let last : HasCleanDisk (state g it.last) = subst (λ h. HasCleanDisk (state g h)) (same_conn r sums it.was it.last reply)
-          (at_set Clean old at now (slice_get_within old at it.was it.place) (subst (AllClean g) it.others clean)) in
+      (at_set Clean old at now (slice_get_within old at it.was it.place) (subst (AllClean g) it.others clean)) in
       let was : Clean it.was = omega (arith, it.turn.turns.survives.clean, last) in
       All-from_recursion Clean old (set_back Clean old at it.was now it.place was (recursion_from_All Clean (slice_set old at now) (subst (AllClean g) it.others clean)))
 

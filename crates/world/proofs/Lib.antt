@@ -21,3 +21,4 @@ pub mod Overfull
 pub mod Served
 pub mod Keeping
 pub mod Beginning
+pub mod Running

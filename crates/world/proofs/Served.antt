@@ -103,9 +103,12 @@ module _ {S : Type 0} (g : Ghosts S) where
           told = λ clean reply same_reply w same are.
               let done = changes.ok receipt went in
               let decided : Decides w q (Due change) = told_by (Due change) is (changes.clean clean) w same are in
-              let replied : Ok receipt ≡ reply = cc in
-              (world_after change.receipt q.command w, decided.1 ∙ ap (λ x. (Ok x, world_after change.receipt q.command w)) (sym done.0) ∙ ap (λ x. (x, world_after change.receipt q.command w)) replied, refl,
-                  subst (λ n. AreMembers g new n (world_after change.receipt q.command w)) (sym done.1) (done.2 w (members_stay g old mid before w it.stay are) decided.2));
+              let replied : Ok receipt ≡ reply = cc in (
+                world_after change.receipt q.command w,
+                decided.1 ∙ ap (λ x. (Ok x, world_after change.receipt q.command w)) (sym done.0) ∙ ap (λ x. (x, world_after change.receipt q.command w)) replied,
+                refl,
+                subst (λ n. AreMembers g new n (world_after change.receipt q.command w)) (sym done.1) (done.2 w (members_stay g old mid before w it.stay are) decided.2),
+              );
           refused = λ why is. absurd (let e = is in cc);
           failed = λ fault is. absurd (let e = is in cc);
         }

@@ -4,7 +4,7 @@ use Rattle.std.specs.Coded.{Coded, code_by, coded×, coded_bool, coded_list, cod
 use Rattle.sqlite.specs.Store.{Ghosts}
 use Rattle.sqlite.specs.Held.{Held, held_code}
 use Rattle.sheet_types.specs.Matrix.{is_good_frame}
-use Rattle.sheet_types.specs.Step.{Step}
+use Rattle.sheet_types.specs.Step.{Step, Run}
 use Rattle.sheet_types.specs.World.{World}
 use Rattle.sheet_types.specs.declared.command.Request.{Request}
 use Rattle.sheet_types.specs.declared.frame.Frame.{Frame}
@@ -63,6 +63,11 @@ module _ {S : Type 0} (g : Ghosts S) where
   pub record IsStep (q : Request) (old : Seen S) (reply : Result Receipt Refusal) (new : Seen S) : Type 0 where
     pub clean : AllClean g new.members → AllClean g old.members
     pub step : AllClean g new.members → (w : World) → StandsFor old w → (next : World) × Step w q reply next × StandsFor new next
+
+  -- The replies and the world afterwards are a run of the whole list.
+  pub record IsRun (qs : List Request) (old : Seen S) (replies : List (Result Receipt Refusal)) (new : Seen S) : Type 0 where
+    pub clean : AllClean g new.members → AllClean g old.members
+    pub run : AllClean g new.members → (w : World) → StandsFor old w → (next : World) × Run w qs replies next × StandsFor new next
 
   -- After a refusal it stands for each world that it stood for, whatever the disks do.
   abbrev pub StandsStill : Seen S → Result Receipt Refusal → Seen S → Type 0

@@ -29,13 +29,7 @@ fn carry_out_change<S: Alter + Drop>(
     requires place { HasPlace members.old.items count.old (Due change) }
     ensures { Changes S.Store change command.now members.old.items members.new.items count.old count.new result }
 {
-    turn_at(
-        members,
-        change.at,
-        command,
-        &change.receipt,
-        change.sums,
-    )?;
+    turn_at(members, change.at, command, &change.receipt, change.sums)?;
     *count = change.receipt.seq;
     Ok(change.receipt)
 }

@@ -110,7 +110,8 @@ fn carried<S: Alter>(
     if !guarded(conn) {
         return Err(Fault::StoreFault);
     }
-    apply_to_package(conn, command, receipt)
+    apply_to_package(conn, command, receipt)?;
+    Ok(())
 }
 
 fn is_named<S: Alter>(conn: &mut Connection<S>, identity: Uuid) -> Result<bool, Fault> {

@@ -161,7 +161,7 @@ fn turned<S: Alter + Drop>(
         return Err(Fault::StoreFault);
     }
     match sums_after(command, sums_moved(receipt), members[1].sums) {
-        Some(sums) => turn_at(members, 1, command, receipt, sums),
+        Some(sums) => Ok(turn_at(members, 1, command, receipt, sums)?),
         None => Err(Fault::StoreFault),
     }
 }

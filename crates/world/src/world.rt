@@ -1,5 +1,6 @@
 // An archive and its loans, and what requests make of them.
-ghost use Rattle.std.specs.Prelude.{◌≡◌, true, false, Err, IfOk, IsTrue};
+ghost use Rattle.std.specs.Prelude.{◌≡◌, true, false, Err, IfOk, OnErr, IsTrue};
+ghost use Rattle.std.specs.List.{AllByRecursion};
 ghost use Rattle.sqlite.specs.Held.{state};
 ghost use Rattle.sheet_types.specs.World.{new_world};
 ghost use Rattle.sql_meaning.specs.Blank.{IsBlank, no_schema};
@@ -7,13 +8,14 @@ ghost use Rattle.world.specs.Creating.{IsCreatedOrRefused};
 ghost use Rattle.world.specs.Members.{AllClean};
 ghost use Rattle.sheet_types.specs.declared.refusal.Refusal.TheVariants.{StoreFault};
 ghost use Rattle.world.specs.Laws.{IsServed};
-ghost use Rattle.world.specs.Worlds.{StandsFor, IsStep, StandsStill};
+ghost use Rattle.world.specs.Worlds.{StandsFor, IsStep, IsRun, StandsStill};
 
 use crate::applying::serve;
-use crate::creating::{CreateFault, archive_alone};
+use crate::creating::{CreateFault, archive_alone, push_reserved};
 use crate::members::Member;
 use matrix_rules::check::FrameRules;
 use sheet_types::command::Request;
+use sheet_types::error::OutOfMemory;
 use sheet_types::frame::Frame;
 use sheet_types::moments::is_moment;
 use sheet_types::receipt::Receipt;
@@ -123,6 +125,28 @@ impl<S: Alter + Drop> World<S> {
                 Err(fault.refusal())
             }
         }
+    }
+
+    /// Carries out the requests of a list, one after the other, and gives a reply for each. Room for all replies is there before the first is carried out.
+    ///
+    /// # Errors
+    ///
+    /// Want of memory for the replies. No request was carried out then.
+    pub fn run(
+        &mut self,
+        alloc: Global,
+        requests: &[Request],
+    ) -> Result<Vec<Result<Receipt, Refusal>>, OutOfMemory>
+        requires served { AllByRecursion (λ q. IsServed q.command) requests.now }
+        ensures ran { IfOk result (λ replies. IsRun S.Store requests.now self.old replies.items self.new) }
+        ensures refused { OnErr result (self.new ≡ self.old) }
+    {
+        let mut replies = Vec::with_capacity(alloc, requests.len())?;
+        for request in requests {
+            let reply = self.apply(alloc, request);
+            push_reserved(&mut replies, reply);
+        }
+        Ok(replies)
     }
 }
 
