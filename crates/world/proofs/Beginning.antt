@@ -1,16 +1,15 @@
 -- The world of an archive with nothing in it.
-use Rattle.std.proofs.Common.{◌≡◌, refl, sym, subst, ℕ, List, [], ◌∷◌, ◌++◌, true, false, None, IsTrue, arith}
+use Rattle.std.proofs.Common.{◌≡◌, refl, ℕ, List, [], ◌∷◌, true, false, None, arith}
 use Rattle.sqlite.specs.Store.{Ghosts}
 use Rattle.sqlite.specs.Held.{Held, state}
-use Rattle.sqlite.specs.State.{HasCleanDisk}
 use Rattle.sheet_types.specs.Lines.{IsUuid}
-use Rattle.sheet_types.specs.Matrix.{is_good_frame, frame_fault}
-use Rattle.sheet_types.specs.World.{World, Package, new_world, no_package}
+use Rattle.sheet_types.specs.Matrix.{is_good_frame}
+use Rattle.sheet_types.specs.World.{new_world, no_package}
 use Rattle.sheet_types.specs.declared.frame.Frame.{Frame}
 use Rattle.ledger_laws.proofs.First.{new_world_is_register}
 use Rattle.identity_register.specs.Creation.{new_package, Keeps}
 use Rattle.world.specs.Members.{AllRest, AllClean, IsMember, AreMembers}
-use Rattle.world.specs.Worlds.{Seen, StandsFor, IsHeld}
+use Rattle.world.specs.Worlds.{StandsFor, IsHeld}
 use Rattle.world.specs.declared.members.Member.{Member}
 
 module _ {S : Type 0} (g : Ghosts S) where

@@ -1,8 +1,7 @@
 -- What a world keeps of what it stands for, when one request was served.
-use Rattle.std.proofs.Common.{◌≡◌, refl, sym, ap, subst, ◌∙◌, ℕ, ◌≤◌, Bool, List, Result, Ok, Err, IsErr, IsTrue, inl, inr}
+use Rattle.std.proofs.Common.{◌≡◌, refl, sym, ap, subst, ◌∙◌, ℕ, ◌≤◌, Bool, List, Result, Ok, Err, inl, inr}
 use Rattle.sqlite.specs.Store.{Ghosts}
-use Rattle.sheet_types.specs.Matrix.{is_good_frame}
-use Rattle.sheet_types.specs.Step.{Step, IsFault, outcome}
+use Rattle.sheet_types.specs.Step.{IsFault}
 use Rattle.sheet_types.specs.World.{World}
 use Rattle.sheet_types.specs.declared.command.Request.{Request}
 use Rattle.sheet_types.specs.declared.frame.Frame.{Frame}

@@ -1,19 +1,17 @@
 -- What serving a request says in each of the ways in which it ends.
-use Rattle.std.proofs.Common.{◌≡◌, refl, sym, ap, subst, ◌∙◌, ℕ, ◌+◌, ◌≤◌, List, Result, Ok, Err, IsErr, OnErr, IsTrue}
+use Rattle.std.proofs.Common.{◌≡◌, refl, sym, ap, subst, ◌∙◌, ℕ, ◌+◌, ◌≤◌, List, Result, Ok, Err, IsErr}
 use Rattle.sqlite.specs.Store.{Ghosts}
-use Rattle.sheet_types.specs.Step.{outcome}
 use Rattle.sheet_types.specs.World.{World}
 use Rattle.sheet_types.specs.declared.command.Command.{Command}
 use Rattle.sheet_types.specs.declared.command.Request.{Request}
 use Rattle.sheet_types.specs.declared.frame.Frame.{Frame}
 use Rattle.sheet_types.specs.declared.receipt.Receipt.{Receipt}
 use Rattle.sheet_types.specs.declared.refusal.Refusal.{Refusal}
-use Rattle.package_tables.specs.declared.fault.Fault.{Fault}
 use Rattle.world.specs.Asking.{AsksAll}
-use Rattle.world.specs.Deciding.{IsAskedOf, Decides, HasPlace}
+use Rattle.world.specs.Deciding.{IsAskedOf, Decides}
 use Rattle.world.specs.Laws.{IsServed}
 use Rattle.world.specs.Members.{AllRest, AllClean, AreMembers}
-use Rattle.world.specs.Serving.{Changes, Serves, IsServedBy}
+use Rattle.world.specs.Serving.{Changes, Serves}
 use Rattle.world.specs.Turning.{IsDue, world_after}
 use Rattle.world.specs.declared.carrying_out.TurnFault.{TurnFault}
 use Rattle.world.specs.declared.deciding.Change.{Change}

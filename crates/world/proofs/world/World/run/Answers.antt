@@ -1,7 +1,6 @@
 -- One request more, and one reply more.
-use Rattle.std.proofs.Common.{◌≡◌, ◌∙◌, sym, ap, subst, ◌+◌, ◌++◌, ◌∷◌, [], take, get_or, arith}
+use Rattle.std.proofs.Common.{◌≡◌, ◌∙◌, sym, ap, ◌+◌, ◌++◌, ◌∷◌, [], take, arith}
 use Rattle.std.proofs.lemmas.List.{take_more}
-use Rattle.world.specs.Worlds.{IsRun}
 use Rattle.world.proofs.Running.{run_more}
 use Rattle.world.proofs.world.World.run.Goals as goal
 
