@@ -25,8 +25,8 @@ report_line n id reply = decimal n ++ (codes "," ++ (uuid_text id ++ (codes "," 
 
 -- the lines of the requests that have a reply, numbered from n
 unfoldable pub report_lines : ℕ → List Request → List (Result Receipt Refusal) → List ℕ
-report_lines n [] replies = []
-report_lines n (request ∷ requests) [] = []
+report_lines n requests [] = []
+report_lines n [] (reply ∷ replies) = []
 report_lines n (request ∷ requests) (reply ∷ replies) = report_line n request.id reply ++ report_lines (n + 1) requests replies
 
 -- the report of a list of requests, as far as they have a reply

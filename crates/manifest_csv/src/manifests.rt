@@ -1,8 +1,11 @@
 // The manifest of a package as one text.
-ghost use Rattle.std.specs.Prelude.{◌≡◌, ◌++◌, IfOk, OnOk, Some, map};
+ghost use Rattle.std.specs.Prelude.{◌≡◌, ◌∷◌, [], IfOk, OnOk, Some, codes, decimal, map, string_bytes};
+ghost use Rattle.std.specs.Fmt.{signed_decimal};
 ghost use Rattle.std.specs.Io.KnownBytes.{Appends};
+ghost use Rattle.hex.specs.Hex.{encode_lower};
 ghost use Rattle.csv.specs.Writing.{default_writer, row_text, text_written};
 ghost use Rattle.manifest_csv.specs.Manifests.{IsBetween, item_fields, items_text, link_fields, links_text, manifest_header, manifest_of};
+ghost use Rattle.sheet_types.specs.Texts.{fingerprint, size, uuid_text};
 
 use csv::{Writer, WriterBuilder};
 use sheet_types::command::{Content, Item, Relation};
@@ -47,55 +50,121 @@ fn write_header(writer: &mut Writer<Vec<u8>>) -> Result<(), OutOfMemory>
     )
 }
 
+// The identity, the size and the fingerprint of an item, as texts.
+fn common_texts(alloc: Global, item: &Item) -> Result<(String, String, String), OutOfMemory>
+    ensures identity { IfOk result (λ texts. string_bytes texts.0 ≡ uuid_text item.now.identity) }
+    ensures size { IfOk result (λ texts. string_bytes texts.1 ≡ decimal (size item.now.content)) }
+    ensures digest { IfOk result (λ texts. string_bytes texts.2 ≡ encode_lower (fingerprint item.now.content)) }
+{
+    let identity = format!(in alloc; "{}", item.identity)?;
+    let size = format!(in alloc; "{}", item.content.size())?;
+    let digest = format!(in alloc; "{}", Spelled(fingerprint(&item.content)))?;
+    Ok((identity, size, digest))
+}
+
+// Writes the record of a tile at this place.
+fn write_tile(
+    writer: &mut Writer<Vec<u8>>,
+    alloc: Global,
+    tile: &Item,
+    zoom: i64,
+    column: i64,
+    row: i64,
+) -> Result<(), OutOfMemory>
+    requires { IsBetween writer.old }
+    ensures text { OnOk result (Appends (text_written (λ v. Some v.items) writer.old) (text_written (λ v. Some v.items) writer.new) (row_text default_writer
+        (codes "tile" ∷ uuid_text tile.now.identity ∷ [] ∷ signed_decimal zoom ∷ signed_decimal column ∷ signed_decimal row ∷ [] ∷ [] ∷ [] ∷ decimal (size tile.now.content) ∷ encode_lower (fingerprint tile.now.content) ∷ [] ∷ []))) }
+    ensures between { OnOk result (IsBetween writer.new) }
+{
+    let (id, size, digest) = common_texts(alloc, tile)?;
+    let (id, size, digest) = (id.as_bytes(), size.as_bytes(), digest.as_bytes());
+    let zoom = format!(in alloc; "{zoom}")?;
+    let column = format!(in alloc; "{column}")?;
+    let row = format!(in alloc; "{row}")?;
+    let (zoom, column, row) = (zoom.as_bytes(), column.as_bytes(), row.as_bytes());
+    write_record(
+        writer,
+        &[
+            b"tile", id, b"", zoom, column, row, b"", b"", b"", size, digest, b"",
+        ],
+    )
+}
+
+// Writes the record of a medium of this content type.
+fn write_medium(
+    writer: &mut Writer<Vec<u8>>,
+    alloc: Global,
+    medium: &Item,
+    content_type: &str,
+) -> Result<(), OutOfMemory>
+    requires { IsBetween writer.old }
+    ensures text { OnOk result (Appends (text_written (λ v. Some v.items) writer.old) (text_written (λ v. Some v.items) writer.new) (row_text default_writer
+        (codes "media" ∷ uuid_text medium.now.identity ∷ [] ∷ [] ∷ [] ∷ [] ∷ [] ∷ [] ∷ [] ∷ decimal (size medium.now.content) ∷ encode_lower (fingerprint medium.now.content) ∷ content_type.now ∷ []))) }
+    ensures between { OnOk result (IsBetween writer.new) }
+{
+    let (id, size, digest) = common_texts(alloc, medium)?;
+    let (id, size, digest) = (id.as_bytes(), size.as_bytes(), digest.as_bytes());
+    let text = content_type.as_bytes();
+    write_record(
+        writer,
+        &[
+            b"media", id, b"", b"", b"", b"", b"", b"", b"", size, digest, text,
+        ],
+    )
+}
+
+// Writes the record of an attributes row at this point, with this code and label.
+fn write_row(
+    writer: &mut Writer<Vec<u8>>,
+    alloc: Global,
+    row: &Item,
+    x: i64,
+    y: i64,
+    code: i64,
+    label: &str,
+) -> Result<(), OutOfMemory>
+    requires { IsBetween writer.old }
+    ensures text { OnOk result (Appends (text_written (λ v. Some v.items) writer.old) (text_written (λ v. Some v.items) writer.new) (row_text default_writer
+        (codes "row" ∷ uuid_text row.now.identity ∷ [] ∷ [] ∷ [] ∷ [] ∷ signed_decimal x ∷ signed_decimal y ∷ signed_decimal code ∷ decimal (size row.now.content) ∷ encode_lower (fingerprint row.now.content) ∷ label.now ∷ []))) }
+    ensures between { OnOk result (IsBetween writer.new) }
+{
+    let (id, size, digest) = common_texts(alloc, row)?;
+    let (id, size, digest) = (id.as_bytes(), size.as_bytes(), digest.as_bytes());
+    let x = format!(in alloc; "{x}")?;
+    let y = format!(in alloc; "{y}")?;
+    let code = format!(in alloc; "{code}")?;
+    let (x, y, code, text) = (
+        x.as_bytes(),
+        y.as_bytes(),
+        code.as_bytes(),
+        label.as_bytes(),
+    );
+    write_record(
+        writer,
+        &[
+            b"row", id, b"", b"", b"", b"", x, y, code, size, digest, text,
+        ],
+    )
+}
+
 // Writes the record of an item. The fields that don't apply to its kind are empty.
 fn write_item(writer: &mut Writer<Vec<u8>>, alloc: Global, item: &Item) -> Result<(), OutOfMemory>
     requires { IsBetween writer.old }
     ensures text { OnOk result (Appends (text_written (λ v. Some v.items) writer.old) (text_written (λ v. Some v.items) writer.new) (row_text default_writer (item_fields item.now))) }
     ensures between { OnOk result (IsBetween writer.new) }
 {
-    let identity = format!(in alloc; "{}", item.identity)?;
-    let size = format!(in alloc; "{}", item.content.size())?;
-    let digest = format!(in alloc; "{}", Spelled(fingerprint(&item.content)))?;
-    let (id, size, digest) = (identity.as_bytes(), size.as_bytes(), digest.as_bytes());
     match &item.content {
         Content::Tile {
             zoom,
             column,
             row,
             ..
-        } => {
-            let zoom = format!(in alloc; "{zoom}")?;
-            let column = format!(in alloc; "{column}")?;
-            let row = format!(in alloc; "{row}")?;
-            let (zoom, column, row) = (zoom.as_bytes(), column.as_bytes(), row.as_bytes());
-            write_record(
-                writer,
-                &[
-                    b"tile", id, b"", zoom, column, row, b"", b"", b"", size, digest, b"",
-                ],
-            )
-        }
+        } => write_tile(writer, alloc, item, *zoom, *column, *row),
         Content::Media { content_type, .. } => {
-            let text = content_type.as_str().as_bytes();
-            write_record(
-                writer,
-                &[
-                    b"media", id, b"", b"", b"", b"", b"", b"", b"", size, digest, text,
-                ],
-            )
+            write_medium(writer, alloc, item, content_type.as_str())
         }
         Content::Row { x, y, code, label } => {
-            let x = format!(in alloc; "{x}")?;
-            let y = format!(in alloc; "{y}")?;
-            let code = format!(in alloc; "{code}")?;
-            let (x, y, code) = (x.as_bytes(), y.as_bytes(), code.as_bytes());
-            let text = label.as_str().as_bytes();
-            write_record(
-                writer,
-                &[
-                    b"row", id, b"", b"", b"", b"", x, y, code, size, digest, text,
-                ],
-            )
+            write_row(writer, alloc, item, *x, *y, *code, label.as_str())
         }
     }
 }
