@@ -1,1 +1,4 @@
+pub mod Manifests
+pub mod Reports
 pub mod Requests
+pub mod Sent

@@ -3,7 +3,16 @@
 
 pub mod contents;
 pub mod fields;
+pub mod manifests;
+#[cfg(test)]
+mod manifests_tests;
 pub mod records;
+pub mod reports;
+#[cfg(test)]
+mod reports_tests;
 pub mod requests;
+pub mod sending;
+#[cfg(test)]
+mod sending_tests;
 #[cfg(test)]
 mod tests;

@@ -1,0 +1,89 @@
+// Report lines that were written out by hand.
+ghost use Rattle.std.specs.Prelude.{◌≤◌};
+ghost use Rattle.std.specs.String.{string_capacity};
+
+use crate::reports::{header_line, line_buffer, put_line};
+use crate::sending::{WriteFault, send};
+use sheet_types::collections::{MovedList, Text};
+use sheet_types::receipt::Receipt;
+use sheet_types::refusal::Refusal;
+use std::alloc::{AllocError, Global};
+use std::test::Fail;
+use uuid::Uuid;
+
+fn request(number: u8) -> Uuid {
+    Uuid::from_u128(0x9000ABCD_0000_4000_8000_000000000000 | u128::from(number))
+}
+
+// The receipt of an empty tile, under this number.
+fn receipt(alloc: Global, seq: u64) -> Result<Receipt, AllocError> {
+    Ok(Receipt {
+        seq,
+        request: request(1),
+        at: Text::from_string(String::from_str(alloc, "2026-03-01T12:00:00.000Z")?),
+        line: Text::from_string(String::from_str(alloc, "add")?),
+        source: None,
+        target: None,
+        items: MovedList::from_vec(Vec::new(alloc)),
+        tiles: 1,
+        media: 0,
+        rows: 0,
+        links: 0,
+        bytes: 0,
+    })
+}
+
+// Writes the line of one reply.
+fn answer(
+    out: &mut Vec<u8>,
+    buffer: &mut String,
+    n: u8,
+    reply: &Result<Receipt, Refusal>,
+) -> Result<(), WriteFault>
+    requires { 128 ≤ string_capacity buffer.old }
+    ensures { 128 ≤ string_capacity buffer.new }
+{
+    put_line(buffer, u64::from(n), request(n), reply);
+    send(out, buffer.as_bytes())
+}
+
+#[test]
+fn accepted_refused_and_stopped(rt: HostRuntime) -> Result<(), Fail> {
+    let alloc = rt.alloc();
+    let mut out: Vec<u8> = Vec::new(alloc);
+    let mut buffer = line_buffer(alloc)?;
+    send(&mut out, header_line().as_bytes())?;
+    answer(&mut out, &mut buffer, 1, &Ok(receipt(alloc, 1)?))?;
+    answer(&mut out, &mut buffer, 2, &Ok(receipt(alloc, 2)?))?;
+    answer(&mut out, &mut buffer, 3, &Err(Refusal::Stale(7)))?;
+    answer(&mut out, &mut buffer, 4, &Err(Refusal::IdReused))?;
+    answer(&mut out, &mut buffer, 5, &Err(Refusal::StoreFault))?;
+    let want =
+        "line,request,seq,refusal\n1,9000abcd-0000-4000-8000-000000000001,1,0\n2,9000abcd-0000-4000-8000-000000000002,2,0\n3,9000abcd-0000-4000-8000-000000000003,0,20\n4,9000abcd-0000-4000-8000-000000000004,0,1\n5,9000abcd-0000-4000-8000-000000000005,0,25\n";
+    assert_eq!(rt; out.as_slice(), want.as_bytes());
+    Ok(())
+}
+
+#[test]
+fn the_longest_line_fits(rt: HostRuntime) -> Result<(), Fail> {
+    let alloc = rt.alloc();
+    let mut buffer = line_buffer(alloc)?;
+    let room = buffer.capacity();
+    put_line(
+        &mut buffer,
+        u64::MAX,
+        request(1),
+        &Ok(receipt(alloc, u64::MAX)?),
+    );
+    assert_eq!(rt;
+        buffer.as_str(),
+        "18446744073709551615,9000abcd-0000-4000-8000-000000000001,18446744073709551615,0\n"
+    );
+    assert_eq!(rt; buffer.capacity(), room);
+    put_line(&mut buffer, 1, request(2), &Err(Refusal::OutOfMemory));
+    assert_eq!(rt;
+        buffer.as_str(),
+        "1,9000abcd-0000-4000-8000-000000000002,0,24\n"
+    );
+    Ok(())
+}
