@@ -1,1 +1,2 @@
+pub mod RequestLists
 pub mod Requests

@@ -3,6 +3,9 @@
 
 pub mod contents;
 pub mod fields;
+pub mod lists;
+#[cfg(test)]
+mod lists_tests;
 pub mod records;
 pub mod requests;
 #[cfg(test)]
