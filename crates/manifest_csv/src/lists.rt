@@ -1,10 +1,10 @@
 // A request list as a whole: its header, its requests, and the fault that is met first.
-ghost use Rattle.std.specs.Prelude.{◌≡◌, ◌⊎◌, ◌↔◌, ◌<◌, ℕ, List, [], ◌∷◌, map, length, IsTrue, IfOk, IfErr, IfSome, IfNone, vec_len};
+ghost use Rattle.std.specs.Prelude.{◌≡◌, ◌⊎◌, ◌↔◌, [], ◌∷◌, map, IsTrue, IfOk, IfErr, IfSome};
 ghost use Rattle.std.specs.List.{AllZip};
 ghost use Rattle.std.specs.Vec.Iter.{into_iter_items};
-ghost use Rattle.csv.specs.Records.{AllText, fields_of};
+ghost use Rattle.csv.specs.Records.{fields_of};
 ghost use Rattle.manifest_csv.specs.Requests.{header};
-ghost use Rattle.manifest_csv.specs.RequestLists.{AreList, AreServed, Asks, HasFault, IsFaultFrom, IsFaultOf, IsFaultOfEnd, IsList, IsReadable};
+ghost use Rattle.manifest_csv.specs.RequestLists.{AreList, AreServed, Asks, HasFault, IsFaultFrom, IsFaultOf, IsFaultOfEnd, IsList};
 ghost use Rattle.manifest_csv.specs.declared.records.Ending.TheVariants as ending;
 ghost use Rattle.manifest_csv.specs.declared.lists.ReadFault.TheVariants as fault;
 
@@ -135,7 +135,7 @@ fn requests_in(alloc: Global, rows: IntoIter<ByteRecord>) -> Result<Vec<Request>
     Ok(requests)
 }
 
-/// The requests of a list, of all its records and how they ended.
+/// The requests of a list, of its records and how they ended. A fault of the records comes before one of their end: Header where there is no record at all, Read where the reader failed after records that have no fault.
 pub fn requests_of(
     alloc: Global,
     rows: Vec<ByteRecord>,
@@ -162,7 +162,7 @@ pub fn requests_of(
     }
 }
 
-/// The requests of a list: a record of the names of the columns, and after it one record for each request. Everything is read and judged before any request is answered. A byte order mark at the start and blank lines are passed over; CR, LF and CR LF end records (RFC 4180, and beyond it as `csv` reads).
+/// The requests of a list: a record of the names of the columns, and after it one record for each request. Everything is read and judged before any request is answered. A byte order mark at the start and blank lines are passed over; CR, LF and CR LF end records (RFC 4180, section 2, and beyond it as `csv` reads). A reader that fails is Read, unless a record before it is a fault.
 pub fn read_requests<R: Read + Drop>(alloc: Global, reader: R) -> Result<Vec<Request>, ReadFault>
     ensures list { IfOk result (λ requests. IfSome (R.remaining reader) (λ text. IsList text requests.items)) }
     ensures served { IfOk result (λ requests. AreServed requests.items) }
