@@ -69,9 +69,7 @@ AreAllRecords text rows = AreRecords default_config st.StartRecord (strip_bom te
 abbrev pub IsList : List ℕ → List Request → Type 0
 IsList text requests = (rows : List (List (List ℕ))) × AreAllRecords text rows × AreList rows requests
 
--- a text whose records meet this fault first; of the faults Read and Memory nothing is said, since any reader may fail at any place
-abbrev pub HasFault : List ℕ → ReadFault → Type 0
-HasFault text Header = AreAllRecords text [] ⊎ ((rows : List (List (List ℕ))) × AreFirstRecords text rows × IsFaultOf rows Header)
-HasFault text (Record number) = (rows : List (List (List ℕ))) × AreFirstRecords text rows × IsFaultOf rows (Record number)
-HasFault text Read = ⊤
-HasFault text Memory = ⊤
+-- the fault that a text meets first: it has no record, or some records at its start show it
+abbrev pub MeetsFirst : List ℕ → ReadFault → Type 0
+MeetsFirst text fault = ((fault ≡ Header) × AreAllRecords text [])
+    ⊎ ((rows : List (List (List ℕ))) × AreFirstRecords text rows × IsFaultOf rows fault)

@@ -4,7 +4,7 @@ ghost use Rattle.std.specs.List.{AllZip};
 ghost use Rattle.std.specs.Vec.Iter.{into_iter_items};
 ghost use Rattle.csv.specs.Records.{fields_of};
 ghost use Rattle.manifest_csv.specs.Requests.{header};
-ghost use Rattle.manifest_csv.specs.RequestLists.{AreList, AreServed, Asks, HasFault, IsFaultFrom, IsFaultOf, IsFaultOfEnd, IsList};
+ghost use Rattle.manifest_csv.specs.RequestLists.{AreList, AreServed, Asks, IsFaultFrom, IsFaultOf, IsFaultOfEnd, IsList, MeetsFirst};
 ghost use Rattle.manifest_csv.specs.declared.records.Ending.TheVariants as ending;
 ghost use Rattle.manifest_csv.specs.declared.lists.ReadFault.TheVariants as fault;
 
@@ -166,7 +166,7 @@ pub fn requests_of(
 pub fn read_requests<R: Read + Drop>(alloc: Global, reader: R) -> Result<Vec<Request>, ReadFault>
     ensures list { IfOk result (λ requests. IfSome (R.remaining reader) (λ text. IsList text requests.items)) }
     ensures served { IfOk result (λ requests. AreServed requests.items) }
-    ensures fault { IfErr result (λ met. IfSome (R.remaining reader) (λ text. HasFault text met)) }
+    ensures fault { IfErr result (λ met. (met ≡ fault.Read) ⊎ (met ≡ fault.Memory) ⊎ IfSome (R.remaining reader) (λ text. MeetsFirst text met)) }
 {
     let (rows, ended) = read_records(alloc, reader);
     requests_of(alloc, rows, ended)
