@@ -1,5 +1,5 @@
 -- Which text is a list of which requests, and which fault of a text is met first (profile, over RFC 4180 as `csv` reads it).
-use Rattle.std.specs.Prelude.{◌≡◌, ◌≢◌, ◌⊎◌, ◌+◌, ⊤, ℕ, IsTrue, List, [], ◌∷◌, length}
+use Rattle.std.specs.Prelude.{◌≡◌, ◌≢◌, ◌⊎◌, ◌+◌, ℕ, IsTrue, List, [], ◌∷◌, length}
 use Rattle.std.specs.List.{AllByRecursion, AllZip}
 use Rattle.csv.specs.Reading.{AreRecords, Reached, default_config, strip_bom}
 use Rattle.csv.specs.Records.{AllText}
@@ -8,7 +8,7 @@ use Rattle.csv.specs.declared.parser.State.TheVariants as st
 use Rattle.sheet_types.specs.declared.command.Request.{Request}
 use Rattle.manifest_csv.specs.Requests.{header, IsRequest, is_served}
 use Rattle.manifest_csv.specs.declared.lists.ReadFault.{ReadFault}
-use Rattle.manifest_csv.specs.declared.lists.ReadFault.TheVariants.{Header, Record, Read, Memory}
+use Rattle.manifest_csv.specs.declared.lists.ReadFault.TheVariants.{Header, Record, Read}
 use Rattle.manifest_csv.specs.declared.records.Ending.{Ending}
 use Rattle.manifest_csv.specs.declared.records.Ending.TheVariants as ending
 

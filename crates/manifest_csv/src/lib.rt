@@ -3,6 +3,7 @@
 
 pub mod contents;
 pub mod fields;
+pub mod list_laws;
 pub mod lists;
 #[cfg(test)]
 mod lists_tests;
