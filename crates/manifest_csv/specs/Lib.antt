@@ -1,4 +1,6 @@
 pub mod Manifests
 pub mod Reports
+pub mod ListLaws
+pub mod RequestLists
 pub mod Requests
 pub mod Sent

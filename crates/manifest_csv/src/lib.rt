@@ -3,6 +3,10 @@
 
 pub mod contents;
 pub mod fields;
+pub mod list_laws;
+pub mod lists;
+#[cfg(test)]
+mod lists_tests;
 pub mod manifests;
 #[cfg(test)]
 mod manifests_tests;
