@@ -1,3 +1,4 @@
+pub mod Imports
 pub mod Manifests
 pub mod Reports
 pub mod ListLaws

@@ -3,6 +3,7 @@
 
 pub mod contents;
 pub mod fields;
+pub mod importing;
 pub mod list_laws;
 pub mod lists;
 #[cfg(test)]
