@@ -5,3 +5,4 @@ pub mod ListLaws
 pub mod RequestLists
 pub mod Requests
 pub mod Sent
+pub mod PackageManifests

@@ -11,6 +11,7 @@ mod lists_tests;
 pub mod manifests;
 #[cfg(test)]
 mod manifests_tests;
+pub mod package_manifests;
 pub mod records;
 pub mod reports;
 #[cfg(test)]
