@@ -22,3 +22,4 @@ pub mod Served
 pub mod Keeping
 pub mod Beginning
 pub mod Running
+pub mod WorldsRead
