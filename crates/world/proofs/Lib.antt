@@ -23,3 +23,4 @@ pub mod Keeping
 pub mod Beginning
 pub mod Running
 pub mod WorldsRead
+pub mod Sights
