@@ -22,3 +22,5 @@ pub mod Served
 pub mod Keeping
 pub mod Beginning
 pub mod Running
+pub mod WorldsRead
+pub mod Sights

@@ -14,3 +14,4 @@ pub mod Serving
 pub mod Faults
 pub mod Worlds
 pub mod Creating
+pub mod Reading

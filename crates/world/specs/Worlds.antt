@@ -1,5 +1,5 @@
 -- What a clause sees of a value of `World`, and the world of the model that it stands for. Profile.
-use Rattle.std.specs.Prelude.{◌≡◌, ◌≤◌, ℕ, ℤ, Bool, List, Option, Result, IsTrue, IsErr, refl}
+use Rattle.std.specs.Prelude.{◌≡◌, ◌≤◌, ℕ, ℤ, Bool, List, Option, Result, IsTrue, IfOk, IsErr, refl}
 use Rattle.std.specs.Coded.{Coded, code_by, coded×, coded_bool, coded_list, coded_option, coded_ℕ, coded_ℤ}
 use Rattle.sqlite.specs.Store.{Ghosts}
 use Rattle.sqlite.specs.Held.{Held, held_code}
@@ -11,7 +11,7 @@ use Rattle.sheet_types.specs.declared.frame.Frame.{Frame}
 use Rattle.sheet_types.specs.declared.receipt.Receipt.{Receipt}
 use Rattle.sheet_types.specs.declared.receipt.Sums.{Sums}
 use Rattle.sheet_types.specs.declared.refusal.Refusal.{Refusal}
-use Rattle.world.specs.Members.{AllRest, AllClean, AreMembers}
+use Rattle.world.specs.Members.{AllRest, AllClean, AllStay, AreMembers}
 use Rattle.world.specs.declared.members.Member.{Member}
 
 -- the frame, the members in the order of their UUIDs, the number of all receipts, and whether the world has failed
@@ -72,3 +72,14 @@ module _ {S : Type 0} (g : Ghosts S) where
   -- After a refusal it stands for each world that it stood for, whatever the disks do.
   abbrev pub StandsStill : Seen S → Result Receipt Refusal → Seen S → Type 0
   StandsStill old reply new = IsErr reply → (w : World) → StandsFor old w → StandsFor new w
+
+  -- The stores were only read, if at all, and nothing else has changed, so that it stands for what it stood for.
+  pub record IsRead (old new : Seen S) : Type 0 where
+    pub same : new ≡ record old { members = new.members }
+    pub stay : AllStay g old.members new.members
+    pub clean : AllClean g new.members → AllClean g old.members
+    pub stands : (w : World) → StandsFor old w → StandsFor new w
+
+  -- What was answered is true of each world that it stood for, where each disk has given back what was written.
+  abbrev pub TellsOf : {X E : Type 0} → (World → X → Type 0) → Seen S → Seen S → Result X E → Type 0
+  TellsOf Answer old new r = AllClean g new.members → IfOk r (λ x. (w : World) → StandsFor old w → Answer w x)

@@ -18,6 +18,7 @@ mod deciding_tests;
 pub mod judging;
 pub mod laws;
 pub mod members;
+pub mod reading;
 #[cfg(test)]
 mod receipt_tests;
 pub mod receipts;

@@ -26,11 +26,12 @@ use std::marker::Model;
 use uuid::Uuid;
 
 /// An archive and its loans: their stores, all of them open, with what is kept of each so that nothing is counted again.
+#[derive(Drop)]
 pub struct World<S: Alter + Drop> {
-    frame: Frame,
-    members: Vec<Member<S>>,
-    count: u64,
-    has_failed: bool,
+    pub(crate) frame: Frame,
+    pub(crate) members: Vec<Member<S>>,
+    pub(crate) count: u64,
+    pub(crate) has_failed: bool,
 }
 
 impl<S: Alter + Drop> Model for World<S> {

@@ -1,0 +1,57 @@
+-- A world whose stores were only read stands for what it stood for, and what its members told is told of it.
+use Rattle.std.proofs.Common.{◌≡◌, refl, subst, ℕ, Bool, List, Result, Ok, Err}
+use Rattle.sqlite.specs.Store.{Ghosts}
+use Rattle.sheet_types.specs.World.{World}
+use Rattle.sheet_types.specs.declared.frame.Frame.{Frame}
+use Rattle.world.specs.Asking.{AsksAll}
+use Rattle.world.specs.Members.{AllStay}
+use Rattle.world.specs.Worlds.{Seen, StandsFor, IsHeld, IsRead, TellsOf}
+use Rattle.world.specs.declared.members.Member.{Member}
+use Rattle.world.proofs.Standing.{members_stay, clean_before, all_stay_then}
+
+module _ {S : Type 0} (g : Ghosts S) where
+  -- one reading after another
+  pub read_then : (a b c : Seen S) → IsRead g a b → IsRead g b c → IsRead g a c
+  read_then a b c first next = record {
+    same = subst (λ s. c ≡ record s { members = c.members }) first.same next.same;
+    stay = all_stay_then g a.members b.members c.members first.stay next.stay;
+    clean = λ clean. first.clean (next.clean clean);
+    stands = λ w stands. next.stands w (first.stands w stands);
+  }
+
+  module _ (f : Frame) (old new : List (Member S)) (count : ℕ) (has_failed : Bool) where
+    abbrev before : Seen S
+    before = record { frame = f; members = old; count = count; has_failed = has_failed }
+
+    abbrev after : Seen S
+    after = record { frame = f; members = new; count = count; has_failed = has_failed }
+
+    stands_after : AllStay g old new → (w : World) → StandsFor g before w → StandsFor g after w
+    stands_after stay w stands = record { frame = stands.frame; members = members_stay g old new count w stay stands.members }
+
+    read_members : AllStay g old new → IsRead g before after
+    read_members stay = record { same = refl; stay = stay; clean = clean_before g old new stay; stands = stands_after stay }
+
+    tells_members : {X E : Type 0} {Answer : World → X → Type 0} (r : Result X E) → AsksAll g {X = X} {E = E} Answer old new r → TellsOf g {X = X} {E = E} Answer before after r
+    tells_members (Ok x) it = λ clean w stands. it.told clean w count stands.members
+    tells_members (Err e) it = λ clean. tt
+
+    module _ {X E : Type 0} {Answer : World → X → Type 0} (r : Result X E) (it : AsksAll g {X = X} {E = E} Answer old new r) where
+      -- what the members told is told of the world
+      pub world_tells : (was : Seen S) → before ≡ was → TellsOf g {X = X} {E = E} Answer was after r
+      world_tells was seen = subst (λ s. TellsOf g {X = X} {E = E} Answer s after r) seen (tells_members r it)
+
+      -- which was only read
+      pub world_is_read : (was : Seen S) → before ≡ was → IsRead g was after
+      world_is_read was seen = subst (λ s. IsRead g s after) seen (read_members it.stay)
+
+      -- and keeps what each world keeps
+      pub world_is_held : IsHeld g before → IsHeld g after
+      world_is_held held = record {
+        rests = it.rests;
+        good = held.good;
+        counted = held.counted;
+        stands = λ clean.
+            let one : (w : World) × StandsFor g before w = held.stands (clean_before g old new it.stay clean) in
+            (one.0, stands_after it.stay one.0 one.1);
+      }
