@@ -2,6 +2,10 @@
 ghost use Rattle.std.specs.Prelude.{◌≡◌};
 ghost use Rattle.cli.specs.Endings.{outcome_status, output_text, error_text};
 
+use manifest_csv::package_manifests::ManifestFault;
+use manifest_csv::sending::WriteFault;
+use package_tables::fault::Fault;
+use std::alloc::AllocError;
 use thiserror::Error;
 
 /// What a refusal names: the first thing that could not be read.
@@ -30,6 +34,38 @@ pub enum Failure {
     /// A store failed, or what the program writes to.
     #[error("StoreFault")]
     StoreFault,
+}
+
+impl From<AllocError> for Failure {
+    fn from(_want: AllocError) -> Failure {
+        Failure::OutOfMemory
+    }
+}
+
+impl From<Fault> for Failure {
+    fn from(fault: Fault) -> Failure {
+        match fault {
+            Fault::OutOfMemory => Failure::OutOfMemory,
+            Fault::StoreFault => Failure::StoreFault,
+        }
+    }
+}
+
+impl From<WriteFault> for Failure {
+    fn from(_fault: WriteFault) -> Failure {
+        Failure::StoreFault
+    }
+}
+
+impl From<ManifestFault> for Failure {
+    fn from(fault: ManifestFault) -> Failure {
+        match fault {
+            ManifestFault::Memory => Failure::OutOfMemory,
+            ManifestFault::Unknown | ManifestFault::Store | ManifestFault::Unwritten => {
+                Failure::StoreFault
+            }
+        }
+    }
 }
 
 /// The end of a call of the program.
