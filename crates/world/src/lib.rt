@@ -20,6 +20,8 @@ pub mod laws;
 pub mod members;
 pub mod reading;
 #[cfg(test)]
+mod reading_tests;
+#[cfg(test)]
 mod receipt_tests;
 pub mod receipts;
 pub mod register_laws;
