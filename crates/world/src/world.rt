@@ -26,6 +26,7 @@ use std::marker::Model;
 use uuid::Uuid;
 
 /// An archive and its loans: their stores, all of them open, with what is kept of each so that nothing is counted again.
+#[derive(Drop)]
 pub struct World<S: Alter + Drop> {
     frame: Frame,
     members: Vec<Member<S>>,
