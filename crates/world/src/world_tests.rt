@@ -290,6 +290,14 @@ fn expect_sums(rt: &impl Abort, receipt: &Receipt, wanted: [u64; 5]) {
     assert_eq!(rt; receipt.bytes, wanted[4]);
 }
 
+// The one thing that moved.
+fn moved(receipt: &Receipt) -> Result<Moved, Fault> {
+    match receipt.items.as_slice() {
+        [thing] => Ok(*thing),
+        _ => Err(Fault::StoreFault),
+    }
+}
+
 fn expect_digest(rt: &impl Abort, thing: Moved, size: u64, wanted: &str) {
     assert!(rt; thing.other.is_none());
     assert_eq!(rt; thing.size, size);
@@ -312,7 +320,7 @@ fn the_first_tile(rt: HostRuntime) -> Result<(), Fail> {
     let receipt = received(&mut world, alloc, &request)?;
     expect_added(&rt, &receipt, 1, MovedKind::TileItem, 1);
     expect_sums(&rt, &receipt, [1, 0, 0, 0, 1]);
-    expect_digest(&rt, receipt.items.as_slice()[0], 1, TILE_DIGEST);
+    expect_digest(&rt, moved(&receipt)?, 1, TILE_DIGEST);
     assert_eq!(rt;
         receipt.line.as_str(),
         "add a0000000-0000-4000-8000-000000000000 00000000-0000-4000-8000-000000000001 tile 1 b363ee0ecc9cf61b12ecdafd75dca2779729b4fcc5f1bd718c33aad2c94af4f8"
@@ -329,18 +337,18 @@ fn items_of_other_kinds(rt: HostRuntime) -> Result<(), Fail> {
     let receipt = received(&mut world, alloc, &request)?;
     expect_added(&rt, &receipt, 1, MovedKind::RowItem, 1);
     expect_sums(&rt, &receipt, [0, 0, 1, 0, 4]);
-    expect_digest(&rt, receipt.items.as_slice()[0], 4, ROW_DIGEST);
+    expect_digest(&rt, moved(&receipt)?, 4, ROW_DIGEST);
     let request = asked(alloc, 2, AT, medium(alloc, 3)?)?;
     let receipt = received(&mut world, alloc, &request)?;
     expect_added(&rt, &receipt, 2, MovedKind::MediaItem, 3);
     expect_sums(&rt, &receipt, [0, 1, 0, 0, 2]);
-    expect_digest(&rt, receipt.items.as_slice()[0], 2, MEDIUM_DIGEST);
+    expect_digest(&rt, moved(&receipt)?, 2, MEDIUM_DIGEST);
     let request = asked(alloc, 3, AT, link(Mapping::RowsMedia, 1, 3))?;
     let receipt = received(&mut world, alloc, &request)?;
     expect_added(&rt, &receipt, 3, MovedKind::RowsMediaLink, 1);
     expect_sums(&rt, &receipt, [0, 0, 0, 1, 0]);
-    assert!(rt; receipt.items.as_slice()[0].other == Some(item(3)));
-    assert!(rt; receipt.items.as_slice()[0].fingerprint.is_none());
+    assert!(rt; moved(&receipt)?.other == Some(item(3)));
+    assert!(rt; moved(&receipt)?.fingerprint.is_none());
     Ok(())
 }
 
@@ -356,8 +364,7 @@ fn an_item_goes_out(rt: HostRuntime) -> Result<(), Fail> {
     assert!(rt; receipt.source == Some(archive()));
     assert!(rt; receipt.target.is_none());
     expect_sums(&rt, &receipt, [1, 0, 0, 0, 1]);
-    assert_eq!(rt; receipt.items.as_slice().len(), 1);
-    expect_digest(&rt, receipt.items.as_slice()[0], 1, TILE_DIGEST);
+    expect_digest(&rt, moved(&receipt)?, 1, TILE_DIGEST);
     assert_eq!(rt;
         receipt.line.as_str(),
         "delete a0000000-0000-4000-8000-000000000000 00000000-0000-4000-8000-000000000001"
@@ -506,7 +513,7 @@ fn what_comes_again(rt: HostRuntime) -> Result<(), Fail> {
     expect_added(&rt, &again, 1, MovedKind::TileItem, 1);
     expect_sums(&rt, &again, [1, 0, 0, 0, 1]);
     assert_eq!(rt; again.line.as_str(), first.line.as_str());
-    assert!(rt; again.items.as_slice()[0] == first.items.as_slice()[0]);
+    assert!(rt; moved(&again)? == moved(&first)?);
     let later = asked(alloc, 1, LATER, tile(alloc, 1, [1, 0, 0])?)?;
     expect_added(
         &rt,
