@@ -11,6 +11,7 @@ mod asking_tests;
 pub mod carrying_out;
 #[cfg(test)]
 mod carrying_tests;
+pub mod crash_laws;
 pub mod creating;
 pub mod deciding;
 #[cfg(test)]

@@ -24,6 +24,7 @@ pub fn turn_at<S: Alter + Drop>(
     ensures turned { CarriesOutAt S.Store receipt.now command.now sums members.old.items members.new.items at result }
     ensures rests { AllRest S.Store members.new.items }
     ensures clean { AllClean S.Store members.new.items → AllClean S.Store members.old.items }
+    ensures opens { AllClean S.Store members.new.items → OnOk result (AllOpen S.Store members.old.items → AllOpen S.Store members.new.items) }
     ensures capacity { vec_capacity members.new ≡ vec_capacity members.old }
     ensures done { OnOk result ((w : World) (count : ℕ) → AreMembers S.Store members.old.items count w → IsDue w at receipt.now command.now sums → AreMembers S.Store members.new.items (count + 1) (world_after receipt.now command.now w)) }
     ensures undone { OnErr result ((w : World) (count : ℕ) → AreMembers S.Store members.old.items count w → AreMembers S.Store members.new.items count w) }
