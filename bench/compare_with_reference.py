@@ -66,7 +66,8 @@ class Lists:
         self.identities += [ARCHIVE, "00000000-0000-0000-0000-000000000000", "ffffffff-ffff-ffff-ffff-ffffffffffff"]
         self.places = [self.place() for _ in range(draw.choice([5, 200]))]
         self.past = []
-        # What was added, by kind, so that most links and deletions name something.
+        # What the list came to so far, so that most links and deletions name something that is there.
+        self.world = reference.World(ARCHIVE, self.frame)
         self.added = collections.defaultdict(list)
 
     def uuid(self):
@@ -128,8 +129,8 @@ class Lists:
         return self.random.choice(["image/png", "image/tiff", 'text/plain; title="a,b"', "~ ", " ", "!\"#$%&'()*+,-./", "\\"])
 
     def identity(self, *kinds):
-        known = [identity for kind in kinds for identity in self.added[kind][-40:]]
-        if known and self.random.random() < 0.85:
+        known = [identity for kind in kinds for identity in self.added[kind][-60:] if identity in self.world.items]
+        if known and self.random.random() < 0.92:
             return self.random.choice(known)
         return self.random.choice(self.identities)
 
@@ -138,11 +139,11 @@ class Lists:
         command = draw.choices(["tile", "media", "row", "delete", "link", "unlink"], [20, 15, 15, 14, 24, 14])[0]
         if command in ("delete", "link", "unlink"):
             return self.change(command)
-        identity = draw.choice(self.identities) if draw.random() < 0.6 else self.uuid()
+        identity = draw.choice(self.identities) if draw.random() < 0.2 else self.uuid()
         self.added[command].append(identity)
         fields = {"command": "add", "kind": command, "identity": identity}
         if command == "tile":
-            place = draw.choice(self.places) if draw.random() < 0.5 else self.place()
+            place = draw.choice(self.places) if draw.random() < 0.3 else self.place()
             return {**fields, **dict(zip(["zoom", "column", "row"], place)), "data": self.data().hex()}
         if command == "media":
             return {**fields, "text": self.content_type(), "data": self.data().hex()}
@@ -154,7 +155,7 @@ class Lists:
         draw = self.random
         if command == "delete":
             return {"command": command, "identity": self.identity("tile", "media", "row")}
-        linked = self.added["link"][-60:]
+        linked = [fields for fields in self.added["link"][-60:] if reference.link_of(fields) in self.world.links]
         if linked and (command == "unlink" or draw.random() < 0.1) and draw.random() < 0.9:
             return {**draw.choice(linked), "command": command}
         mapping = draw.choice(["tiles_media", "rows_media"])
@@ -196,12 +197,15 @@ class Lists:
         return fields
 
     def as_texts(self, fields):
+        """The record of the fields, which the world of the list has then met."""
         texts = {name: str(value) for name, value in fields.items()}
         for name in ("request", "package", "identity", "other"):
             texts[name] = self.any_case(texts[name])
         if self.random.random() < 0.2:
             texts["data"] = texts["data"].upper()
-        return [texts[name] for name in reference.HEADER]
+        record = [texts[name] for name in reference.HEADER]
+        reference.apply(self.world, reference.read_request(record))
+        return record
 
     def spelled(self, text):
         quoted = self.random.random() < 0.05 or any(mark in text for mark in ',"\r\n')
