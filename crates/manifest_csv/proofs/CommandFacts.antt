@@ -1,5 +1,5 @@
 -- A record that is no addition, deletion, link or unlink asks for nothing that is served.
-use Rattle.std.specs.Prelude.{◌≡◌, ℕ, List, Option, Some, None, IfNone, IsTrue}
+use Rattle.std.specs.Prelude.{ℕ, List, Option, Some, None, IfNone, IsTrue}
 use Rattle.sheet_types.specs.declared.command.Content.{Content}
 use Rattle.sheet_types.specs.declared.command.Mapping.{Mapping}
 use Rattle.sheet_types.specs.declared.command.Command.{Command}

@@ -1,5 +1,5 @@
 -- Which record of a list is which request (profile, over RFC 9562 for UUIDs).
-use Rattle.std.specs.Prelude.{◌≡◌, ℕ, Bool, true, false, ℤ, FitsSigned, All, List, [], ◌∷◌, length, Option, Some, None, Ok, codes}
+use Rattle.std.specs.Prelude.{◌≡◌, ℕ, Bool, true, false, ℤ, FitsSigned, All, List, [], ◌∷◌, length, Some, Ok, codes}
 use Rattle.std.specs.Int.{w64}
 use Rattle.std.specs.Option.{option_and_then}
 use Rattle.std.specs.Fmt.{signed_decimal}

@@ -3,9 +3,15 @@
 
 pub mod contents;
 pub mod fields;
+pub mod importing;
+pub mod list_laws;
+pub mod lists;
+#[cfg(test)]
+mod lists_tests;
 pub mod manifests;
 #[cfg(test)]
 mod manifests_tests;
+pub mod package_manifests;
 pub mod records;
 pub mod reports;
 #[cfg(test)]

@@ -25,18 +25,12 @@ use Rattle.sql_meaning.proofs.StoreLemmas.{at_set, one_turned}
 use Rattle.identity_register.specs.Reads.{Reads}
 use Rattle.world.specs.Carrying.{after_command}
 use Rattle.world.specs.Laws.{package_of}
-use Rattle.world.specs.Members.{AllRest, AllClean, IsMember, AreMembers}
-use Rattle.world.specs.Turning.{IsDue, CarriesOut, CarriesOutAt, turned, world_after, LeftAs, AllOpen}
+use Rattle.world.specs.Members.{AllRest, AllClean, AllOpen, IsMember, AreMembers}
+use Rattle.world.specs.Turning.{IsDue, CarriesOut, CarriesOutAt, turned, world_after, LeftAs}
 use Rattle.world.specs.declared.members.Member.{Member}
-use Rattle.world.proofs.Standing.{zip_at}
+use Rattle.world.proofs.Standing.{at_place, zip_at}
 
 -- ---- two lists, place by place
-
--- what stands at a place has what each has
-at_place : {X : Type 0} (P : X → Type 0) (xs : List X) (at : ℕ) (x : X) → slice_get xs at ≡ Some x → AllByRecursion P xs → P x
-at_place P [] at x place h = absurd (let e = place in cc)
-at_place P (y ∷ ys) zero x place h = let same : y ≡ x = cc in subst P same h.0
-at_place P (y ∷ ys) (suc at) x place h = at_place P ys at x place h.1
 
 -- one element is another that has the same
 pub zip_set : {A B : Type 0} (R : A → B → Type 0) (xs : List A) (ys : List B) (at : ℕ) (was now : A) → ((y : B) → R was y → R now y) → slice_get xs at ≡ Some was → AllZip R xs ys → AllZip R (slice_set xs at now) ys

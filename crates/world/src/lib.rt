@@ -37,3 +37,5 @@ pub mod turning;
 #[cfg(test)]
 mod turning_tests;
 pub mod world;
+#[cfg(test)]
+mod world_tests;

@@ -2,8 +2,8 @@
 ghost use Rattle.std.specs.Prelude.{◌≡◌, ◌<◌, ℕ, ◌+◌, length, vec_capacity, OnOk, OnErr};
 ghost use Rattle.sheet_types.specs.World.{World};
 ghost use Rattle.sql_meaning.specs.Stores.{LeavesEither};
-ghost use Rattle.world.specs.Members.{AllRest, AllClean, AreMembers};
-ghost use Rattle.world.specs.Turning.{CarriesOutAt, IsDue, DueWhereAccepted, AllOpen, LeftAs, world_after};
+ghost use Rattle.world.specs.Members.{AllRest, AllClean, AllOpen, AreMembers};
+ghost use Rattle.world.specs.Turning.{CarriesOutAt, IsDue, DueWhereAccepted, LeftAs, world_after};
 
 use crate::carrying_out::{TurnFault, apply_to_package};
 use crate::members::Member;

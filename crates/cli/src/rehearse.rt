@@ -1,0 +1,120 @@
+// A rehearsal: what a list of requests would come to, shown by a world in memory that ends with the program.
+ghost use Rattle.std.specs.Prelude.{◌≡◌, IfOk, string_bytes};
+ghost use Rattle.sqlite.specs.Held.{state};
+ghost use Rattle.sqlite.specs.Steps.{over_memory};
+ghost use Rattle.sql_meaning.specs.Blank.{IsBlank, no_schema};
+ghost use Rattle.cli.specs.Arguments.{IsFirstUnread};
+ghost use Rattle.cli.specs.Endings.{import_outcome};
+ghost use Rattle.cli.specs.Rehearsals.{package_line};
+ghost use Rattle.cli.specs.declared.statuses.What.{What};
+ghost use Rattle.cli.specs.declared.statuses.Outcome.TheVariants.{Refused};
+
+use crate::arguments::{Rehearsal, Words, read_rehearsal};
+use crate::statuses::{Failure, Outcome, What};
+use manifest_csv::importing::{ImportFault, import};
+use manifest_csv::lists::ReadFault;
+use manifest_csv::package_manifests::write_manifest;
+use manifest_csv::sending::send;
+use sheet_types::refusal::Refusal;
+use sqlite::{Connection, MemStore};
+use std::alloc::{AllocError, Global};
+use std::io::{Read, Write};
+use uuid::Uuid;
+use world::creating::CreateFault;
+use world::world::World;
+
+/// Makes the archive that the words ask for in memory, imports the request list of the reader into it, and writes the report of the import and then, for each live package by its UUID, a line that names it and its manifest.
+/// The words are read first: where one of them cannot be, nothing is read and nothing is written.
+pub fn rehearse<R: Read + Drop, W: Write>(
+    alloc: Global,
+    words: &Words<'_>,
+    reader: R,
+    writer: &mut W,
+) -> Outcome
+    ensures refused { (what : What) → IsFirstUnread words.now.archive.now words.now.at.now words.now.frame.now what → result ≡ Refused what }
+    ensures unwritten { (what : What) → IsFirstUnread words.now.archive.now words.now.at.now words.now.frame.now what → writer.new ≡ writer.old }
+{
+    match read_rehearsal(words) {
+        Ok(rehearsal) => carried_out(alloc, &rehearsal, reader, writer),
+        Err(what) => Outcome::Refused(what),
+    }
+}
+
+/// A store in memory that nothing is in yet.
+fn blank_store(alloc: Global) -> Result<Connection<MemStore>, AllocError>
+    ensures { IfOk result (λ conn. IsBlank no_schema (state over_memory conn).now) }
+{
+    Connection::open_in_memory(alloc)
+}
+
+/// The world that the words ask for.
+fn new_world(alloc: Global, rehearsal: &Rehearsal<'_>) -> Result<World<MemStore>, Failure> {
+    let conn = blank_store(alloc)?;
+    match World::create(
+        alloc,
+        conn,
+        rehearsal.archive,
+        rehearsal.at,
+        &rehearsal.frame,
+    ) {
+        Ok(world) => Ok(world),
+        Err(CreateFault::OutOfMemory) => Err(Failure::OutOfMemory),
+        Err(_) => Err(Failure::StoreFault),
+    }
+}
+
+/// How an import ends the program, unless it went through.
+fn end_of_import(fault: ImportFault) -> Outcome
+    ensures { result ≡ import_outcome fault }
+{
+    match fault {
+        ImportFault::Unread(ReadFault::Memory)
+        | ImportFault::Stopped(_, Refusal::OutOfMemory) => Outcome::Stopped(Failure::OutOfMemory),
+        ImportFault::Unread(_) => Outcome::Refused(What::BadList),
+        ImportFault::Stopped(_, _) | ImportFault::Unwritten => {
+            Outcome::Stopped(Failure::StoreFault)
+        }
+    }
+}
+
+/// The line that names a package before its manifest.
+fn package_line(alloc: Global, package: Uuid) -> Result<String, AllocError>
+    ensures { IfOk result (λ line. string_bytes line ≡ package_line «package») }
+{
+    format!(in alloc; "package {package}\n")
+}
+
+/// Writes the name and the manifest of each live package, by UUID.
+fn write_packages<W: Write>(
+    alloc: Global,
+    world: &mut World<MemStore>,
+    writer: &mut W,
+) -> Result<(), Failure> {
+    let sights = world.packages(alloc)?;
+    for sight in &sights {
+        let line = package_line(alloc, sight.uuid)?;
+        send(writer, line.as_bytes())?;
+        write_manifest(alloc, world, sight.uuid, writer)?;
+    }
+    Ok(())
+}
+
+// The world, the import and the manifests.
+fn carried_out<R: Read + Drop, W: Write>(
+    alloc: Global,
+    rehearsal: &Rehearsal<'_>,
+    reader: R,
+    writer: &mut W,
+) -> Outcome {
+    let mut world = match new_world(alloc, rehearsal) {
+        Ok(world) => world,
+        Err(failure) => return Outcome::Stopped(failure),
+    };
+    if let Err(fault) = import(alloc, &mut world, reader, writer) {
+        return end_of_import(fault);
+    }
+    match write_packages(alloc, &mut world, writer) {
+        Ok(()) => Outcome::Done,
+        Err(failure) => Outcome::Stopped(failure),
+    }
+}

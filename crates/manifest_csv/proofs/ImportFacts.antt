@@ -1,0 +1,162 @@
+-- An import, reply by reply.
+use Rattle.std.proofs.Common.{◌≡◌, ◌∙◌, refl, sym, ap, subst, ℕ, zero, suc, ◌+◌, ◌<◌, ◌≤◌, List, [], ◌∷◌, ◌++◌, take, drop, length, get_or, length-append, true, Option, IfSome, Result, Ok, Err, arith}
+use Rattle.std.specs.List.{AllByRecursion}
+use Rattle.std.specs.Result.{IsErrAnd}
+use Rattle.std.specs.Io.KnownBytes.{Appends}
+use Rattle.std.proofs.lemmas.List.{take_more, take_all}
+use Rattle.std.proofs.KnownBytes.{Appends-trans, Appends-nil}
+use Rattle.sqlite.specs.Store.{Ghosts}
+use Rattle.sheet_types.specs.declared.command.Command.{Command}
+use Rattle.sheet_types.specs.declared.command.Command.TheVariants.{Add, Delete, Link, Unlink, Split, Merge}
+use Rattle.sheet_types.specs.declared.command.Request.{Request}
+use Rattle.sheet_types.specs.declared.receipt.Receipt.{Receipt}
+use Rattle.sheet_types.specs.declared.refusal.Refusal.{Refusal}
+use Rattle.world.specs.Laws.{IsServed}
+use Rattle.world.specs.Worlds.{Seen, IsStep, IsRun}
+use Rattle.world.proofs.Running.{run_none, run_more}
+use Rattle.manifest_csv.specs.Imports.{Ends, GoesOn, AreStopped, IsReported, IsImported, Imports}
+use Rattle.manifest_csv.specs.Reports.{report_header, report_line, report_lines}
+use Rattle.manifest_csv.specs.RequestLists.{AreServed, IsList}
+use Rattle.manifest_csv.specs.Requests.{is_served}
+use Rattle.manifest_csv.specs.Sent.{WentOut}
+use Rattle.manifest_csv.specs.declared.importing.ImportFault.{ImportFault}
+use Rattle.manifest_csv.specs.declared.importing.ImportFault.TheVariants.{Unread, Stopped, Unwritten}
+use Rattle.manifest_csv.proofs.ReportFacts.{lines_more}
+use Rattle.manifest_csv.proofs.SentFacts.{went_out_after, went_out_of}
+
+-- the error that a fault was turned into
+pub turned_into : {X E : Type 0} (r : Result X E) (e : E) → IsErrAnd r (λ why. why ≡ e) → r ≡ Err e
+turned_into (Ok x) e h = absurd h
+turned_into (Err y) e h = ap Err h
+
+-- a command that a list can ask for is one that a world serves
+served : (command : Command) → is_served command ≡ true → IsServed command
+served (Add uuid identity content) h = tt
+served (Delete uuid identity) h = tt
+served (Link uuid mapping base media) h = tt
+served (Unlink uuid mapping base media) h = tt
+served (Split uuid child mode rect) h = absurd (let e = h in cc)
+served (Merge child into ticket) h = absurd (let e = h in cc)
+
+pub all_served : (requests : List Request) → AreServed requests → AllByRecursion (λ q. IsServed q.command) requests
+all_served [] h = tt
+all_served (q ∷ qs) h = (served q.command h.0, all_served qs h.1)
+
+-- what is left begins with the next
+drop_next : {X : Type 0} (xs : List X) (n : ℕ) (d : X) → n < length xs → drop n xs ≡ get_or xs n d ∷ drop (n + 1) xs
+drop_next [] n d within = absurd (let e = within in omega arith)
+drop_next (x ∷ xs) zero d within = refl
+drop_next (x ∷ xs) (suc n) d within =
+    let less : n < length xs = omega (arith, within) in
+    let on : suc (n + 1) ≡ suc n + 1 = omega arith in
+    subst (λ k. drop (suc n) (x ∷ xs) ≡ get_or (x ∷ xs) (suc n) d ∷ drop k (x ∷ xs)) on (drop_next xs n d less)
+
+all_more : {X : Type 0} (P : X → Type 0) (xs : List X) (x : X) → AllByRecursion P xs → P x → AllByRecursion P (xs ++ x ∷ [])
+all_more P [] x all here = (here, tt)
+all_more P (y ∷ ys) x all here = (all.0, all_more P ys x all.1 here)
+
+module _ {S : Type 0} (g : Ghosts S) where
+  -- The first n of the requests were carried out and reported, and nothing ended the import yet.
+  pub record SoFar (requests : List Request) (n : ℕ) (old new : Seen S) (before after : Option (List ℕ)) : Type 0 where
+    pub replies : List (Result Receipt Refusal)
+    pub counted : length replies ≡ n
+    pub ran : IsRun g (take n requests) old replies new
+    pub goes_on : AllByRecursion GoesOn replies
+    pub written : Appends before after (report_lines 1 requests replies)
+
+  module _ (requests : List Request) (n : ℕ) (old mid new : Seen S) (before between : Option (List ℕ)) (it : SoFar requests n old mid before between) (within : n < length requests) (request : Request) (is : request ≡ get_or requests n request)
+      (reply : Result Receipt Refusal) (step : IsStep g request mid reply new) where
+    counted_more : length (it.replies ++ reply ∷ []) ≡ n + 1
+    counted_more = length-append it.replies (reply ∷ []) ∙ ap (λ k. k + 1) it.counted
+
+    ran_more : IsRun g (take (n + 1) requests) old (it.replies ++ reply ∷ []) new
+    ran_more =
+        let more : take (n + 1) requests ≡ take n requests ++ request ∷ [] = take_more requests n request within ∙ ap (λ x. take n requests ++ x ∷ []) (sym is) in
+        subst (λ qs. IsRun g qs old (it.replies ++ reply ∷ []) new) (sym more) (run_more g (take n requests) request old mid new it.replies reply it.ran step)
+
+    ran_so : IsRun g (take (length (it.replies ++ reply ∷ [])) requests) old (it.replies ++ reply ∷ []) new
+    ran_so = subst (λ k. IsRun g (take k requests) old (it.replies ++ reply ∷ []) new) (sym counted_more) ran_more
+
+    lines : report_lines 1 requests (it.replies ++ reply ∷ []) ≡ report_lines 1 requests it.replies ++ report_line (n + 1) request.id reply
+    lines =
+        let rest : drop (length it.replies) requests ≡ request ∷ drop (n + 1) requests =
+        ap (λ k. drop k requests) it.counted ∙ drop_next requests n request within ∙ ap (λ x. x ∷ drop (n + 1) requests) (sym is) in
+        let number : 1 + length it.replies ≡ n + 1 = omega (arith, it.counted) in
+        lines_more 1 requests it.replies request (drop (n + 1) requests) reply rest ∙ ap (λ k. report_lines 1 requests it.replies ++ report_line k request.id reply) number
+
+    some : length (it.replies ++ reply ∷ []) ≤ length requests
+    some = rw counted_more (omega (arith, within))
+
+    module _ (after : Option (List ℕ)) where
+      all_written : Appends between after (report_line (n + 1) request.id reply) → Appends before after (report_lines 1 requests (it.replies ++ reply ∷ []))
+      all_written line = rw lines (Appends-trans before between after (report_lines 1 requests it.replies) (report_line (n + 1) request.id reply) it.written line)
+
+      -- one more, and the import goes on
+      pub one_more : Appends between after (report_line (n + 1) request.id reply) → GoesOn reply → SoFar requests (n + 1) old new before after
+      one_more line goes = record { replies = it.replies ++ reply ∷ []; counted = counted_more; ran = ran_more; goes_on = all_more GoesOn it.replies reply it.goes_on goes; written = all_written line }
+
+      -- one more, which ends it
+      pub stopped : (why : Refusal) → (reply ≡ Err why) × Ends why → Appends between after (report_line (n + 1) request.id reply) → IsReported g requests old new before after (Err (Stopped (n + 1) why))
+      stopped why end line = record {
+        replies = it.replies ++ reply ∷ [];
+        some = some;
+        ran = ran_so;
+        written = (sym counted_more, (it.replies, ap (λ r. it.replies ++ r ∷ []) end.0, it.goes_on, end.1), all_written line);
+      }
+
+      -- its line could not be written whole
+      pub unwritten : WentOut between after (report_line (n + 1) request.id reply) → IsReported g requests old new before after (Err Unwritten)
+      unwritten line = record {
+        replies = it.replies ++ reply ∷ [];
+        some = some;
+        ran = ran_so;
+        written = rw lines (went_out_after before between after (report_lines 1 requests it.replies) (report_line (n + 1) request.id reply) it.written line);
+      }
+
+  -- nothing yet
+  pub none_yet : (requests : List Request) (seen : Seen S) (at : Option (List ℕ)) → SoFar requests 0 seen seen at at
+  unfolding report_lines
+  none_yet requests seen at = record { replies = []; counted = refl; ran = run_none g seen; goes_on = tt; written = Appends-nil at }
+
+  -- all of them
+  pub all_reported : (requests : List Request) (n : ℕ) (old new : Seen S) (before after : Option (List ℕ)) → SoFar requests n old new before after → n ≡ length requests → IsReported g requests old new before after (Ok tt)
+  all_reported requests n old new before after it whole = record {
+    replies = it.replies;
+    some = omega (arith, it.counted, whole);
+    ran = subst (λ k. IsRun g (take k requests) old it.replies new) (sym it.counted) it.ran;
+    written = (it.counted ∙ whole, it.goes_on, it.written);
+  }
+
+  -- the header before the lines
+  pub after_header : (requests : List Request) (old new : Seen S) (before mid after : Option (List ℕ)) (r : Result (Unit {0}) ImportFault) → Appends before mid report_header → IsReported g requests old new mid after r → IsImported g requests old new before after r
+  after_header requests old new before mid after (Ok x) header it = record {
+    replies = it.replies;
+    some = it.some;
+    ran = it.ran;
+    written = (it.written.0, it.written.1, Appends-trans before mid after report_header (report_lines 1 requests it.replies) header it.written.2);
+  }
+  after_header requests old new before mid after (Err (Stopped n why)) header it = record {
+    replies = it.replies;
+    some = it.some;
+    ran = it.ran;
+    written = (it.written.0, it.written.1, Appends-trans before mid after report_header (report_lines 1 requests it.replies) header it.written.2);
+  }
+  after_header requests old new before mid after (Err Unwritten) header it = record {
+    replies = it.replies;
+    some = it.some;
+    ran = it.ran;
+    written = went_out_after before mid after report_header (report_lines 1 requests it.replies) header it.written;
+  }
+  after_header requests old new before mid after (Err (Unread fault)) header it = absurd it.written
+
+  -- the header that could not be written whole
+  pub header_unwritten : (requests : List Request) (seen : Seen S) (before after : Option (List ℕ)) → WentOut before after report_header → IsImported g requests seen seen before after (Err Unwritten)
+  header_unwritten requests seen before after header = record { replies = []; some = omega arith; ran = run_none g seen; written = went_out_of before after report_header (report_lines 1 requests []) header }
+
+  -- an import of a list that was read
+  pub imported : {W : Type 0} (text : Option (List ℕ)) (requests : List Request) (old new : Seen S) (writer writer' : W) (before after : Option (List ℕ)) (r : Result (Unit {0}) ImportFault) → IfSome text (λ t. IsList t requests) → IsImported g requests old new before after r
+      → Imports g text old new writer writer' before after r
+  imported text requests old new writer writer' before after (Ok x) list it = (requests, list, it)
+  imported text requests old new writer writer' before after (Err (Stopped n why)) list it = (requests, list, it)
+  imported text requests old new writer writer' before after (Err Unwritten) list it = (requests, list, it)
+  imported text requests old new writer writer' before after (Err (Unread fault)) list it = absurd it.written

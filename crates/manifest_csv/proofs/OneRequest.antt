@@ -1,0 +1,98 @@
+-- A record is one request at most.
+use Rattle.std.proofs.Common.{◌≡◌, ℕ, ℤ, List, Option, Some, None, Result, Ok, Err, false, nat_eq, get_or, IsTrue, ap, refl, arith}
+use Rattle.std.proofs.lemmas.Bool.Decides.{nat_tests}
+use Rattle.std.proofs.lemmas.Fmt.{signed_decimal_injective}
+use Rattle.hex.specs.Hex.{decode_of}
+use Rattle.sheet_types.specs.Texts.{mapping_word}
+use Rattle.sheet_types.specs.declared.command.Content.{Content}
+use Rattle.sheet_types.specs.declared.command.Content.TheVariants.{Tile, Media, Row}
+use Rattle.sheet_types.specs.declared.command.Command.{Command}
+use Rattle.sheet_types.specs.declared.command.Command.TheVariants.{Add, Delete, Link, Unlink, Split, Merge}
+use Rattle.sheet_types.specs.declared.command.Mapping.{Mapping}
+use Rattle.sheet_types.specs.declared.command.Mapping.TheVariants.{TilesMedia, RowsMedia}
+use Rattle.sheet_types.specs.declared.command.Request.{Request}
+use Rattle.manifest_csv.specs.Requests.{IsCommand, IsContent, IsHexAt, IsNumberAt, IsTextAt, is_served}
+use Rattle.manifest_csv.specs.RequestLists.{Asks}
+
+some_once : {A : Type 0} (o : Option A) (x y : A) → o ≡ Some x → o ≡ Some y → x ≡ y
+some_once None x y e f = cc
+some_once (Some z) x y e f = cc
+
+ok_once : {A E : Type 0} (r : Result A E) (x y : A) → r ≡ Ok x → r ≡ Ok y → x ≡ y
+ok_once (Ok z) x y e f = cc
+ok_once (Err z) x y e f = cc
+
+-- the first byte of a word tells it from the others
+abbrev first : List ℕ → ℕ
+first word = get_or word 0 0
+
+-- one field is not two words that differ in their first byte
+clash : (field : Option (List ℕ)) (one other : List ℕ) → field ≡ Some one → field ≡ Some other → nat_eq (first one) (first other) ≡ false → ⊥
+clash field one other e f differ =
+    let same : first one ≡ first other = ap first (some_once field one other e f) in
+    grind (arith, nat_tests, same, differ)
+
+one_number : (fields : List (List ℕ)) (column : ℕ) (y z : ℤ) → IsNumberAt fields column y → IsNumberAt fields column z → y ≡ z
+one_number fields column y z one other = signed_decimal_injective y z one.0.sfits other.0.sfits (some_once _ _ _ one.1 other.1)
+
+one_hex : (fields : List (List ℕ)) (column : ℕ) (x y : List ℕ) → IsHexAt fields column x → IsHexAt fields column y → x ≡ y
+one_hex fields column x y one other =
+    let same = some_once _ one.text other.text one.there other.there in
+    ok_once (decode_of one.text) x y one.digits (rw same other.digits)
+
+one_mapping : (fields : List (List ℕ)) (m n : Mapping) → IsTextAt fields 6 (mapping_word m) → IsTextAt fields 6 (mapping_word n) → m ≡ n
+one_mapping fields TilesMedia TilesMedia one other = refl
+one_mapping fields RowsMedia RowsMedia one other = refl
+one_mapping fields TilesMedia RowsMedia one other = absurd (clash _ _ _ one other refl)
+one_mapping fields RowsMedia TilesMedia one other = absurd (clash _ _ _ one other refl)
+
+same_content : (fields : List (List ℕ)) (c d : Content) → IsContent fields c → IsContent fields d → c ≡ d
+same_content fields (Tile z c r x) (Tile z' c' r' x') one other =
+    rw (one_number fields 7 z z' one.1 other.1, one_number fields 8 c c' one.2 other.2, one_number fields 9 r r' one.3 other.3, one_hex fields 17 x x' one.4 other.4) refl
+same_content fields (Media t x) (Media t' x') one other = rw (some_once _ t t' one.1 other.1, one_hex fields 17 x x' one.2 other.2) refl
+same_content fields (Row x y k l) (Row x' y' k' l') one other =
+    rw (one_number fields 12 x x' one.1 other.1, one_number fields 13 y y' one.2 other.2, one_number fields 14 k k' one.3 other.3, some_once _ l l' one.4 other.4) refl
+same_content fields (Tile z c r x) (Media t' x') one other = absurd (clash _ _ _ one.0 other.0 refl)
+same_content fields (Tile z c r x) (Row x' y' k' l') one other = absurd (clash _ _ _ one.0 other.0 refl)
+same_content fields (Media t x) (Tile z' c' r' x') one other = absurd (clash _ _ _ one.0 other.0 refl)
+same_content fields (Media t x) (Row x' y' k' l') one other = absurd (clash _ _ _ one.0 other.0 refl)
+same_content fields (Row x y k l) (Tile z' c' r' x') one other = absurd (clash _ _ _ one.0 other.0 refl)
+same_content fields (Row x y k l) (Media t' x') one other = absurd (clash _ _ _ one.0 other.0 refl)
+
+same_command : (fields : List (List ℕ)) (c d : Command) → IsTrue (is_served c) → IsTrue (is_served d) → IsCommand fields c → IsCommand fields d → c ≡ d
+same_command fields (Add p i c) (Add p' i' c') s t one other = rw (some_once _ p p' one.1 other.1, some_once _ i i' one.2 other.2, same_content fields c c' one.3 other.3) refl
+same_command fields (Delete p i) (Delete p' i') s t one other = rw (some_once _ p p' one.1 other.1, some_once _ i i' one.2 other.2) refl
+same_command fields (Link p m b r) (Link p' m' b' r') s t one other =
+    rw (some_once _ p p' one.1 other.1, one_mapping fields m m' one.2 other.2, some_once _ b b' one.3 other.3, some_once _ r r' one.4 other.4) refl
+same_command fields (Unlink p m b r) (Unlink p' m' b' r') s t one other =
+    rw (some_once _ p p' one.1 other.1, one_mapping fields m m' one.2 other.2, some_once _ b b' one.3 other.3, some_once _ r r' one.4 other.4) refl
+same_command fields (Add p i c) (Delete p' i') s t one other = absurd (clash _ _ _ one.0 other.0 refl)
+same_command fields (Add p i c) (Link p' m' b' r') s t one other = absurd (clash _ _ _ one.0 other.0 refl)
+same_command fields (Add p i c) (Unlink p' m' b' r') s t one other = absurd (clash _ _ _ one.0 other.0 refl)
+same_command fields (Delete p i) (Add p' i' c') s t one other = absurd (clash _ _ _ one.0 other.0 refl)
+same_command fields (Delete p i) (Link p' m' b' r') s t one other = absurd (clash _ _ _ one.0 other.0 refl)
+same_command fields (Delete p i) (Unlink p' m' b' r') s t one other = absurd (clash _ _ _ one.0 other.0 refl)
+same_command fields (Link p m b r) (Add p' i' c') s t one other = absurd (clash _ _ _ one.0 other.0 refl)
+same_command fields (Link p m b r) (Delete p' i') s t one other = absurd (clash _ _ _ one.0 other.0 refl)
+same_command fields (Link p m b r) (Unlink p' m' b' r') s t one other = absurd (clash _ _ _ one.0 other.0 refl)
+same_command fields (Unlink p m b r) (Add p' i' c') s t one other = absurd (clash _ _ _ one.0 other.0 refl)
+same_command fields (Unlink p m b r) (Delete p' i') s t one other = absurd (clash _ _ _ one.0 other.0 refl)
+same_command fields (Unlink p m b r) (Link p' m' b' r') s t one other = absurd (clash _ _ _ one.0 other.0 refl)
+same_command fields (Add p i c) (Split p' c' m' r') s t one other = absurd (cc)
+same_command fields (Add p i c) (Merge c' p' n') s t one other = absurd (cc)
+same_command fields (Delete p i) (Split p' c' m' r') s t one other = absurd (cc)
+same_command fields (Delete p i) (Merge c' p' n') s t one other = absurd (cc)
+same_command fields (Link p m b r) (Split p' c' m' r') s t one other = absurd (cc)
+same_command fields (Link p m b r) (Merge c' p' n') s t one other = absurd (cc)
+same_command fields (Unlink p m b r) (Split p' c' m' r') s t one other = absurd (cc)
+same_command fields (Unlink p m b r) (Merge c' p' n') s t one other = absurd (cc)
+same_command fields (Split p c m r) d s t one other = absurd (cc)
+same_command fields (Merge c p n) d s t one other = absurd (cc)
+
+-- a record asks for one request at most
+pub same_request : (fields : List (List ℕ)) (a b : Request) → Asks fields a → Asks fields b → a ≡ b
+same_request fields a b one other =
+    let id = some_once _ a.id b.id one.1.id other.1.id in
+    let at_same = some_once _ a.at b.at one.1.at other.1.at in
+    let asked = same_command fields a.command b.command one.2 other.2 one.1.command other.1.command in
+    λ i. record { id = id i; at = at_same i; command = asked i }

@@ -1,0 +1,27 @@
+-- The list is read, the header goes out, and then the lines.
+use Rattle.std.proofs.Common.{◌∙◌, sym, subst}
+use Rattle.std.specs.Io.KnownBytes.{Appends}
+use Rattle.manifest_csv.specs.Imports.{Imports, IsReported}
+use Rattle.manifest_csv.specs.Reports.{report_header}
+use Rattle.manifest_csv.specs.Sent.{WentOut}
+use Rattle.manifest_csv.specs.declared.importing.ImportFault.TheVariants.{Unwritten}
+use Rattle.manifest_csv.proofs.ImportFacts.{all_served, turned_into, after_header, header_unwritten, imported}
+use Rattle.manifest_csv.proofs.importing.import.Goals as goal
+
+pub returns-in_err-send : goal.returns-in_err-send
+returns-in_err-send g c =
+    let header : WentOut (g.W.Write.contents c.args.writer.now) (g.W.Write.contents c.send.new.writer) report_header =
+    subst (WentOut (g.W.Write.contents c.args.writer.now) (g.W.Write.contents c.send.new.writer)) (c.as_bytes.ensures.value ∙ c.header_line.ensures) c.in_err-send.ensures.err in
+    subst (Imports g.S.Store (g.R.Read.remaining c.args.reader) c.args.world.now c.args.world.now c.args.writer.now c.send.new.writer (g.W.Write.contents c.args.writer.now) (g.W.Write.contents c.send.new.writer)) (sym (turned_into c.from_residual-in_err-send.result Unwritten c.from_residual-in_err-send.ensures.1))
+    (c.in_ok-requests.requests.items, c.in_ok-requests.ensures.list, header_unwritten g.S.Store c.in_ok-requests.requests.items c.args.world.now (g.W.Write.contents c.args.writer.now) (g.W.Write.contents c.send.new.writer) header)
+
+pub report_each-requires-clause-served : goal.report_each-requires-clause-served
+report_each-requires-clause-served g c = rw c.as_slice.ensures.value (all_served c.in_ok-requests.requests.items c.in_ok-requests.ensures.served)
+
+pub returns : goal.returns
+returns g c =
+    let header : Appends (g.W.Write.contents c.args.writer.now) (g.W.Write.contents c.send.new.writer) report_header =
+    subst (Appends (g.W.Write.contents c.args.writer.now) (g.W.Write.contents c.send.new.writer)) (c.as_bytes.ensures.value ∙ c.header_line.ensures) c.in_ok-send.ensures.ok in
+    imported g.S.Store (g.R.Read.remaining c.args.reader) c.in_ok-requests.requests.items c.args.world.now c.report_each.new.world c.args.writer.now c.report_each.new.writer (g.W.Write.contents c.args.writer.now) (g.W.Write.contents c.report_each.new.writer) c.report_each.result c.in_ok-requests.ensures.list
+    (after_header g.S.Store c.in_ok-requests.requests.items c.args.world.now c.report_each.new.world (g.W.Write.contents c.args.writer.now) (g.W.Write.contents c.send.new.writer) (g.W.Write.contents c.report_each.new.writer) c.report_each.result header
+    (subst (λ qs. IsReported g.S.Store qs c.args.world.now c.report_each.new.world (g.W.Write.contents c.send.new.writer) (g.W.Write.contents c.report_each.new.writer) c.report_each.result) c.as_slice.ensures.value c.report_each.ensures))

@@ -1,0 +1,67 @@
+-- What an import makes of a world, and what it writes. Profile.
+use Rattle.std.specs.Prelude.{◌≡◌, ◌⊎◌, ◌≤◌, ℕ, List, [], ◌∷◌, ◌++◌, Option, Some, None, Result, Ok, Err, IfErr, IfSome, length, take}
+use Rattle.std.specs.List.{AllByRecursion}
+use Rattle.std.specs.Io.KnownBytes.{Appends}
+use Rattle.sqlite.specs.Store.{Ghosts}
+use Rattle.sheet_types.specs.declared.command.Request.{Request}
+use Rattle.sheet_types.specs.declared.receipt.Receipt.{Receipt}
+use Rattle.sheet_types.specs.declared.refusal.Refusal.{Refusal}
+use Rattle.sheet_types.specs.declared.refusal.Refusal.TheVariants.{OutOfMemory, StoreFault}
+use Rattle.world.specs.Worlds.{Seen, IsRun}
+use Rattle.manifest_csv.specs.RequestLists.{IsList, MeetsFirst}
+use Rattle.manifest_csv.specs.declared.lists.ReadFault.{ReadFault}
+use Rattle.manifest_csv.specs.declared.lists.ReadFault.TheVariants.{Read, Memory}
+use Rattle.manifest_csv.specs.Reports.{report_lines, report_of}
+use Rattle.manifest_csv.specs.Sent.{WentOut}
+use Rattle.manifest_csv.specs.declared.importing.ImportFault.{ImportFault}
+use Rattle.manifest_csv.specs.declared.importing.ImportFault.TheVariants.{Unread, Stopped, Unwritten}
+
+-- want of memory or a store that failed: what ends an import
+abbrev pub Ends : Refusal → Type 0
+Ends why = (why ≡ OutOfMemory) ⊎ (why ≡ StoreFault)
+
+-- a reply after which an import goes on
+abbrev pub GoesOn : Result Receipt Refusal → Type 0
+GoesOn reply = IfErr reply (λ why. ¬ Ends why)
+
+-- what a reply ends an import with, if it does
+abbrev pub IsEndOf : Result Receipt Refusal → Option Refusal → Type 0
+IsEndOf reply None = GoesOn reply
+IsEndOf reply (Some why) = (reply ≡ Err why) × Ends why
+
+-- the replies of an import that was stopped by the last of them
+abbrev pub AreStopped : List (Result Receipt Refusal) → Refusal → Type 0
+AreStopped replies why = (before : List (Result Receipt Refusal)) × (replies ≡ before ++ Err why ∷ []) × AllByRecursion GoesOn before × Ends why
+
+-- What was written for these replies to a list of requests. text is the whole that was due: all lines so far.
+abbrev pub IsWritten : List Request → List (Result Receipt Refusal) → List ℕ → Option (List ℕ) → Option (List ℕ) → Result (Unit {0}) ImportFault → Type 0
+IsWritten requests replies text before after (Ok x) = (length replies ≡ length requests) × AllByRecursion GoesOn replies × Appends before after text
+IsWritten requests replies text before after (Err (Stopped n why)) = (n ≡ length replies) × AreStopped replies why × Appends before after text
+IsWritten requests replies text before after (Err Unwritten) = WentOut before after text
+IsWritten requests replies text before after (Err (Unread fault)) = ⊥
+
+-- Why a text is not read: it meets this fault first, the reader failed, or memory was wanting.
+abbrev pub IsWhyUnread : Option (List ℕ) → ReadFault → Type 0
+IsWhyUnread text fault = (fault ≡ Read) ⊎ (fault ≡ Memory) ⊎ IfSome text (λ t. MeetsFirst t fault)
+
+module _ {S : Type 0} (g : Ghosts S) where
+  -- The first of the requests were carried out, one after the other, and their lines were written.
+  pub record IsReported (requests : List Request) (old new : Seen S) (before after : Option (List ℕ)) (r : Result (Unit {0}) ImportFault) : Type 0 where
+    pub replies : List (Result Receipt Refusal)
+    pub some : length replies ≤ length requests
+    pub ran : IsRun g (take (length replies) requests) old replies new
+    pub written : IsWritten requests replies (report_lines 1 requests replies) before after r
+
+  -- The same with the header line before. Where that could not be written, there are no replies.
+  pub record IsImported (requests : List Request) (old new : Seen S) (before after : Option (List ℕ)) (r : Result (Unit {0}) ImportFault) : Type 0 where
+    pub replies : List (Result Receipt Refusal)
+    pub some : length replies ≤ length requests
+    pub ran : IsRun g (take (length replies) requests) old replies new
+    pub written : IsWritten requests replies (report_of requests replies) before after r
+
+  -- An import of a text: of a list that is read, its requests are carried out and reported. Of one that is not, nothing is carried out and nothing is written.
+  abbrev pub Imports : {W : Type 0} → Option (List ℕ) → Seen S → Seen S → W → W → Option (List ℕ) → Option (List ℕ) → Result (Unit {0}) ImportFault → Type 0
+  Imports text old new writer writer' before after (Err (Unread fault)) = IsWhyUnread text fault × (new ≡ old) × (writer' ≡ writer)
+  Imports text old new writer writer' before after (Err (Stopped n why)) = (requests : List Request) × IfSome text (λ t. IsList t requests) × IsImported requests old new before after (Err (Stopped n why))
+  Imports text old new writer writer' before after (Err Unwritten) = (requests : List Request) × IfSome text (λ t. IsList t requests) × IsImported requests old new before after (Err Unwritten)
+  Imports text old new writer writer' before after (Ok x) = (requests : List Request) × IfSome text (λ t. IsList t requests) × IsImported requests old new before after (Ok x)

@@ -1,0 +1,105 @@
+// A request list, carried out by a world, and the report of it.
+ghost use Rattle.std.specs.Prelude.{◌≡◌, ◌≤◌};
+ghost use Rattle.std.specs.List.{AllByRecursion};
+ghost use Rattle.std.specs.String.{string_capacity};
+ghost use Rattle.world.specs.Laws.{IsServed};
+ghost use Rattle.manifest_csv.specs.Imports.{IsEndOf, IsReported, Imports};
+
+use crate::lists::{ReadFault, read_requests};
+use crate::reports::{header_line, line_buffer, put_line};
+use crate::sending::{WriteFault, send};
+use sheet_types::command::Request;
+use sheet_types::error::OutOfMemory;
+use sheet_types::receipt::Receipt;
+use sheet_types::refusal::Refusal;
+use sqlite::Alter;
+use std::alloc::Global;
+use std::io::{Read, Write};
+use world::world::World;
+
+/// Why an import did not go through.
+#[derive(Clone, Copy, PartialEq, Eq)]
+pub enum ImportFault {
+    /// The list was not read. Nothing was carried out and nothing was written.
+    Unread(ReadFault),
+    /// The request of this number got this reply, which is want of memory or a store that failed. Its line is the last of the report.
+    Stopped(u64, Refusal),
+    /// The writer failed. The requests up to the line being written were carried out, and a beginning of the report went out.
+    Unwritten,
+}
+
+impl From<ReadFault> for ImportFault {
+    ghost use Rattle.manifest_csv.specs.declared.importing.ImportFault.TheVariants.{Unread};
+
+    ghost from_gives = { λ fault why. why ≡ Unread fault };
+
+    fn from(fault: ReadFault) -> ImportFault {
+        ImportFault::Unread(fault)
+    }
+}
+
+impl From<WriteFault> for ImportFault {
+    ghost use Rattle.manifest_csv.specs.declared.importing.ImportFault.TheVariants.{Unwritten};
+
+    ghost from_gives = { λ fault why. why ≡ Unwritten };
+
+    fn from(_fault: WriteFault) -> ImportFault {
+        ImportFault::Unwritten
+    }
+}
+
+/// What a reply ends an import with, if it does.
+fn end_of(reply: &Result<Receipt, Refusal>) -> Option<Refusal>
+    ensures { IsEndOf reply.now result }
+{
+    match reply {
+        Err(Refusal::OutOfMemory) => Some(Refusal::OutOfMemory),
+        Err(Refusal::StoreFault) => Some(Refusal::StoreFault),
+        _ => None,
+    }
+}
+
+/// Carries the requests out in their order, and writes the line of each before the next is carried out.
+fn report_each<S: Alter + Drop, W: Write>(
+    alloc: Global,
+    world: &mut World<S>,
+    requests: &[Request],
+    buffer: &mut String,
+    writer: &mut W,
+) -> Result<(), ImportFault>
+    requires served { AllByRecursion (λ q. IsServed q.command) requests.now }
+    requires room { 128 ≤ string_capacity buffer.old }
+    ensures { IsReported S.Store requests.now world.old world.new (W.contents writer.old) (W.contents writer.new) result }
+{
+    for at in 0..requests.len() {
+        let request = &requests[at];
+        let reply = world.apply(alloc, request);
+        put_line(buffer, at as u64 + 1, request.id, &reply);
+        send(writer, buffer.as_bytes())?;
+        if let Some(why) = end_of(&reply) {
+            return Err(ImportFault::Stopped(at as u64 + 1, why));
+        }
+    }
+    Ok(())
+}
+
+/// Carries out the request list of a reader and writes the report of it. The whole list is read before anything is carried out, and room for the longest line is there before the first is written. A refusal is reported, and the import goes on.
+///
+/// # Errors
+///
+/// A list that is not read, a request that want of memory or a store stopped, or a writer that failed.
+pub fn import<S: Alter + Drop, R: Read + Drop, W: Write>(
+    alloc: Global,
+    world: &mut World<S>,
+    reader: R,
+    writer: &mut W,
+) -> Result<(), ImportFault>
+    ensures { Imports S.Store (R.remaining reader) world.old world.new writer.old writer.new (W.contents writer.old) (W.contents writer.new) result }
+{
+    let requests = read_requests(alloc, reader)?;
+    let Ok(mut buffer) = line_buffer(alloc) else {
+        return Err(ImportFault::Unread(ReadFault::Memory));
+    };
+    send(writer, header_line().as_bytes())?;
+    report_each(alloc, world, requests.as_slice(), &mut buffer, writer)
+}

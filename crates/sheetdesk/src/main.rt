@@ -1,0 +1,116 @@
+//! The command line of `sheetdesk`: which words there are. What they ask for is done in `cli`.
+#![tactic(auto)]
+
+use clap::error::ErrorKind;
+use clap::{Arg, ArgAction, ArgMatches, Command, Error};
+use cli::arguments::Words;
+use cli::rehearse::rehearse;
+use cli::statuses::{Failure, Outcome, error_of, output_of, status_of};
+use std::alloc::{AllocError, Global};
+use std::io;
+use std::process::ExitCode;
+
+/// An option that has to be given, whose text is judged later.
+fn option<'a>(alloc: Global, id: &'a str, value: &'a str, help: &'a str) -> Arg<'a> {
+    Arg::new(alloc, id)
+        .long(id)
+        .value_name(value)
+        .help(help)
+        .required(true)
+        .action(ArgAction::Set)
+}
+
+/// A command that makes an archive.
+fn making<'a>(alloc: Global, name: &'a str) -> Result<Command<'a>, AllocError> {
+    Command::new(alloc, name)
+        .arg(option(alloc, "archive", "UUID", "Identity of the archive"))?
+        .arg(option(
+            alloc,
+            "at",
+            "AT",
+            "Moment at which it is made, YYYY-MM-DDTHH:MM:SS.sssZ",
+        ))?
+        .arg(option(
+            alloc,
+            "frame",
+            "FRAME",
+            "Its frame, eleven numbers with commas between",
+        ))
+}
+
+fn sheetdesk<'a>(alloc: Global) -> Result<Command<'a>, AllocError> {
+    let rehearse = making(alloc, "rehearse")?;
+    Command::new(alloc, "sheetdesk")
+        .subcommand_required(true)
+        .subcommand(rehearse)
+}
+
+/// Prints the line of an outcome, and answers its status. Where standard output fails, that is the outcome.
+fn ended(rt: &HostRuntime, outcome: Outcome) -> u8 {
+    let line = output_of(outcome);
+    let outcome = match print!(rt; "{line}") {
+        Ok(()) => outcome,
+        Err(_) => Outcome::Stopped(Failure::StoreFault),
+    };
+    let line = error_of(outcome);
+    // Where standard error fails too, the status alone says it.
+    match eprint!(rt; "{line}") {
+        Ok(()) | Err(_) => status_of(outcome),
+    }
+}
+
+/// Prints what the command line is answered with where it names nothing to be done: a usage fault, or help.
+fn answered(rt: &HostRuntime, error: &Error) -> u8 {
+    if error.kind() == ErrorKind::OutOfMemory {
+        return ended(rt, Outcome::Stopped(Failure::OutOfMemory));
+    }
+    match error.print(rt) {
+        Ok(()) => error.exit_code() as u8,
+        Err(_) => ended(rt, Outcome::Stopped(Failure::StoreFault)),
+    }
+}
+
+/// What `rehearse` comes to, over standard input and output.
+fn rehearsed(rt: &HostRuntime, given: &ArgMatches<'_>) -> Outcome {
+    let words = Words {
+        archive: given.get_str("archive").unwrap_or(""),
+        at: given.get_str("at").unwrap_or(""),
+        frame: given.get_str("frame").unwrap_or(""),
+    };
+    rehearse(rt.alloc(), &words, rt.reader(), &mut io::writer(rt))
+}
+
+/// Carries out the command line of these words, and answers the exit status. There is one subcommand, which is required.
+fn run(rt: &HostRuntime, words: &[String]) -> Result<u8, Error> {
+    let matches = sheetdesk(rt.alloc())?.try_get_matches_from(words)?;
+    Ok(match matches.subcommand() {
+        Some((_, given)) => ended(rt, rehearsed(rt, given)),
+        None => 2,
+    })
+}
+
+/// The words of the command line, the program's name first.
+fn command_line(rt: &HostRuntime) -> io::Result<Vec<String>> {
+    Ok(std::env::args(rt)?.collect(rt.alloc())?)
+}
+
+/// The status where the words themselves could not be had: for want of memory, or since one is no UTF-8 and so is no word of any command.
+fn unread(rt: &HostRuntime, error: &io::Error) -> u8 {
+    if error.kind() == io::ErrorKind::OutOfMemory {
+        return ended(rt, Outcome::Stopped(Failure::OutOfMemory));
+    }
+    match eprintln!(rt; "error: a word of the command line is no UTF-8") {
+        Ok(()) | Err(_) => 2,
+    }
+}
+
+fn main(rt: HostRuntime) -> ExitCode {
+    let status = match command_line(&rt) {
+        Ok(words) => match run(&rt, words.as_slice()) {
+            Ok(status) => status,
+            Err(error) => answered(&rt, &error),
+        },
+        Err(error) => unread(&rt, &error),
+    };
+    ExitCode::from(status)
+}
