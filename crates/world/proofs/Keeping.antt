@@ -1,5 +1,5 @@
 -- What a world keeps of what it stands for, when one request was served.
-use Rattle.std.proofs.Common.{◌≡◌, refl, sym, ap, subst, ◌∙◌, ℕ, ◌≤◌, Bool, List, Result, IfOk, Ok, Err, inl, inr}
+use Rattle.std.proofs.Common.{◌≡◌, refl, sym, ap, subst, ◌∙◌, ℕ, ◌≤◌, Bool, List, length, Vec, Global, vec_capacity, Result, IfOk, Ok, Err, inl, inr}
 use Rattle.sqlite.specs.Store.{Ghosts}
 use Rattle.sheet_types.specs.Step.{IsFault, outcome}
 use Rattle.sheet_types.specs.World.{World}
@@ -8,6 +8,7 @@ use Rattle.sheet_types.specs.declared.frame.Frame.{Frame}
 use Rattle.sheet_types.specs.declared.receipt.Receipt.{Receipt}
 use Rattle.sheet_types.specs.declared.refusal.Refusal.{Refusal}
 use Rattle.package_tables.specs.declared.fault.Fault.TheVariants as fault
+use Rattle.world.specs.Creating.{HasRoom}
 use Rattle.world.specs.Faults.{turn_refusal}
 use Rattle.sql_meaning.specs.Stores.{LeavesEither}
 use Rattle.sql_meaning.proofs.Transactions.{Shuts, Settles}
@@ -28,6 +29,10 @@ is_fault (Before fault.OutOfMemory) = inl refl
 is_fault (Before fault.StoreFault) = inr refl
 is_fault (Committing fault.OutOfMemory) = inl refl
 is_fault (Committing fault.StoreFault) = inr refl
+
+-- the room is enough for as many
+pub room_stays : {X Y : Type 0} (old new : List X) (room : Vec Y Global) → length new ≡ length old → HasRoom old room → HasRoom new room
+room_stays old new room long has = (has.0, subst (λ n. n ≤ vec_capacity room) (sym long) has.1)
 
 module _ {S : Type 0} (g : Ghosts S) where
   -- After a step there is a world that it stands for, if there was one before.

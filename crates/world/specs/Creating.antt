@@ -1,7 +1,8 @@
 -- When no world is made. Profile.
-use Rattle.std.specs.Prelude.{◌≡◌, ◌⊎◌, ℕ, not, List, Option, Result, Err, IfErr, MatchOption}
+use Rattle.std.specs.Prelude.{◌≡◌, ◌⊎◌, ◌≤◌, ℕ, not, List, [], length, Vec, vec_capacity, Option, Result, Err, IfErr, MatchOption}
 use Rattle.std.specs.Bool.{then_some}
 use Rattle.std.specs.Option.{option_or, option_map}
+use Rattle.std.specs.declared.alloc.Global.{Global}
 use Rattle.sheet_types.specs.Matrix.{frame_fault}
 use Rattle.sheet_types.specs.Texts.{is_moment}
 use Rattle.sheet_types.specs.declared.frame.Frame.{Frame}
@@ -22,3 +23,7 @@ create_refusal f at = option_or (option_map BadFrame (frame_fault f)) (then_some
 -- Where something is wrong that is the answer, and else no other fault than the store's is.
 abbrev pub IsCreatedOrRefused : {X : Type 0} → Frame → List ℕ → Result X CreateFault → Type 0
 IsCreatedOrRefused f at r = MatchOption (create_refusal f at) (IfErr r (λ e. (e ≡ OutOfMemory) ⊎ (e ≡ StoreFault))) (λ why. r ≡ Err why)
+
+-- an empty list has room for one of each of these
+abbrev pub HasRoom : {X Y : Type 0} → List X → Vec Y Global → Type 0
+HasRoom xs room = (room.items ≡ []) × (length xs ≤ vec_capacity room)

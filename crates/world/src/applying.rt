@@ -1,5 +1,5 @@
 // One request over the members of a world: what it comes to is decided, and where a change is due it is carried out.
-ghost use Rattle.std.specs.Prelude.{◌≤◌, IsTrue};
+ghost use Rattle.std.specs.Prelude.{◌≡◌, ◌≤◌, IsTrue, length};
 ghost use Rattle.sheet_types.specs.Matrix.{is_good_frame};
 ghost use Rattle.world.specs.Deciding.{HasPlace};
 ghost use Rattle.world.specs.Laws.{IsServed};
@@ -27,7 +27,8 @@ fn carry_out_change<S: Alter + Drop>(
 ) -> Result<Receipt, TurnFault>
     requires rests { AllRest S.Store members.old.items }
     requires place { HasPlace members.old.items count.old (Due change) }
-    ensures { Changes S.Store change command.now members.old.items members.new.items count.old count.new result }
+    ensures changes { Changes S.Store change command.now members.old.items members.new.items count.old count.new result }
+    ensures long { length members.new.items ≡ length members.old.items }
 {
     turn_at(members, change.at, command, &change.receipt, change.sums)?;
     *count = change.receipt.seq;
@@ -46,7 +47,8 @@ pub fn serve<S: Alter + Drop>(
     requires rests { AllRest S.Store members.old.items }
     requires good { IsTrue (is_good_frame frame.now) }
     requires counted { count.old ≤ 1000000000 }
-    ensures { Serves S.Store frame.now request.now members.old.items members.new.items count.old count.new result }
+    ensures serves { Serves S.Store frame.now request.now members.old.items members.new.items count.old count.new result }
+    ensures long { length members.new.items ≡ length members.old.items }
 {
     match decide(members, frame, *count, alloc, request)? {
         Decision::Answered(reply) => Ok(reply),

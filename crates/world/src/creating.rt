@@ -1,5 +1,5 @@
 // The first member of a world: the archive, with nothing in it.
-ghost use Rattle.std.specs.Prelude.{◌≡◌, ◌<◌, ◌≤◌, ◌+◌, [], ◌∷◌, ◌++◌, IfOk, IsTrue, vec_len, vec_capacity};
+ghost use Rattle.std.specs.Prelude.{◌≡◌, ◌<◌, ◌≤◌, ◌+◌, [], ◌∷◌, ◌++◌, IfOk, IsTrue, length, vec_len, vec_capacity};
 ghost use Rattle.sqlite.specs.Held.{state};
 ghost use Rattle.sqlite.specs.Steps.{over_memory};
 ghost use Rattle.sheet_types.specs.Matrix.{is_good_frame};
@@ -52,6 +52,13 @@ pub(crate) fn push_reserved<T: Drop>(items: &mut Vec<T>, item: T)
     let _ = items.push(item);
 }
 
+/// An empty list with room for one.
+pub(crate) fn room_for_one<T: Drop>(alloc: Global) -> Result<Vec<T>, Fault>
+    ensures { IfOk result (λ room. (room.items ≡ []) × (1 ≤ vec_capacity room)) }
+{
+    Ok(Vec::with_capacity(alloc, 1)?)
+}
+
 /// A blank store in memory, which is gone with its connection.
 pub fn blank_in_memory(alloc: Global) -> Result<Connection<MemStore>, Fault>
     ensures { IfOk result (λ conn. IsBlank no_schema (state over_memory conn).now) }
@@ -70,6 +77,7 @@ pub fn archive_alone<S: Alter + Drop>(
     requires blank { IsBlank no_schema (state S.Store conn).now }
     requires good { IsTrue (is_good_frame frame.now) }
     ensures rests { IfOk result (λ members. AllRest S.Store members.items) }
+    ensures one { IfOk result (λ members. length members.items ≡ 1) }
     ensures made { IfOk result (λ members. AllClean S.Store members.items → AreMembers S.Store members.items 0 (new_world archive frame.now)) }
 {
     if !is_at_rest(&conn) {

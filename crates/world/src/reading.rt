@@ -1,5 +1,5 @@
 // What a world is asked for without changing it: the packages, what one of them holds and how much, and a kept receipt.
-ghost use Rattle.std.specs.Prelude.{◌≡◌, ◌<◌, ℕ, Some, IfOk, map, length, slice_get};
+ghost use Rattle.std.specs.Prelude.{◌≡◌, ◌<◌, ◌≤◌, ◌+◌, ◌++◌, ℕ, Some, IfOk, map, length, slice_get, vec_len, vec_capacity};
 ghost use Rattle.std.specs.Option.{option_map};
 ghost use Rattle.sheet_types.specs.Answers.{sums_of, package_sights, holdings_answer, receipt_answer};
 ghost use Rattle.sheet_types.specs.World.{World as ModelWorld, Package};
@@ -9,13 +9,14 @@ ghost use Rattle.world.specs.Reading.{sight_of, member_sight};
 ghost use Rattle.world.specs.Worlds.{StandsFor, IsRead, TellsOf};
 
 use crate::asking::{kept_in_all, place_of};
+use crate::creating::push_reserved;
 use crate::members::Member;
 use crate::world::World;
 use identity_register::whole::{items, links};
 use package_tables::fault::Fault;
 use sheet_types::command::{Item, Relation};
 use sheet_types::receipt::{Receipt, Sums};
-use sqlite::Alter;
+use sqlite::{Alter, Connection};
 use std::alloc::Global;
 use uuid::Uuid;
 
@@ -122,6 +123,20 @@ pub fn sums_in<S: Alter + Drop>(members: &[Member<S>], package: Uuid) -> Option<
     }
 }
 
+/// The stores of members, in their order, behind those that a list has. Takes no memory: the list has room for them.
+fn stores_of<S: Alter + Drop>(
+    members: Vec<Member<S>>,
+    mut stores: Vec<Connection<S>>,
+) -> Vec<Connection<S>>
+    requires room { length members.items + vec_len stores ≤ vec_capacity stores }
+    ensures { result.items ≡ stores.items ++ map (λ m. m.conn) members.items }
+{
+    for member in members {
+        push_reserved(&mut stores, member.conn);
+    }
+    stores
+}
+
 impl<S: Alter + Drop> World<S> {
     /// The live packages by UUID. Nothing is looked up.
     ///
@@ -167,5 +182,12 @@ impl<S: Alter + Drop> World<S> {
         ensures read { IsRead S.Store self.old self.new }
     {
         kept_in_all(&mut self.members, alloc, id)
+    }
+
+    /// The stores that the world holds, in the order of their packages. Takes no memory.
+    pub fn into_stores(self) -> Vec<Connection<S>>
+        ensures { result.items ≡ map (λ m. m.conn) self.members }
+    {
+        stores_of(self.members, self.room)
     }
 }

@@ -10,6 +10,7 @@ use crate::creating::blank_in_memory;
 use crate::members::Member;
 use crate::reading::{PackageSight, holdings_in, sights_of, sums_in};
 use crate::world::World;
+use identity_register::whole::items;
 use package_tables::create::{Info, create};
 use package_tables::fault::Fault;
 use sheet_types::collections::{Bytes, MovedList, Text};
@@ -290,6 +291,25 @@ fn guarded<S: Alter>(conn: &Connection<S>) -> bool
     ensures { IsTrue result → Rests (state S.Store conn.now) }
 {
     conn.is_autocommit()
+}
+
+// How many items the package of a store has.
+fn items_of<S: Alter>(conn: &mut Connection<S>, alloc: Global) -> Result<usize, Fault> {
+    if !guarded(conn) {
+        return Err(Fault::StoreFault);
+    }
+    Ok(items(conn, alloc)?.len())
+}
+
+#[test]
+fn the_stores_of_a_world(rt: HostRuntime) -> Result<(), Fail> {
+    let alloc = rt.alloc();
+    let mut world = archive(alloc)?;
+    filled(&mut world, alloc)?;
+    let mut stores = world.into_stores();
+    assert_eq!(rt; stores.len(), 1);
+    assert_eq!(rt; items_of(&mut stores[0], alloc)?, 4);
+    Ok(())
 }
 
 fn made<S: Alter + Drop>(

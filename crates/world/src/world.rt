@@ -11,7 +11,7 @@ ghost use Rattle.world.specs.Laws.{IsServed};
 ghost use Rattle.world.specs.Worlds.{StandsFor, IsStep, IsRun, StandsStill, StaysOpen};
 
 use crate::applying::serve;
-use crate::creating::{CreateFault, archive_alone, push_reserved};
+use crate::creating::{CreateFault, archive_alone, push_reserved, room_for_one};
 use crate::members::Member;
 use matrix_rules::check::FrameRules;
 use sheet_types::command::Request;
@@ -32,10 +32,13 @@ pub struct World<S: Alter + Drop> {
     pub(crate) members: Vec<Member<S>>,
     pub(crate) count: u64,
     pub(crate) has_failed: bool,
+    // Always empty, with room for the stores of all members, so that they can be handed out without memory.
+    pub(crate) room: Vec<Connection<S>>,
 }
 
 impl<S: Alter + Drop> Model for World<S> {
     ghost use Rattle.world.specs.Worlds.{Seen, seen_code, IsHeld};
+    ghost use Rattle.world.specs.Creating.{HasRoom};
 
     ghost Value = { Seen S };
 
@@ -43,7 +46,7 @@ impl<S: Alter + Drop> Model for World<S> {
 
     ghost view = { λ w. record { frame = w.frame; members = w.members.items; count = w.count; has_failed = w.has_failed } };
 
-    ghost invariant = { λ w. IsHeld S.Store (record { frame = w.frame; members = w.members.items; count = w.count; has_failed = w.has_failed }) };
+    ghost invariant = { λ w. IsHeld S.Store (record { frame = w.frame; members = w.members.items; count = w.count; has_failed = w.has_failed }) × HasRoom w.members.items w.room };
 }
 
 impl<S: Alter + Drop> World<S> {
@@ -70,12 +73,14 @@ impl<S: Alter + Drop> World<S> {
         if !is_moment(at) {
             return Err(CreateFault::BadText);
         }
+        let room = room_for_one(alloc)?;
         let members = archive_alone(alloc, conn, archive, at, frame)?;
         Ok(World {
             frame: *frame,
             members,
             count: 0,
             has_failed: false,
+            room,
         })
     }
 
