@@ -118,77 +118,20 @@ fn are_served(requests: &Vec<Request>) -> bool
     true
 }
 
-fn asked(alloc: Global, number: u8, at: &str, command: Command) -> Result<Request, Fault> {
-    Ok(Request {
-        id: question(number),
-        at: text(alloc, at)?,
-        command,
-    })
+// What a request asks of the archive. A tile is written zoom, column, row; of a link the base stands first.
+#[derive(Clone, Copy)]
+enum Asks {
+    Tile(u8, [i64; 3]),
+    NoBytes(u8, [i64; 3]),
+    Elsewhere(u8, [i64; 3]),
+    Row(u8, i64, i64),
+    Medium(u8),
+    Delete(u8),
+    Link(Mapping, u8, u8),
+    Unlink(Mapping, u8, u8),
 }
 
-fn applied<S: Alter + Drop>(
-    world: &mut World<S>,
-    alloc: Global,
-    request: &Request,
-) -> Result<Result<Receipt, Refusal>, Fault> {
-    if !is_served(&request.command) {
-        return Err(Fault::StoreFault);
-    }
-    Ok(world.apply(alloc, request))
-}
-
-// The number of the receipt, or that of the reason, below zero.
-fn told(reply: &Result<Receipt, Refusal>) -> i64 {
-    match reply {
-        Ok(receipt) => receipt.seq as i64,
-        Err(why) => -i64::from(why.number()),
-    }
-}
-
-// What is told of a request of this number.
-fn sent<S: Alter + Drop>(
-    world: &mut World<S>,
-    alloc: Global,
-    number: u8,
-    command: Command,
-) -> Result<i64, Fault> {
-    let request = asked(alloc, number, AT, command)?;
-    Ok(told(&applied(world, alloc, &request)?))
-}
-
-// The receipt of a request that is accepted, or was.
-fn received<S: Alter + Drop>(
-    world: &mut World<S>,
-    alloc: Global,
-    request: &Request,
-) -> Result<Receipt, Fault> {
-    match applied(world, alloc, request)? {
-        Ok(receipt) => Ok(receipt),
-        Err(_) => Err(Fault::StoreFault),
-    }
-}
-
-// What is told of each request of a list.
-fn ran<S: Alter + Drop>(
-    world: &mut World<S>,
-    alloc: Global,
-    requests: &Vec<Request>,
-) -> Result<Vec<i64>, Fault> {
-    if !are_served(requests) {
-        return Err(Fault::StoreFault);
-    }
-    let Ok(replies) = world.run(alloc, requests.as_slice()) else {
-        return Err(Fault::OutOfMemory);
-    };
-    let mut numbers = Vec::new(alloc);
-    for reply in replies.as_slice() {
-        numbers.push(told(reply))?;
-    }
-    Ok(numbers)
-}
-
-// A tile is written zoom, column, row.
-fn tile_in(
+fn tile(
     alloc: Global,
     package: Uuid,
     number: u8,
@@ -205,10 +148,6 @@ fn tile_in(
             bytes: Bytes::from_vec(Vec::from_slice(alloc, bytes)?),
         },
     })
-}
-
-fn tile(alloc: Global, number: u8, place: [i64; 3]) -> Result<Command, Fault> {
-    tile_in(alloc, archive(), number, place, b"A")
 }
 
 fn medium(alloc: Global, number: u8) -> Result<Command, Fault> {
@@ -235,29 +174,450 @@ fn row(alloc: Global, number: u8, x: i64, y: i64) -> Result<Command, Fault> {
     })
 }
 
-fn delete(number: u8) -> Command {
-    Command::Delete {
-        package: archive(),
-        identity: item(number),
+fn command(alloc: Global, asks: Asks) -> Result<Command, Fault> {
+    match asks {
+        Asks::Tile(number, place) => tile(alloc, archive(), number, place, b"A"),
+        Asks::NoBytes(number, place) => tile(alloc, archive(), number, place, b""),
+        Asks::Elsewhere(number, place) => tile(alloc, stranger(), number, place, b"A"),
+        Asks::Row(number, x, y) => row(alloc, number, x, y),
+        Asks::Medium(number) => medium(alloc, number),
+        Asks::Delete(number) => Ok(Command::Delete {
+            package: archive(),
+            identity: item(number),
+        }),
+        Asks::Link(mapping, base, media) => Ok(Command::Link {
+            package: archive(),
+            mapping,
+            base: item(base),
+            media: item(media),
+        }),
+        Asks::Unlink(mapping, base, media) => Ok(Command::Unlink {
+            package: archive(),
+            mapping,
+            base: item(base),
+            media: item(media),
+        }),
     }
 }
 
-fn link(mapping: Mapping, base: u8, media: u8) -> Command {
-    Command::Link {
-        package: archive(),
-        mapping,
-        base: item(base),
-        media: item(media),
+// A request by its number and moment, and what is to be told of it.
+#[derive(Clone, Copy)]
+struct Step {
+    number: u8,
+    at: &'static str,
+    asks: Asks,
+    told: i64,
+}
+
+fn step_now(number: u8, asks: Asks, told: i64) -> Step {
+    Step {
+        number,
+        at: AT,
+        asks,
+        told,
     }
 }
 
-fn unlink(mapping: Mapping, base: u8, media: u8) -> Command {
-    Command::Unlink {
-        package: archive(),
-        mapping,
-        base: item(base),
-        media: item(media),
+fn step_at(number: u8, at: &'static str, asks: Asks, told: i64) -> Step {
+    Step {
+        number,
+        at,
+        asks,
+        told,
     }
+}
+
+fn request(alloc: Global, step: &Step) -> Result<Request, Fault> {
+    Ok(Request {
+        id: question(step.number),
+        at: text(alloc, step.at)?,
+        command: command(alloc, step.asks)?,
+    })
+}
+
+// The number of the receipt, or that of the reason, below zero.
+fn told(reply: &Result<Receipt, Refusal>) -> i64 {
+    match reply {
+        Ok(receipt) => i64::try_from(receipt.seq).unwrap_or(i64::MAX),
+        Err(why) => -i64::from(why.number()),
+    }
+}
+
+fn applied<S: Alter + Drop>(
+    world: &mut World<S>,
+    alloc: Global,
+    request: &Request,
+) -> Result<Result<Receipt, Refusal>, Fault> {
+    if !is_served(&request.command) {
+        return Err(Fault::StoreFault);
+    }
+    Ok(world.apply(alloc, request))
+}
+
+// One after the other, in a world that begins with nothing.
+fn expect_told(rt: &impl Abort, alloc: Global, steps: &[Step]) -> Result<(), Fault> {
+    let mut world = made(alloc)?;
+    for step in steps {
+        let request = request(alloc, step)?;
+        let number = told(&applied(&mut world, alloc, &request)?);
+        assert_eq!(rt; number, step.told);
+        assert!(rt; !world.has_failed());
+    }
+    Ok(())
+}
+
+fn requests(alloc: Global, steps: &[Step]) -> Result<Vec<Request>, Fault> {
+    let mut list = Vec::new(alloc);
+    for step in steps {
+        list.push(request(alloc, step)?)?;
+    }
+    Ok(list)
+}
+
+// What is told of each request of a list.
+fn ran<S: Alter + Drop>(
+    world: &mut World<S>,
+    alloc: Global,
+    list: &Vec<Request>,
+) -> Result<Vec<i64>, Fault> {
+    if !are_served(list) {
+        return Err(Fault::StoreFault);
+    }
+    let Ok(replies) = world.run(alloc, list.as_slice()) else {
+        return Err(Fault::OutOfMemory);
+    };
+    let mut numbers = Vec::new(alloc);
+    for reply in replies.as_slice() {
+        numbers.push(told(reply))?;
+    }
+    Ok(numbers)
+}
+
+fn expect_ran<S: Alter + Drop>(
+    rt: &impl Abort,
+    world: &mut World<S>,
+    alloc: Global,
+    steps: &[Step],
+) -> Result<(), Fault> {
+    let list = requests(alloc, steps)?;
+    let numbers = ran(world, alloc, &list)?;
+    assert_eq!(rt; numbers.len(), steps.len());
+    for (number, step) in numbers.as_slice().iter().zip(steps) {
+        assert_eq!(rt; *number, step.told);
+    }
+    Ok(())
+}
+
+// The receipt of a request that is accepted, or was.
+fn received<S: Alter + Drop>(
+    world: &mut World<S>,
+    alloc: Global,
+    step: &Step,
+) -> Result<Receipt, Fault> {
+    let request = request(alloc, step)?;
+    match applied(world, alloc, &request)? {
+        Ok(receipt) => Ok(receipt),
+        Err(_) => Err(Fault::StoreFault),
+    }
+}
+
+// What the receipt of one thing is to be: where it came from and went to, what moved, and the counts by kind and the bytes, in the order of the fields.
+#[derive(Clone, Copy)]
+struct Wanted {
+    seq: u64,
+    source: Option<Uuid>,
+    target: Option<Uuid>,
+    kind: MovedKind,
+    base: u8,
+    other: Option<Uuid>,
+    size: u64,
+    digest: &'static str,
+    sums: [u64; 5],
+}
+
+// The thing that moved. The digest of a link is empty.
+fn expect_moved(rt: &impl Abort, thing: Moved, wanted: &Wanted) {
+    assert!(rt; thing.kind == wanted.kind);
+    assert!(rt; thing.base == item(wanted.base));
+    assert!(rt; thing.other == wanted.other);
+    assert_eq!(rt; thing.size, wanted.size);
+    match thing.fingerprint {
+        Some(digest) => {
+            let mut digits = [0; 64];
+            assert_eq!(rt; spell(&digest, &mut digits), wanted.digest);
+        }
+        None => assert_eq!(rt; wanted.digest, ""),
+    }
+}
+
+fn expect_receipt(rt: &impl Abort, receipt: &Receipt, number: u8, wanted: &Wanted) {
+    assert_eq!(rt; receipt.seq, wanted.seq);
+    assert!(rt; receipt.request == question(number));
+    assert_eq!(rt; receipt.at.as_str(), AT);
+    assert!(rt; receipt.source == wanted.source);
+    assert!(rt; receipt.target == wanted.target);
+    assert_eq!(rt; receipt.tiles, wanted.sums[0]);
+    assert_eq!(rt; receipt.media, wanted.sums[1]);
+    assert_eq!(rt; receipt.rows, wanted.sums[2]);
+    assert_eq!(rt; receipt.links, wanted.sums[3]);
+    assert_eq!(rt; receipt.bytes, wanted.sums[4]);
+    assert_eq!(rt; receipt.items.as_slice().len(), 1);
+    expect_moved(rt, receipt.items.as_slice()[0], wanted);
+}
+
+// What an addition of one thing by the request of the same number is to have.
+fn addition(
+    number: u8,
+    kind: MovedKind,
+    base: u8,
+    size: u64,
+    digest: &'static str,
+    sums: [u64; 5],
+) -> Wanted {
+    Wanted {
+        seq: u64::from(number),
+        source: None,
+        target: Some(archive()),
+        kind,
+        base,
+        other: None,
+        size,
+        digest,
+        sums,
+    }
+}
+
+#[test]
+fn the_first_tile(rt: HostRuntime) -> Result<(), Fail> {
+    let alloc = rt.alloc();
+    let mut world = made(alloc)?;
+    assert!(rt; world.frame() == FRAME);
+    assert!(rt; !world.has_failed());
+    let receipt = received(&mut world, alloc, &step_now(1, Asks::Tile(1, [2, 3, 3]), 1))?;
+    expect_receipt(
+        &rt,
+        &receipt,
+        1,
+        &addition(1, MovedKind::TileItem, 1, 1, TILE_DIGEST, [1, 0, 0, 0, 1]),
+    );
+    assert_eq!(rt;
+        receipt.line.as_str(),
+        "add a0000000-0000-4000-8000-000000000000 00000000-0000-4000-8000-000000000001 tile 1 b363ee0ecc9cf61b12ecdafd75dca2779729b4fcc5f1bd718c33aad2c94af4f8"
+    );
+    Ok(())
+}
+
+#[test]
+fn things_of_other_kinds(rt: HostRuntime) -> Result<(), Fail> {
+    let alloc = rt.alloc();
+    let mut world = made(alloc)?;
+    let receipt = received(&mut world, alloc, &step_now(1, Asks::Row(1, 0, 4096), 1))?;
+    expect_receipt(
+        &rt,
+        &receipt,
+        1,
+        &addition(1, MovedKind::RowItem, 1, 4, ROW_DIGEST, [0, 0, 1, 0, 4]),
+    );
+    let receipt = received(&mut world, alloc, &step_now(2, Asks::Medium(3), 2))?;
+    expect_receipt(
+        &rt,
+        &receipt,
+        2,
+        &addition(
+            2,
+            MovedKind::MediaItem,
+            3,
+            2,
+            MEDIUM_DIGEST,
+            [0, 1, 0, 0, 2],
+        ),
+    );
+    let receipt = received(
+        &mut world,
+        alloc,
+        &step_now(3, Asks::Link(Mapping::RowsMedia, 1, 3), 3),
+    )?;
+    let mut wanted = addition(3, MovedKind::RowsMediaLink, 1, 0, "", [0, 0, 0, 1, 0]);
+    wanted.other = Some(item(3));
+    expect_receipt(&rt, &receipt, 3, &wanted);
+    Ok(())
+}
+
+// What goes out comes from the archive and goes nowhere.
+#[test]
+fn an_item_goes_out(rt: HostRuntime) -> Result<(), Fail> {
+    let alloc = rt.alloc();
+    let mut world = made(alloc)?;
+    let _added = received(&mut world, alloc, &step_now(1, Asks::Tile(1, [2, 3, 3]), 1))?;
+    let receipt = received(&mut world, alloc, &step_now(2, Asks::Delete(1), 2))?;
+    let mut wanted = addition(2, MovedKind::TileItem, 1, 1, TILE_DIGEST, [1, 0, 0, 0, 1]);
+    wanted.source = Some(archive());
+    wanted.target = None;
+    expect_receipt(&rt, &receipt, 2, &wanted);
+    assert_eq!(rt;
+        receipt.line.as_str(),
+        "delete a0000000-0000-4000-8000-000000000000 00000000-0000-4000-8000-000000000001"
+    );
+    Ok(())
+}
+
+// The receipt is the first one, with its moment, whatever came in between and whatever the request would be refused for now.
+#[test]
+fn what_comes_again(rt: HostRuntime) -> Result<(), Fail> {
+    let alloc = rt.alloc();
+    let mut world = made(alloc)?;
+    let wanted = addition(1, MovedKind::TileItem, 1, 1, TILE_DIGEST, [1, 0, 0, 0, 1]);
+    let mut again = step_now(1, Asks::Tile(1, [2, 3, 3]), 1);
+    expect_receipt(&rt, &received(&mut world, alloc, &again)?, 1, &wanted);
+    let _gone = received(&mut world, alloc, &step_now(2, Asks::Delete(1), 2))?;
+    expect_receipt(&rt, &received(&mut world, alloc, &again)?, 1, &wanted);
+    again.at = LATER;
+    expect_receipt(&rt, &received(&mut world, alloc, &again)?, 1, &wanted);
+    again.at = NO_MOMENT;
+    expect_receipt(&rt, &received(&mut world, alloc, &again)?, 1, &wanted);
+    Ok(())
+}
+
+// An identity that came before with another line is told so; what is accepted next gets the next number.
+#[test]
+fn another_line(rt: HostRuntime) -> Result<(), Fail> {
+    let steps = [
+        step_now(1, Asks::Tile(1, [1, 0, 0]), 1),
+        step_now(1, Asks::Tile(1, [1, 0, 0]), 1),
+        step_now(1, Asks::Tile(1, [1, 0, 1]), -1),
+        step_now(1, Asks::Delete(1), -1),
+        step_now(2, Asks::Delete(1), 2),
+        step_now(1, Asks::Tile(1, [1, 0, 0]), 1),
+        step_now(3, Asks::Tile(2, [1, 0, 0]), 3),
+    ];
+    expect_told(&rt, rt.alloc(), &steps)?;
+    Ok(())
+}
+
+#[test]
+fn no_such_place(rt: HostRuntime) -> Result<(), Fail> {
+    let steps = [
+        step_now(1, Asks::Tile(1, [2, 4, 0]), -9),
+        step_now(1, Asks::Tile(1, [3, 0, 0]), -9),
+        step_now(1, Asks::Tile(1, [2, 0, 4]), -9),
+        step_now(1, Asks::Tile(1, [-1, 0, 0]), -9),
+        step_now(1, Asks::Tile(1, [2, 3, 0]), 1),
+        step_now(2, Asks::Tile(2, [2, 0, -1]), -9),
+        step_now(2, Asks::Tile(2, [0, 0, 0]), 2),
+    ];
+    expect_told(&rt, rt.alloc(), &steps)?;
+    Ok(())
+}
+
+// The west and the north edge are inside.
+#[test]
+fn points_on_the_edges(rt: HostRuntime) -> Result<(), Fail> {
+    let steps = [
+        step_now(1, Asks::Row(1, 0, 0), -10),
+        step_now(1, Asks::Row(1, 4096, 1), -10),
+        step_now(1, Asks::Row(1, 0, 4097), -10),
+        step_now(1, Asks::Row(1, -1, 1), -10),
+        step_now(1, Asks::Row(1, 0, 1), 1),
+        step_now(2, Asks::Row(2, 4095, 4096), 2),
+    ];
+    expect_told(&rt, rt.alloc(), &steps)?;
+    Ok(())
+}
+
+#[test]
+fn used_for_good(rt: HostRuntime) -> Result<(), Fail> {
+    let steps = [
+        step_now(1, Asks::Tile(1, [2, 0, 0]), 1),
+        step_now(2, Asks::Delete(1), 2),
+        step_now(9, Asks::Tile(1, [2, 0, 0]), -6),
+        step_now(9, Asks::Delete(1), -7),
+        step_now(3, Asks::Tile(2, [2, 0, 0]), 3),
+        step_now(4, Asks::Medium(3), 4),
+        step_now(5, Asks::Link(Mapping::TilesMedia, 2, 3), 5),
+        step_now(6, Asks::Unlink(Mapping::TilesMedia, 2, 3), 6),
+        step_now(7, Asks::Link(Mapping::TilesMedia, 2, 3), 7),
+    ];
+    expect_told(&rt, rt.alloc(), &steps)?;
+    Ok(())
+}
+
+#[test]
+fn ends_of_a_link(rt: HostRuntime) -> Result<(), Fail> {
+    let steps = [
+        step_now(1, Asks::Tile(1, [2, 0, 0]), 1),
+        step_now(2, Asks::Medium(3), 2),
+        step_now(3, Asks::Unlink(Mapping::TilesMedia, 1, 3), -13),
+        step_now(3, Asks::Link(Mapping::TilesMedia, 1, 4), -7),
+        step_now(3, Asks::Link(Mapping::TilesMedia, 4, 3), -7),
+        step_now(3, Asks::Link(Mapping::RowsMedia, 1, 3), -8),
+        step_now(3, Asks::Link(Mapping::TilesMedia, 3, 1), -8),
+        step_now(3, Asks::Link(Mapping::TilesMedia, 1, 3), 3),
+        step_now(4, Asks::Link(Mapping::TilesMedia, 1, 3), -12),
+        step_now(4, Asks::Delete(3), -14),
+        step_now(4, Asks::Delete(1), -14),
+        step_now(4, Asks::Unlink(Mapping::RowsMedia, 1, 3), -13),
+        step_now(4, Asks::Unlink(Mapping::TilesMedia, 1, 3), 4),
+        step_now(5, Asks::Delete(3), 5),
+    ];
+    expect_told(&rt, rt.alloc(), &steps)?;
+    Ok(())
+}
+
+// A receipt, each reason that one of these commands can meet in a small world, in the order of the reasons, and repeats.
+fn each_reason() -> [Step; 19] {
+    [
+        step_now(1, Asks::Tile(1, [2, 0, 0]), 1),
+        step_at(1, LATER, Asks::Tile(1, [2, 0, 0]), 1),
+        step_now(1, Asks::Tile(1, [2, 0, 1]), -1),
+        step_now(2, Asks::Elsewhere(2, [2, 0, 0]), -2),
+        step_at(2, NO_MOMENT, Asks::Medium(2), -4),
+        step_now(2, Asks::NoBytes(2, [2, 0, 1]), -5),
+        step_now(2, Asks::Medium(1), -6),
+        step_now(2, Asks::Delete(2), -7),
+        step_now(2, Asks::Medium(2), 2),
+        step_now(3, Asks::Link(Mapping::RowsMedia, 1, 2), -8),
+        step_now(3, Asks::Tile(3, [2, 4, 0]), -9),
+        step_now(3, Asks::Row(3, 0, 0), -10),
+        step_now(3, Asks::Tile(3, [2, 0, 0]), -11),
+        step_now(3, Asks::Link(Mapping::TilesMedia, 1, 2), 3),
+        step_now(4, Asks::Link(Mapping::TilesMedia, 1, 2), -12),
+        step_now(4, Asks::Unlink(Mapping::TilesMedia, 2, 1), -13),
+        step_now(4, Asks::Delete(2), -14),
+        step_now(4, Asks::Row(3, 0, 1), 4),
+        step_now(3, Asks::Link(Mapping::TilesMedia, 1, 2), 3),
+    ]
+}
+
+#[test]
+fn each_reason_in_turn(rt: HostRuntime) -> Result<(), Fail> {
+    expect_told(&rt, rt.alloc(), &each_reason())?;
+    Ok(())
+}
+
+#[test]
+fn a_list_is_run(rt: HostRuntime) -> Result<(), Fail> {
+    let alloc = rt.alloc();
+    let mut world = made(alloc)?;
+    expect_ran(&rt, &mut world, alloc, &each_reason())?;
+    assert!(rt; !world.has_failed());
+    Ok(())
+}
+
+// A list that came before gets its receipts again, and nothing is changed. An empty one gets no reply.
+#[test]
+fn a_list_comes_again(rt: HostRuntime) -> Result<(), Fail> {
+    let alloc = rt.alloc();
+    let mut world = made(alloc)?;
+    let steps = [
+        step_now(1, Asks::Tile(1, [2, 0, 0]), 1),
+        step_now(2, Asks::Tile(2, [2, 0, 0]), -11),
+        step_now(3, Asks::Medium(3), 2),
+    ];
+    expect_ran(&rt, &mut world, alloc, &steps)?;
+    expect_ran(&rt, &mut world, alloc, &steps)?;
+    expect_ran(&rt, &mut world, alloc, &[])?;
+    expect_ran(&rt, &mut world, alloc, &[step_now(4, Asks::Delete(3), 3)])?;
+    Ok(())
 }
 
 // So many bytes.
@@ -269,364 +629,41 @@ fn filled(alloc: Global, length: usize) -> Result<Vec<u8>, Fault> {
     Ok(bytes)
 }
 
-// What every receipt of an addition of one thing by the request of the same number has.
-fn expect_added(rt: &impl Abort, receipt: &Receipt, number: u8, kind: MovedKind, base: u8) {
-    assert_eq!(rt; receipt.seq, u64::from(number));
-    assert!(rt; receipt.request == question(number));
-    assert_eq!(rt; receipt.at.as_str(), AT);
-    assert!(rt; receipt.source.is_none());
-    assert!(rt; receipt.target == Some(archive()));
-    assert_eq!(rt; receipt.items.as_slice().len(), 1);
-    assert!(rt; receipt.items.as_slice()[0].kind == kind);
-    assert!(rt; receipt.items.as_slice()[0].base == item(base));
-}
-
-// The counts by kind and the bytes, in the order of the fields.
-fn expect_sums(rt: &impl Abort, receipt: &Receipt, wanted: [u64; 5]) {
-    assert_eq!(rt; receipt.tiles, wanted[0]);
-    assert_eq!(rt; receipt.media, wanted[1]);
-    assert_eq!(rt; receipt.rows, wanted[2]);
-    assert_eq!(rt; receipt.links, wanted[3]);
-    assert_eq!(rt; receipt.bytes, wanted[4]);
-}
-
-// The one thing that moved.
-fn moved(receipt: &Receipt) -> Result<Moved, Fault> {
-    match receipt.items.as_slice() {
-        [thing] => Ok(*thing),
-        _ => Err(Fault::StoreFault),
+// What is told of the addition of a tile of so many bytes, and the bytes of its receipt.
+fn told_of_size(alloc: Global, length: usize) -> Result<(i64, u64), Fault> {
+    let mut world = made(alloc)?;
+    let bytes = filled(alloc, length)?;
+    let request = Request {
+        id: question(1),
+        at: text(alloc, AT)?,
+        command: tile(alloc, archive(), 1, [2, 3, 3], bytes.as_slice())?,
+    };
+    let reply = applied(&mut world, alloc, &request)?;
+    let number = told(&reply);
+    match reply {
+        Ok(receipt) => Ok((number, receipt.bytes)),
+        Err(_) => Ok((number, 0)),
     }
-}
-
-fn expect_digest(rt: &impl Abort, thing: Moved, size: u64, wanted: &str) {
-    assert!(rt; thing.other.is_none());
-    assert_eq!(rt; thing.size, size);
-    match thing.fingerprint {
-        Some(digest) => {
-            let mut digits = [0; 64];
-            assert_eq!(rt; spell(&digest, &mut digits), wanted);
-        }
-        None => assert!(rt; false),
-    }
-}
-
-#[test]
-fn the_first_tile(rt: HostRuntime) -> Result<(), Fail> {
-    let alloc = rt.alloc();
-    let mut world = made(alloc)?;
-    assert!(rt; world.frame() == FRAME);
-    assert!(rt; !world.has_failed());
-    let request = asked(alloc, 1, AT, tile(alloc, 1, [2, 3, 3])?)?;
-    let receipt = received(&mut world, alloc, &request)?;
-    expect_added(&rt, &receipt, 1, MovedKind::TileItem, 1);
-    expect_sums(&rt, &receipt, [1, 0, 0, 0, 1]);
-    expect_digest(&rt, moved(&receipt)?, 1, TILE_DIGEST);
-    assert_eq!(rt;
-        receipt.line.as_str(),
-        "add a0000000-0000-4000-8000-000000000000 00000000-0000-4000-8000-000000000001 tile 1 b363ee0ecc9cf61b12ecdafd75dca2779729b4fcc5f1bd718c33aad2c94af4f8"
-    );
-    assert!(rt; !world.has_failed());
-    Ok(())
-}
-
-#[test]
-fn items_of_other_kinds(rt: HostRuntime) -> Result<(), Fail> {
-    let alloc = rt.alloc();
-    let mut world = made(alloc)?;
-    let request = asked(alloc, 1, AT, row(alloc, 1, 0, 4096)?)?;
-    let receipt = received(&mut world, alloc, &request)?;
-    expect_added(&rt, &receipt, 1, MovedKind::RowItem, 1);
-    expect_sums(&rt, &receipt, [0, 0, 1, 0, 4]);
-    expect_digest(&rt, moved(&receipt)?, 4, ROW_DIGEST);
-    let request = asked(alloc, 2, AT, medium(alloc, 3)?)?;
-    let receipt = received(&mut world, alloc, &request)?;
-    expect_added(&rt, &receipt, 2, MovedKind::MediaItem, 3);
-    expect_sums(&rt, &receipt, [0, 1, 0, 0, 2]);
-    expect_digest(&rt, moved(&receipt)?, 2, MEDIUM_DIGEST);
-    let request = asked(alloc, 3, AT, link(Mapping::RowsMedia, 1, 3))?;
-    let receipt = received(&mut world, alloc, &request)?;
-    expect_added(&rt, &receipt, 3, MovedKind::RowsMediaLink, 1);
-    expect_sums(&rt, &receipt, [0, 0, 0, 1, 0]);
-    assert!(rt; moved(&receipt)?.other == Some(item(3)));
-    assert!(rt; moved(&receipt)?.fingerprint.is_none());
-    Ok(())
-}
-
-// What goes out comes from the archive and goes nowhere.
-#[test]
-fn an_item_goes_out(rt: HostRuntime) -> Result<(), Fail> {
-    let alloc = rt.alloc();
-    let mut world = made(alloc)?;
-    assert_eq!(rt; sent(&mut world, alloc, 1, tile(alloc, 1, [2, 3, 3])?)?, 1);
-    let request = asked(alloc, 2, AT, delete(1))?;
-    let receipt = received(&mut world, alloc, &request)?;
-    assert_eq!(rt; receipt.seq, 2);
-    assert!(rt; receipt.source == Some(archive()));
-    assert!(rt; receipt.target.is_none());
-    expect_sums(&rt, &receipt, [1, 0, 0, 0, 1]);
-    expect_digest(&rt, moved(&receipt)?, 1, TILE_DIGEST);
-    assert_eq!(rt;
-        receipt.line.as_str(),
-        "delete a0000000-0000-4000-8000-000000000000 00000000-0000-4000-8000-000000000001"
-    );
-    Ok(())
-}
-
-// A request after a refused one gets the next number.
-#[test]
-fn no_such_place(rt: HostRuntime) -> Result<(), Fail> {
-    let alloc = rt.alloc();
-    let mut world = made(alloc)?;
-    assert_eq!(rt; sent(&mut world, alloc, 1, tile(alloc, 1, [2, 4, 0])?)?, -9);
-    assert_eq!(rt; sent(&mut world, alloc, 1, tile(alloc, 1, [3, 0, 0])?)?, -9);
-    assert_eq!(rt; sent(&mut world, alloc, 1, tile(alloc, 1, [2, 0, 4])?)?, -9);
-    assert_eq!(rt;
-        sent(&mut world, alloc, 1, tile(alloc, 1, [-1, 0, 0])?)?,
-        -9
-    );
-    assert_eq!(rt; sent(&mut world, alloc, 1, tile(alloc, 1, [2, 3, 0])?)?, 1);
-    assert_eq!(rt;
-        sent(&mut world, alloc, 2, tile(alloc, 2, [2, 0, -1])?)?,
-        -9
-    );
-    assert_eq!(rt; sent(&mut world, alloc, 2, tile(alloc, 2, [0, 0, 0])?)?, 2);
-    Ok(())
 }
 
 #[test]
 fn sizes_of_a_tile(rt: HostRuntime) -> Result<(), Fail> {
     let alloc = rt.alloc();
-    let mut world = made(alloc)?;
-    let most = filled(alloc, 1_048_576)?;
-    let command = tile_in(alloc, archive(), 1, [2, 3, 3], most.as_slice())?;
-    let request = asked(alloc, 1, AT, command)?;
-    let receipt = received(&mut world, alloc, &request)?;
-    expect_sums(&rt, &receipt, [1, 0, 0, 0, 1_048_576]);
-    let past = filled(alloc, 1_048_577)?;
-    let command = tile_in(alloc, archive(), 2, [2, 3, 2], past.as_slice())?;
-    assert_eq!(rt; sent(&mut world, alloc, 2, command)?, -5);
-    let command = tile_in(alloc, archive(), 2, [2, 3, 2], b"")?;
-    assert_eq!(rt; sent(&mut world, alloc, 2, command)?, -5);
+    assert!(rt; told_of_size(alloc, 1_048_576)? == (1, 1_048_576));
+    assert!(rt; told_of_size(alloc, 1_048_577)? == (-5, 0));
+    assert!(rt; told_of_size(alloc, 0)? == (-5, 0));
     Ok(())
 }
 
-// The west and the north edge are inside.
-#[test]
-fn points_on_the_edges(rt: HostRuntime) -> Result<(), Fail> {
-    let alloc = rt.alloc();
-    let mut world = made(alloc)?;
-    assert_eq!(rt; sent(&mut world, alloc, 1, row(alloc, 1, 0, 0)?)?, -10);
-    assert_eq!(rt; sent(&mut world, alloc, 1, row(alloc, 1, 4096, 1)?)?, -10);
-    assert_eq!(rt; sent(&mut world, alloc, 1, row(alloc, 1, 0, 4097)?)?, -10);
-    assert_eq!(rt; sent(&mut world, alloc, 1, row(alloc, 1, -1, 1)?)?, -10);
-    assert_eq!(rt; sent(&mut world, alloc, 1, row(alloc, 1, 0, 1)?)?, 1);
-    assert_eq!(rt; sent(&mut world, alloc, 2, row(alloc, 2, 4095, 4096)?)?, 2);
-    Ok(())
-}
-
-#[test]
-fn used_for_good(rt: HostRuntime) -> Result<(), Fail> {
-    let alloc = rt.alloc();
-    let mut world = made(alloc)?;
-    assert_eq!(rt; sent(&mut world, alloc, 1, tile(alloc, 1, [2, 0, 0])?)?, 1);
-    assert_eq!(rt; sent(&mut world, alloc, 2, delete(1))?, 2);
-    assert_eq!(rt; sent(&mut world, alloc, 9, tile(alloc, 1, [2, 0, 0])?)?, -6);
-    assert_eq!(rt; sent(&mut world, alloc, 9, delete(1))?, -7);
-    assert_eq!(rt; sent(&mut world, alloc, 3, tile(alloc, 2, [2, 0, 0])?)?, 3);
-    assert_eq!(rt; sent(&mut world, alloc, 4, medium(alloc, 3)?)?, 4);
-    assert_eq!(rt;
-        sent(&mut world, alloc, 5, link(Mapping::TilesMedia, 2, 3))?,
-        5
-    );
-    assert_eq!(rt;
-        sent(&mut world, alloc, 6, unlink(Mapping::TilesMedia, 2, 3))?,
-        6
-    );
-    assert_eq!(rt;
-        sent(&mut world, alloc, 7, link(Mapping::TilesMedia, 2, 3))?,
-        7
-    );
-    Ok(())
-}
-
-#[test]
-fn ends_of_a_link(rt: HostRuntime) -> Result<(), Fail> {
-    let alloc = rt.alloc();
-    let mut world = made(alloc)?;
-    assert_eq!(rt; sent(&mut world, alloc, 1, tile(alloc, 1, [2, 0, 0])?)?, 1);
-    assert_eq!(rt; sent(&mut world, alloc, 2, medium(alloc, 3)?)?, 2);
-    assert_eq!(rt;
-        sent(&mut world, alloc, 3, unlink(Mapping::TilesMedia, 1, 3))?,
-        -13
-    );
-    assert_eq!(rt;
-        sent(&mut world, alloc, 3, link(Mapping::TilesMedia, 1, 4))?,
-        -7
-    );
-    assert_eq!(rt;
-        sent(&mut world, alloc, 3, link(Mapping::TilesMedia, 4, 3))?,
-        -7
-    );
-    assert_eq!(rt;
-        sent(&mut world, alloc, 3, link(Mapping::RowsMedia, 1, 3))?,
-        -8
-    );
-    assert_eq!(rt;
-        sent(&mut world, alloc, 3, link(Mapping::TilesMedia, 3, 1))?,
-        -8
-    );
-    assert_eq!(rt;
-        sent(&mut world, alloc, 3, link(Mapping::TilesMedia, 1, 3))?,
-        3
-    );
-    assert_eq!(rt;
-        sent(&mut world, alloc, 4, link(Mapping::TilesMedia, 1, 3))?,
-        -12
-    );
-    assert_eq!(rt;
-        sent(&mut world, alloc, 4, link(Mapping::RowsMedia, 1, 3))?,
-        -8
-    );
-    assert_eq!(rt; sent(&mut world, alloc, 4, delete(3))?, -14);
-    assert_eq!(rt; sent(&mut world, alloc, 4, delete(1))?, -14);
-    assert_eq!(rt;
-        sent(&mut world, alloc, 4, unlink(Mapping::RowsMedia, 1, 3))?,
-        -13
-    );
-    assert_eq!(rt;
-        sent(&mut world, alloc, 4, unlink(Mapping::TilesMedia, 1, 3))?,
-        4
-    );
-    assert_eq!(rt; sent(&mut world, alloc, 5, delete(3))?, 5);
-    Ok(())
-}
-
-// The receipt is the first one, whatever came in between and whatever the request would be refused for now.
-#[test]
-fn what_comes_again(rt: HostRuntime) -> Result<(), Fail> {
-    let alloc = rt.alloc();
-    let mut world = made(alloc)?;
-    let request = asked(alloc, 1, AT, tile(alloc, 1, [1, 0, 0])?)?;
-    let first = received(&mut world, alloc, &request)?;
-    assert_eq!(rt; sent(&mut world, alloc, 2, delete(1))?, 2);
-    let again = received(&mut world, alloc, &request)?;
-    expect_added(&rt, &again, 1, MovedKind::TileItem, 1);
-    expect_sums(&rt, &again, [1, 0, 0, 0, 1]);
-    assert_eq!(rt; again.line.as_str(), first.line.as_str());
-    assert!(rt; moved(&again)? == moved(&first)?);
-    let later = asked(alloc, 1, LATER, tile(alloc, 1, [1, 0, 0])?)?;
-    expect_added(
-        &rt,
-        &received(&mut world, alloc, &later)?,
-        1,
-        MovedKind::TileItem,
-        1,
-    );
-    let never = asked(alloc, 1, NO_MOMENT, tile(alloc, 1, [1, 0, 0])?)?;
-    expect_added(
-        &rt,
-        &received(&mut world, alloc, &never)?,
-        1,
-        MovedKind::TileItem,
-        1,
-    );
-    assert_eq!(rt; sent(&mut world, alloc, 1, tile(alloc, 1, [1, 0, 1])?)?, -1);
-    assert_eq!(rt; sent(&mut world, alloc, 1, delete(1))?, -1);
-    assert_eq!(rt; sent(&mut world, alloc, 3, tile(alloc, 2, [1, 0, 0])?)?, 3);
-    Ok(())
-}
-
-#[test]
-fn other_reasons(rt: HostRuntime) -> Result<(), Fail> {
-    let alloc = rt.alloc();
-    let mut world = made(alloc)?;
-    let command = tile_in(alloc, stranger(), 1, [2, 0, 0], b"A")?;
-    assert_eq!(rt; sent(&mut world, alloc, 1, command)?, -2);
-    let request = asked(alloc, 1, NO_MOMENT, tile(alloc, 1, [2, 0, 0])?)?;
-    assert_eq!(rt; told(&applied(&mut world, alloc, &request)?), -4);
-    let request = asked(alloc, 1, "", delete(1))?;
-    assert_eq!(rt; told(&applied(&mut world, alloc, &request)?), -4);
-    assert_eq!(rt; sent(&mut world, alloc, 1, delete(1))?, -7);
-    assert_eq!(rt; sent(&mut world, alloc, 1, tile(alloc, 1, [2, 0, 0])?)?, 1);
-    assert_eq!(rt;
-        sent(&mut world, alloc, 2, tile(alloc, 2, [2, 0, 0])?)?,
-        -11
-    );
-    assert_eq!(rt; sent(&mut world, alloc, 2, tile(alloc, 2, [1, 0, 0])?)?, 2);
-    assert!(rt; !world.has_failed());
-    Ok(())
-}
-
-// The requests of a list: a receipt, each reason that one of these commands can meet in a small world, and repeats.
-fn requests(alloc: Global) -> Result<Vec<Request>, Fault> {
-    let mut list = Vec::new(alloc);
-    list.push(asked(alloc, 1, AT, tile(alloc, 1, [2, 0, 0])?)?)?;
-    list.push(asked(alloc, 1, LATER, tile(alloc, 1, [2, 0, 0])?)?)?;
-    list.push(asked(alloc, 1, AT, tile(alloc, 1, [2, 0, 1])?)?)?;
-    let elsewhere = tile_in(alloc, stranger(), 2, [2, 0, 0], b"A")?;
-    list.push(asked(alloc, 2, AT, elsewhere)?)?;
-    list.push(asked(alloc, 2, NO_MOMENT, medium(alloc, 2)?)?)?;
-    let empty = tile_in(alloc, archive(), 2, [2, 0, 1], b"")?;
-    list.push(asked(alloc, 2, AT, empty)?)?;
-    list.push(asked(alloc, 2, AT, medium(alloc, 1)?)?)?;
-    list.push(asked(alloc, 2, AT, delete(2))?)?;
-    list.push(asked(alloc, 2, AT, medium(alloc, 2)?)?)?;
-    list.push(asked(alloc, 3, AT, link(Mapping::RowsMedia, 1, 2))?)?;
-    list.push(asked(alloc, 3, AT, tile(alloc, 3, [2, 4, 0])?)?)?;
-    list.push(asked(alloc, 3, AT, row(alloc, 3, 0, 0)?)?)?;
-    list.push(asked(alloc, 3, AT, tile(alloc, 3, [2, 0, 0])?)?)?;
-    list.push(asked(alloc, 3, AT, link(Mapping::TilesMedia, 1, 2))?)?;
-    list.push(asked(alloc, 4, AT, link(Mapping::TilesMedia, 1, 2))?)?;
-    list.push(asked(alloc, 4, AT, unlink(Mapping::TilesMedia, 2, 1))?)?;
-    list.push(asked(alloc, 4, AT, delete(2))?)?;
-    list.push(asked(alloc, 4, AT, row(alloc, 3, 0, 1)?)?)?;
-    list.push(asked(alloc, 3, AT, link(Mapping::TilesMedia, 1, 2))?)?;
-    Ok(list)
-}
-
-#[test]
-fn a_list_is_run(rt: HostRuntime) -> Result<(), Fail> {
-    let alloc = rt.alloc();
-    let mut world = made(alloc)?;
-    let list = requests(alloc)?;
-    let numbers = ran(&mut world, alloc, &list)?;
-    let wanted = [
-        1, 1, -1, -2, -4, -5, -6, -7, 2, -8, -9, -10, -11, 3, -12, -13, -14, 4, 3,
-    ];
-    assert_eq!(rt; numbers.as_slice(), wanted.as_slice());
-    assert!(rt; !world.has_failed());
-    Ok(())
-}
-
-#[test]
-fn an_empty_list_is_run(rt: HostRuntime) -> Result<(), Fail> {
-    let alloc = rt.alloc();
-    let mut world = made(alloc)?;
-    let none = Vec::new(alloc);
-    assert_eq!(rt; ran(&mut world, alloc, &none)?.len(), 0);
-    assert_eq!(rt; sent(&mut world, alloc, 1, tile(alloc, 1, [2, 0, 0])?)?, 1);
-    Ok(())
-}
-
-// A list that came before gets its receipts again, and nothing is changed.
-#[test]
-fn a_list_comes_again(rt: HostRuntime) -> Result<(), Fail> {
-    let alloc = rt.alloc();
-    let mut world = made(alloc)?;
-    let mut list = Vec::new(alloc);
-    list.push(asked(alloc, 1, AT, tile(alloc, 1, [2, 0, 0])?)?)?;
-    list.push(asked(alloc, 2, AT, tile(alloc, 2, [2, 0, 0])?)?)?;
-    list.push(asked(alloc, 3, AT, medium(alloc, 3)?)?)?;
-    let wanted = [1, -11, 2];
-    assert_eq!(rt;
-        ran(&mut world, alloc, &list)?.as_slice(),
-        wanted.as_slice()
-    );
-    assert_eq!(rt;
-        ran(&mut world, alloc, &list)?.as_slice(),
-        wanted.as_slice()
-    );
-    assert_eq!(rt; sent(&mut world, alloc, 4, delete(3))?, 3);
+// A frame that differs in one number, and why no world is made of it.
+fn expect_unmade(
+    rt: &impl Abort,
+    alloc: Global,
+    frame: &Frame,
+    why: FrameFault,
+) -> Result<(), Fault> {
+    assert!(rt; unmade(alloc, frame, AT)? == Some(CreateFault::BadFrame(why)));
+    assert!(rt; unmade(alloc, frame, NO_MOMENT)? == Some(CreateFault::BadFrame(why)));
     Ok(())
 }
 
@@ -635,41 +672,35 @@ fn no_world_of_a_bad_frame(rt: HostRuntime) -> Result<(), Fail> {
     let alloc = rt.alloc();
     let mut frame = FRAME;
     frame.srs_id = -2;
-    assert!(rt; unmade(alloc, &frame, AT)? == Some(CreateFault::BadFrame(FrameFault::BadSrs)));
+    expect_unmade(&rt, alloc, &frame, FrameFault::BadSrs)?;
     frame = FRAME;
     frame.max_x = 0;
-    assert!(rt; unmade(alloc, &frame, AT)? == Some(CreateFault::BadFrame(FrameFault::BadBounds)));
+    expect_unmade(&rt, alloc, &frame, FrameFault::BadBounds)?;
     frame = FRAME;
     frame.tile_width = 4097;
-    assert!(rt; unmade(alloc, &frame, AT)? == Some(CreateFault::BadFrame(FrameFault::BadTile)));
+    expect_unmade(&rt, alloc, &frame, FrameFault::BadTile)?;
     frame = FRAME;
     frame.levels = 22;
-    assert!(rt; unmade(alloc, &frame, AT)? == Some(CreateFault::BadFrame(FrameFault::BadZoom)));
+    expect_unmade(&rt, alloc, &frame, FrameFault::BadZoom)?;
     frame = FRAME;
     frame.matrix_width = 0;
-    assert!(rt; unmade(alloc, &frame, AT)? == Some(CreateFault::BadFrame(FrameFault::BadMatrix)));
+    expect_unmade(&rt, alloc, &frame, FrameFault::BadMatrix)?;
     frame = FRAME;
     frame.matrix_width = 3;
-    assert!(rt; unmade(alloc, &frame, AT)? == Some(CreateFault::BadFrame(FrameFault::Uneven)));
-    frame = FRAME;
-    frame.levels = 6;
-    assert!(rt; unmade(alloc, &frame, AT)? == Some(CreateFault::BadFrame(FrameFault::Uneven)));
-    frame.levels = 5;
-    assert!(rt; unmade(alloc, &frame, AT)?.is_none());
+    expect_unmade(&rt, alloc, &frame, FrameFault::Uneven)?;
     Ok(())
 }
 
-// The frame is looked at first.
+// The greatest number of levels that this frame can have is five.
 #[test]
 fn no_world_without_a_moment(rt: HostRuntime) -> Result<(), Fail> {
     let alloc = rt.alloc();
     assert!(rt; unmade(alloc, &FRAME, NO_MOMENT)? == Some(CreateFault::BadText));
     assert!(rt; unmade(alloc, &FRAME, "")? == Some(CreateFault::BadText));
     let mut frame = FRAME;
-    frame.srs_id = -2;
-    assert!(rt;
-        unmade(alloc, &frame, NO_MOMENT)? == Some(CreateFault::BadFrame(FrameFault::BadSrs))
-    );
-    assert!(rt; unmade(alloc, &FRAME, LATER)?.is_none());
+    frame.levels = 6;
+    expect_unmade(&rt, alloc, &frame, FrameFault::Uneven)?;
+    frame.levels = 5;
+    assert!(rt; unmade(alloc, &frame, LATER)?.is_none());
     Ok(())
 }
