@@ -4,6 +4,8 @@
 pub mod contents;
 pub mod fields;
 pub mod importing;
+#[cfg(test)]
+mod importing_tests;
 pub mod list_laws;
 pub mod lists;
 #[cfg(test)]
@@ -12,6 +14,8 @@ pub mod manifests;
 #[cfg(test)]
 mod manifests_tests;
 pub mod package_manifests;
+#[cfg(test)]
+mod package_manifests_tests;
 pub mod records;
 pub mod reports;
 #[cfg(test)]
@@ -20,5 +24,7 @@ pub mod requests;
 pub mod sending;
 #[cfg(test)]
 mod sending_tests;
+#[cfg(test)]
+mod test_worlds;
 #[cfg(test)]
 mod tests;

@@ -2,7 +2,7 @@
 use Rattle.std.specs.Prelude.{◌≡◌, ◌⊎◌, ℕ, zero, suc, ◌+◌, true, false, cond, List, [], ◌∷◌, map, Some, slice_get, slice_set, refl, bytes_eq, Result, Ok, Err, IsErr, IsTrue, OnErr, if◌then◌else◌}
 use Rattle.std.proofs.Common.{sym, ap, subst, ◌∙◌, inl, inr, arith}
 use Rattle.std.specs.List.{AllByRecursion, AllZip}
-use Rattle.std.proofs.lemmas.List.Elements.{All-from_recursion, recursion_from_All}
+use Rattle.std.proofs.lemmas.List.Elements.{All-set, All-from_recursion, recursion_from_All}
 use Rattle.std.proofs.lemmas.Option.{slice_get_within}
 use Rattle.sqlite.specs.Tree.{Trees}
 use Rattle.sqlite.specs.Store.{Ghosts}
@@ -25,18 +25,12 @@ use Rattle.sql_meaning.proofs.StoreLemmas.{at_set, one_turned}
 use Rattle.identity_register.specs.Reads.{Reads}
 use Rattle.world.specs.Carrying.{after_command}
 use Rattle.world.specs.Laws.{package_of}
-use Rattle.world.specs.Members.{AllRest, AllClean, IsMember, AreMembers}
-use Rattle.world.specs.Turning.{IsDue, CarriesOut, CarriesOutAt, turned, world_after, LeftAs, AllOpen}
+use Rattle.world.specs.Members.{AllRest, AllClean, AllOpen, AllStay, IsMember, AreMembers}
+use Rattle.world.specs.Turning.{IsDue, CarriesOut, CarriesOutAt, turned, world_after, LeftAs}
 use Rattle.world.specs.declared.members.Member.{Member}
-use Rattle.world.proofs.Standing.{zip_at}
+use Rattle.world.proofs.Standing.{at_place, zip_at}
 
 -- ---- two lists, place by place
-
--- what stands at a place has what each has
-at_place : {X : Type 0} (P : X → Type 0) (xs : List X) (at : ℕ) (x : X) → slice_get xs at ≡ Some x → AllByRecursion P xs → P x
-at_place P [] at x place h = absurd (let e = place in cc)
-at_place P (y ∷ ys) zero x place h = let same : y ≡ x = cc in subst P same h.0
-at_place P (y ∷ ys) (suc at) x place h = at_place P ys at x place h.1
 
 -- one element is another that has the same
 pub zip_set : {A B : Type 0} (R : A → B → Type 0) (xs : List A) (ys : List B) (at : ℕ) (was now : A) → ((y : B) → R was y → R now y) → slice_get xs at ≡ Some was → AllZip R xs ys → AllZip R (slice_set xs at now) ys
@@ -218,13 +212,46 @@ module _ {S : Type 0} (g : Ghosts S) (shuts : Shuts g) (settles : Settles g) whe
       All-from_recursion Clean old (set_back Clean old at it.was now it.place was (recursion_from_All Clean (slice_set old at now) (subst (AllClean g) it.others clean)))
 
   -- what a crash leaves of open stores at rest
-  each_leaves : (members : List (Member S)) (count : ℕ) (w : World) → AllRest g members → AllOpen g members → AreMembers g members count w → EachLeaves g (λ m. m.conn) (LeftAs w.frame) members w.packages
+  pub each_leaves : (members : List (Member S)) (count : ℕ) (w : World) → AllRest g members → AllOpen g members → AreMembers g members count w → EachLeaves g (λ m. m.conn) (LeftAs w.frame) members w.packages
   each_leaves members count w rests open' are =
       zip_so (λ m. Rests (state g m.conn) × IsTrue (state g m.conn).is_open) (IsMember g w) (λ m p. (trees : Trees) → (state g m.conn).may_leave trees → LeftAs w.frame trees p)
       (λ m p known is trees may. ((state g m.conn).now, (at_rest g shuts settles m.conn known.0 known.1).left trees may, is.reads known.1)) members w.packages
       (All-both (λ m. Rests (state g m.conn)) (λ m. IsTrue (state g m.conn).is_open) (λ m. Rests (state g m.conn) × IsTrue (state g m.conn).is_open) (λ m a b. (a, b)) members (recursion_from_All (λ m. Rests (state g m.conn)) members rests)
       (recursion_from_All (λ m. IsTrue (state g m.conn).is_open) members open'))
       are.each
+
+  -- members that were only read leave what they left
+  pub still_leaves : (old new : List (Member S)) (dbs : List Trees) → AllStay g old new → AllClean g new → MayLeave g (λ m. m.conn) new dbs → MayLeave g (λ m. m.conn) old dbs
+  still_leaves old new dbs stay clean may = zip_left old new dbs (recursion_from_All (λ (m : Member S). HasCleanDisk (state g m.conn)) new clean) stay may
+    where
+      zip_left : (xs ys : List (Member S)) (ds : List Trees) → AllByRecursion (λ (m : Member S). HasCleanDisk (state g m.conn)) ys → AllStay g xs ys → MayLeave g (λ m. m.conn) ys ds → MayLeave g (λ m. m.conn) xs ds
+      zip_left [] [] [] disks one left = tt
+      zip_left [] [] (d ∷ ds) disks one left = absurd left
+      zip_left [] (y ∷ ys) ds disks one left = absurd one
+      zip_left (x ∷ xs) [] ds disks one left = absurd one
+      zip_left (x ∷ xs) (y ∷ ys) [] disks one left = absurd left
+      zip_left (x ∷ xs) (y ∷ ys) (d ∷ ds) disks one left =
+          (elim (one.0.stays.survives.crash disks.0 d left.0) [ inl before ↦ before | inr none ↦ absurd none ], zip_left xs ys ds disks.1 one.1 left.1)
+
+  -- what a crash leaves of them reads as the world that they stand for
+  pub read_leaves : (old new : List (Member S)) (count : ℕ) (w : World) (after : List Package) → AllRest g old → AllStay g old new → AreMembers g old count w → AllOpen g old → LeavesEither g (λ m. m.conn) (LeftAs w.frame) new w.packages after
+  read_leaves old new count w after rests stay are open' clean dbs may = inl (zip_leaves old w.packages dbs (each_leaves old count w rests open' are) (still_leaves old new dbs stay clean may))
+    where
+      zip_leaves : (xs : List (Member S)) (ps : List Package) (ds : List Trees) → EachLeaves g (λ m. m.conn) (LeftAs w.frame) xs ps → MayLeave g (λ m. m.conn) xs ds → AllZip (LeftAs w.frame) ds ps
+      zip_leaves [] [] [] each left = tt
+      zip_leaves [] [] (d ∷ ds) each left = absurd left
+      zip_leaves [] (p ∷ ps) ds each left = absurd each
+      zip_leaves (x ∷ xs) [] ds each left = absurd each
+      zip_leaves (x ∷ xs) (p ∷ ps) [] each left = absurd left
+      zip_leaves (x ∷ xs) (p ∷ ps) (d ∷ ds) each left = (each.0 d left.0, zip_leaves xs ps ds each.1 left.1)
+
+  -- a turn that was committed leaves its store open
+  pub turned_open : {E : Type 0} (r : Receipt) (command : Command) (sums : Sums) (old new : List (Member S)) (at : ℕ) → CarriesOutAt g {E = E} r command sums old new at (Ok tt) → AllClean g new → AllOpen g old → AllOpen g new
+  turned_open r command sums old new at it clean was =
+      let Open : Member S → Type 0 = λ m. IsTrue (state g m.conn).is_open in
+      let now : Member S = record it.was { conn = it.last; sums = sums; ticket = r.seq } in
+      let disk : HasCleanDisk (state g it.last) = at_set (λ (m : Member S). HasCleanDisk (state g m.conn)) old at now (slice_get_within old at it.was it.place) (subst (AllClean g) it.others clean) in
+      rw it.others (All-set Open old at now (it.turn.turns.done disk).1.is_open was)
 
   -- of one that took a turn, what it left before or the package after the command
   pub crash_members : {E : Type 0} (r : Receipt) (command : Command) (sums : Sums) (old new : List (Member S)) (at : ℕ) (reply : Result (Unit {0}) E) → CarriesOutAt g r command sums old new at reply → AllRest g old → (w : World) (count : ℕ) → AreMembers g old count w

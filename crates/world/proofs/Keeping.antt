@@ -1,7 +1,7 @@
 -- What a world keeps of what it stands for, when one request was served.
-use Rattle.std.proofs.Common.{◌≡◌, refl, sym, ap, subst, ◌∙◌, ℕ, ◌≤◌, Bool, List, Result, Ok, Err, inl, inr}
+use Rattle.std.proofs.Common.{◌≡◌, refl, sym, ap, subst, ◌∙◌, ℕ, ◌≤◌, Bool, List, Result, IfOk, Ok, Err, inl, inr}
 use Rattle.sqlite.specs.Store.{Ghosts}
-use Rattle.sheet_types.specs.Step.{IsFault}
+use Rattle.sheet_types.specs.Step.{IsFault, outcome}
 use Rattle.sheet_types.specs.World.{World}
 use Rattle.sheet_types.specs.declared.command.Request.{Request}
 use Rattle.sheet_types.specs.declared.frame.Frame.{Frame}
@@ -9,9 +9,15 @@ use Rattle.sheet_types.specs.declared.receipt.Receipt.{Receipt}
 use Rattle.sheet_types.specs.declared.refusal.Refusal.{Refusal}
 use Rattle.package_tables.specs.declared.fault.Fault.TheVariants as fault
 use Rattle.world.specs.Faults.{turn_refusal}
-use Rattle.world.specs.Members.{AllRest, AllClean, AreMembers}
+use Rattle.sql_meaning.specs.Stores.{LeavesEither}
+use Rattle.sql_meaning.proofs.Transactions.{Shuts, Settles}
+use Rattle.sheet_types.specs.declared.refusal.Refusal.TheVariants.{StoreFault}
+use Rattle.world.proofs.Changing.{each_leaves, read_leaves}
+use Rattle.world.proofs.Standing.{all_still}
+use Rattle.world.specs.Turning.{LeftAs}
+use Rattle.world.specs.Members.{AllRest, AllClean, AllOpen, AreMembers}
 use Rattle.world.specs.Serving.{Serves, IsServedBy}
-use Rattle.world.specs.Worlds.{Seen, StandsFor, IsHeld, IsStep, StandsStill}
+use Rattle.world.specs.Worlds.{Seen, StandsFor, IsHeld, IsStep, StandsStill, StaysOpen, LeftAsItStands}
 use Rattle.world.specs.declared.carrying_out.TurnFault.{TurnFault}
 use Rattle.world.specs.declared.carrying_out.TurnFault.TheVariants.{Before, Committing}
 use Rattle.world.specs.declared.members.Member.{Member}
@@ -36,6 +42,18 @@ module _ {S : Type 0} (g : Ghosts S) where
         (after.0, after.2);
   }
 
+  -- A world that has failed answers without a look, and stays as it is.
+  pub step_unserved : Shuts g → Settles g → (q : Request) (seen : Seen S) → IsHeld g seen → IsStep g q seen (Err StoreFault) seen
+  step_unserved shuts settles q seen held = record {
+    clean = λ clean. clean;
+    step = λ clean w stands. (w, inr (inr refl, refl), stands);
+    crash = λ w stands opened. read_leaves g shuts settles seen.members seen.members seen.count w (outcome w q).1.packages held.rests (all_still g shuts settles seen.members held.rests) stands.members opened;
+  }
+
+  -- Between two calls a crash leaves what the world stands for.
+  pub left_as_it_stands : Shuts g → Settles g → LeftAsItStands g
+  left_as_it_stands shuts settles seen w held stands opened = each_leaves g shuts settles seen.members seen.count w held.rests opened stands.members
+
   module _ (f : Frame) (q : Request) (old new : List (Member S)) (before after : ℕ) (r : Result (Result Receipt Refusal) TurnFault) (it : Serves g f q old new before after r) (was_failed has_failed : Bool) (was : Seen S)
       (seen : record { frame = f; members = old; count = before; has_failed = was_failed } ≡ was) where
     stood : (w : World) → StandsFor g was w → (f ≡ w.frame) × AreMembers g old before w
@@ -45,9 +63,13 @@ module _ {S : Type 0} (g : Ghosts S) where
     were_clean clean = subst (AllClean g) (ap (λ s. s.members) seen) (it.clean clean)
 
     -- a reply is a step
+    crashes : (w : World) → StandsFor g was w → AllOpen g was.members → LeavesEither g (λ m. m.conn) (LeftAs w.frame) new w.packages (outcome w q).1.packages
+    crashes w stands opened = it.crash w (stood w stands).0 (stood w stands).1 (subst (AllOpen g) (sym (ap (λ s. s.members) seen)) opened)
+
     pub step_replied : (reply : Result Receipt Refusal) → r ≡ Ok reply → IsStep g q was reply (record { frame = f; members = new; count = after; has_failed = has_failed })
     step_replied reply is = record {
       clean = were_clean;
+      crash = crashes;
       step = λ clean w stands.
           let both = stood w stands in
           let served : IsServedBy g w q new after reply = it.told clean reply is w both.0 both.1 in
@@ -58,8 +80,18 @@ module _ {S : Type 0} (g : Ghosts S) where
     pub step_failed : (e : TurnFault) → r ≡ Err e → (why : Refusal) → why ≡ turn_refusal e → IsStep g q was (Err why) (record { frame = f; members = new; count = after; has_failed = has_failed })
     step_failed e is why told = record {
       clean = were_clean;
+      crash = crashes;
       step = λ clean w stands. (w, inr (subst (λ x. IsFault (Err x)) (sym told) (is_fault e), refl), record { frame = (stood w stands).0; members = it.failed e is w (stood w stands).1 });
     }
+
+    -- open stores stay open where there is a receipt or a refusal
+    pub opens_replied : (reply : Result Receipt Refusal) → r ≡ Ok reply → StaysOpen g was reply (record { frame = f; members = new; count = after; has_failed = has_failed })
+    opens_replied reply is clean no_fault opened =
+        let opens : AllOpen g old → AllOpen g new = subst (λ (x : Result (Result Receipt Refusal) TurnFault). IfOk x (λ y. AllOpen g old → AllOpen g new)) is (it.opens clean) in
+        opens (subst (AllOpen g) (sym (ap (λ s. s.members) seen)) opened)
+
+    pub opens_failed : (e : TurnFault) → (why : Refusal) → why ≡ turn_refusal e → StaysOpen g was (Err why) (record { frame = f; members = new; count = after; has_failed = has_failed })
+    opens_failed e why told clean no_fault opened = absurd (no_fault (subst (λ x. IsFault (Err x)) (sym told) (is_fault e)))
 
     -- a refusal leaves it standing for what it stood for
     pub still_replied : (reply : Result Receipt Refusal) → r ≡ Ok reply → StandsStill g was reply (record { frame = f; members = new; count = after; has_failed = has_failed })

@@ -16,11 +16,12 @@ use Rattle.world.specs.Calls.{Judges}
 -- what some looks have found of the package so far, the store left as it was
 pub record Seen (Fact : Frame → Package → Type 0) (old new : State) : Type 0 where
   pub stays : Stays old new
+  pub stays_open : HasCleanDisk new → IsTrue new.is_open
   pub told : HasCleanDisk new → IsTrue old.is_open × ((new.now ≡ old.now) × ((f : Frame) (p : Package) → Reads f p old.now → Fact f p))
 
 -- one look that answered
 pub seen : {X E : Type 0} (Answer : Frame → Package → X → Type 0) {old new : State} {r : Result X E} {x : X} → r ≡ Ok x → Looks {X = X} {E = E} (Sees Answer) old new r → Seen (λ f p. Answer f p x) old new
-seen {X} {E} Answer {old} {new} {r} {x} is looks = record { stays = looks_stays looks; told = λ clean. let d = it.done clean in (it.was_open d.0, (d.1.0, d.1.1)) }
+seen {X} {E} Answer {old} {new} {r} {x} is looks = record { stays = looks_stays looks; stays_open = λ clean. (it.done clean).0; told = λ clean. let d = it.done clean in (it.was_open d.0, (d.1.0, d.1.1)) }
   where
     it : Looks {X = X} {E = E} (Sees Answer) old new (Ok x)
     it = subst (Looks (Sees Answer) old new) is looks
@@ -29,6 +30,7 @@ seen {X} {E} Answer {old} {new} {r} {x} is looks = record { stays = looks_stays 
 pub seen_then : {X E : Type 0} {Fact : Frame → Package → Type 0} (Answer : Frame → Package → X → Type 0) {a b c : State} {r : Result X E} {x : X} → Seen Fact a b → r ≡ Ok x → Looks {X = X} {E = E} (Sees Answer) b c r → Seen (λ f p. Fact f p × Answer f p x) a c
 seen_then {Fact} Answer {a} {b} {c} {r} {x} first is looks = record {
   stays = stays_then first.stays next.stays;
+  stays_open = next.stays_open;
   told = λ clean.
       let before : HasCleanDisk b = omega (arith, next.stays.survives.clean, clean) in
       let d = first.told before in
@@ -42,17 +44,17 @@ seen_then {Fact} Answer {a} {b} {c} {r} {x} first is looks = record {
 -- what was found is judged
 pub judges : {X E : Type 0} {Fact : Frame → Package → Type 0} {Answer : Frame → Package → X → Type 0} {old new : State} {x : X} → Seen Fact old new
     → ((f : Frame) (p : Package) → Reads f p old.now → Fact f p → Answer f p x) → Judges {X = X} {E = E} Answer old new (Ok x)
-judges it so = record { stays = it.stays; told = λ clean f p reads. let t = it.told clean in so f p (reads t.0) (t.1.1 f p (reads t.0)) }
+judges it so = record { stays = it.stays; stays_open = λ clean was. it.stays_open clean; told = λ clean f p reads. let t = it.told clean in so f p (reads t.0) (t.1.1 f p (reads t.0)) }
 
 -- a look that failed tells nothing
 pub judges_not : {X E : Type 0} {Answer : Frame → Package → X → Type 0} {old new : State} (r : Result X E) → IsErr r → Stays old new → Judges {X = X} {E = E} Answer old new r
 judges_not (Ok x) failed it = cc
-judges_not (Err e) failed it = record { stays = it; told = λ clean. tt }
+judges_not (Err e) failed it = record { stays = it; stays_open = λ clean. tt; told = λ clean. tt }
 
 -- a judgement says what follows from it
 pub judges_so : {X E : Type 0} (Given : Frame → Package → X → Type 0) {Answer : Frame → Package → X → Type 0} {old new : State} (r : Result X E) → ((x : X) (f : Frame) (p : Package) → Given f p x → Answer f p x) → Judges {X = X} {E = E} Given old new r → Judges {X = X} {E = E} Answer old new r
-judges_so Given (Ok x) so it = record { stays = it.stays; told = λ clean f p reads. so x f p (it.told clean f p reads) }
-judges_so Given (Err e) so it = record { stays = it.stays; told = λ clean. tt }
+judges_so Given (Ok x) so it = record { stays = it.stays; stays_open = it.stays_open; told = λ clean f p reads. so x f p (it.told clean f p reads) }
+judges_so Given (Err e) so it = record { stays = it.stays; stays_open = λ clean. tt; told = λ clean. tt }
 
 same_survives : (s : State) → Survives s s (λ _. ⊥)
 same_survives s = record { clean = omega arith; shield = λ h. h; counts = omega arith; limit = refl; closes = λ _ h. inl h; crash = λ _ db h. inl h }
@@ -64,4 +66,4 @@ module _ {S : Type 0} (g : Ghosts S) (shuts : Shuts g) (settles : Settles g) whe
 
   -- what is judged without a look
   pub judges_still : {X E : Type 0} {Answer : Frame → Package → X → Type 0} {x : X} (h : Held S) → Rests (state g h) → ((f : Frame) (p : Package) → Answer f p x) → Judges {X = X} {E = E} Answer (state g h) (state g h) (Ok x)
-  judges_still h rests so = record { stays = stays_still h rests; told = λ clean f p reads. so f p }
+  judges_still h rests so = record { stays = stays_still h rests; stays_open = λ clean was. was; told = λ clean f p reads. so f p }

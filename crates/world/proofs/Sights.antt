@@ -1,11 +1,11 @@
 -- What is kept of the members tells which packages there are and how much each of them holds.
-use Rattle.std.proofs.Common.{◌≡◌, refl, sym, ap, subst, ◌∙◌, ℕ, List, [], ◌∷◌, map, true, false, Some, None, slice_get, Result, Ok, Err, IfOk}
+use Rattle.std.proofs.Common.{◌≡◌, refl, sym, ap, subst, ◌∙◌, ℕ, List, [], ◌∷◌, map, Some, None, slice_get, Result, Ok, Err, IfOk}
 use Rattle.std.specs.Bool.{then_some}
 use Rattle.std.specs.List.{AllZip}
 use Rattle.sqlite.specs.Store.{Ghosts}
 use Rattle.sheet_types.specs.Answers.{PackageSight, sums_held, sums_of, package_sights}
 use Rattle.sheet_types.specs.Custody.{ticket}
-use Rattle.sheet_types.specs.World.{World, Package, is_live, holdings}
+use Rattle.sheet_types.specs.World.{World, Package, holdings}
 use Rattle.world.specs.Asking.{StandsAt, StandsNowhere}
 use Rattle.world.specs.Members.{IsMember, AreMembers}
 use Rattle.world.specs.Reading.{sight_of, member_sight}

@@ -1,6 +1,6 @@
 -- Members that were only read stand for the world that they stood for, and a look at one of them reads one.
 use Rattle.std.proofs.Common.{◌≡◌, refl, sym, ap, subst, ◌∙◌, ℕ, zero, suc, ◌<◌, List, [], ◌∷◌, length, slice_get, Some, Result, Ok, arith}
-use Rattle.std.specs.Prelude.{All, slice_set}
+use Rattle.std.specs.Prelude.{All, slice_set, IsTrue}
 use Rattle.std.specs.List.{AllZip, AllByRecursion}
 use Rattle.std.proofs.lemmas.List.{get_or-set_same, length-set}
 use Rattle.std.proofs.lemmas.List.Elements.{All-set, All-from_recursion, recursion_from_All}
@@ -16,7 +16,7 @@ use Rattle.sql_meaning.proofs.Staying.{stays_then}
 use Rattle.sql_meaning.proofs.Transactions.{Shuts, Settles}
 use Rattle.identity_register.specs.Calls.{Sees}
 use Rattle.identity_register.specs.Reads.{Reads}
-use Rattle.world.specs.Members.{AllRest, AllClean, IsMember, AreMembers, StaysMember, AllStay, TurnsAt}
+use Rattle.world.specs.Members.{AllRest, AllClean, AllOpen, IsMember, AreMembers, StaysMember, AllStay, TurnsAt}
 use Rattle.world.specs.declared.members.Member.{Member}
 use Rattle.world.proofs.Seeing.{stays_still}
 
@@ -62,6 +62,12 @@ zip_length R (x ∷ xs) (y ∷ ys) zip = ap suc (zip_length R xs ys zip.1)
 at_set : {X : Type 0} (P : X → Type 0) (xs : List X) (i : ℕ) (x : X) → i < length xs → All P (slice_set xs i x) → P x
 at_set P xs i x within all = subst P (get_or-set_same xs i x x within) (all i x (rw (length-set xs i x) within))
 
+-- what stands at a place has what each has
+pub at_place : {X : Type 0} (P : X → Type 0) (xs : List X) (at : ℕ) (x : X) → slice_get xs at ≡ Some x → AllByRecursion P xs → P x
+at_place P [] at x place h = absurd (let e = place in cc)
+at_place P (y ∷ ys) zero x place h = let same : y ≡ x = cc in subst P same h.0
+at_place P (y ∷ ys) (suc at) x place h = at_place P ys at x place h.1
+
 module _ {S : Type 0} (g : Ghosts S) where
   member_then : (a b c : Member S) → StaysMember g a b → StaysMember g b c → StaysMember g a c
   member_then a b c first next = record { same = next.same ∙ ap (λ (x : Member S). record x { conn = c.conn }) first.same; stays = stays_then first.stays next.stays }
@@ -97,6 +103,13 @@ module _ {S : Type 0} (g : Ghosts S) where
     -- a turn that ends at rest leaves all at rest
     pub turn_rests : Rests (state g turn.last) → AllRest g old → AllRest g new
     turn_rests last rests = rw turn.others (All-set (λ (m : Member S). Rests (state g m.conn)) old at (record turn.was { conn = turn.last }) last rests)
+
+    -- and one that leaves its store open leaves all open
+    pub turn_open : (IsTrue (state g turn.was.conn).is_open → IsTrue (state g turn.last).is_open) → AllOpen g old → AllOpen g new
+    turn_open last was =
+        let Open : Member S → Type 0 = λ m. IsTrue (state g m.conn).is_open in
+        let here : Open turn.was = at_place Open old at turn.was turn.place (recursion_from_All Open old was) in
+        rw turn.others (All-set Open old at (record turn.was { conn = turn.last }) (last here) was)
 
     -- the disk of the one that took it, by all the disks
     pub turn_clean : AllClean g new → HasCleanDisk (state g turn.last)

@@ -3,7 +3,7 @@ use Rattle.std.specs.Prelude.{◌≡◌, ◌<◌, ℕ, false, true, List, Option
 use Rattle.std.specs.List.{list_any}
 use Rattle.sqlite.specs.Store.{Ghosts}
 use Rattle.sheet_types.specs.World.{World, is_live, holdings}
-use Rattle.world.specs.Members.{AllRest, AllClean, AllStay, AreMembers}
+use Rattle.world.specs.Members.{AllRest, AllClean, AllOpen, AllStay, AreMembers}
 use Rattle.world.specs.declared.members.Member.{Member}
 
 module _ {S : Type 0} (g : Ghosts S) where
@@ -11,6 +11,7 @@ module _ {S : Type 0} (g : Ghosts S) where
   pub record AsksAll {X E : Type 0} (Answer : World → X → Type 0) (old new : List (Member S)) (r : Result X E) : Type 0 where
     pub rests : AllRest g new
     pub stay : AllStay g old new
+    pub stays_open : AllClean g new → IfOk r (λ x. AllOpen g old → AllOpen g new)
     pub told : AllClean g new → IfOk r (λ x. (w : World) (count : ℕ) → AreMembers g old count w → Answer w x)
 
   -- A member of this package stands here, as the package does among those of the world.

@@ -22,6 +22,10 @@ module _ {S : Type 0} (g : Ghosts S) where
   abbrev pub AllClean : List (Member S) → Type 0
   AllClean members = All (λ m. HasCleanDisk (state g m.conn)) members
 
+  -- all stores are open
+  abbrev pub AllOpen : List (Member S) → Type 0
+  AllOpen members = All (λ m. IsTrue (state g m.conn).is_open) members
+
   -- The member is that package of the world: what is kept of it is right and its store, where it is open, reads as it.
   pub record IsMember (w : World) (m : Member S) (p : Package) : Type 0 where
     pub uuid : m.uuid ≡ p.uuid

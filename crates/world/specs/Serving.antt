@@ -1,5 +1,5 @@
 -- What one request makes of the members of a world, and what is replied. Profile.
-use Rattle.std.specs.Prelude.{◌≡◌, ◌≤◌, ℕ, ◌+◌, List, Result, Ok, Err}
+use Rattle.std.specs.Prelude.{◌≡◌, ◌≤◌, ℕ, ◌+◌, List, Result, Ok, Err, IfOk}
 use Rattle.sqlite.specs.Store.{Ghosts}
 use Rattle.sheet_types.specs.Step.{outcome}
 use Rattle.sheet_types.specs.World.{World}
@@ -8,8 +8,9 @@ use Rattle.sheet_types.specs.declared.command.Request.{Request}
 use Rattle.sheet_types.specs.declared.frame.Frame.{Frame}
 use Rattle.sheet_types.specs.declared.receipt.Receipt.{Receipt}
 use Rattle.sheet_types.specs.declared.refusal.Refusal.{Refusal}
-use Rattle.world.specs.Members.{AllRest, AllClean, AreMembers}
-use Rattle.world.specs.Turning.{IsDue, world_after}
+use Rattle.sql_meaning.specs.Stores.{LeavesEither}
+use Rattle.world.specs.Members.{AllRest, AllClean, AllOpen, AreMembers}
+use Rattle.world.specs.Turning.{IsDue, LeftAs, world_after}
 use Rattle.world.specs.declared.carrying_out.TurnFault.{TurnFault}
 use Rattle.world.specs.declared.deciding.Change.{Change}
 use Rattle.world.specs.declared.members.Member.{Member}
@@ -21,6 +22,9 @@ module _ {S : Type 0} (g : Ghosts S) where
     pub clean : AllClean g new → AllClean g old
     pub ok : (receipt : Receipt) → r ≡ Ok receipt → (receipt ≡ change.receipt) × (after ≡ before + 1)
         × ((w : World) → AreMembers g old before w → IsDue w change.at change.receipt command change.sums → AreMembers g new (before + 1) (world_after change.receipt command w))
+    pub crash : (w : World) → AreMembers g old before w → IsDue w change.at change.receipt command change.sums → AllOpen g old
+        → LeavesEither g (λ m. m.conn) (LeftAs w.frame) new w.packages (world_after change.receipt command w).packages
+    pub opens : AllClean g new → IfOk r (λ receipt. AllOpen g old → AllOpen g new)
     pub err : (fault : TurnFault) → r ≡ Err fault → (after ≡ before) × ((w : World) → AreMembers g old before w → AreMembers g new before w)
 
   -- The reply, and what the members stand for afterwards, are those of the model.
@@ -34,4 +38,7 @@ module _ {S : Type 0} (g : Ghosts S) where
     pub clean : AllClean g new → AllClean g old
     pub told : AllClean g new → (reply : Result Receipt Refusal) → r ≡ Ok reply → (w : World) → f ≡ w.frame → AreMembers g old before w → IsServedBy w q new after reply
     pub refused : (why : Refusal) → r ≡ Ok (Err why) → (w : World) → AreMembers g old before w → AreMembers g new after w
+    -- Whatever a crash leaves of stores that were open reads as the world before or as the world that the request is to make, whole; and where there is a reply they are still open.
+    pub crash : (w : World) → f ≡ w.frame → AreMembers g old before w → AllOpen g old → LeavesEither g (λ m. m.conn) (LeftAs w.frame) new w.packages (outcome w q).1.packages
+    pub opens : AllClean g new → IfOk r (λ reply. AllOpen g old → AllOpen g new)
     pub failed : (fault : TurnFault) → r ≡ Err fault → (w : World) → AreMembers g old before w → AreMembers g new after w

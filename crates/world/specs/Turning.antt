@@ -72,7 +72,3 @@ module _ {S : Type 0} (g : Ghosts S) where
     pub last : Held S
     pub others : new ≡ slice_set old at (turned r sums was last reply)
     pub turn : CarriesOut r command (state g was.conn) (state g last) reply
-
-  -- all stores are open
-  abbrev pub AllOpen : List (Member S) → Type 0
-  AllOpen members = All (λ m. IsTrue (state g m.conn).is_open) members

@@ -4,14 +4,16 @@ use Rattle.std.specs.Coded.{Coded, code_by, coded×, coded_bool, coded_list, cod
 use Rattle.sqlite.specs.Store.{Ghosts}
 use Rattle.sqlite.specs.Held.{Held, held_code}
 use Rattle.sheet_types.specs.Matrix.{is_good_frame}
-use Rattle.sheet_types.specs.Step.{Step, Run}
+use Rattle.sheet_types.specs.Step.{Step, Run, IsFault, outcome}
 use Rattle.sheet_types.specs.World.{World}
 use Rattle.sheet_types.specs.declared.command.Request.{Request}
 use Rattle.sheet_types.specs.declared.frame.Frame.{Frame}
 use Rattle.sheet_types.specs.declared.receipt.Receipt.{Receipt}
 use Rattle.sheet_types.specs.declared.receipt.Sums.{Sums}
 use Rattle.sheet_types.specs.declared.refusal.Refusal.{Refusal}
-use Rattle.world.specs.Members.{AllRest, AllClean, AllStay, AreMembers}
+use Rattle.sql_meaning.specs.Stores.{EachLeaves, LeavesEither}
+use Rattle.world.specs.Turning.{LeftAs}
+use Rattle.world.specs.Members.{AllOpen, AllRest, AllClean, AllStay, AreMembers}
 use Rattle.world.specs.declared.members.Member.{Member}
 
 -- the frame, the members in the order of their UUIDs, the number of all receipts, and whether the world has failed
@@ -63,6 +65,16 @@ module _ {S : Type 0} (g : Ghosts S) where
   pub record IsStep (q : Request) (old : Seen S) (reply : Result Receipt Refusal) (new : Seen S) : Type 0 where
     pub clean : AllClean g new.members → AllClean g old.members
     pub step : AllClean g new.members → (w : World) → StandsFor old w → (next : World) × Step w q reply next × StandsFor new next
+    -- Whatever a crash leaves of stores that were open reads as the world before or as the one that the request is to make, whole.
+    pub crash : (w : World) → StandsFor old w → AllOpen g old.members → LeavesEither g (λ m. m.conn) (LeftAs w.frame) new.members w.packages (outcome w q).1.packages
+
+  -- Open stores are still open after a receipt or a refusal, where each disk has given back what was written.
+  abbrev pub StaysOpen : Seen S → Result Receipt Refusal → Seen S → Type 0
+  StaysOpen old reply new = AllClean g new.members → ¬ IsFault reply → AllOpen g old.members → AllOpen g new.members
+
+  -- Of open stores a crash leaves what they read as: the packages of each world that they stand for, and nothing else.
+  abbrev pub LeftAsItStands : Type 0
+  LeftAsItStands = (seen : Seen S) (w : World) → IsHeld seen → StandsFor seen w → AllOpen g seen.members → EachLeaves g (λ m. m.conn) (LeftAs w.frame) seen.members w.packages
 
   -- The replies and the world afterwards are a run of the whole list.
   pub record IsRun (qs : List Request) (old : Seen S) (replies : List (Result Receipt Refusal)) (new : Seen S) : Type 0 where

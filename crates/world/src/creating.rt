@@ -1,6 +1,7 @@
 // The first member of a world: the archive, with nothing in it.
 ghost use Rattle.std.specs.Prelude.{◌≡◌, ◌<◌, ◌≤◌, ◌+◌, [], ◌∷◌, ◌++◌, IfOk, IsTrue, vec_len, vec_capacity};
 ghost use Rattle.sqlite.specs.Held.{state};
+ghost use Rattle.sqlite.specs.Steps.{over_memory};
 ghost use Rattle.sheet_types.specs.Matrix.{is_good_frame};
 ghost use Rattle.sheet_types.specs.World.{new_world};
 ghost use Rattle.sql_meaning.specs.Blank.{IsBlank, no_schema};
@@ -14,7 +15,7 @@ use package_tables::create::Info;
 use package_tables::fault::Fault;
 use sheet_types::frame::{Frame, FrameFault};
 use sheet_types::receipt::Sums;
-use sqlite::{Alter, Connection};
+use sqlite::{Alter, Connection, MemStore};
 use std::alloc::Global;
 use std::fmt;
 use uuid::Uuid;
@@ -49,6 +50,13 @@ pub(crate) fn push_reserved<T: Drop>(items: &mut Vec<T>, item: T)
     ensures capacity { vec_capacity items.old ≤ vec_capacity items.new }
 {
     let _ = items.push(item);
+}
+
+/// A blank store in memory, which is gone with its connection.
+pub fn blank_in_memory(alloc: Global) -> Result<Connection<MemStore>, Fault>
+    ensures { IfOk result (λ conn. IsBlank no_schema (state over_memory conn).now) }
+{
+    Ok(Connection::open_in_memory(alloc)?)
 }
 
 /// The archive alone, in a store that is blank. Its place among the members is there before anything is written.

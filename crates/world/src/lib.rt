@@ -11,6 +11,7 @@ mod asking_tests;
 pub mod carrying_out;
 #[cfg(test)]
 mod carrying_tests;
+pub mod crash_laws;
 pub mod creating;
 pub mod deciding;
 #[cfg(test)]
@@ -19,6 +20,8 @@ pub mod judging;
 pub mod laws;
 pub mod members;
 pub mod reading;
+#[cfg(test)]
+mod reading_tests;
 #[cfg(test)]
 mod receipt_tests;
 pub mod receipts;
@@ -35,3 +38,5 @@ pub mod turning;
 #[cfg(test)]
 mod turning_tests;
 pub mod world;
+#[cfg(test)]
+mod world_tests;

@@ -99,7 +99,7 @@ fn sight_of<S: Alter + Drop>(member: &Member<S>) -> PackageSight
 }
 
 /// What the list of packages says of the packages of all members, in their order.
-fn sights_of<S: Alter + Drop>(
+pub fn sights_of<S: Alter + Drop>(
     members: &[Member<S>],
     alloc: Global,
 ) -> Result<Vec<PackageSight>, Fault>
@@ -113,7 +113,7 @@ fn sights_of<S: Alter + Drop>(
 }
 
 /// How much a package holds, if it is live, from what is kept of it.
-fn sums_in<S: Alter + Drop>(members: &[Member<S>], package: Uuid) -> Option<Sums>
+pub fn sums_in<S: Alter + Drop>(members: &[Member<S>], package: Uuid) -> Option<Sums>
     ensures { (w : ModelWorld) → (count : ℕ) → AreMembers S.Store members.now count w → result ≡ sums_of w «package» }
 {
     match place_of(members, package) {

@@ -2,8 +2,8 @@
 ghost use Rattle.std.specs.Prelude.{◌≡◌, ◌<◌, ℕ, ◌+◌, length, vec_capacity, OnOk, OnErr};
 ghost use Rattle.sheet_types.specs.World.{World};
 ghost use Rattle.sql_meaning.specs.Stores.{LeavesEither};
-ghost use Rattle.world.specs.Members.{AllRest, AllClean, AreMembers};
-ghost use Rattle.world.specs.Turning.{CarriesOutAt, IsDue, DueWhereAccepted, AllOpen, LeftAs, world_after};
+ghost use Rattle.world.specs.Members.{AllRest, AllClean, AllOpen, AreMembers};
+ghost use Rattle.world.specs.Turning.{CarriesOutAt, IsDue, DueWhereAccepted, LeftAs, world_after};
 
 use crate::carrying_out::{TurnFault, apply_to_package};
 use crate::members::Member;
@@ -24,6 +24,7 @@ pub fn turn_at<S: Alter + Drop>(
     ensures turned { CarriesOutAt S.Store receipt.now command.now sums members.old.items members.new.items at result }
     ensures rests { AllRest S.Store members.new.items }
     ensures clean { AllClean S.Store members.new.items → AllClean S.Store members.old.items }
+    ensures opens { AllClean S.Store members.new.items → OnOk result (AllOpen S.Store members.old.items → AllOpen S.Store members.new.items) }
     ensures capacity { vec_capacity members.new ≡ vec_capacity members.old }
     ensures done { OnOk result ((w : World) (count : ℕ) → AreMembers S.Store members.old.items count w → IsDue w at receipt.now command.now sums → AreMembers S.Store members.new.items (count + 1) (world_after receipt.now command.now w)) }
     ensures undone { OnErr result ((w : World) (count : ℕ) → AreMembers S.Store members.old.items count w → AreMembers S.Store members.new.items count w) }

@@ -5,16 +5,16 @@ use Rattle.world.proofs.Served.{serves_undecided, serves_answered, serves_failed
 use Rattle.world.proofs.applying.serve.Goals as goal
 
 pub returns-in_err-reply : goal.returns-in_err-reply
-returns-in_err-reply g c = serves_undecided g.S.Store c.args.frame.now c.args.request.now c.requires.served c.args.members.now.items _ c.args.count.now c.requires.counted c.decide.ensures.asks _ c.from_residual.ensures.0
+returns-in_err-reply g c = serves_undecided g.S.Store g.met.S.Store.shut_if_dirty g.met.S.Store.settled c.args.frame.now c.args.request.now c.requires.served c.args.members.now.items _ c.requires.rests c.args.count.now c.requires.counted c.decide.ensures.asks _ c.from_residual.ensures.0
 
 pub returns-in_err-receipt-in-Due : goal.returns-in_err-receipt-in-Due
 returns-in_err-receipt-in-Due g c =
-    serves_failed g.S.Store c.args.frame.now c.args.request.now c.requires.served c.args.members.now.items _ c.args.count.now c.requires.counted c.decide.ensures.asks c.in-Due.change (c.in_ok-reply.was ∙ ap Ok c.in-Due.is) _ _ c.in_err-receipt-in-Due.was c.carry_out_change.ensures _ c.from_residual-in_err-receipt-in-Due.ensures.0
+    serves_failed g.S.Store g.met.S.Store.shut_if_dirty g.met.S.Store.settled c.args.frame.now c.args.request.now c.requires.served c.args.members.now.items _ c.requires.rests c.args.count.now c.requires.counted c.decide.ensures.asks c.in-Due.change (c.in_ok-reply.was ∙ ap Ok c.in-Due.is) _ _ c.in_err-receipt-in-Due.was c.carry_out_change.ensures _ c.from_residual-in_err-receipt-in-Due.ensures.0
 
 pub returns-in-Answered : goal.returns-in-Answered
 returns-in-Answered g c =
-    serves_answered g.S.Store c.args.frame.now c.args.request.now c.requires.served c.args.members.now.items _ c.args.count.now c.requires.counted c.decide.ensures.asks c.in-Answered.reply (c.in_ok-reply.was ∙ ap Ok c.in-Answered.is)
+    serves_answered g.S.Store g.met.S.Store.shut_if_dirty g.met.S.Store.settled c.args.frame.now c.args.request.now c.requires.served c.args.members.now.items _ c.requires.rests c.args.count.now c.requires.counted c.decide.ensures.asks c.in-Answered.reply (c.in_ok-reply.was ∙ ap Ok c.in-Answered.is)
 
 pub returns-in_ok-receipt-in-Due : goal.returns-in_ok-receipt-in-Due
 returns-in_ok-receipt-in-Due g c =
-    serves_carried_out g.S.Store c.args.frame.now c.args.request.now c.requires.served c.args.members.now.items _ c.args.count.now c.requires.counted c.decide.ensures.asks c.in-Due.change (c.in_ok-reply.was ∙ ap Ok c.in-Due.is) _ _ c.in_ok-receipt-in-Due.was (subst (HasPlace c.decide.new.members.items c.args.count.now) c.in-Due.is c.in_ok-reply.ensures.place).2 c.carry_out_change.ensures
+    serves_carried_out g.S.Store g.met.S.Store.shut_if_dirty g.met.S.Store.settled c.args.frame.now c.args.request.now c.requires.served c.args.members.now.items _ c.requires.rests c.args.count.now c.requires.counted c.decide.ensures.asks c.in-Due.change (c.in_ok-reply.was ∙ ap Ok c.in-Due.is) _ _ c.in_ok-receipt-in-Due.was (subst (HasPlace c.decide.new.members.items c.args.count.now) c.in-Due.is c.in_ok-reply.ensures.place).2 c.carry_out_change.ensures

@@ -1,7 +1,7 @@
 -- The store of one member takes a turn, and the lemmas say what all members stand for.
 use Rattle.std.proofs.Common.{◌≡◌, Some, Ok, slice_get, refl}
 use Rattle.std.proofs.lemmas.Option.{slice_get_read}
-use Rattle.world.proofs.Changing.{failed_at, undone_so, done_members, clean_turn, crash_members}
+use Rattle.world.proofs.Changing.{failed_at, undone_so, done_members, clean_turn, turned_open, crash_members}
 use Rattle.world.proofs.turning.turn_at.Goals as goal
 
 pub returns-in_err-apply_to_package-clause-turned : goal.returns-in_err-apply_to_package-clause-turned
@@ -39,3 +39,6 @@ returns-in_err-apply_to_package-clause-clean g c =
 pub returns-clause-clean : goal.returns-clause-clean
 returns-clause-clean g c =
     clean_turn g.S.Store g.met.S.Store.shut_if_dirty g.met.S.Store.settled c.args.receipt.now c.args.command.now c.args.sums c.args.members.now.items _ c.args.at (Ok tt) (returns-clause-turned g c)
+
+pub returns-clause-opens : goal.returns-clause-opens
+returns-clause-opens g c = turned_open g.S.Store g.met.S.Store.shut_if_dirty g.met.S.Store.settled c.args.receipt.now c.args.command.now c.args.sums c.args.members.now.items _ c.args.at (returns-clause-turned g c)

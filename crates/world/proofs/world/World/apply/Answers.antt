@@ -1,6 +1,8 @@
 -- What serving the request says of the members, said of the world.
-use Rattle.std.proofs.Common.{refl}
-use Rattle.world.proofs.Keeping.{held_after, step_replied, step_failed, still_replied, still_failed}
+use Rattle.std.proofs.Common.{refl, subst, Err}
+use Rattle.sheet_types.specs.declared.refusal.Refusal.TheVariants.{StoreFault}
+use Rattle.world.specs.Worlds.{IsStep}
+use Rattle.world.proofs.Keeping.{held_after, step_unserved, step_replied, step_failed, still_replied, still_failed, opens_replied, opens_failed}
 use Rattle.world.proofs.world.World.apply.Goals as goal
 
 pub invariant_of-self : goal.invariant_of-self
@@ -22,3 +24,12 @@ returns-in-Err-clause-step g c = step_failed g.S.Store _ _ _ _ _ _ _ c.serve.ens
 
 pub returns-in-Err-clause-still : goal.returns-in-Err-clause-still
 returns-in-Err-clause-still g c = still_failed g.S.Store _ _ _ _ _ _ _ c.serve.ensures c.self.inside.has_failed c.is_lasting-self-inside.result _ c.self.view_is c.in-Err.fault c.in-Err.is c.refusal.result
+
+pub returns-then-self-clause-step : goal.returns-then-self-clause-step
+returns-then-self-clause-step g c = subst (λ s. IsStep g.S.Store c.args.request.now s (Err StoreFault) s) c.self.view_is (step_unserved g.S.Store g.met.S.Store.shut_if_dirty g.met.S.Store.settled c.args.request.now _ c.self.invariant)
+
+pub returns-in-Ok-clause-opens : goal.returns-in-Ok-clause-opens
+returns-in-Ok-clause-opens g c = opens_replied g.S.Store _ _ _ _ _ _ _ c.serve.ensures c.self.inside.has_failed c.is_store_fault-self-inside.result _ c.self.view_is c.in-Ok.reply c.in-Ok.is
+
+pub returns-in-Err-clause-opens : goal.returns-in-Err-clause-opens
+returns-in-Err-clause-opens g c = opens_failed g.S.Store _ _ _ _ _ _ _ c.serve.ensures c.self.inside.has_failed c.is_lasting-self-inside.result _ c.self.view_is c.in-Err.fault c.refusal.result c.refusal.ensures

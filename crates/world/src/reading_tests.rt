@@ -1,0 +1,421 @@
+// What a world in memory tells after a few requests, and what two members tell. What is expected follows from what each request asks for: an item counts the bytes of its tile, medium or label.
+ghost use Rattle.std.specs.Prelude.{IsTrue};
+ghost use Rattle.world.specs.Laws.{IsServed};
+ghost use Rattle.sqlite.specs.Held.{state};
+ghost use Rattle.sql_meaning.specs.Transactions.{Rests};
+
+use crate::asking::are_at_rest;
+use crate::carrying_out::apply_to_package;
+use crate::creating::blank_in_memory;
+use crate::members::Member;
+use crate::reading::{PackageSight, holdings_in, sights_of, sums_in};
+use crate::world::World;
+use package_tables::create::{Info, create};
+use package_tables::fault::Fault;
+use sheet_types::collections::{Bytes, MovedList, Text};
+use sheet_types::command::{Command, Content, Item, Mapping, Relation, Request};
+use sheet_types::frame::Frame;
+use sheet_types::receipt::{Moved, MovedKind, Receipt, Sums};
+use sqlite::{Alter, Connection, MemStore};
+use std::alloc::Global;
+use std::test::Fail;
+use uuid::Uuid;
+
+// Zooms 0 to 2, with 1, 2 and 4 columns and rows.
+const FRAME: Frame = Frame {
+    srs_id: 25832,
+    min_x: 0,
+    min_y: 0,
+    max_x: 4096,
+    max_y: 4096,
+    tile_width: 256,
+    tile_height: 256,
+    first_zoom: 0,
+    levels: 3,
+    matrix_width: 1,
+    matrix_height: 1,
+};
+
+const AT: &str = "2026-11-22T09:00:00.000Z";
+
+const NOTHING: Sums = Sums {
+    tiles: 0,
+    media: 0,
+    rows: 0,
+    links: 0,
+    bytes: 0,
+};
+
+fn package(number: u64) -> Uuid {
+    Uuid::from_u128(u128::from(number))
+}
+
+fn item(number: u64) -> Uuid {
+    Uuid::from_u128(u128::from(number | 16))
+}
+
+fn request(number: u64) -> Uuid {
+    Uuid::from_u128(u128::from(number | 32))
+}
+
+fn text(alloc: Global, s: &str) -> Result<Text, Fault> {
+    let mut inner = String::new(alloc);
+    inner.push_str(s)?;
+    Ok(Text::from_string(inner))
+}
+
+fn tile(alloc: Global, bytes: &[u8]) -> Result<Content, Fault> {
+    Ok(Content::Tile {
+        zoom: 2,
+        column: 3,
+        row: 1,
+        bytes: Bytes::from_vec(Vec::from_slice(alloc, bytes)?),
+    })
+}
+
+fn medium(alloc: Global, bytes: &[u8]) -> Result<Content, Fault> {
+    Ok(Content::Media {
+        content_type: text(alloc, "image/png")?,
+        bytes: Bytes::from_vec(Vec::from_slice(alloc, bytes)?),
+    })
+}
+
+fn row(alloc: Global, label: &str) -> Result<Content, Fault> {
+    Ok(Content::Row {
+        x: 5,
+        y: 6,
+        code: 7,
+        label: text(alloc, label)?,
+    })
+}
+
+fn is_served(command: &Command) -> bool
+    ensures { IsTrue result → IsServed command.now }
+{
+    match command {
+        Command::Add { .. }
+        | Command::Delete { .. }
+        | Command::Link { .. }
+        | Command::Unlink { .. } => true,
+        Command::Split { .. } | Command::Merge { .. } => false,
+    }
+}
+
+// An archive in memory, of package 1.
+fn archive(alloc: Global) -> Result<World<MemStore>, Fail> {
+    match World::create(alloc, blank_in_memory(alloc)?, package(1), AT, &FRAME) {
+        Ok(world) => Ok(world),
+        Err(_) => Err(Fail::new("no world")),
+    }
+}
+
+// The number of the receipt for a command.
+fn applied<S: Alter + Drop>(
+    world: &mut World<S>,
+    alloc: Global,
+    number: u64,
+    command: Command,
+) -> Result<u64, Fail> {
+    let request = Request {
+        id: request(number),
+        at: text(alloc, AT)?,
+        command,
+    };
+    if !is_served(&request.command) {
+        return Err(Fail::new("no command that is served"));
+    }
+    match world.apply(alloc, &request) {
+        Ok(receipt) => Ok(receipt.seq),
+        Err(_) => Err(Fail::new("a refusal")),
+    }
+}
+
+fn added<S: Alter + Drop>(
+    world: &mut World<S>,
+    alloc: Global,
+    number: u64,
+    content: Content,
+) -> Result<u64, Fail> {
+    let command = Command::Add {
+        package: package(1),
+        identity: item(number),
+        content,
+    };
+    applied(world, alloc, number, command)
+}
+
+fn linked<S: Alter + Drop>(
+    world: &mut World<S>,
+    alloc: Global,
+    number: u64,
+    link: Relation,
+) -> Result<u64, Fail> {
+    let command = Command::Link {
+        package: package(1),
+        mapping: link.mapping,
+        base: link.base,
+        media: link.media,
+    };
+    applied(world, alloc, number, command)
+}
+
+fn link(mapping: Mapping, base: u64, media: u64) -> Relation {
+    Relation {
+        mapping,
+        base: item(base),
+        media: item(media),
+    }
+}
+
+// The items are of these identities and sizes.
+fn are_items(items: &[Item], expected: &[(u64, usize)]) -> bool {
+    if items.len() != expected.len() {
+        return false;
+    }
+    for place in 0..items.len() {
+        let (number, size) = expected[place];
+        if items[place].identity != item(number) || items[place].content.size() != size {
+            return false;
+        }
+    }
+    true
+}
+
+fn are_links(links: &[Relation], expected: &[Relation]) -> bool {
+    if links.len() != expected.len() {
+        return false;
+    }
+    for place in 0..links.len() {
+        if links[place] != expected[place] {
+            return false;
+        }
+    }
+    true
+}
+
+// Four items and three links, added in another order than that in which they are told.
+fn filled<S: Alter + Drop>(world: &mut World<S>, alloc: Global) -> Result<u64, Fail> {
+    added(world, alloc, 1, row(alloc, "mark")?)?;
+    added(world, alloc, 3, medium(alloc, b"c")?)?;
+    added(world, alloc, 2, medium(alloc, b"png")?)?;
+    added(world, alloc, 4, tile(alloc, b"ab")?)?;
+    linked(world, alloc, 5, link(Mapping::RowsMedia, 1, 2))?;
+    linked(world, alloc, 6, link(Mapping::TilesMedia, 4, 3))?;
+    linked(world, alloc, 7, link(Mapping::TilesMedia, 4, 2))
+}
+
+#[test]
+fn an_archive_with_nothing_in_it(rt: HostRuntime) -> Result<(), Fail> {
+    let alloc = rt.alloc();
+    let mut world = archive(alloc)?;
+    let sights = world.packages(alloc)?;
+    let alone = PackageSight {
+        uuid: package(1),
+        parent: None,
+        depth: 0,
+        ticket: 0,
+    };
+    assert_eq!(rt; sights.len(), 1);
+    assert!(rt; sights[0] == alone);
+    let Some((items, links)) = world.holdings(alloc, package(1))? else {
+        return Err(Fail::new("the archive is live"));
+    };
+    assert_eq!(rt; items.len(), 0);
+    assert_eq!(rt; links.len(), 0);
+    assert!(rt; world.sums(package(1)) == Some(NOTHING));
+    assert!(rt; world.receipt(alloc, request(1))?.is_none());
+    assert!(rt; world.frame() == FRAME);
+    Ok(())
+}
+
+#[test]
+fn an_archive_after_a_few_requests(rt: HostRuntime) -> Result<(), Fail> {
+    let alloc = rt.alloc();
+    let mut world = archive(alloc)?;
+    assert_eq!(rt; filled(&mut world, alloc)?, 7);
+    let Some((items, links)) = world.holdings(alloc, package(1))? else {
+        return Err(Fail::new("the archive is live"));
+    };
+    assert!(rt; are_items(items.as_slice(), &[(4, 2), (2, 3), (3, 1), (1, 4)]));
+    let expected = [
+        link(Mapping::TilesMedia, 4, 2),
+        link(Mapping::TilesMedia, 4, 3),
+        link(Mapping::RowsMedia, 1, 2),
+    ];
+    assert!(rt; are_links(links.as_slice(), &expected));
+    let held = Sums {
+        tiles: 1,
+        media: 2,
+        rows: 1,
+        links: 3,
+        bytes: 10,
+    };
+    assert!(rt; world.sums(package(1)) == Some(held));
+    let sights = world.packages(alloc)?;
+    assert_eq!(rt; sights.len(), 1);
+    assert_eq!(rt; sights[0].ticket, 7);
+    assert!(rt; !world.has_failed());
+    Ok(())
+}
+
+#[test]
+fn the_receipt_of_a_request(rt: HostRuntime) -> Result<(), Fail> {
+    let alloc = rt.alloc();
+    let mut world = archive(alloc)?;
+    filled(&mut world, alloc)?;
+    let Some(receipt) = world.receipt(alloc, request(2))? else {
+        return Err(Fail::new("the receipt is kept"));
+    };
+    assert_eq!(rt; receipt.seq, 3);
+    assert_eq!(rt; receipt.media, 1);
+    assert_eq!(rt; receipt.bytes, 3);
+    assert!(rt; receipt.target == Some(package(1)));
+    assert!(rt; world.receipt(alloc, request(8))?.is_none());
+    assert!(rt; world.receipt(alloc, item(2))?.is_none());
+    Ok(())
+}
+
+#[test]
+fn a_package_that_is_not_live(rt: HostRuntime) -> Result<(), Fail> {
+    let alloc = rt.alloc();
+    let mut world = archive(alloc)?;
+    filled(&mut world, alloc)?;
+    assert!(rt; world.holdings(alloc, package(2))?.is_none());
+    assert!(rt; world.sums(package(2)).is_none());
+    assert!(rt; world.holdings(alloc, package(1))?.is_some());
+    Ok(())
+}
+
+fn guarded<S: Alter>(conn: &Connection<S>) -> bool
+    ensures { IsTrue result → Rests (state S.Store conn.now) }
+{
+    conn.is_autocommit()
+}
+
+fn made<S: Alter + Drop>(
+    alloc: Global,
+    conn: Connection<S>,
+    uuid: Uuid,
+) -> Result<Connection<S>, Fault> {
+    if !guarded(&conn) {
+        return Err(Fault::StoreFault);
+    }
+    let info = Info {
+        package: uuid,
+        parent: None,
+        depth: 0,
+        loan: 0,
+        created: AT,
+    };
+    Ok(create(alloc, conn, &FRAME, &info)?.into_connection())
+}
+
+// The receipt of the medium of a package, numbered as the package is.
+fn receipt(alloc: Global, number: u64) -> Result<Receipt, Fault> {
+    let mut things = Vec::new(alloc);
+    things.push(Moved {
+        kind: MovedKind::MediaItem,
+        base: item(number),
+        other: None,
+        size: 3,
+        fingerprint: None,
+    })?;
+    Ok(Receipt {
+        seq: number,
+        request: request(number),
+        at: text(alloc, AT)?,
+        line: text(alloc, "the line")?,
+        source: None,
+        target: Some(package(number)),
+        items: MovedList::from_vec(things),
+        tiles: 0,
+        media: 1,
+        rows: 0,
+        links: 0,
+        bytes: 3,
+    })
+}
+
+// A loan of package 1, two levels below an archive, with one medium.
+fn member<S: Alter + Drop>(
+    alloc: Global,
+    conn: Connection<S>,
+    number: u64,
+) -> Result<Member<S>, Fault> {
+    let mut conn = made(alloc, conn, package(number))?;
+    let command = Command::Add {
+        package: package(number),
+        identity: item(number),
+        content: medium(alloc, b"png")?,
+    };
+    let receipt = receipt(alloc, number)?;
+    if !guarded(&conn) {
+        return Err(Fault::StoreFault);
+    }
+    apply_to_package(&mut conn, &command, &receipt)?;
+    Ok(Member {
+        conn,
+        uuid: package(number),
+        parent: Some(package(1)),
+        depth: 2,
+        loan: 1,
+        sums: Sums {
+            media: number,
+            ..NOTHING
+        },
+        ticket: number,
+    })
+}
+
+fn two(alloc: Global) -> Result<Vec<Member<MemStore>>, Fault> {
+    let mut members = Vec::new(alloc);
+    members.push(member(alloc, Connection::open_in_memory(alloc)?, 2)?)?;
+    members.push(member(alloc, Connection::open_in_memory(alloc)?, 3)?)?;
+    Ok(members)
+}
+
+// A package of members has one item, of this identity, and no link.
+fn holds<S: Alter + Drop>(
+    members: &mut Vec<Member<S>>,
+    alloc: Global,
+    number: u64,
+) -> Result<bool, Fail> {
+    if !are_at_rest(members.as_slice()) {
+        return Err(Fail::new("a store is inside a transaction"));
+    }
+    match holdings_in(members, alloc, package(number))? {
+        Some((items, links)) => {
+            Ok(are_items(items.as_slice(), &[(number, 3)]) && links.is_empty())
+        }
+        None => Ok(false),
+    }
+}
+
+#[test]
+fn each_of_two_members(rt: HostRuntime) -> Result<(), Fail> {
+    let alloc = rt.alloc();
+    let mut members = two(alloc)?;
+    assert!(rt; holds(&mut members, alloc, 2)?);
+    assert!(rt; holds(&mut members, alloc, 3)?);
+    assert!(rt; !holds(&mut members, alloc, 1)?);
+    for number in 2..4_u64 {
+        let held = Sums {
+            media: number,
+            ..NOTHING
+        };
+        assert!(rt; sums_in(members.as_slice(), package(number)) == Some(held));
+    }
+    assert!(rt; sums_in(members.as_slice(), package(1)).is_none());
+    let sights = sights_of(members.as_slice(), alloc)?;
+    assert_eq!(rt; sights.len(), 2);
+    for place in 0..2_usize {
+        let expected = PackageSight {
+            uuid: package(2 + place as u64),
+            parent: Some(package(1)),
+            depth: 2,
+            ticket: 2 + place as u64,
+        };
+        assert!(rt; sights[place] == expected);
+    }
+    Ok(())
+}
