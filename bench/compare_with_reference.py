@@ -243,6 +243,25 @@ class Lists:
         ends = draw.choice([("\n",), ("\r\n",), ("\r",), ("\n", "\r\n", "\r", "\n\n", "\r\n\r\n")])
         return self.torn(how, self.text(records, ends))
 
+    def words(self):
+        """Three words for an archive, of which some cannot be read: frames are good ones with some of their numbers changed."""
+        draw = self.random
+        archive = draw.choice(NO_UUIDS) if draw.random() < 0.1 else self.any_case(ARCHIVE)
+        at = draw.choice(BAD_MOMENTS) if draw.random() < 0.1 else draw.choice(GOOD_MOMENTS)
+        numbers = draw.choice(FRAMES).split(",")
+        for _ in range(draw.choice([0, 1, 1, 1, 2])):
+            place = draw.randrange(len(numbers))
+            old = int(numbers[place])
+            new = [old + 1, old - 1, old * 2, old // 2, -old, 0, 1, 20, 21, 22, 4096, 4097, 999_999, 1_000_000, BOUND, BOUND + 1, -BOUND, -BOUND - 1]
+            new += [2 * BOUND, 2 * BOUND + 1, LEAST, GREATEST, 1 << 32, 1 << 62, draw.choice(NO_NUMBERS)]
+            numbers[place] = str(draw.choice(new))
+            if numbers[place] in NO_NUMBERS:
+                break
+        frame = ",".join(numbers)
+        if draw.random() < 0.05:
+            frame = draw.choice([frame + ",", frame + ",1", "," + frame, frame + " ", frame.replace(",", ";"), frame.replace(",", ", ", 1), "", frame[: len(frame) // 2]])
+        return archive, at, frame
+
     def torn(self, how, text):
         draw = self.random
         at = draw.randrange(len(text))
@@ -257,8 +276,8 @@ class Lists:
         return text.rstrip(b"\r\n") if draw.random() < 0.5 else text
 
 
-def run_program(frame, text):
-    words = ["rehearse", "--archive", ARCHIVE, "--at", CREATED, f"--frame={frame}"]
+def run_program(frame, text, archive=ARCHIVE, at=CREATED):
+    words = ["rehearse", f"--archive={archive}", f"--at={at}", f"--frame={frame}"]
     ran = subprocess.run([os.path.join(TOP, "sheetdesk"), *words], input=text, stdout=subprocess.PIPE, stderr=subprocess.PIPE)
     return ran.stdout, ran.returncode, ran.stderr
 
@@ -277,6 +296,19 @@ def compare(seed, frame, text):
     sys.exit(f"they differ (status {ended}, wanted {status}): see {folder}")
 
 
+def compare_words(archive, at, frame):
+    """What the program says of the words, over a list of no request."""
+    header = (",".join(reference.HEADER) + "\n").encode()
+    what = reference.refused_word(archive, at, frame)
+    wanted, status = f"refused: {what}\n", 1
+    if what is None:
+        wanted, status, _ = reference.rehearse(archive, frame, header)
+    found = run_program(frame, header, archive, at)
+    if found != (wanted.encode(), status, b""):
+        sys.exit(f"they differ over the words {(archive, at, frame)}: {found}, wanted {wanted!r} and {status}")
+    return what or "read"
+
+
 def main():
     numbers = [int(word) for word in sys.argv[1:]] + [1, 10, 3000, 300][len(sys.argv) - 1:]
     seed, lists, requests, broken = numbers
@@ -293,9 +325,10 @@ def main():
         found = compare(seed, FRAMES[0], text)
         short["read" if found else "refused or empty"] += 1
         replies.update(refusal for _, refusal in found)
+    words = collections.Counter(compare_words(*made.words()) for _ in range(broken))
     print(f"seed {seed}: {lists} lists and {sum(replies.values())} requests in all, no difference")
     print("by reply (0 accepted or repeated):", ", ".join(f"{reply}: {count}" for reply, count in sorted(replies.items())))
-    print("short lists:", dict(short))
+    print("short lists:", dict(short), "words of a command line:", dict(words))
 
 
 if __name__ == "__main__":

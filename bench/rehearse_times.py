@@ -4,18 +4,20 @@
 Usage: rehearse_times.py [--in-order] [ROUNDS [COUNT..]]      (3 100 1000 10000)
 
 A list has COUNT additions, a third each tiles, media and rows; identities and request ids are spread over all UUIDs, as UUIDs of
-version 4 are, or with --in-order ascend. In each round each list is run through both, a short one so often that 2,000 requests come together; both must print the same.
-A program's time is the median of its whole runs in the round less that of the list of no request in the same round (for Python
-that is the interpreter's start). Printed are the median, the least and the greatest of the rounds, for each request in microseconds, and how
-many times as long a request takes at ten times the count.
+version 4 are. With --in-order it has rows alone, whose identities, request ids and points ascend, so that each entry of each
+index comes behind all others. In each round each list is run through both, a short one so often that 4,000 requests come
+together; both must print the same. Times are of the processor, since neither side waits for anything: the median of the whole
+runs of the round, less that of the list of no request in the same round (for Python that is the interpreter's start). Printed
+are the median, the least and the greatest of the rounds, for each request in microseconds, and how many times as long a request
+takes as in the list before.
 """
 
 import os
 import random
+import resource
 import statistics
 import subprocess
 import sys
-import time
 import uuid
 
 HERE = os.path.dirname(os.path.abspath(__file__))
@@ -45,7 +47,9 @@ def additions(count, in_order):
     lines = [HEADER]
     for number in range(count):
         front = f"{next(requests)},{AT},add,{ARCHIVE},{next(identities)},"
-        if number % 3 == 0:
+        if in_order:
+            lines.append(f"{front},row,,,,,,{number},{1 + number},{number % 1000},,mark {number},\n")
+        elif number % 3 == 0:
             data = b"\x89PNG sheet %d" % number
             lines.append(f"{front},tile,12,{number % 4096},{number // 4096},,,,,,,,{data.hex()}\n")
         elif number % 3 == 1:
@@ -56,10 +60,16 @@ def additions(count, in_order):
     return "".join(lines).encode()
 
 
+def processor_seconds():
+    """The seconds of processor of all programs that were run and have ended."""
+    used = resource.getrusage(resource.RUSAGE_CHILDREN)
+    return used.ru_utime + used.ru_stime
+
+
 def run(side, text):
-    start = time.perf_counter()
+    start = processor_seconds()
     ran = subprocess.run(WORDS[side], input=text, stdout=subprocess.PIPE, check=True)
-    return time.perf_counter() - start, ran.stdout
+    return processor_seconds() - start, ran.stdout
 
 
 def median_run(side, text, times):
@@ -70,11 +80,11 @@ def median_run(side, text, times):
 
 def one_round(lists):
     """Seconds for each side and count, less those of the empty list."""
-    seconds, idle = {}, {side: median_run(side, HEADER.encode(), 9)[0] for side in WORDS}
+    seconds, idle = {}, {side: median_run(side, HEADER.encode(), 21)[0] for side in WORDS}
     for count, text in lists.items():
         printed = {}
         for side in WORDS:
-            took, printed[side] = median_run(side, text, max(1, 2000 // count))
+            took, printed[side] = median_run(side, text, max(1, 4000 // count))
             seconds[side, count] = took - idle[side]
         if printed["sheetdesk"] != printed["Python"] or printed["Python"].count(b"\n") != 2 * count + 3:
             sys.exit(f"with {count} additions they do not print the same")
@@ -89,7 +99,7 @@ def main():
     lists = {count: additions(count, in_order) for count in counts}
     # This builds the program where it is old.
     subprocess.run([os.path.join(HERE, "..", "sheetdesk"), "--help"], stdout=subprocess.DEVNULL, check=True)
-    print(f"load {os.getloadavg()[0]:.1f} at the start, {rounds} rounds, identities {'in order' if in_order else 'spread'}")
+    print(f"load {os.getloadavg()[0]:.1f} at the start, {rounds} rounds, {'rows in order' if in_order else 'all kinds, spread'}")
     measured = [one_round(lists) for _ in range(rounds)]
     for side in WORDS:
         before = None

@@ -129,9 +129,27 @@ def line_of(request):
 
 class Frame:
     def __init__(self, text):
-        numbers = [int(part) for part in text.split(",")]
+        numbers = [read_number(part) for part in text.split(",")]
+        if len(numbers) != 11:
+            raise NoList("frame")
         (self.srs, self.min_x, self.min_y, self.max_x, self.max_y, self.tile_width, self.tile_height,
          self.first_zoom, self.levels, self.matrix_width, self.matrix_height) = numbers
+
+    def is_good(self):
+        bounds = [self.min_x, self.min_y, self.max_x, self.max_y]
+        if not -1 <= self.srs <= 999_999 or any(abs(bound) > 10**12 for bound in bounds):
+            return False
+        if self.min_x >= self.max_x or self.min_y >= self.max_y:
+            return False
+        if not (1 <= self.tile_width <= 4096 and 1 <= self.tile_height <= 4096):
+            return False
+        if self.first_zoom < 0 or self.levels < 1 or self.first_zoom + self.levels > 21:
+            return False
+        if not (1 <= self.matrix_width <= 2 * 10**12 and 1 <= self.matrix_height <= 2 * 10**12):
+            return False
+        finest = 1 << (self.levels - 1)
+        columns, rows = self.matrix_width * self.tile_width * finest, self.matrix_height * self.tile_height * finest
+        return (self.max_x - self.min_x) % columns == 0 and (self.max_y - self.min_y) % rows == 0
 
     def has_place(self, zoom, column, row):
         level = zoom - self.first_zoom
@@ -302,6 +320,22 @@ def manifest(world):
     rows += [[mapping, base, medium, "", "", "", "", "", "", 0, "", ""] for mapping, base, medium in world.links]
     rows.sort(key=lambda fields: (KINDS[fields[0]], fields[1], fields[2]))
     return "".join(line + "\n" for line in [MANIFEST_HEADER, *(",".join(map(spelled, fields)) for fields in rows)])
+
+
+def is_good_frame(text):
+    try:
+        return Frame(text).is_good()
+    except NoList:
+        return False
+
+
+def refused_word(archive, at, frame):
+    """The first of the words of a command line that cannot be read: uuid, at or frame, or None."""
+    if UUID.fullmatch(archive) is None:
+        return "uuid"
+    if not is_moment(at):
+        return "at"
+    return None if is_good_frame(frame) else "frame"
 
 
 def rehearse(archive, frame, list_bytes):
