@@ -68,8 +68,8 @@ fn end_of_import(fault: ImportFault) -> Outcome
     ensures { result ≡ import_outcome fault }
 {
     match fault {
-        ImportFault::Unread(ReadFault::Memory)
-        | ImportFault::Stopped(_, Refusal::OutOfMemory) => Outcome::Stopped(Failure::OutOfMemory),
+        ImportFault::Unread(ReadFault::Memory) | ImportFault::Stopped(_, Refusal::OutOfMemory) =>
+            Outcome::Stopped(Failure::OutOfMemory),
         ImportFault::Unread(_) => Outcome::Refused(What::BadList),
         ImportFault::Stopped(_, _) | ImportFault::Unwritten => {
             Outcome::Stopped(Failure::StoreFault)

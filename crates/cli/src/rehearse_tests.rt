@@ -1,7 +1,49 @@
-// A rehearsal whose words cannot be read touches nothing.
+// Rehearsals whose output was written out by hand; the digest is Python's `hashlib`.
 use crate::arguments::Words;
 use crate::rehearse::rehearse;
-use crate::statuses::{Outcome, What};
+use crate::statuses::{Failure, Outcome, What, status_of};
+use std::alloc::{AllocError, Global};
+use std::io::{Error, ErrorKind, Result as IoResult, Write};
+use std::process::Abort;
+use std::test::Fail;
+
+const GOOD: Words<'static> = Words {
+    archive: "a0000000-0000-4000-8000-000000000000",
+    at: "2024-05-01T08:00:00.000Z",
+    frame: "25832,0,0,4096,4096,256,256,0,3,1,1",
+};
+
+const HEADER: &str =
+    "request,at,command,package,identity,other,kind,zoom,column,row,last_column,last_row,x,y,code,ticket,text,data\n";
+
+const FIRST_TILE: &str =
+    "90000000-0000-4000-8000-000000000001,2024-05-01T08:00:00.000Z,add,a0000000-0000-4000-8000-000000000000,00000000-0000-4000-8000-000000000001,,tile,2,3,3,,,,,,,,41\n";
+
+const SECOND_TILE: &str =
+    "90000000-0000-4000-8000-000000000002,2024-05-01T08:00:00.000Z,add,a0000000-0000-4000-8000-000000000000,00000000-0000-4000-8000-000000000002,,tile,2,4,3,,,,,,,,42\n";
+
+const SPLIT: &str =
+    "90000000-0000-4000-8000-000000000002,2024-05-01T08:00:00.000Z,split,a0000000-0000-4000-8000-000000000000,,b0000000-0000-4000-8000-000000000000,strict,1,0,0,0,0,,,,,,\n";
+
+const OF_FIRST_TILE: &str =
+    "line,request,seq,refusal\n1,90000000-0000-4000-8000-000000000001,1,0\npackage a0000000-0000-4000-8000-000000000000\nkind,identity,other,zoom,column,row,x,y,code,size,fingerprint,text\ntile,00000000-0000-4000-8000-000000000001,,2,3,3,,,,1,b363ee0ecc9cf61b12ecdafd75dca2779729b4fcc5f1bd718c33aad2c94af4f8,\n";
+
+/// The header and these records.
+fn list(alloc: Global, records: &[&str]) -> Result<String, AllocError> {
+    let mut text = String::from_str(alloc, HEADER)?;
+    for record in records {
+        text.push_str(record)?;
+    }
+    Ok(text)
+}
+
+/// Expects that the rehearsal of a list ends so and writes this.
+fn expect_rehearsal(rt: &impl Abort, alloc: Global, text: &[u8], outcome: Outcome, wanted: &str) {
+    let mut written: Vec<u8> = Vec::new(alloc);
+    let got = rehearse(alloc, &GOOD, text, &mut written);
+    assert_eq!(rt; written.as_slice(), wanted.as_bytes());
+    assert_eq!(rt; got, outcome);
+}
 
 #[test]
 fn a_refused_rehearsal_writes_nothing(rt: HostRuntime) {
@@ -17,29 +59,156 @@ fn a_refused_rehearsal_writes_nothing(rt: HostRuntime) {
     assert!(rt; written.is_empty());
 }
 
-const GOOD: Words<'static> = Words {
-    archive: "a0000000-0000-4000-8000-000000000000",
-    at: "2024-05-01T08:00:00.000Z",
-    frame: "25832,0,0,4096,4096,256,256,0,3,1,1",
-};
-
-const HEADER: &str = "request,at,command,package,identity,other,kind,zoom,column,row,last_column,last_row,x,y,code,ticket,text,data\n";
-
 // The header alone: an archive with nothing in it.
 #[test]
 fn an_empty_list_is_carried_out(rt: HostRuntime) {
-    let mut written: Vec<u8> = Vec::new(rt.alloc());
-    let outcome = rehearse(rt.alloc(), &GOOD, HEADER.as_bytes(), &mut written);
-    assert!(rt; outcome == Outcome::Done);
-    let wanted: &[u8] = b"line,request,seq,refusal\npackage a0000000-0000-4000-8000-000000000000\nkind,identity,other,zoom,column,row,x,y,code,size,fingerprint,text\n";
-    assert!(rt; written.as_slice() == wanted);
+    expect_rehearsal(
+        &rt,
+        rt.alloc(),
+        HEADER.as_bytes(),
+        Outcome::Done,
+        "line,request,seq,refusal\npackage a0000000-0000-4000-8000-000000000000\nkind,identity,other,zoom,column,row,x,y,code,size,fingerprint,text\n",
+    );
 }
 
-// An empty text has no header.
 #[test]
-fn a_list_that_is_none_is_refused(rt: HostRuntime) {
-    let mut written: Vec<u8> = Vec::new(rt.alloc());
-    let outcome = rehearse(rt.alloc(), &GOOD, b"".as_slice(), &mut written);
-    assert!(rt; outcome == Outcome::Refused(What::BadList));
-    assert!(rt; written.is_empty());
+fn the_first_tile(rt: HostRuntime) -> Result<(), Fail> {
+    let alloc = rt.alloc();
+    let text = list(alloc, &[FIRST_TILE])?;
+    expect_rehearsal(&rt, alloc, text.as_bytes(), Outcome::Done, OF_FIRST_TILE);
+    assert_eq!(rt; status_of(Outcome::Done), 0);
+    Ok(())
+}
+
+// Zoom 2 has the columns 0 to 3. The rehearsal went through, whatever its report says.
+#[test]
+fn a_refusal_in_the_report(rt: HostRuntime) -> Result<(), Fail> {
+    let alloc = rt.alloc();
+    let text = list(alloc, &[FIRST_TILE, SECOND_TILE])?;
+    expect_rehearsal(
+        &rt,
+        alloc,
+        text.as_bytes(),
+        Outcome::Done,
+        "line,request,seq,refusal\n1,90000000-0000-4000-8000-000000000001,1,0\n2,90000000-0000-4000-8000-000000000002,0,9\npackage a0000000-0000-4000-8000-000000000000\nkind,identity,other,zoom,column,row,x,y,code,size,fingerprint,text\ntile,00000000-0000-4000-8000-000000000001,,2,3,3,,,,1,b363ee0ecc9cf61b12ecdafd75dca2779729b4fcc5f1bd718c33aad2c94af4f8,\n",
+    );
+    Ok(())
+}
+
+// The second time the request has the reply of the first, and one tile stands.
+#[test]
+fn records_that_come_twice(rt: HostRuntime) -> Result<(), Fail> {
+    let alloc = rt.alloc();
+    let text = list(alloc, &[FIRST_TILE, FIRST_TILE])?;
+    expect_rehearsal(
+        &rt,
+        alloc,
+        text.as_bytes(),
+        Outcome::Done,
+        "line,request,seq,refusal\n1,90000000-0000-4000-8000-000000000001,1,0\n2,90000000-0000-4000-8000-000000000001,1,0\npackage a0000000-0000-4000-8000-000000000000\nkind,identity,other,zoom,column,row,x,y,code,size,fingerprint,text\ntile,00000000-0000-4000-8000-000000000001,,2,3,3,,,,1,b363ee0ecc9cf61b12ecdafd75dca2779729b4fcc5f1bd718c33aad2c94af4f8,\n",
+    );
+    Ok(())
+}
+
+// An empty text has no header, and a header of other names is none.
+#[test]
+fn a_list_that_is_none_is_refused(rt: HostRuntime) -> Result<(), Fail> {
+    let alloc = rt.alloc();
+    let refused = Outcome::Refused(What::BadList);
+    expect_rehearsal(&rt, alloc, b"".as_slice(), refused, "");
+    expect_rehearsal(&rt, alloc, FIRST_TILE.as_bytes(), refused, "");
+    let mut other = String::from_str(
+        alloc,
+        "request,at,command,package,identity,other,kind,zoom,row,column,last_column,last_row,x,y,code,ticket,text,data\n",
+    )?;
+    other.push_str(FIRST_TILE)?;
+    expect_rehearsal(&rt, alloc, other.as_bytes(), refused, "");
+    assert_eq!(rt; status_of(refused), 1);
+    Ok(())
+}
+
+// Nothing of a list is carried out where a record of it is no request that is served.
+#[test]
+fn a_split_is_not_served(rt: HostRuntime) -> Result<(), Fail> {
+    let alloc = rt.alloc();
+    let text = list(alloc, &[FIRST_TILE, SPLIT])?;
+    expect_rehearsal(
+        &rt,
+        alloc,
+        text.as_bytes(),
+        Outcome::Refused(What::BadList),
+        "",
+    );
+    Ok(())
+}
+
+// Without its last line end the list is whole. One digit of the data's two is none; without any the tile has no bytes, which is a refusal of the request; without the last comma there are seventeen fields.
+#[test]
+fn a_list_that_is_cut_short(rt: HostRuntime) -> Result<(), Fail> {
+    let alloc = rt.alloc();
+    let whole = list(alloc, &[FIRST_TILE])?;
+    let bytes = whole.as_bytes();
+    let end = bytes.len();
+    let refused = Outcome::Refused(What::BadList);
+    expect_rehearsal(
+        &rt,
+        alloc,
+        &bytes[..end.saturating_sub(1)],
+        Outcome::Done,
+        OF_FIRST_TILE,
+    );
+    expect_rehearsal(&rt, alloc, &bytes[..end.saturating_sub(2)], refused, "");
+    expect_rehearsal(
+        &rt,
+        alloc,
+        &bytes[..end.saturating_sub(3)],
+        Outcome::Done,
+        "line,request,seq,refusal\n1,90000000-0000-4000-8000-000000000001,0,5\npackage a0000000-0000-4000-8000-000000000000\nkind,identity,other,zoom,column,row,x,y,code,size,fingerprint,text\n",
+    );
+    expect_rehearsal(&rt, alloc, &bytes[..end.saturating_sub(4)], refused, "");
+    Ok(())
+}
+
+/// Takes eleven bytes a call at most, and fails once it has taken as many as it has room for.
+#[derive(Drop)]
+struct Narrow {
+    taken: Vec<u8>,
+    room: usize,
+}
+
+impl Write for Narrow {
+    fn write(&mut self, buf: &[u8]) -> IoResult<usize> {
+        let left = self.room.saturating_sub(self.taken.len());
+        let taking = left.min(buf.len()).min(11);
+        if taking == 0 {
+            return Err(Error::from(ErrorKind::BrokenPipe));
+        }
+        if self.taken.extend_from_slice(&buf[..taking]).is_err() {
+            return Err(Error::from(ErrorKind::OutOfMemory));
+        }
+        Ok(taking)
+    }
+
+    fn flush(&mut self) -> IoResult<()> {
+        Ok(())
+    }
+}
+
+// A writer with every smaller room fails: in the report, in the package's line, in the manifest.
+#[test]
+fn writers_that_fail(rt: HostRuntime) -> Result<(), Fail> {
+    let alloc = rt.alloc();
+    let text = list(alloc, &[FIRST_TILE])?;
+    let wanted = OF_FIRST_TILE.as_bytes();
+    for room in 0..wanted.len() {
+        let mut out = Narrow {
+            taken: Vec::new(alloc),
+            room,
+        };
+        let outcome = rehearse(alloc, &GOOD, text.as_bytes(), &mut out);
+        assert_eq!(rt; outcome, Outcome::Stopped(Failure::StoreFault));
+        assert_eq!(rt; out.taken.as_slice(), &wanted[..room]);
+    }
+    assert_eq!(rt; status_of(Outcome::Stopped(Failure::StoreFault)), 3);
+    Ok(())
 }
