@@ -1,8 +1,5 @@
 // A rehearsal: what a list of requests would come to, shown by a world in memory that ends with the program.
 ghost use Rattle.std.specs.Prelude.{◌≡◌, IfOk, string_bytes};
-ghost use Rattle.sqlite.specs.Held.{state};
-ghost use Rattle.sqlite.specs.Steps.{over_memory};
-ghost use Rattle.sql_meaning.specs.Blank.{IsBlank, no_schema};
 ghost use Rattle.cli.specs.Arguments.{IsFirstUnread};
 ghost use Rattle.cli.specs.Endings.{import_outcome};
 ghost use Rattle.cli.specs.Rehearsals.{package_line};
@@ -16,11 +13,11 @@ use manifest_csv::lists::ReadFault;
 use manifest_csv::package_manifests::write_manifest;
 use manifest_csv::sending::send;
 use sheet_types::refusal::Refusal;
-use sqlite::{Connection, MemStore};
+use sqlite::MemStore;
 use std::alloc::{AllocError, Global};
 use std::io::{Read, Write};
 use uuid::Uuid;
-use world::creating::CreateFault;
+use world::creating::{CreateFault, blank_in_memory};
 use world::world::World;
 
 /// Makes the archive that the words ask for in memory, imports the request list of the reader into it, and writes the report of the import and then, for each live package by its UUID, a line that names it and its manifest.
@@ -40,16 +37,9 @@ pub fn rehearse<R: Read + Drop, W: Write>(
     }
 }
 
-/// A store in memory that nothing is in yet.
-fn blank_store(alloc: Global) -> Result<Connection<MemStore>, AllocError>
-    ensures { IfOk result (λ conn. IsBlank no_schema (state over_memory conn).now) }
-{
-    Connection::open_in_memory(alloc)
-}
-
 /// The world that the words ask for.
 fn new_world(alloc: Global, rehearsal: &Rehearsal<'_>) -> Result<World<MemStore>, Failure> {
-    let conn = blank_store(alloc)?;
+    let conn = blank_in_memory(alloc)?;
     match World::create(
         alloc,
         conn,

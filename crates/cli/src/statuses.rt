@@ -37,12 +37,20 @@ pub enum Failure {
 }
 
 impl From<AllocError> for Failure {
+    ghost use Rattle.cli.specs.declared.statuses.Failure.TheVariants.{OutOfMemory};
+
+    ghost from_gives = { λ want failure. failure ≡ OutOfMemory };
+
     fn from(_want: AllocError) -> Failure {
         Failure::OutOfMemory
     }
 }
 
 impl From<Fault> for Failure {
+    ghost use Rattle.cli.specs.Failures.{of_fault};
+
+    ghost from_gives = { λ fault failure. failure ≡ of_fault fault };
+
     fn from(fault: Fault) -> Failure {
         match fault {
             Fault::OutOfMemory => Failure::OutOfMemory,
@@ -52,12 +60,20 @@ impl From<Fault> for Failure {
 }
 
 impl From<WriteFault> for Failure {
+    ghost use Rattle.cli.specs.declared.statuses.Failure.TheVariants.{StoreFault};
+
+    ghost from_gives = { λ fault failure. failure ≡ StoreFault };
+
     fn from(_fault: WriteFault) -> Failure {
         Failure::StoreFault
     }
 }
 
 impl From<ManifestFault> for Failure {
+    ghost use Rattle.cli.specs.Failures.{of_manifest};
+
+    ghost from_gives = { λ fault failure. failure ≡ of_manifest fault };
+
     fn from(fault: ManifestFault) -> Failure {
         match fault {
             ManifestFault::Memory => Failure::OutOfMemory,

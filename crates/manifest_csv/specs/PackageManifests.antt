@@ -5,10 +5,17 @@ use Rattle.sqlite.specs.Store.{Ghosts}
 use Rattle.sheet_types.specs.World.{World, is_live, holdings}
 use Rattle.world.specs.Members.{AllClean}
 use Rattle.world.specs.Worlds.{Seen, StandsFor}
+use Rattle.package_tables.specs.declared.fault.Fault.{Fault}
+use Rattle.package_tables.specs.declared.fault.Fault.TheVariants as fault
 use Rattle.manifest_csv.specs.Manifests.{manifest_of}
 use Rattle.manifest_csv.specs.Sent.{WentOut}
 use Rattle.manifest_csv.specs.declared.package_manifests.ManifestFault.{ManifestFault}
 use Rattle.manifest_csv.specs.declared.package_manifests.ManifestFault.TheVariants.{Unknown, Memory, Store, Unwritten}
+
+-- how a fault of the store is told
+abbrev pub told_as : Fault → ManifestFault
+told_as fault.OutOfMemory = Memory
+told_as fault.StoreFault = Store
 
 -- the manifest of a package: its items, and then its links
 abbrev pub manifest : World → List ℕ → List ℕ

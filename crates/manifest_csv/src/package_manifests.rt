@@ -27,10 +27,9 @@ pub enum ManifestFault {
 }
 
 impl From<Fault> for ManifestFault {
-    ghost use Rattle.std.specs.Prelude.{◌⊎◌};
-    ghost use Rattle.manifest_csv.specs.declared.package_manifests.ManifestFault.TheVariants.{Memory, Store};
+    ghost use Rattle.manifest_csv.specs.PackageManifests.{told_as};
 
-    ghost from_gives = { λ fault why. (why ≡ Memory) ⊎ (why ≡ Store) };
+    ghost from_gives = { λ fault why. why ≡ told_as fault };
 
     fn from(fault: Fault) -> ManifestFault {
         match fault {

@@ -1,4 +1,4 @@
-//! The world of live packages that requests change. So far the parts that a request of four commands needs, over a list of open stores; nothing calls them in turn yet.
+//! The world of live packages that requests change, each in a store of its own. So far for the four commands that change one package.
 #![tactic(auto)]
 
 pub mod applying;

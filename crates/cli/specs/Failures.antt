@@ -1,0 +1,19 @@
+-- What gives out where a part of the program fails. Profile.
+use Rattle.package_tables.specs.declared.fault.Fault.{Fault}
+use Rattle.package_tables.specs.declared.fault.Fault.TheVariants as fault
+use Rattle.manifest_csv.specs.declared.package_manifests.ManifestFault.{ManifestFault}
+use Rattle.manifest_csv.specs.declared.package_manifests.ManifestFault.TheVariants as manifest
+use Rattle.cli.specs.declared.statuses.Failure.{Failure}
+use Rattle.cli.specs.declared.statuses.Failure.TheVariants.{OutOfMemory, StoreFault}
+
+-- of a store
+abbrev pub of_fault : Fault → Failure
+of_fault fault.OutOfMemory = OutOfMemory
+of_fault fault.StoreFault = StoreFault
+
+-- of a manifest. The packages that are named are live, so that an unknown one is a fault of the store
+abbrev pub of_manifest : ManifestFault → Failure
+of_manifest manifest.Memory = OutOfMemory
+of_manifest manifest.Unknown = StoreFault
+of_manifest manifest.Store = StoreFault
+of_manifest manifest.Unwritten = StoreFault
