@@ -1,9 +1,10 @@
 -- An import, reply by reply.
-use Rattle.std.proofs.Common.{◌≡◌, ◌∙◌, refl, sym, ap, subst, ℕ, zero, suc, ◌+◌, ◌<◌, ◌≤◌, List, [], ◌∷◌, ◌++◌, take, drop, length, get_or, length-append, true, Option, IfSome, Result, Ok, Err, arith}
+use Rattle.std.proofs.Common.{◌≡◌, ◌∙◌, refl, sym, ap, subst, ℕ, zero, suc, ◌+◌, ◌-◌, ◌<◌, ◌≤◌, List, [], ◌∷◌, ◌++◌, take, drop, length, get_or, length-append, true, Option, IfSome, Result, Ok, Err, arith}
 use Rattle.std.specs.List.{AllByRecursion}
 use Rattle.std.specs.Result.{IsErrAnd}
 use Rattle.std.specs.Io.KnownBytes.{Appends}
-use Rattle.std.proofs.lemmas.List.{take_more, take_all}
+use Rattle.std.proofs.lemmas.List.{take_more}
+use Rattle.std.proofs.Math.Seq.{take-append_seam}
 use Rattle.std.proofs.KnownBytes.{Appends-trans, Appends-nil}
 use Rattle.sqlite.specs.Store.{Ghosts}
 use Rattle.sheet_types.specs.declared.command.Command.{Command}
@@ -14,15 +15,15 @@ use Rattle.sheet_types.specs.declared.refusal.Refusal.{Refusal}
 use Rattle.world.specs.Laws.{IsServed}
 use Rattle.world.specs.Worlds.{Seen, IsStep, IsRun}
 use Rattle.world.proofs.Running.{run_none, run_more}
-use Rattle.manifest_csv.specs.Imports.{Ends, GoesOn, AreStopped, IsReported, IsImported, Imports}
-use Rattle.manifest_csv.specs.Reports.{report_header, report_line, report_lines}
+use Rattle.manifest_csv.specs.Imports.{Ends, GoesOn, AreStopped, IsReported, IsImported, Imports, lines_before, report_before}
+use Rattle.manifest_csv.specs.Reports.{report_header, report_line, report_lines, report_of}
 use Rattle.manifest_csv.specs.RequestLists.{AreServed, IsList}
 use Rattle.manifest_csv.specs.Requests.{is_served}
-use Rattle.manifest_csv.specs.Sent.{WentOut}
+use Rattle.manifest_csv.specs.Sent.{WentOut, WentOutPast}
 use Rattle.manifest_csv.specs.declared.importing.ImportFault.{ImportFault}
 use Rattle.manifest_csv.specs.declared.importing.ImportFault.TheVariants.{Unread, Stopped, Unwritten}
 use Rattle.manifest_csv.proofs.ReportFacts.{lines_more}
-use Rattle.manifest_csv.proofs.SentFacts.{went_out_after, went_out_of}
+use Rattle.manifest_csv.proofs.SentFacts.{went_out_after, went_out_of, went_out_past, past_after}
 
 -- the error that a fault was turned into
 pub turned_into : {X E : Type 0} (r : Result X E) (e : E) → IsErrAnd r (λ why. why ≡ e) → r ≡ Err e
@@ -50,6 +51,20 @@ drop_next (x ∷ xs) (suc n) d within =
     let less : n < length xs = omega (arith, within) in
     let on : suc (n + 1) ≡ suc n + 1 = omega arith in
     subst (λ k. drop (suc n) (x ∷ xs) ≡ get_or (x ∷ xs) (suc n) d ∷ drop k (x ∷ xs)) on (drop_next xs n d less)
+
+-- all but the one that was put last
+all_but_last : {X : Type 0} (xs : List X) (x : X) → take (length (xs ++ x ∷ []) - 1) (xs ++ x ∷ []) ≡ xs
+all_but_last xs x =
+    let less : length (xs ++ x ∷ []) - 1 ≡ length xs = omega (arith, length-append xs (x ∷ [])) in
+    ap (λ k. take k (xs ++ x ∷ [])) less ∙ take-append_seam xs (x ∷ [])
+
+-- the header before lines of which the last was cut short
+cut_short : (requests : List Request) (replies : List (Result Receipt Refusal)) (before mid after : Option (List ℕ)) → Appends before mid report_header → WentOutPast (lines_before requests replies) mid after (report_lines 1 requests replies)
+    → WentOutPast (report_before requests replies) before after (report_of requests replies)
+cut_short requests [] before mid after header line =
+    let all : WentOut before after (report_of requests []) = went_out_after before mid after report_header (report_lines 1 requests []) header (line.0, line.2, line.3) in
+    (all.0, omega arith, all.1, all.2)
+cut_short requests (reply ∷ replies) before mid after header line = past_after before mid after report_header (lines_before requests (reply ∷ replies)) (report_lines 1 requests (reply ∷ replies)) header line
 
 all_more : {X : Type 0} (P : X → Type 0) (xs : List X) (x : X) → AllByRecursion P xs → P x → AllByRecursion P (xs ++ x ∷ [])
 all_more P [] x all here = (here, tt)
@@ -110,7 +125,8 @@ module _ {S : Type 0} (g : Ghosts S) where
         replies = it.replies ++ reply ∷ [];
         some = some;
         ran = ran_so;
-        written = rw lines (went_out_after before between after (report_lines 1 requests it.replies) (report_line (n + 1) request.id reply) it.written line);
+        written = subst (λ sent. WentOutPast sent before after (report_lines 1 requests (it.replies ++ reply ∷ []))) (sym (ap (report_lines 1 requests) (all_but_last it.replies reply)))
+            (rw lines (went_out_past before between after (report_lines 1 requests it.replies) (report_line (n + 1) request.id reply) it.written line));
       }
 
   -- nothing yet
@@ -145,13 +161,13 @@ module _ {S : Type 0} (g : Ghosts S) where
     replies = it.replies;
     some = it.some;
     ran = it.ran;
-    written = went_out_after before mid after report_header (report_lines 1 requests it.replies) header it.written;
+    written = cut_short requests it.replies before mid after header it.written;
   }
   after_header requests old new before mid after (Err (Unread fault)) header it = absurd it.written
 
   -- the header that could not be written whole
   pub header_unwritten : (requests : List Request) (seen : Seen S) (before after : Option (List ℕ)) → WentOut before after report_header → IsImported g requests seen seen before after (Err Unwritten)
-  header_unwritten requests seen before after header = record { replies = []; some = omega arith; ran = run_none g seen; written = went_out_of before after report_header (report_lines 1 requests []) header }
+  header_unwritten requests seen before after header = record { replies = []; some = omega arith; ran = run_none g seen; written = let all : WentOut before after (report_of requests []) = went_out_of before after report_header (report_lines 1 requests []) header in (all.0, omega arith, all.1, all.2) }
 
   -- an import of a list that was read
   pub imported : {W : Type 0} (text : Option (List ℕ)) (requests : List Request) (old new : Seen S) (writer writer' : W) (before after : Option (List ℕ)) (r : Result (Unit {0}) ImportFault) → IfSome text (λ t. IsList t requests) → IsImported g requests old new before after r

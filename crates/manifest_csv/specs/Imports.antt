@@ -1,5 +1,5 @@
 -- What an import makes of a world, and what it writes. Profile.
-use Rattle.std.specs.Prelude.{◌≡◌, ◌⊎◌, ◌≤◌, ℕ, List, [], ◌∷◌, ◌++◌, Option, Some, None, Result, Ok, Err, IfErr, IfSome, length, take}
+use Rattle.std.specs.Prelude.{◌≡◌, ◌⊎◌, ◌≤◌, ◌-◌, ℕ, List, [], ◌∷◌, ◌++◌, Option, Some, None, Result, Ok, Err, IfErr, IfSome, length, take}
 use Rattle.std.specs.List.{AllByRecursion}
 use Rattle.std.specs.Io.KnownBytes.{Appends}
 use Rattle.sqlite.specs.Store.{Ghosts}
@@ -11,8 +11,8 @@ use Rattle.world.specs.Worlds.{Seen, IsRun}
 use Rattle.manifest_csv.specs.RequestLists.{IsList, MeetsFirst}
 use Rattle.manifest_csv.specs.declared.lists.ReadFault.{ReadFault}
 use Rattle.manifest_csv.specs.declared.lists.ReadFault.TheVariants.{Read, Memory}
-use Rattle.manifest_csv.specs.Reports.{report_lines, report_of}
-use Rattle.manifest_csv.specs.Sent.{WentOut}
+use Rattle.manifest_csv.specs.Reports.{report_header, report_lines, report_of}
+use Rattle.manifest_csv.specs.Sent.{WentOutPast}
 use Rattle.manifest_csv.specs.declared.importing.ImportFault.{ImportFault}
 use Rattle.manifest_csv.specs.declared.importing.ImportFault.TheVariants.{Unread, Stopped, Unwritten}
 
@@ -33,12 +33,21 @@ IsEndOf reply (Some why) = (reply ≡ Err why) × Ends why
 abbrev pub AreStopped : List (Result Receipt Refusal) → Refusal → Type 0
 AreStopped replies why = (before : List (Result Receipt Refusal)) × (replies ≡ before ++ Err why ∷ []) × AllByRecursion GoesOn before × Ends why
 
--- What was written for these replies to a list of requests. text is the whole that was due: all lines so far.
-abbrev pub IsWritten : List Request → List (Result Receipt Refusal) → List ℕ → Option (List ℕ) → Option (List ℕ) → Result (Unit {0}) ImportFault → Type 0
-IsWritten requests replies text before after (Ok x) = (length replies ≡ length requests) × AllByRecursion GoesOn replies × Appends before after text
-IsWritten requests replies text before after (Err (Stopped n why)) = (n ≡ length replies) × AreStopped replies why × Appends before after text
-IsWritten requests replies text before after (Err Unwritten) = WentOut before after text
-IsWritten requests replies text before after (Err (Unread fault)) = ⊥
+-- the lines of all replies but the last
+abbrev pub lines_before : List Request → List (Result Receipt Refusal) → List ℕ
+lines_before requests replies = report_lines 1 requests (take (length replies - 1) replies)
+
+-- What had gone out before the last line of a report: all before that line, or nothing where there is no reply.
+abbrev pub report_before : List Request → List (Result Receipt Refusal) → List ℕ
+report_before requests [] = []
+report_before requests (reply ∷ replies) = report_header ++ lines_before requests (reply ∷ replies)
+
+-- What was written for these replies to a list of requests. text is the whole that was due: all lines so far; sent is what had gone out before the last of them.
+abbrev pub IsWritten : List Request → List (Result Receipt Refusal) → List ℕ → List ℕ → Option (List ℕ) → Option (List ℕ) → Result (Unit {0}) ImportFault → Type 0
+IsWritten requests replies sent text before after (Ok x) = (length replies ≡ length requests) × AllByRecursion GoesOn replies × Appends before after text
+IsWritten requests replies sent text before after (Err (Stopped n why)) = (n ≡ length replies) × AreStopped replies why × Appends before after text
+IsWritten requests replies sent text before after (Err Unwritten) = WentOutPast sent before after text
+IsWritten requests replies sent text before after (Err (Unread fault)) = ⊥
 
 -- Why a text is not read: it meets this fault first, the reader failed, or memory was wanting.
 abbrev pub IsWhyUnread : Option (List ℕ) → ReadFault → Type 0
@@ -50,14 +59,14 @@ module _ {S : Type 0} (g : Ghosts S) where
     pub replies : List (Result Receipt Refusal)
     pub some : length replies ≤ length requests
     pub ran : IsRun g (take (length replies) requests) old replies new
-    pub written : IsWritten requests replies (report_lines 1 requests replies) before after r
+    pub written : IsWritten requests replies (lines_before requests replies) (report_lines 1 requests replies) before after r
 
   -- The same with the header line before. Where that could not be written, there are no replies.
   pub record IsImported (requests : List Request) (old new : Seen S) (before after : Option (List ℕ)) (r : Result (Unit {0}) ImportFault) : Type 0 where
     pub replies : List (Result Receipt Refusal)
     pub some : length replies ≤ length requests
     pub ran : IsRun g (take (length replies) requests) old replies new
-    pub written : IsWritten requests replies (report_of requests replies) before after r
+    pub written : IsWritten requests replies (report_before requests replies) (report_of requests replies) before after r
 
   -- An import of a text: of a list that is read, its requests are carried out and reported. Of one that is not, nothing is carried out and nothing is written.
   abbrev pub Imports : {W : Type 0} → Option (List ℕ) → Seen S → Seen S → W → W → Option (List ℕ) → Option (List ℕ) → Result (Unit {0}) ImportFault → Type 0
