@@ -14,8 +14,6 @@ mod carrying_tests;
 pub mod crash_laws;
 pub mod creating;
 pub mod deciding;
-#[cfg(test)]
-mod deciding_tests;
 pub mod judging;
 pub mod laws;
 pub mod members;
@@ -38,5 +36,3 @@ pub mod turning;
 #[cfg(test)]
 mod turning_tests;
 pub mod world;
-#[cfg(test)]
-mod world_tests;

@@ -6,8 +6,6 @@ ghost use Rattle.sqlite.specs.Steps.{over_memory};
 ghost use Rattle.sql_meaning.specs.Blank.{IsBlank, no_schema};
 ghost use Rattle.world.specs.Laws.{IsServed};
 
-use crate::creating::CreateFault;
-use crate::world::World;
 use package_tables::fault::Fault;
 use sheet_types::collections::{Bytes, Text};
 use sheet_types::command::{Command, Content, Mapping, Request};
@@ -20,6 +18,8 @@ use std::alloc::Global;
 use std::process::Abort;
 use std::test::Fail;
 use uuid::Uuid;
+use world::creating::CreateFault;
+use world::world::World;
 
 // Zooms 0 to 2, with 1, 2 and 4 columns and rows.
 const FRAME: Frame = Frame {

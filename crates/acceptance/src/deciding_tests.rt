@@ -4,10 +4,6 @@ ghost use Rattle.sheet_types.specs.Matrix.{is_good_frame};
 ghost use Rattle.sqlite.specs.Held.{state};
 ghost use Rattle.sql_meaning.specs.Transactions.{Rests};
 
-use crate::asking::are_at_rest;
-use crate::deciding::{Decision, decide};
-use crate::members::Member;
-use crate::turning::turn_at;
 use matrix_rules::check::FrameRules;
 use package_tables::create::{Info, create};
 use package_tables::fault::Fault;
@@ -20,6 +16,10 @@ use sqlite::{Alter, Connection};
 use std::alloc::Global;
 use std::test::Fail;
 use uuid::Uuid;
+use world::asking::are_at_rest;
+use world::deciding::{Decision, decide};
+use world::members::Member;
+use world::turning::turn_at;
 
 // Zooms 0 to 2, with 1, 2 and 4 columns and rows.
 const FRAME: Frame = Frame {

@@ -1,0 +1,7 @@
+//! Worked examples of requests over worlds in memory. There is nothing here but tests.
+#![tactic(auto)]
+
+#[cfg(test)]
+mod deciding_tests;
+#[cfg(test)]
+mod world_tests;
