@@ -7,7 +7,7 @@ use Rattle.std.proofs.lemmas.Option.{slice_get_within}
 use Rattle.sqlite.specs.Tree.{Trees}
 use Rattle.sqlite.specs.Store.{Ghosts}
 use Rattle.sqlite.specs.Held.{Held, state}
-use Rattle.sqlite.specs.State.{HasCleanDisk}
+use Rattle.sqlite.specs.State.{HasCleanDisk, Survives}
 use Rattle.sqlite.proofs.StateLemmas.{clean_if_open}
 use Rattle.sheet_types.specs.Custody.{ticket}
 use Rattle.sheet_types.specs.Ordered.{IsArranged, is_before}
@@ -21,12 +21,12 @@ use Rattle.sheet_types.proofs.Every.{All-weaker, All-both}
 use Rattle.sql_meaning.specs.Transactions.{Rests}
 use Rattle.sql_meaning.specs.Stores.{MayLeave, EachLeaves, LeavesEither}
 use Rattle.sql_meaning.proofs.Transactions.{Shuts, Settles, at_rest}
-use Rattle.sql_meaning.proofs.StoreLemmas.{at_set, one_turned}
+use Rattle.sql_meaning.proofs.StoreLemmas.{at_set, one_turned, same_world}
 use Rattle.identity_register.specs.Reads.{Reads}
 use Rattle.world.specs.Carrying.{after_command}
 use Rattle.world.specs.Laws.{package_of}
 use Rattle.world.specs.Members.{AllRest, AllClean, AllOpen, AllStay, IsMember, AreMembers}
-use Rattle.world.specs.Turning.{IsDue, CarriesOut, CarriesOutAt, turned, world_after, LeftAs}
+use Rattle.world.specs.Turning.{IsDue, CarriesOut, CarriesOutAt, turned, world_after, LeavesAsBefore, LeftAs}
 use Rattle.world.specs.declared.members.Member.{Member}
 use Rattle.world.proofs.Standing.{at_place, zip_at}
 
@@ -220,30 +220,29 @@ module _ {S : Type 0} (g : Ghosts S) (shuts : Shuts g) (settles : Settles g) whe
       (recursion_from_All (λ m. IsTrue (state g m.conn).is_open) members open'))
       are.each
 
-  -- members that were only read leave what they left
-  pub still_leaves : (old new : List (Member S)) (dbs : List Trees) → AllStay g old new → AllClean g new → MayLeave g (λ m. m.conn) new dbs → MayLeave g (λ m. m.conn) old dbs
-  still_leaves old new dbs stay clean may = zip_left old new dbs (recursion_from_All (λ (m : Member S). HasCleanDisk (state g m.conn)) new clean) stay may
+  -- members that were only read leave no more than they left
+  pub stay_leaves : (old new : List (Member S)) → AllRest g old → AllStay g old new → LeavesAsBefore g old new
+  stay_leaves old new rests stay clean w count are open' = zip_left old new w.packages (recursion_from_All (λ (m : Member S). HasCleanDisk (state g m.conn)) new clean) stay (each_leaves old count w rests open' are)
     where
-      zip_left : (xs ys : List (Member S)) (ds : List Trees) → AllByRecursion (λ (m : Member S). HasCleanDisk (state g m.conn)) ys → AllStay g xs ys → MayLeave g (λ m. m.conn) ys ds → MayLeave g (λ m. m.conn) xs ds
-      zip_left [] [] [] disks one left = tt
-      zip_left [] [] (d ∷ ds) disks one left = absurd left
-      zip_left [] (y ∷ ys) ds disks one left = absurd one
-      zip_left (x ∷ xs) [] ds disks one left = absurd one
-      zip_left (x ∷ xs) (y ∷ ys) [] disks one left = absurd left
-      zip_left (x ∷ xs) (y ∷ ys) (d ∷ ds) disks one left =
-          (elim (one.0.stays.survives.crash disks.0 d left.0) [ inl before ↦ before | inr none ↦ absurd none ], zip_left xs ys ds disks.1 one.1 left.1)
+      zip_left : (xs ys : List (Member S)) (ps : List Package) → AllByRecursion (λ (m : Member S). HasCleanDisk (state g m.conn)) ys → AllStay g xs ys → EachLeaves g (λ m. m.conn) (LeftAs w.frame) xs ps → EachLeaves g (λ m. m.conn) (LeftAs w.frame) ys ps
+      zip_left [] [] [] disks one each = tt
+      zip_left [] [] (p ∷ ps) disks one each = absurd each
+      zip_left [] (y ∷ ys) ps disks one each = absurd one
+      zip_left (x ∷ xs) [] ps disks one each = absurd one
+      zip_left (x ∷ xs) (y ∷ ys) [] disks one each = absurd each
+      zip_left (x ∷ xs) (y ∷ ys) (p ∷ ps) disks one each =
+          (λ trees may. elim (one.0.stays.survives.crash disks.0 trees may) [ inl before ↦ each.0 trees before | inr none ↦ absurd none ], zip_left xs ys ps disks.1 one.1 each.1)
 
   -- what a crash leaves of them reads as the world that they stand for
   pub read_leaves : (old new : List (Member S)) (count : ℕ) (w : World) (after : List Package) → AllRest g old → AllStay g old new → AreMembers g old count w → AllOpen g old → LeavesEither g (λ m. m.conn) (LeftAs w.frame) new w.packages after
-  read_leaves old new count w after rests stay are open' clean dbs may = inl (zip_leaves old w.packages dbs (each_leaves old count w rests open' are) (still_leaves old new dbs stay clean may))
-    where
-      zip_leaves : (xs : List (Member S)) (ps : List Package) (ds : List Trees) → EachLeaves g (λ m. m.conn) (LeftAs w.frame) xs ps → MayLeave g (λ m. m.conn) xs ds → AllZip (LeftAs w.frame) ds ps
-      zip_leaves [] [] [] each left = tt
-      zip_leaves [] [] (d ∷ ds) each left = absurd left
-      zip_leaves [] (p ∷ ps) ds each left = absurd each
-      zip_leaves (x ∷ xs) [] ds each left = absurd each
-      zip_leaves (x ∷ xs) (p ∷ ps) [] each left = absurd left
-      zip_leaves (x ∷ xs) (p ∷ ps) (d ∷ ds) each left = (each.0 d left.0, zip_leaves xs ps ds each.1 left.1)
+  read_leaves old new count w after rests stay are open' clean dbs may = inl (same_world g (λ m. m.conn) (LeftAs w.frame) new w.packages dbs (stay_leaves old new rests stay clean w count are open') may)
+
+  -- and so of members of which one took a turn that a crash does not show
+  pub unharmed_at : (old : List (Member S)) (at : ℕ) (was : Member S) (last : Held S) → slice_get old at ≡ Some was → AllRest g old → Survives (state g was.conn) (state g last) (λ _. ⊥) → LeavesAsBefore g old (slice_set old at (record was { conn = last }))
+  unharmed_at old at was last place rests survives clean w count are open' =
+      let now : Member S = record was { conn = last } in
+      let disk : HasCleanDisk (state g last) = at_set (λ (m : Member S). HasCleanDisk (state g m.conn)) old at now (slice_get_within old at was place) clean in
+      zip_set (λ m p. (trees : Trees) → (state g m.conn).may_leave trees → LeftAs w.frame trees p) old w.packages at was now (λ p left trees may. elim (survives.crash disk trees may) [ inl before ↦ left trees before | inr none ↦ absurd none ]) place (each_leaves old count w rests open' are)
 
   -- a turn that was committed leaves its store open
   pub turned_open : {E : Type 0} (r : Receipt) (command : Command) (sums : Sums) (old new : List (Member S)) (at : ℕ) → CarriesOutAt g {E = E} r command sums old new at (Ok tt) → AllClean g new → AllOpen g old → AllOpen g new

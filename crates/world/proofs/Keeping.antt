@@ -1,5 +1,5 @@
 -- What a world keeps of what it stands for, when one request was served.
-use Rattle.std.proofs.Common.{◌≡◌, refl, sym, ap, subst, ◌∙◌, ℕ, ◌≤◌, Bool, List, length, Vec, Global, vec_capacity, Result, IfOk, Ok, Err, inl, inr}
+use Rattle.std.proofs.Common.{◌≡◌, ◌≢◌, ◌↔◌, false, IsTrue, refl, sym, ap, subst, ◌∙◌, ℕ, ◌≤◌, Bool, List, length, Vec, Global, vec_capacity, Result, IfOk, Ok, Err, inl, inr}
 use Rattle.sqlite.specs.Store.{Ghosts}
 use Rattle.sheet_types.specs.Step.{IsFault, outcome}
 use Rattle.sheet_types.specs.World.{World}
@@ -17,8 +17,8 @@ use Rattle.world.proofs.Changing.{each_leaves, read_leaves}
 use Rattle.world.proofs.Standing.{all_still}
 use Rattle.world.specs.Turning.{LeftAs}
 use Rattle.world.specs.Members.{AllRest, AllClean, AllOpen, AreMembers}
-use Rattle.world.specs.Serving.{Serves, IsServedBy}
-use Rattle.world.specs.Worlds.{Seen, StandsFor, IsHeld, IsStep, StandsStill, StaysOpen, LeftAsItStands}
+use Rattle.world.specs.Serving.{Serves, IsServedBy, IsUncommitted, IsUnchanged}
+use Rattle.world.specs.Worlds.{Seen, StandsFor, IsHeld, IsStep, StandsStill, StaysOpen, LeavesNoTrace, LeftAsItStands}
 use Rattle.world.specs.declared.carrying_out.TurnFault.{TurnFault}
 use Rattle.world.specs.declared.carrying_out.TurnFault.TheVariants.{Before, Committing}
 use Rattle.world.specs.declared.members.Member.{Member}
@@ -29,6 +29,11 @@ is_fault (Before fault.OutOfMemory) = inl refl
 is_fault (Before fault.StoreFault) = inr refl
 is_fault (Committing fault.OutOfMemory) = inl refl
 is_fault (Committing fault.StoreFault) = inr refl
+
+-- what leaves a world usable comes before a commit
+uncommitted : (e : TurnFault) (has_failed : Bool) → (IsTrue has_failed ↔ (e ≢ Before fault.OutOfMemory)) → has_failed ≡ false → IsUncommitted {X = Receipt} (Err e)
+uncommitted (Before x) has_failed lasting usable = tt
+uncommitted (Committing x) has_failed lasting usable = absurd (let failed : IsTrue has_failed = lasting.1 (λ same. cc) in cc)
 
 -- the room is enough for as many
 pub room_stays : {X Y : Type 0} (old new : List X) (room : Vec Y Global) → length new ≡ length old → HasRoom old room → HasRoom new room
@@ -97,6 +102,15 @@ module _ {S : Type 0} (g : Ghosts S) where
 
     pub opens_failed : (e : TurnFault) → (why : Refusal) → why ≡ turn_refusal e → StaysOpen g was (Err why) (record { frame = f; members = new; count = after; has_failed = has_failed })
     opens_failed e why told clean no_fault opened = absurd (no_fault (subst (λ x. IsFault (Err x)) (sym told) (is_fault e)))
+
+    -- a crash shows nothing of what was refused, or failed before its commit
+    pub no_trace_replied : (reply : Result Receipt Refusal) → r ≡ Ok reply → LeavesNoTrace g was reply (record { frame = f; members = new; count = after; has_failed = has_failed })
+    no_trace_replied reply is refused usable clean w stands opened =
+        it.unharmed (subst IsUnchanged (sym is) refused) clean w before (stood w stands).1 (subst (AllOpen g) (sym (ap (λ s. s.members) seen)) opened)
+
+    pub no_trace_failed : (e : TurnFault) → r ≡ Err e → (why : Refusal) → (IsTrue has_failed ↔ (e ≢ Before fault.OutOfMemory)) → LeavesNoTrace g was (Err why) (record { frame = f; members = new; count = after; has_failed = has_failed })
+    no_trace_failed e is why lasting refused usable clean w stands opened =
+        it.unharmed (subst IsUnchanged (sym is) (uncommitted e has_failed lasting usable)) clean w before (stood w stands).1 (subst (AllOpen g) (sym (ap (λ s. s.members) seen)) opened)
 
     -- a refusal leaves it standing for what it stood for
     pub still_replied : (reply : Result Receipt Refusal) → r ≡ Ok reply → StandsStill g was reply (record { frame = f; members = new; count = after; has_failed = has_failed })

@@ -1,5 +1,5 @@
 -- What serving a request says in each of the ways in which it ends.
-use Rattle.std.proofs.Common.{◌≡◌, refl, sym, ap, subst, ◌∙◌, ℕ, ◌+◌, ◌≤◌, List, Result, Ok, Err, IsErr, IfOk, ◌⊎◌}
+use Rattle.std.proofs.Common.{◌≡◌, refl, sym, ap, subst, ◌∙◌, ℕ, ◌+◌, ◌≤◌, List, Result, Ok, Err, IsErr, IsErrAnd, IfOk, ◌⊎◌}
 use Rattle.std.specs.List.{AllZip}
 use Rattle.sheet_types.specs.Step.{outcome}
 use Rattle.sqlite.specs.Store.{Ghosts}
@@ -15,19 +15,26 @@ use Rattle.world.specs.Laws.{IsServed}
 use Rattle.sql_meaning.specs.Stores.{LeavesEither}
 use Rattle.sql_meaning.proofs.Transactions.{Shuts, Settles}
 use Rattle.world.specs.Members.{AllRest, AllClean, AllOpen, AreMembers}
-use Rattle.world.specs.Serving.{Changes, Serves}
-use Rattle.world.specs.Turning.{IsDue, LeftAs, world_after}
+use Rattle.package_tables.specs.declared.fault.Fault.{Fault}
+use Rattle.world.specs.Serving.{Changes, Serves, IsUncommitted}
+use Rattle.world.specs.Turning.{IsDue, LeavesAsBefore, LeftAs, world_after}
 use Rattle.world.specs.declared.carrying_out.TurnFault.{TurnFault}
+use Rattle.world.specs.declared.carrying_out.TurnFault.TheVariants.{Before, Committing}
 use Rattle.world.specs.declared.deciding.Change.{Change}
 use Rattle.world.specs.declared.deciding.Decision.{Decision}
 use Rattle.world.specs.declared.deciding.Decision.TheVariants.{Answered, Due}
 use Rattle.world.specs.declared.members.Member.{Member}
-use Rattle.world.proofs.Changing.{read_leaves}
+use Rattle.world.proofs.Changing.{read_leaves, stay_leaves}
 use Rattle.world.proofs.Standing.{members_stay, clean_before}
 
 not_ok : {X E : Type 0} (r : Result X E) (x : X) → IsErr r → r ≡ Ok x → ⊥
 not_ok (Ok y) x failed is = absurd (let f = failed in cc)
 not_ok (Err e) x failed is = cc
+
+-- an error that was handed on, or turned into another
+pub turned_into : {X E : Type 0} (r : Result X E) (e : E) → IsErrAnd r (λ why. why ≡ e) → r ≡ Err e
+turned_into (Ok x) e told = absurd told
+turned_into (Err y) e told = ap Err told
 
 if_failed : {X E : Type 0} (P : X → Type 0) (r : Result X E) → IsErr r → IfOk r P
 if_failed P (Ok x) failed = absurd (let f = failed in cc)
@@ -40,16 +47,20 @@ module _ {S : Type 0} (g : Ghosts S) where
       → LeavesEither g (λ m. m.conn) (LeftAs w.frame) new w.packages (world_after change.receipt command w).packages
 
   -- a change that failed
-  pub changes_failed : (change : Change) (command : Command) (old new : List (Member S)) (count : ℕ) (r : Result Receipt TurnFault) → IsErr r → AllRest g new → (AllClean g new → AllClean g old)
-      → ((w : World) (n : ℕ) → AreMembers g old n w → AreMembers g new n w) → MayCrash change command old new → Changes g change command old new count count r
-  changes_failed change command old new count r failed rests clean undone crash = record {
+  pub changes_failed : (change : Change) (command : Command) (old new : List (Member S)) (count : ℕ) (e : TurnFault) (r : Result Receipt TurnFault) → r ≡ Err e → AllRest g new → (AllClean g new → AllClean g old)
+      → ((w : World) (n : ℕ) → AreMembers g old n w → AreMembers g new n w) → MayCrash change command old new → ((fault : Fault) → e ≡ Before fault → LeavesAsBefore g old new) → Changes g change command old new count count r
+  changes_failed change command old new count e r failed rests clean undone crash unharmed = subst (Changes g change command old new count count) (sym failed) (record {
     rests = rests;
     clean = clean;
     crash = λ w are due opened. crash w count are due opened;
-    opens = λ disks. if_failed _ r failed;
-    ok = λ receipt is. absurd (not_ok r receipt failed is);
+    opens = λ disks. tt;
+    ok = λ receipt is. absurd (let f = is in cc);
     err = λ fault is. (refl, λ w are. undone w count are);
-  }
+    unharmed = elim e as (λ x. e ≡ x → IsUncommitted {X = Receipt} (Err x) → LeavesAsBefore g old new) [
+      | Before fault ↦ λ is none. unharmed fault is
+      | Committing fault ↦ λ is none. absurd none
+    ] refl;
+  })
 
   -- and one that was carried out
   pub changes_done : (change : Change) (command : Command) (old new : List (Member S)) (before after : ℕ) → AllRest g new → (AllClean g new → AllClean g old) → after ≡ before + 1
@@ -62,6 +73,7 @@ module _ {S : Type 0} (g : Ghosts S) where
     opens = opens;
     ok = λ receipt is. (let same : receipt ≡ change.receipt = cc in same, counted, λ w are due. done w before are due);
     err = λ fault is. absurd (let e = is in cc);
+    unharmed = λ none. absurd none;
   }
 
   module _ (shuts : Shuts g) (settles : Settles g) (f : Frame) (q : Request) (served : IsServed q.command) (old mid : List (Member S)) (at_rest : AllRest g old) (before : ℕ) (low : before ≤ 1000000000) where
@@ -79,6 +91,7 @@ module _ {S : Type 0} (g : Ghosts S) where
         opens = λ clean. if_failed _ reply failed;
         told = λ clean answer is. absurd (not_ok reply answer failed is);
         refused = λ why is. absurd (not_ok reply (Err why) failed is);
+        unharmed = λ unchanged. stay_leaves g shuts settles old mid at_rest it.stay;
         failed = λ fault is w are. members_stay g old mid before w it.stay are;
       }
 
@@ -104,6 +117,7 @@ module _ {S : Type 0} (g : Ghosts S) where
             let answered : answer ≡ reply = cc in
             (w, told_by (Answered answer) is clean w same are ∙ ap (λ x. (x, w)) answered, refl, members_stay g old mid before w it.stay are);
         refused = λ why is w are. members_stay g old mid before w it.stay are;
+        unharmed = λ unchanged. stay_leaves g shuts settles old mid at_rest it.stay;
         failed = λ fault is. absurd (let e = is in cc);
       }
 
@@ -117,17 +131,18 @@ module _ {S : Type 0} (g : Ghosts S) where
             (changes.crash w (members_stay g old mid before w it.stay are) decided.2 (decision_opens (Due change) is (changes.clean clean) opened) clean dbs may)
 
         -- the change that was due failed
-        pub serves_failed : {made : Result Receipt TurnFault} {e : TurnFault} → made ≡ Err e → Changes g change q.command mid new before after made → (reply : Result (Result Receipt Refusal) TurnFault) → IsErr reply → Serves g f q old new before after reply
-        serves_failed {made} {e} failed changes reply err = record {
+        pub serves_failed : {made : Result Receipt TurnFault} {e : TurnFault} → made ≡ Err e → Changes g change q.command mid new before after made → (reply : Result (Result Receipt Refusal) TurnFault) → reply ≡ Err e → Serves g f q old new before after reply
+        serves_failed {made} {e} failed changes reply err = subst (Serves g f q old new before after) (sym err) (record {
           rests = changes.rests;
           counted = rw (changes.err e failed).0 low;
           clean = λ clean. clean_before g old mid it.stay (changes.clean clean);
           crash = crashed changes;
-          opens = λ clean. if_failed _ reply err;
-          told = λ clean answer is. absurd (not_ok reply answer err is);
-          refused = λ why is. absurd (not_ok reply (Err why) err is);
+          opens = λ clean. tt;
+          told = λ clean answer is. absurd (let x = is in cc);
+          refused = λ why is. absurd (let x = is in cc);
+          unharmed = λ unchanged clean w count are opened. changes.unharmed (subst IsUncommitted (sym failed) unchanged) clean w count (members_stay g old mid count w it.stay are) (decision_opens (Due change) is (changes.clean clean) opened);
           failed = λ fault is w are. subst (λ n. AreMembers g new n w) (sym (changes.err e failed).0) ((changes.err e failed).1 w (members_stay g old mid before w it.stay are));
-        }
+        })
 
         made_opens : {made : Result Receipt TurnFault} {receipt : Receipt} → made ≡ Ok receipt → AllClean g new → Changes g change q.command mid new before after made → AllOpen g mid → AllOpen g new
         made_opens {made} {receipt} went clean changes = subst (λ m. IfOk m (λ r. AllOpen g mid → AllOpen g new)) went (changes.opens clean)
@@ -150,5 +165,6 @@ module _ {S : Type 0} (g : Ghosts S) where
                 subst (λ n. AreMembers g new n (world_after change.receipt q.command w)) (sym done.1) (done.2 w (members_stay g old mid before w it.stay are) decided.2),
               );
           refused = λ why is. absurd (let e = is in cc);
+          unharmed = λ none. absurd (let e = none in cc);
           failed = λ fault is. absurd (let e = is in cc);
         }

@@ -1,5 +1,5 @@
 -- What one request makes of the members of a world, and what is replied. Profile.
-use Rattle.std.specs.Prelude.{◌≡◌, ◌≤◌, ℕ, ◌+◌, List, Result, Ok, Err, IfOk}
+use Rattle.std.specs.Prelude.{◌≡◌, ◌≤◌, ℕ, ◌+◌, ⊤, List, Result, Ok, Err, IfOk, IsErr}
 use Rattle.sqlite.specs.Store.{Ghosts}
 use Rattle.sheet_types.specs.Step.{outcome}
 use Rattle.sheet_types.specs.World.{World}
@@ -10,10 +10,22 @@ use Rattle.sheet_types.specs.declared.receipt.Receipt.{Receipt}
 use Rattle.sheet_types.specs.declared.refusal.Refusal.{Refusal}
 use Rattle.sql_meaning.specs.Stores.{LeavesEither}
 use Rattle.world.specs.Members.{AllRest, AllClean, AllOpen, AreMembers}
-use Rattle.world.specs.Turning.{IsDue, LeftAs, world_after}
+use Rattle.world.specs.Turning.{IsDue, LeavesAsBefore, LeftAs, world_after}
 use Rattle.world.specs.declared.carrying_out.TurnFault.{TurnFault}
+use Rattle.world.specs.declared.carrying_out.TurnFault.TheVariants.{Before, Committing}
 use Rattle.world.specs.declared.deciding.Change.{Change}
 use Rattle.world.specs.declared.members.Member.{Member}
+
+-- no commit was tried
+abbrev pub IsUncommitted : {X : Type 0} → Result X TurnFault → Type 0
+IsUncommitted (Ok x) = ⊥
+IsUncommitted (Err (Before fault)) = ⊤
+IsUncommitted (Err (Committing fault)) = ⊥
+
+-- nothing was to be changed, or no commit was tried
+abbrev pub IsUnchanged : Result (Result Receipt Refusal) TurnFault → Type 0
+IsUnchanged (Ok reply) = IsErr reply
+IsUnchanged (Err fault) = IsUncommitted {X = Receipt} (Err fault)
 
 module _ {S : Type 0} (g : Ghosts S) where
   -- A change that is due was carried out: the receipt is the reply and its number the new count. Or it failed, and nothing has changed.
@@ -26,6 +38,7 @@ module _ {S : Type 0} (g : Ghosts S) where
         → LeavesEither g (λ m. m.conn) (LeftAs w.frame) new w.packages (world_after change.receipt command w).packages
     pub opens : AllClean g new → IfOk r (λ receipt. AllOpen g old → AllOpen g new)
     pub err : (fault : TurnFault) → r ≡ Err fault → (after ≡ before) × ((w : World) → AreMembers g old before w → AreMembers g new before w)
+    pub unharmed : IsUncommitted r → LeavesAsBefore g old new
 
   -- The reply, and what the members stand for afterwards, are those of the model.
   abbrev pub IsServedBy : World → Request → List (Member S) → ℕ → Result Receipt Refusal → Type 0
@@ -41,4 +54,5 @@ module _ {S : Type 0} (g : Ghosts S) where
     -- Whatever a crash leaves of stores that were open reads as the world before or as the world that the request is to make, whole; and where there is a reply they are still open.
     pub crash : (w : World) → f ≡ w.frame → AreMembers g old before w → AllOpen g old → LeavesEither g (λ m. m.conn) (LeftAs w.frame) new w.packages (outcome w q).1.packages
     pub opens : AllClean g new → IfOk r (λ reply. AllOpen g old → AllOpen g new)
+    pub unharmed : IsUnchanged r → LeavesAsBefore g old new
     pub failed : (fault : TurnFault) → r ≡ Err fault → (w : World) → AreMembers g old before w → AreMembers g new after w

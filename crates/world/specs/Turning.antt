@@ -17,11 +17,13 @@ use Rattle.sheet_types.specs.declared.command.Request.{Request}
 use Rattle.sheet_types.specs.declared.frame.Frame.{Frame}
 use Rattle.sheet_types.specs.declared.receipt.Receipt.{Receipt}
 use Rattle.sheet_types.specs.declared.receipt.Sums.{Sums}
+use Rattle.sql_meaning.specs.Stores.{EachLeaves}
 use Rattle.sql_meaning.specs.Transactions.{Turns}
 use Rattle.identity_register.specs.Calls.{Becomes}
 use Rattle.identity_register.specs.Reads.{Reads}
 use Rattle.world.specs.Carrying.{Fits, after_command}
 use Rattle.world.specs.Laws.{IsServed, package_of}
+use Rattle.world.specs.Members.{AllClean, AllOpen, AreMembers}
 use Rattle.world.specs.Steps.{sums_moved, sums_after}
 use Rattle.world.specs.declared.members.Member.{Member}
 
@@ -64,6 +66,10 @@ module _ {S : Type 0} (g : Ghosts S) where
   abbrev pub turned : {E : Type 0} → Receipt → Sums → Member S → Held S → Result (Unit {0}) E → Member S
   turned r sums was last (Ok x) = record was { conn = last; sums = sums; ticket = r.seq }
   turned r sums was last (Err e) = record was { conn = last }
+
+  -- Whatever a crash leaves now of stores that were open reads as the packages that they stood for.
+  abbrev pub LeavesAsBefore : List (Member S) → List (Member S) → Type 0
+  LeavesAsBefore old new = AllClean g new → (w : World) (count : ℕ) → AreMembers g old count w → AllOpen g old → EachLeaves g (λ m. m.conn) (LeftAs w.frame) new w.packages
 
   -- The store of the member at this place carried the command out or not, and all other members are as they were.
   pub record CarriesOutAt {E : Type 0} (r : Receipt) (command : Command) (sums : Sums) (old new : List (Member S)) (at : ℕ) (reply : Result (Unit {0}) E) : Type 0 where

@@ -1,5 +1,5 @@
 -- What a clause sees of a value of `World`, and the world of the model that it stands for. Profile.
-use Rattle.std.specs.Prelude.{◌≡◌, ◌≤◌, ℕ, ℤ, Bool, List, Option, Result, IsTrue, IfOk, IsErr, refl}
+use Rattle.std.specs.Prelude.{◌≡◌, ◌≤◌, ℕ, ℤ, Bool, false, List, Option, Result, IsTrue, IfOk, IsErr, refl}
 use Rattle.std.specs.Coded.{Coded, code_by, coded×, coded_bool, coded_list, coded_option, coded_ℕ, coded_ℤ}
 use Rattle.sqlite.specs.Store.{Ghosts}
 use Rattle.sqlite.specs.Held.{Held, held_code}
@@ -71,6 +71,10 @@ module _ {S : Type 0} (g : Ghosts S) where
   -- Open stores are still open after a receipt or a refusal, where each disk has given back what was written.
   abbrev pub StaysOpen : Seen S → Result Receipt Refusal → Seen S → Type 0
   StaysOpen old reply new = AllClean g new.members → ¬ IsFault reply → AllOpen g old.members → AllOpen g new.members
+
+  -- After a refusal or a fault that leaves the world usable, whatever a crash leaves of stores that were open reads as the world before. So a world of which a commit may have gone through has failed.
+  abbrev pub LeavesNoTrace : Seen S → Result Receipt Refusal → Seen S → Type 0
+  LeavesNoTrace old reply new = IsErr reply → new.has_failed ≡ false → AllClean g new.members → (w : World) → StandsFor old w → AllOpen g old.members → EachLeaves g (λ m. m.conn) (LeftAs w.frame) new.members w.packages
 
   -- Of open stores a crash leaves what they read as: the packages of each world that they stand for, and nothing else.
   abbrev pub LeftAsItStands : Type 0

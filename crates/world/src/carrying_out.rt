@@ -1,9 +1,11 @@
 // The change of one package that a command asks for, with its receipt, in one transaction of the package's store.
-ghost use Rattle.std.specs.Prelude.{◌≡◌, ◌≢◌, ◌↔◌, IsTrue};
+ghost use Rattle.std.specs.Prelude.{◌≡◌, ◌≢◌, ◌↔◌, Err, IsTrue};
 ghost use Rattle.sqlite.specs.Held.{state};
+ghost use Rattle.sqlite.specs.State.{Survives};
 ghost use Rattle.sql_meaning.specs.Transactions.{Rests, Steps, Turns};
 ghost use Rattle.identity_register.specs.Calls.{Becomes};
 ghost use Rattle.package_tables.specs.Faults.{fault_of};
+ghost use Rattle.package_tables.specs.declared.fault.Fault.{Fault};
 ghost use Rattle.package_tables.specs.declared.fault.Fault.TheVariants.{OutOfMemory};
 ghost use Rattle.world.specs.Faults.{turn_refusal};
 ghost use Rattle.world.specs.declared.carrying_out.TurnFault.TheVariants.{Before, Committing};
@@ -140,6 +142,7 @@ pub fn apply_to_package<S: Alter>(
     requires { Rests (state S.Store conn.old) }
     ensures turns { Turns (λ _. Becomes (Fits receipt.now command.now) (after_command receipt.now command.now)) (state S.Store conn.old) (state S.Store conn.new) result }
     ensures was_open { IsTrue (state S.Store conn.new).is_open → IsTrue (state S.Store conn.old).is_open }
+    ensures unharmed { (fault : Fault) → result ≡ Err (Before fault) → Survives (state S.Store conn.old) (state S.Store conn.new) (λ _. ⊥) }
 {
     let mut tx = conn.transaction();
     carry_out(&mut tx, command, receipt)?;

@@ -1,9 +1,11 @@
 // The change of one member of a world: its store takes a turn, and what is kept of it is brought up to date.
-ghost use Rattle.std.specs.Prelude.{◌≡◌, ◌<◌, ℕ, ◌+◌, length, vec_capacity, OnOk, OnErr};
+ghost use Rattle.std.specs.Prelude.{◌≡◌, ◌<◌, ℕ, ◌+◌, length, vec_capacity, Err, OnOk, OnErr};
 ghost use Rattle.sheet_types.specs.World.{World};
 ghost use Rattle.sql_meaning.specs.Stores.{LeavesEither};
 ghost use Rattle.world.specs.Members.{AllRest, AllClean, AllOpen, AreMembers};
-ghost use Rattle.world.specs.Turning.{CarriesOutAt, IsDue, DueWhereAccepted, LeftAs, world_after};
+ghost use Rattle.world.specs.Turning.{CarriesOutAt, IsDue, DueWhereAccepted, LeavesAsBefore, LeftAs, world_after};
+ghost use Rattle.package_tables.specs.declared.fault.Fault.{Fault};
+ghost use Rattle.world.specs.declared.carrying_out.TurnFault.TheVariants.{Before};
 
 use crate::carrying_out::{TurnFault, apply_to_package};
 use crate::members::Member;
@@ -30,6 +32,7 @@ pub fn turn_at<S: Alter + Drop>(
     ensures undone { OnErr result ((w : World) (count : ℕ) → AreMembers S.Store members.old.items count w → AreMembers S.Store members.new.items count w) }
     ensures crash { (w : World) (count : ℕ) → AreMembers S.Store members.old.items count w → IsDue w at receipt.now command.now sums → AllOpen S.Store members.old.items
         → LeavesEither S.Store (λ m. m.conn) (LeftAs w.frame) members.new.items w.packages (world_after receipt.now command.now w).packages }
+    ensures unharmed { (fault : Fault) → result ≡ Err (Before fault) → LeavesAsBefore S.Store members.old.items members.new.items }
 {
     let member = &mut members[at];
     apply_to_package(&mut member.conn, command, receipt)?;

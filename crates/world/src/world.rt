@@ -8,7 +8,7 @@ ghost use Rattle.world.specs.Creating.{IsCreatedOrRefused};
 ghost use Rattle.world.specs.Members.{AllClean};
 ghost use Rattle.sheet_types.specs.declared.refusal.Refusal.TheVariants.{StoreFault};
 ghost use Rattle.world.specs.Laws.{IsServed};
-ghost use Rattle.world.specs.Worlds.{StandsFor, IsStep, IsRun, StandsStill, StaysOpen};
+ghost use Rattle.world.specs.Worlds.{StandsFor, IsStep, IsRun, StandsStill, StaysOpen, LeavesNoTrace};
 
 use crate::applying::serve;
 use crate::creating::{CreateFault, archive_alone, push_reserved, room_for_one};
@@ -110,6 +110,7 @@ impl<S: Alter + Drop> World<S> {
         ensures step { IsStep S.Store request.now self.old result self.new }
         ensures opens { StaysOpen S.Store self.old result self.new }
         ensures still { StandsStill S.Store self.old result self.new }
+        ensures unharmed { LeavesNoTrace S.Store self.old result self.new }
         ensures failed { self.old.has_failed ≡ true → (result ≡ Err StoreFault) × (self.new ≡ self.old) }
         ensures cause { result ≡ Err StoreFault → self.new.has_failed ≡ true }
     {

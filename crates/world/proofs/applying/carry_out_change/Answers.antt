@@ -1,12 +1,12 @@
 -- The turn says it all.
-use Rattle.std.proofs.Common.{◌∙◌, ap, length}
+use Rattle.std.proofs.Common.{◌∙◌, ap, length, Err}
 use Rattle.std.proofs.lemmas.List.{length-set}
-use Rattle.world.proofs.Served.{changes_failed, changes_done}
+use Rattle.world.proofs.Served.{turned_into, changes_failed, changes_done}
 use Rattle.world.proofs.applying.carry_out_change.Goals as goal
 
 pub returns-in_err-turn_at-clause-changes : goal.returns-in_err-turn_at-clause-changes
 returns-in_err-turn_at-clause-changes g c =
-    changes_failed g.S.Store c.args.change c.args.command.now c.args.members.now.items _ c.args.count.now _ c.from_residual.ensures.0 c.turn_at.ensures.rests c.turn_at.ensures.clean c.in_err-turn_at.ensures.undone c.turn_at.ensures.crash
+    changes_failed g.S.Store c.args.change c.args.command.now c.args.members.now.items _ c.args.count.now c.in_err-turn_at.field-0.0 _ (turned_into _ _ c.from_residual.ensures.1) c.turn_at.ensures.rests c.turn_at.ensures.clean c.in_err-turn_at.ensures.undone c.turn_at.ensures.crash (λ fault is. c.in_err-turn_at.ensures.unharmed fault (ap Err is))
 
 pub returns-clause-changes : goal.returns-clause-changes
 returns-clause-changes g c =

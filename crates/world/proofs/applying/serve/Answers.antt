@@ -1,7 +1,7 @@
 -- What was decided, and where a change was due what became of it.
 use Rattle.std.proofs.Common.{◌∙◌, sym, ap, subst, Ok}
 use Rattle.world.specs.Deciding.{HasPlace}
-use Rattle.world.proofs.Served.{serves_undecided, serves_answered, serves_failed, serves_carried_out}
+use Rattle.world.proofs.Served.{turned_into, serves_undecided, serves_answered, serves_failed, serves_carried_out}
 use Rattle.world.proofs.Standing.{stay_length}
 use Rattle.world.proofs.applying.serve.Goals as goal
 
@@ -10,7 +10,7 @@ returns-in_err-reply-clause-serves g c = serves_undecided g.S.Store g.met.S.Stor
 
 pub returns-in_err-receipt-in-Due-clause-serves : goal.returns-in_err-receipt-in-Due-clause-serves
 returns-in_err-receipt-in-Due-clause-serves g c =
-    serves_failed g.S.Store g.met.S.Store.shut_if_dirty g.met.S.Store.settled c.args.frame.now c.args.request.now c.requires.served c.args.members.now.items _ c.requires.rests c.args.count.now c.requires.counted c.decide.ensures.asks c.in-Due.change (c.in_ok-reply.was ∙ ap Ok c.in-Due.is) _ _ c.in_err-receipt-in-Due.was c.carry_out_change.ensures.changes _ c.from_residual-in_err-receipt-in-Due.ensures.0
+    serves_failed g.S.Store g.met.S.Store.shut_if_dirty g.met.S.Store.settled c.args.frame.now c.args.request.now c.requires.served c.args.members.now.items _ c.requires.rests c.args.count.now c.requires.counted c.decide.ensures.asks c.in-Due.change (c.in_ok-reply.was ∙ ap Ok c.in-Due.is) _ _ c.in_err-receipt-in-Due.was c.carry_out_change.ensures.changes _ (turned_into _ _ c.from_residual-in_err-receipt-in-Due.ensures.1)
 
 pub returns-in-Answered-clause-serves : goal.returns-in-Answered-clause-serves
 returns-in-Answered-clause-serves g c =

@@ -1,8 +1,16 @@
 -- The store of one member takes a turn, and the lemmas say what all members stand for.
-use Rattle.std.proofs.Common.{◌≡◌, Some, Ok, slice_get, refl}
+use Rattle.std.proofs.Common.{◌≡◌, Some, Result, Ok, Err, IsErrAnd, slice_get, refl, ap}
+use Rattle.package_tables.specs.declared.fault.Fault.{Fault}
+use Rattle.world.specs.declared.carrying_out.TurnFault.{TurnFault}
+use Rattle.world.specs.declared.carrying_out.TurnFault.TheVariants.{Before}
 use Rattle.std.proofs.lemmas.Option.{slice_get_read}
-use Rattle.world.proofs.Changing.{failed_at, undone_so, done_members, clean_turn, turned_open, crash_members}
+use Rattle.world.proofs.Changing.{failed_at, undone_so, done_members, clean_turn, turned_open, crash_members, unharmed_at}
 use Rattle.world.proofs.turning.turn_at.Goals as goal
+
+-- an error that is handed on is the one that came
+same_error : {X : Type 0} (r : Result X TurnFault) (came : TurnFault) (fault : Fault) → IsErrAnd r (λ turn. turn ≡ came) → r ≡ Err (Before fault) → came ≡ Before fault
+same_error (Ok x) came fault told is = absurd (let t = told in cc)
+same_error (Err turn) came fault told is = let t = told in cc
 
 pub returns-in_err-apply_to_package-clause-turned : goal.returns-in_err-apply_to_package-clause-turned
 returns-in_err-apply_to_package-clause-turned g c =
@@ -42,3 +50,8 @@ returns-clause-clean g c =
 
 pub returns-clause-opens : goal.returns-clause-opens
 returns-clause-opens g c = turned_open g.S.Store g.met.S.Store.shut_if_dirty g.met.S.Store.settled c.args.receipt.now c.args.command.now c.args.sums c.args.members.now.items _ c.args.at (returns-clause-turned g c)
+
+pub returns-in_err-apply_to_package-clause-unharmed : goal.returns-in_err-apply_to_package-clause-unharmed
+returns-in_err-apply_to_package-clause-unharmed g c fault is =
+    let place : slice_get c.args.members.now.items c.args.at ≡ Some c.index_mut-member.result.now = slice_get_read _ _ _ _ refl c.requires.within c.index_mut-member.ensures.value in
+    unharmed_at g.S.Store g.met.S.Store.shut_if_dirty g.met.S.Store.settled c.args.members.now.items c.args.at c.index_mut-member.result.now c.apply_to_package.new.conn place c.requires.rests (c.in_err-apply_to_package.ensures.unharmed fault (ap Err (same_error _ _ fault c.from_residual.ensures.1 is)))

@@ -2,7 +2,7 @@
 use Rattle.std.proofs.Common.{refl, subst, Err}
 use Rattle.sheet_types.specs.declared.refusal.Refusal.TheVariants.{StoreFault}
 use Rattle.world.specs.Worlds.{IsStep}
-use Rattle.world.proofs.Keeping.{room_stays, held_after, step_unserved, step_replied, step_failed, still_replied, still_failed, opens_replied, opens_failed}
+use Rattle.world.proofs.Keeping.{room_stays, held_after, step_unserved, step_replied, step_failed, still_replied, still_failed, opens_replied, opens_failed, no_trace_replied, no_trace_failed}
 use Rattle.world.proofs.world.World.apply.Goals as goal
 
 pub invariant_of-self : goal.invariant_of-self
@@ -33,3 +33,9 @@ returns-in-Ok-clause-opens g c = opens_replied g.S.Store _ _ _ _ _ _ _ c.serve.e
 
 pub returns-in-Err-clause-opens : goal.returns-in-Err-clause-opens
 returns-in-Err-clause-opens g c = opens_failed g.S.Store _ _ _ _ _ _ _ c.serve.ensures.serves c.self.inside.has_failed c.is_lasting-self-inside.result _ c.self.view_is c.in-Err.fault c.refusal.result c.refusal.ensures
+
+pub returns-in-Ok-clause-unharmed : goal.returns-in-Ok-clause-unharmed
+returns-in-Ok-clause-unharmed g c = no_trace_replied g.S.Store _ _ _ _ _ _ _ c.serve.ensures.serves c.self.inside.has_failed c.is_store_fault-self-inside.result _ c.self.view_is c.in-Ok.reply c.in-Ok.is
+
+pub returns-in-Err-clause-unharmed : goal.returns-in-Err-clause-unharmed
+returns-in-Err-clause-unharmed g c = no_trace_failed g.S.Store _ _ _ _ _ _ _ c.serve.ensures.serves c.self.inside.has_failed c.is_lasting-self-inside.result _ c.self.view_is c.in-Err.fault c.in-Err.is c.refusal.result c.is_lasting-self-inside.ensures

@@ -1,0 +1,157 @@
+#!/usr/bin/env python3
+"""Lists the public functions of the crates: the clauses of each, the must-fail edits that change its body or a helper's in its file, and the tests that call it.
+
+    tools/public_functions.py            a Markdown table for each crate
+    tools/public_functions.py --missing  the functions that lack a clause, an edit or a test; status 1 where there is one
+
+An edit counts for the public function in whose body it stands, and for each public function of the same file that calls the private helper in which it
+stands, directly or through other helpers. A test counts where it, or a helper of its file, names the function before a bracket.
+"""
+import os
+import re
+import sys
+
+ROOT = os.path.dirname(os.path.dirname(os.path.abspath(__file__)))
+HEAD = re.compile(r"^(?P<indent>\s*)(?P<pub>pub(?:\((?:crate|super)\))? )?fn (?P<name>\w+)", re.M)
+
+
+def read(path):
+    with open(path, encoding="utf-8") as it:
+        return it.read()
+
+
+def sources(folder):
+    """The source files of a crate below src/, by their path there."""
+    found = []
+    for at, folders, files in os.walk(os.path.join(folder, "src")):
+        folders.sort()
+        found += [os.path.relpath(os.path.join(at, it), os.path.join(folder, "src")) for it in sorted(files) if it.endswith(".rt")]
+    return found
+
+
+def is_open(folder, file):
+    """Whether a source file is a public module, by what lib.rt says of its first folder or name."""
+    name = re.split(r"[/.]", file)[0]
+    return re.search(rf"^pub (mod|use) {name}\b", read(os.path.join(folder, "src", "lib.rt")), re.M) is not None or file == "lib.rt"
+
+
+def functions(text):
+    """The functions of a file: name, whether it is public, where its head and its body begin and where it ends, and the impl that it stands in."""
+    found = []
+    for head in HEAD.finditer(text):
+        indent = head["indent"].replace("\n", "")
+        end = re.compile(rf"^{indent}}}|^{indent}\{{\}}", re.M).search(text, head.end())
+        owner = ""
+        for impl in re.finditer(r"^impl(?:<[^{]*?>)? (?:[\w:<>', ]+ for )?(?P<type>\w+)[^\n]*\{", text[: head.start()], re.M):
+            if indent:
+                owner = impl["type"]
+        is_public = head["pub"] == "pub "
+        if indent and re.search(rf"^impl[^\n]* for {owner}\b", text[: head.start()], re.M):
+            last = [it for it in re.finditer(r"^impl[^\n]*\{", text[: head.start()], re.M)][-1][0]
+            if " for " in last:
+                is_public = False
+        found.append({"name": head["name"], "public": is_public, "start": head.start(), "end": end.end() if end else len(text), "owner": owner})
+    return found
+
+
+def clauses(text, it):
+    body = text[it["start"] : it["end"]]
+    named = re.findall(r"^\s*ensures\*? ?(\w+)? ?\{", body, re.M)
+    return [name or "ensures" for name in named]
+
+
+def edits_of(folder):
+    """Of each edit, where its first change of code stands: the file and the place."""
+    listed = []
+    room = os.path.join(folder, "must-fail")
+    for name in sorted(os.listdir(room)) if os.path.isdir(room) else []:
+        path = ""
+        for line in read(os.path.join(room, name)).split("\n"):
+            if line.startswith("file: "):
+                path = line[6:].strip()
+            elif line.startswith("old: ") and path.endswith(".rt"):
+                text = read(os.path.join(folder, path))
+                listed.append((name.removesuffix(".edit"), path, text.find(line[5:])))
+    return listed
+
+
+def reached(names, bodies, start):
+    """All functions of the file that these bodies call, by name, the first one too."""
+    seen, todo = {start}, [start]
+    while todo:
+        body = bodies.get(todo.pop(), "")
+        for name in names:
+            if name not in seen and re.search(rf"\b{name}\(", body):
+                seen.add(name)
+                todo.append(name)
+    return seen
+
+
+def tests_by_name():
+    """For each crate, the text of each test with its helpers' texts: (crate, test, text)."""
+    found = []
+    for crate in sorted(os.listdir(os.path.join(ROOT, "crates"))):
+        for file in sources(os.path.join(ROOT, "crates", crate)):
+            text = read(os.path.join(ROOT, "crates", crate, "src", file))
+            if "#[test]" not in text:
+                continue
+            listed = functions(text)
+            bodies = {it["name"]: text[it["start"] : it["end"]] for it in listed}
+            for it in listed:
+                if re.search(r"#\[test\][^\n]*\n(?:\s*(?:#|//|ghost)[^\n]*\n)*\s*$", text[: it["start"] + 1] + "\n") or "#[test]" in text[max(0, it["start"] - 200) : it["start"]].rsplit("}", 1)[-1]:
+                    whole = "\n".join(bodies[name] for name in reached(set(bodies), bodies, it["name"]) if name in bodies)
+                    found.append((crate, it["name"], whole))
+    return found
+
+
+def rows():
+    tests = tests_by_name()
+    for line in read(os.path.join(ROOT, "crates.txt")).split("\n"):
+        crate = line.partition(":")[0].strip()
+        folder = os.path.join(ROOT, "crates", crate)
+        if line.startswith("#") or not os.path.isfile(os.path.join(folder, "src", "lib.rt")):
+            continue
+        edits = edits_of(folder)
+        for file in sources(folder):
+            if "tests" in file or not is_open(folder, file):
+                continue
+            text = read(os.path.join(folder, "src", file))
+            if text.startswith("#![cfg(test)]"):
+                continue
+            listed = functions(text)
+            names = {it["name"] for it in listed}
+            bodies = {it["name"]: text[it["start"] : it["end"]] for it in listed}
+            for it in listed:
+                if not it["public"]:
+                    continue
+                mine = reached(names, bodies, it["name"])
+                spans = [(f["start"], f["end"]) for f in listed if f["name"] in mine]
+                caught = [name for name, path, at in edits if path == f"src/{file}" and any(a <= at < b for a, b in spans)]
+                called = [f"{owner}::{name}" for owner, name, whole in tests if re.search(rf"\b{it['name']}\(", whole)]
+                own = [name for name in called if name.startswith(f"{crate}::")]
+                is_law = bool(re.search(r"\{\}\s*$", bodies[it["name"]]))
+                yield crate, file, it, clauses(text, it), list(dict.fromkeys(caught)), own or called, is_law
+
+
+def main():
+    only_missing = "--missing" in sys.argv
+    last, lacking = "", 0
+    for crate, file, it, said, caught, called, is_law in rows():
+        name = f"{it['owner']}::{it['name']}" if it["owner"] else f"{file.removesuffix('.rt')}::{it['name']}"
+        lacks = [what for what, has in (("clause", said), ("edit", caught or is_law), ("test", called or is_law)) if not has]
+        lacking += bool(lacks)
+        if only_missing:
+            if lacks:
+                print(f"{crate} {name}: no {', no '.join(lacks)}")
+            continue
+        if crate != last:
+            print(f"\n## `{crate}`\n\n| Public function | Clauses | Must-fail edits | Test |\n|---|---|---|---|")
+            last = crate
+        told = "a law" if is_law else ", ".join(caught[:3])
+        test = "" if is_law else called[0].replace(f"{crate}::", "") if called else ""
+        print(f"| `{name}` | {', '.join(said)} | {told} | {test} |")
+    return 1 if only_missing and lacking else 0
+
+
+if __name__ == "__main__":
+    sys.exit(main())
