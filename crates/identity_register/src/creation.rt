@@ -48,9 +48,10 @@ pub fn create<S: Alter + Drop>(
     requires rests { Rests (state S.Store conn) }
     requires frame { IsTrue (is_good_frame frame.now) }
     requires info { IsFitInfo info.now.depth info.now.loan }
-    ensures made { IsBlank no_schema (state S.Store conn).now → IfOk result (λ made. HasCleanDisk (state S.Store made)
+    ensures made { (HasCleanDisk (state S.Store conn) → IsBlank no_schema (state S.Store conn).now) → IfOk result (λ made. HasCleanDisk (state S.Store made)
         → Keeps frame.now (new_package info.now.package info.now.parent info.now.depth info.now.loan) (state S.Store made)) }
-    ensures rests { IsBlank no_schema (state S.Store conn).now → IfOk result (λ made. Rests (state S.Store made)) }
+    ensures rests { IfOk result (λ made. Rests (state S.Store made)) }
+    ensures clean { IfOk result (λ made. HasCleanDisk (state S.Store made) → HasCleanDisk (state S.Store conn)) }
 {
     fits(info.package);
     fits_if_there(info.parent);
