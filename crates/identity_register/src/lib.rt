@@ -11,6 +11,7 @@ mod creation_tests;
 pub mod dating;
 #[cfg(test)]
 mod dating_tests;
+pub mod fitting;
 pub mod laws;
 #[cfg(test)]
 mod look_up_tests;
