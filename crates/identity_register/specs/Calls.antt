@@ -1,8 +1,10 @@
 -- What a call on a store makes of the package that it reads as, and what it answers of it.
-use Rattle.std.specs.Prelude.{◌≡◌}
+use Rattle.std.specs.Prelude.{◌≡◌, ℕ, List}
 use Rattle.sqlite.specs.Effect.{Database}
 use Rattle.sheet_types.specs.World.{Package}
 use Rattle.sheet_types.specs.declared.frame.Frame.{Frame}
+use Rattle.package_tables.specs.Fixed.{contents_of}
+use Rattle.package_tables.specs.Package.{tables_of}
 use Rattle.identity_register.specs.Reads.{Reads}
 
 -- A store that reads as a package which fits reads as the changed one afterwards.
@@ -12,3 +14,7 @@ Becomes Fits after old new = (f : Frame) (p : Package) → Reads f p old → Fit
 -- The store is the same, and this is what it answers of its package.
 abbrev pub Sees : {X : Type 0} → (Frame → Package → X → Type 0) → X → Database → Database → Type 0
 Sees Answer x old new = (new ≡ old) × ((f : Frame) (p : Package) → Reads f p old → Answer f p x)
+
+-- A store that reads as a package reads as the same one, and its tables say what they said, but that this is the moment of the last change in each row of the contents.
+abbrev pub Dates : List ℕ → Database → Database → Type 0
+Dates at old new = (f : Frame) (p : Package) → Reads f p old → Reads f p new × (tables_of new ≡ record (tables_of old) { contents = contents_of f at })

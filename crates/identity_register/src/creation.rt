@@ -1,40 +1,21 @@
 // A package that comes into being.
-ghost use Rattle.std.specs.Prelude.{◌≡◌, true, IfOk, IsTrue};
+ghost use Rattle.std.specs.Prelude.{IfOk, IsTrue};
 ghost use Rattle.sqlite.specs.State.{HasCleanDisk};
 ghost use Rattle.sqlite.specs.Held.{state};
-ghost use Rattle.sheet_types.specs.Lines.{IsUuid};
 ghost use Rattle.sheet_types.specs.Matrix.{is_good_frame};
 ghost use Rattle.sql_meaning.specs.Blank.{IsBlank, no_schema};
 ghost use Rattle.sql_meaning.specs.Transactions.{Rests};
 ghost use Rattle.package_tables.specs.Creation.{IsFitInfo};
 ghost use Rattle.identity_register.specs.Creation.{new_package, Keeps};
-ghost use Rattle.identity_register.specs.Reads.{is_fit_end};
 
+use crate::fitting::{fits, fits_if_there};
 use package_tables::create::{Info, create as create_tables};
 use package_tables::fault::Fault;
 use sheet_types::frame::Frame;
 use sqlite::{Alter, Connection};
 use std::alloc::Global;
-use uuid::Uuid;
 
-// Each `Uuid` has sixteen bytes, since its text reads back as it.
-fn fits(id: Uuid)
-    ensures { IsUuid id }
-{
-    let mut buffer = Uuid::encode_buffer();
-    let _text = id.hyphenated().encode_lower(&mut buffer);
-}
-
-// So has one that may be missing, where it is there.
-fn fits_if_there(id: Option<Uuid>)
-    ensures { is_fit_end id ≡ true }
-{
-    if let Some(id) = id {
-        fits(id);
-    }
-}
-
-/// Makes the package that a head tells, with no items, no links and no receipts, in a store that is blank.
+/// Makes the package that a head tells, with no items, no links and no receipts, in a store that is blank where its disk is clean.
 ///
 /// # Errors
 ///
@@ -48,9 +29,10 @@ pub fn create<S: Alter + Drop>(
     requires rests { Rests (state S.Store conn) }
     requires frame { IsTrue (is_good_frame frame.now) }
     requires info { IsFitInfo info.now.depth info.now.loan }
-    ensures made { IsBlank no_schema (state S.Store conn).now → IfOk result (λ made. HasCleanDisk (state S.Store made)
+    ensures made { (HasCleanDisk (state S.Store conn) → IsBlank no_schema (state S.Store conn).now) → IfOk result (λ made. HasCleanDisk (state S.Store made)
         → Keeps frame.now (new_package info.now.package info.now.parent info.now.depth info.now.loan) (state S.Store made)) }
-    ensures rests { IsBlank no_schema (state S.Store conn).now → IfOk result (λ made. Rests (state S.Store made)) }
+    ensures rests { IfOk result (λ made. Rests (state S.Store made)) }
+    ensures clean { IfOk result (λ made. HasCleanDisk (state S.Store made) → HasCleanDisk (state S.Store conn)) }
 {
     fits(info.package);
     fits_if_there(info.parent);

@@ -8,6 +8,10 @@ pub mod changes;
 pub mod creation;
 #[cfg(test)]
 mod creation_tests;
+pub mod dating;
+#[cfg(test)]
+mod dating_tests;
+pub mod fitting;
 pub mod laws;
 #[cfg(test)]
 mod look_up_tests;

@@ -8,7 +8,6 @@ use Rattle.sheet_types.specs.declared.frame.Frame.{Frame}
 use Rattle.package_tables.specs.Entries.{AddsHead}
 use Rattle.package_tables.specs.declared.rows.HeadRow.{HeadRow}
 use Rattle.package_tables.proofs.InTurn.{tables_weaker}
-use Rattle.sql_meaning.specs.Blank.{IsBlank, no_schema}
 use Rattle.sql_meaning.specs.Transactions.{Made, Steps}
 use Rattle.sql_meaning.proofs.Transactions.{steps_then, steps_weaker}
 use Rattle.package_tables.specs.Shapes.{head_shape}
@@ -16,26 +15,25 @@ use Rattle.package_tables.specs.Package.{Tables}
 use Rattle.package_tables.specs.Calls.{OnTables}
 use Rattle.package_tables.specs.SchemaMade.{IsNewPackage, BecomesPackage}
 use Rattle.package_tables.specs.SchemaMaking.{ChangedInside}
-use Rattle.package_tables.specs.Creation.{Says, Becomes, no_rows, fixed_tables, new_tables}
+use Rattle.package_tables.specs.Creation.{Says, Fills, Becomes, no_rows, fixed_tables, new_tables}
 
 -- a new package holds nothing
 pub new_says : (db : Database) → IsNewPackage db → Says db no_rows
 new_says db h = record { formed = h.formed; says = h.says }
 
 -- the making of the schema, as steps
-pub schema_steps : {X E : Type 0} {old new : State} {r : Result X E} → IsBlank no_schema old.now
-    → (HasCleanDisk new → old.in_transaction ≡ true → OnOk r (ChangedInside BecomesPackage old new)) → (HasCleanDisk new → KeepsCommit old new) → Survives old new (λ _. ⊥)
-    → Steps (λ _ _ db. Says db no_rows) old new r
-schema_steps {X} {E} {old} {new} {r} blank made kept survives = record { made = λ clean inside. at r (made clean inside) (kept clean); survives = survives }
+pub schema_steps : {X E : Type 0} {old new : State} {r : Result X E} → (HasCleanDisk new → old.in_transaction ≡ true → OnOk r (ChangedInside BecomesPackage old new)) → (HasCleanDisk new → KeepsCommit old new) → Survives old new (λ _. ⊥)
+    → Steps (λ _. Fills no_rows) old new r
+schema_steps {X} {E} {old} {new} {r} made kept survives = record { made = λ clean inside. at r (made clean inside) (kept clean); survives = survives }
   where
-    at : (r : Result X E) → OnOk r (ChangedInside BecomesPackage old new) → KeepsCommit old new → Made (λ _ _ db. Says db no_rows) old new r
-    at (Ok x) it keeps = (it.shown.mode, keeps, new_says new.now (it.changed blank))
+    at : (r : Result X E) → OnOk r (ChangedInside BecomesPackage old new) → KeepsCommit old new → Made (λ _. Fills no_rows) old new r
+    at (Ok x) it keeps = (it.shown.mode, keeps, λ blank. new_says new.now (it.changed blank))
     at (Err e) it keeps = keeps
 
 -- a change of tables that are known
-pub says_then : {X Y E F : Type 0} (t u : Tables) {old mid new : State} {x : X} {r : Result Y F} → Steps {E = E} (λ _ _ db. Says db t) old mid (Ok x) → Steps (λ _. OnTables (Becomes t u)) mid new r → Steps (λ _ _ db. Says db u) old new r
+pub says_then : {X Y E F : Type 0} (t u : Tables) {old mid new : State} {x : X} {r : Result Y F} → Steps {E = E} (λ _. Fills t) old mid (Ok x) → Steps (λ _. OnTables (Becomes t u)) mid new r → Steps (λ _. Fills u) old new r
 says_then {X} {Y} {E} {F} t u {old} {mid} {new} {x} {r} first next =
-    steps_weaker (λ _ _ db. Says db u) (λ y it. let both = it.2 it.1.formed in record { formed = both.0; says = both.1 it.1.says }) (steps_then {X = X} {E = E} {First = λ _ _ db. Says db t} {Next = λ _. OnTables (Becomes t u)} {x = x} first next)
+    steps_weaker (λ _. Fills u) (λ y it blank. let was = it.1 blank in let both = it.2 was.formed in record { formed = both.0; says = both.1 was.says }) (steps_then {X = X} {E = E} {First = λ _. Fills t} {Next = λ _. OnTables (Becomes t u)} {x = x} first next)
 
 -- the head comes to tables that have none
 pub head_becomes : {X E : Type 0} (f : Frame) (head : HeadRow) {old new : State} {r : Result X E} → Steps (λ _. OnTables (AddsHead head)) old new r → Steps (λ _. OnTables (Becomes (fixed_tables f head.created) (new_tables f head))) old new r

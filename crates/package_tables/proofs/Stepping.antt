@@ -1,9 +1,14 @@
 -- Calls on the tables as steps of a transaction.
 use Rattle.std.proofs.Common.{◌≡◌, true, Result, Ok, Err, IsTrue, ◌∙◌}
+use Rattle.std.specs.Prelude.{IsOk, MatchResult}
+use Rattle.sqlite.specs.Effect.{Database}
+use Rattle.sqlite.specs.declared.error.Error.{Error}
 use Rattle.sqlite.specs.State.{State, Survives}
 use Rattle.sql_meaning.specs.Transactions.{Made, Steps}
 use Rattle.sqlite.proofs.InsideLemmas.{unchanged_keeps}
 use Rattle.package_tables.specs.Package.{Tables}
+use Rattle.package_tables.specs.Faults.{fault_of}
+use Rattle.package_tables.specs.declared.fault.Fault.{Fault}
 use Rattle.package_tables.specs.Calls.{MakesInside, Makes, TellsInside, Tells, Answers, OnTables}
 
 -- a write
@@ -24,3 +29,13 @@ tells_steps {X} {E} Answer {old} {new} {r} tells survives = record { made = λ c
         inside_is : IsTrue old.in_transaction → old.in_transaction ≡ true
         inside_is h = h
     at (Err e) inside it = unchanged_keeps old new it
+
+-- the answer of a statement is handed on as one of this crate
+pub settled_steps : {X Y : Type 0} {Change : Database → Database → Type 0} {old new : State} {r : Result X Error} (s : Result Y Fault) → MatchResult r (λ _. IsOk s) (λ e. s ≡ Err (fault_of e)) → Steps (λ _. Change) old new r → Steps (λ _. Change) old new s
+settled_steps {X} {Y} {Change} {old} {new} {r} s settled h = record { made = λ clean inside. at r s settled (h.made clean inside); survives = h.survives }
+  where
+    at : (r : Result X Error) (s : Result Y Fault) → MatchResult r (λ _. IsOk s) (λ e. s ≡ Err (fault_of e)) → Made (λ _. Change) old new r → Made (λ _. Change) old new s
+    at (Ok x) (Ok y) settled it = it
+    at (Ok x) (Err f) settled it = absurd (let k = settled in cc)
+    at (Err e) (Ok y) settled it = absurd (let k = settled in cc)
+    at (Err e) (Err f) settled it = it

@@ -2,6 +2,7 @@
 use Rattle.std.specs.Prelude.{◌≡◌, ℕ, ◌≤◌, pos, List, [], ◌∷◌, Option}
 use Rattle.std.specs.Option.{option_map_or}
 use Rattle.sqlite.specs.Effect.{Database}
+use Rattle.sql_meaning.specs.Blank.{IsBlank, no_schema}
 use Rattle.sheet_types.specs.Texts.{uuid_text}
 use Rattle.sheet_types.specs.declared.frame.Frame.{Frame}
 use Rattle.package_tables.specs.Package.{Tables, tables_of, AreFormed}
@@ -33,6 +34,10 @@ new_tables f head = record (fixed_tables f head.created) { heads = head ∷ [] }
 pub record Says (db : Database) (t : Tables) : Type 0 where
   pub formed : AreFormed db
   pub says : tables_of db ≡ t
+
+-- a database that was blank says this
+abbrev pub Fills : Tables → Database → Database → Type 0
+Fills t old new = IsBlank no_schema old → Says new t
 
 -- tables that said the first say the second
 abbrev pub Becomes : Tables → Tables → Tables → Tables → Type 0

@@ -9,7 +9,7 @@ ghost use Rattle.sql_meaning.specs.Blank.{IsBlank, no_schema};
 ghost use Rattle.sql_meaning.specs.Transactions.{Rests, Holds, Steps, Turns};
 ghost use Rattle.package_tables.specs.Calls.{OnTables};
 ghost use Rattle.package_tables.specs.Entries.{AddsHead};
-ghost use Rattle.package_tables.specs.Creation.{head_of, new_tables, Says, IsFitInfo};
+ghost use Rattle.package_tables.specs.Creation.{head_of, new_tables, Says, Fills, IsFitInfo};
 
 use crate::fault::Fault;
 use crate::fixed_rows::insert_fixed;
@@ -78,7 +78,7 @@ fn fill<S: Alter>(
     requires frame { IsTrue (is_good_frame frame.now) }
     requires info { IsFitInfo info.now.depth info.now.loan }
     ensures same_reference { tx.new.conn.ghost_name ≡ tx.old.conn.ghost_name }
-    ensures steps { IsBlank no_schema (state S.Store tx.old.conn.now).now → Steps (λ _ _ new. Says new (new_tables frame.now (head_of info.now.package info.now.parent info.now.depth info.now.loan info.now.created.now))) (state S.Store tx.old.conn.now) (state S.Store tx.new.conn.now) result }
+    ensures steps { Steps (λ _. Fills (new_tables frame.now (head_of info.now.package info.now.parent info.now.depth info.now.loan info.now.created.now))) (state S.Store tx.old.conn.now) (state S.Store tx.new.conn.now) result }
 {
     create_schema(tx)?;
     insert_fixed(alloc, tx, frame, info.created)?;
@@ -95,7 +95,7 @@ fn make<S: Alter>(
     requires rests { Rests (state S.Store conn.old) }
     requires frame { IsTrue (is_good_frame frame.now) }
     requires info { IsFitInfo info.now.depth info.now.loan }
-    ensures turns { IsBlank no_schema (state S.Store conn.old).now → Turns (λ _ _ new. Says new (new_tables frame.now (head_of info.now.package info.now.parent info.now.depth info.now.loan info.now.created.now))) (state S.Store conn.old) (state S.Store conn.new) result }
+    ensures turns { Turns (λ _. Fills (new_tables frame.now (head_of info.now.package info.now.parent info.now.depth info.now.loan info.now.created.now))) (state S.Store conn.old) (state S.Store conn.new) result }
 {
     let mut tx = conn.transaction();
     fill(alloc, &mut tx, frame, info)?;
@@ -117,9 +117,10 @@ pub fn create<S: Alter + Drop>(
     requires rests { Rests (state S.Store conn) }
     requires frame { IsTrue (is_good_frame frame.now) }
     requires info { IsFitInfo info.now.depth info.now.loan }
-    ensures made { IsBlank no_schema (state S.Store conn).now → IfOk result (λ made. HasCleanDisk (state S.Store made.conn)
+    ensures made { (HasCleanDisk (state S.Store conn) → IsBlank no_schema (state S.Store conn).now) → IfOk result (λ made. HasCleanDisk (state S.Store made.conn)
         → Says (state S.Store made.conn).now (new_tables frame.now (head_of info.now.package info.now.parent info.now.depth info.now.loan info.now.created.now)) × Holds (state S.Store made.conn) (state S.Store made.conn).now) }
-    ensures rests { IsBlank no_schema (state S.Store conn).now → IfOk result (λ made. Rests (state S.Store made.conn)) }
+    ensures rests { IfOk result (λ made. Rests (state S.Store made.conn)) }
+    ensures clean { IfOk result (λ made. HasCleanDisk (state S.Store made.conn) → HasCleanDisk (state S.Store conn)) }
 {
     make(alloc, &mut conn, frame, info)?;
     Ok(Package { conn })

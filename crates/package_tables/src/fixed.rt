@@ -3,8 +3,8 @@ ghost use Rattle.std.specs.Prelude.{◌≡◌, true};
 ghost use Rattle.std.specs.Ordering.{on, int_cmp};
 ghost use Rattle.sqlite.specs.State.{Survives};
 ghost use Rattle.sqlite.specs.Held.{state};
-ghost use Rattle.sql_meaning.specs.Transactions.{Rests};
-ghost use Rattle.package_tables.specs.Calls.{Makes, LooksUp, AreThose, AreAll};
+ghost use Rattle.sql_meaning.specs.Transactions.{Rests, Steps};
+ghost use Rattle.package_tables.specs.Calls.{Makes, LooksUp, AreThose, AreAll, OnTables};
 ghost use Rattle.package_tables.specs.Entries.{AddsSpatialRefSys, AddsContents, AddsTileMatrixSet, AddsTileMatrix, AddsRelation, SetsLastChange};
 ghost use Rattle.sheet_types.specs.Ordered.{IsArranged};
 ghost use Rattle.package_tables.specs.Package.{tables_of};
@@ -167,6 +167,7 @@ pub fn set_last_change<S: Alter>(
 ) -> Result<(), Fault>
     ensures same_reference { tx.new.conn.ghost_name ≡ tx.old.conn.ghost_name }
     ensures wrote { IsArranged contents_shape.key (tables_of (state S.Store tx.old.conn.now).now).contents → Makes (SetsLastChange at.now table_name.now) (state S.Store tx.old.conn.now) (state S.Store tx.new.conn.now) result }
+    ensures steps { Steps (λ _ old new. IsArranged contents_shape.key (tables_of old).contents → OnTables (SetsLastChange at.now table_name.now) old new) (state S.Store tx.old.conn.now) (state S.Store tx.new.conn.now) result }
     ensures survives { Survives (state S.Store tx.old.conn.now) (state S.Store tx.new.conn.now) (λ _. ⊥) }
 {
     settled(tx.execute(

@@ -1,6 +1,7 @@
 // The first member of a world: the archive, with nothing in it.
 ghost use Rattle.std.specs.Prelude.{◌≡◌, ◌<◌, ◌≤◌, ◌+◌, [], ◌∷◌, ◌++◌, IfOk, IsTrue, length, vec_len, vec_capacity};
 ghost use Rattle.sqlite.specs.Held.{state};
+ghost use Rattle.sqlite.specs.State.{HasCleanDisk};
 ghost use Rattle.sqlite.specs.Steps.{over_memory};
 ghost use Rattle.sheet_types.specs.Matrix.{is_good_frame};
 ghost use Rattle.sheet_types.specs.World.{new_world};
@@ -8,9 +9,9 @@ ghost use Rattle.sql_meaning.specs.Blank.{IsBlank, no_schema};
 ghost use Rattle.world.specs.Members.{AllRest, AllClean, AreMembers};
 
 use crate::asking::is_at_rest;
-use crate::deciding::fits;
 use crate::members::Member;
 use identity_register::creation::create;
+use identity_register::fitting::fits;
 use package_tables::create::Info;
 use package_tables::fault::Fault;
 use sheet_types::frame::{Frame, FrameFault};
@@ -66,7 +67,7 @@ pub fn blank_in_memory(alloc: Global) -> Result<Connection<MemStore>, Fault>
     Ok(Connection::open_in_memory(alloc)?)
 }
 
-/// The archive alone, in a store that is blank. Its place among the members is there before anything is written.
+/// The archive alone, in a store that is blank where its disk is clean. Its place among the members is there before anything is written.
 pub fn archive_alone<S: Alter + Drop>(
     alloc: Global,
     conn: Connection<S>,
@@ -74,10 +75,11 @@ pub fn archive_alone<S: Alter + Drop>(
     at: &str,
     frame: &Frame,
 ) -> Result<Vec<Member<S>>, Fault>
-    requires blank { IsBlank no_schema (state S.Store conn).now }
+    requires blank { HasCleanDisk (state S.Store conn) → IsBlank no_schema (state S.Store conn).now }
     requires good { IsTrue (is_good_frame frame.now) }
     ensures rests { IfOk result (λ members. AllRest S.Store members.items) }
     ensures one { IfOk result (λ members. length members.items ≡ 1) }
+    ensures clean { IfOk result (λ members. AllClean S.Store members.items → HasCleanDisk (state S.Store conn)) }
     ensures made { IfOk result (λ members. AllClean S.Store members.items → AreMembers S.Store members.items 0 (new_world archive frame.now)) }
 {
     if !is_at_rest(&conn) {

@@ -2,7 +2,7 @@
 ghost use Rattle.std.specs.Prelude.{◌≡◌, ◌<◌, ◌≤◌, ◌+◌, IsTrue, None, Some, Ok, Err, IfOk, length, slice_get, bytes_eq, false, if◌then◌else◌};
 ghost use Rattle.std.specs.Option.{option_map_or};
 ghost use Rattle.sheet_types.specs.Custody.{kept, is_used};
-ghost use Rattle.sheet_types.specs.Lines.{IsUuid, HasTypes};
+ghost use Rattle.sheet_types.specs.Lines.{HasTypes};
 ghost use Rattle.sheet_types.specs.Matrix.{is_good_frame};
 ghost use Rattle.sheet_types.specs.Refuse.{identity_used};
 ghost use Rattle.sheet_types.specs.Step.{receipt_of};
@@ -21,6 +21,7 @@ use crate::receipts::receipt_over;
 use crate::sums::{sums_after, sums_moved};
 use crate::texts::text_refusal;
 use crate::too_many::is_too_many;
+use identity_register::fitting::fits;
 use package_tables::fault::Fault;
 use sheet_types::command::{Command, Request};
 use sheet_types::frame::Frame;
@@ -103,15 +104,7 @@ fn is_used<S: Alter + Drop>(members: &mut Vec<Member<S>>, command: &Command) -> 
     }
 }
 
-// Each `Uuid` has sixteen bytes, since its text reads back as it (RFC 9562, section 4).
-pub(crate) fn fits(id: Uuid)
-    ensures { IsUuid id }
-{
-    let mut buffer = Uuid::encode_buffer();
-    let _text = id.hyphenated().encode_lower(&mut buffer);
-}
-
-// So the values of a served command are those of their types.
+// The values of a served command are those of their types.
 fn has_types(command: &Command)
     ensures { IsServed command.now → HasTypes command.now }
 {

@@ -2,6 +2,7 @@
 ghost use Rattle.std.specs.Prelude.{◌≡◌, true, false, Err, IfOk, OnErr, IsTrue};
 ghost use Rattle.std.specs.List.{AllByRecursion};
 ghost use Rattle.sqlite.specs.Held.{state};
+ghost use Rattle.sqlite.specs.State.{HasCleanDisk};
 ghost use Rattle.sheet_types.specs.World.{new_world};
 ghost use Rattle.sql_meaning.specs.Blank.{IsBlank, no_schema};
 ghost use Rattle.world.specs.Creating.{IsCreatedOrRefused};
@@ -50,7 +51,7 @@ impl<S: Alter + Drop> Model for World<S> {
 }
 
 impl<S: Alter + Drop> World<S> {
-    /// The world of an archive alone, with nothing in it, in a store that is blank. The moment is that of its making.
+    /// The world of an archive alone, with nothing in it, in a store that is blank where its disk is clean, as one over new files is. The moment is that of its making.
     ///
     /// # Errors
     ///
@@ -62,8 +63,9 @@ impl<S: Alter + Drop> World<S> {
         at: &str,
         frame: &Frame,
     ) -> Result<World<S>, CreateFault>
-        requires blank { IsBlank no_schema (state S.Store conn).now }
+        requires blank { HasCleanDisk (state S.Store conn) → IsBlank no_schema (state S.Store conn).now }
         ensures made { IfOk result (λ world. AllClean S.Store world.members → StandsFor S.Store world (new_world archive frame.now)) }
+        ensures clean { IfOk result (λ world. AllClean S.Store world.members → HasCleanDisk (state S.Store conn)) }
         ensures usable { IfOk result (λ world. world.has_failed ≡ false) }
         ensures refused { IsCreatedOrRefused frame.now at.now result }
     {

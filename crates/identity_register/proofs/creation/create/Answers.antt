@@ -6,3 +6,6 @@ returns-clause-made g c blank =
     let f = c.args.frame.now in
     let i = c.args.info.now in
     rw c.into_connection.ensures (λ clean. let made = c.in_ok-package.ensures.made blank clean in new_keeps f i.package i.parent i.depth i.loan i.created.now c.requires.frame c.fits.ensures c.fits_if_there.ensures _ made.0 made.1)
+
+pub returns-clause-clean : goal.returns-clause-clean
+returns-clause-clean g c = rw c.into_connection.ensures c.in_ok-package.ensures.clean

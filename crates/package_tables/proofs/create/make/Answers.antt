@@ -1,6 +1,4 @@
-use Rattle.std.proofs.Common.{◌≡◌, rules, sym, subst}
-use Rattle.sqlite.specs.Held.{state}
-use Rattle.sql_meaning.specs.Blank.{IsBlank, no_schema}
+use Rattle.std.proofs.Common.{◌≡◌, rules}
 use Rattle.sql_meaning.proofs.Transactions.{turn_dropped, turn_uncommitted, turn_committed}
 use Rattle.package_tables.proofs.create.make.Goals as goal
 
@@ -10,9 +8,7 @@ returns-in_err-fill g c =
     let same : c.drop-tx.new.self.0 ≡ c.conn-1.given.0 = search rules in
     let d = c.drop-tx.ensures in
     record {
-      turns = λ blank.
-          let begins = subst (λ h. IsBlank no_schema (state g.S.Store h).now) (sym c.transaction-tx.ensures.begun) blank in
-          turn_dropped g.S.Store g.met.S.Store.shut_if_dirty g.met.S.Store.settled last c.transaction-tx.ensures.begun same c.requires.rests _ c.from_residual.ensures.0 (c.fill.ensures.steps begins) d.undone d.survives d.ended;
+      turns = turn_dropped g.S.Store g.met.S.Store.shut_if_dirty g.met.S.Store.settled last c.transaction-tx.ensures.begun same c.requires.rests _ c.from_residual.ensures.0 c.fill.ensures.steps d.undone d.survives d.ended;
     }
 
 pub returns-in_err-commit : goal.returns-in_err-commit
@@ -21,9 +17,7 @@ returns-in_err-commit g c =
     let same : c.commit.new.self.0 ≡ c.conn-2-1.given.0 = search rules in
     let d = c.in_err-commit.ensures in
     record {
-      turns = λ blank.
-          let begins = subst (λ h. IsBlank no_schema (state g.S.Store h).now) (sym c.transaction-tx.ensures.begun) blank in
-          turn_uncommitted g.S.Store g.met.S.Store.shut_if_dirty g.met.S.Store.settled last c.transaction-tx.ensures.begun same c.requires.rests (c.in_ok-fill.ensures.steps begins) d.ended d.survives _ c.from_residual-in_err-commit.ensures.0 d.err;
+      turns = turn_uncommitted g.S.Store g.met.S.Store.shut_if_dirty g.met.S.Store.settled last c.transaction-tx.ensures.begun same c.requires.rests c.in_ok-fill.ensures.steps d.ended d.survives _ c.from_residual-in_err-commit.ensures.0 d.err;
     }
 
 pub returns : goal.returns
@@ -32,7 +26,5 @@ returns g c =
     let same : c.commit.new.self.0 ≡ c.conn-2-1.given.0 = search rules in
     let d = c.in_ok-commit.ensures in
     record {
-      turns = λ blank.
-          let begins = subst (λ h. IsBlank no_schema (state g.S.Store h).now) (sym c.transaction-tx.ensures.begun) blank in
-          turn_committed g.S.Store g.met.S.Store.shut_if_dirty g.met.S.Store.settled last c.transaction-tx.ensures.begun same c.requires.rests (c.in_ok-fill.ensures.steps begins) d.ended d.survives (λ clean. (d.ok clean).1);
+      turns = turn_committed g.S.Store g.met.S.Store.shut_if_dirty g.met.S.Store.settled last c.transaction-tx.ensures.begun same c.requires.rests c.in_ok-fill.ensures.steps d.ended d.survives (λ clean. (d.ok clean).1);
     }

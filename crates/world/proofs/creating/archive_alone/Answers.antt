@@ -1,7 +1,8 @@
 -- The store keeps the package that its head tells.
-use Rattle.std.proofs.Common.{◌≡◌, sym, subst, [], ◌∷◌, ◌++◌, ap, ◌∙◌}
+use Rattle.std.proofs.Common.{◌≡◌, ℕ, List, sym, subst, [], ◌∷◌, ◌++◌, ap, ◌∙◌}
 use Rattle.std.proofs.lemmas.List.Elements.{recursion_from_All}
-use Rattle.sqlite.specs.Held.{state}
+use Rattle.sqlite.specs.Store.{Ghosts}
+use Rattle.sqlite.specs.Held.{Held, state}
 use Rattle.sqlite.specs.State.{HasCleanDisk}
 use Rattle.sheet_types.specs.World.{new_world}
 use Rattle.world.specs.Members.{AllClean, AreMembers}
@@ -9,8 +10,21 @@ use Rattle.world.specs.declared.members.Member.{Member}
 use Rattle.world.proofs.Beginning.{first_member, alone}
 use Rattle.world.proofs.creating.archive_alone.Goals as goal
 
+-- the archive's own member is the only one
+one_member : {S : Type 0} (g : Ghosts S) (archive : List ℕ) (conn : Held S) (none all : List (Member S)) → none ≡ [] → all ≡ none ++ first_member g archive conn ∷ [] → all ≡ first_member g archive conn ∷ []
+one_member g archive conn none all empty is = is ∙ ap (λ ms. ms ++ first_member g archive conn ∷ []) empty
+
+-- so its disk is clean where all are
+its_disk : {S : Type 0} (g : Ghosts S) (archive : List ℕ) (conn : Held S) (all : List (Member S)) → all ≡ first_member g archive conn ∷ [] → AllClean g all → HasCleanDisk (state g conn)
+its_disk {S} g archive conn all one clean = (recursion_from_All (λ (m : Member S). HasCleanDisk (state g m.conn)) (first_member g archive conn ∷ []) (subst (AllClean g) one clean)).0
+
+pub returns-clause-clean : goal.returns-clause-clean
+returns-clause-clean g c = λ clean.
+    let one = one_member g.S.Store c.args.archive c.in_ok-conn.conn c.in_ok-members.members.items c.push_reserved.new.items.items c.in_ok-members.ensures.items c.push_reserved.ensures.items in
+    c.in_ok-conn.ensures.clean (its_disk g.S.Store c.args.archive c.in_ok-conn.conn c.push_reserved.new.items.items one clean)
+
 pub returns-clause-made : goal.returns-clause-made
 returns-clause-made g c = λ clean.
-    let one : c.push_reserved.new.items.items ≡ first_member g.S.Store c.args.archive c.in_ok-conn.conn ∷ [] = c.push_reserved.ensures.items ∙ ap (λ ms. ms ++ first_member g.S.Store c.args.archive c.in_ok-conn.conn ∷ []) c.in_ok-members.ensures.items in
-    let disk = (recursion_from_All (λ (m : Member g.row.S.Denot). HasCleanDisk (state g.S.Store m.conn)) (first_member g.S.Store c.args.archive c.in_ok-conn.conn ∷ []) (subst (AllClean g.S.Store) one clean)).0 in
+    let one = one_member g.S.Store c.args.archive c.in_ok-conn.conn c.in_ok-members.members.items c.push_reserved.new.items.items c.in_ok-members.ensures.items c.push_reserved.ensures.items in
+    let disk = its_disk g.S.Store c.args.archive c.in_ok-conn.conn c.push_reserved.new.items.items one clean in
     subst (λ ms. AreMembers g.S.Store ms 0 (new_world c.args.archive c.args.frame.now)) (sym one) (alone g.S.Store c.args.archive c.args.frame.now c.in_ok-conn.conn c.fits.ensures c.requires.good (c.in_ok-conn.ensures.made c.requires.blank disk))
