@@ -1,0 +1,51 @@
+//! A shelf of stores in memory.
+ghost use Rattle.std.specs.Prelude.{◌≡◌, IfOk, IfErr};
+ghost use Rattle.sqlite_disk.specs.Disk.{CountsFault};
+ghost use Rattle.sqlite.specs.Held.{state};
+ghost use Rattle.sqlite.specs.State.{HasCleanDisk};
+ghost use Rattle.sqlite.specs.Steps.{over_memory};
+ghost use Rattle.sql_meaning.specs.Blank.{IsBlank, no_schema};
+ghost use Rattle.shelves.specs.declared.shelf.ShelfFault.TheVariants.{OutOfMemory};
+
+use crate::shelf::{Shelf, ShelfFault};
+use sqlite::{Connection, MemStore};
+use std::alloc::Global;
+use uuid::Uuid;
+
+/// Each store is gone with its connection, so nothing stands under any UUID.
+#[derive(Drop)]
+pub struct MemoryShelf {
+    alloc: Global,
+    failures: u64,
+}
+
+impl MemoryShelf {
+    /// A shelf that has not failed.
+    pub fn new(alloc: Global) -> MemoryShelf
+        ensures { ⟦<MemoryShelf as Shelf<MemStore>>⟧.failures_of result ≡ 0 }
+    {
+        MemoryShelf { alloc, failures: 0 }
+    }
+}
+
+impl Shelf<MemStore> for MemoryShelf {
+    ghost failures_of = { λ shelf. shelf.failures };
+
+    fn blank(&mut self, _package: Uuid) -> Result<Connection<MemStore>, ShelfFault>
+        ensures blank { IfOk result (λ conn. HasCleanDisk (state over_memory conn) → IsBlank no_schema (state over_memory conn).now) }
+        ensures counts { CountsFault result self.old.failures self.new.failures }
+        ensures fault { IfErr result (λ fault. fault ≡ OutOfMemory) }
+    {
+        match Connection::open_in_memory(self.alloc) {
+            Ok(conn) => Ok(conn),
+            Err(_) => {
+                self.failures = self.failures.saturating_add(1);
+                Err(ShelfFault::OutOfMemory)
+            }
+        }
+    }
+
+    fn failures(&self) -> u64 {
+        self.failures
+    }
+}

@@ -1,0 +1,36 @@
+//! A shelf, as a register asks it for the store of a new package.
+ghost use Rattle.std.specs.Prelude.{◌≡◌, ℕ, IfOk};
+ghost use Rattle.sqlite_disk.specs.Disk.{CountsFault};
+ghost use Rattle.sqlite.specs.Held.{state};
+ghost use Rattle.sqlite.specs.State.{HasCleanDisk};
+ghost use Rattle.sql_meaning.specs.Blank.{IsBlank, no_schema};
+
+use sqlite::{Alter, Connection};
+use std::fmt;
+use thiserror::Error;
+use uuid::Uuid;
+
+/// Why a shelf has no store: a growth was refused, or the shelf itself failed.
+#[derive(Clone, Copy, PartialEq, Eq, Debug, Error)]
+pub enum ShelfFault {
+    #[error("OutOfMemory")]
+    OutOfMemory,
+    #[error("StoreFault")]
+    StoreFault,
+}
+
+/// Makes the stores of packages, one a UUID, and counts how often it could not.
+pub trait Shelf<S: Alter> {
+    /// How often it has failed.
+    ghost failures_of: { Self → ℕ };
+
+    /// An empty store in place of whatever stood under this UUID. Each fault is counted, of either
+    /// kind, and nothing else is. A count of 2^64 - 1 stays, and counts as risen.
+    fn blank(&mut self, package: Uuid) -> Result<Connection<S>, ShelfFault>
+        ensures blank { IfOk result (λ conn. HasCleanDisk (state S.Store conn) → IsBlank no_schema (state S.Store conn).now) }
+        ensures counts { CountsFault result (failures_of self.old) (failures_of self.new) };
+
+    /// How often `blank` has answered a fault.
+    fn failures(&self) -> u64
+        ensures { result ≡ failures_of self.now };
+}

@@ -1,0 +1,11 @@
+//! Worlds over disks that stop. There is nothing here but tests.
+#![tactic(auto)]
+
+#[cfg(test)]
+mod pictures;
+#[cfg(test)]
+mod requests;
+#[cfg(test)]
+mod runs;
+#[cfg(test)]
+mod stop_tests;
