@@ -2,6 +2,7 @@
 ghost use Rattle.std.specs.Prelude.{IfOk, IsTrue};
 ghost use Rattle.std.specs.List.{AllByRecursion};
 ghost use Rattle.sqlite.specs.Held.{state};
+ghost use Rattle.sqlite.specs.State.{HasCleanDisk};
 ghost use Rattle.sqlite.specs.Steps.{over_memory};
 ghost use Rattle.sql_meaning.specs.Blank.{IsBlank, no_schema};
 ghost use Rattle.world.specs.Laws.{IsServed};
@@ -13,7 +14,9 @@ use sheet_types::fingerprints::spell;
 use sheet_types::frame::{Frame, FrameFault};
 use sheet_types::receipt::{Moved, MovedKind, Receipt};
 use sheet_types::refusal::Refusal;
-use sqlite::{Alter, Connection, MemStore};
+use shelves::memory::MemoryShelf;
+use shelves::shelf::Shelf;
+use sqlite::{Connection, MemStore};
 use std::alloc::Global;
 use std::process::Abort;
 use std::test::Fail;
@@ -74,10 +77,12 @@ fn text(alloc: Global, s: &str) -> Result<Text, Fault> {
 }
 
 fn blank(alloc: Global) -> Result<Connection<MemStore>, Fault>
-    ensures { IfOk result (λ conn. IsBlank no_schema (state over_memory conn).now) }
+    ensures { IfOk result (λ conn. HasCleanDisk (state over_memory conn) → IsBlank no_schema (state over_memory conn).now) }
 {
-    let conn = Connection::open_in_memory(alloc)?;
-    Ok(conn)
+    match MemoryShelf::new(alloc).blank(archive()) {
+        Ok(conn) => Ok(conn),
+        Err(_) => Err(Fault::OutOfMemory),
+    }
 }
 
 // The reason why no world is made.
@@ -243,15 +248,15 @@ fn told(reply: &Result<Receipt, Refusal>) -> i64 {
     }
 }
 
-fn applied<S: Alter + Drop>(
-    world: &mut World<S>,
+fn applied(
+    world: &mut World<MemStore>,
     alloc: Global,
     request: &Request,
 ) -> Result<Result<Receipt, Refusal>, Fault> {
     if !is_served(&request.command) {
         return Err(Fault::StoreFault);
     }
-    Ok(world.apply(alloc, request))
+    Ok(world.apply(alloc, request, &mut MemoryShelf::new(alloc)))
 }
 
 // One after the other, in a world that begins with nothing.
@@ -275,15 +280,11 @@ fn requests(alloc: Global, steps: &[Step]) -> Result<Vec<Request>, Fault> {
 }
 
 // What is told of each request of a list.
-fn ran<S: Alter + Drop>(
-    world: &mut World<S>,
-    alloc: Global,
-    list: &Vec<Request>,
-) -> Result<Vec<i64>, Fault> {
+fn ran(world: &mut World<MemStore>, alloc: Global, list: &Vec<Request>) -> Result<Vec<i64>, Fault> {
     if !are_served(list) {
         return Err(Fault::StoreFault);
     }
-    let Ok(replies) = world.run(alloc, list.as_slice()) else {
+    let Ok(replies) = world.run(alloc, list.as_slice(), &mut MemoryShelf::new(alloc)) else {
         return Err(Fault::OutOfMemory);
     };
     let mut numbers = Vec::new(alloc);
@@ -293,9 +294,9 @@ fn ran<S: Alter + Drop>(
     Ok(numbers)
 }
 
-fn expect_ran<S: Alter + Drop>(
+fn expect_ran(
     rt: &impl Abort,
-    world: &mut World<S>,
+    world: &mut World<MemStore>,
     alloc: Global,
     steps: &[Step],
 ) -> Result<(), Fault> {
@@ -309,11 +310,7 @@ fn expect_ran<S: Alter + Drop>(
 }
 
 // The receipt of a request that is accepted, or was.
-fn received<S: Alter + Drop>(
-    world: &mut World<S>,
-    alloc: Global,
-    step: &Step,
-) -> Result<Receipt, Fault> {
+fn received(world: &mut World<MemStore>, alloc: Global, step: &Step) -> Result<Receipt, Fault> {
     let request = request(alloc, step)?;
     match applied(world, alloc, &request)? {
         Ok(receipt) => Ok(receipt),

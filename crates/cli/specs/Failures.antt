@@ -3,6 +3,8 @@ use Rattle.package_tables.specs.declared.fault.Fault.{Fault}
 use Rattle.package_tables.specs.declared.fault.Fault.TheVariants as fault
 use Rattle.manifest_csv.specs.declared.package_manifests.ManifestFault.{ManifestFault}
 use Rattle.manifest_csv.specs.declared.package_manifests.ManifestFault.TheVariants as manifest
+use Rattle.shelves.specs.declared.shelf.ShelfFault.{ShelfFault}
+use Rattle.shelves.specs.declared.shelf.ShelfFault.TheVariants as shelf
 use Rattle.cli.specs.declared.statuses.Failure.{Failure}
 use Rattle.cli.specs.declared.statuses.Failure.TheVariants.{OutOfMemory, StoreFault}
 
@@ -10,6 +12,11 @@ use Rattle.cli.specs.declared.statuses.Failure.TheVariants.{OutOfMemory, StoreFa
 abbrev pub of_fault : Fault → Failure
 of_fault fault.OutOfMemory = OutOfMemory
 of_fault fault.StoreFault = StoreFault
+
+-- of a shelf
+abbrev pub of_shelf : ShelfFault → Failure
+of_shelf shelf.OutOfMemory = OutOfMemory
+of_shelf shelf.StoreFault = StoreFault
 
 -- of a manifest. The packages that are named are live, so that an unknown one is a fault of the store
 abbrev pub of_manifest : ManifestFault → Failure

@@ -13,11 +13,13 @@ use manifest_csv::lists::ReadFault;
 use manifest_csv::package_manifests::write_manifest;
 use manifest_csv::sending::send;
 use sheet_types::refusal::Refusal;
+use shelves::memory::MemoryShelf;
+use shelves::shelf::Shelf;
 use sqlite::MemStore;
 use std::alloc::{AllocError, Global};
 use std::io::{Read, Write};
 use uuid::Uuid;
-use world::creating::{CreateFault, blank_in_memory};
+use world::creating::CreateFault;
 use world::world::World;
 
 /// Makes the archive that the words ask for in memory, imports the request list of the reader into it, and writes the report of the import and then, for each live package by its UUID, a line that names it and its manifest.
@@ -38,8 +40,12 @@ pub fn rehearse<R: Read + Drop, W: Write>(
 }
 
 /// The world that the words ask for.
-fn new_world(alloc: Global, rehearsal: &Rehearsal<'_>) -> Result<World<MemStore>, Failure> {
-    let conn = blank_in_memory(alloc)?;
+fn new_world(
+    alloc: Global,
+    rehearsal: &Rehearsal<'_>,
+    shelf: &mut MemoryShelf,
+) -> Result<World<MemStore>, Failure> {
+    let conn = shelf.blank(rehearsal.archive)?;
     match World::create(
         alloc,
         conn,
@@ -96,11 +102,12 @@ fn carried_out<R: Read + Drop, W: Write>(
     reader: R,
     writer: &mut W,
 ) -> Outcome {
-    let mut world = match new_world(alloc, rehearsal) {
+    let mut shelf = MemoryShelf::new(alloc);
+    let mut world = match new_world(alloc, rehearsal, &mut shelf) {
         Ok(world) => world,
         Err(failure) => return Outcome::Stopped(failure),
     };
-    if let Err(fault) = import(alloc, &mut world, reader, writer) {
+    if let Err(fault) = import(alloc, &mut world, &mut shelf, reader, writer) {
         return end_of_import(fault);
     }
     match write_packages(alloc, &mut world, writer) {

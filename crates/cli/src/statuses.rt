@@ -5,6 +5,7 @@ ghost use Rattle.cli.specs.Endings.{outcome_status, output_text, error_text};
 use manifest_csv::package_manifests::ManifestFault;
 use manifest_csv::sending::WriteFault;
 use package_tables::fault::Fault;
+use shelves::shelf::ShelfFault;
 use std::alloc::AllocError;
 use thiserror::Error;
 
@@ -55,6 +56,19 @@ impl From<Fault> for Failure {
         match fault {
             Fault::OutOfMemory => Failure::OutOfMemory,
             Fault::StoreFault => Failure::StoreFault,
+        }
+    }
+}
+
+impl From<ShelfFault> for Failure {
+    ghost use Rattle.cli.specs.Failures.{of_shelf};
+
+    ghost from_gives = { λ fault failure. failure ≡ of_shelf fault };
+
+    fn from(fault: ShelfFault) -> Failure {
+        match fault {
+            ShelfFault::OutOfMemory => Failure::OutOfMemory,
+            ShelfFault::StoreFault => Failure::StoreFault,
         }
     }
 }

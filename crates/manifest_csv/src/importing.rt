@@ -12,6 +12,7 @@ use sheet_types::command::Request;
 use sheet_types::error::OutOfMemory;
 use sheet_types::receipt::Receipt;
 use sheet_types::refusal::Refusal;
+use shelves::shelf::Shelf;
 use sqlite::Alter;
 use std::alloc::Global;
 use std::io::{Read, Write};
@@ -60,10 +61,11 @@ fn end_of(reply: &Result<Receipt, Refusal>) -> Option<Refusal>
 }
 
 /// Carries the requests out in their order, and writes the line of each before the next is carried out.
-fn report_each<S: Alter + Drop, W: Write>(
+fn report_each<S: Alter + Drop, H: Shelf<S>, W: Write>(
     alloc: Global,
     world: &mut World<S>,
     requests: &[Request],
+    shelf: &mut H,
     buffer: &mut String,
     writer: &mut W,
 ) -> Result<(), ImportFault>
@@ -73,7 +75,7 @@ fn report_each<S: Alter + Drop, W: Write>(
 {
     for at in 0..requests.len() {
         let request = &requests[at];
-        let reply = world.apply(alloc, request);
+        let reply = world.apply(alloc, request, shelf);
         put_line(buffer, at as u64 + 1, request.id, &reply);
         send(writer, buffer.as_bytes())?;
         if let Some(why) = end_of(&reply) {
@@ -83,14 +85,15 @@ fn report_each<S: Alter + Drop, W: Write>(
     Ok(())
 }
 
-/// Carries out the request list of a reader and writes the report of it. The whole list is read before anything is carried out, and room for the longest line is there before the first is written. A refusal is reported, and the import goes on.
+/// Carries out the request list of a reader and writes the report of it. The shelf gives the stores of the packages that a request makes. The whole list is read before anything is carried out, and room for the longest line is there before the first is written. A refusal is reported, and the import goes on.
 ///
 /// # Errors
 ///
 /// A list that is not read, a request that want of memory or a store stopped, or a writer that failed.
-pub fn import<S: Alter + Drop, R: Read + Drop, W: Write>(
+pub fn import<S: Alter + Drop, H: Shelf<S>, R: Read + Drop, W: Write>(
     alloc: Global,
     world: &mut World<S>,
+    shelf: &mut H,
     reader: R,
     writer: &mut W,
 ) -> Result<(), ImportFault>
@@ -101,5 +104,12 @@ pub fn import<S: Alter + Drop, R: Read + Drop, W: Write>(
         return Err(ImportFault::Unread(ReadFault::Memory));
     };
     send(writer, header_line().as_bytes())?;
-    report_each(alloc, world, requests.as_slice(), &mut buffer, writer)
+    report_each(
+        alloc,
+        world,
+        requests.as_slice(),
+        shelf,
+        &mut buffer,
+        writer,
+    )
 }

@@ -4,6 +4,7 @@ use crate::lists::ReadFault;
 use crate::package_manifests::write_manifest;
 use crate::test_worlds::{Narrow, archive, list, new_world, request};
 use sheet_types::receipt::Sums;
+use shelves::memory::MemoryShelf;
 use sqlite::MemStore;
 use std::alloc::Global;
 use std::io;
@@ -42,7 +43,7 @@ fn expect_import(
     report: &str,
 ) {
     let mut out: Vec<u8> = Vec::new(alloc);
-    let got = import(alloc, world, text, &mut out);
+    let got = import(alloc, world, &mut MemoryShelf::new(alloc), text, &mut out);
     assert_eq!(rt; out.as_slice(), report.as_bytes());
     assert!(rt; got == ended);
 }
@@ -278,7 +279,13 @@ fn a_reader_that_fails_after_a_good_list(rt: HostRuntime) -> Result<(), Fail> {
         at: 0,
     };
     let mut out: Vec<u8> = Vec::new(alloc);
-    let ended = import(alloc, &mut world, reader, &mut out);
+    let ended = import(
+        alloc,
+        &mut world,
+        &mut MemoryShelf::new(alloc),
+        reader,
+        &mut out,
+    );
     assert!(rt; ended == Err(ImportFault::Unread(ReadFault::Read)));
     assert!(rt; out.is_empty());
     expect_sums(&rt, &world, [0, 0, 0, 0, 0]);
@@ -422,7 +429,13 @@ fn writers_that_fail(rt: HostRuntime) -> Result<(), Fail> {
     for room in 0..111 {
         let mut world = new_world(alloc)?;
         let mut out = Narrow::new(alloc, room);
-        let ended = import(alloc, &mut world, text.as_bytes(), &mut out);
+        let ended = import(
+            alloc,
+            &mut world,
+            &mut MemoryShelf::new(alloc),
+            text.as_bytes(),
+            &mut out,
+        );
         assert!(rt; ended == Err(ImportFault::Unwritten));
         assert_eq!(rt; out.taken.as_slice(), &report[..room]);
         let tiles = carried_out(room);
@@ -437,11 +450,25 @@ fn a_list_again_after_a_writer_that_failed(rt: HostRuntime) -> Result<(), Fail> 
     let text = list(alloc, &TWO_TILES)?;
     let mut world = new_world(alloc)?;
     let mut out = Narrow::new(alloc, 30);
-    let ended = import(alloc, &mut world, text.as_bytes(), &mut out);
+    let ended = import(
+        alloc,
+        &mut world,
+        &mut MemoryShelf::new(alloc),
+        text.as_bytes(),
+        &mut out,
+    );
     assert!(rt; ended == Err(ImportFault::Unwritten));
     expect_sums(&rt, &world, [1, 0, 0, 0, 1]);
     let mut whole = Narrow::new(alloc, 111);
-    assert!(rt; import(alloc, &mut world, text.as_bytes(), &mut whole) == Ok(()));
+    assert!(rt;
+        import(
+            alloc,
+            &mut world,
+            &mut MemoryShelf::new(alloc),
+            text.as_bytes(),
+            &mut whole
+        ) == Ok(())
+    );
     assert_eq!(rt; whole.taken.as_slice(), REPORT_OF_TWO.as_bytes());
     expect_sums(&rt, &world, [2, 0, 0, 0, 2]);
     Ok(())

@@ -2,6 +2,7 @@
 use crate::importing::import;
 use crate::package_manifests::{ManifestFault, write_manifest};
 use crate::test_worlds::{Narrow, archive, list, new_world};
+use shelves::memory::MemoryShelf;
 use sqlite::MemStore;
 use std::alloc::Global;
 use std::test::Fail;
@@ -22,7 +23,13 @@ fn world_of_one_tile(alloc: Global) -> Result<World<MemStore>, Fail> {
         ],
     )?;
     let mut report: Vec<u8> = Vec::new(alloc);
-    match import(alloc, &mut world, text.as_bytes(), &mut report) {
+    match import(
+        alloc,
+        &mut world,
+        &mut MemoryShelf::new(alloc),
+        text.as_bytes(),
+        &mut report,
+    ) {
         Ok(()) => Ok(world),
         Err(_) => Err(Fail::new("an import")),
     }

@@ -1,11 +1,14 @@
 // What the tests of imports and manifests share: an archive in memory, lists, and a writer that fails.
 ghost use Rattle.std.specs.Prelude.{IfOk};
 ghost use Rattle.sqlite.specs.Held.{state};
+ghost use Rattle.sqlite.specs.State.{HasCleanDisk};
 ghost use Rattle.sqlite.specs.Steps.{over_memory};
 ghost use Rattle.sql_meaning.specs.Blank.{IsBlank, no_schema};
 
 use package_tables::fault::Fault;
 use sheet_types::frame::Frame;
+use shelves::memory::MemoryShelf;
+use shelves::shelf::Shelf;
 use sqlite::{Connection, MemStore};
 use std::alloc::{AllocError, Global};
 use std::io::{Error, ErrorKind, Result as IoResult, Write};
@@ -39,10 +42,13 @@ pub fn request(number: u8) -> Uuid {
 }
 
 // A store in memory that nothing is in yet.
-fn blank_store(alloc: Global) -> Result<Connection<MemStore>, AllocError>
-    ensures { IfOk result (λ conn. IsBlank no_schema (state over_memory conn).now) }
+fn blank_store(alloc: Global) -> Result<Connection<MemStore>, Fault>
+    ensures { IfOk result (λ conn. HasCleanDisk (state over_memory conn) → IsBlank no_schema (state over_memory conn).now) }
 {
-    Connection::open_in_memory(alloc)
+    match MemoryShelf::new(alloc).blank(archive()) {
+        Ok(conn) => Ok(conn),
+        Err(_) => Err(Fault::OutOfMemory),
+    }
 }
 
 /// An archive with nothing in it.

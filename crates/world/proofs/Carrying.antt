@@ -44,3 +44,11 @@ receipt_then r command first next =
     steps_weaker (λ _. Becomes (Fits r command) (after_command r command))
     (λ _ chain f p reads fits. chain.2 f (changed_by command p) (chain.1 f p reads fits.meets) (still_new r command p fits.receipt))
     (steps_then first next)
+
+-- and then its moment, which no package shows
+pub moment_then : {E F : Type 0} (r : Receipt) (command : Command) {old mid new : State} {x : Unit {0}} {q : Result (Unit {0}) F} → Steps {E = E} (λ _. Becomes (Fits r command) (after_command r command)) old mid (Ok x) → Steps (λ _. Becomes (λ _. Unit {0}) (λ p. p)) mid new q
+    → Steps (λ _. Becomes (Fits r command) (after_command r command)) old new q
+moment_then r command first next =
+    steps_weaker (λ _. Becomes (Fits r command) (after_command r command))
+    (λ _ chain f p reads fits. chain.2 f (after_command r command p) (chain.1 f p reads fits) tt)
+    (steps_then first next)

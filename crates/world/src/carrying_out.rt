@@ -14,6 +14,7 @@ ghost use Rattle.world.specs.Carrying.{Meets, changed_by, Fits, after_command};
 use custody::enter;
 use identity_register::additions::add;
 use identity_register::changes::{delete, link, unlink};
+use identity_register::dating::date_contents;
 use package_tables::fault::Fault;
 use sheet_types::command::{Command, Relation};
 use sheet_types::receipt::Receipt;
@@ -120,7 +121,7 @@ fn make_change<S: Alter>(tx: &mut Transaction<'_, S>, command: &Command) -> Resu
     }
 }
 
-/// Makes the change that a command asks for, and enters its receipt.
+/// Makes the change that a command asks for, enters its receipt, and makes the receipt's moment that of the last change.
 pub fn carry_out<S: Alter>(
     tx: &mut Transaction<'_, S>,
     command: &Command,
@@ -130,7 +131,8 @@ pub fn carry_out<S: Alter>(
     ensures steps { Steps (λ _. Becomes (Fits receipt.now command.now) (after_command receipt.now command.now)) (state S.Store tx.old.conn.now) (state S.Store tx.new.conn.now) result }
 {
     make_change(tx, command)?;
-    enter(tx, receipt)
+    enter(tx, receipt)?;
+    date_contents(tx, receipt.at.as_str())
 }
 
 /// Carries a command out in the store of its package, with its receipt, in one transaction.

@@ -2,7 +2,6 @@
 ghost use Rattle.std.specs.Prelude.{◌≡◌, ◌<◌, ◌≤◌, ◌+◌, [], ◌∷◌, ◌++◌, IfOk, IsTrue, length, vec_len, vec_capacity};
 ghost use Rattle.sqlite.specs.Held.{state};
 ghost use Rattle.sqlite.specs.State.{HasCleanDisk};
-ghost use Rattle.sqlite.specs.Steps.{over_memory};
 ghost use Rattle.sheet_types.specs.Matrix.{is_good_frame};
 ghost use Rattle.sheet_types.specs.World.{new_world};
 ghost use Rattle.sql_meaning.specs.Blank.{IsBlank, no_schema};
@@ -16,7 +15,7 @@ use package_tables::create::Info;
 use package_tables::fault::Fault;
 use sheet_types::frame::{Frame, FrameFault};
 use sheet_types::receipt::Sums;
-use sqlite::{Alter, Connection, MemStore};
+use sqlite::{Alter, Connection};
 use std::alloc::Global;
 use std::fmt;
 use uuid::Uuid;
@@ -58,13 +57,6 @@ pub(crate) fn room_for_one<T: Drop>(alloc: Global) -> Result<Vec<T>, Fault>
     ensures { IfOk result (λ room. (room.items ≡ []) × (1 ≤ vec_capacity room)) }
 {
     Ok(Vec::with_capacity(alloc, 1)?)
-}
-
-/// A blank store in memory, which is gone with its connection.
-pub fn blank_in_memory(alloc: Global) -> Result<Connection<MemStore>, Fault>
-    ensures { IfOk result (λ conn. IsBlank no_schema (state over_memory conn).now) }
-{
-    Ok(Connection::open_in_memory(alloc)?)
 }
 
 /// The archive alone, in a store that is blank where its disk is clean. Its place among the members is there before anything is written.

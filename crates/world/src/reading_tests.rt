@@ -6,7 +6,6 @@ ghost use Rattle.sql_meaning.specs.Transactions.{Rests};
 
 use crate::asking::are_at_rest;
 use crate::carrying_out::apply_to_package;
-use crate::creating::blank_in_memory;
 use crate::members::Member;
 use crate::reading::{PackageSight, holdings_in, sights_of, sums_in};
 use crate::world::World;
@@ -17,6 +16,8 @@ use sheet_types::collections::{Bytes, MovedList, Text};
 use sheet_types::command::{Command, Content, Item, Mapping, Relation, Request};
 use sheet_types::frame::Frame;
 use sheet_types::receipt::{Moved, MovedKind, Receipt, Sums};
+use shelves::memory::MemoryShelf;
+use shelves::shelf::Shelf;
 use sqlite::{Alter, Connection, MemStore};
 use std::alloc::Global;
 use std::test::Fail;
@@ -104,15 +105,16 @@ fn is_served(command: &Command) -> bool
 
 // An archive in memory, of package 1.
 fn archive(alloc: Global) -> Result<World<MemStore>, Fail> {
-    match World::create(alloc, blank_in_memory(alloc)?, package(1), AT, &FRAME) {
+    let conn = MemoryShelf::new(alloc).blank(package(1))?;
+    match World::create(alloc, conn, package(1), AT, &FRAME) {
         Ok(world) => Ok(world),
         Err(_) => Err(Fail::new("no world")),
     }
 }
 
 // The number of the receipt for a command.
-fn applied<S: Alter + Drop>(
-    world: &mut World<S>,
+fn applied(
+    world: &mut World<MemStore>,
     alloc: Global,
     number: u64,
     command: Command,
@@ -125,14 +127,14 @@ fn applied<S: Alter + Drop>(
     if !is_served(&request.command) {
         return Err(Fail::new("no command that is served"));
     }
-    match world.apply(alloc, &request) {
+    match world.apply(alloc, &request, &mut MemoryShelf::new(alloc)) {
         Ok(receipt) => Ok(receipt.seq),
         Err(_) => Err(Fail::new("a refusal")),
     }
 }
 
-fn added<S: Alter + Drop>(
-    world: &mut World<S>,
+fn added(
+    world: &mut World<MemStore>,
     alloc: Global,
     number: u64,
     content: Content,
@@ -145,8 +147,8 @@ fn added<S: Alter + Drop>(
     applied(world, alloc, number, command)
 }
 
-fn linked<S: Alter + Drop>(
-    world: &mut World<S>,
+fn linked(
+    world: &mut World<MemStore>,
     alloc: Global,
     number: u64,
     link: Relation,
@@ -195,7 +197,7 @@ fn are_links(links: &[Relation], expected: &[Relation]) -> bool {
 }
 
 // Four items and three links, added in another order than that in which they are told.
-fn filled<S: Alter + Drop>(world: &mut World<S>, alloc: Global) -> Result<u64, Fail> {
+fn filled(world: &mut World<MemStore>, alloc: Global) -> Result<u64, Fail> {
     added(world, alloc, 1, row(alloc, "mark")?)?;
     added(world, alloc, 3, medium(alloc, b"c")?)?;
     added(world, alloc, 2, medium(alloc, b"png")?)?;

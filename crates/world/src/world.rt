@@ -21,6 +21,7 @@ use sheet_types::frame::Frame;
 use sheet_types::moments::is_moment;
 use sheet_types::receipt::Receipt;
 use sheet_types::refusal::Refusal;
+use shelves::shelf::Shelf;
 use sqlite::{Alter, Connection};
 use std::alloc::Global;
 use std::marker::Model;
@@ -102,12 +103,17 @@ impl<S: Alter + Drop> World<S> {
 
     /// Carries one request out, or tells why not. A request that comes again, with its line, gets the receipt that it got, and nothing is changed.
     ///
-    /// So far it serves the commands that change one package: add, delete, link and unlink.
+    /// So far it serves the commands that change one package: add, delete, link and unlink. The shelf gives the store of a package that a command makes, and none of these makes one, so it is not asked.
     ///
     /// # Errors
     ///
     /// The first reason that holds, or, in place of any reply, want of memory or a store that failed. Nothing is changed then. The world has failed after any `StoreFault`, and after a commit that answered any error.
-    pub fn apply(&mut self, alloc: Global, request: &Request) -> Result<Receipt, Refusal>
+    pub fn apply<H: Shelf<S>>(
+        &mut self,
+        alloc: Global,
+        request: &Request,
+        _shelf: &mut H,
+    ) -> Result<Receipt, Refusal>
         requires served { IsServed request.now.command }
         ensures step { IsStep S.Store request.now self.old result self.new }
         ensures opens { StaysOpen S.Store self.old result self.new }
@@ -115,6 +121,7 @@ impl<S: Alter + Drop> World<S> {
         ensures unharmed { LeavesNoTrace S.Store self.old result self.new }
         ensures failed { self.old.has_failed ≡ true → (result ≡ Err StoreFault) × (self.new ≡ self.old) }
         ensures cause { result ≡ Err StoreFault → self.new.has_failed ≡ true }
+        ensures shelf { _shelf.new ≡ _shelf.old }
     {
         if self.has_failed {
             return Err(Refusal::StoreFault);
@@ -142,10 +149,11 @@ impl<S: Alter + Drop> World<S> {
     /// # Errors
     ///
     /// Want of memory for the replies. No request was carried out then.
-    pub fn run(
+    pub fn run<H: Shelf<S>>(
         &mut self,
         alloc: Global,
         requests: &[Request],
+        shelf: &mut H,
     ) -> Result<Vec<Result<Receipt, Refusal>>, OutOfMemory>
         requires served { AllByRecursion (λ q. IsServed q.command) requests.now }
         ensures ran { IfOk result (λ replies. IsRun S.Store requests.now self.old replies.items self.new) }
@@ -153,7 +161,7 @@ impl<S: Alter + Drop> World<S> {
     {
         let mut replies = Vec::with_capacity(alloc, requests.len())?;
         for request in requests {
-            let reply = self.apply(alloc, request);
+            let reply = self.apply(alloc, request, shelf);
             push_reserved(&mut replies, reply);
         }
         Ok(replies)
