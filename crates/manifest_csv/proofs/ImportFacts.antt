@@ -15,7 +15,7 @@ use Rattle.sheet_types.specs.declared.refusal.Refusal.{Refusal}
 use Rattle.world.specs.Laws.{IsServed}
 use Rattle.world.specs.Worlds.{Seen, IsStep, IsRun}
 use Rattle.world.proofs.Running.{run_none, run_more}
-use Rattle.manifest_csv.specs.Imports.{Ends, GoesOn, AreStopped, IsReported, IsImported, Imports, lines_before, report_before}
+use Rattle.manifest_csv.specs.Imports.{Ends, GoesOn, IsReported, IsImported, Imports, lines_before, report_before}
 use Rattle.manifest_csv.specs.Reports.{report_header, report_line, report_lines, report_of}
 use Rattle.manifest_csv.specs.RequestLists.{AreServed, IsList}
 use Rattle.manifest_csv.specs.Requests.{is_served}
