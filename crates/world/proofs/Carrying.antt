@@ -1,5 +1,5 @@
 -- A command's change and the entry of its receipt, as one change of the package.
-use Rattle.std.proofs.Common.{◌≡◌, Result, Ok, refl, sym, subst}
+use Rattle.std.proofs.Common.{◌≡◌, Result, Ok, refl, sym, ap, subst}
 use Rattle.sqlite.specs.State.{State}
 use Rattle.sql_meaning.specs.Transactions.{Steps}
 use Rattle.sql_meaning.proofs.Transactions.{steps_then, steps_weaker}
@@ -7,9 +7,10 @@ use Rattle.sheet_types.specs.World.{Package, with_receipt}
 use Rattle.sheet_types.specs.declared.command.Command.{Command}
 use Rattle.sheet_types.specs.declared.command.Command.TheVariants.{Add, Delete, Link, Unlink, Split, Merge}
 use Rattle.sheet_types.specs.declared.receipt.Receipt.{Receipt}
-use Rattle.identity_register.specs.Calls.{Becomes}
+use Rattle.package_tables.specs.Package.{Tables}
+use Rattle.identity_register.specs.Calls.{Becomes, Dates}
 use Rattle.custody.specs.Receipts.{IsNewReceipt}
-use Rattle.world.specs.Carrying.{Meets, changed_by, Fits, after_command}
+use Rattle.world.specs.Carrying.{Meets, changed_by, Fits, after_command, SaysMoment}
 use Rattle.world.specs.Laws.{CarriedOutInOne}
 
 -- ---- the model
@@ -45,7 +46,15 @@ receipt_then r command first next =
     (λ _ chain f p reads fits. chain.2 f (changed_by command p) (chain.1 f p reads fits.meets) (still_new r command p fits.receipt))
     (steps_then first next)
 
--- and then its moment, which no package shows
+-- and then its moment, which the contents say
+pub moment_said : {E F : Type 0} (r : Receipt) (command : Command) {old mid new : State} {x : Unit {0}} {q : Result (Unit {0}) F} → Steps {E = E} (λ _. Becomes (Fits r command) (after_command r command)) old mid (Ok x) → Steps (λ _. Dates r.at) mid new q
+    → Steps (λ _. SaysMoment r command) old new q
+moment_said r command first next =
+    steps_weaker (λ _. SaysMoment r command)
+    (λ _ chain f p reads fits. ap (λ (t : Tables). t.contents) (chain.2 f (after_command r command p) (chain.1 f p reads fits)).1)
+    (steps_then first next)
+
+-- and which no package shows
 pub moment_then : {E F : Type 0} (r : Receipt) (command : Command) {old mid new : State} {x : Unit {0}} {q : Result (Unit {0}) F} → Steps {E = E} (λ _. Becomes (Fits r command) (after_command r command)) old mid (Ok x) → Steps (λ _. Becomes (λ _. Unit {0}) (λ p. p)) mid new q
     → Steps (λ _. Becomes (Fits r command) (after_command r command)) old new q
 moment_then r command first next =

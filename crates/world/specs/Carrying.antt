@@ -1,9 +1,15 @@
 -- What a command that changes one package makes of it, with its receipt, and what has to hold of the package before. Profile.
+use Rattle.std.specs.Prelude.{◌≡◌}
+use Rattle.sqlite.specs.Effect.{Database}
 use Rattle.sheet_types.specs.World.{Package, with_receipt}
 use Rattle.sheet_types.specs.Step.{relation, added_item}
 use Rattle.sheet_types.specs.declared.command.Command.{Command}
 use Rattle.sheet_types.specs.declared.command.Command.TheVariants.{Add, Delete, Link, Unlink, Split, Merge}
+use Rattle.sheet_types.specs.declared.frame.Frame.{Frame}
 use Rattle.sheet_types.specs.declared.receipt.Receipt.{Receipt}
+use Rattle.package_tables.specs.Fixed.{contents_of}
+use Rattle.package_tables.specs.Package.{tables_of}
+use Rattle.identity_register.specs.Reads.{Reads}
 use Rattle.identity_register.specs.Changes.{IsNewItem, item_added, IsLooseItem, item_deleted, IsNewLink, link_added, IsLink, link_removed}
 use Rattle.custody.specs.Receipts.{IsNewReceipt}
 
@@ -33,3 +39,7 @@ pub record Fits (r : Receipt) (command : Command) (p : Package) : Type 0 where
 -- the package after the command, with the receipt
 abbrev pub after_command : Receipt → Command → Package → Package
 after_command r command p = with_receipt r (changed_by command p)
+
+-- and in a store that read as the package, the receipt's moment is that of the last change in each row of the contents (OGC GeoPackage 1.3, 1.1.3)
+abbrev pub SaysMoment : Receipt → Command → Database → Database → Type 0
+SaysMoment r command old new = (f : Frame) (p : Package) → Reads f p old → Fits r command p → (tables_of new).contents ≡ contents_of f r.at

@@ -9,7 +9,7 @@ ghost use Rattle.package_tables.specs.declared.fault.Fault.{Fault};
 ghost use Rattle.package_tables.specs.declared.fault.Fault.TheVariants.{OutOfMemory};
 ghost use Rattle.world.specs.Faults.{turn_refusal};
 ghost use Rattle.world.specs.declared.carrying_out.TurnFault.TheVariants.{Before, Committing};
-ghost use Rattle.world.specs.Carrying.{Meets, changed_by, Fits, after_command};
+ghost use Rattle.world.specs.Carrying.{Meets, changed_by, Fits, after_command, SaysMoment};
 
 use custody::enter;
 use identity_register::additions::add;
@@ -129,6 +129,7 @@ pub fn carry_out<S: Alter>(
 ) -> Result<(), Fault>
     ensures same_reference { tx.new.conn.ghost_name ≡ tx.old.conn.ghost_name }
     ensures steps { Steps (λ _. Becomes (Fits receipt.now command.now) (after_command receipt.now command.now)) (state S.Store tx.old.conn.now) (state S.Store tx.new.conn.now) result }
+    ensures dated { Steps (λ _. SaysMoment receipt.now command.now) (state S.Store tx.old.conn.now) (state S.Store tx.new.conn.now) result }
 {
     make_change(tx, command)?;
     enter(tx, receipt)?;
@@ -143,6 +144,7 @@ pub fn apply_to_package<S: Alter>(
 ) -> Result<(), TurnFault>
     requires { Rests (state S.Store conn.old) }
     ensures turns { Turns (λ _. Becomes (Fits receipt.now command.now) (after_command receipt.now command.now)) (state S.Store conn.old) (state S.Store conn.new) result }
+    ensures dated { Turns (λ _. SaysMoment receipt.now command.now) (state S.Store conn.old) (state S.Store conn.new) result }
     ensures was_open { IsTrue (state S.Store conn.new).is_open → IsTrue (state S.Store conn.old).is_open }
     ensures unharmed { (fault : Fault) → result ≡ Err (Before fault) → Survives (state S.Store conn.old) (state S.Store conn.new) (λ _. ⊥) }
 {
