@@ -10,6 +10,9 @@ abbrev pub fault_refusal : Fault → Refusal
 fault_refusal fault.OutOfMemory = OutOfMemory
 fault_refusal fault.StoreFault = StoreFault
 
+abbrev pub fault_in : TurnFault → Fault
+fault_in (Before fault) = fault
+fault_in (Committing fault) = fault
+
 abbrev pub turn_refusal : TurnFault → Refusal
-turn_refusal (Before fault) = fault_refusal fault
-turn_refusal (Committing fault) = fault_refusal fault
+turn_refusal turn = fault_refusal (fault_in turn)

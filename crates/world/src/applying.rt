@@ -36,7 +36,7 @@ fn carry_out_change<S: Alter + Drop>(
 }
 
 /// Serves one request of the commands that change one package. The count is that of all receipts. A refusal is a reply; what is an error here is a want of memory or a store that failed.
-pub fn serve<S: Alter + Drop>(
+pub(crate) fn serve<S: Alter + Drop>(
     members: &mut Vec<Member<S>>,
     frame: &Frame,
     count: &mut u64,

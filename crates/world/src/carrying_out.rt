@@ -7,7 +7,7 @@ ghost use Rattle.identity_register.specs.Calls.{Becomes};
 ghost use Rattle.package_tables.specs.Faults.{fault_of};
 ghost use Rattle.package_tables.specs.declared.fault.Fault.{Fault};
 ghost use Rattle.package_tables.specs.declared.fault.Fault.TheVariants.{OutOfMemory};
-ghost use Rattle.world.specs.Faults.{turn_refusal};
+ghost use Rattle.world.specs.Faults.{fault_in, turn_refusal};
 ghost use Rattle.world.specs.declared.carrying_out.TurnFault.TheVariants.{Before, Committing};
 ghost use Rattle.world.specs.Carrying.{Meets, changed_by, Fits, after_command, SaysMoment};
 
@@ -56,6 +56,8 @@ impl TurnFault {
 }
 
 impl From<TurnFault> for Fault {
+    ghost from_gives = { λ turn fault. fault ≡ fault_in turn };
+
     fn from(turn: TurnFault) -> Fault {
         match turn {
             TurnFault::Before(fault) | TurnFault::Committing(fault) => fault,
@@ -122,7 +124,7 @@ fn make_change<S: Alter>(tx: &mut Transaction<'_, S>, command: &Command) -> Resu
 }
 
 /// Makes the change that a command asks for, enters its receipt, and makes the receipt's moment that of the last change.
-pub fn carry_out<S: Alter>(
+pub(crate) fn carry_out<S: Alter>(
     tx: &mut Transaction<'_, S>,
     command: &Command,
     receipt: &Receipt,

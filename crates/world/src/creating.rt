@@ -60,7 +60,7 @@ pub(crate) fn room_for_one<T: Drop>(alloc: Global) -> Result<Vec<T>, Fault>
 }
 
 /// The archive alone, in a store that is blank where its disk is clean. Its place among the members is there before anything is written.
-pub fn archive_alone<S: Alter + Drop>(
+pub(crate) fn archive_alone<S: Alter + Drop>(
     alloc: Global,
     conn: Connection<S>,
     archive: Uuid,
