@@ -1,8 +1,8 @@
 //! Lists as CSV (RFC 4180, as the crate `csv` reads it): request lists, reports and manifests.
 #![tactic(auto)]
 
-pub mod contents;
-pub mod fields;
+mod contents;
+mod fields;
 pub mod importing;
 #[cfg(test)]
 mod importing_tests;
@@ -16,11 +16,11 @@ mod manifests_tests;
 pub mod package_manifests;
 #[cfg(test)]
 mod package_manifests_tests;
-pub mod records;
+mod records;
 pub mod reports;
 #[cfg(test)]
 mod reports_tests;
-pub mod requests;
+mod requests;
 pub mod sending;
 #[cfg(test)]
 mod sending_tests;
