@@ -2,5 +2,9 @@
 #![tactic(auto)]
 
 mod disk;
+mod opening;
+#[cfg(test)]
+mod tests;
 
 pub use disk::MemoryFile;
+pub use opening::{blank_in_files, open_empty};
