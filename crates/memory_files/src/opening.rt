@@ -48,6 +48,7 @@ pub fn open_empty<D: Disk + Drop>(
 ///
 /// Want of memory: `OutOfMemory`, or `SystemIoFailure` where a file could not grow.
 pub fn blank_in_files(alloc: Global, seed: u64) -> Result<Connection<FileStore<MemoryFile>>, Error>
+    ensures clean { IfOk result (λ conn. HasCleanDisk (file_state conn)) }
     ensures opened { IfOk result IsOpened }
     ensures blank { IfOk result (λ conn. IsBlank no_schema (file_state conn).now) }
     ensures fresh { IfOk result IsNew }

@@ -7,6 +7,13 @@ settled : {T E : Type 0} (P Clean : T → Type 0) (r : Result T E) → ((x : T) 
 settled P Clean (Ok x) clean said = said (clean x)
 settled P Clean (Err e) clean said = tt
 
+each : {T E : Type 0} (P : T → Type 0) (r : Result T E) → ((x : T) → P x) → IfOk r P
+each P (Ok x) holds = holds x
+each P (Err e) holds = tt
+
+pub returns-clause-clean : goal.returns-clause-clean
+returns-clause-clean c = each _ c.open_empty.result (always_clean (λ _. refl))
+
 pub returns-clause-opened : goal.returns-clause-opened
 returns-clause-opened c = settled _ _ c.open_empty.result (always_clean (λ _. refl)) c.open_empty.ensures.opened
 
