@@ -1,0 +1,2 @@
+pub mod Cleanness
+pub mod Emptiness

@@ -1,0 +1,10 @@
+//! Files that are in memory, and a blank store over two of them.
+#![tactic(auto)]
+
+mod disk;
+mod opening;
+#[cfg(test)]
+mod tests;
+
+pub use disk::MemoryFile;
+pub use opening::{blank_in_files, open_empty};
