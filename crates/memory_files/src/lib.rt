@@ -1,10 +1,12 @@
 //! Files that are in memory, and a blank store over two of them.
 #![tactic(auto)]
 
+mod blank;
 mod disk;
 mod opening;
 #[cfg(test)]
 mod tests;
 
+pub use blank::open_blank;
 pub use disk::MemoryFile;
-pub use opening::{blank_in_files, open_empty};
+pub use opening::blank_in_files;

@@ -7,6 +7,7 @@ ghost use Rattle.sqlite.specs.State.{HasCleanDisk};
 ghost use Rattle.sql_meaning.specs.Blank.{IsBlank, no_schema};
 
 use crate::MemoryFile;
+use crate::blank::open_blank;
 use sqlite::{Connection, Error, FileStore};
 use sqlite_disk::{Disk, Files};
 use sqlite_pager::Options;
@@ -18,12 +19,8 @@ const CHECKPOINT_FRAMES: usize = 100;
 // How many pages a store keeps beside its files, which are in memory themselves. Their memory is taken when the store is opened.
 const CACHE_PAGES: usize = 200;
 
-/// Opens a pair of files of which the database file is empty, and gives a store that is blank.
-///
-/// # Errors
-///
-/// One of opening (`is_open_error`): want of memory, or what the disk failed by.
-pub fn open_empty<D: Disk + Drop>(
+/// As `open_blank`, except that files which cannot be opened are gone.
+fn open_empty<D: Disk + Drop>(
     alloc: Global,
     files: Files<D>,
     options: Options,
@@ -36,7 +33,7 @@ pub fn open_empty<D: Disk + Drop>(
     ensures fresh { IfOk result IsNew }
     ensures named { IfErr result (λ e. IsTrue (is_open_error e)) }
 {
-    match Connection::open_files(alloc, files, options) {
+    match open_blank(alloc, files, options) {
         Ok(conn) => Ok(conn),
         Err((error, _)) => Err(error),
     }

@@ -1,7 +1,7 @@
 //! Where the stores of packages come from.
 #![tactic(auto)]
 
-pub mod files;
+pub mod file_memory;
 pub mod memory;
 pub mod shelf;
 #[cfg(test)]

@@ -4,10 +4,11 @@ ghost use Rattle.sqlite.specs.Held.{state};
 ghost use Rattle.sqlite.specs.State.{HasCleanDisk};
 ghost use Rattle.sql_meaning.specs.Blank.{IsBlank, no_schema};
 
-use crate::files::open_blank;
+use crate::file_memory::MemoryFileShelf;
 use crate::memory::MemoryShelf;
 use crate::shelf::{Shelf, ShelfFault};
-use sqlite::{Alter, Connection, Error, Files, MemStore, Options};
+use memory_files::{MemoryFile, open_blank};
+use sqlite::{Alter, Connection, Error, FileStore, Files, MemStore, Options};
 use sqlite_disk::{Disk, Fuse, Memory};
 use std::alloc::Global;
 use std::test::Fail;
@@ -51,6 +52,15 @@ fn a_store_in_memory_is_blank_each_time(rt: HostRuntime) -> Result<(), Fail> {
     let mut shelf = MemoryShelf::new(rt.alloc());
     assert_eq!(rt; begun::<MemStore, MemoryShelf>(&mut shelf)?, 30);
     assert_eq!(rt; begun::<MemStore, MemoryShelf>(&mut shelf)?, 30);
+    assert_eq!(rt; shelf.failures(), 0);
+    Ok(())
+}
+
+#[test]
+fn a_store_in_files_in_memory_is_blank_each_time(rt: HostRuntime) -> Result<(), Fail> {
+    let mut shelf = MemoryFileShelf::new(rt.alloc());
+    assert_eq!(rt; begun::<FileStore<MemoryFile>, MemoryFileShelf>(&mut shelf)?, 30);
+    assert_eq!(rt; begun::<FileStore<MemoryFile>, MemoryFileShelf>(&mut shelf)?, 30);
     assert_eq!(rt; shelf.failures(), 0);
     Ok(())
 }

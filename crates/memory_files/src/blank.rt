@@ -1,6 +1,7 @@
-//! Stores over files that hold nothing yet.
+// A store over files that hold nothing yet.
 ghost use Rattle.std.specs.Prelude.{◌≡◌, [], IsTrue, IfOk, IfErr};
 ghost use Rattle.sqlite.specs.Held.{IsNew};
+ghost use Rattle.sqlite.specs.Opening.{is_open_error};
 ghost use Rattle.sqlite.specs.State.{HasCleanDisk};
 ghost use Rattle.sqlite.specs.Files.{file_state, IsOpened, IsCleanLeft, FailsToOpenFiles, LeavesFiles};
 ghost use Rattle.sql_meaning.specs.Blank.{IsBlank, no_schema};
@@ -19,6 +20,7 @@ pub fn open_blank<D: Disk + Drop>(
     requires log { IsTrue (D.Disk.is_usable files.log) }
     requires db { IsTrue (D.Disk.is_usable files.db) }
     requires empty { D.Disk.seen files.db ≡ [] }
+    ensures named { IfErr result (λ e. IsTrue (is_open_error e.0)) }
     ensures blank { IfOk result (λ conn. HasCleanDisk (file_state conn) → IsBlank no_schema (file_state conn).now) }
     ensures opened { IfOk result (λ conn. HasCleanDisk (file_state conn) → IsOpened conn) }
     ensures fresh { IfOk result IsNew }

@@ -1,8 +1,8 @@
 -- The file that is opened is empty, so its database has no schema.
 use Rattle.sqlite_wal.specs.Files.{seen_image}
 use Rattle.sqlite.specs.Files.{file_state}
-use Rattle.shelves.proofs.Emptiness.{opened_blank, both_ok}
-use Rattle.shelves.proofs.files.open_blank.Goals as goal
+use Rattle.memory_files.proofs.Emptiness.{opened_blank, both_ok}
+use Rattle.memory_files.proofs.blank.open_blank.Goals as goal
 
 pub returns-clause-blank : goal.returns-clause-blank
 returns-clause-blank g c =

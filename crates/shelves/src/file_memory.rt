@@ -1,0 +1,59 @@
+//! A shelf of stores in files that are in memory.
+ghost use Rattle.std.specs.Prelude.{◌≡◌, IfOk};
+ghost use Rattle.sqlite_disk.specs.Disk.{CountsFault};
+ghost use Rattle.sqlite.specs.Files.{file_state};
+ghost use Rattle.sql_meaning.specs.Blank.{IsBlank, no_schema};
+
+use crate::shelf::{Shelf, ShelfFault};
+use memory_files::{MemoryFile, blank_in_files};
+use sqlite::{Connection, Error, FileStore};
+use std::alloc::Global;
+use uuid::Uuid;
+
+// For the salts of the logs. No log outlives the store that wrote it, so none has to be told from another.
+const SEED: u64 = 1;
+
+/// Each store is gone with its connection, so nothing stands under any UUID. A store costs more than one of `MemoryShelf` while it has few rows, and less once it has thousands: it keeps trees.
+#[derive(Drop)]
+pub struct MemoryFileShelf {
+    alloc: Global,
+    failures: u64,
+}
+
+impl MemoryFileShelf {
+    /// A shelf that has not failed.
+    pub fn new(alloc: Global) -> MemoryFileShelf
+        ensures { ⟦<MemoryFileShelf as Shelf<FileStore<MemoryFile>>>⟧.failures_of result ≡ 0 }
+    {
+        MemoryFileShelf { alloc, failures: 0 }
+    }
+}
+
+impl Shelf<FileStore<MemoryFile>> for MemoryFileShelf {
+    ghost failures_of = { λ shelf. shelf.failures };
+
+    fn blank(&mut self, _package: Uuid) -> Result<Connection<FileStore<MemoryFile>>, ShelfFault>
+        ensures blank { IfOk result (λ conn. IsBlank no_schema (file_state conn).now) }
+        ensures counts { CountsFault result self.old.failures self.new.failures }
+    {
+        match blank_in_files(self.alloc, SEED) {
+            Ok(conn) => Ok(conn),
+            Err(error) => {
+                self.failures = self.failures.saturating_add(1);
+                Err(fault_of(error))
+            }
+        }
+    }
+
+    fn failures(&self) -> u64 {
+        self.failures
+    }
+}
+
+/// How an error of opening is told.
+fn fault_of(error: Error) -> ShelfFault {
+    match error {
+        Error::OutOfMemory => ShelfFault::OutOfMemory,
+        _ => ShelfFault::StoreFault,
+    }
+}
