@@ -12,10 +12,11 @@ use manifest_csv::importing::{ImportFault, import};
 use manifest_csv::lists::ReadFault;
 use manifest_csv::package_manifests::write_manifest;
 use manifest_csv::sending::send;
+use memory_files::MemoryFile;
 use sheet_types::refusal::Refusal;
-use shelves::memory::MemoryShelf;
+use shelves::file_memory::MemoryFileShelf;
 use shelves::shelf::Shelf;
-use sqlite::MemStore;
+use sqlite::FileStore;
 use std::alloc::{AllocError, Global};
 use std::io::{Read, Write};
 use uuid::Uuid;
@@ -43,8 +44,8 @@ pub fn rehearse<R: Read + Drop, W: Write>(
 fn new_world(
     alloc: Global,
     rehearsal: &Rehearsal<'_>,
-    shelf: &mut MemoryShelf,
-) -> Result<World<MemStore>, Failure> {
+    shelf: &mut MemoryFileShelf,
+) -> Result<World<FileStore<MemoryFile>>, Failure> {
     let conn = shelf.blank(rehearsal.archive)?;
     match World::create(
         alloc,
@@ -83,7 +84,7 @@ fn package_line(alloc: Global, package: Uuid) -> Result<String, AllocError>
 /// Writes the name and the manifest of each live package, by UUID.
 fn write_packages<W: Write>(
     alloc: Global,
-    world: &mut World<MemStore>,
+    world: &mut World<FileStore<MemoryFile>>,
     writer: &mut W,
 ) -> Result<(), Failure> {
     let sights = world.packages(alloc)?;
@@ -102,7 +103,7 @@ fn carried_out<R: Read + Drop, W: Write>(
     reader: R,
     writer: &mut W,
 ) -> Outcome {
-    let mut shelf = MemoryShelf::new(alloc);
+    let mut shelf = MemoryFileShelf::new(alloc);
     let mut world = match new_world(alloc, rehearsal, &mut shelf) {
         Ok(world) => world,
         Err(failure) => return Outcome::Stopped(failure),

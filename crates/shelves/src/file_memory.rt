@@ -1,12 +1,13 @@
 //! A shelf of stores in files that are in memory.
-ghost use Rattle.std.specs.Prelude.{◌≡◌, IfOk};
+ghost use Rattle.std.specs.Prelude.{◌≡◌, IfOk, IfErr};
 ghost use Rattle.sqlite_disk.specs.Disk.{CountsFault};
 ghost use Rattle.sqlite.specs.Files.{file_state};
 ghost use Rattle.sql_meaning.specs.Blank.{IsBlank, no_schema};
+ghost use Rattle.shelves.specs.declared.shelf.ShelfFault.TheVariants.{OutOfMemory};
 
 use crate::shelf::{Shelf, ShelfFault};
 use memory_files::{MemoryFile, blank_in_files};
-use sqlite::{Connection, Error, FileStore};
+use sqlite::{Connection, FileStore};
 use std::alloc::Global;
 use uuid::Uuid;
 
@@ -35,25 +36,19 @@ impl Shelf<FileStore<MemoryFile>> for MemoryFileShelf {
     fn blank(&mut self, _package: Uuid) -> Result<Connection<FileStore<MemoryFile>>, ShelfFault>
         ensures blank { IfOk result (λ conn. IsBlank no_schema (file_state conn).now) }
         ensures counts { CountsFault result self.old.failures self.new.failures }
+        ensures fault { IfErr result (λ fault. fault ≡ OutOfMemory) }
     {
         match blank_in_files(self.alloc, SEED) {
             Ok(conn) => Ok(conn),
-            Err(error) => {
+            // Nothing but memory can be wanting to a file in memory.
+            Err(_) => {
                 self.failures = self.failures.saturating_add(1);
-                Err(fault_of(error))
+                Err(ShelfFault::OutOfMemory)
             }
         }
     }
 
     fn failures(&self) -> u64 {
         self.failures
-    }
-}
-
-/// How an error of opening is told.
-fn fault_of(error: Error) -> ShelfFault {
-    match error {
-        Error::OutOfMemory => ShelfFault::OutOfMemory,
-        _ => ShelfFault::StoreFault,
     }
 }
