@@ -1,5 +1,5 @@
 -- A package whose moment of the last change is another is the same package.
-use Rattle.std.proofs.Common.{◌≡◌, ℕ, List, Result, Ok, refl, sym, subst}
+use Rattle.std.proofs.Common.{ℕ, List, Result, Ok, refl, sym, subst}
 use Rattle.std.specs.Prelude.{codes, ⊤}
 use Rattle.std.specs.List.{IsDistinct}
 use Rattle.sqlite.specs.Effect.{Database}
@@ -16,7 +16,7 @@ use Rattle.package_tables.specs.Package.{Tables, tables_of}
 use Rattle.package_tables.specs.Shapes.{contents_shape}
 use Rattle.package_tables.proofs.FixedKept.{names_apart, fixed_kept, dated_in_turn}
 use Rattle.identity_register.specs.Calls.{Becomes, Dates}
-use Rattle.identity_register.specs.Reads.{Reads, Says}
+use Rattle.identity_register.specs.Reads.{Says}
 
 -- one call sets the moment of one table, where the names differ
 abbrev Sets : List ℕ → List ℕ → Database → Database → Type 0
