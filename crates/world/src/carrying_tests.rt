@@ -3,19 +3,23 @@ ghost use Rattle.std.specs.Prelude.{IsTrue};
 ghost use Rattle.sqlite.specs.Held.{state};
 ghost use Rattle.sql_meaning.specs.Transactions.{Rests};
 
-use crate::carrying_out::apply_to_package;
+use crate::carrying_out::{TurnFault, apply_to_package};
 use custody::names;
 use identity_register::look_ups::{find, has_link};
 use package_tables::create::{Info, create};
 use package_tables::fault::Fault;
+use package_tables::fixed::all_contents;
 use sheet_types::collections::{Bytes, MovedList, Text};
 use sheet_types::command::{Command, Content, Mapping, Relation};
 use sheet_types::frame::Frame;
 use sheet_types::receipt::{Moved, MovedKind, Receipt};
+use sheet_types::refusal::Refusal;
 use sqlite::{Alter, Connection};
 use std::alloc::Global;
 use std::test::Fail;
 use uuid::Uuid;
+
+const MADE: &str = "2026-11-22T08:00:00.000Z";
 
 const AT: &str = "2026-11-22T09:00:00.000Z";
 
@@ -65,7 +69,7 @@ fn made<S: Alter + Drop>(alloc: Global, conn: Connection<S>) -> Result<Connectio
         parent: None,
         depth: 0,
         loan: 0,
-        created: AT,
+        created: MADE,
     };
     Ok(create(alloc, conn, &frame, &info)?.into_connection())
 }
@@ -248,5 +252,49 @@ fn a_link_comes_and_goes(rt: HostRuntime) -> Result<(), Fail> {
     assert!(rt; is_linked(&mut conn)?);
     unlink(alloc, &mut conn, 4)?;
     assert!(rt; !is_linked(&mut conn)?);
+    Ok(())
+}
+
+// The moment of the last change in each row of the contents.
+fn moments<S: Alter>(alloc: Global, conn: &mut Connection<S>) -> Result<String, Fault> {
+    if !guarded(conn) {
+        return Err(Fault::StoreFault);
+    }
+    let rows = all_contents(conn, alloc)?;
+    let mut text = String::new(alloc);
+    for row in &rows {
+        text.push_str(row.last_change.as_str())?;
+        text.push_str(";")?;
+    }
+    Ok(text)
+}
+
+#[test]
+fn the_contents_say_the_moment_of_the_receipt(rt: HostRuntime) -> Result<(), Fail> {
+    let alloc = rt.alloc();
+    let mut conn = made(alloc, Connection::open_in_memory(alloc)?)?;
+    assert_eq!(rt;
+        moments(alloc, &mut conn)?.as_str(),
+        "2026-11-22T08:00:00.000Z;2026-11-22T08:00:00.000Z;2026-11-22T08:00:00.000Z;"
+    );
+    add_tile(alloc, &mut conn, 1)?;
+    assert_eq!(rt;
+        moments(alloc, &mut conn)?.as_str(),
+        "2026-11-22T09:00:00.000Z;2026-11-22T09:00:00.000Z;2026-11-22T09:00:00.000Z;"
+    );
+    Ok(())
+}
+
+#[test]
+fn what_a_fault_of_a_turn_means(rt: HostRuntime) -> Result<(), Fail> {
+    let wants = TurnFault::Before(Fault::OutOfMemory);
+    assert!(rt; !wants.is_lasting());
+    assert!(rt; wants.refusal() == Refusal::OutOfMemory);
+    let fails = TurnFault::Before(Fault::StoreFault);
+    assert!(rt; fails.is_lasting());
+    assert!(rt; fails.refusal() == Refusal::StoreFault);
+    let doubtful = TurnFault::Committing(Fault::OutOfMemory);
+    assert!(rt; doubtful.is_lasting());
+    assert!(rt; doubtful.refusal() == Refusal::OutOfMemory);
     Ok(())
 }
