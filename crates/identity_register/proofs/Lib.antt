@@ -14,3 +14,4 @@ mod Contents
 mod OneFrame
 pub mod OnePackage
 mod Gathering
+mod InOrder
