@@ -1,7 +1,7 @@
 #!/usr/bin/env python3
 """Lists the public functions of the crates: the clauses of each, the must-fail edits that change its body or a helper's in its file, and the tests that call it.
 
-    tools/public_functions.py            a Markdown table for each crate
+    tools/public_functions.py            a Markdown table for each crate, at most three edits and one test a function
     tools/public_functions.py --missing  the functions that lack a clause, an edit or a test; status 1 where there is one
 
 An edit counts for the public function in whose body it stands, and for each public function of the same file that calls the private helper in which it
@@ -125,7 +125,7 @@ def rows():
                 if not it["public"]:
                     continue
                 mine = reached(names, bodies, it["name"])
-                spans = [(f["start"], f["end"]) for f in listed if f["name"] in mine]
+                spans = [(f["start"], f["end"]) for f in listed if f is it or f["name"] in mine and f["name"] != it["name"]]
                 caught = [name for name, path, at in edits if path == f"src/{file}" and any(a <= at < b for a, b in spans)]
                 called = [f"{owner}::{name}" for owner, name, whole in tests if re.search(rf"\b{it['name']}\(", whole)]
                 own = [name for name in called if name.startswith(f"{crate}::")]
@@ -135,22 +135,29 @@ def rows():
 
 def main():
     only_missing = "--missing" in sys.argv
-    last, lacking = "", 0
+    lacking, tables, laws = 0, {}, {}
     for crate, file, it, said, caught, called, is_law in rows():
-        name = f"{it['owner']}::{it['name']}" if it["owner"] else f"{file.removesuffix('.rt')}::{it['name']}"
+        module = re.sub(r"\.rt$|/mod\.rt$", "", file)
+        name = f"{it['owner']}::{it['name']}" if it["owner"] else f"{module}::{it['name']}"
         lacks = [what for what, has in (("clause", said), ("edit", caught or is_law), ("test", called or is_law)) if not has]
         lacking += bool(lacks)
-        if only_missing:
-            if lacks:
-                print(f"{crate} {name}: no {', no '.join(lacks)}")
-            continue
-        if crate != last:
-            print(f"\n## `{crate}`\n\n| Public function | Clauses | Must-fail edits | Test |\n|---|---|---|---|")
-            last = crate
-        told = "a law" if is_law else ", ".join(caught[:3])
-        test = "" if is_law else called[0].replace(f"{crate}::", "") if called else ""
-        print(f"| `{name}` | {', '.join(said)} | {told} | {test} |")
-    return 1 if only_missing and lacking else 0
+        if lacks and only_missing:
+            print(f"{crate} {name}: no {', no '.join(lacks)}")
+        if is_law:
+            laws.setdefault(crate, []).append(f"`{name}`")
+        else:
+            test = called[0].replace(f"{crate}::", "") if called else ""
+            tables.setdefault(crate, []).append(f"| `{name}` | {', '.join(said)} | {', '.join(caught[:3])} | {test} |")
+    if only_missing:
+        return 1 if lacking else 0
+    for crate in dict.fromkeys([*tables, *laws]):
+        print(f"\n### `{crate}`\n")
+        if crate in tables:
+            print("| Public function | Clauses | Must-fail edits | Test |\n|---|---|---|---|")
+            print("\n".join(tables[crate]))
+        if crate in laws:
+            print(f"{chr(10) if crate in tables else ''}{len(laws[crate])} laws and examples, each the contract of a function that does nothing.")
+    return 0
 
 
 if __name__ == "__main__":

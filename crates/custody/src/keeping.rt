@@ -1,5 +1,5 @@
 // The receipt that a package keeps for a request, read back from the rows that say it.
-ghost use Rattle.std.specs.Prelude.{◌≡◌, ◌<◌, true, pos, [], bytes_eq, All, IfOk};
+ghost use Rattle.std.specs.Prelude.{◌≡◌, ◌≢◌, ◌<◌, ℕ, true, pos, List, [], Option, bytes_eq, All, IfOk, IfErr};
 ghost use Rattle.std.specs.List.{AllByRecursion};
 ghost use Rattle.std.specs.Option.{option_map_or};
 ghost use Rattle.std.specs.Ordering.{int_eq};
@@ -9,6 +9,9 @@ ghost use Rattle.sql_meaning.specs.Transactions.{Rests, Looks};
 ghost use Rattle.sheet_types.specs.Lines.{IsUuid, is_bytes};
 ghost use Rattle.sheet_types.specs.Texts.{uuid_text};
 ghost use Rattle.sheet_types.specs.World.{kind_number};
+ghost use Rattle.sheet_types.specs.declared.receipt.Moved.{Moved};
+ghost use Rattle.sheet_types.specs.declared.receipt.MovedKind.{MovedKind};
+ghost use Rattle.sheet_types.specs.declared.receipt.Receipt.{Receipt};
 ghost use Rattle.package_tables.specs.Calls.{LooksUp, IsOneOf, AreThose};
 ghost use Rattle.identity_register.specs.Calls.{Sees};
 ghost use Rattle.identity_register.specs.Reads.{IsFitReceipt, end_text, is_fit_end, is_fit_moved, receipt_row};
@@ -29,7 +32,8 @@ use uuid::Uuid;
 
 /// A number that a receipt says, which is not below zero.
 fn counted(number: i64) -> Result<u64, Fault>
-    ensures { IfOk result (λ counted. number ≡ pos counted) }
+    ensures counted { IfOk result (λ counted. number ≡ pos counted) }
+    ensures none { IfErr result (λ _. (counted : ℕ) → number ≢ pos counted) }
 {
     if number < 0 {
         return Err(Fault::StoreFault);
@@ -39,7 +43,8 @@ fn counted(number: i64) -> Result<u64, Fault>
 
 /// The kind of a thing that is stored by this number (profile).
 fn kind_of_number(number: i64) -> Result<MovedKind, Fault>
-    ensures { IfOk result (λ kind. number ≡ pos (kind_number kind)) }
+    ensures kind { IfOk result (λ kind. number ≡ pos (kind_number kind)) }
+    ensures none { IfErr result (λ _. (kind : MovedKind) → number ≢ pos (kind_number kind)) }
 {
     match number {
         1 => Ok(MovedKind::TileItem),
@@ -64,6 +69,7 @@ fn bytes_fit<const N: usize>(bytes: &[u8; N])
 fn uuid_of(text: &str) -> Result<Uuid, Fault>
     ensures text { IfOk result (λ id. text.now ≡ uuid_text id) }
     ensures fit { IfOk result IsUuid }
+    ensures none { IfErr result (λ _. (id : List ℕ) → IsUuid id → text.now ≢ uuid_text id) }
 {
     let Some(id) = read_stored_uuid(text) else {
         return Err(Fault::StoreFault);
@@ -76,6 +82,7 @@ fn uuid_of(text: &str) -> Result<Uuid, Fault>
 fn end_of(text: &str) -> Result<Option<Uuid>, Fault>
     ensures text { IfOk result (λ end. text.now ≡ end_text end) }
     ensures fit { IfOk result (λ end. is_fit_end end ≡ true) }
+    ensures none { IfErr result (λ _. (end : Option (List ℕ)) → is_fit_end end ≡ true → text.now ≢ end_text end) }
 {
     if text.is_empty() {
         return Ok(None);
@@ -88,6 +95,7 @@ fn end_of(text: &str) -> Result<Option<Uuid>, Fault>
 fn digest_of(text: &str) -> Result<Option<[u8; 32]>, Fault>
     ensures text { IfOk result (λ digest. text.now ≡ option_map_or encode_lower digest []) }
     ensures fit { IfOk result (λ digest. option_map_or (is_bytes 32) digest true ≡ true) }
+    ensures none { IfErr result (λ _. (digest : Option (List ℕ)) → option_map_or (is_bytes 32) digest true ≡ true → text.now ≢ option_map_or encode_lower digest []) }
 {
     if text.is_empty() {
         return Ok(None);
@@ -111,6 +119,7 @@ fn thing_at(
     requires other { (row.now.other ≡ end_text other) × (is_fit_end other ≡ true) }
     ensures row { IfOk result (λ thing. row.now ≡ row_at seq position thing) }
     ensures fit { IfOk result (λ thing. is_fit_moved thing ≡ true) }
+    ensures none { IfErr result (λ _. (thing : Moved) → is_fit_moved thing ≡ true → row.now ≢ row_at seq position thing) }
 {
     let place = counted(row.position)?;
     if row.seq != seq || place != position as u64 {
@@ -161,6 +170,7 @@ fn receipt_of(row: ReceiptRow, items: MovedList) -> Result<Receipt, Fault>
     ensures row { IfOk result (λ receipt. receipt_row receipt ≡ row) }
     ensures items { IfOk result (λ receipt. receipt.items ≡ items) }
     ensures fit { IfOk result IsFitReceipt }
+    ensures none { IfErr result (λ _. (receipt : Receipt) → IsFitReceipt receipt → receipt_row receipt ≢ row) }
 {
     let seq = counted(row.seq)?;
     let request = uuid_of(row.request.as_str())?;

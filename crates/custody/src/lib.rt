@@ -5,7 +5,7 @@ pub mod keeping;
 #[cfg(test)]
 mod tests;
 
-ghost use Rattle.std.specs.Prelude.{◌≡◌, ◌≤◌, ◌||◌, [], pos, IfOk, length};
+ghost use Rattle.std.specs.Prelude.{◌≡◌, ◌<◌, ◌≤◌, ◌||◌, [], pos, IfOk, IfErr, length};
 ghost use Rattle.std.specs.List.{list_any};
 ghost use Rattle.std.specs.Option.{option_map_or};
 ghost use Rattle.hex.specs.Hex.{encode_lower};
@@ -34,7 +34,8 @@ const GREATEST_STORED: u64 = 9_223_372_036_854_775_807;
 
 /// A number as a column of integers has it; a greater one than such a column can have is a fault.
 fn stored(number: u64) -> Result<i64, Fault>
-    ensures { IfOk result (λ stored. stored ≡ pos number) }
+    ensures stored { IfOk result (λ stored. stored ≡ pos number) }
+    ensures great { IfErr result (λ _. 9223372036854775807 < number) }
 {
     if number > GREATEST_STORED {
         return Err(Fault::StoreFault);

@@ -15,3 +15,4 @@ mod OneFrame
 pub mod OnePackage
 mod Gathering
 mod Moments
+mod InOrder

@@ -1,4 +1,5 @@
-// What the look-ups answer of a package in memory: a tile with a medium, and a row that is linked to nothing.
+// What the look-ups answer of packages in memory: a tile with a medium and a row that is linked to nothing, and a row with a
+// medium beside a tile and another row that are linked to nothing. What is expected follows from what was put in.
 ghost use Rattle.std.specs.Prelude.{IsTrue};
 ghost use Rattle.sqlite.specs.Held.{state};
 ghost use Rattle.sql_meaning.specs.Transactions.{Rests};
@@ -7,7 +8,7 @@ use crate::look_ups::{find, has_link, has_tile_at, is_linked, kind_of_item};
 use package_tables::attributes::insert_attribute;
 use package_tables::fault::Fault;
 use package_tables::identities::insert_identity;
-use package_tables::mappings::insert_tiles_media;
+use package_tables::mappings::{insert_rows_media, insert_tiles_media};
 use package_tables::media::insert_medium;
 use package_tables::schema::create_schema;
 use package_tables::tiles::insert_tile;
@@ -40,6 +41,26 @@ fn filled<S: Alter>(conn: &mut Connection<S>) -> Result<bool, Fault> {
     Ok(true)
 }
 
+// Each but the last has the local number 4 of its kind.
+fn filled_with_rows<S: Alter>(conn: &mut Connection<S>) -> Result<bool, Fault> {
+    if !conn.is_autocommit() {
+        return Ok(false);
+    }
+    let mut tx = conn.transaction();
+    create_schema(&mut tx)?;
+    insert_tile(&mut tx, 4, 2, 3, 1, b"ab")?;
+    insert_identity(&mut tx, 1, 4, "00000000-0000-0000-0000-000000000001")?;
+    insert_medium(&mut tx, 4, b"png", "image/png")?;
+    insert_identity(&mut tx, 2, 4, "00000000-0000-0000-0000-000000000002")?;
+    insert_attribute(&mut tx, 4, 100, -7, 31, "well")?;
+    insert_identity(&mut tx, 3, 4, "00000000-0000-0000-0000-000000000003")?;
+    insert_attribute(&mut tx, 5, 101, -7, 32, "pump")?;
+    insert_identity(&mut tx, 3, 5, "00000000-0000-0000-0000-000000000004")?;
+    insert_rows_media(&mut tx, 4, 4)?;
+    tx.commit()?;
+    Ok(true)
+}
+
 fn kind<S: Alter>(conn: &mut Connection<S>, id: u128) -> Result<Option<MovedKind>, Fault> {
     if !guarded(conn) {
         return Err(Fault::StoreFault);
@@ -61,14 +82,19 @@ fn placed<S: Alter>(conn: &mut Connection<S>, column: i64, row: i64) -> Result<b
     has_tile_at(conn, 2, column, row)
 }
 
-fn related<S: Alter>(conn: &mut Connection<S>, base: u128, media: u128) -> Result<bool, Fault> {
+fn related<S: Alter>(
+    conn: &mut Connection<S>,
+    mapping: Mapping,
+    base: u128,
+    media: u128,
+) -> Result<bool, Fault> {
     if !guarded(conn) {
         return Err(Fault::StoreFault);
     }
     has_link(
         conn,
         Relation {
-            mapping: Mapping::TilesMedia,
+            mapping,
             base: Uuid::from_u128(base),
             media: Uuid::from_u128(media),
         },
@@ -100,9 +126,26 @@ fn look_ups_answer_of_the_package(rt: HostRuntime) -> Result<(), Fail> {
     assert!(rt; !linked(&mut conn, 3)?);
     assert!(rt; placed(&mut conn, 3, 1)?);
     assert!(rt; !placed(&mut conn, 1, 3)?);
-    assert!(rt; related(&mut conn, 1, 2)?);
-    assert!(rt; !related(&mut conn, 1, 3)?);
+    assert!(rt; related(&mut conn, Mapping::TilesMedia, 1, 2)?);
+    assert!(rt; !related(&mut conn, Mapping::TilesMedia, 1, 3)?);
     assert!(rt; code(&mut conn, 3)? == 31);
     assert!(rt; code(&mut conn, 9)? == -1);
+    Ok(())
+}
+
+#[test]
+fn look_ups_tell_links_of_rows_from_those_of_tiles(rt: HostRuntime) -> Result<(), Fail> {
+    let mut conn = Connection::open_in_memory(rt.alloc())?;
+    assert!(rt; filled_with_rows(&mut conn)?);
+    assert!(rt; kind(&mut conn, 2)? == Some(MovedKind::MediaItem));
+    assert!(rt; related(&mut conn, Mapping::RowsMedia, 3, 2)?);
+    assert!(rt; !related(&mut conn, Mapping::RowsMedia, 4, 2)?);
+    assert!(rt; !related(&mut conn, Mapping::RowsMedia, 1, 2)?);
+    assert!(rt; !related(&mut conn, Mapping::TilesMedia, 1, 2)?);
+    assert!(rt; linked(&mut conn, 3)?);
+    assert!(rt; linked(&mut conn, 2)?);
+    assert!(rt; !linked(&mut conn, 4)?);
+    assert!(rt; !linked(&mut conn, 1)?);
+    assert!(rt; code(&mut conn, 4)? == 32);
     Ok(())
 }

@@ -1,5 +1,5 @@
 // What is asked of a package at rest, each by a key or an index.
-ghost use Rattle.std.specs.Prelude.{◌≡◌, pos, option_map, bytes_eq, IfOk};
+ghost use Rattle.std.specs.Prelude.{◌≡◌, ◌≢◌, pos, true, option_map, bytes_eq, IfOk, IfErr};
 ghost use Rattle.std.specs.List.{list_any};
 ghost use Rattle.sqlite.specs.Held.{state};
 ghost use Rattle.sql_meaning.specs.Transactions.{Rests, Looks};
@@ -7,7 +7,8 @@ ghost use Rattle.sheet_types.specs.Ordered.{has};
 ghost use Rattle.sheet_types.specs.Lines.{IsUuid};
 ghost use Rattle.sheet_types.specs.Refuse.{is_at};
 ghost use Rattle.sheet_types.specs.Texts.{kind_of, uuid_text};
-ghost use Rattle.sheet_types.specs.World.{item_of, link_key, kind_number};
+ghost use Rattle.sheet_types.specs.World.{item_of, link_key, kind_number, is_item_kind};
+ghost use Rattle.sheet_types.specs.declared.receipt.MovedKind.{MovedKind};
 ghost use Rattle.package_tables.specs.Calls.{LooksUp, IsOneOf};
 ghost use Rattle.identity_register.specs.Answers.{is_linked_medium, is_linked_row, mapping_rows, are_ends, IsContentOf};
 ghost use Rattle.identity_register.specs.Calls.{Sees};
@@ -42,7 +43,8 @@ fn row_of<S: Alter>(conn: &mut Connection<S>, identity: Uuid) -> Result<Option<I
 
 /// The kind of item that a row of `sheet_identity` tells by its number (profile).
 fn kind_in(number: i64) -> Result<MovedKind, Fault>
-    ensures { IfOk result (λ kind. number ≡ pos (kind_number kind)) }
+    ensures kind { IfOk result (λ kind. number ≡ pos (kind_number kind)) }
+    ensures none { IfErr result (λ _. (kind : MovedKind) → is_item_kind kind ≡ true → number ≢ pos (kind_number kind)) }
 {
     match number {
         1 => Ok(MovedKind::TileItem),

@@ -1,10 +1,11 @@
 // What a whole package holds, read by one statement a table. Identity rows and the rows of the user tables are both read
 // in the order of kind and number, so that each identity meets its content without a look-up.
-ghost use Rattle.std.specs.Prelude.{◌≡◌, ◌++◌, map, pos, Some, IfOk, OnOk, IsTrue, IsPermutation};
-ghost use Rattle.std.specs.List.{AllByRecursion, AllZip};
+ghost use Rattle.std.specs.Prelude.{◌≡◌, ◌++◌, map, pos, Some, bytes_eq, IfOk, IfErr, OnOk, IsTrue, IsPermutation};
+ghost use Rattle.std.specs.List.{AllByRecursion, AllZip, IsDistinct};
 ghost use Rattle.sqlite.specs.Held.{state};
 ghost use Rattle.sql_meaning.specs.Transactions.{Rests, Looks};
 ghost use Rattle.uuid.specs.Text.{parsed_hyphenated};
+ghost use Rattle.sheet_types.specs.Lines.{IsUuid};
 ghost use Rattle.sheet_types.specs.Ordered.{IsArranged};
 ghost use Rattle.sheet_types.specs.World.{item_key, link_key, kind_number, base_kind};
 ghost use Rattle.package_tables.specs.Calls.{LooksUp};
@@ -137,7 +138,8 @@ fn items_of(rows: &[IdentityRow], placed: Vec<Placed>, alloc: Global) -> Result<
 
 /// Whether each item stands before the next, so that none is there twice.
 fn items_rise(items: &[Item]) -> bool
-    ensures { IsTrue result → IsArranged item_key items.now }
+    ensures rise { IsTrue result → IsArranged item_key items.now }
+    ensures alone { IsArranged item_key items.now → IsTrue result }
 {
     for place in 1..items.len() {
         if !item_is_before(&items[place - 1], &items[place]) {
@@ -151,6 +153,7 @@ fn items_rise(items: &[Item]) -> bool
 fn items_in_order(mut items: Vec<Item>) -> Result<Vec<Item>, Fault>
     ensures same { IfOk result (λ sorted. IsPermutation items.items sorted.items) }
     ensures order { IfOk result (λ sorted. IsArranged item_key sorted.items) }
+    ensures twice { IfErr result (λ _. IsDistinct bytes_eq (map item_key items.items) → ⊥) }
 {
     items.sort_unstable_by_key(|item| (item.content.kind().number(), item.identity));
     if items_rise(&items) {
@@ -230,7 +233,8 @@ fn links_of(
 
 /// Whether each link stands before the next, so that none is there twice.
 fn links_rise(links: &[Relation]) -> bool
-    ensures { IsTrue result → IsArranged link_key links.now }
+    ensures rise { IsTrue result → IsArranged link_key links.now }
+    ensures alone { IsArranged link_key links.now → IsTrue result }
 {
     for place in 1..links.len() {
         if !link_is_before(&links[place - 1], &links[place]) {
@@ -244,6 +248,7 @@ fn links_rise(links: &[Relation]) -> bool
 fn links_in_order(mut links: Vec<Relation>) -> Result<Vec<Relation>, Fault>
     ensures same { IfOk result (λ sorted. IsPermutation links.items sorted.items) }
     ensures order { IfOk result (λ sorted. IsArranged link_key sorted.items) }
+    ensures twice { IfErr result (λ _. AllByRecursion (λ l. IsUuid l.base) links.items → IsDistinct bytes_eq (map link_key links.items) → ⊥) }
 {
     links.sort_unstable_by_key(|link| (link.mapping.link_kind().number(), link.base, link.media));
     if links_rise(&links) {
