@@ -125,20 +125,22 @@ pub fn later(number: u8, asks: Asks) -> Step {
     }
 }
 
-// Two tiles, two media and a row, and a link.
-pub fn preparation() -> [Step; 6] {
-    let first = |number: u8, asks: Asks| Step {
+// The request of that number, at the moment of those that the world is prepared by.
+pub fn again(number: u8, asks: Asks) -> Step {
+    Step {
         number,
         at: AT,
         asks,
-    };
+    }
+}
+
+// A tile, a medium and a row, and a link of the first two.
+pub fn preparation() -> [Step; 4] {
     [
-        first(1, Asks::Tile(1, 3, 3)),
-        first(2, Asks::Medium(2)),
-        first(3, Asks::Row(3)),
-        first(4, Asks::Tile(4, 0, 1)),
-        first(5, Asks::Medium(5)),
-        first(6, Asks::Link(Mapping::TilesMedia, 1, 2)),
+        again(1, Asks::Tile(1, 3, 3)),
+        again(2, Asks::Medium(2)),
+        again(3, Asks::Row(3)),
+        again(4, Asks::Link(Mapping::TilesMedia, 1, 2)),
     ]
 }
 

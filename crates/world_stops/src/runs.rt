@@ -1,7 +1,7 @@
 // One request in a world over two files, of which one may stop, and what a crash leaves then.
 ghost use Rattle.std.specs.Prelude.{◌≡◌, [], IsTrue};
 
-use crate::pictures::{Picture, picture, reply_text, seen};
+use crate::pictures::{Picture, read_picture, reply_text, seen};
 use crate::requests::{AT, FRAME, Step, applied, archive, preparation, question, request, told};
 use package_tables::fault::Fault;
 use shelves::files::open_blank;
@@ -57,15 +57,15 @@ pub fn left_by<D: Crash + Drop>(
     let mut files = conn.into_store().close();
     files.log.crash();
     files.db.crash();
-    match Connection::open_files(alloc, files, options()) {
-        Ok(mut again) => picture(alloc, &mut again, id),
+    match Connection::open_files(alloc, files, Options::new(7)) {
+        Ok(mut again) => read_picture(alloc, &mut again, id),
         Err((error, _)) => Err(Fault::from(error)),
     }
 }
 
 // What came of a request: its reply as a number and as a text, what the world read as then, where it could be read, and what a crash left.
 #[derive(Drop)]
-pub struct Run {
+pub struct Outcome {
     pub number: i64,
     pub reply: String,
     pub has_failed: bool,
@@ -78,7 +78,7 @@ pub fn run<D: Crash + Drop>(
     alloc: Global,
     files: Files<D>,
     step: &Step,
-) -> Result<Option<Run>, Fault>
+) -> Result<Option<Outcome>, Fault>
     requires log { IsTrue (D.Disk.is_usable files.log) }
     requires db { IsTrue (D.Disk.is_usable files.db) }
     requires empty { D.Disk.seen files.db ≡ [] }
@@ -90,7 +90,7 @@ pub fn run<D: Crash + Drop>(
     let reply = applied(&mut world, alloc, &request)?;
     let has_failed = world.has_failed();
     let live = seen(alloc, &mut world, request.id).ok();
-    Ok(Some(Run {
+    Ok(Some(Outcome {
         number: told(&reply),
         reply: reply_text(alloc, &reply)?,
         has_failed,

@@ -1,14 +1,20 @@
-// Each call of a disk that stops, in one request of each kind. A crash leaves the world before the request or the one after it.
+// One request of each kind, once for each call of a disk that stops in it. A crash leaves the world before the request or the one after it, and the reply fits.
+ghost use Rattle.std.specs.Prelude.{◌≡◌, [], IsTrue};
+
 use crate::pictures::Picture;
-use crate::requests::{Asks, Step, later};
-use crate::runs::{Run, prepared, run, untouched};
+use crate::requests::{Asks, Step, again, later};
+use crate::runs::{Outcome, prepared, run, untouched};
 use package_tables::fault::Fault;
 use sheet_types::command::Mapping;
 use sqlite::Files;
-use sqlite_disk::{Fuse, Memory};
+use sqlite_disk::{Disk, Fuse, Memory};
 use std::alloc::Global;
 use std::process::Abort;
 use std::test::Fail;
+
+const STORE_FAULT: i64 = -25;
+
+const OUT_OF_MEMORY: i64 = -24;
 
 #[derive(Clone, Copy, PartialEq, Eq)]
 enum Stops {
@@ -17,7 +23,11 @@ enum Stops {
 }
 
 // Empty files, of which one stops after so many calls.
-fn fused(alloc: Global, stops: Stops, calls: u64) -> Files<Fuse<Memory>> {
+fn fused(alloc: Global, stops: Stops, calls: u64) -> Files<Fuse<Memory>>
+    ensures log { IsTrue (⟦<Fuse<Memory> as Disk>⟧.is_usable result.log) }
+    ensures db { IsTrue (⟦<Fuse<Memory> as Disk>⟧.is_usable result.db) }
+    ensures empty { ⟦<Fuse<Memory> as Disk>⟧.seen result.db ≡ [] }
+{
     let (log_calls, db_calls) = match stops {
         Stops::Log => (calls, u64::MAX),
         Stops::Db => (u64::MAX, calls),
@@ -26,4 +36,267 @@ fn fused(alloc: Global, stops: Stops, calls: u64) -> Files<Fuse<Memory>> {
         log: Fuse::new(Memory::new(alloc), log_calls),
         db: Fuse::new(Memory::new(alloc), db_calls),
     }
+}
+
+fn run_with(
+    alloc: Global,
+    stops: Stops,
+    calls: u64,
+    step: &Step,
+) -> Result<Option<Outcome>, Fault> {
+    run(alloc, fused(alloc, stops, calls), step)
+}
+
+fn is_prepared(alloc: Global, stops: Stops, calls: u64) -> Result<bool, Fault> {
+    Ok(prepared(alloc, fused(alloc, stops, calls))?.is_some())
+}
+
+// With so few calls, and no fewer, the disk stops after the world was prepared.
+fn calls_before(alloc: Global, stops: Stops) -> Result<u64, Fault> {
+    let mut low = 0u64;
+    let mut high = 65_536u64;
+    for _ in 0..17 {
+        let middle = low.saturating_add(high) / 2;
+        if low < high {
+            if is_prepared(alloc, stops, middle)? {
+                high = middle;
+            } else {
+                low = middle.saturating_add(1);
+            }
+        }
+    }
+    Ok(high)
+}
+
+// The worlds before and after the request, where no disk stops.
+#[derive(Drop)]
+struct Both {
+    before: Picture,
+    after: Outcome,
+}
+
+fn both_worlds(alloc: Global, step: &Step) -> Result<Both, Fault> {
+    let never = u64::MAX;
+    let before = untouched(alloc, fused(alloc, Stops::Log, never), step)?;
+    let after = run_with(alloc, Stops::Log, never, step)?;
+    match (before, after) {
+        (Some(before), Some(after)) => Ok(Both { before, after }),
+        _ => Err(Fault::StoreFault),
+    }
+}
+
+fn same(found: &Option<String>, wanted: &str) -> bool {
+    match found {
+        Some(text) => text.as_str() == wanted,
+        None => false,
+    }
+}
+
+// The reply is that of the request, or a fault; the files that a crash leaves, and the world itself where it can be read, are those of before or after.
+fn expect_fits(rt: &impl Abort, found: &Outcome, both: &Both) {
+    let is_before = found.left.is(&both.before);
+    let is_after = found.left.is(&both.after.left);
+    assert!(rt; is_before || is_after);
+    if found.number == STORE_FAULT {
+        assert!(rt; found.has_failed);
+    } else if found.number != OUT_OF_MEMORY {
+        assert!(rt; found.reply.as_str() == both.after.reply.as_str());
+        assert!(rt; is_after);
+        assert!(rt; !found.has_failed);
+    }
+    let stands_for = if found.number > 0 {
+        both.after.left.held.as_str()
+    } else {
+        both.before.held.as_str()
+    };
+    if found.live.is_some() && !found.has_failed {
+        assert!(rt; same(&found.live, stands_for));
+    }
+}
+
+// Whether the disk has not stopped up to the end, the reading of the world with it.
+fn went_through(found: &Outcome, both: &Both) -> bool {
+    found.number == both.after.number && same(&found.live, both.after.left.held.as_str())
+}
+
+// How many runs a disk stopped, in the request or as the world was read after it, and how many of them a request answered by a fault.
+#[derive(Clone, Copy)]
+struct Stopped {
+    runs: u64,
+    faults: u64,
+}
+
+fn count_stops(
+    rt: &impl Abort,
+    alloc: Global,
+    stops: Stops,
+    step: &Step,
+    both: &Both,
+) -> Result<Stopped, Fault> {
+    let first = calls_before(alloc, stops)?;
+    let mut stopped = Stopped { runs: 0, faults: 0 };
+    for calls in first..first.saturating_add(5_000) {
+        let Some(found) = run_with(alloc, stops, calls, step)? else {
+            return Err(Fault::StoreFault);
+        };
+        expect_fits(rt, &found, both);
+        if went_through(&found, both) {
+            return Ok(stopped);
+        }
+        stopped.runs = stopped.runs.saturating_add(1);
+        if found.number == STORE_FAULT {
+            stopped.faults = stopped.faults.saturating_add(1);
+        }
+    }
+    Err(Fault::StoreFault)
+}
+
+// A request, what it is told, and how many items and links there are after it. Four were there before.
+fn expect_stops(
+    rt: &impl Abort,
+    alloc: Global,
+    stops: Stops,
+    step: &Step,
+    told: i64,
+    things: usize,
+) -> Result<u64, Fault> {
+    let both = both_worlds(alloc, step)?;
+    assert_eq!(rt; both.after.number, told);
+    assert_eq!(rt; both.before.things, 4);
+    assert_eq!(rt; both.after.left.things, things);
+    assert!(rt; same(&both.after.live, both.after.left.held.as_str()));
+    let stopped = count_stops(rt, alloc, stops, step, &both)?;
+    assert!(rt; stopped.runs > 0);
+    Ok(stopped.faults)
+}
+
+#[test]
+fn a_tile_is_added_while_the_log_stops(rt: HostRuntime) -> Result<(), Fail> {
+    let step = later(9, Asks::Tile(7, 1, 1));
+    let faults = expect_stops(&rt, rt.alloc(), Stops::Log, &step, 5, 5)?;
+    assert!(rt; faults > 0);
+    Ok(())
+}
+
+#[test]
+fn a_tile_is_added_while_the_file_stops(rt: HostRuntime) -> Result<(), Fail> {
+    let step = later(9, Asks::Tile(7, 1, 1));
+    let faults = expect_stops(&rt, rt.alloc(), Stops::Db, &step, 5, 5)?;
+    assert!(rt; faults > 0);
+    Ok(())
+}
+
+#[test]
+fn a_medium_is_added_while_the_log_stops(rt: HostRuntime) -> Result<(), Fail> {
+    let step = later(9, Asks::Medium(7));
+    let faults = expect_stops(&rt, rt.alloc(), Stops::Log, &step, 5, 5)?;
+    assert!(rt; faults > 0);
+    Ok(())
+}
+
+#[test]
+fn a_medium_is_added_while_the_file_stops(rt: HostRuntime) -> Result<(), Fail> {
+    let step = later(9, Asks::Medium(7));
+    let faults = expect_stops(&rt, rt.alloc(), Stops::Db, &step, 5, 5)?;
+    assert!(rt; faults > 0);
+    Ok(())
+}
+
+#[test]
+fn a_row_is_added_while_the_log_stops(rt: HostRuntime) -> Result<(), Fail> {
+    let step = later(9, Asks::Row(7));
+    let faults = expect_stops(&rt, rt.alloc(), Stops::Log, &step, 5, 5)?;
+    assert!(rt; faults > 0);
+    Ok(())
+}
+
+#[test]
+fn a_row_is_added_while_the_file_stops(rt: HostRuntime) -> Result<(), Fail> {
+    let step = later(9, Asks::Row(7));
+    let faults = expect_stops(&rt, rt.alloc(), Stops::Db, &step, 5, 5)?;
+    assert!(rt; faults > 0);
+    Ok(())
+}
+
+#[test]
+fn a_row_is_deleted_while_the_log_stops(rt: HostRuntime) -> Result<(), Fail> {
+    let step = later(9, Asks::Delete(3));
+    let faults = expect_stops(&rt, rt.alloc(), Stops::Log, &step, 5, 3)?;
+    assert!(rt; faults > 0);
+    Ok(())
+}
+
+#[test]
+fn a_row_is_deleted_while_the_file_stops(rt: HostRuntime) -> Result<(), Fail> {
+    let step = later(9, Asks::Delete(3));
+    let faults = expect_stops(&rt, rt.alloc(), Stops::Db, &step, 5, 3)?;
+    assert!(rt; faults > 0);
+    Ok(())
+}
+
+#[test]
+fn a_row_is_linked_while_the_log_stops(rt: HostRuntime) -> Result<(), Fail> {
+    let step = later(9, Asks::Link(Mapping::RowsMedia, 3, 2));
+    let faults = expect_stops(&rt, rt.alloc(), Stops::Log, &step, 5, 5)?;
+    assert!(rt; faults > 0);
+    Ok(())
+}
+
+#[test]
+fn a_row_is_linked_while_the_file_stops(rt: HostRuntime) -> Result<(), Fail> {
+    let step = later(9, Asks::Link(Mapping::RowsMedia, 3, 2));
+    let faults = expect_stops(&rt, rt.alloc(), Stops::Db, &step, 5, 5)?;
+    assert!(rt; faults > 0);
+    Ok(())
+}
+
+#[test]
+fn a_tile_is_unlinked_while_the_log_stops(rt: HostRuntime) -> Result<(), Fail> {
+    let step = later(9, Asks::Unlink(Mapping::TilesMedia, 1, 2));
+    let faults = expect_stops(&rt, rt.alloc(), Stops::Log, &step, 5, 3)?;
+    assert!(rt; faults > 0);
+    Ok(())
+}
+
+#[test]
+fn a_tile_is_unlinked_while_the_file_stops(rt: HostRuntime) -> Result<(), Fail> {
+    let step = later(9, Asks::Unlink(Mapping::TilesMedia, 1, 2));
+    let faults = expect_stops(&rt, rt.alloc(), Stops::Db, &step, 5, 3)?;
+    assert!(rt; faults > 0);
+    Ok(())
+}
+
+// Its receipt is the second.
+#[test]
+fn a_request_comes_again_while_the_log_stops(rt: HostRuntime) -> Result<(), Fail> {
+    let step = again(2, Asks::Medium(2));
+    let faults = expect_stops(&rt, rt.alloc(), Stops::Log, &step, 2, 4)?;
+    assert!(rt; faults > 0);
+    Ok(())
+}
+
+// Its receipt is the second. It stands in the log, so the file is read only as the world is read afterwards.
+#[test]
+fn a_request_comes_again_while_the_file_stops(rt: HostRuntime) -> Result<(), Fail> {
+    let step = again(2, Asks::Medium(2));
+    expect_stops(&rt, rt.alloc(), Stops::Db, &step, 2, 4)?;
+    Ok(())
+}
+
+// The medium is linked.
+#[test]
+fn a_deletion_is_refused_while_the_log_stops(rt: HostRuntime) -> Result<(), Fail> {
+    let step = later(9, Asks::Delete(2));
+    let faults = expect_stops(&rt, rt.alloc(), Stops::Log, &step, -14, 4)?;
+    assert!(rt; faults > 0);
+    Ok(())
+}
+
+// The medium is linked.
+#[test]
+fn a_deletion_is_refused_while_the_file_stops(rt: HostRuntime) -> Result<(), Fail> {
+    let step = later(9, Asks::Delete(2));
+    let faults = expect_stops(&rt, rt.alloc(), Stops::Db, &step, -14, 4)?;
+    assert!(rt; faults > 0);
+    Ok(())
 }
