@@ -1,11 +1,17 @@
-// One request in a world over two files, of which one may stop, and what a crash leaves then.
+// One request in a world, over two files of which one may stop, with what a crash leaves then, or in memory.
 ghost use Rattle.std.specs.Prelude.{◌≡◌, [], IsTrue};
+ghost use Rattle.sqlite.specs.Held.{state};
+ghost use Rattle.sqlite.specs.State.{HasCleanDisk};
+ghost use Rattle.sql_meaning.specs.Blank.{IsBlank, no_schema};
 
 use crate::pictures::{Picture, read_picture, reply_text, seen};
 use crate::requests::{AT, FRAME, Step, applied, archive, preparation, question, request, told};
 use package_tables::fault::Fault;
+use sheet_types::command::Request;
 use shelves::files::open_blank;
-use sqlite::{Connection, FileStore, Files, Options};
+use shelves::memory::MemoryShelf;
+use shelves::shelf::Shelf;
+use sqlite::{Alter, Connection, FileStore, Files, MemStore, Options};
 use sqlite_disk::{Crash, Disk};
 use std::alloc::Global;
 use uuid::Uuid;
@@ -21,18 +27,10 @@ fn options() -> Options {
     }
 }
 
-// `None` where a disk stopped.
-pub fn prepared<D: Disk + Drop>(
-    alloc: Global,
-    files: Files<D>,
-) -> Result<Option<World<FileStore<D>>>, Fault>
-    requires log { IsTrue (D.Disk.is_usable files.log) }
-    requires db { IsTrue (D.Disk.is_usable files.db) }
-    requires empty { D.Disk.seen files.db ≡ [] }
+// `None` where a request was not carried out.
+fn begun<S: Alter + Drop>(alloc: Global, conn: Connection<S>) -> Result<Option<World<S>>, Fault>
+    requires { HasCleanDisk (state S.Store conn) → IsBlank no_schema (state S.Store conn).now }
 {
-    let Ok(conn) = open_blank(alloc, files, options()) else {
-        return Ok(None);
-    };
     let Ok(mut world) = World::create(alloc, conn, archive(), AT, &FRAME) else {
         return Ok(None);
     };
@@ -43,6 +41,42 @@ pub fn prepared<D: Disk + Drop>(
         }
     }
     Ok(Some(world))
+}
+
+// `None` where a disk stopped.
+pub fn prepared<D: Disk + Drop>(
+    alloc: Global,
+    files: Files<D>,
+) -> Result<Option<World<FileStore<D>>>, Fault>
+    requires log { IsTrue (D.Disk.is_usable files.log) }
+    requires db { IsTrue (D.Disk.is_usable files.db) }
+    requires empty { D.Disk.seen files.db ≡ [] }
+{
+    match open_blank(alloc, files, options()) {
+        Ok(conn) => begun(alloc, conn),
+        Err(_) => Ok(None),
+    }
+}
+
+// `None` where memory was refused.
+pub fn prepared_in_memory(alloc: Global) -> Result<Option<World<MemStore>>, Fault> {
+    let mut shelf = MemoryShelf::new(alloc);
+    match shelf.blank(archive()) {
+        Ok(conn) => begun(alloc, conn),
+        Err(_) => Ok(None),
+    }
+}
+
+// What the one store of a world holds.
+pub fn held_by<S: Alter + Drop>(
+    alloc: Global,
+    world: World<S>,
+    id: Uuid,
+) -> Result<Picture, Fault> {
+    match world.into_stores().pop() {
+        Some(mut conn) => read_picture(alloc, &mut conn, id),
+        None => Err(Fault::StoreFault),
+    }
 }
 
 // Both disks crash and come back, and the files are opened again.
@@ -73,6 +107,41 @@ pub struct Outcome {
     pub left: Picture,
 }
 
+// A request in a world, all but what is left of the world.
+#[derive(Drop)]
+struct Reply {
+    number: i64,
+    text: String,
+    has_failed: bool,
+    live: Option<String>,
+}
+
+fn reply_to<S: Alter + Drop>(
+    alloc: Global,
+    world: &mut World<S>,
+    request: &Request,
+) -> Result<Reply, Fault> {
+    let reply = applied(world, alloc, request)?;
+    let has_failed = world.has_failed();
+    let live = seen(alloc, world, request.id).ok();
+    Ok(Reply {
+        number: told(&reply),
+        text: reply_text(alloc, &reply)?,
+        has_failed,
+        live,
+    })
+}
+
+fn with_left(reply: Reply, left: Picture) -> Outcome {
+    Outcome {
+        number: reply.number,
+        reply: reply.text,
+        has_failed: reply.has_failed,
+        live: reply.live,
+        left,
+    }
+}
+
 // `None` where a disk stopped before the request.
 pub fn run<D: Crash + Drop>(
     alloc: Global,
@@ -87,16 +156,20 @@ pub fn run<D: Crash + Drop>(
         return Ok(None);
     };
     let request = request(alloc, step)?;
-    let reply = applied(&mut world, alloc, &request)?;
-    let has_failed = world.has_failed();
-    let live = seen(alloc, &mut world, request.id).ok();
-    Ok(Some(Outcome {
-        number: told(&reply),
-        reply: reply_text(alloc, &reply)?,
-        has_failed,
-        live,
-        left: left_by(alloc, world, request.id)?,
-    }))
+    let reply = reply_to(alloc, &mut world, &request)?;
+    let left = left_by(alloc, world, request.id)?;
+    Ok(Some(with_left(reply, left)))
+}
+
+// `None` where memory was refused before the request.
+pub fn run_in_memory(alloc: Global, step: &Step) -> Result<Option<Outcome>, Fault> {
+    let Some(mut world) = prepared_in_memory(alloc)? else {
+        return Ok(None);
+    };
+    let request = request(alloc, step)?;
+    let reply = reply_to(alloc, &mut world, &request)?;
+    let left = held_by(alloc, world, request.id)?;
+    Ok(Some(with_left(reply, left)))
 }
 
 // What a crash leaves of the world before the request.
@@ -111,6 +184,14 @@ pub fn untouched<D: Crash + Drop>(
 {
     match prepared(alloc, files)? {
         Some(world) => Ok(Some(left_by(alloc, world, question(step.number))?)),
+        None => Ok(None),
+    }
+}
+
+// What a world in memory holds before the request.
+pub fn untouched_in_memory(alloc: Global, step: &Step) -> Result<Option<Picture>, Fault> {
+    match prepared_in_memory(alloc)? {
+        Some(world) => Ok(Some(held_by(alloc, world, question(step.number))?)),
         None => Ok(None),
     }
 }

@@ -1,7 +1,7 @@
 // One request of each kind, once for each call of a disk that stops in it. A crash leaves the world before the request or the one after it, and the reply fits.
 ghost use Rattle.std.specs.Prelude.{◌≡◌, [], IsTrue};
 
-use crate::pictures::Picture;
+use crate::fitting::{Both, STORE_FAULT, expect_fits, same, went_through};
 use crate::requests::{Asks, Step, again, later};
 use crate::runs::{Outcome, prepared, run, untouched};
 use package_tables::fault::Fault;
@@ -11,10 +11,6 @@ use sqlite_disk::{Disk, Fuse, Memory};
 use std::alloc::Global;
 use std::process::Abort;
 use std::test::Fail;
-
-const STORE_FAULT: i64 = -25;
-
-const OUT_OF_MEMORY: i64 = -24;
 
 #[derive(Clone, Copy, PartialEq, Eq)]
 enum Stops {
@@ -68,13 +64,6 @@ fn calls_before(alloc: Global, stops: Stops) -> Result<u64, Fault> {
     Ok(high)
 }
 
-// The worlds before and after the request, where no disk stops.
-#[derive(Drop)]
-struct Both {
-    before: Picture,
-    after: Outcome,
-}
-
 fn both_worlds(alloc: Global, step: &Step) -> Result<Both, Fault> {
     let never = u64::MAX;
     let before = untouched(alloc, fused(alloc, Stops::Log, never), step)?;
@@ -83,40 +72,6 @@ fn both_worlds(alloc: Global, step: &Step) -> Result<Both, Fault> {
         (Some(before), Some(after)) => Ok(Both { before, after }),
         _ => Err(Fault::StoreFault),
     }
-}
-
-fn same(found: &Option<String>, wanted: &str) -> bool {
-    match found {
-        Some(text) => text.as_str() == wanted,
-        None => false,
-    }
-}
-
-// The reply is that of the request, or a fault; the files that a crash leaves, and the world itself where it can be read, are those of before or after.
-fn expect_fits(rt: &impl Abort, found: &Outcome, both: &Both) {
-    let is_before = found.left.is(&both.before);
-    let is_after = found.left.is(&both.after.left);
-    assert!(rt; is_before || is_after);
-    if found.number == STORE_FAULT {
-        assert!(rt; found.has_failed);
-    } else if found.number != OUT_OF_MEMORY {
-        assert!(rt; found.reply.as_str() == both.after.reply.as_str());
-        assert!(rt; is_after);
-        assert!(rt; !found.has_failed);
-    }
-    let stands_for = if found.number > 0 {
-        both.after.left.held.as_str()
-    } else {
-        both.before.held.as_str()
-    };
-    if found.live.is_some() && !found.has_failed {
-        assert!(rt; same(&found.live, stands_for));
-    }
-}
-
-// Whether the disk has not stopped up to the end, the reading of the world with it.
-fn went_through(found: &Outcome, both: &Both) -> bool {
-    found.number == both.after.number && same(&found.live, both.after.left.held.as_str())
 }
 
 // How many runs a disk stopped, in the request or as the world was read after it, and how many of them a request answered by a fault.
