@@ -1,5 +1,5 @@
 // One request in a world, over two files of which one may stop, with what a crash leaves then, or in memory.
-ghost use Rattle.std.specs.Prelude.{◌≡◌, [], IsTrue};
+ghost use Rattle.std.specs.Prelude.{◌≡◌, [], IsTrue, IfOk};
 ghost use Rattle.sqlite.specs.Held.{state};
 ghost use Rattle.sqlite.specs.State.{HasCleanDisk};
 ghost use Rattle.sql_meaning.specs.Blank.{IsBlank, no_schema};
@@ -12,7 +12,7 @@ use shelves::files::open_blank;
 use shelves::memory::MemoryShelf;
 use shelves::shelf::Shelf;
 use sqlite::{Alter, Connection, FileStore, Files, MemStore, Options};
-use sqlite_disk::{Crash, Disk};
+use sqlite_disk::{Crash, Disk, Fuse, Memory};
 use std::alloc::Global;
 use uuid::Uuid;
 use world::world::World;
@@ -79,18 +79,61 @@ pub fn held_by<S: Alter + Drop>(
     }
 }
 
-// Both disks crash and come back, and the files are opened again.
-pub fn left_by<D: Crash + Drop>(
+// What is left of a file: what was synced, as after a stop of the machine, or all that was written, as after the end of a process.
+#[derive(Clone, Copy)]
+pub enum Leaves {
+    Synced,
+    Written,
+}
+
+// Of the log and of the database file.
+#[derive(Clone, Copy)]
+pub struct Left {
+    pub log: Leaves,
+    pub db: Leaves,
+}
+
+pub trait Revive: Disk {
+    fn revive(self, alloc: Global, leaves: Leaves) -> Result<Self, Fault>
+        ensures { IfOk result (λ file. IsTrue (Self.Disk.is_usable file)) };
+}
+
+impl Revive for Fuse<Memory> {
+    fn revive(mut self, alloc: Global, leaves: Leaves) -> Result<Fuse<Memory>, Fault> {
+        match leaves {
+            Leaves::Synced => {
+                self.crash();
+                Ok(self)
+            }
+            Leaves::Written => {
+                let mut copy = Memory::new(alloc);
+                if copy.write_at(0, self.inner().bytes()).is_err() {
+                    return Err(Fault::OutOfMemory);
+                }
+                if copy.sync().is_err() {
+                    return Err(Fault::OutOfMemory);
+                }
+                Ok(Fuse::new(copy, u64::MAX))
+            }
+        }
+    }
+}
+
+// The files come back, and are opened again.
+pub fn left_by<D: Revive + Drop>(
     alloc: Global,
     world: World<FileStore<D>>,
+    left: Left,
     id: Uuid,
 ) -> Result<Picture, Fault> {
     let Some(conn) = world.into_stores().pop() else {
         return Err(Fault::StoreFault);
     };
-    let mut files = conn.into_store().close();
-    files.log.crash();
-    files.db.crash();
+    let Files { log, db } = conn.into_store().close();
+    let files = Files {
+        log: log.revive(alloc, left.log)?,
+        db: db.revive(alloc, left.db)?,
+    };
     match Connection::open_files(alloc, files, Options::new(7)) {
         Ok(mut again) => read_picture(alloc, &mut again, id),
         Err((error, _)) => Err(Fault::from(error)),
@@ -143,10 +186,11 @@ fn with_left(reply: Reply, left: Picture) -> Outcome {
 }
 
 // `None` where a disk stopped before the request.
-pub fn run<D: Crash + Drop>(
+pub fn run<D: Revive + Drop>(
     alloc: Global,
     files: Files<D>,
     step: &Step,
+    left: Left,
 ) -> Result<Option<Outcome>, Fault>
     requires log { IsTrue (D.Disk.is_usable files.log) }
     requires db { IsTrue (D.Disk.is_usable files.db) }
@@ -157,7 +201,7 @@ pub fn run<D: Crash + Drop>(
     };
     let request = request(alloc, step)?;
     let reply = reply_to(alloc, &mut world, &request)?;
-    let left = left_by(alloc, world, request.id)?;
+    let left = left_by(alloc, world, left, request.id)?;
     Ok(Some(with_left(reply, left)))
 }
 
@@ -173,17 +217,18 @@ pub fn run_in_memory(alloc: Global, step: &Step) -> Result<Option<Outcome>, Faul
 }
 
 // What a crash leaves of the world before the request.
-pub fn untouched<D: Crash + Drop>(
+pub fn untouched<D: Revive + Drop>(
     alloc: Global,
     files: Files<D>,
     step: &Step,
+    left: Left,
 ) -> Result<Option<Picture>, Fault>
     requires log { IsTrue (D.Disk.is_usable files.log) }
     requires db { IsTrue (D.Disk.is_usable files.db) }
     requires empty { D.Disk.seen files.db ≡ [] }
 {
     match prepared(alloc, files)? {
-        Some(world) => Ok(Some(left_by(alloc, world, question(step.number))?)),
+        Some(world) => Ok(Some(left_by(alloc, world, left, question(step.number))?)),
         None => Ok(None),
     }
 }
