@@ -1,11 +1,13 @@
 #!/usr/bin/env bash
-# A test of package_tables with each of its allocations refused in turn, whether an answer changes in place of the error.
+# A test with each of its allocations refused in turn, whether an answer changes in place of the error.
 #
-# Usage: failing_allocations.sh [TEST]
+# Usage: failing_allocations.sh [TEST [CRATE [FIRST]]]
 #
-# TEST is the full name of a test, create_tests::a_receipt_comes_whole_or_not_at_all if left out. That one enters a receipt;
-# where memory is refused, it sees that the table is as it was, and enters it again. Needs the program that `rt test` leaves
-# in crates/package_tables/out, and a C compiler, for a library that stands before malloc and realloc and refuses one call.
+# TEST is the full name of a test, create_tests::a_receipt_comes_whole_or_not_at_all of package_tables if left out. That one
+# enters a receipt; where memory is refused, it sees that the table is as it was, and enters it again. Those of world_stops,
+# as allocation_tests::a_tile_is_added_or_not, send a request to a world in memory. Needs the program that `rt test` leaves in
+# crates/CRATE/out, and a C compiler, for a library that stands before malloc and realloc and refuses one call. FIRST is the
+# first allocation that is refused, 1 if left out: a test of world_stops makes two worlds before the one that counts.
 # A run ends well where the test passes, or where it ends with the error OutOfMemory. The last line counts:
 #   passed   the refusal was met inside the test, which found every answer as it is without it
 #   refused  a call of the test answered OutOfMemory, and the test ended there
@@ -14,9 +16,10 @@
 set -euo pipefail
 
 test=${1:-create_tests::a_receipt_comes_whole_or_not_at_all}
-program=$(cd "$(dirname "$0")/.." && pwd)/crates/package_tables/out/package_tables_tests
+crate=${2:-package_tables}
+program=$(cd "$(dirname "$0")/.." && pwd)/crates/$crate/out/${crate}_tests
 if [ ! -x "$program" ]; then
-  echo "no $program: run rt test in crates/package_tables" >&2
+  echo "no $program: run rt test in crates/$crate" >&2
   exit 2
 fi
 work=$(mktemp -d)
@@ -48,7 +51,8 @@ void *realloc(void *old, size_t size) { return refused() ? 0 : __libc_realloc(ol
 END
 "${CC:-cc}" -O2 -shared -fPIC -o "$work/refuse.so" "$work/refuse.c" || exit 2
 
-passed=0 refused=0 wrong=0 at=0
+first=${3:-1}
+passed=0 refused=0 wrong=0 at=$((first - 1))
 while :; do
   at=$((at + 1))
   status=0
@@ -65,5 +69,5 @@ while :; do
       ;;
   esac
 done
-echo "$test: allocations=$((at - 1)) passed=$passed refused=$refused wrong=$wrong"
+echo "$test: allocations=$first..$((at - 1)) passed=$passed refused=$refused wrong=$wrong"
 [ "$wrong" -eq 0 ]

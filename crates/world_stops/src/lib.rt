@@ -2,6 +2,10 @@
 #![tactic(auto)]
 
 #[cfg(test)]
+mod allocation_tests;
+#[cfg(test)]
+mod fitting;
+#[cfg(test)]
 mod pictures;
 #[cfg(test)]
 mod requests;

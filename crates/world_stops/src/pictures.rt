@@ -1,4 +1,5 @@
 // What a store or a world reads as, in words that can be compared.
+use crate::requests::archive;
 use custody::keeping::kept;
 use identity_register::whole::{items, links};
 use package_tables::fault::Fault;
@@ -11,8 +12,6 @@ use sqlite::{Alter, Connection, Row};
 use std::alloc::Global;
 use uuid::Uuid;
 use world::world::World;
-
-use crate::requests::archive;
 
 const TABLES: [&str; 15] = [
     "SELECT * FROM gpkg_contents",
@@ -181,7 +180,7 @@ impl Picture {
     }
 }
 
-pub fn picture<S: Alter>(
+pub fn read_picture<S: Alter>(
     alloc: Global,
     conn: &mut Connection<S>,
     id: Uuid,

@@ -8,7 +8,8 @@ use sheet_types::command::{Command, Content, Mapping, Request};
 use sheet_types::frame::Frame;
 use sheet_types::receipt::Receipt;
 use sheet_types::refusal::Refusal;
-use sqlite::Alter;
+use shelves::shelf::{Shelf, ShelfFault};
+use sqlite::{Alter, Connection};
 use std::alloc::Global;
 use uuid::Uuid;
 use world::world::World;
@@ -125,20 +126,22 @@ pub fn later(number: u8, asks: Asks) -> Step {
     }
 }
 
-// Two tiles, two media and a row, and a link.
-pub fn preparation() -> [Step; 6] {
-    let first = |number: u8, asks: Asks| Step {
+// The request of that number, at the moment of those that the world is prepared by.
+pub fn again(number: u8, asks: Asks) -> Step {
+    Step {
         number,
         at: AT,
         asks,
-    };
+    }
+}
+
+// A tile, a medium and a row, and a link of the first two.
+pub fn preparation() -> [Step; 4] {
     [
-        first(1, Asks::Tile(1, 3, 3)),
-        first(2, Asks::Medium(2)),
-        first(3, Asks::Row(3)),
-        first(4, Asks::Tile(4, 0, 1)),
-        first(5, Asks::Medium(5)),
-        first(6, Asks::Link(Mapping::TilesMedia, 1, 2)),
+        again(1, Asks::Tile(1, 3, 3)),
+        again(2, Asks::Medium(2)),
+        again(3, Asks::Row(3)),
+        again(4, Asks::Link(Mapping::TilesMedia, 1, 2)),
     ]
 }
 
@@ -170,6 +173,25 @@ pub fn told(reply: &Result<Receipt, Refusal>) -> i64 {
     }
 }
 
+// A shelf that has no store. No request here asks for one.
+#[derive(Drop)]
+struct EmptyShelf {
+    failures: u64,
+}
+
+impl<S: Alter> Shelf<S> for EmptyShelf {
+    ghost failures_of = { λ shelf. shelf.failures };
+
+    fn blank(&mut self, _package: Uuid) -> Result<Connection<S>, ShelfFault> {
+        self.failures = self.failures.saturating_add(1);
+        Err(ShelfFault::StoreFault)
+    }
+
+    fn failures(&self) -> u64 {
+        self.failures
+    }
+}
+
 pub fn applied<S: Alter + Drop>(
     world: &mut World<S>,
     alloc: Global,
@@ -178,5 +200,6 @@ pub fn applied<S: Alter + Drop>(
     if !is_served(&request.command) {
         return Err(Fault::StoreFault);
     }
-    Ok(world.apply(alloc, request))
+    let mut shelf = EmptyShelf { failures: 0 };
+    Ok(world.apply(alloc, request, &mut shelf))
 }

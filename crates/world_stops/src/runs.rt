@@ -1,12 +1,18 @@
-// One request in a world over two files, of which one may stop, and what a crash leaves then.
-ghost use Rattle.std.specs.Prelude.{◌≡◌, [], IsTrue};
+// One request in a world, over two files of which one may stop, with what a crash leaves then, or in memory.
+ghost use Rattle.std.specs.Prelude.{◌≡◌, [], IsTrue, IfOk};
+ghost use Rattle.sqlite.specs.Held.{state};
+ghost use Rattle.sqlite.specs.State.{HasCleanDisk};
+ghost use Rattle.sql_meaning.specs.Blank.{IsBlank, no_schema};
 
-use crate::pictures::{Picture, picture, reply_text, seen};
+use crate::pictures::{Picture, read_picture, reply_text, seen};
 use crate::requests::{AT, FRAME, Step, applied, archive, preparation, question, request, told};
+use memory_files::open_blank;
 use package_tables::fault::Fault;
-use shelves::files::open_blank;
-use sqlite::{Connection, FileStore, Files, Options};
-use sqlite_disk::{Crash, Disk};
+use sheet_types::command::Request;
+use shelves::memory::MemoryShelf;
+use shelves::shelf::Shelf;
+use sqlite::{Alter, Connection, FileStore, Files, MemStore, Options};
+use sqlite_disk::{Crash, Disk, Fuse, Memory};
 use std::alloc::Global;
 use uuid::Uuid;
 use world::world::World;
@@ -21,18 +27,10 @@ fn options() -> Options {
     }
 }
 
-// `None` where a disk stopped.
-pub fn prepared<D: Disk + Drop>(
-    alloc: Global,
-    files: Files<D>,
-) -> Result<Option<World<FileStore<D>>>, Fault>
-    requires log { IsTrue (D.Disk.is_usable files.log) }
-    requires db { IsTrue (D.Disk.is_usable files.db) }
-    requires empty { D.Disk.seen files.db ≡ [] }
+// `None` where a request was not carried out.
+fn begun<S: Alter + Drop>(alloc: Global, conn: Connection<S>) -> Result<Option<World<S>>, Fault>
+    requires { HasCleanDisk (state S.Store conn) → IsBlank no_schema (state S.Store conn).now }
 {
-    let Ok(conn) = open_blank(alloc, files, options()) else {
-        return Ok(None);
-    };
     let Ok(mut world) = World::create(alloc, conn, archive(), AT, &FRAME) else {
         return Ok(None);
     };
@@ -45,27 +43,106 @@ pub fn prepared<D: Disk + Drop>(
     Ok(Some(world))
 }
 
-// Both disks crash and come back, and the files are opened again.
-pub fn left_by<D: Crash + Drop>(
+// `None` where a disk stopped.
+pub fn prepared<D: Disk + Drop>(
+    alloc: Global,
+    files: Files<D>,
+) -> Result<Option<World<FileStore<D>>>, Fault>
+    requires log { IsTrue (D.Disk.is_usable files.log) }
+    requires db { IsTrue (D.Disk.is_usable files.db) }
+    requires empty { D.Disk.seen files.db ≡ [] }
+{
+    match open_blank(alloc, files, options()) {
+        Ok(conn) => begun(alloc, conn),
+        Err(_) => Ok(None),
+    }
+}
+
+// `None` where memory was refused.
+pub fn prepared_in_memory(alloc: Global) -> Result<Option<World<MemStore>>, Fault> {
+    let mut shelf = MemoryShelf::new(alloc);
+    match shelf.blank(archive()) {
+        Ok(conn) => begun(alloc, conn),
+        Err(_) => Ok(None),
+    }
+}
+
+// What the one store of a world holds.
+pub fn held_by<S: Alter + Drop>(
+    alloc: Global,
+    world: World<S>,
+    id: Uuid,
+) -> Result<Picture, Fault> {
+    match world.into_stores().pop() {
+        Some(mut conn) => read_picture(alloc, &mut conn, id),
+        None => Err(Fault::StoreFault),
+    }
+}
+
+// What is left of a file: what was synced, as after a stop of the machine, or all that was written, as after the end of a process.
+#[derive(Clone, Copy)]
+pub enum Leaves {
+    Synced,
+    Written,
+}
+
+// Of the log and of the database file.
+#[derive(Clone, Copy)]
+pub struct Left {
+    pub log: Leaves,
+    pub db: Leaves,
+}
+
+pub trait Revive: Disk {
+    fn revive(self, alloc: Global, leaves: Leaves) -> Result<Self, Fault>
+        ensures { IfOk result (λ file. IsTrue (Self.Disk.is_usable file)) };
+}
+
+impl Revive for Fuse<Memory> {
+    fn revive(mut self, alloc: Global, leaves: Leaves) -> Result<Fuse<Memory>, Fault> {
+        match leaves {
+            Leaves::Synced => {
+                self.crash();
+                Ok(self)
+            }
+            Leaves::Written => {
+                let mut copy = Memory::new(alloc);
+                if copy.write_at(0, self.inner().bytes()).is_err() {
+                    return Err(Fault::OutOfMemory);
+                }
+                if copy.sync().is_err() {
+                    return Err(Fault::OutOfMemory);
+                }
+                Ok(Fuse::new(copy, u64::MAX))
+            }
+        }
+    }
+}
+
+// The files come back, and are opened again.
+pub fn left_by<D: Revive + Drop>(
     alloc: Global,
     world: World<FileStore<D>>,
+    left: Left,
     id: Uuid,
 ) -> Result<Picture, Fault> {
     let Some(conn) = world.into_stores().pop() else {
         return Err(Fault::StoreFault);
     };
-    let mut files = conn.into_store().close();
-    files.log.crash();
-    files.db.crash();
-    match Connection::open_files(alloc, files, options()) {
-        Ok(mut again) => picture(alloc, &mut again, id),
+    let Files { log, db } = conn.into_store().close();
+    let files = Files {
+        log: log.revive(alloc, left.log)?,
+        db: db.revive(alloc, left.db)?,
+    };
+    match Connection::open_files(alloc, files, Options::new(7)) {
+        Ok(mut again) => read_picture(alloc, &mut again, id),
         Err((error, _)) => Err(Fault::from(error)),
     }
 }
 
 // What came of a request: its reply as a number and as a text, what the world read as then, where it could be read, and what a crash left.
 #[derive(Drop)]
-pub struct Run {
+pub struct Outcome {
     pub number: i64,
     pub reply: String,
     pub has_failed: bool,
@@ -73,12 +150,48 @@ pub struct Run {
     pub left: Picture,
 }
 
+// A request in a world, all but what is left of the world.
+#[derive(Drop)]
+struct Reply {
+    number: i64,
+    text: String,
+    has_failed: bool,
+    live: Option<String>,
+}
+
+fn reply_to<S: Alter + Drop>(
+    alloc: Global,
+    world: &mut World<S>,
+    request: &Request,
+) -> Result<Reply, Fault> {
+    let reply = applied(world, alloc, request)?;
+    let has_failed = world.has_failed();
+    let live = seen(alloc, world, request.id).ok();
+    Ok(Reply {
+        number: told(&reply),
+        text: reply_text(alloc, &reply)?,
+        has_failed,
+        live,
+    })
+}
+
+fn with_left(reply: Reply, left: Picture) -> Outcome {
+    Outcome {
+        number: reply.number,
+        reply: reply.text,
+        has_failed: reply.has_failed,
+        live: reply.live,
+        left,
+    }
+}
+
 // `None` where a disk stopped before the request.
-pub fn run<D: Crash + Drop>(
+pub fn run<D: Revive + Drop>(
     alloc: Global,
     files: Files<D>,
     step: &Step,
-) -> Result<Option<Run>, Fault>
+    left: Left,
+) -> Result<Option<Outcome>, Fault>
     requires log { IsTrue (D.Disk.is_usable files.log) }
     requires db { IsTrue (D.Disk.is_usable files.db) }
     requires empty { D.Disk.seen files.db ≡ [] }
@@ -87,30 +200,43 @@ pub fn run<D: Crash + Drop>(
         return Ok(None);
     };
     let request = request(alloc, step)?;
-    let reply = applied(&mut world, alloc, &request)?;
-    let has_failed = world.has_failed();
-    let live = seen(alloc, &mut world, request.id).ok();
-    Ok(Some(Run {
-        number: told(&reply),
-        reply: reply_text(alloc, &reply)?,
-        has_failed,
-        live,
-        left: left_by(alloc, world, request.id)?,
-    }))
+    let reply = reply_to(alloc, &mut world, &request)?;
+    let left = left_by(alloc, world, left, request.id)?;
+    Ok(Some(with_left(reply, left)))
+}
+
+// `None` where memory was refused before the request.
+pub fn run_in_memory(alloc: Global, step: &Step) -> Result<Option<Outcome>, Fault> {
+    let Some(mut world) = prepared_in_memory(alloc)? else {
+        return Ok(None);
+    };
+    let request = request(alloc, step)?;
+    let reply = reply_to(alloc, &mut world, &request)?;
+    let left = held_by(alloc, world, request.id)?;
+    Ok(Some(with_left(reply, left)))
 }
 
 // What a crash leaves of the world before the request.
-pub fn untouched<D: Crash + Drop>(
+pub fn untouched<D: Revive + Drop>(
     alloc: Global,
     files: Files<D>,
     step: &Step,
+    left: Left,
 ) -> Result<Option<Picture>, Fault>
     requires log { IsTrue (D.Disk.is_usable files.log) }
     requires db { IsTrue (D.Disk.is_usable files.db) }
     requires empty { D.Disk.seen files.db ≡ [] }
 {
     match prepared(alloc, files)? {
-        Some(world) => Ok(Some(left_by(alloc, world, question(step.number))?)),
+        Some(world) => Ok(Some(left_by(alloc, world, left, question(step.number))?)),
+        None => Ok(None),
+    }
+}
+
+// What a world in memory holds before the request.
+pub fn untouched_in_memory(alloc: Global, step: &Step) -> Result<Option<Picture>, Fault> {
+    match prepared_in_memory(alloc)? {
+        Some(world) => Ok(Some(held_by(alloc, world, question(step.number))?)),
         None => Ok(None),
     }
 }

@@ -1,0 +1,84 @@
+// One request of each kind in a world in memory. Run by `bench/failing_allocations.sh`, which refuses each allocation in turn: the world is that before the request or the one after it, and the reply fits.
+use crate::fitting::{Both, OUT_OF_MEMORY, expect_fits};
+use crate::requests::{Asks, Step, again, later};
+use crate::runs::{run_in_memory, untouched_in_memory};
+use package_tables::fault::Fault;
+use sheet_types::command::Mapping;
+use std::alloc::Global;
+use std::process::Abort;
+use std::test::Fail;
+
+// Ends with `OutOfMemory` where memory is refused outside the request.
+fn expect_whole(rt: &impl Abort, alloc: Global, step: &Step, told: i64) -> Result<(), Fault> {
+    let before = untouched_in_memory(alloc, step)?;
+    let after = run_in_memory(alloc, step)?;
+    let found = run_in_memory(alloc, step)?;
+    let (Some(before), Some(after), Some(found)) = (before, after, found) else {
+        return Err(Fault::OutOfMemory);
+    };
+    if after.number == OUT_OF_MEMORY {
+        return Err(Fault::OutOfMemory);
+    }
+    assert_eq!(rt; after.number, told);
+    let both = Both { before, after };
+    expect_fits(rt, &found, &both);
+    Ok(())
+}
+
+#[test]
+fn a_tile_is_added_or_not(rt: HostRuntime) -> Result<(), Fail> {
+    expect_whole(&rt, rt.alloc(), &later(9, Asks::Tile(7, 1, 1)), 5)?;
+    Ok(())
+}
+
+#[test]
+fn a_medium_is_added_or_not(rt: HostRuntime) -> Result<(), Fail> {
+    expect_whole(&rt, rt.alloc(), &later(9, Asks::Medium(7)), 5)?;
+    Ok(())
+}
+
+#[test]
+fn a_row_is_added_or_not(rt: HostRuntime) -> Result<(), Fail> {
+    expect_whole(&rt, rt.alloc(), &later(9, Asks::Row(7)), 5)?;
+    Ok(())
+}
+
+#[test]
+fn a_row_is_deleted_or_not(rt: HostRuntime) -> Result<(), Fail> {
+    expect_whole(&rt, rt.alloc(), &later(9, Asks::Delete(3)), 5)?;
+    Ok(())
+}
+
+#[test]
+fn a_row_is_linked_or_not(rt: HostRuntime) -> Result<(), Fail> {
+    expect_whole(
+        &rt,
+        rt.alloc(),
+        &later(9, Asks::Link(Mapping::RowsMedia, 3, 2)),
+        5,
+    )?;
+    Ok(())
+}
+
+#[test]
+fn a_tile_is_unlinked_or_not(rt: HostRuntime) -> Result<(), Fail> {
+    expect_whole(
+        &rt,
+        rt.alloc(),
+        &later(9, Asks::Unlink(Mapping::TilesMedia, 1, 2)),
+        5,
+    )?;
+    Ok(())
+}
+
+#[test]
+fn a_request_comes_again_or_not(rt: HostRuntime) -> Result<(), Fail> {
+    expect_whole(&rt, rt.alloc(), &again(2, Asks::Medium(2)), 2)?;
+    Ok(())
+}
+
+#[test]
+fn a_deletion_is_refused_or_not(rt: HostRuntime) -> Result<(), Fail> {
+    expect_whole(&rt, rt.alloc(), &later(9, Asks::Delete(2)), -14)?;
+    Ok(())
+}
