@@ -59,8 +59,14 @@ fn a_store_in_memory_is_blank_each_time(rt: HostRuntime) -> Result<(), Fail> {
 #[test]
 fn a_store_in_files_in_memory_is_blank_each_time(rt: HostRuntime) -> Result<(), Fail> {
     let mut shelf = MemoryFileShelf::new(rt.alloc());
-    assert_eq!(rt; begun::<FileStore<MemoryFile>, MemoryFileShelf>(&mut shelf)?, 30);
-    assert_eq!(rt; begun::<FileStore<MemoryFile>, MemoryFileShelf>(&mut shelf)?, 30);
+    assert_eq!(rt;
+        begun::<FileStore<MemoryFile>, MemoryFileShelf>(&mut shelf)?,
+        30
+    );
+    assert_eq!(rt;
+        begun::<FileStore<MemoryFile>, MemoryFileShelf>(&mut shelf)?,
+        30
+    );
     assert_eq!(rt; shelf.failures(), 0);
     Ok(())
 }
