@@ -1,6 +1,8 @@
 // Frames, grounds, edges and spans whose values were worked out by hand and by a second program.
 use crate::check::FrameRules;
-use crate::ground::{ground, has_place, in_frame, is_good, point_inside, tile_inside};
+use crate::ground::{
+    columns_at, ground, has_place, in_frame, is_good, point_inside, rows_at, tile_inside,
+};
 use crate::reach::span;
 use crate::spans::Span;
 use sheet_types::frame::{Frame, FrameFault, Ground, Rect};
@@ -252,6 +254,18 @@ fn frames_at_their_limits(rt: HostRuntime) {
         .check()
             == Ok(())
     );
+}
+
+#[test]
+fn columns_and_rows_of_a_zoom_level(rt: HostRuntime) {
+    assert_eq!(rt; columns_at(&SQUARE, 0), 1);
+    assert_eq!(rt; rows_at(&SQUARE, 2), 4);
+    assert_eq!(rt; columns_at(&OBLONG, 2), 3);
+    assert_eq!(rt; rows_at(&OBLONG, 2), 2);
+    assert_eq!(rt; columns_at(&OBLONG, 3), 6);
+    assert_eq!(rt; rows_at(&OBLONG, 3), 4);
+    assert_eq!(rt; columns_at(&GREATEST, 20), 488_281_250);
+    assert_eq!(rt; rows_at(&GREATEST, 20), 488_281_250);
 }
 
 #[test]
