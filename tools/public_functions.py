@@ -4,8 +4,9 @@
     tools/public_functions.py            a Markdown table for each crate, at most three edits and one test a function
     tools/public_functions.py --missing  the functions that lack a clause, an edit or a test; status 1 where there is one
 
-An edit counts for the public function in whose body it stands, and for each public function of the same file that calls the private helper in which it
-stands, directly or through other helpers. A test counts where it, or a helper of its file, names the function before a bracket.
+An edit counts for the public function in whose body it stands, and for each public function of the same file that calls the function in which it
+stands, directly or through others of the file. A test counts where it, or a helper of its file, names the function before a bracket.
+A law needs neither: a function with an empty body, or one with no result, no `&mut` and no handle, whose call can only give the fact of its clause.
 """
 import os
 import re
@@ -52,6 +53,13 @@ def functions(text):
                 is_public = False
         found.append({"name": head["name"], "public": is_public, "start": head.start(), "end": end.end() if end else len(text), "owner": owner})
     return found
+
+
+def is_law(text, it):
+    """Whether a call of the function can only give a fact: its body is empty, or it has no result, no `&mut` and no handle."""
+    whole = text[it["start"] : it["end"]]
+    head = re.split(r"^\s*(?:requires|ensures)\b|\{", whole, maxsplit=1, flags=re.M)[0]
+    return re.search(r"\{\}\s*$", whole) is not None or not re.search(r"->|&mut\b|\brt:|\bHostRuntime\b", head)
 
 
 def clauses(text, it):
@@ -124,13 +132,12 @@ def rows():
             for it in listed:
                 if not it["public"]:
                     continue
-                mine = reached(names, bodies, it["name"])
-                spans = [(f["start"], f["end"]) for f in listed if f is it or f["name"] in mine and f["name"] != it["name"]]
+                mine = reached(names - {it["name"]}, bodies | {it["name"]: text[it["start"] : it["end"]]}, it["name"]) - {it["name"]}
+                spans = [(f["start"], f["end"]) for f in listed if f is it or f["name"] in mine]
                 caught = [name for name, path, at in edits if path == f"src/{file}" and any(a <= at < b for a, b in spans)]
                 called = [f"{owner}::{name}" for owner, name, whole in tests if re.search(rf"\b{it['name']}\(", whole)]
                 own = [name for name in called if name.startswith(f"{crate}::")]
-                is_law = bool(re.search(r"\{\}\s*$", bodies[it["name"]]))
-                yield crate, file, it, clauses(text, it), list(dict.fromkeys(caught)), own or called, is_law
+                yield crate, file, it, clauses(text, it), list(dict.fromkeys(caught)), own or called, is_law(text, it)
 
 
 def main():

@@ -5,7 +5,7 @@ ghost use Rattle.identity_register.specs.Reads.{is_fit_end};
 
 use uuid::Uuid;
 
-/// A UUID has sixteen bytes, since its text reads back as it. Changes nothing and takes no memory.
+/// A law: a UUID has sixteen bytes, since its text reads back as it. Changes nothing and takes no memory.
 pub fn fits(id: Uuid)
     ensures { IsUuid id }
 {
@@ -13,7 +13,7 @@ pub fn fits(id: Uuid)
     let _text = id.hyphenated().encode_lower(&mut buffer);
 }
 
-/// So has one that may be missing, where it is there.
+/// The law of one that may be missing: it has sixteen bytes where it is there.
 pub fn fits_if_there(id: Option<Uuid>)
     ensures { is_fit_end id ≡ true }
 {

@@ -264,6 +264,8 @@ fn columns_and_rows_of_each_zoom(rt: HostRuntime) {
     assert_eq!(rt; rows_at(&OBLONG, 2), 2);
     assert_eq!(rt; columns_at(&OBLONG, 3), 6);
     assert_eq!(rt; rows_at(&OBLONG, 3), 4);
+    assert_eq!(rt; columns_at(&GREATEST, 20), 488_281_250);
+    assert_eq!(rt; rows_at(&GREATEST, 20), 488_281_250);
 }
 
 #[test]

@@ -18,7 +18,7 @@ use sqlite::{Alter, Connection, Row, Transaction, params};
 use std::alloc::Global;
 
 /// Enters a reference system, under a number that is free.
-pub fn insert_spatial_ref_sys<S: Alter>(
+pub(crate) fn insert_spatial_ref_sys<S: Alter>(
     tx: &mut Transaction<'_, S>,
     srs_name: &str,
     srs_id: i64,
@@ -45,7 +45,7 @@ pub fn insert_spatial_ref_sys<S: Alter>(
 }
 
 /// Enters a table into the contents, under a name and an identifier that are free.
-pub fn insert_contents<S: Alter>(
+pub(crate) fn insert_contents<S: Alter>(
     tx: &mut Transaction<'_, S>,
     table_name: &str,
     data_type: &str,
@@ -80,7 +80,7 @@ pub fn insert_contents<S: Alter>(
 }
 
 /// Enters the tile matrix set of a table that has none.
-pub fn insert_tile_matrix_set<S: Alter>(
+pub(crate) fn insert_tile_matrix_set<S: Alter>(
     tx: &mut Transaction<'_, S>,
     table_name: &str,
     srs_id: i64,
@@ -100,7 +100,7 @@ pub fn insert_tile_matrix_set<S: Alter>(
 }
 
 /// Enters a zoom level of a table that has no such level.
-pub fn insert_tile_matrix<S: Alter>(
+pub(crate) fn insert_tile_matrix<S: Alter>(
     tx: &mut Transaction<'_, S>,
     table_name: &str,
     zoom_level: i64,
@@ -131,7 +131,7 @@ pub fn insert_tile_matrix<S: Alter>(
 }
 
 /// Enters a relation, under a number and a mapping table that are free.
-pub fn insert_relation<S: Alter>(
+pub(crate) fn insert_relation<S: Alter>(
     tx: &mut Transaction<'_, S>,
     id: i64,
     base_table_name: &str,

@@ -17,7 +17,7 @@ use std::alloc::Global;
 const ALL: &str = "SELECT * FROM sheet_package ORDER BY id";
 
 /// Enters the head of the package.
-pub fn insert_head<S: Alter>(
+pub(crate) fn insert_head<S: Alter>(
     tx: &mut Transaction<'_, S>,
     id: i64,
     version: i64,

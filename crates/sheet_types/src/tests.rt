@@ -215,6 +215,77 @@ fn lines_of_loans(rt: HostRuntime) -> Result<(), Fail> {
 }
 
 #[test]
+fn ends_of_commands(rt: HostRuntime) -> Result<(), Fail> {
+    let package = archive();
+    let add = Command::Add {
+        package,
+        identity: identity(1),
+        content: tile(rt.alloc())?,
+    };
+    let delete = Command::Delete {
+        package,
+        identity: identity(1),
+    };
+    let (mapping, base, media) = (Mapping::RowsMedia, identity(1), identity(2));
+    let link = Command::Link {
+        package,
+        mapping,
+        base,
+        media,
+    };
+    let unlink = Command::Unlink {
+        package,
+        mapping,
+        base,
+        media,
+    };
+    let split = Command::Split {
+        package,
+        child: loan(),
+        mode: Mode::Strict,
+        rect: Rect {
+            zoom: 0,
+            column: 0,
+            last_column: 0,
+            row: 0,
+            last_row: 0,
+        },
+    };
+    let merge = Command::Merge {
+        child: loan(),
+        into: package,
+        ticket: 1,
+    };
+    for (command, source, target) in [
+        (&add, None, Some(package)),
+        (&delete, Some(package), None),
+        (&link, None, Some(package)),
+        (&unlink, Some(package), None),
+        (&split, Some(package), Some(loan())),
+        (&merge, Some(loan()), Some(package)),
+    ] {
+        assert_eq!(rt; command.source(), source);
+        assert_eq!(rt; command.target(), target);
+    }
+    Ok(())
+}
+
+#[test]
+fn kinds_and_sizes(rt: HostRuntime) -> Result<(), Fail> {
+    let alloc = rt.alloc();
+    // the bytes of "A" and of "JP", and the letters of "gate"
+    for (content, kind, size) in [
+        (&tile(alloc)?, MovedKind::TileItem, 1),
+        (&medium(alloc)?, MovedKind::MediaItem, 2),
+        (&attribute_row(alloc)?, MovedKind::RowItem, 4),
+    ] {
+        assert!(rt; content.kind() == kind);
+        assert_eq!(rt; content.size(), size);
+    }
+    Ok(())
+}
+
+#[test]
 fn uuids(rt: HostRuntime) -> Result<(), Fail> {
     let alloc = rt.alloc();
     assert_eq!(rt;

@@ -1,9 +1,9 @@
 use crate::example::{
-    Note, change_in_turn, find_notes, insert_all, insert_both, insert_note, insert_one,
+    NOTES, Note, change_in_turn, find_notes, insert_all, insert_both, insert_note, insert_one,
     newest_note, read_before, read_from,
 };
 use crate::forms::{COUNTERS, find_table, is_inert, is_quiet, is_table};
-use crate::opening::readopt;
+use crate::opening::{adopt, readopt};
 use sqlite::{Connection, Error, MemStore};
 use std::alloc::Global;
 use std::test::Fail;
@@ -103,11 +103,33 @@ fn forms(rt: HostRuntime) -> Result<(), Fail> {
 }
 
 #[test]
+fn a_table_and_its_form(rt: HostRuntime) -> Result<(), Fail> {
+    let conn = notes(rt.alloc())?;
+    let table = conn.schema().tables.as_slice().first().ok_or("no table")?;
+    assert!(rt; is_table(table, &NOTES));
+    assert!(rt; !is_table(table, &COUNTERS));
+    Ok(())
+}
+
+#[test]
 fn opens(rt: HostRuntime) -> Result<(), Fail> {
     let mut conn = notes(rt.alloc())?;
     conn.execute("INSERT INTO notes VALUES (2, 7, 'b'), (1, 7, 'a')", &[])?;
     let mut again = readopt(rt.alloc(), conn)?;
     assert!(rt; again.is_autocommit());
     assert_eq!(rt; read_from(&mut again, 0)?.len(), 2);
+    Ok(())
+}
+
+#[test]
+fn adopts_a_store(rt: HostRuntime) -> Result<(), Fail> {
+    let mut conn = notes(rt.alloc())?;
+    conn.execute("INSERT INTO notes VALUES (2, 7, 'b'), (1, 7, 'a')", &[])?;
+    let mut again = adopt(rt.alloc(), conn.into_store()).map_err(|(error, _)| error)?;
+    assert!(rt; again.is_autocommit());
+    let rows = read_from(&mut again, 0)?;
+    assert_eq!(rt; rows.len(), 2);
+    let seq: i64 = rows[0].get(0)?;
+    assert_eq!(rt; seq, 1);
     Ok(())
 }
