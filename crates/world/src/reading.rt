@@ -188,6 +188,6 @@ impl<S: Alter + Drop> World<S> {
     pub fn into_stores(self) -> Vec<Connection<S>>
         ensures { result.items ≡ map (λ m. m.conn) self.members }
     {
-        stores_of(self.members, self.room)
+        stores_of(self.members, self.strays)
     }
 }

@@ -34,8 +34,8 @@ pub struct World<S: Alter + Drop> {
     pub(crate) members: Vec<Member<S>>,
     pub(crate) count: u64,
     pub(crate) has_failed: bool,
-    // Always empty, with room for the stores of all members, so that they can be handed out without memory.
-    pub(crate) room: Vec<Connection<S>>,
+    // Stores that are no packages of the world, such as a split that fails leaves. No command that is served so far leaves one, so there is none. The list has room for the stores of all members too, so that all can be handed out without memory.
+    pub(crate) strays: Vec<Connection<S>>,
 }
 
 impl<S: Alter + Drop> Model for World<S> {
@@ -48,7 +48,7 @@ impl<S: Alter + Drop> Model for World<S> {
 
     ghost view = { λ w. record { frame = w.frame; members = w.members.items; count = w.count; has_failed = w.has_failed } };
 
-    ghost invariant = { λ w. IsHeld S.Store (record { frame = w.frame; members = w.members.items; count = w.count; has_failed = w.has_failed }) × HasRoom w.members.items w.room };
+    ghost invariant = { λ w. IsHeld S.Store (record { frame = w.frame; members = w.members.items; count = w.count; has_failed = w.has_failed }) × HasRoom w.members.items w.strays };
 }
 
 impl<S: Alter + Drop> World<S> {
@@ -83,7 +83,7 @@ impl<S: Alter + Drop> World<S> {
             members,
             count: 0,
             has_failed: false,
-            room,
+            strays: room,
         })
     }
 

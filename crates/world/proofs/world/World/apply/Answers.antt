@@ -7,11 +7,11 @@ use Rattle.world.proofs.world.World.apply.Goals as goal
 
 pub invariant_of-self : goal.invariant_of-self
 invariant_of-self g c =
-    (held_after g.S.Store c.args.request.now _ _ c.in-Ok.reply c.self.invariant.0 refl c.serve.ensures.serves.rests c.serve.ensures.serves.counted (step_replied g.S.Store _ _ _ _ _ _ _ c.serve.ensures.serves _ _ _ refl c.in-Ok.reply c.in-Ok.is), room_stays _ _ c.self.inside.room c.serve.ensures.long c.self.invariant.1)
+    (held_after g.S.Store c.args.request.now _ _ c.in-Ok.reply c.self.invariant.0 refl c.serve.ensures.serves.rests c.serve.ensures.serves.counted (step_replied g.S.Store _ _ _ _ _ _ _ c.serve.ensures.serves _ _ _ refl c.in-Ok.reply c.in-Ok.is), room_stays _ _ c.self.inside.strays c.serve.ensures.long c.self.invariant.1)
 
 pub invariant_of-self-in-Err : goal.invariant_of-self-in-Err
 invariant_of-self-in-Err g c =
-    (held_after g.S.Store c.args.request.now _ _ _ c.self.invariant.0 refl c.serve.ensures.serves.rests c.serve.ensures.serves.counted (step_failed g.S.Store _ _ _ _ _ _ _ c.serve.ensures.serves _ _ _ refl c.in-Err.fault c.in-Err.is _ refl), room_stays _ _ c.self.inside.room c.serve.ensures.long c.self.invariant.1)
+    (held_after g.S.Store c.args.request.now _ _ _ c.self.invariant.0 refl c.serve.ensures.serves.rests c.serve.ensures.serves.counted (step_failed g.S.Store _ _ _ _ _ _ _ c.serve.ensures.serves _ _ _ refl c.in-Err.fault c.in-Err.is _ refl), room_stays _ _ c.self.inside.strays c.serve.ensures.long c.self.invariant.1)
 
 pub returns-in-Ok-clause-step : goal.returns-in-Ok-clause-step
 returns-in-Ok-clause-step g c = step_replied g.S.Store _ _ _ _ _ _ _ c.serve.ensures.serves c.self.inside.has_failed c.is_store_fault-self-inside.result _ c.self.view_is c.in-Ok.reply c.in-Ok.is
