@@ -2,7 +2,6 @@
 ghost use Rattle.std.specs.Prelude.{◌≡◌, IfOk, IfErr};
 ghost use Rattle.sqlite_disk.specs.Disk.{CountsFault};
 ghost use Rattle.sqlite.specs.Held.{state};
-ghost use Rattle.sqlite.specs.State.{HasCleanDisk};
 ghost use Rattle.sqlite.specs.Steps.{over_memory};
 ghost use Rattle.sql_meaning.specs.Blank.{IsBlank, no_schema};
 ghost use Rattle.shelves.specs.declared.shelf.ShelfFault.TheVariants.{OutOfMemory};
@@ -32,7 +31,7 @@ impl Shelf<MemStore> for MemoryShelf {
     ghost failures_of = { λ shelf. shelf.failures };
 
     fn blank(&mut self, _package: Uuid) -> Result<Connection<MemStore>, ShelfFault>
-        ensures blank { IfOk result (λ conn. HasCleanDisk (state over_memory conn) → IsBlank no_schema (state over_memory conn).now) }
+        ensures blank { IfOk result (λ conn. IsBlank no_schema (state over_memory conn).now) }
         ensures counts { CountsFault result self.old.failures self.new.failures }
         ensures fault { IfErr result (λ fault. fault ≡ OutOfMemory) }
     {
