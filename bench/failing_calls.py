@@ -111,7 +111,7 @@ def is_right(kind, seen, whole):
         return whole.startswith(out) and status == 3 and error == b"store: StoreFault\n"
     if status == 0:
         return out == whole and error == b""
-    return status in (2, 3) and is_beginning(out, whole) and error != b""
+    return status == 3 and error in (b"store: OutOfMemory\n", b"store: StoreFault\n") and is_beginning(out, whole)
 
 
 def main():

@@ -1,1 +1,3 @@
 pub mod FrameTexts
+pub mod Pieces
+pub mod Rehearsing

@@ -1,8 +1,12 @@
 // A rehearsal: what a list of requests would come to, shown by a world in memory that ends with the program.
-ghost use Rattle.std.specs.Prelude.{◌≡◌, IfOk, string_bytes};
-ghost use Rattle.cli.specs.Arguments.{IsFirstUnread};
+ghost use Rattle.std.specs.Prelude.{◌≡◌, ℕ, List, map, IfOk, string_bytes};
+ghost use Rattle.sheet_types.specs.World.{new_world};
+ghost use Rattle.sheet_types.specs.declared.frame.Frame.{Frame};
+ghost use Rattle.world.specs.Members.{AllClean};
+ghost use Rattle.world.specs.Worlds.{StandsFor};
+ghost use Rattle.cli.specs.Arguments.{Asks, IsFirstUnread};
 ghost use Rattle.cli.specs.Endings.{import_outcome};
-ghost use Rattle.cli.specs.Rehearsals.{package_line};
+ghost use Rattle.cli.specs.Rehearsals.{package_line, package_text, packages_text, live_text, StandsOn, Writes, Rehearses};
 ghost use Rattle.cli.specs.declared.statuses.What.{What};
 ghost use Rattle.cli.specs.declared.statuses.Outcome.TheVariants.{Refused};
 
@@ -16,11 +20,12 @@ use memory_files::MemoryFile;
 use sheet_types::refusal::Refusal;
 use shelves::file_memory::MemoryFileShelf;
 use shelves::shelf::Shelf;
-use sqlite::FileStore;
+use sqlite::{Alter, FileStore};
 use std::alloc::{AllocError, Global};
 use std::io::{Read, Write};
 use uuid::Uuid;
 use world::creating::CreateFault;
+use world::reading::PackageSight;
 use world::world::World;
 
 /// Makes the archive that the words ask for in memory, imports the request list of the reader into it, and writes the report of the import and then, for each live package by its UUID, a line that names it and its manifest.
@@ -33,6 +38,7 @@ pub fn rehearse<R: Read + Drop, W: Write>(
 ) -> Outcome
     ensures refused { (what : What) → IsFirstUnread words.now.archive.now words.now.at.now words.now.frame.now what → result ≡ Refused what }
     ensures unwritten { (what : What) → IsFirstUnread words.now.archive.now words.now.at.now words.now.frame.now what → writer.new ≡ writer.old }
+    ensures carried { (uuid moment : List ℕ) (frame : Frame) → Asks words.now.archive.now words.now.at.now words.now.frame.now uuid moment frame → Rehearses (new_world uuid frame) (R.remaining reader) writer.old writer.new (W.contents writer.old) (W.contents writer.new) result }
 {
     match read_rehearsal(words) {
         Ok(rehearsal) => carried_out(alloc, &rehearsal, reader, writer),
@@ -41,11 +47,13 @@ pub fn rehearse<R: Read + Drop, W: Write>(
 }
 
 /// The world that the words ask for.
-fn new_world(
+fn new_world<S: Alter + Drop, H: Shelf<S>>(
     alloc: Global,
     rehearsal: &Rehearsal<'_>,
-    shelf: &mut MemoryFileShelf,
-) -> Result<World<FileStore<MemoryFile>>, Failure> {
+    shelf: &mut H,
+) -> Result<World<S>, Failure>
+    ensures { IfOk result (λ world. AllClean S.Store world.members → StandsFor S.Store world (new_world rehearsal.now.archive rehearsal.now.frame)) }
+{
     let conn = shelf.blank(rehearsal.archive)?;
     match World::create(
         alloc,
@@ -81,19 +89,47 @@ fn package_line(alloc: Global, package: Uuid) -> Result<String, AllocError>
     format!(in alloc; "package {package}\n")
 }
 
-/// Writes the name and the manifest of each live package, by UUID.
-fn write_packages<W: Write>(
+/// Writes the line that names a package, and its manifest.
+fn write_package<S: Alter + Drop, W: Write>(
     alloc: Global,
-    world: &mut World<FileStore<MemoryFile>>,
+    world: &mut World<S>,
+    package: Uuid,
     writer: &mut W,
-) -> Result<(), Failure> {
-    let sights = world.packages(alloc)?;
-    for sight in &sights {
-        let line = package_line(alloc, sight.uuid)?;
-        send(writer, line.as_bytes())?;
-        write_manifest(alloc, world, sight.uuid, writer)?;
+) -> Result<(), Failure>
+    ensures stands { StandsOn S.Store world.old world.new }
+    ensures written { Writes S.Store (λ w. package_text w «package») world.old world.new (W.contents writer.old) (W.contents writer.new) result }
+{
+    let line = package_line(alloc, package)?;
+    send(writer, line.as_bytes())?;
+    write_manifest(alloc, world, package, writer)?;
+    Ok(())
+}
+
+/// Writes the names and the manifests of these packages, one after the other.
+fn write_each<S: Alter + Drop, W: Write>(
+    alloc: Global,
+    world: &mut World<S>,
+    sights: &[PackageSight],
+    writer: &mut W,
+) -> Result<(), Failure>
+    ensures { Writes S.Store (λ w. packages_text w (map (λ s. s.uuid) sights.now)) world.old world.new (W.contents writer.old) (W.contents writer.new) result }
+{
+    for sight in sights {
+        write_package(alloc, world, sight.uuid, writer)?;
     }
     Ok(())
+}
+
+/// Writes the name and the manifest of each live package, by UUID.
+fn write_packages<S: Alter + Drop, W: Write>(
+    alloc: Global,
+    world: &mut World<S>,
+    writer: &mut W,
+) -> Result<(), Failure>
+    ensures { Writes S.Store live_text world.old world.new (W.contents writer.old) (W.contents writer.new) result }
+{
+    let sights = world.packages(alloc)?;
+    write_each(alloc, world, sights.as_slice(), writer)
 }
 
 // The world, the import and the manifests.
@@ -102,9 +138,14 @@ fn carried_out<R: Read + Drop, W: Write>(
     rehearsal: &Rehearsal<'_>,
     reader: R,
     writer: &mut W,
-) -> Outcome {
+) -> Outcome
+    ensures { Rehearses (new_world rehearsal.now.archive rehearsal.now.frame) (R.remaining reader) writer.old writer.new (W.contents writer.old) (W.contents writer.new) result }
+{
     let mut shelf = MemoryFileShelf::new(alloc);
-    let mut world = match new_world(alloc, rehearsal, &mut shelf) {
+    let made: Result<World<FileStore<MemoryFile>>, Failure> = new_world(
+        alloc, rehearsal, &mut shelf,
+    );
+    let mut world = match made {
         Ok(world) => world,
         Err(failure) => return Outcome::Stopped(failure),
     };

@@ -1,16 +1,16 @@
 -- A receipt that is entered under a free number, row by row.
 use Rattle.std.proofs.Common.{◌≡◌, ℕ, zero, suc, ℤ, ◌<◌, ◌≤◌, ◌+◌, pos, take, get_or, length, List, [], ◌∷◌, ◌++◌, map, Bool, true, false, Result, Ok, refl, sym, ap, subst, ◌∙◌, to_z, w64, arith}
-use Rattle.std.specs.Prelude.{◌&&◌, ◌||◌, ◌==◌, bytes_eq, flat_map}
+use Rattle.std.specs.Prelude.{bytes_eq, flat_map}
 use Rattle.std.specs.Option.{option_map_or}
 use Rattle.hex.specs.Hex.{encode_lower}
-use Rattle.std.specs.List.{AllByRecursion, IsDistinct, list_any, enumerate_from}
+use Rattle.std.specs.List.{AllByRecursion, IsDistinct, list_any}
 use Rattle.std.proofs.lemmas.Bool.{true≢false}
 use Rattle.std.proofs.lemmas.List.{take_more, take_all}
 use Rattle.std.proofs.lemmas.Slice.Eq.{bytes_eq-Decides}
 use Rattle.sqlite.specs.Effect.{Database}
 use Rattle.sqlite.specs.State.{State, Survives}
 use Rattle.sql_meaning.specs.Transactions.{Steps}
-use Rattle.sql_meaning.specs.Writing.{Chained, EachChained}
+use Rattle.sql_meaning.specs.Writing.{EachChained}
 use Rattle.sql_meaning.proofs.Transactions.{steps_then, steps_weaker}
 use Rattle.sheet_types.specs.Ordered.{arranged, put, has}
 use Rattle.sheet_types.specs.World.{Package, kind_number, receipt_key, with_receipt}
@@ -20,7 +20,7 @@ use Rattle.sheet_types.specs.declared.receipt.Moved.{Moved}
 use Rattle.sheet_types.specs.declared.receipt.MovedKind.{MovedKind}
 use Rattle.sheet_types.specs.declared.receipt.MovedKind.TheVariants.{TileItem, MediaItem, RowItem, TilesMediaLink, RowsMediaLink}
 use Rattle.sheet_types.specs.declared.receipt.Receipt.{Receipt}
-use Rattle.sheet_types.proofs.Every.{All-weaker, All-both, All-each, All-append, All-map, none_pass, none_any}
+use Rattle.sheet_types.proofs.Every.{All-weaker, All-both, All-append, All-map, none_pass, none_any}
 use Rattle.sheet_types.proofs.Order.{list_any-arranged}
 use Rattle.sheet_types.proofs.Arranging.{arranged-insert}
 use Rattle.sheet_types.proofs.Basics.{bytes_eq_swap}
@@ -31,7 +31,7 @@ use Rattle.package_tables.proofs.Stepping.{makes_steps}
 use Rattle.package_tables.specs.Entries.{AddsReceipt, AddsMoved}
 use Rattle.package_tables.specs.declared.rows.MovedRow.{MovedRow}
 use Rattle.package_tables.specs.declared.rows.ReceiptRow.{ReceiptRow}
-use Rattle.identity_register.specs.Reads.{Reads, Says, end_text, receipt_row, moved_row, moved_rows}
+use Rattle.identity_register.specs.Reads.{Says, end_text, receipt_row, moved_row, moved_rows}
 use Rattle.identity_register.specs.Calls.{Becomes}
 use Rattle.custody.specs.Receipts.{IsNewReceipt}
 use Rattle.custody.specs.Entries.{Enters, rows_from}

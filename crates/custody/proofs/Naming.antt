@@ -1,6 +1,6 @@
 -- Whether a receipt names an identity as that of an item, by the rows of the things that were moved.
-use Rattle.std.proofs.Common.{◌≡◌, ℕ, ◌+◌, ℤ, pos, List, [], ◌∷◌, ◌++◌, map, Bool, true, false, Option, Some, None, refl, sym, ap, ◌∙◌}
-use Rattle.std.specs.Prelude.{◌&&◌, ◌||◌, bytes_eq, flat_map, is_some, unwrap_or}
+use Rattle.std.proofs.Common.{◌≡◌, ℕ, ◌+◌, pos, List, [], ◌∷◌, Bool, true, false, Some, refl, sym, ap, ◌∙◌}
+use Rattle.std.specs.Prelude.{◌&&◌, ◌||◌, bytes_eq, flat_map, unwrap_or}
 use Rattle.uuid.specs.Text.{parsed}
 use Rattle.uuid.proofs.TextLemmas.{by_index_length}
 use Rattle.sheet_types.proofs.UuidTexts.{parsed_36}
@@ -8,6 +8,7 @@ use Rattle.std.specs.List.{AllByRecursion, list_any}
 use Rattle.std.specs.Ordering.{int_eq}
 use Rattle.std.specs.Option.{option_map_or}
 use Rattle.std.proofs.lemmas.Slice.Eq.{bytes_eq-Decides}
+use Rattle.sheet_types.specs.Balance.{names_identity}
 use Rattle.sheet_types.specs.Texts.{uuid_text}
 use Rattle.sheet_types.specs.Lines.{is_uuid, is_bytes, uuid_in}
 use Rattle.sheet_types.specs.World.{Package, is_item_kind, kind_number, receipt_key}
@@ -18,14 +19,12 @@ use Rattle.sheet_types.specs.declared.receipt.MovedKind.TheVariants.{TileItem, M
 use Rattle.sheet_types.specs.declared.receipt.Receipt.{Receipt}
 use Rattle.sheet_types.proofs.LineReading.{uuid_back}
 use Rattle.sheet_types.proofs.Order.{list_any-arranged}
-use Rattle.sheet_types.proofs.Same.{any_in}
-use Rattle.package_tables.specs.Calls.{IsOneOf}
-use Rattle.identity_register.proofs.Finding.{contained}
+use Rattle.identity_register.proofs.Answering.{any_append, any_flat_map}
+use Rattle.identity_register.proofs.Ends.{any_or}
 use Rattle.package_tables.specs.Package.{Tables}
 use Rattle.package_tables.specs.Shapes.{moved_shape}
-use Rattle.package_tables.specs.declared.rows.MovedRow.{MovedRow}
 use Rattle.identity_register.specs.Reads.{Says, IsFitReceipt, is_fit_end, is_fit_moved, moved_rows}
-use Rattle.custody.specs.Receipts.{names_identity, is_named}
+use Rattle.custody.specs.Receipts.{is_named}
 use Rattle.custody.specs.Entries.{rows_from, is_of}
 use Rattle.custody.proofs.Entering.{differ, apart}
 
@@ -56,40 +55,6 @@ three_kinds false RowItem = refl
 three_kinds false TilesMediaLink = refl
 three_kinds false RowsMediaLink = refl
 
--- ---- lists
-
-any_append : {X : Type 0} (p : X → Bool) (xs ys : List X) → list_any p (xs ++ ys) ≡ (list_any p xs || list_any p ys)
-any_append p [] ys = refl
-any_append p (x ∷ xs) ys = one (p x) (any_append p xs ys)
-  where
-    one : (b : Bool) → list_any p (xs ++ ys) ≡ (list_any p xs || list_any p ys) → (b || list_any p (xs ++ ys)) ≡ ((b || list_any p xs) || list_any p ys)
-    one true h = refl
-    one false h = h
-
-pub any_flat : {X Y : Type 0} (p : Y → Bool) (f : X → List Y) (xs : List X) → list_any p (flat_map f xs) ≡ list_any (λ x. list_any p (f x)) xs
-any_flat p f [] = refl
-any_flat p f (x ∷ xs) = any_append p (f x) (flat_map f xs) ∙ ap (λ b. list_any p (f x) || b) (any_flat p f xs)
-
--- one of two tests passes somewhere
-any_or : {X : Type 0} (p q : X → Bool) (xs : List X) → (list_any p xs || list_any q xs) ≡ list_any (λ x. p x || q x) xs
-any_or p q [] = refl
-any_or p q (x ∷ xs) = one (p x) (q x) (list_any p xs) (list_any q xs) (any_or p q xs)
-  where
-    one : (a b c d : Bool) → (c || d) ≡ list_any (λ y. p y || q y) xs → ((a || c) || (b || d)) ≡ ((a || b) || list_any (λ y. p y || q y) xs)
-    one true b c d h = refl
-    one false true true d h = refl
-    one false true false d h = refl
-    one false false c d h = h
-
-any_same : {X : Type 0} (p q : X → Bool) (xs : List X) → AllByRecursion (λ x. p x ≡ q x) xs → list_any p xs ≡ list_any q xs
-any_same p q [] h = refl
-any_same p q (x ∷ xs) h = (λ i. h.0 i || any_same p q xs h.1 i)
-
--- a row is found where one passes
-pub found_passes : {X : Type 0} (p : X → Bool) (xs : List X) (found : Option X) → IsOneOf p xs found → is_some found ≡ list_any p xs
-found_passes p xs None h = sym h
-found_passes p xs (Some x) h = sym (any_in p x xs (contained xs x h.0) h.1)
-
 -- ---- the tables
 
 module _ (id : List ℕ) (back : uuid_in (uuid_text id) ≡ id) where
@@ -119,6 +84,5 @@ module _ (id : List ℕ) (back : uuid_in (uuid_text id) ≡ id) where
       ∙ any_or (λ x. is_of id (pos 1) x || is_of id (pos 2) x) (is_of id (pos 3)) t.moved
       ∙ ap (list_any (λ x. is_of id (pos 1) x || is_of id (pos 2) x || is_of id (pos 3) x)) says.moved
       ∙ list_any-arranged moved_shape.key (λ x. is_of id (pos 1) x || is_of id (pos 2) x || is_of id (pos 3) x) (flat_map moved_rows says.entered)
-      ∙ any_flat (λ x. is_of id (pos 1) x || is_of id (pos 2) x || is_of id (pos 3) x) moved_rows says.entered
-      ∙ any_same _ (names_identity id) says.entered (entered_names says.entered says.fit)
+      ∙ any_flat_map moved_rows (λ x. is_of id (pos 1) x || is_of id (pos 2) x || is_of id (pos 3) x) (names_identity id) says.entered (entered_names says.entered says.fit)
       ∙ sym (ap (list_any (names_identity id)) says.kept ∙ list_any-arranged receipt_key (names_identity id) says.entered)

@@ -1,8 +1,9 @@
 -- What is entered in a package's custody, and what it answers. Profile.
-use Rattle.std.specs.Prelude.{◌≡◌, ℕ, Bool, false, ◌&&◌, ◌≤◌, List, Option, MatchOption, Contains, bytes_eq}
+use Rattle.std.specs.Prelude.{◌≡◌, ℕ, Bool, false, List, Option, MatchOption, Contains}
 use Rattle.std.specs.List.{list_any}
+use Rattle.sheet_types.specs.Balance.{names_identity}
 use Rattle.sheet_types.specs.Ordered.{has}
-use Rattle.sheet_types.specs.World.{Package, receipt_key, is_item_kind}
+use Rattle.sheet_types.specs.World.{Package, receipt_key}
 use Rattle.sheet_types.specs.declared.receipt.Receipt.{Receipt}
 use Rattle.identity_register.specs.Reads.{IsFitReceipt}
 
@@ -17,8 +18,5 @@ abbrev pub IsKept : Package → List ℕ → Option Receipt → Type 0
 IsKept p id found = MatchOption found (has (λ r. r.request) id p.receipts ≡ false) (λ r. Contains p.receipts r × (r.request ≡ id))
 
 -- a receipt of the package names the identity as that of an item
-abbrev pub names_identity : List ℕ → Receipt → Bool
-names_identity id r = list_any (λ m. is_item_kind m.kind && bytes_eq m.base id) r.items
-
 abbrev pub is_named : Package → List ℕ → Bool
 is_named p id = list_any (names_identity id) p.receipts

@@ -209,6 +209,10 @@ fn row_of<S: Alter>(conn: &mut Connection<S>, request: Uuid) -> Result<Option<Re
 }
 
 /// The receipt that the package keeps for a request, where it has one.
+///
+/// # Errors
+///
+/// Want of memory, a store that failed, or rows that no receipt has. The store is as it was.
 pub fn kept<S: Alter>(
     conn: &mut Connection<S>,
     alloc: Global,

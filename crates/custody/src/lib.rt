@@ -22,6 +22,7 @@ ghost use Rattle.identity_register.specs.Reads.{end_text, receipt_row, moved_row
 ghost use Rattle.custody.specs.Entries.{Enters, rows_from, is_of};
 ghost use Rattle.custody.specs.Receipts.{IsNewReceipt, is_named};
 
+use identity_register::kinds::{MEDIUM, ROW, TILE};
 use package_tables::fault::Fault;
 use package_tables::moved::{insert_moved, moved_of_kind};
 use package_tables::receipts::insert_receipt;
@@ -130,6 +131,10 @@ fn enter_row<S: Alter>(tx: &mut Transaction<'_, S>, receipt: &Receipt) -> Result
 }
 
 /// Enters a receipt, under a number and a request that the package has not.
+///
+/// # Errors
+///
+/// Want of memory, a store that failed, or a number of 2^63 or more, which a column of integers cannot have. Nothing is committed; the transaction has to be dropped.
 pub fn enter<S: Alter>(tx: &mut Transaction<'_, S>, receipt: &Receipt) -> Result<(), Fault>
     ensures same_reference { tx.new.conn.ghost_name ≡ tx.old.conn.ghost_name }
     ensures steps { Steps (λ _. Becomes (IsNewReceipt receipt.now) (with_receipt receipt.now)) (state S.Store tx.old.conn.now) (state S.Store tx.new.conn.now) result }
@@ -162,8 +167,8 @@ pub fn names<S: Alter>(conn: &mut Connection<S>, identity: Uuid) -> Result<bool,
     requires { Rests (state S.Store conn.old) }
     ensures { Looks (Sees (λ f p found. found ≡ is_named p identity)) (state S.Store conn.old) (state S.Store conn.new) result }
 {
-    let tile = is_moved_as(conn, identity, 1)?;
-    let medium = is_moved_as(conn, identity, 2)?;
-    let row = is_moved_as(conn, identity, 3)?;
+    let tile = is_moved_as(conn, identity, TILE)?;
+    let medium = is_moved_as(conn, identity, MEDIUM)?;
+    let row = is_moved_as(conn, identity, ROW)?;
     Ok(any_of_three(tile, medium, row))
 }

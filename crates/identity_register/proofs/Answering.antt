@@ -59,9 +59,13 @@ kind_number_tells RowsMediaLink RowItem e = cc
 kind_number_tells RowsMediaLink TilesMediaLink e = cc
 kind_number_tells RowsMediaLink RowsMediaLink e = refl
 
+-- what is there is known
+pub some_same : {X : Type 0} {x y : X} → Some x ≡ Some y → x ≡ y
+some_same e = cc
+
 -- ---- lists
 
-any_append : {X : Type 0} (q : X → Bool) (xs ys : List X) → list_any q (xs ++ ys) ≡ (list_any q xs || list_any q ys)
+pub any_append : {X : Type 0} (q : X → Bool) (xs ys : List X) → list_any q (xs ++ ys) ≡ (list_any q xs || list_any q ys)
 any_append q [] ys = refl
 any_append q (x ∷ xs) ys = ap (λ b. q x || b) (any_append q xs ys) ∙ sym (or_assoc (q x) (list_any q xs) (list_any q ys))
   where
@@ -107,9 +111,6 @@ module _ (f : Frame) (p : Package) (t : Tables) (says : Says f p t) where
       let mine : find (λ y. bytes_eq y.item.identity n.item.identity) says.numbered ≡ Some n = find_itself n says.numbered says.numbers.identities j in
       let theirs : find (λ y. bytes_eq y.item.identity m.item.identity) says.numbered ≡ Some m = find_itself m says.numbered says.numbers.identities i in
       some_same (sym (subst (λ id. find (λ y. bytes_eq y.item.identity id) says.numbered ≡ Some m) same theirs) ∙ mine)
-    where
-      some_same : {X : Type 0} {x y : X} → Some x ≡ Some y → x ≡ y
-      some_same e = cc
 
   -- an item is found under its identity
   pub item_is : (n : Numbered) → In n says.numbered → item_of p n.item.identity ≡ Some n.item

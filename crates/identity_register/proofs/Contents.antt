@@ -1,6 +1,6 @@
 -- The row of an item, by its kind and number, has the item's content.
-use Rattle.std.proofs.Common.{◌≡◌, ℕ, ℤ, pos, List, [], ◌∷◌, ◌++◌, map, Bool, true, false, Option, Some, None, refl, sym, ap, subst, ◌∙◌, inl, inr, arith}
-use Rattle.std.specs.Prelude.{◌⊎◌, ◌==◌, ◌&&◌, bytes_eq, flat_map, unsigned_abs, Contains}
+use Rattle.std.proofs.Common.{◌≡◌, ℕ, ℤ, pos, List, [], ◌∷◌, true, Some, sym, ap, subst, ◌∙◌, inl, inr, arith}
+use Rattle.std.specs.Prelude.{bytes_eq, flat_map, unsigned_abs, Contains}
 use Rattle.std.specs.Ordering.{int_eq}
 use Rattle.std.proofs.lemmas.Slice.Eq.{bytes_eq-Decides}
 use Rattle.sheet_types.specs.Texts.{uuid_text, kind_of}
@@ -19,7 +19,7 @@ use Rattle.package_tables.specs.declared.rows.IdentityRow.{IdentityRow}
 use Rattle.package_tables.specs.declared.rows.MediaRow.{MediaRow}
 use Rattle.package_tables.specs.declared.rows.TileRow.{TileRow}
 use Rattle.identity_register.specs.Answers.{IsContentOf}
-use Rattle.identity_register.specs.Numbering.{Numbered, place_in_tables, identity_row, tile_rows, media_rows, attribute_rows}
+use Rattle.identity_register.specs.Numbering.{Numbered, place_in_tables, tile_rows, media_rows, attribute_rows}
 use Rattle.identity_register.specs.Reads.{Says}
 use Rattle.identity_register.proofs.Answering.{item_of_row, same_item}
 use Rattle.identity_register.proofs.Deleting.{same_tests}

@@ -1,12 +1,13 @@
 -- An item that is taken out, with the rows of its number.
 use Rattle.std.proofs.Common.{◌≡◌, ℕ, ℤ, pos, negsuc, List, [], ◌∷◌, ◌++◌, map, Bool, true, false, cond, refl, sym, ap, subst, ◌∙◌, inl, inr, arith}
-use Rattle.std.specs.Prelude.{not, ◌&&◌, ◌||◌, ◌==◌, if◌then◌else◌, filter, find, bytes_eq, flat_map, unsigned_abs}
+use Rattle.std.specs.Prelude.{not, ◌&&◌, ◌==◌, if◌then◌else◌, filter, find, bytes_eq, flat_map, unsigned_abs}
 use Rattle.std.specs.List.{AllByRecursion, IsDistinct, list_any}
 use Rattle.std.specs.Ordering.{int_eq}
 use Rattle.std.proofs.lemmas.Bool.{true≢false, false≢true, and_parts, or_parts}
 use borrow.Author.Tests.{eqb-true, eq-eqb}
 use Rattle.std.proofs.lemmas.Slice.Eq.{bytes_eq-Decides}
 use Rattle.sheet_types.specs.Ordered.{arranged, without, is_among}
+use Rattle.sheet_types.specs.Cut.{has_end}
 use Rattle.sheet_types.specs.Matrix.{is_within}
 use Rattle.sheet_types.specs.Texts.{kind_of}
 use Rattle.sheet_types.specs.World.{Package, item_key, link_key, kind_number, kind_is, base_kind, other_kind}
@@ -28,7 +29,7 @@ use Rattle.sheet_types.proofs.Same.{In, All-In}
 use Rattle.sheet_types.proofs.Basics.{bytes_eq_itself, bytes_eq_swap, or-false}
 use Rattle.package_tables.specs.Shapes.{tile_shape, medium_shape, attribute_shape, identity_shape, tiles_media_shape, rows_media_shape}
 use Rattle.package_tables.specs.Package.{Tables}
-use Rattle.identity_register.specs.Numbering.{Numbered, greatest_number, place_in_tables, tile_rows, media_rows, attribute_rows, identity_row, number_of, mapping_row, tiles_media_rows, rows_media_rows, without_item}
+use Rattle.identity_register.specs.Numbering.{Numbered, greatest_number, place_in_tables, tile_rows, media_rows, attribute_rows, identity_row, number_of, mapping_row, tiles_media_rows, rows_media_rows, without_content, without_identity}
 use Rattle.identity_register.specs.Reads.{Says}
 
 -- ---- lists
@@ -112,6 +113,12 @@ pub and-true : (b : Bool) → (b && true) ≡ b
 and-true true = refl
 and-true false = refl
 
+-- of two tests of which the first is passed, the second
+pub place_test : (a b : Bool) → a ≡ true → (a && (b && true)) ≡ b
+place_test true true h = refl
+place_test true false h = refl
+place_test false b h = absurd (false≢true h)
+
 -- numbers from 1 on are one where their absolute values are
 pub same_number : (a b : ℤ) → is_within (pos 1) greatest_number a ≡ true → is_within (pos 1) greatest_number b ≡ true → int_eq a b ≡ (unsigned_abs a == unsigned_abs b)
 same_number (pos a) (pos b) h g = grind (arith)
@@ -164,6 +171,13 @@ attributes_of_kind = record { mine = mine; others = others }
     others number (Media content_type bytes) h = refl
     others number (Row x y code label) h = absurd (true≢false h)
 
+pub pos_same : (a b : ℕ) → int_eq (pos a) (pos b) ≡ (a == b)
+pos_same a b = grind (arith)
+
+-- a kind is this one where its number is
+stored_kind : (k a : MovedKind) → int_eq (pos (kind_number a)) (pos (kind_number k)) ≡ kind_is k a
+stored_kind k a = grind (arith)
+
 kinds_same : (k : MovedKind) (a b : MovedKind) → (kind_number a == kind_number b) ≡ true → kind_is k b ≡ kind_is k a
 kinds_same k a b h = ap (λ n. kind_number k == n) (sym (eqb-true (kind_number a) (kind_number b) h))
 
@@ -197,11 +211,6 @@ module _ {R : Type 0} (kind : MovedKind) (rows : ℤ → Content → List R) (id
           let place_is : bytes_eq (place_in_tables m) (place_in_tables n) ≡ (unsigned_abs m.number == unsigned_abs n.number) = place_test (kind_number (kind_of m.item.content) == kind_number (kind_of n.item.content)) (unsigned_abs m.number == unsigned_abs n.number) kind_same in
           rw it.1 (picked it.0 (not (int_eq (id it.0) n.number)) (keep m) (ap not (number_same ∙ sym place_is ∙ same)))
         where
-          place_test : (a b : Bool) → a ≡ true → (a && (b && true)) ≡ b
-          place_test true true h = refl
-          place_test true false h = refl
-          place_test false b h = absurd (false≢true h)
-
           same_kinds : kind_is kind (kind_of m.item.content) ≡ true → kind_is kind (kind_of n.item.content) ≡ true → (kind_number (kind_of m.item.content) == kind_number (kind_of n.item.content)) ≡ true
           same_kinds f g =
               eq-eqb (kind_number (kind_of m.item.content)) (kind_number (kind_of n.item.content))
@@ -222,8 +231,8 @@ module _ {R : Type 0} (kind : MovedKind) (rows : ℤ → Content → List R) (id
           absurd (true≢false (sym e ∙ sym (kinds_same kind (kind_of m.item.content) (kind_of n.item.content) kind_same) ∙ elsewhere))
 
   pub rows_less : (table : List R) → table ≡ arranged key (flat_map rows_of_item ns)
-      → (if kind_is kind (kind_of n.item.content) then filter (λ r. not (int_eq (id r) n.number)) table else table) ≡ arranged key (flat_map rows_of_item (filter keep ns))
-  rows_less table is = one (kind_is kind (kind_of n.item.content)) refl
+      → (if int_eq (identity_row n).kind (pos (kind_number kind)) then filter (λ r. not (int_eq (id r) n.number)) table else table) ≡ arranged key (flat_map rows_of_item (filter keep ns))
+  rows_less table is = ap (λ b. if b then filter (λ r. not (int_eq (id r) n.number)) table else table) (stored_kind kind (kind_of n.item.content)) ∙ one (kind_is kind (kind_of n.item.content)) refl
     where
       one : (b : Bool) → kind_is kind (kind_of n.item.content) ≡ b → (if b then filter (λ r. not (int_eq (id r) n.number)) table else table) ≡ arranged key (flat_map rows_of_item (filter keep ns))
       one true e =
@@ -233,18 +242,11 @@ module _ {R : Type 0} (kind : MovedKind) (rows : ℤ → Content → List R) (id
 
 -- ---- the whole package
 
-pub pos_same : (a b : ℕ) → int_eq (pos a) (pos b) ≡ (a == b)
-pos_same a b = grind (arith)
-
 pub same_row : (m n : Numbered) → is_within (pos 1) greatest_number m.number ≡ true → is_within (pos 1) greatest_number n.number ≡ true
     → (int_eq (identity_row m).kind (identity_row n).kind && int_eq m.number n.number) ≡ bytes_eq (place_in_tables m) (place_in_tables n)
 same_row m n a b =
     ap (λ x. x && int_eq m.number n.number) (pos_same (kind_number (kind_of m.item.content)) (kind_number (kind_of n.item.content)))
     ∙ ap (λ x. (kind_number (kind_of m.item.content) == kind_number (kind_of n.item.content)) && x) (same_number m.number n.number a b ∙ sym (and-true (unsigned_abs m.number == unsigned_abs n.number)))
-
--- what names neither end
-abbrev pub names : List ℕ → Relation → Bool
-names id l = bytes_eq l.base id || bytes_eq l.media id
 
 -- the same rows of each element
 pub flat_map_same : {X Y : Type 0} (f g : X → List Y) (xs : List X) → AllByRecursion (λ x. f x ≡ g x) xs → flat_map f xs ≡ flat_map g xs
@@ -272,16 +274,16 @@ module _ (p : Package) (n : Numbered) where
       all [] = tt
       all (m ∷ ms) = (apart a other m, all ms)
 
-  row_left : (ns : List Numbered) (l : Relation) → names id l ≡ false → mapping_row (filter kept ns) l ≡ mapping_row ns l
+  row_left : (ns : List Numbered) (l : Relation) → has_end id l ≡ false → mapping_row (filter kept ns) l ≡ mapping_row ns l
   row_left ns l free =
       let both = or_parts (bytes_eq l.base id) (bytes_eq l.media id) free in
       rw (number_left ns l.base both.0, number_left ns l.media both.1) refl
 
-  tiles_media_left : (ns : List Numbered) (l : Relation) (m : Mapping) → names id l ≡ false → tiles_media_rows (filter kept ns) l m ≡ tiles_media_rows ns l m
+  tiles_media_left : (ns : List Numbered) (l : Relation) (m : Mapping) → has_end id l ≡ false → tiles_media_rows (filter kept ns) l m ≡ tiles_media_rows ns l m
   tiles_media_left ns l TilesMedia free = ap (λ r. r ∷ []) (row_left ns l free)
   tiles_media_left ns l RowsMedia free = refl
 
-  rows_media_left : (ns : List Numbered) (l : Relation) (m : Mapping) → names id l ≡ false → rows_media_rows (filter kept ns) l m ≡ rows_media_rows ns l m
+  rows_media_left : (ns : List Numbered) (l : Relation) (m : Mapping) → has_end id l ≡ false → rows_media_rows (filter kept ns) l m ≡ rows_media_rows ns l m
   rows_media_left ns l TilesMedia free = refl
   rows_media_left ns l RowsMedia free = ap (λ r. r ∷ []) (row_left ns l free)
 
@@ -291,20 +293,20 @@ module _ (p : Package) (n : Numbered) where
   still_has : (kind : ℕ) (a : List ℕ) → bytes_eq a id ≡ false → list_any (λ i. bytes_eq (item_key i) (kind ∷ a)) p.items ≡ true → list_any (λ i. bytes_eq (item_key i) (kind ∷ a)) less_items ≡ true
   still_has kind a other there = any_filter (λ i. bytes_eq (item_key i) (kind ∷ a)) (λ i. not (is_among (id ∷ []) i.identity)) p.items (λ i h. gone_test i ∙ ap not (ap (λ x. bytes_eq x id) ((bytes_eq-Decides i.identity a).0 (and_parts (kind_number (kind_of i.content) == kind) (bytes_eq i.identity a) h).1) ∙ other)) there
 
-  ends_left : (l : Relation) → names id l ≡ false → HasEnds p l → HasEnds (record p { items = without (λ i. i.identity) (id ∷ []) p.items }) l
+  ends_left : (l : Relation) → has_end id l ≡ false → HasEnds p l → HasEnds (record p { items = without (λ i. i.identity) (id ∷ []) p.items }) l
   ends_left l free h =
       let both = or_parts (bytes_eq l.base id) (bytes_eq l.media id) free in
       (still_has (kind_number (base_kind l.mapping)) l.base both.0 h.0, still_has (kind_number (other_kind l.mapping)) l.media both.1 h.1)
 
 -- one item less, of which no link speaks
-pub deletes : (f : Frame) (p : Package) (t : Tables) (says : Says f p t) (n : Numbered) → In n says.numbered → list_any (names n.item.identity) p.links ≡ false
-    → Says f (record p { items = without (λ i. i.identity) (n.item.identity ∷ []) p.items }) (without_item (kind_of n.item.content) n.number t)
+pub deletes : (f : Frame) (p : Package) (t : Tables) (says : Says f p t) (n : Numbered) → In n says.numbered → list_any (has_end n.item.identity) p.links ≡ false
+    → Says f (record p { items = without (λ i. i.identity) (n.item.identity ∷ []) p.items }) (without_identity (identity_row n).kind n.number (without_content (identity_row n).kind n.number t))
 deletes f p t says n there free =
     let ns = says.numbered in
     let id = n.item.identity in
     let in_range = All-In (λ m. is_within (pos 1) greatest_number m.number ≡ true) n ns says.numbers.range there in
     let places = same_tests place_in_tables (λ m. m.item.identity) n ns says.numbers.numbers says.numbers.identities there in
-    let unnamed : AllByRecursion (λ l. names id l ≡ false) says.linked = none_pass (names id) says.linked (sym (list_any-arranged link_key (names id) says.linked) ∙ ap (list_any (names id)) (sym says.links) ∙ free) in
+    let unnamed : AllByRecursion (λ l. has_end id l ≡ false) says.linked = none_pass (has_end id) says.linked (sym (list_any-arranged link_key (has_end id) says.linked) ∙ ap (list_any (has_end id)) (sym says.links) ∙ free) in
     record {
       good = says.good;
       fixed = record { spatial_ref_sys = says.fixed.spatial_ref_sys; contents = says.fixed.contents; tile_matrix_set = says.fixed.tile_matrix_set; tile_matrix = says.fixed.tile_matrix; relations = says.fixed.relations };

@@ -1,5 +1,5 @@
 -- The steps that take an item out, as one change of the package.
-use Rattle.std.proofs.Common.{◌≡◌, ℕ, ℤ, pos, List, false, Result, Ok, refl, sym, ap, subst, ◌∙◌, FitsSigned, w64, to_z, of_z, to_z-of_z}
+use Rattle.std.proofs.Common.{◌≡◌, ℕ, ℤ, pos, List, false, Result, Ok, sym, ap, subst, ◌∙◌, FitsSigned, w64, to_z, of_z, to_z-of_z}
 use Rattle.std.specs.Prelude.{bytes_eq}
 use Rattle.std.proofs.lemmas.Slice.Eq.{bytes_eq-Decides}
 use Rattle.sqlite.specs.Effect.{Database}
@@ -11,17 +11,16 @@ use Rattle.package_tables.specs.Calls.{Makes, Answers, OnTables}
 use Rattle.package_tables.specs.Changes.{DropsIdentity}
 use Rattle.package_tables.specs.declared.rows.IdentityRow.{IdentityRow}
 use Rattle.package_tables.proofs.Stepping.{makes_steps}
+use Rattle.sheet_types.specs.Cut.{has_end}
 use Rattle.sheet_types.specs.Texts.{kind_of}
 use Rattle.sheet_types.specs.World.{kind_number}
 use Rattle.sheet_types.specs.Lines.{IsUuid}
-use Rattle.sheet_types.specs.declared.receipt.MovedKind.{MovedKind}
-use Rattle.sheet_types.specs.declared.receipt.MovedKind.TheVariants.{TileItem, MediaItem, RowItem, TilesMediaLink, RowsMediaLink}
 use Rattle.sheet_types.proofs.Same.{All-In}
-use Rattle.identity_register.specs.Numbering.{without_item, without_content, without_identity, DropsContent, DropsRows, IsRowOf}
+use Rattle.identity_register.specs.Numbering.{without_content, without_identity, DropsContent, DropsRows, IsRowOf}
 use Rattle.identity_register.specs.Reads.{Says}
 use Rattle.identity_register.specs.Calls.{Becomes}
 use Rattle.std.specs.List.{list_any}
-use Rattle.identity_register.specs.Changes.{IsLooseItem, item_deleted, names_item}
+use Rattle.identity_register.specs.Changes.{IsLooseItem, item_deleted}
 use Rattle.identity_register.proofs.Deleting.{deletes}
 use Rattle.identity_register.proofs.Finding.{row_of_uuid}
 use Rattle.identity_register.proofs.Linking.{numbered_item}
@@ -46,14 +45,6 @@ rows_steps kind number {old} {mid} {new} first makes survives =
 
 -- ---- the item
 
--- by the number of its kind the tables lose what they lose by the kind
-same_less : (kind : MovedKind) (number : ℤ) (t : Tables) → without_identity (pos (kind_number kind)) number (without_content (pos (kind_number kind)) number t) ≡ without_item kind number t
-same_less TileItem number t = refl
-same_less MediaItem number t = refl
-same_less RowItem number t = refl
-same_less TilesMediaLink number t = refl
-same_less RowsMediaLink number t = refl
-
 item_dropped : (id : List ℕ) (row : IdentityRow) (old mid new : Database) → Answers (IsRowOf id) row old mid → OnTables (DropsRows row.kind row.local_id) mid new → Becomes (IsLooseItem id) (item_deleted id) old new
 item_dropped id row old mid new found dropped f p reads fits =
     let formed_mid = subst AreFormed (sym found.0) reads.formed in
@@ -62,13 +53,13 @@ item_dropped id row old mid new found dropped f p reads fits =
     let held = numbered_item f p (tables_of old) reads.says (λ i. bytes_eq i.identity id) fits.0 in
     let fit : IsUuid id = subst IsUuid ((bytes_eq-Decides held.0.item.identity id).0 held.2) (All-In (λ m. IsUuid m.item.identity) held.0 reads.says.numbered reads.says.numbers.uuids held.1) in
     let n = row_of_uuid f p (tables_of old) reads.says id fit row there.0 there.1 in
-    let says = deletes f p (tables_of old) reads.says n.0 n.1 (subst (λ i. list_any (names_item i) p.links ≡ false) (sym n.3) fits.1) in
-    let less : without_item (kind_of n.0.item.content) n.0.number (tables_of old) ≡ tables_of new =
-    sym (same_less (kind_of n.0.item.content) n.0.number (tables_of old))
-    ∙ ap (λ r. without_identity r.kind r.local_id (without_content r.kind r.local_id (tables_of old))) n.2
+    let says = deletes f p (tables_of old) reads.says n.0 n.1 (subst (λ i. list_any (has_end i) p.links ≡ false) (sym n.3) fits.1) in
+    let kind : ℤ = pos (kind_number (kind_of n.0.item.content)) in
+    let less : without_identity kind n.0.number (without_content kind n.0.number (tables_of old)) ≡ tables_of new =
+    ap (λ r. without_identity r.kind r.local_id (without_content r.kind r.local_id (tables_of old))) n.2
     ∙ ap (λ d. without_identity row.kind row.local_id (without_content row.kind row.local_id (tables_of d))) (sym found.0)
     ∙ sym did.1 in
-    record { formed = did.0; says = subst (Says f (item_deleted id p)) less (subst (λ i. Says f (item_deleted i p) (without_item (kind_of n.0.item.content) n.0.number (tables_of old))) n.3 says) }
+    record { formed = did.0; says = subst (Says f (item_deleted id p)) less (subst (λ i. Says f (item_deleted i p) (without_identity kind n.0.number (without_content kind n.0.number (tables_of old)))) n.3 says) }
 
 -- an item is found and its rows are dropped
 pub item_steps : {E F : Type 0} (id : List ℕ) (row : IdentityRow) {old mid new : State} {r : Result (Unit {0}) F} → Steps {E = E} (Answers (IsRowOf id)) old mid (Ok row) → Steps (λ _. OnTables (DropsRows row.kind row.local_id)) mid new r

@@ -6,8 +6,8 @@ use Rattle.std.specs.Ordering.{int_eq}
 use Rattle.std.proofs.lemmas.Bool.{true≢false, and_parts, and_from}
 use Rattle.std.proofs.lemmas.Slice.Eq.{bytes_eq-Decides}
 use borrow.Author.Tests.{eqb-true}
+use Rattle.sheet_types.specs.Cut.{has_end}
 use Rattle.sheet_types.specs.Ordered.{has}
-use Rattle.sheet_types.specs.Matrix.{is_within}
 use Rattle.sheet_types.specs.Texts.{uuid_text, kind_of}
 use Rattle.sheet_types.specs.World.{Package, item_key, link_key, link_kind, kind_number, base_kind, other_kind, has_item}
 use Rattle.sheet_types.specs.Lines.{IsUuid}
@@ -30,15 +30,14 @@ use Rattle.package_tables.specs.Package.{Tables}
 use Rattle.package_tables.specs.Shapes.{tiles_media_shape, rows_media_shape}
 use Rattle.package_tables.specs.declared.rows.IdentityRow.{IdentityRow}
 use Rattle.package_tables.specs.declared.rows.MappingRow.{MappingRow}
-use Rattle.identity_register.specs.Changes.{names_item}
 use Rattle.identity_register.specs.Answers.{is_linked_row, mapping_rows, are_ends}
-use Rattle.identity_register.specs.Numbering.{Numbered, greatest_number, place_in_tables, identity_row, number_of, mapping_row, tiles_media_rows, rows_media_rows, is_pair}
+use Rattle.identity_register.specs.Numbering.{Numbered, place_in_tables, identity_row, number_of, mapping_row, tiles_media_rows, rows_media_rows, is_pair}
 use Rattle.identity_register.specs.Reads.{Says}
 use Rattle.identity_register.proofs.Deleting.{and-true, same_tests, same_number, pos_same}
 use Rattle.identity_register.proofs.Linking.{same_mapping, end_of, number_is, pair_same, one_passes, bytes_eq_append}
 use Rattle.identity_register.proofs.Adding.{other_end}
 use Rattle.identity_register.proofs.Answering.{any_flat_map, item_of_row}
-use Rattle.identity_register.proofs.Finding.{no_row_of_uuid}
+use Rattle.identity_register.proofs.Finding.{in_range, no_row_of_uuid}
 
 -- ---- tests
 
@@ -58,20 +57,17 @@ or_both false false true d = refl
 or_both false false false d = refl
 
 -- one test or the other
-any_or : {X : Type 0} (a b : X → Bool) (xs : List X) → (list_any a xs || list_any b xs) ≡ list_any (λ x. a x || b x) xs
+pub any_or : {X : Type 0} (a b : X → Bool) (xs : List X) → (list_any a xs || list_any b xs) ≡ list_any (λ x. a x || b x) xs
 any_or a b [] = refl
 any_or a b (x ∷ xs) = or_both (a x) (list_any a xs) (b x) (list_any b xs) ∙ ap (λ v. (a x || b x) || v) (any_or a b xs)
 
-any_same : {X : Type 0} (a b : X → Bool) (xs : List X) → AllByRecursion (λ x. a x ≡ b x) xs → list_any a xs ≡ list_any b xs
+pub any_same : {X : Type 0} (a b : X → Bool) (xs : List X) → AllByRecursion (λ x. a x ≡ b x) xs → list_any a xs ≡ list_any b xs
 any_same a b [] h = refl
 any_same a b (x ∷ xs) h = ap (λ v. v || list_any a xs) h.0 ∙ ap (λ v. b x || v) (any_same a b xs h.1)
 
 module _ (f : Frame) (p : Package) (t : Tables) (says : Says f p t) where
   ns : List Numbered
   ns = says.numbered
-
-  in_range : (x : Numbered) → In x says.numbered → is_within (pos 1) greatest_number x.number ≡ true
-  in_range x i = All-In (λ y. is_within (pos 1) greatest_number y.number ≡ true) x says.numbered says.numbers.range i
 
   -- the end of a link is an item where the kind and the number are
   pub end_is : (n : Numbered) → In n says.numbered → (kind : MovedKind) (id : List ℕ) → has item_key (kind_number kind ∷ id) p.items ≡ true
@@ -81,7 +77,7 @@ module _ (f : Frame) (p : Package) (t : Tables) (says : Says f p t) where
       let k : ℕ = kind_number (kind_of n.item.content) in
       ap (λ x. (x == k) && int_eq (number_of says.numbered id) n.number) (sym m.2)
       ∙ ap (λ x. (kind_number (kind_of m.0.item.content) == k) && int_eq x n.number) m.4
-      ∙ ap (λ b. (kind_number (kind_of m.0.item.content) == k) && b) (same_number m.0.number n.number (in_range m.0 m.1) (in_range n i) ∙ sym (and-true (unsigned_abs m.0.number == unsigned_abs n.number)))
+      ∙ ap (λ b. (kind_number (kind_of m.0.item.content) == k) && b) (same_number m.0.number n.number (in_range f p t says m.0 m.1) (in_range f p t says n i) ∙ sym (and-true (unsigned_abs m.0.number == unsigned_abs n.number)))
       ∙ All-In (λ y. bytes_eq (place_in_tables y) (place_in_tables n) ≡ bytes_eq y.item.identity n.item.identity) m.0 says.numbered (same_tests place_in_tables (λ y. y.item.identity) n says.numbered says.numbers.numbers says.numbers.identities i) m.1
       ∙ ap (λ x. bytes_eq x n.item.identity) m.3
 
@@ -111,10 +107,10 @@ module _ (f : Frame) (p : Package) (t : Tables) (says : Says f p t) where
   other_is n i x m e h = end_is n i (other_kind m) x.media (subst (λ m. has item_key (kind_number (other_kind m) ∷ x.media) p.items ≡ true) e h.1)
 
   -- the rows of a tile, of a medium and of a row name them as the links do
-  tile_named : (n : Numbered) → In n says.numbered → kind_of n.item.content ≡ TileItem → list_any (λ r. int_eq r.base_id n.number) t.tiles_media ≡ list_any (names_item n.item.identity) says.linked
-  tile_named n i k = tiles_media_tell (λ r. int_eq r.base_id n.number) (names_item n.item.identity) (All-weaker _ _ (λ x h. one x h x.mapping refl) says.linked says.ends)
+  tile_named : (n : Numbered) → In n says.numbered → kind_of n.item.content ≡ TileItem → list_any (λ r. int_eq r.base_id n.number) t.tiles_media ≡ list_any (has_end n.item.identity) says.linked
+  tile_named n i k = tiles_media_tell (λ r. int_eq r.base_id n.number) (has_end n.item.identity) (All-weaker _ _ (λ x h. one x h x.mapping refl) says.linked says.ends)
     where
-      one : (x : Relation) → HasEnds p x → (m : Mapping) → x.mapping ≡ m → list_any (λ r. int_eq r.base_id n.number) (tiles_media_rows says.numbered x m) ≡ names_item n.item.identity x
+      one : (x : Relation) → HasEnds p x → (m : Mapping) → x.mapping ≡ m → list_any (λ r. int_eq r.base_id n.number) (tiles_media_rows says.numbered x m) ≡ has_end n.item.identity x
       one x h TilesMedia e =
           ap2' (rw k at (base_is n i x TilesMedia e h)) (rw k at (other_is n i x TilesMedia e h))
         where
@@ -122,18 +118,18 @@ module _ (f : Frame) (p : Package) (t : Tables) (says : Says f p t) where
           ap2' a b = ap (λ v. v || false) a ∙ ap (λ v. bytes_eq x.base n.item.identity || v) b
       one x h RowsMedia e = ap (λ v. v || false) (rw k at (base_is n i x RowsMedia e h)) ∙ ap (λ v. bytes_eq x.base n.item.identity || v) (rw k at (other_is n i x RowsMedia e h))
 
-  row_named : (n : Numbered) → In n says.numbered → kind_of n.item.content ≡ RowItem → list_any (λ r. int_eq r.base_id n.number) t.rows_media ≡ list_any (names_item n.item.identity) says.linked
-  row_named n i k = rows_media_tell (λ r. int_eq r.base_id n.number) (names_item n.item.identity) (All-weaker _ _ (λ x h. one x h x.mapping refl) says.linked says.ends)
+  row_named : (n : Numbered) → In n says.numbered → kind_of n.item.content ≡ RowItem → list_any (λ r. int_eq r.base_id n.number) t.rows_media ≡ list_any (has_end n.item.identity) says.linked
+  row_named n i k = rows_media_tell (λ r. int_eq r.base_id n.number) (has_end n.item.identity) (All-weaker _ _ (λ x h. one x h x.mapping refl) says.linked says.ends)
     where
-      one : (x : Relation) → HasEnds p x → (m : Mapping) → x.mapping ≡ m → list_any (λ r. int_eq r.base_id n.number) (rows_media_rows says.numbered x m) ≡ names_item n.item.identity x
+      one : (x : Relation) → HasEnds p x → (m : Mapping) → x.mapping ≡ m → list_any (λ r. int_eq r.base_id n.number) (rows_media_rows says.numbered x m) ≡ has_end n.item.identity x
       one x h TilesMedia e = ap (λ v. v || false) (rw k at (base_is n i x TilesMedia e h)) ∙ ap (λ v. bytes_eq x.base n.item.identity || v) (rw k at (other_is n i x TilesMedia e h))
       one x h RowsMedia e = ap (λ v. v || false) (rw k at (base_is n i x RowsMedia e h)) ∙ ap (λ v. bytes_eq x.base n.item.identity || v) (rw k at (other_is n i x RowsMedia e h))
 
   medium_named : (n : Numbered) → In n says.numbered → kind_of n.item.content ≡ MediaItem
-      → (list_any (λ r. int_eq r.related_id n.number) t.tiles_media || list_any (λ r. int_eq r.related_id n.number) t.rows_media) ≡ list_any (names_item n.item.identity) says.linked
+      → (list_any (λ r. int_eq r.related_id n.number) t.tiles_media || list_any (λ r. int_eq r.related_id n.number) t.rows_media) ≡ list_any (has_end n.item.identity) says.linked
   medium_named n i k =
       ap (λ v. v || list_any q t.rows_media) (tiles_media_tell q at_tiles (All-each _ (λ x. refl) says.linked)) ∙ ap (λ v. list_any at_tiles says.linked || v) (rows_media_tell q at_rows (All-each _ (λ x. refl) says.linked))
-      ∙ any_or at_tiles at_rows says.linked ∙ any_same (λ x. at_tiles x || at_rows x) (names_item n.item.identity) says.linked (All-weaker _ _ (λ x h. one x h x.mapping refl) says.linked says.ends)
+      ∙ any_or at_tiles at_rows says.linked ∙ any_same (λ x. at_tiles x || at_rows x) (has_end n.item.identity) says.linked (All-weaker _ _ (λ x h. one x h x.mapping refl) says.linked says.ends)
     where
       q : MappingRow → Bool
       q r = int_eq r.related_id n.number
@@ -144,36 +140,36 @@ module _ (f : Frame) (p : Package) (t : Tables) (says : Says f p t) where
       at_rows : Relation → Bool
       at_rows x = list_any q (rows_media_rows says.numbered x x.mapping)
 
-      one : (x : Relation) → HasEnds p x → (m : Mapping) → x.mapping ≡ m → (list_any q (tiles_media_rows says.numbered x m) || list_any q (rows_media_rows says.numbered x m)) ≡ names_item n.item.identity x
+      one : (x : Relation) → HasEnds p x → (m : Mapping) → x.mapping ≡ m → (list_any q (tiles_media_rows says.numbered x m) || list_any q (rows_media_rows says.numbered x m)) ≡ has_end n.item.identity x
       one x h TilesMedia e =
           or-false _ ∙ or-false _ ∙ rw k at (other_is n i x TilesMedia e h) ∙ ap (λ v. v || bytes_eq x.media n.item.identity) (rw k at (base_is n i x TilesMedia e h))
       one x h RowsMedia e =
           or-false _ ∙ rw k at (other_is n i x RowsMedia e h) ∙ ap (λ v. v || bytes_eq x.media n.item.identity) (rw k at (base_is n i x RowsMedia e h))
 
   -- the stored row of an item is linked where a link names the item
-  pub linked_row : (n : Numbered) → In n says.numbered → is_linked_row (pos (kind_number (kind_of n.item.content))) n.number t ≡ list_any (names_item n.item.identity) p.links
-  linked_row n i = one n.item.content refl ∙ of_links (names_item n.item.identity)
+  pub linked_row : (n : Numbered) → In n says.numbered → is_linked_row (pos (kind_number (kind_of n.item.content))) n.number t ≡ list_any (has_end n.item.identity) p.links
+  linked_row n i = one n.item.content refl ∙ of_links (has_end n.item.identity)
     where
-      one : (content : Content) → n.item.content ≡ content → is_linked_row (pos (kind_number (kind_of content))) n.number t ≡ list_any (names_item n.item.identity) says.linked
+      one : (content : Content) → n.item.content ≡ content → is_linked_row (pos (kind_number (kind_of content))) n.number t ≡ list_any (has_end n.item.identity) says.linked
       one (Tile z c r b) e = tile_named n i (ap kind_of e)
       one (Media ct b) e = medium_named n i (ap kind_of e)
       one (Row x y c l) e = row_named n i (ap kind_of e)
 
   -- no link names an identity that no item has
-  pub none_named : (id : List ℕ) → has_item p id ≡ false → list_any (names_item id) p.links ≡ false
-  none_named id none = sym (of_links (names_item id)) ∙ none_any (names_item id) says.linked (All-weaker _ _ (λ x h. one x h) says.linked says.ends)
+  pub none_named : (id : List ℕ) → has_item p id ≡ false → list_any (has_end id) p.links ≡ false
+  none_named id none = sym (of_links (has_end id)) ∙ none_any (has_end id) says.linked (All-weaker _ _ (λ x h. one x h) says.linked says.ends)
     where
-      one : (x : Relation) → HasEnds p x → names_item id x ≡ false
+      one : (x : Relation) → HasEnds p x → has_end id x ≡ false
       one x h = ap (λ v. v || bytes_eq x.media id) (absent (base_kind x.mapping) x.base h.0) ∙ absent (other_kind x.mapping) x.media h.1
         where
           absent : (kind : MovedKind) (end : List ℕ) → has item_key (kind_number kind ∷ end) p.items ≡ true → bytes_eq end id ≡ false
           absent kind end here = bytes_eq_swap end id ∙ other_end p (kind_number kind) id end none here
 
   -- the row of an identity is linked where a link names the identity
-  pub linked_by_row : (id : List ℕ) → IsUuid id → (r : IdentityRow) → Contains t.identities r × (bytes_eq r.uuid (uuid_text id) ≡ true) → is_linked_row r.kind r.local_id t ≡ list_any (names_item id) p.links
+  pub linked_by_row : (id : List ℕ) → IsUuid id → (r : IdentityRow) → Contains t.identities r × (bytes_eq r.uuid (uuid_text id) ≡ true) → is_linked_row r.kind r.local_id t ≡ list_any (has_end id) p.links
   linked_by_row id fit r h =
       let it = item_of_row f p t says id fit r h in
-      subst (λ r. is_linked_row r.kind r.local_id t ≡ list_any (names_item id) p.links) it.2 (linked_row it.0 it.1 ∙ ap (λ x. list_any (names_item x) p.links) it.3)
+      subst (λ r. is_linked_row r.kind r.local_id t ≡ list_any (has_end id) p.links) it.2 (linked_row it.0 it.1 ∙ ap (λ x. list_any (has_end x) p.links) it.3)
 
   -- ---- one link
 

@@ -1,10 +1,11 @@
 -- From a row that a table has to the item or link that it stands for.
-use Rattle.std.proofs.Common.{◌≡◌, ℕ, List, [], ◌∷◌, ◌++◌, map, Bool, true, false, refl, sym, ap, subst, ◌∙◌, inl, inr}
+use Rattle.std.proofs.Common.{◌≡◌, ℕ, pos, List, [], ◌∷◌, ◌++◌, map, Bool, true, false, refl, sym, ap, subst, ◌∙◌, inl, inr}
 use Rattle.std.specs.Prelude.{◌⊎◌, bytes_eq, flat_map, Contains, All}
 use Rattle.std.specs.List.{list_any}
 use Rattle.std.proofs.lemmas.Bool.{true≢false, or_parts}
 use Rattle.std.proofs.lemmas.List.Elements.{All-from_recursion}
 use Rattle.std.proofs.lemmas.Slice.Eq.{bytes_eq-Decides}
+use Rattle.sheet_types.specs.Matrix.{is_within}
 use Rattle.sheet_types.specs.Ordered.{arranged}
 use Rattle.sheet_types.specs.Texts.{uuid_text}
 use Rattle.sheet_types.specs.World.{Package, item_key, has_item}
@@ -17,7 +18,7 @@ use Rattle.sheet_types.proofs.Basics.{bytes_eq_itself}
 use Rattle.package_tables.specs.Package.{Tables}
 use Rattle.package_tables.specs.Shapes.{identity_shape}
 use Rattle.package_tables.specs.declared.rows.IdentityRow.{IdentityRow}
-use Rattle.identity_register.specs.Numbering.{Numbered, identity_row}
+use Rattle.identity_register.specs.Numbering.{Numbered, greatest_number, identity_row}
 use Rattle.identity_register.specs.Reads.{Says}
 
 -- ---- elements
@@ -31,7 +32,7 @@ contained xs x h = all_contains (λ y. In y xs) xs x (All-from_recursion (λ y. 
 pub in_arranged : {X : Type 0} (key : X → List ℕ) (xs : List X) (x : X) → In x (arranged key xs) → In x xs
 in_arranged key xs x i = All-In (λ y. In y xs) x (arranged key xs) (All-arranged key (λ y. In y xs) xs (In-all xs)) i
 
-in_append : {X : Type 0} (y : X) (xs ys : List X) → In y (xs ++ ys) → In y xs ⊎ In y ys
+pub in_append : {X : Type 0} (y : X) (xs ys : List X) → In y (xs ++ ys) → In y xs ⊎ In y ys
 in_append y [] ys i = inr i
 in_append y (x ∷ xs) ys i = elim i [ inl e ↦ inl (inl e) | inr j ↦ elim (in_append y xs ys j) [ inl a ↦ inl (inr a) | inr b ↦ inr b ] ]
 
@@ -50,6 +51,10 @@ module _ (f : Frame) (p : Package) (t : Tables) (says : Says f p t) where
   pub row_numbered : (r : IdentityRow) → Contains t.identities r → (n : Numbered) × In n says.numbered × (identity_row n ≡ r)
   row_numbered r h =
       In-of_map identity_row r says.numbered (in_arranged identity_shape.key (map identity_row says.numbered) r (subst (In r) says.identities (contained t.identities r h)))
+
+  -- the number of an item is one that may be
+  pub in_range : (n : Numbered) → In n says.numbered → is_within (pos 1) greatest_number n.number ≡ true
+  in_range n i = All-In (λ m. is_within (pos 1) greatest_number m.number ≡ true) n says.numbered says.numbers.range i
 
   uuid_of : (n : Numbered) → In n says.numbered → IsUuid n.item.identity
   uuid_of n i = All-In (λ m. IsUuid m.item.identity) n says.numbered says.numbers.uuids i

@@ -1,6 +1,6 @@
 -- The items and links that whole tables give are those of the package.
 use Rattle.std.proofs.Common.{◌≡◌, ℕ, suc, ◌+◌, ◌<◌, pos, List, [], ◌∷◌, ◌++◌, map, length, get_or, take, true, Some, Result, Ok, Err, refl, sym, ap, subst, ◌∙◌, inl, inr, append_assoc, arith}
-use Rattle.std.specs.Prelude.{◌⊎◌, bytes_eq, flat_map, unsigned_abs, unwrap_or, Contains, IsPermutation}
+use Rattle.std.specs.Prelude.{bytes_eq, flat_map, unsigned_abs, unwrap_or, Contains, IsPermutation}
 use Rattle.std.specs.List.{AllByRecursion, AllZip, AllAdjacentBelow}
 use Rattle.std.proofs.lemmas.List.{map-append, take_more}
 use Rattle.std.proofs.lemmas.List.Elements.{All-contains_itself, recursion_from_All}
@@ -24,6 +24,7 @@ use Rattle.sheet_types.proofs.Basics.{bytes_eq_itself, before_trans}
 use Rattle.sheet_types.proofs.Every.{All-weaker, All-append, All-map}
 use Rattle.sheet_types.proofs.Same.{In, In-map, In-of_map, In-flat_map, All-In, Contains-In, same_list}
 use Rattle.sheet_types.proofs.LineReading.{uuid_back}
+use Rattle.package_tables.specs.Calls.{Answers}
 use Rattle.package_tables.specs.Package.{Tables}
 use Rattle.package_tables.specs.Shapes.{tiles_media_shape, rows_media_shape}
 use Rattle.package_tables.specs.declared.rows.AttributeRow.{AttributeRow}
@@ -32,20 +33,16 @@ use Rattle.package_tables.specs.declared.rows.MappingRow.{MappingRow}
 use Rattle.package_tables.specs.declared.rows.MediaRow.{MediaRow}
 use Rattle.package_tables.specs.declared.rows.TileRow.{TileRow}
 use Rattle.identity_register.specs.Answers.{IsContentOf, mapping_rows}
-use Rattle.identity_register.specs.Calls.{Sees}
 use Rattle.identity_register.specs.Gathered.{tile_placed, medium_placed, attributes_placed, IsPlaced, IsItemOf, IsNamed, IsLinkOf}
 use Rattle.identity_register.specs.Numbering.{Numbered, identity_row, number_of, mapping_row, tiles_media_rows, rows_media_rows}
 use Rattle.identity_register.specs.Reads.{Says}
 use Rattle.identity_register.specs.declared.whole.Placed.{Placed}
-use Rattle.identity_register.proofs.Answering.{same_item, item_is}
+use Rattle.identity_register.proofs.Answering.{some_same, same_item, item_is}
 use Rattle.identity_register.proofs.Contents.{content_by_row, one_place}
-use Rattle.identity_register.proofs.Finding.{contained, in_arranged, in_flat_map, row_numbered, same_uuid}
+use Rattle.identity_register.proofs.Finding.{contained, in_arranged, in_append, in_flat_map, row_numbered, same_uuid}
 use Rattle.identity_register.proofs.Linking.{end_of}
-use Rattle.identity_register.proofs.Looking.{Looked, sees, fails}
+use Rattle.identity_register.proofs.Looking.{Looked, tells, fails}
 use Rattle.identity_register.proofs.OnePackage.{to_arranged, distinct_arranged, row_stored, items_arranged}
-
-some_same : {X : Type 0} {x y : X} → Some x ≡ Some y → x ≡ y
-some_same e = cc
 
 -- ---- lists
 
@@ -61,10 +58,6 @@ zip_right R y [] [] h i = absurd i
 zip_right R y (x ∷ xs) [] h i = absurd i
 zip_right R y [] (z ∷ zs) h i = absurd h
 zip_right R y (x ∷ xs) (z ∷ zs) h i = elim i [ inl e ↦ (x, inl refl, subst (λ v. R x v) e h.0) | inr j ↦ let it = zip_right R y xs zs h.1 j in (it.0, inr it.1, it.2) ]
-
-in_either : {X : Type 0} (x : X) (xs ys : List X) → In x (xs ++ ys) → In x xs ⊎ In x ys
-in_either x [] ys i = inr i
-in_either x (z ∷ zs) ys i = elim i [ inl e ↦ inl (inl e) | inr j ↦ elim (in_either x zs ys j) [ inl a ↦ inl (inr a) | inr b ↦ inr b ] ]
 
 in_first : {X : Type 0} (x : X) (xs ys : List X) → In x xs → In x (xs ++ ys)
 in_first x [] ys i = absurd i
@@ -224,7 +217,7 @@ module _ (f : Frame) (p : Package) (t : Tables) (says : Says f p t) where
       same_list link_key found p.links order (subst (IsArranged link_key) (sym says.links) (distinct_arranged link_key says.linked says.distinct_links)) to fro
     where
       to : (x : Relation) → In x found → In x p.links
-      to x i = elim (in_either x made others (moved x found (made ++ others) (IsPermutation-sym (made ++ others) found moves) i)) [
+      to x i = elim (in_append x made others (moved x found (made ++ others) (IsPermutation-sym (made ++ others) found moves) i)) [
         | inl a ↦ made_of rows all TilesMedia of_tiles made first tiles x a
         | inr b ↦ made_of rows all RowsMedia of_rows others second media x b
       ]
@@ -236,8 +229,8 @@ module _ (f : Frame) (p : Package) (t : Tables) (says : Says f p t) where
           one TilesMedia e j = in_first x made others (is_made rows all TilesMedia of_tiles made first tiles x e j)
           one RowsMedia e j = in_second x made others (is_made rows all RowsMedia of_rows others second media x e j)
 
--- what was looked at says of a last value what the package has
-pub sees_if : {X E : Type 0} {Fact : Tables → Type 0} {Answer : Frame → Package → X → Type 0} {old new : State} (r : Result X E) → Looked Fact old new
-    → ((x : X) → r ≡ Ok x → (f : Frame) (p : Package) (t : Tables) → Says f p t → Fact t → Answer f p x) → Looks {X = X} {E = E} (Sees Answer) old new r
-sees_if (Ok x) it says = sees it (says x refl)
-sees_if (Err e) it says = fails (Err e) refl it.stays
+-- what was looked at answers by a last value
+pub tells_if : {X E : Type 0} {Fact : Tables → Type 0} (Answer : Tables → X → Type 0) {old new : State} (r : Result X E) → Looked Fact old new
+    → ((x : X) → r ≡ Ok x → (t : Tables) → Fact t → Answer t x) → Looks {X = X} {E = E} (Answers Answer) old new r
+tells_if Answer (Ok x) it says = tells Answer it (says x refl)
+tells_if Answer (Err e) it says = fails (Err e) refl it.stays

@@ -1,5 +1,5 @@
 -- The steps that put a link in or take it out, as one change of the package.
-use Rattle.std.proofs.Common.{◌≡◌, ℕ, ℤ, pos, List, [], ◌∷◌, ◌++◌, true, false, Result, Ok, refl, sym, ap, subst, ◌∙◌}
+use Rattle.std.proofs.Common.{◌≡◌, ℕ, ℤ, List, [], ◌∷◌, ◌++◌, false, Result, Ok, refl, sym, ap, subst, ◌∙◌}
 use Rattle.std.specs.Prelude.{◌&&◌, ◌==◌, bytes_eq, flat_map, unsigned_abs}
 use Rattle.std.specs.List.{AllByRecursion, list_any}
 use Rattle.std.specs.Ordering.{int_eq}
@@ -15,9 +15,7 @@ use Rattle.package_tables.proofs.Stepping.{makes_steps}
 use Rattle.package_tables.specs.declared.rows.IdentityRow.{IdentityRow}
 use Rattle.package_tables.specs.declared.rows.MappingRow.{MappingRow}
 use Rattle.sheet_types.specs.Ordered.{has}
-use Rattle.sheet_types.specs.Matrix.{is_within}
 use Rattle.sheet_types.specs.World.{Package, link_key, base_kind, other_kind}
-use Rattle.sheet_types.proofs.Same.{In, All-In}
 use Rattle.package_tables.specs.Changes.{AddsTilesMedia, AddsRowsMedia}
 use Rattle.sheet_types.specs.Lines.{IsUuid}
 use Rattle.sheet_types.specs.Register.{HasEnds}
@@ -27,19 +25,16 @@ use Rattle.sheet_types.specs.declared.command.Relation.{Relation}
 use Rattle.sheet_types.specs.declared.frame.Frame.{Frame}
 use Rattle.sheet_types.proofs.Every.{none_pass}
 use Rattle.sheet_types.proofs.Order.{list_any-arranged}
-use Rattle.identity_register.specs.Numbering.{Numbered, greatest_number, number_of, mapping_row, tiles_media_rows, rows_media_rows, with_link, without_link, AddsLink, DropsLink, IsRowOf}
+use Rattle.identity_register.specs.Numbering.{number_of, mapping_row, tiles_media_rows, rows_media_rows, with_link, without_link, AddsLink, DropsLink, IsRowOf}
 use Rattle.identity_register.specs.Reads.{Says}
 use Rattle.identity_register.specs.Calls.{Becomes}
 use Rattle.identity_register.specs.Changes.{IsNewLink, link_added, IsLink, link_removed}
 use Rattle.identity_register.proofs.Deleting.{and-true, same_number}
-use Rattle.identity_register.proofs.Finding.{row_of_uuid}
+use Rattle.identity_register.proofs.Finding.{in_range, row_of_uuid}
 use Rattle.identity_register.proofs.Linking.{links, unlinks, pair_same, end_of, number_is}
 use Rattle.identity_register.proofs.Ends.{ends_there}
 
 module _ (f : Frame) (p : Package) (t : Tables) (says : Says f p t) where
-  in_range : (n : Numbered) → In n says.numbered → is_within (pos 1) greatest_number n.number ≡ true
-  in_range n i = All-In (λ m. is_within (pos 1) greatest_number m.number ≡ true) n says.numbered says.numbers.range i
-
   -- the row that was found gives the number
   found_number : (id : List ℕ) → IsUuid id → (r : IdentityRow) → IsRowOf id t r → number_of says.numbered id ≡ r.local_id
   found_number id fit r h =
@@ -55,9 +50,9 @@ module _ (f : Frame) (p : Package) (t : Tables) (says : Says f p t) where
       let c = end_of f p t says (base_kind l.mapping) l.base hl.0 in
       let d = end_of f p t says (other_kind l.mapping) l.media hl.1 in
       let base : int_eq (number_of says.numbered x.base) (number_of says.numbered l.base) ≡ (unsigned_abs (number_of says.numbered x.base) == unsigned_abs (number_of says.numbered l.base)) =
-      rw (a.4, c.4) (same_number a.0.number c.0.number (in_range a.0 a.1) (in_range c.0 c.1)) in
+      rw (a.4, c.4) (same_number a.0.number c.0.number (in_range f p t says a.0 a.1) (in_range f p t says c.0 c.1)) in
       let other : int_eq (number_of says.numbered x.media) (number_of says.numbered l.media) ≡ (unsigned_abs (number_of says.numbered x.media) == unsigned_abs (number_of says.numbered l.media)) =
-      rw (b.4, d.4) (same_number b.0.number d.0.number (in_range b.0 b.1) (in_range d.0 d.1)) in
+      rw (b.4, d.4) (same_number b.0.number d.0.number (in_range f p t says b.0 b.1) (in_range f p t says d.0 d.1)) in
       ap (λ v. (unsigned_abs (number_of says.numbered x.base) == unsigned_abs (number_of says.numbered l.base)) && v) (and-true (unsigned_abs (number_of says.numbered x.media) == unsigned_abs (number_of says.numbered l.media)))
       ∙ sym (ap (λ v. v && (unsigned_abs (number_of says.numbered x.media) == unsigned_abs (number_of says.numbered l.media))) base)
       ∙ sym (ap (λ v. int_eq (number_of says.numbered x.base) (number_of says.numbered l.base) && v) other)

@@ -8,8 +8,8 @@ pub mod Numbers
 pub mod NewPackage
 pub mod Looking
 pub mod Uuids
-mod Answering
-mod Ends
+pub mod Answering
+pub mod Ends
 mod Contents
 mod OneFrame
 pub mod OnePackage

@@ -1,5 +1,5 @@
 -- Links that come in and go, by the numbers of their ends.
-use Rattle.std.proofs.Common.{◌≡◌, ℕ, pos, List, [], ◌∷◌, ◌++◌, map, Bool, true, false, cond, Some, refl, sym, ap, subst, ◌∙◌, inl, inr, length, arith}
+use Rattle.std.proofs.Common.{◌≡◌, ℕ, List, [], ◌∷◌, ◌++◌, map, Bool, true, false, cond, Some, refl, sym, ap, subst, ◌∙◌, inl, inr, length, arith}
 use Rattle.std.specs.Prelude.{not, ◌&&◌, ◌||◌, ◌==◌, filter, find, bytes_eq, flat_map, unsigned_abs}
 use Rattle.std.specs.List.{AllByRecursion, IsDistinct, list_any}
 use Rattle.std.specs.Ordering.{int_eq}
@@ -7,7 +7,6 @@ use Rattle.std.proofs.lemmas.Bool.{true≢false, false≢true, and_parts}
 use Rattle.std.proofs.lemmas.Slice.Eq.{bytes_eq-Decides}
 use borrow.Author.Tests.{eqb-true, eq-eqb}
 use Rattle.sheet_types.specs.Ordered.{arranged, put, without, has, is_among}
-use Rattle.sheet_types.specs.Matrix.{is_within}
 use Rattle.sheet_types.specs.Texts.{kind_of}
 use Rattle.sheet_types.specs.World.{Package, item_key, link_key, link_kind, kind_number, base_kind, other_kind}
 use Rattle.sheet_types.specs.Lines.{IsUuid}
@@ -28,10 +27,11 @@ use Rattle.sheet_types.proofs.Basics.{bytes_eq_itself, bytes_eq_swap, or-false}
 use Rattle.package_tables.specs.Shapes.{tiles_media_shape, rows_media_shape}
 use Rattle.package_tables.specs.Package.{Tables}
 use Rattle.package_tables.specs.declared.rows.MappingRow.{MappingRow}
-use Rattle.identity_register.specs.Numbering.{Numbered, greatest_number, place_in_tables, number_of, mapping_row, tiles_media_rows, rows_media_rows, with_link, without_link, is_pair}
+use Rattle.identity_register.specs.Numbering.{Numbered, place_in_tables, number_of, mapping_row, tiles_media_rows, rows_media_rows, with_link, without_link, is_pair}
 use Rattle.identity_register.specs.Reads.{Says}
 use Rattle.identity_register.proofs.Adding.{turned}
-use Rattle.identity_register.proofs.Deleting.{filter-flat_map, flat_map-kept, distinct_filter, same_tests, same_number}
+use Rattle.identity_register.proofs.Deleting.{filter-flat_map, flat_map-kept, distinct_filter, same_tests, same_number, place_test}
+use Rattle.identity_register.proofs.Finding.{in_range}
 
 -- ---- a link more
 
@@ -167,19 +167,13 @@ module _ (f : Frame) (p : Package) (t : Tables) (says : Says f p t) where
       let m = end_of kind a ha in
       let n = end_of kind b hb in
       let ns = says.numbered in
-      let in_range : (x : Numbered) → In x ns → is_within (pos 1) greatest_number x.number ≡ true = λ x i. All-In (λ y. is_within (pos 1) greatest_number y.number ≡ true) x ns says.numbers.range i in
       let long : (x : Numbered) → In x ns → length x.item.identity ≡ 16 = λ x i. uuid_length x.item.identity (All-In (λ y. IsUuid y.item.identity) x ns says.numbers.uuids i) in
       let places = All-In (λ y. bytes_eq (place_in_tables y) (place_in_tables n.0) ≡ bytes_eq y.item.identity n.0.item.identity) m.0 ns (same_tests place_in_tables (λ y. y.item.identity) n.0 ns says.numbers.numbers says.numbers.identities n.1) m.1 in
       let kinds : (kind_number (kind_of m.0.item.content) == kind_number (kind_of n.0.item.content)) ≡ true = eq-eqb (kind_number (kind_of m.0.item.content)) (kind_number (kind_of n.0.item.content)) (m.2 ∙ sym n.2) in
       let place_is : bytes_eq (place_in_tables m.0) (place_in_tables n.0) ≡ (unsigned_abs m.0.number == unsigned_abs n.0.number) = place_test (kind_number (kind_of m.0.item.content) == kind_number (kind_of n.0.item.content)) (unsigned_abs m.0.number == unsigned_abs n.0.number) kinds in (
-        rw (m.4, n.4) (same_number m.0.number n.0.number (in_range m.0 m.1) (in_range n.0 n.1)) ∙ sym place_is ∙ places ∙ rw (m.3, n.3) refl,
+        rw (m.4, n.4) (same_number m.0.number n.0.number (in_range f p t says m.0 m.1) (in_range f p t says n.0 n.1)) ∙ sym place_is ∙ places ∙ rw (m.3, n.3) refl,
         ap length (sym m.3) ∙ long m.0 m.1 ∙ sym (long n.0 n.1) ∙ ap length n.3,
       )
-    where
-      place_test : (x y : Bool) → x ≡ true → (x && (y && true)) ≡ y
-      place_test true true h = refl
-      place_test true false h = refl
-      place_test false y h = absurd (false≢true h)
 
   pub pair_same : (x l : Relation) → x.mapping ≡ l.mapping → HasEnds p x → HasEnds p l → is_pair (mapping_row says.numbered x) (mapping_row says.numbered l) ≡ bytes_eq (link_key x) (link_key l)
   pair_same x l same hx hl =

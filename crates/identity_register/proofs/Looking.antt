@@ -1,8 +1,8 @@
 -- Calls that look at the tables of one store, one after the other, and what they tell of its package.
-use Rattle.std.proofs.Common.{◌≡◌, refl, sym, ap, subst, ◌∙◌, Result, Ok, Err, IsTrue, IfOk, IsErr, arith}
+use Rattle.std.proofs.Common.{◌≡◌, refl, sym, subst, ◌∙◌, Result, Ok, Err, IsTrue, IsErr, arith}
 use Rattle.sqlite.specs.Effect.{Database}
-use Rattle.sqlite.specs.State.{State, HasCleanDisk, Survives}
-use Rattle.sql_meaning.specs.Transactions.{Rests, Looks}
+use Rattle.sqlite.specs.State.{State, HasCleanDisk}
+use Rattle.sql_meaning.specs.Transactions.{Looks}
 use Rattle.sql_meaning.specs.Staying.{Stays}
 use Rattle.sql_meaning.proofs.Staying.{looks_stays, stays_then}
 use Rattle.sheet_types.specs.World.{Package}
@@ -10,7 +10,7 @@ use Rattle.sheet_types.specs.declared.frame.Frame.{Frame}
 use Rattle.package_tables.specs.Calls.{Answers}
 use Rattle.package_tables.specs.Package.{Tables, tables_of, AreFormed}
 use Rattle.identity_register.specs.Calls.{Sees}
-use Rattle.identity_register.specs.Reads.{Reads, Says}
+use Rattle.identity_register.specs.Reads.{Says}
 
 -- what some calls have found in the tables so far, the store left as it was
 pub record Looked (Fact : Tables → Type 0) (old new : State) : Type 0 where

@@ -1,5 +1,5 @@
 -- A package whose moment of the last change is another is the same package.
-use Rattle.std.proofs.Common.{ℕ, List, Result, Ok, refl, sym, subst}
+use Rattle.std.proofs.Common.{ℕ, List, Result, Ok, refl, sym, ap, subst, ◌∙◌}
 use Rattle.std.specs.Prelude.{codes, ⊤}
 use Rattle.std.specs.List.{IsDistinct}
 use Rattle.sqlite.specs.Effect.{Database}
@@ -15,7 +15,7 @@ use Rattle.package_tables.specs.Fixed.{contents_of}
 use Rattle.package_tables.specs.Package.{Tables, tables_of}
 use Rattle.package_tables.specs.Shapes.{contents_shape}
 use Rattle.package_tables.proofs.FixedKept.{names_apart, fixed_kept, dated_in_turn}
-use Rattle.identity_register.specs.Calls.{Becomes, Dates}
+use Rattle.identity_register.specs.Calls.{Becomes, HasLastChange, Dates}
 use Rattle.identity_register.specs.Reads.{Says}
 
 -- one call sets the moment of one table, where the names differ
@@ -61,7 +61,8 @@ dated_so at old one two new media rows tiles f p reads =
     let later = fixed_kept f at (codes "sheet_rows") (tables_of one) (tables_of two) after second.1 in
     let third = tiles (names_apart f (tables_of two) later) second.0 in
     let are = dated_in_turn f at (tables_of old) (tables_of one) (tables_of two) (tables_of new) fixed first.1 second.1 third.1 in
-    (record { formed = third.0; says = subst (Says f p) (sym are) (still_says f p at (tables_of old) reads.says) }, are)
+    let last : HasLastChange f at new = ap (λ (t : Tables). t.contents) are in
+    (record { formed = third.0; says = subst (Says f p) (sym are) (still_says f p at (tables_of old) reads.says) }, last, are ∙ ap (λ c. record (tables_of old) { contents = c }) (sym last))
 
 pub dated_steps : {E F G : Type 0} (at : List ℕ) {old one two new : State} {x y : Unit {0}} {r : Result (Unit {0}) G} → Steps {E = E} (λ _. Sets at (codes "sheet_media")) old one (Ok x) → Steps {E = F} (λ _. Sets at (codes "sheet_rows")) one two (Ok y)
     → Steps (λ _. Sets at (codes "sheet_tiles")) two new r → Steps (λ _. Dates at) old new r

@@ -1,14 +1,13 @@
 -- The fixed rows are those of one frame.
-use Rattle.std.proofs.Common.{◌≡◌, ℕ, zero, suc, ◌+◌, ◌<◌, ◌^◌, ℤ, pos, negsuc, ◌+ℤ◌, ◌-ℤ◌, ◌*ℤ◌, ◌≤ℤ◌, List, [], ◌∷◌, map, Bool, true, false, refl, sym, ap, ◌∙◌, length, arith}
-use Rattle.std.specs.Prelude.{unsigned_abs, int_le}
+use Rattle.std.proofs.Common.{◌≡◌, ℕ, zero, suc, ◌+◌, ◌<◌, ◌^◌, ℤ, pos, negsuc, ◌+ℤ◌, ◌-ℤ◌, ◌*ℤ◌, ◌≤ℤ◌, List, ◌∷◌, map, true, refl, sym, ap, ◌∙◌, length, arith}
+use Rattle.std.specs.Prelude.{unsigned_abs}
 use Rattle.std.specs.List.{range_with_len}
 use Rattle.std.proofs.lemmas.Int.{ints}
 use Rattle.matrix_rules.proofs.Frames.{good_frame}
 use Rattle.sheet_types.specs.Matrix.{is_good_frame, width_at, height_at, level_of}
 use Rattle.sheet_types.specs.declared.frame.Frame.{Frame}
-use Rattle.package_tables.specs.Fixed.{HasFixed, matrix_set, level_row, first_levels, levels_of}
+use Rattle.package_tables.specs.Fixed.{HasFixed, matrix_set, level_row, first_levels}
 use Rattle.package_tables.specs.Package.{Tables}
-use Rattle.package_tables.specs.declared.rows.TileMatrixRow.{TileMatrixRow}
 
 -- as many as were counted
 counted : {X : Type 0} (f : ℕ → X) (a n : ℕ) → length (map f (range_with_len a n)) ≡ n

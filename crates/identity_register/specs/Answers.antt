@@ -1,5 +1,5 @@
 -- What the mapping tables answer of rows.
-use Rattle.std.specs.Prelude.{◌≡◌, ℤ, pos, Bool, true, false, List, Contains, if◌then◌else◌, ◌||◌, ◌&&◌}
+use Rattle.std.specs.Prelude.{◌≡◌, ℤ, pos, Bool, List, Contains, if◌then◌else◌, ◌||◌, ◌&&◌}
 use Rattle.std.specs.List.{list_any}
 use Rattle.std.specs.Ordering.{int_eq}
 use Rattle.sheet_types.specs.World.{kind_number, base_kind, other_kind}

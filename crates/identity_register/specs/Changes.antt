@@ -1,7 +1,8 @@
 -- The four changes of a package, each by one item or link, and what the caller owes for each.
-use Rattle.std.specs.Prelude.{◌≡◌, ℕ, Bool, true, false, List, [], ◌∷◌, ◌||◌, bytes_eq}
+use Rattle.std.specs.Prelude.{◌≡◌, ℕ, true, false, List, [], ◌∷◌}
 use Rattle.std.specs.List.{list_any}
 use Rattle.sheet_types.specs.Ordered.{put, without, has}
+use Rattle.sheet_types.specs.Cut.{has_end}
 use Rattle.sheet_types.specs.World.{Package, item_key, link_key, has_item}
 use Rattle.sheet_types.specs.Lines.{IsUuid}
 use Rattle.sheet_types.specs.Register.{HasEnds}
@@ -16,13 +17,9 @@ pub record IsNewItem (id : List ℕ) (p : Package) : Type 0 where
 abbrev pub item_added : Item → Package → Package
 item_added i p = record p { items = put item_key i p.items }
 
--- a link names the item
-abbrev pub names_item : List ℕ → Relation → Bool
-names_item id l = bytes_eq l.base id || bytes_eq l.media id
-
 -- the item is there, and no link names it
 abbrev pub IsLooseItem : List ℕ → Package → Type 0
-IsLooseItem id p = (has_item p id ≡ true) × (list_any (names_item id) p.links ≡ false)
+IsLooseItem id p = (has_item p id ≡ true) × (list_any (has_end id) p.links ≡ false)
 
 abbrev pub item_deleted : List ℕ → Package → Package
 item_deleted id p = record p { items = without (λ i. i.identity) (id ∷ []) p.items }

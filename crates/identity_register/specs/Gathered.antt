@@ -1,11 +1,12 @@
 -- What the rows of whole tables say of the items and the links of a package.
-use Rattle.std.specs.Prelude.{◌≡◌, ℕ, ℤ, pos, List, Some, Contains}
+use Rattle.std.specs.Prelude.{◌≡◌, ℕ, ℤ, pos, List, Some, Contains, IsPermutation}
 use Rattle.uuid.specs.Text.{parsed_hyphenated}
-use Rattle.sheet_types.specs.World.{kind_number, base_kind, other_kind}
+use Rattle.sheet_types.specs.World.{Package, kind_number, base_kind, other_kind}
 use Rattle.sheet_types.specs.declared.command.Content.TheVariants.{Tile, Media, Row}
 use Rattle.sheet_types.specs.declared.command.Item.{Item}
 use Rattle.sheet_types.specs.declared.command.Mapping.{Mapping}
 use Rattle.sheet_types.specs.declared.command.Relation.{Relation}
+use Rattle.sheet_types.specs.declared.frame.Frame.{Frame}
 use Rattle.package_tables.specs.Package.{Tables}
 use Rattle.package_tables.specs.declared.rows.AttributeRow.{AttributeRow}
 use Rattle.package_tables.specs.declared.rows.IdentityRow.{IdentityRow}
@@ -13,6 +14,7 @@ use Rattle.package_tables.specs.declared.rows.MappingRow.{MappingRow}
 use Rattle.package_tables.specs.declared.rows.MediaRow.{MediaRow}
 use Rattle.package_tables.specs.declared.rows.TileRow.{TileRow}
 use Rattle.identity_register.specs.Answers.{IsContentOf}
+use Rattle.identity_register.specs.Reads.{Says}
 use Rattle.identity_register.specs.declared.whole.Placed.{Placed}
 
 -- ---- items
@@ -36,6 +38,10 @@ pub record IsItemOf (placed : List Placed) (r : IdentityRow) (i : Item) : Type 0
   pub identity : parsed_hyphenated r.uuid ≡ Some i.identity
   pub content : Contains placed (record { kind = r.kind; number = r.local_id; content = i.content })
 
+-- all items of the package that the tables say, where these are all identity rows
+abbrev pub AreItemsBy : List IdentityRow → Tables → List Item → Type 0
+AreItemsBy rows t items = (f : Frame) (p : Package) → Says f p t → IsPermutation t.identities rows → items ≡ p.items
+
 -- ---- links
 
 -- the identity of a kind and a number, where these are the identity rows
@@ -51,3 +57,7 @@ pub record IsLinkOf (m : Mapping) (rows : List IdentityRow) (r : MappingRow) (l 
   pub mapping : l.mapping ≡ m
   pub base : IsNamed rows (pos (kind_number (base_kind m))) r.base_id l.base
   pub media : IsNamed rows (pos (kind_number (other_kind m))) r.related_id l.media
+
+-- all links of the package that the tables say, where these are all identity rows
+abbrev pub AreLinksBy : List IdentityRow → Tables → List Relation → Type 0
+AreLinksBy rows t links = (f : Frame) (p : Package) → Says f p t → IsPermutation t.identities rows → links ≡ p.links

@@ -6,7 +6,7 @@ use Rattle.std.specs.Option.{option_map_or}
 use Rattle.sheet_types.specs.Ordered.{put}
 use Rattle.sheet_types.specs.Matrix.{is_within}
 use Rattle.sheet_types.specs.Texts.{uuid_text, kind_of}
-use Rattle.sheet_types.specs.World.{kind_number, kind_is}
+use Rattle.sheet_types.specs.World.{kind_number}
 use Rattle.sheet_types.specs.declared.receipt.MovedKind.{MovedKind}
 use Rattle.sheet_types.specs.declared.receipt.MovedKind.TheVariants.{TileItem, MediaItem, RowItem, TilesMediaLink, RowsMediaLink}
 use Rattle.sheet_types.specs.Lines.{IsUuid}
@@ -100,14 +100,23 @@ with_item n t = record t {
 
 -- ---- an item less
 
--- the tables without the rows of the item of this kind and number
-abbrev pub without_item : MovedKind → ℤ → Tables → Tables
-without_item kind number t = record t {
-  tiles = if kind_is TileItem kind then filter (λ r. not (int_eq r.id number)) t.tiles else t.tiles;
-  media = if kind_is MediaItem kind then filter (λ r. not (int_eq r.id number)) t.media else t.media;
-  rows = if kind_is RowItem kind then filter (λ r. not (int_eq r.id number)) t.rows else t.rows;
-  identities = filter (λ r. not (int_eq r.kind (pos (kind_number kind)) && int_eq r.local_id number)) t.identities;
+-- the tables without the row of a user table, by the kind and the number that are stored
+abbrev pub without_content : ℤ → ℤ → Tables → Tables
+without_content kind number t = record t {
+  tiles = if int_eq kind (pos 1) then filter (λ r. not (int_eq r.id number)) t.tiles else t.tiles;
+  media = if int_eq kind (pos 2) then filter (λ r. not (int_eq r.id number)) t.media else t.media;
+  rows = if int_eq kind (pos 3) then filter (λ r. not (int_eq r.id number)) t.rows else t.rows;
 }
+
+-- the tables without the identity row of this kind and number
+abbrev pub without_identity : ℤ → ℤ → Tables → Tables
+without_identity kind number t = record t { identities = filter (λ r. not (int_eq r.kind kind && int_eq r.local_id number)) t.identities }
+
+abbrev pub DropsContent : ℤ → ℤ → Tables → Tables → Type 0
+DropsContent kind number before after = after ≡ without_content kind number before
+
+abbrev pub DropsRows : ℤ → ℤ → Tables → Tables → Type 0
+DropsRows kind number before after = after ≡ without_identity kind number (without_content kind number before)
 
 -- ---- links
 
@@ -123,23 +132,6 @@ is_pair a b = int_eq a.base_id b.base_id && int_eq a.related_id b.related_id
 abbrev pub without_link : Mapping → MappingRow → Tables → Tables
 without_link TilesMedia row t = record t { tiles_media = filter (λ r. not (is_pair r row)) t.tiles_media }
 without_link RowsMedia row t = record t { rows_media = filter (λ r. not (is_pair r row)) t.rows_media }
-
--- the tables without the rows of a kind and a number, by the numbers that are stored
-abbrev pub without_content : ℤ → ℤ → Tables → Tables
-without_content kind number t = record t {
-  tiles = if int_eq kind (pos 1) then filter (λ r. not (int_eq r.id number)) t.tiles else t.tiles;
-  media = if int_eq kind (pos 2) then filter (λ r. not (int_eq r.id number)) t.media else t.media;
-  rows = if int_eq kind (pos 3) then filter (λ r. not (int_eq r.id number)) t.rows else t.rows;
-}
-
-abbrev pub without_identity : ℤ → ℤ → Tables → Tables
-without_identity kind number t = record t { identities = filter (λ r. not (int_eq r.kind kind && int_eq r.local_id number)) t.identities }
-
-abbrev pub DropsContent : ℤ → ℤ → Tables → Tables → Type 0
-DropsContent kind number before after = after ≡ without_content kind number before
-
-abbrev pub DropsRows : ℤ → ℤ → Tables → Tables → Type 0
-DropsRows kind number before after = after ≡ without_identity kind number (without_content kind number before)
 
 -- the identity row of a UUID
 abbrev pub IsRowOf : List ℕ → Tables → IdentityRow → Type 0

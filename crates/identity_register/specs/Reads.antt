@@ -1,12 +1,12 @@
 -- When the tables of a store read as a package. OGC GeoPackage 1.3 and OGC 18-000 for the tables; identities, receipts and the head are profile.
-use Rattle.std.specs.Prelude.{◌≡◌, ℕ, pos, Bool, true, ◌&&◌, bytes_eq, List, [], ◌∷◌, ◌++◌, map, flat_map, Option, Some, None, unwrap_or}
+use Rattle.std.specs.Prelude.{◌≡◌, ℕ, pos, Bool, true, ◌&&◌, bytes_eq, List, [], ◌∷◌, map, flat_map, Option}
 use Rattle.std.specs.List.{AllByRecursion, IsDistinct, enumerate_from}
 use Rattle.std.specs.Option.{option_map_or}
 use Rattle.hex.specs.Hex.{encode_lower}
 use Rattle.sqlite.specs.Effect.{Database}
 use Rattle.sheet_types.specs.Ordered.{arranged}
 use Rattle.sheet_types.specs.Matrix.{is_good_frame}
-use Rattle.sheet_types.specs.Texts.{uuid_text, is_moment}
+use Rattle.sheet_types.specs.Texts.{uuid_text}
 use Rattle.sheet_types.specs.World.{Package, item_key, link_key, receipt_key, kind_number}
 use Rattle.sheet_types.specs.Lines.{is_uuid, is_bytes}
 use Rattle.sheet_types.specs.Register.{HasEnds}

@@ -115,7 +115,11 @@ fn put_content<S: Alter>(
     }
 }
 
-/// Takes an item in under a new identity and a number of its own.
+/// Takes an item in under a new identity and a local number of its own.
+///
+/// # Errors
+///
+/// Want of memory, a store that failed, or a kind of which all 1,000,000 numbers are taken. Nothing is committed; the transaction has to be dropped.
 pub fn add<S: Alter>(
     tx: &mut Transaction<'_, S>,
     identity: Uuid,

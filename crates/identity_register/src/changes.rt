@@ -7,6 +7,7 @@ ghost use Rattle.identity_register.specs.Calls.{Becomes};
 ghost use Rattle.identity_register.specs.Changes.{IsLooseItem, item_deleted, IsNewLink, link_added, IsLink, link_removed};
 ghost use Rattle.identity_register.specs.Numbering.{IsRowOf, DropsContent, DropsRows, AddsLink, DropsLink};
 
+use crate::kinds::{MEDIUM, ROW, TILE};
 use package_tables::attributes::delete_attribute;
 use package_tables::fault::Fault;
 use package_tables::identities::{delete_identity, identity_by_uuid_inside};
@@ -19,13 +20,6 @@ use package_tables::tiles::delete_tile;
 use sheet_types::command::{Mapping, Relation};
 use sqlite::{Alter, Transaction};
 use uuid::Uuid;
-
-// The kinds of items as they are stored.
-const TILE: i64 = 1;
-
-const MEDIUM: i64 = 2;
-
-const ROW: i64 = 3;
 
 /// The row that stands for an item: its kind and local number.
 fn row_of_item<S: Alter>(tx: &mut Transaction<'_, S>, identity: Uuid) -> Result<IdentityRow, Fault>
@@ -65,6 +59,10 @@ fn drop_rows<S: Alter>(tx: &mut Transaction<'_, S>, kind: i64, number: i64) -> R
 }
 
 /// Takes an item out that no link names.
+///
+/// # Errors
+///
+/// Want of memory, a store that failed, or no such item. Nothing is committed; the transaction has to be dropped.
 pub fn delete<S: Alter>(tx: &mut Transaction<'_, S>, identity: Uuid) -> Result<(), Fault>
     ensures same_reference { tx.new.conn.ghost_name ≡ tx.old.conn.ghost_name }
     ensures steps { Steps (λ _. Becomes (IsLooseItem identity) (item_deleted identity)) (state S.Store tx.old.conn.now) (state S.Store tx.new.conn.now) result }
@@ -105,7 +103,11 @@ fn drop_pair<S: Alter>(
     }
 }
 
-/// Links two items of the kinds that the mapping joins.
+/// Links two items of the kinds that the mapping joins, which are not linked by it (OGC 18-000, user-defined mapping tables).
+///
+/// # Errors
+///
+/// Want of memory, a store that failed, or no such item. Nothing is committed; the transaction has to be dropped.
 pub fn link<S: Alter>(tx: &mut Transaction<'_, S>, relation: Relation) -> Result<(), Fault>
     ensures same_reference { tx.new.conn.ghost_name ≡ tx.old.conn.ghost_name }
     ensures steps { Steps (λ _. Becomes (IsNewLink relation) (link_added relation)) (state S.Store tx.old.conn.now) (state S.Store tx.new.conn.now) result }
@@ -116,6 +118,10 @@ pub fn link<S: Alter>(tx: &mut Transaction<'_, S>, relation: Relation) -> Result
 }
 
 /// Takes a link out that is there.
+///
+/// # Errors
+///
+/// Want of memory, a store that failed, or no such item. Nothing is committed; the transaction has to be dropped.
 pub fn unlink<S: Alter>(tx: &mut Transaction<'_, S>, relation: Relation) -> Result<(), Fault>
     ensures same_reference { tx.new.conn.ghost_name ≡ tx.old.conn.ghost_name }
     ensures steps { Steps (λ _. Becomes (IsLink relation) (link_removed relation)) (state S.Store tx.old.conn.now) (state S.Store tx.new.conn.now) result }

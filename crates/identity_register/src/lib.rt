@@ -12,6 +12,7 @@ pub mod dating;
 #[cfg(test)]
 mod dating_tests;
 pub mod fitting;
+pub mod kinds;
 pub mod laws;
 #[cfg(test)]
 mod look_up_tests;

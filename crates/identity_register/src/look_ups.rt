@@ -1,8 +1,10 @@
-// What is asked of a package at rest, each by a key or an index.
+// What is asked of a package at rest, each by a key or an index. An error is want of memory, a store that failed, or rows that
+// no package has; the store holds what it held.
 ghost use Rattle.std.specs.Prelude.{◌≡◌, ◌≢◌, pos, true, option_map, bytes_eq, IfOk, IfErr};
 ghost use Rattle.std.specs.List.{list_any};
 ghost use Rattle.sqlite.specs.Held.{state};
 ghost use Rattle.sql_meaning.specs.Transactions.{Rests, Looks};
+ghost use Rattle.sheet_types.specs.Cut.{has_end};
 ghost use Rattle.sheet_types.specs.Ordered.{has};
 ghost use Rattle.sheet_types.specs.Lines.{IsUuid};
 ghost use Rattle.sheet_types.specs.Refuse.{is_at};
@@ -12,9 +14,9 @@ ghost use Rattle.sheet_types.specs.declared.receipt.MovedKind.{MovedKind};
 ghost use Rattle.package_tables.specs.Calls.{LooksUp, IsOneOf};
 ghost use Rattle.identity_register.specs.Answers.{is_linked_medium, is_linked_row, mapping_rows, are_ends, IsContentOf};
 ghost use Rattle.identity_register.specs.Calls.{Sees};
-ghost use Rattle.identity_register.specs.Changes.{names_item};
 ghost use Rattle.identity_register.specs.Numbering.{is_pair};
 
+use crate::kinds::{MEDIUM, ROW, TILE};
 use package_tables::attributes::attribute_by_id;
 use package_tables::fault::Fault;
 use package_tables::identities::identity_by_uuid;
@@ -47,9 +49,9 @@ fn kind_in(number: i64) -> Result<MovedKind, Fault>
     ensures none { IfErr result (λ _. (kind : MovedKind) → is_item_kind kind ≡ true → number ≢ pos (kind_number kind)) }
 {
     match number {
-        1 => Ok(MovedKind::TileItem),
-        2 => Ok(MovedKind::MediaItem),
-        3 => Ok(MovedKind::RowItem),
+        TILE => Ok(MovedKind::TileItem),
+        MEDIUM => Ok(MovedKind::MediaItem),
+        ROW => Ok(MovedKind::RowItem),
         _ => Err(Fault::StoreFault),
     }
 }
@@ -90,8 +92,8 @@ fn are_ends(mapping: Mapping, base: i64, other: i64) -> bool
     ensures { result ≡ are_ends mapping base other }
 {
     match mapping {
-        Mapping::TilesMedia => base == 1 && other == 2,
-        Mapping::RowsMedia => base == 3 && other == 2,
+        Mapping::TilesMedia => base == TILE && other == MEDIUM,
+        Mapping::RowsMedia => base == ROW && other == MEDIUM,
     }
 }
 
@@ -150,11 +152,11 @@ fn row_is_linked<S: Alter>(conn: &mut Connection<S>, kind: i64, number: i64) -> 
     ensures { LooksUp (λ t found. found ≡ is_linked_row kind number t) (state S.Store conn.old) (state S.Store conn.new) result }
 {
     match kind {
-        1 => {
+        TILE => {
             let found = tiles_media_of_base(conn, number)?;
             Ok(found.is_some())
         }
-        2 => medium_is_linked(conn, number),
+        MEDIUM => medium_is_linked(conn, number),
         _ => {
             let found = rows_media_of_base(conn, number)?;
             Ok(found.is_some())
@@ -165,7 +167,7 @@ fn row_is_linked<S: Alter>(conn: &mut Connection<S>, kind: i64, number: i64) -> 
 /// Whether a link of the package names the item.
 pub fn is_linked<S: Alter>(conn: &mut Connection<S>, identity: Uuid) -> Result<bool, Fault>
     requires { Rests (state S.Store conn.old) }
-    ensures { Looks (Sees (λ f p found. found ≡ list_any (names_item identity) p.links)) (state S.Store conn.old) (state S.Store conn.new) result }
+    ensures { Looks (Sees (λ f p found. found ≡ list_any (has_end identity) p.links)) (state S.Store conn.old) (state S.Store conn.new) result }
 {
     match row_of(conn, identity)? {
         None => Ok(false),
@@ -225,9 +227,9 @@ fn content_of<S: Alter>(conn: &mut Connection<S>, kind: i64, number: i64) -> Res
     ensures { LooksUp (IsContentOf kind number) (state S.Store conn.old) (state S.Store conn.new) result }
 {
     match kind {
-        1 => tile_content(conn, number),
-        2 => medium_content(conn, number),
-        3 => attributes_content(conn, number),
+        TILE => tile_content(conn, number),
+        MEDIUM => medium_content(conn, number),
+        ROW => attributes_content(conn, number),
         _ => Err(Fault::StoreFault),
     }
 }

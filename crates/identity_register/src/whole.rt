@@ -1,5 +1,6 @@
 // What a whole package holds, read by one statement a table. Identity rows and the rows of the user tables are both read
-// in the order of kind and number, so that each identity meets its content without a look-up.
+// in the order of kind and number, so that each identity meets its content without a look-up. An error is want of memory, a
+// store that failed, or rows that no package has; the store holds what it held.
 ghost use Rattle.std.specs.Prelude.{◌≡◌, ◌++◌, map, pos, Some, bytes_eq, IfOk, IfErr, OnOk, IsTrue, IsPermutation};
 ghost use Rattle.std.specs.List.{AllByRecursion, AllZip, IsDistinct};
 ghost use Rattle.sqlite.specs.Held.{state};
@@ -10,8 +11,9 @@ ghost use Rattle.sheet_types.specs.Ordered.{IsArranged};
 ghost use Rattle.sheet_types.specs.World.{item_key, link_key, kind_number, base_kind};
 ghost use Rattle.package_tables.specs.Calls.{LooksUp};
 ghost use Rattle.identity_register.specs.Calls.{Sees};
-ghost use Rattle.identity_register.specs.Gathered.{tile_placed, medium_placed, attributes_placed, IsPlaced, IsItemOf, IsNamed, IsLinkOf};
+ghost use Rattle.identity_register.specs.Gathered.{tile_placed, medium_placed, attributes_placed, IsPlaced, IsItemOf, AreItemsBy, IsNamed, IsLinkOf, AreLinksBy};
 
+use crate::kinds::{MEDIUM, ROW, TILE};
 use package_tables::attributes::all_attributes;
 use package_tables::fault::Fault;
 use package_tables::identities::all_identities;
@@ -40,7 +42,7 @@ fn place_tiles(tiles: Vec<TileRow>, placed: &mut Vec<Placed>) -> Result<(), Faul
 {
     for tile in tiles {
         placed.push(Placed {
-            kind: 1,
+            kind: TILE,
             number: tile.id,
             content: Content::Tile {
                 zoom: tile.zoom_level,
@@ -59,7 +61,7 @@ fn place_media(media: Vec<MediaRow>, placed: &mut Vec<Placed>) -> Result<(), Fau
 {
     for medium in media {
         placed.push(Placed {
-            kind: 2,
+            kind: MEDIUM,
             number: medium.id,
             content: Content::Media {
                 content_type: medium.content_type,
@@ -76,7 +78,7 @@ fn place_attributes(rows: Vec<AttributeRow>, placed: &mut Vec<Placed>) -> Result
 {
     for row in rows {
         placed.push(Placed {
-            kind: 3,
+            kind: ROW,
             number: row.id,
             content: Content::Row {
                 x: row.x,
@@ -163,14 +165,17 @@ fn items_in_order(mut items: Vec<Item>) -> Result<Vec<Item>, Fault>
     }
 }
 
-/// All items of the package, by kind and identity.
-pub fn items<S: Alter>(conn: &mut Connection<S>, alloc: Global) -> Result<Vec<Item>, Fault>
+/// All items of the package whose identity rows these are, by kind and identity.
+fn items_by<S: Alter>(
+    conn: &mut Connection<S>,
+    rows: &[IdentityRow],
+    alloc: Global,
+) -> Result<Vec<Item>, Fault>
     requires { Rests (state S.Store conn.old) }
-    ensures { Looks (Sees (λ f p found. found.items ≡ p.items)) (state S.Store conn.old) (state S.Store conn.new) result }
+    ensures { LooksUp (λ t found. AreItemsBy rows.now t found.items) (state S.Store conn.old) (state S.Store conn.new) result }
 {
-    let rows = all_identities(conn, alloc)?;
     let placed = all_contents(conn, alloc)?;
-    let items = items_of(&rows, placed, alloc)?;
+    let items = items_of(rows, placed, alloc)?;
     items_in_order(items)
 }
 
@@ -197,8 +202,8 @@ fn base_number(mapping: Mapping) -> i64
     ensures { result ≡ pos (kind_number (base_kind mapping)) }
 {
     match mapping {
-        Mapping::TilesMedia => 1,
-        Mapping::RowsMedia => 3,
+        Mapping::TilesMedia => TILE,
+        Mapping::RowsMedia => ROW,
     }
 }
 
@@ -207,7 +212,7 @@ fn link_of(mapping: Mapping, rows: &[IdentityRow], pair: MappingRow) -> Result<R
     ensures { IfOk result (λ link. IsLinkOf mapping rows.now pair link) }
 {
     let base = name_of(rows, base_number(mapping), pair.base_id)?;
-    let media = name_of(rows, 2, pair.related_id)?;
+    let media = name_of(rows, MEDIUM, pair.related_id)?;
     Ok(Relation {
         mapping,
         base,
@@ -258,16 +263,33 @@ fn links_in_order(mut links: Vec<Relation>) -> Result<Vec<Relation>, Fault>
     }
 }
 
-/// All links of the package, by mapping, base and medium.
-pub fn links<S: Alter>(conn: &mut Connection<S>, alloc: Global) -> Result<Vec<Relation>, Fault>
+/// All links of the package whose identity rows these are, by mapping, base and medium.
+fn links_by<S: Alter>(
+    conn: &mut Connection<S>,
+    rows: &[IdentityRow],
+    alloc: Global,
+) -> Result<Vec<Relation>, Fault>
     requires { Rests (state S.Store conn.old) }
-    ensures { Looks (Sees (λ f p found. found.items ≡ p.links)) (state S.Store conn.old) (state S.Store conn.new) result }
+    ensures { LooksUp (λ t found. AreLinksBy rows.now t found.items) (state S.Store conn.old) (state S.Store conn.new) result }
 {
-    let rows = all_identities(conn, alloc)?;
     let of_tiles = all_tiles_media(conn, alloc)?;
     let of_rows = all_rows_media(conn, alloc)?;
-    let mut links = links_of(Mapping::TilesMedia, &rows, &of_tiles, alloc)?;
-    let others = links_of(Mapping::RowsMedia, &rows, &of_rows, alloc)?;
+    let mut links = links_of(Mapping::TilesMedia, rows, &of_tiles, alloc)?;
+    let others = links_of(Mapping::RowsMedia, rows, &of_rows, alloc)?;
     links.extend_from_slice(&others)?;
     links_in_order(links)
+}
+
+/// All items of the package, by kind and identity, and all its links, by mapping, base and medium. The identity rows are read once for both.
+pub fn holdings<S: Alter>(
+    conn: &mut Connection<S>,
+    alloc: Global,
+) -> Result<(Vec<Item>, Vec<Relation>), Fault>
+    requires { Rests (state S.Store conn.old) }
+    ensures { Looks (Sees (λ f p held. (held.0.items ≡ p.items) × (held.1.items ≡ p.links))) (state S.Store conn.old) (state S.Store conn.new) result }
+{
+    let rows = all_identities(conn, alloc)?;
+    let items = items_by(conn, &rows, alloc)?;
+    let links = links_by(conn, &rows, alloc)?;
+    Ok((items, links))
 }

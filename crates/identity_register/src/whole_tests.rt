@@ -5,7 +5,7 @@ ghost use Rattle.sqlite.specs.Held.{state};
 ghost use Rattle.sql_meaning.specs.Transactions.{Rests};
 
 use crate::changes::{link, unlink};
-use crate::whole::{items, links};
+use crate::whole::holdings;
 use package_tables::attributes::insert_attribute;
 use package_tables::fault::Fault;
 use package_tables::identities::insert_identity;
@@ -24,18 +24,22 @@ fn guarded<S: Alter>(conn: &Connection<S>) -> bool
     conn.is_autocommit()
 }
 
-fn all_items<S: Alter>(alloc: Global, conn: &mut Connection<S>) -> Result<Vec<Item>, Fault> {
+fn held<S: Alter>(
+    alloc: Global,
+    conn: &mut Connection<S>,
+) -> Result<(Vec<Item>, Vec<Relation>), Fault> {
     if !guarded(conn) {
         return Err(Fault::StoreFault);
     }
-    items(conn, alloc)
+    holdings(conn, alloc)
 }
 
 fn all_links<S: Alter>(alloc: Global, conn: &mut Connection<S>) -> Result<Vec<Relation>, Fault> {
-    if !guarded(conn) {
+    let (items, links) = held(alloc, conn)?;
+    if items.len() != 5 {
         return Err(Fault::StoreFault);
     }
-    links(conn, alloc)
+    Ok(links)
 }
 
 fn name<S: Alter>(
@@ -151,7 +155,7 @@ fn are_those(found: &[Item], from: usize, kind: u8) -> bool {
     true
 }
 
-// ---- links across
+// ---- links across five items
 
 fn first() -> Uuid {
     Uuid::from_u128(0x1)
@@ -242,12 +246,12 @@ fn many_items_are_read_back(rt: HostRuntime) -> Result<(), Fail> {
     let mut conn = Connection::open_in_memory(a)?;
     let conn = &mut conn;
     assert!(rt; filled(conn)?);
-    let found = all_items(a, conn)?;
+    let (found, links) = held(a, conn)?;
     assert!(rt; found.len() == 900);
     assert!(rt; are_those(&found, 0, 1));
     assert!(rt; are_those(&found, 300, 2));
     assert!(rt; are_those(&found, 600, 3));
-    assert!(rt; all_links(a, conn)?.is_empty());
+    assert!(rt; links.is_empty());
     Ok(())
 }
 

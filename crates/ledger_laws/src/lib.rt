@@ -1,4 +1,4 @@
-//! Laws of the model, each the contract of a function that does nothing, and worked examples that compute.
+//! Laws of the model, each the contract of a function that does nothing.
 #![tactic(auto)]
 
 pub mod laws;

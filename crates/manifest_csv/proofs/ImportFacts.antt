@@ -1,7 +1,6 @@
 -- An import, reply by reply.
 use Rattle.std.proofs.Common.{◌≡◌, ◌∙◌, refl, sym, ap, subst, ℕ, zero, suc, ◌+◌, ◌-◌, ◌<◌, ◌≤◌, List, [], ◌∷◌, ◌++◌, take, drop, length, get_or, length-append, true, Option, IfSome, Result, Ok, Err, arith}
 use Rattle.std.specs.List.{AllByRecursion}
-use Rattle.std.specs.Result.{IsErrAnd}
 use Rattle.std.specs.Io.KnownBytes.{Appends}
 use Rattle.std.proofs.lemmas.List.{take_more}
 use Rattle.std.proofs.Math.Seq.{take-append_seam}
@@ -12,9 +11,10 @@ use Rattle.sheet_types.specs.declared.command.Command.TheVariants.{Add, Delete, 
 use Rattle.sheet_types.specs.declared.command.Request.{Request}
 use Rattle.sheet_types.specs.declared.receipt.Receipt.{Receipt}
 use Rattle.sheet_types.specs.declared.refusal.Refusal.{Refusal}
+use Rattle.sheet_types.proofs.Every.{All-snoc}
 use Rattle.world.specs.Laws.{IsServed}
-use Rattle.world.specs.Worlds.{Seen, IsStep, IsRun}
-use Rattle.world.proofs.Running.{run_none, run_more}
+use Rattle.world.specs.Worlds.{Seen, IsRun}
+use Rattle.world.proofs.Running.{IsApplied, run_none, run_more}
 use Rattle.manifest_csv.specs.Imports.{Ends, GoesOn, IsReported, IsImported, Imports, lines_before, report_before}
 use Rattle.manifest_csv.specs.Reports.{report_header, report_line, report_lines, report_of}
 use Rattle.manifest_csv.specs.RequestLists.{AreServed, IsList}
@@ -24,11 +24,6 @@ use Rattle.manifest_csv.specs.declared.importing.ImportFault.{ImportFault}
 use Rattle.manifest_csv.specs.declared.importing.ImportFault.TheVariants.{Unread, Stopped, Unwritten}
 use Rattle.manifest_csv.proofs.ReportFacts.{lines_more}
 use Rattle.manifest_csv.proofs.SentFacts.{went_out_after, went_out_of, went_out_past, past_after}
-
--- the error that a fault was turned into
-pub turned_into : {X E : Type 0} (r : Result X E) (e : E) → IsErrAnd r (λ why. why ≡ e) → r ≡ Err e
-turned_into (Ok x) e h = absurd h
-turned_into (Err y) e h = ap Err h
 
 -- a command that a list can ask for is one that a world serves
 served : (command : Command) → is_served command ≡ true → IsServed command
@@ -66,10 +61,6 @@ cut_short requests [] before mid after header line =
     (all.0, omega arith, all.1, all.2)
 cut_short requests (reply ∷ replies) before mid after header line = past_after before mid after report_header (lines_before requests (reply ∷ replies)) (report_lines 1 requests (reply ∷ replies)) header line
 
-all_more : {X : Type 0} (P : X → Type 0) (xs : List X) (x : X) → AllByRecursion P xs → P x → AllByRecursion P (xs ++ x ∷ [])
-all_more P [] x all here = (here, tt)
-all_more P (y ∷ ys) x all here = (all.0, all_more P ys x all.1 here)
-
 module _ {S : Type 0} (g : Ghosts S) where
   -- The first n of the requests were carried out and reported, and nothing ended the import yet.
   pub record SoFar (requests : List Request) (n : ℕ) (old new : Seen S) (before after : Option (List ℕ)) : Type 0 where
@@ -80,7 +71,7 @@ module _ {S : Type 0} (g : Ghosts S) where
     pub written : Appends before after (report_lines 1 requests replies)
 
   module _ (requests : List Request) (n : ℕ) (old mid new : Seen S) (before between : Option (List ℕ)) (it : SoFar requests n old mid before between) (within : n < length requests) (request : Request) (is : request ≡ get_or requests n request)
-      (reply : Result Receipt Refusal) (step : IsStep g request mid reply new) where
+      (reply : Result Receipt Refusal) (step : IsApplied g request mid reply new) where
     counted_more : length (it.replies ++ reply ∷ []) ≡ n + 1
     counted_more = length-append it.replies (reply ∷ []) ∙ ap (λ k. k + 1) it.counted
 
@@ -108,7 +99,7 @@ module _ {S : Type 0} (g : Ghosts S) where
 
       -- one more, and the import goes on
       pub one_more : Appends between after (report_line (n + 1) request.id reply) → GoesOn reply → SoFar requests (n + 1) old new before after
-      one_more line goes = record { replies = it.replies ++ reply ∷ []; counted = counted_more; ran = ran_more; goes_on = all_more GoesOn it.replies reply it.goes_on goes; written = all_written line }
+      one_more line goes = record { replies = it.replies ++ reply ∷ []; counted = counted_more; ran = ran_more; goes_on = All-snoc GoesOn it.replies reply it.goes_on goes; written = all_written line }
 
       -- one more, which ends it
       pub stopped : (why : Refusal) → (reply ≡ Err why) × Ends why → Appends between after (report_line (n + 1) request.id reply) → IsReported g requests old new before after (Err (Stopped (n + 1) why))

@@ -223,7 +223,7 @@ fn write_links(
     Ok(())
 }
 
-/// The manifest of a package that holds these items and links: a header and one record each, as CSV (RFC 4180) with LF ends. The order is that of the lists, which the register keeps by kind, identity and other end.
+/// The manifest of a package that holds these items and links: a header and one record each, as CSV (RFC 4180, section 2) with LF ends (profile). The order is that of the lists, which the register keeps by kind, identity and other end.
 pub fn manifest_text(
     alloc: Global,
     items: &[Item],

@@ -15,6 +15,7 @@ pub fn send<W: Write>(writer: &mut W, text: &[u8]) -> Result<(), WriteFault>
     ensures err { OnErr result (WentOut (W.contents writer.old) (W.contents writer.new) text.now) }
 {
     let mut at = 0;
+    // A function has to end: a writer that was interrupted this often is told as one that failed.
     'sending: for _turn in 0..u64::MAX {
         if at >= text.len() {
             return Ok(());

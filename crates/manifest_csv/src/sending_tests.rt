@@ -85,3 +85,40 @@ fn writers_that_stop(rt: HostRuntime) {
     let mut exact = Slow::new(rt.alloc(), 5, Then::TakesNothing);
     assert_eq!(rt; send(&mut exact, b"line,"), Ok(()));
 }
+
+/// Fails at its second call, and takes five bytes at every other.
+#[derive(Drop)]
+struct FailsOnce {
+    taken: Vec<u8>,
+    calls: usize,
+}
+
+impl Write for FailsOnce {
+    fn write(&mut self, buf: &[u8]) -> Result<usize> {
+        self.calls = self.calls.saturating_add(1);
+        if self.calls == 2 {
+            return Err(Error::from(ErrorKind::BrokenPipe));
+        }
+        let taking = buf.len().min(5);
+        if self.taken.extend_from_slice(&buf[..taking]).is_err() {
+            return Err(Error::from(ErrorKind::OutOfMemory));
+        }
+        Ok(taking)
+    }
+
+    fn flush(&mut self) -> Result<()> {
+        Ok(())
+    }
+}
+
+// A write that failed is not tried again, though it would go through.
+#[test]
+fn a_writer_that_failed_is_left_alone(rt: HostRuntime) {
+    let mut out = FailsOnce {
+        taken: Vec::new(rt.alloc()),
+        calls: 0,
+    };
+    assert_eq!(rt; send(&mut out, b"line,request\n"), Err(WriteFault));
+    assert_eq!(rt; out.taken.as_slice(), b"line,".as_slice());
+    assert_eq!(rt; out.calls, 2);
+}

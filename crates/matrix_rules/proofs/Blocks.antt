@@ -1,12 +1,12 @@
 -- Where a good rectangle's edges lie.
-use Rattle.std.specs.Prelude.{◌≡◌, ◌*◌, ◌≤◌, true, ◌&&◌, ℤ, pos, negsuc, ◌-ℤ◌, ◌*ℤ◌, ◌≤ℤ◌, ◌<ℤ◌, int_le, int_lt, refl}
+use Rattle.std.specs.Prelude.{◌≡◌, ◌*◌, ◌≤◌, true, ◌&&◌, ℤ, pos, negsuc, ◌-ℤ◌, ◌*ℤ◌, ◌≤ℤ◌, ◌<ℤ◌, int_le, int_lt}
 use Rattle.std.proofs.Common.{arith}
-use Rattle.std.proofs.lemmas.Bool.{and_parts, le-leb}
+use Rattle.std.proofs.lemmas.Bool.{and_parts}
 use Rattle.std.proofs.lemmas.Int.{ints}
 use Rattle.std.proofs.Math.Nat.{mul-le-mul_right}
 use Rattle.sheet_types.specs.declared.frame.Frame.{Frame}
 use Rattle.sheet_types.specs.declared.frame.Rect.{Rect}
-use Rattle.sheet_types.specs.Matrix.{has_level, has_place, width_at, height_at, level_of, is_good_rect, one_tile}
+use Rattle.sheet_types.specs.Matrix.{has_level, has_place, width_at, height_at, level_of, is_good_rect}
 use Rattle.matrix_rules.proofs.Frames.{three}
 use Rattle.matrix_rules.proofs.Grids.{Grid}
 
@@ -54,11 +54,3 @@ block f r h =
       columns = omega (arith, ints, order.1);
       rows = omega (arith, ints, order.2);
     }
-
-int_le_same : (a : ℤ) → int_le a a ≡ true
-int_le_same (pos a) = le-leb a a (omega arith)
-int_le_same (negsuc a) = le-leb a a (omega arith)
-
--- a place is a good rectangle of one tile
-pub one_tile_good : (f : Frame) (zoom column row : ℤ) → has_place f zoom column row ≡ true → is_good_rect f (one_tile zoom column row) ≡ true
-one_tile_good f zoom column row h = rw (h, int_le_same column, int_le_same row) refl

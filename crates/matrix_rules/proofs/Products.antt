@@ -5,7 +5,7 @@ use mir.Val.{hbits}
 use Rattle.std.proofs.Common.{arith, FitsSigned, ◌%◌, w64, to_z, of_z}
 use Rattle.std.proofs.lemmas.Int.{ints, to_z_pos}
 use Rattle.std.proofs.lemmas.Nat.{pow_pos, one_shl}
-use Rattle.std.proofs.Math.Nat.{mul-le-mul, mul-le-mul_right, pow-le-pow_right, mul-div-le, div-le_self}
+use Rattle.std.proofs.Math.Nat.{mul-le-mul, pow-le-pow_right, div-le_self}
 
 -- a product of two numbers from 1 on
 pub product_range : (a b : ℤ) (m n : ℕ) → pos 1 ≤ℤ a → a ≤ℤ pos m → pos 1 ≤ℤ b → b ≤ℤ pos n → (pos 1 ≤ℤ (a *ℤ b)) × ((a *ℤ b) ≤ℤ pos (m * n))
@@ -41,28 +41,23 @@ fits_between w (pos z) n low high below =
     record { sfits = omega arith }
 fits_between w (negsuc z) n low high below = absurd (omega (arith, ints))
 
--- the span of a tile, and the numbers on the way to it
-pub record Span (extent tile tiles : ℤ) : Type 0 where
+-- the size of a pixel, and the number of pixels along the axis
+pub record Pixels (extent tile tiles : ℤ) : Type 0 where
   pub pixels : (pos 1 ≤ℤ (tiles *ℤ tile)) × ((tiles *ℤ tile) ≤ℤ pos 2000000000000)
   pub size : (pos 0 ≤ℤ int_div extent (tiles *ℤ tile)) × (int_div extent (tiles *ℤ tile) ≤ℤ pos 2000000000000)
-  pub span : (pos 0 ≤ℤ (tile *ℤ int_div extent (tiles *ℤ tile))) × ((tile *ℤ int_div extent (tiles *ℤ tile)) ≤ℤ pos 2000000000000)
 
-pub span_range : (extent tile tiles : ℤ) → pos 1 ≤ℤ tile → pos 1 ≤ℤ tiles → (tiles *ℤ tile) ≤ℤ extent → extent ≤ℤ pos 2000000000000 → Span extent tile tiles
-span_range (pos e) (pos t) (pos n) tile tiles fits most =
+pub pixel_range : (extent tile tiles : ℤ) → pos 1 ≤ℤ tile → pos 1 ≤ℤ tiles → (tiles *ℤ tile) ≤ℤ extent → extent ≤ℤ pos 2000000000000 → Pixels extent tile tiles
+pixel_range (pos e) (pos t) (pos n) tile tiles fits most =
     let e_most : e ≤ 2000000000000 = omega (arith, ints, most) in
     let t_some : 1 ≤ t = omega (arith, ints, tile) in
     let n_some : 1 ≤ n = omega (arith, ints, tiles) in
     let below : n * t ≤ e = omega (arith, ints, fits) in
     let product : 1 * 1 ≤ n * t = mul-le-mul {n₁ = 1} {m₁ = 1} {n₂ = n} {m₂ = t} n_some t_some in
-    let whole : (n * t) * (e / (n * t)) ≤ e = mul-div-le e (n * t) in
-    let one : 1 * t ≤ n * t = mul-le-mul_right t n_some in
-    let part : t * (e / (n * t)) ≤ (n * t) * (e / (n * t)) = mul-le-mul_right (e / (n * t)) (omega arith) in
     let quotient : e / (n * t) ≤ e = div-le_self e (n * t) in
     record {
       pixels = (omega (arith, ints, product), omega (arith, ints, below));
       size = (omega (arith, ints), omega (arith, ints, quotient));
-      span = (omega (arith, ints), omega (arith, ints, part, whole));
     }
-span_range (negsuc e) (pos t) (pos n) tile tiles fits most = absurd (omega (arith, ints, fits))
-span_range e (pos t) (negsuc n) tile tiles fits most = absurd (omega (arith, ints, tiles))
-span_range e (negsuc t) n tile tiles fits most = absurd (omega (arith, ints, tile))
+pixel_range (negsuc e) (pos t) (pos n) tile tiles fits most = absurd (omega (arith, ints, fits))
+pixel_range e (pos t) (negsuc n) tile tiles fits most = absurd (omega (arith, ints, tiles))
+pixel_range e (negsuc t) n tile tiles fits most = absurd (omega (arith, ints, tile))

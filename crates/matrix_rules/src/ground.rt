@@ -1,6 +1,6 @@
 // The ground of tiles and of rectangles, and what lies inside.
 ghost use Rattle.std.specs.Prelude.{◌≡◌, ℕ, ◌^◌, ◌+◌, ◌&&◌, ◌+ℤ◌, ◌-ℤ◌, ◌*ℤ◌, pos, negsuc, ◌≤ℤ◌, ◌<ℤ◌, int_div, IsTrue, true};
-ghost use Rattle.sheet_types.specs.Matrix.{is_good_frame, has_level, width_at, height_at, level_of, tile_span_x, tile_span_y, has_place, block_ground, tile_ground, is_good_rect, lies_within, tile_inside, has_point, point_inside, in_frame, one_tile};
+ghost use Rattle.sheet_types.specs.Matrix.{is_good_frame, has_level, width_at, height_at, level_of, pixel_x_size, pixel_y_size, tile_span_x, tile_span_y, has_place, block_ground, tile_ground, is_good_rect, lies_within, tile_inside, has_point, point_inside, in_frame, one_tile};
 
 use crate::check::tiles_at;
 use sheet_types::frame::{Frame, Ground, Rect};
@@ -13,7 +13,7 @@ pub(crate) fn has_level(frame: &Frame, zoom: i64) -> bool
     (frame.first_zoom <= zoom) & (zoom < end)
 }
 
-/// The columns of a zoom level.
+/// The columns of a zoom level that the frame has. Each level doubles them (profile).
 pub fn columns_at(frame: &Frame, zoom: i64) -> i64
     requires good { IsTrue (is_good_frame frame.now) }
     requires level { IsTrue (has_level frame.now zoom) }
@@ -22,7 +22,7 @@ pub fn columns_at(frame: &Frame, zoom: i64) -> i64
     tiles_at(frame.matrix_width, zoom - frame.first_zoom)
 }
 
-/// The rows of a zoom level.
+/// The rows of a zoom level that the frame has. Each level doubles them (profile).
 pub fn rows_at(frame: &Frame, zoom: i64) -> i64
     requires good { IsTrue (is_good_frame frame.now) }
     requires level { IsTrue (has_level frame.now zoom) }
@@ -31,7 +31,7 @@ pub fn rows_at(frame: &Frame, zoom: i64) -> i64
     tiles_at(frame.matrix_height, zoom - frame.first_zoom)
 }
 
-/// Whether there is such a tile.
+/// Whether there is such a tile: the frame has the zoom, and the column and the row are among its.
 pub fn has_place(frame: &Frame, zoom: i64, column: i64, row: i64) -> bool
     requires { IsTrue (is_good_frame frame.now) }
     ensures { result ≡ has_place frame.now zoom column row }
@@ -52,39 +52,59 @@ pub fn is_good(frame: &Frame, rect: &Rect) -> bool
     first & last & (rect.column <= rect.last_column) & (rect.row <= rect.last_row)
 }
 
-/// The span of one tile along an axis of this extent that so many tiles make up.
-fn tile_span(extent: i64, tile: i64, tiles: i64) -> i64
+/// The size of a pixel along an axis of this extent that so many tiles make up.
+fn pixel_size(extent: i64, tile: i64, tiles: i64) -> i64
     requires tile { pos 1 ≤ℤ tile }
     requires tiles { pos 1 ≤ℤ tiles }
     requires fits { (tiles *ℤ tile) ≤ℤ extent }
     requires extent { extent ≤ℤ pos 2000000000000 }
-    ensures { result ≡ tile *ℤ int_div extent (tiles *ℤ tile) }
+    ensures { result ≡ int_div extent (tiles *ℤ tile) }
 {
-    tile * (extent / (tiles * tile))
+    extent / (tiles * tile)
 }
 
-pub(crate) fn column_span(frame: &Frame, zoom: i64) -> i64
+/// The width of a pixel of a zoom level on the ground.
+pub fn pixel_x_size(frame: &Frame, zoom: i64) -> i64
     requires good { IsTrue (is_good_frame frame.now) }
     requires level { IsTrue (has_level frame.now zoom) }
-    ensures { result ≡ tile_span_x frame.now zoom }
+    ensures { result ≡ pixel_x_size frame.now zoom }
 {
-    tile_span(
+    pixel_size(
         frame.max_x - frame.min_x,
         frame.tile_width,
         columns_at(frame, zoom),
     )
 }
 
+/// The height of a pixel of a zoom level on the ground.
+pub fn pixel_y_size(frame: &Frame, zoom: i64) -> i64
+    requires good { IsTrue (is_good_frame frame.now) }
+    requires level { IsTrue (has_level frame.now zoom) }
+    ensures { result ≡ pixel_y_size frame.now zoom }
+{
+    pixel_size(
+        frame.max_y - frame.min_y,
+        frame.tile_height,
+        rows_at(frame, zoom),
+    )
+}
+
+/// The width of a tile on the ground.
+pub(crate) fn column_span(frame: &Frame, zoom: i64) -> i64
+    requires good { IsTrue (is_good_frame frame.now) }
+    requires level { IsTrue (has_level frame.now zoom) }
+    ensures { result ≡ tile_span_x frame.now zoom }
+{
+    frame.tile_width * pixel_x_size(frame, zoom)
+}
+
+/// The height of a tile on the ground.
 pub(crate) fn row_span(frame: &Frame, zoom: i64) -> i64
     requires good { IsTrue (is_good_frame frame.now) }
     requires level { IsTrue (has_level frame.now zoom) }
     ensures { result ≡ tile_span_y frame.now zoom }
 {
-    tile_span(
-        frame.max_y - frame.min_y,
-        frame.tile_height,
-        rows_at(frame, zoom),
-    )
+    frame.tile_height * pixel_y_size(frame, zoom)
 }
 
 /// The west edge of a column, and the east edge of the last where the column is one past it.
@@ -121,7 +141,7 @@ pub(crate) fn block(frame: &Frame, rect: &Rect) -> Ground
     }
 }
 
-/// The ground of a tile, or `None` where there is no such place. Row 0 is uppermost. OGC GeoPackage 1.3, tile matrix.
+/// The ground of a tile, or `None` where there is no such place. Row 0 is uppermost (OGC GeoPackage 1.3, 2.2.7).
 pub fn ground(frame: &Frame, zoom: i64, column: i64, row: i64) -> Option<Ground>
     requires { IsTrue (is_good_frame frame.now) }
     ensures { result ≡ tile_ground frame.now zoom column row }
@@ -167,7 +187,7 @@ fn lies_within(outer: &Ground, inner: &Ground) -> bool
         & (inner.north <= outer.north)
 }
 
-/// Whether a point lies inside the rectangle: on its west and north edges it does, on its east and south edges it doesn't.
+/// Whether a point in thousandths of the frame's unit lies inside the rectangle: on its west and north edges it does, on its east and south edges it doesn't.
 pub fn point_inside(frame: &Frame, rect: &Rect, x: i64, y: i64) -> bool
     requires good { IsTrue (is_good_frame frame.now) }
     requires rect { IsTrue (is_good_rect frame.now rect.now) }
@@ -176,7 +196,7 @@ pub fn point_inside(frame: &Frame, rect: &Rect, x: i64, y: i64) -> bool
     has_point(&block(frame, rect), x, y)
 }
 
-/// Whether a point lies in the frame: on its west and north edges it does, on its east and south edges it doesn't.
+/// Whether a point in thousandths of the frame's unit lies in the frame: on its west and north edges it does, on its east and south edges it doesn't.
 pub fn in_frame(frame: &Frame, x: i64, y: i64) -> bool
     requires { IsTrue (is_good_frame frame.now) }
     ensures { result ≡ in_frame frame.now x y }

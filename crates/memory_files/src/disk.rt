@@ -7,6 +7,7 @@ use sqlite_disk::{Disk, Tally};
 use std::alloc::{AllocError, Global};
 use std::io;
 
+/// A file whose bytes lie in memory, and are gone with it. It is usable and clean in every state.
 #[derive(Drop)]
 pub struct MemoryFile {
     bytes: Vec<u8>,
@@ -27,6 +28,7 @@ impl MemoryFile {
         }
     }
 
+    /// The bytes that the file holds.
     pub fn bytes(&self) -> &[u8]
         ensures { result.now ≡ file_bytes self.now }
     {

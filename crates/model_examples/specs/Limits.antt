@@ -40,7 +40,7 @@ FullPackage = (p : Package) →
     × (count_by is_row p.items ≡ 1000001 → is_overfull p ≡ true)
     × (length p.links ≡ 4000001 → is_overfull p ≡ true)
 
--- a milliard receipts, wherever they stand
+-- 1,000,000,000 receipts, wherever they stand
 abbrev pub FullLedger : Type 0
 FullLedger = (w : World) →
     (length (receipts_of w) ≡ 1000000001 → too_many w ≡ true)

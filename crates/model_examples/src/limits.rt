@@ -11,7 +11,7 @@ pub fn full_package()
     ensures { FullPackage }
 {}
 
-/// The ledger may hold a milliard receipts; a package past its limits anywhere is too many.
+/// The ledger may hold 1,000,000,000 receipts; a package past its limits anywhere is too many.
 pub fn full_ledger()
     ensures { FullLedger }
 {}

@@ -1,5 +1,5 @@
 -- The fixed rows, as they come in one after the other.
-use Rattle.std.proofs.Common.{◌≡◌, ◌≢◌, ℕ, ℤ, pos, negsuc, ◌<◌, ◌+◌, List, [], ◌∷◌, Bool, true, false, Result, refl, sym, ◌∙◌, arith, map, unsigned_abs, ◌+ℤ◌, ◌≤ℤ◌, ◌<ℤ◌, Ok, zero, suc, ◌≤◌}
+use Rattle.std.proofs.Common.{◌≡◌, ◌≢◌, ℕ, ℤ, pos, negsuc, ◌<◌, ◌+◌, List, [], ◌∷◌, true, false, Result, refl, sym, ◌∙◌, arith, map, unsigned_abs, ◌+ℤ◌, ◌≤ℤ◌, ◌<ℤ◌, Ok, zero, suc, ◌≤◌}
 use Rattle.std.specs.Prelude.{◌||◌, bytes_eq}
 use Rattle.std.specs.List.{AllByRecursion, range_with_len}
 use Rattle.std.specs.Ordering.{int_eq, nat_cmp}
@@ -11,7 +11,7 @@ use Rattle.sheet_types.proofs.Order.{put_last}
 use Rattle.sheet_types.proofs.Basics.{before-differs}
 use Rattle.matrix_rules.proofs.Frames.{GoodFrame}
 use Rattle.std.specs.Cmp.{signed_Decides}
-use Rattle.std.proofs.lemmas.Bool.{true≢false}
+use Rattle.std.proofs.lemmas.Bool.{true≢false, or_parts}
 use Rattle.std.proofs.lemmas.Slice.Eq.{bytes_eq-Decides}
 use Rattle.std.proofs.lemmas.Int.{ints}
 use Rattle.sqlite.specs.State.{State, Survives}
@@ -29,7 +29,8 @@ use Rattle.package_tables.specs.declared.rows.ContentsRow.{ContentsRow}
 use Rattle.package_tables.specs.declared.rows.TileMatrixSetRow.{TileMatrixSetRow}
 use Rattle.package_tables.specs.declared.rows.TileMatrixRow.{TileMatrixRow}
 use Rattle.package_tables.specs.declared.rows.RelationRow.{RelationRow}
-use Rattle.package_tables.proofs.InTurn.{steps_of, made_by, made_then}
+use Rattle.package_tables.proofs.InTurn.{made_by, made_then}
+use Rattle.package_tables.proofs.Stepping.{makes_steps}
 
 -- what these calls answer
 abbrev pub Done : Type 0
@@ -41,7 +42,7 @@ done = Ok tt
 pub system_made : (row : SpatialRefSysRow) (from to : List SpatialRefSysRow) {old new : State} {r : Done} → has spatial_ref_sys_shape.key (spatial_ref_sys_shape.key row) from ≡ false → put spatial_ref_sys_shape.key row from ≡ to
     → Makes (AddsSpatialRefSys row) old new r → Survives old new (λ _. ⊥) → Steps (λ _. OnTables (SystemsBecome from to)) old new r
 system_made row from to {old} {new} {r} free is wrote survives =
-    made_by (λ t. t.spatial_ref_sys) (λ l t. record t { spatial_ref_sys = l }) spatial_ref_sys_shape.key (λ l t. refl) (λ k l t. refl) row from to free is (steps_of (AddsSpatialRefSys row) old new r wrote survives)
+    made_by (λ t. t.spatial_ref_sys) (λ l t. record t { spatial_ref_sys = l }) spatial_ref_sys_shape.key (λ l t. refl) (λ k l t. refl) row from to free is (makes_steps (AddsSpatialRefSys row) wrote survives)
 
 pub systems_then : (j k l : List SpatialRefSysRow) {old mid new : State} {r : Done} → Steps (λ _. OnTables (SystemsBecome j k)) old mid done → Steps (λ _. OnTables (SystemsBecome k l)) mid new r
     → Steps (λ _. OnTables (SystemsBecome j l)) old new r
@@ -57,7 +58,7 @@ contents_then j k l first next = made_then (λ t. t.contents) (λ l t. record t 
 
 pub matrix_set_made : (row : TileMatrixSetRow) {old new : State} {r : Done} → Makes (AddsTileMatrixSet row) old new r → Survives old new (λ _. ⊥) → Steps (λ _. OnTables (MatrixSetsBecome [] (row ∷ []))) old new r
 matrix_set_made row {old} {new} {r} wrote survives =
-    made_by (λ t. t.tile_matrix_set) (λ l t. record t { tile_matrix_set = l }) tile_matrix_set_shape.key (λ l t. refl) (λ k l t. refl) row [] (row ∷ []) refl refl (steps_of (AddsTileMatrixSet row) old new r wrote survives)
+    made_by (λ t. t.tile_matrix_set) (λ l t. record t { tile_matrix_set = l }) tile_matrix_set_shape.key (λ l t. refl) (λ k l t. refl) row [] (row ∷ []) refl refl (makes_steps (AddsTileMatrixSet row) wrote survives)
 
 pub matrix_made : (row : TileMatrixRow) (from to : List TileMatrixRow) {old new : State} {r : Done} → has tile_matrix_shape.key (tile_matrix_shape.key row) from ≡ false → put tile_matrix_shape.key row from ≡ to
     → Steps (λ _. OnTables (AddsTileMatrix row)) old new r → Steps (λ _. OnTables (MatricesBecome from to)) old new r
@@ -70,7 +71,7 @@ matrices_then j k l first next = made_then (λ t. t.tile_matrix) (λ l t. record
 pub relation_made : (row : RelationRow) (from to : List RelationRow) {old new : State} {r : Done} → has relation_shape.key (relation_shape.key row) from ≡ false → put relation_shape.key row from ≡ to
     → Makes (AddsRelation row) old new r → Survives old new (λ _. ⊥) → Steps (λ _. OnTables (RelationsBecome from to)) old new r
 relation_made row from to {old} {new} {r} free is wrote survives =
-    made_by (λ t. t.relations) (λ l t. record t { relations = l }) relation_shape.key (λ l t. refl) (λ k l t. refl) row from to free is (steps_of (AddsRelation row) old new r wrote survives)
+    made_by (λ t. t.relations) (λ l t. record t { relations = l }) relation_shape.key (λ l t. refl) (λ k l t. refl) row from to free is (makes_steps (AddsRelation row) wrote survives)
 
 pub relations_then : (j k l : List RelationRow) {old mid new : State} {r : Done} → Steps (λ _. OnTables (RelationsBecome j k)) old mid done → Steps (λ _. OnTables (RelationsBecome k l)) mid new r
     → Steps (λ _. OnTables (RelationsBecome j l)) old new r
@@ -90,17 +91,13 @@ other_key m n differ = elim (bytes_eq (signed_key m) (signed_key n)) as (λ b. b
   | false ↦ λ e. refl
 ] refl
 
-either_false : (a b : Bool) → (a || b) ≡ false → (a ≡ false) × (b ≡ false)
-either_false true b h = absurd (true≢false h)
-either_false false b h = (refl, h)
-
 differs : (n m : ℤ) → int_eq n m ≡ false → n ≢ m
 differs n m h = λ e. true≢false (sym ((signed_Decides n m).1 e) ∙ h)
 
 pub own_free : (n : ℤ) → is_standard n ≡ false → has spatial_ref_sys_shape.key (signed_key n) standard_systems ≡ false
 own_free n h =
-    let last = either_false (int_eq n (negsuc 0) || int_eq n (pos 0)) (int_eq n (pos 4326)) h in
-    let first = either_false (int_eq n (negsuc 0)) (int_eq n (pos 0)) last.0 in
+    let last = or_parts (int_eq n (negsuc 0) || int_eq n (pos 0)) (int_eq n (pos 4326)) h in
+    let first = or_parts (int_eq n (negsuc 0)) (int_eq n (pos 0)) last.0 in
     rw (other_key (negsuc 0) n (differs n (negsuc 0) first.0), other_key (pos 0) n (differs n (pos 0) first.1), other_key (pos 4326) n (differs n (pos 4326) last.1)) refl
 
 pub own_comes : (n : ℤ) → is_standard n ≡ false → put spatial_ref_sys_shape.key (own_system n) standard_systems ≡ systems_of n

@@ -1,21 +1,12 @@
 -- Calls that write, one after the other in one transaction.
-use Rattle.std.proofs.Common.{◌≡◌, ℕ, List, [], false, Result, Ok, Err, ap, ◌∙◌}
-use Rattle.sqlite.specs.State.{State, Survives}
-use Rattle.sqlite.proofs.InsideLemmas.{unchanged_keeps}
+use Rattle.std.proofs.Common.{◌≡◌, ℕ, List, [], false, Result, Ok, ap, ◌∙◌}
+use Rattle.sqlite.specs.State.{State}
 use Rattle.sheet_types.specs.Ordered.{put, has}
-use Rattle.sql_meaning.specs.Transactions.{Made, Steps}
+use Rattle.sql_meaning.specs.Transactions.{Steps}
 use Rattle.sql_meaning.proofs.Transactions.{steps_then, steps_weaker}
 use Rattle.package_tables.specs.Package.{Tables, tables_of}
-use Rattle.package_tables.specs.Calls.{Makes, MakesInside, OnTables}
+use Rattle.package_tables.specs.Calls.{OnTables}
 use Rattle.package_tables.specs.Creation.{Becomes}
-
--- one write, as steps
-pub steps_of : {X E : Type 0} (Change : Tables → Tables → Type 0) (old new : State) (r : Result X E) → Makes Change old new r → Survives old new (λ _. ⊥) → Steps (λ _. OnTables Change) old new r
-steps_of {X} {E} Change old new r wrote survives = record { made = λ clean inside. at r (wrote clean inside); survives = survives }
-  where
-    at : (r : Result X E) → MakesInside Change old new r → Made (λ _. OnTables Change) old new r
-    at (Ok x) it = (it.0.mode, record { was_open = λ _. it.0.was_open; committed = λ _. it.0.committed_is }, it.1)
-    at (Err e) it = unchanged_keeps old new it
 
 -- the steps, with their change as a caller says it
 pub tables_weaker : {X E : Type 0} {A : Tables → Tables → Type 0} (C : Tables → Tables → Type 0) {old new : State} {r : Result X E} → ((b a : Tables) → A b a → C b a) → Steps (λ _. OnTables A) old new r → Steps (λ _. OnTables C) old new r

@@ -25,5 +25,6 @@ pub mod InTurn
 pub mod FixedRows
 pub mod Creating
 pub mod Columns
+pub mod Decoding
 pub mod Ranked
 pub mod FixedKept

@@ -1,5 +1,5 @@
 -- The values of a listing come in the order that its keys say.
-use Rattle.std.proofs.Common.{◌≡◌, ℕ, ℤ, List, [], ◌∷◌, map, Bool, true, false, cond, Ordering, refl, sym, ap, subst, ◌∙◌}
+use Rattle.std.proofs.Common.{◌≡◌, ℕ, ℤ, List, [], ◌∷◌, map, Bool, true, false, cond, Ordering, sym, ap, subst, ◌∙◌}
 use Rattle.std.specs.Prelude.{filter, IsSorted}
 use Rattle.std.specs.List.{AllByRecursion}
 use Rattle.std.specs.Ordering.{is_gt, on, int_cmp, ordering_then}
@@ -23,6 +23,7 @@ use Rattle.sql_meaning.specs.Known.{HasTable}
 use Rattle.sql_meaning.specs.Reading.{Listing, IsListing, ascending}
 use Rattle.package_tables.specs.Shape.{Shape, IsShape, IsFormed, IsStored, stored_rows}
 use Rattle.package_tables.proofs.Shapes.{rows_placed}
+use Rattle.package_tables.proofs.Reading.{read_back}
 
 -- keys of one number, and of two
 pub one_number : (a b : ℤ) → key_cmp 0 (ascending ∷ []) (Int a ∷ []) (Int b ∷ []) ≡ int_cmp a b
@@ -82,9 +83,5 @@ module _ {R : Type 0} (shape : Shape R) (laws : IsShape shape) (shown : R → Ro
       let are = recursion_from_All IsOf listing.ordered (All-permutation IsOf pairs listing.ordered listing.same (All-from_recursion IsOf pairs (all_of_rows there formed.stored))) in
       let up = ascending_from_sorted (on (λ (o : Row × Row). o.0) (key_cmp 0 l.by)) (on_total (λ (o : Row × Row). o.0) (key_cmp_total l.by 0)) listing.ordered listing.sorted in
       let sorted = sorted_from_ascending (λ a b. cmp (value a) (value b)) (on_total value total) listing.ordered (rising listing.ordered are up) in
-      let values : map value listing.ordered ≡ xs = sym (map-map back (λ (o : Row × Row). o.1) listing.ordered) ∙ ap (map back) (sym listing.shows ∙ read) ∙ every xs in
+      let values : map value listing.ordered ≡ xs = sym (map-map back (λ (o : Row × Row). o.1) listing.ordered) ∙ ap (map back) (sym listing.shows ∙ read) ∙ read_back shown back returns xs in
       subst (IsSorted cmp) values (IsSorted-map cmp value listing.ordered sorted)
-    where
-      every : (xs : List R) → map back (map shown xs) ≡ xs
-      every [] = refl
-      every (x ∷ xs) = rw (returns x) (ap (λ t. x ∷ t) (every xs))

@@ -56,6 +56,11 @@ nothing (x ∷ xs) h = absurd (omega (arith, length_permutation (x ∷ xs) [] h)
 
 -- ---- a listing of a table's rows
 
+-- values that are read from the rows that show them
+pub read_back : {R : Type 0} (shown : R → Row) (back : Row → R) → ((x : R) → back (shown x) ≡ x) → (xs : List R) → map back (map shown xs) ≡ xs
+read_back shown back returns [] = refl
+read_back shown back returns (x ∷ xs) = rw (returns x) (ap (λ k. x ∷ k) (read_back shown back returns xs))
+
 -- `shown` is the row that a SELECT * shows of a value, and `back` reads it
 module _ {R : Type 0} (shape : Shape R) (laws : IsShape shape) (shown : R → Row) (back : Row → R) (returns : (x : R) → back (shown x) ≡ x)
     (l : Listing) (keeps : R → Bool) (shows : (v : Value) (x : R) → l.shown (shape.stored v x) ≡ shown x) (passing : (v : Value) (x : R) → l.keeps (shape.stored v x) ≡ keeps x) where
@@ -90,11 +95,7 @@ module _ {R : Type 0} (shape : Shape R) (laws : IsShape shape) (shown : R → Ro
 
     -- all of them
     pub those : (xs : List R) → rows ≡ map shown xs → AreThose keeps (rows_of shape db) xs
-    those xs read = subst (IsPermutation (filter keeps (rows_of shape db))) (ap (map back) read ∙ every xs) answered
-      where
-        every : (xs : List R) → map back (map shown xs) ≡ xs
-        every [] = refl
-        every (x ∷ xs) = rw (returns x) (ap (λ k. x ∷ k) (every xs))
+    those xs read = subst (IsPermutation (filter keeps (rows_of shape db))) (ap (map back) read ∙ read_back shown back returns xs) answered
 
     -- the first of them
     pub one_of : (first : Option R) → MatchOption first (rows ≡ []) (λ x. slice_get rows 0 ≡ Some (shown x)) → IsOneOf keeps (rows_of shape db) first

@@ -1,9 +1,9 @@
 -- What an INSERT, a DELETE and a write to another table make of a table's values.
 use Rattle.std.proofs.Common.{◌≡◌, ℕ, List, [], ◌∷◌, map, Bool, true, false, cond, refl, sym, ap, subst, ◌∙◌, Less, Equal, Greater, Ordering}
-use Rattle.std.specs.Prelude.{not, ◌&&◌, ◌||◌, filter, bytes_eq}
+use Rattle.std.specs.Prelude.{not, ◌&&◌, filter, bytes_eq}
 use Rattle.std.specs.List.{AllByRecursion}
 use Rattle.std.specs.Ordering.{is_eq, match_ordering}
-use Rattle.std.proofs.lemmas.Bool.{true≢false, false≢true}
+use Rattle.std.proofs.lemmas.Bool.{true≢false, false≢true, or_parts}
 use Rattle.sqlite_value.specs.Order.{value_cmp}
 use Rattle.sqlite_trees.proofs.TreeLemmas.{all-put_row, IsTable-put_row}
 use Rattle.sqlite.specs.Table.{Table}
@@ -47,17 +47,13 @@ put_ints new (r ∷ rows) h all = one (value_cmp (rowid r) (rowid new)) (is_int 
     one Greater true e rest more = rw (h, e) rest
     one o false e rest more = absurd (false≢true rest)
 
-either_false : (a b : Bool) → (a || b) ≡ false → (a ≡ false) × (b ≡ false)
-either_false true b h = absurd (true≢false h)
-either_false false b h = (refl, h)
-
 module _ {R : Type 0} (key : R → List ℕ) (typed : Row → R) where
   -- a row that is put in comes to the place of its key
   pub arranged-put_row : (new : Row) (rows : List Row) → is_taken rows new ≡ false → AllByRecursion (λ r. bytes_eq (key (typed r)) (key (typed new)) ≡ false) rows
       → arranged key (map typed (put_row new rows)) ≡ put key (typed new) (arranged key (map typed rows))
   arranged-put_row new [] free differ = refl
   arranged-put_row new (r ∷ rows) free differ =
-      let both = either_false (is_eq (value_cmp (rowid r) (rowid new))) (is_taken rows new) free in
+      let both = or_parts (is_eq (value_cmp (rowid r) (rowid new))) (is_taken rows new) free in
       one (value_cmp (rowid r) (rowid new)) both.0 (arranged-put_row new rows both.1 differ.1)
     where
       one : (o : Ordering) → is_eq o ≡ false → arranged key (map typed (put_row new rows)) ≡ put key (typed new) (arranged key (map typed rows))

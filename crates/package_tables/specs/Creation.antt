@@ -59,6 +59,6 @@ MatricesBecome from to before after = before.tile_matrix ≡ from → after ≡ 
 abbrev pub RelationsBecome : List RelationRow → List RelationRow → Tables → Tables → Type 0
 RelationsBecome from to before after = before.relations ≡ from → after ≡ record before { relations = to }
 
--- depths are 0 and 1, loans go to a thousand million (profile)
+-- depths are 0 and 1, loans go to 1,000,000,000 (profile)
 abbrev pub IsFitInfo : ℕ → ℕ → Type 0
 IsFitInfo depth loan = (depth ≤ 1) × (loan ≤ 1000000000)

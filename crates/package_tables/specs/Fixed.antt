@@ -1,10 +1,10 @@
 -- The rows that are the same in every package but for the frame and the moment of the last change. OGC GeoPackage 1.3 (spatial reference systems, contents, tile matrix sets, tile matrices) and OGC 18-000 (relations) say which rows have to be there; names, definitions and bounds are profile.
-use Rattle.std.specs.Prelude.{◌≡◌, ℕ, ℤ, pos, negsuc, ◌+ℤ◌, ◌-ℤ◌, ◌*ℤ◌, int_div, unsigned_abs, ◌||◌, Bool, List, [], ◌∷◌, ◌++◌, map, codes, if◌then◌else◌}
+use Rattle.std.specs.Prelude.{◌≡◌, ℕ, ℤ, pos, negsuc, ◌+ℤ◌, unsigned_abs, ◌||◌, Bool, List, [], ◌∷◌, ◌++◌, map, codes, if◌then◌else◌}
 use Rattle.std.specs.Ordering.{int_eq}
 use Rattle.std.specs.List.{range_with_len}
 use Rattle.std.specs.Fmt.{signed_decimal}
 use Rattle.sheet_types.specs.Ordered.{put}
-use Rattle.sheet_types.specs.Matrix.{width_at, height_at, level_of}
+use Rattle.sheet_types.specs.Matrix.{width_at, height_at, level_of, pixel_x_size, pixel_y_size}
 use Rattle.sheet_types.specs.declared.frame.Frame.{Frame}
 use Rattle.package_tables.specs.Shapes.{spatial_ref_sys_shape}
 use Rattle.package_tables.specs.Package.{Tables}
@@ -51,7 +51,7 @@ contents_of f at =
 abbrev pub matrix_set : Frame → TileMatrixSetRow
 matrix_set f = record { table_name = codes "sheet_tiles"; srs_id = f.srs_id; min_x = f.min_x; min_y = f.min_y; max_x = f.max_x; max_y = f.max_y }
 
--- the tile matrix of a zoom level. Matrix size times tile size times pixel size is the extent
+-- the tile matrix of a zoom level
 abbrev pub level_row : Frame → ℤ → TileMatrixRow
 level_row f zoom = record {
   table_name = codes "sheet_tiles";
@@ -60,8 +60,8 @@ level_row f zoom = record {
   matrix_height = height_at f (level_of f zoom);
   tile_width = f.tile_width;
   tile_height = f.tile_height;
-  pixel_x_size = int_div (f.max_x -ℤ f.min_x) (width_at f (level_of f zoom) *ℤ f.tile_width);
-  pixel_y_size = int_div (f.max_y -ℤ f.min_y) (height_at f (level_of f zoom) *ℤ f.tile_height);
+  pixel_x_size = pixel_x_size f zoom;
+  pixel_y_size = pixel_y_size f zoom;
 }
 
 -- the tile matrices of the first levels, and of all, by their zooms

@@ -1,5 +1,5 @@
 -- The row that `SELECT *` shows of a value, column by column.
-use Rattle.std.specs.Prelude.{◌≡◌, ℤ, List, [], ◌∷◌, Option, Some, MatchOption, slice_get}
+use Rattle.std.specs.Prelude.{◌≡◌, ℕ, ℤ, List, [], ◌∷◌, Option, Some, MatchOption, slice_get, IsUtf8}
 use Rattle.sqlite.specs.Order.{Row, column}
 use Rattle.sqlite.specs.declared.types.Value.TheVariants.{Int, Text, Blob}
 use Rattle.package_tables.specs.declared.rows.ReceiptRow.{ReceiptRow}
@@ -15,6 +15,10 @@ use Rattle.package_tables.specs.declared.rows.IdentityRow.{IdentityRow}
 use Rattle.package_tables.specs.declared.rows.MappingRow.{MappingRow}
 use Rattle.package_tables.specs.declared.rows.MediaRow.{MediaRow}
 use Rattle.package_tables.specs.declared.rows.TileRow.{TileRow}
+
+-- each text of a row is one: SQLite keeps any bytes as a text
+abbrev pub AreTexts : Row → Type 0
+AreTexts r = (at : ℕ) (text : List ℕ) → column r at ≡ Text text → IsUtf8 text
 
 abbrev pub tile_shown : TileRow → Row
 tile_shown x = Int x.id ∷ Int x.zoom_level ∷ Int x.tile_column ∷ Int x.tile_row ∷ Blob x.tile_data ∷ []

@@ -8,9 +8,8 @@ ghost use Rattle.package_tables.specs.Calls.{Makes, Tells, LooksUp, IsOneOf, Are
 ghost use Rattle.package_tables.specs.Changes.{AddsAttribute, DropsAttribute};
 
 use crate::fault::{Fault, settled};
-use crate::from_row::{FromRow, all_of, first_of, number_of};
+use crate::from_row::{FromRow, all_of, first_of, number_at, number_of, text_at};
 use crate::rows::AttributeRow;
-use sheet_types::collections::Text;
 use sqlite::{Alter, Connection, Row, Transaction, params};
 use std::alloc::Global;
 
@@ -24,11 +23,11 @@ impl FromRow for AttributeRow {
             return Err(Fault::StoreFault);
         }
         Ok(AttributeRow {
-            id: row.get(0)?,
-            x: row.get(1)?,
-            y: row.get(2)?,
-            code: row.get(3)?,
-            label: Text::from_string(row.get(4)?),
+            id: number_at(row, 0)?,
+            x: number_at(row, 1)?,
+            y: number_at(row, 2)?,
+            code: number_at(row, 3)?,
+            label: text_at(row, 4)?,
         })
     }
 }

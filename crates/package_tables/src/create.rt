@@ -21,7 +21,8 @@ use sqlite::{Alter, Connection, Transaction};
 use std::alloc::{AllocError, Global};
 use uuid::Uuid;
 
-/// What the head of a package says: its name, its parent (none for the archive), how deep it lies (0 or 1), its loan, and the moment at which it was made.
+/// What the head of a package says (profile): its UUID, its parent (none for the archive), how many loans it is below the archive (0 or 1), the
+/// number of its loan (0 for the archive, at most 1,000,000,000), and the moment at which it was made.
 #[derive(Clone, Copy)]
 pub struct Info<'t> {
     pub package: Uuid,
@@ -103,7 +104,7 @@ fn make<S: Alter>(
     Ok(())
 }
 
-/// Makes a package with nothing in it in a store that is blank: its tables, the rows that each package has (OGC GeoPackage 1.3 and OGC 18-000), and its head.
+/// Makes a package with nothing in it in a store that is blank: its tables, the rows that each package has (OGC GeoPackage 1.3, 1.1.2, 1.1.3, 2.2.6 and 2.2.7, and OGC 18-000), and its head.
 ///
 /// # Errors
 ///

@@ -76,6 +76,40 @@ fn made<S: Alter + Drop>(alloc: Global, conn: Connection<S>) -> Result<Package<S
     create(alloc, conn, &frame, &info)
 }
 
+// A package of another frame: a reference system that each package has, two levels that begin at zoom 3, tiles and matrices that
+// are not square, ground below zero; with a parent, and at the greatest loan.
+fn made_below<S: Alter + Drop>(alloc: Global, conn: Connection<S>) -> Result<Package<S>, Fault> {
+    if !guarded(&conn) {
+        return Err(Fault::StoreFault);
+    }
+    let frame = Frame {
+        srs_id: 4326,
+        min_x: -7000,
+        min_y: -60,
+        max_x: 680,
+        max_y: 2500,
+        tile_width: 256,
+        tile_height: 128,
+        first_zoom: 3,
+        levels: 2,
+        matrix_width: 5,
+        matrix_height: 2,
+    };
+    let info = Info {
+        package: Uuid::from_u128(2),
+        parent: Some(Uuid::from_u128(1)),
+        depth: 1,
+        loan: 1000000000,
+        created: LATER,
+    };
+    create(alloc, conn, &frame, &info)
+}
+
+// The number of tables and indexes.
+fn object_count<S: Alter>(conn: &mut Connection<S>) -> Result<usize, Error> {
+    Ok(conn.query_all("SELECT name FROM sqlite_schema", &[])?.len())
+}
+
 fn systems<S: Alter>(alloc: Global, conn: &mut Connection<S>) -> Result<String, Fault> {
     if !guarded(conn) {
         return Err(Fault::StoreFault);
@@ -250,6 +284,25 @@ fn enter<S: Alter>(tx: &mut Transaction<'_, S>) -> Result<(), Fault> {
     insert_moved(tx, 2, 1, 2, "i3", "", 4, "f3")?;
     insert_moved(tx, 2, 0, 2, "i2", "", 3, "f2")?;
     set_last_change(tx, LATER, "sheet_media")
+}
+
+// Receipts and things with the least and the greatest numbers, and with texts that are empty.
+fn enter_ends<S: Alter>(tx: &mut Transaction<'_, S>) -> Result<(), Fault> {
+    let most = i64::MAX;
+    insert_receipt(tx, 0, "q0", AT, "", "", "", 0, 0, 0, 0, 0)?;
+    insert_receipt(tx, most, "q1", AT, "", "A", "", 0, 0, 0, 0, most)?;
+    insert_moved(tx, 0, 0, 1, "i1", "", 0, "")?;
+    insert_moved(tx, 0, most, 5, "i2", "i1", most, "")
+}
+
+fn entered_ends<S: Alter>(conn: &mut Connection<S>) -> Result<bool, Fault> {
+    if !conn.is_autocommit() {
+        return Ok(false);
+    }
+    let mut tx = begin(conn);
+    enter_ends(&mut tx)?;
+    tx.commit()?;
+    Ok(true)
 }
 
 fn entered<S: Alter>(conn: &mut Connection<S>) -> Result<bool, Fault> {
@@ -445,6 +498,63 @@ fn a_new_package_has_its_fixed_rows(rt: HostRuntime) -> Result<(), Fail> {
     assert_eq!(rt;
         heads(alloc, &mut package.conn)?.as_str(),
         "1 1 00000000-0000-0000-0000-000000000001  0 0 2026-11-22T09:00:00.000Z|"
+    );
+    Ok(())
+}
+
+#[test]
+fn a_package_of_another_frame_has_its_rows(rt: HostRuntime) -> Result<(), Fail> {
+    let alloc = rt.alloc();
+    let mut package = made_below(alloc, Connection::open_in_memory(alloc)?)?;
+    assert_eq!(rt;
+        systems(alloc, &mut package.conn)?.as_str(),
+        "-1 undefined cartesian NONE -1 undefined |0 undefined geographic NONE 0 undefined |4326 WGS 84 EPSG 4326 profile |"
+    );
+    assert_eq!(rt;
+        contents(alloc, &mut package.conn)?.as_str(),
+        "sheet_media attributes sheet_media  2026-11-23T09:00:00.000Z -7000 -60 680 2500 4326|sheet_rows attributes sheet_rows  2026-11-23T09:00:00.000Z -7000 -60 680 2500 4326|sheet_tiles tiles sheet_tiles  2026-11-23T09:00:00.000Z -7000 -60 680 2500 4326|"
+    );
+    assert_eq!(rt;
+        matrix_sets(alloc, &mut package.conn)?.as_str(),
+        "sheet_tiles 4326 -7000 -60 680 2500|"
+    );
+    assert_eq!(rt;
+        matrices(alloc, &mut package.conn)?.as_str(),
+        "sheet_tiles 3 5 2 256 128 6 10|sheet_tiles 4 10 4 256 128 3 5|"
+    );
+    assert_eq!(rt;
+        heads(alloc, &mut package.conn)?.as_str(),
+        "1 1 00000000-0000-0000-0000-000000000002 00000000-0000-0000-0000-000000000001 1 1000000000 2026-11-23T09:00:00.000Z|"
+    );
+    assert_eq!(rt; object_count(&mut package.conn)?, 33);
+    Ok(())
+}
+
+#[test]
+fn the_least_and_the_greatest_are_entered(rt: HostRuntime) -> Result<(), Fail> {
+    let alloc = rt.alloc();
+    let mut conn = made(alloc, Connection::open_in_memory(alloc)?)?.into_connection();
+    assert_eq!(rt; receipt_count(alloc, &mut conn)?, 0);
+    assert_eq!(rt; moved_count(alloc, &mut conn)?, 0);
+    assert_eq!(rt; of_seq(alloc, &mut conn, 0)?.as_str(), "");
+    assert!(rt; greatest(&mut conn, "A")? == (-1, -1));
+    assert!(rt; entered_ends(&mut conn)?);
+    assert_eq!(rt; by_seq(alloc, &mut conn, 0)?.as_str(), "0 q0   0");
+    assert_eq!(rt; by_seq(alloc, &mut conn, -1)?.as_str(), "-");
+    assert_eq!(rt;
+        by_request(alloc, &mut conn, "q1")?.as_str(),
+        "9223372036854775807 q1   9223372036854775807"
+    );
+    assert_eq!(rt; by_request(alloc, &mut conn, "Q1")?.as_str(), "-");
+    assert!(rt; greatest(&mut conn, "A")? == (9223372036854775807, -1));
+    assert_eq!(rt;
+        of_seq(alloc, &mut conn, 0)?.as_str(),
+        "0 0 i1|0 9223372036854775807 i2|"
+    );
+    assert_eq!(rt; with_base(alloc, &mut conn, "i1")?.as_str(), "0 0 1 i1  0 ");
+    assert_eq!(rt;
+        of_kind(alloc, &mut conn, "i2", 5)?.as_str(),
+        "0 9223372036854775807 5 i2 i1 9223372036854775807 "
     );
     Ok(())
 }

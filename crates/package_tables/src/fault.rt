@@ -7,11 +7,13 @@ use sqlite::{Error, ErrorCode};
 use std::alloc::{AllocError, AllocFailed};
 use std::fmt;
 
-/// A growth was refused, or the store failed or gave rows that no package can have.
+/// Why a call on the store of a package failed.
 #[derive(Clone, Copy, PartialEq, Eq, Debug, thiserror::Error)]
 pub enum Fault {
+    /// A growth was refused.
     #[error("OutOfMemory")]
     OutOfMemory,
+    /// The store failed, or gave rows that no package can have.
     #[error("StoreFault")]
     StoreFault,
 }

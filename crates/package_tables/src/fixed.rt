@@ -11,9 +11,8 @@ ghost use Rattle.package_tables.specs.Package.{tables_of};
 ghost use Rattle.package_tables.specs.Shapes.{contents_shape};
 
 use crate::fault::{Fault, settled};
-use crate::from_row::{FromRow, all_of};
+use crate::from_row::{FromRow, all_of, number_at, text_at};
 use crate::rows::{ContentsRow, RelationRow, SpatialRefSysRow, TileMatrixRow, TileMatrixSetRow};
-use sheet_types::collections::Text;
 use sqlite::{Alter, Connection, Row, Transaction, params};
 use std::alloc::Global;
 
@@ -159,7 +158,7 @@ pub(crate) fn insert_relation<S: Alter>(
     ))
 }
 
-/// Says when a table changed last. The names of the contents have to differ, as they do in each package.
+/// Says when a table changed last, in `last_change` of its row in the contents (OGC GeoPackage 1.3, 1.1.3). The names of the contents have to differ, as they do in each package.
 pub fn set_last_change<S: Alter>(
     tx: &mut Transaction<'_, S>,
     at: &str,
@@ -186,17 +185,17 @@ impl FromRow for SpatialRefSysRow {
             return Err(Fault::StoreFault);
         }
         Ok(SpatialRefSysRow {
-            srs_name: Text::from_string(row.get(0)?),
-            srs_id: row.get(1)?,
-            organization: Text::from_string(row.get(2)?),
-            organization_coordsys_id: row.get(3)?,
-            definition: Text::from_string(row.get(4)?),
-            description: Text::from_string(row.get(5)?),
+            srs_name: text_at(row, 0)?,
+            srs_id: number_at(row, 1)?,
+            organization: text_at(row, 2)?,
+            organization_coordsys_id: number_at(row, 3)?,
+            definition: text_at(row, 4)?,
+            description: text_at(row, 5)?,
         })
     }
 }
 
-/// All reference systems.
+/// All reference systems (OGC GeoPackage 1.3, 1.1.2), by their numbers.
 pub fn all_spatial_ref_sys<S: Alter>(
     conn: &mut Connection<S>,
     alloc: Global,
@@ -220,21 +219,21 @@ impl FromRow for ContentsRow {
             return Err(Fault::StoreFault);
         }
         Ok(ContentsRow {
-            table_name: Text::from_string(row.get(0)?),
-            data_type: Text::from_string(row.get(1)?),
-            identifier: Text::from_string(row.get(2)?),
-            description: Text::from_string(row.get(3)?),
-            last_change: Text::from_string(row.get(4)?),
-            min_x: row.get(5)?,
-            min_y: row.get(6)?,
-            max_x: row.get(7)?,
-            max_y: row.get(8)?,
-            srs_id: row.get(9)?,
+            table_name: text_at(row, 0)?,
+            data_type: text_at(row, 1)?,
+            identifier: text_at(row, 2)?,
+            description: text_at(row, 3)?,
+            last_change: text_at(row, 4)?,
+            min_x: number_at(row, 5)?,
+            min_y: number_at(row, 6)?,
+            max_x: number_at(row, 7)?,
+            max_y: number_at(row, 8)?,
+            srs_id: number_at(row, 9)?,
         })
     }
 }
 
-/// All tables of the contents.
+/// All rows of the contents (OGC GeoPackage 1.3, 1.1.3), in any order.
 pub fn all_contents<S: Alter>(
     conn: &mut Connection<S>,
     alloc: Global,
@@ -258,17 +257,17 @@ impl FromRow for TileMatrixSetRow {
             return Err(Fault::StoreFault);
         }
         Ok(TileMatrixSetRow {
-            table_name: Text::from_string(row.get(0)?),
-            srs_id: row.get(1)?,
-            min_x: row.get(2)?,
-            min_y: row.get(3)?,
-            max_x: row.get(4)?,
-            max_y: row.get(5)?,
+            table_name: text_at(row, 0)?,
+            srs_id: number_at(row, 1)?,
+            min_x: number_at(row, 2)?,
+            min_y: number_at(row, 3)?,
+            max_x: number_at(row, 4)?,
+            max_y: number_at(row, 5)?,
         })
     }
 }
 
-/// All tile matrix sets.
+/// All tile matrix sets (OGC GeoPackage 1.3, 2.2.6), in any order.
 pub fn all_tile_matrix_sets<S: Alter>(
     conn: &mut Connection<S>,
     alloc: Global,
@@ -295,19 +294,19 @@ impl FromRow for TileMatrixRow {
             return Err(Fault::StoreFault);
         }
         Ok(TileMatrixRow {
-            table_name: Text::from_string(row.get(0)?),
-            zoom_level: row.get(1)?,
-            matrix_width: row.get(2)?,
-            matrix_height: row.get(3)?,
-            tile_width: row.get(4)?,
-            tile_height: row.get(5)?,
-            pixel_x_size: row.get(6)?,
-            pixel_y_size: row.get(7)?,
+            table_name: text_at(row, 0)?,
+            zoom_level: number_at(row, 1)?,
+            matrix_width: number_at(row, 2)?,
+            matrix_height: number_at(row, 3)?,
+            tile_width: number_at(row, 4)?,
+            tile_height: number_at(row, 5)?,
+            pixel_x_size: number_at(row, 6)?,
+            pixel_y_size: number_at(row, 7)?,
         })
     }
 }
 
-/// All tile matrices.
+/// All tile matrices (OGC GeoPackage 1.3, 2.2.7), by their zooms.
 pub fn all_tile_matrices<S: Alter>(
     conn: &mut Connection<S>,
     alloc: Global,
@@ -331,18 +330,18 @@ impl FromRow for RelationRow {
             return Err(Fault::StoreFault);
         }
         Ok(RelationRow {
-            id: row.get(0)?,
-            base_table_name: Text::from_string(row.get(1)?),
-            base_primary_column: Text::from_string(row.get(2)?),
-            related_table_name: Text::from_string(row.get(3)?),
-            related_primary_column: Text::from_string(row.get(4)?),
-            relation_name: Text::from_string(row.get(5)?),
-            mapping_table_name: Text::from_string(row.get(6)?),
+            id: number_at(row, 0)?,
+            base_table_name: text_at(row, 1)?,
+            base_primary_column: text_at(row, 2)?,
+            related_table_name: text_at(row, 3)?,
+            related_primary_column: text_at(row, 4)?,
+            relation_name: text_at(row, 5)?,
+            mapping_table_name: text_at(row, 6)?,
         })
     }
 }
 
-/// All relations.
+/// All relations (OGC 18-000, extended relations), by their numbers.
 pub fn all_relations<S: Alter>(
     conn: &mut Connection<S>,
     alloc: Global,

@@ -1,5 +1,5 @@
 // The rows that each package has from its start: reference systems, contents, tile matrices and relations.
-ghost use Rattle.std.specs.Prelude.{◌≡◌, [], ◌∷◌, IsTrue};
+ghost use Rattle.std.specs.Prelude.{◌≡◌, [], ◌∷◌, IsTrue, IsOk};
 ghost use Rattle.sqlite.specs.Held.{state};
 ghost use Rattle.sheet_types.specs.Matrix.{is_good_frame};
 ghost use Rattle.sql_meaning.specs.Transactions.{Steps};
@@ -41,6 +41,7 @@ fn insert_own_system<S: Alter>(
 ) -> Result<(), Fault>
     ensures same_reference { tx.new.conn.ghost_name ≡ tx.old.conn.ghost_name }
     ensures steps { Steps (λ _. OnTables (SystemsBecome standard_systems (systems_of srs_id))) (state S.Store tx.old.conn.now) (state S.Store tx.new.conn.now) result }
+    ensures standard { IsTrue (is_standard srs_id) → IsOk result }
 {
     if is_standard(srs_id) {
         return Ok(());

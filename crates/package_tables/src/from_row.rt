@@ -1,8 +1,14 @@
 // From the rows that a SELECT answers to values.
-ghost use Rattle.std.specs.Prelude.{◌≡◌, [], map, slice_get, IfOk, IsOkAnd, MatchOption};
-ghost use Rattle.package_tables.specs.Shown.{BeginsWith};
+ghost use Rattle.std.specs.Prelude.{◌≡◌, ◌≢◌, ℕ, ℤ, List, [], map, slice_get, IfOk, IfErr, IsOkAnd, MatchOption, IsUtf8};
+ghost use Rattle.std.specs.List.{AllByRecursion};
+ghost use Rattle.sqlite.specs.Order.{column};
+ghost use Rattle.sqlite.specs.declared.types.Value.TheVariants.{Int, Text as StoredText, Blob};
+ghost use Rattle.package_tables.specs.Shown.{BeginsWith, AreTexts};
+ghost use Rattle.package_tables.specs.Faults.{fault_of};
+ghost use Rattle.package_tables.specs.declared.fault.Fault.TheVariants.{StoreFault};
 
 use crate::fault::Fault;
+use sheet_types::collections::{Bytes, Text};
 use sqlite::{Error, Row};
 use std::alloc::Global;
 
@@ -13,7 +19,32 @@ pub(crate) trait FromRow: Drop {
     ghost shown: { Self → Shown };
 
     fn from_row(row: &Row) -> Result<Self, Fault>
-        ensures { IfOk result (λ value. row.now ≡ shown value) };
+        ensures value { IfOk result (λ value. row.now ≡ shown value) }
+        ensures none { IfErr result (λ fault. fault ≡ StoreFault → AreTexts row.now → (value : Self) → row.now ≢ shown value) };
+}
+
+/// The number in a column.
+pub(crate) fn number_at(row: &Row, at: usize) -> Result<i64, Fault>
+    ensures number { IfOk result (λ number. column row.now at ≡ Int number) }
+    ensures none { IfErr result (λ fault. fault ≡ StoreFault → (number : ℤ) → column row.now at ≢ Int number) }
+{
+    Ok(row.get(at)?)
+}
+
+/// The text in a column.
+pub(crate) fn text_at(row: &Row, at: usize) -> Result<Text, Fault>
+    ensures text { IfOk result (λ text. column row.now at ≡ StoredText text) }
+    ensures none { IfErr result (λ fault. fault ≡ StoreFault → (text : List ℕ) → IsUtf8 text → column row.now at ≢ StoredText text) }
+{
+    Ok(Text::from_string(row.get(at)?))
+}
+
+/// The bytes in a column.
+pub(crate) fn bytes_at(row: &Row, at: usize) -> Result<Bytes, Fault>
+    ensures bytes { IfOk result (λ bytes. column row.now at ≡ Blob bytes) }
+    ensures none { IfErr result (λ fault. fault ≡ StoreFault → (bytes : List ℕ) → column row.now at ≢ Blob bytes) }
+{
+    Ok(Bytes::from_vec(row.get(at)?))
 }
 
 /// All rows of an answer as values.
@@ -21,7 +52,9 @@ pub(crate) fn all_of<T: FromRow>(
     alloc: Global,
     answer: Result<Vec<Row>, Error>,
 ) -> Result<Vec<T>, Fault>
-    ensures { IfOk result (λ values. IsOkAnd answer (λ rows. rows.items ≡ map T.shown values.items)) }
+    ensures values { IfOk result (λ values. IsOkAnd answer (λ rows. rows.items ≡ map T.shown values.items)) }
+    ensures failed { IfErr answer (λ error. result ≡ Err (fault_of error)) }
+    ensures none { IfOk answer (λ rows. IfErr result (λ fault. fault ≡ StoreFault → AllByRecursion AreTexts rows.items → (values : List T) → rows.items ≢ map T.shown values)) }
 {
     let rows = answer?;
     let mut values = Vec::new(alloc);
@@ -33,7 +66,9 @@ pub(crate) fn all_of<T: FromRow>(
 
 /// The first row of an answer as a value, where there is one.
 pub(crate) fn first_of<T: FromRow>(answer: Result<Vec<Row>, Error>) -> Result<Option<T>, Fault>
-    ensures { IfOk result (λ first. IsOkAnd answer (λ rows. MatchOption first (rows.items ≡ []) (λ value. slice_get rows.items 0 ≡ Some (T.shown value)))) }
+    ensures first { IfOk result (λ first. IsOkAnd answer (λ rows. MatchOption first (rows.items ≡ []) (λ value. slice_get rows.items 0 ≡ Some (T.shown value)))) }
+    ensures failed { IfErr answer (λ error. result ≡ Err (fault_of error)) }
+    ensures none { IfOk answer (λ rows. IfErr result (λ fault. MatchOption (slice_get rows.items 0) ⊥ (λ row. fault ≡ StoreFault → AreTexts row → (value : T) → row ≢ T.shown value))) }
 {
     let rows = answer?;
     match rows.first() {
@@ -44,11 +79,13 @@ pub(crate) fn first_of<T: FromRow>(answer: Result<Vec<Row>, Error>) -> Result<Op
 
 /// The number that the first row of an answer begins with, where there is one.
 pub(crate) fn number_of(answer: Result<Vec<Row>, Error>) -> Result<Option<i64>, Fault>
-    ensures { IfOk result (λ number. IsOkAnd answer (λ rows. BeginsWith rows.items number)) }
+    ensures number { IfOk result (λ number. IsOkAnd answer (λ rows. BeginsWith rows.items number)) }
+    ensures failed { IfErr answer (λ error. result ≡ Err (fault_of error)) }
+    ensures none { IfOk answer (λ rows. IfErr result (λ fault. MatchOption (slice_get rows.items 0) ⊥ (λ row. fault ≡ StoreFault → (number : ℤ) → column row 0 ≢ Int number))) }
 {
     let rows = answer?;
     match rows.first() {
         None => Ok(None),
-        Some(row) => Ok(Some(row.get(0)?)),
+        Some(row) => Ok(Some(number_at(row, 0)?)),
     }
 }

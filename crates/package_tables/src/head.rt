@@ -8,9 +8,8 @@ ghost use Rattle.package_tables.specs.Calls.{Makes, Tells, LooksUp, AreThose, Ar
 ghost use Rattle.package_tables.specs.Entries.{AddsHead};
 
 use crate::fault::{Fault, settled};
-use crate::from_row::{FromRow, all_of};
+use crate::from_row::{FromRow, all_of, number_at, text_at};
 use crate::rows::HeadRow;
-use sheet_types::collections::Text;
 use sqlite::{Alter, Connection, Row, Transaction, params};
 use std::alloc::Global;
 
@@ -47,13 +46,13 @@ impl FromRow for HeadRow {
             return Err(Fault::StoreFault);
         }
         Ok(HeadRow {
-            id: row.get(0)?,
-            version: row.get(1)?,
-            package: Text::from_string(row.get(2)?),
-            parent: Text::from_string(row.get(3)?),
-            depth: row.get(4)?,
-            loan: row.get(5)?,
-            created: Text::from_string(row.get(6)?),
+            id: number_at(row, 0)?,
+            version: number_at(row, 1)?,
+            package: text_at(row, 2)?,
+            parent: text_at(row, 3)?,
+            depth: number_at(row, 4)?,
+            loan: number_at(row, 5)?,
+            created: text_at(row, 6)?,
         })
     }
 }

@@ -8,9 +8,8 @@ ghost use Rattle.package_tables.specs.Calls.{Makes, Tells, LooksUp, IsOneOf, Are
 ghost use Rattle.package_tables.specs.Changes.{AddsIdentity, DropsIdentity};
 
 use crate::fault::{Fault, settled};
-use crate::from_row::{FromRow, all_of, first_of};
+use crate::from_row::{FromRow, all_of, first_of, number_at, text_at};
 use crate::rows::IdentityRow;
-use sheet_types::collections::Text;
 use sqlite::{Alter, Connection, Row, Transaction, params};
 use std::alloc::Global;
 
@@ -28,9 +27,9 @@ impl FromRow for IdentityRow {
             return Err(Fault::StoreFault);
         }
         Ok(IdentityRow {
-            kind: row.get(0)?,
-            local_id: row.get(1)?,
-            uuid: Text::from_string(row.get(2)?),
+            kind: number_at(row, 0)?,
+            local_id: number_at(row, 1)?,
+            uuid: text_at(row, 2)?,
         })
     }
 }

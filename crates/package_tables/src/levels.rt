@@ -1,7 +1,7 @@
-// The tile matrices of a frame's zoom levels. OGC GeoPackage 1.3, tile matrix.
-ghost use Rattle.std.specs.Prelude.{◌≡◌, pos, ◌<◌, ◌+ℤ◌, ◌-ℤ◌, ◌*ℤ◌, ◌≤ℤ◌, int_div, unsigned_abs, [], IsTrue};
+// The tile matrices of a frame's zoom levels. OGC GeoPackage 1.3, 2.2.7.
+ghost use Rattle.std.specs.Prelude.{◌≡◌, pos, ◌<◌, ◌+ℤ◌, unsigned_abs, [], IsTrue};
 ghost use Rattle.sqlite.specs.Held.{state};
-ghost use Rattle.sheet_types.specs.Matrix.{is_good_frame, has_level, width_at, height_at, level_of};
+ghost use Rattle.sheet_types.specs.Matrix.{is_good_frame, has_level};
 ghost use Rattle.sql_meaning.specs.Transactions.{Steps};
 ghost use Rattle.package_tables.specs.Calls.{OnTables};
 ghost use Rattle.package_tables.specs.Entries.{AddsTileMatrix};
@@ -10,44 +10,9 @@ ghost use Rattle.package_tables.specs.Creation.{MatricesBecome};
 
 use crate::fault::Fault;
 use crate::fixed::insert_tile_matrix;
-use matrix_rules::ground::{columns_at, rows_at};
+use matrix_rules::ground::{columns_at, pixel_x_size, pixel_y_size, rows_at};
 use sheet_types::frame::Frame;
 use sqlite::{Alter, Transaction};
-
-/// The size of a pixel along an axis of this extent that so many tiles make up.
-fn pixel_size(extent: i64, tile: i64, tiles: i64) -> i64
-    requires tile { pos 1 ≤ℤ tile }
-    requires tiles { pos 1 ≤ℤ tiles }
-    requires fits { (tiles *ℤ tile) ≤ℤ extent }
-    requires extent { extent ≤ℤ pos 2000000000000 }
-    ensures { result ≡ int_div extent (tiles *ℤ tile) }
-{
-    extent / (tiles * tile)
-}
-
-fn pixel_x_size(frame: &Frame, zoom: i64) -> i64
-    requires good { IsTrue (is_good_frame frame.now) }
-    requires level { IsTrue (has_level frame.now zoom) }
-    ensures { result ≡ int_div (frame.now.max_x -ℤ frame.now.min_x) (width_at frame.now (level_of frame.now zoom) *ℤ frame.now.tile_width) }
-{
-    pixel_size(
-        frame.max_x - frame.min_x,
-        frame.tile_width,
-        columns_at(frame, zoom),
-    )
-}
-
-fn pixel_y_size(frame: &Frame, zoom: i64) -> i64
-    requires good { IsTrue (is_good_frame frame.now) }
-    requires level { IsTrue (has_level frame.now zoom) }
-    ensures { result ≡ int_div (frame.now.max_y -ℤ frame.now.min_y) (height_at frame.now (level_of frame.now zoom) *ℤ frame.now.tile_height) }
-{
-    pixel_size(
-        frame.max_y - frame.min_y,
-        frame.tile_height,
-        rows_at(frame, zoom),
-    )
-}
 
 /// The tile matrix of one zoom level.
 fn insert_level<S: Alter>(

@@ -8,7 +8,7 @@ ghost use Rattle.package_tables.specs.Calls.{Makes, Tells, LooksUp, IsOneOf, Are
 ghost use Rattle.package_tables.specs.Changes.{AddsTilesMedia, DropsTilesMedia, AddsRowsMedia, DropsRowsMedia};
 
 use crate::fault::{Fault, settled};
-use crate::from_row::{FromRow, all_of, first_of};
+use crate::from_row::{FromRow, all_of, first_of, number_at};
 use crate::rows::MappingRow;
 use sqlite::{Alter, Connection, Row, Transaction, params};
 use std::alloc::Global;
@@ -35,8 +35,8 @@ impl FromRow for MappingRow {
             return Err(Fault::StoreFault);
         }
         Ok(MappingRow {
-            base_id: row.get(0)?,
-            related_id: row.get(1)?,
+            base_id: number_at(row, 0)?,
+            related_id: number_at(row, 1)?,
         })
     }
 }

@@ -8,9 +8,8 @@ ghost use Rattle.package_tables.specs.Calls.{Makes, Tells, LooksUp, IsOneOf, Are
 ghost use Rattle.package_tables.specs.Changes.{AddsMedium, DropsMedium};
 
 use crate::fault::{Fault, settled};
-use crate::from_row::{FromRow, all_of, first_of, number_of};
+use crate::from_row::{FromRow, all_of, bytes_at, first_of, number_at, number_of, text_at};
 use crate::rows::MediaRow;
-use sheet_types::collections::{Bytes, Text};
 use sqlite::{Alter, Connection, Row, Transaction, params};
 use std::alloc::Global;
 
@@ -24,9 +23,9 @@ impl FromRow for MediaRow {
             return Err(Fault::StoreFault);
         }
         Ok(MediaRow {
-            id: row.get(0)?,
-            data: Bytes::from_vec(row.get(1)?),
-            content_type: Text::from_string(row.get(2)?),
+            id: number_at(row, 0)?,
+            data: bytes_at(row, 1)?,
+            content_type: text_at(row, 2)?,
         })
     }
 }

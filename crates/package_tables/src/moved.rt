@@ -8,9 +8,8 @@ ghost use Rattle.package_tables.specs.Calls.{Makes, Tells, LooksUp, IsOneOf, Are
 ghost use Rattle.package_tables.specs.Entries.{AddsMoved};
 
 use crate::fault::{Fault, settled};
-use crate::from_row::{FromRow, all_of, first_of};
+use crate::from_row::{FromRow, all_of, first_of, number_at, text_at};
 use crate::rows::MovedRow;
-use sheet_types::collections::Text;
 use sqlite::{Alter, Connection, Row, Transaction, params};
 use std::alloc::Global;
 
@@ -51,13 +50,13 @@ impl FromRow for MovedRow {
             return Err(Fault::StoreFault);
         }
         Ok(MovedRow {
-            seq: row.get(0)?,
-            position: row.get(1)?,
-            kind: row.get(2)?,
-            base: Text::from_string(row.get(3)?),
-            other: Text::from_string(row.get(4)?),
-            size: row.get(5)?,
-            fingerprint: Text::from_string(row.get(6)?),
+            seq: number_at(row, 0)?,
+            position: number_at(row, 1)?,
+            kind: number_at(row, 2)?,
+            base: text_at(row, 3)?,
+            other: text_at(row, 4)?,
+            size: number_at(row, 5)?,
+            fingerprint: text_at(row, 6)?,
         })
     }
 }
@@ -135,7 +134,7 @@ pub fn moved_of_kind_inside<S: Alter>(
     first_of(tx.query_all(OF_KIND, params![base, kind]))
 }
 
-/// All that receipts moved.
+/// All that receipts moved, by the numbers of the receipts.
 pub fn all_moved<S: Alter>(conn: &mut Connection<S>, alloc: Global) -> Result<Vec<MovedRow>, Fault>
     requires { Rests (state S.Store conn.old) }
     ensures { LooksUp (λ t found. AreAll (on (λ x. x.seq) int_cmp) t.moved found.items) (state S.Store conn.old) (state S.Store conn.new) result }

@@ -8,9 +8,8 @@ ghost use Rattle.package_tables.specs.Calls.{Makes, Tells, LooksUp, IsOneOf, IsG
 ghost use Rattle.package_tables.specs.Entries.{AddsReceipt};
 
 use crate::fault::{Fault, settled};
-use crate::from_row::{FromRow, all_of, first_of, number_of};
+use crate::from_row::{FromRow, all_of, first_of, number_at, number_of, text_at};
 use crate::rows::ReceiptRow;
-use sheet_types::collections::Text;
 use sqlite::{Alter, Connection, Row, Transaction, params};
 use std::alloc::Global;
 
@@ -60,17 +59,17 @@ impl FromRow for ReceiptRow {
             return Err(Fault::StoreFault);
         }
         Ok(ReceiptRow {
-            seq: row.get(0)?,
-            request: Text::from_string(row.get(1)?),
-            at: Text::from_string(row.get(2)?),
-            line: Text::from_string(row.get(3)?),
-            source: Text::from_string(row.get(4)?),
-            target: Text::from_string(row.get(5)?),
-            n_tiles: row.get(6)?,
-            n_media: row.get(7)?,
-            n_rows: row.get(8)?,
-            n_links: row.get(9)?,
-            n_bytes: row.get(10)?,
+            seq: number_at(row, 0)?,
+            request: text_at(row, 1)?,
+            at: text_at(row, 2)?,
+            line: text_at(row, 3)?,
+            source: text_at(row, 4)?,
+            target: text_at(row, 5)?,
+            n_tiles: number_at(row, 6)?,
+            n_media: number_at(row, 7)?,
+            n_rows: number_at(row, 8)?,
+            n_links: number_at(row, 9)?,
+            n_bytes: number_at(row, 10)?,
         })
     }
 }

@@ -1,7 +1,7 @@
 // The rows of a package's tables, a struct a table, each field a column of the same name.
 use sheet_types::collections::{Bytes, Text};
 
-/// A row of `sheet_tiles` (OGC GeoPackage 1.3, tile pyramid user data tables).
+/// A row of `sheet_tiles` (OGC GeoPackage 1.3, 2.2.8, tile pyramid user data tables).
 #[derive(Drop)]
 pub struct TileRow {
     pub id: i64,
@@ -19,7 +19,7 @@ pub struct MediaRow {
     pub content_type: Text,
 }
 
-/// A row of `sheet_rows` (OGC GeoPackage 1.3, attributes user data tables).
+/// A row of `sheet_rows` (OGC GeoPackage 1.3, 2.4.2, attributes user data tables). Coordinates are thousandths of the frame's unit (profile).
 #[derive(Drop)]
 pub struct AttributeRow {
     pub id: i64,
@@ -84,7 +84,7 @@ pub struct HeadRow {
     pub created: Text,
 }
 
-/// A row of `gpkg_spatial_ref_sys` (OGC GeoPackage 1.3, spatial reference systems).
+/// A row of `gpkg_spatial_ref_sys` (OGC GeoPackage 1.3, 1.1.2, spatial reference systems).
 #[derive(Drop)]
 pub struct SpatialRefSysRow {
     pub srs_name: Text,
@@ -95,7 +95,7 @@ pub struct SpatialRefSysRow {
     pub description: Text,
 }
 
-/// A row of `gpkg_contents` (OGC GeoPackage 1.3, contents).
+/// A row of `gpkg_contents` (OGC GeoPackage 1.3, 1.1.3, contents). Bounds are thousandths of the frame's unit (profile).
 #[derive(Drop)]
 pub struct ContentsRow {
     pub table_name: Text,
@@ -110,7 +110,7 @@ pub struct ContentsRow {
     pub srs_id: i64,
 }
 
-/// A row of `gpkg_tile_matrix_set` (OGC GeoPackage 1.3, tile matrix set).
+/// A row of `gpkg_tile_matrix_set` (OGC GeoPackage 1.3, 2.2.6, tile matrix set). Bounds are thousandths of the frame's unit (profile).
 #[derive(Drop)]
 pub struct TileMatrixSetRow {
     pub table_name: Text,
@@ -121,7 +121,7 @@ pub struct TileMatrixSetRow {
     pub max_y: i64,
 }
 
-/// A row of `gpkg_tile_matrix` (OGC GeoPackage 1.3, tile matrix).
+/// A row of `gpkg_tile_matrix` (OGC GeoPackage 1.3, 2.2.7, tile matrix). Pixel sizes are thousandths of the frame's unit (profile).
 #[derive(Drop)]
 pub struct TileMatrixRow {
     pub table_name: Text,

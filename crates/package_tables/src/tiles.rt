@@ -8,9 +8,8 @@ ghost use Rattle.package_tables.specs.Calls.{Makes, Tells, LooksUp, IsOneOf, Are
 ghost use Rattle.package_tables.specs.Changes.{AddsTile, DropsTile};
 
 use crate::fault::{Fault, settled};
-use crate::from_row::{FromRow, all_of, first_of, number_of};
+use crate::from_row::{FromRow, all_of, bytes_at, first_of, number_at, number_of};
 use crate::rows::TileRow;
-use sheet_types::collections::Bytes;
 use sqlite::{Alter, Connection, Row, Transaction, params};
 use std::alloc::Global;
 
@@ -27,11 +26,11 @@ impl FromRow for TileRow {
             return Err(Fault::StoreFault);
         }
         Ok(TileRow {
-            id: row.get(0)?,
-            zoom_level: row.get(1)?,
-            tile_column: row.get(2)?,
-            tile_row: row.get(3)?,
-            tile_data: Bytes::from_vec(row.get(4)?),
+            id: number_at(row, 0)?,
+            zoom_level: number_at(row, 1)?,
+            tile_column: number_at(row, 2)?,
+            tile_row: number_at(row, 3)?,
+            tile_data: bytes_at(row, 4)?,
         })
     }
 }

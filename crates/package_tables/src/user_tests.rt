@@ -37,6 +37,10 @@ const FIRST: &str = "00000000-0000-4000-8000-000000000001";
 
 const SECOND: &str = "00000000-0000-4000-8000-000000000002";
 
+// Of 300 characters, the last thirty of two bytes.
+const LONG: &str =
+    "A well at the old mill, dry since the spring; see the sheet to the west. A well at the old mill, dry since the spring; see the sheet to the west. A well at the old mill, dry since the spring; see the sheet to the west. A well at the old mill, dry since the spring; see téééééééééééééééééééééééééééééé";
+
 // ---- rows as texts; none is "-"
 
 fn tile(alloc: Global, row: Option<TileRow>) -> Result<String, AllocError> {
@@ -115,6 +119,34 @@ fn fill_identities<S: Alter>(tx: &mut Transaction<'_, S>) -> Result<(), Fault> {
     insert_identity(tx, 2, 7, SECOND)
 }
 
+// The least and the greatest numbers, nothing for bytes and for texts, and a long label.
+fn fill_ends<S: Alter>(tx: &mut Transaction<'_, S>) -> Result<(), Fault> {
+    let most = i64::MAX;
+    insert_tile(tx, 0, 0, 0, 0, b"")?;
+    insert_tile(tx, most, 20, most, 0, b"z")?;
+    insert_medium(tx, 0, b"", "")?;
+    insert_attribute(tx, 0, i64::MIN, most, -1, LONG)?;
+    insert_attribute(tx, most, 0, 0, most, "")
+}
+
+fn link_ends<S: Alter>(tx: &mut Transaction<'_, S>) -> Result<(), Fault> {
+    let most = i64::MAX;
+    insert_tiles_media(tx, most, 0)?;
+    insert_rows_media(tx, 0, 0)?;
+    insert_identity(tx, 1, most, FIRST)?;
+    insert_identity(tx, 3, 0, SECOND)
+}
+
+// Nothing that is there goes.
+fn empty_ends<S: Alter>(tx: &mut Transaction<'_, S>) -> Result<(), Fault> {
+    delete_tile(tx, -1)?;
+    delete_medium(tx, i64::MAX)?;
+    delete_attribute(tx, 1)?;
+    delete_tiles_media(tx, 0, 0)?;
+    delete_rows_media(tx, 0, 1)?;
+    delete_identity(tx, 2, 0)
+}
+
 fn empty<S: Alter>(tx: &mut Transaction<'_, S>) -> Result<(), Fault> {
     delete_tile(tx, 9)?;
     delete_medium(tx, 5)?;
@@ -139,6 +171,20 @@ fn filled<S: Alter>(conn: &mut Connection<S>) -> Result<bool, Fault> {
     fill_attributes(&mut tx)?;
     fill_mappings(&mut tx)?;
     fill_identities(&mut tx)?;
+    tx.commit()?;
+    Ok(true)
+}
+
+// The same with the least and the greatest values.
+fn filled_to_the_ends<S: Alter>(conn: &mut Connection<S>) -> Result<bool, Fault> {
+    if !conn.is_autocommit() {
+        return Ok(false);
+    }
+    let mut tx = conn.transaction();
+    create_schema(&mut tx)?;
+    fill_ends(&mut tx)?;
+    link_ends(&mut tx)?;
+    empty_ends(&mut tx)?;
     tx.commit()?;
     Ok(true)
 }
@@ -601,5 +647,62 @@ fn one_row_of_each_table_goes(rt: HostRuntime) -> Result<(), Fail> {
         told_all_identities(a, conn)?.as_str(),
         "1 7 00000000-0000-4000-8000-000000000001;"
     );
+    Ok(())
+}
+
+#[test]
+fn the_least_and_the_greatest_rows_are_found(rt: HostRuntime) -> Result<(), Fail> {
+    let a = rt.alloc();
+    let mut conn = Connection::open_in_memory(a)?;
+    let conn = &mut conn;
+    assert!(rt; filled_to_the_ends(conn)?);
+    assert_eq!(rt; told_tile_by_id(a, conn, -1)?.as_str(), "-");
+    assert_eq!(rt;
+        told_tile_at(a, conn, 20, i64::MAX, 0)?.as_str(),
+        "9223372036854775807 20 9223372036854775807 0 1"
+    );
+    assert_eq!(rt;
+        told_all_tiles(a, conn)?.as_str(),
+        "0 0 0 0 0;9223372036854775807 20 9223372036854775807 0 1;"
+    );
+    assert_eq!(rt; told_medium_by_id(a, conn, 0)?.as_str(), "0 0 ");
+    let label = format!(in a; "0 -9223372036854775808 9223372036854775807 -1 {}", LONG)?;
+    assert_eq!(rt; told_attribute_by_id(a, conn, 0)?.as_str(), label.as_str());
+    assert_eq!(rt;
+        told_attribute_by_id(a, conn, i64::MAX)?.as_str(),
+        "9223372036854775807 0 0 9223372036854775807 "
+    );
+    assert_eq!(rt;
+        told_tiles_media_of_base(a, conn, i64::MAX)?.as_str(),
+        "9223372036854775807 0"
+    );
+    assert_eq!(rt; told_rows_media_of_pair(a, conn, 0, 0)?.as_str(), "0 0");
+    assert_eq!(rt;
+        told_identity_by_key(a, conn, 1, i64::MAX)?.as_str(),
+        "1 9223372036854775807 00000000-0000-4000-8000-000000000001"
+    );
+    assert_eq!(rt;
+        told_identity_by_uuid(a, conn, SECOND)?.as_str(),
+        "3 0 00000000-0000-4000-8000-000000000002"
+    );
+    assert_eq!(rt;
+        told_numbers(a, conn)?.as_str(),
+        "9223372036854775807 0 9223372036854775807"
+    );
+    Ok(())
+}
+
+#[test]
+fn tables_without_rows_are_read(rt: HostRuntime) -> Result<(), Fail> {
+    let a = rt.alloc();
+    let mut conn = Connection::open_in_memory(a)?;
+    let conn = &mut conn;
+    assert!(rt; scheme(conn)?);
+    assert_eq!(rt; told_all_tiles(a, conn)?.as_str(), "");
+    assert_eq!(rt; told_all_media(a, conn)?.as_str(), "");
+    assert_eq!(rt; told_all_attributes(a, conn)?.as_str(), "");
+    assert_eq!(rt; told_all_tiles_media(a, conn)?.as_str(), "");
+    assert_eq!(rt; told_all_rows_media(a, conn)?.as_str(), "");
+    assert_eq!(rt; told_all_identities(a, conn)?.as_str(), "");
     Ok(())
 }

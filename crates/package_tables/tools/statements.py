@@ -180,7 +180,7 @@ def newest_answer(t):
         "pub returns-clause-told : goal.returns-clause-told",
         "returns-clause-told g c =",
         "    let e = c.query_all.ensures in",
-        "    tells_greatest_of_all known newest (λ x. refl) (λ rows. rows.items) (state g.S.Store c.args.tx.now.conn.now) (state g.S.Store c.query_all.new.self.conn.now) c.query_all.result e.ok e.err c.number_of.result c.number_of.ensures",
+        "    tells_greatest_of_all known newest (λ x. refl) (λ rows. rows.items) (state g.S.Store c.args.tx.now.conn.now) (state g.S.Store c.query_all.new.self.conn.now) c.query_all.result e.ok e.err c.number_of.result c.number_of.ensures.number",
     ]
 
 
@@ -368,7 +368,7 @@ def delete_answer(t):
 
 def read_answer(t, name, function, columns, inside, many):
     lemma = "looks_in_order" if many else "tells_one" if inside else "looks_one"
-    step = "all_of" if many else "first_of"
+    step, said = ("all_of", "values") if many else ("first_of", "first")
     read = "(%s %s)" % (name, passed(t, columns)) if columns else name
     values = "(λ x. refl) all_ranked (λ found. found.items) " if many else ""
     head = [
@@ -385,14 +385,14 @@ def read_answer(t, name, function, columns, inside, many):
             "returns-clause-told g c =",
             "    let e = c.query_all.ensures in",
             "    %s known %s (λ rows. rows.items) _ %s" % (lemma, read, given(t, columns)),
-            "    (state g.S.Store c.args.tx.now.conn.now) (state g.S.Store c.query_all.new.self.conn.now) c.query_all.result e.ok e.err %sc.%s.result c.%s.ensures" % (values, step, step),
+            "    (state g.S.Store c.args.tx.now.conn.now) (state g.S.Store c.query_all.new.self.conn.now) c.query_all.result e.ok e.err %sc.%s.result c.%s.ensures.%s" % (values, step, step, said),
         ]
     return head + [
         "pub returns : goal.returns",
         "returns g c =",
         "    let e = c.query_all.ensures in",
         "    %s known %s (λ rows. rows.items) _ %s g.S.Store g.met.S.Store.shut_if_dirty g.met.S.Store.settled" % (lemma, read, given(t, columns)),
-        "    c.args.conn.now c.query_all.new.self c.requires c.query_all.result e.ok e.err e.mode e.survives %sc.%s.result c.%s.ensures" % (values, step, step),
+        "    c.args.conn.now c.query_all.new.self c.requires c.query_all.result e.ok e.err e.mode e.survives %sc.%s.result c.%s.ensures.%s" % (values, step, step, said),
     ]
 
 

@@ -77,7 +77,7 @@ pub before_other_way : (a b : List ℕ) → is_before a b ≡ false → bytes_eq
 before_other_way a b h g = ap is_lt (nat_list_cmp_total.antisymm b a) ∙ either_way (slice_cmp nat_cmp a b) h (is_eq-slice_cmp a b ∙ g)
 
 -- the test of less
-lt_is_less : (o : Ordering) → is_lt o ≡ true → o ≡ Less
+pub lt_is_less : (o : Ordering) → is_lt o ≡ true → o ≡ Less
 lt_is_less Less h = refl
 lt_is_less Equal h = absurd (false≢true h)
 lt_is_less Greater h = absurd (false≢true h)

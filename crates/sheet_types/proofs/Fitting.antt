@@ -1,15 +1,14 @@
 -- The values of the types are fit for a line: UUIDs, digests, and the entry of a command whose sizes are in bounds.
-use Rattle.std.specs.Prelude.{◌≡◌, ℕ, zero, suc, ◌<◌, ◌==◌, true, false, nat_lt, nat_le, List, [], ◌∷◌, ◌++◌, refl, length, slice_index, ℤ, pos, negsuc, All, FitsSigned}
+use Rattle.std.specs.Prelude.{◌≡◌, ℕ, zero, suc, ◌<◌, ◌==◌, true, false, nat_lt, nat_le, List, [], ◌∷◌, ◌++◌, refl, length, slice_index, pos}
 use Rattle.std.proofs.Common.{arith}
 use Rattle.std.proofs.lemmas.Bool.{and_parts, and_from, lt-ltb, eq-eqb}
 use Rattle.std.proofs.lemmas.Bool.Decides.{nat_tests}
-use Rattle.std.proofs.lemmas.List.Elements.{recursion_from_All}
 use Rattle.std.specs.List.{list_all, AllByRecursion}
-use Rattle.std.specs.Int.{to_be_bytes, w32, w64}
+use Rattle.std.specs.Int.{to_be_bytes, w32}
 use Rattle.sha2.specs.Sha256.{sha256, digest_bytes, final_hash, initial_hash_256}
 use Rattle.sha2.proofs.Facts256.{length-sha256}
 use Rattle.sheet_types.specs.Texts.{entry_of, fingerprint, content_bytes, kind_of, size}
-use Rattle.sheet_types.specs.Lines.{is_bytes, IsUuid, is_number, HasTypes, IsFitEntry}
+use Rattle.sheet_types.specs.Lines.{is_bytes, is_number, HasTypes, IsFitEntry}
 use Rattle.sheet_types.specs.World.{is_item_kind}
 use Rattle.sheet_types.specs.Refuse.{too_large, has_good_size, is_length_within}
 use Rattle.sheet_types.specs.declared.command.Command.{Command}
@@ -85,14 +84,3 @@ entry_fits (Link p mapping base media) types sizes = types
 entry_fits (Unlink p mapping base media) types sizes = types
 entry_fits (Split p child mode rect) types sizes = types
 entry_fits (Merge child into ticket) types sizes = types
-
--- ---- from the values of Rust's types
-
--- 16 bytes are a UUID
-pub uuid_fits : (id : List ℕ) → length id ≡ 16 → All (λ b. b < 256) id → IsUuid id
-uuid_fits id long small = bytes_fit 16 id long (recursion_from_All (λ b. b < 256) id small)
-
--- a number of 64 bits is one
-pub number_fits : (z : ℤ) → FitsSigned w64 z → is_number z ≡ true
-number_fits (pos n) h = grind (arith, nat_tests)
-number_fits (negsuc n) h = grind (arith, nat_tests)

@@ -3,7 +3,7 @@ use Rattle.std.specs.Prelude.{◌≡◌, Bool, true, false, cond, ◌||◌, List
 use Rattle.std.proofs.Common.{sym, ap, subst, ◌∙◌}
 use Rattle.std.proofs.lemmas.Bool.{false≢true, or_parts}
 use Rattle.std.specs.List.{list_any, AllByRecursion}
-use Rattle.sheet_types.proofs.Basics.{None≢Some}
+use Rattle.sheet_types.proofs.Basics.{None≢Some, or-true}
 use Rattle.sheet_types.proofs.Every.{All-each}
 
 -- where some element passes, one is found
@@ -48,12 +48,8 @@ any_implies p q f [] h = absurd (false≢true h)
 any_implies p q f (x ∷ xs) h =
     elim (p x) as (λ v. p x ≡ v → (v || list_any p xs) ≡ true → (q x || list_any q xs) ≡ true) [
       | true ↦ λ e _. ap (λ b. b || list_any q xs) (f x e)
-      | false ↦ λ _ more. ap (λ b. q x || b) (any_implies p q f xs more) ∙ or_true (q x)
+      | false ↦ λ _ more. ap (λ b. q x || b) (any_implies p q f xs more) ∙ or-true (q x)
     ] refl h
-  where
-    or_true : (b : Bool) → (b || true) ≡ true
-    or_true true = refl
-    or_true false = refl
 
 -- a filter that takes all that pass leaves one
 pub any_filter : {X : Type 0} (p t : X → Bool) (xs : List X) → ((x : X) → p x ≡ true → t x ≡ true) → list_any p xs ≡ true → list_any p (filter t xs) ≡ true

@@ -3,6 +3,7 @@ use Rattle.std.specs.Prelude.{◌≡◌, ℕ, zero, suc, ◌^◌, ◌<◌, ◌==
 use Rattle.std.proofs.Common.{sym, ap, subst, ◌∙◌, arith, get_or, inl}
 use Rattle.std.proofs.lemmas.Bool.{and_parts, and_from, ltb-true, eqb-true}
 use Rattle.std.proofs.lemmas.Bool.Decides.{nat_tests}
+use Rattle.std.specs.Prelude.{All}
 use Rattle.std.proofs.lemmas.List.Elements.{All-from_recursion}
 use Rattle.std.proofs.lemmas.List.Splits.{slice_split_at, slice_split_none}
 use Rattle.std.proofs.lemmas.Slice.Eq.{bytes_eq-Decides}
@@ -149,11 +150,12 @@ small_at (b ∷ bytes) h (suc i) = small_at bytes h.1 i
 pub uuid_length : (id : List ℕ) → is_uuid id ≡ true → length id ≡ 16
 uuid_length id h = eqb-true (length id) 16 (and_parts (length id == 16) (list_all (λ b. nat_lt b 256) id) h).0
 
+pub uuid_bytes : (id : List ℕ) → is_uuid id ≡ true → All (λ b. b < 256) id
+uuid_bytes id h = All-from_recursion (λ b. b < 256) id (small_bytes id (and_parts (length id == 16) (list_all (λ b. nat_lt b 256) id) h).1)
+
 -- a UUID
 pub uuid_back : (id : List ℕ) → is_uuid id ≡ true → uuid_in (uuid_text id) ≡ id
-uuid_back id h =
-    let small : AllByRecursion (λ b. b < 256) id = small_bytes id (and_parts (length id == 16) (list_all (λ b. nat_lt b 256) id) h).1 in
-    ap (λ o. unwrap_or o []) (sym (parses_hyphenated_text lower id (inl refl) (uuid_length id h) (All-from_recursion (λ b. b < 256) id small)))
+uuid_back id h = ap (λ o. unwrap_or o []) (sym (parses_hyphenated_text lower id (inl refl) (uuid_length id h) (uuid_bytes id h)))
 
 -- a digest
 digest_back : (n : ℕ) (bytes : List ℕ) → is_bytes n bytes ≡ true → digest_in (encode_lower bytes) ≡ bytes

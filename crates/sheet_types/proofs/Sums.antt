@@ -15,11 +15,6 @@ pub sum_by-zero : {X : Type 0} (f : X → ℕ) → ((x : X) → f x ≡ 0) → (
 sum_by-zero f z [] = refl
 sum_by-zero f z (x ∷ xs) = omega (arith, sum_by-cons f x xs, z x, sum_by-zero f z xs)
 
--- two measures together
-pub sum_by-plus : {X : Type 0} (f g : X → ℕ) (xs : List X) → sum_by (λ x. f x + g x) xs ≡ sum_by f xs + sum_by g xs
-sum_by-plus f g [] = refl
-sum_by-plus f g (x ∷ xs) = omega (arith, sum_by-cons (λ y. f y + g y) x xs, sum_by-cons f x xs, sum_by-cons g x xs, sum_by-plus f g xs)
-
 -- a measure that is 1 counts
 pub length_sum : {X : Type 0} (f : X → ℕ) → ((x : X) → f x ≡ 1) → (xs : List X) → sum_by f xs ≡ length xs
 length_sum f z [] = refl

@@ -1,5 +1,5 @@
 -- Texts that are read: digests, numbers, UUIDs, frames. Profile, over RFC 9562 (UUIDs) and FIPS 180-4 (digests).
-use Rattle.std.specs.Prelude.{◌≡◌, ℕ, ◌<◌, ℤ, All, List, [], ◌∷◌, ◌++◌, unwrap_or, length, map, Option, Some, None, FitsSigned}
+use Rattle.std.specs.Prelude.{◌≡◌, ℕ, ℤ, List, [], ◌∷◌, ◌++◌, unwrap_or, length, map, Option, Some, None, FitsSigned}
 use Rattle.std.specs.Int.{w64}
 use Rattle.std.specs.List.{join_with_byte, AllByRecursion}
 use Rattle.std.specs.Fmt.{signed_decimal}
@@ -18,11 +18,6 @@ pub record IsDigest (digest : List ℕ) : Type 0 where
 -- a rectangle as a line has it
 abbrev pub rect_text : Rect → List ℕ
 rect_text r = spaced (signed_decimal r.zoom ∷ signed_decimal r.column ∷ signed_decimal r.last_column ∷ signed_decimal r.row ∷ signed_decimal r.last_row ∷ [])
-
--- the 16 bytes of a UUID (RFC 9562, section 4)
-pub record IsUuid (id : List ℕ) : Type 0 where
-  pub long : length id ≡ 16
-  pub bytes : All (λ byte. byte < 256) id
 
 -- the stored text of a UUID, or the empty text where there is none
 abbrev pub optional_uuid_text : Option (List ℕ) → List ℕ

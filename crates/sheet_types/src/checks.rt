@@ -13,7 +13,7 @@ const MAX_LABEL: usize = 200;
 
 const MAX_CODE: i64 = 999_999;
 
-/// Whether each part of a content is within its limits: data of 1 to 1,048,576 bytes, a content type of 1 to 100, a label of 0 to 200, a code of 0 to 999,999.
+/// Whether each part of a content is within its limits (profile): data of 1 to 1,048,576 bytes, a content type of 1 to 100 bytes, a label of 0 to 200 bytes, a code of 0 to 999,999.
 pub fn has_good_size(content: &Content) -> bool
     ensures { result ≡ has_good_size content.now }
 {
@@ -32,7 +32,7 @@ pub fn has_good_size(content: &Content) -> bool
     }
 }
 
-/// Whether an added content is out of its limits.
+/// Whether an added content is out of its limits. Of other commands, no.
 pub fn is_too_large(command: &Command) -> bool
     ensures { result ≡ too_large command.now }
 {
@@ -42,7 +42,7 @@ pub fn is_too_large(command: &Command) -> bool
     }
 }
 
-/// Whether a command adds a content type that is not of printable ASCII, or a label with a line feed.
+/// Whether a command adds a content type that is not of printable ASCII (32 to 126), or a label with a line feed.
 pub fn has_bad_text(command: &Command) -> bool
     ensures { result ≡ bad_text command.now }
 {

@@ -42,7 +42,7 @@ fn end_with(mut hasher: Sha256, rest: &[u8]) -> [u8; 32]
     hasher.finalize()
 }
 
-/// The SHA-256 of a content's bytes. They are hashed in pieces, and not copied.
+/// The SHA-256 (FIPS 180-4, 6.2) of a content's first line and data. They are hashed in pieces, and not copied.
 pub fn fingerprint(content: &Content) -> [u8; 32]
     ensures { result ≡ fingerprint content.now }
 {

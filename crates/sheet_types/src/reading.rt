@@ -3,7 +3,8 @@ ghost use Rattle.std.specs.Prelude.{◌≡◌, ◌≢◌, ◌∷◌, ◌++◌, [
 ghost use Rattle.std.specs.Int.{w64};
 ghost use Rattle.std.specs.Fmt.{signed_decimal};
 ghost use Rattle.uuid.specs.Text.{parsed_hyphenated};
-ghost use Rattle.sheet_types.specs.Reading.{frame_text, optional_uuid_text, IsInRange, IsUuid};
+ghost use Rattle.sheet_types.specs.Lines.{IsUuid};
+ghost use Rattle.sheet_types.specs.Reading.{frame_text, optional_uuid_text, IsInRange};
 ghost use Rattle.sheet_types.specs.Texts.{uuid_text};
 ghost use Rattle.sheet_types.specs.declared.frame.Frame.{Frame};
 
@@ -25,7 +26,7 @@ pub fn read_uuid(text: &str) -> Option<Uuid>
     }
 }
 
-/// The UUID of a stored text, which is in lower case.
+/// The UUID of a stored text of 36 bytes, which is in lower case (RFC 9562, section 4); `None` of any other text.
 pub fn read_stored_uuid(text: &str) -> Option<Uuid>
     ensures some { IfSome result (λ id. text.now ≡ uuid_text id) }
     ensures none { IfNone result ((id : List ℕ) → IsUuid id → text.now ≢ uuid_text id) }
@@ -87,7 +88,7 @@ fn next_number<'a>(text: &'a str) -> Option<(i64, &'a str)>
     }
 }
 
-/// The frame of a text of eleven numbers with single commas between them.
+/// The frame of a text of eleven numbers with single commas between them, in the order of the fields; `None` of any other text. Whether the frame is good is not asked.
 pub fn read_frame(text: &str) -> Option<Frame>
     ensures some { IfSome result (λ frame. text.now ≡ frame_text frame) }
     ensures none { IfNone result ((frame : Frame) → IsInRange frame → text.now ≢ frame_text frame) }

@@ -20,7 +20,7 @@ pub fn uuid_is_before(a: Uuid, b: Uuid) -> bool
 }
 
 impl MovedKind {
-    /// The number of the kind, 1 to 5.
+    /// The number by which the kind is stored, 1 to 5 (profile).
     pub fn number(self) -> u8
         ensures { result ≡ kind_number self }
     {
@@ -33,7 +33,7 @@ impl MovedKind {
         }
     }
 
-    /// The kind of a number.
+    /// The kind of a number, `None` where it is not from 1 to 5.
     pub fn from_number(number: u8) -> Option<MovedKind>
         ensures some { IfSome result (λ kind. number ≡ kind_number kind) }
         ensures none { IfNone result ((kind : MovedKind) → number ≢ kind_number kind) }

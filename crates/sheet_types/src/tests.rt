@@ -5,7 +5,7 @@ use crate::command::{Command, Content, Item, Mapping, Mode, Relation};
 use crate::error::OutOfMemory;
 use crate::fingerprints::{Spelled, fingerprint, read_fingerprint, spell};
 use crate::frame::Rect;
-use crate::lines::line;
+use crate::lines::{add_line, line};
 use crate::moments::is_moment;
 use crate::reading::{read_frame, read_number, read_stored_optional, read_stored_uuid, read_uuid};
 use crate::receipt::{Moved, MovedKind, Receipt};
@@ -135,6 +135,23 @@ fn lines_of_items(rt: HostRuntime) -> Result<(), Fail> {
         alloc,
         &add,
         "add a0000000-0000-4000-8000-000000000000 00000000-0000-4000-8000-000000000002 row 4 e43e5d2489a3da72d168ede7401f6f60f459782a7e66f46822d8dcd10bb20517",
+    )?;
+    let moved = Moved::of_content(identity(2), &attribute_row(alloc)?);
+    let told = add_line(alloc, package, &moved)?;
+    assert_eq!(rt;
+        told.as_str(),
+        "add a0000000-0000-4000-8000-000000000000 00000000-0000-4000-8000-000000000002 row 4 e43e5d2489a3da72d168ede7401f6f60f459782a7e66f46822d8dcd10bb20517"
+    );
+    let add = Command::Add {
+        package,
+        identity: identity(3),
+        content: medium(alloc)?,
+    };
+    expect_line(
+        &rt,
+        alloc,
+        &add,
+        "add a0000000-0000-4000-8000-000000000000 00000000-0000-4000-8000-000000000003 media 2 0d293ef7b06e5c2cd296350b48694d0921c8acb7a72407aee7d2dbd3936d7da0",
     )?;
     let delete = Command::Delete {
         package,
@@ -478,17 +495,11 @@ fn orders(rt: HostRuntime) -> Result<(), Fail> {
     };
     assert!(rt; item_is_before(&first, &second));
     let links = [
-        Relation {
-            mapping: Mapping::TilesMedia,
-            base: loan(),
-            media: identity(1),
-        },
-        Relation {
-            mapping: Mapping::TilesMedia,
-            base: loan(),
-            media: identity(2),
-        },
+        Relation::new(Mapping::TilesMedia, loan(), identity(1)),
+        Relation::new(Mapping::TilesMedia, loan(), identity(2)),
     ];
+    assert!(rt; links[0].base == loan());
+    assert!(rt; links[1].media == identity(2));
     assert!(rt; link_is_before(&links[0], &links[1]));
     assert!(rt; !link_is_before(&links[1], &links[0]));
     let moved = Moved::of_item(&second);
@@ -546,6 +557,17 @@ fn limits(rt: HostRuntime) -> Result<(), Fail> {
 }
 
 #[test]
+fn clones_of_contents(rt: HostRuntime) -> Result<(), Fail> {
+    let alloc = rt.alloc();
+    for content in [&tile(alloc)?, &medium(alloc)?, &attribute_row(alloc)?] {
+        let copy = content.try_clone()?;
+        assert!(rt; copy.kind() == content.kind());
+        assert!(rt; fingerprint(&copy) == fingerprint(content));
+    }
+    Ok(())
+}
+
+#[test]
 fn clones(rt: HostRuntime) -> Result<(), Fail> {
     let alloc = rt.alloc();
     let item = Item {
@@ -556,6 +578,8 @@ fn clones(rt: HostRuntime) -> Result<(), Fail> {
     assert!(rt; copy.identity == item.identity);
     assert!(rt; fingerprint(&copy.content) == fingerprint(&item.content));
     let moved = Moved::of_item(&item);
+    assert!(rt; moved.base == identity(1));
+    assert!(rt; Moved::of_content(identity(1), &item.content) == moved);
     let receipt = Receipt {
         seq: 1,
         request: identity(9),

@@ -62,7 +62,7 @@ impl fmt::Display for OrEmpty {
     }
 }
 
-/// The kind that a word names.
+/// The kind that a word names, `None` where it is no such word.
 pub fn read_kind(text: &str) -> Option<MovedKind>
     ensures some { IfSome result (λ kind. text.now ≡ kind_word kind) }
     ensures none { IfNone result ((kind : MovedKind) → text.now ≢ kind_word kind) }
@@ -77,7 +77,7 @@ pub fn read_kind(text: &str) -> Option<MovedKind>
     }
 }
 
-/// The mapping table that a word names.
+/// The mapping table that a word names, `None` where it names neither.
 pub fn read_mapping(text: &str) -> Option<Mapping>
     ensures some { IfSome result (λ mapping. text.now ≡ mapping_word mapping) }
     ensures none { IfNone result ((mapping : Mapping) → text.now ≢ mapping_word mapping) }
@@ -89,7 +89,7 @@ pub fn read_mapping(text: &str) -> Option<Mapping>
     }
 }
 
-/// The mode of a cut that a word names.
+/// The mode of a split that a word names, `None` where it names neither.
 pub fn read_mode(text: &str) -> Option<Mode>
     ensures some { IfSome result (λ mode. text.now ≡ mode_word mode) }
     ensures none { IfNone result ((mode : Mode) → text.now ≢ mode_word mode) }

@@ -10,11 +10,13 @@ use std::fmt;
 use thiserror::Error;
 use uuid::Uuid;
 
-/// Why a shelf has no store: a growth was refused, or the shelf itself failed.
+/// Why a shelf has no store.
 #[derive(Clone, Copy, PartialEq, Eq, Debug, Error)]
 pub enum ShelfFault {
+    /// A growth was refused.
     #[error("OutOfMemory")]
     OutOfMemory,
+    /// The shelf itself failed.
     #[error("StoreFault")]
     StoreFault,
 }

@@ -1,5 +1,5 @@
 -- A SELECT changes nothing, whatever it answers and however it fails.
-use Rattle.std.proofs.Common.{◌≡◌, ◌⊎◌, inl, inr, ℕ, Bool, true, false, cond, Option, None, List, Result, Ok, Err, IsErr, IsTrue, arith, refl, sym, ap, subst, ◌∙◌}
+use Rattle.std.proofs.Common.{◌≡◌, ◌⊎◌, inl, inr, ℕ, Bool, true, false, cond, Option, None, List, Result, Ok, Err, IsTrue, arith, refl, sym, ap, subst, ◌∙◌}
 use Rattle.std.specs.Prelude.{IfOk, IfErr}
 use Rattle.sqlite.specs.Tree.{Trees}
 use Rattle.sqlite.specs.Store.{Ghosts}
@@ -135,18 +135,6 @@ module _ (text : List ℕ) (p : Parsed) (asks : Written) (parsed : first text �
         at (Err e) shown = tt
 
 -- ---- several reads of a store at rest
-
--- a read that failed, or whose answer is refused
-pub looks_failed : {X Y E F : Type 0} {P : X → Database → Database → Type 0} {Q : Y → Database → Database → Type 0} {old new : State} {q : Result X E} (r : Result Y F) → IsErr r → Looks P old new q → Looks Q old new r
-looks_failed {X} {Y} {E} {F} {P} {Q} {old} {new} r failed h = record { rests = h.rests; done = λ clean. at r failed; was_open = h.was_open; holds = h.holds; survives = h.survives }
-  where
-    at : (r : Result Y F) → IsErr r → IfOk r (λ y. IsTrue new.is_open × Q y old.now new.now)
-    at (Ok y) failed = absurd (let e = failed in cc)
-    at (Err f) failed = tt
-
--- the answer in another form
-pub looks_answer : {X Y E F : Type 0} {P : X → Database → Database → Type 0} (Q : Y → Database → Database → Type 0) {old new : State} {x : X} (y : Y) → (P x old.now new.now → Q y old.now new.now) → Looks {E = E} P old new (Ok x) → Looks {E = F} Q old new (Ok y)
-looks_answer Q y f h = record { rests = h.rests; done = λ clean. let it = h.done clean in (it.0, f it.1); was_open = h.was_open; holds = h.holds; survives = h.survives }
 
 -- one read after the other
 pub looks_then : {S : Type 0} (g : Ghosts S) (shuts : Shuts g) (settles : Settles g) {X Y E F : Type 0} {P : X → Database → Database → Type 0} {Q : Y → Database → Database → Type 0} {old mid : State} (new : Held S) {x : X} {r : Result Y F}

@@ -1,6 +1,6 @@
 -- What INSERT of one row by parameters makes of a database.
 use Rattle.std.proofs.Common.{◌≡◌, inl, inr, ℕ, ◌+◌, ◌/◌, ℤ, List, [], ◌∷◌, length, Bool, true, false, Option, Some, None, Ok, Err, Result, refl, sym, ap, subst, ◌∙◌}
-use Rattle.std.specs.Prelude.{not, ◌&&◌, if◌then◌else◌, OnOk}
+use Rattle.std.specs.Prelude.{not, ◌&&◌, if◌then◌else◌}
 use Rattle.std.proofs.lemmas.Bool.{cases_Bool}
 use Rattle.sqlite_ast.specs.declared.Rows.{Rows}
 use Rattle.sqlite_ast.specs.declared.Conflict.TheVariants as conflict
@@ -124,11 +124,6 @@ module _ (text : List ℕ) (table : ℕ → Table) (it : (tree : ℕ) → IsInse
       let ran = ran_of (task_on old params t) (mode_of old) what old.now.trees w.tally new.now
       (subst (λ (o : Option Table). AtPlace (λ (u : Table). OnRows (task_on old params u) (mode_of old) None what old.now.trees) o (Ok (w.tally, new.now))) has.there w.changed) in
       inserts old.step_limit old.now.schema old.now.trees at t has quiet (it tree).named params (row (old.now.trees t.tree)) (given tree (old.now.trees t.tree)) new.now ran
-
-  -- on a connection
-  pub inserted_ok : (r : Result ℕ Error) → Executes text params old new r → OnOk r (Inserts table row old.now new.now)
-  inserted_ok (Ok count) h = inserted count h
-  inserted_ok (Err e) h = tt
 
   -- in a transaction
   pub inserted_inside : (r : Result ℕ Error) → ExecutesInside 0 text params old new r → WritesInside (Inserts table row) old new r

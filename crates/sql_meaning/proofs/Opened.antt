@@ -1,9 +1,10 @@
 -- A store keeps each table in the order of its rowids, so a connection that was just made over one shows them so.
-use Rattle.std.proofs.Common.{◌≡◌, inl, inr, false, List, IsTrue, Result, Ok, Err, sym, subst, arith, ◌≤◌}
+use Rattle.std.proofs.Common.{◌≡◌, inl, inr, true, false, List, [], ◌∷◌, IsTrue, Result, Ok, Err, refl, sym, subst, arith, ◌≤◌}
 use Rattle.std.specs.Prelude.{IfOk}
+use Rattle.std.specs.List.{AllByRecursion}
 use Rattle.std.proofs.lemmas.Bool.{cases_Bool, both_ways}
 use Rattle.sqlite_trees.specs.declared.store.Shape.TheVariants as shape
-use Rattle.sqlite_trees.specs.View.{View, IsShaped, IsOrdered, IsClean, doubt}
+use Rattle.sqlite_trees.specs.View.{View, IsShaped, IsOrdered, IsClean, doubt, is_int}
 use Rattle.sqlite_trees.specs.Objects.{catalog_tree, IsListed}
 use Rattle.sqlite_catalog.specs.Listing.{IsSound}
 use Rattle.sqlite_catalog.proofs.LayoutLemmas.{held}
@@ -14,7 +15,8 @@ use Rattle.sqlite.proofs.StateLemmas.{fit_to_run}
 use Rattle.sqlite_rules.proofs.ListLemmas.{all_from}
 use Rattle.sqlite.specs.Order.{Row}
 use Rattle.sqlite.specs.Table.{Table}
-use Rattle.sqlite.specs.Tree.{Trees}
+use Rattle.sqlite.specs.Tree.{Trees, rowid}
+use Rattle.sqlite.specs.Edit.{have_rowids}
 use Rattle.sqlite.specs.Schema.{Schema}
 use Rattle.sqlite.specs.Effect.{Database}
 use Rattle.sqlite.specs.Store.{Ghosts}
@@ -23,7 +25,10 @@ use Rattle.sqlite.specs.State.{HasCleanDisk, Opens, IsLive}
 use Rattle.sql_meaning.specs.Transactions.{Rests, IsAdopted}
 use Rattle.sql_meaning.specs.Writing.{IsKeyed, AreKeyed}
 use Rattle.sql_meaning.proofs.Transactions.{Shuts, Settles, at_rest}
-use Rattle.sql_meaning.proofs.Keyed.{have_ints}
+
+have_ints : (rows : List Row) → AllByRecursion (λ r. is_int (rowid r) ≡ true) rows → have_rowids rows ≡ true
+have_ints [] h = refl
+have_ints (r ∷ rows) h = rw (h.0) (have_ints rows h.1)
 
 shaped_keyed : (rows : List Row) → IsShaped shape.Table rows → IsKeyed rows
 shaped_keyed rows h = record { ints = have_ints rows h.1; rises = h.0 }

@@ -5,7 +5,7 @@ use Rattle.std.specs.List.{list_any}
 use Rattle.std.specs.List.Sorted.{IsPermutation}
 use Rattle.std.specs.Ordering.{is_eq, ordering_reverse}
 use Rattle.std.specs.Cmp.{both_ways}
-use Rattle.std.proofs.lemmas.Bool.{cases_Bool}
+use Rattle.std.proofs.lemmas.Bool.{cases_Bool, or_parts}
 use Rattle.std.proofs.lemmas.List.Elements.{All-nil, All-cons, All-head, All-tail, All-map, All-filter, All-from_recursion, filter_passes, filter_agree}
 use Rattle.std.proofs.lemmas.List.Sorted.{All-permutation, IsPermutation-map, IsPermutation-sym}
 use Rattle.sqlite_trees.proofs.ListLemmas.{map-map}
@@ -21,14 +21,9 @@ use Rattle.sqlite_value.proofs.OrderLemmas.{value_cmp_total}
 use Rattle.sql_meaning.specs.Writing.{IsKeyed}
 use Rattle.sql_meaning.proofs.Casts.{both_true}
 
-neither : (a b : Bool) → a || b ≡ false → (a ≡ false) × (b ≡ false)
-neither false false h = (refl, refl)
-neither false true h = absurd cc
-neither true b h = absurd cc
-
 any_none : {A : Type 0} (q : A → Bool) (xs : List A) → list_any q xs ≡ false → All (λ x. q x ≡ false) xs
 any_none q [] h = All-nil (λ x. q x ≡ false)
-any_none q (x ∷ xs) h = let two = neither (q x) (list_any q xs) h in All-cons (λ y. q y ≡ false) x xs two.0 (any_none q xs two.1)
+any_none q (x ∷ xs) h = let two = or_parts (q x) (list_any q xs) h in All-cons (λ y. q y ≡ false) x xs two.0 (any_none q xs two.1)
 
 any_some : {A : Type 0} (q : A → Bool) (R : Type 0) (xs : List A) → All (λ x. q x ≡ true → R) xs → list_any q xs ≡ true → R
 any_some q R [] all h = absurd cc

@@ -15,7 +15,6 @@ use Rattle.sqlite.proofs.StateLemmas.{survives_then, clean_if_open}
 use Rattle.sqlite.proofs.InsideLemmas.{unchanged_keeps, keeps_then}
 use Rattle.sqlite.proofs.Callers.{survives_begin}
 use Rattle.sql_meaning.specs.Writing.{WritesInside, Chained, EachChained}
-use Rattle.sql_meaning.proofs.Chain.{each_then}
 use Rattle.sql_meaning.specs.Transactions.{Rests, Holds, Inside, Made, Steps, EachStep, WouldLeave, Turns, IsExcused, IsUnanswered}
 
 -- what `transaction` makes of a connection
@@ -37,17 +36,8 @@ same_keeps s = record { was_open = λ h. h; committed = λ _. refl }
 same_survives : (s : State) → Survives s s (λ _. ⊥)
 same_survives s = record { clean = omega arith; shield = λ h. h; counts = omega arith; limit = refl; closes = λ _ h. inl h; crash = λ _ db h. inl h }
 
-pub inside_same : (s : State) → Inside s s
-inside_same s = record { kept = λ clean. same_keeps s; survives = same_survives s }
-
 pub none_left : (a b c : State) → Survives a b (λ _. ⊥) → Survives b c (λ _. ⊥) → Survives a c (λ _. ⊥)
 none_left a b c one two = survives_then a b c _ _ (λ _. ⊥) (λ _ _ none. none) (λ _ _ none. none) one two
-
-pub inside_then : (a b c : State) → Inside a b → Inside b c → Inside a c
-inside_then a b c one two = record {
-  kept = λ clean. keeps_then a b c (one.kept (omega (arith, two.survives.clean))) (two.kept clean);
-  survives = none_left a b c one.survives two.survives;
-}
 
 keeps_of : {X E : Type 0} (Changes : X → Database → Database → Type 0) (old new : State) (r : Result X E) → Made Changes old new r → KeepsCommit old new
 keeps_of Changes old new (Ok x) made = made.1
@@ -115,6 +105,11 @@ pub steps_answer : {X Y E F : Type 0} {First : X → Database → Database → T
 steps_answer Changes y f h = record { made = λ clean inside. let it = h.made clean inside in (it.0, it.1, f it.2); survives = h.survives }
 
 -- ---- a loop that makes one change for each item, at its start, after an iteration, and where it stops
+
+-- the change of one more item
+each_then : {X : Type 0} (Change : X → Database → Database → Type 0) (xs : List X) (x : X) (old mid new : Database) → EachChained Change xs old mid → Change x mid new → EachChained Change (xs ++ x ∷ []) old new
+each_then Change [] x old mid new same last = (new, subst (λ (d : Database). Change x d new) same last, refl)
+each_then Change (y ∷ xs) x old mid new h last = (h.0, h.1, each_then Change xs x h.0 mid new h.2 last)
 
 pub each_begins : {X : Type 0} (Change : X → Database → Database → Type 0) (s : State) → EachStep Change [] s s
 each_begins Change s = steps_none {X = Unit {0}} {E = Error} (λ _. EachChained Change []) s tt refl

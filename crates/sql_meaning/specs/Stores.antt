@@ -1,23 +1,11 @@
 -- A list of stores, of which one at a time takes a turn, and what a crash may leave of them all.
-use Rattle.std.specs.Prelude.{◌≡◌, ◌⊎◌, ◌++◌, ℕ, List, All, Some, slice_get, slice_set}
+use Rattle.std.specs.Prelude.{◌⊎◌, List, All}
 use Rattle.std.specs.List.{AllZip}
 use Rattle.sqlite.specs.Tree.{Trees}
 use Rattle.sqlite.specs.Store.{Ghosts}
 use Rattle.sqlite.specs.State.{HasCleanDisk}
 use Rattle.sqlite.specs.Held.{Held, state}
 use Rattle.sql_meaning.specs.Transactions.{Rests}
-
--- the member at this place took a turn, and the others are as they were
-pub record TurnsAt {M : Type 0} (Turn : M → M → Type 0) (old new : List M) (at : ℕ) : Type 0 where
-  pub was : M
-  pub place : slice_get old at ≡ Some was
-  pub last : M
-  pub others : new ≡ slice_set old at last
-  pub turned : Turn was last
-
--- The first of these stores read as the world, in its order, and the others do not count.
-abbrev pub Reached : {P : Type 0} → (Trees → P → Type 0) → List Trees → List P → Type 0
-Reached Reads dbs world = (main : List Trees) × (strays : List Trees) × (dbs ≡ main ++ strays) × AllZip Reads main world
 
 -- `conn` is the connection of a member
 module _ {S M : Type 0} (g : Ghosts S) (conn : M → Held S) where

@@ -1,5 +1,5 @@
 -- A command's change and the entry of its receipt, as one change of the package.
-use Rattle.std.proofs.Common.{◌≡◌, Result, Ok, refl, sym, ap, subst}
+use Rattle.std.proofs.Common.{◌≡◌, Result, Ok, refl, sym, subst}
 use Rattle.sqlite.specs.State.{State}
 use Rattle.sql_meaning.specs.Transactions.{Steps}
 use Rattle.sql_meaning.proofs.Transactions.{steps_then, steps_weaker}
@@ -7,7 +7,6 @@ use Rattle.sheet_types.specs.World.{Package, with_receipt}
 use Rattle.sheet_types.specs.declared.command.Command.{Command}
 use Rattle.sheet_types.specs.declared.command.Command.TheVariants.{Add, Delete, Link, Unlink, Split, Merge}
 use Rattle.sheet_types.specs.declared.receipt.Receipt.{Receipt}
-use Rattle.package_tables.specs.Package.{Tables}
 use Rattle.identity_register.specs.Calls.{Becomes, Dates}
 use Rattle.custody.specs.Receipts.{IsNewReceipt}
 use Rattle.world.specs.Carrying.{Meets, changed_by, Fits, after_command, SaysMoment}
@@ -51,7 +50,7 @@ pub moment_said : {E F : Type 0} (r : Receipt) (command : Command) {old mid new 
     → Steps (λ _. SaysMoment r command) old new q
 moment_said r command first next =
     steps_weaker (λ _. SaysMoment r command)
-    (λ _ chain f p reads fits. ap (λ (t : Tables). t.contents) (chain.2 f (after_command r command p) (chain.1 f p reads fits)).1)
+    (λ _ chain f p reads fits. (chain.2 f (after_command r command p) (chain.1 f p reads fits)).1)
     (steps_then first next)
 
 -- and which no package shows

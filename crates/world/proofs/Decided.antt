@@ -1,5 +1,5 @@
 -- What a request comes to, by what the members and the request tell.
-use Rattle.std.proofs.Common.{◌≡◌, refl, sym, ap, subst, ◌∙◌, ℕ, zero, suc, ◌+◌, List, [], ◌∷◌, Bool, true, false, cond, length, slice_get, Option, Some, None, Ok, Err, bytes_eq}
+use Rattle.std.proofs.Common.{◌≡◌, refl, sym, ap, subst, ◌∙◌, ℕ, zero, suc, ◌+◌, List, [], ◌∷◌, Bool, true, false, cond, length, get_or, slice_get, Option, Some, None, Ok, Err, bytes_eq}
 use Rattle.std.specs.Prelude.{find, unwrap_or}
 use Rattle.std.specs.Bool.{then_some}
 use Rattle.std.specs.Option.{option_or}
@@ -15,6 +15,8 @@ use Rattle.sheet_types.specs.Register.{IsRegister}
 use Rattle.sheet_types.specs.Step.{accepted, outcome, receipt_of, receipt_over, moved}
 use Rattle.sheet_types.specs.Texts.{line}
 use Rattle.sheet_types.specs.World.{World, Package, package_key, is_live, holdings, no_package, receipts_of}
+use Rattle.sheet_types.specs.declared.command.Command.{Command}
+use Rattle.sheet_types.specs.declared.command.Command.TheVariants.{Add, Delete, Link, Unlink, Split, Merge}
 use Rattle.sheet_types.specs.declared.command.Request.{Request}
 use Rattle.sheet_types.specs.declared.frame.Frame.{Frame}
 use Rattle.sheet_types.specs.declared.receipt.Moved.{Moved}
@@ -32,7 +34,7 @@ use Rattle.world.specs.Deciding.{IsAskedOf, IsPlaced, refusal_before, Decides}
 use Rattle.world.specs.Laws.{package_of}
 use Rattle.world.specs.Members.{IsMember, AreMembers}
 use Rattle.world.specs.Reasons.{text_reasons, package_reasons}
-use Rattle.world.specs.Steps.{NothingAgainst, sums_moved, sums_after}
+use Rattle.world.specs.Steps.{IsAddedBy, NothingAgainst, sums_moved, sums_after}
 use Rattle.world.specs.Sums.{CanCount}
 use Rattle.world.specs.TooMany.{leaves_too_many}
 use Rattle.world.specs.Turning.{IsDue, world_after}
@@ -213,9 +215,18 @@ module _ {S : Type 0} (g : Ghosts S) where
 pub of_own_frame : (f : Frame) (count at : ℕ) (q : Request) (w : World) → IsPlaced f count at q w → IsPlaced w.frame count at q w
 of_own_frame f count at q w placed = record { asked = record { frame = refl; counted = placed.asked.counted; served = placed.asked.served }; new = placed.new; live = placed.live; place = placed.place }
 
+-- what an addition moves is told of its item
+added_by : (w : World) (command : Command) (thing : Moved) → moved w command ≡ thing ∷ [] → IsAddedBy command thing
+added_by w (Add p identity content) thing same = sym (ap (λ things. get_or things 0 thing) same)
+added_by w (Delete p identity) thing same = tt
+added_by w (Link p mapping base media) thing same = tt
+added_by w (Unlink p mapping base media) thing same = tt
+added_by w (Split p child mode rect) thing same = tt
+added_by w (Merge child into number) thing same = tt
+
 -- the receipt that was made is that of the world
-pub receipt_made : (count : ℕ) (q : Request) (w : World) (thing : Moved) (receipt : Receipt) → receipt ≡ receipt_over (count + 1) q (thing ∷ []) → count ≡ length (receipts_of w) → moved w q.command ≡ thing ∷ [] → receipt ≡ receipt_of w q
-receipt_made count q w thing receipt is counted things = is ∙ ap (λ n. receipt_over (n + 1) q (thing ∷ [])) counted ∙ ap (receipt_over (length (receipts_of w) + 1) q) (sym things)
+pub receipt_made : (count : ℕ) (q : Request) (w : World) (thing : Moved) (receipt : Receipt) → (IsAddedBy q.command thing → receipt ≡ receipt_over (count + 1) q (thing ∷ [])) → count ≡ length (receipts_of w) → moved w q.command ≡ thing ∷ [] → receipt ≡ receipt_of w q
+receipt_made count q w thing receipt is counted things = is (added_by w q.command thing things) ∙ ap (λ n. receipt_over (n + 1) q (thing ∷ [])) counted ∙ ap (receipt_over (length (receipts_of w) + 1) q) (sym things)
 
 module _ {S : Type 0} (g : Ghosts S) where
   -- the members by the number of receipts that is known

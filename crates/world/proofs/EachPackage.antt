@@ -1,6 +1,6 @@
 -- What each package of a register tells of the whole.
 use Rattle.std.specs.Prelude.{◌≡◌, ℕ, ◌+◌, ◌≤◌, ◌<◌, Bool, true, [], ◌∷◌, length, slice_index, find, flat_map, bytes_eq, Some, Contains}
-use Rattle.std.proofs.Common.{ap, ◌∙◌, arith, inl, inr}
+use Rattle.std.proofs.Common.{refl, ap, ◌∙◌, arith, inl, inr}
 use Rattle.std.proofs.lemmas.Slice.Eq.{bytes_eq-Decides}
 use Rattle.std.specs.List.{list_any, AllByRecursion}
 use Rattle.sheet_types.specs.Ordered.{has}
@@ -9,7 +9,7 @@ use Rattle.sheet_types.specs.Balance.{archive_of, names_identity}
 use Rattle.sheet_types.specs.Register.{IsRegister}
 use Rattle.sheet_types.specs.declared.receipt.Receipt.{Receipt}
 use Rattle.sheet_types.proofs.Basics.{bytes_eq_itself}
-use Rattle.sheet_types.proofs.Every.{none_any}
+use Rattle.sheet_types.proofs.Every.{none_any, All-each}
 use Rattle.sheet_types.proofs.Found.{found, not_found, All-found}
 use Rattle.sheet_types.proofs.Order.{list_any-arranged, All-arranged, All-of_arranged}
 use Rattle.sheet_types.proofs.Same.{In, In-all, All-In, In-flat_map, any_in, one_passes}
@@ -17,12 +17,12 @@ use Rattle.ledger_laws.proofs.Requests.{added_is_named, of_request, one_receipt,
 use Rattle.ledger_laws.proofs.Ledger.{ledger_numbers}
 use Rattle.ledger_laws.proofs.Packages.{stand_flat}
 use Rattle.identity_register.proofs.Finding.{contained}
-use Rattle.custody.proofs.Naming.{any_flat}
+use Rattle.identity_register.proofs.Answering.{any_flat_map}
 use Rattle.world.specs.Register.{UsedIsNamed, NoneIsKept, KeptIsThere, NumberIsCount}
 
 -- a test of all receipts is one of each package's
 in_packages : (p : Receipt → Bool) (w : World) → list_any p (receipts_of w) ≡ list_any (λ x. list_any p x.receipts) w.packages
-in_packages p w = list_any-arranged receipt_key p (flat_map (λ x. x.receipts) w.packages) ∙ any_flat p (λ x. x.receipts) w.packages
+in_packages p w = list_any-arranged receipt_key p (flat_map (λ x. x.receipts) w.packages) ∙ any_flat_map (λ x. x.receipts) p (λ x. list_any p x.receipts) w.packages (All-each _ (λ x. refl) w.packages)
 
 -- a receipt of a package is among all of them
 among_receipts : (w : World) (p : Package) (r : Receipt) → Contains w.packages p → Contains p.receipts r → In r (receipts_of w)

@@ -3,6 +3,7 @@ use Rattle.std.proofs.Common.{◌≡◌, ℕ, ℤ, List, [], ◌∷◌, Bool, tr
 use Rattle.std.specs.Prelude.{drop, not, ◌&&◌, is_some, option_map}
 use Rattle.std.specs.Bool.{then_some}
 use Rattle.std.specs.List.{list_any}
+use Rattle.sheet_types.specs.Cut.{has_end}
 use Rattle.sheet_types.specs.Ordered.{has}
 use Rattle.sheet_types.specs.Matrix.{first_row, has_place, in_frame}
 use Rattle.sheet_types.specs.Refuse.{is_at}
@@ -13,7 +14,6 @@ use Rattle.sheet_types.specs.declared.frame.Frame.{Frame}
 use Rattle.sheet_types.specs.declared.receipt.MovedKind.{MovedKind}
 use Rattle.sheet_types.specs.declared.refusal.Refusal.TheVariants.{UnknownItem, WrongKind, BadPlace, OutOfFrame, PlaceTaken, LinkThere, Linked}
 use Rattle.package_tables.specs.Package.{Tables}
-use Rattle.identity_register.specs.Changes.{names_item}
 use Rattle.identity_register.specs.Reads.{Says}
 use Rattle.world.specs.Reasons.{tile_reasons, delete_reasons, link_reasons}
 use Rattle.world.proofs.ItemKinds.{item_known, kind_known}
@@ -41,7 +41,7 @@ abbrev pub IsTaken : ℤ → ℤ → ℤ → Frame → Package → Bool → Type
 IsTaken zoom column row f p found = found ≡ list_any (λ i. is_at zoom column row i.content) p.items
 
 abbrev pub IsNamed : List ℕ → Frame → Package → Bool → Type 0
-IsNamed id f p found = found ≡ list_any (names_item id) p.links
+IsNamed id f p found = found ≡ list_any (has_end id) p.links
 
 abbrev pub IsThere : Relation → Frame → Package → Bool → Type 0
 IsThere l f p found = found ≡ has link_key (link_key l) p.links
@@ -69,7 +69,7 @@ no_item f p id found is none = holds (not (has_item p id)) UnknownItem (drop 1 (
 
 pub an_item : (f : Frame) (p : Package) (id : List ℕ) (found : Option MovedKind) (linked : Bool) → KindIs id f p found → is_some found ≡ true → IsNamed id f p linked → then_some linked Linked ≡ first_row (delete_reasons p id)
 an_item f p id found linked is some told =
-    ap (λ b. then_some b Linked) told ∙ last (list_any (names_item id) p.links) Linked
+    ap (λ b. then_some b Linked) told ∙ last (list_any (has_end id) p.links) Linked
     ∙ sym (passes (not (has_item p id)) UnknownItem (drop 1 (delete_reasons p id)) (ap not (item_known p id found is ∙ some)))
 
 -- ---- a link that comes

@@ -1,5 +1,5 @@
 -- What a world keeps of what it stands for, when one request was served.
-use Rattle.std.proofs.Common.{◌≡◌, ◌≢◌, ◌↔◌, false, IsTrue, refl, sym, ap, subst, ◌∙◌, ℕ, ◌≤◌, Bool, List, length, Vec, Global, vec_capacity, Result, IfOk, Ok, Err, inl, inr}
+use Rattle.std.proofs.Common.{◌≡◌, ◌≢◌, ◌↔◌, false, true, IsTrue, refl, sym, ap, subst, ◌∙◌, ℕ, ◌≤◌, Bool, List, length, Vec, Global, vec_capacity, Result, IfOk, Ok, Err, inl, inr}
 use Rattle.sqlite.specs.Store.{Ghosts}
 use Rattle.sheet_types.specs.Step.{IsFault, outcome}
 use Rattle.sheet_types.specs.World.{World}
@@ -29,6 +29,14 @@ is_fault (Before fault.OutOfMemory) = inl refl
 is_fault (Before fault.StoreFault) = inr refl
 is_fault (Committing fault.OutOfMemory) = inl refl
 is_fault (Committing fault.StoreFault) = inr refl
+
+pub told_as_fault : (e : TurnFault) (why : Refusal) → why ≡ turn_refusal e → IsFault (Err why)
+told_as_fault e why told = subst (λ x. IsFault (Err x)) (sym told) (is_fault e)
+
+-- a reply that is no fault is not told as one of the store
+pub usable_after : (reply : Result Receipt Refusal) (was_failed has_failed : Bool) → was_failed ≡ false → (IsTrue has_failed ↔ (reply ≡ Err StoreFault)) → ¬ IsFault reply → has_failed ≡ was_failed
+usable_after reply was_failed false usable told no_fault = sym usable
+usable_after reply was_failed true usable told no_fault = absurd (no_fault (inr (told.0 refl)))
 
 -- what leaves a world usable comes before a commit
 uncommitted : (e : TurnFault) (has_failed : Bool) → (IsTrue has_failed ↔ (e ≢ Before fault.OutOfMemory)) → has_failed ≡ false → IsUncommitted {X = Receipt} (Err e)
@@ -91,7 +99,7 @@ module _ {S : Type 0} (g : Ghosts S) where
     step_failed e is why told = record {
       clean = were_clean;
       crash = crashes;
-      step = λ clean w stands. (w, inr (subst (λ x. IsFault (Err x)) (sym told) (is_fault e), refl), record { frame = (stood w stands).0; members = it.failed e is w (stood w stands).1 });
+      step = λ clean w stands. (w, inr (told_as_fault e why told, refl), record { frame = (stood w stands).0; members = it.failed e is w (stood w stands).1 });
     }
 
     -- open stores stay open where there is a receipt or a refusal
@@ -101,7 +109,7 @@ module _ {S : Type 0} (g : Ghosts S) where
         opens (subst (AllOpen g) (sym (ap (λ s. s.members) seen)) opened)
 
     pub opens_failed : (e : TurnFault) → (why : Refusal) → why ≡ turn_refusal e → StaysOpen g was (Err why) (record { frame = f; members = new; count = after; has_failed = has_failed })
-    opens_failed e why told clean no_fault opened = absurd (no_fault (subst (λ x. IsFault (Err x)) (sym told) (is_fault e)))
+    opens_failed e why told clean no_fault opened = absurd (no_fault (told_as_fault e why told))
 
     -- a crash shows nothing of what was refused, or failed before its commit
     pub no_trace_replied : (reply : Result Receipt Refusal) → r ≡ Ok reply → LeavesNoTrace g was reply (record { frame = f; members = new; count = after; has_failed = has_failed })

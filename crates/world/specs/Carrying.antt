@@ -1,5 +1,4 @@
 -- What a command that changes one package makes of it, with its receipt, and what has to hold of the package before. Profile.
-use Rattle.std.specs.Prelude.{◌≡◌}
 use Rattle.sqlite.specs.Effect.{Database}
 use Rattle.sheet_types.specs.World.{Package, with_receipt}
 use Rattle.sheet_types.specs.Step.{relation, added_item}
@@ -7,8 +6,7 @@ use Rattle.sheet_types.specs.declared.command.Command.{Command}
 use Rattle.sheet_types.specs.declared.command.Command.TheVariants.{Add, Delete, Link, Unlink, Split, Merge}
 use Rattle.sheet_types.specs.declared.frame.Frame.{Frame}
 use Rattle.sheet_types.specs.declared.receipt.Receipt.{Receipt}
-use Rattle.package_tables.specs.Fixed.{contents_of}
-use Rattle.package_tables.specs.Package.{tables_of}
+use Rattle.identity_register.specs.Calls.{HasLastChange}
 use Rattle.identity_register.specs.Reads.{Reads}
 use Rattle.identity_register.specs.Changes.{IsNewItem, item_added, IsLooseItem, item_deleted, IsNewLink, link_added, IsLink, link_removed}
 use Rattle.custody.specs.Receipts.{IsNewReceipt}
@@ -40,6 +38,6 @@ pub record Fits (r : Receipt) (command : Command) (p : Package) : Type 0 where
 abbrev pub after_command : Receipt → Command → Package → Package
 after_command r command p = with_receipt r (changed_by command p)
 
--- and in a store that read as the package, the receipt's moment is that of the last change in each row of the contents (OGC GeoPackage 1.3, 1.1.3)
+-- and of a store that read as the package, the receipt's moment is that of the last change
 abbrev pub SaysMoment : Receipt → Command → Database → Database → Type 0
-SaysMoment r command old new = (f : Frame) (p : Package) → Reads f p old → Fits r command p → (tables_of new).contents ≡ contents_of f r.at
+SaysMoment r command old new = (f : Frame) (p : Package) → Reads f p old → Fits r command p → HasLastChange f r.at new

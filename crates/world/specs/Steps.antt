@@ -1,5 +1,5 @@
 -- What a request makes of a world, by what is kept of it: the outcome, what each package holds, the limits and the tickets. Profile.
-use Rattle.std.specs.Prelude.{◌≡◌, ◌≤◌, ℕ, ◌+◌, ◌-◌, ◌*◌, Bool, true, false, ◌||◌, nat_lt, List, map, length, if◌then◌else◌, Some, None, Ok, Err, bytes_eq}
+use Rattle.std.specs.Prelude.{◌≡◌, ◌≤◌, ℕ, ◌+◌, ◌-◌, ◌*◌, Bool, true, false, ◌||◌, nat_lt, ⊤, List, map, length, if◌then◌else◌, Some, None, Ok, Err, bytes_eq}
 use Rattle.std.specs.Bool.{then_some}
 use Rattle.std.specs.List.{list_any}
 use Rattle.std.specs.Option.{option_or}
@@ -9,12 +9,13 @@ use Rattle.sheet_types.specs.Lines.{IsUuid, HasTypes}
 use Rattle.sheet_types.specs.Matrix.{first_row}
 use Rattle.sheet_types.specs.Refuse.{refusal, identity_used, too_many}
 use Rattle.sheet_types.specs.Register.{IsRegister}
-use Rattle.sheet_types.specs.Step.{accepted, outcome, receipt_of}
+use Rattle.sheet_types.specs.Step.{accepted, added_item, outcome, receipt_of}
 use Rattle.sheet_types.specs.Texts.{line}
-use Rattle.sheet_types.specs.World.{World, is_live, holdings, receipts_of, changed}
+use Rattle.sheet_types.specs.World.{World, is_live, holdings, item_moved, receipts_of, changed}
 use Rattle.sheet_types.specs.declared.command.Command.{Command}
 use Rattle.sheet_types.specs.declared.command.Command.TheVariants.{Add, Delete, Link, Unlink, Split, Merge}
 use Rattle.sheet_types.specs.declared.command.Request.{Request}
+use Rattle.sheet_types.specs.declared.receipt.Moved.{Moved}
 use Rattle.sheet_types.specs.declared.receipt.Receipt.{Receipt}
 use Rattle.sheet_types.specs.declared.receipt.Sums.{Sums}
 use Rattle.sheet_types.specs.declared.refusal.Refusal.{Refusal}
@@ -22,6 +23,17 @@ use Rattle.sheet_types.specs.declared.refusal.Refusal.TheVariants.{IdReused, Unk
 use Rattle.world.specs.Carrying.{Fits, after_command}
 use Rattle.world.specs.Laws.{IsServed, package_of}
 use Rattle.world.specs.Reasons.{text_reasons, package_reasons}
+
+-- ---- what an addition moves
+
+-- This is what a receipt says of the item that an addition brings in. Of another command nothing is asked.
+abbrev pub IsAddedBy : Command → Moved → Type 0
+IsAddedBy (Add p identity content) thing = thing ≡ item_moved (added_item identity content)
+IsAddedBy (Delete p identity) thing = ⊤
+IsAddedBy (Link p mapping base media) thing = ⊤
+IsAddedBy (Unlink p mapping base media) thing = ⊤
+IsAddedBy (Split p child mode rect) thing = ⊤
+IsAddedBy (Merge child into number) thing = ⊤
 
 -- ---- what may be carried out
 

@@ -1,5 +1,6 @@
 -- What a clause sees of a value of `World`, and the world of the model that it stands for. Profile.
-use Rattle.std.specs.Prelude.{◌≡◌, ◌≤◌, ℕ, ℤ, Bool, false, List, Option, Result, IsTrue, IfOk, IsErr, refl}
+use Rattle.std.specs.Prelude.{◌≡◌, ◌≤◌, ℕ, ℤ, Bool, false, List, Option, Result, Err, IsTrue, IfOk, IsErr, refl}
+use Rattle.std.specs.List.{AllByRecursion}
 use Rattle.std.specs.Coded.{Coded, code_by, coded×, coded_bool, coded_list, coded_option, coded_ℕ, coded_ℤ}
 use Rattle.sqlite.specs.Store.{Ghosts}
 use Rattle.sqlite.specs.Held.{Held, held_code}
@@ -11,6 +12,7 @@ use Rattle.sheet_types.specs.declared.frame.Frame.{Frame}
 use Rattle.sheet_types.specs.declared.receipt.Receipt.{Receipt}
 use Rattle.sheet_types.specs.declared.receipt.Sums.{Sums}
 use Rattle.sheet_types.specs.declared.refusal.Refusal.{Refusal}
+use Rattle.sheet_types.specs.declared.refusal.Refusal.TheVariants.{StoreFault}
 use Rattle.sql_meaning.specs.Stores.{EachLeaves, LeavesEither}
 use Rattle.world.specs.Turning.{LeftAs}
 use Rattle.world.specs.Members.{AllOpen, AllRest, AllClean, AllStay, AreMembers}
@@ -84,6 +86,11 @@ module _ {S : Type 0} (g : Ghosts S) where
   pub record IsRun (qs : List Request) (old : Seen S) (replies : List (Result Receipt Refusal)) (new : Seen S) : Type 0 where
     pub clean : AllClean g new.members → AllClean g old.members
     pub run : AllClean g new.members → (w : World) → StandsFor old w → (next : World) × Run w qs replies next × StandsFor new next
+    -- Open stores are still open where no reply tells a fault, so that a crash leaves what the world stands for then.
+    pub opens : AllClean g new.members → AllByRecursion (λ reply. ¬ IsFault reply) replies → AllOpen g old.members → AllOpen g new.members
+    -- A world that can still be used told no request that a store failed, and where no reply tells a fault it is as usable as before.
+    pub told : new.has_failed ≡ false → AllByRecursion (λ reply. ¬ (reply ≡ Err StoreFault)) replies
+    pub usable : AllByRecursion (λ reply. ¬ IsFault reply) replies → new.has_failed ≡ old.has_failed
 
   -- After a refusal it stands for each world that it stood for, whatever the disks do.
   abbrev pub StandsStill : Seen S → Result Receipt Refusal → Seen S → Type 0

@@ -1,5 +1,5 @@
-// What is looked up in all live packages: a kept receipt, a used identity, and the place of a package. The look-ups are made in the order of the members and stop at the first that answers.
-ghost use Rattle.std.specs.Prelude.{◌≡◌, ◌<◌, IsTrue, length};
+// What is looked up in all live packages: a kept receipt, a used identity, and the place of a package. The look-ups are made in the order of the members and stop at the first that answers. An error is want of memory, or a store that failed; all members are as they were.
+ghost use Rattle.std.specs.Prelude.{◌≡◌, ◌<◌, ◌↔◌, IsTrue, length};
 ghost use Rattle.sqlite.specs.Held.{state};
 ghost use Rattle.sql_meaning.specs.Transactions.{Rests, Looks};
 ghost use Rattle.sheet_types.specs.Custody.{kept, is_used};
@@ -19,14 +19,15 @@ use uuid::Uuid;
 
 /// Whether a store is not inside a transaction.
 pub(crate) fn is_at_rest<S: Alter>(conn: &Connection<S>) -> bool
-    ensures { IsTrue result → Rests (state S.Store conn.now) }
+    ensures yes { IsTrue result → Rests (state S.Store conn.now) }
+    ensures no { Rests (state S.Store conn.now) → IsTrue result }
 {
     conn.is_autocommit()
 }
 
 /// Whether no member's store is inside a transaction.
 pub fn are_at_rest<S: Alter + Drop>(members: &[Member<S>]) -> bool
-    ensures { IsTrue result → AllRest S.Store members.now }
+    ensures { IsTrue result ↔ AllRest S.Store members.now }
 {
     for at in 0..members.len() {
         if !is_at_rest(&members[at].conn) {
@@ -52,7 +53,7 @@ fn kept_by<S: Alter + Drop>(
 }
 
 /// The receipt that is kept for a request, if it came before.
-pub fn kept_in_all<S: Alter + Drop>(
+pub(crate) fn kept_in_all<S: Alter + Drop>(
     members: &mut Vec<Member<S>>,
     alloc: Global,
     id: Uuid,
@@ -84,7 +85,7 @@ fn named_by<S: Alter + Drop>(
 }
 
 /// Whether an identity was ever used.
-pub fn is_named_in_all<S: Alter + Drop>(
+pub(crate) fn is_named_in_all<S: Alter + Drop>(
     members: &mut Vec<Member<S>>,
     identity: Uuid,
 ) -> Result<bool, Fault>
@@ -100,7 +101,7 @@ pub fn is_named_in_all<S: Alter + Drop>(
 }
 
 /// Where the member of a package stands.
-pub fn place_of<S: Alter + Drop>(members: &[Member<S>], uuid: Uuid) -> Option<usize>
+pub(crate) fn place_of<S: Alter + Drop>(members: &[Member<S>], uuid: Uuid) -> Option<usize>
     ensures { IsPlaceOf S.Store members.now uuid result }
 {
     for at in 0..members.len() {

@@ -1,4 +1,4 @@
-// What is asked of the one live package that a request names: why it does not take a command, an item of it, and what a command moves of it. All other members are left alone, so the answers stand beside those of `asking`.
+// What is asked of the one live package that a request names: why it does not take a command, an item of it, and what a command moves of it. All other members are left alone, so the answers stand beside those of `asking`. An error is want of memory, or a store that failed; all members are as they were.
 ghost use Rattle.std.specs.Prelude.{◌≡◌, ◌<◌, [], ◌∷◌, IsTrue, Some, MatchOption, length, slice_get};
 ghost use Rattle.sheet_types.specs.Matrix.{is_good_frame, first_row};
 ghost use Rattle.sheet_types.specs.World.{Package, item_of, holdings};
@@ -10,7 +10,6 @@ ghost use Rattle.world.specs.Reasons.{package_reasons};
 
 use crate::judging::package_refusal;
 use crate::members::Member;
-use crate::receipts::item_moved;
 use identity_register::look_ups::find;
 use package_tables::fault::Fault;
 use sheet_types::command::{Command, Item, Relation};
@@ -21,7 +20,7 @@ use sqlite::Alter;
 use uuid::Uuid;
 
 /// Why the package of the member at a place and its frame do not take a command, if they do not.
-pub fn refusal_at<S: Alter + Drop>(
+pub(crate) fn refusal_at<S: Alter + Drop>(
     members: &mut Vec<Member<S>>,
     at: usize,
     frame: &Frame,
@@ -37,7 +36,7 @@ pub fn refusal_at<S: Alter + Drop>(
 }
 
 /// The item under an identity in the package of the member at a place.
-pub fn item_at<S: Alter + Drop>(
+pub(crate) fn item_at<S: Alter + Drop>(
     members: &mut Vec<Member<S>>,
     at: usize,
     identity: Uuid,
@@ -51,7 +50,7 @@ pub fn item_at<S: Alter + Drop>(
 }
 
 /// What a served command moves, which is one thing or, of a delete that finds no item, none. The member at the place is of the package that the command names.
-pub fn thing_moved<S: Alter + Drop>(
+pub(crate) fn thing_moved<S: Alter + Drop>(
     members: &mut Vec<Member<S>>,
     at: usize,
     command: &Command,
@@ -65,7 +64,7 @@ pub fn thing_moved<S: Alter + Drop>(
             identity,
             content,
             ..
-        } => Ok(Some(item_moved(*identity, content))),
+        } => Ok(Some(Moved::of_content(*identity, content))),
         Command::Delete { identity, .. } => {
             let Some(item) = item_at(members, at, *identity)? else {
                 return Ok(None);
@@ -77,25 +76,14 @@ pub fn thing_moved<S: Alter + Drop>(
             base,
             media,
             ..
-        } => {
-            let relation = Relation {
-                mapping: *mapping,
-                base: *base,
-                media: *media,
-            };
-            Ok(Some(Moved::of_link(&relation)))
         }
-        Command::Unlink {
+        | Command::Unlink {
             mapping,
             base,
             media,
             ..
         } => {
-            let relation = Relation {
-                mapping: *mapping,
-                base: *base,
-                media: *media,
-            };
+            let relation = Relation::new(*mapping, *base, *media);
             Ok(Some(Moved::of_link(&relation)))
         }
         Command::Split { .. } | Command::Merge { .. } => Ok(None),

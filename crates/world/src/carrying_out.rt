@@ -22,18 +22,20 @@ use sheet_types::refusal::Refusal;
 use sqlite::{Alter, Connection, Error, Transaction};
 use std::fmt;
 
-/// Where the change of a package failed: before its commit, or when it was committed. In the second case the store may have it or not.
+/// Where the change of a package failed, and why.
 #[derive(Clone, Copy, PartialEq, Eq, Debug, thiserror::Error)]
 pub enum TurnFault {
+    /// Before its commit: nothing was changed.
     #[error("{0}")]
     Before(Fault),
+    /// When it was committed: the store may have the change or not.
     #[error("{0}")]
     Committing(Fault),
 }
 
 impl TurnFault {
     /// Whether the world is not to be used any more: its store failed, or may have a change or not.
-    pub fn is_lasting(&self) -> bool
+    pub(crate) fn is_lasting(&self) -> bool
         ensures { IsTrue result ↔ (self.now ≢ Before OutOfMemory) }
     {
         match self {
@@ -43,7 +45,7 @@ impl TurnFault {
     }
 
     /// How it is told in a reply.
-    pub fn refusal(&self) -> Refusal
+    pub(crate) fn refusal(&self) -> Refusal
         ensures { result ≡ turn_refusal self.now }
     {
         match self {
@@ -98,27 +100,13 @@ fn make_change<S: Alter>(tx: &mut Transaction<'_, S>, command: &Command) -> Resu
             base,
             media,
             ..
-        } => {
-            let relation = Relation {
-                mapping: *mapping,
-                base: *base,
-                media: *media,
-            };
-            link(tx, relation)
-        }
+        } => link(tx, Relation::new(*mapping, *base, *media)),
         Command::Unlink {
             mapping,
             base,
             media,
             ..
-        } => {
-            let relation = Relation {
-                mapping: *mapping,
-                base: *base,
-                media: *media,
-            };
-            unlink(tx, relation)
-        }
+        } => unlink(tx, Relation::new(*mapping, *base, *media)),
         Command::Split { .. } | Command::Merge { .. } => Err(Fault::StoreFault),
     }
 }
@@ -138,8 +126,12 @@ pub(crate) fn carry_out<S: Alter>(
     date_contents(tx, receipt.at.as_str())
 }
 
-/// Carries a command out in the store of its package, with its receipt, in one transaction.
-pub fn apply_to_package<S: Alter>(
+/// Carries a command out in the store of its package, with its receipt, in one transaction. The receipt's moment becomes that of the last change.
+///
+/// # Errors
+///
+/// Want of memory, or a store that failed. The package is as it was, unless the commit itself failed and shut the store: then a crash may leave either. A split or a merge is a fault of the store.
+pub(crate) fn apply_to_package<S: Alter>(
     conn: &mut Connection<S>,
     command: &Command,
     receipt: &Receipt,

@@ -20,12 +20,16 @@ use std::alloc::Global;
 use std::fmt;
 use uuid::Uuid;
 
-/// Why no world was made: its frame is none, the moment of its making is none, a growth was refused, or the store failed.
+/// Why no world was made.
 #[derive(Clone, Copy, PartialEq, Eq)]
 pub enum CreateFault {
+    /// The frame is not good: the first rule that it breaks.
     BadFrame(FrameFault),
+    /// The moment of its making is none.
     BadText,
+    /// A growth was refused.
     OutOfMemory,
+    /// The store failed, or was inside a transaction.
     StoreFault,
 }
 

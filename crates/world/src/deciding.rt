@@ -43,7 +43,9 @@ pub struct Change {
 /// What a request comes to. Where it is answered, nothing is to be changed.
 #[derive(Drop)]
 pub enum Decision {
+    /// The reply: a kept receipt, or a refusal.
     Answered(Result<Receipt, Refusal>),
+    /// The change that is to be carried out.
     Due(Change),
 }
 

@@ -1,4 +1,4 @@
-// Why a package does not take a command. Each reason is looked up by a key or an index, and the look-ups stop at the first that holds.
+// Why a package does not take a command. Each reason is looked up by a key or an index, and the look-ups stop at the first that holds. An error is want of memory, or a store that failed, and tells nothing of the package.
 ghost use Rattle.std.specs.Prelude.{◌≡◌, ◌&&◌, IsTrue};
 ghost use Rattle.sqlite.specs.Held.{state};
 ghost use Rattle.sql_meaning.specs.Transactions.{Rests};
@@ -120,7 +120,7 @@ fn refusal_of_unlink<S: Alter>(
 }
 
 /// Why the package of a store and its frame do not take a command, if they do not. Of a split and a merge it tells nothing: none of these reasons is theirs.
-pub fn package_refusal<S: Alter>(
+pub(crate) fn package_refusal<S: Alter>(
     conn: &mut Connection<S>,
     frame: &Frame,
     command: &Command,
@@ -137,27 +137,13 @@ pub fn package_refusal<S: Alter>(
             base,
             media,
             ..
-        } => {
-            let relation = Relation {
-                mapping: *mapping,
-                base: *base,
-                media: *media,
-            };
-            refusal_of_link(conn, relation)
-        }
+        } => refusal_of_link(conn, Relation::new(*mapping, *base, *media)),
         Command::Unlink {
             mapping,
             base,
             media,
             ..
-        } => {
-            let relation = Relation {
-                mapping: *mapping,
-                base: *base,
-                media: *media,
-            };
-            refusal_of_unlink(conn, relation)
-        }
+        } => refusal_of_unlink(conn, Relation::new(*mapping, *base, *media)),
         Command::Split { .. } | Command::Merge { .. } => Ok(None),
     }
 }

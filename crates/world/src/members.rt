@@ -8,9 +8,14 @@ use uuid::Uuid;
 pub struct Member<S: Alter + Drop> {
     pub conn: Connection<S>,
     pub uuid: Uuid,
+    /// The package that it is lent from, none of the archive.
     pub parent: Option<Uuid>,
+    /// How many loans it is below the archive.
     pub depth: u64,
+    /// The number of the receipt of the split that made it, 0 of the archive.
     pub loan: u64,
+    /// What the package holds.
     pub sums: Sums,
+    /// The number of the last receipt that names the package, 0 where there is none.
     pub ticket: u64,
 }

@@ -12,7 +12,7 @@ use crate::asking::{kept_in_all, place_of};
 use crate::creating::push_reserved;
 use crate::members::Member;
 use crate::world::World;
-use identity_register::whole::{items, links};
+use identity_register::whole::holdings;
 use package_tables::fault::Fault;
 use sheet_types::command::{Item, Relation};
 use sheet_types::receipt::{Receipt, Sums};
@@ -29,35 +29,7 @@ pub struct PackageSight {
     pub ticket: u64,
 }
 
-/// The items of the package of the member at a place, by kind and identity.
-fn items_at<S: Alter + Drop>(
-    members: &mut Vec<Member<S>>,
-    at: usize,
-    alloc: Global,
-) -> Result<Vec<Item>, Fault>
-    requires within { at < length members.old.items }
-    requires rests { AllRest S.Store members.old.items }
-    ensures { AsksAll S.Store (λ w found. (p : Package) → slice_get w.packages at ≡ Some p → found.items ≡ p.items) members.old.items members.new.items result }
-{
-    let member = &mut members[at];
-    items(&mut member.conn, alloc)
-}
-
-/// The links of the package of the member at a place, by mapping, base and medium.
-fn links_at<S: Alter + Drop>(
-    members: &mut Vec<Member<S>>,
-    at: usize,
-    alloc: Global,
-) -> Result<Vec<Relation>, Fault>
-    requires within { at < length members.old.items }
-    requires rests { AllRest S.Store members.old.items }
-    ensures { AsksAll S.Store (λ w found. (p : Package) → slice_get w.packages at ≡ Some p → found.items ≡ p.links) members.old.items members.new.items result }
-{
-    let member = &mut members[at];
-    links(&mut member.conn, alloc)
-}
-
-/// The items and the links of the package of the member at a place.
+/// The items of the package of the member at a place, by kind and identity, and its links, by mapping, base and medium.
 fn holdings_at<S: Alter + Drop>(
     members: &mut Vec<Member<S>>,
     at: usize,
@@ -67,9 +39,8 @@ fn holdings_at<S: Alter + Drop>(
     requires rests { AllRest S.Store members.old.items }
     ensures { AsksAll S.Store (λ w held. (p : Package) → slice_get w.packages at ≡ Some p → (held.0.items ≡ p.items) × (held.1.items ≡ p.links)) members.old.items members.new.items result }
 {
-    let items = items_at(members, at, alloc)?;
-    let links = links_at(members, at, alloc)?;
-    Ok((items, links))
+    let member = &mut members[at];
+    holdings(&mut member.conn, alloc)
 }
 
 /// The items and the links of a package, if it is live.

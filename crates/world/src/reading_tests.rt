@@ -9,7 +9,7 @@ use crate::carrying_out::apply_to_package;
 use crate::members::Member;
 use crate::reading::{PackageSight, holdings_in, sights_of, sums_in};
 use crate::world::World;
-use identity_register::whole::items;
+use identity_register::whole::holdings;
 use package_tables::create::{Info, create};
 use package_tables::fault::Fault;
 use sheet_types::collections::{Bytes, MovedList, Text};
@@ -300,7 +300,8 @@ fn items_of<S: Alter>(conn: &mut Connection<S>, alloc: Global) -> Result<usize, 
     if !guarded(conn) {
         return Err(Fault::StoreFault);
     }
-    Ok(items(conn, alloc)?.len())
+    let (items, _links) = holdings(conn, alloc)?;
+    Ok(items.len())
 }
 
 #[test]

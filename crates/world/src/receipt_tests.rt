@@ -1,5 +1,5 @@
 // Receipts field by field, by the rules. The digest is that of `tile 2 3 3`, LF and `A` by another program's SHA-256.
-use crate::receipts::{item_moved, receipt_over};
+use crate::receipts::receipt_over;
 use sheet_types::collections::{Bytes, Text};
 use sheet_types::command::{Command, Content, Mapping, Relation, Request};
 use sheet_types::error::OutOfMemory;
@@ -59,7 +59,7 @@ fn expect_sums(rt: &impl Abort, receipt: &Receipt, wanted: [u64; 5]) {
 #[test]
 fn tile_added(rt: HostRuntime) -> Result<(), Fail> {
     let alloc = rt.alloc();
-    let thing = item_moved(identity(1), &tile(alloc)?);
+    let thing = Moved::of_content(identity(1), &tile(alloc)?);
     assert!(rt; thing.kind == MovedKind::TileItem);
     assert!(rt; thing.base == identity(1));
     assert!(rt; thing.other.is_none());
@@ -123,7 +123,7 @@ fn row_linked(rt: HostRuntime) -> Result<(), Fail> {
 #[test]
 fn tile_deleted(rt: HostRuntime) -> Result<(), Fail> {
     let alloc = rt.alloc();
-    let thing = item_moved(identity(1), &tile(alloc)?);
+    let thing = Moved::of_content(identity(1), &tile(alloc)?);
     let request = asked(
         alloc,
         Command::Delete {

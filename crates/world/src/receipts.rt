@@ -1,30 +1,16 @@
 // The receipt of a command that is accepted, made before anything is written.
-ghost use Rattle.std.specs.Prelude.{◌≡◌, [], ◌∷◌, IfOk};
-ghost use Rattle.sheet_types.specs.World.{item_moved};
-ghost use Rattle.sheet_types.specs.Step.{added_item, receipt_over, count_of, links_of};
+ghost use Rattle.std.specs.Prelude.{◌≡◌, [], ◌∷◌, IfOk, string_bytes};
+ghost use Rattle.sheet_types.specs.Step.{receipt_over, count_of, links_of};
+ghost use Rattle.sheet_types.specs.Texts.{line};
+ghost use Rattle.world.specs.Steps.{IsAddedBy};
 ghost use Rattle.sheet_types.specs.declared.receipt.MovedKind.TheVariants.{TileItem, MediaItem, RowItem};
 
 use sheet_types::collections::{MovedList, Text};
-use sheet_types::command::{Content, Request};
+use sheet_types::command::{Command, Request};
 use sheet_types::error::OutOfMemory;
-use sheet_types::fingerprints::fingerprint;
-use sheet_types::lines::line;
+use sheet_types::lines::{add_line, line};
 use sheet_types::receipt::{Moved, MovedKind, Receipt, Sums};
 use std::alloc::Global;
-use uuid::Uuid;
-
-/// What a receipt says of an item of this identity and content. Of a link, `Moved::of_link` says it.
-pub fn item_moved(identity: Uuid, content: &Content) -> Moved
-    ensures { result ≡ item_moved (added_item identity content.now) }
-{
-    Moved {
-        kind: content.kind(),
-        base: identity,
-        other: None,
-        size: content.size() as u64,
-        fingerprint: Some(fingerprint(content)),
-    }
-}
 
 /// How much one moved thing is.
 fn sums_of(thing: Moved) -> Sums
@@ -50,14 +36,29 @@ fn sums_of(thing: Moved) -> Sums
     sums
 }
 
+/// The line of a command that moves this thing. An added content is counted and hashed in it already.
+fn line_over(alloc: Global, command: &Command, thing: &Moved) -> Result<String, OutOfMemory>
+    ensures { IfOk result (λ text. IsAddedBy command.now thing.now → string_bytes text ≡ line command.now) }
+{
+    match command {
+        Command::Add { package, .. } => add_line(alloc, *package, thing),
+        Command::Delete { .. }
+        | Command::Link { .. }
+        | Command::Unlink { .. }
+        | Command::Split { .. }
+        | Command::Merge { .. } => line(alloc, command),
+    }
+}
+
 /// The receipt of this number for a request that moves one thing.
-pub fn receipt_over(
+pub(crate) fn receipt_over(
     alloc: Global,
     seq: u64,
     request: &Request,
     thing: Moved,
 ) -> Result<Receipt, OutOfMemory>
-    ensures { IfOk result (λ receipt. receipt ≡ receipt_over seq request.now (thing ∷ [])) }
+    ensures number { IfOk result (λ receipt. receipt.seq ≡ seq) }
+    ensures whole { IfOk result (λ receipt. IsAddedBy request.now.command thing → receipt ≡ receipt_over seq request.now (thing ∷ [])) }
 {
     let sums = sums_of(thing);
     let things = Vec::from_slice(alloc, &[thing])?;
@@ -65,7 +66,7 @@ pub fn receipt_over(
         seq,
         request: request.id,
         at: request.at.try_clone()?,
-        line: Text::from_string(line(alloc, &request.command)?),
+        line: Text::from_string(line_over(alloc, &request.command, &thing)?),
         source: request.command.source(),
         target: request.command.target(),
         items: MovedList::from_vec(things),

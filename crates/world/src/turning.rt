@@ -14,6 +14,10 @@ use sheet_types::receipt::{Receipt, Sums};
 use sqlite::Alter;
 
 /// Carries a command out in the store of the member at a place, with its receipt. The sums are those of the member's package after the command; they are kept of it where all went well.
+///
+/// # Errors
+///
+/// Want of memory, or a store that failed, before the commit or in it (`TurnFault`). What is kept of the member is as it was.
 pub fn turn_at<S: Alter + Drop>(
     members: &mut Vec<Member<S>>,
     at: usize,

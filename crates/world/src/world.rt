@@ -1,8 +1,9 @@
 // An archive and its loans, and what requests make of them.
-ghost use Rattle.std.specs.Prelude.{◌≡◌, true, false, Err, IfOk, OnErr, IsTrue};
+ghost use Rattle.std.specs.Prelude.{◌≡◌, ◌↔◌, true, false, Err, IfOk, OnErr, IsTrue};
 ghost use Rattle.std.specs.List.{AllByRecursion};
 ghost use Rattle.sqlite.specs.Held.{state};
 ghost use Rattle.sqlite.specs.State.{HasCleanDisk};
+ghost use Rattle.sheet_types.specs.Step.{IsFault};
 ghost use Rattle.sheet_types.specs.World.{new_world};
 ghost use Rattle.sql_meaning.specs.Blank.{IsBlank, no_schema};
 ghost use Rattle.world.specs.Creating.{IsCreatedOrRefused};
@@ -107,7 +108,7 @@ impl<S: Alter + Drop> World<S> {
     ///
     /// # Errors
     ///
-    /// The first reason that holds, or, in place of any reply, want of memory or a store that failed. Nothing is changed then. The world has failed after any `StoreFault`, and after a commit that answered any error.
+    /// The first reason that holds, or, in place of any reply, want of memory or a store that failed. Nothing is changed then. The world has failed after any `StoreFault`, and after a commit that answered any error; after a receipt or a refusal it is as usable as before.
     pub fn apply<H: Shelf<S>>(
         &mut self,
         alloc: Global,
@@ -121,6 +122,7 @@ impl<S: Alter + Drop> World<S> {
         ensures unharmed { LeavesNoTrace S.Store self.old result self.new }
         ensures failed { self.old.has_failed ≡ true → (result ≡ Err StoreFault) × (self.new ≡ self.old) }
         ensures cause { result ≡ Err StoreFault → self.new.has_failed ≡ true }
+        ensures usable { ¬ IsFault result → self.new.has_failed ≡ self.old.has_failed }
         ensures shelf { _shelf.new ≡ _shelf.old }
     {
         if self.has_failed {
@@ -170,7 +172,7 @@ impl<S: Alter + Drop> World<S> {
 
 /// Whether a reply tells that a store failed.
 fn is_store_fault(reply: &Result<Receipt, Refusal>) -> bool
-    ensures { reply.now ≡ Err StoreFault → IsTrue result }
+    ensures { IsTrue result ↔ (reply.now ≡ Err StoreFault) }
 {
     match reply {
         Ok(_) => false,

@@ -1,7 +1,7 @@
 // What a store or a world reads as, in words that can be compared.
 use crate::requests::archive;
 use custody::keeping::kept;
-use identity_register::whole::{items, links};
+use identity_register::whole::holdings;
 use package_tables::fault::Fault;
 use sheet_types::command::{Item, Relation};
 use sheet_types::fingerprints::spell;
@@ -188,8 +188,7 @@ pub fn read_picture<S: Alter>(
     if !conn.is_autocommit() {
         return Err(Fault::StoreFault);
     }
-    let items = items(conn, alloc)?;
-    let links = links(conn, alloc)?;
+    let (items, links) = holdings(conn, alloc)?;
     let receipt = kept(conn, alloc, id)?;
     Ok(Picture {
         things: items.len().saturating_add(links.len()),

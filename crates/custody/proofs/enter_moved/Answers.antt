@@ -1,4 +1,4 @@
-use Rattle.std.proofs.Common.{◌≡◌, ◌∙◌, rules, ap, to_z-of_z, FitsSigned, w64, to_z}
+use Rattle.std.proofs.Common.{◌∙◌, rules, ap, to_z-of_z, FitsSigned, w64, to_z}
 use Rattle.sheet_types.specs.Texts.{uuid_text}
 use Rattle.custody.proofs.Entering.{moved_steps, kind_stored}
 use Rattle.custody.proofs.enter_moved.Goals as goal

@@ -1,4 +1,4 @@
-use Rattle.std.proofs.Common.{◌≡◌, ◌∙◌, rules, ap, to_z-of_z, FitsSigned, w64}
+use Rattle.std.proofs.Common.{◌∙◌, rules, ap, to_z-of_z, FitsSigned, w64}
 use Rattle.sheet_types.specs.Texts.{uuid_text}
 use Rattle.custody.proofs.Entering.{head_steps}
 use Rattle.custody.proofs.enter_row.Goals as goal

@@ -1,4 +1,4 @@
-use Rattle.std.proofs.Common.{◌≡◌, ◌≤◌, ◌<◌, ◌∙◌, refl, sym, subst, take, length, arith}
+use Rattle.std.proofs.Common.{◌≤◌, ◌<◌, ◌∙◌, refl, sym, subst, length, arith}
 use Rattle.sqlite.specs.Held.{state}
 use Rattle.sql_meaning.specs.Transactions.{EachStep}
 use Rattle.sql_meaning.specs.Writing.{EachChained}

@@ -7,7 +7,8 @@ use Rattle.std.specs.List.{list_any}
 use Rattle.package_tables.specs.Calls.{IsOneOf}
 use Rattle.custody.specs.Entries.{is_of}
 use Rattle.identity_register.proofs.Looking.{asked, looked, tells}
-use Rattle.custody.proofs.Naming.{found_passes, read_back}
+use Rattle.identity_register.proofs.Answering.{one_tells}
+use Rattle.custody.proofs.Naming.{read_back}
 use Rattle.custody.proofs.is_moved_as.Goals as goal
 
 pub returns-in_err-found-clause-back : goal.returns-in_err-found-clause-back
@@ -25,4 +26,4 @@ returns-clause-looked g c =
     let same : c.encode_lower-text.result.now ≡ uuid_text c.args.identity = c.encode_lower-text.ensures.text ∙ ap uuid_text c.hyphenated.ensures in
     tells (λ t found. found ≡ list_any (is_of c.args.identity c.args.kind) t.moved)
     (looked (λ t. IsOneOf (is_of c.args.identity c.args.kind) t.moved) c.in_ok-found.was (asked (λ text t. IsOneOf (λ x. bytes_eq x.base text && int_eq x.kind c.args.kind) t.moved) same (simp (to_z-of_z, c.ranges.kind) at c.moved_of_kind.ensures)))
-    (λ t h. c.is_some.ensures ∙ found_passes (is_of c.args.identity c.args.kind) t.moved c.in_ok-found.found h)
+    (λ t h. c.is_some.ensures ∙ one_tells (is_of c.args.identity c.args.kind) t.moved c.in_ok-found.found h)

@@ -5,7 +5,8 @@ use Rattle.manifest_csv.specs.Imports.{Imports, IsReported}
 use Rattle.manifest_csv.specs.Reports.{report_header}
 use Rattle.manifest_csv.specs.Sent.{WentOut}
 use Rattle.manifest_csv.specs.declared.importing.ImportFault.TheVariants.{Unwritten}
-use Rattle.manifest_csv.proofs.ImportFacts.{all_served, turned_into, after_header, header_unwritten, imported}
+use Rattle.world.proofs.Served.{turned_into}
+use Rattle.manifest_csv.proofs.ImportFacts.{all_served, after_header, header_unwritten, imported}
 use Rattle.manifest_csv.proofs.importing.import.Goals as goal
 
 pub returns-in_err-send : goal.returns-in_err-send

@@ -5,7 +5,8 @@ use Rattle.manifest_csv.specs.Imports.{IsReported, IsEndOf}
 use Rattle.manifest_csv.specs.Reports.{report_line}
 use Rattle.manifest_csv.specs.Sent.{WentOut}
 use Rattle.manifest_csv.specs.declared.importing.ImportFault.TheVariants.{Unwritten}
-use Rattle.manifest_csv.proofs.ImportFacts.{one_more, stopped, turned_into, unwritten, none_yet}
+use Rattle.world.proofs.Served.{turned_into}
+use Rattle.manifest_csv.proofs.ImportFacts.{one_more, stopped, unwritten, none_yet}
 use Rattle.manifest_csv.proofs.importing.report_each.Goals as goal
 
 pub loop-at-init : goal.loop-at-init
@@ -16,14 +17,14 @@ returns-in_err-send g c =
     let line : WentOut (g.W.Write.contents c.loop-at.writer) (g.W.Write.contents c.send.new.writer) (report_line (c.loop-at.at + 1) c.index-requests-at.result.id c.apply-reply.result) =
     subst (WentOut (g.W.Write.contents c.loop-at.writer) (g.W.Write.contents c.send.new.writer)) (c.as_bytes.ensures.value ∙ c.put_line.ensures.text) c.in_err-send.ensures.err in
     subst (IsReported g.S.Store c.args.requests.now c.args.world.now c.apply-reply.new.self (g.W.Write.contents c.args.writer.now) (g.W.Write.contents c.send.new.writer)) (sym (turned_into c.from_residual.result Unwritten c.from_residual.ensures.1))
-    (unwritten g.S.Store c.args.requests.now c.loop-at.at c.args.world.now c.loop-at.world c.apply-reply.new.self (g.W.Write.contents c.args.writer.now) (g.W.Write.contents c.loop-at.writer) c.loop-at.invariant.so_far c.loop-at-test.true c.index-requests-at.result c.index-requests-at.is c.apply-reply.result c.apply-reply.ensures.step
+    (unwritten g.S.Store c.args.requests.now c.loop-at.at c.args.world.now c.loop-at.world c.apply-reply.new.self (g.W.Write.contents c.args.writer.now) (g.W.Write.contents c.loop-at.writer) c.loop-at.invariant.so_far c.loop-at-test.true c.index-requests-at.result c.index-requests-at.is c.apply-reply.result (record { step = c.apply-reply.ensures.step; opens = c.apply-reply.ensures.opens; failed = c.apply-reply.ensures.failed; cause = c.apply-reply.ensures.cause; usable = c.apply-reply.ensures.usable })
     (g.W.Write.contents c.send.new.writer) line)
 
 pub returns-in-Some : goal.returns-in-Some
 returns-in-Some g c =
     let line : Appends (g.W.Write.contents c.loop-at.writer) (g.W.Write.contents c.send.new.writer) (report_line (c.loop-at.at + 1) c.index-requests-at.result.id c.apply-reply.result) =
     subst (Appends (g.W.Write.contents c.loop-at.writer) (g.W.Write.contents c.send.new.writer)) (c.as_bytes.ensures.value ∙ c.put_line.ensures.text) c.in_ok-send.ensures.ok in
-    stopped g.S.Store c.args.requests.now c.loop-at.at c.args.world.now c.loop-at.world c.apply-reply.new.self (g.W.Write.contents c.args.writer.now) (g.W.Write.contents c.loop-at.writer) c.loop-at.invariant.so_far c.loop-at-test.true c.index-requests-at.result c.index-requests-at.is c.apply-reply.result c.apply-reply.ensures.step
+    stopped g.S.Store c.args.requests.now c.loop-at.at c.args.world.now c.loop-at.world c.apply-reply.new.self (g.W.Write.contents c.args.writer.now) (g.W.Write.contents c.loop-at.writer) c.loop-at.invariant.so_far c.loop-at-test.true c.index-requests-at.result c.index-requests-at.is c.apply-reply.result (record { step = c.apply-reply.ensures.step; opens = c.apply-reply.ensures.opens; failed = c.apply-reply.ensures.failed; cause = c.apply-reply.ensures.cause; usable = c.apply-reply.ensures.usable })
     (g.W.Write.contents c.send.new.writer) c.in-Some.why (subst (IsEndOf c.apply-reply.result) c.in-Some.is c.end_of.ensures) line
 
 pub loop-at-preserved : goal.loop-at-preserved
@@ -32,6 +33,6 @@ loop-at-preserved g c =
     subst (Appends (g.W.Write.contents c.loop-at.writer) (g.W.Write.contents c.send.new.writer)) (c.as_bytes.ensures.value ∙ c.put_line.ensures.text) c.in_ok-send.ensures.ok in
     record {
       room = c.put_line.ensures.room;
-      so_far = one_more g.S.Store c.args.requests.now c.loop-at.at c.args.world.now c.loop-at.world c.apply-reply.new.self (g.W.Write.contents c.args.writer.now) (g.W.Write.contents c.loop-at.writer) c.loop-at.invariant.so_far c.loop-at-test.true c.index-requests-at.result c.index-requests-at.is c.apply-reply.result c.apply-reply.ensures.step
+      so_far = one_more g.S.Store c.args.requests.now c.loop-at.at c.args.world.now c.loop-at.world c.apply-reply.new.self (g.W.Write.contents c.args.writer.now) (g.W.Write.contents c.loop-at.writer) c.loop-at.invariant.so_far c.loop-at-test.true c.index-requests-at.result c.index-requests-at.is c.apply-reply.result (record { step = c.apply-reply.ensures.step; opens = c.apply-reply.ensures.opens; failed = c.apply-reply.ensures.failed; cause = c.apply-reply.ensures.cause; usable = c.apply-reply.ensures.usable })
           (g.W.Write.contents c.send.new.writer) line (subst (IsEndOf c.apply-reply.result) c.in_default.is c.end_of.ensures);
     }

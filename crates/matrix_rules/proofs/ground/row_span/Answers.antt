@@ -1,49 +1,28 @@
-use Rattle.std.proofs.Common.{arith, rules, FitsSigned, refl, ◌∙◌, ◌-ℤ◌, w64}
+use Rattle.std.proofs.Common.{arith, rules, refl, FitsSigned, w64}
 use Rattle.std.proofs.lemmas.Int.{ints, to_z-of_z}
+use Rattle.sheet_types.specs.Matrix.{tile_span_y}
 use Rattle.matrix_rules.proofs.Frames.{good_frame}
 use Rattle.matrix_rules.proofs.Grids.{grid_y}
 use Rattle.matrix_rules.proofs.ground.row_span.Goals as goal
 
-pub overflow_sub-frame : goal.overflow_sub-frame
-overflow_sub-frame c = let good = good_frame c.args.frame.now c.requires.good in omega (arith, ints)
-
-pub tile_span-requires-clause-tile : goal.tile_span-requires-clause-tile
-tile_span-requires-clause-tile c = let good = good_frame c.args.frame.now c.requires.good in omega (arith, ints)
-
-pub tile_span-requires-clause-tiles : goal.tile_span-requires-clause-tiles
-tile_span-requires-clause-tiles c =
-    let zoom = c.ranges.zoom in
-    let grid = grid_y c.args.frame.now c.args.zoom (good_frame c.args.frame.now c.requires.good) c.requires.level in
-    let tiles : FitsSigned w64 c.rows_at.result = search rules in
-    let count = (simp to_z-of_z at c.rows_at.ensures) ∙ grid.tiles_is in
-    simp to_z-of_z (rw count (omega (arith, ints, grid.one)))
-
-pub tile_span-requires-clause-fits : goal.tile_span-requires-clause-fits
-tile_span-requires-clause-fits c =
+pub overflow_mul-result : goal.overflow_mul-result
+overflow_mul-result c =
     let zoom = c.ranges.zoom in
     let good = good_frame c.args.frame.now c.requires.good in
     let grid = grid_y c.args.frame.now c.args.zoom good c.requires.level in
-    let tiles : FitsSigned w64 c.rows_at.result = search rules in
+    let pixel : FitsSigned w64 c.pixel_y_size.result = search rules in
     let tile : FitsSigned w64 c.args.frame.now.tile_height = omega (arith, ints) in
-    let low : FitsSigned w64 c.args.frame.now.min_y = omega (arith, ints) in
-    let high : FitsSigned w64 c.args.frame.now.max_y = omega (arith, ints) in
-    let extent : FitsSigned w64 (c.args.frame.now.max_y -ℤ c.args.frame.now.min_y) = omega (arith, ints) in
-    let count = simp to_z-of_z at c.rows_at.ensures in
-    simp to_z-of_z (rw count grid.pixels)
-
-pub tile_span-requires-clause-extent : goal.tile_span-requires-clause-extent
-tile_span-requires-clause-extent c = let good = good_frame c.args.frame.now c.requires.good in omega (arith, ints)
+    let size = simp to_z-of_z at c.pixel_y_size.ensures in
+    let span : FitsSigned w64 (tile_span_y c.args.frame.now c.args.zoom) = omega (arith, ints, grid.span_is, grid.short) in
+    simp to_z-of_z (rw size span)
 
 pub returns : goal.returns
 returns c =
     let zoom = c.ranges.zoom in
     let good = good_frame c.args.frame.now c.requires.good in
-    let tiles : FitsSigned w64 c.rows_at.result = search rules in
-    let span : FitsSigned w64 c.tile_span.result = search rules in
+    let grid = grid_y c.args.frame.now c.args.zoom good c.requires.level in
+    let pixel : FitsSigned w64 c.pixel_y_size.result = search rules in
     let tile : FitsSigned w64 c.args.frame.now.tile_height = omega (arith, ints) in
-    let low : FitsSigned w64 c.args.frame.now.min_y = omega (arith, ints) in
-    let high : FitsSigned w64 c.args.frame.now.max_y = omega (arith, ints) in
-    let extent : FitsSigned w64 (c.args.frame.now.max_y -ℤ c.args.frame.now.min_y) = omega (arith, ints) in
-    let count = simp to_z-of_z at c.rows_at.ensures in
-    let length = simp to_z-of_z at c.tile_span.ensures in
-    simp to_z-of_z (rw (length, count) refl)
+    let size = simp to_z-of_z at c.pixel_y_size.ensures in
+    let span : FitsSigned w64 (tile_span_y c.args.frame.now c.args.zoom) = omega (arith, ints, grid.span_is, grid.short) in
+    simp to_z-of_z (rw size (simp to_z-of_z refl))

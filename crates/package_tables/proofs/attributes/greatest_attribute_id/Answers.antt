@@ -7,4 +7,4 @@ use Rattle.package_tables.proofs.attributes.greatest_attribute_id.Goals as goal
 pub returns-clause-told : goal.returns-clause-told
 returns-clause-told g c =
     let e = c.query_all.ensures in
-    tells_greatest_of_all known newest (λ x. refl) (λ rows. rows.items) (state g.S.Store c.args.tx.now.conn.now) (state g.S.Store c.query_all.new.self.conn.now) c.query_all.result e.ok e.err c.number_of.result c.number_of.ensures
+    tells_greatest_of_all known newest (λ x. refl) (λ rows. rows.items) (state g.S.Store c.args.tx.now.conn.now) (state g.S.Store c.query_all.new.self.conn.now) c.query_all.result e.ok e.err c.number_of.result c.number_of.ensures.number

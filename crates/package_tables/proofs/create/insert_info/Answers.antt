@@ -1,9 +1,8 @@
 use Rattle.std.proofs.Common.{◌≡◌, pos, arith, w64, to_z}
 use Rattle.std.proofs.lemmas.Int.{to_z_pos}
-use Rattle.sqlite.specs.Held.{state}
 use Rattle.package_tables.specs.Entries.{AddsHead}
 use Rattle.package_tables.specs.Creation.{head_of}
-use Rattle.package_tables.proofs.InTurn.{steps_of}
+use Rattle.package_tables.proofs.Stepping.{makes_steps}
 use Rattle.package_tables.proofs.create.insert_info.Goals as goal
 
 pub returns-clause-steps : goal.returns-clause-steps
@@ -11,5 +10,5 @@ returns-clause-steps g c =
     let i = c.args.info.now in
     let depth : to_z w64 i.depth ≡ pos i.depth = to_z_pos w64 i.depth (omega (arith, c.requires.0)) in
     let loan : to_z w64 i.loan ≡ pos i.loan = to_z_pos w64 i.loan (omega (arith, c.requires.1)) in
-    steps_of (AddsHead (head_of i.package i.parent i.depth i.loan i.created.now)) (state g.S.Store c.args.tx.now.conn.now) (state g.S.Store c.insert_head.new.tx.conn.now) c.insert_head.result
+    makes_steps (AddsHead (head_of i.package i.parent i.depth i.loan i.created.now))
     (rw (c.as_str.ensures.value, c.in_ok-package.ensures.ok, c.as_str-2.ensures.value, c.in_ok-parent.ensures, depth, loan) at c.insert_head.ensures.wrote) c.insert_head.ensures.survives

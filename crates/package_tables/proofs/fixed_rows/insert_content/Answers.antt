@@ -1,8 +1,7 @@
 use Rattle.std.proofs.Common.{rules, to_z-of_z, FitsSigned, w64}
-use Rattle.sqlite.specs.Held.{state}
 use Rattle.package_tables.specs.Entries.{AddsContents}
 use Rattle.package_tables.specs.Fixed.{content}
-use Rattle.package_tables.proofs.InTurn.{steps_of}
+use Rattle.package_tables.proofs.Stepping.{makes_steps}
 use Rattle.package_tables.proofs.fixed_rows.insert_content.Goals as goal
 
 pub returns-clause-steps : goal.returns-clause-steps
@@ -13,5 +12,5 @@ returns-clause-steps g c =
     let min_y : FitsSigned w64 a.frame.now.min_y = search rules in
     let max_x : FitsSigned w64 a.frame.now.max_x = search rules in
     let max_y : FitsSigned w64 a.frame.now.max_y = search rules in
-    steps_of (AddsContents (content a.table_name.now a.data_type.now a.frame.now a.at.now)) (state g.S.Store a.tx.now.conn.now) (state g.S.Store c.insert_contents.new.tx.conn.now) c.insert_contents.result
+    makes_steps (AddsContents (content a.table_name.now a.data_type.now a.frame.now a.at.now))
     (simp (to_z-of_z, srs_id, min_x, min_y, max_x, max_y) at c.insert_contents.ensures.wrote) c.insert_contents.ensures.survives

@@ -8,4 +8,4 @@ pub returns-clause-told : goal.returns-clause-told
 returns-clause-told g c =
     let e = c.query_all.ensures in
     tells_in_order heads_known all_heads (λ rows. rows.items) _ refl
-    (state g.S.Store c.args.tx.now.conn.now) (state g.S.Store c.query_all.new.self.conn.now) c.query_all.result e.ok e.err (λ x. refl) all_heads_ranked (λ found. found.items) c.all_of.result c.all_of.ensures
+    (state g.S.Store c.args.tx.now.conn.now) (state g.S.Store c.query_all.new.self.conn.now) c.query_all.result e.ok e.err (λ x. refl) all_heads_ranked (λ found. found.items) c.all_of.result c.all_of.ensures.values

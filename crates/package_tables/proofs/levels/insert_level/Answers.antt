@@ -1,8 +1,7 @@
 use Rattle.std.proofs.Common.{rules, to_z-of_z, FitsSigned, w64}
-use Rattle.sqlite.specs.Held.{state}
 use Rattle.package_tables.specs.Entries.{AddsTileMatrix}
 use Rattle.package_tables.specs.Fixed.{level_row}
-use Rattle.package_tables.proofs.InTurn.{steps_of}
+use Rattle.package_tables.proofs.Stepping.{makes_steps}
 use Rattle.package_tables.proofs.levels.insert_level.Goals as goal
 
 pub returns-clause-steps : goal.returns-clause-steps
@@ -16,6 +15,6 @@ returns-clause-steps g c =
     let across : FitsSigned w64 c.pixel_x_size-across.result = search rules in
     let down : FitsSigned w64 c.pixel_y_size-down.result = search rules in
     let made = simp (to_z-of_z, zoom, tile_width, tile_height, width, height, across, down) at c.insert_tile_matrix.ensures.wrote in
-    steps_of (AddsTileMatrix (level_row a.frame.now a.zoom)) (state g.S.Store a.tx.now.conn.now) (state g.S.Store c.insert_tile_matrix.new.tx.conn.now) c.insert_tile_matrix.result
+    makes_steps (AddsTileMatrix (level_row a.frame.now a.zoom))
     (rw (simp (to_z-of_z, zoom) at c.columns_at-width.ensures, simp (to_z-of_z, zoom) at c.rows_at-height.ensures, simp (to_z-of_z, zoom) at c.pixel_x_size-across.ensures, simp (to_z-of_z, zoom) at c.pixel_y_size-down.ensures) at made)
     c.insert_tile_matrix.ensures.survives

@@ -1,4 +1,4 @@
-use Rattle.std.proofs.Common.{refl, to_z-of_z}
+use Rattle.std.proofs.Common.{to_z-of_z}
 use Rattle.package_tables.proofs.Looking.{looks_one}
 use Rattle.package_tables.proofs.MovedStatements.{moved_known, moved_of_kind}
 use Rattle.package_tables.proofs.moved.moved_of_kind.Goals as goal
@@ -7,4 +7,4 @@ pub returns : goal.returns
 returns g c =
     let e = c.query_all.ensures in
     looks_one moved_known (moved_of_kind c.args.base.now c.args.kind) (λ rows. rows.items) _ (rw (c.params-to_sql.ensures, c.params-to_sql-2.ensures) (simp (to_z-of_z, c.ranges.kind))) g.S.Store g.met.S.Store.shut_if_dirty g.met.S.Store.settled
-    c.args.conn.now c.query_all.new.self c.requires c.query_all.result e.ok e.err e.mode e.survives c.first_of.result c.first_of.ensures
+    c.args.conn.now c.query_all.new.self c.requires c.query_all.result e.ok e.err e.mode e.survives c.first_of.result c.first_of.ensures.first

@@ -8,4 +8,4 @@ pub returns-clause-told : goal.returns-clause-told
 returns-clause-told g c =
     let e = c.query_all.ensures in
     tells_one moved_known (moved_of_kind c.args.base.now c.args.kind) (λ rows. rows.items) _ (rw (c.params-to_sql.ensures, c.params-to_sql-2.ensures) (simp (to_z-of_z, c.ranges.kind) refl))
-    (state g.S.Store c.args.tx.now.conn.now) (state g.S.Store c.query_all.new.self.conn.now) c.query_all.result e.ok e.err c.first_of.result c.first_of.ensures
+    (state g.S.Store c.args.tx.now.conn.now) (state g.S.Store c.query_all.new.self.conn.now) c.query_all.result e.ok e.err c.first_of.result c.first_of.ensures.first

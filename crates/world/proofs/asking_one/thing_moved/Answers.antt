@@ -1,11 +1,12 @@
 -- What a command moves follows from the command alone, but of a delete from the item that the package has.
-use Rattle.std.proofs.Common.{◌≡◌, ◌∙◌, ap, sym, subst, inl, inr, ℕ, ℤ, List, [], ◌∷◌, Option, Some, None, Ok, slice_get}
+use Rattle.std.proofs.Common.{◌≡◌, ◌∙◌, ap, sym, subst, inl, inr, ◌⊎◌, ℕ, ℤ, List, [], ◌∷◌, Option, Some, None, Ok, slice_get}
 use Rattle.std.specs.Option.{option_map_or}
-use Rattle.sheet_types.specs.World.{World, Package, item_of, item_moved, holdings}
-use Rattle.sheet_types.specs.Step.{moved}
+use Rattle.sheet_types.specs.World.{World, Package, item_of, item_moved, link_moved, holdings}
+use Rattle.sheet_types.specs.Step.{moved, relation}
 use Rattle.sheet_types.specs.declared.command.Command.{Command}
-use Rattle.sheet_types.specs.declared.command.Command.TheVariants.{Delete, Split, Merge}
+use Rattle.sheet_types.specs.declared.command.Command.TheVariants.{Delete, Link, Unlink, Split, Merge}
 use Rattle.sheet_types.specs.declared.command.Item.{Item}
+use Rattle.sheet_types.specs.declared.command.Mapping.{Mapping}
 use Rattle.sheet_types.specs.declared.command.Mode.{Mode}
 use Rattle.sheet_types.specs.declared.frame.Rect.{Rect}
 use Rattle.sheet_types.specs.declared.receipt.Moved.{Moved}
@@ -23,6 +24,11 @@ of_found w at command uuid identity found is told here =
 alone : {x y : Moved} → x ≡ y → y ∷ [] ≡ x ∷ []
 alone same = ap (λ m. m ∷ []) (sym same)
 
+-- a link moves its relation, whether it comes or goes
+of_relation : (w : World) (command : Command) (mapping : Mapping) (base media : List ℕ) → ((parent : List ℕ) × (command ≡ Link parent mapping base media)) ⊎ ((parent : List ℕ) × (command ≡ Unlink parent mapping base media)) → moved w command ≡ link_moved (relation mapping base media) ∷ []
+of_relation w command mapping base media (inl link) = ap (moved w) link.1
+of_relation w command mapping base media (inr unlink) = ap (moved w) unlink.1
+
 -- neither a split nor a merge is served
 no_split : (command : Command) → ((parent : List ℕ) × (child : List ℕ) × (mode : Mode) × (rect : Rect) × (command ≡ Split parent child mode rect)) → IsServed command → ⊥
 no_split command (parent, child, mode, rect, is) served = subst IsServed is served
@@ -36,7 +42,7 @@ returns-in_default g c =
 
 pub returns-in-Add : goal.returns-in-Add
 returns-in-Add g c =
-    asks_still g.S.Store g.met.S.Store.shut_if_dirty g.met.S.Store.settled c.requires.rests (λ w count are served here. ap (moved w) c.in-Add.is ∙ alone c.item_moved.ensures)
+    asks_still g.S.Store g.met.S.Store.shut_if_dirty g.met.S.Store.settled c.requires.rests (λ w count are served here. ap (moved w) c.in-Add.is ∙ alone c.of_content.ensures)
 
 pub returns-in-Some : goal.returns-in-Some
 returns-in-Some g c =
@@ -45,11 +51,7 @@ returns-in-Some g c =
 
 pub returns-in-Link : goal.returns-in-Link
 returns-in-Link g c =
-    asks_still g.S.Store g.met.S.Store.shut_if_dirty g.met.S.Store.settled c.requires.rests (λ w count are served here. ap (moved w) c.in-Link.is ∙ alone c.of_link.ensures)
-
-pub returns-in-Unlink : goal.returns-in-Unlink
-returns-in-Unlink g c =
-    asks_still g.S.Store g.met.S.Store.shut_if_dirty g.met.S.Store.settled c.requires.rests (λ w count are served here. ap (moved w) c.in-Unlink.is ∙ alone c.of_link-in-Unlink.ensures)
+    asks_still g.S.Store g.met.S.Store.shut_if_dirty g.met.S.Store.settled c.requires.rests (λ w count are served here. of_relation w c.args.command.now _ _ _ c.in-Link.is ∙ alone (c.of_link.ensures ∙ ap link_moved c.new-relation.ensures))
 
 pub returns-in-Split : goal.returns-in-Split
 returns-in-Split g c =

@@ -1,11 +1,12 @@
 -- The store keeps the package that its head tells.
-use Rattle.std.proofs.Common.{◌≡◌, ℕ, List, sym, subst, [], ◌∷◌, ◌++◌, ap, ◌∙◌}
-use Rattle.std.proofs.lemmas.List.Elements.{recursion_from_All}
+use Rattle.std.proofs.Common.{◌≡◌, ℕ, List, refl, sym, subst, [], ◌∷◌, ◌++◌, ap, ◌∙◌}
+use Rattle.std.proofs.lemmas.List.Elements.{recursion_from_All, All-from_recursion}
 use Rattle.sqlite.specs.Store.{Ghosts}
 use Rattle.sqlite.specs.Held.{Held, state}
 use Rattle.sqlite.specs.State.{HasCleanDisk}
+use Rattle.sql_meaning.specs.Transactions.{Rests}
 use Rattle.sheet_types.specs.World.{new_world}
-use Rattle.world.specs.Members.{AllClean, AreMembers}
+use Rattle.world.specs.Members.{AllRest, AllClean, AreMembers}
 use Rattle.world.specs.declared.members.Member.{Member}
 use Rattle.world.proofs.Beginning.{first_member, alone}
 use Rattle.world.proofs.creating.archive_alone.Goals as goal
@@ -18,6 +19,10 @@ one_member g archive conn none all empty is = is ∙ ap (λ ms. ms ++ first_memb
 its_disk : {S : Type 0} (g : Ghosts S) (archive : List ℕ) (conn : Held S) (all : List (Member S)) → all ≡ first_member g archive conn ∷ [] → AllClean g all → HasCleanDisk (state g conn)
 its_disk {S} g archive conn all one clean = (recursion_from_All (λ (m : Member S). HasCleanDisk (state g m.conn)) (first_member g archive conn ∷ []) (subst (AllClean g) one clean)).0
 
+-- and its store rests, so all do
+its_rest : {S : Type 0} (g : Ghosts S) (archive : List ℕ) (conn : Held S) (all : List (Member S)) → all ≡ first_member g archive conn ∷ [] → Rests (state g conn) → AllRest g all
+its_rest {S} g archive conn all one rests = subst (AllRest g) (sym one) (All-from_recursion (λ (m : Member S). Rests (state g m.conn)) (first_member g archive conn ∷ []) (rests, tt))
+
 pub returns-clause-clean : goal.returns-clause-clean
 returns-clause-clean g c = λ clean.
     let one = one_member g.S.Store c.args.archive c.in_ok-conn.conn c.in_ok-members.members.items c.push_reserved.new.items.items c.in_ok-members.ensures.items c.push_reserved.ensures.items in
@@ -28,3 +33,11 @@ returns-clause-made g c = λ clean.
     let one = one_member g.S.Store c.args.archive c.in_ok-conn.conn c.in_ok-members.members.items c.push_reserved.new.items.items c.in_ok-members.ensures.items c.push_reserved.ensures.items in
     let disk = its_disk g.S.Store c.args.archive c.in_ok-conn.conn c.push_reserved.new.items.items one clean in
     subst (λ ms. AreMembers g.S.Store ms 0 (new_world c.args.archive c.args.frame.now)) (sym one) (alone g.S.Store c.args.archive c.args.frame.now c.in_ok-conn.conn c.fits.ensures c.requires.good (c.in_ok-conn.ensures.made c.requires.blank disk))
+
+pub create-requires-clause-rests : goal.create-requires-clause-rests
+create-requires-clause-rests g c = c.if-not-is_at_rest.ensures.yes refl
+
+pub returns-clause-rests : goal.returns-clause-rests
+returns-clause-rests g c =
+    let one = one_member g.S.Store c.args.archive c.in_ok-conn.conn c.in_ok-members.members.items c.push_reserved.new.items.items c.in_ok-members.ensures.items c.push_reserved.ensures.items in
+    its_rest g.S.Store c.args.archive c.in_ok-conn.conn c.push_reserved.new.items.items one c.in_ok-conn.ensures.rests

@@ -1,17 +1,13 @@
--- The links are asked for after the items, of the same package.
-use Rattle.std.proofs.Common.{◌<◌, subst}
-use Rattle.world.proofs.Questions.{asks_answer, asks_failed, asks_then}
-use Rattle.world.proofs.Standing.{stay_length}
+-- The look at the one member is its store's turn, and the package is that of the place.
+use Rattle.std.proofs.Common.{◌≡◌, ◌∙◌, ap, Some, slice_get, refl}
+use Rattle.std.proofs.lemmas.Option.{slice_get_read}
+use Rattle.sheet_types.specs.World.{Package}
+use Rattle.world.proofs.AskedOne.{looked_at}
 use Rattle.world.proofs.reading.holdings_at.Goals as goal
-
-pub links_at-requires-clause-within : goal.links_at-requires-clause-within
-links_at-requires-clause-within g c = subst (λ n. c.args.at < n) (stay_length g.S.Store _ _ c.items_at.ensures.stay) c.requires.within
-
-pub returns-in_err-links : goal.returns-in_err-links
-returns-in_err-links g c = asks_failed g.S.Store _ c.from_residual-in_err-links.ensures.0 (asks_then g.S.Store {x = c.in_ok-items.items} c.links_at.result c.in_ok-items.was c.items_at.ensures c.links_at.ensures)
 
 pub returns : goal.returns
 returns g c =
-    asks_answer g.S.Store {x = c.in_ok-links.links} c.in_ok-links.was
-    (λ w count are told p here. (told.0 p here, told.1 p here))
-    (asks_then g.S.Store {x = c.in_ok-items.items} c.links_at.result c.in_ok-items.was c.items_at.ensures c.links_at.ensures)
+    let place : slice_get c.args.members.now.items c.args.at ≡ Some c.index_mut-member.result.now = slice_get_read _ _ _ _ refl c.requires.within c.index_mut-member.ensures.value in
+    looked_at g.S.Store g.met.S.Store.shut_if_dirty g.met.S.Store.settled (λ f p held. (held.0.items ≡ p.items) × (held.1.items ≡ p.links)) c.args.members.now.items _ c.args.at c.holdings.result
+    (record { was = c.index_mut-member.result.now; place = place; last = c.holdings.new.conn; others = refl; turned = c.holdings.ensures }) c.requires.rests
+    (λ held w p here told q there. let same : p ≡ q = cc in (told.0 ∙ ap (λ (x : Package). x.items) same, told.1 ∙ ap (λ (x : Package). x.links) same))

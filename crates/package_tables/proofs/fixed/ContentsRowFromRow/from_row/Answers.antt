@@ -1,14 +1,33 @@
 use Rattle.std.proofs.Common.{◌≡◌, ◌∙◌, length, refl, rules, arith, to_z-of_z, FitsSigned, w64}
+use Rattle.package_tables.specs.Shown.{contents_shown}
 use Rattle.package_tables.proofs.Columns.{columns}
+use Rattle.package_tables.proofs.Decoding.{no_number, no_text}
 use Rattle.package_tables.proofs.fixed.ContentsRowFromRow.from_row.Goals as goal
 
-pub returns : goal.returns
-returns c =
+pub returns-clause-value : goal.returns-clause-value
+returns-clause-value c =
     let count : length c.args.row.now ≡ 10 = omega (arith, c.column_count.ensures, c.if-column_count-ne10.false) in
-    let n5 : FitsSigned w64 c.in_ok-get-6.field-0 = search rules in
-    let n6 : FitsSigned w64 c.in_ok-get-7.field-0 = search rules in
-    let n7 : FitsSigned w64 c.in_ok-get-8.field-0 = search rules in
-    let n8 : FitsSigned w64 c.in_ok-get-9.field-0 = search rules in
-    let n9 : FitsSigned w64 c.in_ok-get-10.field-0 = search rules in
-    let whole = columns 10 c.args.row.now count ∙ rw (c.in_ok-get.ensures.ok.1, c.in_ok-get-2.ensures.ok.1, c.in_ok-get-3.ensures.ok.1, c.in_ok-get-4.ensures.ok.1, c.in_ok-get-5.ensures.ok.1, c.in_ok-get-6.ensures.ok.1, c.in_ok-get-7.ensures.ok.1, c.in_ok-get-8.ensures.ok.1, c.in_ok-get-9.ensures.ok.1, c.in_ok-get-10.ensures.ok.1) refl in
-    simp (to_z-of_z, n5, n6, n7, n8, n9) (rw (c.from_string.ensures, c.from_string-2.ensures, c.from_string-3.ensures, c.from_string-4.ensures, c.from_string-5.ensures) whole)
+    let n5 : FitsSigned w64 c.in_ok-number_at.field-0 = search rules in
+    let n6 : FitsSigned w64 c.in_ok-number_at-2.field-0 = search rules in
+    let n7 : FitsSigned w64 c.in_ok-number_at-3.field-0 = search rules in
+    let n8 : FitsSigned w64 c.in_ok-number_at-4.field-0 = search rules in
+    let n9 : FitsSigned w64 c.in_ok-number_at-5.field-0 = search rules in
+    simp (to_z-of_z, n5, n6, n7, n8, n9) (columns 10 c.args.row.now count ∙ rw (c.in_ok-text_at.ensures.text, c.in_ok-text_at-2.ensures.text, c.in_ok-text_at-3.ensures.text, c.in_ok-text_at-4.ensures.text, c.in_ok-text_at-5.ensures.text, c.in_ok-number_at.ensures.number, c.in_ok-number_at-2.ensures.number, c.in_ok-number_at-3.ensures.number, c.in_ok-number_at-4.ensures.number, c.in_ok-number_at-5.ensures.number) refl)
+
+pub returns-in_err-text_at-5-clause-none : goal.returns-in_err-text_at-5-clause-none
+returns-in_err-text_at-5-clause-none c = no_text contents_shown 4 c.args.row.now c.from_residual-in_err-text_at-5.result c.in_err-text_at-5.field-0.0 c.from_residual-in_err-text_at-5.ensures.1 c.in_err-text_at-5.ensures.none (λ x. x.last_change) (λ x. refl)
+
+pub returns-in_err-number_at-clause-none : goal.returns-in_err-number_at-clause-none
+returns-in_err-number_at-clause-none c = no_number contents_shown 5 c.args.row.now c.from_residual-in_err-number_at.result c.in_err-number_at.field-0.0 c.from_residual-in_err-number_at.ensures.1 c.in_err-number_at.ensures.none (λ x. x.min_x) (λ x. refl)
+
+pub returns-in_err-number_at-2-clause-none : goal.returns-in_err-number_at-2-clause-none
+returns-in_err-number_at-2-clause-none c = no_number contents_shown 6 c.args.row.now c.from_residual-in_err-number_at-2.result c.in_err-number_at-2.field-0.0 c.from_residual-in_err-number_at-2.ensures.1 c.in_err-number_at-2.ensures.none (λ x. x.min_y) (λ x. refl)
+
+pub returns-in_err-number_at-3-clause-none : goal.returns-in_err-number_at-3-clause-none
+returns-in_err-number_at-3-clause-none c = no_number contents_shown 7 c.args.row.now c.from_residual-in_err-number_at-3.result c.in_err-number_at-3.field-0.0 c.from_residual-in_err-number_at-3.ensures.1 c.in_err-number_at-3.ensures.none (λ x. x.max_x) (λ x. refl)
+
+pub returns-in_err-number_at-4-clause-none : goal.returns-in_err-number_at-4-clause-none
+returns-in_err-number_at-4-clause-none c = no_number contents_shown 8 c.args.row.now c.from_residual-in_err-number_at-4.result c.in_err-number_at-4.field-0.0 c.from_residual-in_err-number_at-4.ensures.1 c.in_err-number_at-4.ensures.none (λ x. x.max_y) (λ x. refl)
+
+pub returns-in_err-number_at-5-clause-none : goal.returns-in_err-number_at-5-clause-none
+returns-in_err-number_at-5-clause-none c = no_number contents_shown 9 c.args.row.now c.from_residual-in_err-number_at-5.result c.in_err-number_at-5.field-0.0 c.from_residual-in_err-number_at-5.ensures.1 c.in_err-number_at-5.ensures.none (λ x. x.srs_id) (λ x. refl)

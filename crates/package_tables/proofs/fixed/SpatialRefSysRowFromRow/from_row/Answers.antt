@@ -1,11 +1,18 @@
 use Rattle.std.proofs.Common.{◌≡◌, ◌∙◌, length, refl, rules, arith, to_z-of_z, FitsSigned, w64}
+use Rattle.package_tables.specs.Shown.{spatial_ref_sys_shown}
 use Rattle.package_tables.proofs.Columns.{columns}
+use Rattle.package_tables.proofs.Decoding.{no_text}
 use Rattle.package_tables.proofs.fixed.SpatialRefSysRowFromRow.from_row.Goals as goal
 
-pub returns : goal.returns
-returns c =
+pub returns-clause-value : goal.returns-clause-value
+returns-clause-value c =
     let count : length c.args.row.now ≡ 6 = omega (arith, c.column_count.ensures, c.if-column_count-ne6.false) in
-    let n1 : FitsSigned w64 c.in_ok-get-2.field-0 = search rules in
-    let n3 : FitsSigned w64 c.in_ok-get-4.field-0 = search rules in
-    let whole = columns 6 c.args.row.now count ∙ rw (c.in_ok-get.ensures.ok.1, c.in_ok-get-2.ensures.ok.1, c.in_ok-get-3.ensures.ok.1, c.in_ok-get-4.ensures.ok.1, c.in_ok-get-5.ensures.ok.1, c.in_ok-get-6.ensures.ok.1) refl in
-    simp (to_z-of_z, n1, n3) (rw (c.from_string.ensures, c.from_string-2.ensures, c.from_string-3.ensures, c.from_string-4.ensures) whole)
+    let n1 : FitsSigned w64 c.in_ok-number_at.field-0 = search rules in
+    let n3 : FitsSigned w64 c.in_ok-number_at-2.field-0 = search rules in
+    simp (to_z-of_z, n1, n3) (columns 6 c.args.row.now count ∙ rw (c.in_ok-text_at.ensures.text, c.in_ok-number_at.ensures.number, c.in_ok-text_at-2.ensures.text, c.in_ok-number_at-2.ensures.number, c.in_ok-text_at-3.ensures.text, c.in_ok-text_at-4.ensures.text) refl)
+
+pub returns-in_err-text_at-3-clause-none : goal.returns-in_err-text_at-3-clause-none
+returns-in_err-text_at-3-clause-none c = no_text spatial_ref_sys_shown 4 c.args.row.now c.from_residual-in_err-text_at-3.result c.in_err-text_at-3.field-0.0 c.from_residual-in_err-text_at-3.ensures.1 c.in_err-text_at-3.ensures.none (λ x. x.definition) (λ x. refl)
+
+pub returns-in_err-text_at-4-clause-none : goal.returns-in_err-text_at-4-clause-none
+returns-in_err-text_at-4-clause-none c = no_text spatial_ref_sys_shown 5 c.args.row.now c.from_residual-in_err-text_at-4.result c.in_err-text_at-4.field-0.0 c.from_residual-in_err-text_at-4.ensures.1 c.in_err-text_at-4.ensures.none (λ x. x.description) (λ x. refl)

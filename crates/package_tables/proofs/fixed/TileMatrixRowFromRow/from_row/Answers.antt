@@ -1,16 +1,29 @@
 use Rattle.std.proofs.Common.{◌≡◌, ◌∙◌, length, refl, rules, arith, to_z-of_z, FitsSigned, w64}
+use Rattle.package_tables.specs.Shown.{tile_matrix_shown}
 use Rattle.package_tables.proofs.Columns.{columns}
+use Rattle.package_tables.proofs.Decoding.{no_number}
 use Rattle.package_tables.proofs.fixed.TileMatrixRowFromRow.from_row.Goals as goal
 
-pub returns : goal.returns
-returns c =
+pub returns-clause-value : goal.returns-clause-value
+returns-clause-value c =
     let count : length c.args.row.now ≡ 8 = omega (arith, c.column_count.ensures, c.if-column_count-ne8.false) in
-    let n1 : FitsSigned w64 c.in_ok-get-2.field-0 = search rules in
-    let n2 : FitsSigned w64 c.in_ok-get-3.field-0 = search rules in
-    let n3 : FitsSigned w64 c.in_ok-get-4.field-0 = search rules in
-    let n4 : FitsSigned w64 c.in_ok-get-5.field-0 = search rules in
-    let n5 : FitsSigned w64 c.in_ok-get-6.field-0 = search rules in
-    let n6 : FitsSigned w64 c.in_ok-get-7.field-0 = search rules in
-    let n7 : FitsSigned w64 c.in_ok-get-8.field-0 = search rules in
-    let whole = columns 8 c.args.row.now count ∙ rw (c.in_ok-get.ensures.ok.1, c.in_ok-get-2.ensures.ok.1, c.in_ok-get-3.ensures.ok.1, c.in_ok-get-4.ensures.ok.1, c.in_ok-get-5.ensures.ok.1, c.in_ok-get-6.ensures.ok.1, c.in_ok-get-7.ensures.ok.1, c.in_ok-get-8.ensures.ok.1) refl in
-    simp (to_z-of_z, n1, n2, n3, n4, n5, n6, n7) (rw (c.from_string.ensures) whole)
+    let n1 : FitsSigned w64 c.in_ok-number_at.field-0 = search rules in
+    let n2 : FitsSigned w64 c.in_ok-number_at-2.field-0 = search rules in
+    let n3 : FitsSigned w64 c.in_ok-number_at-3.field-0 = search rules in
+    let n4 : FitsSigned w64 c.in_ok-number_at-4.field-0 = search rules in
+    let n5 : FitsSigned w64 c.in_ok-number_at-5.field-0 = search rules in
+    let n6 : FitsSigned w64 c.in_ok-number_at-6.field-0 = search rules in
+    let n7 : FitsSigned w64 c.in_ok-number_at-7.field-0 = search rules in
+    simp (to_z-of_z, n1, n2, n3, n4, n5, n6, n7) (columns 8 c.args.row.now count ∙ rw (c.in_ok-text_at.ensures.text, c.in_ok-number_at.ensures.number, c.in_ok-number_at-2.ensures.number, c.in_ok-number_at-3.ensures.number, c.in_ok-number_at-4.ensures.number, c.in_ok-number_at-5.ensures.number, c.in_ok-number_at-6.ensures.number, c.in_ok-number_at-7.ensures.number) refl)
+
+pub returns-in_err-number_at-4-clause-none : goal.returns-in_err-number_at-4-clause-none
+returns-in_err-number_at-4-clause-none c = no_number tile_matrix_shown 4 c.args.row.now c.from_residual-in_err-number_at-4.result c.in_err-number_at-4.field-0.0 c.from_residual-in_err-number_at-4.ensures.1 c.in_err-number_at-4.ensures.none (λ x. x.tile_width) (λ x. refl)
+
+pub returns-in_err-number_at-5-clause-none : goal.returns-in_err-number_at-5-clause-none
+returns-in_err-number_at-5-clause-none c = no_number tile_matrix_shown 5 c.args.row.now c.from_residual-in_err-number_at-5.result c.in_err-number_at-5.field-0.0 c.from_residual-in_err-number_at-5.ensures.1 c.in_err-number_at-5.ensures.none (λ x. x.tile_height) (λ x. refl)
+
+pub returns-in_err-number_at-6-clause-none : goal.returns-in_err-number_at-6-clause-none
+returns-in_err-number_at-6-clause-none c = no_number tile_matrix_shown 6 c.args.row.now c.from_residual-in_err-number_at-6.result c.in_err-number_at-6.field-0.0 c.from_residual-in_err-number_at-6.ensures.1 c.in_err-number_at-6.ensures.none (λ x. x.pixel_x_size) (λ x. refl)
+
+pub returns-in_err-number_at-7-clause-none : goal.returns-in_err-number_at-7-clause-none
+returns-in_err-number_at-7-clause-none c = no_number tile_matrix_shown 7 c.args.row.now c.from_residual-in_err-number_at-7.result c.in_err-number_at-7.field-0.0 c.from_residual-in_err-number_at-7.ensures.1 c.in_err-number_at-7.ensures.none (λ x. x.pixel_y_size) (λ x. refl)

@@ -1,13 +1,23 @@
 use Rattle.std.proofs.Common.{◌≡◌, ◌∙◌, length, refl, rules, arith, to_z-of_z, FitsSigned, w64}
+use Rattle.package_tables.specs.Shown.{head_shown}
 use Rattle.package_tables.proofs.Columns.{columns}
+use Rattle.package_tables.proofs.Decoding.{no_number, no_text}
 use Rattle.package_tables.proofs.head.HeadRowFromRow.from_row.Goals as goal
 
-pub returns : goal.returns
-returns c =
+pub returns-clause-value : goal.returns-clause-value
+returns-clause-value c =
     let count : length c.args.row.now ≡ 7 = omega (arith, c.column_count.ensures, c.if-column_count-ne7.false) in
-    let n0 : FitsSigned w64 c.in_ok-get.field-0 = search rules in
-    let n1 : FitsSigned w64 c.in_ok-get-2.field-0 = search rules in
-    let n4 : FitsSigned w64 c.in_ok-get-5.field-0 = search rules in
-    let n5 : FitsSigned w64 c.in_ok-get-6.field-0 = search rules in
-    let whole = columns 7 c.args.row.now count ∙ rw (c.in_ok-get.ensures.ok.1, c.in_ok-get-2.ensures.ok.1, c.in_ok-get-3.ensures.ok.1, c.in_ok-get-4.ensures.ok.1, c.in_ok-get-5.ensures.ok.1, c.in_ok-get-6.ensures.ok.1, c.in_ok-get-7.ensures.ok.1) refl in
-    simp (to_z-of_z, n0, n1, n4, n5) (rw (c.from_string.ensures, c.from_string-2.ensures, c.from_string-3.ensures) whole)
+    let n0 : FitsSigned w64 c.in_ok-number_at.field-0 = search rules in
+    let n1 : FitsSigned w64 c.in_ok-number_at-2.field-0 = search rules in
+    let n4 : FitsSigned w64 c.in_ok-number_at-3.field-0 = search rules in
+    let n5 : FitsSigned w64 c.in_ok-number_at-4.field-0 = search rules in
+    simp (to_z-of_z, n0, n1, n4, n5) (columns 7 c.args.row.now count ∙ rw (c.in_ok-number_at.ensures.number, c.in_ok-number_at-2.ensures.number, c.in_ok-text_at.ensures.text, c.in_ok-text_at-2.ensures.text, c.in_ok-number_at-3.ensures.number, c.in_ok-number_at-4.ensures.number, c.in_ok-text_at-3.ensures.text) refl)
+
+pub returns-in_err-number_at-3-clause-none : goal.returns-in_err-number_at-3-clause-none
+returns-in_err-number_at-3-clause-none c = no_number head_shown 4 c.args.row.now c.from_residual-in_err-number_at-3.result c.in_err-number_at-3.field-0.0 c.from_residual-in_err-number_at-3.ensures.1 c.in_err-number_at-3.ensures.none (λ x. x.depth) (λ x. refl)
+
+pub returns-in_err-number_at-4-clause-none : goal.returns-in_err-number_at-4-clause-none
+returns-in_err-number_at-4-clause-none c = no_number head_shown 5 c.args.row.now c.from_residual-in_err-number_at-4.result c.in_err-number_at-4.field-0.0 c.from_residual-in_err-number_at-4.ensures.1 c.in_err-number_at-4.ensures.none (λ x. x.loan) (λ x. refl)
+
+pub returns-in_err-text_at-3-clause-none : goal.returns-in_err-text_at-3-clause-none
+returns-in_err-text_at-3-clause-none c = no_text head_shown 6 c.args.row.now c.from_residual-in_err-text_at-3.result c.in_err-text_at-3.field-0.0 c.from_residual-in_err-text_at-3.ensures.1 c.in_err-text_at-3.ensures.none (λ x. x.created) (λ x. refl)

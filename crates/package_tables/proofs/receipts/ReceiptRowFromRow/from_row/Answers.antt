@@ -1,15 +1,37 @@
 use Rattle.std.proofs.Common.{◌≡◌, ◌∙◌, length, refl, rules, arith, to_z-of_z, FitsSigned, w64}
+use Rattle.package_tables.specs.Shown.{receipt_shown}
 use Rattle.package_tables.proofs.Columns.{columns}
+use Rattle.package_tables.proofs.Decoding.{no_number, no_text}
 use Rattle.package_tables.proofs.receipts.ReceiptRowFromRow.from_row.Goals as goal
 
-pub returns : goal.returns
-returns c =
+pub returns-clause-value : goal.returns-clause-value
+returns-clause-value c =
     let count : length c.args.row.now ≡ 11 = omega (arith, c.column_count.ensures, c.if-column_count-ne11.false) in
-    let n0 : FitsSigned w64 c.in_ok-get.field-0 = search rules in
-    let n6 : FitsSigned w64 c.in_ok-get-7.field-0 = search rules in
-    let n7 : FitsSigned w64 c.in_ok-get-8.field-0 = search rules in
-    let n8 : FitsSigned w64 c.in_ok-get-9.field-0 = search rules in
-    let n9 : FitsSigned w64 c.in_ok-get-10.field-0 = search rules in
-    let n10 : FitsSigned w64 c.in_ok-get-11.field-0 = search rules in
-    let whole = columns 11 c.args.row.now count ∙ rw (c.in_ok-get.ensures.ok.1, c.in_ok-get-2.ensures.ok.1, c.in_ok-get-3.ensures.ok.1, c.in_ok-get-4.ensures.ok.1, c.in_ok-get-5.ensures.ok.1, c.in_ok-get-6.ensures.ok.1, c.in_ok-get-7.ensures.ok.1, c.in_ok-get-8.ensures.ok.1, c.in_ok-get-9.ensures.ok.1, c.in_ok-get-10.ensures.ok.1, c.in_ok-get-11.ensures.ok.1) refl in
-    simp (to_z-of_z, n0, n6, n7, n8, n9, n10) (rw (c.from_string.ensures, c.from_string-2.ensures, c.from_string-3.ensures, c.from_string-4.ensures, c.from_string-5.ensures) whole)
+    let n0 : FitsSigned w64 c.in_ok-number_at.field-0 = search rules in
+    let n6 : FitsSigned w64 c.in_ok-number_at-2.field-0 = search rules in
+    let n7 : FitsSigned w64 c.in_ok-number_at-3.field-0 = search rules in
+    let n8 : FitsSigned w64 c.in_ok-number_at-4.field-0 = search rules in
+    let n9 : FitsSigned w64 c.in_ok-number_at-5.field-0 = search rules in
+    let n10 : FitsSigned w64 c.in_ok-number_at-6.field-0 = search rules in
+    simp (to_z-of_z, n0, n6, n7, n8, n9, n10) (columns 11 c.args.row.now count ∙ rw (c.in_ok-number_at.ensures.number, c.in_ok-text_at.ensures.text, c.in_ok-text_at-2.ensures.text, c.in_ok-text_at-3.ensures.text, c.in_ok-text_at-4.ensures.text, c.in_ok-text_at-5.ensures.text, c.in_ok-number_at-2.ensures.number, c.in_ok-number_at-3.ensures.number, c.in_ok-number_at-4.ensures.number, c.in_ok-number_at-5.ensures.number, c.in_ok-number_at-6.ensures.number) refl)
+
+pub returns-in_err-text_at-4-clause-none : goal.returns-in_err-text_at-4-clause-none
+returns-in_err-text_at-4-clause-none c = no_text receipt_shown 4 c.args.row.now c.from_residual-in_err-text_at-4.result c.in_err-text_at-4.field-0.0 c.from_residual-in_err-text_at-4.ensures.1 c.in_err-text_at-4.ensures.none (λ x. x.source) (λ x. refl)
+
+pub returns-in_err-text_at-5-clause-none : goal.returns-in_err-text_at-5-clause-none
+returns-in_err-text_at-5-clause-none c = no_text receipt_shown 5 c.args.row.now c.from_residual-in_err-text_at-5.result c.in_err-text_at-5.field-0.0 c.from_residual-in_err-text_at-5.ensures.1 c.in_err-text_at-5.ensures.none (λ x. x.target) (λ x. refl)
+
+pub returns-in_err-number_at-2-clause-none : goal.returns-in_err-number_at-2-clause-none
+returns-in_err-number_at-2-clause-none c = no_number receipt_shown 6 c.args.row.now c.from_residual-in_err-number_at-2.result c.in_err-number_at-2.field-0.0 c.from_residual-in_err-number_at-2.ensures.1 c.in_err-number_at-2.ensures.none (λ x. x.n_tiles) (λ x. refl)
+
+pub returns-in_err-number_at-3-clause-none : goal.returns-in_err-number_at-3-clause-none
+returns-in_err-number_at-3-clause-none c = no_number receipt_shown 7 c.args.row.now c.from_residual-in_err-number_at-3.result c.in_err-number_at-3.field-0.0 c.from_residual-in_err-number_at-3.ensures.1 c.in_err-number_at-3.ensures.none (λ x. x.n_media) (λ x. refl)
+
+pub returns-in_err-number_at-4-clause-none : goal.returns-in_err-number_at-4-clause-none
+returns-in_err-number_at-4-clause-none c = no_number receipt_shown 8 c.args.row.now c.from_residual-in_err-number_at-4.result c.in_err-number_at-4.field-0.0 c.from_residual-in_err-number_at-4.ensures.1 c.in_err-number_at-4.ensures.none (λ x. x.n_rows) (λ x. refl)
+
+pub returns-in_err-number_at-5-clause-none : goal.returns-in_err-number_at-5-clause-none
+returns-in_err-number_at-5-clause-none c = no_number receipt_shown 9 c.args.row.now c.from_residual-in_err-number_at-5.result c.in_err-number_at-5.field-0.0 c.from_residual-in_err-number_at-5.ensures.1 c.in_err-number_at-5.ensures.none (λ x. x.n_links) (λ x. refl)
+
+pub returns-in_err-number_at-6-clause-none : goal.returns-in_err-number_at-6-clause-none
+returns-in_err-number_at-6-clause-none c = no_number receipt_shown 10 c.args.row.now c.from_residual-in_err-number_at-6.result c.in_err-number_at-6.field-0.0 c.from_residual-in_err-number_at-6.ensures.1 c.in_err-number_at-6.ensures.none (λ x. x.n_bytes) (λ x. refl)

@@ -1,8 +1,8 @@
 -- What serving the request says of the members, said of the world.
-use Rattle.std.proofs.Common.{refl, subst, Err}
+use Rattle.std.proofs.Common.{refl, sym, ap, ◌∙◌, subst, Err, inr}
 use Rattle.sheet_types.specs.declared.refusal.Refusal.TheVariants.{StoreFault}
 use Rattle.world.specs.Worlds.{IsStep}
-use Rattle.world.proofs.Keeping.{room_stays, held_after, step_unserved, step_replied, step_failed, still_replied, still_failed, opens_replied, opens_failed, no_trace_replied, no_trace_failed}
+use Rattle.world.proofs.Keeping.{room_stays, held_after, step_unserved, step_replied, step_failed, still_replied, still_failed, opens_replied, opens_failed, no_trace_replied, no_trace_failed, told_as_fault, usable_after}
 use Rattle.world.proofs.world.World.apply.Goals as goal
 
 pub invariant_of-self : goal.invariant_of-self
@@ -39,3 +39,13 @@ returns-in-Ok-clause-unharmed g c = no_trace_replied g.S.Store _ _ _ _ _ _ _ c.s
 
 pub returns-in-Err-clause-unharmed : goal.returns-in-Err-clause-unharmed
 returns-in-Err-clause-unharmed g c = no_trace_failed g.S.Store _ _ _ _ _ _ _ c.serve.ensures.serves c.self.inside.has_failed c.is_lasting-self-inside.result _ c.self.view_is c.in-Err.fault c.in-Err.is c.refusal.result c.is_lasting-self-inside.ensures
+
+-- a reply that is no fault does not raise the flag, and a fault owes nothing here
+pub returns-in-Ok-clause-usable : goal.returns-in-Ok-clause-usable
+returns-in-Ok-clause-usable g c = usable_after c.in-Ok.reply _ _ (sym (ap (λ s. s.has_failed) c.self.view_is) ∙ c.if-self.false) c.is_store_fault-self-inside.ensures
+
+pub returns-in-Err-clause-usable : goal.returns-in-Err-clause-usable
+returns-in-Err-clause-usable g c = λ no_fault. absurd (no_fault (told_as_fault c.in-Err.fault c.refusal.result c.refusal.ensures))
+
+pub returns-then-self-clause-usable : goal.returns-then-self-clause-usable
+returns-then-self-clause-usable g c = λ no_fault. absurd (no_fault (inr refl))

@@ -1,0 +1,85 @@
+-- A rehearsal, by what its import and its packages come to.
+use Rattle.std.proofs.Common.{◌≡◌, ◌≢◌, ◌∙◌, refl, sym, ap, subst, ℕ, List, ◌++◌, Option, Some, None, IfSome, IsSome, Result, Ok, Err, MatchResult, inl, inr, take, length, true, false}
+use Rattle.std.specs.Io.KnownBytes.{Appends}
+use Rattle.std.proofs.KnownBytes.{Appends-trans}
+use Rattle.sqlite.specs.Store.{Ghosts}
+use Rattle.sheet_types.specs.Step.{Run}
+use Rattle.sheet_types.specs.World.{World}
+use Rattle.sheet_types.specs.declared.command.Request.{Request}
+use Rattle.sheet_types.specs.declared.frame.Frame.{Frame}
+use Rattle.world.specs.Members.{AllClean}
+use Rattle.world.specs.Worlds.{Seen, StandsFor}
+use Rattle.manifest_csv.specs.Imports.{Imports, IsImported, IsWritten, IsWhyUnread, report_before}
+use Rattle.manifest_csv.specs.Reports.{report_of}
+use Rattle.manifest_csv.specs.RequestLists.{IsList}
+use Rattle.manifest_csv.specs.Sent.{WentOut, WentOutPast}
+use Rattle.manifest_csv.specs.declared.importing.ImportFault.{ImportFault}
+use Rattle.manifest_csv.specs.declared.importing.ImportFault.TheVariants.{Unread, Stopped as Interrupted, Unwritten}
+use Rattle.manifest_csv.specs.declared.lists.ReadFault.{ReadFault}
+use Rattle.manifest_csv.specs.declared.lists.ReadFault.TheVariants.{Header, Record, Read, Memory}
+use Rattle.manifest_csv.proofs.SentFacts.{went_out_past}
+use Rattle.cli.specs.Arguments.{Asks, IsFirstUnread}
+use Rattle.cli.specs.Endings.{import_outcome}
+use Rattle.cli.specs.Rehearsals.{Ran, IsComplete, report, printed, live_text, Writes, Stops, Rehearses}
+use Rattle.cli.specs.declared.statuses.What.{What}
+use Rattle.cli.specs.declared.statuses.What.TheVariants.{BadUuid, BadMoment, BadFrame, BadList}
+use Rattle.cli.specs.declared.statuses.Failure.{Failure}
+use Rattle.cli.specs.declared.statuses.Outcome.{Outcome}
+use Rattle.cli.specs.declared.statuses.Outcome.TheVariants.{Done, Stopped}
+use Rattle.cli.proofs.FrameTexts.{frame_once, in_range}
+
+module _ {S W : Type 0} (g : Ghosts S) (clean : (seen : Seen S) → AllClean g seen.members) (contents : W → Option (List ℕ)) (w : World) (text : Option (List ℕ)) (old new : Seen S) (stands : StandsFor g old w) where
+  -- what an import carried out, of the world that it began with
+  module _ (before after : Option (List ℕ)) (r : Result (Unit {0}) ImportFault) (requests : List Request) (list : IfSome text (λ t. IsList t requests)) (it : IsImported g requests old new before after r) where
+    abbrev ran_next : (next : World) × Run w (take (length it.replies) requests) it.replies next × StandsFor g new next
+    ran_next = it.ran.run (clean new) w stands
+
+    abbrev ran : Ran w text
+    ran = record { requests = requests; list = list; replies = it.replies; next = ran_next.0; some = it.some; run = ran_next.1 }
+
+  -- an import that did not go through
+  pub import_ended : (writer writer' : W) (fault : ImportFault) → Imports g text old new writer writer' (contents writer) (contents writer') (Err fault) → Rehearses w text writer writer' (contents writer) (contents writer') (import_outcome fault)
+  import_ended writer writer' (Unread Memory) it = inl it.2
+  import_ended writer writer' (Unread Header) it = (refl, it.2, (Header, (λ h. let e = h in cc), it.0))
+  import_ended writer writer' (Unread (Record n)) it = (refl, it.2, (Record n, (λ h. let e = h in cc), it.0))
+  import_ended writer writer' (Unread Read) it = (refl, it.2, (Read, (λ h. let e = h in cc), it.0))
+  import_ended writer writer' (Interrupted n why) it = inr (inl (ran (contents writer) (contents writer') (Err (Interrupted n why)) it.0 it.1 it.2, why, it.2.written.1, refl, it.2.written.2))
+  import_ended writer writer' Unwritten it = inr (inr (inl (ran (contents writer) (contents writer') (Err Unwritten) it.0 it.1 it.2, refl, it.2.written)))
+
+  -- an import that went through, and the packages after it
+  module _ {V : Type 0} (first end : V) (before mid after : Option (List ℕ)) (writer writer' : W) (x : Unit {0}) (it : Imports g text old new writer writer' before mid (Ok x)) (last : Seen S) where
+    abbrev carried : Ran w text
+    carried = ran before mid (Ok x) it.0 it.1 it.2
+
+    left : StandsFor g new carried.next
+    left = (ran_next before mid (Ok x) it.0 it.1 it.2).2
+
+    pub all_done : (y : Unit {0}) → Writes g live_text new last mid after (Ok y) → Rehearses w text first end before after Done
+    all_done y packages =
+        (carried, (it.2.written.0, it.2.written.1), Appends-trans before mid after (report carried) (live_text carried.next) it.2.written.2 (packages (clean last) carried.next left))
+
+    pub packages_failed : (failure : Failure) → Writes g live_text new last mid after (Err failure) → Rehearses w text first end before after (Stopped failure)
+    packages_failed failure packages =
+        inr (inr (inr (carried, (it.2.written.0, it.2.written.1), went_out_past before mid after (report carried) (live_text carried.next) it.2.written.2 (packages (clean last) carried.next left))))
+
+-- ---- what is due, in other words
+
+pub due_same : {S : Type 0} (g : Ghosts S) (due other : World → List ℕ) (old new : Seen S) (before after : Option (List ℕ)) (r : Result (Unit {0}) Failure) → ((w : World) → StandsFor g old w → due w ≡ other w) → Writes g due old new before after r → Writes g other old new before after r
+due_same g due other old new before after r same it = λ clean w stands. subst (λ t. MatchResult r (λ _. Appends before after t) (λ _. WentOut before after t)) (same w stands) (it clean w stands)
+
+-- ---- the words
+
+module _ (archive at frame uuid moment : List ℕ) (asked : Frame) (asks : Asks archive at frame uuid moment asked) where
+  -- words of which one cannot be read ask for nothing
+  pub asks_read : (what : What) → IsFirstUnread archive at frame what → ⊥
+  asks_read BadUuid unread = let none = unread in let named = asks.named in cc
+  asks_read BadMoment unread = let none = unread.1 in let timed = asks.timed in cc
+  asks_read BadFrame unread = unread.2 asked asks.framed
+  asks_read BadList unread = absurd unread
+
+  -- and words ask for one archive
+  pub one_asked : (uuid' moment' : List ℕ) (asked' : Frame) → Asks archive at frame uuid' moment' asked' → (uuid ≡ uuid') × (asked ≡ asked')
+  one_asked uuid' moment' asked' other =
+      let named = asks.named in
+      let named' = other.named in
+      (cc, frame_once asked asked' (in_range asked asks.framed.good) (in_range asked' other.framed.good) (sym asks.framed.written ∙ other.framed.written))
