@@ -1,8 +1,6 @@
 // What requests come to over two packages in memory, one after the other, each change taking its turn. What is expected follows from what each command asks for. The digest is that of `tile 2 3 1`, LF and `ab` by another program's SHA-256.
 ghost use Rattle.std.specs.Prelude.{IsTrue};
 ghost use Rattle.sheet_types.specs.Matrix.{is_good_frame};
-ghost use Rattle.sqlite.specs.Held.{state};
-ghost use Rattle.sql_meaning.specs.Transactions.{Rests};
 
 use matrix_rules::check::FrameRules;
 use package_tables::create::{Info, create};
@@ -12,6 +10,7 @@ use sheet_types::command::{Command, Content, Mapping, Request};
 use sheet_types::frame::Frame;
 use sheet_types::receipt::{Receipt, Sums};
 use sheet_types::refusal::Refusal;
+use sql_meaning::resting::is_at_rest;
 use sqlite::{Alter, Connection};
 use std::alloc::Global;
 use std::test::Fail;
@@ -54,12 +53,6 @@ fn unknown_package() -> Uuid {
     Uuid::from_u128(3)
 }
 
-fn guarded<S: Alter>(conn: &Connection<S>) -> bool
-    ensures { IsTrue result → Rests (state S.Store conn.now) }
-{
-    conn.is_autocommit()
-}
-
 fn is_good(frame: &Frame) -> bool
     ensures { IsTrue result → IsTrue (is_good_frame frame.now) }
 {
@@ -81,7 +74,7 @@ fn member<S: Alter + Drop>(
     conn: Connection<S>,
     uuid: Uuid,
 ) -> Result<Member<S>, Fault> {
-    if !guarded(&conn) {
+    if !is_at_rest(&conn) {
         return Err(Fault::StoreFault);
     }
     let info = Info {

@@ -1,7 +1,4 @@
 // A receipt that comes into a new package in memory. The expected rows follow from the columns of the profile.
-ghost use Rattle.std.specs.Prelude.{IsTrue};
-ghost use Rattle.sqlite.specs.Held.{state};
-ghost use Rattle.sql_meaning.specs.Transactions.{Rests};
 
 use crate::keeping::kept;
 use crate::{enter, names};
@@ -13,18 +10,13 @@ use package_tables::receipts::receipt_by_request;
 use sheet_types::collections::{MovedList, Text};
 use sheet_types::frame::Frame;
 use sheet_types::receipt::{Moved, MovedKind, Receipt};
+use sql_meaning::resting::is_at_rest;
 use sqlite::{Alter, Connection};
 use std::alloc::Global;
 use std::test::Fail;
 use uuid::Uuid;
 
 const AT: &str = "2026-11-22T09:00:00.000Z";
-
-fn guarded<S: Alter>(conn: &Connection<S>) -> bool
-    ensures { IsTrue result → Rests (state S.Store conn.now) }
-{
-    conn.is_autocommit()
-}
 
 fn text(alloc: Global, s: &str) -> Result<Text, Fault> {
     let mut inner = String::new(alloc);
@@ -92,7 +84,7 @@ fn give_back(alloc: Global) -> Result<Receipt, Fault> {
 }
 
 fn made<S: Alter + Drop>(alloc: Global, conn: Connection<S>) -> Result<Connection<S>, Fault> {
-    if !guarded(&conn) {
+    if !is_at_rest(&conn) {
         return Err(Fault::StoreFault);
     }
     let frame = Frame {
@@ -129,14 +121,14 @@ fn entered<S: Alter>(conn: &mut Connection<S>, receipt: &Receipt) -> Result<bool
 }
 
 fn is_named<S: Alter>(conn: &mut Connection<S>, identity: u128) -> Result<bool, Fault> {
-    if !guarded(conn) {
+    if !is_at_rest(conn) {
         return Err(Fault::StoreFault);
     }
     names(conn, Uuid::from_u128(identity))
 }
 
 fn receipt_row<S: Alter>(alloc: Global, conn: &mut Connection<S>) -> Result<String, Fault> {
-    if !guarded(conn) {
+    if !is_at_rest(conn) {
         return Err(Fault::StoreFault);
     }
     let Some(r) = receipt_by_request(conn, "00000000-0000-0000-0000-000000000009")? else {
@@ -155,7 +147,7 @@ fn receipt_row<S: Alter>(alloc: Global, conn: &mut Connection<S>) -> Result<Stri
 }
 
 fn moved_rows<S: Alter>(alloc: Global, conn: &mut Connection<S>) -> Result<String, Fault> {
-    if !guarded(conn) {
+    if !is_at_rest(conn) {
         return Err(Fault::StoreFault);
     }
     let mut told = String::new(alloc);
@@ -208,7 +200,7 @@ fn is_kept<S: Alter>(
     conn: &mut Connection<S>,
     receipt: &Receipt,
 ) -> Result<bool, Fault> {
-    if !guarded(conn) {
+    if !is_at_rest(conn) {
         return Err(Fault::StoreFault);
     }
     match kept(conn, alloc, receipt.request)? {
@@ -222,7 +214,7 @@ fn has_kept<S: Alter>(
     conn: &mut Connection<S>,
     request: u128,
 ) -> Result<bool, Fault> {
-    if !guarded(conn) {
+    if !is_at_rest(conn) {
         return Err(Fault::StoreFault);
     }
     let found = kept(conn, alloc, Uuid::from_u128(request))?;

@@ -1,8 +1,5 @@
 // What the changes do to the tables of a package in memory. The expected rows are written by hand, from what each change
 // is to put in or take out.
-ghost use Rattle.std.specs.Prelude.{IsTrue};
-ghost use Rattle.sqlite.specs.Held.{state};
-ghost use Rattle.sql_meaning.specs.Transactions.{Rests};
 
 use crate::additions::add;
 use crate::changes::{delete, link, unlink};
@@ -16,6 +13,7 @@ use package_tables::schema::create_schema;
 use package_tables::tiles::{all_tiles, insert_tile};
 use sheet_types::collections::{Bytes, Text};
 use sheet_types::command::{Content, Mapping, Relation};
+use sql_meaning::resting::is_at_rest;
 use sqlite::{Alter, Connection, Transaction};
 use std::alloc::Global;
 use std::test::Fail;
@@ -178,14 +176,8 @@ fn a_row(alloc: Global) -> Result<Content, Fault> {
 
 // ---- the tables as texts, on a connection that is at rest
 
-fn guarded<S: Alter>(conn: &Connection<S>) -> bool
-    ensures { IsTrue result → Rests (state S.Store conn.now) }
-{
-    conn.is_autocommit()
-}
-
 fn tiles<S: Alter>(alloc: Global, conn: &mut Connection<S>) -> Result<String, Fault> {
-    if !guarded(conn) {
+    if !is_at_rest(conn) {
         return Err(Fault::StoreFault);
     }
     let mut told = String::new(alloc);
@@ -196,7 +188,7 @@ fn tiles<S: Alter>(alloc: Global, conn: &mut Connection<S>) -> Result<String, Fa
 }
 
 fn media<S: Alter>(alloc: Global, conn: &mut Connection<S>) -> Result<String, Fault> {
-    if !guarded(conn) {
+    if !is_at_rest(conn) {
         return Err(Fault::StoreFault);
     }
     let mut told = String::new(alloc);
@@ -207,7 +199,7 @@ fn media<S: Alter>(alloc: Global, conn: &mut Connection<S>) -> Result<String, Fa
 }
 
 fn attributes<S: Alter>(alloc: Global, conn: &mut Connection<S>) -> Result<String, Fault> {
-    if !guarded(conn) {
+    if !is_at_rest(conn) {
         return Err(Fault::StoreFault);
     }
     let mut told = String::new(alloc);
@@ -218,7 +210,7 @@ fn attributes<S: Alter>(alloc: Global, conn: &mut Connection<S>) -> Result<Strin
 }
 
 fn tiles_media<S: Alter>(alloc: Global, conn: &mut Connection<S>) -> Result<String, Fault> {
-    if !guarded(conn) {
+    if !is_at_rest(conn) {
         return Err(Fault::StoreFault);
     }
     let mut told = String::new(alloc);
@@ -229,7 +221,7 @@ fn tiles_media<S: Alter>(alloc: Global, conn: &mut Connection<S>) -> Result<Stri
 }
 
 fn rows_media<S: Alter>(alloc: Global, conn: &mut Connection<S>) -> Result<String, Fault> {
-    if !guarded(conn) {
+    if !is_at_rest(conn) {
         return Err(Fault::StoreFault);
     }
     let mut told = String::new(alloc);
@@ -241,7 +233,7 @@ fn rows_media<S: Alter>(alloc: Global, conn: &mut Connection<S>) -> Result<Strin
 
 // Each identity as its kind and its local number.
 fn identities<S: Alter>(alloc: Global, conn: &mut Connection<S>) -> Result<String, Fault> {
-    if !guarded(conn) {
+    if !is_at_rest(conn) {
         return Err(Fault::StoreFault);
     }
     let mut told = String::new(alloc);
@@ -257,7 +249,7 @@ fn medium_bytes<S: Alter>(
     conn: &mut Connection<S>,
     identity: Uuid,
 ) -> Result<Vec<u8>, Fault> {
-    if !guarded(conn) {
+    if !is_at_rest(conn) {
         return Err(Fault::StoreFault);
     }
     match find(conn, identity)? {

@@ -1,7 +1,4 @@
 // A package that was just made, in memory: nothing is found in it, and what is put into it is.
-ghost use Rattle.std.specs.Prelude.{IsTrue};
-ghost use Rattle.sqlite.specs.Held.{state};
-ghost use Rattle.sql_meaning.specs.Transactions.{Rests};
 
 use crate::additions::add;
 use crate::creation::create;
@@ -12,20 +9,15 @@ use sheet_types::collections::Bytes;
 use sheet_types::command::Content;
 use sheet_types::frame::Frame;
 use sheet_types::receipt::MovedKind;
+use sql_meaning::resting::is_at_rest;
 use sqlite::{Alter, Connection};
 use std::alloc::Global;
 use std::test::Fail;
 use uuid::Uuid;
 
-fn guarded<S: Alter>(conn: &Connection<S>) -> bool
-    ensures { IsTrue result → Rests (state S.Store conn.now) }
-{
-    conn.is_autocommit()
-}
-
 // A loan of the package 1, of the frame 25832, 4096 by 4096, three levels of tiles of 256 pixels.
 fn made<S: Alter + Drop>(alloc: Global, conn: Connection<S>) -> Result<Connection<S>, Fault> {
-    if !guarded(&conn) {
+    if !is_at_rest(&conn) {
         return Err(Fault::StoreFault);
     }
     let frame = Frame {
@@ -68,7 +60,7 @@ fn added<S: Alter>(alloc: Global, conn: &mut Connection<S>) -> Result<bool, Faul
 }
 
 fn is_found<S: Alter>(conn: &mut Connection<S>) -> Result<bool, Fault> {
-    if !guarded(conn) {
+    if !is_at_rest(conn) {
         return Err(Fault::StoreFault);
     }
     match find(conn, Uuid::from_u128(9))? {
@@ -81,21 +73,21 @@ fn is_found<S: Alter>(conn: &mut Connection<S>) -> Result<bool, Fault> {
 }
 
 fn kind<S: Alter>(conn: &mut Connection<S>) -> Result<Option<MovedKind>, Fault> {
-    if !guarded(conn) {
+    if !is_at_rest(conn) {
         return Err(Fault::StoreFault);
     }
     kind_of_item(conn, Uuid::from_u128(9))
 }
 
 fn linked<S: Alter>(conn: &mut Connection<S>) -> Result<bool, Fault> {
-    if !guarded(conn) {
+    if !is_at_rest(conn) {
         return Err(Fault::StoreFault);
     }
     is_linked(conn, Uuid::from_u128(9))
 }
 
 fn placed<S: Alter>(conn: &mut Connection<S>) -> Result<bool, Fault> {
-    if !guarded(conn) {
+    if !is_at_rest(conn) {
         return Err(Fault::StoreFault);
     }
     has_tile_at(conn, 2, 3, 1)

@@ -1,8 +1,5 @@
 // The moment of the last change of a package that was just made, in memory. What is expected is the three tables of the
 // contents by their names, the bounds and the reference system of the frame, and the moment that was given.
-ghost use Rattle.std.specs.Prelude.{IsTrue};
-ghost use Rattle.sqlite.specs.Held.{state};
-ghost use Rattle.sql_meaning.specs.Transactions.{Rests};
 
 use crate::creation::create;
 use crate::dating::date_contents;
@@ -11,6 +8,7 @@ use package_tables::fault::Fault;
 use package_tables::fixed::all_contents;
 use package_tables::head::all_heads;
 use sheet_types::frame::Frame;
+use sql_meaning::resting::is_at_rest;
 use sqlite::{Alter, Connection};
 use std::alloc::Global;
 use std::test::Fail;
@@ -20,15 +18,9 @@ const MADE: &str = "2026-11-22T09:00:00.000Z";
 
 const CHANGED: &str = "2027-01-02T03:04:05.006Z";
 
-fn guarded<S: Alter>(conn: &Connection<S>) -> bool
-    ensures { IsTrue result → Rests (state S.Store conn.now) }
-{
-    conn.is_autocommit()
-}
-
 // An archive of the frame 3857, 8192 by 4096 from (-4096, -2048), one level of tiles of 256 pixels.
 fn made<S: Alter + Drop>(alloc: Global, conn: Connection<S>) -> Result<Connection<S>, Fault> {
-    if !guarded(&conn) {
+    if !is_at_rest(&conn) {
         return Err(Fault::StoreFault);
     }
     let frame = Frame {
@@ -66,11 +58,11 @@ fn changed<S: Alter>(conn: &mut Connection<S>) -> Result<(), Fault> {
 
 // The rows of the contents, a line each, and then the moment of each head.
 fn told<S: Alter>(alloc: Global, conn: &mut Connection<S>) -> Result<String, Fault> {
-    if !guarded(conn) {
+    if !is_at_rest(conn) {
         return Err(Fault::StoreFault);
     }
     let rows = all_contents(conn, alloc)?;
-    if !guarded(conn) {
+    if !is_at_rest(conn) {
         return Err(Fault::StoreFault);
     }
     let heads = all_heads(conn, alloc)?;

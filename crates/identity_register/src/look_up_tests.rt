@@ -1,8 +1,5 @@
 // What the look-ups answer of packages in memory: a tile with a medium and a row that is linked to nothing, and a row with a
 // medium beside a tile and another row that are linked to nothing. What is expected follows from what was put in.
-ghost use Rattle.std.specs.Prelude.{IsTrue};
-ghost use Rattle.sqlite.specs.Held.{state};
-ghost use Rattle.sql_meaning.specs.Transactions.{Rests};
 
 use crate::look_ups::{find, has_link, has_tile_at, is_linked, kind_of_item};
 use package_tables::attributes::insert_attribute;
@@ -14,15 +11,10 @@ use package_tables::schema::create_schema;
 use package_tables::tiles::insert_tile;
 use sheet_types::command::{Content, Mapping, Relation};
 use sheet_types::receipt::MovedKind;
+use sql_meaning::resting::is_at_rest;
 use sqlite::{Alter, Connection};
 use std::test::Fail;
 use uuid::Uuid;
-
-fn guarded<S: Alter>(conn: &Connection<S>) -> bool
-    ensures { IsTrue result → Rests (state S.Store conn.now) }
-{
-    conn.is_autocommit()
-}
 
 fn filled<S: Alter>(conn: &mut Connection<S>) -> Result<bool, Fault> {
     if !conn.is_autocommit() {
@@ -62,21 +54,21 @@ fn filled_with_rows<S: Alter>(conn: &mut Connection<S>) -> Result<bool, Fault> {
 }
 
 fn kind<S: Alter>(conn: &mut Connection<S>, id: u128) -> Result<Option<MovedKind>, Fault> {
-    if !guarded(conn) {
+    if !is_at_rest(conn) {
         return Err(Fault::StoreFault);
     }
     kind_of_item(conn, Uuid::from_u128(id))
 }
 
 fn linked<S: Alter>(conn: &mut Connection<S>, id: u128) -> Result<bool, Fault> {
-    if !guarded(conn) {
+    if !is_at_rest(conn) {
         return Err(Fault::StoreFault);
     }
     is_linked(conn, Uuid::from_u128(id))
 }
 
 fn placed<S: Alter>(conn: &mut Connection<S>, column: i64, row: i64) -> Result<bool, Fault> {
-    if !guarded(conn) {
+    if !is_at_rest(conn) {
         return Err(Fault::StoreFault);
     }
     has_tile_at(conn, 2, column, row)
@@ -88,7 +80,7 @@ fn related<S: Alter>(
     base: u128,
     media: u128,
 ) -> Result<bool, Fault> {
-    if !guarded(conn) {
+    if !is_at_rest(conn) {
         return Err(Fault::StoreFault);
     }
     has_link(
@@ -102,7 +94,7 @@ fn related<S: Alter>(
 }
 
 fn code<S: Alter>(conn: &mut Connection<S>, id: u128) -> Result<i64, Fault> {
-    if !guarded(conn) {
+    if !is_at_rest(conn) {
         return Err(Fault::StoreFault);
     }
     match find(conn, Uuid::from_u128(id))? {

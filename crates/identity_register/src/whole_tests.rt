@@ -1,8 +1,5 @@
 // Whole packages in memory, read back. What is expected follows from what was put in: items by kind and UUID, links by
 // mapping, base and medium, however the local numbers stand.
-ghost use Rattle.std.specs.Prelude.{IsTrue};
-ghost use Rattle.sqlite.specs.Held.{state};
-ghost use Rattle.sql_meaning.specs.Transactions.{Rests};
 
 use crate::changes::{link, unlink};
 use crate::whole::holdings;
@@ -13,22 +10,17 @@ use package_tables::media::insert_medium;
 use package_tables::schema::create_schema;
 use package_tables::tiles::insert_tile;
 use sheet_types::command::{Content, Item, Mapping, Relation};
+use sql_meaning::resting::is_at_rest;
 use sqlite::{Alter, Connection, Transaction};
 use std::alloc::Global;
 use std::test::Fail;
 use uuid::Uuid;
 
-fn guarded<S: Alter>(conn: &Connection<S>) -> bool
-    ensures { IsTrue result → Rests (state S.Store conn.now) }
-{
-    conn.is_autocommit()
-}
-
 fn held<S: Alter>(
     alloc: Global,
     conn: &mut Connection<S>,
 ) -> Result<(Vec<Item>, Vec<Relation>), Fault> {
-    if !guarded(conn) {
+    if !is_at_rest(conn) {
         return Err(Fault::StoreFault);
     }
     holdings(conn, alloc)

@@ -144,22 +144,6 @@ module _ {R : Type 0} {shape : Shape R} {list : Tables → List R} {shown : R �
       pub tells_one : (result : Result (Option R) Fault) → AreSaid items (HasHead shown) answer result → Tells (λ t. IsOneOf keeps (list t)) old new result
       tells_one result said = tells items (HasHead shown) (λ t. IsOneOf keeps (list t)) first_means old new answer result shows fails said
 
-      pub tells_all : {X : Type 0} (of : X → List R) (result : Result X Fault) → AreSaid items (λ rows x. AreShown shown rows (of x)) answer result → Tells (λ t x. AreThose keeps (list t) (of x)) old new result
-      tells_all of result said =
-          tells items (λ rows x. AreShown shown rows (of x)) (λ t x. AreThose keeps (list t) (of x)) (λ db formed rows listing x are. all_mean db formed rows listing (of x) are) old new answer result shows fails said
-
-      -- every row, in order
-      pub tells_in_order : {X : Type 0} (every : (x : R) → keeps x ≡ true) {cmp : R → R → Ordering} (ranked : IsRanked read cmp) (of : X → List R) (result : Result X Fault) → AreSaid items (λ rows x. AreShown shown rows (of x)) answer result
-          → Tells (λ t x. AreAll cmp (list t) (of x)) old new result
-      tells_in_order every {cmp} ranked of result said =
-          tells items (λ rows x. AreShown shown rows (of x)) (λ t x. AreAll cmp (list t) (of x)) (λ db formed rows listing x are. in_order_mean every ranked db formed rows listing (of x) are) old new answer result shows fails said
-
-      -- all rows that pass, in the order of a number
-      pub tells_ranked : {X : Type 0} (of : X → List R) (number : R → ℤ) → ((there rows : List Row) → IsListing read.listing.key read.listing.shown read.listing.by there rows → (xs : List R) → AreShown shown rows xs → Rises number xs)
-          → (result : Result X Fault) → AreSaid items (λ rows x. AreShown shown rows (of x)) answer result → Tells (λ t x. AreThose keeps (list t) (of x) × Rises number (of x)) old new result
-      tells_ranked of number rank result said =
-          tells items (λ rows x. AreShown shown rows (of x)) (λ t x. AreThose keeps (list t) (of x) × Rises number (of x)) (λ db formed rows listing x are. ranked_mean number rank db formed rows listing (of x) are) old new answer result shows fails said
-
     module _ {S : Type 0} (g : Ghosts S) (shuts : Shuts g) (settles : Settles g) (old new : Held S) (rests : Rests (state g old)) (answer : Result Y Error) (ok : HasCleanDisk (state g new) → IfOk answer (λ y. Shown text given (state g old) (state g new) (items y)))
         (err : HasCleanDisk (state g new) → IfErr answer (FailsToQuery text given (state g old) (state g new))) (mode : old.in_transaction ≡ false → new.in_transaction ≡ false)
         (survives : Survives (state g old) (state g new) (CommitsShowing text given (state g old))) where

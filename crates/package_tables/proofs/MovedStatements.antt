@@ -65,31 +65,6 @@ moved_of_plan tree schema at h = rw (h.stored, h.by_tree) refl
 pub moved_of : (seq : ℤ) → IsRead moved_shape moved_shown (codes "SELECT * FROM sheet_items WHERE seq = ?1 ORDER BY position") (Int seq ∷ []) (λ x. int_eq x.seq seq)
 moved_of seq = record { test = _; by = _; selects = moved_of_text; planned = moved_of_plan; given = refl; listing = _; is = λ tree. refl; shows = λ v x. refl; passing = λ v x. same_number x.seq seq }
 
-moved_with_base_text : (tree : ℕ) → IsSelect (codes "SELECT * FROM sheet_items WHERE base = ?1") (sheet_items tree) (equals 3 0) []
-unfolding everything
-moved_with_base_text tree = record {
-  parse = _;
-  asks = _;
-  src = _;
-  item = _;
-  parsed = refl;
-  statement = refl;
-  formats = refl;
-  one = one_table refl refl refl refl refl refl refl refl refl refl refl refl refl refl refl;
-  condition = (_, refl, (_, _, _, _, refl, refl, refl, refl, refl, refl, refl));
-  enough = refl;
-  few = λ at. refl;
-  some = λ at. refl;
-  sorted = λ schema at. (_, refl, refl);
-}
-
-moved_with_base_plan : (tree : ℕ) → IsPlannedSelect (sheet_items tree) (equals 3 0) []
-unfolding resolving
-moved_with_base_plan tree schema at h = rw (h.stored, h.by_tree) refl
-
-pub moved_with_base : (base : List ℕ) → IsRead moved_shape moved_shown (codes "SELECT * FROM sheet_items WHERE base = ?1") (Text base ∷ []) (λ x. bytes_eq x.base base)
-moved_with_base base = record { test = _; by = _; selects = moved_with_base_text; planned = moved_with_base_plan; given = refl; listing = _; is = λ tree. refl; shows = λ v x. refl; passing = λ v x. same_text x.base base }
-
 all_moved_text : (tree : ℕ) → IsSelect (codes "SELECT * FROM sheet_items ORDER BY seq") (sheet_items tree) always ((col 1 1, ascending) ∷ [])
 unfolding everything
 all_moved_text tree = record {

@@ -1,5 +1,5 @@
--- From `SELECT * .. ORDER BY id DESC LIMIT 1` to the greatest number of the rows that pass, inside a transaction and at rest.
-use Rattle.std.proofs.Common.{◌≡◌, ◌⊎◌, inl, inr, ℕ, ℤ, ◌≤ℤ◌, List, [], ◌∷◌, map, Bool, true, false, Option, Some, None, Result, Ok, Err, IsTrue, refl, sym, ap, subst, ◌∙◌, Ordering, Less, Equal, Greater, arith, suc}
+-- From `SELECT * .. ORDER BY id DESC LIMIT 1` to the greatest number of the rows that pass, inside a transaction.
+use Rattle.std.proofs.Common.{◌≡◌, ◌⊎◌, inl, inr, ℕ, ℤ, ◌≤ℤ◌, List, [], ◌∷◌, map, Bool, true, false, Option, Some, None, Result, Ok, Err, sym, ap, subst, ◌∙◌, Ordering, Less, Equal, Greater, arith, suc}
 use Rattle.std.specs.Prelude.{filter, IfOk, IfErr, Contains, ◌<ℤ◌}
 use Rattle.std.specs.List.{AllByRecursion}
 use Rattle.std.specs.Ordering.{is_gt, int_cmp, MatchOrdering}
@@ -17,27 +17,23 @@ use Rattle.sqlite_value.specs.declared.keys.Key.{Key}
 use Rattle.sqlite.specs.Order.{Row, column}
 use Rattle.sqlite.specs.Term.{Term}
 use Rattle.sqlite.specs.Tree.{rowid}
-use Rattle.sqlite.specs.Store.{Ghosts}
 use Rattle.sqlite.specs.Effect.{Database}
-use Rattle.sqlite.specs.Held.{Held, state}
 use Rattle.sqlite.specs.declared.error.Error.{Error}
 use Rattle.sqlite.specs.declared.types.Value.{Value}
 use Rattle.sqlite.specs.declared.types.Value.TheVariants.{Int}
-use Rattle.sqlite.specs.State.{State, HasCleanDisk, Survives, IsUnchanged, Shown, FailsToQuery, IsTooLate, CommitsShowing}
+use Rattle.sqlite.specs.State.{State, HasCleanDisk, IsUnchanged, Shown, FailsToQuery, IsTooLate}
 use Rattle.sqlite_trees.proofs.ListLemmas.{map-map}
 use Rattle.sheet_types.specs.Ordered.{arranged}
 use Rattle.sheet_types.proofs.Order.{All-arranged}
 use Rattle.sql_meaning.specs.Reading.{Test, Listing, ShowsFirst, FindsFirst, descending}
-use Rattle.sql_meaning.specs.Transactions.{Rests}
 use Rattle.sql_meaning.proofs.Select.{listing_of}
-use Rattle.sql_meaning.proofs.First.{IsFirst, IsPlannedFirst, first_found, first_looks}
+use Rattle.sql_meaning.proofs.First.{IsFirst, IsPlannedFirst, first_found}
 use Rattle.sql_meaning.proofs.Where.{are_given}
 use Rattle.sql_meaning.proofs.Greatest.{greatest_of}
-use Rattle.sql_meaning.proofs.Transactions.{Shuts, Settles}
 use Rattle.sql_meaning.proofs.Answering.{shown_unchanged, failed_unchanged}
 use Rattle.package_tables.specs.Shape.{Shape, IsStored, stored_rows}
 use Rattle.package_tables.specs.Package.{Tables, tables_of, AreFormed}
-use Rattle.package_tables.specs.Calls.{TellsInside, Tells, Answers, LooksUp, IsGreatest}
+use Rattle.package_tables.specs.Calls.{TellsInside, Tells, IsGreatest}
 use Rattle.package_tables.specs.Shown.{BeginsWith}
 use Rattle.package_tables.specs.declared.fault.Fault.{Fault}
 use Rattle.package_tables.proofs.Shapes.{rows_placed, arranged-filter, all_filter}
@@ -116,12 +112,11 @@ module _ {R : Type 0} {shape : Shape R} {list : Tables → List R} {shown' : R �
       subst (λ k. IsGreatest number k found) (kept ∙ ap (filter keeps) (sym (known.lists db)))
       (greatest_in shape number newest.shown newest.begins newest.keyed (filter newest.pass there) rows (all_filter (IsStored shape) newest.pass there f.stored) found head shows)
 
-  -- inside a transaction; the parameters as they are bound
-  pub tells_greatest : {Y : Type 0} (items : Y → List Row) (given : Row) (same : given ≡ params) (old new : State) (answer : Result Y Error) → (HasCleanDisk new → IfOk answer (λ y. Shown text given old new (items y)))
-      → (HasCleanDisk new → IfErr answer (λ e. FailsToQuery text given old new e ⊎ IsTooLate text given old new e)) → (result : Result (Option ℤ) Fault) → AreSaid items BeginsWith answer result
+  -- inside a transaction
+  tells_greatest : {Y : Type 0} (items : Y → List Row) (old new : State) (answer : Result Y Error) → (HasCleanDisk new → IfOk answer (λ y. Shown text params old new (items y)))
+      → (HasCleanDisk new → IfErr answer (λ e. FailsToQuery text params old new e ⊎ IsTooLate text params old new e)) → (result : Result (Option ℤ) Fault) → AreSaid items BeginsWith answer result
       → Tells (λ t. IsGreatest number (filter keeps (list t))) old new result
-  tells_greatest {Y} items given same old new answer ok err result said clean =
-      at answer result (subst (λ p. IfOk answer (λ y. Shown text p old new (items y))) same (ok clean)) (subst (λ p. IfErr answer (λ e. FailsToQuery text p old new e ⊎ IsTooLate text p old new e)) same (err clean)) said
+  tells_greatest {Y} items old new answer ok err result said clean = at answer result (ok clean) (err clean) said
     where
       bare : (rows : List Row) → Shown text params old new rows → IsUnchanged old new
       bare rows showing = shown_unchanged text (newest.selects 0).parse (newest.selects 0).asks (newest.selects 0).parsed (newest.selects 0).statement params old new rows showing
@@ -140,21 +135,4 @@ module _ {R : Type 0} {shape : Shape R} {list : Tables → List R} {shown' : R �
       → (HasCleanDisk new → IfErr answer (λ e. FailsToQuery text params old new e ⊎ IsTooLate text params old new e)) → (result : Result (Option ℤ) Fault) → AreSaid items BeginsWith answer result → Tells (λ t. IsGreatest number (list t)) old new result
   tells_greatest_of_all every items old new answer ok err result said =
       let whole : (λ t. filter keeps (list t)) ≡ list = λ i. λ t. filter_every every (list t) i in
-      subst (λ (of : Tables → List R). Tells (λ t. IsGreatest number (of t)) old new result) whole (tells_greatest items params refl old new answer ok err result said)
-
-  -- at rest; the parameters as they are bound
-  pub looks_greatest : {S Y : Type 0} (items : Y → List Row) (given : Row) (same : given ≡ params) (g : Ghosts S) (shuts : Shuts g) (settles : Settles g) (old new : Held S) (rests : Rests (state g old)) (answer : Result Y Error)
-      → (HasCleanDisk (state g new) → IfOk answer (λ y. Shown text given (state g old) (state g new) (items y))) → (HasCleanDisk (state g new) → IfErr answer (FailsToQuery text given (state g old) (state g new)))
-      → (old.in_transaction ≡ false → new.in_transaction ≡ false) → Survives (state g old) (state g new) (CommitsShowing text given (state g old)) → (result : Result (Option ℤ) Fault) → AreSaid items BeginsWith answer result
-      → LooksUp (λ t. IsGreatest number (filter keeps (list t))) (state g old) (state g new) result
-  looks_greatest {S} {Y} items given same g shuts settles old new rests answer ok err mode survives result said =
-      let found = first_looks text shape.table newest.test newest.by newest.selects newest.planned params newest.given listing newest.is g shuts settles items old new rests answer
-      (subst (λ p. HasCleanDisk (state g new) → IfOk answer (λ y. Shown text p (state g old) (state g new) (items y))) same ok)
-      (subst (λ p. HasCleanDisk (state g new) → IfErr answer (FailsToQuery text p (state g old) (state g new))) same err) mode (subst (λ p. Survives (state g old) (state g new) (CommitsShowing text p (state g old))) same survives) in
-      record { rests = found.rests; done = λ clean. at answer result (found.done clean) said; was_open = found.was_open; holds = found.holds; survives = found.survives }
-    where
-      at : (answer : Result Y Error) (result : Result (Option ℤ) Fault) → IfOk answer (λ y. IsTrue (state g new).is_open × FindsFirst shape.table listing (items y) (state g old).now (state g new).now) → AreSaid items BeginsWith answer result
-          → IfOk result (λ x. IsTrue (state g new).is_open × Answers (λ t. IsGreatest number (filter keeps (list t))) x (state g old).now (state g new).now)
-      at (Ok y) (Ok x) found said = (found.0, (found.1.same, λ formed. answered (state g old).now (state g new).now formed (items y) found.1 x said))
-      at (Err e) (Ok x) found said = absurd said
-      at answer (Err f) found said = tt
+      subst (λ (of : Tables → List R). Tells (λ t. IsGreatest number (of t)) old new result) whole (tells_greatest items old new answer ok err result said)

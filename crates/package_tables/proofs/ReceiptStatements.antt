@@ -1,5 +1,5 @@
 -- The statements on `sheet_receipts`.
-use Rattle.std.proofs.Common.{ℕ, ℤ, List, [], ◌∷◌, codes, refl}
+use Rattle.std.proofs.Common.{ℕ, List, [], ◌∷◌, codes, refl}
 use Rattle.sqlite.specs.Order.{Row}
 use Rattle.sqlite.specs.declared.types.Value.TheVariants.{Int, Null, Text}
 use Rattle.sqlite_tied.specs.Compute.{everything}
@@ -9,18 +9,15 @@ use Rattle.package_tables.specs.Shapes.{receipt_shape}
 use Rattle.package_tables.specs.declared.rows.ReceiptRow.{ReceiptRow}
 use Rattle.std.proofs.Common.{true}
 use Rattle.std.specs.Prelude.{bytes_eq}
-use Rattle.std.specs.Ordering.{int_eq}
 use Rattle.sqlite.specs.Term.{col}
 use Rattle.sql_meaning.specs.Resolving.{resolving}
-use Rattle.sql_meaning.specs.Reading.{equals, always, ascending, descending}
-use Rattle.sql_meaning.proofs.Resolve.{one_table, one_source}
+use Rattle.sql_meaning.specs.Reading.{equals, always, ascending}
+use Rattle.sql_meaning.proofs.Resolve.{one_table}
 use Rattle.sql_meaning.proofs.Select.{IsSelect, IsPlannedSelect}
-use Rattle.sql_meaning.proofs.First.{IsFirst, IsPlannedFirst}
-use Rattle.package_tables.proofs.Newest.{IsNewest}
 use Rattle.package_tables.specs.Shapes.{int_at, text_at}
 use Rattle.package_tables.specs.Shown.{receipt_shown}
 use Rattle.package_tables.proofs.Looking.{IsKnown, IsRead}
-use Rattle.package_tables.proofs.Values.{same_number, same_text}
+use Rattle.package_tables.proofs.Values.{same_text}
 use Rattle.package_tables.proofs.Written.{receipt_shape_is}
 use Rattle.std.specs.Ordering.{on, int_cmp}
 use Rattle.std.proofs.lemmas.Cmp.{on_total, int_cmp_total}
@@ -62,31 +59,6 @@ receipt_by_request_plan tree schema at h = rw (h.stored, h.by_tree) refl
 pub receipt_by_request : (request : List ℕ) → IsRead receipt_shape receipt_shown (codes "SELECT * FROM sheet_receipts WHERE request = ?1") (Text request ∷ []) (λ x. bytes_eq x.request request)
 receipt_by_request request = record { test = _; by = _; selects = receipt_by_request_text; planned = receipt_by_request_plan; given = refl; listing = _; is = λ tree. refl; shows = λ v x. refl; passing = λ v x. same_text x.request request }
 
-receipt_by_seq_text : (tree : ℕ) → IsSelect (codes "SELECT * FROM sheet_receipts WHERE seq = ?1") (sheet_receipts tree) (equals 0 0) []
-unfolding everything
-receipt_by_seq_text tree = record {
-  parse = _;
-  asks = _;
-  src = _;
-  item = _;
-  parsed = refl;
-  statement = refl;
-  formats = refl;
-  one = one_table refl refl refl refl refl refl refl refl refl refl refl refl refl refl refl;
-  condition = (_, refl, (_, _, _, _, refl, refl, refl, refl, refl, refl, refl));
-  enough = refl;
-  few = λ at. refl;
-  some = λ at. refl;
-  sorted = λ schema at. (_, refl, refl);
-}
-
-receipt_by_seq_plan : (tree : ℕ) → IsPlannedSelect (sheet_receipts tree) (equals 0 0) []
-unfolding resolving
-receipt_by_seq_plan tree schema at h = rw (h.stored, h.by_tree) refl
-
-pub receipt_by_seq : (seq : ℤ) → IsRead receipt_shape receipt_shown (codes "SELECT * FROM sheet_receipts WHERE seq = ?1") (Int seq ∷ []) (λ x. int_eq x.seq seq)
-receipt_by_seq seq = record { test = _; by = _; selects = receipt_by_seq_text; planned = receipt_by_seq_plan; given = refl; listing = _; is = λ tree. refl; shows = λ v x. refl; passing = λ v x. same_number x.seq seq }
-
 all_receipts_text : (tree : ℕ) → IsSelect (codes "SELECT * FROM sheet_receipts ORDER BY seq") (sheet_receipts tree) always ((col 1 0, ascending) ∷ [])
 unfolding everything
 all_receipts_text tree = record {
@@ -111,58 +83,6 @@ all_receipts_plan tree schema at h = rw (h.stored, h.by_tree) refl
 
 pub all_receipts : IsRead receipt_shape receipt_shown (codes "SELECT * FROM sheet_receipts ORDER BY seq") [] (λ x. true)
 all_receipts = record { test = _; by = _; selects = all_receipts_text; planned = all_receipts_plan; given = refl; listing = _; is = λ tree. refl; shows = λ v x. refl; passing = λ v x. refl }
-
-newest_from_text : (tree : ℕ) → IsFirst (codes "SELECT * FROM sheet_receipts WHERE source = ?1 ORDER BY seq DESC LIMIT 1") (sheet_receipts tree) (equals 4 0) ((col 1 0, descending) ∷ [])
-unfolding everything
-newest_from_text tree = record {
-  parse = _;
-  asks = _;
-  src = _;
-  item = _;
-  parsed = refl;
-  statement = refl;
-  formats = refl;
-  one = one_source refl refl refl refl refl refl refl refl refl refl refl refl refl;
-  paged = λ schema. refl;
-  condition = (_, refl, (_, _, _, _, refl, refl, refl, refl, refl, refl, refl));
-  enough = refl;
-  few = λ at. refl;
-  some = λ at. refl;
-  sorted = λ schema at. (_, refl, refl);
-}
-
-newest_from_plan : (tree : ℕ) → IsPlannedFirst (sheet_receipts tree) (equals 4 0) ((col 1 0, descending) ∷ [])
-unfolding resolving
-newest_from_plan tree schema at h = rw (h.stored, h.by_tree) refl
-
-pub newest_from : (source : List ℕ) → IsNewest receipt_shape (λ x. x.seq) (codes "SELECT * FROM sheet_receipts WHERE source = ?1 ORDER BY seq DESC LIMIT 1") (Text source ∷ []) (λ x. bytes_eq x.source source)
-newest_from source = record { test = _; by = _; selects = newest_from_text; planned = newest_from_plan; given = refl; pass = _; shown = _; is = λ tree. refl; passing = λ v x. same_text x.source source; begins = λ v x. refl; keyed = λ v x. refl }
-
-newest_to_text : (tree : ℕ) → IsFirst (codes "SELECT * FROM sheet_receipts WHERE target = ?1 ORDER BY seq DESC LIMIT 1") (sheet_receipts tree) (equals 5 0) ((col 1 0, descending) ∷ [])
-unfolding everything
-newest_to_text tree = record {
-  parse = _;
-  asks = _;
-  src = _;
-  item = _;
-  parsed = refl;
-  statement = refl;
-  formats = refl;
-  one = one_source refl refl refl refl refl refl refl refl refl refl refl refl refl;
-  paged = λ schema. refl;
-  condition = (_, refl, (_, _, _, _, refl, refl, refl, refl, refl, refl, refl));
-  enough = refl;
-  few = λ at. refl;
-  some = λ at. refl;
-  sorted = λ schema at. (_, refl, refl);
-}
-
-newest_to_plan : (tree : ℕ) → IsPlannedFirst (sheet_receipts tree) (equals 5 0) ((col 1 0, descending) ∷ [])
-unfolding resolving
-newest_to_plan tree schema at h = rw (h.stored, h.by_tree) refl
-
-pub newest_to : (target : List ℕ) → IsNewest receipt_shape (λ x. x.seq) (codes "SELECT * FROM sheet_receipts WHERE target = ?1 ORDER BY seq DESC LIMIT 1") (Text target ∷ []) (λ x. bytes_eq x.target target)
-newest_to target = record { test = _; by = _; selects = newest_to_text; planned = newest_to_plan; given = refl; pass = _; shown = _; is = λ tree. refl; passing = λ v x. same_text x.target target; begins = λ v x. refl; keyed = λ v x. refl }
 
 pub all_receipts_ranked : IsRanked all_receipts (on (λ x. x.seq) int_cmp)
 unfolding all_receipts

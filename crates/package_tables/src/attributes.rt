@@ -71,18 +71,6 @@ pub fn attribute_by_id<S: Alter>(
     first_of(conn.query_all("SELECT * FROM sheet_rows WHERE id = ?1", params![id]))
 }
 
-/// The attributes row of this number, inside a transaction.
-pub fn attribute_by_id_inside<S: Alter>(
-    tx: &mut Transaction<'_, S>,
-    id: i64,
-) -> Result<Option<AttributeRow>, Fault>
-    ensures same_reference { tx.new.conn.ghost_name ≡ tx.old.conn.ghost_name }
-    ensures told { Tells (λ t. IsOneOf (λ x. int_eq x.id id) t.rows) (state S.Store tx.old.conn.now) (state S.Store tx.new.conn.now) result }
-    ensures survives { Survives (state S.Store tx.old.conn.now) (state S.Store tx.new.conn.now) (λ _. ⊥) }
-{
-    first_of(tx.query_all("SELECT * FROM sheet_rows WHERE id = ?1", params![id]))
-}
-
 /// All attributes rows, by their numbers.
 pub fn all_attributes<S: Alter>(
     conn: &mut Connection<S>,

@@ -1,8 +1,6 @@
 // A new package, in memory and on a disk, and what comes into it. The expected rows are those of the GeoPackage standard and of the profile.
 ghost use Rattle.std.specs.Prelude.{IfOk, IsTrue};
 ghost use Rattle.sqlite_disk.specs.Memory.{memory_is_usable};
-ghost use Rattle.sqlite.specs.Held.{state};
-ghost use Rattle.sql_meaning.specs.Transactions.{Rests};
 
 use crate::create::{Info, create};
 use crate::fault::Fault;
@@ -10,19 +8,13 @@ use crate::fixed::{
     all_contents, all_relations, all_spatial_ref_sys, all_tile_matrices, all_tile_matrix_sets,
     set_last_change,
 };
-use crate::head::{all_heads, all_heads_inside};
-use crate::moved::{
-    all_moved, insert_moved, moved_of, moved_of_inside, moved_of_kind, moved_of_kind_inside,
-    moved_with_base, moved_with_base_inside,
-};
+use crate::head::all_heads;
+use crate::moved::{all_moved, insert_moved, moved_of, moved_of_kind};
 use crate::package::{Package, begin};
-use crate::receipts::{
-    all_receipts, greatest_seq_from, greatest_seq_from_inside, greatest_seq_to,
-    greatest_seq_to_inside, insert_receipt, receipt_by_request, receipt_by_request_inside,
-    receipt_by_seq, receipt_by_seq_inside,
-};
+use crate::receipts::{all_receipts, insert_receipt, receipt_by_request};
 use crate::rows::{MovedRow, ReceiptRow};
 use sheet_types::frame::Frame;
+use sql_meaning::resting::is_at_rest;
 use sqlite::{Alter, Connection, Error, FileStore, Files, Options, Transaction};
 use sqlite_disk::{Disk, Memory};
 use std::alloc::{AllocError, Global};
@@ -42,15 +34,11 @@ const MATRICES: &str =
 const RELATIONS: &str =
     "1 sheet_tiles id sheet_media id media tiles_media|2 sheet_rows id sheet_media id media rows_media|";
 
-fn guarded<S: Alter>(conn: &Connection<S>) -> bool
-    ensures { IsTrue result → Rests (state S.Store conn.now) }
-{
-    conn.is_autocommit()
-}
+const HEAD: &str = "1 1 00000000-0000-0000-0000-000000000001  0 0 2026-11-22T09:00:00.000Z|";
 
 // A package of the frame 25832, 4096 by 4096, three levels of tiles of 256 pixels.
 fn made<S: Alter + Drop>(alloc: Global, conn: Connection<S>) -> Result<Package<S>, Fault> {
-    if !guarded(&conn) {
+    if !is_at_rest(&conn) {
         return Err(Fault::StoreFault);
     }
     let frame = Frame {
@@ -79,7 +67,7 @@ fn made<S: Alter + Drop>(alloc: Global, conn: Connection<S>) -> Result<Package<S
 // A package of another frame: a reference system that each package has, two levels that begin at zoom 3, tiles and matrices that
 // are not square, ground below zero; with a parent, and at the greatest loan.
 fn made_below<S: Alter + Drop>(alloc: Global, conn: Connection<S>) -> Result<Package<S>, Fault> {
-    if !guarded(&conn) {
+    if !is_at_rest(&conn) {
         return Err(Fault::StoreFault);
     }
     let frame = Frame {
@@ -111,7 +99,7 @@ fn object_count<S: Alter>(conn: &mut Connection<S>) -> Result<usize, Error> {
 }
 
 fn systems<S: Alter>(alloc: Global, conn: &mut Connection<S>) -> Result<String, Fault> {
-    if !guarded(conn) {
+    if !is_at_rest(conn) {
         return Err(Fault::StoreFault);
     }
     let mut told = String::new(alloc);
@@ -131,7 +119,7 @@ fn systems<S: Alter>(alloc: Global, conn: &mut Connection<S>) -> Result<String, 
 }
 
 fn contents<S: Alter>(alloc: Global, conn: &mut Connection<S>) -> Result<String, Fault> {
-    if !guarded(conn) {
+    if !is_at_rest(conn) {
         return Err(Fault::StoreFault);
     }
     let mut told = String::new(alloc);
@@ -159,7 +147,7 @@ fn contents<S: Alter>(alloc: Global, conn: &mut Connection<S>) -> Result<String,
 }
 
 fn matrix_sets<S: Alter>(alloc: Global, conn: &mut Connection<S>) -> Result<String, Fault> {
-    if !guarded(conn) {
+    if !is_at_rest(conn) {
         return Err(Fault::StoreFault);
     }
     let mut told = String::new(alloc);
@@ -179,7 +167,7 @@ fn matrix_sets<S: Alter>(alloc: Global, conn: &mut Connection<S>) -> Result<Stri
 }
 
 fn matrices<S: Alter>(alloc: Global, conn: &mut Connection<S>) -> Result<String, Fault> {
-    if !guarded(conn) {
+    if !is_at_rest(conn) {
         return Err(Fault::StoreFault);
     }
     let mut told = String::new(alloc);
@@ -201,7 +189,7 @@ fn matrices<S: Alter>(alloc: Global, conn: &mut Connection<S>) -> Result<String,
 }
 
 fn relations<S: Alter>(alloc: Global, conn: &mut Connection<S>) -> Result<String, Fault> {
-    if !guarded(conn) {
+    if !is_at_rest(conn) {
         return Err(Fault::StoreFault);
     }
     let mut told = String::new(alloc);
@@ -226,7 +214,7 @@ fn relations<S: Alter>(alloc: Global, conn: &mut Connection<S>) -> Result<String
 }
 
 fn heads<S: Alter>(alloc: Global, conn: &mut Connection<S>) -> Result<String, Fault> {
-    if !guarded(conn) {
+    if !is_at_rest(conn) {
         return Err(Fault::StoreFault);
     }
     let mut told = String::new(alloc);
@@ -331,67 +319,37 @@ fn by_request<S: Alter>(
     conn: &mut Connection<S>,
     request: &str,
 ) -> Result<String, Fault> {
-    if !guarded(conn) {
+    if !is_at_rest(conn) {
         return Err(Fault::StoreFault);
     }
     let row = receipt_by_request(conn, request)?;
     Ok(receipt(alloc, row)?)
 }
 
-fn by_seq<S: Alter>(alloc: Global, conn: &mut Connection<S>, seq: i64) -> Result<String, Fault> {
-    if !guarded(conn) {
-        return Err(Fault::StoreFault);
-    }
-    let row = receipt_by_seq(conn, seq)?;
-    Ok(receipt(alloc, row)?)
-}
-
-// The greatest number of a receipt from a package, and of one to it; -1 where there is none.
-fn greatest<S: Alter>(conn: &mut Connection<S>, package: &str) -> Result<(i64, i64), Fault> {
-    if !guarded(conn) {
-        return Err(Fault::StoreFault);
-    }
-    let from = greatest_seq_from(conn, package)?.unwrap_or(-1);
-    let to = greatest_seq_to(conn, package)?.unwrap_or(-1);
-    Ok((from, to))
-}
-
 fn receipt_count<S: Alter>(alloc: Global, conn: &mut Connection<S>) -> Result<usize, Fault> {
-    if !guarded(conn) {
+    if !is_at_rest(conn) {
         return Err(Fault::StoreFault);
     }
     Ok(all_receipts(conn, alloc)?.len())
 }
 
 fn moved_count<S: Alter>(alloc: Global, conn: &mut Connection<S>) -> Result<usize, Fault> {
-    if !guarded(conn) {
+    if !is_at_rest(conn) {
         return Err(Fault::StoreFault);
     }
     Ok(all_moved(conn, alloc)?.len())
 }
 
 fn of_seq<S: Alter>(alloc: Global, conn: &mut Connection<S>, seq: i64) -> Result<String, Fault> {
-    if !guarded(conn) {
+    if !is_at_rest(conn) {
         return Err(Fault::StoreFault);
     }
     let mut told = String::new(alloc);
-    for row in &moved_of(conn, alloc, seq)? {
-        let line = format!(in alloc; "{} {} {}|", row.seq, row.position, row.base.as_str())?;
-        told.push_str(line.as_str())?;
+    for row in moved_of(conn, alloc, seq)? {
+        told.push_str(moved(alloc, Some(row))?.as_str())?;
+        told.push(';')?;
     }
     Ok(told)
-}
-
-fn with_base<S: Alter>(
-    alloc: Global,
-    conn: &mut Connection<S>,
-    base: &str,
-) -> Result<String, Fault> {
-    if !guarded(conn) {
-        return Err(Fault::StoreFault);
-    }
-    let row = moved_with_base(conn, base)?;
-    Ok(moved(alloc, row)?)
 }
 
 fn of_kind<S: Alter>(
@@ -400,62 +358,11 @@ fn of_kind<S: Alter>(
     base: &str,
     kind: i64,
 ) -> Result<String, Fault> {
-    if !guarded(conn) {
+    if !is_at_rest(conn) {
         return Err(Fault::StoreFault);
     }
     let row = moved_of_kind(conn, base, kind)?;
     Ok(moved(alloc, row)?)
-}
-
-fn receipts_inside<S: Alter>(alloc: Global, tx: &mut Transaction<'_, S>) -> Result<String, Fault> {
-    let mut told = receipt(alloc, receipt_by_request_inside(tx, "q2")?)?;
-    told.push(';')?;
-    told.push_str(receipt(alloc, receipt_by_seq_inside(tx, 1)?)?.as_str())?;
-    let from = greatest_seq_from_inside(tx, "A")?.unwrap_or(-1);
-    let to = greatest_seq_to_inside(tx, "A")?.unwrap_or(-1);
-    told.push_str(format!(in alloc; ";{} {}", from, to)?.as_str())?;
-    Ok(told)
-}
-
-fn moved_inside<S: Alter>(alloc: Global, tx: &mut Transaction<'_, S>) -> Result<String, Fault> {
-    let mut told = String::new(alloc);
-    for row in moved_of_inside(tx, alloc, 2)? {
-        told.push_str(moved(alloc, Some(row))?.as_str())?;
-        told.push(';')?;
-    }
-    told.push_str(moved(alloc, moved_with_base_inside(tx, "i1")?)?.as_str())?;
-    told.push(';')?;
-    told.push_str(moved(alloc, moved_of_kind_inside(tx, "i2", 2)?)?.as_str())?;
-    told.push(';')?;
-    told.push_str(moved(alloc, moved_of_kind_inside(tx, "i2", 1)?)?.as_str())?;
-    Ok(told)
-}
-
-fn told_receipts_inside<S: Alter>(
-    alloc: Global,
-    conn: &mut Connection<S>,
-) -> Result<String, Fault> {
-    if !conn.is_autocommit() {
-        return Err(Fault::StoreFault);
-    }
-    let mut tx = begin(conn);
-    receipts_inside(alloc, &mut tx)
-}
-
-fn told_moved_inside<S: Alter>(alloc: Global, conn: &mut Connection<S>) -> Result<String, Fault> {
-    if !conn.is_autocommit() {
-        return Err(Fault::StoreFault);
-    }
-    let mut tx = begin(conn);
-    moved_inside(alloc, &mut tx)
-}
-
-fn head_count_inside<S: Alter>(alloc: Global, conn: &mut Connection<S>) -> Result<usize, Fault> {
-    if !conn.is_autocommit() {
-        return Err(Fault::StoreFault);
-    }
-    let mut tx = begin(conn);
-    Ok(all_heads_inside(&mut tx, alloc)?.len())
 }
 
 fn open(alloc: Global, db: Memory) -> Result<Connection<FileStore<Memory>>, Error>
@@ -495,10 +402,7 @@ fn a_new_package_has_its_fixed_rows(rt: HostRuntime) -> Result<(), Fail> {
     );
     assert_eq!(rt; matrices(alloc, &mut package.conn)?.as_str(), MATRICES);
     assert_eq!(rt; relations(alloc, &mut package.conn)?.as_str(), RELATIONS);
-    assert_eq!(rt;
-        heads(alloc, &mut package.conn)?.as_str(),
-        "1 1 00000000-0000-0000-0000-000000000001  0 0 2026-11-22T09:00:00.000Z|"
-    );
+    assert_eq!(rt; heads(alloc, &mut package.conn)?.as_str(), HEAD);
     Ok(())
 }
 
@@ -537,21 +441,21 @@ fn the_least_and_the_greatest_are_entered(rt: HostRuntime) -> Result<(), Fail> {
     assert_eq!(rt; receipt_count(alloc, &mut conn)?, 0);
     assert_eq!(rt; moved_count(alloc, &mut conn)?, 0);
     assert_eq!(rt; of_seq(alloc, &mut conn, 0)?.as_str(), "");
-    assert!(rt; greatest(&mut conn, "A")? == (-1, -1));
     assert!(rt; entered_ends(&mut conn)?);
-    assert_eq!(rt; by_seq(alloc, &mut conn, 0)?.as_str(), "0 q0   0");
-    assert_eq!(rt; by_seq(alloc, &mut conn, -1)?.as_str(), "-");
+    assert_eq!(rt; by_request(alloc, &mut conn, "q0")?.as_str(), "0 q0   0");
     assert_eq!(rt;
         by_request(alloc, &mut conn, "q1")?.as_str(),
         "9223372036854775807 q1   9223372036854775807"
     );
     assert_eq!(rt; by_request(alloc, &mut conn, "Q1")?.as_str(), "-");
-    assert!(rt; greatest(&mut conn, "A")? == (9223372036854775807, -1));
     assert_eq!(rt;
         of_seq(alloc, &mut conn, 0)?.as_str(),
-        "0 0 i1|0 9223372036854775807 i2|"
+        "0 0 1 i1  0 ;0 9223372036854775807 5 i2 i1 9223372036854775807 ;"
     );
-    assert_eq!(rt; with_base(alloc, &mut conn, "i1")?.as_str(), "0 0 1 i1  0 ");
+    assert_eq!(rt;
+        of_kind(alloc, &mut conn, "i1", 1)?.as_str(),
+        "0 0 1 i1  0 "
+    );
     assert_eq!(rt;
         of_kind(alloc, &mut conn, "i2", 5)?.as_str(),
         "0 9223372036854775807 5 i2 i1 9223372036854775807 "
@@ -569,31 +473,32 @@ fn receipts_and_what_they_moved_are_found(rt: HostRuntime) -> Result<(), Fail> {
         "2 q2 second  7"
     );
     assert_eq!(rt; by_request(alloc, &mut conn, "q4")?.as_str(), "-");
-    assert_eq!(rt; by_seq(alloc, &mut conn, 1)?.as_str(), "1 q1 first A 5");
-    assert_eq!(rt; receipt_count(alloc, &mut conn)?, 3);
-    assert!(rt; greatest(&mut conn, "A")? == (3, 1));
-    assert!(rt; greatest(&mut conn, "B")? == (-1, 3));
-    assert_eq!(rt; moved_count(alloc, &mut conn)?, 3);
-    assert_eq!(rt; of_seq(alloc, &mut conn, 2)?.as_str(), "2 0 i2|2 1 i3|");
     assert_eq!(rt;
-        with_base(alloc, &mut conn, "i1")?.as_str(),
+        by_request(alloc, &mut conn, "q1")?.as_str(),
+        "1 q1 first A 5"
+    );
+    assert_eq!(rt; receipt_count(alloc, &mut conn)?, 3);
+    assert_eq!(rt; moved_count(alloc, &mut conn)?, 3);
+    assert_eq!(rt;
+        of_seq(alloc, &mut conn, 2)?.as_str(),
+        "2 0 2 i2  3 f2;2 1 2 i3  4 f3;"
+    );
+    assert_eq!(rt;
+        of_kind(alloc, &mut conn, "i1", 1)?.as_str(),
         "1 0 1 i1  5 f1"
     );
-    assert_eq!(rt; with_base(alloc, &mut conn, "i9")?.as_str(), "-");
+    assert_eq!(rt; of_kind(alloc, &mut conn, "i9", 1)?.as_str(), "-");
     assert_eq!(rt;
         of_kind(alloc, &mut conn, "i3", 2)?.as_str(),
         "2 1 2 i3  4 f3"
     );
     assert_eq!(rt; of_kind(alloc, &mut conn, "i3", 1)?.as_str(), "-");
     assert_eq!(rt;
-        told_receipts_inside(alloc, &mut conn)?.as_str(),
-        "2 q2 second  7;1 q1 first A 5;3 1"
+        of_kind(alloc, &mut conn, "i2", 2)?.as_str(),
+        "2 0 2 i2  3 f2"
     );
-    assert_eq!(rt;
-        told_moved_inside(alloc, &mut conn)?.as_str(),
-        "2 0 2 i2  3 f2;2 1 2 i3  4 f3;1 0 1 i1  5 f1;2 0 2 i2  3 f2;-"
-    );
-    assert_eq!(rt; head_count_inside(alloc, &mut conn)?, 1);
+    assert_eq!(rt; of_kind(alloc, &mut conn, "i2", 1)?.as_str(), "-");
+    assert_eq!(rt; heads(alloc, &mut conn)?.as_str(), HEAD);
     assert_eq!(rt;
         contents(alloc, &mut conn)?.as_str(),
         "sheet_media attributes sheet_media  2026-11-23T09:00:00.000Z 0 0 4096 4096 25832|sheet_rows attributes sheet_rows  2026-11-22T09:00:00.000Z 0 0 4096 4096 25832|sheet_tiles tiles sheet_tiles  2026-11-22T09:00:00.000Z 0 0 4096 4096 25832|"

@@ -1,10 +1,10 @@
 // The statements on `sheet_package`.
-ghost use Rattle.std.specs.Prelude.{◌≡◌, true};
+ghost use Rattle.std.specs.Prelude.{◌≡◌};
 ghost use Rattle.std.specs.Ordering.{on, int_cmp};
 ghost use Rattle.sqlite.specs.State.{Survives};
 ghost use Rattle.sqlite.specs.Held.{state};
 ghost use Rattle.sql_meaning.specs.Transactions.{Rests};
-ghost use Rattle.package_tables.specs.Calls.{Makes, Tells, LooksUp, AreThose, AreAll};
+ghost use Rattle.package_tables.specs.Calls.{Makes, LooksUp, AreAll};
 ghost use Rattle.package_tables.specs.Entries.{AddsHead};
 
 use crate::fault::{Fault, settled};
@@ -12,8 +12,6 @@ use crate::from_row::{FromRow, all_of, number_at, text_at};
 use crate::rows::HeadRow;
 use sqlite::{Alter, Connection, Row, Transaction, params};
 use std::alloc::Global;
-
-const ALL: &str = "SELECT * FROM sheet_package ORDER BY id";
 
 /// Enters the head of the package.
 pub(crate) fn insert_head<S: Alter>(
@@ -62,17 +60,8 @@ pub fn all_heads<S: Alter>(conn: &mut Connection<S>, alloc: Global) -> Result<Ve
     requires { Rests (state S.Store conn.old) }
     ensures { LooksUp (λ t found. AreAll (on (λ x. x.id) int_cmp) t.heads found.items) (state S.Store conn.old) (state S.Store conn.new) result }
 {
-    all_of(alloc, conn.query_all(ALL, &[]))
-}
-
-/// The heads, inside a transaction; a package has one.
-pub fn all_heads_inside<S: Alter>(
-    tx: &mut Transaction<'_, S>,
-    alloc: Global,
-) -> Result<Vec<HeadRow>, Fault>
-    ensures same_reference { tx.new.conn.ghost_name ≡ tx.old.conn.ghost_name }
-    ensures told { Tells (λ t found. AreAll (on (λ x. x.id) int_cmp) t.heads found.items) (state S.Store tx.old.conn.now) (state S.Store tx.new.conn.now) result }
-    ensures survives { Survives (state S.Store tx.old.conn.now) (state S.Store tx.new.conn.now) (λ _. ⊥) }
-{
-    all_of(alloc, tx.query_all(ALL, &[]))
+    all_of(
+        alloc,
+        conn.query_all("SELECT * FROM sheet_package ORDER BY id", &[]),
+    )
 }

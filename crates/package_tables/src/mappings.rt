@@ -4,7 +4,7 @@ ghost use Rattle.std.specs.Ordering.{int_eq, int_cmp, on, then_cmp};
 ghost use Rattle.sqlite.specs.State.{Survives};
 ghost use Rattle.sqlite.specs.Held.{state};
 ghost use Rattle.sql_meaning.specs.Transactions.{Rests};
-ghost use Rattle.package_tables.specs.Calls.{Makes, Tells, LooksUp, IsOneOf, AreAll};
+ghost use Rattle.package_tables.specs.Calls.{Makes, LooksUp, IsOneOf, AreAll};
 ghost use Rattle.package_tables.specs.Changes.{AddsTilesMedia, DropsTilesMedia, AddsRowsMedia, DropsRowsMedia};
 
 use crate::fault::{Fault, settled};
@@ -12,18 +12,6 @@ use crate::from_row::{FromRow, all_of, first_of, number_at};
 use crate::rows::MappingRow;
 use sqlite::{Alter, Connection, Row, Transaction, params};
 use std::alloc::Global;
-
-const TILES_OF_PAIR: &str = "SELECT * FROM tiles_media WHERE base_id = ?1 AND related_id = ?2";
-
-const TILES_OF_BASE: &str = "SELECT * FROM tiles_media WHERE base_id = ?1";
-
-const TILES_OF_RELATED: &str = "SELECT * FROM tiles_media WHERE related_id = ?1";
-
-const ROWS_OF_PAIR: &str = "SELECT * FROM rows_media WHERE base_id = ?1 AND related_id = ?2";
-
-const ROWS_OF_BASE: &str = "SELECT * FROM rows_media WHERE base_id = ?1";
-
-const ROWS_OF_RELATED: &str = "SELECT * FROM rows_media WHERE related_id = ?1";
 
 impl FromRow for MappingRow {
     ghost use Rattle.package_tables.specs.Shown.{mapping_shown};
@@ -82,20 +70,10 @@ pub fn tiles_media_of_pair<S: Alter>(
     requires { Rests (state S.Store conn.old) }
     ensures { LooksUp (λ t. IsOneOf (λ x. int_eq x.base_id base_id && int_eq x.related_id related_id) t.tiles_media) (state S.Store conn.old) (state S.Store conn.new) result }
 {
-    first_of(conn.query_all(TILES_OF_PAIR, params![base_id, related_id]))
-}
-
-/// The relation of this tile and this medium, inside a transaction.
-pub fn tiles_media_of_pair_inside<S: Alter>(
-    tx: &mut Transaction<'_, S>,
-    base_id: i64,
-    related_id: i64,
-) -> Result<Option<MappingRow>, Fault>
-    ensures same_reference { tx.new.conn.ghost_name ≡ tx.old.conn.ghost_name }
-    ensures told { Tells (λ t. IsOneOf (λ x. int_eq x.base_id base_id && int_eq x.related_id related_id) t.tiles_media) (state S.Store tx.old.conn.now) (state S.Store tx.new.conn.now) result }
-    ensures survives { Survives (state S.Store tx.old.conn.now) (state S.Store tx.new.conn.now) (λ _. ⊥) }
-{
-    first_of(tx.query_all(TILES_OF_PAIR, params![base_id, related_id]))
+    first_of(conn.query_all(
+        "SELECT * FROM tiles_media WHERE base_id = ?1 AND related_id = ?2",
+        params![base_id, related_id],
+    ))
 }
 
 /// A relation of this tile.
@@ -106,19 +84,10 @@ pub fn tiles_media_of_base<S: Alter>(
     requires { Rests (state S.Store conn.old) }
     ensures { LooksUp (λ t. IsOneOf (λ x. int_eq x.base_id base_id) t.tiles_media) (state S.Store conn.old) (state S.Store conn.new) result }
 {
-    first_of(conn.query_all(TILES_OF_BASE, params![base_id]))
-}
-
-/// A relation of this tile, inside a transaction.
-pub fn tiles_media_of_base_inside<S: Alter>(
-    tx: &mut Transaction<'_, S>,
-    base_id: i64,
-) -> Result<Option<MappingRow>, Fault>
-    ensures same_reference { tx.new.conn.ghost_name ≡ tx.old.conn.ghost_name }
-    ensures told { Tells (λ t. IsOneOf (λ x. int_eq x.base_id base_id) t.tiles_media) (state S.Store tx.old.conn.now) (state S.Store tx.new.conn.now) result }
-    ensures survives { Survives (state S.Store tx.old.conn.now) (state S.Store tx.new.conn.now) (λ _. ⊥) }
-{
-    first_of(tx.query_all(TILES_OF_BASE, params![base_id]))
+    first_of(conn.query_all(
+        "SELECT * FROM tiles_media WHERE base_id = ?1",
+        params![base_id],
+    ))
 }
 
 /// A relation of a tile to this medium.
@@ -129,19 +98,10 @@ pub fn tiles_media_of_related<S: Alter>(
     requires { Rests (state S.Store conn.old) }
     ensures { LooksUp (λ t. IsOneOf (λ x. int_eq x.related_id related_id) t.tiles_media) (state S.Store conn.old) (state S.Store conn.new) result }
 {
-    first_of(conn.query_all(TILES_OF_RELATED, params![related_id]))
-}
-
-/// A relation of a tile to this medium, inside a transaction.
-pub fn tiles_media_of_related_inside<S: Alter>(
-    tx: &mut Transaction<'_, S>,
-    related_id: i64,
-) -> Result<Option<MappingRow>, Fault>
-    ensures same_reference { tx.new.conn.ghost_name ≡ tx.old.conn.ghost_name }
-    ensures told { Tells (λ t. IsOneOf (λ x. int_eq x.related_id related_id) t.tiles_media) (state S.Store tx.old.conn.now) (state S.Store tx.new.conn.now) result }
-    ensures survives { Survives (state S.Store tx.old.conn.now) (state S.Store tx.new.conn.now) (λ _. ⊥) }
-{
-    first_of(tx.query_all(TILES_OF_RELATED, params![related_id]))
+    first_of(conn.query_all(
+        "SELECT * FROM tiles_media WHERE related_id = ?1",
+        params![related_id],
+    ))
 }
 
 /// All relations of tiles to media, by both numbers.
@@ -202,20 +162,10 @@ pub fn rows_media_of_pair<S: Alter>(
     requires { Rests (state S.Store conn.old) }
     ensures { LooksUp (λ t. IsOneOf (λ x. int_eq x.base_id base_id && int_eq x.related_id related_id) t.rows_media) (state S.Store conn.old) (state S.Store conn.new) result }
 {
-    first_of(conn.query_all(ROWS_OF_PAIR, params![base_id, related_id]))
-}
-
-/// The relation of this attributes row and this medium, inside a transaction.
-pub fn rows_media_of_pair_inside<S: Alter>(
-    tx: &mut Transaction<'_, S>,
-    base_id: i64,
-    related_id: i64,
-) -> Result<Option<MappingRow>, Fault>
-    ensures same_reference { tx.new.conn.ghost_name ≡ tx.old.conn.ghost_name }
-    ensures told { Tells (λ t. IsOneOf (λ x. int_eq x.base_id base_id && int_eq x.related_id related_id) t.rows_media) (state S.Store tx.old.conn.now) (state S.Store tx.new.conn.now) result }
-    ensures survives { Survives (state S.Store tx.old.conn.now) (state S.Store tx.new.conn.now) (λ _. ⊥) }
-{
-    first_of(tx.query_all(ROWS_OF_PAIR, params![base_id, related_id]))
+    first_of(conn.query_all(
+        "SELECT * FROM rows_media WHERE base_id = ?1 AND related_id = ?2",
+        params![base_id, related_id],
+    ))
 }
 
 /// A relation of this attributes row.
@@ -226,19 +176,10 @@ pub fn rows_media_of_base<S: Alter>(
     requires { Rests (state S.Store conn.old) }
     ensures { LooksUp (λ t. IsOneOf (λ x. int_eq x.base_id base_id) t.rows_media) (state S.Store conn.old) (state S.Store conn.new) result }
 {
-    first_of(conn.query_all(ROWS_OF_BASE, params![base_id]))
-}
-
-/// A relation of this attributes row, inside a transaction.
-pub fn rows_media_of_base_inside<S: Alter>(
-    tx: &mut Transaction<'_, S>,
-    base_id: i64,
-) -> Result<Option<MappingRow>, Fault>
-    ensures same_reference { tx.new.conn.ghost_name ≡ tx.old.conn.ghost_name }
-    ensures told { Tells (λ t. IsOneOf (λ x. int_eq x.base_id base_id) t.rows_media) (state S.Store tx.old.conn.now) (state S.Store tx.new.conn.now) result }
-    ensures survives { Survives (state S.Store tx.old.conn.now) (state S.Store tx.new.conn.now) (λ _. ⊥) }
-{
-    first_of(tx.query_all(ROWS_OF_BASE, params![base_id]))
+    first_of(conn.query_all(
+        "SELECT * FROM rows_media WHERE base_id = ?1",
+        params![base_id],
+    ))
 }
 
 /// A relation of an attributes row to this medium.
@@ -249,19 +190,10 @@ pub fn rows_media_of_related<S: Alter>(
     requires { Rests (state S.Store conn.old) }
     ensures { LooksUp (λ t. IsOneOf (λ x. int_eq x.related_id related_id) t.rows_media) (state S.Store conn.old) (state S.Store conn.new) result }
 {
-    first_of(conn.query_all(ROWS_OF_RELATED, params![related_id]))
-}
-
-/// A relation of an attributes row to this medium, inside a transaction.
-pub fn rows_media_of_related_inside<S: Alter>(
-    tx: &mut Transaction<'_, S>,
-    related_id: i64,
-) -> Result<Option<MappingRow>, Fault>
-    ensures same_reference { tx.new.conn.ghost_name ≡ tx.old.conn.ghost_name }
-    ensures told { Tells (λ t. IsOneOf (λ x. int_eq x.related_id related_id) t.rows_media) (state S.Store tx.old.conn.now) (state S.Store tx.new.conn.now) result }
-    ensures survives { Survives (state S.Store tx.old.conn.now) (state S.Store tx.new.conn.now) (λ _. ⊥) }
-{
-    first_of(tx.query_all(ROWS_OF_RELATED, params![related_id]))
+    first_of(conn.query_all(
+        "SELECT * FROM rows_media WHERE related_id = ?1",
+        params![related_id],
+    ))
 }
 
 /// All relations of attributes rows to media, by both numbers.

@@ -64,18 +64,6 @@ pub fn medium_by_id<S: Alter>(conn: &mut Connection<S>, id: i64) -> Result<Optio
     first_of(conn.query_all("SELECT * FROM sheet_media WHERE id = ?1", params![id]))
 }
 
-/// The medium of this number, inside a transaction.
-pub fn medium_by_id_inside<S: Alter>(
-    tx: &mut Transaction<'_, S>,
-    id: i64,
-) -> Result<Option<MediaRow>, Fault>
-    ensures same_reference { tx.new.conn.ghost_name ≡ tx.old.conn.ghost_name }
-    ensures told { Tells (λ t. IsOneOf (λ x. int_eq x.id id) t.media) (state S.Store tx.old.conn.now) (state S.Store tx.new.conn.now) result }
-    ensures survives { Survives (state S.Store tx.old.conn.now) (state S.Store tx.new.conn.now) (λ _. ⊥) }
-{
-    first_of(tx.query_all("SELECT * FROM sheet_media WHERE id = ?1", params![id]))
-}
-
 /// All media, by their numbers.
 pub fn all_media<S: Alter>(conn: &mut Connection<S>, alloc: Global) -> Result<Vec<MediaRow>, Fault>
     requires { Rests (state S.Store conn.old) }

@@ -1,10 +1,10 @@
 // The statements on `sheet_items`.
-ghost use Rattle.std.specs.Prelude.{◌≡◌, true, ◌&&◌, bytes_eq};
+ghost use Rattle.std.specs.Prelude.{◌≡◌, ◌&&◌, bytes_eq};
 ghost use Rattle.std.specs.Ordering.{int_cmp, int_eq, on};
 ghost use Rattle.sqlite.specs.State.{Survives};
 ghost use Rattle.sqlite.specs.Held.{state};
 ghost use Rattle.sql_meaning.specs.Transactions.{Rests};
-ghost use Rattle.package_tables.specs.Calls.{Makes, Tells, LooksUp, IsOneOf, AreThose, Rises, AreAll};
+ghost use Rattle.package_tables.specs.Calls.{Makes, LooksUp, IsOneOf, AreThose, Rises, AreAll};
 ghost use Rattle.package_tables.specs.Entries.{AddsMoved};
 
 use crate::fault::{Fault, settled};
@@ -12,12 +12,6 @@ use crate::from_row::{FromRow, all_of, first_of, number_at, text_at};
 use crate::rows::MovedRow;
 use sqlite::{Alter, Connection, Row, Transaction, params};
 use std::alloc::Global;
-
-const OF_SEQ: &str = "SELECT * FROM sheet_items WHERE seq = ?1 ORDER BY position";
-
-const WITH_BASE: &str = "SELECT * FROM sheet_items WHERE base = ?1";
-
-const OF_KIND: &str = "SELECT * FROM sheet_items WHERE base = ?1 AND kind = ?2";
 
 /// Enters one thing that a receipt moved, at a position of it that is free.
 pub fn insert_moved<S: Alter>(
@@ -70,43 +64,13 @@ pub fn moved_of<S: Alter>(
     requires { Rests (state S.Store conn.old) }
     ensures { LooksUp (λ t found. AreThose (λ x. int_eq x.seq seq) t.moved found.items × Rises (λ x. x.position) found.items) (state S.Store conn.old) (state S.Store conn.new) result }
 {
-    all_of(alloc, conn.query_all(OF_SEQ, params![seq]))
-}
-
-/// What a receipt moved, in the order of the positions, inside a transaction.
-pub fn moved_of_inside<S: Alter>(
-    tx: &mut Transaction<'_, S>,
-    alloc: Global,
-    seq: i64,
-) -> Result<Vec<MovedRow>, Fault>
-    ensures same_reference { tx.new.conn.ghost_name ≡ tx.old.conn.ghost_name }
-    ensures told { Tells (λ t found. AreThose (λ x. int_eq x.seq seq) t.moved found.items × Rises (λ x. x.position) found.items) (state S.Store tx.old.conn.now) (state S.Store tx.new.conn.now) result }
-    ensures survives { Survives (state S.Store tx.old.conn.now) (state S.Store tx.new.conn.now) (λ _. ⊥) }
-{
-    all_of(alloc, tx.query_all(OF_SEQ, params![seq]))
-}
-
-/// Some thing that was moved and has this identity, where there is one.
-pub fn moved_with_base<S: Alter>(
-    conn: &mut Connection<S>,
-    base: &str,
-) -> Result<Option<MovedRow>, Fault>
-    requires { Rests (state S.Store conn.old) }
-    ensures { LooksUp (λ t. IsOneOf (λ x. bytes_eq x.base base.now) t.moved) (state S.Store conn.old) (state S.Store conn.new) result }
-{
-    first_of(conn.query_all(WITH_BASE, params![base]))
-}
-
-/// Some thing that was moved and has this identity, where there is one, inside a transaction.
-pub fn moved_with_base_inside<S: Alter>(
-    tx: &mut Transaction<'_, S>,
-    base: &str,
-) -> Result<Option<MovedRow>, Fault>
-    ensures same_reference { tx.new.conn.ghost_name ≡ tx.old.conn.ghost_name }
-    ensures told { Tells (λ t. IsOneOf (λ x. bytes_eq x.base base.now) t.moved) (state S.Store tx.old.conn.now) (state S.Store tx.new.conn.now) result }
-    ensures survives { Survives (state S.Store tx.old.conn.now) (state S.Store tx.new.conn.now) (λ _. ⊥) }
-{
-    first_of(tx.query_all(WITH_BASE, params![base]))
+    all_of(
+        alloc,
+        conn.query_all(
+            "SELECT * FROM sheet_items WHERE seq = ?1 ORDER BY position",
+            params![seq],
+        ),
+    )
 }
 
 /// Some thing that was moved, has this identity and is of the kind of this number, where there is one.
@@ -118,20 +82,10 @@ pub fn moved_of_kind<S: Alter>(
     requires { Rests (state S.Store conn.old) }
     ensures { LooksUp (λ t. IsOneOf (λ x. bytes_eq x.base base.now && int_eq x.kind kind) t.moved) (state S.Store conn.old) (state S.Store conn.new) result }
 {
-    first_of(conn.query_all(OF_KIND, params![base, kind]))
-}
-
-/// Some thing that was moved, has this identity and is of the kind of this number, where there is one, inside a transaction.
-pub fn moved_of_kind_inside<S: Alter>(
-    tx: &mut Transaction<'_, S>,
-    base: &str,
-    kind: i64,
-) -> Result<Option<MovedRow>, Fault>
-    ensures same_reference { tx.new.conn.ghost_name ≡ tx.old.conn.ghost_name }
-    ensures told { Tells (λ t. IsOneOf (λ x. bytes_eq x.base base.now && int_eq x.kind kind) t.moved) (state S.Store tx.old.conn.now) (state S.Store tx.new.conn.now) result }
-    ensures survives { Survives (state S.Store tx.old.conn.now) (state S.Store tx.new.conn.now) (λ _. ⊥) }
-{
-    first_of(tx.query_all(OF_KIND, params![base, kind]))
+    first_of(conn.query_all(
+        "SELECT * FROM sheet_items WHERE base = ?1 AND kind = ?2",
+        params![base, kind],
+    ))
 }
 
 /// All that receipts moved, by the numbers of the receipts.

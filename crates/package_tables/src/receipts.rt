@@ -1,26 +1,17 @@
 // The statements on `sheet_receipts`.
-ghost use Rattle.std.specs.Prelude.{◌≡◌, true, bytes_eq, filter};
-ghost use Rattle.std.specs.Ordering.{int_cmp, int_eq, on};
+ghost use Rattle.std.specs.Prelude.{◌≡◌, bytes_eq};
+ghost use Rattle.std.specs.Ordering.{int_cmp, on};
 ghost use Rattle.sqlite.specs.State.{Survives};
 ghost use Rattle.sqlite.specs.Held.{state};
 ghost use Rattle.sql_meaning.specs.Transactions.{Rests};
-ghost use Rattle.package_tables.specs.Calls.{Makes, Tells, LooksUp, IsOneOf, IsGreatest, AreAll};
+ghost use Rattle.package_tables.specs.Calls.{Makes, LooksUp, IsOneOf, AreAll};
 ghost use Rattle.package_tables.specs.Entries.{AddsReceipt};
 
 use crate::fault::{Fault, settled};
-use crate::from_row::{FromRow, all_of, first_of, number_at, number_of, text_at};
+use crate::from_row::{FromRow, all_of, first_of, number_at, text_at};
 use crate::rows::ReceiptRow;
 use sqlite::{Alter, Connection, Row, Transaction, params};
 use std::alloc::Global;
-
-const BY_REQUEST: &str = "SELECT * FROM sheet_receipts WHERE request = ?1";
-
-const BY_SEQ: &str = "SELECT * FROM sheet_receipts WHERE seq = ?1";
-
-const NEWEST_FROM: &str =
-    "SELECT * FROM sheet_receipts WHERE source = ?1 ORDER BY seq DESC LIMIT 1";
-
-const NEWEST_TO: &str = "SELECT * FROM sheet_receipts WHERE target = ?1 ORDER BY seq DESC LIMIT 1";
 
 /// Enters a receipt, under a number and a request that are free.
 pub fn insert_receipt<S: Alter>(
@@ -82,42 +73,10 @@ pub fn receipt_by_request<S: Alter>(
     requires { Rests (state S.Store conn.old) }
     ensures { LooksUp (λ t. IsOneOf (λ x. bytes_eq x.request request.now) t.receipts) (state S.Store conn.old) (state S.Store conn.new) result }
 {
-    first_of(conn.query_all(BY_REQUEST, params![request]))
-}
-
-/// The receipt of a request, inside a transaction.
-pub fn receipt_by_request_inside<S: Alter>(
-    tx: &mut Transaction<'_, S>,
-    request: &str,
-) -> Result<Option<ReceiptRow>, Fault>
-    ensures same_reference { tx.new.conn.ghost_name ≡ tx.old.conn.ghost_name }
-    ensures told { Tells (λ t. IsOneOf (λ x. bytes_eq x.request request.now) t.receipts) (state S.Store tx.old.conn.now) (state S.Store tx.new.conn.now) result }
-    ensures survives { Survives (state S.Store tx.old.conn.now) (state S.Store tx.new.conn.now) (λ _. ⊥) }
-{
-    first_of(tx.query_all(BY_REQUEST, params![request]))
-}
-
-/// The receipt of this number.
-pub fn receipt_by_seq<S: Alter>(
-    conn: &mut Connection<S>,
-    seq: i64,
-) -> Result<Option<ReceiptRow>, Fault>
-    requires { Rests (state S.Store conn.old) }
-    ensures { LooksUp (λ t. IsOneOf (λ x. int_eq x.seq seq) t.receipts) (state S.Store conn.old) (state S.Store conn.new) result }
-{
-    first_of(conn.query_all(BY_SEQ, params![seq]))
-}
-
-/// The receipt of this number, inside a transaction.
-pub fn receipt_by_seq_inside<S: Alter>(
-    tx: &mut Transaction<'_, S>,
-    seq: i64,
-) -> Result<Option<ReceiptRow>, Fault>
-    ensures same_reference { tx.new.conn.ghost_name ≡ tx.old.conn.ghost_name }
-    ensures told { Tells (λ t. IsOneOf (λ x. int_eq x.seq seq) t.receipts) (state S.Store tx.old.conn.now) (state S.Store tx.new.conn.now) result }
-    ensures survives { Survives (state S.Store tx.old.conn.now) (state S.Store tx.new.conn.now) (λ _. ⊥) }
-{
-    first_of(tx.query_all(BY_SEQ, params![seq]))
+    first_of(conn.query_all(
+        "SELECT * FROM sheet_receipts WHERE request = ?1",
+        params![request],
+    ))
 }
 
 /// All receipts, in the order of their numbers.
@@ -132,50 +91,4 @@ pub fn all_receipts<S: Alter>(
         alloc,
         conn.query_all("SELECT * FROM sheet_receipts ORDER BY seq", &[]),
     )
-}
-
-/// The greatest number of a receipt with this source, where there is one.
-pub fn greatest_seq_from<S: Alter>(
-    conn: &mut Connection<S>,
-    source: &str,
-) -> Result<Option<i64>, Fault>
-    requires { Rests (state S.Store conn.old) }
-    ensures { LooksUp (λ t. IsGreatest (λ x. x.seq) (filter (λ x. bytes_eq x.source source.now) t.receipts)) (state S.Store conn.old) (state S.Store conn.new) result }
-{
-    number_of(conn.query_all(NEWEST_FROM, params![source]))
-}
-
-/// The greatest number of a receipt with this source, where there is one, inside a transaction.
-pub fn greatest_seq_from_inside<S: Alter>(
-    tx: &mut Transaction<'_, S>,
-    source: &str,
-) -> Result<Option<i64>, Fault>
-    ensures same_reference { tx.new.conn.ghost_name ≡ tx.old.conn.ghost_name }
-    ensures told { Tells (λ t. IsGreatest (λ x. x.seq) (filter (λ x. bytes_eq x.source source.now) t.receipts)) (state S.Store tx.old.conn.now) (state S.Store tx.new.conn.now) result }
-    ensures survives { Survives (state S.Store tx.old.conn.now) (state S.Store tx.new.conn.now) (λ _. ⊥) }
-{
-    number_of(tx.query_all(NEWEST_FROM, params![source]))
-}
-
-/// The greatest number of a receipt with this target, where there is one.
-pub fn greatest_seq_to<S: Alter>(
-    conn: &mut Connection<S>,
-    target: &str,
-) -> Result<Option<i64>, Fault>
-    requires { Rests (state S.Store conn.old) }
-    ensures { LooksUp (λ t. IsGreatest (λ x. x.seq) (filter (λ x. bytes_eq x.target target.now) t.receipts)) (state S.Store conn.old) (state S.Store conn.new) result }
-{
-    number_of(conn.query_all(NEWEST_TO, params![target]))
-}
-
-/// The greatest number of a receipt with this target, where there is one, inside a transaction.
-pub fn greatest_seq_to_inside<S: Alter>(
-    tx: &mut Transaction<'_, S>,
-    target: &str,
-) -> Result<Option<i64>, Fault>
-    ensures same_reference { tx.new.conn.ghost_name ≡ tx.old.conn.ghost_name }
-    ensures told { Tells (λ t. IsGreatest (λ x. x.seq) (filter (λ x. bytes_eq x.target target.now) t.receipts)) (state S.Store tx.old.conn.now) (state S.Store tx.new.conn.now) result }
-    ensures survives { Survives (state S.Store tx.old.conn.now) (state S.Store tx.new.conn.now) (λ _. ⊥) }
-{
-    number_of(tx.query_all(NEWEST_TO, params![target]))
 }

@@ -13,9 +13,6 @@ use crate::rows::TileRow;
 use sqlite::{Alter, Connection, Row, Transaction, params};
 use std::alloc::Global;
 
-const AT: &str =
-    "SELECT * FROM sheet_tiles WHERE zoom_level = ?1 AND tile_column = ?2 AND tile_row = ?3";
-
 impl FromRow for TileRow {
     ghost use Rattle.package_tables.specs.Shown.{tile_shown};
 
@@ -71,18 +68,6 @@ pub fn tile_by_id<S: Alter>(conn: &mut Connection<S>, id: i64) -> Result<Option<
     first_of(conn.query_all("SELECT * FROM sheet_tiles WHERE id = ?1", params![id]))
 }
 
-/// The tile of this number, inside a transaction.
-pub fn tile_by_id_inside<S: Alter>(
-    tx: &mut Transaction<'_, S>,
-    id: i64,
-) -> Result<Option<TileRow>, Fault>
-    ensures same_reference { tx.new.conn.ghost_name ≡ tx.old.conn.ghost_name }
-    ensures told { Tells (λ t. IsOneOf (λ x. int_eq x.id id) t.tiles) (state S.Store tx.old.conn.now) (state S.Store tx.new.conn.now) result }
-    ensures survives { Survives (state S.Store tx.old.conn.now) (state S.Store tx.new.conn.now) (λ _. ⊥) }
-{
-    first_of(tx.query_all("SELECT * FROM sheet_tiles WHERE id = ?1", params![id]))
-}
-
 /// The tile in this place.
 pub fn tile_at<S: Alter>(
     conn: &mut Connection<S>,
@@ -93,21 +78,10 @@ pub fn tile_at<S: Alter>(
     requires { Rests (state S.Store conn.old) }
     ensures { LooksUp (λ t. IsOneOf (λ x. int_eq x.zoom_level zoom_level && int_eq x.tile_column tile_column && int_eq x.tile_row tile_row) t.tiles) (state S.Store conn.old) (state S.Store conn.new) result }
 {
-    first_of(conn.query_all(AT, params![zoom_level, tile_column, tile_row]))
-}
-
-/// The tile in this place, inside a transaction.
-pub fn tile_at_inside<S: Alter>(
-    tx: &mut Transaction<'_, S>,
-    zoom_level: i64,
-    tile_column: i64,
-    tile_row: i64,
-) -> Result<Option<TileRow>, Fault>
-    ensures same_reference { tx.new.conn.ghost_name ≡ tx.old.conn.ghost_name }
-    ensures told { Tells (λ t. IsOneOf (λ x. int_eq x.zoom_level zoom_level && int_eq x.tile_column tile_column && int_eq x.tile_row tile_row) t.tiles) (state S.Store tx.old.conn.now) (state S.Store tx.new.conn.now) result }
-    ensures survives { Survives (state S.Store tx.old.conn.now) (state S.Store tx.new.conn.now) (λ _. ⊥) }
-{
-    first_of(tx.query_all(AT, params![zoom_level, tile_column, tile_row]))
+    first_of(conn.query_all(
+        "SELECT * FROM sheet_tiles WHERE zoom_level = ?1 AND tile_column = ?2 AND tile_row = ?3",
+        params![zoom_level, tile_column, tile_row],
+    ))
 }
 
 /// All tiles, by their numbers.

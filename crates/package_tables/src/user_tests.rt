@@ -1,34 +1,24 @@
 // What the statements on the user tables, the mapping tables and the identities do to a package in memory. The expected
 // rows are what stock SQLite 3.40.1 answers after the same statements.
-ghost use Rattle.std.specs.Prelude.{IsTrue};
-ghost use Rattle.sqlite.specs.Held.{state};
-ghost use Rattle.sql_meaning.specs.Transactions.{Rests};
 
 use crate::attributes::{
-    all_attributes, attribute_by_id, attribute_by_id_inside, delete_attribute,
-    greatest_attribute_id, insert_attribute,
+    all_attributes, attribute_by_id, delete_attribute, greatest_attribute_id, insert_attribute,
 };
 use crate::fault::Fault;
 use crate::identities::{
-    all_identities, delete_identity, identity_by_key, identity_by_key_inside, identity_by_uuid,
+    all_identities, delete_identity, identity_by_key_inside, identity_by_uuid,
     identity_by_uuid_inside, insert_identity,
 };
 use crate::mappings::{
     all_rows_media, all_tiles_media, delete_rows_media, delete_tiles_media, insert_rows_media,
-    insert_tiles_media, rows_media_of_base, rows_media_of_base_inside, rows_media_of_pair,
-    rows_media_of_pair_inside, rows_media_of_related, rows_media_of_related_inside,
-    tiles_media_of_base, tiles_media_of_base_inside, tiles_media_of_pair,
-    tiles_media_of_pair_inside, tiles_media_of_related, tiles_media_of_related_inside,
+    insert_tiles_media, rows_media_of_base, rows_media_of_pair, rows_media_of_related,
+    tiles_media_of_base, tiles_media_of_pair, tiles_media_of_related,
 };
-use crate::media::{
-    all_media, delete_medium, greatest_medium_id, insert_medium, medium_by_id, medium_by_id_inside,
-};
+use crate::media::{all_media, delete_medium, greatest_medium_id, insert_medium, medium_by_id};
 use crate::rows::{AttributeRow, IdentityRow, MappingRow, MediaRow, TileRow};
 use crate::schema::create_schema;
-use crate::tiles::{
-    all_tiles, delete_tile, greatest_tile_id, insert_tile, tile_at, tile_at_inside, tile_by_id,
-    tile_by_id_inside,
-};
+use crate::tiles::{all_tiles, delete_tile, greatest_tile_id, insert_tile, tile_at, tile_by_id};
+use sql_meaning::resting::is_at_rest;
 use sqlite::{Alter, Connection, Transaction};
 use std::alloc::{AllocError, Global};
 use std::test::Fail;
@@ -203,18 +193,12 @@ fn emptied<S: Alter>(conn: &mut Connection<S>) -> Result<bool, Fault> {
 
 // ---- look-ups, on a connection that is at rest
 
-fn guarded<S: Alter>(conn: &Connection<S>) -> bool
-    ensures { IsTrue result → Rests (state S.Store conn.now) }
-{
-    conn.is_autocommit()
-}
-
 fn told_tile_by_id<S: Alter>(
     alloc: Global,
     conn: &mut Connection<S>,
     id: i64,
 ) -> Result<String, Fault> {
-    if !guarded(conn) {
+    if !is_at_rest(conn) {
         return Err(Fault::StoreFault);
     }
     Ok(tile(alloc, tile_by_id(conn, id)?)?)
@@ -227,14 +211,14 @@ fn told_tile_at<S: Alter>(
     tile_column: i64,
     tile_row: i64,
 ) -> Result<String, Fault> {
-    if !guarded(conn) {
+    if !is_at_rest(conn) {
         return Err(Fault::StoreFault);
     }
     Ok(tile(alloc, tile_at(conn, zoom_level, tile_column, tile_row)?)?)
 }
 
 fn told_all_tiles<S: Alter>(alloc: Global, conn: &mut Connection<S>) -> Result<String, Fault> {
-    if !guarded(conn) {
+    if !is_at_rest(conn) {
         return Err(Fault::StoreFault);
     }
     let mut told = String::new(alloc);
@@ -250,14 +234,14 @@ fn told_medium_by_id<S: Alter>(
     conn: &mut Connection<S>,
     id: i64,
 ) -> Result<String, Fault> {
-    if !guarded(conn) {
+    if !is_at_rest(conn) {
         return Err(Fault::StoreFault);
     }
     Ok(medium(alloc, medium_by_id(conn, id)?)?)
 }
 
 fn told_all_media<S: Alter>(alloc: Global, conn: &mut Connection<S>) -> Result<String, Fault> {
-    if !guarded(conn) {
+    if !is_at_rest(conn) {
         return Err(Fault::StoreFault);
     }
     let mut told = String::new(alloc);
@@ -273,14 +257,14 @@ fn told_attribute_by_id<S: Alter>(
     conn: &mut Connection<S>,
     id: i64,
 ) -> Result<String, Fault> {
-    if !guarded(conn) {
+    if !is_at_rest(conn) {
         return Err(Fault::StoreFault);
     }
     Ok(attribute(alloc, attribute_by_id(conn, id)?)?)
 }
 
 fn told_all_attributes<S: Alter>(alloc: Global, conn: &mut Connection<S>) -> Result<String, Fault> {
-    if !guarded(conn) {
+    if !is_at_rest(conn) {
         return Err(Fault::StoreFault);
     }
     let mut told = String::new(alloc);
@@ -297,7 +281,7 @@ fn told_tiles_media_of_pair<S: Alter>(
     base_id: i64,
     related_id: i64,
 ) -> Result<String, Fault> {
-    if !guarded(conn) {
+    if !is_at_rest(conn) {
         return Err(Fault::StoreFault);
     }
     Ok(mapping(alloc, tiles_media_of_pair(conn, base_id, related_id)?)?)
@@ -308,7 +292,7 @@ fn told_tiles_media_of_base<S: Alter>(
     conn: &mut Connection<S>,
     base_id: i64,
 ) -> Result<String, Fault> {
-    if !guarded(conn) {
+    if !is_at_rest(conn) {
         return Err(Fault::StoreFault);
     }
     Ok(mapping(alloc, tiles_media_of_base(conn, base_id)?)?)
@@ -319,7 +303,7 @@ fn told_tiles_media_of_related<S: Alter>(
     conn: &mut Connection<S>,
     related_id: i64,
 ) -> Result<String, Fault> {
-    if !guarded(conn) {
+    if !is_at_rest(conn) {
         return Err(Fault::StoreFault);
     }
     Ok(mapping(alloc, tiles_media_of_related(conn, related_id)?)?)
@@ -329,7 +313,7 @@ fn told_all_tiles_media<S: Alter>(
     alloc: Global,
     conn: &mut Connection<S>,
 ) -> Result<String, Fault> {
-    if !guarded(conn) {
+    if !is_at_rest(conn) {
         return Err(Fault::StoreFault);
     }
     let mut told = String::new(alloc);
@@ -346,7 +330,7 @@ fn told_rows_media_of_pair<S: Alter>(
     base_id: i64,
     related_id: i64,
 ) -> Result<String, Fault> {
-    if !guarded(conn) {
+    if !is_at_rest(conn) {
         return Err(Fault::StoreFault);
     }
     Ok(mapping(alloc, rows_media_of_pair(conn, base_id, related_id)?)?)
@@ -357,7 +341,7 @@ fn told_rows_media_of_base<S: Alter>(
     conn: &mut Connection<S>,
     base_id: i64,
 ) -> Result<String, Fault> {
-    if !guarded(conn) {
+    if !is_at_rest(conn) {
         return Err(Fault::StoreFault);
     }
     Ok(mapping(alloc, rows_media_of_base(conn, base_id)?)?)
@@ -368,14 +352,14 @@ fn told_rows_media_of_related<S: Alter>(
     conn: &mut Connection<S>,
     related_id: i64,
 ) -> Result<String, Fault> {
-    if !guarded(conn) {
+    if !is_at_rest(conn) {
         return Err(Fault::StoreFault);
     }
     Ok(mapping(alloc, rows_media_of_related(conn, related_id)?)?)
 }
 
 fn told_all_rows_media<S: Alter>(alloc: Global, conn: &mut Connection<S>) -> Result<String, Fault> {
-    if !guarded(conn) {
+    if !is_at_rest(conn) {
         return Err(Fault::StoreFault);
     }
     let mut told = String::new(alloc);
@@ -391,26 +375,14 @@ fn told_identity_by_uuid<S: Alter>(
     conn: &mut Connection<S>,
     uuid: &str,
 ) -> Result<String, Fault> {
-    if !guarded(conn) {
+    if !is_at_rest(conn) {
         return Err(Fault::StoreFault);
     }
     Ok(identity(alloc, identity_by_uuid(conn, uuid)?)?)
 }
 
-fn told_identity_by_key<S: Alter>(
-    alloc: Global,
-    conn: &mut Connection<S>,
-    kind: i64,
-    local_id: i64,
-) -> Result<String, Fault> {
-    if !guarded(conn) {
-        return Err(Fault::StoreFault);
-    }
-    Ok(identity(alloc, identity_by_key(conn, kind, local_id)?)?)
-}
-
 fn told_all_identities<S: Alter>(alloc: Global, conn: &mut Connection<S>) -> Result<String, Fault> {
-    if !guarded(conn) {
+    if !is_at_rest(conn) {
         return Err(Fault::StoreFault);
     }
     let mut told = String::new(alloc);
@@ -428,43 +400,6 @@ fn numbers<S: Alter>(alloc: Global, tx: &mut Transaction<'_, S>) -> Result<Strin
     let media = greatest_medium_id(tx)?.unwrap_or(-1);
     let attributes = greatest_attribute_id(tx)?.unwrap_or(-1);
     Ok(format!(in alloc; "{} {} {}", tiles, media, attributes)?)
-}
-
-fn rows_inside<S: Alter>(alloc: Global, tx: &mut Transaction<'_, S>) -> Result<String, Fault> {
-    let mut told = tile(alloc, tile_by_id_inside(tx, 7)?)?;
-    told.push(';')?;
-    told.push_str(medium(alloc, medium_by_id_inside(tx, 5)?)?.as_str())?;
-    told.push(';')?;
-    told.push_str(attribute(alloc, attribute_by_id_inside(tx, 3)?)?.as_str())?;
-    told.push(';')?;
-    told.push_str(tile(alloc, tile_at_inside(tx, 2, 3, 1)?)?.as_str())?;
-    Ok(told)
-}
-
-fn tiles_media_inside<S: Alter>(
-    alloc: Global,
-    tx: &mut Transaction<'_, S>,
-) -> Result<String, Fault> {
-    let mut told = mapping(alloc, tiles_media_of_pair_inside(tx, 7, 4)?)?;
-    told.push(';')?;
-    told.push_str(mapping(alloc, tiles_media_of_base_inside(tx, 9)?)?.as_str())?;
-    told.push(';')?;
-    told.push_str(mapping(alloc, tiles_media_of_related_inside(tx, 4)?)?.as_str())?;
-    told.push(';')?;
-    told.push_str(mapping(alloc, tiles_media_of_pair_inside(tx, 4, 7)?)?.as_str())?;
-    Ok(told)
-}
-
-fn rows_media_inside<S: Alter>(
-    alloc: Global,
-    tx: &mut Transaction<'_, S>,
-) -> Result<String, Fault> {
-    let mut told = mapping(alloc, rows_media_of_pair_inside(tx, 2, 5)?)?;
-    told.push(';')?;
-    told.push_str(mapping(alloc, rows_media_of_base_inside(tx, 3)?)?.as_str())?;
-    told.push(';')?;
-    told.push_str(mapping(alloc, rows_media_of_related_inside(tx, 5)?)?.as_str())?;
-    Ok(told)
 }
 
 fn identities_inside<S: Alter>(
@@ -487,34 +422,17 @@ fn told_numbers<S: Alter>(alloc: Global, conn: &mut Connection<S>) -> Result<Str
     numbers(alloc, &mut tx)
 }
 
-fn told_rows_inside<S: Alter>(alloc: Global, conn: &mut Connection<S>) -> Result<String, Fault> {
-    if !conn.is_autocommit() {
-        return Err(Fault::StoreFault);
-    }
-    let mut tx = conn.transaction();
-    rows_inside(alloc, &mut tx)
-}
-
-fn told_tiles_media_inside<S: Alter>(
+fn told_identity_by_key<S: Alter>(
     alloc: Global,
     conn: &mut Connection<S>,
+    kind: i64,
+    local_id: i64,
 ) -> Result<String, Fault> {
     if !conn.is_autocommit() {
         return Err(Fault::StoreFault);
     }
     let mut tx = conn.transaction();
-    tiles_media_inside(alloc, &mut tx)
-}
-
-fn told_rows_media_inside<S: Alter>(
-    alloc: Global,
-    conn: &mut Connection<S>,
-) -> Result<String, Fault> {
-    if !conn.is_autocommit() {
-        return Err(Fault::StoreFault);
-    }
-    let mut tx = conn.transaction();
-    rows_media_inside(alloc, &mut tx)
+    Ok(identity(alloc, identity_by_key_inside(&mut tx, kind, local_id)?)?)
 }
 
 fn told_identities_inside<S: Alter>(
@@ -552,6 +470,7 @@ fn user_rows_are_found(rt: HostRuntime) -> Result<(), Fail> {
     assert_eq!(rt; told_tile_at(a, conn, 2, 1, 3)?.as_str(), "-");
     assert_eq!(rt; told_all_tiles(a, conn)?.as_str(), "7 2 3 1 2;9 2 0 0 1;");
     assert_eq!(rt; told_medium_by_id(a, conn, 4)?.as_str(), "4 3 image/png");
+    assert_eq!(rt; told_medium_by_id(a, conn, 5)?.as_str(), "5 0 image/jpeg");
     assert_eq!(rt; told_medium_by_id(a, conn, 6)?.as_str(), "-");
     assert_eq!(rt;
         told_all_media(a, conn)?.as_str(),
@@ -561,6 +480,7 @@ fn user_rows_are_found(rt: HostRuntime) -> Result<(), Fail> {
         told_attribute_by_id(a, conn, 2)?.as_str(),
         "2 100 -7 31 well"
     );
+    assert_eq!(rt; told_attribute_by_id(a, conn, 3)?.as_str(), "3 0 0 0 ");
     assert_eq!(rt; told_attribute_by_id(a, conn, 4)?.as_str(), "-");
     assert_eq!(rt;
         told_all_attributes(a, conn)?.as_str(),
@@ -577,7 +497,9 @@ fn relations_are_found(rt: HostRuntime) -> Result<(), Fail> {
     assert!(rt; filled(conn)?);
     assert_eq!(rt; told_tiles_media_of_pair(a, conn, 7, 4)?.as_str(), "7 4");
     assert_eq!(rt; told_tiles_media_of_pair(a, conn, 7, 5)?.as_str(), "-");
+    assert_eq!(rt; told_tiles_media_of_pair(a, conn, 4, 7)?.as_str(), "-");
     assert_eq!(rt; told_tiles_media_of_base(a, conn, 9)?.as_str(), "9 5");
+    assert_eq!(rt; told_tiles_media_of_related(a, conn, 4)?.as_str(), "7 4");
     assert_eq!(rt; told_tiles_media_of_related(a, conn, 5)?.as_str(), "9 5");
     assert_eq!(rt; told_tiles_media_of_related(a, conn, 9)?.as_str(), "-");
     assert_eq!(rt; told_all_tiles_media(a, conn)?.as_str(), "7 4;9 5;");
@@ -586,8 +508,6 @@ fn relations_are_found(rt: HostRuntime) -> Result<(), Fail> {
     assert_eq!(rt; told_rows_media_of_base(a, conn, 3)?.as_str(), "3 4");
     assert_eq!(rt; told_rows_media_of_related(a, conn, 5)?.as_str(), "2 5");
     assert_eq!(rt; told_all_rows_media(a, conn)?.as_str(), "2 5;3 4;");
-    assert_eq!(rt; told_tiles_media_inside(a, conn)?.as_str(), "7 4;9 5;7 4;-");
-    assert_eq!(rt; told_rows_media_inside(a, conn)?.as_str(), "2 5;3 4;2 5");
     Ok(())
 }
 
@@ -615,26 +535,11 @@ fn identities_are_found(rt: HostRuntime) -> Result<(), Fail> {
 }
 
 #[test]
-fn rows_inside_a_transaction(rt: HostRuntime) -> Result<(), Fail> {
-    let a = rt.alloc();
-    let mut conn = Connection::open_in_memory(a)?;
-    let conn = &mut conn;
-    assert!(rt; scheme(conn)?);
-    assert_eq!(rt; told_rows_inside(a, conn)?.as_str(), "-;-;-;-");
-    assert_eq!(rt; told_numbers(a, conn)?.as_str(), "-1 -1 -1");
-    Ok(())
-}
-
-#[test]
 fn one_row_of_each_table_goes(rt: HostRuntime) -> Result<(), Fail> {
     let a = rt.alloc();
     let mut conn = Connection::open_in_memory(a)?;
     let conn = &mut conn;
     assert!(rt; filled(conn)?);
-    assert_eq!(rt;
-        told_rows_inside(a, conn)?.as_str(),
-        "7 2 3 1 2;5 0 image/jpeg;3 0 0 0 ;7 2 3 1 2"
-    );
     assert_eq!(rt; told_numbers(a, conn)?.as_str(), "9 5 3");
     assert!(rt; emptied(conn)?);
     assert_eq!(rt; told_numbers(a, conn)?.as_str(), "7 4 2");
@@ -704,5 +609,10 @@ fn tables_without_rows_are_read(rt: HostRuntime) -> Result<(), Fail> {
     assert_eq!(rt; told_all_tiles_media(a, conn)?.as_str(), "");
     assert_eq!(rt; told_all_rows_media(a, conn)?.as_str(), "");
     assert_eq!(rt; told_all_identities(a, conn)?.as_str(), "");
+    assert_eq!(rt; told_tile_by_id(a, conn, 7)?.as_str(), "-");
+    assert_eq!(rt; told_tile_at(a, conn, 2, 3, 1)?.as_str(), "-");
+    assert_eq!(rt; told_medium_by_id(a, conn, 5)?.as_str(), "-");
+    assert_eq!(rt; told_attribute_by_id(a, conn, 3)?.as_str(), "-");
+    assert_eq!(rt; told_numbers(a, conn)?.as_str(), "-1 -1 -1");
     Ok(())
 }

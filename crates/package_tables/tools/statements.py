@@ -6,30 +6,32 @@ import os
 
 # a table: its module of src, its list in Tables, shape, constant, type of row, word of a row as shown, word for a change,
 # whether its key is the rowid, its columns, the columns by which all rows are read, and its statements:
-#   deletes: (function, columns)      finds: (function, columns, inside too)      alls: function
+#   deletes: (function, columns)      finds: (statement, columns, forms)      alls: function
+# The form of a find at rest has the name of its statement; the one inside a transaction has `_inside` after it.
 INT, TEXT, BLOB = "int", "text", "blob"
+REST, INSIDE = "", "_inside"
 TABLES = [
     dict(file="TileStatements", module="tiles", list="tiles", shape="tile_shape", table="sheet_tiles", row="TileRow", shown="tile_shown", change="Tile", keyed=True,
          columns=[("id", INT), ("zoom_level", INT), ("tile_column", INT), ("tile_row", INT), ("tile_data", BLOB)], by=["id"],
-         insert="insert_tile", delete=("delete_tile", ["id"]), finds=[("tile_by_id", ["id"], True), ("tile_at", ["zoom_level", "tile_column", "tile_row"], True)], all="all_tiles", greatest="greatest_tile_id"),
+         insert="insert_tile", delete=("delete_tile", ["id"]), finds=[("tile_by_id", ["id"], [REST]), ("tile_at", ["zoom_level", "tile_column", "tile_row"], [REST])], all="all_tiles", greatest="greatest_tile_id"),
     dict(file="MediumStatements", module="media", list="media", shape="medium_shape", table="sheet_media", row="MediaRow", shown="medium_shown", change="Medium", keyed=True,
          columns=[("id", INT), ("data", BLOB), ("content_type", TEXT)], by=["id"],
-         insert="insert_medium", delete=("delete_medium", ["id"]), finds=[("medium_by_id", ["id"], True)], all="all_media", greatest="greatest_medium_id"),
+         insert="insert_medium", delete=("delete_medium", ["id"]), finds=[("medium_by_id", ["id"], [REST])], all="all_media", greatest="greatest_medium_id"),
     dict(file="AttributeStatements", module="attributes", list="rows", shape="attribute_shape", table="sheet_rows", row="AttributeRow", shown="attribute_shown", change="Attribute", keyed=True,
          columns=[("id", INT), ("x", INT), ("y", INT), ("code", INT), ("label", TEXT)], by=["id"],
-         insert="insert_attribute", delete=("delete_attribute", ["id"]), finds=[("attribute_by_id", ["id"], True)], all="all_attributes", greatest="greatest_attribute_id"),
+         insert="insert_attribute", delete=("delete_attribute", ["id"]), finds=[("attribute_by_id", ["id"], [REST])], all="all_attributes", greatest="greatest_attribute_id"),
     dict(file="TilesMediaStatements", module="mappings", list="tiles_media", shape="tiles_media_shape", table="tiles_media", row="MappingRow", shown="mapping_shown", change="TilesMedia", keyed=False,
          columns=[("base_id", INT), ("related_id", INT)], by=["base_id", "related_id"],
          insert="insert_tiles_media", delete=("delete_tiles_media", ["base_id", "related_id"]),
-         finds=[("tiles_media_of_pair", ["base_id", "related_id"], True), ("tiles_media_of_base", ["base_id"], True), ("tiles_media_of_related", ["related_id"], True)], all="all_tiles_media"),
+         finds=[("tiles_media_of_pair", ["base_id", "related_id"], [REST]), ("tiles_media_of_base", ["base_id"], [REST]), ("tiles_media_of_related", ["related_id"], [REST])], all="all_tiles_media"),
     dict(file="RowsMediaStatements", module="mappings", list="rows_media", shape="rows_media_shape", table="rows_media", row="MappingRow", shown="mapping_shown", change="RowsMedia", keyed=False,
          columns=[("base_id", INT), ("related_id", INT)], by=["base_id", "related_id"],
          insert="insert_rows_media", delete=("delete_rows_media", ["base_id", "related_id"]),
-         finds=[("rows_media_of_pair", ["base_id", "related_id"], True), ("rows_media_of_base", ["base_id"], True), ("rows_media_of_related", ["related_id"], True)], all="all_rows_media"),
+         finds=[("rows_media_of_pair", ["base_id", "related_id"], [REST]), ("rows_media_of_base", ["base_id"], [REST]), ("rows_media_of_related", ["related_id"], [REST])], all="all_rows_media"),
     dict(file="IdentityStatements", module="identities", list="identities", shape="identity_shape", table="sheet_identity", row="IdentityRow", shown="identity_shown", change="Identity", keyed=False,
          columns=[("kind", INT), ("local_id", INT), ("uuid", TEXT)], by=["kind", "local_id"],
          insert="insert_identity", delete=("delete_identity", ["kind", "local_id"]),
-         finds=[("identity_by_uuid", ["uuid"], True), ("identity_by_key", ["kind", "local_id"], True)], all="all_identities"),
+         finds=[("identity_by_uuid", ["uuid"], [REST, INSIDE]), ("identity_by_key", ["kind", "local_id"], [INSIDE])], all="all_identities"),
 ]
 
 RESERVED = {"data", "package", "in", "as"}
@@ -408,10 +410,9 @@ def main():
         folder = "proofs/%s/" % t["module"]
         write(folder + t["insert"] + "/Answers.antt", insert_answer(t))
         write(folder + t["delete"][0] + "/Answers.antt", delete_answer(t))
-        for name, columns, inside in t["finds"]:
-            write(folder + name + "/Answers.antt", read_answer(t, name, name, columns, False, False))
-            if inside:
-                write(folder + name + "_inside/Answers.antt", read_answer(t, name, name + "_inside", columns, True, False))
+        for name, columns, forms in t["finds"]:
+            for form in forms:
+                write(folder + name + form + "/Answers.antt", read_answer(t, name, name + form, columns, form == INSIDE, False))
         if "greatest" in t:
             write(folder + t["greatest"] + "/Answers.antt", newest_answer(t))
         write(folder + t["all"] + "/Answers.antt", read_answer(t, "all", t["all"], [], False, True))

@@ -3,16 +3,13 @@
 //! in memory, and on the file that was named before it. With no argument a small package is measured in memory.
 #![tactic(auto)]
 
-ghost use Rattle.std.specs.Prelude.{IsTrue};
-ghost use Rattle.sqlite.specs.Held.{state};
-ghost use Rattle.sql_meaning.specs.Transactions.{Rests};
-
 use identity_register::additions::add;
 use identity_register::look_ups::find;
 use package_tables::fault::Fault;
 use package_tables::schema::create_schema;
 use sheet_types::collections::{Bytes, Text};
 use sheet_types::command::Content;
+use sql_meaning::resting::is_at_rest;
 use sqlite::{Alter, Connection, Transaction};
 use std::alloc::Global;
 use std::env;
@@ -97,18 +94,12 @@ fn prepare<S: Alter>(conn: &mut Connection<S>) -> Result<(), Fault> {
     Ok(())
 }
 
-fn guarded<S: Alter>(conn: &Connection<S>) -> bool
-    ensures { IsTrue result → Rests (state S.Store conn.now) }
-{
-    conn.is_autocommit()
-}
-
 /// How many of a batch are found, a third of them of each kind, from all over the package.
 fn find_batch<S: Alter>(conn: &mut Connection<S>, size: u64) -> Result<u64, Fault> {
     let mut found = 0u64;
     for step in 0..BATCH {
         for kind in 0..3u64 {
-            if !guarded(conn) {
+            if !is_at_rest(conn) {
                 return Err(Fault::StoreFault);
             }
             let number = step.wrapping_mul(7919).checked_rem(size).unwrap_or(0);

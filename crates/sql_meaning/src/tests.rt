@@ -4,6 +4,7 @@ use crate::example::{
 };
 use crate::forms::{COUNTERS, find_table, is_inert, is_quiet, is_table};
 use crate::opening::{adopt, readopt};
+use crate::resting::is_at_rest;
 use sqlite::{Connection, Error, MemStore};
 use std::alloc::Global;
 use std::test::Fail;
@@ -36,7 +37,7 @@ fn turns(rt: HostRuntime) -> Result<(), Fail> {
 #[test]
 fn steps(rt: HostRuntime) -> Result<(), Fail> {
     let mut conn = notes(rt.alloc())?;
-    assert!(rt; conn.is_autocommit());
+    assert!(rt; is_at_rest(&conn));
     let mut tx = conn.transaction();
     insert_note(&mut tx, 1, 7, "a")?;
     insert_both(&mut tx, 2, 3, 8, "b", "c")?;

@@ -1,7 +1,6 @@
 // What is looked up in all live packages: a kept receipt, a used identity, and the place of a package. The look-ups are made in the order of the members and stop at the first that answers. An error is want of memory, or a store that failed; all members are as they were.
 ghost use Rattle.std.specs.Prelude.{◌≡◌, ◌<◌, ◌↔◌, IsTrue, length};
-ghost use Rattle.sqlite.specs.Held.{state};
-ghost use Rattle.sql_meaning.specs.Transactions.{Rests, Looks};
+ghost use Rattle.sql_meaning.specs.Transactions.{Looks};
 ghost use Rattle.sheet_types.specs.Custody.{kept, is_used};
 ghost use Rattle.identity_register.specs.Calls.{Sees};
 ghost use Rattle.custody.specs.Receipts.{IsKept, is_named};
@@ -13,17 +12,10 @@ use custody::keeping::kept;
 use custody::names;
 use package_tables::fault::Fault;
 use sheet_types::receipt::Receipt;
-use sqlite::{Alter, Connection};
+use sql_meaning::resting::is_at_rest;
+use sqlite::Alter;
 use std::alloc::Global;
 use uuid::Uuid;
-
-/// Whether a store is not inside a transaction.
-pub(crate) fn is_at_rest<S: Alter>(conn: &Connection<S>) -> bool
-    ensures yes { IsTrue result → Rests (state S.Store conn.now) }
-    ensures no { Rests (state S.Store conn.now) → IsTrue result }
-{
-    conn.is_autocommit()
-}
 
 /// Whether no member's store is inside a transaction.
 pub fn are_at_rest<S: Alter + Drop>(members: &[Member<S>]) -> bool

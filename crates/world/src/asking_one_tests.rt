@@ -1,13 +1,8 @@
 // What is asked of the second of two members, of whose packages the first is empty and the second has one tile. What is expected follows from the two packages.
-ghost use Rattle.std.specs.Prelude.{IsTrue};
-ghost use Rattle.sheet_types.specs.Matrix.{is_good_frame};
-ghost use Rattle.sqlite.specs.Held.{state};
-ghost use Rattle.sql_meaning.specs.Transactions.{Rests};
-ghost use Rattle.world.specs.Members.{AllRest};
-
+use crate::asking::are_at_rest;
 use crate::asking_one::{item_at, refusal_at, thing_moved};
 use crate::members::Member;
-use matrix_rules::check::FrameRules;
+use crate::tests::is_good;
 use package_tables::fault::Fault;
 use package_tables::identities::insert_identity;
 use package_tables::schema::create_schema;
@@ -17,6 +12,7 @@ use sheet_types::command::{Command, Content, Item, Mapping};
 use sheet_types::frame::Frame;
 use sheet_types::receipt::{Moved, MovedKind, Sums};
 use sheet_types::refusal::Refusal;
+use sql_meaning::resting::is_at_rest;
 use sqlite::{Alter, Connection};
 use std::alloc::Global;
 use std::test::Fail;
@@ -49,35 +45,9 @@ fn medium() -> Uuid {
     Uuid::from_u128(2)
 }
 
-fn rested<S: Alter>(conn: &Connection<S>) -> bool
-    ensures { IsTrue result → Rests (state S.Store conn.now) }
-{
-    conn.is_autocommit()
-}
-
-fn all_rested<S: Alter + Drop>(members: &Vec<Member<S>>) -> bool
-    ensures { IsTrue result → AllRest S.Store members.now.items }
-{
-    for at in 0..members.len() {
-        if !rested(&members[at].conn) {
-            return false;
-        }
-    }
-    true
-}
-
-fn is_good(frame: &Frame) -> bool
-    ensures { IsTrue result → IsTrue (is_good_frame frame.now) }
-{
-    match frame.check() {
-        Ok(()) => true,
-        Err(_) => false,
-    }
-}
-
 // A package with the tile at zoom 2, column 3 and row 1, or an empty one.
 fn filled<S: Alter>(conn: &mut Connection<S>, with_tile: bool) -> Result<(), Fault> {
-    if !rested(conn) {
+    if !is_at_rest(conn) {
         return Err(Fault::StoreFault);
     }
     let mut tx = conn.transaction();
@@ -128,7 +98,7 @@ fn item<S: Alter + Drop>(
     at: usize,
     identity: Uuid,
 ) -> Result<Option<Item>, Fault> {
-    if at >= members.len() || !all_rested(members) {
+    if at >= members.len() || !are_at_rest(members.as_slice()) {
         return Err(Fault::StoreFault);
     }
     item_at(members, at, identity)
@@ -138,7 +108,7 @@ fn thing<S: Alter + Drop>(
     members: &mut Vec<Member<S>>,
     command: &Command,
 ) -> Result<Option<Moved>, Fault> {
-    if members.len() != 2 || !all_rested(members) {
+    if members.len() != 2 || !are_at_rest(members.as_slice()) {
         return Err(Fault::StoreFault);
     }
     thing_moved(members, 1, command)
@@ -149,7 +119,7 @@ fn refused<S: Alter + Drop>(
     at: usize,
     command: &Command,
 ) -> Result<Option<Refusal>, Fault> {
-    if at >= members.len() || !all_rested(members) || !is_good(&FRAME) {
+    if at >= members.len() || !are_at_rest(members.as_slice()) || !is_good(&FRAME) {
         return Err(Fault::StoreFault);
     }
     refusal_at(members, at, &FRAME, command)

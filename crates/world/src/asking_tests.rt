@@ -1,7 +1,4 @@
 // Two packages in memory, each with one medium and its receipt, and what they are asked. What is expected follows from what was entered.
-ghost use Rattle.std.specs.Prelude.{IsTrue};
-ghost use Rattle.sqlite.specs.Held.{state};
-ghost use Rattle.sql_meaning.specs.Transactions.{Rests};
 
 use crate::asking::{are_at_rest, is_named_in_all, kept_in_all, place_of};
 use crate::carrying_out::apply_to_package;
@@ -12,18 +9,13 @@ use sheet_types::collections::{Bytes, MovedList, Text};
 use sheet_types::command::{Command, Content};
 use sheet_types::frame::Frame;
 use sheet_types::receipt::{Moved, MovedKind, Receipt, Sums};
+use sql_meaning::resting::is_at_rest;
 use sqlite::{Alter, Connection};
 use std::alloc::Global;
 use std::test::Fail;
 use uuid::Uuid;
 
 const AT: &str = "2026-11-22T09:00:00.000Z";
-
-fn guarded<S: Alter>(conn: &Connection<S>) -> bool
-    ensures { IsTrue result → Rests (state S.Store conn.now) }
-{
-    conn.is_autocommit()
-}
 
 fn package(number: u128) -> Uuid {
     Uuid::from_u128(number)
@@ -49,7 +41,7 @@ fn made<S: Alter + Drop>(
     conn: Connection<S>,
     uuid: Uuid,
 ) -> Result<Connection<S>, Fault> {
-    if !guarded(&conn) {
+    if !is_at_rest(&conn) {
         return Err(Fault::StoreFault);
     }
     let frame = Frame {
@@ -117,7 +109,7 @@ fn member<S: Alter + Drop>(
         },
     };
     let receipt = receipt(alloc, number, seq)?;
-    if !guarded(&conn) {
+    if !is_at_rest(&conn) {
         return Err(Fault::StoreFault);
     }
     apply_to_package(&mut conn, &command, &receipt)?;

@@ -1,7 +1,4 @@
 // Each command that changes one package, carried out with its receipt in a new package in memory. What is expected follows from what the command asks for.
-ghost use Rattle.std.specs.Prelude.{IsTrue};
-ghost use Rattle.sqlite.specs.Held.{state};
-ghost use Rattle.sql_meaning.specs.Transactions.{Rests};
 
 use crate::carrying_out::{TurnFault, apply_to_package};
 use custody::names;
@@ -14,6 +11,7 @@ use sheet_types::command::{Command, Content, Mapping, Relation};
 use sheet_types::frame::Frame;
 use sheet_types::receipt::{Moved, MovedKind, Receipt};
 use sheet_types::refusal::Refusal;
+use sql_meaning::resting::is_at_rest;
 use sqlite::{Alter, Connection};
 use std::alloc::Global;
 use std::test::Fail;
@@ -22,12 +20,6 @@ use uuid::Uuid;
 const MADE: &str = "2026-11-22T08:00:00.000Z";
 
 const AT: &str = "2026-11-22T09:00:00.000Z";
-
-fn guarded<S: Alter>(conn: &Connection<S>) -> bool
-    ensures { IsTrue result → Rests (state S.Store conn.now) }
-{
-    conn.is_autocommit()
-}
 
 fn package() -> Uuid {
     Uuid::from_u128(1)
@@ -48,7 +40,7 @@ fn text(alloc: Global, s: &str) -> Result<Text, Fault> {
 }
 
 fn made<S: Alter + Drop>(alloc: Global, conn: Connection<S>) -> Result<Connection<S>, Fault> {
-    if !guarded(&conn) {
+    if !is_at_rest(&conn) {
         return Err(Fault::StoreFault);
     }
     let frame = Frame {
@@ -111,7 +103,7 @@ fn carried<S: Alter>(
     command: &Command,
     receipt: &Receipt,
 ) -> Result<(), Fault> {
-    if !guarded(conn) {
+    if !is_at_rest(conn) {
         return Err(Fault::StoreFault);
     }
     apply_to_package(conn, command, receipt)?;
@@ -119,7 +111,7 @@ fn carried<S: Alter>(
 }
 
 fn is_named<S: Alter>(conn: &mut Connection<S>, identity: Uuid) -> Result<bool, Fault> {
-    if !guarded(conn) {
+    if !is_at_rest(conn) {
         return Err(Fault::StoreFault);
     }
     names(conn, identity)
@@ -127,7 +119,7 @@ fn is_named<S: Alter>(conn: &mut Connection<S>, identity: Uuid) -> Result<bool, 
 
 // The bytes of the tile at zoom 2, column 3 and row 1; empty where it is not there.
 fn tile_bytes<S: Alter>(alloc: Global, conn: &mut Connection<S>) -> Result<Vec<u8>, Fault> {
-    if !guarded(conn) {
+    if !is_at_rest(conn) {
         return Err(Fault::StoreFault);
     }
     match find(conn, tile())? {
@@ -145,7 +137,7 @@ fn tile_bytes<S: Alter>(alloc: Global, conn: &mut Connection<S>) -> Result<Vec<u
 }
 
 fn is_linked<S: Alter>(conn: &mut Connection<S>) -> Result<bool, Fault> {
-    if !guarded(conn) {
+    if !is_at_rest(conn) {
         return Err(Fault::StoreFault);
     }
     let relation = Relation {
@@ -257,7 +249,7 @@ fn a_link_comes_and_goes(rt: HostRuntime) -> Result<(), Fail> {
 
 // The moment of the last change in each row of the contents.
 fn moments<S: Alter>(alloc: Global, conn: &mut Connection<S>) -> Result<String, Fault> {
-    if !guarded(conn) {
+    if !is_at_rest(conn) {
         return Err(Fault::StoreFault);
     }
     let rows = all_contents(conn, alloc)?;

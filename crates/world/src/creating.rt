@@ -7,7 +7,6 @@ ghost use Rattle.sheet_types.specs.World.{new_world};
 ghost use Rattle.sql_meaning.specs.Blank.{IsBlank, no_schema};
 ghost use Rattle.world.specs.Members.{AllRest, AllClean, AreMembers};
 
-use crate::asking::is_at_rest;
 use crate::members::Member;
 use identity_register::creation::create;
 use identity_register::fitting::fits;
@@ -15,6 +14,7 @@ use package_tables::create::Info;
 use package_tables::fault::Fault;
 use sheet_types::frame::{Frame, FrameFault};
 use sheet_types::receipt::Sums;
+use sql_meaning::resting::is_at_rest;
 use sqlite::{Alter, Connection};
 use std::alloc::Global;
 use std::fmt;

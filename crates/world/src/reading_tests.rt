@@ -1,8 +1,6 @@
 // What a world in memory tells after a few requests, and what two members tell. What is expected follows from what each request asks for: an item counts the bytes of its tile, medium or label.
 ghost use Rattle.std.specs.Prelude.{IsTrue};
 ghost use Rattle.world.specs.Laws.{IsServed};
-ghost use Rattle.sqlite.specs.Held.{state};
-ghost use Rattle.sql_meaning.specs.Transactions.{Rests};
 
 use crate::asking::are_at_rest;
 use crate::carrying_out::apply_to_package;
@@ -18,6 +16,7 @@ use sheet_types::frame::Frame;
 use sheet_types::receipt::{Moved, MovedKind, Receipt, Sums};
 use shelves::memory::MemoryShelf;
 use shelves::shelf::Shelf;
+use sql_meaning::resting::is_at_rest;
 use sqlite::{Alter, Connection, MemStore};
 use std::alloc::Global;
 use std::test::Fail;
@@ -289,15 +288,9 @@ fn a_package_that_is_not_live(rt: HostRuntime) -> Result<(), Fail> {
     Ok(())
 }
 
-fn guarded<S: Alter>(conn: &Connection<S>) -> bool
-    ensures { IsTrue result → Rests (state S.Store conn.now) }
-{
-    conn.is_autocommit()
-}
-
 // How many items the package of a store has.
 fn items_of<S: Alter>(conn: &mut Connection<S>, alloc: Global) -> Result<usize, Fault> {
-    if !guarded(conn) {
+    if !is_at_rest(conn) {
         return Err(Fault::StoreFault);
     }
     let (items, _links) = holdings(conn, alloc)?;
@@ -320,7 +313,7 @@ fn made<S: Alter + Drop>(
     conn: Connection<S>,
     uuid: Uuid,
 ) -> Result<Connection<S>, Fault> {
-    if !guarded(&conn) {
+    if !is_at_rest(&conn) {
         return Err(Fault::StoreFault);
     }
     let info = Info {
@@ -372,7 +365,7 @@ fn member<S: Alter + Drop>(
         content: medium(alloc, b"png")?,
     };
     let receipt = receipt(alloc, number)?;
-    if !guarded(&conn) {
+    if !is_at_rest(&conn) {
         return Err(Fault::StoreFault);
     }
     apply_to_package(&mut conn, &command, &receipt)?;

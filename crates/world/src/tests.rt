@@ -1,7 +1,5 @@
 // Requests and the numbers of the reasons for which they are refused, by the rules: 4 a text, 5 a size, 7 no such item, 8 a kind, 9 no such place, 10 outside the frame, 11 a taken place, 12 a link that is there, 13 one that is not, 14 an item that is linked; 0 where none holds.
 ghost use Rattle.std.specs.Prelude.{IsTrue};
-ghost use Rattle.sqlite.specs.Held.{state};
-ghost use Rattle.sql_meaning.specs.Transactions.{Rests};
 ghost use Rattle.sheet_types.specs.Matrix.{is_good_frame};
 
 use crate::judging::package_refusal;
@@ -18,6 +16,7 @@ use sheet_types::collections::{Bytes, Text};
 use sheet_types::command::{Command, Content, Mapping, Mode, Request};
 use sheet_types::frame::{Frame, Rect};
 use sheet_types::refusal::Refusal;
+use sql_meaning::resting::is_at_rest;
 use sqlite::{Alter, Connection};
 use std::alloc::Global;
 use std::test::Fail;
@@ -159,13 +158,7 @@ fn labels(rt: HostRuntime) -> Result<(), Fail> {
 
 // ---- a package in memory: a tile with a medium, and a row that is linked to nothing
 
-fn guarded<S: Alter>(conn: &Connection<S>) -> bool
-    ensures { IsTrue result → Rests (state S.Store conn.now) }
-{
-    conn.is_autocommit()
-}
-
-fn is_good(frame: &Frame) -> bool
+pub(crate) fn is_good(frame: &Frame) -> bool
     ensures { IsTrue result → IsTrue (is_good_frame frame.now) }
 {
     match frame.check() {
@@ -196,7 +189,7 @@ fn judged<S: Alter>(
     frame: &Frame,
     command: &Command,
 ) -> Result<u8, Fault> {
-    if !guarded(conn) || !is_good(frame) {
+    if !is_at_rest(conn) || !is_good(frame) {
         return Err(Fault::StoreFault);
     }
     Ok(number(package_refusal(conn, frame, command)?))

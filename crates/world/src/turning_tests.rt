@@ -1,7 +1,4 @@
 // Two packages in memory, of which the second takes turns. What is expected follows from what each command asks for.
-ghost use Rattle.std.specs.Prelude.{IsTrue};
-ghost use Rattle.sqlite.specs.Held.{state};
-ghost use Rattle.sql_meaning.specs.Transactions.{Rests};
 
 use crate::asking::are_at_rest;
 use crate::members::Member;
@@ -14,18 +11,13 @@ use sheet_types::collections::{Bytes, MovedList, Text};
 use sheet_types::command::{Command, Content, Mode};
 use sheet_types::frame::{Frame, Rect};
 use sheet_types::receipt::{Moved, MovedKind, Receipt, Sums};
+use sql_meaning::resting::is_at_rest;
 use sqlite::{Alter, Connection};
 use std::alloc::Global;
 use std::test::Fail;
 use uuid::Uuid;
 
 const AT: &str = "2026-11-22T09:00:00.000Z";
-
-fn guarded<S: Alter>(conn: &Connection<S>) -> bool
-    ensures { IsTrue result → Rests (state S.Store conn.now) }
-{
-    conn.is_autocommit()
-}
 
 fn package(number: u128) -> Uuid {
     Uuid::from_u128(number)
@@ -57,7 +49,7 @@ fn member<S: Alter + Drop>(
     conn: Connection<S>,
     number: u128,
 ) -> Result<Member<S>, Fault> {
-    if !guarded(&conn) {
+    if !is_at_rest(&conn) {
         return Err(Fault::StoreFault);
     }
     let frame = Frame {
@@ -175,7 +167,7 @@ fn holds<S: Alter + Drop>(members: &mut Vec<Member<S>>, at: usize) -> Result<boo
 }
 
 fn found<S: Alter>(conn: &mut Connection<S>) -> Result<bool, Fault> {
-    if !guarded(conn) {
+    if !is_at_rest(conn) {
         return Err(Fault::StoreFault);
     }
     Ok(find(conn, medium())?.is_some())
