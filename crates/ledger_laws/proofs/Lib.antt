@@ -21,5 +21,4 @@ pub mod Faults
 pub mod First
 pub mod Follow
 pub mod Whole
-pub mod examples
 pub mod Requests

@@ -10,3 +10,4 @@ pub mod Story
 pub mod Steps
 pub mod Refusing
 pub mod Limits
+pub mod Lines

@@ -152,6 +152,7 @@ UnknownItems = (answer world_4 (ask 5 (Delete archive (item 9))) ≡ Err Unknown
     × (answer world_5 (ask 6 (Delete archive (item 1))) ≡ Err UnknownItem)
     × (answer world_4 (ask 5 (Link archive TilesMedia (item 9) (item 3))) ≡ Err UnknownItem)
     × (answer world_4 (ask 5 (Link archive TilesMedia (item 1) (item 9))) ≡ Err UnknownItem)
+    × (answer world_4 (ask 5 (Link archive TilesMedia (item 8) (item 9))) ≡ Err UnknownItem)
     × (answer world_5 (ask 6 (Link archive RowsMedia (item 2) (item 3))) ≡ Err UnknownItem)
     -- before a wrong kind
     × (answer world_4 (ask 5 (Link archive RowsMedia (item 9) (item 1))) ≡ Err UnknownItem)

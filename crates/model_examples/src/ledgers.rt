@@ -1,9 +1,14 @@
-// Which ledgers are sound, and which items are altered.
-ghost use Rattle.model_examples.specs.Ledgers.{SoundLedger, WrongNumbers, WrongLines, WrongMoves, AddedTwice, WrongHoldings, ShortNames, AlteredItems, AlteredThenDeleted};
+// Which ledgers are sound, for which worlds they account, and which items are altered.
+ghost use Rattle.model_examples.specs.Ledgers.{SoundLedger, LedgerOfRequests, WrongNumbers, WrongLines, WrongThings, WrongMoves, AddedTwice, WrongHoldings, WrongSums, NothingHeld, NoRegister, ShortNames, TakenKey, AlteredItems, AlteredThenDeleted};
 
 /// A tile is added, lent and brought back.
 pub fn sound_ledger()
     ensures { SoundLedger }
+{}
+
+/// Three requests leave its receipts and its worlds.
+pub fn ledger_of_requests()
+    ensures { LedgerOfRequests }
 {}
 
 /// Numbers, requests and counts that are wrong.
@@ -16,12 +21,17 @@ pub fn wrong_lines()
     ensures { WrongLines }
 {}
 
+/// An item with two ends, and items out of their order.
+pub fn wrong_things()
+    ensures { WrongThings }
+{}
+
 /// Moves from where a thing is not, of another size or digest, or under a used name.
 pub fn wrong_moves()
     ensures { WrongMoves }
 {}
 
-/// An identity that is added, deleted and added again.
+/// An identity that is added and added again, with or without a deletion between.
 pub fn added_twice()
     ensures { AddedTwice }
 {}
@@ -31,9 +41,29 @@ pub fn wrong_holdings()
     ensures { WrongHoldings }
 {}
 
+/// Worlds of which one sum does not add up.
+pub fn wrong_sums()
+    ensures { WrongSums }
+{}
+
+/// Nothing is held of all that was added, and no sum adds up.
+pub fn nothing_held()
+    ensures { NothingHeld }
+{}
+
+/// Worlds that are no register: a loan is gone, a place is there twice.
+pub fn no_register()
+    ensures { NoRegister }
+{}
+
 /// Two links under one key, were identities of any length.
 pub fn short_names()
     ensures { ShortNames }
+{}
+
+/// The second of them is accepted, and the ledger is unsound after it.
+pub fn taken_key()
+    ensures { TakenKey }
 {}
 
 /// Items whose content is not what an Add receipt says.

@@ -7,6 +7,7 @@ pub mod frames;
 pub mod ledgers;
 pub mod lending;
 pub mod limits;
+pub mod lines;
 pub mod opening;
 pub mod refusing;
 pub mod returning;
