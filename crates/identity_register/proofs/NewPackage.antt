@@ -1,5 +1,5 @@
 -- The tables of a package with nothing in it read as that package.
-use Rattle.std.proofs.Common.{◌≡◌, ℕ, List, [], true, Option, IsTrue, refl, sym, subst}
+use Rattle.std.proofs.Common.{◌≡◌, ℕ, List, [], ◌∷◌, map, true, Option, IsTrue, refl, sym, subst}
 use Rattle.std.specs.List.{IsDistinct}
 use Rattle.sqlite.specs.Effect.{Database}
 use Rattle.sqlite.specs.State.{State}
@@ -8,7 +8,9 @@ use Rattle.sheet_types.specs.Lines.{IsUuid}
 use Rattle.sheet_types.specs.Matrix.{is_good_frame}
 use Rattle.sheet_types.specs.declared.frame.Frame.{Frame}
 use Rattle.package_tables.specs.Creation.{head_of, new_tables, Says as SaysTables}
-use Rattle.identity_register.specs.Creation.{new_package, Keeps}
+use Rattle.package_tables.specs.Fixed.{contents_of}
+use Rattle.package_tables.specs.declared.rows.HeadRow.{HeadRow}
+use Rattle.identity_register.specs.Creation.{new_package, Keeps, IsMadeAt}
 use Rattle.identity_register.specs.Reads.{Reads, Says, is_fit_end}
 
 module _ (f : Frame) (uuid : List ℕ) (parent : Option (List ℕ)) (depth loan : ℕ) (created : List ℕ) (good : IsTrue (is_good_frame f)) (fit : IsUuid uuid) (fit_parent : is_fit_end parent ≡ true) where
@@ -51,3 +53,10 @@ module _ (f : Frame) (uuid : List ℕ) (parent : Option (List ℕ)) (depth loan 
     reads = new_reads s.now it;
     left = λ trees may. subst (λ t. Reads f (new_package uuid parent depth loan) (record { schema = s.now.schema; trees = t })) (sym (holds.left trees may)) (new_reads s.now it);
   }
+
+-- and its head and its contents say when it was made
+pub new_dated : (f : Frame) (head : HeadRow) (s : State) → SaysTables s.now (new_tables f head) → IsMadeAt f head.created s
+new_dated f head s it = record {
+  created = subst (λ t. map (λ h. h.created) t.heads ≡ head.created ∷ []) (sym it.says) refl;
+  last_change = subst (λ t. t.contents ≡ contents_of f head.created) (sym it.says) refl;
+}

@@ -6,7 +6,7 @@ ghost use Rattle.sheet_types.specs.Matrix.{is_good_frame};
 ghost use Rattle.sql_meaning.specs.Blank.{IsBlank, no_schema};
 ghost use Rattle.sql_meaning.specs.Transactions.{Rests};
 ghost use Rattle.package_tables.specs.Creation.{IsFitInfo};
-ghost use Rattle.identity_register.specs.Creation.{new_package, Keeps};
+ghost use Rattle.identity_register.specs.Creation.{new_package, Keeps, IsMadeAt};
 
 use crate::fitting::{fits, fits_if_there};
 use package_tables::create::{Info, create as create_tables};
@@ -31,6 +31,7 @@ pub fn create<S: Alter + Drop>(
     requires info { IsFitInfo info.now.depth info.now.loan }
     ensures made { (HasCleanDisk (state S.Store conn) → IsBlank no_schema (state S.Store conn).now) → IfOk result (λ made. HasCleanDisk (state S.Store made)
         → Keeps frame.now (new_package info.now.package info.now.parent info.now.depth info.now.loan) (state S.Store made)) }
+    ensures dated { (HasCleanDisk (state S.Store conn) → IsBlank no_schema (state S.Store conn).now) → IfOk result (λ made. HasCleanDisk (state S.Store made) → IsMadeAt frame.now info.now.created.now (state S.Store made)) }
     ensures rests { IfOk result (λ made. Rests (state S.Store made)) }
     ensures clean { IfOk result (λ made. HasCleanDisk (state S.Store made) → HasCleanDisk (state S.Store conn)) }
 {

@@ -10,6 +10,8 @@ use Rattle.sheet_types.specs.Answers.{sums_held}
 use Rattle.sheet_types.specs.Register.{IsRegister}
 use Rattle.sql_meaning.specs.Transactions.{Rests}
 use Rattle.sql_meaning.specs.Staying.{Stays}
+use Rattle.sheet_types.specs.declared.frame.Frame.{Frame}
+use Rattle.identity_register.specs.Creation.{IsMadeAt}
 use Rattle.identity_register.specs.Reads.{Reads}
 use Rattle.world.specs.declared.members.Member.{Member}
 
@@ -25,6 +27,10 @@ module _ {S : Type 0} (g : Ghosts S) where
   -- all stores are open
   abbrev pub AllOpen : List (Member S) → Type 0
   AllOpen members = All (λ m. IsTrue (state g m.conn).is_open) members
+
+  -- each store says that its package was made at this moment
+  abbrev pub AllMadeAt : Frame → List ℕ → List (Member S) → Type 0
+  AllMadeAt f at members = All (λ m. IsMadeAt f at (state g m.conn)) members
 
   -- The member is that package of the world: what is kept of it is right and its store, where it is open, reads as it.
   pub record IsMember (w : World) (m : Member S) (p : Package) : Type 0 where

@@ -5,7 +5,7 @@ ghost use Rattle.sqlite.specs.State.{HasCleanDisk};
 ghost use Rattle.sheet_types.specs.Matrix.{is_good_frame};
 ghost use Rattle.sheet_types.specs.World.{new_world};
 ghost use Rattle.sql_meaning.specs.Blank.{IsBlank, no_schema};
-ghost use Rattle.world.specs.Members.{AllRest, AllClean, AreMembers};
+ghost use Rattle.world.specs.Members.{AllRest, AllClean, AllMadeAt, AreMembers};
 
 use crate::members::Member;
 use identity_register::creation::create;
@@ -77,6 +77,7 @@ pub(crate) fn archive_alone<S: Alter + Drop>(
     ensures one { IfOk result (λ members. length members.items ≡ 1) }
     ensures clean { IfOk result (λ members. AllClean S.Store members.items → HasCleanDisk (state S.Store conn)) }
     ensures made { IfOk result (λ members. AllClean S.Store members.items → AreMembers S.Store members.items 0 (new_world archive frame.now)) }
+    ensures dated { IfOk result (λ members. AllClean S.Store members.items → AllMadeAt S.Store frame.now at.now members.items) }
 {
     if !is_at_rest(&conn) {
         return Err(Fault::StoreFault);

@@ -7,7 +7,7 @@ ghost use Rattle.sheet_types.specs.Step.{IsFault};
 ghost use Rattle.sheet_types.specs.World.{new_world};
 ghost use Rattle.sql_meaning.specs.Blank.{IsBlank, no_schema};
 ghost use Rattle.world.specs.Creating.{IsCreatedOrRefused};
-ghost use Rattle.world.specs.Members.{AllClean};
+ghost use Rattle.world.specs.Members.{AllClean, AllMadeAt};
 ghost use Rattle.sheet_types.specs.declared.refusal.Refusal.TheVariants.{StoreFault};
 ghost use Rattle.world.specs.Laws.{IsServed};
 ghost use Rattle.world.specs.Worlds.{StandsFor, IsStep, IsRun, StandsStill, StaysOpen, LeavesNoTrace};
@@ -67,6 +67,7 @@ impl<S: Alter + Drop> World<S> {
     ) -> Result<World<S>, CreateFault>
         requires blank { HasCleanDisk (state S.Store conn) → IsBlank no_schema (state S.Store conn).now }
         ensures made { IfOk result (λ world. AllClean S.Store world.members → StandsFor S.Store world (new_world archive frame.now)) }
+        ensures dated { IfOk result (λ world. AllClean S.Store world.members → AllMadeAt S.Store frame.now at.now world.members) }
         ensures clean { IfOk result (λ world. AllClean S.Store world.members → HasCleanDisk (state S.Store conn)) }
         ensures usable { IfOk result (λ world. world.has_failed ≡ false) }
         ensures refused { IsCreatedOrRefused frame.now at.now result }

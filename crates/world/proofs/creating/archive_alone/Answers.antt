@@ -6,7 +6,9 @@ use Rattle.sqlite.specs.Held.{Held, state}
 use Rattle.sqlite.specs.State.{HasCleanDisk}
 use Rattle.sql_meaning.specs.Transactions.{Rests}
 use Rattle.sheet_types.specs.World.{new_world}
-use Rattle.world.specs.Members.{AllRest, AllClean, AreMembers}
+use Rattle.sheet_types.specs.declared.frame.Frame.{Frame}
+use Rattle.identity_register.specs.Creation.{IsMadeAt}
+use Rattle.world.specs.Members.{AllRest, AllClean, AllMadeAt, AreMembers}
 use Rattle.world.specs.declared.members.Member.{Member}
 use Rattle.world.proofs.Beginning.{first_member, alone}
 use Rattle.world.proofs.creating.archive_alone.Goals as goal
@@ -23,6 +25,10 @@ its_disk {S} g archive conn all one clean = (recursion_from_All (λ (m : Member 
 its_rest : {S : Type 0} (g : Ghosts S) (archive : List ℕ) (conn : Held S) (all : List (Member S)) → all ≡ first_member g archive conn ∷ [] → Rests (state g conn) → AllRest g all
 its_rest {S} g archive conn all one rests = subst (AllRest g) (sym one) (All-from_recursion (λ (m : Member S). Rests (state g m.conn)) (first_member g archive conn ∷ []) (rests, tt))
 
+-- and it says when it was made
+it_says : {S : Type 0} (g : Ghosts S) (archive : List ℕ) (f : Frame) (at : List ℕ) (conn : Held S) (all : List (Member S)) → all ≡ first_member g archive conn ∷ [] → IsMadeAt f at (state g conn) → AllMadeAt g f at all
+it_says {S} g archive f at conn all one says = subst (AllMadeAt g f at) (sym one) (All-from_recursion (λ (m : Member S). IsMadeAt f at (state g m.conn)) (first_member g archive conn ∷ []) (says, tt))
+
 pub returns-clause-clean : goal.returns-clause-clean
 returns-clause-clean g c = λ clean.
     let one = one_member g.S.Store c.args.archive c.in_ok-conn.conn c.in_ok-members.members.items c.push_reserved.new.items.items c.in_ok-members.ensures.items c.push_reserved.ensures.items in
@@ -33,6 +39,12 @@ returns-clause-made g c = λ clean.
     let one = one_member g.S.Store c.args.archive c.in_ok-conn.conn c.in_ok-members.members.items c.push_reserved.new.items.items c.in_ok-members.ensures.items c.push_reserved.ensures.items in
     let disk = its_disk g.S.Store c.args.archive c.in_ok-conn.conn c.push_reserved.new.items.items one clean in
     subst (λ ms. AreMembers g.S.Store ms 0 (new_world c.args.archive c.args.frame.now)) (sym one) (alone g.S.Store c.args.archive c.args.frame.now c.in_ok-conn.conn c.fits.ensures c.requires.good (c.in_ok-conn.ensures.made c.requires.blank disk))
+
+pub returns-clause-dated : goal.returns-clause-dated
+returns-clause-dated g c = λ clean.
+    let one = one_member g.S.Store c.args.archive c.in_ok-conn.conn c.in_ok-members.members.items c.push_reserved.new.items.items c.in_ok-members.ensures.items c.push_reserved.ensures.items in
+    let disk = its_disk g.S.Store c.args.archive c.in_ok-conn.conn c.push_reserved.new.items.items one clean in
+    it_says g.S.Store c.args.archive c.args.frame.now c.args.at.now c.in_ok-conn.conn c.push_reserved.new.items.items one (c.in_ok-conn.ensures.dated c.requires.blank disk)
 
 pub create-requires-clause-rests : goal.create-requires-clause-rests
 create-requires-clause-rests g c = c.if-not-is_at_rest.ensures.yes refl
