@@ -2,8 +2,6 @@
 #![tactic(auto)]
 
 pub mod keeping;
-#[cfg(test)]
-mod tests;
 
 ghost use Rattle.std.specs.Prelude.{◌≡◌, ◌<◌, ◌≤◌, ◌||◌, [], pos, IfOk, IfErr, length};
 ghost use Rattle.std.specs.List.{list_any};

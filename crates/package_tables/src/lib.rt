@@ -3,8 +3,6 @@
 
 pub mod attributes;
 pub mod create;
-#[cfg(test)]
-mod create_tests;
 pub mod fault;
 pub mod fixed;
 mod fixed_rows;
@@ -20,5 +18,3 @@ pub mod receipts;
 pub mod rows;
 pub mod schema;
 pub mod tiles;
-#[cfg(test)]
-mod user_tests;

@@ -138,6 +138,3 @@ pub fn create_schema<S: Alter>(tx: &mut Transaction<'_, S>) -> Result<(), Error>
 {
     make_each(tx, &STATEMENTS)
 }
-
-#[cfg(test)]
-mod tests;

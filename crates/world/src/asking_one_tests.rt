@@ -2,36 +2,20 @@
 use crate::asking::are_at_rest;
 use crate::asking_one::{item_at, refusal_at, thing_moved};
 use crate::members::Member;
-use crate::tests::is_good;
+use crate::test_values::{FRAME, NOTHING, is_good};
 use package_tables::fault::Fault;
 use package_tables::identities::insert_identity;
 use package_tables::schema::create_schema;
 use package_tables::tiles::insert_tile;
 use sheet_types::collections::Bytes;
 use sheet_types::command::{Command, Content, Item, Mapping};
-use sheet_types::frame::Frame;
-use sheet_types::receipt::{Moved, MovedKind, Sums};
+use sheet_types::receipt::{Moved, MovedKind};
 use sheet_types::refusal::Refusal;
 use sql_meaning::resting::is_at_rest;
 use sqlite::{Alter, Connection};
 use std::alloc::Global;
 use std::test::Fail;
 use uuid::Uuid;
-
-// Zooms 0 to 2, with 1, 2 and 4 columns and rows.
-const FRAME: Frame = Frame {
-    srs_id: 25832,
-    min_x: 0,
-    min_y: 0,
-    max_x: 4096,
-    max_y: 4096,
-    tile_width: 256,
-    tile_height: 256,
-    first_zoom: 0,
-    levels: 3,
-    matrix_width: 1,
-    matrix_height: 1,
-};
 
 fn package() -> Uuid {
     Uuid::from_u128(9)
@@ -67,13 +51,7 @@ fn member<S: Alter + Drop>(conn: Connection<S>, uuid: Uuid) -> Member<S> {
         parent: None,
         depth: 0,
         loan: 0,
-        sums: Sums {
-            tiles: 0,
-            media: 0,
-            rows: 0,
-            links: 0,
-            bytes: 0,
-        },
+        sums: NOTHING,
         ticket: 0,
     }
 }

@@ -3,19 +3,13 @@
 use crate::asking::{are_at_rest, is_named_in_all, kept_in_all, place_of};
 use crate::carrying_out::apply_to_package;
 use crate::members::Member;
-use package_tables::create::{Info, create};
+use crate::test_values::{ONE_MEDIUM, add_medium, moved_medium, new_package, receipt_of};
 use package_tables::fault::Fault;
-use sheet_types::collections::{Bytes, MovedList, Text};
-use sheet_types::command::{Command, Content};
-use sheet_types::frame::Frame;
-use sheet_types::receipt::{Moved, MovedKind, Receipt, Sums};
 use sql_meaning::resting::is_at_rest;
 use sqlite::{Alter, Connection};
 use std::alloc::Global;
 use std::test::Fail;
 use uuid::Uuid;
-
-const AT: &str = "2026-11-22T09:00:00.000Z";
 
 fn package(number: u128) -> Uuid {
     Uuid::from_u128(number)
@@ -30,68 +24,6 @@ fn request(number: u128) -> Uuid {
     Uuid::from_u128(number | 32)
 }
 
-fn text(alloc: Global, s: &str) -> Result<Text, Fault> {
-    let mut inner = String::new(alloc);
-    inner.push_str(s)?;
-    Ok(Text::from_string(inner))
-}
-
-fn made<S: Alter + Drop>(
-    alloc: Global,
-    conn: Connection<S>,
-    uuid: Uuid,
-) -> Result<Connection<S>, Fault> {
-    if !is_at_rest(&conn) {
-        return Err(Fault::StoreFault);
-    }
-    let frame = Frame {
-        srs_id: 25832,
-        min_x: 0,
-        min_y: 0,
-        max_x: 4096,
-        max_y: 4096,
-        tile_width: 256,
-        tile_height: 256,
-        first_zoom: 0,
-        levels: 3,
-        matrix_width: 1,
-        matrix_height: 1,
-    };
-    let info = Info {
-        package: uuid,
-        parent: None,
-        depth: 0,
-        loan: 0,
-        created: AT,
-    };
-    Ok(create(alloc, conn, &frame, &info)?.into_connection())
-}
-
-fn receipt(alloc: Global, number: u128, seq: u64) -> Result<Receipt, Fault> {
-    let mut things = Vec::new(alloc);
-    things.push(Moved {
-        kind: MovedKind::MediaItem,
-        base: medium(number),
-        other: None,
-        size: 3,
-        fingerprint: None,
-    })?;
-    Ok(Receipt {
-        seq,
-        request: request(number),
-        at: text(alloc, AT)?,
-        line: text(alloc, "the line")?,
-        source: None,
-        target: Some(package(number)),
-        items: MovedList::from_vec(things),
-        tiles: 0,
-        media: 1,
-        rows: 0,
-        links: 0,
-        bytes: 3,
-    })
-}
-
 // A package with one medium.
 fn member<S: Alter + Drop>(
     alloc: Global,
@@ -99,16 +31,16 @@ fn member<S: Alter + Drop>(
     number: u128,
     seq: u64,
 ) -> Result<Member<S>, Fault> {
-    let mut conn = made(alloc, conn, package(number))?;
-    let command = Command::Add {
-        package: package(number),
-        identity: medium(number),
-        content: Content::Media {
-            content_type: text(alloc, "image/png")?,
-            bytes: Bytes::from_vec(b"png".to_vec(alloc)?),
-        },
-    };
-    let receipt = receipt(alloc, number, seq)?;
+    let mut conn = new_package(alloc, conn, package(number))?;
+    let command = add_medium(alloc, package(number), medium(number))?;
+    let receipt = receipt_of(
+        alloc,
+        seq,
+        request(number),
+        package(number),
+        moved_medium(medium(number)),
+        ONE_MEDIUM,
+    )?;
     if !is_at_rest(&conn) {
         return Err(Fault::StoreFault);
     }
@@ -119,13 +51,7 @@ fn member<S: Alter + Drop>(
         parent: None,
         depth: 0,
         loan: 0,
-        sums: Sums {
-            tiles: 0,
-            media: 1,
-            rows: 0,
-            links: 0,
-            bytes: 3,
-        },
+        sums: ONE_MEDIUM,
         ticket: seq,
     })
 }

@@ -1,14 +1,13 @@
 // Each command that changes one package, carried out with its receipt in a new package in memory. What is expected follows from what the command asks for.
 
 use crate::carrying_out::{TurnFault, apply_to_package};
+use crate::test_values::{NOTHING, new_package, receipt_of, text};
 use custody::names;
 use identity_register::look_ups::{find, has_link};
-use package_tables::create::{Info, create};
 use package_tables::fault::Fault;
 use package_tables::fixed::all_contents;
-use sheet_types::collections::{Bytes, MovedList, Text};
+use sheet_types::collections::Bytes;
 use sheet_types::command::{Command, Content, Mapping, Relation};
-use sheet_types::frame::Frame;
 use sheet_types::receipt::{Moved, MovedKind, Receipt};
 use sheet_types::refusal::Refusal;
 use sql_meaning::resting::is_at_rest;
@@ -16,10 +15,6 @@ use sqlite::{Alter, Connection};
 use std::alloc::Global;
 use std::test::Fail;
 use uuid::Uuid;
-
-const MADE: &str = "2026-11-22T08:00:00.000Z";
-
-const AT: &str = "2026-11-22T09:00:00.000Z";
 
 fn package() -> Uuid {
     Uuid::from_u128(1)
@@ -33,39 +28,6 @@ fn medium() -> Uuid {
     Uuid::from_u128(3)
 }
 
-fn text(alloc: Global, s: &str) -> Result<Text, Fault> {
-    let mut inner = String::new(alloc);
-    inner.push_str(s)?;
-    Ok(Text::from_string(inner))
-}
-
-fn made<S: Alter + Drop>(alloc: Global, conn: Connection<S>) -> Result<Connection<S>, Fault> {
-    if !is_at_rest(&conn) {
-        return Err(Fault::StoreFault);
-    }
-    let frame = Frame {
-        srs_id: 25832,
-        min_x: 0,
-        min_y: 0,
-        max_x: 4096,
-        max_y: 4096,
-        tile_width: 256,
-        tile_height: 256,
-        first_zoom: 0,
-        levels: 3,
-        matrix_width: 1,
-        matrix_height: 1,
-    };
-    let info = Info {
-        package: package(),
-        parent: None,
-        depth: 0,
-        loan: 0,
-        created: MADE,
-    };
-    Ok(create(alloc, conn, &frame, &info)?.into_connection())
-}
-
 // A receipt of this number for one thing.
 fn receipt(
     alloc: Global,
@@ -74,28 +36,15 @@ fn receipt(
     base: Uuid,
     other: Option<Uuid>,
 ) -> Result<Receipt, Fault> {
-    let mut things = Vec::new(alloc);
-    things.push(Moved {
+    let thing = Moved {
         kind,
         base,
         other,
         size: 0,
         fingerprint: None,
-    })?;
-    Ok(Receipt {
-        seq,
-        request: Uuid::from_u128(100 + seq as u128),
-        at: text(alloc, AT)?,
-        line: text(alloc, "the line")?,
-        source: None,
-        target: Some(package()),
-        items: MovedList::from_vec(things),
-        tiles: 0,
-        media: 0,
-        rows: 0,
-        links: 0,
-        bytes: 0,
-    })
+    };
+    let request = Uuid::from_u128(100 + seq as u128);
+    receipt_of(alloc, seq, request, package(), thing, NOTHING)
 }
 
 fn carried<S: Alter>(
@@ -222,7 +171,7 @@ fn delete_tile<S: Alter>(alloc: Global, conn: &mut Connection<S>, seq: u64) -> R
 #[test]
 fn an_item_comes_and_goes(rt: HostRuntime) -> Result<(), Fail> {
     let alloc = rt.alloc();
-    let mut conn = made(alloc, Connection::open_in_memory(alloc)?)?;
+    let mut conn = new_package(alloc, Connection::open_in_memory(alloc)?, package())?;
     assert!(rt; !is_named(&mut conn, tile())?);
     add_tile(alloc, &mut conn, 1)?;
     assert_eq!(rt; tile_bytes(alloc, &mut conn)?.as_slice(), b"ab".as_slice());
@@ -237,7 +186,7 @@ fn an_item_comes_and_goes(rt: HostRuntime) -> Result<(), Fail> {
 #[test]
 fn a_link_comes_and_goes(rt: HostRuntime) -> Result<(), Fail> {
     let alloc = rt.alloc();
-    let mut conn = made(alloc, Connection::open_in_memory(alloc)?)?;
+    let mut conn = new_package(alloc, Connection::open_in_memory(alloc)?, package())?;
     add_tile(alloc, &mut conn, 1)?;
     add_medium(alloc, &mut conn, 2)?;
     link(alloc, &mut conn, 3)?;
@@ -264,7 +213,7 @@ fn moments<S: Alter>(alloc: Global, conn: &mut Connection<S>) -> Result<String, 
 #[test]
 fn the_contents_say_the_moment_of_the_receipt(rt: HostRuntime) -> Result<(), Fail> {
     let alloc = rt.alloc();
-    let mut conn = made(alloc, Connection::open_in_memory(alloc)?)?;
+    let mut conn = new_package(alloc, Connection::open_in_memory(alloc)?, package())?;
     assert_eq!(rt;
         moments(alloc, &mut conn)?.as_str(),
         "2026-11-22T08:00:00.000Z;2026-11-22T08:00:00.000Z;2026-11-22T08:00:00.000Z;"

@@ -27,6 +27,8 @@ pub mod register_laws;
 pub mod step_laws;
 pub mod sums;
 #[cfg(test)]
+mod test_values;
+#[cfg(test)]
 mod tests;
 pub mod texts;
 pub mod too_many;

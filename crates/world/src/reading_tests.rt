@@ -6,14 +6,15 @@ use crate::asking::are_at_rest;
 use crate::carrying_out::apply_to_package;
 use crate::members::Member;
 use crate::reading::{PackageSight, holdings_in, sights_of, sums_in};
+use crate::test_values::{
+    AT, FRAME, NOTHING, ONE_MEDIUM, add_medium, moved_medium, new_package, receipt_of, text,
+};
 use crate::world::World;
 use identity_register::whole::holdings;
-use package_tables::create::{Info, create};
 use package_tables::fault::Fault;
-use sheet_types::collections::{Bytes, MovedList, Text};
+use sheet_types::collections::Bytes;
 use sheet_types::command::{Command, Content, Item, Mapping, Relation, Request};
-use sheet_types::frame::Frame;
-use sheet_types::receipt::{Moved, MovedKind, Receipt, Sums};
+use sheet_types::receipt::{Receipt, Sums};
 use shelves::memory::MemoryShelf;
 use shelves::shelf::Shelf;
 use sql_meaning::resting::is_at_rest;
@@ -21,31 +22,6 @@ use sqlite::{Alter, Connection, MemStore};
 use std::alloc::Global;
 use std::test::Fail;
 use uuid::Uuid;
-
-// Zooms 0 to 2, with 1, 2 and 4 columns and rows.
-const FRAME: Frame = Frame {
-    srs_id: 25832,
-    min_x: 0,
-    min_y: 0,
-    max_x: 4096,
-    max_y: 4096,
-    tile_width: 256,
-    tile_height: 256,
-    first_zoom: 0,
-    levels: 3,
-    matrix_width: 1,
-    matrix_height: 1,
-};
-
-const AT: &str = "2026-11-22T09:00:00.000Z";
-
-const NOTHING: Sums = Sums {
-    tiles: 0,
-    media: 0,
-    rows: 0,
-    links: 0,
-    bytes: 0,
-};
 
 fn package(number: u64) -> Uuid {
     Uuid::from_u128(u128::from(number))
@@ -57,12 +33,6 @@ fn item(number: u64) -> Uuid {
 
 fn request(number: u64) -> Uuid {
     Uuid::from_u128(u128::from(number | 32))
-}
-
-fn text(alloc: Global, s: &str) -> Result<Text, Fault> {
-    let mut inner = String::new(alloc);
-    inner.push_str(s)?;
-    Ok(Text::from_string(inner))
 }
 
 fn tile(alloc: Global, bytes: &[u8]) -> Result<Content, Fault> {
@@ -308,48 +278,17 @@ fn the_stores_of_a_world(rt: HostRuntime) -> Result<(), Fail> {
     Ok(())
 }
 
-fn made<S: Alter + Drop>(
-    alloc: Global,
-    conn: Connection<S>,
-    uuid: Uuid,
-) -> Result<Connection<S>, Fault> {
-    if !is_at_rest(&conn) {
-        return Err(Fault::StoreFault);
-    }
-    let info = Info {
-        package: uuid,
-        parent: None,
-        depth: 0,
-        loan: 0,
-        created: AT,
-    };
-    Ok(create(alloc, conn, &FRAME, &info)?.into_connection())
-}
-
 // The receipt of the medium of a package, numbered as the package is.
 fn receipt(alloc: Global, number: u64) -> Result<Receipt, Fault> {
-    let mut things = Vec::new(alloc);
-    things.push(Moved {
-        kind: MovedKind::MediaItem,
-        base: item(number),
-        other: None,
-        size: 3,
-        fingerprint: None,
-    })?;
-    Ok(Receipt {
-        seq: number,
-        request: request(number),
-        at: text(alloc, AT)?,
-        line: text(alloc, "the line")?,
-        source: None,
-        target: Some(package(number)),
-        items: MovedList::from_vec(things),
-        tiles: 0,
-        media: 1,
-        rows: 0,
-        links: 0,
-        bytes: 3,
-    })
+    let thing = moved_medium(item(number));
+    receipt_of(
+        alloc,
+        number,
+        request(number),
+        package(number),
+        thing,
+        ONE_MEDIUM,
+    )
 }
 
 // A loan of package 1, two levels below an archive, with one medium.
@@ -358,12 +297,8 @@ fn member<S: Alter + Drop>(
     conn: Connection<S>,
     number: u64,
 ) -> Result<Member<S>, Fault> {
-    let mut conn = made(alloc, conn, package(number))?;
-    let command = Command::Add {
-        package: package(number),
-        identity: item(number),
-        content: medium(alloc, b"png")?,
-    };
+    let mut conn = new_package(alloc, conn, package(number))?;
+    let command = add_medium(alloc, package(number), item(number))?;
     let receipt = receipt(alloc, number)?;
     if !is_at_rest(&conn) {
         return Err(Fault::StoreFault);

@@ -1,10 +1,7 @@
 // Requests and the numbers of the reasons for which they are refused, by the rules: 4 a text, 5 a size, 7 no such item, 8 a kind, 9 no such place, 10 outside the frame, 11 a taken place, 12 a link that is there, 13 one that is not, 14 an item that is linked; 0 where none holds.
-ghost use Rattle.std.specs.Prelude.{IsTrue};
-ghost use Rattle.sheet_types.specs.Matrix.{is_good_frame};
-
 use crate::judging::package_refusal;
+use crate::test_values::{AT, FRAME, is_good};
 use crate::texts::text_refusal;
-use matrix_rules::check::FrameRules;
 use package_tables::attributes::insert_attribute;
 use package_tables::fault::Fault;
 use package_tables::identities::insert_identity;
@@ -21,23 +18,6 @@ use sqlite::{Alter, Connection};
 use std::alloc::Global;
 use std::test::Fail;
 use uuid::Uuid;
-
-// Zooms 0 to 2, with 1, 2 and 4 columns and rows.
-const FRAME: Frame = Frame {
-    srs_id: 25832,
-    min_x: 0,
-    min_y: 0,
-    max_x: 4096,
-    max_y: 4096,
-    tile_width: 256,
-    tile_height: 256,
-    first_zoom: 0,
-    levels: 3,
-    matrix_width: 1,
-    matrix_height: 1,
-};
-
-const AT: &str = "2026-11-22T09:00:00.000Z";
 
 fn package() -> Uuid {
     Uuid::from_u128(0xa0000000_0000_4000_8000_000000000000)
@@ -157,15 +137,6 @@ fn labels(rt: HostRuntime) -> Result<(), Fail> {
 }
 
 // ---- a package in memory: a tile with a medium, and a row that is linked to nothing
-
-pub(crate) fn is_good(frame: &Frame) -> bool
-    ensures { IsTrue result → IsTrue (is_good_frame frame.now) }
-{
-    match frame.check() {
-        Ok(()) => true,
-        Err(_) => false,
-    }
-}
 
 fn filled<S: Alter>(conn: &mut Connection<S>) -> Result<bool, Fault> {
     if !conn.is_autocommit() {

@@ -3,21 +3,18 @@
 use crate::asking::are_at_rest;
 use crate::members::Member;
 use crate::sums::{sums_after, sums_moved};
+use crate::test_values::{NOTHING, ONE_MEDIUM, add_medium, moved_medium, new_package, receipt_of};
 use crate::turning::turn_at;
 use identity_register::look_ups::find;
-use package_tables::create::{Info, create};
 use package_tables::fault::Fault;
-use sheet_types::collections::{Bytes, MovedList, Text};
-use sheet_types::command::{Command, Content, Mode};
-use sheet_types::frame::{Frame, Rect};
-use sheet_types::receipt::{Moved, MovedKind, Receipt, Sums};
+use sheet_types::command::{Command, Mode};
+use sheet_types::frame::Rect;
+use sheet_types::receipt::{Receipt, Sums};
 use sql_meaning::resting::is_at_rest;
 use sqlite::{Alter, Connection};
 use std::alloc::Global;
 use std::test::Fail;
 use uuid::Uuid;
-
-const AT: &str = "2026-11-22T09:00:00.000Z";
 
 fn package(number: u128) -> Uuid {
     Uuid::from_u128(number)
@@ -25,12 +22,6 @@ fn package(number: u128) -> Uuid {
 
 fn medium() -> Uuid {
     Uuid::from_u128(16)
-}
-
-fn text(alloc: Global, s: &str) -> Result<Text, Fault> {
-    let mut inner = String::new(alloc);
-    inner.push_str(s)?;
-    Ok(Text::from_string(inner))
 }
 
 fn sums(media: u64, bytes: u64) -> Sums {
@@ -49,75 +40,32 @@ fn member<S: Alter + Drop>(
     conn: Connection<S>,
     number: u128,
 ) -> Result<Member<S>, Fault> {
-    if !is_at_rest(&conn) {
-        return Err(Fault::StoreFault);
-    }
-    let frame = Frame {
-        srs_id: 25832,
-        min_x: 0,
-        min_y: 0,
-        max_x: 4096,
-        max_y: 4096,
-        tile_width: 256,
-        tile_height: 256,
-        first_zoom: 0,
-        levels: 3,
-        matrix_width: 1,
-        matrix_height: 1,
-    };
-    let info = Info {
-        package: package(number),
-        parent: None,
-        depth: 0,
-        loan: 0,
-        created: AT,
-    };
     Ok(Member {
-        conn: create(alloc, conn, &frame, &info)?.into_connection(),
+        conn: new_package(alloc, conn, package(number))?,
         uuid: package(number),
         parent: None,
         depth: 0,
         loan: 0,
-        sums: sums(0, 0),
+        sums: NOTHING,
         ticket: 0,
     })
 }
 
 // The receipt of this number for the medium, of 3 bytes.
 fn receipt(alloc: Global, seq: u64) -> Result<Receipt, Fault> {
-    let mut things = Vec::new(alloc);
-    things.push(Moved {
-        kind: MovedKind::MediaItem,
-        base: medium(),
-        other: None,
-        size: 3,
-        fingerprint: None,
-    })?;
-    Ok(Receipt {
+    let request = Uuid::from_u128(100 + seq as u128);
+    receipt_of(
+        alloc,
         seq,
-        request: Uuid::from_u128(100 + seq as u128),
-        at: text(alloc, AT)?,
-        line: text(alloc, "the line")?,
-        source: None,
-        target: Some(package(2)),
-        items: MovedList::from_vec(things),
-        tiles: 0,
-        media: 1,
-        rows: 0,
-        links: 0,
-        bytes: 3,
-    })
+        request,
+        package(2),
+        moved_medium(medium()),
+        ONE_MEDIUM,
+    )
 }
 
 fn adding(alloc: Global) -> Result<Command, Fault> {
-    Ok(Command::Add {
-        package: package(2),
-        identity: medium(),
-        content: Content::Media {
-            content_type: text(alloc, "image/png")?,
-            bytes: Bytes::from_vec(b"png".to_vec(alloc)?),
-        },
-    })
+    add_medium(alloc, package(2), medium())
 }
 
 fn deleting() -> Command {

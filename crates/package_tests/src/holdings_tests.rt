@@ -1,8 +1,8 @@
 // Whole packages in memory, read back. What is expected follows from what was put in: items by kind and UUID, links by
 // mapping, base and medium, however the local numbers stand.
 
-use crate::changes::{link, unlink};
-use crate::whole::holdings;
+use crate::change_tests::{linked, unlinked};
+use identity_register::whole::holdings;
 use package_tables::attributes::insert_attribute;
 use package_tables::fault::Fault;
 use package_tables::identities::insert_identity;
@@ -206,26 +206,6 @@ fn with_ends<S: Alter>(conn: &mut Connection<S>) -> Result<bool, Fault> {
     }
     let mut tx = conn.transaction();
     put_ends(&mut tx)?;
-    tx.commit()?;
-    Ok(true)
-}
-
-fn linked<S: Alter>(conn: &mut Connection<S>, relation: Relation) -> Result<bool, Fault> {
-    if !conn.is_autocommit() {
-        return Ok(false);
-    }
-    let mut tx = conn.transaction();
-    link(&mut tx, relation)?;
-    tx.commit()?;
-    Ok(true)
-}
-
-fn unlinked<S: Alter>(conn: &mut Connection<S>, relation: Relation) -> Result<bool, Fault> {
-    if !conn.is_autocommit() {
-        return Ok(false);
-    }
-    let mut tx = conn.transaction();
-    unlink(&mut tx, relation)?;
     tx.commit()?;
     Ok(true)
 }

@@ -1,9 +1,9 @@
 // What the changes do to the tables of a package in memory. The expected rows are written by hand, from what each change
 // is to put in or take out.
 
-use crate::additions::add;
-use crate::changes::{delete, link, unlink};
-use crate::look_ups::find;
+use identity_register::additions::add;
+use identity_register::changes::{delete, link, unlink};
+use identity_register::look_ups::find;
 use package_tables::attributes::{all_attributes, insert_attribute};
 use package_tables::fault::Fault;
 use package_tables::identities::{all_identities, insert_identity};
@@ -105,7 +105,10 @@ fn filled_to_the_last<S: Alter>(conn: &mut Connection<S>) -> Result<bool, Fault>
     Ok(true)
 }
 
-fn linked<S: Alter>(conn: &mut Connection<S>, relation: Relation) -> Result<bool, Fault> {
+pub(crate) fn linked<S: Alter>(
+    conn: &mut Connection<S>,
+    relation: Relation,
+) -> Result<bool, Fault> {
     if !conn.is_autocommit() {
         return Ok(false);
     }
@@ -115,7 +118,10 @@ fn linked<S: Alter>(conn: &mut Connection<S>, relation: Relation) -> Result<bool
     Ok(true)
 }
 
-fn unlinked<S: Alter>(conn: &mut Connection<S>, relation: Relation) -> Result<bool, Fault> {
+pub(crate) fn unlinked<S: Alter>(
+    conn: &mut Connection<S>,
+    relation: Relation,
+) -> Result<bool, Fault> {
     if !conn.is_autocommit() {
         return Ok(false);
     }

@@ -1,27 +1,24 @@
 // A new package, in memory and on a disk, and what comes into it. The expected rows are those of the GeoPackage standard and of the profile.
-ghost use Rattle.std.specs.Prelude.{IfOk, IsTrue};
-ghost use Rattle.sqlite_disk.specs.Memory.{memory_is_usable};
 
-use crate::create::{Info, create};
-use crate::fault::Fault;
-use crate::fixed::{
+use crate::values::{AT, FRAME, archive, close, new_tables, open};
+use package_tables::create::Info;
+use package_tables::fault::Fault;
+use package_tables::fixed::{
     all_contents, all_relations, all_spatial_ref_sys, all_tile_matrices, all_tile_matrix_sets,
     set_last_change,
 };
-use crate::head::all_heads;
-use crate::moved::{all_moved, insert_moved, moved_of, moved_of_kind};
-use crate::package::{Package, begin};
-use crate::receipts::{all_receipts, insert_receipt, receipt_by_request};
-use crate::rows::{MovedRow, ReceiptRow};
+use package_tables::head::all_heads;
+use package_tables::moved::{all_moved, insert_moved, moved_of, moved_of_kind};
+use package_tables::package::{Package, begin};
+use package_tables::receipts::{all_receipts, insert_receipt, receipt_by_request};
+use package_tables::rows::{MovedRow, ReceiptRow};
 use sheet_types::frame::Frame;
 use sql_meaning::resting::is_at_rest;
-use sqlite::{Alter, Connection, Error, FileStore, Files, Options, Transaction};
-use sqlite_disk::{Disk, Memory};
+use sqlite::{Alter, Connection, Error, Transaction};
+use sqlite_disk::Memory;
 use std::alloc::{AllocError, Global};
 use std::test::Fail;
 use uuid::Uuid;
-
-const AT: &str = "2026-11-22T09:00:00.000Z";
 
 const LATER: &str = "2026-11-23T09:00:00.000Z";
 
@@ -36,40 +33,9 @@ const RELATIONS: &str =
 
 const HEAD: &str = "1 1 00000000-0000-0000-0000-000000000001  0 0 2026-11-22T09:00:00.000Z|";
 
-// A package of the frame 25832, 4096 by 4096, three levels of tiles of 256 pixels.
-fn made<S: Alter + Drop>(alloc: Global, conn: Connection<S>) -> Result<Package<S>, Fault> {
-    if !is_at_rest(&conn) {
-        return Err(Fault::StoreFault);
-    }
-    let frame = Frame {
-        srs_id: 25832,
-        min_x: 0,
-        min_y: 0,
-        max_x: 4096,
-        max_y: 4096,
-        tile_width: 256,
-        tile_height: 256,
-        first_zoom: 0,
-        levels: 3,
-        matrix_width: 1,
-        matrix_height: 1,
-    };
-    let info = Info {
-        package: Uuid::from_u128(1),
-        parent: None,
-        depth: 0,
-        loan: 0,
-        created: AT,
-    };
-    create(alloc, conn, &frame, &info)
-}
-
 // A package of another frame: a reference system that each package has, two levels that begin at zoom 3, tiles and matrices that
 // are not square, ground below zero; with a parent, and at the greatest loan.
 fn made_below<S: Alter + Drop>(alloc: Global, conn: Connection<S>) -> Result<Package<S>, Fault> {
-    if !is_at_rest(&conn) {
-        return Err(Fault::StoreFault);
-    }
     let frame = Frame {
         srs_id: 4326,
         min_x: -7000,
@@ -90,7 +56,7 @@ fn made_below<S: Alter + Drop>(alloc: Global, conn: Connection<S>) -> Result<Pac
         loan: 1000000000,
         created: LATER,
     };
-    create(alloc, conn, &frame, &info)
+    new_tables(alloc, conn, &frame, &info)
 }
 
 // The number of tables and indexes.
@@ -365,32 +331,15 @@ fn of_kind<S: Alter>(
     Ok(moved(alloc, row)?)
 }
 
-fn open(alloc: Global, db: Memory) -> Result<Connection<FileStore<Memory>>, Error>
-    requires { IsTrue (memory_is_usable db) }
-{
-    let files = Files {
-        log: Memory::new(alloc),
-        db,
-    };
-    match Connection::open_files(alloc, files, Options::new(1)) {
-        Ok(conn) => Ok(conn),
-        Err((error, _)) => Err(error),
-    }
-}
-
-fn close(conn: Connection<FileStore<Memory>>) -> Result<Memory, Error>
-    ensures { IfOk result (λ db. IsTrue (memory_is_usable db)) }
-{
-    match conn.close_files() {
-        Ok(Files { log: _, db }) => Ok(db),
-        Err(failed) => Err(failed.0),
-    }
-}
-
 #[test]
 fn a_new_package_has_its_fixed_rows(rt: HostRuntime) -> Result<(), Fail> {
     let alloc = rt.alloc();
-    let mut package = made(alloc, Connection::open_in_memory(alloc)?)?;
+    let mut package = new_tables(
+        alloc,
+        Connection::open_in_memory(alloc)?,
+        &FRAME,
+        &archive(),
+    )?;
     assert_eq!(rt; systems(alloc, &mut package.conn)?.as_str(), SYSTEMS);
     assert_eq!(rt;
         contents(alloc, &mut package.conn)?.as_str(),
@@ -437,7 +386,13 @@ fn a_package_of_another_frame_has_its_rows(rt: HostRuntime) -> Result<(), Fail> 
 #[test]
 fn the_least_and_the_greatest_are_entered(rt: HostRuntime) -> Result<(), Fail> {
     let alloc = rt.alloc();
-    let mut conn = made(alloc, Connection::open_in_memory(alloc)?)?.into_connection();
+    let mut conn = new_tables(
+        alloc,
+        Connection::open_in_memory(alloc)?,
+        &FRAME,
+        &archive(),
+    )?
+    .into_connection();
     assert_eq!(rt; receipt_count(alloc, &mut conn)?, 0);
     assert_eq!(rt; moved_count(alloc, &mut conn)?, 0);
     assert_eq!(rt; of_seq(alloc, &mut conn, 0)?.as_str(), "");
@@ -466,7 +421,13 @@ fn the_least_and_the_greatest_are_entered(rt: HostRuntime) -> Result<(), Fail> {
 #[test]
 fn receipts_and_what_they_moved_are_found(rt: HostRuntime) -> Result<(), Fail> {
     let alloc = rt.alloc();
-    let mut conn = made(alloc, Connection::open_in_memory(alloc)?)?.into_connection();
+    let mut conn = new_tables(
+        alloc,
+        Connection::open_in_memory(alloc)?,
+        &FRAME,
+        &archive(),
+    )?
+    .into_connection();
     assert!(rt; entered(&mut conn)?);
     assert_eq!(rt;
         by_request(alloc, &mut conn, "q2")?.as_str(),
@@ -510,7 +471,13 @@ fn receipts_and_what_they_moved_are_found(rt: HostRuntime) -> Result<(), Fail> {
 #[test]
 fn a_receipt_comes_whole_or_not_at_all(rt: HostRuntime) -> Result<(), Fail> {
     let alloc = rt.alloc();
-    let mut conn = made(alloc, Connection::open_in_memory(alloc)?)?.into_connection();
+    let mut conn = new_tables(
+        alloc,
+        Connection::open_in_memory(alloc)?,
+        &FRAME,
+        &archive(),
+    )?
+    .into_connection();
     assert!(rt; entered(&mut conn)?);
     if let Err(fault) = entered_once_more(&mut conn) {
         assert!(rt; fault == Fault::OutOfMemory);
@@ -529,7 +496,12 @@ fn a_receipt_comes_whole_or_not_at_all(rt: HostRuntime) -> Result<(), Fail> {
 #[test]
 fn a_new_package_is_there_when_its_disk_is_opened_again(rt: HostRuntime) -> Result<(), Fail> {
     let alloc = rt.alloc();
-    let conn = made(alloc, open(alloc, Memory::new(alloc))?)?.into_connection();
+    let conn = new_tables(
+        alloc,
+        open(alloc, Memory::new(alloc))?,
+        &FRAME,
+        &archive(),
+    )?.into_connection();
     let mut again = open(alloc, close(conn)?)?;
     assert_eq!(rt; systems(alloc, &mut again)?.as_str(), SYSTEMS);
     assert_eq!(rt; matrices(alloc, &mut again)?.as_str(), MATRICES);

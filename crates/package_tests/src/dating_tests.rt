@@ -1,9 +1,8 @@
 // The moment of the last change of a package that was just made, in memory. What is expected is the three tables of the
 // contents by their names, the bounds and the reference system of the frame, and the moment that was given.
 
-use crate::creation::create;
-use crate::dating::date_contents;
-use package_tables::create::Info;
+use crate::values::{archive, new_package};
+use identity_register::dating::date_contents;
 use package_tables::fault::Fault;
 use package_tables::fixed::all_contents;
 use package_tables::head::all_heads;
@@ -12,17 +11,11 @@ use sql_meaning::resting::is_at_rest;
 use sqlite::{Alter, Connection};
 use std::alloc::Global;
 use std::test::Fail;
-use uuid::Uuid;
-
-const MADE: &str = "2026-11-22T09:00:00.000Z";
 
 const CHANGED: &str = "2027-01-02T03:04:05.006Z";
 
 // An archive of the frame 3857, 8192 by 4096 from (-4096, -2048), one level of tiles of 256 pixels.
 fn made<S: Alter + Drop>(alloc: Global, conn: Connection<S>) -> Result<Connection<S>, Fault> {
-    if !is_at_rest(&conn) {
-        return Err(Fault::StoreFault);
-    }
     let frame = Frame {
         srs_id: 3857,
         min_x: -4096,
@@ -36,14 +29,7 @@ fn made<S: Alter + Drop>(alloc: Global, conn: Connection<S>) -> Result<Connectio
         matrix_width: 2,
         matrix_height: 1,
     };
-    let info = Info {
-        package: Uuid::from_u128(1),
-        parent: None,
-        depth: 0,
-        loan: 0,
-        created: MADE,
-    };
-    create(alloc, conn, &frame, &info)
+    new_package(alloc, conn, &frame, &archive())
 }
 
 fn changed<S: Alter>(conn: &mut Connection<S>) -> Result<(), Fault> {

@@ -1,23 +1,27 @@
 // What the statements on the user tables, the mapping tables and the identities do to a package in memory. The expected
 // rows are what stock SQLite 3.40.1 answers after the same statements.
 
-use crate::attributes::{
+use package_tables::attributes::{
     all_attributes, attribute_by_id, delete_attribute, greatest_attribute_id, insert_attribute,
 };
-use crate::fault::Fault;
-use crate::identities::{
+use package_tables::fault::Fault;
+use package_tables::identities::{
     all_identities, delete_identity, identity_by_key_inside, identity_by_uuid,
     identity_by_uuid_inside, insert_identity,
 };
-use crate::mappings::{
+use package_tables::mappings::{
     all_rows_media, all_tiles_media, delete_rows_media, delete_tiles_media, insert_rows_media,
     insert_tiles_media, rows_media_of_base, rows_media_of_pair, rows_media_of_related,
     tiles_media_of_base, tiles_media_of_pair, tiles_media_of_related,
 };
-use crate::media::{all_media, delete_medium, greatest_medium_id, insert_medium, medium_by_id};
-use crate::rows::{AttributeRow, IdentityRow, MappingRow, MediaRow, TileRow};
-use crate::schema::create_schema;
-use crate::tiles::{all_tiles, delete_tile, greatest_tile_id, insert_tile, tile_at, tile_by_id};
+use package_tables::media::{
+    all_media, delete_medium, greatest_medium_id, insert_medium, medium_by_id,
+};
+use package_tables::rows::{AttributeRow, IdentityRow, MappingRow, MediaRow, TileRow};
+use package_tables::schema::create_schema;
+use package_tables::tiles::{
+    all_tiles, delete_tile, greatest_tile_id, insert_tile, tile_at, tile_by_id,
+};
 use sql_meaning::resting::is_at_rest;
 use sqlite::{Alter, Connection, Transaction};
 use std::alloc::{AllocError, Global};

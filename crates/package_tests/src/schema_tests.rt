@@ -1,10 +1,9 @@
 // The objects of a new package, as the store lists them.
-ghost use Rattle.std.specs.Prelude.{IsTrue, IfOk};
-ghost use Rattle.sqlite_disk.specs.Memory.{memory_is_usable};
 
-use super::create_schema;
-use sqlite::{Alter, Connection, Error, FileStore, Files, Options};
-use sqlite_disk::{Disk, Memory};
+use crate::values::{close, open};
+use package_tables::schema::create_schema;
+use sqlite::{Alter, Connection, Error};
+use sqlite_disk::Memory;
 use std::alloc::Global;
 use std::test::Fail;
 
@@ -67,28 +66,6 @@ fn objects<S: Alter>(alloc: Global, conn: &mut Connection<S>) -> Result<String, 
         listed.push('\n')?;
     }
     Ok(listed)
-}
-
-fn open(alloc: Global, db: Memory) -> Result<Connection<FileStore<Memory>>, Error>
-    requires { IsTrue (memory_is_usable db) }
-{
-    let files = Files {
-        log: Memory::new(alloc),
-        db,
-    };
-    match Connection::open_files(alloc, files, Options::new(1)) {
-        Ok(conn) => Ok(conn),
-        Err((error, _)) => Err(error),
-    }
-}
-
-fn close(conn: Connection<FileStore<Memory>>) -> Result<Memory, Error>
-    ensures { IfOk result (λ db. IsTrue (memory_is_usable db)) }
-{
-    match conn.close_files() {
-        Ok(Files { log: _, db }) => Ok(db),
-        Err(failed) => Err(failed.0),
-    }
 }
 
 #[test]

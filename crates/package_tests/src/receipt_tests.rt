@@ -1,22 +1,19 @@
 // A receipt that comes into a new package in memory. The expected rows follow from the columns of the profile.
 
-use crate::keeping::kept;
-use crate::{enter, names};
-use package_tables::create::{Info, create};
+use crate::values::{AT, FRAME, archive, new_package};
+use custody::keeping::kept;
+use custody::{enter, names};
 use package_tables::fault::Fault;
 use package_tables::moved::moved_of;
 use package_tables::package::begin;
 use package_tables::receipts::receipt_by_request;
 use sheet_types::collections::{MovedList, Text};
-use sheet_types::frame::Frame;
 use sheet_types::receipt::{Moved, MovedKind, Receipt};
 use sql_meaning::resting::is_at_rest;
 use sqlite::{Alter, Connection};
 use std::alloc::Global;
 use std::test::Fail;
 use uuid::Uuid;
-
-const AT: &str = "2026-11-22T09:00:00.000Z";
 
 fn text(alloc: Global, s: &str) -> Result<Text, Fault> {
     let mut inner = String::new(alloc);
@@ -83,33 +80,6 @@ fn give_back(alloc: Global) -> Result<Receipt, Fault> {
     })
 }
 
-fn made<S: Alter + Drop>(alloc: Global, conn: Connection<S>) -> Result<Connection<S>, Fault> {
-    if !is_at_rest(&conn) {
-        return Err(Fault::StoreFault);
-    }
-    let frame = Frame {
-        srs_id: 25832,
-        min_x: 0,
-        min_y: 0,
-        max_x: 4096,
-        max_y: 4096,
-        tile_width: 256,
-        tile_height: 256,
-        first_zoom: 0,
-        levels: 3,
-        matrix_width: 1,
-        matrix_height: 1,
-    };
-    let info = Info {
-        package: Uuid::from_u128(1),
-        parent: None,
-        depth: 0,
-        loan: 0,
-        created: AT,
-    };
-    Ok(create(alloc, conn, &frame, &info)?.into_connection())
-}
-
 fn entered<S: Alter>(conn: &mut Connection<S>, receipt: &Receipt) -> Result<bool, Fault> {
     if !conn.is_autocommit() {
         return Ok(false);
@@ -169,7 +139,12 @@ fn moved_rows<S: Alter>(alloc: Global, conn: &mut Connection<S>) -> Result<Strin
 #[test]
 fn a_receipt_is_entered_and_names_its_items(rt: HostRuntime) -> Result<(), Fail> {
     let alloc = rt.alloc();
-    let mut conn = made(alloc, Connection::open_in_memory(alloc)?)?;
+    let mut conn = new_package(
+        alloc,
+        Connection::open_in_memory(alloc)?,
+        &FRAME,
+        &archive(),
+    )?;
     assert!(rt; !is_named(&mut conn, 2)?);
     let receipt = loan(alloc)?;
     assert!(rt; entered(&mut conn, &receipt)?);
@@ -224,7 +199,12 @@ fn has_kept<S: Alter>(
 #[test]
 fn a_receipt_is_kept_for_its_request(rt: HostRuntime) -> Result<(), Fail> {
     let alloc = rt.alloc();
-    let mut conn = made(alloc, Connection::open_in_memory(alloc)?)?;
+    let mut conn = new_package(
+        alloc,
+        Connection::open_in_memory(alloc)?,
+        &FRAME,
+        &archive(),
+    )?;
     let lent = loan(alloc)?;
     let back = give_back(alloc)?;
     assert!(rt; !has_kept(alloc, &mut conn, 9)?);

@@ -1,7 +1,7 @@
 // What the look-ups answer of packages in memory: a tile with a medium and a row that is linked to nothing, and a row with a
 // medium beside a tile and another row that are linked to nothing. What is expected follows from what was put in.
 
-use crate::look_ups::{find, has_link, has_tile_at, is_linked, kind_of_item};
+use identity_register::look_ups::{find, has_link, has_tile_at, is_linked, kind_of_item};
 use package_tables::attributes::insert_attribute;
 use package_tables::fault::Fault;
 use package_tables::identities::insert_identity;

@@ -1,13 +1,12 @@
 // A package that was just made, in memory: nothing is found in it, and what is put into it is.
 
-use crate::additions::add;
-use crate::creation::create;
-use crate::look_ups::{find, has_tile_at, is_linked, kind_of_item};
+use crate::values::{AT, FRAME, new_package};
+use identity_register::additions::add;
+use identity_register::look_ups::{find, has_tile_at, is_linked, kind_of_item};
 use package_tables::create::Info;
 use package_tables::fault::Fault;
 use sheet_types::collections::Bytes;
 use sheet_types::command::Content;
-use sheet_types::frame::Frame;
 use sheet_types::receipt::MovedKind;
 use sql_meaning::resting::is_at_rest;
 use sqlite::{Alter, Connection};
@@ -15,32 +14,16 @@ use std::alloc::Global;
 use std::test::Fail;
 use uuid::Uuid;
 
-// A loan of the package 1, of the frame 25832, 4096 by 4096, three levels of tiles of 256 pixels.
+// A loan of the package 1.
 fn made<S: Alter + Drop>(alloc: Global, conn: Connection<S>) -> Result<Connection<S>, Fault> {
-    if !is_at_rest(&conn) {
-        return Err(Fault::StoreFault);
-    }
-    let frame = Frame {
-        srs_id: 25832,
-        min_x: 0,
-        min_y: 0,
-        max_x: 4096,
-        max_y: 4096,
-        tile_width: 256,
-        tile_height: 256,
-        first_zoom: 0,
-        levels: 3,
-        matrix_width: 1,
-        matrix_height: 1,
-    };
     let info = Info {
         package: Uuid::from_u128(2),
         parent: Some(Uuid::from_u128(1)),
         depth: 1,
         loan: 7,
-        created: "2026-11-22T09:00:00.000Z",
+        created: AT,
     };
-    create(alloc, conn, &frame, &info)
+    new_package(alloc, conn, &FRAME, &info)
 }
 
 fn added<S: Alter>(alloc: Global, conn: &mut Connection<S>) -> Result<bool, Fault> {
