@@ -21,6 +21,7 @@ use std::alloc::Global;
 use std::process::Abort;
 use std::test::Fail;
 use uuid::Uuid;
+use world::applying::is_served;
 use world::creating::CreateFault;
 use world::world::World;
 
@@ -97,18 +98,6 @@ fn made(alloc: Global) -> Result<World<MemStore>, Fault> {
     match World::create(alloc, blank(alloc)?, archive(), AT, &FRAME) {
         Ok(world) => Ok(world),
         Err(_) => Err(Fault::StoreFault),
-    }
-}
-
-fn is_served(command: &Command) -> bool
-    ensures { IsTrue result → IsServed command.now }
-{
-    match command {
-        Command::Add { .. }
-        | Command::Delete { .. }
-        | Command::Link { .. }
-        | Command::Unlink { .. } => true,
-        Command::Split { .. } | Command::Merge { .. } => false,
     }
 }
 

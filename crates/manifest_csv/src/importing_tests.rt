@@ -2,13 +2,11 @@
 use crate::importing::{ImportFault, import};
 use crate::lists::ReadFault;
 use crate::package_manifests::write_manifest;
-use crate::test_worlds::{Narrow, archive, list, new_world, request};
+use crate::test_worlds::{Failing, Narrow, archive, list, new_world, request};
 use sheet_types::receipt::Sums;
 use shelves::memory::MemoryShelf;
 use sqlite::MemStore;
 use std::alloc::Global;
-use std::io;
-use std::io::Read;
 use std::process::Abort;
 use std::test::Fail;
 use world::world::World;
@@ -249,35 +247,12 @@ fn a_list_that_is_cut_short(rt: HostRuntime) -> Result<(), Fail> {
     expect_unread(&rt, alloc, &bytes[..end.saturating_sub(4)], ReadFault::Read)
 }
 
-/// Gives its bytes one by one, and then fails.
-#[derive(Drop)]
-struct Failing<'a> {
-    text: &'a [u8],
-    at: usize,
-}
-
-impl<'a> Read for Failing<'a> {
-    fn read(&mut self, buf: &mut [u8]) -> io::Result<usize> {
-        match (self.text.get(self.at), buf.first_mut()) {
-            (Some(byte), Some(place)) => {
-                *place = *byte;
-                self.at = self.at.saturating_add(1);
-                Ok(1)
-            }
-            _ => Err(io::Error::from(io::ErrorKind::BrokenPipe)),
-        }
-    }
-}
-
 #[test]
 fn a_reader_that_fails_after_a_good_list(rt: HostRuntime) -> Result<(), Fail> {
     let alloc = rt.alloc();
     let mut world = new_world(alloc)?;
     let text = list(alloc, &[FIRST_TILE])?;
-    let reader = Failing {
-        text: text.as_bytes(),
-        at: 0,
-    };
+    let reader = Failing::new(text.as_bytes());
     let mut out: Vec<u8> = Vec::new(alloc);
     let ended = import(
         alloc,

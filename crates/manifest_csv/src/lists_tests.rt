@@ -1,11 +1,10 @@
 // Lists whose requests and faults were worked out by hand; the digests are Python's `hashlib`.
 use crate::lists::{ReadFault, read_requests, requests_of};
 use crate::records::{Ending, read_records};
+use crate::test_worlds::Failing;
 use sheet_types::command::{Command, Content, Request};
 use sheet_types::lines::line;
 use std::alloc::{AllocError, Global};
-use std::io;
-use std::io::Read;
 
 const HEADER: &str =
     "request,at,command,package,identity,other,kind,zoom,column,row,last_column,last_row,x,y,code,ticket,text,data";
@@ -290,35 +289,12 @@ fn records_that_are_not_read(rt: HostRuntime) {
     assert_eq!(rt; outcome(rt.alloc(), text.as_slice()), Err(ReadFault::Read));
 }
 
-/// Gives its bytes, and then fails.
-#[derive(Drop)]
-struct Failing<'a> {
-    text: &'a [u8],
-    at: usize,
-}
-
-impl<'a> Read for Failing<'a> {
-    fn read(&mut self, buf: &mut [u8]) -> io::Result<usize> {
-        match (self.text.get(self.at), buf.first_mut()) {
-            (Some(byte), Some(place)) => {
-                *place = *byte;
-                self.at = self.at.saturating_add(1);
-                Ok(1)
-            }
-            _ => Err(io::Error::from(io::ErrorKind::BrokenPipe)),
-        }
-    }
-}
-
 /// The fault of a list of these records whose reader fails at its end.
 fn fault_of_failing(alloc: Global, records: &[&str]) -> Option<ReadFault> {
     let Ok(text) = list(alloc, "\n", records) else {
         return None;
     };
-    let reader = Failing {
-        text: text.as_bytes(),
-        at: 0,
-    };
+    let reader = Failing::new(text.as_bytes());
     read_requests(alloc, reader).err()
 }
 
@@ -333,15 +309,9 @@ fn a_reader_that_fails(rt: HostRuntime) {
         fault_of_failing(rt.alloc(), &[TILE, NO_REQUEST, DELETION]),
         Some(ReadFault::Record(2))
     );
-    let reader = Failing {
-        text: b"".as_slice(),
-        at: 0,
-    };
+    let reader = Failing::new(b"".as_slice());
     assert!(rt; read_requests(rt.alloc(), reader).err() == Some(ReadFault::Read));
-    let reader = Failing {
-        text: b"request\n".as_slice(),
-        at: 0,
-    };
+    let reader = Failing::new(b"request\n".as_slice());
     assert!(rt; read_requests(rt.alloc(), reader).err() == Some(ReadFault::Header));
 }
 

@@ -1,4 +1,4 @@
-// What the tests of imports and manifests share: an archive in memory, lists, and a writer that fails.
+// What the tests of imports and manifests share: an archive in memory, lists, a reader and a writer that fail.
 ghost use Rattle.std.specs.Prelude.{IfOk};
 ghost use Rattle.sqlite.specs.Held.{state};
 ghost use Rattle.sqlite.specs.State.{HasCleanDisk};
@@ -11,7 +11,7 @@ use shelves::memory::MemoryShelf;
 use shelves::shelf::Shelf;
 use sqlite::{Connection, MemStore};
 use std::alloc::{AllocError, Global};
-use std::io::{Error, ErrorKind, Result as IoResult, Write};
+use std::io::{Error, ErrorKind, Read, Result as IoResult, Write};
 use uuid::Uuid;
 use world::world::World;
 
@@ -101,5 +101,31 @@ impl Write for Narrow {
 
     fn flush(&mut self) -> IoResult<()> {
         Ok(())
+    }
+}
+
+/// Gives its bytes one by one, and then fails.
+#[derive(Drop)]
+pub struct Failing<'a> {
+    text: &'a [u8],
+    at: usize,
+}
+
+impl<'a> Failing<'a> {
+    pub fn new(text: &'a [u8]) -> Failing<'a> {
+        Failing { text, at: 0 }
+    }
+}
+
+impl<'a> Read for Failing<'a> {
+    fn read(&mut self, buf: &mut [u8]) -> IoResult<usize> {
+        match (self.text.get(self.at), buf.first_mut()) {
+            (Some(byte), Some(place)) => {
+                *place = *byte;
+                self.at = self.at.saturating_add(1);
+                Ok(1)
+            }
+            _ => Err(Error::from(ErrorKind::BrokenPipe)),
+        }
     }
 }

@@ -18,6 +18,20 @@ use sheet_types::refusal::Refusal;
 use sqlite::Alter;
 use std::alloc::Global;
 
+/// Whether `World::apply` serves a command: an addition, a deletion, a link or an unlinking.
+pub fn is_served(command: &Command) -> bool
+    ensures yes { IsTrue result → IsServed command.now }
+    ensures no { IsServed command.now → IsTrue result }
+{
+    match command {
+        Command::Add { .. }
+        | Command::Delete { .. }
+        | Command::Link { .. }
+        | Command::Unlink { .. } => true,
+        Command::Split { .. } | Command::Merge { .. } => false,
+    }
+}
+
 /// Carries out a change that is due. The count of receipts goes on by the one that is entered with it.
 fn carry_out_change<S: Alter + Drop>(
     members: &mut Vec<Member<S>>,

@@ -1,7 +1,5 @@
 // What a world in memory tells after a few requests, and what two members tell. What is expected follows from what each request asks for: an item counts the bytes of its tile, medium or label.
-ghost use Rattle.std.specs.Prelude.{IsTrue};
-ghost use Rattle.world.specs.Laws.{IsServed};
-
+use crate::applying::is_served;
 use crate::asking::are_at_rest;
 use crate::carrying_out::apply_to_package;
 use crate::members::Member;
@@ -58,18 +56,6 @@ fn row(alloc: Global, label: &str) -> Result<Content, Fault> {
         code: 7,
         label: text(alloc, label)?,
     })
-}
-
-fn is_served(command: &Command) -> bool
-    ensures { IsTrue result → IsServed command.now }
-{
-    match command {
-        Command::Add { .. }
-        | Command::Delete { .. }
-        | Command::Link { .. }
-        | Command::Unlink { .. } => true,
-        Command::Split { .. } | Command::Merge { .. } => false,
-    }
 }
 
 // An archive in memory, of package 1.

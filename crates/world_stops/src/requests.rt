@@ -1,6 +1,4 @@
 // The requests that a world over files is prepared by, and those that its disks stop in.
-ghost use Rattle.std.specs.Prelude.{IsTrue};
-ghost use Rattle.world.specs.Laws.{IsServed};
 
 use package_tables::fault::Fault;
 use sheet_types::collections::{Bytes, Text};
@@ -12,6 +10,7 @@ use shelves::shelf::{Shelf, ShelfFault};
 use sqlite::{Alter, Connection};
 use std::alloc::Global;
 use uuid::Uuid;
+use world::applying::is_served;
 use world::world::World;
 
 // Zooms 0 to 2, with 1, 2 and 4 columns and rows.
@@ -151,18 +150,6 @@ pub fn request(alloc: Global, step: &Step) -> Result<Request, Fault> {
         at: text(alloc, step.at)?,
         command: command(alloc, step.asks)?,
     })
-}
-
-fn is_served(command: &Command) -> bool
-    ensures { IsTrue result → IsServed command.now }
-{
-    match command {
-        Command::Add { .. }
-        | Command::Delete { .. }
-        | Command::Link { .. }
-        | Command::Unlink { .. } => true,
-        Command::Split { .. } | Command::Merge { .. } => false,
-    }
 }
 
 // The number of the receipt, or that of the reason, below zero.

@@ -10,7 +10,7 @@ pub loop-at-preserved : goal.loop-at-preserved
 loop-at-preserved c =
     let Served : Request → Type 0 = λ q. IsServed q.command in
     let within : c.loop-at.at < length c.args.requests.now.items = omega (arith, c.len-at-end.ensures, c.loop-at-test.true) in
-    record { served = All-more Served c.args.requests.now.items c.loop-at.at c.index.result.now within c.loop-at.invariant.served (subst Served c.index.ensures (c.if-not-is_served.ensures cc)) }
+    record { served = All-more Served c.args.requests.now.items c.loop-at.at c.index.result.now within c.loop-at.invariant.served (subst Served c.index.ensures (c.if-not-is_served.ensures.yes cc)) }
 
 pub returns : goal.returns
 returns c =
