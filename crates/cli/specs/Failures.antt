@@ -5,6 +5,8 @@ use Rattle.manifest_csv.specs.declared.package_manifests.ManifestFault.{Manifest
 use Rattle.manifest_csv.specs.declared.package_manifests.ManifestFault.TheVariants as manifest
 use Rattle.shelves.specs.declared.shelf.ShelfFault.{ShelfFault}
 use Rattle.shelves.specs.declared.shelf.ShelfFault.TheVariants as shelf
+use Rattle.world.specs.declared.creating.CreateFault.{CreateFault}
+use Rattle.world.specs.declared.creating.CreateFault.TheVariants as create
 use Rattle.cli.specs.declared.statuses.Failure.{Failure}
 use Rattle.cli.specs.declared.statuses.Failure.TheVariants.{OutOfMemory, StoreFault}
 
@@ -17,6 +19,13 @@ of_fault fault.StoreFault = StoreFault
 abbrev pub of_shelf : ShelfFault → Failure
 of_shelf shelf.OutOfMemory = OutOfMemory
 of_shelf shelf.StoreFault = StoreFault
+
+-- of a new world. Its words are read before, so that a frame or a moment that is not good is a fault of the store
+abbrev pub of_creation : CreateFault → Failure
+of_creation create.OutOfMemory = OutOfMemory
+of_creation (create.BadFrame broken) = StoreFault
+of_creation create.BadText = StoreFault
+of_creation create.StoreFault = StoreFault
 
 -- of a manifest. The packages that are named are live, so that an unknown one is a fault of the store
 abbrev pub of_manifest : ManifestFault → Failure

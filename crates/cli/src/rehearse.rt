@@ -24,7 +24,6 @@ use sqlite::{Alter, FileStore};
 use std::alloc::{AllocError, Global};
 use std::io::{Read, Write};
 use uuid::Uuid;
-use world::creating::CreateFault;
 use world::reading::PackageSight;
 use world::world::World;
 
@@ -55,17 +54,13 @@ fn new_world<S: Alter + Drop, H: Shelf<S>>(
     ensures { IfOk result (λ world. AllClean S.Store world.members → StandsFor S.Store world (new_world rehearsal.now.archive rehearsal.now.frame)) }
 {
     let conn = shelf.blank(rehearsal.archive)?;
-    match World::create(
+    Ok(World::create(
         alloc,
         conn,
         rehearsal.archive,
         rehearsal.at,
         &rehearsal.frame,
-    ) {
-        Ok(world) => Ok(world),
-        Err(CreateFault::OutOfMemory) => Err(Failure::OutOfMemory),
-        Err(_) => Err(Failure::StoreFault),
-    }
+    )?)
 }
 
 /// How an import ends the program, unless it went through.

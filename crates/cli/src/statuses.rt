@@ -8,6 +8,7 @@ use package_tables::fault::Fault;
 use shelves::shelf::ShelfFault;
 use std::alloc::AllocError;
 use thiserror::Error;
+use world::creating::CreateFault;
 
 /// What a refusal names: the first thing that could not be read.
 #[derive(Clone, Copy, Debug, PartialEq, Eq, Error)]
@@ -69,6 +70,21 @@ impl From<ShelfFault> for Failure {
         match fault {
             ShelfFault::OutOfMemory => Failure::OutOfMemory,
             ShelfFault::StoreFault => Failure::StoreFault,
+        }
+    }
+}
+
+impl From<CreateFault> for Failure {
+    ghost use Rattle.cli.specs.Failures.{of_creation};
+
+    ghost from_gives = { λ fault failure. failure ≡ of_creation fault };
+
+    fn from(fault: CreateFault) -> Failure {
+        match fault {
+            CreateFault::OutOfMemory => Failure::OutOfMemory,
+            CreateFault::BadFrame(_) | CreateFault::BadText | CreateFault::StoreFault => {
+                Failure::StoreFault
+            }
         }
     }
 }
