@@ -26,7 +26,7 @@ use Rattle.sheet_types.proofs.Order.{list_any-arranged}
 use Rattle.sheet_types.proofs.Arranging.{filter-arranged}
 use Rattle.sheet_types.proofs.Found.{any_filter}
 use Rattle.sheet_types.proofs.Same.{In, All-In}
-use Rattle.sheet_types.proofs.Basics.{bytes_eq_itself, bytes_eq_swap, or-false}
+use Rattle.sheet_types.proofs.Basics.{bytes_eq_itself, bytes_eq_swap, or-false, and-true, not_false}
 use Rattle.package_tables.specs.Shapes.{tile_shape, medium_shape, attribute_shape, identity_shape, tiles_media_shape, rows_media_shape}
 use Rattle.package_tables.specs.Package.{Tables}
 use Rattle.identity_register.specs.Numbering.{Numbered, greatest_number, place_in_tables, tile_rows, media_rows, attribute_rows, identity_row, number_of, mapping_row, tiles_media_rows, rows_media_rows, without_content, without_identity}
@@ -107,11 +107,6 @@ same_tests {X} f g n (x ∷ xs) hf hg i = elim i [
     apart' : (ys : List X) → AllByRecursion (λ y. bytes_eq (g x) (g y) ≡ false) ys → In n ys → bytes_eq (g x) (g n) ≡ false
     apart' [] h j = absurd j
     apart' (y ∷ ys) h j = elim j [ inl e ↦ subst (λ z. bytes_eq (g x) (g z) ≡ false) e h.0 | inr k ↦ apart' ys h.1 k ]
-
--- a test and nothing more
-pub and-true : (b : Bool) → (b && true) ≡ b
-and-true true = refl
-and-true false = refl
 
 -- of two tests of which the first is passed, the second
 pub place_test : (a b : Bool) → a ≡ true → (a && (b && true)) ≡ b
@@ -219,14 +214,10 @@ module _ {R : Type 0} (kind : MovedKind) (rows : ℤ → Content → List R) (id
   stays : kind_is kind (kind_of n.item.content) ≡ false → (m : Numbered) → bytes_eq (place_in_tables m) (place_in_tables n) ≡ bytes_eq m.item.identity n.item.identity → keep m ≡ false → rows_of_item m ≡ []
   stays elsewhere m same gone = of_kind.others m.number m.item.content (one (kind_is kind (kind_of m.item.content)) refl)
     where
-      named : (b : Bool) → not b ≡ false → b ≡ true
-      named true h = refl
-      named false h = absurd (true≢false h)
-
       one : (b : Bool) → kind_is kind (kind_of m.item.content) ≡ b → b ≡ false
       one false e = refl
       one true e =
-          let place : bytes_eq (place_in_tables m) (place_in_tables n) ≡ true = same ∙ named (bytes_eq m.item.identity n.item.identity) gone in
+          let place : bytes_eq (place_in_tables m) (place_in_tables n) ≡ true = same ∙ not_false (bytes_eq m.item.identity n.item.identity) gone in
           let kind_same = (and_parts (kind_number (kind_of m.item.content) == kind_number (kind_of n.item.content)) _ place).0 in
           absurd (true≢false (sym e ∙ sym (kinds_same kind (kind_of m.item.content) (kind_of n.item.content) kind_same) ∙ elsewhere))
 

@@ -22,7 +22,7 @@ use Rattle.sheet_types.specs.declared.frame.Frame.{Frame}
 use Rattle.sheet_types.specs.declared.receipt.MovedKind.{MovedKind}
 use Rattle.sheet_types.specs.declared.receipt.MovedKind.TheVariants.{TileItem, MediaItem, RowItem}
 use Rattle.sheet_types.proofs.Every.{All-weaker, All-each, none_any}
-use Rattle.sheet_types.proofs.Basics.{bytes_eq_itself, bytes_eq_swap, or-false}
+use Rattle.sheet_types.proofs.Basics.{bytes_eq_itself, bytes_eq_swap, or-false, and-true}
 use Rattle.sheet_types.proofs.Order.{list_any-arranged}
 use Rattle.sheet_types.proofs.Same.{In, In-map, All-In, any_in}
 use Rattle.sheet_types.proofs.LineReading.{uuid_length}
@@ -33,7 +33,7 @@ use Rattle.package_tables.specs.declared.rows.MappingRow.{MappingRow}
 use Rattle.identity_register.specs.Answers.{is_linked_row, mapping_rows, are_ends}
 use Rattle.identity_register.specs.Numbering.{Numbered, place_in_tables, identity_row, number_of, mapping_row, tiles_media_rows, rows_media_rows, is_pair}
 use Rattle.identity_register.specs.Reads.{Says}
-use Rattle.identity_register.proofs.Deleting.{and-true, same_tests, same_number, pos_same}
+use Rattle.identity_register.proofs.Deleting.{same_tests, same_number, pos_same}
 use Rattle.identity_register.proofs.Linking.{same_mapping, end_of, number_is, pair_same, one_passes, bytes_eq_append}
 use Rattle.identity_register.proofs.Adding.{other_end}
 use Rattle.identity_register.proofs.Answering.{any_flat_map, item_of_row}

@@ -20,7 +20,7 @@ use Rattle.sheet_types.specs.declared.command.Mapping.TheVariants.{TilesMedia, R
 use Rattle.sheet_types.specs.declared.command.Relation.{Relation}
 use Rattle.sheet_types.specs.declared.frame.Frame.{Frame}
 use Rattle.sheet_types.specs.declared.receipt.MovedKind.{MovedKind}
-use Rattle.sheet_types.proofs.Basics.{bytes_eq_itself, before_trans}
+use Rattle.sheet_types.proofs.Basics.{some_same, bytes_eq_itself, before_trans}
 use Rattle.sheet_types.proofs.Every.{All-weaker, All-append, All-map}
 use Rattle.sheet_types.proofs.Same.{In, In-map, In-of_map, In-flat_map, All-In, Contains-In, same_list}
 use Rattle.sheet_types.proofs.LineReading.{uuid_back}
@@ -37,7 +37,7 @@ use Rattle.identity_register.specs.Gathered.{tile_placed, medium_placed, attribu
 use Rattle.identity_register.specs.Numbering.{Numbered, identity_row, number_of, mapping_row, tiles_media_rows, rows_media_rows}
 use Rattle.identity_register.specs.Reads.{Says}
 use Rattle.identity_register.specs.declared.whole.Placed.{Placed}
-use Rattle.identity_register.proofs.Answering.{some_same, same_item, item_is}
+use Rattle.identity_register.proofs.Answering.{same_item, item_is}
 use Rattle.identity_register.proofs.Contents.{content_by_row, one_place}
 use Rattle.identity_register.proofs.Finding.{contained, in_arranged, in_append, in_flat_map, row_numbered, same_uuid}
 use Rattle.identity_register.proofs.Linking.{end_of}

@@ -23,13 +23,14 @@ use Rattle.sheet_types.specs.declared.command.Mapping.{Mapping}
 use Rattle.sheet_types.specs.declared.command.Mapping.TheVariants.{TilesMedia, RowsMedia}
 use Rattle.sheet_types.specs.declared.command.Relation.{Relation}
 use Rattle.sheet_types.specs.declared.frame.Frame.{Frame}
+use Rattle.sheet_types.proofs.Basics.{and-true}
 use Rattle.sheet_types.proofs.Every.{none_pass}
 use Rattle.sheet_types.proofs.Order.{list_any-arranged}
 use Rattle.identity_register.specs.Numbering.{number_of, mapping_row, tiles_media_rows, rows_media_rows, with_link, without_link, AddsLink, DropsLink, IsRowOf}
 use Rattle.identity_register.specs.Reads.{Says}
 use Rattle.identity_register.specs.Calls.{Becomes}
 use Rattle.identity_register.specs.Changes.{IsNewLink, link_added, IsLink, link_removed}
-use Rattle.identity_register.proofs.Deleting.{and-true, same_number}
+use Rattle.identity_register.proofs.Deleting.{same_number}
 use Rattle.identity_register.proofs.Finding.{in_range, row_of_uuid}
 use Rattle.identity_register.proofs.Linking.{links, unlinks, pair_same, end_of, number_is}
 use Rattle.identity_register.proofs.Ends.{ends_there}

@@ -1,8 +1,9 @@
 -- A record is one request at most.
-use Rattle.std.proofs.Common.{◌≡◌, ℕ, ℤ, List, Option, Some, None, Result, Ok, Err, false, nat_eq, get_or, IsTrue, ap, refl, arith}
+use Rattle.std.proofs.Common.{◌≡◌, ℕ, ℤ, List, Option, Some, Result, Ok, Err, false, nat_eq, get_or, IsTrue, ap, refl, arith}
 use Rattle.std.proofs.lemmas.Bool.Decides.{nat_tests}
 use Rattle.std.proofs.lemmas.Fmt.{signed_decimal_injective}
 use Rattle.hex.specs.Hex.{decode_of}
+use Rattle.sheet_types.proofs.Basics.{some_once}
 use Rattle.sheet_types.specs.Texts.{mapping_word}
 use Rattle.sheet_types.specs.declared.command.Content.{Content}
 use Rattle.sheet_types.specs.declared.command.Content.TheVariants.{Tile, Media, Row}
@@ -13,10 +14,6 @@ use Rattle.sheet_types.specs.declared.command.Mapping.TheVariants.{TilesMedia, R
 use Rattle.sheet_types.specs.declared.command.Request.{Request}
 use Rattle.manifest_csv.specs.Requests.{IsCommand, IsContent, IsHexAt, IsNumberAt, IsTextAt, is_served}
 use Rattle.manifest_csv.specs.RequestLists.{Asks}
-
-some_once : {A : Type 0} (o : Option A) (x y : A) → o ≡ Some x → o ≡ Some y → x ≡ y
-some_once None x y e f = cc
-some_once (Some z) x y e f = cc
 
 ok_once : {A E : Type 0} (r : Result A E) (x y : A) → r ≡ Ok x → r ≡ Ok y → x ≡ y
 ok_once (Ok z) x y e f = cc

@@ -57,11 +57,7 @@ get_set_other (y ∷ xs) (suc i) (suc j) x differs = get_set_other xs i j x (λ 
 pub any_at_place : {X : Type 0} (p : X → Bool) (xs : List X) (i : ℕ) (x : X) → slice_get xs i ≡ Some x → p x ≡ true → list_any p xs ≡ true
 any_at_place p [] i x place passes = absurd (None≢Some place)
 any_at_place p (y ∷ xs) zero x place passes = let same : y ≡ x = cc in ap (λ z. p z || list_any p xs) same ∙ ap (λ b. b || list_any p xs) passes
-any_at_place p (y ∷ xs) (suc i) x place passes = ap (λ b. p y || b) (any_at_place p xs i x place passes) ∙ either (p y)
-  where
-    either : (b : Bool) → (b || true) ≡ true
-    either true = refl
-    either false = refl
+any_at_place p (y ∷ xs) (suc i) x place passes = ap (λ b. p y || b) (any_at_place p xs i x place passes) ∙ or-true (p y)
 
 -- a number and one more is past a bound that the number has reached
 pub one_more_is_over : (bound n : ℕ) → nat_lt bound (n + 1) ≡ nat_le bound n
