@@ -28,10 +28,30 @@ use Rattle.package_tables.specs.Shapes.{tiles_media_shape, rows_media_shape}
 use Rattle.package_tables.specs.Package.{Tables}
 use Rattle.package_tables.specs.declared.rows.MappingRow.{MappingRow}
 use Rattle.identity_register.specs.Numbering.{Numbered, place_in_tables, number_of, mapping_row, tiles_media_rows, rows_media_rows, with_link, without_link, is_pair}
-use Rattle.identity_register.specs.Reads.{Says}
+use Rattle.identity_register.specs.Reads.{Says, SaysLinks}
 use Rattle.identity_register.proofs.Adding.{turned}
 use Rattle.identity_register.proofs.Deleting.{filter-flat_map, flat_map-kept, distinct_filter, same_tests, same_number, place_test}
 use Rattle.identity_register.proofs.Finding.{in_range}
+
+-- ---- other links
+
+-- what the tables say of all else stays where links are others
+says_links : (f : Frame) (p : Package) (t : Tables) (says : Says f p t) (linked links : List Relation) (tiles_media rows_media : List MappingRow) → AllByRecursion (HasEnds p) linked → SaysLinks says.numbered linked links tiles_media rows_media
+    → Says f (record p { links = links }) (record t { tiles_media = tiles_media; rows_media = rows_media })
+says_links f p t says linked links tiles_media rows_media ends of_links = record {
+  good = says.good;
+  fixed = says.fixed;
+  created = says.created;
+  fit_head = says.fit_head;
+  head = says.head;
+  numbered = says.numbered;
+  of_items = says.of_items;
+  linked = linked;
+  ends = ends;
+  of_links = of_links;
+  entered = says.entered;
+  of_receipts = says.of_receipts;
+}
 
 -- ---- a link more
 
@@ -40,68 +60,26 @@ pub links : (f : Frame) (p : Package) (t : Tables) (l : Relation) (says : Says f
 unfolding IsDistinct
 links f p t l says fresh ends = one l.mapping refl
   where
-    ns : List Numbered
-    ns = says.numbered
-
     apart : AllByRecursion (λ x. bytes_eq (link_key x) (link_key l) ≡ false) says.linked
     apart = none_pass (λ x. bytes_eq (link_key x) (link_key l)) says.linked (sym (list_any-arranged link_key (λ x. bytes_eq (link_key x) (link_key l)) says.linked) ∙ ap (list_any (λ x. bytes_eq (link_key x) (link_key l))) (sym says.links) ∙ fresh)
 
-    HasEndsNow : Relation → Type 0
-    HasEndsNow x = HasEnds (record p { links = put link_key l p.links }) x
+    more : (tiles_media rows_media : List MappingRow) → tiles_media ≡ arranged tiles_media_shape.key (flat_map (λ x. tiles_media_rows says.numbered x x.mapping) (l ∷ says.linked))
+        → rows_media ≡ arranged rows_media_shape.key (flat_map (λ x. rows_media_rows says.numbered x x.mapping) (l ∷ says.linked))
+        → Says f (record p { links = put link_key l p.links }) (record t { tiles_media = tiles_media; rows_media = rows_media })
+    more tiles_media rows_media tiles rows =
+        says_links f p t says (l ∷ says.linked) (put link_key l p.links) tiles_media rows_media (ends, says.ends)
+        (record { distinct_links = (turned link_key (link_key l) says.linked apart, says.distinct_links); links = ap (put link_key l) says.links; tiles_media = tiles; rows_media = rows })
+
+    -- the rows that the link has in a table, where its mapping is known
+    tiles_with : (m : Mapping) → l.mapping ≡ m → arranged tiles_media_shape.key (tiles_media_rows says.numbered l m ++ flat_map (λ x. tiles_media_rows says.numbered x x.mapping) says.linked) ≡ arranged tiles_media_shape.key (flat_map (λ x. tiles_media_rows says.numbered x x.mapping) (l ∷ says.linked))
+    tiles_with m e = sym (ap (λ n. arranged tiles_media_shape.key (tiles_media_rows says.numbered l n ++ flat_map (λ x. tiles_media_rows says.numbered x x.mapping) says.linked)) e)
+
+    rows_with : (m : Mapping) → l.mapping ≡ m → arranged rows_media_shape.key (rows_media_rows says.numbered l m ++ flat_map (λ x. rows_media_rows says.numbered x x.mapping) says.linked) ≡ arranged rows_media_shape.key (flat_map (λ x. rows_media_rows says.numbered x x.mapping) (l ∷ says.linked))
+    rows_with m e = sym (ap (λ n. arranged rows_media_shape.key (rows_media_rows says.numbered l n ++ flat_map (λ x. rows_media_rows says.numbered x x.mapping) says.linked)) e)
 
     one : (m : Mapping) → l.mapping ≡ m → Says f (record p { links = put link_key l p.links }) (with_link m (mapping_row says.numbered l) t)
-    one TilesMedia e = record {
-      good = says.good;
-      fixed = record { spatial_ref_sys = says.fixed.spatial_ref_sys; contents = says.fixed.contents; tile_matrix_set = says.fixed.tile_matrix_set; tile_matrix = says.fixed.tile_matrix; relations = says.fixed.relations };
-      created = says.created;
-      fit_head = record { uuid = says.fit_head.uuid; parent = says.fit_head.parent };
-      head = says.head;
-      numbered = says.numbered;
-      numbers = says.numbers;
-      items = says.items;
-      tiles = says.tiles;
-      media = says.media;
-      rows = says.rows;
-      identities = says.identities;
-      linked = l ∷ says.linked;
-      distinct_links = (turned link_key (link_key l) says.linked apart, says.distinct_links);
-      ends = (ends, says.ends);
-      links = ap (put link_key l) says.links;
-      tiles_media = ap (put tiles_media_shape.key (mapping_row says.numbered l)) says.tiles_media ∙ sym (ap (λ m. arranged tiles_media_shape.key (tiles_media_rows says.numbered l m ++ flat_map (λ x. tiles_media_rows says.numbered x x.mapping) says.linked)) e);
-      rows_media = says.rows_media ∙ sym (ap (λ m. arranged rows_media_shape.key (rows_media_rows says.numbered l m ++ flat_map (λ x. rows_media_rows says.numbered x x.mapping) says.linked)) e);
-      entered = says.entered;
-      distinct_receipts = says.distinct_receipts;
-      fit = says.fit;
-      kept = says.kept;
-      receipts = says.receipts;
-      moved = says.moved;
-    }
-    one RowsMedia e = record {
-      good = says.good;
-      fixed = record { spatial_ref_sys = says.fixed.spatial_ref_sys; contents = says.fixed.contents; tile_matrix_set = says.fixed.tile_matrix_set; tile_matrix = says.fixed.tile_matrix; relations = says.fixed.relations };
-      created = says.created;
-      fit_head = record { uuid = says.fit_head.uuid; parent = says.fit_head.parent };
-      head = says.head;
-      numbered = says.numbered;
-      numbers = says.numbers;
-      items = says.items;
-      tiles = says.tiles;
-      media = says.media;
-      rows = says.rows;
-      identities = says.identities;
-      linked = l ∷ says.linked;
-      distinct_links = (turned link_key (link_key l) says.linked apart, says.distinct_links);
-      ends = (ends, says.ends);
-      links = ap (put link_key l) says.links;
-      tiles_media = says.tiles_media ∙ sym (ap (λ m. arranged tiles_media_shape.key (tiles_media_rows says.numbered l m ++ flat_map (λ x. tiles_media_rows says.numbered x x.mapping) says.linked)) e);
-      rows_media = ap (put rows_media_shape.key (mapping_row says.numbered l)) says.rows_media ∙ sym (ap (λ m. arranged rows_media_shape.key (rows_media_rows says.numbered l m ++ flat_map (λ x. rows_media_rows says.numbered x x.mapping) says.linked)) e);
-      entered = says.entered;
-      distinct_receipts = says.distinct_receipts;
-      fit = says.fit;
-      kept = says.kept;
-      receipts = says.receipts;
-      moved = says.moved;
-    }
+    one TilesMedia e = more (put tiles_media_shape.key (mapping_row says.numbered l) t.tiles_media) t.rows_media (ap (put tiles_media_shape.key (mapping_row says.numbered l)) says.tiles_media ∙ tiles_with TilesMedia e) (says.rows_media ∙ rows_with TilesMedia e)
+    one RowsMedia e = more t.tiles_media (put rows_media_shape.key (mapping_row says.numbered l) t.rows_media) (says.tiles_media ∙ tiles_with RowsMedia e) (ap (put rows_media_shape.key (mapping_row says.numbered l)) says.rows_media ∙ rows_with RowsMedia e)
 
 -- ---- the numbers of ends
 
@@ -248,60 +226,23 @@ module _ (f : Frame) (p : Package) (t : Tables) (says : Says f p t) (l : Relatio
   pub unlinks : Says f (record p { links = without link_key (link_key l ∷ []) p.links }) (without_link l.mapping row t)
   unlinks = one l.mapping refl
     where
+      less : (tiles_media rows_media : List MappingRow) → tiles_media ≡ arranged tiles_media_shape.key (flat_map (λ x. tiles_media_rows says.numbered x x.mapping) (filter keep says.linked))
+          → rows_media ≡ arranged rows_media_shape.key (flat_map (λ x. rows_media_rows says.numbered x x.mapping) (filter keep says.linked))
+          → Says f (record p { links = without link_key (link_key l ∷ []) p.links }) (record t { tiles_media = tiles_media; rows_media = rows_media })
+      less tiles_media rows_media tiles rows =
+          says_links f p t says (filter keep says.linked) (without link_key (link_key l ∷ []) p.links) tiles_media rows_media (All-filter _ keep says.linked says.ends)
+          (record { distinct_links = distinct_filter link_key keep says.linked says.distinct_links; links = links_less; tiles_media = tiles; rows_media = rows })
+
+      -- in the table of its mapping the row goes, and the other table stays
+      goes : (key : MappingRow → List ℕ) (rows : Relation → List MappingRow) (table : List MappingRow) → table ≡ arranged key (flat_map rows says.linked) → ((x : Relation) → HasEnds p x → filter (λ r. not (is_pair r row)) (rows x) ≡ cond (keep x) (rows x) [])
+          → filter (λ r. not (is_pair r row)) table ≡ arranged key (flat_map rows (filter keep says.linked))
+      goes key rows table is each =
+          ap (filter (λ r. not (is_pair r row))) is ∙ filter-arranged key (λ r. not (is_pair r row)) (flat_map rows says.linked)
+          ∙ ap (arranged key) (filter-flat_map rows (λ r. not (is_pair r row)) keep says.linked (All-weaker _ _ each says.linked says.ends))
+
+      stays : (key : MappingRow → List ℕ) (rows : Relation → List MappingRow) (table : List MappingRow) → table ≡ arranged key (flat_map rows says.linked) → ((x : Relation) → keep x ≡ false → rows x ≡ []) → table ≡ arranged key (flat_map rows (filter keep says.linked))
+      stays key rows table is each = is ∙ sym (ap (arranged key) (flat_map-kept rows keep says.linked (All-each _ each says.linked)))
+
       one : (m : Mapping) → l.mapping ≡ m → Says f (record p { links = without link_key (link_key l ∷ []) p.links }) (without_link m row t)
-      one TilesMedia e = record {
-        good = says.good;
-        fixed = record { spatial_ref_sys = says.fixed.spatial_ref_sys; contents = says.fixed.contents; tile_matrix_set = says.fixed.tile_matrix_set; tile_matrix = says.fixed.tile_matrix; relations = says.fixed.relations };
-        created = says.created;
-        fit_head = record { uuid = says.fit_head.uuid; parent = says.fit_head.parent };
-        head = says.head;
-        numbered = says.numbered;
-        numbers = says.numbers;
-        items = says.items;
-        tiles = says.tiles;
-        media = says.media;
-        rows = says.rows;
-        identities = says.identities;
-        linked = filter keep says.linked;
-        distinct_links = distinct_filter link_key keep says.linked says.distinct_links;
-        ends = All-filter _ keep says.linked says.ends;
-        links = links_less;
-        tiles_media =
-            ap (filter (λ r. not (is_pair r row))) says.tiles_media ∙ filter-arranged tiles_media_shape.key (λ r. not (is_pair r row)) (flat_map (λ x. tiles_media_rows says.numbered x x.mapping) says.linked)
-            ∙ ap (arranged tiles_media_shape.key) (filter-flat_map (λ x. tiles_media_rows says.numbered x x.mapping) (λ r. not (is_pair r row)) keep says.linked (All-weaker _ _ (tiles_media_less e) says.linked says.ends));
-        rows_media = says.rows_media ∙ sym (ap (arranged rows_media_shape.key) (flat_map-kept (λ x. rows_media_rows says.numbered x x.mapping) keep says.linked (All-each _ (rows_media_stay e) says.linked)));
-        entered = says.entered;
-        distinct_receipts = says.distinct_receipts;
-        fit = says.fit;
-        kept = says.kept;
-        receipts = says.receipts;
-        moved = says.moved;
-      }
-      one RowsMedia e = record {
-        good = says.good;
-        fixed = record { spatial_ref_sys = says.fixed.spatial_ref_sys; contents = says.fixed.contents; tile_matrix_set = says.fixed.tile_matrix_set; tile_matrix = says.fixed.tile_matrix; relations = says.fixed.relations };
-        created = says.created;
-        fit_head = record { uuid = says.fit_head.uuid; parent = says.fit_head.parent };
-        head = says.head;
-        numbered = says.numbered;
-        numbers = says.numbers;
-        items = says.items;
-        tiles = says.tiles;
-        media = says.media;
-        rows = says.rows;
-        identities = says.identities;
-        linked = filter keep says.linked;
-        distinct_links = distinct_filter link_key keep says.linked says.distinct_links;
-        ends = All-filter _ keep says.linked says.ends;
-        links = links_less;
-        tiles_media = says.tiles_media ∙ sym (ap (arranged tiles_media_shape.key) (flat_map-kept (λ x. tiles_media_rows says.numbered x x.mapping) keep says.linked (All-each _ (tiles_media_stay e) says.linked)));
-        rows_media =
-            ap (filter (λ r. not (is_pair r row))) says.rows_media ∙ filter-arranged rows_media_shape.key (λ r. not (is_pair r row)) (flat_map (λ x. rows_media_rows says.numbered x x.mapping) says.linked)
-            ∙ ap (arranged rows_media_shape.key) (filter-flat_map (λ x. rows_media_rows says.numbered x x.mapping) (λ r. not (is_pair r row)) keep says.linked (All-weaker _ _ (rows_media_less e) says.linked says.ends));
-        entered = says.entered;
-        distinct_receipts = says.distinct_receipts;
-        fit = says.fit;
-        kept = says.kept;
-        receipts = says.receipts;
-        moved = says.moved;
-      }
+      one TilesMedia e = less (filter (λ r. not (is_pair r row)) t.tiles_media) t.rows_media (goes tiles_media_shape.key _ t.tiles_media says.tiles_media (tiles_media_less e)) (stays rows_media_shape.key _ t.rows_media says.rows_media (rows_media_stay e))
+      one RowsMedia e = less t.tiles_media (filter (λ r. not (is_pair r row)) t.rows_media) (stays tiles_media_shape.key _ t.tiles_media says.tiles_media (tiles_media_stay e)) (goes rows_media_shape.key _ t.rows_media says.rows_media (rows_media_less e))
