@@ -27,7 +27,6 @@ use Rattle.sheet_types.proofs.Order.{list_any-arranged}
 use Rattle.sheet_types.proofs.Same.{In, In-map, All-In, any_in}
 use Rattle.sheet_types.proofs.LineReading.{uuid_length}
 use Rattle.package_tables.specs.Package.{Tables}
-use Rattle.package_tables.specs.Shapes.{tiles_media_shape, rows_media_shape}
 use Rattle.package_tables.specs.declared.rows.IdentityRow.{IdentityRow}
 use Rattle.package_tables.specs.declared.rows.MappingRow.{MappingRow}
 use Rattle.identity_register.specs.Answers.{is_linked_row, mapping_rows, are_ends}

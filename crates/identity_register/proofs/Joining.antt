@@ -9,14 +9,12 @@ use Rattle.sqlite.specs.State.{State, Survives}
 use Rattle.sql_meaning.specs.Transactions.{Steps}
 use Rattle.sql_meaning.proofs.Transactions.{steps_then, steps_weaker}
 use Rattle.package_tables.specs.Package.{Tables, tables_of, AreFormed}
-use Rattle.package_tables.specs.Shapes.{tiles_media_shape, rows_media_shape}
 use Rattle.package_tables.specs.Calls.{Makes, Answers, OnTables}
 use Rattle.package_tables.proofs.Stepping.{makes_steps}
 use Rattle.package_tables.specs.declared.rows.IdentityRow.{IdentityRow}
 use Rattle.package_tables.specs.declared.rows.MappingRow.{MappingRow}
 use Rattle.sheet_types.specs.Ordered.{has}
 use Rattle.sheet_types.specs.World.{Package, link_key, base_kind, other_kind}
-use Rattle.package_tables.specs.Changes.{AddsTilesMedia, AddsRowsMedia}
 use Rattle.sheet_types.specs.Lines.{IsUuid}
 use Rattle.sheet_types.specs.Register.{HasEnds}
 use Rattle.sheet_types.specs.declared.command.Mapping.{Mapping}
@@ -26,7 +24,7 @@ use Rattle.sheet_types.specs.declared.frame.Frame.{Frame}
 use Rattle.sheet_types.proofs.Every.{none_pass}
 use Rattle.sheet_types.proofs.Order.{list_any-arranged}
 use Rattle.identity_register.specs.Answers.{mapping_rows}
-use Rattle.identity_register.specs.Numbering.{number_of, mapping_row, tiles_media_rows, rows_media_rows, with_link, without_link, AddsLink, DropsLink, IsRowOf}
+use Rattle.identity_register.specs.Numbering.{number_of, mapping_row, with_link, without_link, AddsLink, DropsLink, IsRowOf}
 use Rattle.identity_register.specs.Reads.{Says}
 use Rattle.identity_register.specs.Calls.{Becomes}
 use Rattle.identity_register.specs.Changes.{IsNewLink, link_added, IsLink, link_removed}

@@ -1,7 +1,6 @@
 -- A package whose moment of the last change is another is the same package.
 use Rattle.std.proofs.Common.{ℕ, List, Result, Ok, refl, sym, ap, subst, ◌∙◌}
 use Rattle.std.specs.Prelude.{codes, ⊤}
-use Rattle.std.specs.List.{IsDistinct}
 use Rattle.sqlite.specs.Effect.{Database}
 use Rattle.sqlite.specs.State.{State}
 use Rattle.sql_meaning.specs.Transactions.{Steps}
