@@ -300,36 +300,36 @@ deletes f p t says n there free =
     let unnamed : AllByRecursion (λ l. has_end id l ≡ false) says.linked = none_pass (has_end id) says.linked (sym (list_any-arranged link_key (has_end id) says.linked) ∙ ap (list_any (has_end id)) (sym says.links) ∙ free) in
     record {
       good = says.good;
-      fixed = record { spatial_ref_sys = says.fixed.spatial_ref_sys; contents = says.fixed.contents; tile_matrix_set = says.fixed.tile_matrix_set; tile_matrix = says.fixed.tile_matrix; relations = says.fixed.relations };
+      fixed = says.fixed;
       created = says.created;
-      fit_head = record { uuid = says.fit_head.uuid; parent = says.fit_head.parent };
+      fit_head = says.fit_head;
       head = says.head;
       numbered = filter (kept p n) ns;
-      numbers = record {
-        range = All-filter _ (kept p n) ns says.numbers.range;
-        numbers = distinct_filter place_in_tables (kept p n) ns says.numbers.numbers;
-        identities = distinct_filter (λ m. m.item.identity) (kept p n) ns says.numbers.identities;
-        uuids = All-filter _ (kept p n) ns says.numbers.uuids;
+      of_items = record {
+        numbers = record {
+          range = All-filter _ (kept p n) ns says.numbers.range;
+          numbers = distinct_filter place_in_tables (kept p n) ns says.numbers.numbers;
+          identities = distinct_filter (λ m. m.item.identity) (kept p n) ns says.numbers.identities;
+          uuids = All-filter _ (kept p n) ns says.numbers.uuids;
+        };
+        items =
+            ap (filter (λ i. not (is_among (id ∷ []) i.identity))) says.items ∙ filter-arranged item_key (λ i. not (is_among (id ∷ []) i.identity)) (map (λ m. m.item) ns)
+            ∙ ap (arranged item_key) (filter-map (λ m. m.item) (λ i. not (is_among (id ∷ []) i.identity)) (kept p n) ns (All-each _ (λ m. gone_test p n m.item) ns));
+        tiles = rows_less TileItem tile_rows (λ r. r.id) tile_shape.key tiles_of_kind n ns says.numbers.range in_range places t.tiles says.tiles;
+        media = rows_less MediaItem media_rows (λ r. r.id) medium_shape.key media_of_kind n ns says.numbers.range in_range places t.media says.media;
+        rows = rows_less RowItem attribute_rows (λ r. r.id) attribute_shape.key attributes_of_kind n ns says.numbers.range in_range places t.rows says.rows;
+        identities =
+            ap (filter (λ r. not (int_eq r.kind (identity_row n).kind && int_eq r.local_id n.number))) says.identities ∙ filter-arranged identity_shape.key _ (map identity_row ns)
+            ∙ ap (arranged identity_shape.key) (filter-map identity_row _ (kept p n) ns (All-both _ _ _ (λ m a b. ap not (same_row m n a in_range ∙ b)) ns says.numbers.range places));
       };
-      items =
-          ap (filter (λ i. not (is_among (id ∷ []) i.identity))) says.items ∙ filter-arranged item_key (λ i. not (is_among (id ∷ []) i.identity)) (map (λ m. m.item) ns)
-          ∙ ap (arranged item_key) (filter-map (λ m. m.item) (λ i. not (is_among (id ∷ []) i.identity)) (kept p n) ns (All-each _ (λ m. gone_test p n m.item) ns));
-      tiles = rows_less TileItem tile_rows (λ r. r.id) tile_shape.key tiles_of_kind n ns says.numbers.range in_range places t.tiles says.tiles;
-      media = rows_less MediaItem media_rows (λ r. r.id) medium_shape.key media_of_kind n ns says.numbers.range in_range places t.media says.media;
-      rows = rows_less RowItem attribute_rows (λ r. r.id) attribute_shape.key attributes_of_kind n ns says.numbers.range in_range places t.rows says.rows;
-      identities =
-          ap (filter (λ r. not (int_eq r.kind (identity_row n).kind && int_eq r.local_id n.number))) says.identities ∙ filter-arranged identity_shape.key _ (map identity_row ns)
-          ∙ ap (arranged identity_shape.key) (filter-map identity_row _ (kept p n) ns (All-both _ _ _ (λ m a b. ap not (same_row m n a in_range ∙ b)) ns says.numbers.range places));
       linked = says.linked;
-      distinct_links = says.distinct_links;
       ends = All-both _ _ _ (λ l a b. ends_left p n l a b) says.linked unnamed says.ends;
-      links = says.links;
-      tiles_media = says.tiles_media ∙ sym (ap (arranged tiles_media_shape.key) (flat_map_same _ _ says.linked (All-weaker _ _ (λ l h. tiles_media_left p n ns l l.mapping h) says.linked unnamed)));
-      rows_media = says.rows_media ∙ sym (ap (arranged rows_media_shape.key) (flat_map_same _ _ says.linked (All-weaker _ _ (λ l h. rows_media_left p n ns l l.mapping h) says.linked unnamed)));
+      of_links = record {
+        distinct_links = says.distinct_links;
+        links = says.links;
+        tiles_media = says.tiles_media ∙ sym (ap (arranged tiles_media_shape.key) (flat_map_same _ _ says.linked (All-weaker _ _ (λ l h. tiles_media_left p n ns l l.mapping h) says.linked unnamed)));
+        rows_media = says.rows_media ∙ sym (ap (arranged rows_media_shape.key) (flat_map_same _ _ says.linked (All-weaker _ _ (λ l h. rows_media_left p n ns l l.mapping h) says.linked unnamed)));
+      };
       entered = says.entered;
-      distinct_receipts = says.distinct_receipts;
-      fit = says.fit;
-      kept = says.kept;
-      receipts = says.receipts;
-      moved = says.moved;
+      of_receipts = says.of_receipts;
     }
