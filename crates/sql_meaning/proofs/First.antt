@@ -19,20 +19,17 @@ use Rattle.sqlite_value.specs.declared.keys.Key.{Key}
 use Rattle.sqlite.specs.declared.types.Value.TheVariants.{Null, Int}
 use Rattle.sqlite.specs.Term.{Term, lit}
 use Rattle.sqlite.specs.Table.{Table}
-use Rattle.sqlite.specs.Store.{Ghosts}
-use Rattle.sqlite.specs.Held.{Held, state}
-use Rattle.sqlite.specs.State.{State, HasCleanDisk, Survives, Shown, FailsToQuery, IsTooLate, CommitsShowing}
+use Rattle.sqlite.specs.State.{State, HasCleanDisk, Survives, Shown, FailsToQuery, IsTooLate}
 use Rattle.sqlite.specs.declared.error.Error.{Error}
 use Rattle.sqlite.specs.Command.TheVariants.{Select}
 use Rattle.sqlite_schema.specs.declared.program.Program.{Program}
 use Rattle.sqlite.proofs.Callers.{IsPlain, command_of, reads_as}
 use Rattle.sql_meaning.specs.Reading.{Test, Listing, IsListing, ShowsFirst, FindsFirst}
-use Rattle.sql_meaning.specs.Transactions.{Rests, Steps, Looks}
+use Rattle.sql_meaning.specs.Transactions.{Steps}
 use Rattle.sql_meaning.proofs.Where.{are_given, terms_of_test}
 use Rattle.sql_meaning.proofs.Resolve.{understood_is}
 use Rattle.sql_meaning.proofs.Select.{IsPaged, IsPlannedPage, paged_query, page_is, page_of, shown_terms, listing_of}
-use Rattle.sql_meaning.proofs.Transactions.{Shuts, Settles}
-use Rattle.sql_meaning.proofs.Answering.{shown_unchanged, read_steps, read_looks}
+use Rattle.sql_meaning.proofs.Answering.{shown_unchanged, read_steps}
 
 has_from_map : {A B : Type 0} (f : A → B) (xs : List A) (y : B) → Has (map f xs) y → (x : A) × Has xs x × (y ≡ f x)
 has_from_map f [] y h = absurd h
@@ -117,10 +114,3 @@ module _ (text : List ℕ) (table : ℕ → Table) (test : Test) (by : List (Ter
       → (HasCleanDisk new → IfErr r (λ e. FailsToQuery text params old new e ⊎ IsTooLate text params old new e)) → Survives old new (λ _. ⊥) → Steps (λ x. FindsFirst table l (items x)) old new r
   first_steps items old new r ok err survives =
       read_steps text (it 0).parse (it 0).asks (it 0).parsed (it 0).statement items params old new r (λ x. FindsFirst table l (items x)) (λ x shown. first_found old new (items x) shown) ok err survives
-
-  -- on a connection at rest
-  pub first_looks : {S X : Type 0} (g : Ghosts S) (shuts : Shuts g) (settles : Settles g) (items : X → List Row) (old new : Held S) (rests : Rests (state g old)) (r : Result X Error)
-      → (HasCleanDisk (state g new) → IfOk r (λ x. Shown text params (state g old) (state g new) (items x))) → (HasCleanDisk (state g new) → IfErr r (FailsToQuery text params (state g old) (state g new)))
-      → (old.in_transaction ≡ false → new.in_transaction ≡ false) → Survives (state g old) (state g new) (CommitsShowing text params (state g old)) → Looks (λ x. FindsFirst table l (items x)) (state g old) (state g new) r
-  first_looks g shuts settles items old new rests r ok err mode survives =
-      read_looks text (it 0).parse (it 0).asks (it 0).parsed (it 0).statement g shuts settles items params old new rests r (λ x. FindsFirst table l (items x)) (λ x shown. first_found (state g old) (state g new) (items x) shown) ok err mode survives

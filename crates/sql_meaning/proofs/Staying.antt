@@ -1,9 +1,9 @@
 -- Reads one after the other.
-use Rattle.std.proofs.Common.{◌≡◌, refl, sym, subst, ◌∙◌, IsTrue, Result}
+use Rattle.std.proofs.Common.{subst, Result}
 use Rattle.sqlite.specs.Effect.{Database}
-use Rattle.sqlite.specs.State.{State, HasCleanDisk, Survives}
+use Rattle.sqlite.specs.State.{State}
 use Rattle.sqlite.proofs.StateLemmas.{survives_then}
-use Rattle.sql_meaning.specs.Transactions.{Rests, Holds, Looks}
+use Rattle.sql_meaning.specs.Transactions.{Holds, Looks}
 use Rattle.sql_meaning.specs.Staying.{Stays}
 
 -- a read leaves the store as it was

@@ -104,7 +104,7 @@ pub steps_answer : {X Y E F : Type 0} {First : X → Database → Database → T
     → Steps {E = F} Changes old new (Ok y)
 steps_answer Changes y f h = record { made = λ clean inside. let it = h.made clean inside in (it.0, it.1, f it.2); survives = h.survives }
 
--- ---- a loop that makes one change for each item, at its start, after an iteration, and where it stops
+-- ---- a loop that makes one change for each item, at its start and after an iteration
 
 -- the change of one more item
 each_then : {X : Type 0} (Change : X → Database → Database → Type 0) (xs : List X) (x : X) (old mid new : Database) → EachChained Change xs old mid → Change x mid new → EachChained Change (xs ++ x ∷ []) old new
@@ -118,10 +118,6 @@ pub each_goes_on : {X Y F : Type 0} (Change : X → Database → Database → Ty
 each_goes_on {X} {Y} {F} Change xs x {old} {mid} {new} {y} one two =
     let both = steps_then {Y = Y} {F = F} one two in
     steps_answer {X = Y} {Y = Unit {0}} {E = F} {F = Error} (λ _. EachChained Change (xs ++ x ∷ [])) tt (λ it. each_then Change xs x old.now it.0 new.now it.1 it.2) both
-
-pub each_stops : {X Y Z E F : Type 0} (Change : X → Database → Database → Type 0) (xs : List X) {Next : Y → Database → Database → Type 0} {Changes : Z → Database → Database → Type 0} {old mid new : State} {q : Result Y E} (r : Result Z F) → IsErr r
-    → EachStep Change xs old mid → Steps Next mid new q → Steps Changes old new r
-each_stops {X} {Y} {Z} {E} {F} Change xs {Next} {Changes} {old} {mid} {new} {q} r failed one two = steps_failed {q = q} r failed (steps_then {Y = Y} {F = E} one two)
 
 -- ---- how it ends
 
