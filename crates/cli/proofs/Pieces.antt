@@ -1,5 +1,5 @@
 -- What is written of packages, one after the other.
-use Rattle.std.proofs.Common.{◌≡◌, ◌∙◌, refl, sym, ap, subst, ℕ, ◌+◌, ◌<◌, ◌≤◌, List, [], ◌∷◌, ◌++◌, append-nil, codes, count_by, map, flat_map, take, drop, take-append-drop, length, get_or, Option, Result, Ok, Err, MatchResult, IsErr, arith}
+use Rattle.std.proofs.Common.{◌≡◌, ◌∙◌, refl, sym, ap, subst, ℕ, ◌+◌, ◌<◌, List, [], ◌∷◌, ◌++◌, append-nil, codes, count_by, map, take, drop, take-append-drop, length, get_or, Option, Result, Ok, Err, MatchResult, IsErr, arith}
 use Rattle.std.specs.Io.KnownBytes.{Appends}
 use Rattle.std.proofs.KnownBytes.{Appends-nil, Appends-trans}
 use Rattle.std.proofs.lemmas.Grind.{flat_map-append}
@@ -13,7 +13,7 @@ use Rattle.sheet_types.specs.World.{World, Package, holdings}
 use Rattle.world.specs.Reading.{sight_of}
 use Rattle.world.specs.declared.reading.PackageSight.{PackageSight}
 use Rattle.manifest_csv.specs.PackageManifests.{manifest, WritesManifest, WritesNothing}
-use Rattle.manifest_csv.specs.Sent.{WentOut, WentOutPast}
+use Rattle.manifest_csv.specs.Sent.{WentOut}
 use Rattle.manifest_csv.specs.declared.package_manifests.ManifestFault.{ManifestFault}
 use Rattle.manifest_csv.specs.declared.package_manifests.ManifestFault.TheVariants.{Unknown, Failed, Unwritten}
 use Rattle.manifest_csv.proofs.ManifestFacts.{some_manifest}
