@@ -1,20 +1,23 @@
 -- What is written of packages, one after the other.
-use Rattle.std.proofs.Common.{◌≡◌, ◌∙◌, refl, sym, ap, subst, ℕ, ◌+◌, ◌<◌, ◌≤◌, List, [], ◌∷◌, ◌++◌, append-nil, map, flat_map, take, drop, take-append-drop, length, get_or, Option, Result, Ok, Err, MatchResult, IsErr, arith}
+use Rattle.std.proofs.Common.{◌≡◌, ◌∙◌, refl, sym, ap, subst, ℕ, ◌+◌, ◌<◌, List, [], ◌∷◌, ◌++◌, append-nil, codes, count_by, map, take, drop, take-append-drop, length, get_or, Option, Result, Ok, Err, MatchResult, IsErr, arith}
 use Rattle.std.specs.Io.KnownBytes.{Appends}
 use Rattle.std.proofs.KnownBytes.{Appends-nil, Appends-trans}
 use Rattle.std.proofs.lemmas.Grind.{flat_map-append}
 use Rattle.std.proofs.lemmas.List.{map-append, take_more}
 use Rattle.std.proofs.lemmas.Simd.{map-map}
-use Rattle.std.proofs.Math.Seq.{take-length}
 use Rattle.sheet_types.specs.Answers.{PackageSight as ModelSight, package_sights}
-use Rattle.sheet_types.specs.World.{World, Package}
+use Rattle.sheet_types.specs.Refuse.{is_archive}
+use Rattle.sheet_types.specs.Register.{IsRegister}
+use Rattle.sheet_types.specs.Texts.{uuid_text}
+use Rattle.sheet_types.specs.World.{World, Package, holdings}
 use Rattle.world.specs.Reading.{sight_of}
 use Rattle.world.specs.declared.reading.PackageSight.{PackageSight}
 use Rattle.manifest_csv.specs.PackageManifests.{manifest, WritesManifest, WritesNothing}
-use Rattle.manifest_csv.specs.Sent.{WentOut, WentOutPast}
+use Rattle.manifest_csv.specs.Sent.{WentOut}
 use Rattle.manifest_csv.specs.declared.package_manifests.ManifestFault.{ManifestFault}
 use Rattle.manifest_csv.specs.declared.package_manifests.ManifestFault.TheVariants.{Unknown, Failed, Unwritten}
-use Rattle.manifest_csv.proofs.SentFacts.{went_out_after, went_out_of, went_out_past}
+use Rattle.manifest_csv.proofs.ManifestFacts.{some_manifest}
+use Rattle.manifest_csv.proofs.SentFacts.{some_first, went_out_after, went_out_of}
 use Rattle.cli.specs.Rehearsals.{package_line, package_text, packages_text, live_text}
 
 -- an answer that `?` hands on
@@ -22,19 +25,34 @@ pub failed : {X E : Type 0} (P Q : Type 0) (r : Result X E) → IsErr r → Q �
 failed P Q (Ok x) h q = absurd (let e = h in cc)
 failed P Q (Err e) h q = q
 
--- nothing yet
-pub nothing_out : (a : Option (List ℕ)) (text : List ℕ) → WentOut a a text
-nothing_out a text = (0, omega arith, Appends-nil a)
+-- nothing yet, where something is due
+pub nothing_out : (a : Option (List ℕ)) (text : List ℕ) → 0 < length text → WentOut a a text
+nothing_out a text some = (0, some, Appends-nil a)
 
--- all of a first text is a beginning of both
-pub first_out : (a b : Option (List ℕ)) (first second : List ℕ) → Appends a b first → WentOut a b (first ++ second)
-first_out a b first second p = went_out_of a b first second (length first, omega arith, rw (take-length first) p)
+-- all of a first text is a beginning of both, where something is due after it
+first_out : (a b : Option (List ℕ)) (first second : List ℕ) → Appends a b first → 0 < length second → WentOut a b (first ++ second)
+first_out a b first second p some = went_out_after a b b first second p (nothing_out b second some)
+
+-- ---- what is due is something
+
+pub package_some : (w : World) (uuid : List ℕ) → 0 < length (package_text w uuid)
+package_some w uuid =
+    let word : length (codes "package ") ≡ 8 = refl in
+    some_first (package_line uuid) (manifest w uuid) (some_first (codes "package ") (uuid_text uuid ++ codes "\n") (omega (arith, word)))
+
+-- there is an archive
+some_listed : (w : World) (ps : List Package) → count_by is_archive ps ≡ 1 → 0 < length (packages_text w (map (λ (p : Package). p.uuid) ps))
+some_listed w [] one = absurd (let e = one in omega arith)
+some_listed w (p ∷ ps) one = some_first (package_text w p.uuid) (packages_text w (map (λ (p : Package). p.uuid) ps)) (package_some w p.uuid)
+
+pub live_some : (w : World) → IsRegister w → 0 < length (live_text w)
+live_some w register = some_listed w w.packages register.archive
 
 -- ---- one package
 
 module _ {W : Type 0} (contents : W → Option (List ℕ)) (w : World) (uuid : List ℕ) (a : Option (List ℕ)) (mid after : W) (line : Appends a (contents mid) (package_line uuid)) where
   nothing_more : after ≡ mid → WentOut a (contents after) (package_text w uuid)
-  nothing_more same = subst (λ x. WentOut a (contents x) (package_text w uuid)) (sym same) (first_out a (contents mid) (package_line uuid) (manifest w uuid) line)
+  nothing_more same = subst (λ x. WentOut a (contents x) (package_text w uuid)) (sym same) (first_out a (contents mid) (package_line uuid) (manifest w uuid) line (some_manifest (holdings w uuid).items (holdings w uuid).links))
 
   -- its line, and its manifest was not written
   pub manifest_failed : (e : ManifestFault) → WritesManifest w uuid (contents mid) (contents after) (Err e) → WritesNothing mid after (Err e) → WentOut a (contents after) (package_text w uuid)

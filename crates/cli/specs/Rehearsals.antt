@@ -46,7 +46,7 @@ module _ {S : Type 0} (g : Ghosts S) where
   abbrev pub StandsOn : Seen S → Seen S → Type 0
   StandsOn old new = (AllClean g new.members → AllClean g old.members) × ((w : World) → StandsFor g old w → StandsFor g new w)
 
-  -- What is due is written whole, or a beginning of it after a failure: due of each world that a value stood for, where each disk has given back what was written.
+  -- What is due is written whole, or a beginning of it and not all after a failure: due of each world that a value stood for, where each disk has given back what was written.
   abbrev pub Writes : (World → List ℕ) → Seen S → Seen S → Option (List ℕ) → Option (List ℕ) → Result (Unit {0}) Failure → Type 0
   Writes due old new before after r = AllClean g new.members → (w : World) → StandsFor g old w → MatchResult r (λ _. Appends before after (due w)) (λ _. WentOut before after (due w))
 

@@ -24,7 +24,7 @@ pub enum ImportFault {
     Unread(ReadFault),
     /// The request of this number got this reply, which is want of memory or a store that failed. Its line is the last of the report.
     Stopped(u64, Refusal),
-    /// The writer failed. The requests up to the line being written were carried out, and a beginning of the report went out.
+    /// The writer failed. The requests up to the line being written were carried out, and a beginning of the report went out, and not all of it.
     Unwritten,
 }
 

@@ -93,6 +93,7 @@ fn request_in(alloc: Global, number: u64, row: ByteRecord) -> Result<Request, Re
     let Ok(text) = StringRecord::from_byte_record(row) else {
         return Err(ReadFault::Read);
     };
+    // `request_of` looks again, and finds no request: only here is a record of another length told from one that asks nothing.
     if text.len() != 18 {
         return Err(ReadFault::Read);
     }

@@ -20,7 +20,7 @@ pub enum ManifestFault {
     Unknown,
     /// A growth was refused, or a store failed.
     Failed(Fault),
-    /// The writer failed. A beginning of the manifest went out.
+    /// The writer failed. A beginning of the manifest went out, and not all of it.
     Unwritten,
 }
 

@@ -5,11 +5,11 @@ ghost use Rattle.manifest_csv.specs.Sent.{WentOut};
 
 use std::io::{ErrorKind, Write};
 
-/// The writer failed, or took nothing. A beginning of the text went out.
+/// The writer failed, or took nothing. A beginning of the text went out, and not all of it.
 #[derive(Clone, Copy, Debug, PartialEq, Eq)]
 pub struct WriteFault;
 
-/// Writes a text whole. A write that was interrupted is tried again; where the writer fails or takes nothing, a beginning of the text went out.
+/// Writes a text whole. A write that was interrupted is tried again; where the writer fails or takes nothing, a beginning of the text went out, and not all of it.
 pub fn send<W: Write>(writer: &mut W, text: &[u8]) -> Result<(), WriteFault>
     ensures ok { OnOk result (Appends (W.contents writer.old) (W.contents writer.new) text.now) }
     ensures err { OnErr result (WentOut (W.contents writer.old) (W.contents writer.new) text.now) }
@@ -30,5 +30,9 @@ pub fn send<W: Write>(writer: &mut W, text: &[u8]) -> Result<(), WriteFault>
             }
         }
     }
-    Err(WriteFault)
+    // The last turn may have sent the rest.
+    if at < text.len() {
+        return Err(WriteFault);
+    }
+    Ok(())
 }

@@ -71,6 +71,7 @@ impl<S: Alter + Drop> World<S> {
         ensures usable { IfOk result (λ world. world.has_failed ≡ false) }
         ensures refused { IsCreatedOrRefused frame.now at.now result }
     {
+        // Whoever read the two from words has judged them already; a `Frame` and a `&str` do not say so, and once for a world is little.
         if let Err(broken) = frame.check() {
             return Err(CreateFault::BadFrame(broken));
         }

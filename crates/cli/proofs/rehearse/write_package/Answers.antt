@@ -5,11 +5,11 @@ use Rattle.manifest_csv.specs.PackageManifests.{manifest}
 use Rattle.manifest_csv.specs.Sent.{WentOut}
 use Rattle.manifest_csv.proofs.SentFacts.{went_out_of}
 use Rattle.cli.specs.Rehearsals.{package_line, package_text}
-use Rattle.cli.proofs.Pieces.{failed, nothing_out, manifest_failed}
+use Rattle.cli.proofs.Pieces.{failed, nothing_out, package_some, manifest_failed}
 use Rattle.cli.proofs.rehearse.write_package.Goals as goal
 
 pub returns-in_err-line-clause-written : goal.returns-in_err-line-clause-written
-returns-in_err-line-clause-written g c = λ clean w stands. failed _ _ c.from_residual.result c.from_residual.ensures.0 (nothing_out (g.W.Write.contents c.args.writer.now) (package_text w c.args.package))
+returns-in_err-line-clause-written g c = λ clean w stands. failed _ _ c.from_residual.result c.from_residual.ensures.0 (nothing_out (g.W.Write.contents c.args.writer.now) (package_text w c.args.package) (package_some w c.args.package))
 
 pub returns-in_err-send-clause-written : goal.returns-in_err-send-clause-written
 returns-in_err-send-clause-written g c =

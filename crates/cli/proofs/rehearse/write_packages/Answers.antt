@@ -2,12 +2,12 @@
 use Rattle.std.proofs.Common.{◌∙◌, ap, map}
 use Rattle.world.specs.Reading.{sight_of}
 use Rattle.cli.specs.Rehearsals.{live_text}
-use Rattle.cli.proofs.Pieces.{failed, nothing_out, listed_text, all_listed}
+use Rattle.cli.proofs.Pieces.{failed, nothing_out, live_some, listed_text, all_listed}
 use Rattle.cli.proofs.Rehearsing.{due_same}
 use Rattle.cli.proofs.rehearse.write_packages.Goals as goal
 
 pub returns-in_err-sights : goal.returns-in_err-sights
-returns-in_err-sights g c = λ clean w stands. failed _ _ c.from_residual.result c.from_residual.ensures.0 (nothing_out (g.W.Write.contents c.args.writer.now) (live_text w))
+returns-in_err-sights g c = λ clean w stands. failed _ _ c.from_residual.result c.from_residual.ensures.0 (nothing_out (g.W.Write.contents c.args.writer.now) (live_text w) (live_some w stands.members.register))
 
 pub returns : goal.returns
 returns g c =
