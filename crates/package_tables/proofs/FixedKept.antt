@@ -8,12 +8,7 @@ use Rattle.package_tables.specs.Shapes.{contents_shape}
 use Rattle.package_tables.specs.Package.{Tables}
 use Rattle.package_tables.specs.Entries.{SetsLastChange}
 use Rattle.package_tables.specs.Fixed.{HasFixed, undated, content, contents_of}
-use Rattle.package_tables.specs.Creation.{new_tables}
 use Rattle.package_tables.specs.declared.rows.ContentsRow.{ContentsRow}
-use Rattle.package_tables.specs.declared.rows.HeadRow.{HeadRow}
-
-pub new_has_fixed : (f : Frame) (head : HeadRow) → HasFixed f (new_tables f head)
-new_has_fixed f head = record { spatial_ref_sys = refl; contents = refl; tile_matrix_set = refl; tile_matrix = refl; relations = refl }
 
 -- the names of the contents differ, whatever the moments
 apart : (cs : List ContentsRow) → IsArranged contents_shape.key (undated cs) → IsArranged contents_shape.key cs

@@ -1,5 +1,5 @@
 -- A new package has the form of a package, and no rows.
-use Rattle.std.proofs.Common.{◌≡◌, List, [], ◌∷◌, Ok, Err, Result, OnOk, IfErr, true, refl, sym, subst}
+use Rattle.std.proofs.Common.{◌≡◌, List, [], ◌∷◌, Ok, Err, Result, OnOk, IfErr, refl, sym, subst}
 use Rattle.std.specs.List.{AllByRecursion}
 use Rattle.sqlite.specs.Table.{Table}
 use Rattle.sqlite.specs.Schema.{Schema}
@@ -16,8 +16,7 @@ use Rattle.package_tables.specs.Shapes.{spatial_ref_sys_shape, contents_shape, t
 use Rattle.package_tables.specs.Package.{tables_of, AreFormed}
 use Rattle.package_tables.specs.SchemaMaking.{MadeBy, ChangedInside, FailsInside, FailsToMakeBy}
 use Rattle.package_tables.proofs.Texts.{texts, plan}
-use Rattle.sqlite.specs.State.{State, HasCleanDisk, KeepsCommit, Survives}
-use Rattle.sql_meaning.specs.Transactions.{Made, Steps}
+use Rattle.sqlite.specs.State.{State}
 use Rattle.sqlite.specs.declared.error.Error.{Error}
 use Rattle.package_tables.specs.SchemaMade.{package_schema, table_names, empty_tables, IsEmptyForm, IsNewPackage, BecomesPackage}
 
@@ -159,12 +158,3 @@ package_made old new (Err e) made = tt
 pub package_failed : (old new : State) (r : Result (Unit {0}) Error) → IfErr r (FailsToMakeBy texts old new) → IsBlank no_schema old.now → IfErr r (FailsInside old new)
 package_failed old new (Ok done) failed blank = tt
 package_failed old new (Err e) failed blank = failed no_schema package_schema plan blank
-
--- the schema is one of the steps of a transaction
-pub schema_steps : (old new : State) (r : Result (Unit {0}) Error) → (HasCleanDisk new → old.in_transaction ≡ true → OnOk r (ChangedInside BecomesPackage old new)) → (HasCleanDisk new → KeepsCommit old new) → Survives old new (λ _. ⊥)
-    → Steps (λ _. BecomesPackage) old new r
-schema_steps old new r made kept survives = record { made = λ clean inside. at r (made clean inside) (kept clean); survives = survives }
-  where
-    at : (r : Result (Unit {0}) Error) → OnOk r (ChangedInside BecomesPackage old new) → KeepsCommit old new → Made (λ _. BecomesPackage) old new r
-    at (Ok done) it keeps = (it.shown.mode, keeps, it.changed)
-    at (Err e) it keeps = keeps
