@@ -4,7 +4,7 @@ use Rattle.std.proofs.lemmas.List.{take_all}
 use Rattle.std.proofs.lemmas.List.Elements.{All-more, recursion_from_All}
 use Rattle.sheet_types.specs.declared.command.Request.{Request}
 use Rattle.world.specs.Laws.{IsServed}
-use Rattle.acceptance.proofs.world_tests.are_served.Goals as goal
+use Rattle.test_worlds.proofs.worlds.are_served.Goals as goal
 
 pub loop-at-preserved : goal.loop-at-preserved
 loop-at-preserved c =
