@@ -13,7 +13,7 @@ use Rattle.world.specs.declared.reading.PackageSight.{PackageSight}
 use Rattle.manifest_csv.specs.PackageManifests.{manifest, WritesManifest, WritesNothing}
 use Rattle.manifest_csv.specs.Sent.{WentOut, WentOutPast}
 use Rattle.manifest_csv.specs.declared.package_manifests.ManifestFault.{ManifestFault}
-use Rattle.manifest_csv.specs.declared.package_manifests.ManifestFault.TheVariants.{Unknown, Memory, Store, Unwritten}
+use Rattle.manifest_csv.specs.declared.package_manifests.ManifestFault.TheVariants.{Unknown, Failed, Unwritten}
 use Rattle.manifest_csv.proofs.SentFacts.{went_out_after, went_out_of, went_out_past}
 use Rattle.cli.specs.Rehearsals.{package_line, package_text, packages_text, live_text}
 
@@ -39,8 +39,7 @@ module _ {W : Type 0} (contents : W → Option (List ℕ)) (w : World) (uuid : L
   -- its line, and its manifest was not written
   pub manifest_failed : (e : ManifestFault) → WritesManifest w uuid (contents mid) (contents after) (Err e) → WritesNothing mid after (Err e) → WentOut a (contents after) (package_text w uuid)
   manifest_failed Unknown it same = nothing_more same
-  manifest_failed Memory it same = nothing_more same
-  manifest_failed Store it same = nothing_more same
+  manifest_failed (Failed fault) it same = nothing_more same
   manifest_failed Unwritten it same = went_out_after a (contents mid) (contents after) (package_line uuid) (manifest w uuid) line it.1
 
 -- ---- all packages

@@ -22,14 +22,12 @@ of_shelf shelf.StoreFault = StoreFault
 
 -- of a new world. Its words are read before, so that a frame or a moment that is not good is a fault of the store
 abbrev pub of_creation : CreateFault → Failure
-of_creation create.OutOfMemory = OutOfMemory
+of_creation (create.Failed fault) = of_fault fault
 of_creation (create.BadFrame broken) = StoreFault
 of_creation create.BadText = StoreFault
-of_creation create.StoreFault = StoreFault
 
 -- of a manifest. The packages that are named are live, so that an unknown one is a fault of the store
 abbrev pub of_manifest : ManifestFault → Failure
-of_manifest manifest.Memory = OutOfMemory
+of_manifest (manifest.Failed fault) = of_fault fault
 of_manifest manifest.Unknown = StoreFault
-of_manifest manifest.Store = StoreFault
 of_manifest manifest.Unwritten = StoreFault

@@ -81,10 +81,8 @@ impl From<CreateFault> for Failure {
 
     fn from(fault: CreateFault) -> Failure {
         match fault {
-            CreateFault::OutOfMemory => Failure::OutOfMemory,
-            CreateFault::BadFrame(_) | CreateFault::BadText | CreateFault::StoreFault => {
-                Failure::StoreFault
-            }
+            CreateFault::Failed(fault) => Failure::from(fault),
+            CreateFault::BadFrame(_) | CreateFault::BadText => Failure::StoreFault,
         }
     }
 }
@@ -106,10 +104,8 @@ impl From<ManifestFault> for Failure {
 
     fn from(fault: ManifestFault) -> Failure {
         match fault {
-            ManifestFault::Memory => Failure::OutOfMemory,
-            ManifestFault::Unknown | ManifestFault::Store | ManifestFault::Unwritten => {
-                Failure::StoreFault
-            }
+            ManifestFault::Failed(fault) => Failure::from(fault),
+            ManifestFault::Unknown | ManifestFault::Unwritten => Failure::StoreFault,
         }
     }
 }

@@ -156,29 +156,23 @@ module _ (f : Frame) (p : Package) (t : Tables) (says : Says f p t) (r : Receipt
   unfolding IsDistinct
   enters = record {
     good = says.good;
-    fixed = record { spatial_ref_sys = says.fixed.spatial_ref_sys; contents = says.fixed.contents; tile_matrix_set = says.fixed.tile_matrix_set; tile_matrix = says.fixed.tile_matrix; relations = says.fixed.relations };
+    fixed = says.fixed;
     created = says.created;
-    fit_head = record { uuid = says.fit_head.uuid; parent = says.fit_head.parent };
+    fit_head = says.fit_head;
     head = says.head;
     numbered = says.numbered;
-    numbers = says.numbers;
-    items = says.items;
-    tiles = says.tiles;
-    media = says.media;
-    rows = says.rows;
-    identities = says.identities;
+    of_items = says.of_items;
     linked = says.linked;
-    distinct_links = says.distinct_links;
-    ends = All-weaker _ _ (λ l h. h) says.linked says.ends;
-    links = says.links;
-    tiles_media = says.tiles_media;
-    rows_media = says.rows_media;
+    ends = says.ends;
+    of_links = says.of_links;
     entered = r ∷ says.entered;
-    distinct_receipts = (All-map (λ y. bytes_eq (receipt_key r) y ≡ false) receipt_key says.entered (All-weaker _ _ (λ e d. bytes_eq_swap (receipt_key r) (receipt_key e) ∙ d) says.entered numbers_apart), says.distinct_receipts);
-    fit = (fits.fit, says.fit);
-    kept = ap (put receipt_key r) says.kept;
-    receipts = ap (put receipt_shape.key (receipt_row r)) says.receipts;
-    moved = refl;
+    of_receipts = record {
+      distinct_receipts = (All-map (λ y. bytes_eq (receipt_key r) y ≡ false) receipt_key says.entered (All-weaker _ _ (λ e d. bytes_eq_swap (receipt_key r) (receipt_key e) ∙ d) says.entered numbers_apart), says.distinct_receipts);
+      fit = (fits.fit, says.fit);
+      kept = ap (put receipt_key r) says.kept;
+      receipts = ap (put receipt_shape.key (receipt_row r)) says.receipts;
+      moved = refl;
+    };
   }
 
 receipt_entered : (r : Receipt) (old mid new : Database) → OnTables (AddsReceipt (receipt_row r)) old mid → EachChained Enters (moved_rows r) mid new → Becomes (IsNewReceipt r) (with_receipt r) old new

@@ -18,13 +18,14 @@ ghost use Rattle.identity_register.specs.Reads.{IsFitReceipt, end_text, is_fit_e
 ghost use Rattle.custody.specs.Entries.{row_at, rows_at};
 ghost use Rattle.custody.specs.Receipts.{IsKept};
 
+use identity_register::fitting::fits;
 use package_tables::fault::Fault;
 use package_tables::moved::moved_of;
 use package_tables::receipts::receipt_by_request;
 use package_tables::rows::{MovedRow, ReceiptRow};
 use sheet_types::collections::MovedList;
 use sheet_types::fingerprints::read_fingerprint;
-use sheet_types::reading::read_stored_uuid;
+use sheet_types::reading::{read_stored_optional, read_stored_uuid};
 use sheet_types::receipt::{Moved, MovedKind, Receipt};
 use sqlite::{Alter, Connection};
 use std::alloc::Global;
@@ -46,14 +47,10 @@ fn kind_of_number(number: i64) -> Result<MovedKind, Fault>
     ensures kind { IfOk result (λ kind. number ≡ pos (kind_number kind)) }
     ensures none { IfErr result (λ _. (kind : MovedKind) → number ≢ pos (kind_number kind)) }
 {
-    match number {
-        1 => Ok(MovedKind::TileItem),
-        2 => Ok(MovedKind::MediaItem),
-        3 => Ok(MovedKind::RowItem),
-        4 => Ok(MovedKind::TilesMediaLink),
-        5 => Ok(MovedKind::RowsMediaLink),
-        _ => Err(Fault::StoreFault),
-    }
+    let Ok(number) = u8::try_from(number) else {
+        return Err(Fault::StoreFault);
+    };
+    MovedKind::from_number(number).ok_or(Fault::StoreFault)
 }
 
 // Each byte of an array fits, which no clause can say of it: the walk reads them.
@@ -74,7 +71,7 @@ fn uuid_of(text: &str) -> Result<Uuid, Fault>
     let Some(id) = read_stored_uuid(text) else {
         return Err(Fault::StoreFault);
     };
-    bytes_fit(id.as_bytes());
+    fits(id);
     Ok(id)
 }
 
@@ -84,11 +81,14 @@ fn end_of(text: &str) -> Result<Option<Uuid>, Fault>
     ensures fit { IfOk result (λ end. is_fit_end end ≡ true) }
     ensures none { IfErr result (λ _. (end : Option (List ℕ)) → is_fit_end end ≡ true → text.now ≢ end_text end) }
 {
-    if text.is_empty() {
-        return Ok(None);
+    match read_stored_optional(text) {
+        Some(None) => Ok(None),
+        Some(Some(id)) => {
+            fits(id);
+            Ok(Some(id))
+        }
+        None => Err(Fault::StoreFault),
     }
-    let id = uuid_of(text)?;
-    Ok(Some(id))
 }
 
 /// The fingerprint of a stored text, which is empty where there is none.

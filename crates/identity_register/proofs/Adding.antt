@@ -112,32 +112,32 @@ adds f p t n says fresh uuid range free =
     let ns = says.numbered in
     record {
       good = says.good;
-      fixed = record { spatial_ref_sys = says.fixed.spatial_ref_sys; contents = says.fixed.contents; tile_matrix_set = says.fixed.tile_matrix_set; tile_matrix = says.fixed.tile_matrix; relations = says.fixed.relations };
+      fixed = says.fixed;
       created = says.created;
-      fit_head = record { uuid = says.fit_head.uuid; parent = says.fit_head.parent };
+      fit_head = says.fit_head;
       head = says.head;
       numbered = n ∷ ns;
-      numbers = record {
-        range = (range, says.numbers.range);
-        numbers = (turned place_in_tables (place_in_tables n) ns (identity_keys (place_in_tables n) ns (rw says.identities at free)), says.numbers.numbers);
-        identities = (turned (λ m. m.item.identity) n.item.identity ns (item_identities n.item.identity ns (rw says.items at fresh)), says.numbers.identities);
-        uuids = (uuid, says.numbers.uuids);
+      of_items = record {
+        numbers = record {
+          range = (range, says.numbers.range);
+          numbers = (turned place_in_tables (place_in_tables n) ns (identity_keys (place_in_tables n) ns (rw says.identities at free)), says.numbers.numbers);
+          identities = (turned (λ m. m.item.identity) n.item.identity ns (item_identities n.item.identity ns (rw says.items at fresh)), says.numbers.identities);
+          uuids = (uuid, says.numbers.uuids);
+        };
+        items = ap (put item_key n.item) says.items;
+        tiles = ap (puts tile_shape.key (tile_rows n.number n.item.content)) says.tiles ∙ sym (arranged-puts tile_shape.key (tile_rows n.number n.item.content) (flat_map (λ m. tile_rows m.number m.item.content) ns));
+        media = ap (puts medium_shape.key (media_rows n.number n.item.content)) says.media ∙ sym (arranged-puts medium_shape.key (media_rows n.number n.item.content) (flat_map (λ m. media_rows m.number m.item.content) ns));
+        rows = ap (puts attribute_shape.key (attribute_rows n.number n.item.content)) says.rows ∙ sym (arranged-puts attribute_shape.key (attribute_rows n.number n.item.content) (flat_map (λ m. attribute_rows m.number m.item.content) ns));
+        identities = ap (put identity_shape.key (identity_row n)) says.identities;
       };
-      items = ap (put item_key n.item) says.items;
-      tiles = ap (puts tile_shape.key (tile_rows n.number n.item.content)) says.tiles ∙ sym (arranged-puts tile_shape.key (tile_rows n.number n.item.content) (flat_map (λ m. tile_rows m.number m.item.content) ns));
-      media = ap (puts medium_shape.key (media_rows n.number n.item.content)) says.media ∙ sym (arranged-puts medium_shape.key (media_rows n.number n.item.content) (flat_map (λ m. media_rows m.number m.item.content) ns));
-      rows = ap (puts attribute_shape.key (attribute_rows n.number n.item.content)) says.rows ∙ sym (arranged-puts attribute_shape.key (attribute_rows n.number n.item.content) (flat_map (λ m. attribute_rows m.number m.item.content) ns));
-      identities = ap (put identity_shape.key (identity_row n)) says.identities;
       linked = says.linked;
-      distinct_links = says.distinct_links;
       ends = All-weaker (HasEnds p) _ (ends_kept p n fresh) says.linked says.ends;
-      links = says.links;
-      tiles_media = says.tiles_media ∙ sym (ap (arranged tiles_media_shape.key) (flat_map_same _ _ says.linked (All-weaker (HasEnds p) _ (λ l h. tiles_media_kept p n fresh ns l l.mapping h) says.linked says.ends)));
-      rows_media = says.rows_media ∙ sym (ap (arranged rows_media_shape.key) (flat_map_same _ _ says.linked (All-weaker (HasEnds p) _ (λ l h. rows_media_kept p n fresh ns l l.mapping h) says.linked says.ends)));
+      of_links = record {
+        distinct_links = says.distinct_links;
+        links = says.links;
+        tiles_media = says.tiles_media ∙ sym (ap (arranged tiles_media_shape.key) (flat_map_same _ _ says.linked (All-weaker (HasEnds p) _ (λ l h. tiles_media_kept p n fresh ns l l.mapping h) says.linked says.ends)));
+        rows_media = says.rows_media ∙ sym (ap (arranged rows_media_shape.key) (flat_map_same _ _ says.linked (All-weaker (HasEnds p) _ (λ l h. rows_media_kept p n fresh ns l l.mapping h) says.linked says.ends)));
+      };
       entered = says.entered;
-      distinct_receipts = says.distinct_receipts;
-      fit = says.fit;
-      kept = says.kept;
-      receipts = says.receipts;
-      moved = says.moved;
+      of_receipts = says.of_receipts;
     }

@@ -16,7 +16,7 @@ use Rattle.sheet_types.specs.declared.command.Item.{Item}
 use Rattle.sheet_types.specs.declared.frame.Frame.{Frame}
 use Rattle.sheet_types.specs.declared.receipt.MovedKind.{MovedKind}
 use Rattle.sheet_types.specs.declared.receipt.MovedKind.TheVariants.{TileItem, MediaItem, RowItem, TilesMediaLink, RowsMediaLink}
-use Rattle.sheet_types.proofs.Basics.{bytes_eq_itself, or-false}
+use Rattle.sheet_types.proofs.Basics.{some_same, bytes_eq_itself, or-false}
 use Rattle.sheet_types.proofs.Every.{All-each}
 use Rattle.sheet_types.proofs.Found.{found, not_found, All-found}
 use Rattle.sheet_types.proofs.Order.{All-arranged, list_any-arranged}
@@ -58,10 +58,6 @@ kind_number_tells RowsMediaLink MediaItem e = cc
 kind_number_tells RowsMediaLink RowItem e = cc
 kind_number_tells RowsMediaLink TilesMediaLink e = cc
 kind_number_tells RowsMediaLink RowsMediaLink e = refl
-
--- what is there is known
-pub some_same : {X : Type 0} {x y : X} → Some x ≡ Some y → x ≡ y
-some_same e = cc
 
 -- ---- lists
 

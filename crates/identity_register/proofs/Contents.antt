@@ -1,8 +1,10 @@
 -- The row of an item, by its kind and number, has the item's content.
-use Rattle.std.proofs.Common.{◌≡◌, ℕ, ℤ, pos, List, [], ◌∷◌, true, Some, sym, ap, subst, ◌∙◌, inl, inr, arith}
+use Rattle.std.proofs.Common.{◌≡◌, ℕ, ℤ, pos, List, [], ◌∷◌, true, Option, Some, Result, Ok, sym, ap, subst, ◌∙◌, inl, inr, arith}
 use Rattle.std.specs.Prelude.{bytes_eq, flat_map, unsigned_abs, Contains}
 use Rattle.std.specs.Ordering.{int_eq}
 use Rattle.std.proofs.lemmas.Slice.Eq.{bytes_eq-Decides}
+use Rattle.sqlite.specs.State.{State}
+use Rattle.sql_meaning.specs.Transactions.{Looks}
 use Rattle.sheet_types.specs.Texts.{uuid_text, kind_of}
 use Rattle.sheet_types.specs.World.{Package, kind_number, item_of}
 use Rattle.sheet_types.specs.Lines.{IsUuid}
@@ -12,6 +14,7 @@ use Rattle.sheet_types.specs.declared.command.Item.{Item}
 use Rattle.sheet_types.specs.declared.frame.Frame.{Frame}
 use Rattle.sheet_types.proofs.Basics.{bytes_eq_itself}
 use Rattle.sheet_types.proofs.Same.{In, All-In}
+use Rattle.package_tables.specs.Calls.{Answers, IsOneOf}
 use Rattle.package_tables.specs.Package.{Tables}
 use Rattle.package_tables.specs.Shapes.{tile_shape, medium_shape, attribute_shape}
 use Rattle.package_tables.specs.declared.rows.AttributeRow.{AttributeRow}
@@ -24,9 +27,17 @@ use Rattle.identity_register.specs.Reads.{Says}
 use Rattle.identity_register.proofs.Answering.{item_of_row, same_item}
 use Rattle.identity_register.proofs.Deleting.{same_tests}
 use Rattle.identity_register.proofs.Finding.{contained, in_arranged, in_flat_map}
+use Rattle.identity_register.proofs.Looking.{looked, tells}
 
 pub int_same : (a b : ℤ) → int_eq a b ≡ true → a ≡ b
 int_same a b h = grind (arith)
+
+-- the row that a look-up by the number found says what the number's content is
+pub content_found : {R E : Type 0} (id : R → ℤ) (rows : Tables → List R) (kind number : ℤ) {r : R} {content : Content} {a b : State} {found : Result (Option R) E} → found ≡ Ok (Some r)
+    → Looks {X = Option R} {E = E} (Answers (λ t. IsOneOf (λ x. int_eq (id x) number) (rows t))) a b found → ((t : Tables) → Contains (rows t) r → IsContentOf kind (id r) t content) → Looks {X = Content} {E = E} (Answers (IsContentOf kind number)) a b (Ok content)
+content_found id rows kind number {r} {content} is looks so =
+    tells (IsContentOf kind number) (looked (λ t. IsOneOf (λ x. int_eq (id x) number) (rows t)) is looks)
+    (λ t h. subst (λ n. IsContentOf kind n t content) (int_same (id r) number h.1) (so t h.0))
 
 -- ---- the one row of a content
 

@@ -26,7 +26,7 @@ use Rattle.sheet_types.proofs.Order.{list_any-arranged}
 use Rattle.sheet_types.proofs.Arranging.{filter-arranged}
 use Rattle.sheet_types.proofs.Found.{any_filter}
 use Rattle.sheet_types.proofs.Same.{In, All-In}
-use Rattle.sheet_types.proofs.Basics.{bytes_eq_itself, bytes_eq_swap, or-false}
+use Rattle.sheet_types.proofs.Basics.{bytes_eq_itself, bytes_eq_swap, or-false, and-true, not_false}
 use Rattle.package_tables.specs.Shapes.{tile_shape, medium_shape, attribute_shape, identity_shape, tiles_media_shape, rows_media_shape}
 use Rattle.package_tables.specs.Package.{Tables}
 use Rattle.identity_register.specs.Numbering.{Numbered, greatest_number, place_in_tables, tile_rows, media_rows, attribute_rows, identity_row, number_of, mapping_row, tiles_media_rows, rows_media_rows, without_content, without_identity}
@@ -107,11 +107,6 @@ same_tests {X} f g n (x ∷ xs) hf hg i = elim i [
     apart' : (ys : List X) → AllByRecursion (λ y. bytes_eq (g x) (g y) ≡ false) ys → In n ys → bytes_eq (g x) (g n) ≡ false
     apart' [] h j = absurd j
     apart' (y ∷ ys) h j = elim j [ inl e ↦ subst (λ z. bytes_eq (g x) (g z) ≡ false) e h.0 | inr k ↦ apart' ys h.1 k ]
-
--- a test and nothing more
-pub and-true : (b : Bool) → (b && true) ≡ b
-and-true true = refl
-and-true false = refl
 
 -- of two tests of which the first is passed, the second
 pub place_test : (a b : Bool) → a ≡ true → (a && (b && true)) ≡ b
@@ -219,14 +214,10 @@ module _ {R : Type 0} (kind : MovedKind) (rows : ℤ → Content → List R) (id
   stays : kind_is kind (kind_of n.item.content) ≡ false → (m : Numbered) → bytes_eq (place_in_tables m) (place_in_tables n) ≡ bytes_eq m.item.identity n.item.identity → keep m ≡ false → rows_of_item m ≡ []
   stays elsewhere m same gone = of_kind.others m.number m.item.content (one (kind_is kind (kind_of m.item.content)) refl)
     where
-      named : (b : Bool) → not b ≡ false → b ≡ true
-      named true h = refl
-      named false h = absurd (true≢false h)
-
       one : (b : Bool) → kind_is kind (kind_of m.item.content) ≡ b → b ≡ false
       one false e = refl
       one true e =
-          let place : bytes_eq (place_in_tables m) (place_in_tables n) ≡ true = same ∙ named (bytes_eq m.item.identity n.item.identity) gone in
+          let place : bytes_eq (place_in_tables m) (place_in_tables n) ≡ true = same ∙ not_false (bytes_eq m.item.identity n.item.identity) gone in
           let kind_same = (and_parts (kind_number (kind_of m.item.content) == kind_number (kind_of n.item.content)) _ place).0 in
           absurd (true≢false (sym e ∙ sym (kinds_same kind (kind_of m.item.content) (kind_of n.item.content) kind_same) ∙ elsewhere))
 
@@ -309,36 +300,36 @@ deletes f p t says n there free =
     let unnamed : AllByRecursion (λ l. has_end id l ≡ false) says.linked = none_pass (has_end id) says.linked (sym (list_any-arranged link_key (has_end id) says.linked) ∙ ap (list_any (has_end id)) (sym says.links) ∙ free) in
     record {
       good = says.good;
-      fixed = record { spatial_ref_sys = says.fixed.spatial_ref_sys; contents = says.fixed.contents; tile_matrix_set = says.fixed.tile_matrix_set; tile_matrix = says.fixed.tile_matrix; relations = says.fixed.relations };
+      fixed = says.fixed;
       created = says.created;
-      fit_head = record { uuid = says.fit_head.uuid; parent = says.fit_head.parent };
+      fit_head = says.fit_head;
       head = says.head;
       numbered = filter (kept p n) ns;
-      numbers = record {
-        range = All-filter _ (kept p n) ns says.numbers.range;
-        numbers = distinct_filter place_in_tables (kept p n) ns says.numbers.numbers;
-        identities = distinct_filter (λ m. m.item.identity) (kept p n) ns says.numbers.identities;
-        uuids = All-filter _ (kept p n) ns says.numbers.uuids;
+      of_items = record {
+        numbers = record {
+          range = All-filter _ (kept p n) ns says.numbers.range;
+          numbers = distinct_filter place_in_tables (kept p n) ns says.numbers.numbers;
+          identities = distinct_filter (λ m. m.item.identity) (kept p n) ns says.numbers.identities;
+          uuids = All-filter _ (kept p n) ns says.numbers.uuids;
+        };
+        items =
+            ap (filter (λ i. not (is_among (id ∷ []) i.identity))) says.items ∙ filter-arranged item_key (λ i. not (is_among (id ∷ []) i.identity)) (map (λ m. m.item) ns)
+            ∙ ap (arranged item_key) (filter-map (λ m. m.item) (λ i. not (is_among (id ∷ []) i.identity)) (kept p n) ns (All-each _ (λ m. gone_test p n m.item) ns));
+        tiles = rows_less TileItem tile_rows (λ r. r.id) tile_shape.key tiles_of_kind n ns says.numbers.range in_range places t.tiles says.tiles;
+        media = rows_less MediaItem media_rows (λ r. r.id) medium_shape.key media_of_kind n ns says.numbers.range in_range places t.media says.media;
+        rows = rows_less RowItem attribute_rows (λ r. r.id) attribute_shape.key attributes_of_kind n ns says.numbers.range in_range places t.rows says.rows;
+        identities =
+            ap (filter (λ r. not (int_eq r.kind (identity_row n).kind && int_eq r.local_id n.number))) says.identities ∙ filter-arranged identity_shape.key _ (map identity_row ns)
+            ∙ ap (arranged identity_shape.key) (filter-map identity_row _ (kept p n) ns (All-both _ _ _ (λ m a b. ap not (same_row m n a in_range ∙ b)) ns says.numbers.range places));
       };
-      items =
-          ap (filter (λ i. not (is_among (id ∷ []) i.identity))) says.items ∙ filter-arranged item_key (λ i. not (is_among (id ∷ []) i.identity)) (map (λ m. m.item) ns)
-          ∙ ap (arranged item_key) (filter-map (λ m. m.item) (λ i. not (is_among (id ∷ []) i.identity)) (kept p n) ns (All-each _ (λ m. gone_test p n m.item) ns));
-      tiles = rows_less TileItem tile_rows (λ r. r.id) tile_shape.key tiles_of_kind n ns says.numbers.range in_range places t.tiles says.tiles;
-      media = rows_less MediaItem media_rows (λ r. r.id) medium_shape.key media_of_kind n ns says.numbers.range in_range places t.media says.media;
-      rows = rows_less RowItem attribute_rows (λ r. r.id) attribute_shape.key attributes_of_kind n ns says.numbers.range in_range places t.rows says.rows;
-      identities =
-          ap (filter (λ r. not (int_eq r.kind (identity_row n).kind && int_eq r.local_id n.number))) says.identities ∙ filter-arranged identity_shape.key _ (map identity_row ns)
-          ∙ ap (arranged identity_shape.key) (filter-map identity_row _ (kept p n) ns (All-both _ _ _ (λ m a b. ap not (same_row m n a in_range ∙ b)) ns says.numbers.range places));
       linked = says.linked;
-      distinct_links = says.distinct_links;
       ends = All-both _ _ _ (λ l a b. ends_left p n l a b) says.linked unnamed says.ends;
-      links = says.links;
-      tiles_media = says.tiles_media ∙ sym (ap (arranged tiles_media_shape.key) (flat_map_same _ _ says.linked (All-weaker _ _ (λ l h. tiles_media_left p n ns l l.mapping h) says.linked unnamed)));
-      rows_media = says.rows_media ∙ sym (ap (arranged rows_media_shape.key) (flat_map_same _ _ says.linked (All-weaker _ _ (λ l h. rows_media_left p n ns l l.mapping h) says.linked unnamed)));
+      of_links = record {
+        distinct_links = says.distinct_links;
+        links = says.links;
+        tiles_media = says.tiles_media ∙ sym (ap (arranged tiles_media_shape.key) (flat_map_same _ _ says.linked (All-weaker _ _ (λ l h. tiles_media_left p n ns l l.mapping h) says.linked unnamed)));
+        rows_media = says.rows_media ∙ sym (ap (arranged rows_media_shape.key) (flat_map_same _ _ says.linked (All-weaker _ _ (λ l h. rows_media_left p n ns l l.mapping h) says.linked unnamed)));
+      };
       entered = says.entered;
-      distinct_receipts = says.distinct_receipts;
-      fit = says.fit;
-      kept = says.kept;
-      receipts = says.receipts;
-      moved = says.moved;
+      of_receipts = says.of_receipts;
     }

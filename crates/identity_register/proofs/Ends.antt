@@ -1,5 +1,5 @@
 -- What the rows of the mapping tables say of the links of a package.
-use Rattle.std.proofs.Common.{◌≡◌, ℕ, pos, List, [], ◌∷◌, ◌++◌, map, Bool, true, false, refl, sym, ap, subst, ◌∙◌, length}
+use Rattle.std.proofs.Common.{◌≡◌, ℕ, pos, List, [], ◌∷◌, ◌++◌, map, Bool, true, false, refl, sym, ap, subst, ◌∙◌, length, inl, inr}
 use Rattle.std.specs.Prelude.{◌&&◌, ◌||◌, ◌==◌, bytes_eq, flat_map, unsigned_abs, Contains}
 use Rattle.std.specs.List.{AllByRecursion, list_any}
 use Rattle.std.specs.Ordering.{int_eq}
@@ -22,21 +22,21 @@ use Rattle.sheet_types.specs.declared.frame.Frame.{Frame}
 use Rattle.sheet_types.specs.declared.receipt.MovedKind.{MovedKind}
 use Rattle.sheet_types.specs.declared.receipt.MovedKind.TheVariants.{TileItem, MediaItem, RowItem}
 use Rattle.sheet_types.proofs.Every.{All-weaker, All-each, none_any}
-use Rattle.sheet_types.proofs.Basics.{bytes_eq_itself, bytes_eq_swap, or-false}
+use Rattle.sheet_types.proofs.Basics.{bytes_eq_itself, bytes_eq_swap, or-false, and-true}
 use Rattle.sheet_types.proofs.Order.{list_any-arranged}
 use Rattle.sheet_types.proofs.Same.{In, In-map, All-In, any_in}
 use Rattle.sheet_types.proofs.LineReading.{uuid_length}
 use Rattle.package_tables.specs.Package.{Tables}
-use Rattle.package_tables.specs.Shapes.{tiles_media_shape, rows_media_shape}
 use Rattle.package_tables.specs.declared.rows.IdentityRow.{IdentityRow}
 use Rattle.package_tables.specs.declared.rows.MappingRow.{MappingRow}
 use Rattle.identity_register.specs.Answers.{is_linked_row, mapping_rows, are_ends}
 use Rattle.identity_register.specs.Numbering.{Numbered, place_in_tables, identity_row, number_of, mapping_row, tiles_media_rows, rows_media_rows, is_pair}
 use Rattle.identity_register.specs.Reads.{Says}
-use Rattle.identity_register.proofs.Deleting.{and-true, same_tests, same_number, pos_same}
+use Rattle.identity_register.proofs.Deleting.{same_tests, same_number, pos_same}
 use Rattle.identity_register.proofs.Linking.{same_mapping, end_of, number_is, pair_same, one_passes, bytes_eq_append}
 use Rattle.identity_register.proofs.Adding.{other_end}
 use Rattle.identity_register.proofs.Answering.{any_flat_map, item_of_row}
+use Rattle.identity_register.proofs.MappingTables.{rows_in, rows_there, pair_key, table_says}
 use Rattle.identity_register.proofs.Finding.{in_range, no_row_of_uuid}
 
 -- ---- tests
@@ -82,15 +82,10 @@ module _ (f : Frame) (p : Package) (t : Tables) (says : Says f p t) where
       ∙ ap (λ x. bytes_eq x n.item.identity) m.3
 
   -- what the rows of a mapping table tell of the links
-  tiles_media_tell : (q : MappingRow → Bool) (test : Relation → Bool) → AllByRecursion (λ x. list_any q (tiles_media_rows says.numbered x x.mapping) ≡ test x) says.linked → list_any q t.tiles_media ≡ list_any test says.linked
-  tiles_media_tell q test h =
-      ap (list_any q) says.tiles_media ∙ list_any-arranged tiles_media_shape.key q (flat_map (λ x. tiles_media_rows says.numbered x x.mapping) says.linked)
-      ∙ any_flat_map (λ x. tiles_media_rows says.numbered x x.mapping) q test says.linked h
-
-  rows_media_tell : (q : MappingRow → Bool) (test : Relation → Bool) → AllByRecursion (λ x. list_any q (rows_media_rows says.numbered x x.mapping) ≡ test x) says.linked → list_any q t.rows_media ≡ list_any test says.linked
-  rows_media_tell q test h =
-      ap (list_any q) says.rows_media ∙ list_any-arranged rows_media_shape.key q (flat_map (λ x. rows_media_rows says.numbered x x.mapping) says.linked)
-      ∙ any_flat_map (λ x. rows_media_rows says.numbered x x.mapping) q test says.linked h
+  table_tells : (k : Mapping) (q : MappingRow → Bool) (test : Relation → Bool) → AllByRecursion (λ x. list_any q (rows_in k says.numbered x x.mapping) ≡ test x) says.linked → list_any q (mapping_rows k t) ≡ list_any test says.linked
+  table_tells k q test h =
+      ap (list_any q) (table_says f p t says k) ∙ list_any-arranged pair_key q (flat_map (λ x. rows_in k says.numbered x x.mapping) says.linked)
+      ∙ any_flat_map (λ x. rows_in k says.numbered x x.mapping) q test says.linked h
 
   of_links : (test : Relation → Bool) → list_any test says.linked ≡ list_any test p.links
   of_links test = sym (list_any-arranged link_key test says.linked) ∙ ap (list_any test) (sym says.links)
@@ -108,7 +103,7 @@ module _ (f : Frame) (p : Package) (t : Tables) (says : Says f p t) where
 
   -- the rows of a tile, of a medium and of a row name them as the links do
   tile_named : (n : Numbered) → In n says.numbered → kind_of n.item.content ≡ TileItem → list_any (λ r. int_eq r.base_id n.number) t.tiles_media ≡ list_any (has_end n.item.identity) says.linked
-  tile_named n i k = tiles_media_tell (λ r. int_eq r.base_id n.number) (has_end n.item.identity) (All-weaker _ _ (λ x h. one x h x.mapping refl) says.linked says.ends)
+  tile_named n i k = table_tells TilesMedia (λ r. int_eq r.base_id n.number) (has_end n.item.identity) (All-weaker _ _ (λ x h. one x h x.mapping refl) says.linked says.ends)
     where
       one : (x : Relation) → HasEnds p x → (m : Mapping) → x.mapping ≡ m → list_any (λ r. int_eq r.base_id n.number) (tiles_media_rows says.numbered x m) ≡ has_end n.item.identity x
       one x h TilesMedia e =
@@ -119,7 +114,7 @@ module _ (f : Frame) (p : Package) (t : Tables) (says : Says f p t) where
       one x h RowsMedia e = ap (λ v. v || false) (rw k at (base_is n i x RowsMedia e h)) ∙ ap (λ v. bytes_eq x.base n.item.identity || v) (rw k at (other_is n i x RowsMedia e h))
 
   row_named : (n : Numbered) → In n says.numbered → kind_of n.item.content ≡ RowItem → list_any (λ r. int_eq r.base_id n.number) t.rows_media ≡ list_any (has_end n.item.identity) says.linked
-  row_named n i k = rows_media_tell (λ r. int_eq r.base_id n.number) (has_end n.item.identity) (All-weaker _ _ (λ x h. one x h x.mapping refl) says.linked says.ends)
+  row_named n i k = table_tells RowsMedia (λ r. int_eq r.base_id n.number) (has_end n.item.identity) (All-weaker _ _ (λ x h. one x h x.mapping refl) says.linked says.ends)
     where
       one : (x : Relation) → HasEnds p x → (m : Mapping) → x.mapping ≡ m → list_any (λ r. int_eq r.base_id n.number) (rows_media_rows says.numbered x m) ≡ has_end n.item.identity x
       one x h TilesMedia e = ap (λ v. v || false) (rw k at (base_is n i x TilesMedia e h)) ∙ ap (λ v. bytes_eq x.base n.item.identity || v) (rw k at (other_is n i x TilesMedia e h))
@@ -128,7 +123,7 @@ module _ (f : Frame) (p : Package) (t : Tables) (says : Says f p t) where
   medium_named : (n : Numbered) → In n says.numbered → kind_of n.item.content ≡ MediaItem
       → (list_any (λ r. int_eq r.related_id n.number) t.tiles_media || list_any (λ r. int_eq r.related_id n.number) t.rows_media) ≡ list_any (has_end n.item.identity) says.linked
   medium_named n i k =
-      ap (λ v. v || list_any q t.rows_media) (tiles_media_tell q at_tiles (All-each _ (λ x. refl) says.linked)) ∙ ap (λ v. list_any at_tiles says.linked || v) (rows_media_tell q at_rows (All-each _ (λ x. refl) says.linked))
+      ap (λ v. v || list_any q t.rows_media) (table_tells TilesMedia q at_tiles (All-each _ (λ x. refl) says.linked)) ∙ ap (λ v. list_any at_tiles says.linked || v) (table_tells RowsMedia q at_rows (All-each _ (λ x. refl) says.linked))
       ∙ any_or at_tiles at_rows says.linked ∙ any_same (λ x. at_tiles x || at_rows x) (has_end n.item.identity) says.linked (All-weaker _ _ (λ x h. one x h x.mapping refl) says.linked says.ends)
     where
       q : MappingRow → Bool
@@ -234,7 +229,7 @@ module _ (f : Frame) (p : Package) (t : Tables) (says : Says f p t) where
     row_is = rw (sym base_named, sym other_named, number_is f p t says n base_in, number_is f p t says m other_in) refl
 
     pair_told : HasEnds p l → list_any (λ r. is_pair r (mapping_row says.numbered l)) (mapping_rows l.mapping t) ≡ has link_key (link_key l) p.links
-    pair_told ends = one l.mapping refl ∙ of_links (λ x. bytes_eq (link_key x) (link_key l))
+    pair_told ends = table_tells l.mapping q test (All-weaker _ _ each says.linked says.ends) ∙ of_links (λ x. bytes_eq (link_key x) (link_key l))
       where
         q : MappingRow → Bool
         q r = is_pair r (mapping_row says.numbered l)
@@ -242,17 +237,11 @@ module _ (f : Frame) (p : Package) (t : Tables) (says : Says f p t) where
         test : Relation → Bool
         test x = bytes_eq (link_key x) (link_key l)
 
-        tiles_case : l.mapping ≡ TilesMedia → (x : Relation) → HasEnds p x → (k : Mapping) → x.mapping ≡ k → list_any q (tiles_media_rows says.numbered x k) ≡ test x
-        tiles_case e x h TilesMedia g = or-false _ ∙ pair_same f p t says x l (g ∙ sym e) h ends
-        tiles_case e x h RowsMedia g = rw (e, g) refl
-
-        rows_case : l.mapping ≡ RowsMedia → (x : Relation) → HasEnds p x → (k : Mapping) → x.mapping ≡ k → list_any q (rows_media_rows says.numbered x k) ≡ test x
-        rows_case e x h TilesMedia g = rw (e, g) refl
-        rows_case e x h RowsMedia g = or-false _ ∙ pair_same f p t says x l (g ∙ sym e) h ends
-
-        one : (k : Mapping) → l.mapping ≡ k → list_any q (mapping_rows k t) ≡ list_any test says.linked
-        one TilesMedia e = tiles_media_tell q test (All-weaker _ _ (λ x h. tiles_case e x h x.mapping refl) says.linked says.ends)
-        one RowsMedia e = rows_media_tell q test (All-weaker _ _ (λ x h. rows_case e x h x.mapping refl) says.linked says.ends)
+        each : (x : Relation) → HasEnds p x → list_any q (rows_in l.mapping says.numbered x x.mapping) ≡ test x
+        each x h = elim (rows_there l.mapping x.mapping says.numbered x) [
+          | inl at ↦ rw at.1 (or-false _ ∙ pair_same f p t says x l at.0 h ends)
+          | inr at ↦ rw at.1 (sym (ap (λ v. v && bytes_eq (x.base ++ x.media) (l.base ++ l.media)) at.0))
+        ]
 
   -- by the rows of its ends, a link is not there or its row is
   module _ (l : Relation) (base_fit : IsUuid l.base) (other_fit : IsUuid l.media) (base other : IdentityRow) (base_row : Contains t.identities base × (bytes_eq base.uuid (uuid_text l.base) ≡ true)) (other_row : Contains t.identities other × (bytes_eq other.uuid (uuid_text l.media) ≡ true)) where

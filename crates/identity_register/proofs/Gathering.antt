@@ -20,13 +20,12 @@ use Rattle.sheet_types.specs.declared.command.Mapping.TheVariants.{TilesMedia, R
 use Rattle.sheet_types.specs.declared.command.Relation.{Relation}
 use Rattle.sheet_types.specs.declared.frame.Frame.{Frame}
 use Rattle.sheet_types.specs.declared.receipt.MovedKind.{MovedKind}
-use Rattle.sheet_types.proofs.Basics.{bytes_eq_itself, before_trans}
+use Rattle.sheet_types.proofs.Basics.{some_same, bytes_eq_itself, before_trans}
 use Rattle.sheet_types.proofs.Every.{All-weaker, All-append, All-map}
 use Rattle.sheet_types.proofs.Same.{In, In-map, In-of_map, In-flat_map, All-In, Contains-In, same_list}
 use Rattle.sheet_types.proofs.LineReading.{uuid_back}
 use Rattle.package_tables.specs.Calls.{Answers}
 use Rattle.package_tables.specs.Package.{Tables}
-use Rattle.package_tables.specs.Shapes.{tiles_media_shape, rows_media_shape}
 use Rattle.package_tables.specs.declared.rows.AttributeRow.{AttributeRow}
 use Rattle.package_tables.specs.declared.rows.IdentityRow.{IdentityRow}
 use Rattle.package_tables.specs.declared.rows.MappingRow.{MappingRow}
@@ -34,14 +33,15 @@ use Rattle.package_tables.specs.declared.rows.MediaRow.{MediaRow}
 use Rattle.package_tables.specs.declared.rows.TileRow.{TileRow}
 use Rattle.identity_register.specs.Answers.{IsContentOf, mapping_rows}
 use Rattle.identity_register.specs.Gathered.{tile_placed, medium_placed, attributes_placed, IsPlaced, IsItemOf, IsNamed, IsLinkOf}
-use Rattle.identity_register.specs.Numbering.{Numbered, identity_row, number_of, mapping_row, tiles_media_rows, rows_media_rows}
+use Rattle.identity_register.specs.Numbering.{Numbered, identity_row, number_of, mapping_row}
 use Rattle.identity_register.specs.Reads.{Says}
 use Rattle.identity_register.specs.declared.whole.Placed.{Placed}
-use Rattle.identity_register.proofs.Answering.{some_same, same_item, item_is}
+use Rattle.identity_register.proofs.Answering.{same_item, item_is}
 use Rattle.identity_register.proofs.Contents.{content_by_row, one_place}
 use Rattle.identity_register.proofs.Finding.{contained, in_arranged, in_append, in_flat_map, row_numbered, same_uuid}
 use Rattle.identity_register.proofs.Linking.{end_of}
 use Rattle.identity_register.proofs.Looking.{Looked, tells, fails}
+use Rattle.identity_register.proofs.MappingTables.{rows_in, rows_there, own_row, pair_key, table_says}
 use Rattle.identity_register.proofs.OnePackage.{to_arranged, distinct_arranged, row_stored, items_arranged}
 
 -- ---- lists
@@ -169,30 +169,21 @@ module _ (f : Frame) (p : Package) (t : Tables) (says : Says f p t) where
 
   -- a mapping row is of a link, and a link has its row
   link_of_row : (m : Mapping) (r : MappingRow) → In r (mapping_rows m t) → (l : Relation) × In l says.linked × (l.mapping ≡ m) × (mapping_row says.numbered l ≡ r)
-  link_of_row TilesMedia r i =
-      let it = in_flat_map (λ l. tiles_media_rows says.numbered l l.mapping) r says.linked (in_arranged tiles_media_shape.key (flat_map (λ l. tiles_media_rows says.numbered l l.mapping) says.linked) r (subst (In r) says.tiles_media i)) in
-      let is = one it.0 it.0.mapping refl it.2 in
-      (it.0, it.1, is.0, is.1)
+  link_of_row m r i =
+      let it = in_flat_map (λ l. rows_in m says.numbered l l.mapping) r says.linked (in_arranged pair_key (flat_map (λ l. rows_in m says.numbered l l.mapping) says.linked) r (subst (In r) (table_says f p t says m) i)) in
+      elim (rows_there m it.0.mapping says.numbered it.0) [
+        | inl at ↦ (it.0, it.1, at.0, only (mapping_row says.numbered it.0) (subst (In r) at.1 it.2))
+        | inr at ↦ absurd (subst (In r) at.1 it.2)
+      ]
     where
-      one : (l : Relation) (m : Mapping) → l.mapping ≡ m → In r (tiles_media_rows says.numbered l m) → (l.mapping ≡ TilesMedia) × (mapping_row says.numbered l ≡ r)
-      one l TilesMedia e j = elim j [ inl same ↦ (e, same) | inr k ↦ absurd k ]
-      one l RowsMedia e j = absurd j
-  link_of_row RowsMedia r i =
-      let it = in_flat_map (λ l. rows_media_rows says.numbered l l.mapping) r says.linked (in_arranged rows_media_shape.key (flat_map (λ l. rows_media_rows says.numbered l l.mapping) says.linked) r (subst (In r) says.rows_media i)) in
-      let is = one it.0 it.0.mapping refl it.2 in
-      (it.0, it.1, is.0, is.1)
-    where
-      one : (l : Relation) (m : Mapping) → l.mapping ≡ m → In r (rows_media_rows says.numbered l m) → (l.mapping ≡ RowsMedia) × (mapping_row says.numbered l ≡ r)
-      one l TilesMedia e j = absurd j
-      one l RowsMedia e j = elim j [ inl same ↦ (e, same) | inr k ↦ absurd k ]
+      only : (x : MappingRow) → In r (x ∷ []) → x ≡ r
+      only x j = elim j [ inl same ↦ same | inr k ↦ absurd k ]
 
   row_of_link : (l : Relation) (m : Mapping) → l.mapping ≡ m → In l says.linked → In (mapping_row says.numbered l) (mapping_rows m t)
-  row_of_link l TilesMedia e i =
+  row_of_link l m e i =
       let row : MappingRow = mapping_row says.numbered l in
-      subst (In row) (sym says.tiles_media) (to_arranged tiles_media_shape.key row (flat_map (λ x. tiles_media_rows says.numbered x x.mapping) says.linked) (In-flat_map (λ x. tiles_media_rows says.numbered x x.mapping) l row says.linked i (subst (λ m. In row (tiles_media_rows says.numbered l m)) (sym e) (inl refl))))
-  row_of_link l RowsMedia e i =
-      let row : MappingRow = mapping_row says.numbered l in
-      subst (In row) (sym says.rows_media) (to_arranged rows_media_shape.key row (flat_map (λ x. rows_media_rows says.numbered x x.mapping) says.linked) (In-flat_map (λ x. rows_media_rows says.numbered x x.mapping) l row says.linked i (subst (λ m. In row (rows_media_rows says.numbered l m)) (sym e) (inl refl))))
+      let here : In row (rows_in m says.numbered l l.mapping) = subst (λ k. In row (rows_in m says.numbered l k)) (sym e) (subst (In row) (sym (own_row m says.numbered l)) (inl refl)) in
+      subst (In row) (sym (table_says f p t says m)) (to_arranged pair_key row (flat_map (λ x. rows_in m says.numbered x x.mapping) says.linked) (In-flat_map (λ x. rows_in m says.numbered x x.mapping) l row says.linked i here))
 
   ends_of : (l : Relation) → In l says.linked → HasEnds p l
   ends_of l i = All-In (HasEnds p) l says.linked says.ends i

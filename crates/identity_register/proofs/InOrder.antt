@@ -1,9 +1,7 @@
 -- Lists that were sorted by a key, and whose elements have keys of their own, are sets.
-use Rattle.std.proofs.Common.{◌≡◌, ℕ, zero, suc, ◌+◌, ◌-◌, ◌<◌, List, [], ◌∷◌, ◌++◌, map, length, get_or, true, false, refl, sym, ap, subst, ◌∙◌, true≢false, arith}
+use Rattle.std.proofs.Common.{◌≡◌, ℕ, zero, suc, ◌+◌, ◌-◌, ◌<◌, List, [], ◌∷◌, ◌++◌, map, length, get_or, true, false, sym, ap, subst, ◌∙◌, true≢false, arith}
 use Rattle.std.specs.Prelude.{bytes_eq, IsPermutation}
 use Rattle.std.specs.List.{IsDistinct}
-use Rattle.std.specs.declared.cmp.Ordering.{Ordering}
-use Rattle.std.specs.declared.cmp.Ordering.TheVariants.{Less, Equal, Greater}
 use Rattle.std.specs.Ordering.{is_lt, nat_cmp, ordering_then}
 use Rattle.std.specs.Cmp.Lexicographic.{slice_cmp}
 use Rattle.std.proofs.lemmas.List.{get_or_default}
@@ -11,7 +9,7 @@ use Rattle.std.proofs.lemmas.List.Sorted.{IsPermutation-map}
 use Rattle.std.proofs.lemmas.Map.Keys.{IsDistinct-IsPermutation}
 use Rattle.sheet_types.specs.Ordered.{is_before, IsArranged}
 use Rattle.sheet_types.proofs.Basics.{bytes_eq_swap, before_other_way}
-use Rattle.sheet_types.proofs.KeyOrder.{slice_cmp_append}
+use Rattle.sheet_types.proofs.KeyOrder.{slice_cmp_append, then_assoc}
 use Rattle.identity_register.proofs.Gathering.{rising}
 
 -- each element of a set stands before the next
@@ -49,12 +47,7 @@ falls key xs place one next positive less e f not_so set =
 pub moved_apart : {X : Type 0} (key : X → List ℕ) (xs ys : List X) → IsPermutation xs ys → IsDistinct bytes_eq (map key xs) → IsDistinct bytes_eq (map key ys)
 moved_apart key xs ys moved apart = IsDistinct-IsPermutation bytes_eq bytes_eq_swap (map key xs) (map key ys) (IsPermutation-map key xs ys moved) apart
 
-then_twice : (a b c : Ordering) → ordering_then a (ordering_then b c) ≡ ordering_then (ordering_then a b) c
-then_twice Less b c = refl
-then_twice Equal b c = refl
-then_twice Greater b c = refl
-
 -- the order of links is that of mapping, base and medium in turn, where the bases are of one length
 pub end_ordered : (m n : ℕ) (xs ys us vs : List ℕ) → length xs ≡ length ys → is_before (m ∷ xs ++ us) (n ∷ ys ++ vs) ≡ is_lt (ordering_then (ordering_then (nat_cmp m n) (slice_cmp nat_cmp xs ys)) (slice_cmp nat_cmp us vs))
 end_ordered m n xs ys us vs long =
-    ap (λ o. is_lt (ordering_then (nat_cmp m n) o)) (slice_cmp_append xs ys us vs long) ∙ ap is_lt (then_twice (nat_cmp m n) (slice_cmp nat_cmp xs ys) (slice_cmp nat_cmp us vs))
+    ap (λ o. is_lt (ordering_then (nat_cmp m n) o)) (slice_cmp_append xs ys us vs long) ∙ ap is_lt (then_assoc (nat_cmp m n) (slice_cmp nat_cmp xs ys) (slice_cmp nat_cmp us vs))

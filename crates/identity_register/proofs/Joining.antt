@@ -1,5 +1,5 @@
 -- The steps that put a link in or take it out, as one change of the package.
-use Rattle.std.proofs.Common.{◌≡◌, ℕ, ℤ, List, [], ◌∷◌, ◌++◌, false, Result, Ok, refl, sym, ap, subst, ◌∙◌}
+use Rattle.std.proofs.Common.{◌≡◌, ℕ, ℤ, List, [], ◌∷◌, false, Result, Ok, refl, sym, ap, subst, ◌∙◌, inl, inr}
 use Rattle.std.specs.Prelude.{◌&&◌, ◌==◌, bytes_eq, flat_map, unsigned_abs}
 use Rattle.std.specs.List.{AllByRecursion, list_any}
 use Rattle.std.specs.Ordering.{int_eq}
@@ -9,30 +9,31 @@ use Rattle.sqlite.specs.State.{State, Survives}
 use Rattle.sql_meaning.specs.Transactions.{Steps}
 use Rattle.sql_meaning.proofs.Transactions.{steps_then, steps_weaker}
 use Rattle.package_tables.specs.Package.{Tables, tables_of, AreFormed}
-use Rattle.package_tables.specs.Shapes.{tiles_media_shape, rows_media_shape}
 use Rattle.package_tables.specs.Calls.{Makes, Answers, OnTables}
 use Rattle.package_tables.proofs.Stepping.{makes_steps}
 use Rattle.package_tables.specs.declared.rows.IdentityRow.{IdentityRow}
 use Rattle.package_tables.specs.declared.rows.MappingRow.{MappingRow}
 use Rattle.sheet_types.specs.Ordered.{has}
 use Rattle.sheet_types.specs.World.{Package, link_key, base_kind, other_kind}
-use Rattle.package_tables.specs.Changes.{AddsTilesMedia, AddsRowsMedia}
 use Rattle.sheet_types.specs.Lines.{IsUuid}
 use Rattle.sheet_types.specs.Register.{HasEnds}
 use Rattle.sheet_types.specs.declared.command.Mapping.{Mapping}
 use Rattle.sheet_types.specs.declared.command.Mapping.TheVariants.{TilesMedia, RowsMedia}
 use Rattle.sheet_types.specs.declared.command.Relation.{Relation}
 use Rattle.sheet_types.specs.declared.frame.Frame.{Frame}
+use Rattle.sheet_types.proofs.Basics.{and-true}
 use Rattle.sheet_types.proofs.Every.{none_pass}
 use Rattle.sheet_types.proofs.Order.{list_any-arranged}
-use Rattle.identity_register.specs.Numbering.{number_of, mapping_row, tiles_media_rows, rows_media_rows, with_link, without_link, AddsLink, DropsLink, IsRowOf}
+use Rattle.identity_register.specs.Answers.{mapping_rows}
+use Rattle.identity_register.specs.Numbering.{number_of, mapping_row, with_link, without_link, AddsLink, DropsLink, IsRowOf}
 use Rattle.identity_register.specs.Reads.{Says}
 use Rattle.identity_register.specs.Calls.{Becomes}
 use Rattle.identity_register.specs.Changes.{IsNewLink, link_added, IsLink, link_removed}
-use Rattle.identity_register.proofs.Deleting.{and-true, same_number}
+use Rattle.identity_register.proofs.Deleting.{same_number}
 use Rattle.identity_register.proofs.Finding.{in_range, row_of_uuid}
 use Rattle.identity_register.proofs.Linking.{links, unlinks, pair_same, end_of, number_is}
 use Rattle.identity_register.proofs.Ends.{ends_there}
+use Rattle.identity_register.proofs.MappingTables.{rows_in, rows_there, pair_key, table_says}
 
 module _ (f : Frame) (p : Package) (t : Tables) (says : Says f p t) where
   -- the row that was found gives the number
@@ -43,7 +44,7 @@ module _ (f : Frame) (p : Package) (t : Tables) (says : Says f p t) where
 
   -- pairs of numbers of ends are one where their keys are
   keys_same : (x l : Relation) → x.mapping ≡ l.mapping → HasEnds p x → HasEnds p l
-      → bytes_eq (tiles_media_shape.key (mapping_row says.numbered x)) (tiles_media_shape.key (mapping_row says.numbered l)) ≡ bytes_eq (link_key x) (link_key l)
+      → bytes_eq (pair_key (mapping_row says.numbered x)) (pair_key (mapping_row says.numbered l)) ≡ bytes_eq (link_key x) (link_key l)
   keys_same x l same hx hl =
       let a = end_of f p t says (base_kind x.mapping) x.base hx.0 in
       let b = end_of f p t says (other_kind x.mapping) x.media hx.1 in
@@ -58,52 +59,38 @@ module _ (f : Frame) (p : Package) (t : Tables) (says : Says f p t) where
       ∙ sym (ap (λ v. int_eq (number_of says.numbered x.base) (number_of says.numbered l.base) && v) other)
       ∙ pair_same f p t says x l same hx hl
 
-  no_tiles_media : (l : Relation) → l.mapping ≡ TilesMedia → HasEnds p l → (xs : List Relation) → AllByRecursion (HasEnds p) xs → AllByRecursion (λ x. bytes_eq (link_key x) (link_key l) ≡ false) xs
-      → list_any (λ r. bytes_eq (tiles_media_shape.key r) (tiles_media_shape.key (mapping_row says.numbered l))) (flat_map (λ x. tiles_media_rows says.numbered x x.mapping) xs) ≡ false
-  no_tiles_media l e hl [] h g = refl
-  no_tiles_media l e hl (x ∷ xs) h g = one x.mapping refl (no_tiles_media l e hl xs h.1 g.1)
-    where
-      one : (m : Mapping) → x.mapping ≡ m → list_any (λ r. bytes_eq (tiles_media_shape.key r) (tiles_media_shape.key (mapping_row says.numbered l))) (flat_map (λ y. tiles_media_rows says.numbered y y.mapping) xs) ≡ false
-          → list_any (λ r. bytes_eq (tiles_media_shape.key r) (tiles_media_shape.key (mapping_row says.numbered l))) (tiles_media_rows says.numbered x m ++ flat_map (λ y. tiles_media_rows says.numbered y y.mapping) xs) ≡ false
-      one TilesMedia k more = or_from _ _ (keys_same x l (k ∙ sym e) h.0 hl ∙ g.0) more
-      one RowsMedia k more = more
-
-  no_rows_media : (l : Relation) → l.mapping ≡ RowsMedia → HasEnds p l → (xs : List Relation) → AllByRecursion (HasEnds p) xs → AllByRecursion (λ x. bytes_eq (link_key x) (link_key l) ≡ false) xs
-      → list_any (λ r. bytes_eq (rows_media_shape.key r) (rows_media_shape.key (mapping_row says.numbered l))) (flat_map (λ x. rows_media_rows says.numbered x x.mapping) xs) ≡ false
-  no_rows_media l e hl [] h g = refl
-  no_rows_media l e hl (x ∷ xs) h g = one x.mapping refl (no_rows_media l e hl xs h.1 g.1)
-    where
-      one : (m : Mapping) → x.mapping ≡ m → list_any (λ r. bytes_eq (rows_media_shape.key r) (rows_media_shape.key (mapping_row says.numbered l))) (flat_map (λ y. rows_media_rows says.numbered y y.mapping) xs) ≡ false
-          → list_any (λ r. bytes_eq (rows_media_shape.key r) (rows_media_shape.key (mapping_row says.numbered l))) (rows_media_rows says.numbered x m ++ flat_map (λ y. rows_media_rows says.numbered y y.mapping) xs) ≡ false
-      one TilesMedia k more = more
-      one RowsMedia k more = or_from _ _ (keys_same x l (k ∙ sym e) h.0 hl ∙ g.0) more
+  -- a link that is none of these has no row among theirs
+  no_row : (k : Mapping) (l : Relation) → l.mapping ≡ k → HasEnds p l → (xs : List Relation) → AllByRecursion (HasEnds p) xs → AllByRecursion (λ x. bytes_eq (link_key x) (link_key l) ≡ false) xs
+      → list_any (λ r. bytes_eq (pair_key r) (pair_key (mapping_row says.numbered l))) (flat_map (λ x. rows_in k says.numbered x x.mapping) xs) ≡ false
+  no_row k l e hl [] h g = refl
+  no_row k l e hl (x ∷ xs) h g = elim (rows_there k x.mapping says.numbered x) [
+    | inl at ↦ rw at.1 (or_from _ _ (keys_same x l (at.0 ∙ sym e) h.0 hl ∙ g.0) (no_row k l e hl xs h.1 g.1))
+    | inr at ↦ rw at.1 (no_row k l e hl xs h.1 g.1)
+  ]
 
   links_apart : (l : Relation) → has link_key (link_key l) p.links ≡ false → AllByRecursion (λ x. bytes_eq (link_key x) (link_key l) ≡ false) says.linked
   links_apart l fresh =
       none_pass (λ x. bytes_eq (link_key x) (link_key l)) says.linked
       (sym (list_any-arranged link_key (λ x. bytes_eq (link_key x) (link_key l)) says.linked) ∙ ap (list_any (λ x. bytes_eq (link_key x) (link_key l))) (sym says.links) ∙ fresh)
 
-  put_tiles : (l : Relation) (given : MappingRow) (after : Tables) → given ≡ mapping_row says.numbered l → l.mapping ≡ TilesMedia → IsNewLink l p → AddsTilesMedia given t after → after ≡ with_link TilesMedia (mapping_row says.numbered l) t
-  put_tiles l given after row_is e fits adds =
-      let key = tiles_media_shape.key in
-      let free : has key (key (mapping_row says.numbered l)) t.tiles_media ≡ false =
-      rw says.tiles_media (list_any-arranged key (λ r. bytes_eq (key r) (key (mapping_row says.numbered l))) (flat_map (λ x. tiles_media_rows says.numbered x x.mapping) says.linked) ∙ no_tiles_media l e fits.ends says.linked says.ends (links_apart l fits.new)) in
-      adds (subst (λ r. has key (key r) t.tiles_media ≡ false) (sym row_is) free) ∙ ap (λ r. with_link TilesMedia r t) row_is
-
-  put_rows : (l : Relation) (given : MappingRow) (after : Tables) → given ≡ mapping_row says.numbered l → l.mapping ≡ RowsMedia → IsNewLink l p → AddsRowsMedia given t after → after ≡ with_link RowsMedia (mapping_row says.numbered l) t
-  put_rows l given after row_is e fits adds =
-      let key = rows_media_shape.key in
-      let free : has key (key (mapping_row says.numbered l)) t.rows_media ≡ false =
-      rw says.rows_media (list_any-arranged key (λ r. bytes_eq (key r) (key (mapping_row says.numbered l))) (flat_map (λ x. rows_media_rows says.numbered x x.mapping) says.linked) ∙ no_rows_media l e fits.ends says.linked says.ends (links_apart l fits.new)) in
-      adds (subst (λ r. has key (key r) t.rows_media ≡ false) (sym row_is) free) ∙ ap (λ r. with_link RowsMedia r t) row_is
+  -- so its key is free in the table of its mapping
+  row_free : (k : Mapping) (l : Relation) (row : MappingRow) → row ≡ mapping_row says.numbered l → l.mapping ≡ k → IsNewLink l p → has pair_key (pair_key row) (mapping_rows k t) ≡ false
+  row_free k l row is e fits =
+      ap (λ r. has pair_key (pair_key r) (mapping_rows k t)) is
+      ∙ ap (has pair_key (pair_key (mapping_row says.numbered l))) (table_says f p t says k)
+      ∙ list_any-arranged pair_key (λ r. bytes_eq (pair_key r) (pair_key (mapping_row says.numbered l))) (flat_map (λ x. rows_in k says.numbered x x.mapping) says.linked)
+      ∙ no_row k l e fits.ends says.linked says.ends (links_apart l fits.new)
 
   -- the tables get the row of the link
   pub link_put : (l : Relation) (b m : ℤ) (after : Tables) → number_of says.numbered l.base ≡ b → number_of says.numbered l.media ≡ m → IsNewLink l p → AddsLink l.mapping b m t after → after ≡ with_link l.mapping (mapping_row says.numbered l) t
   link_put l b m after is_base is_media fits adds = one l.mapping refl adds
     where
+      row_is : ◌≡◌ {A = MappingRow} (record { base_id = b; related_id = m }) (mapping_row says.numbered l)
+      row_is = rw (is_base, is_media) refl
+
       one : (n : Mapping) → l.mapping ≡ n → AddsLink n b m t after → after ≡ with_link n (mapping_row says.numbered l) t
-      one TilesMedia e given = put_tiles l (record { base_id = b; related_id = m }) after (rw (is_base, is_media) refl) e fits given
-      one RowsMedia e given = put_rows l (record { base_id = b; related_id = m }) after (rw (is_base, is_media) refl) e fits given
+      one TilesMedia e given = given (row_free TilesMedia l _ row_is e fits) ∙ ap (λ r. with_link TilesMedia r t) row_is
+      one RowsMedia e given = given (row_free RowsMedia l _ row_is e fits) ∙ ap (λ r. with_link RowsMedia r t) row_is
 
   -- the tables lose the row of the link
   pub link_taken : (l : Relation) (b m : ℤ) (after : Tables) → number_of says.numbered l.base ≡ b → number_of says.numbered l.media ≡ m → DropsLink l.mapping b m t after → after ≡ without_link l.mapping (mapping_row says.numbered l) t

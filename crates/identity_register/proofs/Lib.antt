@@ -11,6 +11,7 @@ pub mod Uuids
 pub mod Answering
 pub mod Ends
 mod Contents
+mod MappingTables
 mod OneFrame
 pub mod OnePackage
 mod Gathering

@@ -27,11 +27,33 @@ use Rattle.sheet_types.proofs.Basics.{bytes_eq_itself, bytes_eq_swap, or-false}
 use Rattle.package_tables.specs.Shapes.{tiles_media_shape, rows_media_shape}
 use Rattle.package_tables.specs.Package.{Tables}
 use Rattle.package_tables.specs.declared.rows.MappingRow.{MappingRow}
+use Rattle.identity_register.specs.Answers.{mapping_rows}
 use Rattle.identity_register.specs.Numbering.{Numbered, place_in_tables, number_of, mapping_row, tiles_media_rows, rows_media_rows, with_link, without_link, is_pair}
-use Rattle.identity_register.specs.Reads.{Says}
+use Rattle.identity_register.specs.Reads.{Says, SaysLinks}
 use Rattle.identity_register.proofs.Adding.{turned}
 use Rattle.identity_register.proofs.Deleting.{filter-flat_map, flat_map-kept, distinct_filter, same_tests, same_number, place_test}
 use Rattle.identity_register.proofs.Finding.{in_range}
+use Rattle.identity_register.proofs.MappingTables.{rows_in, rows_there, pair_key, table_says}
+
+-- ---- other links
+
+-- what the tables say of all else stays where links are others
+says_links : (f : Frame) (p : Package) (t : Tables) (says : Says f p t) (linked links : List Relation) (tiles_media rows_media : List MappingRow) → AllByRecursion (HasEnds p) linked → SaysLinks says.numbered linked links tiles_media rows_media
+    → Says f (record p { links = links }) (record t { tiles_media = tiles_media; rows_media = rows_media })
+says_links f p t says linked links tiles_media rows_media ends of_links = record {
+  good = says.good;
+  fixed = says.fixed;
+  created = says.created;
+  fit_head = says.fit_head;
+  head = says.head;
+  numbered = says.numbered;
+  of_items = says.of_items;
+  linked = linked;
+  ends = ends;
+  of_links = of_links;
+  entered = says.entered;
+  of_receipts = says.of_receipts;
+}
 
 -- ---- a link more
 
@@ -40,68 +62,24 @@ pub links : (f : Frame) (p : Package) (t : Tables) (l : Relation) (says : Says f
 unfolding IsDistinct
 links f p t l says fresh ends = one l.mapping refl
   where
-    ns : List Numbered
-    ns = says.numbered
-
     apart : AllByRecursion (λ x. bytes_eq (link_key x) (link_key l) ≡ false) says.linked
     apart = none_pass (λ x. bytes_eq (link_key x) (link_key l)) says.linked (sym (list_any-arranged link_key (λ x. bytes_eq (link_key x) (link_key l)) says.linked) ∙ ap (list_any (λ x. bytes_eq (link_key x) (link_key l))) (sym says.links) ∙ fresh)
 
-    HasEndsNow : Relation → Type 0
-    HasEndsNow x = HasEnds (record p { links = put link_key l p.links }) x
+    more : (tiles_media rows_media : List MappingRow) → tiles_media ≡ arranged tiles_media_shape.key (flat_map (λ x. tiles_media_rows says.numbered x x.mapping) (l ∷ says.linked))
+        → rows_media ≡ arranged rows_media_shape.key (flat_map (λ x. rows_media_rows says.numbered x x.mapping) (l ∷ says.linked))
+        → Says f (record p { links = put link_key l p.links }) (record t { tiles_media = tiles_media; rows_media = rows_media })
+    more tiles_media rows_media tiles rows =
+        says_links f p t says (l ∷ says.linked) (put link_key l p.links) tiles_media rows_media (ends, says.ends)
+        (record { distinct_links = (turned link_key (link_key l) says.linked apart, says.distinct_links); links = ap (put link_key l) says.links; tiles_media = tiles; rows_media = rows })
+
+    -- a table with the rows of the link before those of the others, where its mapping is known
+    table_with : (k m : Mapping) → l.mapping ≡ m
+        → arranged pair_key (rows_in k says.numbered l m ++ flat_map (λ x. rows_in k says.numbered x x.mapping) says.linked) ≡ arranged pair_key (flat_map (λ x. rows_in k says.numbered x x.mapping) (l ∷ says.linked))
+    table_with k m e = sym (ap (λ n. arranged pair_key (rows_in k says.numbered l n ++ flat_map (λ x. rows_in k says.numbered x x.mapping) says.linked)) e)
 
     one : (m : Mapping) → l.mapping ≡ m → Says f (record p { links = put link_key l p.links }) (with_link m (mapping_row says.numbered l) t)
-    one TilesMedia e = record {
-      good = says.good;
-      fixed = record { spatial_ref_sys = says.fixed.spatial_ref_sys; contents = says.fixed.contents; tile_matrix_set = says.fixed.tile_matrix_set; tile_matrix = says.fixed.tile_matrix; relations = says.fixed.relations };
-      created = says.created;
-      fit_head = record { uuid = says.fit_head.uuid; parent = says.fit_head.parent };
-      head = says.head;
-      numbered = says.numbered;
-      numbers = says.numbers;
-      items = says.items;
-      tiles = says.tiles;
-      media = says.media;
-      rows = says.rows;
-      identities = says.identities;
-      linked = l ∷ says.linked;
-      distinct_links = (turned link_key (link_key l) says.linked apart, says.distinct_links);
-      ends = (ends, says.ends);
-      links = ap (put link_key l) says.links;
-      tiles_media = ap (put tiles_media_shape.key (mapping_row says.numbered l)) says.tiles_media ∙ sym (ap (λ m. arranged tiles_media_shape.key (tiles_media_rows says.numbered l m ++ flat_map (λ x. tiles_media_rows says.numbered x x.mapping) says.linked)) e);
-      rows_media = says.rows_media ∙ sym (ap (λ m. arranged rows_media_shape.key (rows_media_rows says.numbered l m ++ flat_map (λ x. rows_media_rows says.numbered x x.mapping) says.linked)) e);
-      entered = says.entered;
-      distinct_receipts = says.distinct_receipts;
-      fit = says.fit;
-      kept = says.kept;
-      receipts = says.receipts;
-      moved = says.moved;
-    }
-    one RowsMedia e = record {
-      good = says.good;
-      fixed = record { spatial_ref_sys = says.fixed.spatial_ref_sys; contents = says.fixed.contents; tile_matrix_set = says.fixed.tile_matrix_set; tile_matrix = says.fixed.tile_matrix; relations = says.fixed.relations };
-      created = says.created;
-      fit_head = record { uuid = says.fit_head.uuid; parent = says.fit_head.parent };
-      head = says.head;
-      numbered = says.numbered;
-      numbers = says.numbers;
-      items = says.items;
-      tiles = says.tiles;
-      media = says.media;
-      rows = says.rows;
-      identities = says.identities;
-      linked = l ∷ says.linked;
-      distinct_links = (turned link_key (link_key l) says.linked apart, says.distinct_links);
-      ends = (ends, says.ends);
-      links = ap (put link_key l) says.links;
-      tiles_media = says.tiles_media ∙ sym (ap (λ m. arranged tiles_media_shape.key (tiles_media_rows says.numbered l m ++ flat_map (λ x. tiles_media_rows says.numbered x x.mapping) says.linked)) e);
-      rows_media = ap (put rows_media_shape.key (mapping_row says.numbered l)) says.rows_media ∙ sym (ap (λ m. arranged rows_media_shape.key (rows_media_rows says.numbered l m ++ flat_map (λ x. rows_media_rows says.numbered x x.mapping) says.linked)) e);
-      entered = says.entered;
-      distinct_receipts = says.distinct_receipts;
-      fit = says.fit;
-      kept = says.kept;
-      receipts = says.receipts;
-      moved = says.moved;
-    }
+    one TilesMedia e = more (put pair_key (mapping_row says.numbered l) t.tiles_media) t.rows_media (ap (put pair_key (mapping_row says.numbered l)) says.tiles_media ∙ table_with TilesMedia TilesMedia e) (says.rows_media ∙ table_with RowsMedia TilesMedia e)
+    one RowsMedia e = more t.tiles_media (put pair_key (mapping_row says.numbered l) t.rows_media) (says.tiles_media ∙ table_with TilesMedia RowsMedia e) (ap (put pair_key (mapping_row says.numbered l)) says.rows_media ∙ table_with RowsMedia RowsMedia e)
 
 -- ---- the numbers of ends
 
@@ -211,33 +189,19 @@ module _ (f : Frame) (p : Package) (t : Tables) (says : Says f p t) (l : Relatio
       first true v h = absurd (true≢false h)
       first false v h = refl
 
-  tiles_media_less : l.mapping ≡ TilesMedia → (x : Relation) → HasEnds p x → filter (λ r. not (is_pair r row)) (tiles_media_rows says.numbered x x.mapping) ≡ cond (keep x) (tiles_media_rows says.numbered x x.mapping) []
-  tiles_media_less e x hx = one x.mapping refl
-    where
-      one : (m : Mapping) → x.mapping ≡ m → filter (λ r. not (is_pair r row)) (tiles_media_rows says.numbered x m) ≡ cond (keep x) (tiles_media_rows says.numbered x m) []
-      one TilesMedia g = one_goes x (g ∙ sym e) hx
-      one RowsMedia g = nothing_kept (keep x)
+  -- in the table of its mapping the row goes
+  row_less : (k : Mapping) → l.mapping ≡ k → (x : Relation) → HasEnds p x → filter (λ r. not (is_pair r row)) (rows_in k says.numbered x x.mapping) ≡ cond (keep x) (rows_in k says.numbered x x.mapping) []
+  row_less k e x hx = elim (rows_there k x.mapping says.numbered x) [
+    | inl at ↦ rw at.1 (one_goes x (at.0 ∙ sym e) hx)
+    | inr at ↦ rw at.1 (nothing_kept (keep x))
+  ]
 
-  rows_media_less : l.mapping ≡ RowsMedia → (x : Relation) → HasEnds p x → filter (λ r. not (is_pair r row)) (rows_media_rows says.numbered x x.mapping) ≡ cond (keep x) (rows_media_rows says.numbered x x.mapping) []
-  rows_media_less e x hx = one x.mapping refl
-    where
-      one : (m : Mapping) → x.mapping ≡ m → filter (λ r. not (is_pair r row)) (rows_media_rows says.numbered x m) ≡ cond (keep x) (rows_media_rows says.numbered x m) []
-      one TilesMedia g = nothing_kept (keep x)
-      one RowsMedia g = one_goes x (g ∙ sym e) hx
-
-  tiles_media_stay : l.mapping ≡ RowsMedia → (x : Relation) → keep x ≡ false → tiles_media_rows says.numbered x x.mapping ≡ []
-  tiles_media_stay e x gone = one x.mapping refl
-    where
-      one : (m : Mapping) → x.mapping ≡ m → tiles_media_rows says.numbered x m ≡ []
-      one TilesMedia g = absurd (true≢false (sym (apart x TilesMedia RowsMedia g e refl) ∙ gone))
-      one RowsMedia g = refl
-
-  rows_media_stay : l.mapping ≡ TilesMedia → (x : Relation) → keep x ≡ false → rows_media_rows says.numbered x x.mapping ≡ []
-  rows_media_stay e x gone = one x.mapping refl
-    where
-      one : (m : Mapping) → x.mapping ≡ m → rows_media_rows says.numbered x m ≡ []
-      one TilesMedia g = refl
-      one RowsMedia g = absurd (true≢false (sym (apart x RowsMedia TilesMedia g e refl) ∙ gone))
+  -- which the table of the other mapping does not have
+  row_elsewhere : (k m : Mapping) → l.mapping ≡ m → (kind_number (link_kind k) == kind_number (link_kind m)) ≡ false → (x : Relation) → keep x ≡ false → rows_in k says.numbered x x.mapping ≡ []
+  row_elsewhere k m e differ x gone = elim (rows_there k x.mapping says.numbered x) [
+    | inl at ↦ absurd (true≢false (sym (apart x k m at.0 e differ) ∙ gone))
+    | inr at ↦ at.1
+  ]
 
   links_less : without link_key (link_key l ∷ []) p.links ≡ arranged link_key (filter keep says.linked)
   links_less =
@@ -248,60 +212,21 @@ module _ (f : Frame) (p : Package) (t : Tables) (says : Says f p t) (l : Relatio
   pub unlinks : Says f (record p { links = without link_key (link_key l ∷ []) p.links }) (without_link l.mapping row t)
   unlinks = one l.mapping refl
     where
+      less : (tiles_media rows_media : List MappingRow) → tiles_media ≡ arranged tiles_media_shape.key (flat_map (λ x. tiles_media_rows says.numbered x x.mapping) (filter keep says.linked))
+          → rows_media ≡ arranged rows_media_shape.key (flat_map (λ x. rows_media_rows says.numbered x x.mapping) (filter keep says.linked))
+          → Says f (record p { links = without link_key (link_key l ∷ []) p.links }) (record t { tiles_media = tiles_media; rows_media = rows_media })
+      less tiles_media rows_media tiles rows =
+          says_links f p t says (filter keep says.linked) (without link_key (link_key l ∷ []) p.links) tiles_media rows_media (All-filter _ keep says.linked says.ends)
+          (record { distinct_links = distinct_filter link_key keep says.linked says.distinct_links; links = links_less; tiles_media = tiles; rows_media = rows })
+
+      goes : (k : Mapping) → l.mapping ≡ k → filter (λ r. not (is_pair r row)) (mapping_rows k t) ≡ arranged pair_key (flat_map (λ x. rows_in k says.numbered x x.mapping) (filter keep says.linked))
+      goes k e =
+          ap (filter (λ r. not (is_pair r row))) (table_says f p t says k) ∙ filter-arranged pair_key (λ r. not (is_pair r row)) (flat_map (λ x. rows_in k says.numbered x x.mapping) says.linked)
+          ∙ ap (arranged pair_key) (filter-flat_map (λ x. rows_in k says.numbered x x.mapping) (λ r. not (is_pair r row)) keep says.linked (All-weaker _ _ (row_less k e) says.linked says.ends))
+
+      stays : (k m : Mapping) → l.mapping ≡ m → (kind_number (link_kind k) == kind_number (link_kind m)) ≡ false → mapping_rows k t ≡ arranged pair_key (flat_map (λ x. rows_in k says.numbered x x.mapping) (filter keep says.linked))
+      stays k m e differ = table_says f p t says k ∙ sym (ap (arranged pair_key) (flat_map-kept (λ x. rows_in k says.numbered x x.mapping) keep says.linked (All-each _ (row_elsewhere k m e differ) says.linked)))
+
       one : (m : Mapping) → l.mapping ≡ m → Says f (record p { links = without link_key (link_key l ∷ []) p.links }) (without_link m row t)
-      one TilesMedia e = record {
-        good = says.good;
-        fixed = record { spatial_ref_sys = says.fixed.spatial_ref_sys; contents = says.fixed.contents; tile_matrix_set = says.fixed.tile_matrix_set; tile_matrix = says.fixed.tile_matrix; relations = says.fixed.relations };
-        created = says.created;
-        fit_head = record { uuid = says.fit_head.uuid; parent = says.fit_head.parent };
-        head = says.head;
-        numbered = says.numbered;
-        numbers = says.numbers;
-        items = says.items;
-        tiles = says.tiles;
-        media = says.media;
-        rows = says.rows;
-        identities = says.identities;
-        linked = filter keep says.linked;
-        distinct_links = distinct_filter link_key keep says.linked says.distinct_links;
-        ends = All-filter _ keep says.linked says.ends;
-        links = links_less;
-        tiles_media =
-            ap (filter (λ r. not (is_pair r row))) says.tiles_media ∙ filter-arranged tiles_media_shape.key (λ r. not (is_pair r row)) (flat_map (λ x. tiles_media_rows says.numbered x x.mapping) says.linked)
-            ∙ ap (arranged tiles_media_shape.key) (filter-flat_map (λ x. tiles_media_rows says.numbered x x.mapping) (λ r. not (is_pair r row)) keep says.linked (All-weaker _ _ (tiles_media_less e) says.linked says.ends));
-        rows_media = says.rows_media ∙ sym (ap (arranged rows_media_shape.key) (flat_map-kept (λ x. rows_media_rows says.numbered x x.mapping) keep says.linked (All-each _ (rows_media_stay e) says.linked)));
-        entered = says.entered;
-        distinct_receipts = says.distinct_receipts;
-        fit = says.fit;
-        kept = says.kept;
-        receipts = says.receipts;
-        moved = says.moved;
-      }
-      one RowsMedia e = record {
-        good = says.good;
-        fixed = record { spatial_ref_sys = says.fixed.spatial_ref_sys; contents = says.fixed.contents; tile_matrix_set = says.fixed.tile_matrix_set; tile_matrix = says.fixed.tile_matrix; relations = says.fixed.relations };
-        created = says.created;
-        fit_head = record { uuid = says.fit_head.uuid; parent = says.fit_head.parent };
-        head = says.head;
-        numbered = says.numbered;
-        numbers = says.numbers;
-        items = says.items;
-        tiles = says.tiles;
-        media = says.media;
-        rows = says.rows;
-        identities = says.identities;
-        linked = filter keep says.linked;
-        distinct_links = distinct_filter link_key keep says.linked says.distinct_links;
-        ends = All-filter _ keep says.linked says.ends;
-        links = links_less;
-        tiles_media = says.tiles_media ∙ sym (ap (arranged tiles_media_shape.key) (flat_map-kept (λ x. tiles_media_rows says.numbered x x.mapping) keep says.linked (All-each _ (tiles_media_stay e) says.linked)));
-        rows_media =
-            ap (filter (λ r. not (is_pair r row))) says.rows_media ∙ filter-arranged rows_media_shape.key (λ r. not (is_pair r row)) (flat_map (λ x. rows_media_rows says.numbered x x.mapping) says.linked)
-            ∙ ap (arranged rows_media_shape.key) (filter-flat_map (λ x. rows_media_rows says.numbered x x.mapping) (λ r. not (is_pair r row)) keep says.linked (All-weaker _ _ (rows_media_less e) says.linked says.ends));
-        entered = says.entered;
-        distinct_receipts = says.distinct_receipts;
-        fit = says.fit;
-        kept = says.kept;
-        receipts = says.receipts;
-        moved = says.moved;
-      }
+      one TilesMedia e = less (filter (λ r. not (is_pair r row)) t.tiles_media) t.rows_media (goes TilesMedia e) (stays RowsMedia TilesMedia e refl)
+      one RowsMedia e = less t.tiles_media (filter (λ r. not (is_pair r row)) t.rows_media) (stays TilesMedia RowsMedia e refl) (goes RowsMedia e)

@@ -1,7 +1,6 @@
 -- A package whose moment of the last change is another is the same package.
 use Rattle.std.proofs.Common.{ℕ, List, Result, Ok, refl, sym, ap, subst, ◌∙◌}
 use Rattle.std.specs.Prelude.{codes, ⊤}
-use Rattle.std.specs.List.{IsDistinct}
 use Rattle.sqlite.specs.Effect.{Database}
 use Rattle.sqlite.specs.State.{State}
 use Rattle.sql_meaning.specs.Transactions.{Steps}
@@ -23,7 +22,6 @@ abbrev Sets : List ℕ → List ℕ → Database → Database → Type 0
 Sets at name old new = IsArranged contents_shape.key (tables_of old).contents → OnTables (SetsLastChange at name) old new
 
 still_says : (f : Frame) (p : Package) (at : List ℕ) (t : Tables) → Says f p t → Says f p (record t { contents = contents_of f at })
-unfolding IsDistinct
 still_says f p at t says = record {
   good = says.good;
   fixed = record { spatial_ref_sys = says.fixed.spatial_ref_sys; contents = refl; tile_matrix_set = says.fixed.tile_matrix_set; tile_matrix = says.fixed.tile_matrix; relations = says.fixed.relations };
@@ -31,24 +29,12 @@ still_says f p at t says = record {
   fit_head = says.fit_head;
   head = says.head;
   numbered = says.numbered;
-  numbers = says.numbers;
-  items = says.items;
-  tiles = says.tiles;
-  media = says.media;
-  rows = says.rows;
-  identities = says.identities;
+  of_items = says.of_items;
   linked = says.linked;
-  distinct_links = says.distinct_links;
   ends = says.ends;
-  links = says.links;
-  tiles_media = says.tiles_media;
-  rows_media = says.rows_media;
+  of_links = says.of_links;
   entered = says.entered;
-  distinct_receipts = says.distinct_receipts;
-  fit = says.fit;
-  kept = says.kept;
-  receipts = says.receipts;
-  moved = says.moved;
+  of_receipts = says.of_receipts;
 }
 
 -- the three tables, one after the other

@@ -23,24 +23,12 @@ module _ (f : Frame) (uuid : List ℕ) (parent : Option (List ℕ)) (depth loan 
     fit_head = record { uuid = fit; parent = fit_parent };
     head = refl;
     numbered = [];
-    numbers = record { range = tt; numbers = tt; identities = tt; uuids = tt };
-    items = refl;
-    tiles = refl;
-    media = refl;
-    rows = refl;
-    identities = refl;
+    of_items = record { numbers = record { range = tt; numbers = tt; identities = tt; uuids = tt }; items = refl; tiles = refl; media = refl; rows = refl; identities = refl };
     linked = [];
-    distinct_links = tt;
     ends = tt;
-    links = refl;
-    tiles_media = refl;
-    rows_media = refl;
+    of_links = record { distinct_links = tt; links = refl; tiles_media = refl; rows_media = refl };
     entered = [];
-    distinct_receipts = tt;
-    fit = tt;
-    kept = refl;
-    receipts = refl;
-    moved = refl;
+    of_receipts = record { distinct_receipts = tt; fit = tt; kept = refl; receipts = refl; moved = refl };
   }
 
   new_reads : (db : Database) → SaysTables db (new_tables f (head_of uuid parent depth loan created)) → Reads f (new_package uuid parent depth loan) db

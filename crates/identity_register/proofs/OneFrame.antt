@@ -27,14 +27,14 @@ own_width f = ap (λ k. f.matrix_width *ℤ pos (2 ^ k)) (own_level f.first_zoom
 own_height : (f : Frame) → height_at f (level_of f (f.first_zoom +ℤ pos 0)) ≡ f.matrix_height
 own_height f = ap (λ k. f.matrix_height *ℤ pos (2 ^ k)) (own_level f.first_zoom) ∙ once f.matrix_height
 
+head_same : {X : Type 0} {x y : X} {xs ys : List X} → x ∷ xs ≡ y ∷ ys → x ≡ y
+head_same e = cc
+
 -- levels that are the same have the same first one
 first_same : (f g : Frame) (m n : ℕ) → 0 < m → 0 < n → first_levels f m ≡ first_levels g n → level_row f (f.first_zoom +ℤ pos 0) ≡ level_row g (g.first_zoom +ℤ pos 0)
 first_same f g zero n h k e = absurd (omega arith)
 first_same f g (suc m) zero h k e = absurd (omega arith)
 first_same f g (suc m) (suc n) h k e = head_same e
-  where
-    head_same : {X : Type 0} {x y : X} {xs ys : List X} → x ∷ xs ≡ y ∷ ys → x ≡ y
-    head_same e = cc
 
 some_levels : (f : Frame) → is_good_frame f ≡ true → pos 1 ≤ℤ f.levels
 some_levels f good = (good_frame f good).levels
@@ -69,9 +69,6 @@ one_frame f g t good_f good_g one two =
       matrix_height = height n;
     }
   where
-    head_same : {X : Type 0} {x y : X} {xs ys : List X} → x ∷ xs ≡ y ∷ ys → x ≡ y
-    head_same e = cc
-
     positive : (a b : ℤ) → pos 1 ≤ℤ a → pos 1 ≤ℤ b → unsigned_abs a ≡ unsigned_abs b → a ≡ b
     positive (pos a) (pos b) h k e = ap pos e
     positive (pos a) (negsuc b) h k e = absurd (omega (arith, ints))

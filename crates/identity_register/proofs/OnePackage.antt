@@ -1,14 +1,14 @@
 -- The tables read as at most one package.
-use Rattle.std.proofs.Common.{◌≡◌, ℕ, zero, suc, ◌+◌, ◌*◌, ◌≤◌, ◌<◌, pos, List, [], ◌∷◌, ◌++◌, map, Bool, true, false, cond, Option, Some, None, refl, sym, ap, subst, ◌∙◌, inl, inr, length, arith}
+use Rattle.std.proofs.Common.{◌≡◌, ℕ, ◌+◌, ◌*◌, ◌≤◌, pos, List, [], ◌∷◌, ◌++◌, map, Bool, true, false, cond, Option, Some, None, refl, sym, ap, subst, ◌∙◌, inl, inr, length, arith}
 use Rattle.std.specs.Prelude.{◌⊎◌, ◌==◌, ◌&&◌, bytes_eq, flat_map, unsigned_abs, Contains, nat_lt}
-use Rattle.std.specs.List.{AllByRecursion, IsDistinct, list_all, enumerate_from}
+use Rattle.std.specs.List.{IsDistinct, list_all, enumerate_from}
 use Rattle.std.specs.Ordering.{int_eq}
 use Rattle.std.specs.Option.{option_map_or}
 use Rattle.std.specs.Result.{result_unwrap_or}
-use Rattle.std.proofs.lemmas.Bool.{and_parts, and_from, true≢false}
+use Rattle.std.proofs.lemmas.Bool.{and_parts, and_from, and_right, true≢false}
 use Rattle.std.proofs.lemmas.Slice.Eq.{bytes_eq-Decides}
 use borrow.Author.Tests.{eqb-true, eq-eqb}
-use Rattle.hex.specs.Hex.{encode_lower, IsBytes, lower_digits}
+use Rattle.hex.specs.Hex.{encode_lower, lower_digits}
 use Rattle.hex.proofs.HexLemmas.{decode_of-encode_lower, length-encode_with}
 use Rattle.uuid.proofs.TextLemmas.{by_index_length}
 use Rattle.sheet_types.specs.Ordered.{arranged, put, has, is_before, IsArranged}
@@ -27,7 +27,7 @@ use Rattle.sheet_types.specs.declared.receipt.Receipt.{Receipt}
 use Rattle.sheet_types.proofs.Found.{found, All-found}
 use Rattle.sheet_types.proofs.Basics.{bytes_eq_itself, bytes_eq_swap}
 use Rattle.sheet_types.proofs.Every.{All-weaker, All-of_map, All-map}
-use Rattle.sheet_types.proofs.LineReading.{uuid_length, small_bytes}
+use Rattle.sheet_types.proofs.LineReading.{uuid_length, small_bytes, small_at}
 use Rattle.sheet_types.proofs.Order.{put_arranged, All-arranged}
 use Rattle.sheet_types.proofs.Same.{In, In-all, In-map, In-of_map, In-flat_map, All-In, Contains-In, any_in, same_list}
 use Rattle.sql_meaning.proofs.Schemas.{sound_alone}
@@ -118,12 +118,6 @@ same_end None None h g e = refl
 same_end None (Some b) h g e = absurd (let long = text_long b in let same : 0 ≡ length (uuid_text b) = ap length e in omega arith)
 same_end (Some a) None h g e = absurd (let long = text_long a in let same : length (uuid_text a) ≡ 0 = ap length e in omega arith)
 same_end (Some a) (Some b) h g e = ap Some (same_uuid a b h g e)
-
--- by places
-small_at : (bytes : List ℕ) → AllByRecursion (λ b. b < 256) bytes → IsBytes bytes
-small_at [] h i = omega arith
-small_at (b ∷ bytes) h zero = h.0
-small_at (b ∷ bytes) h (suc i) = small_at bytes h.1 i
 
 -- a digest reads back from its text
 digest_back : (bytes : List ℕ) → is_bytes 32 bytes ≡ true → digest_in (encode_lower bytes) ≡ bytes
@@ -320,11 +314,7 @@ module _ (f : Frame) (t : Tables) where
       (distinct_by (λ i. i.identity) item_key (λ x y e. apart x y e) (map (λ n. n.item) one.numbered) (distinct_map (λ n. n.item) (λ i. i.identity) one.numbered one.numbers.identities)))
     where
       apart : (x y : Item) → bytes_eq x.identity y.identity ≡ false → bytes_eq (item_key x) (item_key y) ≡ false
-      apart x y e = ap (λ b. (kind_number (kind_of x.content) == kind_number (kind_of y.content)) && b) e ∙ never (kind_number (kind_of x.content) == kind_number (kind_of y.content))
-        where
-          never : (b : Bool) → (b && false) ≡ false
-          never true = refl
-          never false = refl
+      apart x y e = ap (λ b. (kind_number (kind_of x.content) == kind_number (kind_of y.content)) && b) e ∙ and_right (kind_number (kind_of x.content) == kind_number (kind_of y.content)) false refl
 
   pub one_package : (p q : Package) → Says f p t → Says f q t → p ≡ q
   one_package p q one two =

@@ -9,6 +9,7 @@ use Rattle.uuid.specs.Text.{parsed, parsed_hyphenated, parsed_simple, digits_of,
 use Rattle.uuid.proofs.TextLemmas.{by_index_length, by_index_at}
 use Rattle.sheet_types.specs.Lines.{IsUuid}
 use Rattle.sheet_types.specs.Texts.{uuid_text}
+use Rattle.sheet_types.proofs.Basics.{some_same}
 use Rattle.sheet_types.proofs.Fitting.{bytes_fit}
 use Rattle.sheet_types.proofs.UuidTexts.{parsed_36}
 
@@ -30,9 +31,6 @@ digit_small c h = grind (arith, nat_tests)
 simple_fits : (hex u : List ℕ) → parsed_simple hex ≡ Some u → IsUuid u
 simple_fits hex u = one ((length hex == 32) && list_all is_hex_digit hex) refl
   where
-    some_same : {x y : List ℕ} → Some x ≡ Some y → x ≡ y
-    some_same e = cc
-
     one : (b : Bool) → ((length hex == 32) && list_all is_hex_digit hex) ≡ b → cond b (Some (by_index 16 (byte_of_digits hex))) None ≡ Some u → IsUuid u
     one false e h = cc
     one true e h =

@@ -10,6 +10,7 @@ use Rattle.sheet_types.specs.Texts.{uuid_text}
 use Rattle.sheet_types.specs.World.{Package, item_key, link_key, receipt_key, kind_number}
 use Rattle.sheet_types.specs.Lines.{is_uuid, is_bytes}
 use Rattle.sheet_types.specs.Register.{HasEnds}
+use Rattle.sheet_types.specs.declared.command.Item.{Item}
 use Rattle.sheet_types.specs.declared.command.Relation.{Relation}
 use Rattle.sheet_types.specs.declared.frame.Frame.{Frame}
 use Rattle.sheet_types.specs.declared.receipt.Moved.{Moved}
@@ -17,9 +18,14 @@ use Rattle.sheet_types.specs.declared.receipt.Receipt.{Receipt}
 use Rattle.package_tables.specs.Shapes.{tile_shape, medium_shape, attribute_shape, tiles_media_shape, rows_media_shape, identity_shape, receipt_shape, moved_shape}
 use Rattle.package_tables.specs.Package.{Tables, tables_of, AreFormed}
 use Rattle.package_tables.specs.Fixed.{HasFixed}
+use Rattle.package_tables.specs.declared.rows.AttributeRow.{AttributeRow}
 use Rattle.package_tables.specs.declared.rows.HeadRow.{HeadRow}
-use Rattle.package_tables.specs.declared.rows.ReceiptRow.{ReceiptRow}
+use Rattle.package_tables.specs.declared.rows.IdentityRow.{IdentityRow}
+use Rattle.package_tables.specs.declared.rows.MappingRow.{MappingRow}
+use Rattle.package_tables.specs.declared.rows.MediaRow.{MediaRow}
 use Rattle.package_tables.specs.declared.rows.MovedRow.{MovedRow}
+use Rattle.package_tables.specs.declared.rows.ReceiptRow.{ReceiptRow}
+use Rattle.package_tables.specs.declared.rows.TileRow.{TileRow}
 use Rattle.identity_register.specs.Numbering.{Numbered, IsNumbering, tile_rows, media_rows, attribute_rows, identity_row, tiles_media_rows, rows_media_rows}
 
 -- a UUID that may be missing: the empty text where it is
@@ -74,36 +80,53 @@ pub record IsFitReceipt (r : Receipt) : Type 0 where
   pub items : AllByRecursion (λ m. is_fit_moved m ≡ true) r.items
 
 -- the UUIDs of a package's head are such
-pub record IsFitHead (p : Package) : Type 0 where
-  pub uuid : is_uuid p.uuid ≡ true
-  pub parent : is_fit_end p.parent ≡ true
+pub record IsFitHead (own : List ℕ) (above : Option (List ℕ)) : Type 0 where
+  pub uuid : is_uuid own ≡ true
+  pub parent : is_fit_end above ≡ true
+
+-- A part of what tables say speaks of its own lists alone, so that it holds as it stands where others change.
+
+-- The numbered items are the package's; their rows and those of their identities are all that these tables hold.
+pub record SaysItems (numbered : List Numbered) (of_package : List Item) (tile_table : List TileRow) (medium_table : List MediaRow) (row_table : List AttributeRow) (identity_table : List IdentityRow) : Type 0 where
+  pub numbers : IsNumbering numbered
+  pub items : of_package ≡ arranged item_key (map (λ n. n.item) numbered)
+  pub tiles : tile_table ≡ arranged tile_shape.key (flat_map (λ n. tile_rows n.number n.item.content) numbered)
+  pub media : medium_table ≡ arranged medium_shape.key (flat_map (λ n. media_rows n.number n.item.content) numbered)
+  pub rows : row_table ≡ arranged attribute_shape.key (flat_map (λ n. attribute_rows n.number n.item.content) numbered)
+  pub identities : identity_table ≡ arranged identity_shape.key (map identity_row numbered)
+
+-- The links are the package's, each once; the rows of their ends' numbers are all that the mapping tables hold.
+pub record SaysLinks (numbered : List Numbered) (linked of_package : List Relation) (tiles_media_table rows_media_table : List MappingRow) : Type 0 where
+  pub distinct_links : IsDistinct bytes_eq (map link_key linked)
+  pub links : of_package ≡ arranged link_key linked
+  pub tiles_media : tiles_media_table ≡ arranged tiles_media_shape.key (flat_map (λ l. tiles_media_rows numbered l l.mapping) linked)
+  pub rows_media : rows_media_table ≡ arranged rows_media_shape.key (flat_map (λ l. rows_media_rows numbered l l.mapping) linked)
+
+-- The receipts are the package's, each once and fit to be read back; their rows and those of what they moved are all that these tables hold.
+pub record SaysReceipts (entered of_package : List Receipt) (receipt_table : List ReceiptRow) (moved_table : List MovedRow) : Type 0 where
+  pub distinct_receipts : IsDistinct bytes_eq (map receipt_key entered)
+  pub fit : AllByRecursion IsFitReceipt entered
+  pub kept : of_package ≡ arranged receipt_key entered
+  pub receipts : receipt_table ≡ arranged receipt_shape.key (map receipt_row entered)
+  pub moved : moved_table ≡ arranged moved_shape.key (flat_map moved_rows entered)
 
 -- The tables say this package: its items under some numbers, its links and its receipts, in whatever order they came, are all that the tables hold.
 pub record Says (f : Frame) (p : Package) (t : Tables) : Type 0 where
   pub good : is_good_frame f ≡ true
   pub fixed : HasFixed f t
   pub created : List ℕ
-  pub fit_head : IsFitHead p
+  pub fit_head : IsFitHead p.uuid p.parent
   pub head : t.heads ≡ head_row p created ∷ []
   pub numbered : List Numbered
-  pub numbers : IsNumbering numbered
-  pub items : p.items ≡ arranged item_key (map (λ n. n.item) numbered)
-  pub tiles : t.tiles ≡ arranged tile_shape.key (flat_map (λ n. tile_rows n.number n.item.content) numbered)
-  pub media : t.media ≡ arranged medium_shape.key (flat_map (λ n. media_rows n.number n.item.content) numbered)
-  pub rows : t.rows ≡ arranged attribute_shape.key (flat_map (λ n. attribute_rows n.number n.item.content) numbered)
-  pub identities : t.identities ≡ arranged identity_shape.key (map identity_row numbered)
+  pub of_items : SaysItems numbered p.items t.tiles t.media t.rows t.identities
+  pub open of_items use *
   pub linked : List Relation
-  pub distinct_links : IsDistinct bytes_eq (map link_key linked)
   pub ends : AllByRecursion (HasEnds p) linked
-  pub links : p.links ≡ arranged link_key linked
-  pub tiles_media : t.tiles_media ≡ arranged tiles_media_shape.key (flat_map (λ l. tiles_media_rows numbered l l.mapping) linked)
-  pub rows_media : t.rows_media ≡ arranged rows_media_shape.key (flat_map (λ l. rows_media_rows numbered l l.mapping) linked)
+  pub of_links : SaysLinks numbered linked p.links t.tiles_media t.rows_media
+  pub open of_links use *
   pub entered : List Receipt
-  pub distinct_receipts : IsDistinct bytes_eq (map receipt_key entered)
-  pub fit : AllByRecursion IsFitReceipt entered
-  pub kept : p.receipts ≡ arranged receipt_key entered
-  pub receipts : t.receipts ≡ arranged receipt_shape.key (map receipt_row entered)
-  pub moved : t.moved ≡ arranged moved_shape.key (flat_map moved_rows entered)
+  pub of_receipts : SaysReceipts entered p.receipts t.receipts t.moved
+  pub open of_receipts use *
 
 -- a database reads as this package
 pub record Reads (f : Frame) (p : Package) (db : Database) : Type 0 where

@@ -9,4 +9,5 @@ pub mod fitting;
 pub mod kinds;
 pub mod laws;
 pub mod look_ups;
+mod row_contents;
 pub mod whole;

@@ -17,6 +17,7 @@ ghost use Rattle.identity_register.specs.Calls.{Sees};
 ghost use Rattle.identity_register.specs.Numbering.{is_pair};
 
 use crate::kinds::{MEDIUM, ROW, TILE};
+use crate::row_contents::{of_attributes, of_medium, of_tile};
 use package_tables::attributes::attribute_by_id;
 use package_tables::fault::Fault;
 use package_tables::identities::identity_by_uuid;
@@ -183,12 +184,7 @@ fn tile_content<S: Alter>(conn: &mut Connection<S>, number: i64) -> Result<Conte
     let Some(tile) = tile_by_id(conn, number)? else {
         return Err(Fault::StoreFault);
     };
-    Ok(Content::Tile {
-        zoom: tile.zoom_level,
-        column: tile.tile_column,
-        row: tile.tile_row,
-        bytes: tile.tile_data,
-    })
+    Ok(of_tile(tile))
 }
 
 /// The medium of this number.
@@ -199,10 +195,7 @@ fn medium_content<S: Alter>(conn: &mut Connection<S>, number: i64) -> Result<Con
     let Some(medium) = medium_by_id(conn, number)? else {
         return Err(Fault::StoreFault);
     };
-    Ok(Content::Media {
-        content_type: medium.content_type,
-        bytes: medium.data,
-    })
+    Ok(of_medium(medium))
 }
 
 /// The attributes row of this number.
@@ -213,12 +206,7 @@ fn attributes_content<S: Alter>(conn: &mut Connection<S>, number: i64) -> Result
     let Some(row) = attribute_by_id(conn, number)? else {
         return Err(Fault::StoreFault);
     };
-    Ok(Content::Row {
-        x: row.x,
-        y: row.y,
-        code: row.code,
-        label: row.label,
-    })
+    Ok(of_attributes(row))
 }
 
 /// What the row of this kind and number holds.

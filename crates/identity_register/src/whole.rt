@@ -14,6 +14,7 @@ ghost use Rattle.identity_register.specs.Calls.{Sees};
 ghost use Rattle.identity_register.specs.Gathered.{tile_placed, medium_placed, attributes_placed, IsPlaced, IsItemOf, AreItemsBy, IsNamed, IsLinkOf, AreLinksBy};
 
 use crate::kinds::{MEDIUM, ROW, TILE};
+use crate::row_contents::{of_attributes, of_medium, of_tile};
 use package_tables::attributes::all_attributes;
 use package_tables::fault::Fault;
 use package_tables::identities::all_identities;
@@ -44,12 +45,7 @@ fn place_tiles(tiles: Vec<TileRow>, placed: &mut Vec<Placed>) -> Result<(), Faul
         placed.push(Placed {
             kind: TILE,
             number: tile.id,
-            content: Content::Tile {
-                zoom: tile.zoom_level,
-                column: tile.tile_column,
-                row: tile.tile_row,
-                bytes: tile.tile_data,
-            },
+            content: of_tile(tile),
         })?;
     }
     Ok(())
@@ -63,10 +59,7 @@ fn place_media(media: Vec<MediaRow>, placed: &mut Vec<Placed>) -> Result<(), Fau
         placed.push(Placed {
             kind: MEDIUM,
             number: medium.id,
-            content: Content::Media {
-                content_type: medium.content_type,
-                bytes: medium.data,
-            },
+            content: of_medium(medium),
         })?;
     }
     Ok(())
@@ -80,12 +73,7 @@ fn place_attributes(rows: Vec<AttributeRow>, placed: &mut Vec<Placed>) -> Result
         placed.push(Placed {
             kind: ROW,
             number: row.id,
-            content: Content::Row {
-                x: row.x,
-                y: row.y,
-                code: row.code,
-                label: row.label,
-            },
+            content: of_attributes(row),
         })?;
     }
     Ok(())

@@ -1,7 +1,8 @@
 -- What it takes to keep the rules of a register, whatever the command.
-use Rattle.std.specs.Prelude.{◌≡◌, ℕ, ℤ, ◌+◌, ◌≤◌, ◌<◌, Bool, true, false, cond, not, ◌&&◌, ◌||◌, List, [], ◌∷◌, ◌++◌, map, filter, find, refl, nat_lt, bytes_eq, Option, Some, None, unwrap_or, is_some, sum_by, count_by, MatchOption, int_le, int_lt, pos, negsuc, unsigned_abs, slice_index, is_none, ◌+ℤ◌, ◌*ℤ◌, ◌-ℤ◌}
+use Rattle.std.specs.Prelude.{◌≡◌, ⊤, ◌==◌, ℕ, ℤ, ◌+◌, ◌≤◌, ◌<◌, Bool, true, false, cond, not, ◌&&◌, ◌||◌, List, [], ◌∷◌, ◌++◌, map, filter, find, refl, nat_lt, bytes_eq, Option, Some, None, unwrap_or, is_some, sum_by, count_by, MatchOption, int_le, int_lt, pos, negsuc, unsigned_abs, slice_index, is_none, ◌+ℤ◌, ◌*ℤ◌, ◌-ℤ◌}
 use Rattle.sheet_types.specs.Refuse.{is_at, takes_place, place_of, bad_place, greatest_depth}
 use Rattle.sheet_types.specs.World.{is_tile, kind_is, item_key, link_key, kind_number, base_kind, other_kind, World, Package, package_key, receipt_key, receipts_of, holdings, no_package, is_live}
+use Rattle.sheet_types.specs.Balance.{IsLoan}
 use Rattle.sheet_types.specs.Lines.{IsUuid}
 use Rattle.sheet_types.specs.Register.{HasEnds, IsFit, HasParent, IsKeptPackage}
 use Rattle.sheet_types.specs.declared.command.Relation.{Relation}
@@ -9,7 +10,7 @@ use Rattle.sheet_types.specs.declared.receipt.MovedKind.{MovedKind}
 use Rattle.sheet_types.specs.declared.receipt.MovedKind.TheVariants.{TileItem}
 use Rattle.std.proofs.Common.{drop, sym, ap, subst, ◌∙◌, arith, rules}
 use Rattle.sheet_types.proofs.Every.{All-filter, none_pass, All-each, All-weaker, All-snoc, All-both, All-taken}
-use Rattle.sheet_types.proofs.Order.{filter_arranged, before_numbers, put_arranged}
+use Rattle.sheet_types.proofs.Order.{filter_arranged, before_numbers, put_arranged, list_any-put}
 use Rattle.sheet_types.specs.Texts.{kind_of}
 use Rattle.sheet_types.specs.declared.command.Command.TheVariants.{Add}
 use Rattle.sheet_types.specs.declared.frame.FrameFault.{FrameFault}
@@ -33,6 +34,7 @@ use Rattle.sheet_types.specs.declared.frame.Frame.{Frame}
 use Rattle.sheet_types.specs.declared.receipt.Receipt.{Receipt}
 use Rattle.sheet_types.proofs.Basics.{bytes_eq_itself, not_false, before-differs, bytes_eq_swap, not_true, or-true}
 use Rattle.sheet_types.proofs.Without.{is_one}
+use Rattle.ledger_laws.proofs.Ledger.{none_after}
 use Rattle.ledger_laws.proofs.Packages.{at_uuid, each_found}
 use Rattle.sheet_types.proofs.Distinct.{distinct_counts, counts_distinct}
 
@@ -315,3 +317,31 @@ filtered_kept w v x y s u frame items links uuid receipts up whole k = record {
     kind_goes : (kind : MovedKind) (end : List ℕ) → s end ≡ true → has item_key (kind_number kind ∷ end) x.items ≡ true → has item_key (kind_number kind ∷ end) y.items ≡ true
     kind_goes kind end e h = ap (has item_key (kind_number kind ∷ end)) items ∙ any_filter (λ i. bytes_eq (item_key i) (kind_number kind ∷ end)) t x.items
         (λ i same. ap s (ap (drop 1) ((bytes_eq-Decides (item_key i) (kind_number kind ∷ end)).0 same)) ∙ e) h
+
+-- ---- a loan stays one after one more receipt
+
+-- the split that made a loan, and a merge that ends it
+abbrev pub made_by : Package → Receipt → Bool
+made_by x r = is_split r && ends_at r.target x.uuid && (r.seq == x.loan)
+
+abbrev pub merged_by : Package → Receipt → Bool
+merged_by x m = is_merge m && ends_at m.source x.uuid
+
+-- the new receipt does not end it, and its parent keeps that of the split
+pub loan_stays : (w next : World) (r : Receipt) (x : Package) → receipts_of next ≡ receipts_of w ++ r ∷ [] → merged_by x r ≡ false
+    → ((q : List ℕ) → ends_at x.parent q ≡ true → list_any (made_by x) (holdings w q).receipts ≡ true → list_any (made_by x) (holdings next q).receipts ≡ true)
+    → IsLoan w x → IsLoan next x
+loan_stays w next r x receipts spared kept h = at_parent x.parent kept h
+  where
+    at_parent : (o : Option (List ℕ)) → ((q : List ℕ) → ends_at o q ≡ true → list_any (made_by x) (holdings w q).receipts ≡ true → list_any (made_by x) (holdings next q).receipts ≡ true)
+        → MatchOption o ⊤ (λ parent. (list_any (made_by x) (holdings w parent).receipts ≡ true) × (list_any (merged_by x) (after x.loan (receipts_of w)) ≡ false))
+        → MatchOption o ⊤ (λ parent. (list_any (made_by x) (holdings next parent).receipts ≡ true) × (list_any (merged_by x) (after x.loan (receipts_of next)) ≡ false))
+    at_parent None kept h = tt
+    at_parent (Some parent) kept h = (
+      kept parent (bytes_eq_itself parent) h.0,
+      ap (λ rs. list_any (merged_by x) (after x.loan rs)) receipts ∙ none_after (merged_by x) x.loan (receipts_of w) r spared h.1,
+    )
+
+-- one more receipt at its parent
+pub made_among_more : (x : Package) (r : Receipt) (rs : List Receipt) → list_any (made_by x) rs ≡ true → list_any (made_by x) (put receipt_key r rs) ≡ true
+made_among_more x r rs h = list_any-put receipt_key (made_by x) r rs ∙ ap (λ b. made_by x r || b) h ∙ or-true (made_by x r)

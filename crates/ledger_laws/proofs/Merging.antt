@@ -1,5 +1,5 @@
 -- A merge keeps the account.
-use Rattle.std.specs.Prelude.{◌≡◌, ⊤, ℕ, ℤ, ◌+◌, ◌≤◌, ◌<◌, ◌==◌, Bool, true, false, cond, not, ◌&&◌, ◌||◌, List, [], ◌∷◌, ◌++◌, map, filter, find, length, refl, nat_lt, bytes_eq, Option, Some, None, unwrap_or, option_map, sum_by, count_by, flat_map, MatchOption, is_none, is_some}
+use Rattle.std.specs.Prelude.{◌≡◌, ⊤, ℕ, ℤ, ◌+◌, ◌≤◌, ◌<◌, ◌==◌, Bool, true, false, cond, not, ◌&&◌, ◌||◌, List, [], ◌∷◌, ◌++◌, map, filter, find, length, refl, nat_lt, bytes_eq, Some, None, unwrap_or, option_map, sum_by, count_by, flat_map, MatchOption, is_none, is_some}
 use Rattle.std.specs.Option.{option_map_or}
 use Rattle.std.proofs.Common.{sym, ap, subst, ◌∙◌, arith, drop}
 use Rattle.std.proofs.lemmas.List.Sums.{sum_by-append, sum_by-cons}
@@ -36,14 +36,14 @@ use Rattle.sheet_types.proofs.Order.{All-put, All-arranged, All-of_put, All-of_a
 use Rattle.sheet_types.proofs.Same.{In, same_list, All-In, In-all}
 use Rattle.sheet_types.proofs.Basics.{bytes_eq_itself, not_false, and_true, bytes_eq_swap, or-true}
 use Rattle.ledger_laws.proofs.Accepting.{rows_fail, new_identity, keeps}
-use Rattle.ledger_laws.proofs.Packages.{archive_stays, find_changed, AllStand, at_uuid, each_found, at_all, stand_at, stand_all, stand_flat, holdings_none, holdings_changed, holdings_closed, changed_arranged, changed_sum, All-changed, two_places, archive_closed}
-use Rattle.ledger_laws.proofs.Ledger.{ledger_snoc, none_after, ledger_numbers}
+use Rattle.ledger_laws.proofs.Packages.{by_place, by_two_places, archive_stays, find_changed, AllStand, at_uuid, each_found, at_all, stand_at, stand_all, stand_flat, holdings_none, holdings_changed, holdings_closed, changed_arranged, changed_sum, All-changed, two_places, archive_closed}
+use Rattle.ledger_laws.proofs.Ledger.{ledger_snoc, ledger_numbers}
 use Rattle.sheet_types.proofs.Without.{All-without, take_one}
 use Rattle.sheet_types.proofs.Found.{found, any_implies}
 use Rattle.sheet_types.proofs.Sums.{sum_by-map, sum_by-flat_map, count-cons, none_counted, any_some, any_none, count_le, not_both_count}
 use Rattle.ledger_laws.proofs.Shifting.{weighed, goes, Shift, flat_stand, balance_kept, ends_at_is}
 use Rattle.ledger_laws.proofs.Facts.{ledger_arranged, things_moved, order_moved, agree_moved, custody_moved, items_held, links_held, kept_at, holds_once}
-use Rattle.ledger_laws.proofs.Keeping.{fit_all, places_count, tile_at, apart_places, live_changed, live_closed, parent_moves, package_moves, receipts_kept, sum_by-changed, all_live_at, open_kept, open_is_split}
+use Rattle.ledger_laws.proofs.Keeping.{made_by, loan_stays, fit_all, places_count, tile_at, apart_places, live_changed, live_closed, parent_moves, package_moves, receipts_kept, sum_by-changed, all_live_at, open_kept, open_is_split}
 use Rattle.sheet_types.proofs.Distinct.{distinct_counts, counts_distinct}
 
 -- the measure of a receipt is that of its items and links
@@ -158,16 +158,6 @@ module _ (w : World) (id moment child into : List ℕ) (ticket : ℤ) (types : H
     at_other : (p : List ℕ) → bytes_eq p child ≡ false → bytes_eq p into ≡ false → holdings next p ≡ holdings w p
     at_other p a b = at_mid p ∙ ap (λ v. cond v no_package (cond (bytes_eq p into) (take_all (holdings w into)) (holdings w p))) a ∙ ap (λ v. cond v (take_all (holdings w into)) (holdings w p)) b
 
-    by_place : (P : List ℕ → Type 0) → P child → P into → ((p : List ℕ) → bytes_eq p child ≡ false → bytes_eq p into ≡ false → P p) → (p : List ℕ) → P p
-    by_place P c i o p =
-        elim (bytes_eq p child) as (λ v. bytes_eq p child ≡ v → P p) [
-          | true ↦ λ same. subst P (sym ((bytes_eq-Decides p child).0 same)) c
-          | false ↦ λ a. elim (bytes_eq p into) as (λ v. bytes_eq p into ≡ v → P p) [
-            | true ↦ λ same. subst P (sym ((bytes_eq-Decides p into).0 same)) i
-            | false ↦ λ b. o p a b
-          ] refl
-        ] refl
-
     distinct_next : IsArranged package_key next.packages
     distinct_next = filter_arranged package_key _ (map (λ x. cond (bytes_eq x.uuid into) (take_all x) x) w.packages) (changed_arranged take_all into w.packages (λ x. refl) register.arranged)
 
@@ -175,7 +165,7 @@ module _ (w : World) (id moment child into : List ℕ) (ticket : ℤ) (types : H
     shifts c =
         let all : sum_by c receipt.items ≡ weighed c (holdings w child) = weigh_moved c (holdings w child).items (holdings w child).links in
         let n : ℕ = sum_by c receipt.items in
-        by_place (λ p. weighed c (holdings next p) + cond (bytes_eq child p) n 0 ≡ weighed c (holdings w p) + cond (bytes_eq into p) n 0)
+        by_two_places child into (λ p. weighed c (holdings next p) + cond (bytes_eq child p) n 0 ≡ weighed c (holdings w p) + cond (bytes_eq into p) n 0)
         (rw (at_child, bytes_eq_itself child, apart') (omega (arith, all)))
         (rw (at_into, bytes_eq_itself into, k.apart) (omega (
           arith,
@@ -194,7 +184,7 @@ module _ (w : World) (id moment child into : List ℕ) (ticket : ℤ) (types : H
     goes_other p a = ap (λ b. cond (b && bytes_eq child p) into p) merges ∙ ap (λ b. cond b into p) (bytes_eq_swap child p ∙ a)
 
     carry : (Q : List ℕ → Receipt → Type 0) → AllStand (λ u s. Q (goes receipt u) s) w → Q into receipt → AllStand Q next
-    carry Q h g = stand_all Q next distinct_next (by_place (λ p. AllByRecursion (Q p) (holdings next p).receipts)
+    carry Q h g = stand_all Q next distinct_next (by_two_places child into (λ p. AllByRecursion (Q p) (holdings next p).receipts)
         (subst (λ x. AllByRecursion (Q child) x.receipts) (sym at_child) tt)
         (subst (λ x. AllByRecursion (Q into) x.receipts) (sym at_into) (All-put receipt_key (Q into) receipt (arranged receipt_key ((holdings w child).receipts ++ (holdings w into).receipts)) g
         (All-arranged receipt_key (Q into) ((holdings w child).receipts ++ (holdings w into).receipts)
@@ -211,7 +201,7 @@ module _ (w : World) (id moment child into : List ℕ) (ticket : ℤ) (types : H
         (parts.0, All-left P (holdings w child).receipts (holdings w into).receipts both, All-right P (holdings w child).receipts (holdings w into).receipts both)
 
     back : (P : Receipt → Type 0) → AllStand (λ _. P) next → AllStand (λ _. P) w
-    back P h = stand_all (λ _. P) w register.arranged (by_place (λ p. AllByRecursion P (holdings w p).receipts) (into_has P h).1 (into_has P h).2
+    back P h = stand_all (λ _. P) w register.arranged (by_two_places child into (λ p. AllByRecursion P (holdings w p).receipts) (into_has P h).1 (into_has P h).2
         (λ p a b. subst (λ x. AllByRecursion P x.receipts) (at_other p a b) (stand_at (λ _. P) next p h)))
 
     -- ---- the receipts after it
@@ -337,38 +327,24 @@ module _ (w : World) (id moment child into : List ℕ) (ticket : ℤ) (types : H
     -- ---- loans
 
     loan_kept : (x : Package) → bytes_eq x.uuid child ≡ false → IsLoan w x → ends_at x.parent child ≡ false → IsLoan next x
-    loan_kept x other h away = at_parent x.parent h away
+    loan_kept x other h away =
+        loan_stays w next receipt x receipts (ap (λ b. b && bytes_eq child x.uuid) merges ∙ bytes_eq_swap child x.uuid ∙ other) (λ q ends. made_there q (ap (λ o. ends_at o child) (sym (ends_at_is x.parent q ends)) ∙ away)) h
       where
-        made : Receipt → Bool
-        made r = is_split r && ends_at r.target x.uuid && (r.seq == x.loan)
-
-        ended : Receipt → Bool
-        ended m = is_merge m && ends_at m.source x.uuid
-
         or_last : (a b c : Bool) → c ≡ true → (a || (b || c)) ≡ true
         or_last true b c h = refl
         or_last false true c h = refl
         or_last false false c h = h
 
-        made_there : (p : List ℕ) → bytes_eq p child ≡ false → list_any made (holdings w p).receipts ≡ true → list_any made (holdings next p).receipts ≡ true
-        made_there p a h =
-            elim (bytes_eq p into) as (λ v. bytes_eq p into ≡ v → list_any made (holdings next p).receipts ≡ true) [
-              | true ↦ λ same.
-                  let e : p ≡ into = (bytes_eq-Decides p into).0 same in
-                  ap (λ z. list_any made (holdings next z).receipts) e ∙ ap (λ y. list_any made y.receipts) at_into
-                  ∙ list_any-put receipt_key made receipt (arranged receipt_key ((holdings w child).receipts ++ (holdings w into).receipts))
-                  ∙ ap (λ b. made receipt || b) (list_any-arranged receipt_key made ((holdings w child).receipts ++ (holdings w into).receipts) ∙ list_any-append made (holdings w child).receipts (holdings w into).receipts)
-                  ∙ or_last (made receipt) (list_any made (holdings w child).receipts) (list_any made (holdings w into).receipts) (ap (λ z. list_any made (holdings w z).receipts) (sym e) ∙ h)
-              | false ↦ λ b. ap (λ y. list_any made y.receipts) (at_other p a b) ∙ h
-            ] refl
+        made : Receipt → Bool
+        made = made_by x
 
-        at_parent : (o : Option (List ℕ)) → MatchOption o ⊤ (λ parent. (list_any made (holdings w parent).receipts ≡ true) × (list_any ended (after x.loan (receipts_of w)) ≡ false)) → ends_at o child ≡ false
-            → MatchOption o ⊤ (λ parent. (list_any made (holdings next parent).receipts ≡ true) × (list_any ended (after x.loan (receipts_of next)) ≡ false))
-        at_parent None h a = tt
-        at_parent (Some parent) h a = (
-          made_there parent a h.0,
-          ap (λ rs. list_any ended (after x.loan rs)) receipts ∙ none_after ended x.loan (receipts_of w) receipt (ap (λ b. b && bytes_eq child x.uuid) merges ∙ bytes_eq_swap child x.uuid ∙ other) h.1,
-        )
+        made_there : (q : List ℕ) → bytes_eq q child ≡ false → list_any made (holdings w q).receipts ≡ true → list_any made (holdings next q).receipts ≡ true
+        made_there = by_place into (λ q. bytes_eq q child ≡ false → list_any made (holdings w q).receipts ≡ true → list_any made (holdings next q).receipts ≡ true)
+            (λ _ h. ap (λ y. list_any made y.receipts) at_into
+            ∙ list_any-put receipt_key made receipt (arranged receipt_key ((holdings w child).receipts ++ (holdings w into).receipts))
+            ∙ ap (λ b. made receipt || b) (list_any-arranged receipt_key made ((holdings w child).receipts ++ (holdings w into).receipts) ∙ list_any-append made (holdings w child).receipts (holdings w into).receipts)
+            ∙ or_last (made receipt) (list_any made (holdings w child).receipts) (list_any made (holdings w into).receipts) h)
+            (λ q b a h. ap (λ y. list_any made y.receipts) (at_other q a b) ∙ h)
 
     loans_kept : AllByRecursion (IsLoan next) next.packages
     loans_kept =
@@ -475,7 +451,7 @@ module _ (w : World) (id moment child into : List ℕ) (ticket : ℤ) (types : H
     live_stays q other = live_closed child q (map (λ x. cond (bytes_eq x.uuid into) (take_all x) x) w.packages) other ∙ live_changed take_all into q w.packages (λ x. refl)
 
     depth_stays : (q : List ℕ) → bytes_eq q child ≡ false → (holdings next q).depth ≡ (holdings w q).depth
-    depth_stays = by_place (λ q. bytes_eq q child ≡ false → (holdings next q).depth ≡ (holdings w q).depth) (λ other. absurd (true≢false (sym (bytes_eq_itself child) ∙ other))) (λ _. ap (λ x. x.depth) at_into) (λ q a b _. ap (λ x. x.depth) (at_other q a b))
+    depth_stays = by_two_places child into (λ q. bytes_eq q child ≡ false → (holdings next q).depth ≡ (holdings w q).depth) (λ other. absurd (true≢false (sym (bytes_eq_itself child) ∙ other))) (λ _. ap (λ x. x.depth) at_into) (λ q a b _. ap (λ x. x.depth) (at_other q a b))
 
     parent_stays : (x : Package) → ends_at x.parent child ≡ false → HasParent w x → HasParent next x
     parent_stays x away h = parent_moves w next x.parent x.depth x.loan (λ q here live.
@@ -540,7 +516,7 @@ module _ (w : World) (id moment child into : List ℕ) (ticket : ℤ) (types : H
       frame = register.frame;
       arranged = distinct_next;
       archive = one_archive;
-      packages = all_live_at next (IsKeptPackage next) distinct_next (by_place (λ q. is_live next q ≡ true → IsKeptPackage next (holdings next q))
+      packages = all_live_at next (IsKeptPackage next) distinct_next (by_two_places child into (λ q. is_live next q ≡ true → IsKeptPackage next (holdings next q))
           (λ live. absurd (true≢false (sym live ∙ gone)))
           (λ _. subst (IsKeptPackage next) (sym at_into) kept_merged)
           (λ q a b live.

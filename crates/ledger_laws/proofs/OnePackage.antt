@@ -1,14 +1,13 @@
 -- A command that changes the items and links of one package keeps the account.
-use Rattle.std.specs.Prelude.{◌≡◌, ⊤, ℕ, ◌+◌, ◌<◌, ◌==◌, Bool, true, false, cond, ◌&&◌, ◌||◌, List, [], ◌∷◌, ◌++◌, length, refl, bytes_eq, Option, Some, None, unwrap_or, sum_by, flat_map, MatchOption}
+use Rattle.std.specs.Prelude.{◌≡◌, ℕ, ◌+◌, ◌<◌, true, false, cond, ◌&&◌, List, [], ◌∷◌, ◌++◌, length, refl, bytes_eq, Some, unwrap_or, sum_by, flat_map}
 use Rattle.std.proofs.Common.{sym, ap, subst, ◌∙◌, arith}
 use Rattle.std.proofs.lemmas.Bool.{true≢false, false≢true, and_parts}
-use Rattle.std.proofs.lemmas.Slice.Eq.{bytes_eq-Decides}
 use Rattle.std.specs.List.{list_any, AllByRecursion}
 use Rattle.sheet_types.specs.Ordered.{IsArranged}
 use Rattle.sheet_types.specs.Texts.{Entry}
 use Rattle.sheet_types.specs.Lines.{entry_from}
 use Rattle.sheet_types.specs.World.{World, Package, package_key, receipt_key, receipts_of, holdings, is_live, changed, with_receipt}
-use Rattle.sheet_types.specs.Custody.{ends_at, is_merge, is_split, after}
+use Rattle.sheet_types.specs.Custody.{ends_at, is_merge, is_split}
 use Rattle.ledger_laws.proofs.Contents.{NoneAltered, IsUnaltered, each_unaltered, none_altered, unaltered_more}
 use Rattle.sheet_types.specs.Balance.{Balanced, MayFollow, archive_of, IsLoan, stands_in}
 use Rattle.sheet_types.specs.Register.{IsRegister, IsKeptPackage, HasParent}
@@ -16,15 +15,15 @@ use Rattle.sheet_types.specs.declared.command.Item.{Item}
 use Rattle.sheet_types.specs.declared.command.Relation.{Relation}
 use Rattle.sheet_types.specs.declared.receipt.Moved.{Moved}
 use Rattle.sheet_types.specs.declared.receipt.Receipt.{Receipt}
-use Rattle.sheet_types.proofs.Order.{All-put, list_any-put, All-of_arranged}
+use Rattle.sheet_types.proofs.Order.{All-put, All-of_arranged}
 use Rattle.sheet_types.proofs.Basics.{bytes_eq_itself, bytes_eq_swap}
 use Rattle.sheet_types.proofs.Every.{All-weaker}
-use Rattle.ledger_laws.proofs.Packages.{archive_stays, receipts_gained, with_receipt_gains, AllStand, stand_at, stand_all, holdings_changed, changed_arranged, All-changed}
-use Rattle.ledger_laws.proofs.Ledger.{ledger_numbers, none_after}
+use Rattle.ledger_laws.proofs.Packages.{by_place, archive_stays, receipts_gained, with_receipt_gains, AllStand, stand_at, stand_all, holdings_changed, changed_arranged, All-changed}
+use Rattle.ledger_laws.proofs.Ledger.{ledger_numbers}
 use Rattle.ledger_laws.proofs.Shifting.{weighed, goes, SeesKeys, Shift, balance_kept, flat_stand}
 use Rattle.ledger_laws.proofs.Facts.{kept_at, holds_once}
 use Rattle.sheet_types.specs.Refuse.{is_archive}
-use Rattle.ledger_laws.proofs.Keeping.{live_changed, parent_moves, receipts_kept, sum_by-changed, all_live_at, package_moves, open_kept}
+use Rattle.ledger_laws.proofs.Keeping.{made_by, loan_stays, made_among_more, live_changed, parent_moves, receipts_kept, sum_by-changed, all_live_at, package_moves, open_kept}
 
 -- ---- one package is changed
 
@@ -54,18 +53,11 @@ module _ (w : World) (p : List ℕ) (r : Receipt) (e : Entry) (items : Package �
     pub at_other : (q : List ℕ) → bytes_eq q p ≡ false → holdings next q ≡ holdings w q
     at_other q b = at_next q ∙ ap (λ v. cond v (change (holdings w p)) (holdings w q)) b
 
-    by_place : (P : List ℕ → Type 0) → P p → ((q : List ℕ) → bytes_eq q p ≡ false → P q) → (q : List ℕ) → P q
-    by_place P i o q =
-        elim (bytes_eq q p) as (λ v. bytes_eq q p ≡ v → P q) [
-          | true ↦ λ same. subst P (sym ((bytes_eq-Decides q p).0 same)) i
-          | false ↦ λ b. o q b
-        ] refl
-
     pub distinct_next : IsArranged package_key next.packages
     distinct_next = changed_arranged change p w.packages (λ x. refl) register.arranged
 
     shifts : (c : Moved → ℕ) → SeesKeys c → (q : List ℕ) → weighed c (holdings next q) + cond (ends_at r.source q) (sum_by c r.items) 0 ≡ weighed c (holdings w q) + cond (ends_at r.target q) (sum_by c r.items) 0
-    shifts c sees = by_place (λ q. weighed c (holdings next q) + cond (ends_at r.source q) (sum_by c r.items) 0 ≡ weighed c (holdings w q) + cond (ends_at r.target q) (sum_by c r.items) 0)
+    shifts c sees = by_place p (λ q. weighed c (holdings next q) + cond (ends_at r.source q) (sum_by c r.items) 0 ≡ weighed c (holdings w q) + cond (ends_at r.target q) (sum_by c r.items) 0)
         (rw at_p (fits.shifts c sees))
         (λ q b. let away : (ends_at r.source q ≡ false) × (ends_at r.target q ≡ false) = fits.elsewhere q (bytes_eq_swap p q ∙ b) in rw (at_other q b, away.0, away.1) refl)
 
@@ -73,7 +65,7 @@ module _ (w : World) (p : List ℕ) (r : Receipt) (e : Entry) (items : Package �
     goes_same u = ap (λ b. cond (b && ends_at r.source u) (unwrap_or r.target []) u) fits.no_merge
 
     carry : (Q : List ℕ → Receipt → Type 0) → AllStand (λ u s. Q (goes r u) s) w → Q (stands_in e) r → AllStand Q next
-    carry Q h g = stand_all Q next distinct_next (by_place (λ q. AllByRecursion (Q q) (holdings next q).receipts)
+    carry Q h g = stand_all Q next distinct_next (by_place p (λ q. AllByRecursion (Q q) (holdings next q).receipts)
         (subst (λ x. AllByRecursion (Q p) x.receipts) (sym at_p) (All-put receipt_key (Q p) r (holdings w p).receipts (subst (λ u. Q u r) fits.stands g) (there p)))
         (λ q b. subst (λ x. AllByRecursion (Q q) x.receipts) (sym (at_other q b)) (there q)))
       where
@@ -90,30 +82,12 @@ module _ (w : World) (p : List ℕ) (r : Receipt) (e : Entry) (items : Package �
     shift = record { receipts = receipts; archive = archive_stays change p w (λ x. refl) (λ x. refl); may = fits.may; shifts = shifts }
 
     loan_kept : (x : Package) → IsLoan w x → IsLoan next x
-    loan_kept x h = at_parent x.parent h
+    loan_kept x h = loan_stays w next r x receipts (ap (λ b. b && ends_at r.source x.uuid) fits.no_merge) (λ q _. made_there q) h
       where
-        made : Receipt → Bool
-        made s = is_split s && ends_at s.target x.uuid && (s.seq == x.loan)
-
-        ended : Receipt → Bool
-        ended m = is_merge m && ends_at m.source x.uuid
-
-        or_last : (a b : Bool) → b ≡ true → (a || b) ≡ true
-        or_last true b h = refl
-        or_last false b h = h
-
-        made_there : (q : List ℕ) → list_any made (holdings w q).receipts ≡ true → list_any made (holdings next q).receipts ≡ true
-        made_there = by_place (λ q. list_any made (holdings w q).receipts ≡ true → list_any made (holdings next q).receipts ≡ true)
-            (λ h. ap (λ y. list_any made y.receipts) at_p ∙ list_any-put receipt_key made r (holdings w p).receipts ∙ or_last (made r) (list_any made (holdings w p).receipts) h)
-            (λ q b h. ap (λ y. list_any made y.receipts) (at_other q b) ∙ h)
-
-        at_parent : (o : Option (List ℕ)) → MatchOption o ⊤ (λ parent. (list_any made (holdings w parent).receipts ≡ true) × (list_any ended (after x.loan (receipts_of w)) ≡ false))
-            → MatchOption o ⊤ (λ parent. (list_any made (holdings next parent).receipts ≡ true) × (list_any ended (after x.loan (receipts_of next)) ≡ false))
-        at_parent None h = tt
-        at_parent (Some parent) h = (
-          made_there parent h.0,
-          ap (λ rs. list_any ended (after x.loan rs)) receipts ∙ none_after ended x.loan (receipts_of w) r (ap (λ b. b && ends_at r.source x.uuid) fits.no_merge) h.1,
-        )
+        made_there : (q : List ℕ) → list_any (made_by x) (holdings w q).receipts ≡ true → list_any (made_by x) (holdings next q).receipts ≡ true
+        made_there = by_place p (λ q. list_any (made_by x) (holdings w q).receipts ≡ true → list_any (made_by x) (holdings next q).receipts ≡ true)
+            (λ h. ap (λ y. list_any (made_by x) y.receipts) at_p ∙ made_among_more x r (holdings w p).receipts h)
+            (λ q b h. ap (λ y. list_any (made_by x) y.receipts) (at_other q b) ∙ h)
 
     pub balance_after : Balanced next
     balance_after = balance_kept w next r e fits.says shift register.balanced (holds_once w register) carry (λ m. absurd (true≢false (sym m ∙ fits.no_merge)))
@@ -134,7 +108,7 @@ module _ (w : World) (p : List ℕ) (r : Receipt) (e : Entry) (items : Package �
     live_same q = live_changed change p q w.packages (λ x. refl)
 
     depth_same : (q : List ℕ) → (holdings next q).depth ≡ (holdings w q).depth
-    depth_same = by_place (λ q. (holdings next q).depth ≡ (holdings w q).depth) (ap (λ x. x.depth) at_p) (λ q b. ap (λ x. x.depth) (at_other q b))
+    depth_same = by_place p (λ q. (holdings next q).depth ≡ (holdings w q).depth) (ap (λ x. x.depth) at_p) (λ q b. ap (λ x. x.depth) (at_other q b))
 
     parent_stays : (x : Package) → HasParent w x → HasParent next x
     parent_stays x h = parent_moves w next x.parent x.depth x.loan (λ q _ live. (live_same q ∙ live, depth_same q)) h
@@ -151,7 +125,7 @@ module _ (w : World) (p : List ℕ) (r : Receipt) (e : Entry) (items : Package �
       frame = register.frame;
       arranged = distinct_next;
       archive = sum_by-changed change (λ x. cond (is_archive x) 1 0) p w.packages (λ x. refl) ∙ register.archive;
-      packages = all_live_at next (IsKeptPackage next) distinct_next (by_place (λ q. is_live next q ≡ true → IsKeptPackage next (holdings next q))
+      packages = all_live_at next (IsKeptPackage next) distinct_next (by_place p (λ q. is_live next q ≡ true → IsKeptPackage next (holdings next q))
           (λ _. subst (IsKeptPackage next) (sym at_p) changed')
           (λ q b live.
           let k : IsKeptPackage w (holdings w q) = kept_at w q register (sym (live_same q) ∙ live) in

@@ -19,6 +19,18 @@ use Rattle.sheet_types.proofs.Found.{found, not_found, All-found}
 use Rattle.sheet_types.proofs.Order.{before_numbers, put_last, All-of_arranged, arranged_last, counts_arranged, filter_arranged}
 use Rattle.sheet_types.proofs.Without.{is_one, take_one}
 
+-- what holds at one place and at every other holds at all
+pub by_place : (p : List ℕ) (P : List ℕ → Type 0) → P p → ((q : List ℕ) → bytes_eq q p ≡ false → P q) → (q : List ℕ) → P q
+by_place p P here elsewhere q =
+    elim (bytes_eq q p) as (λ v. bytes_eq q p ≡ v → P q) [
+      | true ↦ λ same. subst P (sym ((bytes_eq-Decides q p).0 same)) here
+      | false ↦ λ other. elsewhere q other
+    ] refl
+
+-- the same of two places
+pub by_two_places : (a b : List ℕ) (P : List ℕ → Type 0) → P a → P b → ((q : List ℕ) → bytes_eq q a ≡ false → bytes_eq q b ≡ false → P q) → (q : List ℕ) → P q
+by_two_places a b P first second elsewhere = by_place a P first (by_place b (λ q. bytes_eq q a ≡ false → P q) (λ _. second) (λ q not_b not_a. elsewhere q not_a not_b))
+
 -- the package of this UUID
 abbrev pub at_uuid : List ℕ → Package → Bool
 at_uuid p x = bytes_eq x.uuid p

@@ -1,5 +1,5 @@
 -- A split keeps the account, whatever its mode.
-use Rattle.std.specs.Prelude.{◌≡◌, ⊤, ℕ, ◌+◌, ◌≤◌, ◌<◌, ◌==◌, Bool, true, false, cond, not, ◌&&◌, ◌||◌, List, [], ◌∷◌, ◌++◌, map, filter, find, length, refl, bytes_eq, Option, Some, None, sum_by, flat_map, MatchOption, is_none, is_some, nat_le}
+use Rattle.std.specs.Prelude.{◌≡◌, ⊤, ℕ, ◌+◌, ◌≤◌, ◌<◌, ◌==◌, Bool, true, false, cond, not, ◌&&◌, ◌||◌, List, [], ◌∷◌, ◌++◌, map, filter, find, length, refl, bytes_eq, Some, None, sum_by, flat_map, MatchOption, is_none, is_some, nat_le}
 use Rattle.std.specs.Option.{option_map_or}
 use Rattle.std.proofs.Common.{sym, ap, subst, ◌∙◌, arith}
 use Rattle.std.proofs.lemmas.Bool.{true≢false, false≢true, and_from, or_parts, false_from_ne_true}
@@ -34,8 +34,8 @@ use Rattle.sheet_types.proofs.Order.{All-put, All-of_arranged, list_any-put, fil
 use Rattle.sheet_types.proofs.Basics.{bytes_eq_itself, not_false, and_true, bytes_eq_swap}
 use Rattle.sheet_types.proofs.Every.{All-weaker, none_pass, none_any, All-filter}
 use Rattle.ledger_laws.proofs.Accepting.{rows_fail, new_identity, keeps}
-use Rattle.ledger_laws.proofs.Packages.{archive_stays, receipts_gained, with_receipt_gains, AllStand, at_uuid, at_all, stand_at, stand_all, holdings_none, holdings_changed, holdings_enlarged, changed_arranged, All-changed, flat_put}
-use Rattle.ledger_laws.proofs.Ledger.{ledger_numbers, none_after, none_later}
+use Rattle.ledger_laws.proofs.Packages.{by_two_places, archive_stays, receipts_gained, with_receipt_gains, AllStand, at_uuid, at_all, stand_at, stand_all, holdings_none, holdings_changed, holdings_enlarged, changed_arranged, All-changed, flat_put}
+use Rattle.ledger_laws.proofs.Ledger.{ledger_numbers, none_later}
 use Rattle.sheet_types.proofs.Found.{found, All-found}
 use Rattle.sheet_types.proofs.Sums.{sum_by-parts, count_none}
 use Rattle.sheet_types.proofs.Without.{rest_of}
@@ -45,7 +45,7 @@ use Rattle.ledger_laws.proofs.Merging.{weigh_moved, lent_to}
 use Rattle.std.proofs.lemmas.Bool.Decides.{nat_tests}
 use Rattle.sheet_types.specs.declared.command.Command.TheVariants.{Split}
 use Rattle.ledger_laws.proofs.CutEnds.{GoesWhole, strict_whole, follow_whole}
-use Rattle.ledger_laws.proofs.Keeping.{filtered_kept, live_changed, parent_moves, package_moves, receipts_kept, sum_by-changed, all_live_at, open_kept}
+use Rattle.ledger_laws.proofs.Keeping.{made_by, loan_stays, made_among_more, filtered_kept, live_changed, parent_moves, package_moves, receipts_kept, sum_by-changed, all_live_at, open_kept}
 
 -- a cut takes by a test of the items and a test of the links
 record ByTests (x : Package) (c : Cut) : Type 0 where
@@ -186,16 +186,6 @@ module _ (w : World) (id moment p child : List ℕ) (mode : Mode) (rect : Rect) 
     at_other : (q : List ℕ) → bytes_eq q child ≡ false → bytes_eq q p ≡ false → holdings next q ≡ holdings w q
     at_other q a b = at_next q ∙ ap (λ v. cond v loan (cond (bytes_eq q p) (give (holdings w p)) (holdings w q))) (bytes_eq_swap child q ∙ a) ∙ ap (λ v. cond v (give (holdings w p)) (holdings w q)) b
 
-    by_place : (P : List ℕ → Type 0) → P child → P p → ((q : List ℕ) → bytes_eq q child ≡ false → bytes_eq q p ≡ false → P q) → (q : List ℕ) → P q
-    by_place P c i o q =
-        elim (bytes_eq q child) as (λ v. bytes_eq q child ≡ v → P q) [
-          | true ↦ λ same. subst P (sym ((bytes_eq-Decides q child).0 same)) c
-          | false ↦ λ a. elim (bytes_eq q p) as (λ v. bytes_eq q p ≡ v → P q) [
-            | true ↦ λ same. subst P (sym ((bytes_eq-Decides q p).0 same)) i
-            | false ↦ λ b. o q a b
-          ] refl
-        ] refl
-
     distinct_next : IsArranged package_key next.packages
     distinct_next = put_arranged package_key loan (map (λ x. cond (bytes_eq x.uuid p) (give x) x) w.packages) (changed_arranged give p w.packages (λ x. refl) register.arranged)
         (All-changed give p (λ x. bytes_eq x.uuid child ≡ false) (λ x. bytes_eq x.uuid child ≡ false) (λ x _ h. h) (λ x h. h) w.packages none_child)
@@ -204,7 +194,7 @@ module _ (w : World) (id moment p child : List ℕ) (mode : Mode) (rect : Rect) 
     shifts c =
         let n : ℕ = sum_by c receipt.items in
         let all : n ≡ sum_by (λ i. c (item_moved i)) taken.items + sum_by (λ l. c (link_moved l)) taken.links = weigh_moved c taken.items taken.links in
-        by_place (λ q. weighed c (holdings next q) + cond (bytes_eq p q) n 0 ≡ weighed c (holdings w q) + cond (bytes_eq child q) n 0)
+        by_two_places child p (λ q. weighed c (holdings next q) + cond (bytes_eq p q) n 0 ≡ weighed c (holdings w q) + cond (bytes_eq child q) n 0)
         (rw (at_child, holdings_none w child child_dead, bytes_eq_itself child, apart) (omega (arith, all)))
         (rw (at_p, bytes_eq_itself p, bytes_eq_swap child p ∙ apart) (omega (
           arith,
@@ -220,7 +210,7 @@ module _ (w : World) (id moment p child : List ℕ) (mode : Mode) (rect : Rect) 
     carry : (Q : List ℕ → Receipt → Type 0) → AllStand (λ u s. Q (goes receipt u) s) w → Q p receipt → AllStand Q next
     carry Q moved g =
         let h : AllStand Q w = All-weaker (λ x. AllByRecursion (Q (goes receipt x.uuid)) x.receipts) (λ x. AllByRecursion (Q x.uuid) x.receipts) (λ x. subst (λ u. AllByRecursion (Q u) x.receipts) (goes_same x.uuid)) w.packages moved in
-        stand_all Q next distinct_next (by_place (λ q. AllByRecursion (Q q) (holdings next q).receipts)
+        stand_all Q next distinct_next (by_two_places child p (λ q. AllByRecursion (Q q) (holdings next q).receipts)
         (subst (λ x. AllByRecursion (Q child) x.receipts) (sym at_child) tt)
         (subst (λ x. AllByRecursion (Q p) x.receipts) (sym at_p) (All-put receipt_key (Q p) receipt (holdings w p).receipts g (stand_at Q w p h)))
         (λ q a b. subst (λ x. AllByRecursion (Q q) x.receipts) (sym (at_other q a b)) (stand_at Q w q h)))
@@ -273,31 +263,13 @@ module _ (w : World) (id moment p child : List ℕ) (mode : Mode) (rect : Rect) 
     -- ---- loans
 
     loan_kept : (x : Package) → IsLoan w x → IsLoan next x
-    loan_kept x h = at_parent x.parent h
+    loan_kept x h = loan_stays w next receipt x receipts (ap (λ b. b && ends_at receipt.source x.uuid) no_merge) (λ q _. made_there q) h
       where
-        made : Receipt → Bool
-        made r = is_split r && ends_at r.target x.uuid && (r.seq == x.loan)
-
-        ended : Receipt → Bool
-        ended m = is_merge m && ends_at m.source x.uuid
-
-        or_last : (a b : Bool) → b ≡ true → (a || b) ≡ true
-        or_last true b h = refl
-        or_last false b h = h
-
-        made_there : (q : List ℕ) → list_any made (holdings w q).receipts ≡ true → list_any made (holdings next q).receipts ≡ true
-        made_there = by_place (λ q. list_any made (holdings w q).receipts ≡ true → list_any made (holdings next q).receipts ≡ true)
-            (λ h. absurd (false≢true (sym (ap (λ y. list_any made y.receipts) (holdings_none w child child_dead)) ∙ h)))
-            (λ h. ap (λ y. list_any made y.receipts) at_p ∙ list_any-put receipt_key made receipt (holdings w p).receipts ∙ or_last (made receipt) (list_any made (holdings w p).receipts) h)
-            (λ q a b h. ap (λ y. list_any made y.receipts) (at_other q a b) ∙ h)
-
-        at_parent : (o : Option (List ℕ)) → MatchOption o ⊤ (λ parent. (list_any made (holdings w parent).receipts ≡ true) × (list_any ended (after x.loan (receipts_of w)) ≡ false))
-            → MatchOption o ⊤ (λ parent. (list_any made (holdings next parent).receipts ≡ true) × (list_any ended (after x.loan (receipts_of next)) ≡ false))
-        at_parent None h = tt
-        at_parent (Some parent) h = (
-          made_there parent h.0,
-          ap (λ rs. list_any ended (after x.loan rs)) receipts ∙ none_after ended x.loan (receipts_of w) receipt (ap (λ b. b && ends_at receipt.source x.uuid) no_merge) h.1,
-        )
+        made_there : (q : List ℕ) → list_any (made_by x) (holdings w q).receipts ≡ true → list_any (made_by x) (holdings next q).receipts ≡ true
+        made_there = by_two_places child p (λ q. list_any (made_by x) (holdings w q).receipts ≡ true → list_any (made_by x) (holdings next q).receipts ≡ true)
+            (λ h. absurd (false≢true (sym (ap (λ y. list_any (made_by x) y.receipts) (holdings_none w child child_dead)) ∙ h)))
+            (λ h. ap (λ y. list_any (made_by x) y.receipts) at_p ∙ made_among_more x receipt (holdings w p).receipts h)
+            (λ q a b h. ap (λ y. list_any (made_by x) y.receipts) (at_other q a b) ∙ h)
 
     new_loan : IsLoan next loan
     new_loan = (
@@ -354,7 +326,7 @@ module _ (w : World) (id moment p child : List ℕ) (mode : Mode) (rect : Rect) 
         not_child z h = false_from_ne_true (bytes_eq z child) (λ same. true≢false (sym h ∙ ap (is_live w) ((bytes_eq-Decides z child).0 same) ∙ child_dead))
 
     depth_stays : (q : List ℕ) → is_live w q ≡ true → (holdings next q).depth ≡ (holdings w q).depth
-    depth_stays = by_place (λ q. is_live w q ≡ true → (holdings next q).depth ≡ (holdings w q).depth) (λ live. absurd (true≢false (sym live ∙ child_dead))) (λ _. ap (λ x. x.depth) at_p) (λ q a b _. ap (λ x. x.depth) (at_other q a b))
+    depth_stays = by_two_places child p (λ q. is_live w q ≡ true → (holdings next q).depth ≡ (holdings w q).depth) (λ live. absurd (true≢false (sym live ∙ child_dead))) (λ _. ap (λ x. x.depth) at_p) (λ q a b _. ap (λ x. x.depth) (at_other q a b))
 
     parent_stays : (x : Package) → HasParent w x → HasParent next x
     parent_stays x h = parent_moves w next x.parent x.depth x.loan (λ q _ live. (live_then q live, depth_stays q live)) h
@@ -384,7 +356,7 @@ module _ (w : World) (id moment p child : List ℕ) (mode : Mode) (rect : Rect) 
       frame = register.frame;
       arranged = distinct_next;
       archive = omega (arith, sum_by-put package_key (λ x. cond (is_archive x) 1 0) loan (map (λ x. cond (bytes_eq x.uuid p) (give x) x) w.packages), sum_by-changed give (λ x. cond (is_archive x) 1 0) p w.packages (λ x. refl), register.archive);
-      packages = all_live_at next (IsKeptPackage next) distinct_next (by_place (λ q. is_live next q ≡ true → IsKeptPackage next (holdings next q))
+      packages = all_live_at next (IsKeptPackage next) distinct_next (by_two_places child p (λ q. is_live next q ≡ true → IsKeptPackage next (holdings next q))
           (λ _. subst (IsKeptPackage next) (sym at_child) kept_loan)
           (λ _. subst (IsKeptPackage next) (sym at_p) kept_rest)
           (λ q a b live.

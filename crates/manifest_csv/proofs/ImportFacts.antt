@@ -1,42 +1,25 @@
 -- An import, reply by reply.
-use Rattle.std.proofs.Common.{◌≡◌, ◌∙◌, refl, sym, ap, subst, ℕ, zero, suc, ◌+◌, ◌-◌, ◌<◌, ◌≤◌, List, [], ◌∷◌, ◌++◌, take, drop, length, get_or, length-append, true, Option, IfSome, Result, Ok, Err, arith}
+use Rattle.std.proofs.Common.{◌≡◌, ◌∙◌, refl, sym, ap, subst, ℕ, zero, suc, ◌+◌, ◌-◌, ◌<◌, ◌≤◌, List, [], ◌∷◌, ◌++◌, take, drop, length, get_or, length-append, Option, IfSome, Result, Ok, Err, arith}
 use Rattle.std.specs.List.{AllByRecursion}
 use Rattle.std.specs.Io.KnownBytes.{Appends}
 use Rattle.std.proofs.lemmas.List.{take_more}
 use Rattle.std.proofs.Math.Seq.{take-append_seam}
 use Rattle.std.proofs.KnownBytes.{Appends-trans, Appends-nil}
 use Rattle.sqlite.specs.Store.{Ghosts}
-use Rattle.sheet_types.specs.declared.command.Command.{Command}
-use Rattle.sheet_types.specs.declared.command.Command.TheVariants.{Add, Delete, Link, Unlink, Split, Merge}
 use Rattle.sheet_types.specs.declared.command.Request.{Request}
 use Rattle.sheet_types.specs.declared.receipt.Receipt.{Receipt}
 use Rattle.sheet_types.specs.declared.refusal.Refusal.{Refusal}
 use Rattle.sheet_types.proofs.Every.{All-snoc}
-use Rattle.world.specs.Laws.{IsServed}
 use Rattle.world.specs.Worlds.{Seen, IsRun}
 use Rattle.world.proofs.Running.{IsApplied, run_none, run_more}
 use Rattle.manifest_csv.specs.Imports.{Ends, GoesOn, IsReported, IsImported, Imports, lines_before, report_before}
 use Rattle.manifest_csv.specs.Reports.{report_header, report_line, report_lines, report_of}
-use Rattle.manifest_csv.specs.RequestLists.{AreServed, IsList}
-use Rattle.manifest_csv.specs.Requests.{is_served}
+use Rattle.manifest_csv.specs.RequestLists.{IsList}
 use Rattle.manifest_csv.specs.Sent.{WentOut, WentOutPast}
 use Rattle.manifest_csv.specs.declared.importing.ImportFault.{ImportFault}
 use Rattle.manifest_csv.specs.declared.importing.ImportFault.TheVariants.{Unread, Stopped, Unwritten}
 use Rattle.manifest_csv.proofs.ReportFacts.{lines_more}
 use Rattle.manifest_csv.proofs.SentFacts.{went_out_after, went_out_of, went_out_past, past_after}
-
--- a command that a list can ask for is one that a world serves
-served : (command : Command) → is_served command ≡ true → IsServed command
-served (Add uuid identity content) h = tt
-served (Delete uuid identity) h = tt
-served (Link uuid mapping base media) h = tt
-served (Unlink uuid mapping base media) h = tt
-served (Split uuid child mode rect) h = absurd (let e = h in cc)
-served (Merge child into ticket) h = absurd (let e = h in cc)
-
-pub all_served : (requests : List Request) → AreServed requests → AllByRecursion (λ q. IsServed q.command) requests
-all_served [] h = tt
-all_served (q ∷ qs) h = (served q.command h.0, all_served qs h.1)
 
 -- what is left begins with the next
 drop_next : {X : Type 0} (xs : List X) (n : ℕ) (d : X) → n < length xs → drop n xs ≡ get_or xs n d ∷ drop (n + 1) xs
@@ -124,15 +107,6 @@ module _ {S : Type 0} (g : Ghosts S) where
   pub none_yet : (requests : List Request) (seen : Seen S) (at : Option (List ℕ)) → SoFar requests 0 seen seen at at
   unfolding report_lines
   none_yet requests seen at = record { replies = []; counted = refl; ran = run_none g seen; goes_on = tt; written = Appends-nil at }
-
-  -- all of them
-  pub all_reported : (requests : List Request) (n : ℕ) (old new : Seen S) (before after : Option (List ℕ)) → SoFar requests n old new before after → n ≡ length requests → IsReported g requests old new before after (Ok tt)
-  all_reported requests n old new before after it whole = record {
-    replies = it.replies;
-    some = omega (arith, it.counted, whole);
-    ran = subst (λ k. IsRun g (take k requests) old it.replies new) (sym it.counted) it.ran;
-    written = (it.counted ∙ whole, it.goes_on, it.written);
-  }
 
   -- the header before the lines
   pub after_header : (requests : List Request) (old new : Seen S) (before mid after : Option (List ℕ)) (r : Result (Unit {0}) ImportFault) → Appends before mid report_header → IsReported g requests old new mid after r → IsImported g requests old new before after r

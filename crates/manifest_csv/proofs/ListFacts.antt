@@ -6,7 +6,8 @@ use Rattle.std.proofs.lemmas.List.FromFn.{length-enumerate_from, get_or-enumerat
 use Rattle.csv.specs.Records.{field_at}
 use Rattle.sheet_types.specs.declared.command.Request.{Request}
 use Rattle.manifest_csv.specs.Requests.{IsTextAt}
-use Rattle.manifest_csv.specs.RequestLists.{AreServed, Asks, IsFaultFrom}
+use Rattle.world.specs.Laws.{AreServed}
+use Rattle.manifest_csv.specs.RequestLists.{Asks, IsFaultFrom}
 use Rattle.manifest_csv.specs.declared.lists.ReadFault.{ReadFault}
 use Rattle.manifest_csv.specs.declared.lists.ReadFault.TheVariants.{Memory}
 

@@ -5,6 +5,7 @@ use Rattle.std.specs.List.{list_all}
 use Rattle.std.specs.Str.{IsUtf8}
 use Rattle.std.proofs.lemmas.Bool.{and_parts}
 use Rattle.std.proofs.lemmas.Str.{IsUtf8-from_ascii}
+use Rattle.sheet_types.proofs.Basics.{some_once}
 use Rattle.sheet_types.proofs.Digits.{IsAscii-from_test}
 use Rattle.csv.specs.Reading.{AreRecords, Reached}
 use Rattle.csv.specs.Records.{AllText}
@@ -16,10 +17,6 @@ use Rattle.manifest_csv.specs.RequestLists.{AreList, Asks, IsFaultFrom, IsFaultO
 use Rattle.manifest_csv.specs.ListLaws.{HasOneList, ListHasNoFault, OneIsFirst}
 use Rattle.manifest_csv.specs.declared.lists.ReadFault.{ReadFault}
 use Rattle.manifest_csv.proofs.OneRequest.{same_request}
-
-some_once : {A : Type 0} (o : Option A) (x y : A) → o ≡ Some x → o ≡ Some y → x ≡ y
-some_once None x y e f = cc
-some_once (Some z) x y e f = cc
 
 never_both : {A : Type 0} (o : Option A) (x : A) → o ≡ Some x → o ≡ None → ⊥
 never_both None x e f = cc

@@ -1,8 +1,9 @@
 -- A record is one request at most.
-use Rattle.std.proofs.Common.{◌≡◌, ℕ, ℤ, List, Option, Some, None, Result, Ok, Err, false, nat_eq, get_or, IsTrue, ap, refl, arith}
+use Rattle.std.proofs.Common.{◌≡◌, ℕ, ℤ, List, Option, Some, Result, Ok, Err, false, nat_eq, get_or, ap, refl, arith}
 use Rattle.std.proofs.lemmas.Bool.Decides.{nat_tests}
 use Rattle.std.proofs.lemmas.Fmt.{signed_decimal_injective}
 use Rattle.hex.specs.Hex.{decode_of}
+use Rattle.sheet_types.proofs.Basics.{some_once}
 use Rattle.sheet_types.specs.Texts.{mapping_word}
 use Rattle.sheet_types.specs.declared.command.Content.{Content}
 use Rattle.sheet_types.specs.declared.command.Content.TheVariants.{Tile, Media, Row}
@@ -11,12 +12,9 @@ use Rattle.sheet_types.specs.declared.command.Command.TheVariants.{Add, Delete, 
 use Rattle.sheet_types.specs.declared.command.Mapping.{Mapping}
 use Rattle.sheet_types.specs.declared.command.Mapping.TheVariants.{TilesMedia, RowsMedia}
 use Rattle.sheet_types.specs.declared.command.Request.{Request}
-use Rattle.manifest_csv.specs.Requests.{IsCommand, IsContent, IsHexAt, IsNumberAt, IsTextAt, is_served}
+use Rattle.world.specs.Laws.{IsServed}
+use Rattle.manifest_csv.specs.Requests.{IsCommand, IsContent, IsHexAt, IsNumberAt, IsTextAt}
 use Rattle.manifest_csv.specs.RequestLists.{Asks}
-
-some_once : {A : Type 0} (o : Option A) (x y : A) → o ≡ Some x → o ≡ Some y → x ≡ y
-some_once None x y e f = cc
-some_once (Some z) x y e f = cc
 
 ok_once : {A E : Type 0} (r : Result A E) (x y : A) → r ≡ Ok x → r ≡ Ok y → x ≡ y
 ok_once (Ok z) x y e f = cc
@@ -59,7 +57,7 @@ same_content fields (Media t x) (Row x' y' k' l') one other = absurd (clash _ _ 
 same_content fields (Row x y k l) (Tile z' c' r' x') one other = absurd (clash _ _ _ one.0 other.0 refl)
 same_content fields (Row x y k l) (Media t' x') one other = absurd (clash _ _ _ one.0 other.0 refl)
 
-same_command : (fields : List (List ℕ)) (c d : Command) → IsTrue (is_served c) → IsTrue (is_served d) → IsCommand fields c → IsCommand fields d → c ≡ d
+same_command : (fields : List (List ℕ)) (c d : Command) → IsServed c → IsServed d → IsCommand fields c → IsCommand fields d → c ≡ d
 same_command fields (Add p i c) (Add p' i' c') s t one other = rw (some_once _ p p' one.1 other.1, some_once _ i i' one.2 other.2, same_content fields c c' one.3 other.3) refl
 same_command fields (Delete p i) (Delete p' i') s t one other = rw (some_once _ p p' one.1 other.1, some_once _ i i' one.2 other.2) refl
 same_command fields (Link p m b r) (Link p' m' b' r') s t one other =
@@ -78,16 +76,16 @@ same_command fields (Link p m b r) (Unlink p' m' b' r') s t one other = absurd (
 same_command fields (Unlink p m b r) (Add p' i' c') s t one other = absurd (clash _ _ _ one.0 other.0 refl)
 same_command fields (Unlink p m b r) (Delete p' i') s t one other = absurd (clash _ _ _ one.0 other.0 refl)
 same_command fields (Unlink p m b r) (Link p' m' b' r') s t one other = absurd (clash _ _ _ one.0 other.0 refl)
-same_command fields (Add p i c) (Split p' c' m' r') s t one other = absurd (cc)
-same_command fields (Add p i c) (Merge c' p' n') s t one other = absurd (cc)
-same_command fields (Delete p i) (Split p' c' m' r') s t one other = absurd (cc)
-same_command fields (Delete p i) (Merge c' p' n') s t one other = absurd (cc)
-same_command fields (Link p m b r) (Split p' c' m' r') s t one other = absurd (cc)
-same_command fields (Link p m b r) (Merge c' p' n') s t one other = absurd (cc)
-same_command fields (Unlink p m b r) (Split p' c' m' r') s t one other = absurd (cc)
-same_command fields (Unlink p m b r) (Merge c' p' n') s t one other = absurd (cc)
-same_command fields (Split p c m r) d s t one other = absurd (cc)
-same_command fields (Merge c p n) d s t one other = absurd (cc)
+same_command fields (Add p i c) (Split p' c' m' r') s t one other = absurd t
+same_command fields (Add p i c) (Merge c' p' n') s t one other = absurd t
+same_command fields (Delete p i) (Split p' c' m' r') s t one other = absurd t
+same_command fields (Delete p i) (Merge c' p' n') s t one other = absurd t
+same_command fields (Link p m b r) (Split p' c' m' r') s t one other = absurd t
+same_command fields (Link p m b r) (Merge c' p' n') s t one other = absurd t
+same_command fields (Unlink p m b r) (Split p' c' m' r') s t one other = absurd t
+same_command fields (Unlink p m b r) (Merge c' p' n') s t one other = absurd t
+same_command fields (Split p c m r) d s t one other = absurd s
+same_command fields (Merge c p n) d s t one other = absurd s
 
 -- a record asks for one request at most
 pub same_request : (fields : List (List ℕ)) (a b : Request) → Asks fields a → Asks fields b → a ≡ b

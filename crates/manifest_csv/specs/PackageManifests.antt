@@ -5,17 +5,10 @@ use Rattle.sqlite.specs.Store.{Ghosts}
 use Rattle.sheet_types.specs.World.{World, is_live, holdings}
 use Rattle.world.specs.Members.{AllClean}
 use Rattle.world.specs.Worlds.{Seen, StandsFor}
-use Rattle.package_tables.specs.declared.fault.Fault.{Fault}
-use Rattle.package_tables.specs.declared.fault.Fault.TheVariants as fault
 use Rattle.manifest_csv.specs.Manifests.{manifest_of}
 use Rattle.manifest_csv.specs.Sent.{WentOut}
 use Rattle.manifest_csv.specs.declared.package_manifests.ManifestFault.{ManifestFault}
-use Rattle.manifest_csv.specs.declared.package_manifests.ManifestFault.TheVariants.{Unknown, Memory, Store, Unwritten}
-
--- how a fault of the store is told
-abbrev pub told_as : Fault → ManifestFault
-told_as fault.OutOfMemory = Memory
-told_as fault.StoreFault = Store
+use Rattle.manifest_csv.specs.declared.package_manifests.ManifestFault.TheVariants.{Unknown, Failed, Unwritten}
 
 -- the manifest of a package: its items, and then its links
 abbrev pub manifest : World → List ℕ → List ℕ
@@ -25,16 +18,14 @@ manifest w p = manifest_of (holdings w p).items (holdings w p).links
 abbrev pub WritesManifest : World → List ℕ → Option (List ℕ) → Option (List ℕ) → Result (Unit {0}) ManifestFault → Type 0
 WritesManifest w p before after (Ok x) = (is_live w p ≡ true) × Appends before after (manifest w p)
 WritesManifest w p before after (Err Unknown) = is_live w p ≡ false
-WritesManifest w p before after (Err Memory) = Unit {0}
-WritesManifest w p before after (Err Store) = Unit {0}
+WritesManifest w p before after (Err (Failed fault)) = Unit {0}
 WritesManifest w p before after (Err Unwritten) = (is_live w p ≡ true) × WentOut before after (manifest w p)
 
 -- Nothing is written where the manifest could not be made.
 abbrev pub WritesNothing : {W : Type 0} → W → W → Result (Unit {0}) ManifestFault → Type 0
 WritesNothing old new (Ok x) = Unit {0}
 WritesNothing old new (Err Unknown) = new ≡ old
-WritesNothing old new (Err Memory) = new ≡ old
-WritesNothing old new (Err Store) = new ≡ old
+WritesNothing old new (Err (Failed fault)) = new ≡ old
 WritesNothing old new (Err Unwritten) = Unit {0}
 
 -- The same of each world that a value stood for, where each disk has given back what was written.

@@ -1,12 +1,13 @@
 -- Which text is a list of which requests, and which fault of a text is met first (profile, over RFC 4180 as `csv` reads it).
-use Rattle.std.specs.Prelude.{◌≡◌, ◌≢◌, ◌⊎◌, ◌+◌, ℕ, IsTrue, List, [], ◌∷◌, length}
-use Rattle.std.specs.List.{AllByRecursion, AllZip}
+use Rattle.std.specs.Prelude.{◌≡◌, ◌≢◌, ◌⊎◌, ◌+◌, ℕ, List, [], ◌∷◌, length}
+use Rattle.std.specs.List.{AllZip}
 use Rattle.csv.specs.Reading.{AreRecords, Reached, default_config, strip_bom}
 use Rattle.csv.specs.Records.{AllText}
 use Rattle.csv.specs.declared.parser.State.{State}
 use Rattle.csv.specs.declared.parser.State.TheVariants as st
 use Rattle.sheet_types.specs.declared.command.Request.{Request}
-use Rattle.manifest_csv.specs.Requests.{header, IsRequest, is_served}
+use Rattle.world.specs.Laws.{IsServed}
+use Rattle.manifest_csv.specs.Requests.{header, IsRequest}
 use Rattle.manifest_csv.specs.declared.lists.ReadFault.{ReadFault}
 use Rattle.manifest_csv.specs.declared.lists.ReadFault.TheVariants.{Header, Record, Read}
 use Rattle.manifest_csv.specs.declared.records.Ending.{Ending}
@@ -18,15 +19,11 @@ IsReadable fields = AllText fields × (length fields ≡ 18)
 
 -- a record that is this request, whose command is served
 abbrev pub Asks : List (List ℕ) → Request → Type 0
-Asks fields request = IsReadable fields × IsRequest fields request × IsTrue (is_served request.command)
+Asks fields request = IsReadable fields × IsRequest fields request × IsServed request.command
 
 -- a record that can be judged, and is no request whose command is served
 abbrev pub AsksNothing : List (List ℕ) → Type 0
-AsksNothing fields = IsReadable fields × ((request : Request) → IsTrue (is_served request.command) → ¬ IsRequest fields request)
-
--- every command of these requests is served
-abbrev pub AreServed : List Request → Type 0
-AreServed requests = AllByRecursion (λ request. IsTrue (is_served request.command)) requests
+AsksNothing fields = IsReadable fields × ((request : Request) → IsServed request.command → ¬ IsRequest fields request)
 
 -- the header, and after it one record for each of these requests
 abbrev pub AreList : List (List (List ℕ)) → List Request → Type 0

@@ -1,5 +1,5 @@
 -- Which record of a list is which request (profile, over RFC 9562 for UUIDs).
-use Rattle.std.specs.Prelude.{◌≡◌, ℕ, Bool, true, false, ℤ, FitsSigned, All, List, [], ◌∷◌, length, Some, Ok, codes}
+use Rattle.std.specs.Prelude.{◌≡◌, ℕ, ℤ, FitsSigned, All, List, [], ◌∷◌, length, Some, Ok, codes}
 use Rattle.std.specs.Int.{w64}
 use Rattle.std.specs.Option.{option_and_then}
 use Rattle.std.specs.Fmt.{signed_decimal}
@@ -72,12 +72,3 @@ pub record IsRequest (fields : List (List ℕ)) (r : Request) : Type 0 where
   pub id : IsUuidAt fields 0 r.id
   pub at : IsTextAt fields 1 r.at
   pub command : IsCommand fields r.command
-
--- the commands that are served so far
-abbrev pub is_served : Command → Bool
-is_served (Add target identity content) = true
-is_served (Delete source identity) = true
-is_served (Link target mapping base media) = true
-is_served (Unlink source mapping base media) = true
-is_served (Split source child mode rect) = false
-is_served (Merge child into ticket) = false

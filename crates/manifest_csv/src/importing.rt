@@ -1,8 +1,7 @@
 // A request list, carried out by a world, and the report of it.
 ghost use Rattle.std.specs.Prelude.{◌≡◌, ◌≤◌};
-ghost use Rattle.std.specs.List.{AllByRecursion};
 ghost use Rattle.std.specs.String.{string_capacity};
-ghost use Rattle.world.specs.Laws.{IsServed};
+ghost use Rattle.world.specs.Laws.{AreServed};
 ghost use Rattle.manifest_csv.specs.Imports.{IsEndOf, IsReported, Imports};
 
 use crate::lists::{ReadFault, read_requests};
@@ -69,7 +68,7 @@ fn report_each<S: Alter + Drop, H: Shelf<S>, W: Write>(
     buffer: &mut String,
     writer: &mut W,
 ) -> Result<(), ImportFault>
-    requires served { AllByRecursion (λ q. IsServed q.command) requests.now }
+    requires served { AreServed requests.now }
     requires room { 128 ≤ string_capacity buffer.old }
     ensures { IsReported S.Store requests.now world.old world.new (W.contents writer.old) (W.contents writer.new) result }
 {

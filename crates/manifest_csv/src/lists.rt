@@ -3,8 +3,9 @@ ghost use Rattle.std.specs.Prelude.{◌≡◌, ◌⊎◌, ◌↔◌, [], ◌∷�
 ghost use Rattle.std.specs.List.{AllZip};
 ghost use Rattle.std.specs.Vec.Iter.{into_iter_items};
 ghost use Rattle.csv.specs.Records.{fields_of};
+ghost use Rattle.world.specs.Laws.{AreServed};
 ghost use Rattle.manifest_csv.specs.Requests.{header};
-ghost use Rattle.manifest_csv.specs.RequestLists.{AreList, AreServed, Asks, IsFaultFrom, IsFaultOf, IsFaultOfEnd, IsList, MeetsFirst};
+ghost use Rattle.manifest_csv.specs.RequestLists.{AreList, Asks, IsFaultFrom, IsFaultOf, IsFaultOfEnd, IsList, MeetsFirst};
 ghost use Rattle.manifest_csv.specs.declared.records.Ending.TheVariants as ending;
 ghost use Rattle.manifest_csv.specs.declared.lists.ReadFault.TheVariants as fault;
 

@@ -18,34 +18,30 @@ use world::world::World;
 pub enum ManifestFault {
     /// The package is not live.
     Unknown,
-    /// A growth was refused.
-    Memory,
-    /// A store failed.
-    Store,
+    /// A growth was refused, or a store failed.
+    Failed(Fault),
     /// The writer failed. A beginning of the manifest went out.
     Unwritten,
 }
 
 impl From<Fault> for ManifestFault {
-    ghost use Rattle.manifest_csv.specs.PackageManifests.{told_as};
+    ghost use Rattle.manifest_csv.specs.declared.package_manifests.ManifestFault.TheVariants.{Failed};
 
-    ghost from_gives = { λ fault why. why ≡ told_as fault };
+    ghost from_gives = { λ fault why. why ≡ Failed fault };
 
     fn from(fault: Fault) -> ManifestFault {
-        match fault {
-            Fault::OutOfMemory => ManifestFault::Memory,
-            Fault::StoreFault => ManifestFault::Store,
-        }
+        ManifestFault::Failed(fault)
     }
 }
 
 impl From<OutOfMemory> for ManifestFault {
-    ghost use Rattle.manifest_csv.specs.declared.package_manifests.ManifestFault.TheVariants.{Memory};
+    ghost use Rattle.manifest_csv.specs.declared.package_manifests.ManifestFault.TheVariants.{Failed};
+    ghost use Rattle.package_tables.specs.declared.fault.Fault.TheVariants as fault;
 
-    ghost from_gives = { λ want why. why ≡ Memory };
+    ghost from_gives = { λ want why. why ≡ Failed fault.OutOfMemory };
 
     fn from(_want: OutOfMemory) -> ManifestFault {
-        ManifestFault::Memory
+        ManifestFault::Failed(Fault::OutOfMemory)
     }
 }
 

@@ -1,7 +1,8 @@
 // Which request a record is.
-ghost use Rattle.std.specs.Prelude.{◌≡◌, ℕ, List, IsTrue, IfOk, IfSome, IfNone};
+ghost use Rattle.std.specs.Prelude.{◌≡◌, ℕ, List, IfOk, IfSome, IfNone};
 ghost use Rattle.csv.specs.Records.{fields_of};
-ghost use Rattle.manifest_csv.specs.Requests.{IsCommand, IsContent, IsRequest, is_served};
+ghost use Rattle.world.specs.Laws.{IsServed};
+ghost use Rattle.manifest_csv.specs.Requests.{IsCommand, IsContent, IsRequest};
 ghost use Rattle.sheet_types.specs.declared.command.Command.TheVariants as command;
 ghost use Rattle.sheet_types.specs.declared.command.Command.{Command};
 ghost use Rattle.sheet_types.specs.declared.command.Content.{Content};
@@ -24,7 +25,7 @@ const NOT_OF_LINK: [usize; 11] = [7, 8, 9, 10, 11, 12, 13, 14, 15, 16, 17];
 /// The link that a record asks for.
 pub fn link_of(row: &StringRecord) -> Option<Command>
     ensures some { IfSome result (λ found. IsCommand (fields_of row.now) found) }
-    ensures served { IfSome result (λ found. IsTrue (is_served found)) }
+    ensures served { IfSome result (λ found. IsServed found) }
     ensures none { IfNone result ((target base media : List ℕ) (mapping : Mapping) → ¬ IsCommand (fields_of row.now) (command.Link target mapping base media)) }
 {
     if !has_text(row, 2, "link") || !are_empty(row, &NOT_OF_LINK) {
@@ -45,7 +46,7 @@ pub fn link_of(row: &StringRecord) -> Option<Command>
 /// The unlink that a record asks for.
 pub fn unlink_of(row: &StringRecord) -> Option<Command>
     ensures some { IfSome result (λ found. IsCommand (fields_of row.now) found) }
-    ensures served { IfSome result (λ found. IsTrue (is_served found)) }
+    ensures served { IfSome result (λ found. IsServed found) }
     ensures none { IfNone result ((source base media : List ℕ) (mapping : Mapping) → ¬ IsCommand (fields_of row.now) (command.Unlink source mapping base media)) }
 {
     if !has_text(row, 2, "unlink") || !are_empty(row, &NOT_OF_LINK) {
@@ -66,7 +67,7 @@ pub fn unlink_of(row: &StringRecord) -> Option<Command>
 /// The deletion that a record asks for.
 pub fn delete_of(row: &StringRecord) -> Option<Command>
     ensures some { IfSome result (λ found. IsCommand (fields_of row.now) found) }
-    ensures served { IfSome result (λ found. IsTrue (is_served found)) }
+    ensures served { IfSome result (λ found. IsServed found) }
     ensures none { IfNone result ((source identity : List ℕ) → ¬ IsCommand (fields_of row.now) (command.Delete source identity)) }
 {
     if !has_text(row, 2, "delete") || !are_empty(row, &NOT_OF_DELETE) {
@@ -97,7 +98,7 @@ const NOT_OF_ADD: [usize; 2] = [5, 15];
 /// The addition that a record asks for.
 pub fn add_of(alloc: Global, row: &StringRecord) -> Result<Option<Command>, OutOfMemory>
     ensures some { IfOk result (λ found. IfSome found (λ addition. IsCommand (fields_of row.now) addition)) }
-    ensures served { IfOk result (λ found. IfSome found (λ addition. IsTrue (is_served addition))) }
+    ensures served { IfOk result (λ found. IfSome found (λ addition. IsServed addition)) }
     ensures none { IfOk result (λ found. IfNone found ((target identity : List ℕ) (content : Content) → ¬ IsCommand (fields_of row.now) (command.Add target identity content))) }
 {
     if !has_text(row, 2, "add") || !are_empty(row, &NOT_OF_ADD) {
@@ -122,8 +123,8 @@ pub fn add_of(alloc: Global, row: &StringRecord) -> Result<Option<Command>, OutO
 /// The command that a record asks for, where it is served.
 pub fn command_of(alloc: Global, row: &StringRecord) -> Result<Option<Command>, OutOfMemory>
     ensures some { IfOk result (λ found. IfSome found (λ asked. IsCommand (fields_of row.now) asked)) }
-    ensures served { IfOk result (λ found. IfSome found (λ asked. IsTrue (is_served asked))) }
-    ensures none { IfOk result (λ found. IfNone found ((asked : Command) → IsTrue (is_served asked) → ¬ IsCommand (fields_of row.now) asked)) }
+    ensures served { IfOk result (λ found. IfSome found (λ asked. IsServed asked)) }
+    ensures none { IfOk result (λ found. IfNone found ((asked : Command) → IsServed asked → ¬ IsCommand (fields_of row.now) asked)) }
 {
     if let Some(addition) = add_of(alloc, row)? {
         return Ok(Some(addition));
@@ -140,8 +141,8 @@ pub fn command_of(alloc: Global, row: &StringRecord) -> Result<Option<Command>, 
 /// The request that a record is, where its command is served.
 pub fn request_of(alloc: Global, row: &StringRecord) -> Result<Option<Request>, OutOfMemory>
     ensures some { IfOk result (λ found. IfSome found (λ request. IsRequest (fields_of row.now) request)) }
-    ensures served { IfOk result (λ found. IfSome found (λ request. IsTrue (is_served request.command))) }
-    ensures none { IfOk result (λ found. IfNone found ((request : Request) → IsTrue (is_served request.command) → ¬ IsRequest (fields_of row.now) request)) }
+    ensures served { IfOk result (λ found. IfSome found (λ request. IsServed request.command)) }
+    ensures none { IfOk result (λ found. IfNone found ((request : Request) → IsServed request.command → ¬ IsRequest (fields_of row.now) request)) }
 {
     if row.len() != 18 {
         return Ok(None);

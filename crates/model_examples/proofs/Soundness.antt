@@ -1,5 +1,5 @@
 -- Of a sound ledger each rule, of an unsound one the rule that it breaks.
-use Rattle.std.specs.Prelude.{◌≡◌, refl, ℕ, List, pos, Bool, true, false, [], ◌∷◌, Some, None, Ok, ◌==◌, bytes_eq, unwrap_or, is_some}
+use Rattle.std.specs.Prelude.{◌≡◌, refl, ℕ, List, pos, true, false, [], ◌∷◌, Some, None, Ok, ◌==◌, bytes_eq, unwrap_or, is_some}
 use Rattle.std.proofs.Common.{ap, sym, subst, ◌∙◌}
 use Rattle.std.proofs.lemmas.Bool.{false≢true, true≢false}
 use Rattle.std.proofs.lemmas.Map.Keys.{IsDistinct-head}
@@ -16,13 +16,10 @@ use Rattle.sheet_types.specs.Step.{outcome, receipt_of, source_of, target_of}
 use Rattle.sheet_types.specs.Balance.{IsLedger, MovesFor, stands_in}
 use Rattle.sheet_types.specs.declared.command.Mode.TheVariants.{Strict}
 use Rattle.sheet_types.specs.declared.receipt.MovedKind.TheVariants.{TileItem}
+use Rattle.sheet_types.proofs.Basics.{differ}
 use Rattle.model_examples.specs.Sheets.{archive, crew, second_crew, item, quarter}
 use Rattle.model_examples.specs.Story.{moved_corner, moved_small}
 use Rattle.model_examples.specs.Ledgers.{added, taken_out, SoundLedger, WrongNumbers, WrongLines, WrongThings, WrongMoves, AddedTwice, WrongHoldings, WrongSums, NothingHeld, NoRegister, one_lent, same_key, TakenKey, AlteredThenDeleted}
-
--- two values that a test tells apart are not one
-differ : {X : Type 0} {x y : X} → (test : X → Bool) → test x ≡ false → test y ≡ true → x ≡ y → ⊥
-differ test no_x yes_y e = false≢true (sym no_x ∙ ap test e ∙ yes_y)
 
 abbrev digest : List ℕ
 digest = unwrap_or moved_corner.fingerprint []

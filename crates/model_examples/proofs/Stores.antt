@@ -14,6 +14,7 @@ use Rattle.sheet_types.specs.World.{World, Package, holdings, no_package, new_wo
 use Rattle.sheet_types.specs.Balance.{Balanced, holds}
 use Rattle.sheet_types.specs.Opening.{Claim, claim_of, is_open_claim, is_loan_of, is_reached, claims_at, IsOpenSplitOf, Counted, NotAPackage, ForeignFrame, IsAtHome, IsNever}
 use Rattle.sheet_types.specs.declared.receipt.Receipt.{Receipt}
+use Rattle.sheet_types.proofs.Basics.{differ}
 use Rattle.model_examples.specs.Sheets.{sheet, archive, crew, second_crew, tile, tile_of}
 use Rattle.model_examples.specs.Story.{kept_as, archive_with, crew_with}
 use Rattle.model_examples.specs.Ledgers.{added, lent}
@@ -77,10 +78,6 @@ nothing_open s0 c0 only shut stores s c inside opened =
     let InList : List Claim → Type 0 = λ cs. Contains cs c in
     let same : c0 ≡ c = one c0 c (subst InList only (subst In (sym (one s0 s inside)) opened.2)) in
     true≢false (sym opened.3 ∙ sym (ap (λ x. is_open_claim (among stores opened.0) x) same) ∙ shut (among stores opened.0))
-
--- two values that a test tells apart
-apart : {X : Type 0} {x y : X} → (test : X → Bool) → test x ≡ false → test y ≡ true → x ≡ y → ⊥
-apart test no_x yes_y e = false≢true (sym no_x ∙ ap test e ∙ yes_y)
 
 -- no identity is before itself
 abbrev NotBefore : List ℕ → List ℕ → Type 0
@@ -167,7 +164,7 @@ tall_least other h =
     ]
 
 heights_differ : tall ≡ sheet → ⊥
-heights_differ e = apart (λ f. int_le f.max_y (pos 4096)) refl refl e
+heights_differ e = differ (λ f. int_le f.max_y (pos 4096)) refl refl e
 
 pub foreign_frame : AnswersForeignFrame
 unfolding by_index digits decode_pairs encode_with entry_from
@@ -182,8 +179,8 @@ foreign_frame = (
       tall_least,
     ),
   ),
-  (lender, lender, lent_claim, of_second, refl, first_of lender (of_second ∷ []), (0, (refl, first_round _ _), second_of (claim_of added) lent_claim [], refl), second_of lender of_second [], refl, refl, inr (λ h. apart (λ o. option_map_or (λ x. bytes_eq x archive) o false) refl refl h.0)),
-  (lender, lender, lent_claim, too_low, refl, first_of lender (too_low ∷ []), (0, (refl, first_round _ _), second_of (claim_of added) lent_claim [], refl), second_of lender too_low [], refl, refl, inr (λ h. apart (λ n. n == 1) refl refl h.1)),
+  (lender, lender, lent_claim, of_second, refl, first_of lender (of_second ∷ []), (0, (refl, first_round _ _), second_of (claim_of added) lent_claim [], refl), second_of lender of_second [], refl, refl, inr (λ h. differ (λ o. option_map_or (λ x. bytes_eq x archive) o false) refl refl h.0)),
+  (lender, lender, lent_claim, too_low, refl, first_of lender (too_low ∷ []), (0, (refl, first_round _ _), second_of (claim_of added) lent_claim [], refl), second_of lender too_low [], refl, refl, inr (λ h. differ (λ n. n == 1) refl refl h.1)),
 )
 
 -- ---- one store whose one claim is no split: nothing is missing, doubled or foreign
@@ -229,7 +226,7 @@ out_of_account = (
     at_home = at_home misnumbered (claim_of fourth) refl (λ all. refl);
     tied = (refl, tt);
   },
-  (misnumbered, refl, λ sound. apart (λ n. n == 1) refl refl sound.ledger.0.number),
+  (misnumbered, refl, λ sound. differ (λ n. n == 1) refl refl sound.ledger.0.number),
 )
 
 abbrev changed_tile : Store
@@ -266,7 +263,7 @@ zero_held held here nowhere p = elim (bytes_eq archive p) as (λ v. 0 ≡ 0 + he
 balanced : Balanced empty_world
 balanced = record {
   ledger = tt;
-  custody_is = λ p thing. ((λ held. absurd (false≢true (sym (nothing_held p thing) ∙ held))), (λ at. absurd (apart is_some refl refl at)));
+  custody_is = λ p thing. ((λ held. absurd (false≢true (sym (nothing_held p thing) ∙ held))), (λ at. absurd (differ is_some refl refl at)));
   tiles = zero_held (λ x. count_by is_tile x.items) refl refl;
   media = zero_held (λ x. count_by is_medium x.items) refl refl;
   rows = zero_held (λ x. count_by is_row x.items) refl refl;

@@ -1,12 +1,28 @@
--- A write to one table is a change of that one list. Written by tools/generate.py.
-use Rattle.std.proofs.Common.{◌≡◌, ℕ, refl, sym, subst}
+-- A write to one table is a change of that one list.
+use Rattle.std.proofs.Common.{◌≡◌, ℕ, zero, suc, List, [], ◌∷◌, Bool, true, refl, sym, subst, get_or}
+use Rattle.std.specs.Prelude.{◌&&◌, ⊤}
+use Rattle.std.proofs.lemmas.Bool.{and_parts}
 use Rattle.sqlite.specs.Effect.{Database}
-use Rattle.sql_meaning.specs.Known.{IsQuiet}
+use Rattle.sqlite.specs.Table.{Table}
+use Rattle.sql_meaning.specs.Known.{IsQuiet, is_other, sequence_name}
 use Rattle.sql_meaning.specs.Writing.{Spares}
 use Rattle.package_tables.specs.Tables.{gpkg_spatial_ref_sys, gpkg_contents, gpkg_tile_matrix_set, gpkg_tile_matrix, gpkgext_relations, sheet_tiles, sheet_media, sheet_rows, tiles_media, rows_media, sheet_package, sheet_identity, sheet_receipts, sheet_items}
-use Rattle.package_tables.specs.Shape.{IsShape, IsFormed, rows_of}
+use Rattle.package_tables.specs.Shape.{Shape, IsShape, IsFormed, rows_of}
 use Rattle.package_tables.specs.Shapes.{spatial_ref_sys_shape, contents_shape, tile_matrix_set_shape, tile_matrix_shape, relation_shape, tile_shape, medium_shape, attribute_shape, tiles_media_shape, rows_media_shape, head_shape, identity_shape, receipt_shape, moved_shape}
-use Rattle.package_tables.specs.Package.{tables_of, AreFormed}
+use Rattle.package_tables.specs.Package.{Tables, tables_of, AreFormed}
+use Rattle.package_tables.specs.declared.rows.AttributeRow.{AttributeRow}
+use Rattle.package_tables.specs.declared.rows.ContentsRow.{ContentsRow}
+use Rattle.package_tables.specs.declared.rows.HeadRow.{HeadRow}
+use Rattle.package_tables.specs.declared.rows.IdentityRow.{IdentityRow}
+use Rattle.package_tables.specs.declared.rows.MappingRow.{MappingRow}
+use Rattle.package_tables.specs.declared.rows.MediaRow.{MediaRow}
+use Rattle.package_tables.specs.declared.rows.MovedRow.{MovedRow}
+use Rattle.package_tables.specs.declared.rows.ReceiptRow.{ReceiptRow}
+use Rattle.package_tables.specs.declared.rows.RelationRow.{RelationRow}
+use Rattle.package_tables.specs.declared.rows.SpatialRefSysRow.{SpatialRefSysRow}
+use Rattle.package_tables.specs.declared.rows.TileMatrixRow.{TileMatrixRow}
+use Rattle.package_tables.specs.declared.rows.TileMatrixSetRow.{TileMatrixSetRow}
+use Rattle.package_tables.specs.declared.rows.TileRow.{TileRow}
 use Rattle.package_tables.proofs.Shapes.{spared}
 
 -- ---- the shapes meet what they have to
@@ -53,704 +69,226 @@ receipt_shape_is = record { named = λ tree. refl; treed = λ tree. refl; says =
 pub moved_shape_is : IsShape moved_shape
 moved_shape_is = record { named = λ tree. refl; treed = λ tree. refl; says = λ v x. refl; again = λ v x. refl; numbered = λ v x h. h }
 
+-- ---- the tables by their names
+
+data Name : Type 0 where
+  SpatialRefSys : Name
+  Contents : Name
+  TileMatrixSet : Name
+  TileMatrix : Name
+  Relations : Name
+  Tiles : Name
+  Media : Name
+  Rows : Name
+  TilesMedia : Name
+  RowsMedia : Name
+  Heads : Name
+  Identities : Name
+  Receipts : Name
+  Moved : Name
+
+abbrev RowOf : Name → Type 0
+RowOf SpatialRefSys = SpatialRefSysRow
+RowOf Contents = ContentsRow
+RowOf TileMatrixSet = TileMatrixSetRow
+RowOf TileMatrix = TileMatrixRow
+RowOf Relations = RelationRow
+RowOf Tiles = TileRow
+RowOf Media = MediaRow
+RowOf Rows = AttributeRow
+RowOf TilesMedia = MappingRow
+RowOf RowsMedia = MappingRow
+RowOf Heads = HeadRow
+RowOf Identities = IdentityRow
+RowOf Receipts = ReceiptRow
+RowOf Moved = MovedRow
+
+abbrev shape_of : (n : Name) → Shape (RowOf n)
+shape_of SpatialRefSys = spatial_ref_sys_shape
+shape_of Contents = contents_shape
+shape_of TileMatrixSet = tile_matrix_set_shape
+shape_of TileMatrix = tile_matrix_shape
+shape_of Relations = relation_shape
+shape_of Tiles = tile_shape
+shape_of Media = medium_shape
+shape_of Rows = attribute_shape
+shape_of TilesMedia = tiles_media_shape
+shape_of RowsMedia = rows_media_shape
+shape_of Heads = head_shape
+shape_of Identities = identity_shape
+shape_of Receipts = receipt_shape
+shape_of Moved = moved_shape
+
+shape_of_is : (n : Name) → IsShape (shape_of n)
+shape_of_is SpatialRefSys = spatial_ref_sys_shape_is
+shape_of_is Contents = contents_shape_is
+shape_of_is TileMatrixSet = tile_matrix_set_shape_is
+shape_of_is TileMatrix = tile_matrix_shape_is
+shape_of_is Relations = relation_shape_is
+shape_of_is Tiles = tile_shape_is
+shape_of_is Media = medium_shape_is
+shape_of_is Rows = attribute_shape_is
+shape_of_is TilesMedia = tiles_media_shape_is
+shape_of_is RowsMedia = rows_media_shape_is
+shape_of_is Heads = head_shape_is
+shape_of_is Identities = identity_shape_is
+shape_of_is Receipts = receipt_shape_is
+shape_of_is Moved = moved_shape_is
+
+abbrev all : List Name
+all = SpatialRefSys ∷ Contents ∷ TileMatrixSet ∷ TileMatrix ∷ Relations ∷ Tiles ∷ Media ∷ Rows ∷ TilesMedia ∷ RowsMedia ∷ Heads ∷ Identities ∷ Receipts ∷ Moved ∷ []
+
+-- the lists of some tables, one after the other
+abbrev Lists : List Name → Type 0
+Lists [] = ⊤
+Lists (n ∷ ns) = List (RowOf n) × Lists ns
+
+abbrev lists_of : (ns : List Name) → Database → Lists ns
+lists_of [] db = tt
+lists_of (n ∷ ns) db = (rows_of (shape_of n) db, lists_of ns db)
+
+-- all fourteen, as the tables of a package
+abbrev as_tables : Lists all → Tables
+as_tables l = record {
+  spatial_ref_sys = l.0;
+  contents = l.1.0;
+  tile_matrix_set = l.1.1.0;
+  tile_matrix = l.1.1.1.0;
+  relations = l.1.1.1.1.0;
+  tiles = l.1.1.1.1.1.0;
+  media = l.1.1.1.1.1.1.0;
+  rows = l.1.1.1.1.1.1.1.0;
+  tiles_media = l.1.1.1.1.1.1.1.1.0;
+  rows_media = l.1.1.1.1.1.1.1.1.1.0;
+  heads = l.1.1.1.1.1.1.1.1.1.1.0;
+  identities = l.1.1.1.1.1.1.1.1.1.1.1.0;
+  receipts = l.1.1.1.1.1.1.1.1.1.1.1.1.0;
+  moved = l.1.1.1.1.1.1.1.1.1.1.1.1.1.0;
+}
+
+-- some tables are there and hold rows of their kinds
+abbrev Formed : List Name → Database → Type 0
+Formed [] db = ⊤
+Formed (n ∷ ns) db = IsFormed (shape_of n) db × Formed ns db
+
 -- ---- one table is written
 
+-- the list of the table at this place is another
+abbrev put_at : (ns : List Name) (place : ℕ) → List (RowOf (get_or ns place Moved)) → Lists ns → Lists ns
+put_at [] place rows l = l
+put_at (n ∷ ns) zero rows l = (rows, l.1)
+put_at (n ∷ ns) (suc place) rows l = (l.0, put_at ns place rows l.1)
+
+-- a table is neither the one of this name nor that of the counts
+abbrev is_apart : List ℕ → Name → Bool
+is_apart name n = is_other ((shape_of n).table 0).name name && is_other ((shape_of n).table 0).name sequence_name
+
+abbrev all_apart : List ℕ → List Name → Bool
+all_apart name [] = true
+all_apart name (n ∷ ns) = is_apart name n && all_apart name ns
+
+abbrev others_apart : List ℕ → List Name → ℕ → Bool
+others_apart name [] place = true
+others_apart name (n ∷ ns) zero = all_apart name ns
+others_apart name (n ∷ ns) (suc place) = is_apart name n && others_apart name ns place
+
+module _ (t : Table) (old new : Database) (spares : Spares t old new) where
+  kept : (n : Name) → is_apart t.name n ≡ true → IsFormed (shape_of n) old → IsFormed (shape_of n) new × (rows_of (shape_of n) new ≡ rows_of (shape_of n) old)
+  kept n apart formed =
+      let parts = and_parts (is_other ((shape_of n).table 0).name t.name) (is_other ((shape_of n).table 0).name sequence_name) apart in
+      spared (shape_of n) (shape_of_is n) t old new spares parts.0 parts.1 formed
+
+  all_kept : (ns : List Name) → all_apart t.name ns ≡ true → Formed ns old → Formed ns new × (lists_of ns new ≡ lists_of ns old)
+  all_kept [] apart formed = (tt, refl)
+  all_kept (n ∷ ns) apart formed =
+      let parts = and_parts (is_apart t.name n) (all_apart t.name ns) apart in
+      let first = kept n parts.0 formed.0 in
+      let rest = all_kept ns parts.1 formed.1 in
+      ((first.0, rest.0), λ i. (first.1 i, rest.1 i))
+
+  others_kept : (ns : List Name) (place : ℕ) → others_apart t.name ns place ≡ true → Formed ns old → IsFormed (shape_of (get_or ns place Moved)) new
+      → Formed ns new × (lists_of ns new ≡ put_at ns place (rows_of (shape_of (get_or ns place Moved)) new) (lists_of ns old))
+  others_kept [] place apart formed here = (tt, refl)
+  others_kept (n ∷ ns) zero apart formed here =
+      let rest = all_kept ns apart formed.1 in
+      ((here, rest.0), λ i. (rows_of (shape_of n) new, rest.1 i))
+  others_kept (n ∷ ns) (suc place) apart formed here =
+      let parts = and_parts (is_apart t.name n) (others_apart t.name ns place) apart in
+      let first = kept n parts.0 formed.0 in
+      let rest = others_kept ns place parts.1 formed.1 here in
+      ((first.0, rest.0), λ i. (first.1 i, rest.1 i))
+
+-- one after the other, and by their names
+each_formed : (db : Database) → AreFormed db → Formed all db
+each_formed db f = (f.spatial_ref_sys, (f.contents, (f.tile_matrix_set, (f.tile_matrix, (f.relations, (f.tiles, (f.media, (f.rows, (f.tiles_media, (f.rows_media, (f.heads, (f.identities, (f.receipts, (f.moved, tt))))))))))))))
+
+are_formed : (db : Database) → IsQuiet db.schema → Formed all db → AreFormed db
+are_formed db quiet f = record {
+  quiet = quiet;
+  spatial_ref_sys = f.0;
+  contents = f.1.0;
+  tile_matrix_set = f.1.1.0;
+  tile_matrix = f.1.1.1.0;
+  relations = f.1.1.1.1.0;
+  tiles = f.1.1.1.1.1.0;
+  media = f.1.1.1.1.1.1.0;
+  rows = f.1.1.1.1.1.1.1.0;
+  tiles_media = f.1.1.1.1.1.1.1.1.0;
+  rows_media = f.1.1.1.1.1.1.1.1.1.0;
+  heads = f.1.1.1.1.1.1.1.1.1.1.0;
+  identities = f.1.1.1.1.1.1.1.1.1.1.1.0;
+  receipts = f.1.1.1.1.1.1.1.1.1.1.1.1.0;
+  moved = f.1.1.1.1.1.1.1.1.1.1.1.1.1.0;
+}
+
+-- the table at a place is written
+abbrev ShapeAt : (place : ℕ) → Shape (RowOf (get_or all place Moved))
+ShapeAt place = shape_of (get_or all place Moved)
+
+written : (place tree : ℕ) (old new : Database) → others_apart ((ShapeAt place).table tree).name all place ≡ true → Spares ((ShapeAt place).table tree) old new → AreFormed old → IsFormed (ShapeAt place) new
+    → AreFormed new × (tables_of new ≡ as_tables (put_at all place (rows_of (ShapeAt place) new) (lists_of all old)))
+written place tree old new apart spares formed here =
+    let did = others_kept ((ShapeAt place).table tree) old new spares all place apart (each_formed old formed) here in
+    (are_formed new (subst IsQuiet (sym spares.schema) formed.quiet) did.0, λ i. as_tables (did.1 i))
+
 pub spatial_ref_sys_written : (tree : ℕ) (old new : Database) → Spares (gpkg_spatial_ref_sys tree) old new → AreFormed old → IsFormed spatial_ref_sys_shape new → AreFormed new × (tables_of new ≡ record (tables_of old) { spatial_ref_sys = rows_of spatial_ref_sys_shape new })
-spatial_ref_sys_written tree old new spares formed here =
-    let contents_kept = spared contents_shape contents_shape_is (gpkg_spatial_ref_sys tree) old new spares refl refl formed.contents in
-    let tile_matrix_set_kept = spared tile_matrix_set_shape tile_matrix_set_shape_is (gpkg_spatial_ref_sys tree) old new spares refl refl formed.tile_matrix_set in
-    let tile_matrix_kept = spared tile_matrix_shape tile_matrix_shape_is (gpkg_spatial_ref_sys tree) old new spares refl refl formed.tile_matrix in
-    let relations_kept = spared relation_shape relation_shape_is (gpkg_spatial_ref_sys tree) old new spares refl refl formed.relations in
-    let tiles_kept = spared tile_shape tile_shape_is (gpkg_spatial_ref_sys tree) old new spares refl refl formed.tiles in
-    let media_kept = spared medium_shape medium_shape_is (gpkg_spatial_ref_sys tree) old new spares refl refl formed.media in
-    let rows_kept = spared attribute_shape attribute_shape_is (gpkg_spatial_ref_sys tree) old new spares refl refl formed.rows in
-    let tiles_media_kept = spared tiles_media_shape tiles_media_shape_is (gpkg_spatial_ref_sys tree) old new spares refl refl formed.tiles_media in
-    let rows_media_kept = spared rows_media_shape rows_media_shape_is (gpkg_spatial_ref_sys tree) old new spares refl refl formed.rows_media in
-    let heads_kept = spared head_shape head_shape_is (gpkg_spatial_ref_sys tree) old new spares refl refl formed.heads in
-    let identities_kept = spared identity_shape identity_shape_is (gpkg_spatial_ref_sys tree) old new spares refl refl formed.identities in
-    let receipts_kept = spared receipt_shape receipt_shape_is (gpkg_spatial_ref_sys tree) old new spares refl refl formed.receipts in
-    let moved_kept = spared moved_shape moved_shape_is (gpkg_spatial_ref_sys tree) old new spares refl refl formed.moved in (
-      record {
-        quiet = subst IsQuiet (sym spares.schema) formed.quiet;
-        spatial_ref_sys = here;
-        contents = contents_kept.0;
-        tile_matrix_set = tile_matrix_set_kept.0;
-        tile_matrix = tile_matrix_kept.0;
-        relations = relations_kept.0;
-        tiles = tiles_kept.0;
-        media = media_kept.0;
-        rows = rows_kept.0;
-        tiles_media = tiles_media_kept.0;
-        rows_media = rows_media_kept.0;
-        heads = heads_kept.0;
-        identities = identities_kept.0;
-        receipts = receipts_kept.0;
-        moved = moved_kept.0;
-      },
-      λ i. record {
-        spatial_ref_sys = rows_of spatial_ref_sys_shape new;
-        contents = contents_kept.1 i;
-        tile_matrix_set = tile_matrix_set_kept.1 i;
-        tile_matrix = tile_matrix_kept.1 i;
-        relations = relations_kept.1 i;
-        tiles = tiles_kept.1 i;
-        media = media_kept.1 i;
-        rows = rows_kept.1 i;
-        tiles_media = tiles_media_kept.1 i;
-        rows_media = rows_media_kept.1 i;
-        heads = heads_kept.1 i;
-        identities = identities_kept.1 i;
-        receipts = receipts_kept.1 i;
-        moved = moved_kept.1 i;
-      },
-    )
+spatial_ref_sys_written tree old new = written 0 tree old new refl
 
 pub contents_written : (tree : ℕ) (old new : Database) → Spares (gpkg_contents tree) old new → AreFormed old → IsFormed contents_shape new → AreFormed new × (tables_of new ≡ record (tables_of old) { contents = rows_of contents_shape new })
-contents_written tree old new spares formed here =
-    let spatial_ref_sys_kept = spared spatial_ref_sys_shape spatial_ref_sys_shape_is (gpkg_contents tree) old new spares refl refl formed.spatial_ref_sys in
-    let tile_matrix_set_kept = spared tile_matrix_set_shape tile_matrix_set_shape_is (gpkg_contents tree) old new spares refl refl formed.tile_matrix_set in
-    let tile_matrix_kept = spared tile_matrix_shape tile_matrix_shape_is (gpkg_contents tree) old new spares refl refl formed.tile_matrix in
-    let relations_kept = spared relation_shape relation_shape_is (gpkg_contents tree) old new spares refl refl formed.relations in
-    let tiles_kept = spared tile_shape tile_shape_is (gpkg_contents tree) old new spares refl refl formed.tiles in
-    let media_kept = spared medium_shape medium_shape_is (gpkg_contents tree) old new spares refl refl formed.media in
-    let rows_kept = spared attribute_shape attribute_shape_is (gpkg_contents tree) old new spares refl refl formed.rows in
-    let tiles_media_kept = spared tiles_media_shape tiles_media_shape_is (gpkg_contents tree) old new spares refl refl formed.tiles_media in
-    let rows_media_kept = spared rows_media_shape rows_media_shape_is (gpkg_contents tree) old new spares refl refl formed.rows_media in
-    let heads_kept = spared head_shape head_shape_is (gpkg_contents tree) old new spares refl refl formed.heads in
-    let identities_kept = spared identity_shape identity_shape_is (gpkg_contents tree) old new spares refl refl formed.identities in
-    let receipts_kept = spared receipt_shape receipt_shape_is (gpkg_contents tree) old new spares refl refl formed.receipts in
-    let moved_kept = spared moved_shape moved_shape_is (gpkg_contents tree) old new spares refl refl formed.moved in (
-      record {
-        quiet = subst IsQuiet (sym spares.schema) formed.quiet;
-        spatial_ref_sys = spatial_ref_sys_kept.0;
-        contents = here;
-        tile_matrix_set = tile_matrix_set_kept.0;
-        tile_matrix = tile_matrix_kept.0;
-        relations = relations_kept.0;
-        tiles = tiles_kept.0;
-        media = media_kept.0;
-        rows = rows_kept.0;
-        tiles_media = tiles_media_kept.0;
-        rows_media = rows_media_kept.0;
-        heads = heads_kept.0;
-        identities = identities_kept.0;
-        receipts = receipts_kept.0;
-        moved = moved_kept.0;
-      },
-      λ i. record {
-        spatial_ref_sys = spatial_ref_sys_kept.1 i;
-        contents = rows_of contents_shape new;
-        tile_matrix_set = tile_matrix_set_kept.1 i;
-        tile_matrix = tile_matrix_kept.1 i;
-        relations = relations_kept.1 i;
-        tiles = tiles_kept.1 i;
-        media = media_kept.1 i;
-        rows = rows_kept.1 i;
-        tiles_media = tiles_media_kept.1 i;
-        rows_media = rows_media_kept.1 i;
-        heads = heads_kept.1 i;
-        identities = identities_kept.1 i;
-        receipts = receipts_kept.1 i;
-        moved = moved_kept.1 i;
-      },
-    )
+contents_written tree old new = written 1 tree old new refl
 
 pub tile_matrix_set_written : (tree : ℕ) (old new : Database) → Spares (gpkg_tile_matrix_set tree) old new → AreFormed old → IsFormed tile_matrix_set_shape new → AreFormed new × (tables_of new ≡ record (tables_of old) { tile_matrix_set = rows_of tile_matrix_set_shape new })
-tile_matrix_set_written tree old new spares formed here =
-    let spatial_ref_sys_kept = spared spatial_ref_sys_shape spatial_ref_sys_shape_is (gpkg_tile_matrix_set tree) old new spares refl refl formed.spatial_ref_sys in
-    let contents_kept = spared contents_shape contents_shape_is (gpkg_tile_matrix_set tree) old new spares refl refl formed.contents in
-    let tile_matrix_kept = spared tile_matrix_shape tile_matrix_shape_is (gpkg_tile_matrix_set tree) old new spares refl refl formed.tile_matrix in
-    let relations_kept = spared relation_shape relation_shape_is (gpkg_tile_matrix_set tree) old new spares refl refl formed.relations in
-    let tiles_kept = spared tile_shape tile_shape_is (gpkg_tile_matrix_set tree) old new spares refl refl formed.tiles in
-    let media_kept = spared medium_shape medium_shape_is (gpkg_tile_matrix_set tree) old new spares refl refl formed.media in
-    let rows_kept = spared attribute_shape attribute_shape_is (gpkg_tile_matrix_set tree) old new spares refl refl formed.rows in
-    let tiles_media_kept = spared tiles_media_shape tiles_media_shape_is (gpkg_tile_matrix_set tree) old new spares refl refl formed.tiles_media in
-    let rows_media_kept = spared rows_media_shape rows_media_shape_is (gpkg_tile_matrix_set tree) old new spares refl refl formed.rows_media in
-    let heads_kept = spared head_shape head_shape_is (gpkg_tile_matrix_set tree) old new spares refl refl formed.heads in
-    let identities_kept = spared identity_shape identity_shape_is (gpkg_tile_matrix_set tree) old new spares refl refl formed.identities in
-    let receipts_kept = spared receipt_shape receipt_shape_is (gpkg_tile_matrix_set tree) old new spares refl refl formed.receipts in
-    let moved_kept = spared moved_shape moved_shape_is (gpkg_tile_matrix_set tree) old new spares refl refl formed.moved in (
-      record {
-        quiet = subst IsQuiet (sym spares.schema) formed.quiet;
-        spatial_ref_sys = spatial_ref_sys_kept.0;
-        contents = contents_kept.0;
-        tile_matrix_set = here;
-        tile_matrix = tile_matrix_kept.0;
-        relations = relations_kept.0;
-        tiles = tiles_kept.0;
-        media = media_kept.0;
-        rows = rows_kept.0;
-        tiles_media = tiles_media_kept.0;
-        rows_media = rows_media_kept.0;
-        heads = heads_kept.0;
-        identities = identities_kept.0;
-        receipts = receipts_kept.0;
-        moved = moved_kept.0;
-      },
-      λ i. record {
-        spatial_ref_sys = spatial_ref_sys_kept.1 i;
-        contents = contents_kept.1 i;
-        tile_matrix_set = rows_of tile_matrix_set_shape new;
-        tile_matrix = tile_matrix_kept.1 i;
-        relations = relations_kept.1 i;
-        tiles = tiles_kept.1 i;
-        media = media_kept.1 i;
-        rows = rows_kept.1 i;
-        tiles_media = tiles_media_kept.1 i;
-        rows_media = rows_media_kept.1 i;
-        heads = heads_kept.1 i;
-        identities = identities_kept.1 i;
-        receipts = receipts_kept.1 i;
-        moved = moved_kept.1 i;
-      },
-    )
+tile_matrix_set_written tree old new = written 2 tree old new refl
 
 pub tile_matrix_written : (tree : ℕ) (old new : Database) → Spares (gpkg_tile_matrix tree) old new → AreFormed old → IsFormed tile_matrix_shape new → AreFormed new × (tables_of new ≡ record (tables_of old) { tile_matrix = rows_of tile_matrix_shape new })
-tile_matrix_written tree old new spares formed here =
-    let spatial_ref_sys_kept = spared spatial_ref_sys_shape spatial_ref_sys_shape_is (gpkg_tile_matrix tree) old new spares refl refl formed.spatial_ref_sys in
-    let contents_kept = spared contents_shape contents_shape_is (gpkg_tile_matrix tree) old new spares refl refl formed.contents in
-    let tile_matrix_set_kept = spared tile_matrix_set_shape tile_matrix_set_shape_is (gpkg_tile_matrix tree) old new spares refl refl formed.tile_matrix_set in
-    let relations_kept = spared relation_shape relation_shape_is (gpkg_tile_matrix tree) old new spares refl refl formed.relations in
-    let tiles_kept = spared tile_shape tile_shape_is (gpkg_tile_matrix tree) old new spares refl refl formed.tiles in
-    let media_kept = spared medium_shape medium_shape_is (gpkg_tile_matrix tree) old new spares refl refl formed.media in
-    let rows_kept = spared attribute_shape attribute_shape_is (gpkg_tile_matrix tree) old new spares refl refl formed.rows in
-    let tiles_media_kept = spared tiles_media_shape tiles_media_shape_is (gpkg_tile_matrix tree) old new spares refl refl formed.tiles_media in
-    let rows_media_kept = spared rows_media_shape rows_media_shape_is (gpkg_tile_matrix tree) old new spares refl refl formed.rows_media in
-    let heads_kept = spared head_shape head_shape_is (gpkg_tile_matrix tree) old new spares refl refl formed.heads in
-    let identities_kept = spared identity_shape identity_shape_is (gpkg_tile_matrix tree) old new spares refl refl formed.identities in
-    let receipts_kept = spared receipt_shape receipt_shape_is (gpkg_tile_matrix tree) old new spares refl refl formed.receipts in
-    let moved_kept = spared moved_shape moved_shape_is (gpkg_tile_matrix tree) old new spares refl refl formed.moved in (
-      record {
-        quiet = subst IsQuiet (sym spares.schema) formed.quiet;
-        spatial_ref_sys = spatial_ref_sys_kept.0;
-        contents = contents_kept.0;
-        tile_matrix_set = tile_matrix_set_kept.0;
-        tile_matrix = here;
-        relations = relations_kept.0;
-        tiles = tiles_kept.0;
-        media = media_kept.0;
-        rows = rows_kept.0;
-        tiles_media = tiles_media_kept.0;
-        rows_media = rows_media_kept.0;
-        heads = heads_kept.0;
-        identities = identities_kept.0;
-        receipts = receipts_kept.0;
-        moved = moved_kept.0;
-      },
-      λ i. record {
-        spatial_ref_sys = spatial_ref_sys_kept.1 i;
-        contents = contents_kept.1 i;
-        tile_matrix_set = tile_matrix_set_kept.1 i;
-        tile_matrix = rows_of tile_matrix_shape new;
-        relations = relations_kept.1 i;
-        tiles = tiles_kept.1 i;
-        media = media_kept.1 i;
-        rows = rows_kept.1 i;
-        tiles_media = tiles_media_kept.1 i;
-        rows_media = rows_media_kept.1 i;
-        heads = heads_kept.1 i;
-        identities = identities_kept.1 i;
-        receipts = receipts_kept.1 i;
-        moved = moved_kept.1 i;
-      },
-    )
+tile_matrix_written tree old new = written 3 tree old new refl
 
 pub relations_written : (tree : ℕ) (old new : Database) → Spares (gpkgext_relations tree) old new → AreFormed old → IsFormed relation_shape new → AreFormed new × (tables_of new ≡ record (tables_of old) { relations = rows_of relation_shape new })
-relations_written tree old new spares formed here =
-    let spatial_ref_sys_kept = spared spatial_ref_sys_shape spatial_ref_sys_shape_is (gpkgext_relations tree) old new spares refl refl formed.spatial_ref_sys in
-    let contents_kept = spared contents_shape contents_shape_is (gpkgext_relations tree) old new spares refl refl formed.contents in
-    let tile_matrix_set_kept = spared tile_matrix_set_shape tile_matrix_set_shape_is (gpkgext_relations tree) old new spares refl refl formed.tile_matrix_set in
-    let tile_matrix_kept = spared tile_matrix_shape tile_matrix_shape_is (gpkgext_relations tree) old new spares refl refl formed.tile_matrix in
-    let tiles_kept = spared tile_shape tile_shape_is (gpkgext_relations tree) old new spares refl refl formed.tiles in
-    let media_kept = spared medium_shape medium_shape_is (gpkgext_relations tree) old new spares refl refl formed.media in
-    let rows_kept = spared attribute_shape attribute_shape_is (gpkgext_relations tree) old new spares refl refl formed.rows in
-    let tiles_media_kept = spared tiles_media_shape tiles_media_shape_is (gpkgext_relations tree) old new spares refl refl formed.tiles_media in
-    let rows_media_kept = spared rows_media_shape rows_media_shape_is (gpkgext_relations tree) old new spares refl refl formed.rows_media in
-    let heads_kept = spared head_shape head_shape_is (gpkgext_relations tree) old new spares refl refl formed.heads in
-    let identities_kept = spared identity_shape identity_shape_is (gpkgext_relations tree) old new spares refl refl formed.identities in
-    let receipts_kept = spared receipt_shape receipt_shape_is (gpkgext_relations tree) old new spares refl refl formed.receipts in
-    let moved_kept = spared moved_shape moved_shape_is (gpkgext_relations tree) old new spares refl refl formed.moved in (
-      record {
-        quiet = subst IsQuiet (sym spares.schema) formed.quiet;
-        spatial_ref_sys = spatial_ref_sys_kept.0;
-        contents = contents_kept.0;
-        tile_matrix_set = tile_matrix_set_kept.0;
-        tile_matrix = tile_matrix_kept.0;
-        relations = here;
-        tiles = tiles_kept.0;
-        media = media_kept.0;
-        rows = rows_kept.0;
-        tiles_media = tiles_media_kept.0;
-        rows_media = rows_media_kept.0;
-        heads = heads_kept.0;
-        identities = identities_kept.0;
-        receipts = receipts_kept.0;
-        moved = moved_kept.0;
-      },
-      λ i. record {
-        spatial_ref_sys = spatial_ref_sys_kept.1 i;
-        contents = contents_kept.1 i;
-        tile_matrix_set = tile_matrix_set_kept.1 i;
-        tile_matrix = tile_matrix_kept.1 i;
-        relations = rows_of relation_shape new;
-        tiles = tiles_kept.1 i;
-        media = media_kept.1 i;
-        rows = rows_kept.1 i;
-        tiles_media = tiles_media_kept.1 i;
-        rows_media = rows_media_kept.1 i;
-        heads = heads_kept.1 i;
-        identities = identities_kept.1 i;
-        receipts = receipts_kept.1 i;
-        moved = moved_kept.1 i;
-      },
-    )
+relations_written tree old new = written 4 tree old new refl
 
 pub tiles_written : (tree : ℕ) (old new : Database) → Spares (sheet_tiles tree) old new → AreFormed old → IsFormed tile_shape new → AreFormed new × (tables_of new ≡ record (tables_of old) { tiles = rows_of tile_shape new })
-tiles_written tree old new spares formed here =
-    let spatial_ref_sys_kept = spared spatial_ref_sys_shape spatial_ref_sys_shape_is (sheet_tiles tree) old new spares refl refl formed.spatial_ref_sys in
-    let contents_kept = spared contents_shape contents_shape_is (sheet_tiles tree) old new spares refl refl formed.contents in
-    let tile_matrix_set_kept = spared tile_matrix_set_shape tile_matrix_set_shape_is (sheet_tiles tree) old new spares refl refl formed.tile_matrix_set in
-    let tile_matrix_kept = spared tile_matrix_shape tile_matrix_shape_is (sheet_tiles tree) old new spares refl refl formed.tile_matrix in
-    let relations_kept = spared relation_shape relation_shape_is (sheet_tiles tree) old new spares refl refl formed.relations in
-    let media_kept = spared medium_shape medium_shape_is (sheet_tiles tree) old new spares refl refl formed.media in
-    let rows_kept = spared attribute_shape attribute_shape_is (sheet_tiles tree) old new spares refl refl formed.rows in
-    let tiles_media_kept = spared tiles_media_shape tiles_media_shape_is (sheet_tiles tree) old new spares refl refl formed.tiles_media in
-    let rows_media_kept = spared rows_media_shape rows_media_shape_is (sheet_tiles tree) old new spares refl refl formed.rows_media in
-    let heads_kept = spared head_shape head_shape_is (sheet_tiles tree) old new spares refl refl formed.heads in
-    let identities_kept = spared identity_shape identity_shape_is (sheet_tiles tree) old new spares refl refl formed.identities in
-    let receipts_kept = spared receipt_shape receipt_shape_is (sheet_tiles tree) old new spares refl refl formed.receipts in
-    let moved_kept = spared moved_shape moved_shape_is (sheet_tiles tree) old new spares refl refl formed.moved in (
-      record {
-        quiet = subst IsQuiet (sym spares.schema) formed.quiet;
-        spatial_ref_sys = spatial_ref_sys_kept.0;
-        contents = contents_kept.0;
-        tile_matrix_set = tile_matrix_set_kept.0;
-        tile_matrix = tile_matrix_kept.0;
-        relations = relations_kept.0;
-        tiles = here;
-        media = media_kept.0;
-        rows = rows_kept.0;
-        tiles_media = tiles_media_kept.0;
-        rows_media = rows_media_kept.0;
-        heads = heads_kept.0;
-        identities = identities_kept.0;
-        receipts = receipts_kept.0;
-        moved = moved_kept.0;
-      },
-      λ i. record {
-        spatial_ref_sys = spatial_ref_sys_kept.1 i;
-        contents = contents_kept.1 i;
-        tile_matrix_set = tile_matrix_set_kept.1 i;
-        tile_matrix = tile_matrix_kept.1 i;
-        relations = relations_kept.1 i;
-        tiles = rows_of tile_shape new;
-        media = media_kept.1 i;
-        rows = rows_kept.1 i;
-        tiles_media = tiles_media_kept.1 i;
-        rows_media = rows_media_kept.1 i;
-        heads = heads_kept.1 i;
-        identities = identities_kept.1 i;
-        receipts = receipts_kept.1 i;
-        moved = moved_kept.1 i;
-      },
-    )
+tiles_written tree old new = written 5 tree old new refl
 
 pub media_written : (tree : ℕ) (old new : Database) → Spares (sheet_media tree) old new → AreFormed old → IsFormed medium_shape new → AreFormed new × (tables_of new ≡ record (tables_of old) { media = rows_of medium_shape new })
-media_written tree old new spares formed here =
-    let spatial_ref_sys_kept = spared spatial_ref_sys_shape spatial_ref_sys_shape_is (sheet_media tree) old new spares refl refl formed.spatial_ref_sys in
-    let contents_kept = spared contents_shape contents_shape_is (sheet_media tree) old new spares refl refl formed.contents in
-    let tile_matrix_set_kept = spared tile_matrix_set_shape tile_matrix_set_shape_is (sheet_media tree) old new spares refl refl formed.tile_matrix_set in
-    let tile_matrix_kept = spared tile_matrix_shape tile_matrix_shape_is (sheet_media tree) old new spares refl refl formed.tile_matrix in
-    let relations_kept = spared relation_shape relation_shape_is (sheet_media tree) old new spares refl refl formed.relations in
-    let tiles_kept = spared tile_shape tile_shape_is (sheet_media tree) old new spares refl refl formed.tiles in
-    let rows_kept = spared attribute_shape attribute_shape_is (sheet_media tree) old new spares refl refl formed.rows in
-    let tiles_media_kept = spared tiles_media_shape tiles_media_shape_is (sheet_media tree) old new spares refl refl formed.tiles_media in
-    let rows_media_kept = spared rows_media_shape rows_media_shape_is (sheet_media tree) old new spares refl refl formed.rows_media in
-    let heads_kept = spared head_shape head_shape_is (sheet_media tree) old new spares refl refl formed.heads in
-    let identities_kept = spared identity_shape identity_shape_is (sheet_media tree) old new spares refl refl formed.identities in
-    let receipts_kept = spared receipt_shape receipt_shape_is (sheet_media tree) old new spares refl refl formed.receipts in
-    let moved_kept = spared moved_shape moved_shape_is (sheet_media tree) old new spares refl refl formed.moved in (
-      record {
-        quiet = subst IsQuiet (sym spares.schema) formed.quiet;
-        spatial_ref_sys = spatial_ref_sys_kept.0;
-        contents = contents_kept.0;
-        tile_matrix_set = tile_matrix_set_kept.0;
-        tile_matrix = tile_matrix_kept.0;
-        relations = relations_kept.0;
-        tiles = tiles_kept.0;
-        media = here;
-        rows = rows_kept.0;
-        tiles_media = tiles_media_kept.0;
-        rows_media = rows_media_kept.0;
-        heads = heads_kept.0;
-        identities = identities_kept.0;
-        receipts = receipts_kept.0;
-        moved = moved_kept.0;
-      },
-      λ i. record {
-        spatial_ref_sys = spatial_ref_sys_kept.1 i;
-        contents = contents_kept.1 i;
-        tile_matrix_set = tile_matrix_set_kept.1 i;
-        tile_matrix = tile_matrix_kept.1 i;
-        relations = relations_kept.1 i;
-        tiles = tiles_kept.1 i;
-        media = rows_of medium_shape new;
-        rows = rows_kept.1 i;
-        tiles_media = tiles_media_kept.1 i;
-        rows_media = rows_media_kept.1 i;
-        heads = heads_kept.1 i;
-        identities = identities_kept.1 i;
-        receipts = receipts_kept.1 i;
-        moved = moved_kept.1 i;
-      },
-    )
+media_written tree old new = written 6 tree old new refl
 
 pub rows_written : (tree : ℕ) (old new : Database) → Spares (sheet_rows tree) old new → AreFormed old → IsFormed attribute_shape new → AreFormed new × (tables_of new ≡ record (tables_of old) { rows = rows_of attribute_shape new })
-rows_written tree old new spares formed here =
-    let spatial_ref_sys_kept = spared spatial_ref_sys_shape spatial_ref_sys_shape_is (sheet_rows tree) old new spares refl refl formed.spatial_ref_sys in
-    let contents_kept = spared contents_shape contents_shape_is (sheet_rows tree) old new spares refl refl formed.contents in
-    let tile_matrix_set_kept = spared tile_matrix_set_shape tile_matrix_set_shape_is (sheet_rows tree) old new spares refl refl formed.tile_matrix_set in
-    let tile_matrix_kept = spared tile_matrix_shape tile_matrix_shape_is (sheet_rows tree) old new spares refl refl formed.tile_matrix in
-    let relations_kept = spared relation_shape relation_shape_is (sheet_rows tree) old new spares refl refl formed.relations in
-    let tiles_kept = spared tile_shape tile_shape_is (sheet_rows tree) old new spares refl refl formed.tiles in
-    let media_kept = spared medium_shape medium_shape_is (sheet_rows tree) old new spares refl refl formed.media in
-    let tiles_media_kept = spared tiles_media_shape tiles_media_shape_is (sheet_rows tree) old new spares refl refl formed.tiles_media in
-    let rows_media_kept = spared rows_media_shape rows_media_shape_is (sheet_rows tree) old new spares refl refl formed.rows_media in
-    let heads_kept = spared head_shape head_shape_is (sheet_rows tree) old new spares refl refl formed.heads in
-    let identities_kept = spared identity_shape identity_shape_is (sheet_rows tree) old new spares refl refl formed.identities in
-    let receipts_kept = spared receipt_shape receipt_shape_is (sheet_rows tree) old new spares refl refl formed.receipts in
-    let moved_kept = spared moved_shape moved_shape_is (sheet_rows tree) old new spares refl refl formed.moved in (
-      record {
-        quiet = subst IsQuiet (sym spares.schema) formed.quiet;
-        spatial_ref_sys = spatial_ref_sys_kept.0;
-        contents = contents_kept.0;
-        tile_matrix_set = tile_matrix_set_kept.0;
-        tile_matrix = tile_matrix_kept.0;
-        relations = relations_kept.0;
-        tiles = tiles_kept.0;
-        media = media_kept.0;
-        rows = here;
-        tiles_media = tiles_media_kept.0;
-        rows_media = rows_media_kept.0;
-        heads = heads_kept.0;
-        identities = identities_kept.0;
-        receipts = receipts_kept.0;
-        moved = moved_kept.0;
-      },
-      λ i. record {
-        spatial_ref_sys = spatial_ref_sys_kept.1 i;
-        contents = contents_kept.1 i;
-        tile_matrix_set = tile_matrix_set_kept.1 i;
-        tile_matrix = tile_matrix_kept.1 i;
-        relations = relations_kept.1 i;
-        tiles = tiles_kept.1 i;
-        media = media_kept.1 i;
-        rows = rows_of attribute_shape new;
-        tiles_media = tiles_media_kept.1 i;
-        rows_media = rows_media_kept.1 i;
-        heads = heads_kept.1 i;
-        identities = identities_kept.1 i;
-        receipts = receipts_kept.1 i;
-        moved = moved_kept.1 i;
-      },
-    )
+rows_written tree old new = written 7 tree old new refl
 
 pub tiles_media_written : (tree : ℕ) (old new : Database) → Spares (tiles_media tree) old new → AreFormed old → IsFormed tiles_media_shape new → AreFormed new × (tables_of new ≡ record (tables_of old) { tiles_media = rows_of tiles_media_shape new })
-tiles_media_written tree old new spares formed here =
-    let spatial_ref_sys_kept = spared spatial_ref_sys_shape spatial_ref_sys_shape_is (tiles_media tree) old new spares refl refl formed.spatial_ref_sys in
-    let contents_kept = spared contents_shape contents_shape_is (tiles_media tree) old new spares refl refl formed.contents in
-    let tile_matrix_set_kept = spared tile_matrix_set_shape tile_matrix_set_shape_is (tiles_media tree) old new spares refl refl formed.tile_matrix_set in
-    let tile_matrix_kept = spared tile_matrix_shape tile_matrix_shape_is (tiles_media tree) old new spares refl refl formed.tile_matrix in
-    let relations_kept = spared relation_shape relation_shape_is (tiles_media tree) old new spares refl refl formed.relations in
-    let tiles_kept = spared tile_shape tile_shape_is (tiles_media tree) old new spares refl refl formed.tiles in
-    let media_kept = spared medium_shape medium_shape_is (tiles_media tree) old new spares refl refl formed.media in
-    let rows_kept = spared attribute_shape attribute_shape_is (tiles_media tree) old new spares refl refl formed.rows in
-    let rows_media_kept = spared rows_media_shape rows_media_shape_is (tiles_media tree) old new spares refl refl formed.rows_media in
-    let heads_kept = spared head_shape head_shape_is (tiles_media tree) old new spares refl refl formed.heads in
-    let identities_kept = spared identity_shape identity_shape_is (tiles_media tree) old new spares refl refl formed.identities in
-    let receipts_kept = spared receipt_shape receipt_shape_is (tiles_media tree) old new spares refl refl formed.receipts in
-    let moved_kept = spared moved_shape moved_shape_is (tiles_media tree) old new spares refl refl formed.moved in (
-      record {
-        quiet = subst IsQuiet (sym spares.schema) formed.quiet;
-        spatial_ref_sys = spatial_ref_sys_kept.0;
-        contents = contents_kept.0;
-        tile_matrix_set = tile_matrix_set_kept.0;
-        tile_matrix = tile_matrix_kept.0;
-        relations = relations_kept.0;
-        tiles = tiles_kept.0;
-        media = media_kept.0;
-        rows = rows_kept.0;
-        tiles_media = here;
-        rows_media = rows_media_kept.0;
-        heads = heads_kept.0;
-        identities = identities_kept.0;
-        receipts = receipts_kept.0;
-        moved = moved_kept.0;
-      },
-      λ i. record {
-        spatial_ref_sys = spatial_ref_sys_kept.1 i;
-        contents = contents_kept.1 i;
-        tile_matrix_set = tile_matrix_set_kept.1 i;
-        tile_matrix = tile_matrix_kept.1 i;
-        relations = relations_kept.1 i;
-        tiles = tiles_kept.1 i;
-        media = media_kept.1 i;
-        rows = rows_kept.1 i;
-        tiles_media = rows_of tiles_media_shape new;
-        rows_media = rows_media_kept.1 i;
-        heads = heads_kept.1 i;
-        identities = identities_kept.1 i;
-        receipts = receipts_kept.1 i;
-        moved = moved_kept.1 i;
-      },
-    )
+tiles_media_written tree old new = written 8 tree old new refl
 
 pub rows_media_written : (tree : ℕ) (old new : Database) → Spares (rows_media tree) old new → AreFormed old → IsFormed rows_media_shape new → AreFormed new × (tables_of new ≡ record (tables_of old) { rows_media = rows_of rows_media_shape new })
-rows_media_written tree old new spares formed here =
-    let spatial_ref_sys_kept = spared spatial_ref_sys_shape spatial_ref_sys_shape_is (rows_media tree) old new spares refl refl formed.spatial_ref_sys in
-    let contents_kept = spared contents_shape contents_shape_is (rows_media tree) old new spares refl refl formed.contents in
-    let tile_matrix_set_kept = spared tile_matrix_set_shape tile_matrix_set_shape_is (rows_media tree) old new spares refl refl formed.tile_matrix_set in
-    let tile_matrix_kept = spared tile_matrix_shape tile_matrix_shape_is (rows_media tree) old new spares refl refl formed.tile_matrix in
-    let relations_kept = spared relation_shape relation_shape_is (rows_media tree) old new spares refl refl formed.relations in
-    let tiles_kept = spared tile_shape tile_shape_is (rows_media tree) old new spares refl refl formed.tiles in
-    let media_kept = spared medium_shape medium_shape_is (rows_media tree) old new spares refl refl formed.media in
-    let rows_kept = spared attribute_shape attribute_shape_is (rows_media tree) old new spares refl refl formed.rows in
-    let tiles_media_kept = spared tiles_media_shape tiles_media_shape_is (rows_media tree) old new spares refl refl formed.tiles_media in
-    let heads_kept = spared head_shape head_shape_is (rows_media tree) old new spares refl refl formed.heads in
-    let identities_kept = spared identity_shape identity_shape_is (rows_media tree) old new spares refl refl formed.identities in
-    let receipts_kept = spared receipt_shape receipt_shape_is (rows_media tree) old new spares refl refl formed.receipts in
-    let moved_kept = spared moved_shape moved_shape_is (rows_media tree) old new spares refl refl formed.moved in (
-      record {
-        quiet = subst IsQuiet (sym spares.schema) formed.quiet;
-        spatial_ref_sys = spatial_ref_sys_kept.0;
-        contents = contents_kept.0;
-        tile_matrix_set = tile_matrix_set_kept.0;
-        tile_matrix = tile_matrix_kept.0;
-        relations = relations_kept.0;
-        tiles = tiles_kept.0;
-        media = media_kept.0;
-        rows = rows_kept.0;
-        tiles_media = tiles_media_kept.0;
-        rows_media = here;
-        heads = heads_kept.0;
-        identities = identities_kept.0;
-        receipts = receipts_kept.0;
-        moved = moved_kept.0;
-      },
-      λ i. record {
-        spatial_ref_sys = spatial_ref_sys_kept.1 i;
-        contents = contents_kept.1 i;
-        tile_matrix_set = tile_matrix_set_kept.1 i;
-        tile_matrix = tile_matrix_kept.1 i;
-        relations = relations_kept.1 i;
-        tiles = tiles_kept.1 i;
-        media = media_kept.1 i;
-        rows = rows_kept.1 i;
-        tiles_media = tiles_media_kept.1 i;
-        rows_media = rows_of rows_media_shape new;
-        heads = heads_kept.1 i;
-        identities = identities_kept.1 i;
-        receipts = receipts_kept.1 i;
-        moved = moved_kept.1 i;
-      },
-    )
+rows_media_written tree old new = written 9 tree old new refl
 
 pub heads_written : (tree : ℕ) (old new : Database) → Spares (sheet_package tree) old new → AreFormed old → IsFormed head_shape new → AreFormed new × (tables_of new ≡ record (tables_of old) { heads = rows_of head_shape new })
-heads_written tree old new spares formed here =
-    let spatial_ref_sys_kept = spared spatial_ref_sys_shape spatial_ref_sys_shape_is (sheet_package tree) old new spares refl refl formed.spatial_ref_sys in
-    let contents_kept = spared contents_shape contents_shape_is (sheet_package tree) old new spares refl refl formed.contents in
-    let tile_matrix_set_kept = spared tile_matrix_set_shape tile_matrix_set_shape_is (sheet_package tree) old new spares refl refl formed.tile_matrix_set in
-    let tile_matrix_kept = spared tile_matrix_shape tile_matrix_shape_is (sheet_package tree) old new spares refl refl formed.tile_matrix in
-    let relations_kept = spared relation_shape relation_shape_is (sheet_package tree) old new spares refl refl formed.relations in
-    let tiles_kept = spared tile_shape tile_shape_is (sheet_package tree) old new spares refl refl formed.tiles in
-    let media_kept = spared medium_shape medium_shape_is (sheet_package tree) old new spares refl refl formed.media in
-    let rows_kept = spared attribute_shape attribute_shape_is (sheet_package tree) old new spares refl refl formed.rows in
-    let tiles_media_kept = spared tiles_media_shape tiles_media_shape_is (sheet_package tree) old new spares refl refl formed.tiles_media in
-    let rows_media_kept = spared rows_media_shape rows_media_shape_is (sheet_package tree) old new spares refl refl formed.rows_media in
-    let identities_kept = spared identity_shape identity_shape_is (sheet_package tree) old new spares refl refl formed.identities in
-    let receipts_kept = spared receipt_shape receipt_shape_is (sheet_package tree) old new spares refl refl formed.receipts in
-    let moved_kept = spared moved_shape moved_shape_is (sheet_package tree) old new spares refl refl formed.moved in (
-      record {
-        quiet = subst IsQuiet (sym spares.schema) formed.quiet;
-        spatial_ref_sys = spatial_ref_sys_kept.0;
-        contents = contents_kept.0;
-        tile_matrix_set = tile_matrix_set_kept.0;
-        tile_matrix = tile_matrix_kept.0;
-        relations = relations_kept.0;
-        tiles = tiles_kept.0;
-        media = media_kept.0;
-        rows = rows_kept.0;
-        tiles_media = tiles_media_kept.0;
-        rows_media = rows_media_kept.0;
-        heads = here;
-        identities = identities_kept.0;
-        receipts = receipts_kept.0;
-        moved = moved_kept.0;
-      },
-      λ i. record {
-        spatial_ref_sys = spatial_ref_sys_kept.1 i;
-        contents = contents_kept.1 i;
-        tile_matrix_set = tile_matrix_set_kept.1 i;
-        tile_matrix = tile_matrix_kept.1 i;
-        relations = relations_kept.1 i;
-        tiles = tiles_kept.1 i;
-        media = media_kept.1 i;
-        rows = rows_kept.1 i;
-        tiles_media = tiles_media_kept.1 i;
-        rows_media = rows_media_kept.1 i;
-        heads = rows_of head_shape new;
-        identities = identities_kept.1 i;
-        receipts = receipts_kept.1 i;
-        moved = moved_kept.1 i;
-      },
-    )
+heads_written tree old new = written 10 tree old new refl
 
 pub identities_written : (tree : ℕ) (old new : Database) → Spares (sheet_identity tree) old new → AreFormed old → IsFormed identity_shape new → AreFormed new × (tables_of new ≡ record (tables_of old) { identities = rows_of identity_shape new })
-identities_written tree old new spares formed here =
-    let spatial_ref_sys_kept = spared spatial_ref_sys_shape spatial_ref_sys_shape_is (sheet_identity tree) old new spares refl refl formed.spatial_ref_sys in
-    let contents_kept = spared contents_shape contents_shape_is (sheet_identity tree) old new spares refl refl formed.contents in
-    let tile_matrix_set_kept = spared tile_matrix_set_shape tile_matrix_set_shape_is (sheet_identity tree) old new spares refl refl formed.tile_matrix_set in
-    let tile_matrix_kept = spared tile_matrix_shape tile_matrix_shape_is (sheet_identity tree) old new spares refl refl formed.tile_matrix in
-    let relations_kept = spared relation_shape relation_shape_is (sheet_identity tree) old new spares refl refl formed.relations in
-    let tiles_kept = spared tile_shape tile_shape_is (sheet_identity tree) old new spares refl refl formed.tiles in
-    let media_kept = spared medium_shape medium_shape_is (sheet_identity tree) old new spares refl refl formed.media in
-    let rows_kept = spared attribute_shape attribute_shape_is (sheet_identity tree) old new spares refl refl formed.rows in
-    let tiles_media_kept = spared tiles_media_shape tiles_media_shape_is (sheet_identity tree) old new spares refl refl formed.tiles_media in
-    let rows_media_kept = spared rows_media_shape rows_media_shape_is (sheet_identity tree) old new spares refl refl formed.rows_media in
-    let heads_kept = spared head_shape head_shape_is (sheet_identity tree) old new spares refl refl formed.heads in
-    let receipts_kept = spared receipt_shape receipt_shape_is (sheet_identity tree) old new spares refl refl formed.receipts in
-    let moved_kept = spared moved_shape moved_shape_is (sheet_identity tree) old new spares refl refl formed.moved in (
-      record {
-        quiet = subst IsQuiet (sym spares.schema) formed.quiet;
-        spatial_ref_sys = spatial_ref_sys_kept.0;
-        contents = contents_kept.0;
-        tile_matrix_set = tile_matrix_set_kept.0;
-        tile_matrix = tile_matrix_kept.0;
-        relations = relations_kept.0;
-        tiles = tiles_kept.0;
-        media = media_kept.0;
-        rows = rows_kept.0;
-        tiles_media = tiles_media_kept.0;
-        rows_media = rows_media_kept.0;
-        heads = heads_kept.0;
-        identities = here;
-        receipts = receipts_kept.0;
-        moved = moved_kept.0;
-      },
-      λ i. record {
-        spatial_ref_sys = spatial_ref_sys_kept.1 i;
-        contents = contents_kept.1 i;
-        tile_matrix_set = tile_matrix_set_kept.1 i;
-        tile_matrix = tile_matrix_kept.1 i;
-        relations = relations_kept.1 i;
-        tiles = tiles_kept.1 i;
-        media = media_kept.1 i;
-        rows = rows_kept.1 i;
-        tiles_media = tiles_media_kept.1 i;
-        rows_media = rows_media_kept.1 i;
-        heads = heads_kept.1 i;
-        identities = rows_of identity_shape new;
-        receipts = receipts_kept.1 i;
-        moved = moved_kept.1 i;
-      },
-    )
+identities_written tree old new = written 11 tree old new refl
 
 pub receipts_written : (tree : ℕ) (old new : Database) → Spares (sheet_receipts tree) old new → AreFormed old → IsFormed receipt_shape new → AreFormed new × (tables_of new ≡ record (tables_of old) { receipts = rows_of receipt_shape new })
-receipts_written tree old new spares formed here =
-    let spatial_ref_sys_kept = spared spatial_ref_sys_shape spatial_ref_sys_shape_is (sheet_receipts tree) old new spares refl refl formed.spatial_ref_sys in
-    let contents_kept = spared contents_shape contents_shape_is (sheet_receipts tree) old new spares refl refl formed.contents in
-    let tile_matrix_set_kept = spared tile_matrix_set_shape tile_matrix_set_shape_is (sheet_receipts tree) old new spares refl refl formed.tile_matrix_set in
-    let tile_matrix_kept = spared tile_matrix_shape tile_matrix_shape_is (sheet_receipts tree) old new spares refl refl formed.tile_matrix in
-    let relations_kept = spared relation_shape relation_shape_is (sheet_receipts tree) old new spares refl refl formed.relations in
-    let tiles_kept = spared tile_shape tile_shape_is (sheet_receipts tree) old new spares refl refl formed.tiles in
-    let media_kept = spared medium_shape medium_shape_is (sheet_receipts tree) old new spares refl refl formed.media in
-    let rows_kept = spared attribute_shape attribute_shape_is (sheet_receipts tree) old new spares refl refl formed.rows in
-    let tiles_media_kept = spared tiles_media_shape tiles_media_shape_is (sheet_receipts tree) old new spares refl refl formed.tiles_media in
-    let rows_media_kept = spared rows_media_shape rows_media_shape_is (sheet_receipts tree) old new spares refl refl formed.rows_media in
-    let heads_kept = spared head_shape head_shape_is (sheet_receipts tree) old new spares refl refl formed.heads in
-    let identities_kept = spared identity_shape identity_shape_is (sheet_receipts tree) old new spares refl refl formed.identities in
-    let moved_kept = spared moved_shape moved_shape_is (sheet_receipts tree) old new spares refl refl formed.moved in (
-      record {
-        quiet = subst IsQuiet (sym spares.schema) formed.quiet;
-        spatial_ref_sys = spatial_ref_sys_kept.0;
-        contents = contents_kept.0;
-        tile_matrix_set = tile_matrix_set_kept.0;
-        tile_matrix = tile_matrix_kept.0;
-        relations = relations_kept.0;
-        tiles = tiles_kept.0;
-        media = media_kept.0;
-        rows = rows_kept.0;
-        tiles_media = tiles_media_kept.0;
-        rows_media = rows_media_kept.0;
-        heads = heads_kept.0;
-        identities = identities_kept.0;
-        receipts = here;
-        moved = moved_kept.0;
-      },
-      λ i. record {
-        spatial_ref_sys = spatial_ref_sys_kept.1 i;
-        contents = contents_kept.1 i;
-        tile_matrix_set = tile_matrix_set_kept.1 i;
-        tile_matrix = tile_matrix_kept.1 i;
-        relations = relations_kept.1 i;
-        tiles = tiles_kept.1 i;
-        media = media_kept.1 i;
-        rows = rows_kept.1 i;
-        tiles_media = tiles_media_kept.1 i;
-        rows_media = rows_media_kept.1 i;
-        heads = heads_kept.1 i;
-        identities = identities_kept.1 i;
-        receipts = rows_of receipt_shape new;
-        moved = moved_kept.1 i;
-      },
-    )
+receipts_written tree old new = written 12 tree old new refl
 
 pub moved_written : (tree : ℕ) (old new : Database) → Spares (sheet_items tree) old new → AreFormed old → IsFormed moved_shape new → AreFormed new × (tables_of new ≡ record (tables_of old) { moved = rows_of moved_shape new })
-moved_written tree old new spares formed here =
-    let spatial_ref_sys_kept = spared spatial_ref_sys_shape spatial_ref_sys_shape_is (sheet_items tree) old new spares refl refl formed.spatial_ref_sys in
-    let contents_kept = spared contents_shape contents_shape_is (sheet_items tree) old new spares refl refl formed.contents in
-    let tile_matrix_set_kept = spared tile_matrix_set_shape tile_matrix_set_shape_is (sheet_items tree) old new spares refl refl formed.tile_matrix_set in
-    let tile_matrix_kept = spared tile_matrix_shape tile_matrix_shape_is (sheet_items tree) old new spares refl refl formed.tile_matrix in
-    let relations_kept = spared relation_shape relation_shape_is (sheet_items tree) old new spares refl refl formed.relations in
-    let tiles_kept = spared tile_shape tile_shape_is (sheet_items tree) old new spares refl refl formed.tiles in
-    let media_kept = spared medium_shape medium_shape_is (sheet_items tree) old new spares refl refl formed.media in
-    let rows_kept = spared attribute_shape attribute_shape_is (sheet_items tree) old new spares refl refl formed.rows in
-    let tiles_media_kept = spared tiles_media_shape tiles_media_shape_is (sheet_items tree) old new spares refl refl formed.tiles_media in
-    let rows_media_kept = spared rows_media_shape rows_media_shape_is (sheet_items tree) old new spares refl refl formed.rows_media in
-    let heads_kept = spared head_shape head_shape_is (sheet_items tree) old new spares refl refl formed.heads in
-    let identities_kept = spared identity_shape identity_shape_is (sheet_items tree) old new spares refl refl formed.identities in
-    let receipts_kept = spared receipt_shape receipt_shape_is (sheet_items tree) old new spares refl refl formed.receipts in (
-      record {
-        quiet = subst IsQuiet (sym spares.schema) formed.quiet;
-        spatial_ref_sys = spatial_ref_sys_kept.0;
-        contents = contents_kept.0;
-        tile_matrix_set = tile_matrix_set_kept.0;
-        tile_matrix = tile_matrix_kept.0;
-        relations = relations_kept.0;
-        tiles = tiles_kept.0;
-        media = media_kept.0;
-        rows = rows_kept.0;
-        tiles_media = tiles_media_kept.0;
-        rows_media = rows_media_kept.0;
-        heads = heads_kept.0;
-        identities = identities_kept.0;
-        receipts = receipts_kept.0;
-        moved = here;
-      },
-      λ i. record {
-        spatial_ref_sys = spatial_ref_sys_kept.1 i;
-        contents = contents_kept.1 i;
-        tile_matrix_set = tile_matrix_set_kept.1 i;
-        tile_matrix = tile_matrix_kept.1 i;
-        relations = relations_kept.1 i;
-        tiles = tiles_kept.1 i;
-        media = media_kept.1 i;
-        rows = rows_kept.1 i;
-        tiles_media = tiles_media_kept.1 i;
-        rows_media = rows_media_kept.1 i;
-        heads = heads_kept.1 i;
-        identities = identities_kept.1 i;
-        receipts = receipts_kept.1 i;
-        moved = rows_of moved_shape new;
-      },
-    )
+moved_written tree old new = written 13 tree old new refl

@@ -89,10 +89,14 @@ two_relations = relation (pos 1) (codes "sheet_tiles") (codes "tiles_media") ∷
 abbrev pub undated : List ContentsRow → List ContentsRow
 undated = map (λ (c : ContentsRow). record c { last_change = [] })
 
+-- these lists are the fixed rows of the frame, with no others beside them
+pub record AreFixed (f : Frame) (systems : List SpatialRefSysRow) (listed : List ContentsRow) (sets : List TileMatrixSetRow) (levels : List TileMatrixRow) (related : List RelationRow) : Type 0 where
+  pub spatial_ref_sys : systems ≡ systems_of f.srs_id
+  pub contents : undated listed ≡ contents_of f []
+  pub tile_matrix_set : sets ≡ matrix_set f ∷ []
+  pub tile_matrix : levels ≡ levels_of f
+  pub relations : related ≡ two_relations
+
 -- the tables have the fixed rows of the frame, and no others beside them
-pub record HasFixed (f : Frame) (t : Tables) : Type 0 where
-  pub spatial_ref_sys : t.spatial_ref_sys ≡ systems_of f.srs_id
-  pub contents : undated t.contents ≡ contents_of f []
-  pub tile_matrix_set : t.tile_matrix_set ≡ matrix_set f ∷ []
-  pub tile_matrix : t.tile_matrix ≡ levels_of f
-  pub relations : t.relations ≡ two_relations
+abbrev pub HasFixed : Frame → Tables → Type 0
+HasFixed f t = AreFixed f t.spatial_ref_sys t.contents t.tile_matrix_set t.tile_matrix t.relations

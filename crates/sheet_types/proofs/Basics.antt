@@ -1,5 +1,5 @@
 -- Small facts of tests, of keys, and of what a test of each element says.
-use Rattle.std.specs.Prelude.{◌≡◌, ℕ, Bool, true, false, not, ◌&&◌, ◌||◌, List, refl, bytes_eq, Some, None, is_none}
+use Rattle.std.specs.Prelude.{◌≡◌, ℕ, Bool, true, false, not, ◌&&◌, ◌||◌, List, refl, bytes_eq, Option, Some, None, is_none}
 use Rattle.std.proofs.Common.{sym, ap, ◌∙◌}
 use Rattle.std.proofs.lemmas.Bool.{true≢false, false≢true, false_from_ne_true}
 use Rattle.std.proofs.lemmas.Slice.Eq.{bytes_eq-Decides}
@@ -16,6 +16,18 @@ use Rattle.sheet_types.specs.Ordered.{is_before}
 -- none is not some
 pub None≢Some : {X : Type 0} {x : X} → None ≡ Some x → ⊥
 None≢Some e = true≢false (ap is_none e)
+
+-- what is there is known
+pub some_same : {X : Type 0} {x y : X} → Some x ≡ Some y → x ≡ y
+some_same e = cc
+
+-- and is one
+pub some_once : {X : Type 0} (o : Option X) (x y : X) → o ≡ Some x → o ≡ Some y → x ≡ y
+some_once o x y e f = some_same (sym e ∙ f)
+
+-- two values that a test tells apart are not one
+pub differ : {X : Type 0} {x y : X} → (test : X → Bool) → test x ≡ false → test y ≡ true → x ≡ y → ⊥
+differ test no_x yes_y e = false≢true (sym no_x ∙ ap test e ∙ yes_y)
 
 -- a test or none
 pub or-false : (b : Bool) → (b || false) ≡ b
@@ -38,6 +50,10 @@ not_true true h = absurd (false≢true h)
 not_true false h = refl
 
 -- a test and nothing more
+pub and-true : (b : Bool) → (b && true) ≡ b
+and-true true = refl
+and-true false = refl
+
 pub and_true : (b : Bool) → (b && true) ≡ true → b ≡ true
 and_true true h = refl
 and_true false h = h

@@ -141,7 +141,7 @@ small_bytes [] h = tt
 small_bytes (b ∷ bytes) h = let parts : (nat_lt b 256 ≡ true) × (list_all (λ x. nat_lt x 256) bytes ≡ true) = and_parts (nat_lt b 256) (list_all (λ x. nat_lt x 256) bytes) h in (ltb-true b 256 parts.0, small_bytes bytes parts.1)
 
 -- by places
-small_at : (bytes : List ℕ) → AllByRecursion (λ b. b < 256) bytes → IsBytes bytes
+pub small_at : (bytes : List ℕ) → AllByRecursion (λ b. b < 256) bytes → IsBytes bytes
 small_at [] h i = omega arith
 small_at (b ∷ bytes) h zero = h.0
 small_at (b ∷ bytes) h (suc i) = small_at bytes h.1 i

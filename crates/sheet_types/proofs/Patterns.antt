@@ -1,10 +1,7 @@
 -- Texts that fit a pattern.
-use Rattle.std.proofs.Common.{◌≡◌, ◌≢◌, ℕ, List, [], ◌∷◌, length, ◌&&◌, ◌==◌, nat_le, Bool, true, false, if◌then◌else◌, refl, arith}
+use Rattle.std.proofs.Common.{◌≡◌, ◌≢◌, ℕ, List, [], ◌∷◌, length, ◌&&◌, ◌==◌, nat_le, false, if◌then◌else◌, refl, arith}
+use Rattle.std.proofs.lemmas.Bool.{and_right}
 use Rattle.sheet_types.specs.Texts.{fits_pattern}
-
-and_false : (b : Bool) → (b && false) ≡ false
-and_false true = refl
-and_false false = refl
 
 -- a text of another length does not fit
 pub other_length : (p t : List ℕ) → length t ≢ length p → fits_pattern p t ≡ false
@@ -14,4 +11,4 @@ other_length (p ∷ ps) [] h = refl
 other_length (p ∷ ps) (c ∷ cs) h =
     let shorter : length cs ≢ length ps = omega arith in
     let rest : fits_pattern ps cs ≡ false = other_length ps cs shorter in
-    rw rest (and_false (if p == 68 then nat_le 48 c && nat_le c 57 else c == p))
+    rw rest (and_right (if p == 68 then nat_le 48 c && nat_le c 57 else c == p) false refl)

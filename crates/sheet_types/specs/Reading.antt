@@ -1,12 +1,11 @@
 -- Texts that are read: digests, numbers, UUIDs, frames. Profile, over RFC 9562 (UUIDs) and FIPS 180-4 (digests).
-use Rattle.std.specs.Prelude.{◌≡◌, ℕ, ℤ, List, [], ◌∷◌, ◌++◌, unwrap_or, length, map, Option, Some, None, FitsSigned}
+use Rattle.std.specs.Prelude.{◌≡◌, ℕ, ℤ, List, [], ◌∷◌, length, map, Option, FitsSigned}
 use Rattle.std.specs.Int.{w64}
 use Rattle.std.specs.List.{join_with_byte, AllByRecursion}
 use Rattle.std.specs.Fmt.{signed_decimal}
+use Rattle.std.specs.Option.{option_map_or}
 use Rattle.hex.specs.Hex.{IsBytes}
 use Rattle.sheet_types.specs.Texts.{spaced, uuid_text}
-use Rattle.sheet_types.specs.World.{kind_number}
-use Rattle.sheet_types.specs.declared.receipt.MovedKind.{MovedKind}
 use Rattle.sheet_types.specs.declared.frame.Frame.{Frame}
 use Rattle.sheet_types.specs.declared.frame.Rect.{Rect}
 
@@ -21,8 +20,7 @@ rect_text r = spaced (signed_decimal r.zoom ∷ signed_decimal r.column ∷ sign
 
 -- the stored text of a UUID, or the empty text where there is none
 abbrev pub optional_uuid_text : Option (List ℕ) → List ℕ
-optional_uuid_text None = []
-optional_uuid_text (Some id) = uuid_text id
+optional_uuid_text id = option_map_or uuid_text id []
 
 -- numbers with single commas between them
 abbrev pub numbers_text : List ℤ → List ℕ
@@ -40,7 +38,3 @@ frame_text f = numbers_text (frame_numbers f)
 -- each of its numbers fits 64 bits
 abbrev pub IsInRange : Frame → Type 0
 IsInRange f = AllByRecursion (FitsSigned w64) (frame_numbers f)
-
--- the key by which things are ordered: the number of the kind, the base, and the other end of a link
-abbrev pub thing_key : MovedKind → List ℕ → Option (List ℕ) → List ℕ
-thing_key kind base other = kind_number kind ∷ base ++ unwrap_or other []

@@ -3,8 +3,7 @@ ghost use Rattle.std.specs.Prelude.{◌≡◌, ◌≢◌, [], length, unwrap_or,
 ghost use Rattle.std.specs.Ordering.{nat_cmp};
 ghost use Rattle.std.specs.Cmp.Lexicographic.{slice_cmp};
 ghost use Rattle.sheet_types.specs.Ordered.{is_before};
-ghost use Rattle.sheet_types.specs.Reading.{thing_key};
-ghost use Rattle.sheet_types.specs.World.{moved_key, item_key, link_key, link_kind, kind_number};
+ghost use Rattle.sheet_types.specs.World.{thing_key, moved_key, item_key, link_key, link_kind, kind_number};
 ghost use Rattle.sheet_types.specs.declared.receipt.MovedKind.{MovedKind};
 
 use crate::command::{Item, Mapping, Relation};

@@ -33,7 +33,7 @@ Settles {S} g = (s : S) (db : Trees) → IsTrue (g.view s).is_open → g.recover
 same_keeps : (s : State) → KeepsCommit s s
 same_keeps s = record { was_open = λ h. h; committed = λ _. refl }
 
-same_survives : (s : State) → Survives s s (λ _. ⊥)
+pub same_survives : (s : State) → Survives s s (λ _. ⊥)
 same_survives s = record { clean = omega arith; shield = λ h. h; counts = omega arith; limit = refl; closes = λ _ h. inl h; crash = λ _ db h. inl h }
 
 pub none_left : (a b c : State) → Survives a b (λ _. ⊥) → Survives b c (λ _. ⊥) → Survives a c (λ _. ⊥)

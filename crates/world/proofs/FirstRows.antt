@@ -24,7 +24,7 @@ holds : {X : Type 0} (b : Bool) (x : X) (rows : List (Bool × X)) → b ≡ true
 holds true x rows h = refl
 holds false x rows h = cc
 
-passes : {X : Type 0} (b : Bool) (x : X) (rows : List (Bool × X)) → b ≡ false → first_row ((b, x) ∷ rows) ≡ first_row rows
+pub passes : {X : Type 0} (b : Bool) (x : X) (rows : List (Bool × X)) → b ≡ false → first_row ((b, x) ∷ rows) ≡ first_row rows
 passes true x rows h = cc
 passes false x rows h = refl
 

@@ -39,7 +39,7 @@ use Rattle.world.specs.Carrying.{Meets}
 use Rattle.world.specs.Laws.{IsServed, package_of, live_reasons}
 use Rattle.world.specs.Reasons.{text_reasons, package_reasons, delete_reasons, link_reasons, unlink_reasons}
 use Rattle.world.specs.Steps.{NothingAgainst, FitsWhereAccepted, NothingAgainstAccepted, RefusedInTurn, RefusedAsUnknown}
-use Rattle.world.proofs.FirstRows.{last}
+use Rattle.world.proofs.FirstRows.{passes, last}
 use Rattle.world.proofs.Parts.{refused_by_parts, refused_unless_live, first_of_both}
 
 -- ---- the receipts of a package, among all
@@ -192,10 +192,6 @@ row_then : {X : Type 0} (b : Bool) (x : X) (rows : List (Bool × X)) → first_r
 row_then true x rows = refl
 row_then false x rows = refl
 
-passed_over : {X : Type 0} (b : Bool) (x : X) (rows : List (Bool × X)) → b ≡ false → first_row ((b, x) ∷ rows) ≡ first_row rows
-passed_over true x rows h = cc
-passed_over false x rows h = refl
-
 pub refused_in_turn : RefusedInTurn
 refused_in_turn w next q served new live =
     let x : Package = holdings w (package_of q.command) in
@@ -205,11 +201,11 @@ refused_in_turn w next q served new live =
     let texts : Option Refusal = first_row (text_reasons q) in
     let identity : Option Refusal = then_some (identity_used w q.command) IdentityUsed in
     refused_by_parts w next x q served live refl
-    ∙ passed_over (id_reused w q) IdReused (text_reasons q ++ identity_rows) (none_reused w q new)
+    ∙ passes (id_reused w q) IdReused (text_reasons q ++ identity_rows) (none_reused w q new)
     ∙ first_of_both (text_reasons q) identity_rows
     ∙ ap (option_or texts) (row_then (identity_used w q.command) IdentityUsed package_rows)
     ∙ ap (λ o. option_or texts (option_or identity o)) (first_of_both (package_reasons w.frame x q.command) last_rows)
     ∙ ap (λ o. option_or texts (option_or identity (option_or (first_row (package_reasons w.frame x q.command)) o))) (sym (last (too_many next) TooMany))
 
 pub refused_as_unknown : RefusedAsUnknown
-refused_as_unknown w next q served new dead = refused_unless_live w next q served dead ∙ passed_over (id_reused w q) IdReused ((true, UnknownPackage) ∷ []) (none_reused w q new)
+refused_as_unknown w next q served new dead = refused_unless_live w next q served dead ∙ passes (id_reused w q) IdReused ((true, UnknownPackage) ∷ []) (none_reused w q new)

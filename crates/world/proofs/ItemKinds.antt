@@ -2,13 +2,14 @@
 use Rattle.std.proofs.Common.{◌≡◌, ℕ, List, [], ◌∷◌, map, Bool, true, false, cond, Option, Some, None, refl, sym, ap, ◌∙◌, arith}
 use Rattle.std.specs.Prelude.{◌≤◌, ◌&&◌, ◌||◌, find, bytes_eq, count_by, option_map, is_some}
 use Rattle.std.specs.List.{IsDistinct, list_any}
+use Rattle.std.proofs.lemmas.Bool.{and_right}
 use Rattle.std.proofs.lemmas.Slice.Eq.{bytes_eq-Decides}
 use Rattle.sheet_types.specs.Texts.{kind_of}
 use Rattle.sheet_types.specs.World.{Package, item_key, kind_number, kind_is, item_of, has_item, has_kind}
 use Rattle.sheet_types.specs.declared.command.Item.{Item}
 use Rattle.sheet_types.specs.declared.frame.Frame.{Frame}
 use Rattle.sheet_types.specs.declared.receipt.MovedKind.{MovedKind}
-use Rattle.sheet_types.proofs.Basics.{None≢Some, or-false, bytes_eq_swap}
+use Rattle.sheet_types.proofs.Basics.{None≢Some, some_same, or-false, and-true, bytes_eq_swap}
 use Rattle.sheet_types.proofs.Distinct.{distinct_counts, counts_distinct}
 use Rattle.sheet_types.proofs.Every.{All-weaker, All-of_map, none_any}
 use Rattle.sheet_types.proofs.Order.{sum_by-arranged}
@@ -42,9 +43,6 @@ distinct_items f p t says = counts_distinct (λ i. i.identity) p.items one
         ∙ sum_by-map (λ i. cond (bytes_eq i.identity k) 1 0) (λ n. n.item) says.numbered in
         omega (arith, same, distinct_counts (λ (n : Numbered). n.item.identity) k says.numbered says.numbers.identities)
 
-some_same : {X : Type 0} {x y : X} → Some x ≡ Some y → x ≡ y
-some_same e = cc
-
 -- of items under different identities the one that is found tells the kind
 kind_found : (want : MovedKind) (id : List ℕ) (i : Item) (items : List Item) → IsDistinct bytes_eq (map (λ x. x.identity) items) → find (λ x. bytes_eq x.identity id) items ≡ Some i
     → list_any (λ x. bytes_eq (item_key x) (kind_number want ∷ id)) items ≡ kind_is (kind_of i.content) want
@@ -57,22 +55,14 @@ kind_found want id i (x ∷ xs) distinct e =
           let same : x ≡ i = some_same is in
           let none : list_any (λ y. bytes_eq (item_key y) (kind_number want ∷ id)) xs ≡ false = none_any _ xs (All-weaker _ _ (λ y differs. other y ((bytes_eq-Decides x.identity id).0 here) differs) xs (All-of_map (λ z. bytes_eq x.identity z ≡ false) (λ y. y.identity) xs distinct.0)) in
           ap (λ b. (kind_is (kind_of x.content) want && true) || b) none ∙ or-false _ ∙ and-true (kind_is (kind_of x.content) want) ∙ ap (λ y. kind_is (kind_of y.content) want) same
-      | false ↦ λ _ is. ap (λ b. b || list_any (λ y. bytes_eq (item_key y) (kind_number want ∷ id)) xs) (and-false (kind_is (kind_of x.content) want)) ∙ kind_found want id i xs distinct.1 is
+      | false ↦ λ _ is. ap (λ b. b || list_any (λ y. bytes_eq (item_key y) (kind_number want ∷ id)) xs) (and_right (kind_is (kind_of x.content) want) false refl) ∙ kind_found want id i xs distinct.1 is
     ] refl e
   where
-    and-true : (b : Bool) → (b && true) ≡ b
-    and-true true = refl
-    and-true false = refl
-
-    and-false : (b : Bool) → (b && false) ≡ false
-    and-false true = refl
-    and-false false = refl
-
     turned : (y : Item) → x.identity ≡ id → bytes_eq x.identity y.identity ≡ false → bytes_eq y.identity id ≡ false
     turned y same differs = bytes_eq_swap y.identity id ∙ ap (λ z. bytes_eq z y.identity) (sym same) ∙ differs
 
     other : (y : Item) → x.identity ≡ id → bytes_eq x.identity y.identity ≡ false → bytes_eq (item_key y) (kind_number want ∷ id) ≡ false
-    other y same differs = ap (λ b. kind_is (kind_of y.content) want && b) (turned y same differs) ∙ and-false (kind_is (kind_of y.content) want)
+    other y same differs = ap (λ b. kind_is (kind_of y.content) want && b) (turned y same differs) ∙ and_right (kind_is (kind_of y.content) want) false refl
 
 -- the item of a mapped option
 item_behind : (o : Option Item) (kind : MovedKind) → Some kind ≡ option_map (λ i. kind_of i.content) o → (i : Item) × (o ≡ Some i) × (kind_of i.content ≡ kind)

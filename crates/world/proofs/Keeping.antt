@@ -1,6 +1,7 @@
 -- What a world keeps of what it stands for, when one request was served.
 use Rattle.std.proofs.Common.{◌≡◌, ◌≢◌, ◌↔◌, false, true, IsTrue, refl, sym, ap, subst, ◌∙◌, ℕ, ◌≤◌, Bool, List, length, Vec, Global, vec_capacity, Result, IfOk, Ok, Err, inl, inr}
 use Rattle.sqlite.specs.Store.{Ghosts}
+use Rattle.sheet_types.specs.Refuse.{greatest_receipts}
 use Rattle.sheet_types.specs.Step.{IsFault, outcome}
 use Rattle.sheet_types.specs.World.{World}
 use Rattle.sheet_types.specs.declared.command.Request.{Request}
@@ -49,7 +50,7 @@ room_stays old new room long has = (has.0, subst (λ n. n ≤ vec_capacity room)
 
 module _ {S : Type 0} (g : Ghosts S) where
   -- After a step there is a world that it stands for, if there was one before.
-  pub held_after : (q : Request) (old new : Seen S) (reply : Result Receipt Refusal) → IsHeld g old → new.frame ≡ old.frame → AllRest g new.members → new.count ≤ 1000000000 → IsStep g q old reply new → IsHeld g new
+  pub held_after : (q : Request) (old new : Seen S) (reply : Result Receipt Refusal) → IsHeld g old → new.frame ≡ old.frame → AllRest g new.members → new.count ≤ greatest_receipts → IsStep g q old reply new → IsHeld g new
   held_after q old new reply held frame rests counted it = record {
     rests = rests;
     good = rw frame held.good;

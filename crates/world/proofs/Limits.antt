@@ -8,7 +8,7 @@ use Rattle.std.specs.List.{list_any, AllByRecursion}
 use Rattle.sheet_types.specs.Answers.{sums_held}
 use Rattle.sheet_types.specs.Custody.{ticket, names_package}
 use Rattle.sheet_types.specs.Ordered.{put}
-use Rattle.sheet_types.specs.Refuse.{is_overfull, too_many}
+use Rattle.sheet_types.specs.Refuse.{is_overfull, too_many, greatest_packages, greatest_receipts}
 use Rattle.sheet_types.specs.Register.{IsRegister}
 use Rattle.sheet_types.specs.Step.{accepted, receipt_of}
 use Rattle.sheet_types.specs.World.{World, Package, is_live, holdings, no_package, receipts_of, changed, receipt_key}
@@ -96,12 +96,12 @@ module _ (w : World) (q : Request) (register : IsRegister w) (live : is_live w (
   is_carried : accepted w q ≡ changed after p w
   is_carried = carried_out_in_one w (receipt_of w q) q.command (meets_served q.command (holdings w p) fits.meets)
 
-  too_many_here : too_many (accepted w q) ≡ (list_any is_past_limits (sums_next w q) || nat_lt 256 (length w.packages) || nat_lt 1000000000 (length (receipts_of w) + 1))
+  too_many_here : too_many (accepted w q) ≡ (list_any is_past_limits (sums_next w q) || nat_lt greatest_packages (length w.packages) || nat_lt greatest_receipts (length (receipts_of w) + 1))
   too_many_here =
-      ap (λ n. list_any is_overfull (accepted w q).packages || nat_lt 256 (length (accepted w q).packages) || nat_lt 1000000000 n) number
-      ∙ ap (λ v. list_any is_overfull v.packages || nat_lt 256 (length v.packages) || nat_lt 1000000000 (length (receipts_of w) + 1)) is_carried
-      ∙ ap (λ b. b || nat_lt 256 (length (changed after p w).packages) || nat_lt 1000000000 (length (receipts_of w) + 1)) overfull
-      ∙ ap (λ n. list_any is_past_limits (sums_next w q) || nat_lt 256 n || nat_lt 1000000000 (length (receipts_of w) + 1)) count
+      ap (λ n. list_any is_overfull (accepted w q).packages || nat_lt greatest_packages (length (accepted w q).packages) || nat_lt greatest_receipts n) number
+      ∙ ap (λ v. list_any is_overfull v.packages || nat_lt greatest_packages (length v.packages) || nat_lt greatest_receipts (length (receipts_of w) + 1)) is_carried
+      ∙ ap (λ b. b || nat_lt greatest_packages (length (changed after p w).packages) || nat_lt greatest_receipts (length (receipts_of w) + 1)) overfull
+      ∙ ap (λ n. list_any is_past_limits (sums_next w q) || nat_lt greatest_packages n || nat_lt greatest_receipts (length (receipts_of w) + 1)) count
 
 pub too_many_by_sums : TooManyBySums
 too_many_by_sums w q register live fits = too_many_here w q register live fits

@@ -8,7 +8,7 @@ use Rattle.sqlite_trees.proofs.ListLemmas.{all-slice_get}
 use Rattle.sheet_types.specs.Answers.{sums_held}
 use Rattle.sheet_types.specs.Matrix.{first_row, is_within}
 use Rattle.sheet_types.specs.Ordered.{is_before, IsArranged}
-use Rattle.sheet_types.specs.Refuse.{too_many, bad_text, has_good_size, is_length_within}
+use Rattle.sheet_types.specs.Refuse.{too_many, greatest_items, greatest_links, greatest_packages, greatest_receipts, bad_text, has_good_size, is_length_within}
 use Rattle.sheet_types.specs.Register.{IsRegister}
 use Rattle.sheet_types.specs.Step.{accepted, receipt_of}
 use Rattle.sheet_types.specs.Texts.{size, is_moment}
@@ -57,11 +57,7 @@ get_set_other (y ∷ xs) (suc i) (suc j) x differs = get_set_other xs i j x (λ 
 pub any_at_place : {X : Type 0} (p : X → Bool) (xs : List X) (i : ℕ) (x : X) → slice_get xs i ≡ Some x → p x ≡ true → list_any p xs ≡ true
 any_at_place p [] i x place passes = absurd (None≢Some place)
 any_at_place p (y ∷ xs) zero x place passes = let same : y ≡ x = cc in ap (λ z. p z || list_any p xs) same ∙ ap (λ b. b || list_any p xs) passes
-any_at_place p (y ∷ xs) (suc i) x place passes = ap (λ b. p y || b) (any_at_place p xs i x place passes) ∙ either (p y)
-  where
-    either : (b : Bool) → (b || true) ≡ true
-    either true = refl
-    either false = refl
+any_at_place p (y ∷ xs) (suc i) x place passes = ap (λ b. p y || b) (any_at_place p xs i x place passes) ∙ or-true (p y)
 
 -- a number and one more is past a bound that the number has reached
 pub one_more_is_over : (bound n : ℕ) → nat_lt bound (n + 1) ≡ nat_le bound n
@@ -128,13 +124,13 @@ second_fails false false none = refl
 -- what comes in can be counted, within the limits
 more_is_counted : (some held : Sums) → some.bytes ≤ 1048576 → held.bytes ≤ 1048576 * (held.tiles + held.media + held.rows) → is_past_limits (sums_more some held) ≡ false → IsCounted (sums_more some held)
 more_is_counted some held small bytes within =
-    let last = or_parts (nat_lt 1000000 (held.tiles + some.tiles) || nat_lt 1000000 (held.media + some.media) || nat_lt 1000000 (held.rows + some.rows)) (nat_lt 4000000 (held.links + some.links)) within in
-    let third = or_parts (nat_lt 1000000 (held.tiles + some.tiles) || nat_lt 1000000 (held.media + some.media)) (nat_lt 1000000 (held.rows + some.rows)) last.0 in
-    let first = or_parts (nat_lt 1000000 (held.tiles + some.tiles)) (nat_lt 1000000 (held.media + some.media)) third.0 in
-    let tiles : held.tiles + some.tiles ≤ 1000000 = ltb-false 1000000 (held.tiles + some.tiles) first.0 in
-    let media : held.media + some.media ≤ 1000000 = ltb-false 1000000 (held.media + some.media) first.1 in
-    let rows : held.rows + some.rows ≤ 1000000 = ltb-false 1000000 (held.rows + some.rows) third.1 in
-    let links : held.links + some.links ≤ 4000000 = ltb-false 4000000 (held.links + some.links) last.1 in
+    let last = or_parts (nat_lt greatest_items (held.tiles + some.tiles) || nat_lt greatest_items (held.media + some.media) || nat_lt greatest_items (held.rows + some.rows)) (nat_lt greatest_links (held.links + some.links)) within in
+    let third = or_parts (nat_lt greatest_items (held.tiles + some.tiles) || nat_lt greatest_items (held.media + some.media)) (nat_lt greatest_items (held.rows + some.rows)) last.0 in
+    let first = or_parts (nat_lt greatest_items (held.tiles + some.tiles)) (nat_lt greatest_items (held.media + some.media)) third.0 in
+    let tiles : held.tiles + some.tiles ≤ 1000000 = ltb-false greatest_items (held.tiles + some.tiles) first.0 in
+    let media : held.media + some.media ≤ 1000000 = ltb-false greatest_items (held.media + some.media) first.1 in
+    let rows : held.rows + some.rows ≤ 1000000 = ltb-false greatest_items (held.rows + some.rows) third.1 in
+    let links : held.links + some.links ≤ 4000000 = ltb-false greatest_links (held.links + some.links) last.1 in
     record { tiles = omega (arith, tiles); media = omega (arith, media); rows = omega (arith, rows); links = omega (arith, links); bytes = omega (arith, small, bytes, tiles, media, rows) }
 
 module _ (w : World) (id at : List ℕ) (register : IsRegister w) where
@@ -171,7 +167,7 @@ module _ (w : World) (id at : List ℕ) (register : IsRegister w) where
       let here : holdings w (package_of command) ≡ one.0 = ap (λ o. unwrap_or o no_package) one.1 in
       let passes : is_past_limits (sums_after command (moved command) (sums_held one.0)) ≡ true = subst (λ x. is_past_limits (sums_after command (moved command) (sums_held x)) ≡ true) here past in
       too_many_by_sums w (asking command) register live fits
-      ∙ ap (λ b. b || nat_lt 256 (length w.packages) || nat_lt 1000000000 (length (receipts_of w) + 1))
+      ∙ ap (λ b. b || nat_lt greatest_packages (length w.packages) || nat_lt greatest_receipts (length (receipts_of w) + 1))
       (one_passes (package_of command) (sums_after command (moved command)) is_past_limits w.packages one.0 one.1 passes)
 
   uncounted : (command : Command) → is_live w (package_of command) ≡ true → Fits (receipt_of w (asking command)) command (holdings w (package_of command)) → first_row (text_reasons (asking command)) ≡ None
@@ -214,9 +210,9 @@ module _ {S : Type 0} (g : Ghosts S) where
 
   pub members_tell_too_many : MembersTellTooMany g
   members_tell_too_many members count at w q was are stands place fits =
-      ap (λ ss. list_any is_past_limits ss || nat_lt 256 (length members) || nat_lt 1000000000 (count + 1)) (members_hold_next members count at w q was are stands place)
-      ∙ ap (λ n. list_any is_past_limits (sums_next w q) || nat_lt 256 n || nat_lt 1000000000 (count + 1)) (zip_length (IsMember g w) members w.packages are.each)
-      ∙ ap (λ n. list_any is_past_limits (sums_next w q) || nat_lt 256 (length w.packages) || nat_lt 1000000000 (n + 1)) are.counted
+      ap (λ ss. list_any is_past_limits ss || nat_lt greatest_packages (length members) || nat_lt greatest_receipts (count + 1)) (members_hold_next members count at w q was are stands place)
+      ∙ ap (λ n. list_any is_past_limits (sums_next w q) || nat_lt greatest_packages n || nat_lt greatest_receipts (count + 1)) (zip_length (IsMember g w) members w.packages are.each)
+      ∙ ap (λ n. list_any is_past_limits (sums_next w q) || nat_lt greatest_packages (length w.packages) || nat_lt greatest_receipts (n + 1)) are.counted
       ∙ sym (too_many_by_sums w q are.register (stands.live w count are) fits)
 
   pub members_tell_uncounted : MembersTellUncounted g

@@ -1,12 +1,12 @@
 -- Looks at the package of one store, one after the other, and what is judged by them.
-use Rattle.std.proofs.Common.{◌≡◌, refl, sym, subst, ◌∙◌, inl, Result, Ok, Err, IsErr, IsTrue, arith}
+use Rattle.std.proofs.Common.{◌≡◌, sym, subst, ◌∙◌, Result, Ok, Err, IsErr, IsTrue, arith}
 use Rattle.sqlite.specs.Store.{Ghosts}
 use Rattle.sqlite.specs.Held.{Held, state}
-use Rattle.sqlite.specs.State.{State, HasCleanDisk, Survives}
+use Rattle.sqlite.specs.State.{State, HasCleanDisk}
 use Rattle.sql_meaning.specs.Transactions.{Rests, Looks}
 use Rattle.sql_meaning.specs.Staying.{Stays}
 use Rattle.sql_meaning.proofs.Staying.{looks_stays, stays_then}
-use Rattle.sql_meaning.proofs.Transactions.{Shuts, Settles, at_rest}
+use Rattle.sql_meaning.proofs.Transactions.{Shuts, Settles, at_rest, same_survives}
 use Rattle.sheet_types.specs.World.{Package}
 use Rattle.sheet_types.specs.declared.frame.Frame.{Frame}
 use Rattle.identity_register.specs.Calls.{Sees}
@@ -55,9 +55,6 @@ judges_not (Err e) failed it = record { stays = it; stays_open = λ clean. tt; t
 pub judges_so : {X E : Type 0} (Given : Frame → Package → X → Type 0) {Answer : Frame → Package → X → Type 0} {old new : State} (r : Result X E) → ((x : X) (f : Frame) (p : Package) → Given f p x → Answer f p x) → Judges {X = X} {E = E} Given old new r → Judges {X = X} {E = E} Answer old new r
 judges_so Given (Ok x) so it = record { stays = it.stays; stays_open = it.stays_open; told = λ clean f p reads. so x f p (it.told clean f p reads) }
 judges_so Given (Err e) so it = record { stays = it.stays; stays_open = λ clean. tt; told = λ clean. tt }
-
-same_survives : (s : State) → Survives s s (λ _. ⊥)
-same_survives s = record { clean = omega arith; shield = λ h. h; counts = omega arith; limit = refl; closes = λ _ h. inl h; crash = λ _ db h. inl h }
 
 module _ {S : Type 0} (g : Ghosts S) (shuts : Shuts g) (settles : Settles g) where
   -- a store at rest that no one looks at stays as it is

@@ -1,6 +1,7 @@
 -- What serving a request says in each of the ways in which it ends.
 use Rattle.std.proofs.Common.{◌≡◌, refl, sym, ap, subst, ◌∙◌, ℕ, ◌+◌, ◌≤◌, List, Result, Ok, Err, IsErr, IsErrAnd, IfOk, ◌⊎◌}
 use Rattle.std.specs.List.{AllZip}
+use Rattle.sheet_types.specs.Refuse.{greatest_receipts}
 use Rattle.sheet_types.specs.Step.{outcome}
 use Rattle.sqlite.specs.Store.{Ghosts}
 use Rattle.sheet_types.specs.World.{World}
@@ -76,7 +77,7 @@ module _ {S : Type 0} (g : Ghosts S) where
     unharmed = λ none. absurd none;
   }
 
-  module _ (shuts : Shuts g) (settles : Settles g) (f : Frame) (q : Request) (served : IsServed q.command) (old mid : List (Member S)) (at_rest : AllRest g old) (before : ℕ) (low : before ≤ 1000000000) where
+  module _ (shuts : Shuts g) (settles : Settles g) (f : Frame) (q : Request) (served : IsServed q.command) (old mid : List (Member S)) (at_rest : AllRest g old) (before : ℕ) (low : before ≤ greatest_receipts) where
     asked : (w : World) → f ≡ w.frame → AreMembers g old before w → IsAskedOf f before q w
     asked w same are = record { frame = same; counted = are.counted; served = served }
 
@@ -148,7 +149,7 @@ module _ {S : Type 0} (g : Ghosts S) where
         made_opens {made} {receipt} went clean changes = subst (λ m. IfOk m (λ r. AllOpen g mid → AllOpen g new)) went (changes.opens clean)
 
         -- and it was carried out
-        pub serves_carried_out : {made : Result Receipt TurnFault} {receipt : Receipt} → made ≡ Ok receipt → before + 1 ≤ 1000000000 → Changes g change q.command mid new before after made → Serves g f q old new before after (Ok (Ok receipt))
+        pub serves_carried_out : {made : Result Receipt TurnFault} {receipt : Receipt} → made ≡ Ok receipt → before + 1 ≤ greatest_receipts → Changes g change q.command mid new before after made → Serves g f q old new before after (Ok (Ok receipt))
         serves_carried_out {made} {receipt} went next changes = record {
           rests = changes.rests;
           counted = rw (changes.ok receipt went).1 next;

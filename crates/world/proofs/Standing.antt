@@ -1,8 +1,7 @@
 -- Members that were only read stand for the world that they stood for, and a look at one of them reads one.
-use Rattle.std.proofs.Common.{◌≡◌, refl, sym, ap, subst, ◌∙◌, ℕ, zero, suc, ◌<◌, List, [], ◌∷◌, length, slice_get, Some, Result, Ok, arith}
-use Rattle.std.specs.Prelude.{All, slice_set, IsTrue}
+use Rattle.std.proofs.Common.{◌≡◌, refl, sym, ap, subst, ◌∙◌, ℕ, zero, suc, List, [], ◌∷◌, length, slice_get, Some, Result, Ok, arith}
+use Rattle.std.specs.Prelude.{slice_set, IsTrue}
 use Rattle.std.specs.List.{AllZip, AllByRecursion}
-use Rattle.std.proofs.lemmas.List.{get_or-set_same, length-set}
 use Rattle.std.proofs.lemmas.List.Elements.{All-set, All-from_recursion, recursion_from_All}
 use Rattle.std.proofs.lemmas.Option.{slice_get_within}
 use Rattle.sqlite.specs.Store.{Ghosts}
@@ -13,6 +12,7 @@ use Rattle.sheet_types.specs.declared.frame.Frame.{Frame}
 use Rattle.sql_meaning.specs.Transactions.{Rests, Looks}
 use Rattle.sql_meaning.specs.Staying.{Stays}
 use Rattle.sql_meaning.proofs.Staying.{stays_then}
+use Rattle.sql_meaning.proofs.StoreLemmas.{at_set}
 use Rattle.sql_meaning.proofs.Transactions.{Shuts, Settles}
 use Rattle.identity_register.specs.Calls.{Sees}
 use Rattle.identity_register.specs.Reads.{Reads}
@@ -58,9 +58,6 @@ zip_length R [] [] zip = refl
 zip_length R [] (y ∷ ys) zip = absurd zip
 zip_length R (x ∷ xs) [] zip = absurd zip
 zip_length R (x ∷ xs) (y ∷ ys) zip = ap suc (zip_length R xs ys zip.1)
-
-at_set : {X : Type 0} (P : X → Type 0) (xs : List X) (i : ℕ) (x : X) → i < length xs → All P (slice_set xs i x) → P x
-at_set P xs i x within all = subst P (get_or-set_same xs i x x within) (all i x (rw (length-set xs i x) within))
 
 -- what stands at a place has what each has
 pub at_place : {X : Type 0} (P : X → Type 0) (xs : List X) (at : ℕ) (x : X) → slice_get xs at ≡ Some x → AllByRecursion P xs → P x

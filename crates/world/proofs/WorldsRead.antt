@@ -7,18 +7,9 @@ use Rattle.world.specs.Asking.{AsksAll}
 use Rattle.world.specs.Members.{AllStay}
 use Rattle.world.specs.Worlds.{Seen, StandsFor, IsHeld, IsRead, TellsOf}
 use Rattle.world.specs.declared.members.Member.{Member}
-use Rattle.world.proofs.Standing.{members_stay, clean_before, all_stay_then}
+use Rattle.world.proofs.Standing.{members_stay, clean_before}
 
 module _ {S : Type 0} (g : Ghosts S) where
-  -- one reading after another
-  pub read_then : (a b c : Seen S) → IsRead g a b → IsRead g b c → IsRead g a c
-  read_then a b c first next = record {
-    same = subst (λ s. c ≡ record s { members = c.members }) first.same next.same;
-    stay = all_stay_then g a.members b.members c.members first.stay next.stay;
-    clean = λ clean. first.clean (next.clean clean);
-    stands = λ w stands. next.stands w (first.stands w stands);
-  }
-
   module _ (f : Frame) (old new : List (Member S)) (count : ℕ) (has_failed : Bool) where
     abbrev before : Seen S
     before = record { frame = f; members = old; count = count; has_failed = has_failed }

@@ -1,5 +1,5 @@
 -- When no world is made. Profile.
-use Rattle.std.specs.Prelude.{◌≡◌, ◌⊎◌, ◌≤◌, ℕ, not, List, [], length, Vec, vec_capacity, Option, Result, Err, IfErr, MatchOption}
+use Rattle.std.specs.Prelude.{◌≡◌, ◌≤◌, ℕ, not, List, [], length, Vec, vec_capacity, Option, Result, Err, IfErr, MatchOption}
 use Rattle.std.specs.Bool.{then_some}
 use Rattle.std.specs.Option.{option_or, option_map}
 use Rattle.std.specs.declared.alloc.Global.{Global}
@@ -7,22 +7,16 @@ use Rattle.sheet_types.specs.Matrix.{frame_fault}
 use Rattle.sheet_types.specs.Texts.{is_moment}
 use Rattle.sheet_types.specs.declared.frame.Frame.{Frame}
 use Rattle.package_tables.specs.declared.fault.Fault.{Fault}
-use Rattle.package_tables.specs.declared.fault.Fault.TheVariants as fault
 use Rattle.world.specs.declared.creating.CreateFault.{CreateFault}
-use Rattle.world.specs.declared.creating.CreateFault.TheVariants.{BadFrame, BadText, OutOfMemory, StoreFault}
-
--- how a fault of the store is told
-abbrev pub told_as : Fault → CreateFault
-told_as fault.OutOfMemory = OutOfMemory
-told_as fault.StoreFault = StoreFault
+use Rattle.world.specs.declared.creating.CreateFault.TheVariants.{BadFrame, BadText, Failed}
 
 -- what is wrong with what is handed in: the first rule that the frame breaks, or else the moment
 abbrev pub create_refusal : Frame → List ℕ → Option CreateFault
 create_refusal f at = option_or (option_map BadFrame (frame_fault f)) (then_some (not (is_moment at)) BadText)
 
--- Where something is wrong that is the answer, and else no other fault than the store's is.
+-- Where something is wrong that is the answer, and else no other fault than want of memory or the store's is.
 abbrev pub IsCreatedOrRefused : {X : Type 0} → Frame → List ℕ → Result X CreateFault → Type 0
-IsCreatedOrRefused f at r = MatchOption (create_refusal f at) (IfErr r (λ e. (e ≡ OutOfMemory) ⊎ (e ≡ StoreFault))) (λ why. r ≡ Err why)
+IsCreatedOrRefused f at r = MatchOption (create_refusal f at) (IfErr r (λ why. (fault : Fault) × (why ≡ Failed fault))) (λ why. r ≡ Err why)
 
 -- an empty list has room for one of each of these
 abbrev pub HasRoom : {X Y : Type 0} → List X → Vec Y Global → Type 0

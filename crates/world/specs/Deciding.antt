@@ -4,7 +4,7 @@ use Rattle.std.specs.Bool.{then_some}
 use Rattle.std.specs.Option.{option_or}
 use Rattle.sheet_types.specs.Custody.{kept}
 use Rattle.sheet_types.specs.Matrix.{first_row}
-use Rattle.sheet_types.specs.Refuse.{identity_used}
+use Rattle.sheet_types.specs.Refuse.{identity_used, greatest_receipts}
 use Rattle.sheet_types.specs.Step.{outcome, receipt_of}
 use Rattle.sheet_types.specs.World.{World, is_live, holdings, receipts_of}
 use Rattle.sheet_types.specs.declared.command.Request.{Request}
@@ -43,4 +43,4 @@ Decides w q (Due due) = (due.receipt ≡ receipt_of w q) × (outcome w q ≡ (Ok
 -- A change that is due has its place among the members, and its receipt the next number, which is not too great.
 abbrev pub HasPlace : {S : Type 0} → List (Member S) → ℕ → Decision → Type 0
 HasPlace members count (Answered reply) = Unit {0}
-HasPlace members count (Due due) = (due.at < length members) × (due.receipt.seq ≡ count + 1) × (count + 1 ≤ 1000000000)
+HasPlace members count (Due due) = (due.at < length members) × (due.receipt.seq ≡ count + 1) × (count + 1 ≤ greatest_receipts)

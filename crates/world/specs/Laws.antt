@@ -1,5 +1,6 @@
 -- A request is refused for the first of the reasons that its parts are judged by. Profile.
 use Rattle.std.specs.Prelude.{◌≡◌, ℕ, Bool, true, false, List, [], ◌∷◌, ◌++◌}
+use Rattle.std.specs.List.{AllByRecursion}
 use Rattle.sheet_types.specs.Matrix.{first_row}
 use Rattle.sheet_types.specs.World.{World, Package, is_live, holdings, changed}
 use Rattle.sheet_types.specs.Step.{carried_out}
@@ -21,6 +22,10 @@ IsServed (Link uuid mapping base media) = Unit {0}
 IsServed (Unlink uuid mapping base media) = Unit {0}
 IsServed (Split uuid child mode rect) = ⊥
 IsServed (Merge child into ticket) = ⊥
+
+-- every command of these requests is served
+abbrev pub AreServed : List Request → Type 0
+AreServed requests = AllByRecursion (λ request. IsServed request.command) requests
 
 -- the package that a command changes; of a split the one that it takes from, of a merge the one that takes all
 abbrev pub package_of : Command → List ℕ

@@ -3,13 +3,13 @@ use Rattle.std.specs.Prelude.{◌≡◌, ℕ, List, All, Some, slice_get, slice_
 use Rattle.std.specs.List.{AllZip}
 use Rattle.sqlite.specs.Store.{Ghosts}
 use Rattle.sqlite.specs.Held.{Held, state}
-use Rattle.sqlite.specs.State.{State, HasCleanDisk}
+use Rattle.sqlite.specs.State.{State}
 use Rattle.sheet_types.specs.World.{World, Package, receipts_of}
 use Rattle.sheet_types.specs.Custody.{ticket}
 use Rattle.sheet_types.specs.Answers.{sums_held}
 use Rattle.sheet_types.specs.Register.{IsRegister}
-use Rattle.sql_meaning.specs.Transactions.{Rests}
 use Rattle.sql_meaning.specs.Staying.{Stays}
+use Rattle.sql_meaning.specs.Stores.{AllRest as AllRestIn, AllClean as AllCleanIn}
 use Rattle.sheet_types.specs.declared.frame.Frame.{Frame}
 use Rattle.identity_register.specs.Creation.{IsMadeAt}
 use Rattle.identity_register.specs.Reads.{Reads}
@@ -18,11 +18,11 @@ use Rattle.world.specs.declared.members.Member.{Member}
 module _ {S : Type 0} (g : Ghosts S) where
   -- no store is inside a transaction
   abbrev pub AllRest : List (Member S) → Type 0
-  AllRest members = All (λ m. Rests (state g m.conn)) members
+  AllRest = AllRestIn g (λ m. m.conn)
 
   -- each disk has given back what was written
   abbrev pub AllClean : List (Member S) → Type 0
-  AllClean members = All (λ m. HasCleanDisk (state g m.conn)) members
+  AllClean = AllCleanIn g (λ m. m.conn)
 
   -- all stores are open
   abbrev pub AllOpen : List (Member S) → Type 0

@@ -1,6 +1,7 @@
 -- What one request makes of the members of a world, and what is replied. Profile.
 use Rattle.std.specs.Prelude.{◌≡◌, ◌≤◌, ℕ, ◌+◌, ⊤, List, Result, Ok, Err, IfOk, IsErr}
 use Rattle.sqlite.specs.Store.{Ghosts}
+use Rattle.sheet_types.specs.Refuse.{greatest_receipts}
 use Rattle.sheet_types.specs.Step.{outcome}
 use Rattle.sheet_types.specs.World.{World}
 use Rattle.sheet_types.specs.declared.command.Command.{Command}
@@ -47,7 +48,7 @@ module _ {S : Type 0} (g : Ghosts S) where
   -- One request was served. Where each disk has given back what was written, it was served as the model says; and unless the reply is a receipt the members stand for what they stood for.
   pub record Serves (f : Frame) (q : Request) (old new : List (Member S)) (before after : ℕ) (r : Result (Result Receipt Refusal) TurnFault) : Type 0 where
     pub rests : AllRest g new
-    pub counted : after ≤ 1000000000
+    pub counted : after ≤ greatest_receipts
     pub clean : AllClean g new → AllClean g old
     pub told : AllClean g new → (reply : Result Receipt Refusal) → r ≡ Ok reply → (w : World) → f ≡ w.frame → AreMembers g old before w → IsServedBy w q new after reply
     pub refused : (why : Refusal) → r ≡ Ok (Err why) → (w : World) → AreMembers g old before w → AreMembers g new after w

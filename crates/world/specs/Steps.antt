@@ -7,7 +7,7 @@ use Rattle.sheet_types.specs.Answers.{sums_held}
 use Rattle.sheet_types.specs.Custody.{kept, ticket}
 use Rattle.sheet_types.specs.Lines.{IsUuid, HasTypes}
 use Rattle.sheet_types.specs.Matrix.{first_row}
-use Rattle.sheet_types.specs.Refuse.{refusal, identity_used, too_many}
+use Rattle.sheet_types.specs.Refuse.{greatest_items, greatest_links, greatest_packages, greatest_receipts, refusal, identity_used, too_many}
 use Rattle.sheet_types.specs.Register.{IsRegister}
 use Rattle.sheet_types.specs.Step.{accepted, added_item, outcome, receipt_of}
 use Rattle.sheet_types.specs.Texts.{line}
@@ -117,7 +117,7 @@ BytesWithin = (w : World) (p : List ℕ) → IsRegister w → is_live w p ≡ tr
 
 -- so much is past a limit of a package
 abbrev pub is_past_limits : Sums → Bool
-is_past_limits held = nat_lt 1000000 held.tiles || nat_lt 1000000 held.media || nat_lt 1000000 held.rows || nat_lt 4000000 held.links
+is_past_limits held = nat_lt greatest_items held.tiles || nat_lt greatest_items held.media || nat_lt greatest_items held.rows || nat_lt greatest_links held.links
 
 -- what each package holds after a request
 abbrev pub sums_next : World → Request → List Sums
@@ -126,7 +126,7 @@ sums_next w q = map (λ x. if bytes_eq x.uuid (package_of q.command) then sums_a
 -- Whether a request would leave too many is told by what each package holds, the number of packages and that of the receipts.
 abbrev pub TooManyBySums : Type 0
 TooManyBySums = (w : World) (q : Request) → IsRegister w → is_live w (package_of q.command) ≡ true → Fits (receipt_of w q) q.command (holdings w (package_of q.command)) →
-    too_many (accepted w q) ≡ (list_any is_past_limits (sums_next w q) || nat_lt 256 (length w.packages) || nat_lt 1000000000 (length (receipts_of w) + 1))
+    too_many (accepted w q) ≡ (list_any is_past_limits (sums_next w q) || nat_lt greatest_packages (length w.packages) || nat_lt greatest_receipts (length (receipts_of w) + 1))
 
 -- ---- the tickets
 

@@ -4,7 +4,7 @@ use Rattle.std.specs.List.{list_any}
 use Rattle.sqlite.specs.Store.{Ghosts}
 use Rattle.sheet_types.specs.Answers.{sums_held}
 use Rattle.sheet_types.specs.Matrix.{first_row}
-use Rattle.sheet_types.specs.Refuse.{too_many}
+use Rattle.sheet_types.specs.Refuse.{greatest_packages, greatest_receipts, too_many}
 use Rattle.sheet_types.specs.Register.{IsRegister}
 use Rattle.sheet_types.specs.Step.{accepted, receipt_of}
 use Rattle.sheet_types.specs.World.{World, is_live, holdings}
@@ -25,7 +25,7 @@ sums_with members at sums = slice_set (map (λ m. m.sums) members) at sums
 
 -- A member is past the limits, or there are too many members, or one receipt more is too many.
 abbrev pub leaves_too_many : {S : Type 0} → List (Member S) → ℕ → Sums → ℕ → Bool
-leaves_too_many members at sums count = list_any is_past_limits (sums_with members at sums) || nat_lt 256 (length members) || nat_lt 1000000000 (count + 1)
+leaves_too_many members at sums count = list_any is_past_limits (sums_with members at sums) || nat_lt greatest_packages (length members) || nat_lt greatest_receipts (count + 1)
 
 -- What the package of a command holds after it cannot be counted only where the request would leave too many. The texts of the request are not refused.
 abbrev pub TooManyUncounted : Type 0

@@ -5,6 +5,7 @@ use Rattle.std.specs.Coded.{Coded, code_by, coded×, coded_bool, coded_list, cod
 use Rattle.sqlite.specs.Store.{Ghosts}
 use Rattle.sqlite.specs.Held.{Held, held_code}
 use Rattle.sheet_types.specs.Matrix.{is_good_frame}
+use Rattle.sheet_types.specs.Refuse.{greatest_receipts}
 use Rattle.sheet_types.specs.Step.{Step, Run, IsFault, outcome}
 use Rattle.sheet_types.specs.World.{World}
 use Rattle.sheet_types.specs.declared.command.Request.{Request}
@@ -60,7 +61,7 @@ module _ {S : Type 0} (g : Ghosts S) where
   pub record IsHeld (seen : Seen S) : Type 0 where
     pub rests : AllRest g seen.members
     pub good : IsTrue (is_good_frame seen.frame)
-    pub counted : seen.count ≤ 1000000000
+    pub counted : seen.count ≤ greatest_receipts
     pub stands : AllClean g seen.members → (w : World) × StandsFor seen w
 
   -- The reply and the world afterwards are a step of each world that it stood for, where each disk has given back what was written.

@@ -1,8 +1,9 @@
 // One request over the members of a world: what it comes to is decided, and where a change is due it is carried out.
-ghost use Rattle.std.specs.Prelude.{◌≡◌, ◌≤◌, IsTrue, length};
+ghost use Rattle.std.specs.Prelude.{◌≡◌, ◌≤◌, ◌↔◌, IsTrue, length};
 ghost use Rattle.sheet_types.specs.Matrix.{is_good_frame};
+ghost use Rattle.sheet_types.specs.Refuse.{greatest_receipts};
 ghost use Rattle.world.specs.Deciding.{HasPlace};
-ghost use Rattle.world.specs.Laws.{IsServed};
+ghost use Rattle.world.specs.Laws.{IsServed, AreServed};
 ghost use Rattle.world.specs.Members.{AllRest};
 ghost use Rattle.world.specs.Serving.{Changes, Serves};
 ghost use Rattle.world.specs.declared.deciding.Decision.TheVariants.{Due};
@@ -30,6 +31,13 @@ pub fn is_served(command: &Command) -> bool
         | Command::Unlink { .. } => true,
         Command::Split { .. } | Command::Merge { .. } => false,
     }
+}
+
+/// Whether `World::run` serves a list: whether it serves the command of each request.
+pub fn are_served(requests: &[Request]) -> bool
+    ensures { IsTrue result ↔ AreServed requests.now }
+{
+    requests.iter().all(|request| is_served(&request.command))
 }
 
 /// Carries out a change that is due. The count of receipts goes on by the one that is entered with it.
@@ -60,7 +68,7 @@ pub(crate) fn serve<S: Alter + Drop>(
     requires served { IsServed request.now.command }
     requires rests { AllRest S.Store members.old.items }
     requires good { IsTrue (is_good_frame frame.now) }
-    requires counted { count.old ≤ 1000000000 }
+    requires counted { count.old ≤ greatest_receipts }
     ensures serves { Serves S.Store frame.now request.now members.old.items members.new.items count.old count.new result }
     ensures long { length members.new.items ≡ length members.old.items }
 {

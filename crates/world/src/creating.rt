@@ -27,22 +27,17 @@ pub enum CreateFault {
     BadFrame(FrameFault),
     /// The moment of its making is none.
     BadText,
-    /// A growth was refused.
-    OutOfMemory,
-    /// The store failed, or was inside a transaction.
-    StoreFault,
+    /// A growth was refused, or the store failed or was inside a transaction.
+    Failed(Fault),
 }
 
 impl From<Fault> for CreateFault {
-    ghost use Rattle.world.specs.Creating.{told_as};
+    ghost use Rattle.world.specs.declared.creating.CreateFault.TheVariants.{Failed};
 
-    ghost from_gives = { λ fault why. why ≡ told_as fault };
+    ghost from_gives = { λ fault why. why ≡ Failed fault };
 
     fn from(fault: Fault) -> CreateFault {
-        match fault {
-            Fault::OutOfMemory => CreateFault::OutOfMemory,
-            Fault::StoreFault => CreateFault::StoreFault,
-        }
+        CreateFault::Failed(fault)
     }
 }
 

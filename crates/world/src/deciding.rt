@@ -4,7 +4,7 @@ ghost use Rattle.std.specs.Option.{option_map_or};
 ghost use Rattle.sheet_types.specs.Custody.{kept, is_used};
 ghost use Rattle.sheet_types.specs.Lines.{HasTypes};
 ghost use Rattle.sheet_types.specs.Matrix.{is_good_frame};
-ghost use Rattle.sheet_types.specs.Refuse.{identity_used};
+ghost use Rattle.sheet_types.specs.Refuse.{identity_used, greatest_receipts};
 ghost use Rattle.sheet_types.specs.Step.{receipt_of};
 ghost use Rattle.sheet_types.specs.Texts.{line};
 ghost use Rattle.sheet_types.specs.World.{World, holdings};
@@ -195,7 +195,7 @@ fn prepared<S: Alter + Drop>(
 ) -> Result<Decision, Fault>
     requires within { at < length members.old.items }
     requires rests { AllRest S.Store members.old.items }
-    requires small { count ≤ 1000000000 }
+    requires small { count ≤ greatest_receipts }
     ensures asks { AsksAll S.Store (λ w decision. IsPlaced w.frame count at request.now w → refusal_before w request.now ≡ None → Decides w request.now decision) members.old.items members.new.items result }
     ensures place { IfOk result (λ decision. HasPlace members.new.items count decision) }
 {
@@ -220,7 +220,7 @@ fn decide_at<S: Alter + Drop>(
     requires within { at < length members.old.items }
     requires rests { AllRest S.Store members.old.items }
     requires good { IsTrue (is_good_frame frame.now) }
-    requires small { count ≤ 1000000000 }
+    requires small { count ≤ greatest_receipts }
     ensures asks { AsksAll S.Store (λ w decision. IsPlaced frame.now count at request.now w → Decides w request.now decision) members.old.items members.new.items result }
     ensures place { IfOk result (λ decision. HasPlace members.new.items count decision) }
 {
@@ -240,7 +240,7 @@ fn decide_new<S: Alter + Drop>(
 ) -> Result<Decision, Fault>
     requires rests { AllRest S.Store members.old.items }
     requires good { IsTrue (is_good_frame frame.now) }
-    requires small { count ≤ 1000000000 }
+    requires small { count ≤ greatest_receipts }
     ensures asks { AsksAll S.Store (λ w decision. IsAskedOf frame.now count request.now w → kept w request.now.id ≡ None → Decides w request.now decision) members.old.items members.new.items result }
     ensures place { IfOk result (λ decision. HasPlace members.new.items count decision) }
 {
@@ -264,7 +264,7 @@ pub fn decide<S: Alter + Drop>(
 ) -> Result<Decision, Fault>
     requires rests { AllRest S.Store members.old.items }
     requires good { IsTrue (is_good_frame frame.now) }
-    requires small { count ≤ 1000000000 }
+    requires small { count ≤ greatest_receipts }
     ensures asks { AsksAll S.Store (λ w decision. IsAskedOf frame.now count request.now w → Decides w request.now decision) members.old.items members.new.items result }
     ensures place { IfOk result (λ decision. HasPlace members.new.items count decision) }
 {

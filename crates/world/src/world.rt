@@ -1,6 +1,5 @@
 // An archive and its loans, and what requests make of them.
 ghost use Rattle.std.specs.Prelude.{◌≡◌, ◌↔◌, true, false, Err, IfOk, OnErr, IsTrue};
-ghost use Rattle.std.specs.List.{AllByRecursion};
 ghost use Rattle.sqlite.specs.Held.{state};
 ghost use Rattle.sqlite.specs.State.{HasCleanDisk};
 ghost use Rattle.sheet_types.specs.Step.{IsFault};
@@ -9,7 +8,7 @@ ghost use Rattle.sql_meaning.specs.Blank.{IsBlank, no_schema};
 ghost use Rattle.world.specs.Creating.{IsCreatedOrRefused};
 ghost use Rattle.world.specs.Members.{AllClean, AllMadeAt};
 ghost use Rattle.sheet_types.specs.declared.refusal.Refusal.TheVariants.{StoreFault};
-ghost use Rattle.world.specs.Laws.{IsServed};
+ghost use Rattle.world.specs.Laws.{IsServed, AreServed};
 ghost use Rattle.world.specs.Worlds.{StandsFor, IsStep, IsRun, StandsStill, StaysOpen, LeavesNoTrace};
 
 use crate::applying::serve;
@@ -158,7 +157,7 @@ impl<S: Alter + Drop> World<S> {
         requests: &[Request],
         shelf: &mut H,
     ) -> Result<Vec<Result<Receipt, Refusal>>, OutOfMemory>
-        requires served { AllByRecursion (λ q. IsServed q.command) requests.now }
+        requires served { AreServed requests.now }
         ensures ran { IfOk result (λ replies. IsRun S.Store requests.now self.old replies.items self.new) }
         ensures refused { OnErr result (self.new ≡ self.old) }
     {

@@ -6,7 +6,7 @@ use Rattle.manifest_csv.specs.Reports.{report_header}
 use Rattle.manifest_csv.specs.Sent.{WentOut}
 use Rattle.manifest_csv.specs.declared.importing.ImportFault.TheVariants.{Unwritten}
 use Rattle.world.proofs.Served.{turned_into}
-use Rattle.manifest_csv.proofs.ImportFacts.{all_served, after_header, header_unwritten, imported}
+use Rattle.manifest_csv.proofs.ImportFacts.{after_header, header_unwritten, imported}
 use Rattle.manifest_csv.proofs.importing.import.Goals as goal
 
 pub returns-in_err-send : goal.returns-in_err-send
@@ -17,7 +17,7 @@ returns-in_err-send g c =
     (c.in_ok-requests.requests.items, c.in_ok-requests.ensures.list, header_unwritten g.S.Store c.in_ok-requests.requests.items c.args.world.now (g.W.Write.contents c.args.writer.now) (g.W.Write.contents c.send.new.writer) header)
 
 pub report_each-requires-clause-served : goal.report_each-requires-clause-served
-report_each-requires-clause-served g c = rw c.as_slice.ensures.value (all_served c.in_ok-requests.requests.items c.in_ok-requests.ensures.served)
+report_each-requires-clause-served g c = rw c.as_slice.ensures.value c.in_ok-requests.ensures.served
 
 pub returns : goal.returns
 returns g c =

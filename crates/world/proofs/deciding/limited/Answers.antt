@@ -5,6 +5,7 @@ use Rattle.std.specs.List.{list_any}
 use Rattle.std.proofs.lemmas.Bool.{or_parts, ltb-false}
 use Rattle.world.specs.TooMany.{sums_with}
 use Rattle.std.proofs.lemmas.Option.{slice_get_read}
+use Rattle.sheet_types.specs.Refuse.{greatest_packages, greatest_receipts}
 use Rattle.sheet_types.specs.Step.{receipt_of}
 use Rattle.sheet_types.specs.declared.receipt.Sums.{Sums}
 use Rattle.world.specs.Steps.{is_past_limits, sums_moved, sums_after}
@@ -38,5 +39,5 @@ returns-in-Some-2-clause-decides g c = λ w are placed before made.
 
 pub returns-in-Some-2-clause-place : goal.returns-in-Some-2-clause-place
 returns-in-Some-2-clause-place g c =
-    let over = or_parts (list_any is_past_limits (sums_with c.args.members.now c.args.at c.in-Some.sums) || nat_lt 256 (length c.args.members.now)) (nat_lt 1000000000 (c.args.count + 1)) (sym c.is_too_many.ensures ∙ c.if-is_too_many.false) in
-    (c.requires.within, c.requires.number, ltb-false 1000000000 (c.args.count + 1) over.1)
+    let over = or_parts (list_any is_past_limits (sums_with c.args.members.now c.args.at c.in-Some.sums) || nat_lt greatest_packages (length c.args.members.now)) (nat_lt greatest_receipts (c.args.count + 1)) (sym c.is_too_many.ensures ∙ c.if-is_too_many.false) in
+    (c.requires.within, c.requires.number, ltb-false greatest_receipts (c.args.count + 1) over.1)

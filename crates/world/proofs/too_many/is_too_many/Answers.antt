@@ -3,6 +3,7 @@ use Rattle.std.proofs.Common.{◌∙◌, sym, ap, ◌+◌, ◌||◌, length}
 use Rattle.std.specs.Prelude.{nat_lt}
 use Rattle.std.specs.List.{list_any}
 use Rattle.std.proofs.lemmas.Bool.{lt-ltb, le-ltb}
+use Rattle.sheet_types.specs.Refuse.{greatest_packages, greatest_receipts}
 use Rattle.sheet_types.proofs.Basics.{or-true}
 use Rattle.world.specs.Steps.{is_past_limits}
 use Rattle.world.specs.TooMany.{sums_with}
@@ -11,15 +12,15 @@ use Rattle.world.proofs.too_many.is_too_many.Goals as goal
 
 pub returns-then-any_past_limits : goal.returns-then-any_past_limits
 returns-then-any_past_limits g c =
-    sym (ap (λ b. b || nat_lt 256 (length c.args.members.now) || nat_lt 1000000000 (c.args.count + 1)) (sym c.any_past_limits.ensures ∙ c.if-any_past_limits.true))
+    sym (ap (λ b. b || nat_lt greatest_packages (length c.args.members.now) || nat_lt greatest_receipts (c.args.count + 1)) (sym c.any_past_limits.ensures ∙ c.if-any_past_limits.true))
 
 pub returns-then-members-gt256 : goal.returns-then-members-gt256
 returns-then-members-gt256 g c =
-    sym (ap (λ b. list_any is_past_limits (sums_with c.args.members.now c.args.at c.args.sums) || b || nat_lt 1000000000 (c.args.count + 1)) (lt-ltb 256 (length c.args.members.now) c.if-members-gt256.true)
-    ∙ ap (λ b. b || nat_lt 1000000000 (c.args.count + 1)) (or-true (list_any is_past_limits (sums_with c.args.members.now c.args.at c.args.sums))))
+    sym (ap (λ b. list_any is_past_limits (sums_with c.args.members.now c.args.at c.args.sums) || b || nat_lt greatest_receipts (c.args.count + 1)) (lt-ltb greatest_packages (length c.args.members.now) c.if-members-gt256.true)
+    ∙ ap (λ b. b || nat_lt greatest_receipts (c.args.count + 1)) (or-true (list_any is_past_limits (sums_with c.args.members.now c.args.at c.args.sums))))
 
 pub returns : goal.returns
 returns g c =
-    sym (ap (λ b. b || nat_lt 256 (length c.args.members.now) || nat_lt 1000000000 (c.args.count + 1)) (sym c.any_past_limits.ensures ∙ c.if-any_past_limits.false)
-    ∙ ap (λ b. b || nat_lt 1000000000 (c.args.count + 1)) (le-ltb 256 (length c.args.members.now) c.if-members-gt256.false)
-    ∙ one_more_is_over 1000000000 c.args.count)
+    sym (ap (λ b. b || nat_lt greatest_packages (length c.args.members.now) || nat_lt greatest_receipts (c.args.count + 1)) (sym c.any_past_limits.ensures ∙ c.if-any_past_limits.false)
+    ∙ ap (λ b. b || nat_lt greatest_receipts (c.args.count + 1)) (le-ltb greatest_packages (length c.args.members.now) c.if-members-gt256.false)
+    ∙ one_more_is_over greatest_receipts c.args.count)
