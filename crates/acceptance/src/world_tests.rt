@@ -12,8 +12,9 @@ use std::alloc::Global;
 use std::process::Abort;
 use std::test::Fail;
 use test_values::{Asks, BEGUN, FRAME, archive, item, question, request_of, text, told};
-use test_worlds::{applied, are_served, blank_store, new_world};
+use test_worlds::{applied, blank_store, new_world};
 use uuid::Uuid;
+use world::applying::are_served;
 use world::creating::CreateFault;
 use world::world::World;
 
@@ -99,7 +100,7 @@ fn requests(alloc: Global, steps: &[Step]) -> Result<Vec<Request>, Fault> {
 
 // What is told of each request of a list.
 fn ran(world: &mut World<MemStore>, alloc: Global, list: &Vec<Request>) -> Result<Vec<i64>, Fault> {
-    if !are_served(list) {
+    if !are_served(list.as_slice()) {
         return Err(Fault::StoreFault);
     }
     let Ok(replies) = world.run(alloc, list.as_slice(), &mut MemoryShelf::new(alloc)) else {

@@ -3,4 +3,4 @@
 
 mod worlds;
 
-pub use crate::worlds::{applied, are_served, blank_store, new_world};
+pub use crate::worlds::{applied, blank_store, new_world};

@@ -1,11 +1,9 @@
 // A world of one archive in memory, and requests to worlds of any store, with what the calls ask for tested first.
-ghost use Rattle.std.specs.Prelude.{IfOk, IsTrue};
-ghost use Rattle.std.specs.List.{AllByRecursion};
+ghost use Rattle.std.specs.Prelude.{IfOk};
 ghost use Rattle.sqlite.specs.Held.{state};
 ghost use Rattle.sqlite.specs.State.{HasCleanDisk};
 ghost use Rattle.sqlite.specs.Steps.{over_memory};
 ghost use Rattle.sql_meaning.specs.Blank.{IsBlank, no_schema};
-ghost use Rattle.world.specs.Laws.{IsServed};
 
 use package_tables::fault::Fault;
 use sheet_types::command::Request;
@@ -35,18 +33,6 @@ pub fn new_world(alloc: Global) -> Result<World<MemStore>, Fault> {
         Ok(world) => Ok(world),
         Err(_) => Err(Fault::StoreFault),
     }
-}
-
-/// Whether a world serves each request of a list.
-pub fn are_served(requests: &Vec<Request>) -> bool
-    ensures { IsTrue result → AllByRecursion (λ q. IsServed q.command) requests.now.items }
-{
-    for at in 0..requests.len() {
-        if !is_served(&requests[at].command) {
-            return false;
-        }
-    }
-    true
 }
 
 /// The reply to a request of a kind that a world serves.
