@@ -1,41 +1,18 @@
 // What requests come to over two packages in memory, one after the other, each change taking its turn. What is expected follows from what each command asks for. The digest is that of `tile 2 3 1`, LF and `ab` by another program's SHA-256.
-ghost use Rattle.std.specs.Prelude.{IsTrue};
-ghost use Rattle.sheet_types.specs.Matrix.{is_good_frame};
-
-use matrix_rules::check::FrameRules;
-use package_tables::create::{Info, create};
 use package_tables::fault::Fault;
-use sheet_types::collections::{Bytes, Text};
+use sheet_types::collections::Bytes;
 use sheet_types::command::{Command, Content, Mapping, Request};
-use sheet_types::frame::Frame;
 use sheet_types::receipt::{Receipt, Sums};
 use sheet_types::refusal::Refusal;
-use sql_meaning::resting::is_at_rest;
-use sqlite::{Alter, Connection};
+use sqlite::{Alter, Connection, MemStore};
 use std::alloc::Global;
 use std::test::Fail;
+use test_values::{AT, FRAME, NOTHING, empty_package, is_good, text};
 use uuid::Uuid;
 use world::asking::are_at_rest;
 use world::deciding::{Decision, decide};
 use world::members::Member;
 use world::turning::turn_at;
-
-// Zooms 0 to 2, with 1, 2 and 4 columns and rows.
-const FRAME: Frame = Frame {
-    srs_id: 25832,
-    min_x: 0,
-    min_y: 0,
-    max_x: 4096,
-    max_y: 4096,
-    tile_width: 256,
-    tile_height: 256,
-    first_zoom: 0,
-    levels: 3,
-    matrix_width: 1,
-    matrix_height: 1,
-};
-
-const AT: &str = "2026-11-22T09:00:00.000Z";
 
 const LATER: &str = "2026-11-22T09:00:01.000Z";
 
@@ -53,62 +30,28 @@ fn unknown_package() -> Uuid {
     Uuid::from_u128(3)
 }
 
-fn is_good(frame: &Frame) -> bool
-    ensures { IsTrue result → IsTrue (is_good_frame frame.now) }
-{
-    match frame.check() {
-        Ok(()) => true,
-        Err(_) => false,
-    }
-}
-
-fn text(alloc: Global, s: &str) -> Result<Text, Fault> {
-    let mut inner = String::new(alloc);
-    inner.push_str(s)?;
-    Ok(Text::from_string(inner))
-}
-
 // An empty package.
 fn member<S: Alter + Drop>(
     alloc: Global,
     conn: Connection<S>,
     uuid: Uuid,
 ) -> Result<Member<S>, Fault> {
-    if !is_at_rest(&conn) {
-        return Err(Fault::StoreFault);
-    }
-    let info = Info {
-        package: uuid,
-        parent: None,
-        depth: 0,
-        loan: 0,
-        created: AT,
-    };
     Ok(Member {
-        conn: create(alloc, conn, &FRAME, &info)?.into_connection(),
+        conn: empty_package(alloc, conn, uuid, AT)?,
         uuid,
         parent: None,
         depth: 0,
         loan: 0,
-        sums: Sums {
-            tiles: 0,
-            media: 0,
-            rows: 0,
-            links: 0,
-            bytes: 0,
-        },
+        sums: NOTHING,
         ticket: 0,
     })
 }
 
-fn two<S: Alter + Drop>(
-    alloc: Global,
-    first: Connection<S>,
-    second: Connection<S>,
-) -> Result<Vec<Member<S>>, Fault> {
+fn two(alloc: Global) -> Result<Vec<Member<MemStore>>, Fault> {
     let mut members = Vec::new(alloc);
-    members.push(member(alloc, first, first_package())?)?;
-    members.push(member(alloc, second, second_package())?)?;
+    for uuid in [first_package(), second_package()] {
+        members.push(member(alloc, Connection::open_in_memory(alloc)?, uuid)?)?;
+    }
     Ok(members)
 }
 
@@ -268,11 +211,7 @@ fn fifth<S: Alter + Drop>(
 #[test]
 fn the_first_tile_is_due(rt: HostRuntime) -> Result<(), Fail> {
     let alloc = rt.alloc();
-    let mut members = two(
-        alloc,
-        Connection::open_in_memory(alloc)?,
-        Connection::open_in_memory(alloc)?,
-    )?;
+    let mut members = two(alloc)?;
     let request = asked(alloc, 1, AT, tile(alloc, second_package(), 1, 1, b"ab")?)?;
     let Decision::Due(change) = decided(&mut members, 0, alloc, &request)? else {
         return Err(Fail::new("the tile is taken"));
@@ -304,11 +243,7 @@ fn the_first_tile_is_due(rt: HostRuntime) -> Result<(), Fail> {
 #[test]
 fn what_comes_again(rt: HostRuntime) -> Result<(), Fail> {
     let alloc = rt.alloc();
-    let mut members = two(
-        alloc,
-        Connection::open_in_memory(alloc)?,
-        Connection::open_in_memory(alloc)?,
-    )?;
+    let mut members = two(alloc)?;
     let request = asked(alloc, 1, AT, tile(alloc, second_package(), 1, 1, b"ab")?)?;
     assert!(rt; turned(&mut members, 0, alloc, &request)? == (1, 1));
     let Some(kept) = repeated(&mut members, 1, alloc, &request)? else {
@@ -337,11 +272,7 @@ fn what_comes_again(rt: HostRuntime) -> Result<(), Fail> {
 #[test]
 fn the_first_reason_is_told(rt: HostRuntime) -> Result<(), Fail> {
     let alloc = rt.alloc();
-    let mut members = two(
-        alloc,
-        Connection::open_in_memory(alloc)?,
-        Connection::open_in_memory(alloc)?,
-    )?;
+    let mut members = two(alloc)?;
     let tiled = asked(alloc, 1, AT, tile(alloc, second_package(), 1, 1, b"ab")?)?;
     assert!(rt; turned(&mut members, 0, alloc, &tiled)? == (1, 1));
     let another = asked(alloc, 2, AT, tile(alloc, second_package(), 2, 2, b"c")?)?;
@@ -374,11 +305,7 @@ fn the_first_reason_is_told(rt: HostRuntime) -> Result<(), Fail> {
 #[test]
 fn links_hold_their_ends(rt: HostRuntime) -> Result<(), Fail> {
     let alloc = rt.alloc();
-    let mut members = two(
-        alloc,
-        Connection::open_in_memory(alloc)?,
-        Connection::open_in_memory(alloc)?,
-    )?;
+    let mut members = two(alloc)?;
     let tiled = asked(alloc, 1, AT, tile(alloc, second_package(), 1, 1, b"ab")?)?;
     assert!(rt; turned(&mut members, 0, alloc, &tiled)? == (1, 1));
     let filled = asked(alloc, 2, AT, medium(alloc, 2)?)?;
@@ -407,11 +334,7 @@ fn links_hold_their_ends(rt: HostRuntime) -> Result<(), Fail> {
 #[test]
 fn the_limits_come_last(rt: HostRuntime) -> Result<(), Fail> {
     let alloc = rt.alloc();
-    let mut members = two(
-        alloc,
-        Connection::open_in_memory(alloc)?,
-        Connection::open_in_memory(alloc)?,
-    )?;
+    let mut members = two(alloc)?;
     let good = asked(alloc, 1, AT, tile(alloc, second_package(), 1, 1, b"ab")?)?;
     let bad = asked(alloc, 1, AT, tile(alloc, second_package(), 1, 4, b"ab")?)?;
     assert!(rt; refused(&mut members, 1_000_000_000, alloc, &good)? == Some(Refusal::TooMany));

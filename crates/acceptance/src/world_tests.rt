@@ -1,46 +1,22 @@
 // A world of one archive in memory, from its making on: what it replies to requests that come one after the other, and to a list. What is expected follows from the rules of a frame and of each command; the digests are those of another program's SHA-256.
-ghost use Rattle.std.specs.Prelude.{IfOk, IsTrue};
-ghost use Rattle.std.specs.List.{AllByRecursion};
-ghost use Rattle.sqlite.specs.Held.{state};
-ghost use Rattle.sqlite.specs.State.{HasCleanDisk};
-ghost use Rattle.sqlite.specs.Steps.{over_memory};
-ghost use Rattle.sql_meaning.specs.Blank.{IsBlank, no_schema};
-ghost use Rattle.world.specs.Laws.{IsServed};
-
 use package_tables::fault::Fault;
-use sheet_types::collections::{Bytes, Text};
+use sheet_types::collections::Bytes;
 use sheet_types::command::{Command, Content, Mapping, Request};
 use sheet_types::fingerprints::spell;
 use sheet_types::frame::{Frame, FrameFault};
 use sheet_types::receipt::{Moved, MovedKind, Receipt};
 use sheet_types::refusal::Refusal;
 use shelves::memory::MemoryShelf;
-use shelves::shelf::Shelf;
-use sqlite::{Connection, MemStore};
+use sqlite::MemStore;
 use std::alloc::Global;
 use std::process::Abort;
 use std::test::Fail;
+use test_values::{Asks, BEGUN, FRAME, archive, item, question, request_of, text, told};
+use test_worlds::{applied, blank_store, new_world};
 use uuid::Uuid;
-use world::applying::is_served;
+use world::applying::are_served;
 use world::creating::CreateFault;
 use world::world::World;
-
-// Zooms 0 to 2, with 1, 2 and 4 columns and rows.
-const FRAME: Frame = Frame {
-    srs_id: 25832,
-    min_x: 0,
-    min_y: 0,
-    max_x: 4096,
-    max_y: 4096,
-    tile_width: 256,
-    tile_height: 256,
-    first_zoom: 0,
-    levels: 3,
-    matrix_width: 1,
-    matrix_height: 1,
-};
-
-const AT: &str = "2024-05-01T08:00:00.000Z";
 
 const LATER: &str = "2024-05-01T08:00:01.000Z";
 
@@ -55,142 +31,11 @@ const ROW_DIGEST: &str = "e43e5d2489a3da72d168ede7401f6f60f459782a7e66f46822d8dc
 // Of `media image/jpeg`, LF and `JP`.
 const MEDIUM_DIGEST: &str = "0d293ef7b06e5c2cd296350b48694d0921c8acb7a72407aee7d2dbd3936d7da0";
 
-fn archive() -> Uuid {
-    Uuid::from_u128(0xa0000000_0000_4000_8000_000000000000)
-}
-
-fn stranger() -> Uuid {
-    Uuid::from_u128(0xb0000000_0000_4000_8000_000000000000)
-}
-
-fn item(number: u8) -> Uuid {
-    Uuid::from_u128(0x00000000_0000_4000_8000_000000000000 | u128::from(number))
-}
-
-fn question(number: u8) -> Uuid {
-    Uuid::from_u128(0x90000000_0000_4000_8000_000000000000 | u128::from(number))
-}
-
-fn text(alloc: Global, s: &str) -> Result<Text, Fault> {
-    let mut inner = String::new(alloc);
-    inner.push_str(s)?;
-    Ok(Text::from_string(inner))
-}
-
-fn blank(alloc: Global) -> Result<Connection<MemStore>, Fault>
-    ensures { IfOk result (λ conn. HasCleanDisk (state over_memory conn) → IsBlank no_schema (state over_memory conn).now) }
-{
-    match MemoryShelf::new(alloc).blank(archive()) {
-        Ok(conn) => Ok(conn),
-        Err(_) => Err(Fault::OutOfMemory),
-    }
-}
-
 // The reason why no world is made.
 fn unmade(alloc: Global, frame: &Frame, at: &str) -> Result<Option<CreateFault>, Fault> {
-    match World::create(alloc, blank(alloc)?, archive(), at, frame) {
+    match World::create(alloc, blank_store(alloc)?, archive(), at, frame) {
         Ok(_) => Ok(None),
         Err(why) => Ok(Some(why)),
-    }
-}
-
-fn made(alloc: Global) -> Result<World<MemStore>, Fault> {
-    match World::create(alloc, blank(alloc)?, archive(), AT, &FRAME) {
-        Ok(world) => Ok(world),
-        Err(_) => Err(Fault::StoreFault),
-    }
-}
-
-fn are_served(requests: &Vec<Request>) -> bool
-    ensures { IsTrue result → AllByRecursion (λ q. IsServed q.command) requests.now.items }
-{
-    for at in 0..requests.len() {
-        if !is_served(&requests[at].command) {
-            return false;
-        }
-    }
-    true
-}
-
-// What a request asks of the archive. A tile is written zoom, column, row; of a link the base stands first.
-#[derive(Clone, Copy)]
-enum Asks {
-    Tile(u8, [i64; 3]),
-    NoBytes(u8, [i64; 3]),
-    Elsewhere(u8, [i64; 3]),
-    Row(u8, i64, i64),
-    Medium(u8),
-    Delete(u8),
-    Link(Mapping, u8, u8),
-    Unlink(Mapping, u8, u8),
-}
-
-fn tile(
-    alloc: Global,
-    package: Uuid,
-    number: u8,
-    place: [i64; 3],
-    bytes: &[u8],
-) -> Result<Command, Fault> {
-    Ok(Command::Add {
-        package,
-        identity: item(number),
-        content: Content::Tile {
-            zoom: place[0],
-            column: place[1],
-            row: place[2],
-            bytes: Bytes::from_vec(Vec::from_slice(alloc, bytes)?),
-        },
-    })
-}
-
-fn medium(alloc: Global, number: u8) -> Result<Command, Fault> {
-    Ok(Command::Add {
-        package: archive(),
-        identity: item(number),
-        content: Content::Media {
-            content_type: text(alloc, "image/jpeg")?,
-            bytes: Bytes::from_vec(b"JP".to_vec(alloc)?),
-        },
-    })
-}
-
-fn row(alloc: Global, number: u8, x: i64, y: i64) -> Result<Command, Fault> {
-    Ok(Command::Add {
-        package: archive(),
-        identity: item(number),
-        content: Content::Row {
-            x,
-            y,
-            code: 7,
-            label: text(alloc, "gate")?,
-        },
-    })
-}
-
-fn command(alloc: Global, asks: Asks) -> Result<Command, Fault> {
-    match asks {
-        Asks::Tile(number, place) => tile(alloc, archive(), number, place, b"A"),
-        Asks::NoBytes(number, place) => tile(alloc, archive(), number, place, b""),
-        Asks::Elsewhere(number, place) => tile(alloc, stranger(), number, place, b"A"),
-        Asks::Row(number, x, y) => row(alloc, number, x, y),
-        Asks::Medium(number) => medium(alloc, number),
-        Asks::Delete(number) => Ok(Command::Delete {
-            package: archive(),
-            identity: item(number),
-        }),
-        Asks::Link(mapping, base, media) => Ok(Command::Link {
-            package: archive(),
-            mapping,
-            base: item(base),
-            media: item(media),
-        }),
-        Asks::Unlink(mapping, base, media) => Ok(Command::Unlink {
-            package: archive(),
-            mapping,
-            base: item(base),
-            media: item(media),
-        }),
     }
 }
 
@@ -206,7 +51,7 @@ struct Step {
 fn step_now(number: u8, asks: Asks, told: i64) -> Step {
     Step {
         number,
-        at: AT,
+        at: BEGUN,
         asks,
         told,
     }
@@ -222,38 +67,23 @@ fn step_at(number: u8, at: &'static str, asks: Asks, told: i64) -> Step {
 }
 
 fn request(alloc: Global, step: &Step) -> Result<Request, Fault> {
-    Ok(Request {
-        id: question(step.number),
-        at: text(alloc, step.at)?,
-        command: command(alloc, step.asks)?,
-    })
+    request_of(alloc, step.number, step.at, step.asks)
 }
 
-// The number of the receipt, or that of the reason, below zero.
-fn told(reply: &Result<Receipt, Refusal>) -> i64 {
-    match reply {
-        Ok(receipt) => i64::try_from(receipt.seq).unwrap_or(i64::MAX),
-        Err(why) => -i64::from(why.number()),
-    }
-}
-
-fn applied(
+fn reply_to(
     world: &mut World<MemStore>,
     alloc: Global,
-    request: &Request,
+    step: &Step,
 ) -> Result<Result<Receipt, Refusal>, Fault> {
-    if !is_served(&request.command) {
-        return Err(Fault::StoreFault);
-    }
-    Ok(world.apply(alloc, request, &mut MemoryShelf::new(alloc)))
+    let request = request(alloc, step)?;
+    applied(world, alloc, &request, &mut MemoryShelf::new(alloc))
 }
 
 // One after the other, in a world that begins with nothing.
 fn expect_told(rt: &impl Abort, alloc: Global, steps: &[Step]) -> Result<(), Fault> {
-    let mut world = made(alloc)?;
+    let mut world = new_world(alloc)?;
     for step in steps {
-        let request = request(alloc, step)?;
-        let number = told(&applied(&mut world, alloc, &request)?);
+        let number = told(&reply_to(&mut world, alloc, step)?);
         assert_eq!(rt; number, step.told);
         assert!(rt; !world.has_failed());
     }
@@ -270,7 +100,7 @@ fn requests(alloc: Global, steps: &[Step]) -> Result<Vec<Request>, Fault> {
 
 // What is told of each request of a list.
 fn ran(world: &mut World<MemStore>, alloc: Global, list: &Vec<Request>) -> Result<Vec<i64>, Fault> {
-    if !are_served(list) {
+    if !are_served(list.as_slice()) {
         return Err(Fault::StoreFault);
     }
     let Ok(replies) = world.run(alloc, list.as_slice(), &mut MemoryShelf::new(alloc)) else {
@@ -300,8 +130,7 @@ fn expect_ran(
 
 // The receipt of a request that is accepted, or was.
 fn received(world: &mut World<MemStore>, alloc: Global, step: &Step) -> Result<Receipt, Fault> {
-    let request = request(alloc, step)?;
-    match applied(world, alloc, &request)? {
+    match reply_to(world, alloc, step)? {
         Ok(receipt) => Ok(receipt),
         Err(_) => Err(Fault::StoreFault),
     }
@@ -339,7 +168,7 @@ fn expect_moved(rt: &impl Abort, thing: Moved, wanted: &Wanted) {
 fn expect_receipt(rt: &impl Abort, receipt: &Receipt, number: u8, wanted: &Wanted) {
     assert_eq!(rt; receipt.seq, wanted.seq);
     assert!(rt; receipt.request == question(number));
-    assert_eq!(rt; receipt.at.as_str(), AT);
+    assert_eq!(rt; receipt.at.as_str(), BEGUN);
     assert!(rt; receipt.source == wanted.source);
     assert!(rt; receipt.target == wanted.target);
     assert_eq!(rt; receipt.tiles, wanted.sums[0]);
@@ -376,7 +205,7 @@ fn addition(
 #[test]
 fn the_first_tile(rt: HostRuntime) -> Result<(), Fail> {
     let alloc = rt.alloc();
-    let mut world = made(alloc)?;
+    let mut world = new_world(alloc)?;
     assert!(rt; world.frame() == FRAME);
     assert!(rt; !world.has_failed());
     let receipt = received(&mut world, alloc, &step_now(1, Asks::Tile(1, [2, 3, 3]), 1))?;
@@ -396,7 +225,7 @@ fn the_first_tile(rt: HostRuntime) -> Result<(), Fail> {
 #[test]
 fn things_of_other_kinds(rt: HostRuntime) -> Result<(), Fail> {
     let alloc = rt.alloc();
-    let mut world = made(alloc)?;
+    let mut world = new_world(alloc)?;
     let receipt = received(&mut world, alloc, &step_now(1, Asks::Row(1, 0, 4096), 1))?;
     expect_receipt(
         &rt,
@@ -433,7 +262,7 @@ fn things_of_other_kinds(rt: HostRuntime) -> Result<(), Fail> {
 #[test]
 fn an_item_goes_out(rt: HostRuntime) -> Result<(), Fail> {
     let alloc = rt.alloc();
-    let mut world = made(alloc)?;
+    let mut world = new_world(alloc)?;
     let _added = received(&mut world, alloc, &step_now(1, Asks::Tile(1, [2, 3, 3]), 1))?;
     let receipt = received(&mut world, alloc, &step_now(2, Asks::Delete(1), 2))?;
     let mut wanted = addition(2, MovedKind::TileItem, 1, 1, TILE_DIGEST, [1, 0, 0, 0, 1]);
@@ -451,7 +280,7 @@ fn an_item_goes_out(rt: HostRuntime) -> Result<(), Fail> {
 #[test]
 fn what_comes_again(rt: HostRuntime) -> Result<(), Fail> {
     let alloc = rt.alloc();
-    let mut world = made(alloc)?;
+    let mut world = new_world(alloc)?;
     let wanted = addition(1, MovedKind::TileItem, 1, 1, TILE_DIGEST, [1, 0, 0, 0, 1]);
     let mut again = step_now(1, Asks::Tile(1, [2, 3, 3]), 1);
     expect_receipt(&rt, &received(&mut world, alloc, &again)?, 1, &wanted);
@@ -583,7 +412,7 @@ fn each_reason_in_turn(rt: HostRuntime) -> Result<(), Fail> {
 #[test]
 fn a_list_is_run(rt: HostRuntime) -> Result<(), Fail> {
     let alloc = rt.alloc();
-    let mut world = made(alloc)?;
+    let mut world = new_world(alloc)?;
     expect_ran(&rt, &mut world, alloc, &each_reason())?;
     assert!(rt; !world.has_failed());
     Ok(())
@@ -593,7 +422,7 @@ fn a_list_is_run(rt: HostRuntime) -> Result<(), Fail> {
 #[test]
 fn a_list_comes_again(rt: HostRuntime) -> Result<(), Fail> {
     let alloc = rt.alloc();
-    let mut world = made(alloc)?;
+    let mut world = new_world(alloc)?;
     let steps = [
         step_now(1, Asks::Tile(1, [2, 0, 0]), 1),
         step_now(2, Asks::Tile(2, [2, 0, 0]), -11),
@@ -617,14 +446,22 @@ fn filled(alloc: Global, length: usize) -> Result<Vec<u8>, Fault> {
 
 // What is told of the addition of a tile of so many bytes, and the bytes of its receipt.
 fn told_of_size(alloc: Global, length: usize) -> Result<(i64, u64), Fault> {
-    let mut world = made(alloc)?;
-    let bytes = filled(alloc, length)?;
+    let mut world = new_world(alloc)?;
     let request = Request {
         id: question(1),
-        at: text(alloc, AT)?,
-        command: tile(alloc, archive(), 1, [2, 3, 3], bytes.as_slice())?,
+        at: text(alloc, BEGUN)?,
+        command: Command::Add {
+            package: archive(),
+            identity: item(1),
+            content: Content::Tile {
+                zoom: 2,
+                column: 3,
+                row: 3,
+                bytes: Bytes::from_vec(filled(alloc, length)?),
+            },
+        },
     };
-    let reply = applied(&mut world, alloc, &request)?;
+    let reply = applied(&mut world, alloc, &request, &mut MemoryShelf::new(alloc))?;
     let number = told(&reply);
     match reply {
         Ok(receipt) => Ok((number, receipt.bytes)),
@@ -648,7 +485,7 @@ fn expect_unmade(
     frame: &Frame,
     why: FrameFault,
 ) -> Result<(), Fault> {
-    assert!(rt; unmade(alloc, frame, AT)? == Some(CreateFault::BadFrame(why)));
+    assert!(rt; unmade(alloc, frame, BEGUN)? == Some(CreateFault::BadFrame(why)));
     assert!(rt; unmade(alloc, frame, NO_MOMENT)? == Some(CreateFault::BadFrame(why)));
     Ok(())
 }

@@ -2,13 +2,15 @@
 use crate::importing::{ImportFault, import};
 use crate::lists::ReadFault;
 use crate::package_manifests::write_manifest;
-use crate::test_worlds::{Failing, Narrow, archive, list, new_world, request};
+use crate::test_streams::{Failing, Narrow, list};
 use sheet_types::receipt::Sums;
 use shelves::memory::MemoryShelf;
 use sqlite::MemStore;
 use std::alloc::Global;
 use std::process::Abort;
 use std::test::Fail;
+use test_values::{archive, question};
+use test_worlds::new_world;
 use world::world::World;
 
 const FIRST_TILE: &str =
@@ -100,7 +102,7 @@ fn the_first_tile(rt: HostRuntime) -> Result<(), Fail> {
         &mut world,
         "kind,identity,other,zoom,column,row,x,y,code,size,fingerprint,text\ntile,00000000-0000-4000-8000-000000000001,,2,3,3,,,,1,b363ee0ecc9cf61b12ecdafd75dca2779729b4fcc5f1bd718c33aad2c94af4f8,\n",
     );
-    let Some(receipt) = world.receipt(alloc, request(1))? else {
+    let Some(receipt) = world.receipt(alloc, question(1))? else {
         return Err(Fail::new("a receipt"));
     };
     assert_eq!(rt; receipt.seq, 1);
@@ -197,7 +199,7 @@ fn expect_unread(
         "",
     );
     expect_sums(rt, &world, [0, 0, 0, 0, 0]);
-    assert!(rt; world.receipt(alloc, request(1))?.is_none());
+    assert!(rt; world.receipt(alloc, question(1))?.is_none());
     Ok(())
 }
 

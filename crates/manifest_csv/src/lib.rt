@@ -25,6 +25,6 @@ pub mod sending;
 #[cfg(test)]
 mod sending_tests;
 #[cfg(test)]
-mod test_worlds;
+mod test_streams;
 #[cfg(test)]
 mod tests;

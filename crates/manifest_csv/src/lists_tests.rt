@@ -1,7 +1,7 @@
 // Lists whose requests and faults were worked out by hand; the digests are Python's `hashlib`.
 use crate::lists::{ReadFault, read_requests, requests_of};
 use crate::records::{Ending, read_records};
-use crate::test_worlds::Failing;
+use crate::test_streams::Failing;
 use sheet_types::command::{Command, Content, Request};
 use sheet_types::lines::line;
 use std::alloc::{AllocError, Global};

@@ -1,24 +1,22 @@
 // Manifests that were written out by hand; the digests are another program's SHA-256.
 use crate::manifests::manifest_text;
-use sheet_types::collections::{Bytes, Text};
+use package_tables::fault::Fault;
+use sheet_types::collections::Bytes;
 use sheet_types::command::{Content, Item, Mapping, Relation};
-use std::alloc::{AllocError, Global};
+use std::alloc::Global;
 use std::test::Fail;
+use test_values::text;
 use uuid::Uuid;
 
 fn identity(number: u8) -> Uuid {
     Uuid::from_u128(0x00000000_0000_4000_8000_00000000A000 | u128::from(number))
 }
 
-fn text(alloc: Global, content: &str) -> Result<Text, AllocError> {
-    Ok(Text::from_string(String::from_str(alloc, content)?))
-}
-
-fn bytes(alloc: Global, content: &[u8]) -> Result<Bytes, AllocError> {
+fn bytes(alloc: Global, content: &[u8]) -> Result<Bytes, Fault> {
     Ok(Bytes::from_vec(Vec::from_slice(alloc, content)?))
 }
 
-fn tile(alloc: Global) -> Result<Item, AllocError> {
+fn tile(alloc: Global) -> Result<Item, Fault> {
     Ok(Item {
         identity: identity(1),
         content: Content::Tile {
@@ -30,7 +28,7 @@ fn tile(alloc: Global) -> Result<Item, AllocError> {
     })
 }
 
-fn medium(alloc: Global) -> Result<Item, AllocError> {
+fn medium(alloc: Global) -> Result<Item, Fault> {
     Ok(Item {
         identity: identity(3),
         content: Content::Media {
@@ -40,7 +38,7 @@ fn medium(alloc: Global) -> Result<Item, AllocError> {
     })
 }
 
-fn row(alloc: Global, place: (i64, i64), code: i64, label: &str) -> Result<Item, AllocError> {
+fn row(alloc: Global, place: (i64, i64), code: i64, label: &str) -> Result<Item, Fault> {
     let (x, y) = place;
     Ok(Item {
         identity: identity(1),

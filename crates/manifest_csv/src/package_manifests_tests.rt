@@ -1,11 +1,13 @@
 // Manifests of packages that are live, and of one that is not. The bytes were written out by hand; the digest is Python's `hashlib`.
 use crate::importing::import;
 use crate::package_manifests::{ManifestFault, write_manifest};
-use crate::test_worlds::{Narrow, archive, list, new_world};
+use crate::test_streams::{Narrow, list};
 use shelves::memory::MemoryShelf;
 use sqlite::MemStore;
 use std::alloc::Global;
 use std::test::Fail;
+use test_values::archive;
+use test_worlds::new_world;
 use uuid::Uuid;
 use world::world::World;
 

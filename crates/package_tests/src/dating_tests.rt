@@ -1,7 +1,7 @@
 // The moment of the last change of a package that was just made, in memory. What is expected is the three tables of the
 // contents by their names, the bounds and the reference system of the frame, and the moment that was given.
 
-use crate::values::{archive, new_package};
+use crate::values::archive;
 use identity_register::dating::date_contents;
 use package_tables::fault::Fault;
 use package_tables::fixed::all_contents;
@@ -11,6 +11,7 @@ use sql_meaning::resting::is_at_rest;
 use sqlite::{Alter, Connection};
 use std::alloc::Global;
 use std::test::Fail;
+use test_values::{FRAME, new_package};
 
 const CHANGED: &str = "2027-01-02T03:04:05.006Z";
 
@@ -22,12 +23,9 @@ fn made<S: Alter + Drop>(alloc: Global, conn: Connection<S>) -> Result<Connectio
         min_y: -2048,
         max_x: 4096,
         max_y: 2048,
-        tile_width: 256,
-        tile_height: 256,
-        first_zoom: 0,
         levels: 1,
         matrix_width: 2,
-        matrix_height: 1,
+        ..FRAME
     };
     new_package(alloc, conn, &frame, &archive())
 }

@@ -1,6 +1,5 @@
 // A package that was just made, in memory: nothing is found in it, and what is put into it is.
 
-use crate::values::{AT, FRAME, new_package};
 use identity_register::additions::add;
 use identity_register::look_ups::{find, has_tile_at, is_linked, kind_of_item};
 use package_tables::create::Info;
@@ -12,6 +11,7 @@ use sql_meaning::resting::is_at_rest;
 use sqlite::{Alter, Connection};
 use std::alloc::Global;
 use std::test::Fail;
+use test_values::{AT, FRAME, new_package};
 use uuid::Uuid;
 
 // A loan of the package 1.

@@ -1,6 +1,6 @@
 // A new package, in memory and on a disk, and what comes into it. The expected rows are those of the GeoPackage standard and of the profile.
 
-use crate::values::{AT, FRAME, archive, close, new_tables, open};
+use crate::values::{archive, close, open};
 use package_tables::create::Info;
 use package_tables::fault::Fault;
 use package_tables::fixed::{
@@ -18,6 +18,7 @@ use sqlite::{Alter, Connection, Error, Transaction};
 use sqlite_disk::Memory;
 use std::alloc::{AllocError, Global};
 use std::test::Fail;
+use test_values::{AT, FRAME, new_tables};
 use uuid::Uuid;
 
 const LATER: &str = "2026-11-23T09:00:00.000Z";
@@ -32,6 +33,10 @@ const RELATIONS: &str =
     "1 sheet_tiles id sheet_media id media tiles_media|2 sheet_rows id sheet_media id media rows_media|";
 
 const HEAD: &str = "1 1 00000000-0000-0000-0000-000000000001  0 0 2026-11-22T09:00:00.000Z|";
+
+fn made<S: Alter + Drop>(alloc: Global, conn: Connection<S>) -> Result<Package<S>, Fault> {
+    new_tables(alloc, conn, &FRAME, &archive())
+}
 
 // A package of another frame: a reference system that each package has, two levels that begin at zoom 3, tiles and matrices that
 // are not square, ground below zero; with a parent, and at the greatest loan.
@@ -334,12 +339,7 @@ fn of_kind<S: Alter>(
 #[test]
 fn a_new_package_has_its_fixed_rows(rt: HostRuntime) -> Result<(), Fail> {
     let alloc = rt.alloc();
-    let mut package = new_tables(
-        alloc,
-        Connection::open_in_memory(alloc)?,
-        &FRAME,
-        &archive(),
-    )?;
+    let mut package = made(alloc, Connection::open_in_memory(alloc)?)?;
     assert_eq!(rt; systems(alloc, &mut package.conn)?.as_str(), SYSTEMS);
     assert_eq!(rt;
         contents(alloc, &mut package.conn)?.as_str(),
@@ -386,13 +386,7 @@ fn a_package_of_another_frame_has_its_rows(rt: HostRuntime) -> Result<(), Fail> 
 #[test]
 fn the_least_and_the_greatest_are_entered(rt: HostRuntime) -> Result<(), Fail> {
     let alloc = rt.alloc();
-    let mut conn = new_tables(
-        alloc,
-        Connection::open_in_memory(alloc)?,
-        &FRAME,
-        &archive(),
-    )?
-    .into_connection();
+    let mut conn = made(alloc, Connection::open_in_memory(alloc)?)?.into_connection();
     assert_eq!(rt; receipt_count(alloc, &mut conn)?, 0);
     assert_eq!(rt; moved_count(alloc, &mut conn)?, 0);
     assert_eq!(rt; of_seq(alloc, &mut conn, 0)?.as_str(), "");
@@ -421,13 +415,7 @@ fn the_least_and_the_greatest_are_entered(rt: HostRuntime) -> Result<(), Fail> {
 #[test]
 fn receipts_and_what_they_moved_are_found(rt: HostRuntime) -> Result<(), Fail> {
     let alloc = rt.alloc();
-    let mut conn = new_tables(
-        alloc,
-        Connection::open_in_memory(alloc)?,
-        &FRAME,
-        &archive(),
-    )?
-    .into_connection();
+    let mut conn = made(alloc, Connection::open_in_memory(alloc)?)?.into_connection();
     assert!(rt; entered(&mut conn)?);
     assert_eq!(rt;
         by_request(alloc, &mut conn, "q2")?.as_str(),
@@ -471,13 +459,7 @@ fn receipts_and_what_they_moved_are_found(rt: HostRuntime) -> Result<(), Fail> {
 #[test]
 fn a_receipt_comes_whole_or_not_at_all(rt: HostRuntime) -> Result<(), Fail> {
     let alloc = rt.alloc();
-    let mut conn = new_tables(
-        alloc,
-        Connection::open_in_memory(alloc)?,
-        &FRAME,
-        &archive(),
-    )?
-    .into_connection();
+    let mut conn = made(alloc, Connection::open_in_memory(alloc)?)?.into_connection();
     assert!(rt; entered(&mut conn)?);
     if let Err(fault) = entered_once_more(&mut conn) {
         assert!(rt; fault == Fault::OutOfMemory);
@@ -496,12 +478,7 @@ fn a_receipt_comes_whole_or_not_at_all(rt: HostRuntime) -> Result<(), Fail> {
 #[test]
 fn a_new_package_is_there_when_its_disk_is_opened_again(rt: HostRuntime) -> Result<(), Fail> {
     let alloc = rt.alloc();
-    let conn = new_tables(
-        alloc,
-        open(alloc, Memory::new(alloc))?,
-        &FRAME,
-        &archive(),
-    )?.into_connection();
+    let conn = made(alloc, open(alloc, Memory::new(alloc))?)?.into_connection();
     let mut again = open(alloc, close(conn)?)?;
     assert_eq!(rt; systems(alloc, &mut again)?.as_str(), SYSTEMS);
     assert_eq!(rt; matrices(alloc, &mut again)?.as_str(), MATRICES);

@@ -1,25 +1,20 @@
 // A receipt that comes into a new package in memory. The expected rows follow from the columns of the profile.
 
-use crate::values::{AT, FRAME, archive, new_package};
+use crate::values::archive;
 use custody::keeping::kept;
 use custody::{enter, names};
 use package_tables::fault::Fault;
 use package_tables::moved::moved_of;
 use package_tables::package::begin;
 use package_tables::receipts::receipt_by_request;
-use sheet_types::collections::{MovedList, Text};
+use sheet_types::collections::MovedList;
 use sheet_types::receipt::{Moved, MovedKind, Receipt};
 use sql_meaning::resting::is_at_rest;
 use sqlite::{Alter, Connection};
 use std::alloc::Global;
 use std::test::Fail;
+use test_values::{AT, FRAME, new_package, text};
 use uuid::Uuid;
-
-fn text(alloc: Global, s: &str) -> Result<Text, Fault> {
-    let mut inner = String::new(alloc);
-    inner.push_str(s)?;
-    Ok(Text::from_string(inner))
-}
 
 // The loan of a medium, with its link to a tile.
 fn loan(alloc: Global) -> Result<Receipt, Fault> {

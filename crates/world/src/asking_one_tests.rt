@@ -2,7 +2,6 @@
 use crate::asking::are_at_rest;
 use crate::asking_one::{item_at, refusal_at, thing_moved};
 use crate::members::Member;
-use crate::test_values::{FRAME, NOTHING, is_good};
 use package_tables::fault::Fault;
 use package_tables::identities::insert_identity;
 use package_tables::schema::create_schema;
@@ -15,6 +14,7 @@ use sql_meaning::resting::is_at_rest;
 use sqlite::{Alter, Connection};
 use std::alloc::Global;
 use std::test::Fail;
+use test_values::{FRAME, NOTHING, is_good};
 use uuid::Uuid;
 
 fn package() -> Uuid {

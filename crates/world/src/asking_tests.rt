@@ -3,12 +3,13 @@
 use crate::asking::{are_at_rest, is_named_in_all, kept_in_all, place_of};
 use crate::carrying_out::apply_to_package;
 use crate::members::Member;
-use crate::test_values::{ONE_MEDIUM, add_medium, moved_medium, new_package, receipt_of};
+use crate::values::{MADE, ONE_MEDIUM, add_medium, moved_medium, receipt_of};
 use package_tables::fault::Fault;
 use sql_meaning::resting::is_at_rest;
 use sqlite::{Alter, Connection};
 use std::alloc::Global;
 use std::test::Fail;
+use test_values::empty_package;
 use uuid::Uuid;
 
 fn package(number: u128) -> Uuid {
@@ -31,7 +32,7 @@ fn member<S: Alter + Drop>(
     number: u128,
     seq: u64,
 ) -> Result<Member<S>, Fault> {
-    let mut conn = new_package(alloc, conn, package(number))?;
+    let mut conn = empty_package(alloc, conn, package(number), MADE)?;
     let command = add_medium(alloc, package(number), medium(number))?;
     let receipt = receipt_of(
         alloc,

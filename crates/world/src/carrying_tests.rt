@@ -1,7 +1,7 @@
 // Each command that changes one package, carried out with its receipt in a new package in memory. What is expected follows from what the command asks for.
 
 use crate::carrying_out::{TurnFault, apply_to_package};
-use crate::test_values::{NOTHING, new_package, receipt_of, text};
+use crate::values::{MADE, receipt_of};
 use custody::names;
 use identity_register::look_ups::{find, has_link};
 use package_tables::fault::Fault;
@@ -14,6 +14,7 @@ use sql_meaning::resting::is_at_rest;
 use sqlite::{Alter, Connection};
 use std::alloc::Global;
 use std::test::Fail;
+use test_values::{NOTHING, empty_package, text};
 use uuid::Uuid;
 
 fn package() -> Uuid {
@@ -125,6 +126,11 @@ fn add_medium<S: Alter>(alloc: Global, conn: &mut Connection<S>, seq: u64) -> Re
     carried(conn, &command, &receipt)
 }
 
+fn receipt_of_link(alloc: Global, seq: u64) -> Result<Receipt, Fault> {
+    let kind = MovedKind::TilesMediaLink;
+    receipt(alloc, seq, kind, tile(), Some(medium()))
+}
+
 fn link<S: Alter>(alloc: Global, conn: &mut Connection<S>, seq: u64) -> Result<(), Fault> {
     let command = Command::Link {
         package: package(),
@@ -132,14 +138,7 @@ fn link<S: Alter>(alloc: Global, conn: &mut Connection<S>, seq: u64) -> Result<(
         base: tile(),
         media: medium(),
     };
-    let receipt = receipt(
-        alloc,
-        seq,
-        MovedKind::TilesMediaLink,
-        tile(),
-        Some(medium()),
-    )?;
-    carried(conn, &command, &receipt)
+    carried(conn, &command, &receipt_of_link(alloc, seq)?)
 }
 
 fn unlink<S: Alter>(alloc: Global, conn: &mut Connection<S>, seq: u64) -> Result<(), Fault> {
@@ -149,14 +148,7 @@ fn unlink<S: Alter>(alloc: Global, conn: &mut Connection<S>, seq: u64) -> Result
         base: tile(),
         media: medium(),
     };
-    let receipt = receipt(
-        alloc,
-        seq,
-        MovedKind::TilesMediaLink,
-        tile(),
-        Some(medium()),
-    )?;
-    carried(conn, &command, &receipt)
+    carried(conn, &command, &receipt_of_link(alloc, seq)?)
 }
 
 fn delete_tile<S: Alter>(alloc: Global, conn: &mut Connection<S>, seq: u64) -> Result<(), Fault> {
@@ -171,7 +163,7 @@ fn delete_tile<S: Alter>(alloc: Global, conn: &mut Connection<S>, seq: u64) -> R
 #[test]
 fn an_item_comes_and_goes(rt: HostRuntime) -> Result<(), Fail> {
     let alloc = rt.alloc();
-    let mut conn = new_package(alloc, Connection::open_in_memory(alloc)?, package())?;
+    let mut conn = empty_package(alloc, Connection::open_in_memory(alloc)?, package(), MADE)?;
     assert!(rt; !is_named(&mut conn, tile())?);
     add_tile(alloc, &mut conn, 1)?;
     assert_eq!(rt; tile_bytes(alloc, &mut conn)?.as_slice(), b"ab".as_slice());
@@ -186,7 +178,7 @@ fn an_item_comes_and_goes(rt: HostRuntime) -> Result<(), Fail> {
 #[test]
 fn a_link_comes_and_goes(rt: HostRuntime) -> Result<(), Fail> {
     let alloc = rt.alloc();
-    let mut conn = new_package(alloc, Connection::open_in_memory(alloc)?, package())?;
+    let mut conn = empty_package(alloc, Connection::open_in_memory(alloc)?, package(), MADE)?;
     add_tile(alloc, &mut conn, 1)?;
     add_medium(alloc, &mut conn, 2)?;
     link(alloc, &mut conn, 3)?;
@@ -213,7 +205,7 @@ fn moments<S: Alter>(alloc: Global, conn: &mut Connection<S>) -> Result<String, 
 #[test]
 fn the_contents_say_the_moment_of_the_receipt(rt: HostRuntime) -> Result<(), Fail> {
     let alloc = rt.alloc();
-    let mut conn = new_package(alloc, Connection::open_in_memory(alloc)?, package())?;
+    let mut conn = empty_package(alloc, Connection::open_in_memory(alloc)?, package(), MADE)?;
     assert_eq!(rt;
         moments(alloc, &mut conn)?.as_str(),
         "2026-11-22T08:00:00.000Z;2026-11-22T08:00:00.000Z;2026-11-22T08:00:00.000Z;"

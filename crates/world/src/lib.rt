@@ -27,8 +27,6 @@ pub mod register_laws;
 pub mod step_laws;
 pub mod sums;
 #[cfg(test)]
-mod test_values;
-#[cfg(test)]
 mod tests;
 pub mod texts;
 pub mod too_many;
@@ -37,4 +35,6 @@ mod too_many_tests;
 pub mod turning;
 #[cfg(test)]
 mod turning_tests;
+#[cfg(test)]
+mod values;
 pub mod world;

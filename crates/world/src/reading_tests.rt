@@ -4,9 +4,7 @@ use crate::asking::are_at_rest;
 use crate::carrying_out::apply_to_package;
 use crate::members::Member;
 use crate::reading::{PackageSight, holdings_in, sights_of, sums_in};
-use crate::test_values::{
-    AT, FRAME, NOTHING, ONE_MEDIUM, add_medium, moved_medium, new_package, receipt_of, text,
-};
+use crate::values::{MADE, ONE_MEDIUM, add_medium, moved_medium, receipt_of};
 use crate::world::World;
 use identity_register::whole::holdings;
 use package_tables::fault::Fault;
@@ -19,6 +17,7 @@ use sql_meaning::resting::is_at_rest;
 use sqlite::{Alter, Connection, MemStore};
 use std::alloc::Global;
 use std::test::Fail;
+use test_values::{AT, FRAME, NOTHING, empty_package, text};
 use uuid::Uuid;
 
 fn package(number: u64) -> Uuid {
@@ -283,7 +282,7 @@ fn member<S: Alter + Drop>(
     conn: Connection<S>,
     number: u64,
 ) -> Result<Member<S>, Fault> {
-    let mut conn = new_package(alloc, conn, package(number))?;
+    let mut conn = empty_package(alloc, conn, package(number), MADE)?;
     let command = add_medium(alloc, package(number), item(number))?;
     let receipt = receipt(alloc, number)?;
     if !is_at_rest(&conn) {

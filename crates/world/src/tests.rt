@@ -1,6 +1,5 @@
 // Requests and the numbers of the reasons for which they are refused, by the rules: 4 a text, 5 a size, 7 no such item, 8 a kind, 9 no such place, 10 outside the frame, 11 a taken place, 12 a link that is there, 13 one that is not, 14 an item that is linked; 0 where none holds.
 use crate::judging::package_refusal;
-use crate::test_values::{AT, FRAME, is_good};
 use crate::texts::text_refusal;
 use package_tables::attributes::insert_attribute;
 use package_tables::fault::Fault;
@@ -17,6 +16,7 @@ use sql_meaning::resting::is_at_rest;
 use sqlite::{Alter, Connection};
 use std::alloc::Global;
 use std::test::Fail;
+use test_values::{AT, FRAME, is_good};
 use uuid::Uuid;
 
 fn package() -> Uuid {

@@ -3,8 +3,8 @@
 use crate::asking::are_at_rest;
 use crate::members::Member;
 use crate::sums::{sums_after, sums_moved};
-use crate::test_values::{NOTHING, ONE_MEDIUM, add_medium, moved_medium, new_package, receipt_of};
 use crate::turning::turn_at;
+use crate::values::{MADE, ONE_MEDIUM, add_medium, moved_medium, receipt_of};
 use identity_register::look_ups::find;
 use package_tables::fault::Fault;
 use sheet_types::command::{Command, Mode};
@@ -14,6 +14,7 @@ use sql_meaning::resting::is_at_rest;
 use sqlite::{Alter, Connection};
 use std::alloc::Global;
 use std::test::Fail;
+use test_values::{NOTHING, empty_package};
 use uuid::Uuid;
 
 fn package(number: u128) -> Uuid {
@@ -41,7 +42,7 @@ fn member<S: Alter + Drop>(
     number: u128,
 ) -> Result<Member<S>, Fault> {
     Ok(Member {
-        conn: new_package(alloc, conn, package(number))?,
+        conn: empty_package(alloc, conn, package(number), MADE)?,
         uuid: package(number),
         parent: None,
         depth: 0,

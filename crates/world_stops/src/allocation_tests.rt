@@ -1,12 +1,13 @@
 // One request of each kind in a world in memory. Run by `bench/failing_allocations.sh`, which refuses each allocation in turn: the world is that before the request or the one after it, and the reply fits.
 use crate::fitting::{Both, OUT_OF_MEMORY, expect_fits};
-use crate::requests::{Asks, Step, again, later};
+use crate::requests::{Step, again, later};
 use crate::runs::{run_in_memory, untouched_in_memory};
 use package_tables::fault::Fault;
 use sheet_types::command::Mapping;
 use std::alloc::Global;
 use std::process::Abort;
 use std::test::Fail;
+use test_values::Asks;
 
 // Ends with `OutOfMemory` where memory is refused outside the request.
 fn expect_whole(rt: &impl Abort, alloc: Global, step: &Step, told: i64) -> Result<(), Fault> {
@@ -27,7 +28,7 @@ fn expect_whole(rt: &impl Abort, alloc: Global, step: &Step, told: i64) -> Resul
 
 #[test]
 fn a_tile_is_added_or_not(rt: HostRuntime) -> Result<(), Fail> {
-    expect_whole(&rt, rt.alloc(), &later(9, Asks::Tile(7, 1, 1)), 5)?;
+    expect_whole(&rt, rt.alloc(), &later(9, Asks::Tile(7, [2, 1, 1])), 5)?;
     Ok(())
 }
 
@@ -39,7 +40,7 @@ fn a_medium_is_added_or_not(rt: HostRuntime) -> Result<(), Fail> {
 
 #[test]
 fn a_row_is_added_or_not(rt: HostRuntime) -> Result<(), Fail> {
-    expect_whole(&rt, rt.alloc(), &later(9, Asks::Row(7)), 5)?;
+    expect_whole(&rt, rt.alloc(), &later(9, Asks::Row(7, 5, 4096)), 5)?;
     Ok(())
 }
 

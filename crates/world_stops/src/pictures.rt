@@ -1,5 +1,4 @@
 // What a store or a world reads as, in words that can be compared.
-use crate::requests::archive;
 use custody::keeping::kept;
 use identity_register::whole::holdings;
 use package_tables::fault::Fault;
@@ -10,6 +9,7 @@ use sheet_types::refusal::Refusal;
 use sqlite::types::ValueRef;
 use sqlite::{Alter, Connection, Row};
 use std::alloc::Global;
+use test_values::archive;
 use uuid::Uuid;
 use world::world::World;
 

@@ -5,15 +5,15 @@ ghost use Rattle.sqlite.specs.State.{HasCleanDisk};
 ghost use Rattle.sql_meaning.specs.Blank.{IsBlank, no_schema};
 
 use crate::pictures::{Picture, read_picture, reply_text, seen};
-use crate::requests::{AT, FRAME, Step, applied, archive, preparation, question, request, told};
+use crate::requests::{Step, preparation, reply_to, request};
 use memory_files::open_blank;
 use package_tables::fault::Fault;
 use sheet_types::command::Request;
-use shelves::memory::MemoryShelf;
-use shelves::shelf::Shelf;
 use sqlite::{Alter, Connection, FileStore, Files, MemStore, Options};
 use sqlite_disk::{Crash, Disk, Fuse, Memory};
 use std::alloc::Global;
+use test_values::{BEGUN, FRAME, archive, question, told};
+use test_worlds::blank_store;
 use uuid::Uuid;
 use world::world::World;
 
@@ -31,12 +31,12 @@ fn options() -> Options {
 fn begun<S: Alter + Drop>(alloc: Global, conn: Connection<S>) -> Result<Option<World<S>>, Fault>
     requires { HasCleanDisk (state S.Store conn) → IsBlank no_schema (state S.Store conn).now }
 {
-    let Ok(mut world) = World::create(alloc, conn, archive(), AT, &FRAME) else {
+    let Ok(mut world) = World::create(alloc, conn, archive(), BEGUN, &FRAME) else {
         return Ok(None);
     };
     for step in preparation().as_slice() {
         let request = request(alloc, step)?;
-        if applied(&mut world, alloc, &request)?.is_err() {
+        if reply_to(&mut world, alloc, &request)?.is_err() {
             return Ok(None);
         }
     }
@@ -60,8 +60,7 @@ pub fn prepared<D: Disk + Drop>(
 
 // `None` where memory was refused.
 pub fn prepared_in_memory(alloc: Global) -> Result<Option<World<MemStore>>, Fault> {
-    let mut shelf = MemoryShelf::new(alloc);
-    match shelf.blank(archive()) {
+    match blank_store(alloc) {
         Ok(conn) => begun(alloc, conn),
         Err(_) => Ok(None),
     }
@@ -159,12 +158,12 @@ struct Reply {
     live: Option<String>,
 }
 
-fn reply_to<S: Alter + Drop>(
+fn replied<S: Alter + Drop>(
     alloc: Global,
     world: &mut World<S>,
     request: &Request,
 ) -> Result<Reply, Fault> {
-    let reply = applied(world, alloc, request)?;
+    let reply = reply_to(world, alloc, request)?;
     let has_failed = world.has_failed();
     let live = seen(alloc, world, request.id).ok();
     Ok(Reply {
@@ -200,7 +199,7 @@ pub fn run<D: Revive + Drop>(
         return Ok(None);
     };
     let request = request(alloc, step)?;
-    let reply = reply_to(alloc, &mut world, &request)?;
+    let reply = replied(alloc, &mut world, &request)?;
     let left = left_by(alloc, world, left, request.id)?;
     Ok(Some(with_left(reply, left)))
 }
@@ -211,7 +210,7 @@ pub fn run_in_memory(alloc: Global, step: &Step) -> Result<Option<Outcome>, Faul
         return Ok(None);
     };
     let request = request(alloc, step)?;
-    let reply = reply_to(alloc, &mut world, &request)?;
+    let reply = replied(alloc, &mut world, &request)?;
     let left = held_by(alloc, world, request.id)?;
     Ok(Some(with_left(reply, left)))
 }

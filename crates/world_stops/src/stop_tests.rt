@@ -2,7 +2,7 @@
 ghost use Rattle.std.specs.Prelude.{◌≡◌, [], IsTrue};
 
 use crate::fitting::{Both, STORE_FAULT, expect_fits, same, went_through};
-use crate::requests::{Asks, Step, again, later};
+use crate::requests::{Step, again, later};
 use crate::runs::{Leaves, Left, Outcome, prepared, run, untouched};
 use package_tables::fault::Fault;
 use sheet_types::command::Mapping;
@@ -11,6 +11,7 @@ use sqlite_disk::{Disk, Fuse, Memory};
 use std::alloc::Global;
 use std::process::Abort;
 use std::test::Fail;
+use test_values::Asks;
 
 const SYNCED: Left = Left {
     log: Leaves::Synced,
@@ -174,105 +175,109 @@ fn expect_stops(
     Ok(all)
 }
 
-#[test]
-fn a_tile_is_added_while_the_log_stops(rt: HostRuntime) -> Result<(), Fail> {
-    let step = later(9, Asks::Tile(7, 1, 1));
-    let stopped = expect_stops(&rt, rt.alloc(), Stops::Log, &step, 5, 5)?;
+// A request that changes the package, while the log stops: of the runs that it answered by a fault, some left the world before it and some the one after.
+fn expect_either(rt: &impl Abort, alloc: Global, step: &Step, things: usize) -> Result<(), Fault> {
+    let stopped = expect_stops(rt, alloc, Stops::Log, step, 5, things)?;
     assert!(rt; stopped.faults > stopped.after);
     assert!(rt; stopped.after > 0);
     Ok(())
 }
 
+// A request that answered some of its runs by a fault.
+fn expect_faults(
+    rt: &impl Abort,
+    alloc: Global,
+    stops: Stops,
+    step: &Step,
+    told: i64,
+    things: usize,
+) -> Result<(), Fault> {
+    let stopped = expect_stops(rt, alloc, stops, step, told, things)?;
+    assert!(rt; stopped.faults > 0);
+    Ok(())
+}
+
+#[test]
+fn a_tile_is_added_while_the_log_stops(rt: HostRuntime) -> Result<(), Fail> {
+    let step = later(9, Asks::Tile(7, [2, 1, 1]));
+    expect_either(&rt, rt.alloc(), &step, 5)?;
+    Ok(())
+}
+
 #[test]
 fn a_tile_is_added_while_the_file_stops(rt: HostRuntime) -> Result<(), Fail> {
-    let step = later(9, Asks::Tile(7, 1, 1));
-    let stopped = expect_stops(&rt, rt.alloc(), Stops::Db, &step, 5, 5)?;
-    assert!(rt; stopped.faults > 0);
+    let step = later(9, Asks::Tile(7, [2, 1, 1]));
+    expect_faults(&rt, rt.alloc(), Stops::Db, &step, 5, 5)?;
     Ok(())
 }
 
 #[test]
 fn a_medium_is_added_while_the_log_stops(rt: HostRuntime) -> Result<(), Fail> {
     let step = later(9, Asks::Medium(7));
-    let stopped = expect_stops(&rt, rt.alloc(), Stops::Log, &step, 5, 5)?;
-    assert!(rt; stopped.faults > stopped.after);
-    assert!(rt; stopped.after > 0);
+    expect_either(&rt, rt.alloc(), &step, 5)?;
     Ok(())
 }
 
 #[test]
 fn a_medium_is_added_while_the_file_stops(rt: HostRuntime) -> Result<(), Fail> {
     let step = later(9, Asks::Medium(7));
-    let stopped = expect_stops(&rt, rt.alloc(), Stops::Db, &step, 5, 5)?;
-    assert!(rt; stopped.faults > 0);
+    expect_faults(&rt, rt.alloc(), Stops::Db, &step, 5, 5)?;
     Ok(())
 }
 
 #[test]
 fn a_row_is_added_while_the_log_stops(rt: HostRuntime) -> Result<(), Fail> {
-    let step = later(9, Asks::Row(7));
-    let stopped = expect_stops(&rt, rt.alloc(), Stops::Log, &step, 5, 5)?;
-    assert!(rt; stopped.faults > stopped.after);
-    assert!(rt; stopped.after > 0);
+    let step = later(9, Asks::Row(7, 5, 4096));
+    expect_either(&rt, rt.alloc(), &step, 5)?;
     Ok(())
 }
 
 #[test]
 fn a_row_is_added_while_the_file_stops(rt: HostRuntime) -> Result<(), Fail> {
-    let step = later(9, Asks::Row(7));
-    let stopped = expect_stops(&rt, rt.alloc(), Stops::Db, &step, 5, 5)?;
-    assert!(rt; stopped.faults > 0);
+    let step = later(9, Asks::Row(7, 5, 4096));
+    expect_faults(&rt, rt.alloc(), Stops::Db, &step, 5, 5)?;
     Ok(())
 }
 
 #[test]
 fn a_row_is_deleted_while_the_log_stops(rt: HostRuntime) -> Result<(), Fail> {
     let step = later(9, Asks::Delete(3));
-    let stopped = expect_stops(&rt, rt.alloc(), Stops::Log, &step, 5, 3)?;
-    assert!(rt; stopped.faults > stopped.after);
-    assert!(rt; stopped.after > 0);
+    expect_either(&rt, rt.alloc(), &step, 3)?;
     Ok(())
 }
 
 #[test]
 fn a_row_is_deleted_while_the_file_stops(rt: HostRuntime) -> Result<(), Fail> {
     let step = later(9, Asks::Delete(3));
-    let stopped = expect_stops(&rt, rt.alloc(), Stops::Db, &step, 5, 3)?;
-    assert!(rt; stopped.faults > 0);
+    expect_faults(&rt, rt.alloc(), Stops::Db, &step, 5, 3)?;
     Ok(())
 }
 
 #[test]
 fn a_row_is_linked_while_the_log_stops(rt: HostRuntime) -> Result<(), Fail> {
     let step = later(9, Asks::Link(Mapping::RowsMedia, 3, 2));
-    let stopped = expect_stops(&rt, rt.alloc(), Stops::Log, &step, 5, 5)?;
-    assert!(rt; stopped.faults > stopped.after);
-    assert!(rt; stopped.after > 0);
+    expect_either(&rt, rt.alloc(), &step, 5)?;
     Ok(())
 }
 
 #[test]
 fn a_row_is_linked_while_the_file_stops(rt: HostRuntime) -> Result<(), Fail> {
     let step = later(9, Asks::Link(Mapping::RowsMedia, 3, 2));
-    let stopped = expect_stops(&rt, rt.alloc(), Stops::Db, &step, 5, 5)?;
-    assert!(rt; stopped.faults > 0);
+    expect_faults(&rt, rt.alloc(), Stops::Db, &step, 5, 5)?;
     Ok(())
 }
 
 #[test]
 fn a_tile_is_unlinked_while_the_log_stops(rt: HostRuntime) -> Result<(), Fail> {
     let step = later(9, Asks::Unlink(Mapping::TilesMedia, 1, 2));
-    let stopped = expect_stops(&rt, rt.alloc(), Stops::Log, &step, 5, 3)?;
-    assert!(rt; stopped.faults > stopped.after);
-    assert!(rt; stopped.after > 0);
+    expect_either(&rt, rt.alloc(), &step, 3)?;
     Ok(())
 }
 
 #[test]
 fn a_tile_is_unlinked_while_the_file_stops(rt: HostRuntime) -> Result<(), Fail> {
     let step = later(9, Asks::Unlink(Mapping::TilesMedia, 1, 2));
-    let stopped = expect_stops(&rt, rt.alloc(), Stops::Db, &step, 5, 3)?;
-    assert!(rt; stopped.faults > 0);
+    expect_faults(&rt, rt.alloc(), Stops::Db, &step, 5, 3)?;
     Ok(())
 }
 
@@ -280,8 +285,7 @@ fn a_tile_is_unlinked_while_the_file_stops(rt: HostRuntime) -> Result<(), Fail> 
 #[test]
 fn a_request_comes_again_while_the_log_stops(rt: HostRuntime) -> Result<(), Fail> {
     let step = again(2, Asks::Medium(2));
-    let stopped = expect_stops(&rt, rt.alloc(), Stops::Log, &step, 2, 4)?;
-    assert!(rt; stopped.faults > 0);
+    expect_faults(&rt, rt.alloc(), Stops::Log, &step, 2, 4)?;
     Ok(())
 }
 
@@ -297,8 +301,7 @@ fn a_request_comes_again_while_the_file_stops(rt: HostRuntime) -> Result<(), Fai
 #[test]
 fn a_deletion_is_refused_while_the_log_stops(rt: HostRuntime) -> Result<(), Fail> {
     let step = later(9, Asks::Delete(2));
-    let stopped = expect_stops(&rt, rt.alloc(), Stops::Log, &step, -14, 4)?;
-    assert!(rt; stopped.faults > 0);
+    expect_faults(&rt, rt.alloc(), Stops::Log, &step, -14, 4)?;
     Ok(())
 }
 
@@ -306,7 +309,6 @@ fn a_deletion_is_refused_while_the_log_stops(rt: HostRuntime) -> Result<(), Fail
 #[test]
 fn a_deletion_is_refused_while_the_file_stops(rt: HostRuntime) -> Result<(), Fail> {
     let step = later(9, Asks::Delete(2));
-    let stopped = expect_stops(&rt, rt.alloc(), Stops::Db, &step, -14, 4)?;
-    assert!(rt; stopped.faults > 0);
+    expect_faults(&rt, rt.alloc(), Stops::Db, &step, -14, 4)?;
     Ok(())
 }
