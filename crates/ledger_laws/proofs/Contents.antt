@@ -8,6 +8,7 @@ use Rattle.sheet_types.specs.Custody.{is_add}
 use Rattle.sheet_types.specs.Balance.{names_as, is_unaltered, altered}
 use Rattle.sheet_types.specs.declared.command.Item.{Item}
 use Rattle.sheet_types.specs.declared.receipt.Receipt.{Receipt}
+use Rattle.sheet_types.proofs.Every.{All-weaker}
 
 -- an Add receipt of the world says what the item holds
 abbrev pub IsUnaltered : World → Item → Type 0
@@ -66,7 +67,12 @@ pub none_altered : (w : World) → NoneAltered w → altered w ≡ []
 none_altered w h = ap (map (λ (i : Item). i.identity)) (in_none (is_unaltered (receipts_of w)) w.packages h)
 
 -- one more receipt alters nothing
-pub unaltered_more : (w next : World) (r : Receipt) → receipts_of next ≡ receipts_of w ++ r ∷ [] → (i : Item) → IsUnaltered w i → IsUnaltered next i
+unaltered_more : (w next : World) (r : Receipt) → receipts_of next ≡ receipts_of w ++ r ∷ [] → (i : Item) → IsUnaltered w i → IsUnaltered next i
 unaltered_more w next r e i h =
     let says : Receipt → Bool = λ s. is_add s && list_any (names_as i) s.items in
     ap (λ rs. is_unaltered rs i) e ∙ list_any-append says (receipts_of w) (r ∷ []) ∙ ap (λ b. b || list_any says (r ∷ [])) h
+
+-- so each item of the old packages is still unaltered
+pub still_unaltered : (w next : World) (r : Receipt) → receipts_of next ≡ receipts_of w ++ r ∷ [] → altered w ≡ [] → AllByRecursion (λ x. AllByRecursion (IsUnaltered next) x.items) w.packages
+still_unaltered w next r e h =
+    All-weaker (λ x. AllByRecursion (IsUnaltered w) x.items) (λ x. AllByRecursion (IsUnaltered next) x.items) (λ x. All-weaker (IsUnaltered w) (IsUnaltered next) (unaltered_more w next r e) x.items) w.packages (each_unaltered w h)

@@ -35,7 +35,7 @@ use Rattle.sheet_types.specs.declared.receipt.Receipt.{Receipt}
 use Rattle.sheet_types.proofs.Basics.{bytes_eq_itself, not_false, before-differs, bytes_eq_swap, not_true, or-true}
 use Rattle.sheet_types.proofs.Without.{is_one}
 use Rattle.ledger_laws.proofs.Ledger.{none_after}
-use Rattle.ledger_laws.proofs.Packages.{at_uuid, each_found}
+use Rattle.ledger_laws.proofs.Packages.{by_place, at_uuid, each_found}
 use Rattle.sheet_types.proofs.Distinct.{distinct_counts, counts_distinct}
 
 -- ---- an item is fit in any package of the frame
@@ -343,5 +343,15 @@ loan_stays w next r x receipts spared kept h = at_parent x.parent kept h
     )
 
 -- one more receipt at its parent
-pub made_among_more : (x : Package) (r : Receipt) (rs : List Receipt) → list_any (made_by x) rs ≡ true → list_any (made_by x) (put receipt_key r rs) ≡ true
+made_among_more : (x : Package) (r : Receipt) (rs : List Receipt) → list_any (made_by x) rs ≡ true → list_any (made_by x) (put receipt_key r rs) ≡ true
 made_among_more x r rs h = list_any-put receipt_key (made_by x) r rs ∙ ap (λ b. made_by x r || b) h ∙ or-true (made_by x r)
+
+-- a receipt that is no merge is put in order at p, and each other place keeps its receipts
+pub loan_stays_with : (w next : World) (p : List ℕ) (r : Receipt) → receipts_of next ≡ receipts_of w ++ r ∷ [] → is_merge r ≡ false → (holdings next p).receipts ≡ put receipt_key r (holdings w p).receipts
+    → ((q : List ℕ) → bytes_eq q p ≡ false → (holdings next q).receipts ≡ (holdings w q).receipts) → (x : Package) → IsLoan w x → IsLoan next x
+loan_stays_with w next p r receipts no_merge here elsewhere x h = loan_stays w next r x receipts (ap (λ b. b && ends_at r.source x.uuid) no_merge) (λ q _. made_there q) h
+  where
+    made_there : (q : List ℕ) → list_any (made_by x) (holdings w q).receipts ≡ true → list_any (made_by x) (holdings next q).receipts ≡ true
+    made_there = by_place p (λ q. list_any (made_by x) (holdings w q).receipts ≡ true → list_any (made_by x) (holdings next q).receipts ≡ true)
+        (λ made. ap (list_any (made_by x)) here ∙ made_among_more x r (holdings w p).receipts made)
+        (λ q other made. ap (list_any (made_by x)) (elsewhere q other) ∙ made)

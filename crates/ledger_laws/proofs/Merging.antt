@@ -14,7 +14,7 @@ use Rattle.sheet_types.specs.Custody.{ends_at, is_merge, is_split, after}
 use Rattle.sheet_types.specs.Cut.{moved_of}
 use Rattle.sheet_types.specs.Step.{accepted, joined, receipt_of, kept_reply}
 use Rattle.sheet_types.specs.Refuse.{refusal, reasons, is_archive, takes_place, place_key, place_of}
-use Rattle.ledger_laws.proofs.Contents.{NoneAltered, IsUnaltered, each_unaltered, none_altered, unaltered_more}
+use Rattle.ledger_laws.proofs.Contents.{NoneAltered, IsUnaltered, each_unaltered, none_altered, still_unaltered}
 use Rattle.sheet_types.proofs.LineReading.{entry_from-line}
 use Rattle.sheet_types.specs.Lines.{HasTypes, entry_from, is_adding, is_splitting, is_merging}
 use Rattle.ledger_laws.proofs.Ledger.{by_entry}
@@ -359,14 +359,11 @@ module _ (w : World) (id moment child into : List ℕ) (ticket : ℤ) (types : H
 
     -- ---- contents
 
-    unaltered_next : (i : Item) → IsUnaltered w i → IsUnaltered next i
-    unaltered_next i h = unaltered_more w next receipt receipts i h
-
     pub contents_after : NoneAltered next
     contents_after =
         let ps : List Package = map (λ x. cond (bytes_eq x.uuid into) (take_all x) x) w.packages in
         let Sound : Package → Type 0 = λ x. AllByRecursion (IsUnaltered next) x.items in
-        let old : AllByRecursion Sound w.packages = All-weaker (λ x. AllByRecursion (IsUnaltered w) x.items) Sound (λ x. All-weaker (IsUnaltered w) (IsUnaltered next) unaltered_next x.items) w.packages (each_unaltered w register.unaltered) in
+        let old : AllByRecursion Sound w.packages = still_unaltered w next receipt receipts register.unaltered in
         let childs : AllByRecursion (IsUnaltered next) (holdings w child).items = (at_all w Sound child old k.child_live).0 in
         All-filter Sound (λ x. not (is_among (child ∷ []) x.uuid)) ps (All-changed take_all into Sound Sound
         (λ x _ h. All-arranged item_key (IsUnaltered next) ((holdings w child).items ++ x.items) (All-append (IsUnaltered next) (holdings w child).items x.items childs h)) (λ x h. h) w.packages old)

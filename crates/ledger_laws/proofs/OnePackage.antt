@@ -2,13 +2,13 @@
 use Rattle.std.specs.Prelude.{◌≡◌, ℕ, ◌+◌, ◌<◌, true, false, cond, ◌&&◌, List, [], ◌∷◌, ◌++◌, length, refl, bytes_eq, Some, unwrap_or, sum_by, flat_map}
 use Rattle.std.proofs.Common.{sym, ap, subst, ◌∙◌, arith}
 use Rattle.std.proofs.lemmas.Bool.{true≢false, false≢true, and_parts}
-use Rattle.std.specs.List.{list_any, AllByRecursion}
+use Rattle.std.specs.List.{AllByRecursion}
 use Rattle.sheet_types.specs.Ordered.{IsArranged}
 use Rattle.sheet_types.specs.Texts.{Entry}
 use Rattle.sheet_types.specs.Lines.{entry_from}
 use Rattle.sheet_types.specs.World.{World, Package, package_key, receipt_key, receipts_of, holdings, is_live, changed, with_receipt}
 use Rattle.sheet_types.specs.Custody.{ends_at, is_merge, is_split}
-use Rattle.ledger_laws.proofs.Contents.{NoneAltered, IsUnaltered, each_unaltered, none_altered, unaltered_more}
+use Rattle.ledger_laws.proofs.Contents.{NoneAltered, IsUnaltered, none_altered, still_unaltered}
 use Rattle.sheet_types.specs.Balance.{Balanced, MayFollow, archive_of, IsLoan, stands_in}
 use Rattle.sheet_types.specs.Register.{IsRegister, IsKeptPackage, HasParent}
 use Rattle.sheet_types.specs.declared.command.Item.{Item}
@@ -23,7 +23,7 @@ use Rattle.ledger_laws.proofs.Ledger.{ledger_numbers}
 use Rattle.ledger_laws.proofs.Shifting.{weighed, goes, SeesKeys, Shift, balance_kept, flat_stand}
 use Rattle.ledger_laws.proofs.Facts.{kept_at, holds_once}
 use Rattle.sheet_types.specs.Refuse.{is_archive}
-use Rattle.ledger_laws.proofs.Keeping.{made_by, loan_stays, made_among_more, live_changed, parent_moves, receipts_kept, sum_by-changed, all_live_at, package_moves, open_kept}
+use Rattle.ledger_laws.proofs.Keeping.{loan_stays_with, live_changed, parent_moves, receipts_kept, sum_by-changed, all_live_at, package_moves, open_kept}
 
 -- ---- one package is changed
 
@@ -82,24 +82,16 @@ module _ (w : World) (p : List ℕ) (r : Receipt) (e : Entry) (items : Package �
     shift = record { receipts = receipts; archive = archive_stays change p w (λ x. refl) (λ x. refl); may = fits.may; shifts = shifts }
 
     loan_kept : (x : Package) → IsLoan w x → IsLoan next x
-    loan_kept x h = loan_stays w next r x receipts (ap (λ b. b && ends_at r.source x.uuid) fits.no_merge) (λ q _. made_there q) h
-      where
-        made_there : (q : List ℕ) → list_any (made_by x) (holdings w q).receipts ≡ true → list_any (made_by x) (holdings next q).receipts ≡ true
-        made_there = by_place p (λ q. list_any (made_by x) (holdings w q).receipts ≡ true → list_any (made_by x) (holdings next q).receipts ≡ true)
-            (λ h. ap (λ y. list_any (made_by x) y.receipts) at_p ∙ made_among_more x r (holdings w p).receipts h)
-            (λ q b h. ap (λ y. list_any (made_by x) y.receipts) (at_other q b) ∙ h)
+    loan_kept = loan_stays_with w next p r receipts fits.no_merge (ap (λ y. y.receipts) at_p) (λ q b. ap (λ y. y.receipts) (at_other q b))
 
     pub balance_after : Balanced next
     balance_after = balance_kept w next r e fits.says shift register.balanced (holds_once w register) carry (λ m. absurd (true≢false (sym m ∙ fits.no_merge)))
         (All-changed change p (IsLoan w) (IsLoan next) (λ x _ h. loan_kept x h) loan_kept w.packages register.balanced.loans)
 
-    unaltered_next : (i : Item) → IsUnaltered w i → IsUnaltered next i
-    unaltered_next i h = unaltered_more w next r receipts i h
-
     pub contents_after : ((x : Package) → AllByRecursion (IsUnaltered next) x.items → AllByRecursion (IsUnaltered next) (items x)) → NoneAltered next
     contents_after stay =
         let Sound : Package → Type 0 = λ x. AllByRecursion (IsUnaltered next) x.items in
-        let old : AllByRecursion Sound w.packages = All-weaker (λ x. AllByRecursion (IsUnaltered w) x.items) Sound (λ x. All-weaker (IsUnaltered w) (IsUnaltered next) unaltered_next x.items) w.packages (each_unaltered w register.unaltered) in
+        let old : AllByRecursion Sound w.packages = still_unaltered w next r receipts register.unaltered in
         All-changed change p Sound Sound (λ x _ h. stay x h) (λ x h. h) w.packages old
 
     -- ---- the rules of a register

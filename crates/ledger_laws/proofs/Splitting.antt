@@ -12,7 +12,7 @@ use Rattle.sheet_types.specs.Custody.{ends_at, is_merge, is_split, after}
 use Rattle.sheet_types.specs.Cut.{Cut, cut, identities, start, strict_set, touches, in_each}
 use Rattle.sheet_types.specs.Step.{accepted, less, loan_of, cut_of, receipt_of, kept_reply}
 use Rattle.sheet_types.specs.Refuse.{refusal, reasons, is_archive, cut_link, greatest_depth}
-use Rattle.ledger_laws.proofs.Contents.{NoneAltered, IsUnaltered, each_unaltered, none_altered, unaltered_more}
+use Rattle.ledger_laws.proofs.Contents.{NoneAltered, IsUnaltered, each_unaltered, none_altered, still_unaltered}
 use Rattle.sheet_types.proofs.LineReading.{entry_from-line}
 use Rattle.sheet_types.specs.Lines.{HasTypes, entry_from, is_adding, is_splitting, is_merging, is_uuid, is_rect}
 use Rattle.ledger_laws.proofs.Ledger.{by_entry}
@@ -34,7 +34,7 @@ use Rattle.sheet_types.proofs.Order.{All-put, All-of_arranged, list_any-put, fil
 use Rattle.sheet_types.proofs.Basics.{bytes_eq_itself, not_false, and_true, bytes_eq_swap}
 use Rattle.sheet_types.proofs.Every.{All-weaker, none_pass, none_any, All-filter}
 use Rattle.ledger_laws.proofs.Accepting.{rows_fail, new_identity, keeps}
-use Rattle.ledger_laws.proofs.Packages.{by_two_places, archive_stays, receipts_gained, with_receipt_gains, AllStand, at_uuid, at_all, stand_at, stand_all, holdings_none, holdings_changed, holdings_enlarged, changed_arranged, All-changed, flat_put}
+use Rattle.ledger_laws.proofs.Packages.{by_place, by_two_places, archive_stays, receipts_gained, with_receipt_gains, AllStand, at_uuid, at_all, stand_at, stand_all, holdings_none, holdings_changed, holdings_enlarged, changed_arranged, All-changed, flat_put}
 use Rattle.ledger_laws.proofs.Ledger.{ledger_numbers, none_later}
 use Rattle.sheet_types.proofs.Found.{found, All-found}
 use Rattle.sheet_types.proofs.Sums.{sum_by-parts, count_none}
@@ -45,7 +45,7 @@ use Rattle.ledger_laws.proofs.Merging.{weigh_moved, lent_to}
 use Rattle.std.proofs.lemmas.Bool.Decides.{nat_tests}
 use Rattle.sheet_types.specs.declared.command.Command.TheVariants.{Split}
 use Rattle.ledger_laws.proofs.CutEnds.{GoesWhole, strict_whole, follow_whole}
-use Rattle.ledger_laws.proofs.Keeping.{made_by, loan_stays, made_among_more, filtered_kept, live_changed, parent_moves, package_moves, receipts_kept, sum_by-changed, all_live_at, open_kept}
+use Rattle.ledger_laws.proofs.Keeping.{loan_stays_with, filtered_kept, live_changed, parent_moves, package_moves, receipts_kept, sum_by-changed, all_live_at, open_kept}
 
 -- a cut takes by a test of the items and a test of the links
 record ByTests (x : Package) (c : Cut) : Type 0 where
@@ -263,13 +263,10 @@ module _ (w : World) (id moment p child : List ℕ) (mode : Mode) (rect : Rect) 
     -- ---- loans
 
     loan_kept : (x : Package) → IsLoan w x → IsLoan next x
-    loan_kept x h = loan_stays w next receipt x receipts (ap (λ b. b && ends_at receipt.source x.uuid) no_merge) (λ q _. made_there q) h
-      where
-        made_there : (q : List ℕ) → list_any (made_by x) (holdings w q).receipts ≡ true → list_any (made_by x) (holdings next q).receipts ≡ true
-        made_there = by_two_places child p (λ q. list_any (made_by x) (holdings w q).receipts ≡ true → list_any (made_by x) (holdings next q).receipts ≡ true)
-            (λ h. absurd (false≢true (sym (ap (λ y. list_any (made_by x) y.receipts) (holdings_none w child child_dead)) ∙ h)))
-            (λ h. ap (λ y. list_any (made_by x) y.receipts) at_p ∙ made_among_more x receipt (holdings w p).receipts h)
-            (λ q a b h. ap (λ y. list_any (made_by x) y.receipts) (at_other q a b) ∙ h)
+    loan_kept = loan_stays_with w next p receipt receipts no_merge (ap (λ y. y.receipts) at_p)
+        (by_place child (λ q. bytes_eq q p ≡ false → (holdings next q).receipts ≡ (holdings w q).receipts)
+            (λ _. ap (λ y. y.receipts) at_child ∙ sym (ap (λ y. y.receipts) (holdings_none w child child_dead)))
+            (λ q a b. ap (λ y. y.receipts) (at_other q a b)))
 
     new_loan : IsLoan next loan
     new_loan = (
@@ -293,13 +290,10 @@ module _ (w : World) (id moment p child : List ℕ) (mode : Mode) (rect : Rect) 
 
     -- ---- contents
 
-    unaltered_next : (i : Item) → IsUnaltered w i → IsUnaltered next i
-    unaltered_next i h = unaltered_more w next receipt receipts i h
-
     pub contents_after : NoneAltered next
     contents_after =
         let Sound : Package → Type 0 = λ x. AllByRecursion (IsUnaltered next) x.items in
-        let old : AllByRecursion Sound w.packages = All-weaker (λ x. AllByRecursion (IsUnaltered w) x.items) Sound (λ x. All-weaker (IsUnaltered w) (IsUnaltered next) unaltered_next x.items) w.packages (each_unaltered w register.unaltered) in
+        let old : AllByRecursion Sound w.packages = still_unaltered w next receipt receipts register.unaltered in
         All-put package_key Sound loan (map (λ x. cond (bytes_eq x.uuid p) (give x) x) w.packages)
         (subst (AllByRecursion (IsUnaltered next)) (sym tests.items.1) (All-filter (IsUnaltered next) tests.items.0 (holdings w p).items (at_all w Sound p old k.live).0))
         (All-changed give p Sound Sound (λ x _ h. All-filter (IsUnaltered next) _ x.items h) (λ x h. h) w.packages old)
