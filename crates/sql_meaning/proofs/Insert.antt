@@ -1,5 +1,5 @@
 -- What INSERT of one row by parameters makes of a database.
-use Rattle.std.proofs.Common.{◌≡◌, inl, inr, ℕ, ◌+◌, ◌/◌, ℤ, List, [], ◌∷◌, length, Bool, true, false, Option, Some, None, Ok, Err, Result, refl, sym, ap, subst, ◌∙◌}
+use Rattle.std.proofs.Common.{◌≡◌, inl, inr, ℕ, ◌+◌, ◌/◌, ℤ, List, [], ◌∷◌, length, Bool, true, false, Option, Some, None, Ok, Result, refl, sym, ap, subst, ◌∙◌}
 use Rattle.std.specs.Prelude.{not, ◌&&◌, if◌then◌else◌}
 use Rattle.std.proofs.lemmas.Bool.{cases_Bool}
 use Rattle.sqlite_ast.specs.declared.Rows.{Rows}
@@ -31,7 +31,7 @@ use Rattle.sql_meaning.specs.Writing.{Inserted, Inserts, WritesInside, Soundly}
 use Rattle.sql_meaning.proofs.Resolve.{inserts_in, understood_is}
 use Rattle.sql_meaning.specs.Kinds.{has_kinds}
 use Rattle.sql_meaning.proofs.Casts.{cast_row_kept}
-use Rattle.sql_meaning.proofs.Writes.{Ran, ran_of, parts_of, same_value, kept_by, sequence_is, sequence_kept, task_on, apart_in, is_in}
+use Rattle.sql_meaning.proofs.Writes.{Ran, ran_of, parts_of, same_value, kept_by, sequence_is, sequence_kept, task_on, apart_in, is_in, writes_inside}
 
 -- ---- the text
 
@@ -127,9 +127,7 @@ module _ (text : List ℕ) (table : ℕ → Table) (it : (tree : ℕ) → IsInse
 
   -- in a transaction
   pub inserted_inside : (r : Result ℕ Error) → ExecutesInside 0 text params old new r → WritesInside (Inserts table row) old new r
-  inserted_inside (Ok count) h = (h.1, inserted count h.0)
-  inserted_inside (Err e) (inl ran) = ran.1
-  inserted_inside (Err e) (inr ended) = inl ended.2
+  inserted_inside = writes_inside (Inserts table row) text params old new inserted
 
   sound_after : (count : ℕ) → Executes text params old new (Ok count) → (at tree : ℕ) → HasTable old.now.schema at (table tree) → IsDatabase new.now
   sound_after count h at tree has =
@@ -138,6 +136,4 @@ module _ (text : List ℕ) (table : ℕ → Table) (it : (tree : ℕ) → IsInse
 
   -- in a transaction, and the new database is sound
   pub inserted_soundly : (r : Result ℕ Error) → ExecutesInside 0 text params old new r → WritesInside (Soundly table (Inserts table row)) old new r
-  inserted_soundly (Ok count) h = (h.1, (inserted count h.0, sound_after count h.0))
-  inserted_soundly (Err e) (inl ran) = ran.1
-  inserted_soundly (Err e) (inr ended) = inl ended.2
+  inserted_soundly = writes_inside (Soundly table (Inserts table row)) text params old new (λ count h. (inserted count h, sound_after count h))
