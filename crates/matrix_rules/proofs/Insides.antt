@@ -14,14 +14,14 @@ use Rattle.matrix_rules.proofs.Grids.{Grid, grid_x, grid_y}
 use Rattle.matrix_rules.proofs.Blocks.{block, along}
 use Rattle.matrix_rules.proofs.Parts.{same_test, positive_product}
 
--- the edges of a good rectangle lie in the frame
-pub record Edges (f : Frame) (r : Rect) : Type 0 where
-  pub west : (f.min_x ≤ℤ (block_ground f r).west) × ((block_ground f r).west ≤ℤ f.max_x)
-  pub east : (f.min_x ≤ℤ (block_ground f r).east) × ((block_ground f r).east ≤ℤ f.max_x)
-  pub north : (f.min_y ≤ℤ (block_ground f r).north) × ((block_ground f r).north ≤ℤ f.max_y)
-  pub south : (f.min_y ≤ℤ (block_ground f r).south) × ((block_ground f r).south ≤ℤ f.max_y)
+-- ground lies in the frame
+pub record Edges (f : Frame) (g : Ground) : Type 0 where
+  pub west : (f.min_x ≤ℤ g.west) × (g.west ≤ℤ f.max_x)
+  pub east : (f.min_x ≤ℤ g.east) × (g.east ≤ℤ f.max_x)
+  pub north : (f.min_y ≤ℤ g.north) × (g.north ≤ℤ f.max_y)
+  pub south : (f.min_y ≤ℤ g.south) × (g.south ≤ℤ f.max_y)
 
-pub edges : (f : Frame) (r : Rect) → GoodFrame f → is_good_rect f r ≡ true → Edges f r
+pub edges : (f : Frame) (r : Rect) → GoodFrame f → is_good_rect f r ≡ true → Edges f (block_ground f r)
 edges f r good h =
     let rect = block f r h in
     let across = grid_x f r.zoom good rect.level in
@@ -36,6 +36,10 @@ edges f r good h =
       north = (omega (arith, ints, north.1), omega (arith, ints, north.0));
       south = (omega (arith, ints, south.1), omega (arith, ints, south.0));
     }
+
+-- the same, with the rectangle's ground under a name
+pub edges_at : (f : Frame) (r : Rect) (outer : Ground) → outer ≡ block_ground f r → GoodFrame f → is_good_rect f r ≡ true → Edges f outer
+edges_at f r outer is good h = rw is (edges f r good h)
 
 -- a part of an axis that lies within it is one of its tiles
 within_axis : (low high tiles tile span c : ℤ) → Grid low high tiles tile span → pos 0 ≤ℤ (c *ℤ span) → ((c +ℤ pos 1) *ℤ span) ≤ℤ (high -ℤ low) → (pos 0 ≤ℤ c) × (c <ℤ tiles)

@@ -1,3 +1,4 @@
+pub mod Axes
 pub mod Blocks
 pub mod Frames
 pub mod Grids

@@ -1,11 +1,11 @@
 -- Products and powers between bounds.
-use Rattle.std.specs.Prelude.{◌≡◌, ℕ, ◌*◌, ◌^◌, ◌<◌, ◌≤◌, ℤ, pos, negsuc, ◌*ℤ◌, ◌≤ℤ◌, unsigned_abs, int_div, ◌/◌}
+use Rattle.std.specs.Prelude.{◌≡◌, ℕ, ◌*◌, ◌^◌, ◌<◌, ◌≤◌, ℤ, pos, negsuc, ◌*ℤ◌, ◌≤ℤ◌, unsigned_abs, int_div, ◌/◌, ◌+◌}
 use mir.Syntax.{Width}
 use mir.Val.{hbits}
-use Rattle.std.proofs.Common.{arith, FitsSigned, ◌%◌, w64, to_z, of_z}
+use Rattle.std.proofs.Common.{arith, FitsSigned, ◌%◌, w64, to_z, of_z, lit<}
 use Rattle.std.proofs.lemmas.Int.{ints, to_z_pos}
 use Rattle.std.proofs.lemmas.Nat.{pow_pos, one_shl}
-use Rattle.std.proofs.Math.Nat.{mul-le-mul, pow-le-pow_right, div-le_self}
+use Rattle.std.proofs.Math.Nat.{mul-le-mul, mul-le-mul_right, pow-le-pow_right, div-le_self, div-add-mod}
 
 -- a product of two numbers from 1 on
 pub product_range : (a b : ℤ) (m n : ℕ) → pos 1 ≤ℤ a → a ≤ℤ pos m → pos 1 ≤ℤ b → b ≤ℤ pos n → (pos 1 ≤ℤ (a *ℤ b)) × ((a *ℤ b) ≤ℤ pos (m * n))
@@ -41,10 +41,12 @@ fits_between w (pos z) n low high below =
     record { sfits = omega arith }
 fits_between w (negsuc z) n low high below = absurd (omega (arith, ints))
 
--- the size of a pixel, and the number of pixels along the axis
+-- the pixels along an axis, and the sizes of a pixel and of a tile
 pub record Pixels (extent tile tiles : ℤ) : Type 0 where
-  pub pixels : (pos 1 ≤ℤ (tiles *ℤ tile)) × ((tiles *ℤ tile) ≤ℤ pos 2000000000000)
-  pub size : (pos 0 ≤ℤ int_div extent (tiles *ℤ tile)) × (int_div extent (tiles *ℤ tile) ≤ℤ pos 2000000000000)
+  pub some : pos 1 ≤ℤ (tiles *ℤ tile)
+  pub pixels : FitsSigned w64 (tiles *ℤ tile)
+  pub size : FitsSigned w64 (int_div extent (tiles *ℤ tile))
+  pub span : FitsSigned w64 (tile *ℤ int_div extent (tiles *ℤ tile))
 
 pub pixel_range : (extent tile tiles : ℤ) → pos 1 ≤ℤ tile → pos 1 ≤ℤ tiles → (tiles *ℤ tile) ≤ℤ extent → extent ≤ℤ pos 2000000000000 → Pixels extent tile tiles
 pixel_range (pos e) (pos t) (pos n) tile tiles fits most =
@@ -54,9 +56,14 @@ pixel_range (pos e) (pos t) (pos n) tile tiles fits most =
     let below : n * t ≤ e = omega (arith, ints, fits) in
     let product : 1 * 1 ≤ n * t = mul-le-mul {n₁ = 1} {m₁ = 1} {n₂ = n} {m₂ = t} n_some t_some in
     let quotient : e / (n * t) ≤ e = div-le_self e (n * t) in
+    let one_tile : 1 * t ≤ n * t = mul-le-mul_right {m = 1} {n = n} t n_some in
+    let grown : t * (e / (n * t)) ≤ (n * t) * (e / (n * t)) = mul-le-mul_right (e / (n * t)) (omega (arith, one_tile)) in
+    let whole : (n * t) * (e / (n * t)) + e % (n * t) ≡ e = div-add-mod e (n * t) in
     record {
-      pixels = (omega (arith, ints, product), omega (arith, ints, below));
-      size = (omega (arith, ints), omega (arith, ints, quotient));
+      some = omega (arith, ints, product);
+      pixels = fits_between w64 (pos (n * t)) 2000000000000 (omega (arith, ints)) (omega (arith, ints, below)) (lit< tt);
+      size = fits_between w64 (pos (e / (n * t))) 2000000000000 (omega (arith, ints)) (omega (arith, ints, quotient)) (lit< tt);
+      span = fits_between w64 (pos (t * (e / (n * t)))) 2000000000000 (omega (arith, ints)) (omega (arith, ints, grown, whole)) (lit< tt);
     }
 pixel_range (negsuc e) (pos t) (pos n) tile tiles fits most = absurd (omega (arith, ints, fits))
 pixel_range e (pos t) (negsuc n) tile tiles fits most = absurd (omega (arith, ints, tiles))

@@ -1,8 +1,8 @@
 // The ground of tiles and of rectangles, and what lies inside.
-ghost use Rattle.std.specs.Prelude.{◌≡◌, ℕ, ◌^◌, ◌+◌, ◌&&◌, ◌+ℤ◌, ◌-ℤ◌, ◌*ℤ◌, pos, negsuc, ◌≤ℤ◌, ◌<ℤ◌, int_div, IsTrue, true};
-ghost use Rattle.sheet_types.specs.Matrix.{is_good_frame, has_level, width_at, height_at, level_of, pixel_x_size, pixel_y_size, tile_span_x, tile_span_y, has_place, block_ground, tile_ground, is_good_rect, lies_within, tile_inside, has_point, point_inside, in_frame, one_tile};
+ghost use Rattle.std.specs.Prelude.{◌≡◌, IsTrue};
+ghost use Rattle.sheet_types.specs.Matrix.{is_good_frame, has_level, width_at, height_at, level_of, pixel_x_size, pixel_y_size, has_place, block_ground, tile_ground, is_good_rect, lies_within, tile_inside, has_point, point_inside, in_frame, one_tile};
 
-use crate::check::tiles_at;
+use crate::axis::{across, down};
 use sheet_types::frame::{Frame, Ground, Rect};
 
 pub(crate) fn has_level(frame: &Frame, zoom: i64) -> bool
@@ -19,7 +19,7 @@ pub fn columns_at(frame: &Frame, zoom: i64) -> i64
     requires level { IsTrue (has_level frame.now zoom) }
     ensures { result ≡ width_at frame.now (level_of frame.now zoom) }
 {
-    tiles_at(frame.matrix_width, zoom - frame.first_zoom)
+    across(frame, zoom).tiles
 }
 
 /// The rows of a zoom level that the frame has. Each level doubles them (profile).
@@ -28,7 +28,7 @@ pub fn rows_at(frame: &Frame, zoom: i64) -> i64
     requires level { IsTrue (has_level frame.now zoom) }
     ensures { result ≡ height_at frame.now (level_of frame.now zoom) }
 {
-    tiles_at(frame.matrix_height, zoom - frame.first_zoom)
+    down(frame, zoom).tiles
 }
 
 /// Whether there is such a tile: the frame has the zoom, and the column and the row are among its.
@@ -52,28 +52,13 @@ pub fn is_good(frame: &Frame, rect: &Rect) -> bool
     first & last & (rect.column <= rect.last_column) & (rect.row <= rect.last_row)
 }
 
-/// The size of a pixel along an axis of this extent that so many tiles make up.
-fn pixel_size(extent: i64, tile: i64, tiles: i64) -> i64
-    requires tile { pos 1 ≤ℤ tile }
-    requires tiles { pos 1 ≤ℤ tiles }
-    requires fits { (tiles *ℤ tile) ≤ℤ extent }
-    requires extent { extent ≤ℤ pos 2000000000000 }
-    ensures { result ≡ int_div extent (tiles *ℤ tile) }
-{
-    extent / (tiles * tile)
-}
-
 /// The width of a pixel of a zoom level on the ground.
 pub fn pixel_x_size(frame: &Frame, zoom: i64) -> i64
     requires good { IsTrue (is_good_frame frame.now) }
     requires level { IsTrue (has_level frame.now zoom) }
     ensures { result ≡ pixel_x_size frame.now zoom }
 {
-    pixel_size(
-        frame.max_x - frame.min_x,
-        frame.tile_width,
-        columns_at(frame, zoom),
-    )
+    across(frame, zoom).pixel_size
 }
 
 /// The height of a pixel of a zoom level on the ground.
@@ -82,49 +67,7 @@ pub fn pixel_y_size(frame: &Frame, zoom: i64) -> i64
     requires level { IsTrue (has_level frame.now zoom) }
     ensures { result ≡ pixel_y_size frame.now zoom }
 {
-    pixel_size(
-        frame.max_y - frame.min_y,
-        frame.tile_height,
-        rows_at(frame, zoom),
-    )
-}
-
-/// The width of a tile on the ground.
-pub(crate) fn column_span(frame: &Frame, zoom: i64) -> i64
-    requires good { IsTrue (is_good_frame frame.now) }
-    requires level { IsTrue (has_level frame.now zoom) }
-    ensures { result ≡ tile_span_x frame.now zoom }
-{
-    frame.tile_width * pixel_x_size(frame, zoom)
-}
-
-/// The height of a tile on the ground.
-pub(crate) fn row_span(frame: &Frame, zoom: i64) -> i64
-    requires good { IsTrue (is_good_frame frame.now) }
-    requires level { IsTrue (has_level frame.now zoom) }
-    ensures { result ≡ tile_span_y frame.now zoom }
-{
-    frame.tile_height * pixel_y_size(frame, zoom)
-}
-
-/// The west edge of a column, and the east edge of the last where the column is one past it.
-fn column_edge(frame: &Frame, zoom: i64, column: i64) -> i64
-    requires good { IsTrue (is_good_frame frame.now) }
-    requires level { IsTrue (has_level frame.now zoom) }
-    requires column { (pos 0 ≤ℤ column) × (column ≤ℤ width_at frame.now (level_of frame.now zoom)) }
-    ensures { result ≡ frame.now.min_x +ℤ column *ℤ tile_span_x frame.now zoom }
-{
-    frame.min_x + column * column_span(frame, zoom)
-}
-
-/// The north edge of a row, and the south edge of the last where the row is one past it.
-fn row_edge(frame: &Frame, zoom: i64, row: i64) -> i64
-    requires good { IsTrue (is_good_frame frame.now) }
-    requires level { IsTrue (has_level frame.now zoom) }
-    requires row { (pos 0 ≤ℤ row) × (row ≤ℤ height_at frame.now (level_of frame.now zoom)) }
-    ensures { result ≡ frame.now.max_y -ℤ row *ℤ tile_span_y frame.now zoom }
-{
-    frame.max_y - row * row_span(frame, zoom)
+    down(frame, zoom).pixel_size
 }
 
 /// The ground of a good rectangle.
@@ -133,11 +76,13 @@ pub(crate) fn block(frame: &Frame, rect: &Rect) -> Ground
     requires rect { IsTrue (is_good_rect frame.now rect.now) }
     ensures { result ≡ block_ground frame.now rect.now }
 {
+    let (west, east) = across(frame, rect.zoom).ends(rect.column, rect.last_column);
+    let (north, south) = down(frame, rect.zoom).ends(rect.row, rect.last_row);
     Ground {
-        west: column_edge(frame, rect.zoom, rect.column),
-        south: row_edge(frame, rect.zoom, rect.last_row + 1),
-        east: column_edge(frame, rect.zoom, rect.last_column + 1),
-        north: row_edge(frame, rect.zoom, rect.row),
+        west: frame.min_x + west,
+        south: frame.max_y - south,
+        east: frame.min_x + east,
+        north: frame.max_y - north,
     }
 }
 

@@ -1,0 +1,32 @@
+-- One axis of a frame at one zoom, both axes by the same numbers.
+use Rattle.std.specs.Prelude.{◌^◌, ℤ, pos, ◌-ℤ◌, ◌*ℤ◌, ◌≤ℤ◌, int_div, unsigned_abs}
+use Rattle.sheet_types.specs.declared.frame.Frame.{Frame}
+use Rattle.matrix_rules.specs.declared.axis.Axis.{Axis}
+
+-- tiles of so many pixels along this extent, so many levels below the first
+abbrev pub axis_of : ℤ → ℤ → ℤ → ℤ → Axis
+axis_of extent tile matrix level = record {
+  tiles = matrix *ℤ pos (2 ^ unsigned_abs level);
+  pixel_size = int_div extent (matrix *ℤ pos (2 ^ unsigned_abs level) *ℤ tile);
+  span = tile *ℤ int_div extent (matrix *ℤ pos (2 ^ unsigned_abs level) *ℤ tile);
+}
+
+abbrev pub across : Frame → ℤ → Axis
+across f zoom = axis_of (f.max_x -ℤ f.min_x) f.tile_width f.matrix_width (zoom -ℤ f.first_zoom)
+
+abbrev pub down : Frame → ℤ → Axis
+down f zoom = axis_of (f.max_y -ℤ f.min_y) f.tile_height f.matrix_height (zoom -ℤ f.first_zoom)
+
+-- the extent has a thousandth at least for each pixel, and no number on the way passes 64 bits
+pub record HasPixels (extent tile matrix level : ℤ) : Type 0 where
+  pub most : extent ≤ℤ pos 2000000000000
+  pub tile_range : (pos 1 ≤ℤ tile) × (tile ≤ℤ pos 4096)
+  pub matrix_range : (pos 1 ≤ℤ matrix) × (matrix ≤ℤ pos 2000000000000)
+  pub level_range : (pos 0 ≤ℤ level) × (level ≤ℤ pos 20)
+  pub pixels : (matrix *ℤ pos (2 ^ unsigned_abs level) *ℤ tile) ≤ℤ extent
+
+-- an axis as good frames have it
+pub record IsAxis (a : Axis) : Type 0 where
+  pub tiles : (pos 1 ≤ℤ a.tiles) × (a.tiles ≤ℤ pos 2000000000000)
+  pub span : (pos 1 ≤ℤ a.span) × (a.span ≤ℤ pos 2000000000000)
+  pub whole : (a.tiles *ℤ a.span) ≤ℤ pos 2000000000000
