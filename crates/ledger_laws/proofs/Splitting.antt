@@ -31,7 +31,7 @@ use Rattle.sheet_types.specs.declared.command.Request.{Request}
 use Rattle.sheet_types.specs.declared.receipt.Moved.{Moved}
 use Rattle.sheet_types.specs.declared.receipt.Receipt.{Receipt}
 use Rattle.sheet_types.proofs.Order.{All-put, All-of_arranged, list_any-put, filter_arranged, put_arranged, find_put_other, sum_by-put}
-use Rattle.sheet_types.proofs.Basics.{bytes_eq_itself, not_false, and_true, bytes_eq_swap}
+use Rattle.sheet_types.proofs.Basics.{bytes_eq_itself, not_false, and_true, bytes_eq_swap, not_true}
 use Rattle.sheet_types.proofs.Every.{All-weaker, none_pass, none_any, All-filter}
 use Rattle.ledger_laws.proofs.Accepting.{rows_fail, new_identity, keeps}
 use Rattle.ledger_laws.proofs.Packages.{by_place, by_two_places, archive_stays, receipts_gained, with_receipt_gains, AllStand, at_uuid, at_all, stand_at, stand_all, holdings_none, holdings_changed, holdings_enlarged, changed_arranged, All-changed, flat_put}
@@ -325,16 +325,12 @@ module _ (w : World) (id moment p child : List ℕ) (mode : Mode) (rect : Rect) 
     parent_stays : (x : Package) → HasParent w x → HasParent next x
     parent_stays x h = parent_moves w next x.parent x.depth x.loan (λ q _ live. (live_then q live, depth_stays q live)) h
 
-    not_taken : (b : Bool) → not b ≡ true → b ≡ false
-    not_taken true h = absurd (false≢true h)
-    not_taken false h = refl
-
     kept_rest : IsKeptPackage next (give (holdings w p))
     kept_rest = filtered_kept w next (holdings w p) (give (holdings w p)) (λ id. not (c.s id)) (λ l. not (c.u l)) refl rest_items rest_links kept.uuid
         (receipts_kept receipt (holdings w p).receipts kept.receipts (stand_at (λ _ s. s.seq < receipt.seq) w p (flat_stand (λ s. s.seq < receipt.seq) w.packages (All-of_arranged receipt_key (λ s. s.seq < receipt.seq) (flat_map (λ x. x.receipts) w.packages) below))))
         (parent_stays (holdings w p) kept.parent)
         (All-weaker (GoesWhole c.s c.u) (λ l. not (c.u l) ≡ true → (not (c.s l.base) ≡ true) × (not (c.s l.media) ≡ true))
-        (λ l h left. let both : (c.s l.base ≡ false) × (c.s l.media ≡ false) = h.1 (not_taken (c.u l) left) in (ap not both.0, ap not both.1)) (holdings w p).links c.whole)
+        (λ l h left. let both : (c.s l.base ≡ false) × (c.s l.media ≡ false) = h.1 (not_true (c.u l) left) in (ap not both.0, ap not both.1)) (holdings w p).links c.whole)
         kept
 
     kept_loan : IsKeptPackage next loan
