@@ -4,7 +4,7 @@ use Rattle.std.specs.Option.{option_map_or}
 use Rattle.std.proofs.Common.{sym, ap, subst, ◌∙◌, arith, drop}
 use Rattle.std.proofs.lemmas.List.Sums.{sum_by-append, sum_by-cons}
 use Rattle.std.proofs.lemmas.List.Folds.{list_any-append}
-use Rattle.std.proofs.lemmas.Bool.{true≢false, false≢true, and_parts, and_from}
+use Rattle.std.proofs.lemmas.Bool.{true≢false, false≢true, and_parts, and_from, or_right}
 use Rattle.std.proofs.lemmas.Slice.Eq.{bytes_eq-Decides}
 use Rattle.std.specs.List.{list_any, AllByRecursion}
 use Rattle.sheet_types.specs.Ordered.{put, arranged, has, without, IsArranged, is_among}
@@ -330,11 +330,6 @@ module _ (w : World) (id moment child into : List ℕ) (ticket : ℤ) (types : H
     loan_kept x other h away =
         loan_stays w next receipt x receipts (ap (λ b. b && bytes_eq child x.uuid) merges ∙ bytes_eq_swap child x.uuid ∙ other) (λ q ends. made_there q (ap (λ o. ends_at o child) (sym (ends_at_is x.parent q ends)) ∙ away)) h
       where
-        or_last : (a b c : Bool) → c ≡ true → (a || (b || c)) ≡ true
-        or_last true b c h = refl
-        or_last false true c h = refl
-        or_last false false c h = h
-
         made : Receipt → Bool
         made = made_by x
 
@@ -343,7 +338,7 @@ module _ (w : World) (id moment child into : List ℕ) (ticket : ℤ) (types : H
             (λ _ h. ap (λ y. list_any made y.receipts) at_into
             ∙ list_any-put receipt_key made receipt (arranged receipt_key ((holdings w child).receipts ++ (holdings w into).receipts))
             ∙ ap (λ b. made receipt || b) (list_any-arranged receipt_key made ((holdings w child).receipts ++ (holdings w into).receipts) ∙ list_any-append made (holdings w child).receipts (holdings w into).receipts)
-            ∙ or_last (made receipt) (list_any made (holdings w child).receipts) (list_any made (holdings w into).receipts) h)
+            ∙ or_right (made receipt) (list_any made (holdings w child).receipts || list_any made (holdings w into).receipts) (or_right (list_any made (holdings w child).receipts) (list_any made (holdings w into).receipts) h))
             (λ q b a h. ap (λ y. list_any made y.receipts) (at_other q a b) ∙ h)
 
     loans_kept : AllByRecursion (IsLoan next) next.packages
