@@ -74,17 +74,12 @@ not_among : (id : List ℕ) (m : Moved) (ns : List Moved) → is_item_of id m �
 not_among id m [] names thing h things = refl
 not_among id m (n ∷ ns) names thing h things = rw (other_key id m n names thing h.0 things.0) (not_among id m ns names thing h.1 things.1)
 
--- none of these receipts names the thing
-none_names : (id : List ℕ) (m : Moved) (past : List Receipt) → is_item_of id m ≡ true → IsThing m → AllByRecursion (λ s. names_identity id s ≡ false) past
-    → AllByRecursion (λ s. AllByRecursion IsThing s.items) past → filter (names (moved_thing m)) past ≡ []
-none_names id m [] named thing h things = refl
-none_names id m (s ∷ past) named thing h things =
-    rw (not_among id m s.items named thing (none_pass (is_item_of id) s.items h.0) things.0) (none_names id m past named thing h.1 things.1)
-
--- what nothing names stands nowhere
+-- what none of these receipts names stands nowhere
 pub custody_none : (id : List ℕ) (m : Moved) (past : List Receipt) → is_item_of id m ≡ true → IsThing m → AllByRecursion (λ s. names_identity id s ≡ false) past
     → AllByRecursion (λ s. AllByRecursion IsThing s.items) past → custody past (moved_thing m) ≡ None
-custody_none id m past named thing h things = ap (λ rs. option_and_then (λ r. r.target) (last_of rs)) (none_names id m past named thing h things)
+custody_none id m [] named thing h things = refl
+custody_none id m (s ∷ past) named thing h things =
+    rw (not_among id m s.items named thing (none_pass (is_item_of id) s.items h.0) things.0) (custody_none id m past named thing h.1 things.1)
 
 -- a test that fails
 and_false_or : (b : Bool) → ((b && false) || false) ≡ false
