@@ -265,8 +265,8 @@ module _ (w : World) (id moment p child : List ℕ) (mode : Mode) (rect : Rect) 
     loan_kept : (x : Package) → IsLoan w x → IsLoan next x
     loan_kept = loan_stays_with w next p receipt receipts no_merge (ap (λ y. y.receipts) at_p)
         (by_place child (λ q. bytes_eq q p ≡ false → (holdings next q).receipts ≡ (holdings w q).receipts)
-            (λ _. ap (λ y. y.receipts) at_child ∙ sym (ap (λ y. y.receipts) (holdings_none w child child_dead)))
-            (λ q a b. ap (λ y. y.receipts) (at_other q a b)))
+        (λ _. ap (λ y. y.receipts) at_child ∙ sym (ap (λ y. y.receipts) (holdings_none w child child_dead)))
+        (λ q a b. ap (λ y. y.receipts) (at_other q a b)))
 
     new_loan : IsLoan next loan
     new_loan = (

@@ -1,5 +1,5 @@
 -- A SELECT changes nothing, whatever it answers and however it fails.
-use Rattle.std.proofs.Common.{◌≡◌, ◌⊎◌, inl, inr, ℕ, Bool, true, false, cond, Option, None, List, Result, Ok, Err, IsTrue, arith, refl, sym, ap, subst, ◌∙◌}
+use Rattle.std.proofs.Common.{◌≡◌, ◌⊎◌, inl, inr, ℕ, Bool, true, false, cond, Option, None, List, Result, Ok, Err, IsTrue, refl, sym, ap, subst, ◌∙◌}
 use Rattle.std.specs.Prelude.{IfOk, IfErr}
 use Rattle.sqlite.specs.Tree.{Trees}
 use Rattle.sqlite.specs.Store.{Ghosts}
@@ -28,9 +28,8 @@ use Rattle.sqlite_value.specs.declared.keys.Key.{Key}
 use Rattle.sql_meaning.specs.Reading.{Test, Listing, Finds}
 use Rattle.sql_meaning.proofs.Where.{are_given}
 use Rattle.sql_meaning.proofs.Select.{IsSelect, IsPlannedSelect, listing_of, listed}
-use Rattle.sql_meaning.specs.Transactions.{Rests, Holds, Made, Steps, Looks}
-use Rattle.sql_meaning.specs.Writing.{Chained}
-use Rattle.sql_meaning.proofs.Transactions.{Shuts, Settles, clean_open, none_left}
+use Rattle.sql_meaning.specs.Transactions.{Rests, Made, Steps, Looks}
+use Rattle.sql_meaning.proofs.Transactions.{Shuts, Settles, clean_open}
 
 -- whatever is compiled has no RETURNING
 abbrev Bare : Result Compiled CompileError → Type 0
@@ -133,23 +132,6 @@ module _ (text : List ℕ) (p : Parsed) (asks : Written) (parsed : first text �
         at : (r : Result X Error) → IfOk r (λ x. Shown text params (state g old) (state g new) (items x)) → IfOk r (λ x. IsTrue (state g new).is_open × Answers x (state g old).now (state g new).now)
         at (Ok x) shown = ((shown_unchanged params (state g old) (state g new) (items x) shown).0.is_open, means x shown)
         at (Err e) shown = tt
-
--- ---- several reads of a store at rest
-
--- one read after the other
-pub looks_then : {S : Type 0} (g : Ghosts S) (shuts : Shuts g) (settles : Settles g) {X Y E F : Type 0} {P : X → Database → Database → Type 0} {Q : Y → Database → Database → Type 0} {old mid : State} (new : Held S) {x : X} {r : Result Y F}
-    → Looks {E = E} P old mid (Ok x) → Looks Q mid (state g new) r → Looks (λ y. Chained (P x) (Q y)) old (state g new) r
-looks_then g shuts settles {X} {Y} {E} {F} {P} {Q} {old} {mid} new {x} {r} one two = record {
-  rests = two.rests;
-  done = λ clean. at r (one.done (omega (arith, two.survives.clean, clean))).1 (two.done clean);
-  was_open = λ is_open. one.was_open (two.was_open is_open);
-  holds = λ is_open. subst (Holds (state g new)) (one.holds (two.was_open is_open)).now_is (two.holds is_open);
-  survives = none_left old mid (state g new) one.survives two.survives;
-}
-  where
-    at : (r : Result Y F) → P x old.now mid.now → IfOk r (λ y. IsTrue (state g new).is_open × Q y mid.now (state g new).now) → IfOk r (λ y. IsTrue (state g new).is_open × Chained (P x) (Q y) old.now (state g new).now)
-    at (Ok y) first it = (it.0, (mid.now, first, it.1))
-    at (Err e) first it = tt
 
 -- ---- a SELECT of a known table
 
