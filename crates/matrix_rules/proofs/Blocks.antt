@@ -1,12 +1,14 @@
 -- Where a good rectangle's edges lie.
 use Rattle.std.specs.Prelude.{◌≡◌, ◌*◌, ◌≤◌, true, ◌&&◌, ℤ, pos, negsuc, ◌-ℤ◌, ◌*ℤ◌, ◌≤ℤ◌, ◌<ℤ◌, int_le, int_lt}
-use Rattle.std.proofs.Common.{arith}
+use Rattle.std.proofs.Common.{arith, ap, sym, FitsSigned, ◌+ℤ◌, w64}
 use Rattle.std.proofs.lemmas.Bool.{and_parts}
 use Rattle.std.proofs.lemmas.Int.{ints}
 use Rattle.std.proofs.Math.Nat.{mul-le-mul_right}
 use Rattle.sheet_types.specs.declared.frame.Frame.{Frame}
 use Rattle.sheet_types.specs.declared.frame.Rect.{Rect}
 use Rattle.sheet_types.specs.Matrix.{has_level, has_place, width_at, height_at, level_of, is_good_rect}
+use Rattle.matrix_rules.specs.declared.axis.Axes.{Axes}
+use Rattle.matrix_rules.specs.Axes.{axes, IsAxis}
 use Rattle.matrix_rules.proofs.Frames.{three}
 use Rattle.matrix_rules.proofs.Grids.{Grid}
 
@@ -53,4 +55,27 @@ block f r h =
       last = place f r.zoom r.last_column r.last_row ends.1;
       columns = omega (arith, ints, order.1);
       rows = omega (arith, ints, order.2);
+    }
+
+-- where a good rectangle's edges lie on the axes of its zoom, and that the numbers after its last ones fit 64 bits
+pub record Starts (r : Rect) (a : Axes) : Type 0 where
+  pub west : (pos 0 ≤ℤ r.column) × (r.column ≤ℤ a.across.tiles)
+  pub east : (pos 0 ≤ℤ (r.last_column +ℤ pos 1)) × ((r.last_column +ℤ pos 1) ≤ℤ a.across.tiles)
+  pub north : (pos 0 ≤ℤ r.row) × (r.row ≤ℤ a.down.tiles)
+  pub south : (pos 0 ≤ℤ (r.last_row +ℤ pos 1)) × ((r.last_row +ℤ pos 1) ≤ℤ a.down.tiles)
+  pub next_column : FitsSigned w64 (r.last_column +ℤ pos 1)
+  pub next_row : FitsSigned w64 (r.last_row +ℤ pos 1)
+
+pub starts : (f : Frame) (r : Rect) (a : Axes) → is_good_rect f r ≡ true → a ≡ axes f r.zoom → IsAxis a.across × IsAxis a.down → Starts r a
+starts f r a h is good =
+    let rect = block f r h in
+    let columns : a.across.tiles ≡ width_at f (level_of f r.zoom) = ap (λ (x : Axes). x.across.tiles) is in
+    let rows : a.down.tiles ≡ height_at f (level_of f r.zoom) = ap (λ (x : Axes). x.down.tiles) is in
+    record {
+      west = (rect.first.across.0, rw columns (omega (arith, ints, rect.first.across.1)));
+      east = (omega (arith, ints, rect.last.across.0), rw columns (omega (arith, ints, rect.last.across.1)));
+      north = (rect.first.down.0, rw rows (omega (arith, ints, rect.first.down.1)));
+      south = (omega (arith, ints, rect.last.down.0), rw rows (omega (arith, ints, rect.last.down.1)));
+      next_column = omega (arith, ints, rect.last.across.0, rw (sym columns) at rect.last.across.1, good.0.tiles.1);
+      next_row = omega (arith, ints, rect.last.down.0, rw (sym rows) at rect.last.down.1, good.1.tiles.1);
     }

@@ -3,7 +3,7 @@ use Rattle.std.specs.Prelude.{◌≡◌, ◌↔◌, ℕ, suc, ◌+◌, ◌-◌, 
 use Rattle.std.proofs.Common.{arith, sym}
 use Rattle.std.proofs.lemmas.Bool.{and_parts, and_from, false_from_ne_true}
 use Rattle.std.proofs.lemmas.Int.{ints}
-use Rattle.std.proofs.Math.Nat.{div-lt_iff_lt-mul, le-div_iff_mul-le, mul-le-mul_right, div-le_self}
+use Rattle.std.proofs.Math.Nat.{div-lt_iff_lt-mul, le-div_iff_mul-le, mul-le-mul_right}
 use Rattle.sheet_types.specs.Matrix.{is_within}
 use Rattle.matrix_rules.specs.Places.{is_between}
 
@@ -54,7 +54,7 @@ between start end length (pos c) some =
 between start end length (negsuc c) some = rw (before_axis start length c some) refl
 
 -- which parts lie between two ends of an axis
-pub are_parts : (start end length : ℤ) → pos 0 ≤ℤ start → pos 0 ≤ℤ end → pos 1 ≤ℤ length → (part : ℤ) → is_between start end length part ≡ is_within (int_div ((start +ℤ length) -ℤ pos 1) length) (int_div end length -ℤ pos 1) part
+are_parts : (start end length : ℤ) → pos 0 ≤ℤ start → pos 0 ≤ℤ end → pos 1 ≤ℤ length → (part : ℤ) → is_between start end length part ≡ is_within (int_div ((start +ℤ length) -ℤ pos 1) length) (int_div end length -ℤ pos 1) part
 are_parts (pos start) (pos end) (pos length) start_low end_low length_low part =
     let some : 0 < length = omega (arith, ints, length_low) in
     let top : (pos start +ℤ pos length) -ℤ pos 1 ≡ pos (start + length - 1) = omega (arith, ints, length_low) in
@@ -63,13 +63,10 @@ are_parts (negsuc start) end length start_low end_low length_low part = absurd (
 are_parts (pos start) (negsuc end) length start_low end_low length_low part = absurd (omega (arith, ints, end_low))
 are_parts (pos start) (pos end) (negsuc length) start_low end_low length_low part = absurd (omega (arith, ints, length_low))
 
+-- the same, with the quotients under names
+pub parts_named : (start end length first past : ℤ) → pos 0 ≤ℤ start → pos 0 ≤ℤ end → pos 1 ≤ℤ length → first ≡ int_div ((start +ℤ length) -ℤ pos 1) length → past ≡ int_div end length → (part : ℤ) → is_between start end length part ≡ is_within first (past -ℤ pos 1) part
+parts_named start end length first past start_low end_low length_low first_is past_is part = rw (first_is, past_is) (are_parts start end length start_low end_low length_low part)
+
 -- nothing is between ends that have changed places
 pub nothing_within : (low high x : ℤ) → high <ℤ low → is_within low high x ≡ false
 nothing_within low high x h = false_from_ne_true _ (λ e. let parts = and_parts (int_le low x) (int_le x high) e in omega (arith, ints, parts.0, parts.1))
-
--- the quotients' ranges
-pub quotient_range : (a length : ℤ) (n : ℕ) → pos 0 ≤ℤ a → a ≤ℤ pos n → pos 1 ≤ℤ length → (pos 0 ≤ℤ int_div a length) × (int_div a length ≤ℤ pos n)
-quotient_range (pos a) (pos length) n low high some =
-    let part : a / length ≤ a = div-le_self a length in (omega (arith, ints), omega (arith, ints, part, high))
-quotient_range (negsuc a) length n low high some = absurd (omega (arith, ints, low))
-quotient_range (pos a) (negsuc length) n low high some = absurd (omega (arith, ints, some))

@@ -46,7 +46,7 @@ pub record Pixels (extent tile tiles : ℤ) : Type 0 where
   pub some : pos 1 ≤ℤ (tiles *ℤ tile)
   pub pixels : FitsSigned w64 (tiles *ℤ tile)
   pub size : FitsSigned w64 (int_div extent (tiles *ℤ tile))
-  pub span : FitsSigned w64 (tile *ℤ int_div extent (tiles *ℤ tile))
+  pub span : (pos 0 ≤ℤ (tile *ℤ int_div extent (tiles *ℤ tile))) × ((tile *ℤ int_div extent (tiles *ℤ tile)) ≤ℤ pos 2000000000000)
 
 pub pixel_range : (extent tile tiles : ℤ) → pos 1 ≤ℤ tile → pos 1 ≤ℤ tiles → (tiles *ℤ tile) ≤ℤ extent → extent ≤ℤ pos 2000000000000 → Pixels extent tile tiles
 pixel_range (pos e) (pos t) (pos n) tile tiles fits most =
@@ -63,7 +63,7 @@ pixel_range (pos e) (pos t) (pos n) tile tiles fits most =
       some = omega (arith, ints, product);
       pixels = fits_between w64 (pos (n * t)) 2000000000000 (omega (arith, ints)) (omega (arith, ints, below)) (lit< tt);
       size = fits_between w64 (pos (e / (n * t))) 2000000000000 (omega (arith, ints)) (omega (arith, ints, quotient)) (lit< tt);
-      span = fits_between w64 (pos (t * (e / (n * t)))) 2000000000000 (omega (arith, ints)) (omega (arith, ints, grown, whole)) (lit< tt);
+      span = (omega (arith, ints), omega (arith, ints, grown, whole));
     }
 pixel_range (negsuc e) (pos t) (pos n) tile tiles fits most = absurd (omega (arith, ints, fits))
 pixel_range e (pos t) (negsuc n) tile tiles fits most = absurd (omega (arith, ints, tiles))

@@ -1,7 +1,8 @@
--- One axis of a frame at one zoom, both axes by the same numbers.
+-- The axes of a frame at one zoom, both by the same numbers.
 use Rattle.std.specs.Prelude.{◌^◌, ℤ, pos, ◌-ℤ◌, ◌*ℤ◌, ◌≤ℤ◌, int_div, unsigned_abs}
 use Rattle.sheet_types.specs.declared.frame.Frame.{Frame}
 use Rattle.matrix_rules.specs.declared.axis.Axis.{Axis}
+use Rattle.matrix_rules.specs.declared.axis.Axes.{Axes}
 
 -- tiles of so many pixels along this extent, so many levels below the first
 abbrev pub axis_of : ℤ → ℤ → ℤ → ℤ → Axis
@@ -11,11 +12,15 @@ axis_of extent tile matrix level = record {
   span = tile *ℤ int_div extent (matrix *ℤ pos (2 ^ unsigned_abs level) *ℤ tile);
 }
 
-abbrev pub across : Frame → ℤ → Axis
-across f zoom = axis_of (f.max_x -ℤ f.min_x) f.tile_width f.matrix_width (zoom -ℤ f.first_zoom)
+abbrev pub axes : Frame → ℤ → Axes
+axes f zoom = record {
+  across = axis_of (f.max_x -ℤ f.min_x) f.tile_width f.matrix_width (zoom -ℤ f.first_zoom);
+  down = axis_of (f.max_y -ℤ f.min_y) f.tile_height f.matrix_height (zoom -ℤ f.first_zoom);
+}
 
-abbrev pub down : Frame → ℤ → Axis
-down f zoom = axis_of (f.max_y -ℤ f.min_y) f.tile_height f.matrix_height (zoom -ℤ f.first_zoom)
+-- how far from the start of an axis its tiles may begin and end
+abbrev pub IsOffset : ℤ → Type 0
+IsOffset x = (pos 0 ≤ℤ x) × (x ≤ℤ pos 2000000000000)
 
 -- the extent has a thousandth at least for each pixel, and no number on the way passes 64 bits
 pub record HasPixels (extent tile matrix level : ℤ) : Type 0 where

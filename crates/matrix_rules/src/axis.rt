@@ -1,7 +1,7 @@
-// One axis of a frame at one zoom.
-ghost use Rattle.std.specs.Prelude.{◌≡◌, pos, ◌+ℤ◌, ◌*ℤ◌, ◌≤ℤ◌, ◌<ℤ◌, IsTrue};
+// The axes of a frame at one zoom.
+ghost use Rattle.std.specs.Prelude.{◌≡◌, pos, ◌*ℤ◌, ◌≤ℤ◌, int_div, IsTrue};
 ghost use Rattle.sheet_types.specs.Matrix.{is_good_frame, has_level};
-ghost use Rattle.matrix_rules.specs.Axes.{axis_of, across, down, HasPixels, IsAxis};
+ghost use Rattle.matrix_rules.specs.Axes.{axis_of, axes, HasPixels, IsAxis, IsOffset};
 
 use crate::check::tiles_at;
 use sheet_types::frame::Frame;
@@ -18,46 +18,48 @@ pub(crate) struct Axis {
 }
 
 impl Axis {
-    /// Where the first of these tiles begins and the last ends, from the start of the axis.
-    pub(crate) fn ends(self, first: i64, last: i64) -> (i64, i64)
+    /// Where this tile begins and the one before it ends, from the start of the axis.
+    pub(crate) fn start_of(self, tile: i64) -> i64
         requires axis { IsAxis self }
-        requires tiles { (pos 0 ≤ℤ first) × (first ≤ℤ last) × (last <ℤ self.tiles) }
-        ensures first { result.0 ≡ first *ℤ self.span }
-        ensures last { result.1 ≡ (last +ℤ pos 1) *ℤ self.span }
-        ensures range { (pos 0 ≤ℤ result.0) × (result.0 ≤ℤ pos 2000000000000) × (pos 0 ≤ℤ result.1) × (result.1 ≤ℤ pos 2000000000000) }
+        requires tile { (pos 0 ≤ℤ tile) × (tile ≤ℤ self.tiles) }
+        ensures start { result ≡ tile *ℤ self.span }
+        ensures range { IsOffset result }
     {
-        (first * self.span, (last + 1) * self.span)
+        tile * self.span
     }
 }
 
-/// The axis from west to east.
-pub(crate) fn across(frame: &Frame, zoom: i64) -> Axis
-    requires good { IsTrue (is_good_frame frame.now) }
-    requires level { IsTrue (has_level frame.now zoom) }
-    ensures axis { result ≡ across frame.now zoom }
-    ensures good { IsAxis result }
-{
-    axis_of(
-        frame.max_x - frame.min_x,
-        frame.tile_width,
-        frame.matrix_width,
-        zoom - frame.first_zoom,
-    )
+/// Both axes of a frame at one zoom.
+#[derive(Clone, Copy)]
+pub(crate) struct Axes {
+    /// From west to east.
+    pub(crate) across: Axis,
+    /// From north to south.
+    pub(crate) down: Axis,
 }
 
-/// The axis from north to south.
-pub(crate) fn down(frame: &Frame, zoom: i64) -> Axis
+/// The axes of a frame at this zoom.
+pub(crate) fn axes_at(frame: &Frame, zoom: i64) -> Axes
     requires good { IsTrue (is_good_frame frame.now) }
     requires level { IsTrue (has_level frame.now zoom) }
-    ensures axis { result ≡ down frame.now zoom }
-    ensures good { IsAxis result }
+    ensures axes { result ≡ axes frame.now zoom }
+    ensures good { IsAxis result.across × IsAxis result.down }
 {
-    axis_of(
-        frame.max_y - frame.min_y,
-        frame.tile_height,
-        frame.matrix_height,
-        zoom - frame.first_zoom,
-    )
+    let level = zoom - frame.first_zoom;
+    Axes {
+        across: axis_of(
+            frame.max_x - frame.min_x,
+            frame.tile_width,
+            frame.matrix_width,
+            level,
+        ),
+        down: axis_of(
+            frame.max_y - frame.min_y,
+            frame.tile_height,
+            frame.matrix_height,
+            level,
+        ),
+    }
 }
 
 /// Tiles of so many pixels along this extent, so many levels below the first.
@@ -66,10 +68,21 @@ fn axis_of(extent: i64, tile: i64, matrix: i64, level: i64) -> Axis
     ensures { result ≡ axis_of extent tile matrix level }
 {
     let tiles = tiles_at(matrix, level);
-    let pixel_size = extent / (tiles * tile);
+    let pixel_size = pixel_size_of(extent, tile, tiles);
     Axis {
         tiles,
         pixel_size,
         span: tile * pixel_size,
     }
+}
+
+/// The size of a pixel, where so many tiles of so many pixels make up the extent.
+fn pixel_size_of(extent: i64, tile: i64, tiles: i64) -> i64
+    requires extent { extent ≤ℤ pos 2000000000000 }
+    requires some { (pos 1 ≤ℤ tile) × (pos 1 ≤ℤ tiles) }
+    requires pixels { (tiles *ℤ tile) ≤ℤ extent }
+    ensures size { result ≡ int_div extent (tiles *ℤ tile) }
+    ensures span { IsOffset (tile *ℤ result) }
+{
+    extent / (tiles * tile)
 }

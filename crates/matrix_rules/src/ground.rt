@@ -1,8 +1,10 @@
 // The ground of tiles and of rectangles, and what lies inside.
 ghost use Rattle.std.specs.Prelude.{◌≡◌, IsTrue};
 ghost use Rattle.sheet_types.specs.Matrix.{is_good_frame, has_level, width_at, height_at, level_of, pixel_x_size, pixel_y_size, has_place, block_ground, tile_ground, is_good_rect, lies_within, tile_inside, has_point, point_inside, in_frame, one_tile};
+ghost use Rattle.matrix_rules.specs.Axes.{IsOffset};
+ghost use Rattle.matrix_rules.specs.Places.{offsets};
 
-use crate::axis::{across, down};
+use crate::axis::axes_at;
 use sheet_types::frame::{Frame, Ground, Rect};
 
 pub(crate) fn has_level(frame: &Frame, zoom: i64) -> bool
@@ -19,7 +21,7 @@ pub fn columns_at(frame: &Frame, zoom: i64) -> i64
     requires level { IsTrue (has_level frame.now zoom) }
     ensures { result ≡ width_at frame.now (level_of frame.now zoom) }
 {
-    across(frame, zoom).tiles
+    axes_at(frame, zoom).across.tiles
 }
 
 /// The rows of a zoom level that the frame has. Each level doubles them (profile).
@@ -28,7 +30,7 @@ pub fn rows_at(frame: &Frame, zoom: i64) -> i64
     requires level { IsTrue (has_level frame.now zoom) }
     ensures { result ≡ height_at frame.now (level_of frame.now zoom) }
 {
-    down(frame, zoom).tiles
+    axes_at(frame, zoom).down.tiles
 }
 
 /// Whether there is such a tile: the frame has the zoom, and the column and the row are among its.
@@ -58,7 +60,7 @@ pub fn pixel_x_size(frame: &Frame, zoom: i64) -> i64
     requires level { IsTrue (has_level frame.now zoom) }
     ensures { result ≡ pixel_x_size frame.now zoom }
 {
-    across(frame, zoom).pixel_size
+    axes_at(frame, zoom).across.pixel_size
 }
 
 /// The height of a pixel of a zoom level on the ground.
@@ -67,22 +69,51 @@ pub fn pixel_y_size(frame: &Frame, zoom: i64) -> i64
     requires level { IsTrue (has_level frame.now zoom) }
     ensures { result ≡ pixel_y_size frame.now zoom }
 {
-    down(frame, zoom).pixel_size
+    axes_at(frame, zoom).down.pixel_size
+}
+
+/// Where the ground of a rectangle begins and ends along both axes of its frame.
+#[derive(Clone, Copy)]
+pub(crate) struct Offsets {
+    /// From the western edge of the frame.
+    pub(crate) west: i64,
+    /// From the western edge of the frame.
+    pub(crate) east: i64,
+    /// From the northern edge of the frame.
+    pub(crate) north: i64,
+    /// From the northern edge of the frame.
+    pub(crate) south: i64,
+}
+
+/// The offsets of a good rectangle.
+pub(crate) fn offsets_of(frame: &Frame, rect: &Rect) -> Offsets
+    requires good { IsTrue (is_good_frame frame.now) }
+    requires rect { IsTrue (is_good_rect frame.now rect.now) }
+    ensures offsets { result ≡ offsets frame.now rect.now }
+    ensures columns { IsOffset result.west × IsOffset result.east }
+    ensures rows { IsOffset result.north × IsOffset result.south }
+{
+    let axes = axes_at(frame, rect.zoom);
+    Offsets {
+        west: axes.across.start_of(rect.column),
+        east: axes.across.start_of(rect.last_column + 1),
+        north: axes.down.start_of(rect.row),
+        south: axes.down.start_of(rect.last_row + 1),
+    }
 }
 
 /// The ground of a good rectangle.
-pub(crate) fn block(frame: &Frame, rect: &Rect) -> Ground
+fn block(frame: &Frame, rect: &Rect) -> Ground
     requires good { IsTrue (is_good_frame frame.now) }
     requires rect { IsTrue (is_good_rect frame.now rect.now) }
     ensures { result ≡ block_ground frame.now rect.now }
 {
-    let (west, east) = across(frame, rect.zoom).ends(rect.column, rect.last_column);
-    let (north, south) = down(frame, rect.zoom).ends(rect.row, rect.last_row);
+    let offsets = offsets_of(frame, rect);
     Ground {
-        west: frame.min_x + west,
-        south: frame.max_y - south,
-        east: frame.min_x + east,
-        north: frame.max_y - north,
+        west: frame.min_x + offsets.west,
+        south: frame.max_y - offsets.south,
+        east: frame.min_x + offsets.east,
+        north: frame.max_y - offsets.north,
     }
 }
 

@@ -1,10 +1,11 @@
 // The places of one zoom that lie inside a rectangle.
-ghost use Rattle.std.specs.Prelude.{◌≡◌, ℤ, pos, ◌≤ℤ◌, IsTrue, IfSome, IfNone, false};
+ghost use Rattle.std.specs.Prelude.{◌≡◌, ℤ, pos, ◌≤ℤ◌, int_div, IsTrue, IfSome, IfNone, false};
 ghost use Rattle.sheet_types.specs.Matrix.{is_good_frame, is_good_rect};
+ghost use Rattle.matrix_rules.specs.Axes.{IsOffset};
 ghost use Rattle.matrix_rules.specs.Places.{is_inside, in_span, AreParts};
 
-use crate::axis::{across, down};
-use crate::ground::{block, has_level};
+use crate::axis::axes_at;
+use crate::ground::{has_level, offsets_of};
 use crate::spans::Span;
 use sheet_types::frame::{Frame, Rect};
 
@@ -19,11 +20,10 @@ pub fn span(frame: &Frame, rect: &Rect, zoom: i64) -> Option<Span>
     if !has_level(frame, zoom) {
         return None;
     }
-    let outer = block(frame, rect);
-    let (west, east) = (outer.west - frame.min_x, outer.east - frame.min_x);
-    let (north, south) = (frame.max_y - outer.north, frame.max_y - outer.south);
-    let (column, last_column) = parts_between(west, east, across(frame, zoom).span)?;
-    let (row, last_row) = parts_between(north, south, down(frame, zoom).span)?;
+    let outer = offsets_of(frame, rect);
+    let axes = axes_at(frame, zoom);
+    let (column, last_column) = parts_between(outer.west, outer.east, axes.across.span)?;
+    let (row, last_row) = parts_between(outer.north, outer.south, axes.down.span)?;
     Some(Span {
         column,
         last_column,
@@ -34,16 +34,26 @@ pub fn span(frame: &Frame, rect: &Rect, zoom: i64) -> Option<Span>
 
 /// The first and the last of the equal parts that lie between start and end, or `None` where none does.
 fn parts_between(start: i64, end: i64, length: i64) -> Option<(i64, i64)>
-    requires start { (pos 0 ≤ℤ start) × (start ≤ℤ pos 2000000000000) }
-    requires end { (pos 0 ≤ℤ end) × (end ≤ℤ pos 2000000000000) }
+    requires start { IsOffset start }
+    requires end { IsOffset end }
     requires length { (pos 1 ≤ℤ length) × (length ≤ℤ pos 2000000000000) }
     ensures { AreParts start end length result }
 {
-    let first = (start + length - 1) / length;
-    let past = end / length;
+    let first = whole_parts(start + length - 1, length);
+    let past = whole_parts(end, length);
     if first < past {
         Some((first, past - 1))
     } else {
         None
     }
+}
+
+/// How many parts of this length an extent has room for.
+fn whole_parts(extent: i64, length: i64) -> i64
+    requires extent { (pos 0 ≤ℤ extent) × (extent ≤ℤ pos 4000000000000) }
+    requires length { pos 1 ≤ℤ length }
+    ensures parts { result ≡ int_div extent length }
+    ensures range { (pos 0 ≤ℤ result) × (result ≤ℤ pos 4000000000000) }
+{
+    extent / length
 }

@@ -5,6 +5,6 @@ use Rattle.matrix_rules.proofs.ground.columns_at.Goals as goal
 pub returns : goal.returns
 returns c =
     let zoom = c.ranges.zoom in
-    let tiles : FitsSigned w64 c.across.result.tiles = search rules in
-    let axis = simp to_z-of_z at c.across.ensures.axis in
-    simp to_z-of_z (rw axis refl)
+    let tiles : FitsSigned w64 c.axes_at.result.across.tiles = search rules in
+    let axes = simp to_z-of_z at c.axes_at.ensures.axes in
+    simp to_z-of_z (rw axes refl)
