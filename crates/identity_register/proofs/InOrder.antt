@@ -1,10 +1,9 @@
 -- Lists that were sorted by a key, and whose elements have keys of their own, are sets.
-use Rattle.std.proofs.Common.{◌≡◌, ℕ, zero, suc, ◌+◌, ◌-◌, ◌<◌, List, [], ◌∷◌, ◌++◌, map, length, get_or, true, false, sym, ap, subst, ◌∙◌, true≢false, arith}
-use Rattle.std.specs.Prelude.{bytes_eq, IsPermutation}
-use Rattle.std.specs.List.{IsDistinct}
+use Rattle.std.proofs.Common.{◌≡◌, ℕ, zero, suc, ◌+◌, ◌<◌, List, [], ◌∷◌, ◌++◌, map, length, get_or, true, false, sym, ap, subst, ◌∙◌, true≢false, arith}
+use Rattle.std.specs.Prelude.{Bool, MatchBool, bytes_eq, IsPermutation}
+use Rattle.std.specs.List.{IsDistinct, IsAllAdjacentAnswer}
 use Rattle.std.specs.Ordering.{is_lt, nat_cmp, ordering_then}
 use Rattle.std.specs.Cmp.Lexicographic.{slice_cmp}
-use Rattle.std.proofs.lemmas.List.{get_or_default}
 use Rattle.std.proofs.lemmas.List.Sorted.{IsPermutation-map}
 use Rattle.std.proofs.lemmas.Map.Keys.{IsDistinct-IsPermutation}
 use Rattle.sheet_types.specs.Ordered.{is_before, IsArranged}
@@ -13,7 +12,7 @@ use Rattle.sheet_types.proofs.KeyOrder.{slice_cmp_append, then_assoc}
 use Rattle.identity_register.proofs.Gathering.{rising}
 
 -- each element of a set stands before the next
-pub each_before : {X : Type 0} (key : X → List ℕ) (xs : List X) → IsArranged key xs → (k : ℕ) (d : X) → k + 1 < length xs → is_before (key (get_or xs k d)) (key (get_or xs (k + 1) d)) ≡ true
+each_before : {X : Type 0} (key : X → List ℕ) (xs : List X) → IsArranged key xs → (k : ℕ) (d : X) → k + 1 < length xs → is_before (key (get_or xs k d)) (key (get_or xs (k + 1) d)) ≡ true
 each_before key [] h k d less = absurd (omega (arith, less))
 each_before key (x ∷ []) h k d less = absurd (omega (arith, less))
 each_before key (x ∷ y ∷ ys) h zero d less = h.0.0
@@ -35,13 +34,11 @@ differ key (x ∷ y ∷ ys) h (suc k) d less =
 pub sorted_set : {X : Type 0} (key : X → List ℕ) (xs : List X) → ((k : ℕ) (d : X) → k + 1 < length xs → is_before (key (get_or xs (k + 1) d)) (key (get_or xs k d)) ≡ false) → IsDistinct bytes_eq (map key xs) → IsArranged key xs
 sorted_set key xs sorted apart = rising key xs (λ k d less. before_other_way (key (get_or xs (k + 1) d)) (key (get_or xs k d)) (sorted k d less) (differ key xs apart k d less))
 
--- so there is no such place in a set
-pub falls : {X : Type 0} (key : X → List ℕ) (xs : List X) (place : ℕ) (one next : X) → 0 < place → place < length xs → one ≡ get_or xs (place - 1) one → next ≡ get_or xs place next → is_before (key one) (key next) ≡ false → IsArranged key xs → ⊥
-falls key xs place one next positive less e f not_so set =
-    let step : place - 1 + 1 ≡ place = omega (arith, positive) in
-    let there : get_or xs (place - 1 + 1) one ≡ next = ap (λ n. get_or xs n one) step ∙ get_or_default xs place one next less ∙ sym f in
-    let before = each_before key xs set (place - 1) one (omega (arith, positive, less)) in
-    true≢false (sym (subst (λ y. is_before (key one) (key y) ≡ true) there (subst (λ x. is_before (key x) (key (get_or xs (place - 1 + 1) one)) ≡ true) (sym e) before)) ∙ not_so)
+-- whether each element was found before the next tells whether they are a set
+pub arranged_answer : {X : Type 0} (key : X → List ℕ) (xs : List X) (r : Bool) → IsAllAdjacentAnswer (λ x y b. b ≡ is_before (key x) (key y)) xs r → MatchBool r (IsArranged key xs) (IsArranged key xs → ⊥)
+arranged_answer key xs true h = rising key xs (λ k d less. sym (h k d less))
+arranged_answer key [] false h = absurd (omega (arith, h.1))
+arranged_answer key (x ∷ xs) false h = λ set. true≢false (sym (each_before key (x ∷ xs) set h.0 x h.1) ∙ sym (h.2 x))
 
 -- in another order the keys differ still
 pub moved_apart : {X : Type 0} (key : X → List ℕ) (xs ys : List X) → IsPermutation xs ys → IsDistinct bytes_eq (map key xs) → IsDistinct bytes_eq (map key ys)

@@ -126,19 +126,6 @@ fn items_of(rows: &[IdentityRow], placed: Vec<Placed>, alloc: Global) -> Result<
     Ok(items)
 }
 
-/// Whether each item stands before the next, so that none is there twice.
-fn items_rise(items: &[Item]) -> bool
-    ensures rise { IsTrue result → IsArranged item_key items.now }
-    ensures alone { IsArranged item_key items.now → IsTrue result }
-{
-    for place in 1..items.len() {
-        if !item_is_before(&items[place - 1], &items[place]) {
-            return false;
-        }
-    }
-    true
-}
-
 /// The items by kind and identity; a fault where one is there twice, as in no package.
 fn items_in_order(mut items: Vec<Item>) -> Result<Vec<Item>, Fault>
     ensures same { IfOk result (λ sorted. IsPermutation items.items sorted.items) }
@@ -146,7 +133,7 @@ fn items_in_order(mut items: Vec<Item>) -> Result<Vec<Item>, Fault>
     ensures twice { IfErr result (λ _. IsDistinct bytes_eq (map item_key items.items) → ⊥) }
 {
     items.sort_unstable_by_key(|item| (item.content.kind().number(), item.identity));
-    if items_rise(&items) {
+    if items.is_sorted_by(|item, next| item_is_before(item, next)) {
         Ok(items)
     } else {
         Err(Fault::StoreFault)
@@ -224,19 +211,6 @@ fn links_of(
     Ok(links)
 }
 
-/// Whether each link stands before the next, so that none is there twice.
-fn links_rise(links: &[Relation]) -> bool
-    ensures rise { IsTrue result → IsArranged link_key links.now }
-    ensures alone { IsArranged link_key links.now → IsTrue result }
-{
-    for place in 1..links.len() {
-        if !link_is_before(&links[place - 1], &links[place]) {
-            return false;
-        }
-    }
-    true
-}
-
 /// The links by mapping, base and medium; a fault where one is there twice, as in no package.
 fn links_in_order(mut links: Vec<Relation>) -> Result<Vec<Relation>, Fault>
     ensures same { IfOk result (λ sorted. IsPermutation links.items sorted.items) }
@@ -244,7 +218,7 @@ fn links_in_order(mut links: Vec<Relation>) -> Result<Vec<Relation>, Fault>
     ensures twice { IfErr result (λ _. AllByRecursion (λ l. IsUuid l.base) links.items → IsDistinct bytes_eq (map link_key links.items) → ⊥) }
 {
     links.sort_unstable_by_key(|link| (link.mapping.link_kind().number(), link.base, link.media));
-    if links_rise(&links) {
+    if links.is_sorted_by(|link, next| link_is_before(link, next)) {
         Ok(links)
     } else {
         Err(Fault::StoreFault)

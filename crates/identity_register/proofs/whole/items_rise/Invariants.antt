@@ -1,8 +1,0 @@
-use Rattle.std.proofs.Common.{◌≡◌, true}
-use Rattle.std.specs.List.{AllAdjacentBelow}
-use Rattle.sheet_types.specs.Ordered.{is_before}
-use Rattle.sheet_types.specs.World.{item_key}
-use Rattle.identity_register.proofs.whole.items_rise.Given as goal
-
-abbrev pub invariant-loop-place : goal.invariant-loop-place
-invariant-loop-place l = AllAdjacentBelow (λ x y. is_before (item_key x) (item_key y) ≡ true) l.items l.place
