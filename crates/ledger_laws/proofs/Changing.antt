@@ -2,23 +2,22 @@
 use Rattle.sheet_types.proofs.Fitting.{item_kind_of}
 use Rattle.std.specs.Prelude.{◌≡◌, ℕ, true, false, ◌&&◌, List, [], ◌∷◌, find, refl, bytes_eq, Some, None, sum_by}
 use Rattle.std.specs.Option.{option_map_or}
-use Rattle.std.proofs.Common.{sym, ap, subst, ◌∙◌, arith}
+use Rattle.std.proofs.Common.{ap, subst, ◌∙◌, arith}
 use Rattle.std.proofs.lemmas.Bool.{false≢true}
 use Rattle.std.proofs.lemmas.Slice.Eq.{bytes_eq-Decides}
 use Rattle.std.specs.List.{AllByRecursion}
-use Rattle.sheet_types.specs.Ordered.{without, IsArranged}
+use Rattle.sheet_types.specs.Ordered.{without}
 use Rattle.sheet_types.specs.Texts.{entry_of}
-use Rattle.sheet_types.specs.World.{World, Package, link_key, item_thing, receipts_of, holdings, is_live, has_item, item_of, item_moved, link_moved, moved_thing, moved_key}
-use Rattle.sheet_types.specs.Custody.{custody}
+use Rattle.sheet_types.specs.World.{World, Package, link_key, item_thing, holdings, is_live, has_item, item_of, item_moved, link_moved}
 use Rattle.sheet_types.specs.Cut.{moved_of}
 use Rattle.sheet_types.specs.Step.{accepted, receipt_of, kept_reply, relation}
 use Rattle.sheet_types.specs.Refuse.{refusal, reasons, has_link}
 use Rattle.ledger_laws.proofs.Contents.{IsUnaltered, each_unaltered}
 use Rattle.sheet_types.proofs.Distinct.{distinct_counts}
 use Rattle.sheet_types.proofs.LineReading.{entry_from-line}
-use Rattle.sheet_types.specs.Lines.{HasTypes, entry_from, is_adding, is_splitting, is_merging}
+use Rattle.sheet_types.specs.Lines.{HasTypes, entry_from, is_merging}
 use Rattle.ledger_laws.proofs.Ledger.{by_entry}
-use Rattle.sheet_types.specs.Balance.{holds, IsThing, Agrees}
+use Rattle.sheet_types.specs.Balance.{holds}
 use Rattle.sheet_types.specs.Register.{IsRegister, IsKeptPackage}
 use Rattle.ledger_laws.specs.Laws.{delete_request, unlink_request}
 use Rattle.sheet_types.specs.declared.command.Item.{Item}
@@ -31,7 +30,7 @@ use Rattle.sheet_types.proofs.Found.{All-found, found, found_passes}
 use Rattle.sheet_types.proofs.Order.{counts_arranged}
 use Rattle.sheet_types.proofs.Without.{take_one}
 use Rattle.ledger_laws.proofs.Packages.{at_all}
-use Rattle.ledger_laws.proofs.Facts.{things_moved, order_moved, agree_moved, custody_moved, items_held, links_held, kept_at}
+use Rattle.ledger_laws.proofs.Facts.{may_move, custody_moved, items_held, links_held, kept_at}
 use Rattle.ledger_laws.proofs.OnePackage as one
 
 -- ---- Delete
@@ -59,18 +58,17 @@ module _ (w : World) (id moment p identity : List ℕ) (register : IsRegister w)
         says = says;
         stands = refl;
         live = live;
-        may = record {
-          number = refl;
+        may = may_move w delete_asked (i ∷ []) [] register.balanced.ledger (record {
+          says = says;
           new_request = new_identity w delete_asked no_reply fails.0;
-          things = subst (AllByRecursion IsThing) (sym things) (things_moved (i ∷ []) []);
-          in_order = subst (IsArranged moved_key) (sym things) (order_moved (i ∷ []) [] (tt, tt) tt);
-          counts = record { tiles = refl; media = refl; rows = refl; links = refl; bytes = refl };
-          entered = (entry_of delete_asked.command, record { says = says; leaves = refl; comes_to = refl; moves = (item_moved i, things, (bytes_eq-Decides i.identity identity).0 unaltered.1, item_kind_of i.content) });
-          from_source = subst (AllByRecursion (λ m. custody (receipts_of w) (moved_thing m) ≡ Some p)) (sym things) (custody_moved w p (i ∷ []) [] register.balanced (held.0, tt) tt);
-          never_before = λ e. absurd (false≢true (sym (by_entry is_adding (receipt_of w delete_asked) (entry_of delete_asked.command) says) ∙ e));
-          agrees = subst (AllByRecursion (λ m. AllByRecursion (λ x. AllByRecursion (Agrees m) x.items) (receipts_of w))) (sym things) (agree_moved w (i ∷ []) [] register.balanced.ledger (unaltered.0, tt));
-          new_loan = λ e. absurd (false≢true (sym (by_entry is_splitting (receipt_of w delete_asked) (entry_of delete_asked.command) says) ∙ e));
-        };
+          things = things;
+          entered = (item_moved i, things, (bytes_eq-Decides i.identity identity).0 unaltered.1, item_kind_of i.content);
+          in_order = ((tt, tt), tt);
+          unaltered = (unaltered.0, tt);
+          from_source = custody_moved w p (i ∷ []) [] register.balanced (held.0, tt) tt;
+          no_add = refl;
+          new_loan = λ splits. absurd (false≢true splits);
+        });
         no_merge = by_entry is_merging (receipt_of w delete_asked) (entry_of delete_asked.command) says;
         shifts = λ c _.
             let alone : sum_by c (receipt_of w delete_asked).items ≡ c (item_moved i) = ap (sum_by c) things ∙ omega arith in
@@ -104,18 +102,17 @@ module _ (w : World) (id moment p : List ℕ) (mapping : Mapping) (base media : 
         says = says;
         stands = refl;
         live = live;
-        may = record {
-          number = refl;
+        may = may_move w unlink_asked [] (unlinked ∷ []) register.balanced.ledger (record {
+          says = says;
           new_request = new_identity w unlink_asked no_reply fails.0;
-          things = things_moved [] (unlinked ∷ []);
-          in_order = order_moved [] (unlinked ∷ []) tt (tt, tt);
-          counts = record { tiles = refl; media = refl; rows = refl; links = refl; bytes = refl };
-          entered = (entry_of unlink_asked.command, record { says = says; leaves = refl; comes_to = refl; moves = refl });
+          things = refl;
+          entered = refl;
+          in_order = (tt, (tt, tt));
+          unaltered = tt;
           from_source = custody_moved w p [] (unlinked ∷ []) register.balanced tt (held, tt);
-          never_before = λ e. absurd (false≢true (sym (by_entry is_adding (receipt_of w unlink_asked) (entry_of unlink_asked.command) says) ∙ e));
-          agrees = agree_moved w [] (unlinked ∷ []) register.balanced.ledger tt;
-          new_loan = λ e. absurd (false≢true (sym (by_entry is_splitting (receipt_of w unlink_asked) (entry_of unlink_asked.command) says) ∙ e));
-        };
+          no_add = refl;
+          new_loan = λ splits. absurd (false≢true splits);
+        });
         no_merge = by_entry is_merging (receipt_of w unlink_asked) (entry_of unlink_asked.command) says;
         shifts = λ c sees. rw (bytes_eq_itself p) (omega (arith, sees f.0 unlinked same, take_one link_key (link_key unlinked) (λ l. c (link_moved l)) f.0 (holdings w p).links (counts_arranged link_key (link_key unlinked) (holdings w p).links kept.links) f.1));
         elsewhere = λ q other. (other, refl);

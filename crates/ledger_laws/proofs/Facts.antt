@@ -7,10 +7,10 @@ use Rattle.std.proofs.lemmas.Bool.{lt-ltb, false≢true, and_parts, eqb-true, Ma
 use Rattle.std.proofs.lemmas.Slice.Eq.{bytes_eq-Decides}
 use Rattle.std.specs.List.{list_any, AllByRecursion, IsDistinct}
 use Rattle.sheet_types.specs.Ordered.{has, is_before, IsArranged}
-use Rattle.sheet_types.specs.Texts.{Entry, Adds, Deletes, Links, Unlinks, Splits, Merges}
+use Rattle.sheet_types.specs.Texts.{Entry, Adds, Deletes, Links, Unlinks, Splits, Merges, entry_of, line}
 use Rattle.sheet_types.specs.World.{World, Package, receipt_key, receipts_of, holdings, is_live, item_moved, link_moved, moved_thing, moved_key, item_thing, item_key, link_key, link_kind, is_item_kind}
-use Rattle.sheet_types.specs.Custody.{names, custody, is_add}
-use Rattle.sheet_types.specs.Lines.{is_uuid, is_number, is_bytes, is_adding}
+use Rattle.sheet_types.specs.Custody.{names, custody, is_add, ends_at}
+use Rattle.sheet_types.specs.Lines.{entry_from, is_uuid, is_number, is_bytes, is_adding, is_splitting}
 use Rattle.sheet_types.proofs.LineReading.{line-entry_from}
 use Rattle.sheet_types.specs.declared.receipt.MovedKind.{MovedKind}
 use Rattle.sheet_types.specs.Balance.{names_as}
@@ -19,9 +19,9 @@ use Rattle.sheet_types.proofs.Basics.{or-false, or-true}
 use Rattle.sheet_types.specs.World.{thing_number, kind_number}
 use Rattle.sheet_types.specs.Texts.{size, fingerprint}
 use Rattle.sheet_types.specs.Cut.{identities, moved_of}
-use Rattle.sheet_types.specs.Step.{added_item}
+use Rattle.sheet_types.specs.Step.{added_item, moved, receipt_of, source_of, target_of}
 use Rattle.ledger_laws.proofs.Contents.{IsUnaltered}
-use Rattle.sheet_types.specs.Balance.{Balanced, IsLedger, IsReceiptOf, IsThing, Agrees, archive_of, holds}
+use Rattle.sheet_types.specs.Balance.{Balanced, IsLedger, IsReceiptOf, IsThing, Agrees, MayFollow, MovesFor, is_split_to, archive_of, holds}
 use Rattle.sheet_types.specs.Register.{IsRegister, IsKeptPackage}
 use Rattle.sheet_types.specs.declared.command.Content.{Content}
 use Rattle.sheet_types.specs.declared.command.Content.TheVariants.{Tile, Media, Row}
@@ -29,6 +29,7 @@ use Rattle.sheet_types.specs.declared.command.Item.{Item}
 use Rattle.sheet_types.specs.declared.command.Mapping.{Mapping}
 use Rattle.sheet_types.specs.declared.command.Mapping.TheVariants.{TilesMedia, RowsMedia}
 use Rattle.sheet_types.specs.declared.command.Relation.{Relation}
+use Rattle.sheet_types.specs.declared.command.Request.{Request}
 use Rattle.sheet_types.specs.declared.receipt.Moved.{Moved}
 use Rattle.sheet_types.specs.declared.receipt.Receipt.{Receipt}
 use Rattle.sheet_types.proofs.Order.{before_numbers, counts_arranged}
@@ -231,6 +232,37 @@ custody_moved w p items links balance hi hl =
     All-append (λ m. custody (receipts_of w) (moved_thing m) ≡ Some p) (map item_moved items) (map link_moved links)
     (All-map (λ m. custody (receipts_of w) (moved_thing m) ≡ Some p) item_moved items (All-weaker (λ i. holds (holdings w p) (item_thing i) ≡ true) (λ i. custody (receipts_of w) (moved_thing (item_moved i)) ≡ Some p) (λ i h. ap (custody (receipts_of w)) (thing_item i) ∙ (balance.custody_is p (item_thing i)).0 h) items hi))
     (All-map (λ m. custody (receipts_of w) (moved_thing m) ≡ Some p) link_moved links (All-weaker (λ l. holds (holdings w p) (link_key l) ≡ true) (λ l. custody (receipts_of w) (moved_thing (link_moved l)) ≡ Some p) (λ l h. ap (custody (receipts_of w)) (thing_link l) ∙ (balance.custody_is p (link_key l)).0 h) links hl))
+
+-- what is to be known of the items and links that a request moves, and of its entry, which adds nothing
+pub record Moves (w : World) (q : Request) (items : List Item) (links : List Relation) : Type 0 where
+  pub says : entry_from (line q.command) ≡ Some (entry_of q.command)
+  pub new_request : has (λ r. r.request) q.id (receipts_of w) ≡ false
+  pub things : moved w q.command ≡ moved_of items links
+  pub entered : MovesFor (entry_of q.command) (moved w q.command)
+  pub in_order : IsArranged item_key items × IsArranged link_key links
+  pub unaltered : AllByRecursion (IsUnaltered w) items
+  pub from_source : AllByRecursion (λ m. custody (receipts_of w) (moved_thing m) ≡ source_of (entry_of q.command)) (moved_of items links)
+  pub no_add : is_adding (entry_of q.command) ≡ false
+  pub new_loan : is_splitting (entry_of q.command) ≡ true → (list_any (is_split_to (target_of (entry_of q.command))) (receipts_of w) ≡ false) × (ends_at (target_of (entry_of q.command)) (archive_of w) ≡ false)
+
+-- the receipt of such a request may follow the ledger
+pub may_move : (w : World) (q : Request) (items : List Item) (links : List Relation) → IsLedger (archive_of w) [] (receipts_of w) → Moves w q items links → MayFollow (archive_of w) (receipts_of w) (receipt_of w q)
+may_move w q items links sound m =
+    let r : Receipt = receipt_of w q in
+    let e : Entry = entry_of q.command in
+    let Known : Moved → Type 0 = λ t. AllByRecursion (λ x. AllByRecursion (Agrees t) x.items) (receipts_of w) in
+    record {
+      number = refl;
+      new_request = m.new_request;
+      things = subst (AllByRecursion IsThing) (sym m.things) (things_moved items links);
+      in_order = subst (IsArranged moved_key) (sym m.things) (order_moved items links m.in_order.0 m.in_order.1);
+      counts = record { tiles = refl; media = refl; rows = refl; links = refl; bytes = refl };
+      entered = (e, record { says = m.says; leaves = refl; comes_to = refl; moves = m.entered });
+      from_source = subst (AllByRecursion (λ t. custody (receipts_of w) (moved_thing t) ≡ source_of e)) (sym m.things) m.from_source;
+      never_before = λ adds. absurd (false≢true (sym (by_entry is_adding r e m.says ∙ m.no_add) ∙ adds));
+      agrees = subst (AllByRecursion Known) (sym m.things) (agree_moved w items links sound m.unaltered);
+      new_loan = λ splits. m.new_loan (sym (by_entry is_splitting r e m.says) ∙ splits);
+    }
 
 -- each element is among them
 pub self_has : {X : Type 0} (key : X → List ℕ) (xs : List X) → AllByRecursion (λ x. has key (key x) xs ≡ true) xs

@@ -1,45 +1,16 @@
 -- A new world, of one empty archive, is that of a register.
-use Rattle.std.specs.Prelude.{◌≡◌, ℕ, ◌+◌, true, false, cond, List, refl, bytes_eq, Some, None, unwrap_or, count_by, sum_by, length}
-use Rattle.sheet_types.specs.Texts.{size}
-use Rattle.sheet_types.specs.World.{is_tile, is_medium, is_row, Package, holdings, no_package}
-use Rattle.std.proofs.Common.{sym, ◌∙◌}
-use Rattle.std.proofs.lemmas.Bool.{false≢true}
+use Rattle.std.specs.Prelude.{ℕ, List, refl}
 use Rattle.std.specs.List.{IsDistinct}
-use Rattle.sheet_types.specs.Balance.{Balanced, holds}
 use Rattle.sheet_types.specs.Register.{IsKeptPackage}
 use Rattle.ledger_laws.specs.Laws.{NewWorldIsRegister}
-use Rattle.sheet_types.specs.World.{new_world}
+use Rattle.sheet_types.specs.World.{no_package, new_world}
 use Rattle.sheet_types.specs.Lines.{IsUuid}
 use Rattle.sheet_types.specs.declared.frame.Frame.{Frame}
-use Rattle.sheet_types.proofs.Basics.{None≢Some}
+use Rattle.sheet_types.proofs.NewWorld.{new_balanced}
 
-module _ (frame : Frame) (archive : List ℕ) where
-  nothing_held : (p thing : List ℕ) → holds (holdings (new_world archive frame) p) thing ≡ false
-  nothing_held p thing = elim (bytes_eq archive p) as (λ v. holds (unwrap_or (cond v (Some (no_archive)) None) no_package) thing ≡ false) [ true ↦ refl | false ↦ refl ]
-    where
-      no_archive : Package
-      no_archive = record no_package { uuid = archive }
-
-  zero_held : (held : Package → ℕ) → held (record no_package { uuid = archive }) ≡ 0 → held no_package ≡ 0 → (p : List ℕ) → 0 ≡ 0 + held (holdings (new_world archive frame) p)
-  zero_held held here none p = elim (bytes_eq archive p) as (λ v. 0 ≡ 0 + held (unwrap_or (cond v (Some (record no_package { uuid = archive })) None) no_package)) [ true ↦ rw here refl | false ↦ rw none refl ]
-
-  balanced : Balanced (new_world archive frame)
-  balanced = record {
-    ledger = tt;
-    custody_is = λ p thing. ((λ held. absurd (false≢true (sym (nothing_held p thing) ∙ held))), (λ at. absurd (None≢Some at)));
-    tiles = zero_held (λ x. count_by is_tile x.items) refl refl;
-    media = zero_held (λ x. count_by is_medium x.items) refl refl;
-    rows = zero_held (λ x. count_by is_row x.items) refl refl;
-    links = zero_held (λ x. length x.links) refl refl;
-    bytes = zero_held (λ x. sum_by (λ i. size i.content) x.items) refl refl;
-    loans = (tt, tt);
-    homes = (tt, tt);
-    together = (tt, tt);
-  }
-
-  kept : IsUuid archive → IsKeptPackage (new_world archive frame) (record no_package { uuid = archive })
-  unfolding IsDistinct
-  kept uuid = record { uuid = uuid; items = tt; links = tt; receipts = tt; identities = tt; uuids = tt; fit = tt; places = tt; ends = tt; parent = (refl, refl) }
+kept : (frame : Frame) (archive : List ℕ) → IsUuid archive → IsKeptPackage (new_world archive frame) (record no_package { uuid = archive })
+unfolding IsDistinct
+kept frame archive uuid = record { uuid = uuid; items = tt; links = tt; receipts = tt; identities = tt; uuids = tt; fit = tt; places = tt; ends = tt; parent = (refl, refl) }
 
 -- the law of a new world
 pub new_world_is_register : NewWorldIsRegister
@@ -49,6 +20,6 @@ new_world_is_register archive frame uuid good = record {
   archive = refl;
   packages = (kept frame archive uuid, tt);
   open_loans = tt;
-  balanced = balanced frame archive;
+  balanced = new_balanced frame archive;
   unaltered = refl;
 }

@@ -12,7 +12,7 @@ use Rattle.sheet_types.specs.Custody.{custody}
 use Rattle.sheet_types.specs.Step.{accepted, receipt_of, kept_reply, relation}
 use Rattle.sheet_types.specs.Refuse.{refusal, reasons, has_link}
 use Rattle.sheet_types.proofs.LineReading.{entry_from-line, uuid_length}
-use Rattle.sheet_types.specs.Lines.{HasTypes, entry_from, is_adding, is_splitting, is_merging}
+use Rattle.sheet_types.specs.Lines.{HasTypes, entry_from, is_merging}
 use Rattle.ledger_laws.proofs.Ledger.{by_entry}
 use Rattle.sheet_types.specs.Balance.{holds}
 use Rattle.sheet_types.specs.Lines.{IsUuid}
@@ -31,7 +31,7 @@ use Rattle.sheet_types.proofs.Order.{sum_by-put}
 use Rattle.sheet_types.proofs.Found.{All-found, found}
 use Rattle.ledger_laws.proofs.Packages.{holdings_none}
 use Rattle.ledger_laws.proofs.Shifting.{thing_link}
-use Rattle.ledger_laws.proofs.Facts.{things_moved, order_moved, agree_moved, items_held, kept_at}
+use Rattle.ledger_laws.proofs.Facts.{may_move, items_held, kept_at}
 use Rattle.ledger_laws.proofs.OnePackage as one
 
 -- an item of this kind is held under its identity
@@ -93,18 +93,17 @@ module _ (w : World) (id moment p : List ℕ) (mapping : Mapping) (base media : 
         says = says;
         stands = refl;
         live = live;
-        may = record {
-          number = refl;
+        may = may_move w asked [] (linked ∷ []) register.balanced.ledger (record {
+          says = says;
           new_request = new_identity w asked no_reply fails.0;
-          things = things_moved [] (linked ∷ []);
-          in_order = order_moved [] (linked ∷ []) tt (tt, tt);
-          counts = record { tiles = refl; media = refl; rows = refl; links = refl; bytes = refl };
-          entered = (entry_of asked.command, record { says = says; leaves = refl; comes_to = refl; moves = refl });
+          things = refl;
+          entered = refl;
+          in_order = (tt, (tt, tt));
+          unaltered = tt;
           from_source = (ap (custody (receipts_of w)) (thing_link linked) ∙ stood_nowhere live kinds.0 fails.1.1.1.1.1.1.1.1.1.1.1.0, tt);
-          never_before = λ e. absurd (false≢true (sym (by_entry is_adding (receipt_of w asked) (entry_of asked.command) says) ∙ e));
-          agrees = agree_moved w [] (linked ∷ []) register.balanced.ledger tt;
-          new_loan = λ e. absurd (false≢true (sym (by_entry is_splitting (receipt_of w asked) (entry_of asked.command) says) ∙ e));
-        };
+          no_add = refl;
+          new_loan = λ splits. absurd (false≢true splits);
+        });
         no_merge = by_entry is_merging (receipt_of w asked) (entry_of asked.command) says;
         shifts = λ c _. rw (bytes_eq_itself p) (omega (arith, sum_by-put link_key (λ l. c (link_moved l)) linked (holdings w p).links));
         elsewhere = λ q other. (refl, other);

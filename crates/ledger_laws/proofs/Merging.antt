@@ -1,5 +1,5 @@
 -- A merge keeps the account.
-use Rattle.std.specs.Prelude.{◌≡◌, ⊤, ℕ, ℤ, ◌+◌, ◌≤◌, ◌<◌, ◌==◌, Bool, true, false, cond, not, ◌&&◌, ◌||◌, List, [], ◌∷◌, ◌++◌, map, filter, find, length, refl, nat_lt, bytes_eq, Some, None, unwrap_or, option_map, sum_by, count_by, flat_map, MatchOption, is_none, is_some}
+use Rattle.std.specs.Prelude.{◌≡◌, ⊤, ℕ, ℤ, ◌+◌, ◌≤◌, ◌<◌, ◌==◌, Bool, true, false, cond, not, ◌&&◌, ◌||◌, List, [], ◌∷◌, ◌++◌, map, filter, find, refl, nat_lt, bytes_eq, Some, None, unwrap_or, option_map, sum_by, count_by, flat_map, MatchOption, is_none, is_some}
 use Rattle.std.specs.Option.{option_map_or}
 use Rattle.std.proofs.Common.{sym, ap, subst, ◌∙◌, arith, drop}
 use Rattle.std.proofs.lemmas.List.Sums.{sum_by-append, sum_by-cons}
@@ -16,7 +16,7 @@ use Rattle.sheet_types.specs.Step.{accepted, joined, receipt_of, kept_reply}
 use Rattle.sheet_types.specs.Refuse.{refusal, reasons, is_archive, takes_place, place_key, place_of}
 use Rattle.ledger_laws.proofs.Contents.{NoneAltered, IsUnaltered, each_unaltered, none_altered, still_unaltered}
 use Rattle.sheet_types.proofs.LineReading.{entry_from-line}
-use Rattle.sheet_types.specs.Lines.{HasTypes, entry_from, is_adding, is_splitting, is_merging}
+use Rattle.sheet_types.specs.Lines.{HasTypes, entry_from, is_splitting, is_merging}
 use Rattle.ledger_laws.proofs.Ledger.{by_entry}
 use Rattle.ledger_laws.proofs.CutEnds.{least_none, none_taken}
 use Rattle.sheet_types.specs.World.{other_kind}
@@ -37,12 +37,12 @@ use Rattle.sheet_types.proofs.Same.{In, same_list, All-In, In-all}
 use Rattle.sheet_types.proofs.Basics.{bytes_eq_itself, not_false, and_true, bytes_eq_swap, or-true}
 use Rattle.ledger_laws.proofs.Accepting.{rows_fail, new_identity, keeps}
 use Rattle.ledger_laws.proofs.Packages.{by_place, by_two_places, archive_stays, find_changed, AllStand, at_uuid, each_found, at_all, stand_at, stand_all, stand_flat, holdings_none, holdings_changed, holdings_closed, changed_arranged, changed_sum, All-changed, two_places, archive_closed}
-use Rattle.ledger_laws.proofs.Ledger.{ledger_snoc, ledger_numbers}
+use Rattle.ledger_laws.proofs.Ledger.{ledger_snoc}
 use Rattle.sheet_types.proofs.Without.{All-without, take_one}
 use Rattle.sheet_types.proofs.Found.{found, any_implies}
 use Rattle.sheet_types.proofs.Sums.{sum_by-map, sum_by-flat_map, count-cons, none_counted, any_some, any_none, count_le, not_both_count}
-use Rattle.ledger_laws.proofs.Shifting.{weighed, goes, Shift, flat_stand, balance_kept, ends_at_is}
-use Rattle.ledger_laws.proofs.Facts.{ledger_arranged, things_moved, order_moved, agree_moved, custody_moved, items_held, links_held, kept_at, holds_once}
+use Rattle.ledger_laws.proofs.Shifting.{weighed, goes, Shift, each_stands, of_package, balance_kept, ends_at_is, numbers_below}
+use Rattle.ledger_laws.proofs.Facts.{ledger_arranged, may_move, custody_moved, items_held, links_held, kept_at, holds_once}
 use Rattle.ledger_laws.proofs.Keeping.{made_by, loan_stays, fit_all, places_count, tile_at, apart_places, live_changed, live_closed, parent_moves, package_moves, receipts_kept, sum_by-changed, all_live_at, open_kept, open_is_split}
 use Rattle.sheet_types.proofs.Distinct.{distinct_counts, counts_distinct}
 
@@ -211,18 +211,17 @@ module _ (w : World) (id moment child into : List ℕ) (ticket : ℤ) (types : H
         let kept : IsKeptPackage w (holdings w child) = kept_at w child register k.child_live in
         let items : List Item = (holdings w child).items in
         let links : List Relation = (holdings w child).links in
-        record {
-          number = refl;
+        may_move w asked items links register.balanced.ledger (record {
+          says = says;
           new_request = k.new_request;
-          things = things_moved items links;
-          in_order = order_moved items links kept.items kept.links;
-          counts = record { tiles = refl; media = refl; rows = refl; links = refl; bytes = refl };
-          entered = (entry_of asked.command, record { says = says; leaves = refl; comes_to = refl; moves = tt });
+          things = refl;
+          entered = tt;
+          in_order = (kept.items, kept.links);
+          unaltered = (at_all w (λ x. AllByRecursion (IsUnaltered w) x.items) child (each_unaltered w register.unaltered) k.child_live).0;
           from_source = custody_moved w child items links register.balanced (items_held (holdings w child)) (links_held (holdings w child));
-          never_before = λ e. absurd (false≢true (sym (by_entry is_adding receipt (entry_of asked.command) says) ∙ e));
-          agrees = agree_moved w items links register.balanced.ledger (at_all w (λ x. AllByRecursion (IsUnaltered w) x.items) child (each_unaltered w register.unaltered) k.child_live).0;
-          new_loan = λ e. absurd (false≢true (sym no_split ∙ e));
-        }
+          no_add = refl;
+          new_loan = λ splits. absurd (false≢true splits);
+        })
 
     in_order_after : IsArranged receipt_key (receipts_of w ++ receipt ∷ [])
     in_order_after = ledger_arranged (archive_of w) [] (receipts_of w ++ receipt ∷ []) (ledger_snoc (archive_of w) [] (receipts_of w) receipt register.balanced.ledger may)
@@ -259,9 +258,9 @@ module _ (w : World) (id moment child into : List ℕ) (ticket : ℤ) (types : H
         let after : List Receipt = receipts_of w ++ receipt ∷ [] in
         let flat : List Receipt = flat_map (λ x. x.receipts) next.packages in
         let mine : AllByRecursion (λ s. In s after) after = In-all after in
-        let theirs : AllStand (λ _ s. In s (receipts_of next)) next = flat_stand (λ s. In s (receipts_of next)) next.packages (All-of_arranged receipt_key (λ s. In s (receipts_of next)) flat (In-all (receipts_of next))) in
+        let theirs : AllStand (λ _ s. In s (receipts_of next)) next = each_stands (λ s. In s (receipts_of next)) next (In-all (receipts_of next)) in
         let to : AllByRecursion (λ s. In s after) (receipts_of next) = All-arranged receipt_key (λ s. In s after) flat (stand_flat (λ s. In s after) next.packages
-        (carry (λ _ s. In s after) (flat_stand (λ s. In s after) w.packages (All-of_arranged receipt_key (λ s. In s after) (flat_map (λ x. x.receipts) w.packages) (All-left (λ s. In s after) (receipts_of w) (receipt ∷ []) mine)))
+        (carry (λ _ s. In s after) (each_stands (λ s. In s after) w (All-left (λ s. In s after) (receipts_of w) (receipt ∷ []) mine))
         (All-right (λ s. In s after) (receipts_of w) (receipt ∷ []) mine).0)) in
         let fro : AllByRecursion (λ s. In s (receipts_of next)) after = All-snoc (λ s. In s (receipts_of next)) (receipts_of w) receipt
         (All-arranged receipt_key (λ s. In s (receipts_of next)) (flat_map (λ x. x.receipts) w.packages) (stand_flat (λ s. In s (receipts_of next)) w.packages (back (λ s. In s (receipts_of next)) theirs)))
@@ -434,10 +433,10 @@ module _ (w : World) (id moment child into : List ℕ) (ticket : ℤ) (types : H
         ))
 
     all_below : AllByRecursion (λ s. s.seq < receipt.seq) (receipts_of w)
-    all_below = All-weaker (λ s. s.seq < length {A = Receipt} [] + length (receipts_of w) + 1) (λ s. s.seq < receipt.seq) (λ s lt. omega (arith, lt)) (receipts_of w) (ledger_numbers (archive_of w) [] (receipts_of w) register.balanced.ledger)
+    all_below = numbers_below w receipt.seq register.balanced.ledger refl
 
     stand_below : (p : List ℕ) → AllByRecursion (λ s. s.seq < receipt.seq) (holdings w p).receipts
-    stand_below p = stand_at (λ _ s. s.seq < receipt.seq) w p (flat_stand (λ s. s.seq < receipt.seq) w.packages (All-of_arranged receipt_key (λ s. s.seq < receipt.seq) (flat_map (λ x. x.receipts) w.packages) all_below))
+    stand_below p = of_package (λ s. s.seq < receipt.seq) w p all_below
 
     live_stays : (q : List ℕ) → bytes_eq q child ≡ false → is_live next q ≡ is_live w q
     live_stays q other = live_closed child q (map (λ x. cond (bytes_eq x.uuid into) (take_all x) x) w.packages) other ∙ live_changed take_all into q w.packages (λ x. refl)

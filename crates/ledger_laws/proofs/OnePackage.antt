@@ -1,6 +1,6 @@
 -- A command that changes the items and links of one package keeps the account.
-use Rattle.std.specs.Prelude.{◌≡◌, ℕ, ◌+◌, ◌<◌, true, false, cond, ◌&&◌, List, [], ◌∷◌, ◌++◌, length, refl, bytes_eq, Some, unwrap_or, sum_by, flat_map}
-use Rattle.std.proofs.Common.{sym, ap, subst, ◌∙◌, arith}
+use Rattle.std.specs.Prelude.{◌≡◌, ℕ, ◌+◌, ◌<◌, true, false, cond, List, [], ◌∷◌, ◌++◌, refl, bytes_eq, Some, sum_by}
+use Rattle.std.proofs.Common.{sym, ap, subst, ◌∙◌}
 use Rattle.std.proofs.lemmas.Bool.{true≢false, false≢true, and_parts}
 use Rattle.std.specs.List.{AllByRecursion}
 use Rattle.sheet_types.specs.Ordered.{IsArranged}
@@ -15,12 +15,10 @@ use Rattle.sheet_types.specs.declared.command.Item.{Item}
 use Rattle.sheet_types.specs.declared.command.Relation.{Relation}
 use Rattle.sheet_types.specs.declared.receipt.Moved.{Moved}
 use Rattle.sheet_types.specs.declared.receipt.Receipt.{Receipt}
-use Rattle.sheet_types.proofs.Order.{All-put, All-of_arranged}
+use Rattle.sheet_types.proofs.Order.{All-put}
 use Rattle.sheet_types.proofs.Basics.{bytes_eq_itself, bytes_eq_swap}
-use Rattle.sheet_types.proofs.Every.{All-weaker}
 use Rattle.ledger_laws.proofs.Packages.{by_place, archive_stays, receipts_gained, with_receipt_gains, AllStand, stand_at, stand_all, holdings_changed, changed_arranged, All-changed}
-use Rattle.ledger_laws.proofs.Ledger.{ledger_numbers}
-use Rattle.ledger_laws.proofs.Shifting.{weighed, goes, SeesKeys, Shift, balance_kept, flat_stand}
+use Rattle.ledger_laws.proofs.Shifting.{weighed, goes, SeesKeys, Shift, balance_kept, of_package, goes_same, numbers_below}
 use Rattle.ledger_laws.proofs.Facts.{kept_at, holds_once}
 use Rattle.sheet_types.specs.Refuse.{is_archive}
 use Rattle.ledger_laws.proofs.Keeping.{loan_stays_with, live_changed, parent_moves, receipts_kept, sum_by-changed, all_live_at, package_moves, open_kept}
@@ -61,19 +59,16 @@ module _ (w : World) (p : List ℕ) (r : Receipt) (e : Entry) (items : Package �
         (rw at_p (fits.shifts c sees))
         (λ q b. let away : (ends_at r.source q ≡ false) × (ends_at r.target q ≡ false) = fits.elsewhere q (bytes_eq_swap p q ∙ b) in rw (at_other q b, away.0, away.1) refl)
 
-    goes_same : (u : List ℕ) → goes r u ≡ u
-    goes_same u = ap (λ b. cond (b && ends_at r.source u) (unwrap_or r.target []) u) fits.no_merge
-
     carry : (Q : List ℕ → Receipt → Type 0) → AllStand (λ u s. Q (goes r u) s) w → Q (stands_in e) r → AllStand Q next
     carry Q h g = stand_all Q next distinct_next (by_place p (λ q. AllByRecursion (Q q) (holdings next q).receipts)
         (subst (λ x. AllByRecursion (Q p) x.receipts) (sym at_p) (All-put receipt_key (Q p) r (holdings w p).receipts (subst (λ u. Q u r) fits.stands g) (there p)))
         (λ q b. subst (λ x. AllByRecursion (Q q) x.receipts) (sym (at_other q b)) (there q)))
       where
         there : (q : List ℕ) → AllByRecursion (Q q) (holdings w q).receipts
-        there q = subst (λ u. AllByRecursion (Q u) (holdings w q).receipts) (goes_same q) (stand_at (λ u s. Q (goes r u) s) w q h)
+        there q = subst (λ u. AllByRecursion (Q u) (holdings w q).receipts) (goes_same r fits.no_merge q) (stand_at (λ u s. Q (goes r u) s) w q h)
 
     below : AllByRecursion (λ s. s.seq < r.seq) (receipts_of w)
-    below = All-weaker (λ s. s.seq < length {A = Receipt} [] + length (receipts_of w) + 1) (λ s. s.seq < r.seq) (λ s lt. omega (arith, lt, fits.may.number)) (receipts_of w) (ledger_numbers (archive_of w) [] (receipts_of w) register.balanced.ledger)
+    below = numbers_below w r.seq register.balanced.ledger fits.may.number
 
     pub receipts : receipts_of next ≡ receipts_of w ++ r ∷ []
     receipts = receipts_gained change w p r (λ x. with_receipt_gains r x) below register.arranged fits.live
@@ -109,8 +104,7 @@ module _ (w : World) (p : List ℕ) (r : Receipt) (e : Entry) (items : Package �
     parent_kept = parent_stays (holdings w p) (kept_at w p register fits.live).parent
 
     pub receipts_at_p : IsArranged receipt_key (change (holdings w p)).receipts
-    receipts_at_p = receipts_kept r (holdings w p).receipts (kept_at w p register fits.live).receipts (stand_at (λ _ s. s.seq < r.seq) w p
-        (flat_stand (λ s. s.seq < r.seq) w.packages (All-of_arranged receipt_key (λ s. s.seq < r.seq) (flat_map (λ x. x.receipts) w.packages) below)))
+    receipts_at_p = receipts_kept r (holdings w p).receipts (kept_at w p register fits.live).receipts (of_package (λ s. s.seq < r.seq) w p below)
 
     pub register_after : IsKeptPackage next (change (holdings w p)) → is_split r ≡ false → NoneAltered next → IsRegister next
     register_after changed' no_split unaltered = record {

@@ -27,7 +27,7 @@ use Rattle.sheet_types.proofs.Order.{All-arranged, All-of_arranged, sum_by-arran
 use Rattle.sheet_types.proofs.Same.{In, In-all, All-In, In-filter, In-map, In-of_map, In-flat_map, any_in, one_passes, Contains-In}
 use Rattle.sheet_types.proofs.LineReading.{line-entry_from, uuid_back}
 use Rattle.ledger_laws.proofs.Packages.{at_uuid, each_found, stand_flat}
-use Rattle.ledger_laws.proofs.Shifting.{flat_stand, ends_at_some}
+use Rattle.ledger_laws.proofs.Shifting.{each_stands, ends_at_some}
 use Rattle.ledger_laws.proofs.Ledger.{by_entry}
 use Rattle.ledger_laws.proofs.Facts.{ledger_entered}
 use Rattle.ledger_laws.proofs.Merging.{lent_to, lent_once}
@@ -127,7 +127,7 @@ module _ (Store : Type 0) (head : Store → Option Head) (claims : Store → Lis
 
   each_receipt : (P : Receipt → Type 0) → AllByRecursion P ledger → AllByRecursion (λ s. AllByRecursion P (read s).receipts) lives
   each_receipt P h = All-of_map (λ x. AllByRecursion P x.receipts) read lives (All-of_arranged package_key (λ x. AllByRecursion P x.receipts) (map read lives)
-      (flat_stand P v.packages (All-of_arranged receipt_key P (flat_map (λ x. x.receipts) v.packages) h)))
+      (each_stands P v h))
 
   all_receipts : (P : Receipt → Type 0) → AllByRecursion (λ s. AllByRecursion P (read s).receipts) lives → AllByRecursion P ledger
   all_receipts P h = All-arranged receipt_key P (flat_map (λ x. x.receipts) v.packages) (stand_flat P v.packages (All-arranged package_key (λ x. AllByRecursion P x.receipts) (map read lives) (All-map (λ x. AllByRecursion P x.receipts) read lives h)))

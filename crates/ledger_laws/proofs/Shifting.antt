@@ -29,7 +29,7 @@ use Rattle.sheet_types.proofs.Every.{All-weaker, All-left, All-right, All-both}
 use Rattle.ledger_laws.proofs.Ledger.{ledger_numbers, ledger_snoc, custody_names, custody_other, sum_by-filter_snoc, none_later, thing_of_item}
 use Rattle.sheet_types.proofs.Found.{found, All-found}
 use Rattle.sheet_types.proofs.Sums.{any_some, any_none, sum_by-same, sum_by-zero, length_sum}
-use Rattle.ledger_laws.proofs.Packages.{AllStand}
+use Rattle.ledger_laws.proofs.Packages.{AllStand, stand_at}
 
 -- what a package holds, by a measure of things
 abbrev pub weighed : (Moved → ℕ) → Package → ℕ
@@ -38,6 +38,10 @@ weighed c x = sum_by (λ i. c (item_moved i)) x.items + sum_by (λ l. c (link_mo
 -- where receipts go that stood under a UUID
 abbrev pub goes : Receipt → List ℕ → List ℕ
 goes r here = cond (is_merge r && ends_at r.source here) (unwrap_or r.target []) here
+
+-- but for a merge none goes anywhere
+pub goes_same : (r : Receipt) → is_merge r ≡ false → (u : List ℕ) → goes r u ≡ u
+goes_same r no_merge u = ap (λ b. cond (b && ends_at r.source u) (unwrap_or r.target []) u) no_merge
 
 -- a measure that sees no more of a link than its key
 abbrev pub SeesKeys : (Moved → ℕ) → Type 0
@@ -104,20 +108,25 @@ pub ends_at_some : (o : Option (List ℕ)) (p : List ℕ) → o ≡ Some p → e
 ends_at_some o p e = ap (λ x. ends_at x p) e ∙ bytes_eq_itself p
 
 -- a fact of all receipts in a row, by package
-pub flat_stand : (P : Receipt → Type 0) (ps : List Package) → AllByRecursion P (flat_map (λ x. x.receipts) ps) → AllByRecursion (λ x. AllByRecursion P x.receipts) ps
+flat_stand : (P : Receipt → Type 0) (ps : List Package) → AllByRecursion P (flat_map (λ x. x.receipts) ps) → AllByRecursion (λ x. AllByRecursion P x.receipts) ps
 flat_stand P [] h = tt
 flat_stand P (x ∷ ps) h = (All-left P x.receipts (flat_map (λ y. y.receipts) ps) h, flat_stand P ps (All-right P x.receipts (flat_map (λ y. y.receipts) ps) h))
+
+pub each_stands : (P : Receipt → Type 0) (w : World) → AllByRecursion P (receipts_of w) → AllStand (λ _. P) w
+each_stands P w h = flat_stand P w.packages (All-of_arranged receipt_key P (flat_map (λ x. x.receipts) w.packages) h)
+
+-- and of those of one package
+pub of_package : (P : Receipt → Type 0) (w : World) (p : List ℕ) → AllByRecursion P (receipts_of w) → AllByRecursion P (holdings w p).receipts
+of_package P w p h = stand_at (λ _. P) w p (each_stands P w h)
+
+-- all receipts stand below the next number
+pub numbers_below : (w : World) (n : ℕ) → IsLedger (archive_of w) [] (receipts_of w) → n ≡ length (receipts_of w) + 1 → AllByRecursion (λ s. s.seq < n) (receipts_of w)
+numbers_below w n sound next = All-weaker (λ s. s.seq < length {A = Receipt} [] + length (receipts_of w) + 1) (λ s. s.seq < n) (λ s lt. omega (arith, lt, next)) (receipts_of w) (ledger_numbers (archive_of w) [] (receipts_of w) sound)
 
 -- what follows from two facts of each receipt
 pub stand_both : (P Q R : List ℕ → Receipt → Type 0) → ((u : List ℕ) (s : Receipt) → P u s → Q u s → R u s) → (w : World) → AllStand P w → AllStand Q w → AllStand R w
 stand_both P Q R f w h g = All-both (λ x. AllByRecursion (P x.uuid) x.receipts) (λ x. AllByRecursion (Q x.uuid) x.receipts) (λ x. AllByRecursion (R x.uuid) x.receipts)
     (λ x. All-both (P x.uuid) (Q x.uuid) (R x.uuid) (f x.uuid) x.receipts) w.packages h g
-
--- all receipts stand below the next number
-pub stand_below : (w : World) → IsLedger (archive_of w) [] (receipts_of w) → AllStand (λ u s. s.seq < length (receipts_of w) + 1) w
-stand_below w sound = flat_stand (λ s. s.seq < length (receipts_of w) + 1) w.packages
-    (All-of_arranged receipt_key (λ s. s.seq < length (receipts_of w) + 1) (flat_map (λ x. x.receipts) w.packages)
-    (All-weaker (λ s. s.seq < length {A = Receipt} [] + length (receipts_of w) + 1) (λ s. s.seq < length (receipts_of w) + 1) (λ s lt. omega (arith, lt)) (receipts_of w) (ledger_numbers (archive_of w) [] (receipts_of w) sound)))
 
 -- counting sees no more of a link than its key
 counting_sees : (thing : List ℕ) → SeesKeys (counting thing)
@@ -239,16 +248,16 @@ module _ (w next : World) (r : Receipt) (e : Entry) (says : entry_from r.line �
   new_number : r.seq ≡ length (receipts_of w) + 1
   new_number = shift.may.number
 
+  all_below : AllByRecursion (λ s. s.seq < r.seq) (receipts_of w)
+  all_below = numbers_below w r.seq balance.ledger new_number
+
   below : AllStand (λ u s. s.seq < r.seq) w
-  below = subst (λ n. AllStand (λ u s. s.seq < n) w) (sym new_number) (stand_below w balance.ledger)
+  below = each_stands (λ s. s.seq < r.seq) w all_below
 
   module _ (carry : (Q : List ℕ → Receipt → Type 0) → AllStand (λ u s. Q (goes r u) s) w → Q (stands_in e) r → AllStand Q next)
       (undoes : is_merge r ≡ true → AllStand (λ u s. (is_split s && nat_lt s.seq r.seq && ends_at s.target (unwrap_or r.source [])) ≡ true → goes r u ≡ stands_in e) w) where
     abbrev AtHome : World → List ℕ → Receipt → Type 0
     AtHome v u s = (x : Entry) × (entry_from s.line ≡ Some x) × (u ≡ home_after (after s.seq (receipts_of v)) (stands_in x))
-
-    all_below : AllByRecursion (λ s. s.seq < r.seq) (receipts_of w)
-    all_below = All-weaker (λ s. s.seq < length {A = Receipt} [] + length (receipts_of w) + 1) (λ s. s.seq < r.seq) (λ s lt. omega (arith, lt, new_number)) (receipts_of w) (ledger_numbers (archive_of w) [] (receipts_of w) balance.ledger)
 
     home_old : (u : List ℕ) (s : Receipt) → s.seq < r.seq → AtHome w u s → AtHome next (goes r u) s
     home_old u s lt h =

@@ -1,5 +1,5 @@
 -- A split keeps the account, whatever its mode.
-use Rattle.std.specs.Prelude.{◌≡◌, ⊤, ℕ, ◌+◌, ◌≤◌, ◌<◌, ◌==◌, Bool, true, false, cond, not, ◌&&◌, ◌||◌, List, [], ◌∷◌, ◌++◌, map, filter, find, length, refl, bytes_eq, Some, None, sum_by, flat_map, MatchOption, is_none, is_some, nat_le}
+use Rattle.std.specs.Prelude.{◌≡◌, ⊤, ℕ, ◌+◌, ◌≤◌, ◌<◌, ◌==◌, Bool, true, false, cond, not, ◌&&◌, ◌||◌, List, [], ◌∷◌, ◌++◌, map, filter, find, refl, bytes_eq, Some, None, sum_by, MatchOption, is_none, is_some, nat_le}
 use Rattle.std.specs.Option.{option_map_or}
 use Rattle.std.proofs.Common.{sym, ap, subst, ◌∙◌, arith}
 use Rattle.std.proofs.lemmas.Bool.{true≢false, false≢true, and_from, or_parts, false_from_ne_true}
@@ -14,9 +14,8 @@ use Rattle.sheet_types.specs.Step.{accepted, less, loan_of, cut_of, receipt_of, 
 use Rattle.sheet_types.specs.Refuse.{refusal, reasons, is_archive, cut_link, greatest_depth}
 use Rattle.ledger_laws.proofs.Contents.{NoneAltered, IsUnaltered, each_unaltered, none_altered, still_unaltered}
 use Rattle.sheet_types.proofs.LineReading.{entry_from-line}
-use Rattle.sheet_types.specs.Lines.{HasTypes, entry_from, is_adding, is_splitting, is_merging, is_uuid, is_rect}
+use Rattle.sheet_types.specs.Lines.{HasTypes, entry_from, is_splitting, is_merging, is_uuid, is_rect}
 use Rattle.ledger_laws.proofs.Ledger.{by_entry}
-use Rattle.std.specs.Prelude.{unwrap_or}
 use Rattle.std.proofs.lemmas.Bool.{and_parts}
 use Rattle.sheet_types.specs.Balance.{Balanced, MayFollow, archive_of, IsLoan, holds}
 use Rattle.sheet_types.specs.Register.{IsRegister, IsKeptPackage, HasParent, HasEnds}
@@ -30,17 +29,17 @@ use Rattle.sheet_types.specs.declared.command.Relation.{Relation}
 use Rattle.sheet_types.specs.declared.command.Request.{Request}
 use Rattle.sheet_types.specs.declared.receipt.Moved.{Moved}
 use Rattle.sheet_types.specs.declared.receipt.Receipt.{Receipt}
-use Rattle.sheet_types.proofs.Order.{All-put, All-of_arranged, list_any-put, filter_arranged, put_arranged, find_put_other, sum_by-put}
+use Rattle.sheet_types.proofs.Order.{All-put, list_any-put, filter_arranged, put_arranged, find_put_other, sum_by-put}
 use Rattle.sheet_types.proofs.Basics.{bytes_eq_itself, not_false, and_true, bytes_eq_swap, not_true}
 use Rattle.sheet_types.proofs.Every.{All-weaker, none_pass, none_any, All-filter}
 use Rattle.ledger_laws.proofs.Accepting.{rows_fail, new_identity, keeps}
 use Rattle.ledger_laws.proofs.Packages.{by_place, by_two_places, archive_stays, receipts_gained, with_receipt_gains, AllStand, at_uuid, at_all, stand_at, stand_all, holdings_none, holdings_changed, holdings_enlarged, changed_arranged, All-changed, flat_put}
-use Rattle.ledger_laws.proofs.Ledger.{ledger_numbers, none_later}
+use Rattle.ledger_laws.proofs.Ledger.{none_later}
 use Rattle.sheet_types.proofs.Found.{found, All-found}
 use Rattle.sheet_types.proofs.Sums.{sum_by-parts, count_none}
 use Rattle.sheet_types.proofs.Without.{rest_of}
-use Rattle.ledger_laws.proofs.Shifting.{weighed, goes, Shift, flat_stand, balance_kept}
-use Rattle.ledger_laws.proofs.Facts.{things_moved, order_moved, agree_moved, custody_moved, items_held, links_held, kept_at, holds_once}
+use Rattle.ledger_laws.proofs.Shifting.{weighed, goes, Shift, of_package, goes_same, balance_kept, numbers_below}
+use Rattle.ledger_laws.proofs.Facts.{may_move, custody_moved, items_held, links_held, kept_at, holds_once}
 use Rattle.ledger_laws.proofs.Merging.{weigh_moved, lent_to}
 use Rattle.std.proofs.lemmas.Bool.Decides.{nat_tests}
 use Rattle.sheet_types.specs.declared.command.Command.TheVariants.{Split}
@@ -142,8 +141,7 @@ module _ (w : World) (id moment p child : List ℕ) (mode : Mode) (rect : Rect) 
 
   module _ (k : Known) where
     never_lent_at : (q : List ℕ) → AllByRecursion (λ s. lent_to child s ≡ false) (holdings w q).receipts
-    never_lent_at q = stand_at (λ _ s. lent_to child s ≡ false) w q (flat_stand (λ s. lent_to child s ≡ false) w.packages
-        (All-of_arranged receipt_key (λ s. lent_to child s ≡ false) (flat_map (λ x. x.receipts) w.packages) (none_pass (lent_to child) (receipts_of w) k.never_lent)))
+    never_lent_at q = of_package (λ s. lent_to child s ≡ false) w q (none_pass (lent_to child) (receipts_of w) k.never_lent)
 
     none_made : (n : ℕ) (rs : List Receipt) → AllByRecursion (λ s. lent_to child s ≡ false) rs → list_any (λ s. is_split s && ends_at s.target child && (s.seq == n)) rs ≡ false
     none_made n rs h = none_any (λ s. is_split s && ends_at s.target child && (s.seq == n)) rs
@@ -204,19 +202,16 @@ module _ (w : World) (id moment p child : List ℕ) (mode : Mode) (rect : Rect) 
         )))
         (λ q a b. rw (at_other q a b, bytes_eq_swap child q ∙ a, bytes_eq_swap p q ∙ b) refl)
 
-    goes_same : (u : List ℕ) → goes receipt u ≡ u
-    goes_same u = ap (λ b. cond (b && ends_at receipt.source u) (unwrap_or receipt.target []) u) no_merge
-
     carry : (Q : List ℕ → Receipt → Type 0) → AllStand (λ u s. Q (goes receipt u) s) w → Q p receipt → AllStand Q next
     carry Q moved g =
-        let h : AllStand Q w = All-weaker (λ x. AllByRecursion (Q (goes receipt x.uuid)) x.receipts) (λ x. AllByRecursion (Q x.uuid) x.receipts) (λ x. subst (λ u. AllByRecursion (Q u) x.receipts) (goes_same x.uuid)) w.packages moved in
+        let h : AllStand Q w = All-weaker (λ x. AllByRecursion (Q (goes receipt x.uuid)) x.receipts) (λ x. AllByRecursion (Q x.uuid) x.receipts) (λ x. subst (λ u. AllByRecursion (Q u) x.receipts) (goes_same receipt no_merge x.uuid)) w.packages moved in
         stand_all Q next distinct_next (by_two_places child p (λ q. AllByRecursion (Q q) (holdings next q).receipts)
         (subst (λ x. AllByRecursion (Q child) x.receipts) (sym at_child) tt)
         (subst (λ x. AllByRecursion (Q p) x.receipts) (sym at_p) (All-put receipt_key (Q p) receipt (holdings w p).receipts g (stand_at Q w p h)))
         (λ q a b. subst (λ x. AllByRecursion (Q q) x.receipts) (sym (at_other q a b)) (stand_at Q w q h)))
 
     below : AllByRecursion (λ s. s.seq < receipt.seq) (receipts_of w)
-    below = All-weaker (λ s. s.seq < length {A = Receipt} [] + length (receipts_of w) + 1) (λ s. s.seq < receipt.seq) (λ s lt. omega (arith, lt)) (receipts_of w) (ledger_numbers (archive_of w) [] (receipts_of w) register.balanced.ledger)
+    below = numbers_below w receipt.seq register.balanced.ledger refl
 
     receipts : receipts_of next ≡ receipts_of w ++ receipt ∷ []
     receipts = ap (arranged receipt_key) (flat_put loan (map (λ x. cond (bytes_eq x.uuid p) (give x) x) w.packages) refl)
@@ -242,20 +237,18 @@ module _ (w : World) (id moment p child : List ℕ) (mode : Mode) (rect : Rect) 
         let unaltered : AllByRecursion (IsUnaltered w) (holdings w p).items = (at_all w (λ x. AllByRecursion (IsUnaltered w) x.items) p (each_unaltered w register.unaltered) k.live).0 in
         let Held : Item → Type 0 = λ i. holds (holdings w p) (item_thing i) ≡ true in
         let Tied : Relation → Type 0 = λ l. holds (holdings w p) (link_key l) ≡ true in
-        record {
-          number = refl;
+        may_move w asked taken.items taken.links register.balanced.ledger (record {
+          says = says;
           new_request = k.new_request;
-          things = things_moved taken.items taken.links;
-          in_order = order_moved taken.items taken.links (subst (IsArranged item_key) (sym tests.items.1) (filter_arranged item_key tests.items.0 (holdings w p).items kept.items))
-              (subst (IsArranged link_key) (sym tests.links.1) (filter_arranged link_key tests.links.0 (holdings w p).links kept.links));
-          counts = record { tiles = refl; media = refl; rows = refl; links = refl; bytes = refl };
-          entered = (entry_of asked.command, record { says = says; leaves = refl; comes_to = refl; moves = tt });
+          things = refl;
+          entered = tt;
+          in_order = (subst (IsArranged item_key) (sym tests.items.1) (filter_arranged item_key tests.items.0 (holdings w p).items kept.items), subst (IsArranged link_key) (sym tests.links.1) (filter_arranged link_key tests.links.0 (holdings w p).links kept.links));
+          unaltered = subst (AllByRecursion (IsUnaltered w)) (sym tests.items.1) (All-filter (IsUnaltered w) tests.items.0 (holdings w p).items unaltered);
           from_source = custody_moved w p taken.items taken.links register.balanced (subst (AllByRecursion Held) (sym tests.items.1) (All-filter Held tests.items.0 (holdings w p).items (items_held (holdings w p))))
               (subst (AllByRecursion Tied) (sym tests.links.1) (All-filter Tied tests.links.0 (holdings w p).links (links_held (holdings w p))));
-          never_before = λ e. absurd (false≢true (sym (by_entry is_adding receipt (entry_of asked.command) says) ∙ e));
-          agrees = agree_moved w taken.items taken.links register.balanced.ledger (subst (AllByRecursion (IsUnaltered w)) (sym tests.items.1) (All-filter (IsUnaltered w) tests.items.0 (holdings w p).items unaltered));
+          no_add = refl;
           new_loan = λ _. (k.never_lent, not_archive);
-        }
+        })
 
     shift : Shift w next receipt
     shift = record { receipts = receipts; archive = archive; may = may; shifts = λ c _. shifts c }
@@ -327,7 +320,7 @@ module _ (w : World) (id moment p child : List ℕ) (mode : Mode) (rect : Rect) 
 
     kept_rest : IsKeptPackage next (give (holdings w p))
     kept_rest = filtered_kept w next (holdings w p) (give (holdings w p)) (λ id. not (c.s id)) (λ l. not (c.u l)) refl rest_items rest_links kept.uuid
-        (receipts_kept receipt (holdings w p).receipts kept.receipts (stand_at (λ _ s. s.seq < receipt.seq) w p (flat_stand (λ s. s.seq < receipt.seq) w.packages (All-of_arranged receipt_key (λ s. s.seq < receipt.seq) (flat_map (λ x. x.receipts) w.packages) below))))
+        (receipts_kept receipt (holdings w p).receipts kept.receipts (of_package (λ s. s.seq < receipt.seq) w p below))
         (parent_stays (holdings w p) kept.parent)
         (All-weaker (GoesWhole c.s c.u) (λ l. not (c.u l) ≡ true → (not (c.s l.base) ≡ true) × (not (c.s l.media) ≡ true))
         (λ l h left. let both : (c.s l.base ≡ false) × (c.s l.media ≡ false) = h.1 (not_true (c.u l) left) in (ap not both.0, ap not both.1)) (holdings w p).links c.whole)

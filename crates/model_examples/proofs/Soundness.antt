@@ -1,5 +1,5 @@
 -- Of a sound ledger each rule, of an unsound one the rule that it breaks.
-use Rattle.std.specs.Prelude.{◌≡◌, refl, ℕ, List, pos, true, false, [], ◌∷◌, Some, None, Ok, ◌==◌, bytes_eq, unwrap_or, is_some}
+use Rattle.std.specs.Prelude.{◌≡◌, refl, ℕ, List, pos, false, [], ◌∷◌, Some, None, Ok, ◌==◌, bytes_eq, unwrap_or, is_some}
 use Rattle.std.proofs.Common.{ap, sym, subst, ◌∙◌}
 use Rattle.std.proofs.lemmas.Bool.{false≢true, true≢false}
 use Rattle.std.proofs.lemmas.Map.Keys.{IsDistinct-head}

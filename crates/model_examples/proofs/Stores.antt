@@ -1,5 +1,5 @@
 -- Of some stores the fault that opening answers, and that none above it holds.
-use Rattle.std.specs.Prelude.{◌≡◌, ◌⊎◌, refl, ℕ, zero, suc, ◌<◌, ◌+◌, Bool, true, false, cond, List, [], ◌∷◌, Some, None, ◌==◌, is_some, pos, int_le, bytes_eq, unwrap_or, count_by, sum_by, length, nat_le, Contains}
+use Rattle.std.specs.Prelude.{◌≡◌, ◌⊎◌, refl, ℕ, zero, suc, ◌<◌, Bool, true, false, List, [], ◌∷◌, Some, ◌==◌, pos, int_le, bytes_eq, count_by, nat_le, Contains}
 use Rattle.std.proofs.Common.{ap, sym, subst, ◌∙◌, inl, inr, arith}
 use Rattle.std.proofs.lemmas.Bool.{false≢true, true≢false}
 use Rattle.std.specs.Fmt.{digits}
@@ -9,12 +9,10 @@ use Rattle.sha2.specs.Sha256.{sha256, first_words, schedule, rounds, compress, h
 use Rattle.uuid.specs.Text.{by_index}
 use Rattle.sheet_types.specs.Lines.{entry_from}
 use Rattle.sheet_types.specs.Ordered.{is_before}
-use Rattle.sheet_types.specs.Texts.{size}
-use Rattle.sheet_types.specs.World.{World, Package, holdings, no_package, new_world, is_tile, is_medium, is_row}
-use Rattle.sheet_types.specs.Balance.{Balanced, holds}
 use Rattle.sheet_types.specs.Opening.{Claim, claim_of, is_open_claim, is_loan_of, is_reached, claims_at, IsOpenSplitOf, Counted, NotAPackage, ForeignFrame, IsAtHome, IsNever}
 use Rattle.sheet_types.specs.declared.receipt.Receipt.{Receipt}
 use Rattle.sheet_types.proofs.Basics.{differ}
+use Rattle.sheet_types.proofs.NewWorld.{new_balanced}
 use Rattle.model_examples.specs.Sheets.{sheet, archive, crew, second_crew, tile, tile_of}
 use Rattle.model_examples.specs.Story.{kept_as, archive_with, crew_with}
 use Rattle.model_examples.specs.Ledgers.{added, lent}
@@ -251,29 +249,6 @@ altered_item = (
 abbrev new_store : Store
 new_store = stored (archive_with [] [] [])
 
-abbrev empty_world : World
-empty_world = new_world archive sheet
-
-nothing_held : (p thing : List ℕ) → holds (holdings empty_world p) thing ≡ false
-nothing_held p thing = elim (bytes_eq archive p) as (λ v. holds (unwrap_or (cond v (Some (record no_package { uuid = archive })) None) no_package) thing ≡ false) [ true ↦ refl | false ↦ refl ]
-
-zero_held : (held : Package → ℕ) → held (record no_package { uuid = archive }) ≡ 0 → held no_package ≡ 0 → (p : List ℕ) → 0 ≡ 0 + held (holdings empty_world p)
-zero_held held here nowhere p = elim (bytes_eq archive p) as (λ v. 0 ≡ 0 + held (unwrap_or (cond v (Some (record no_package { uuid = archive })) None) no_package)) [ true ↦ rw here refl | false ↦ rw nowhere refl ]
-
-balanced : Balanced empty_world
-balanced = record {
-  ledger = tt;
-  custody_is = λ p thing. ((λ held. absurd (false≢true (sym (nothing_held p thing) ∙ held))), (λ at. absurd (differ is_some refl refl at)));
-  tiles = zero_held (λ x. count_by is_tile x.items) refl refl;
-  media = zero_held (λ x. count_by is_medium x.items) refl refl;
-  rows = zero_held (λ x. count_by is_row x.items) refl refl;
-  links = zero_held (λ x. length x.links) refl refl;
-  bytes = zero_held (λ x. sum_by (λ i. size i.content) x.items) refl refl;
-  loans = (tt, tt);
-  homes = (tt, tt);
-  together = (tt, tt);
-}
-
 -- a store without claims has no open split
 no_claim : (s : Store) (c : Claim) → Contains (new_store ∷ []) s → OpenIn (new_store ∷ []) s c → ⊥
 no_claim s c inside opened = let In : Store → Type 0 = λ x. Contains (claims_of x) c in none c (subst In (sym (one new_store s inside)) opened.2)
@@ -289,6 +264,6 @@ new_store_stands = record {
     tied = (refl, tt);
   };
   read_as = (new_store, refl, refl);
-  balanced = balanced;
+  balanced = new_balanced sheet archive;
   unaltered = refl;
 }

@@ -15,12 +15,12 @@ use Rattle.sqlite.specs.Effect.{Database}
 use Rattle.sqlite_trees.specs.View.{is_int}
 use Rattle.sheet_types.specs.Ordered.{is_before, arranged, put, IsArranged}
 use Rattle.sheet_types.proofs.Basics.{before-differs}
-use Rattle.sql_meaning.specs.Known.{HasTable, IsQuiet}
+use Rattle.sql_meaning.specs.Known.{IsQuiet}
 use Rattle.sql_meaning.specs.Kinds.{has_kinds}
 use Rattle.sql_meaning.specs.Writing.{Updates, Spares, IsKeyed}
 use Rattle.package_tables.specs.Shape.{Shape, IsShape, IsFormed, IsStored, stored_rows, rows_of}
 use Rattle.package_tables.specs.Package.{Tables, tables_of, AreFormed}
-use Rattle.package_tables.proofs.Shapes.{rows_placed, arranged-filter}
+use Rattle.package_tables.proofs.Shapes.{standing, arranged-filter}
 
 -- ---- lists in the order of a key
 
@@ -128,19 +128,15 @@ module _ {R : Type 0} (shape : Shape R) (laws : IsShape shape) where
   changed hits change k make old new updates quiet formed same makes keys rowids kinds apart =
       let p = formed.placed in
       let did = updates p.at p.tree p.has quiet in
-      let treed = laws.treed p.tree in
       let there = stored_rows shape old in
-      let old_is : stored_rows shape old ≡ old.trees p.tree = rows_placed shape laws old p.at p.tree p.has in
-      let new_has = subst (λ s. HasTable s p.at (shape.table p.tree)) (sym did.spares.schema) p.has in
-      let new_is : stored_rows shape new ≡ new.trees p.tree = rows_placed shape laws new p.at p.tree new_has in
-      let at_tree : old.trees (shape.table p.tree).tree ≡ there = ap old.trees treed ∙ sym old_is in
+      let table = standing shape laws old new p did.spares.schema in
       let few : length (filter hits there) ≤ 1 = fewer there formed.stored apart in
       let fit = all_of_kinds shape (shape.table p.tree) change make (kinds p.tree) makes there formed.stored formed.keyed.ints in
-      let rows : stored_rows shape new ≡ map g there = new_is ∙ sym (ap new.trees treed)
-      ∙ did.rows (subst IsKeyed (sym at_tree) formed.keyed) (subst (λ l. length (filter hits l) ≤ 1) (sym at_tree) few) (subst (AllByRecursion (λ r. has_kinds (shape.table p.tree) (change r) ≡ true)) (sym at_tree) fit)
-      ∙ ap (map g) at_tree in (
+      let rows : stored_rows shape new ≡ map g there = table.after
+      ∙ did.rows (subst IsKeyed (sym table.before) formed.keyed) (subst (λ l. length (filter hits l) ≤ 1) (sym table.before) few) (subst (AllByRecursion (λ r. has_kinds (shape.table p.tree) (change r) ≡ true)) (sym table.before) fit)
+      ∙ ap (map g) table.before in (
         record {
-          placed = record { at = p.at; tree = p.tree; has = new_has };
+          placed = table.placed;
           keyed = subst IsKeyed (sym rows) (record { ints = all_ints shape laws g f steps kept there formed.stored formed.keyed.ints; rises = still_rises shape laws g f steps kept there formed.stored formed.keyed.rises });
           stored = subst (AllByRecursion (IsStored shape)) (sym rows) (all_stored shape laws g f steps kept there formed.stored);
         },

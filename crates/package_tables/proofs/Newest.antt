@@ -106,7 +106,7 @@ module _ {R : Type 0} {shape : Shape R} {list : Tables → List R} {shown' : R �
       let f = known.formed db formed in
       let p = f.placed in
       let there = stored_rows shape db in
-      let same : filter newest.pass (db.trees (shape.table p.tree).tree) ≡ filter newest.pass there = ap (filter newest.pass) (ap db.trees (known.laws.treed p.tree) ∙ sym (rows_placed shape known.laws db p.at p.tree p.has)) in
+      let same : filter newest.pass (db.trees (shape.table p.tree).tree) ≡ filter newest.pass there = ap (filter newest.pass) (sym (rows_placed shape known.laws db p.at p.tree p.has)) in
       let shows = subst (λ k. ShowsFirst (λ r. column r 0 ∷ []) newest.shown (descending ∷ []) k rows) same (finds.first p.at p.tree p.has) in
       let kept = arranged-filter shape.key shape.typed keeps newest.pass there (tested there f.stored) in
       subst (λ k. IsGreatest number k found) (kept ∙ ap (filter keeps) (sym (known.lists db)))

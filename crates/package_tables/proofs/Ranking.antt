@@ -77,7 +77,7 @@ module _ {R : Type 0} (shape : Shape R) (laws : IsShape shape) (shown : R → Ro
   in_order db formed rows listed xs read =
       let p = formed.placed in
       let there = stored_rows shape db in
-      let same : db.trees (shape.table p.tree).tree ≡ there = ap db.trees (laws.treed p.tree) ∙ sym (rows_placed shape laws db p.at p.tree p.has) in
+      let same : db.trees (shape.table p.tree).tree ≡ there = sym (rows_placed shape laws db p.at p.tree p.has) in
       let listing = subst (λ t. IsListing l.key l.shown l.by (filter l.keeps t) rows) same (listed p.at p.tree p.has) in
       let pairs = map (λ r. (l.key r, l.shown r)) (filter l.keeps there) in
       let are = recursion_from_All IsOf listing.ordered (All-permutation IsOf pairs listing.ordered listing.same (All-from_recursion IsOf pairs (all_of_rows there formed.stored))) in

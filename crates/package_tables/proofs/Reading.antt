@@ -85,7 +85,7 @@ module _ {R : Type 0} (shape : Shape R) (laws : IsShape shape) (shown : R → Ro
     answered =
         let p = formed.placed in
         let there = stored_rows shape db in
-        let same : db.trees (shape.table p.tree).tree ≡ there = ap db.trees (laws.treed p.tree) ∙ sym (rows_placed shape laws db p.at p.tree p.has) in
+        let same : db.trees (shape.table p.tree).tree ≡ there = sym (rows_placed shape laws db p.at p.tree p.has) in
         let listing = subst (λ k. IsListing l.key l.shown l.by (filter l.keeps k) rows) same (listed p.at p.tree p.has) in
         let moved : IsPermutation (map l.shown (filter l.keeps there)) rows =
         subst (IsPermutation (map l.shown (filter l.keeps there))) (sym listing.shows)

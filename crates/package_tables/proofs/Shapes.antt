@@ -29,10 +29,22 @@ tree_placed schema at t h = rw (h.named, h.there) refl
 
 module _ {R : Type 0} (shape : Shape R) (laws : IsShape shape) where
   -- the rows of a table that is placed
-  pub rows_placed : (db : Database) (at tree : ℕ) → HasTable db.schema at (shape.table tree) → stored_rows shape db ≡ db.trees tree
+  pub rows_placed : (db : Database) (at tree : ℕ) → HasTable db.schema at (shape.table tree) → stored_rows shape db ≡ db.trees (shape.table tree).tree
   rows_placed db at tree h =
-      let same : tree_named db.schema (shape.table 0).name ≡ tree = ap (tree_named db.schema) (sym (laws.named tree)) ∙ tree_placed db.schema at (shape.table tree) h ∙ laws.treed tree in
+      let same : tree_named db.schema (shape.table 0).name ≡ (shape.table tree).tree = ap (tree_named db.schema) (sym (laws.named tree)) ∙ tree_placed db.schema at (shape.table tree) h in
       ap db.trees same
+
+-- a table that stands where it stood, and what its tree held and holds
+pub record Standing {R : Type 0} (shape : Shape R) (old new : Database) (p : IsPlaced old.schema shape.table) : Type 0 where
+  pub placed : IsPlaced new.schema shape.table
+  pub before : old.trees (shape.table p.tree).tree ≡ stored_rows shape old
+  pub after : stored_rows shape new ≡ new.trees (shape.table p.tree).tree
+
+-- where the schema stays each table does
+pub standing : {R : Type 0} (shape : Shape R) (laws : IsShape shape) (old new : Database) (p : IsPlaced old.schema shape.table) → new.schema ≡ old.schema → Standing shape old new p
+standing shape laws old new p same =
+    let has = subst (λ s. HasTable s p.at (shape.table p.tree)) (sym same) p.has in
+    record { placed = record { at = p.at; tree = p.tree; has = has }; before = sym (rows_placed shape laws old p.at p.tree p.has); after = rows_placed shape laws new p.at p.tree has }
 
 -- ---- rows as lists
 
@@ -102,9 +114,6 @@ ints_filter t (r ∷ rows) h = one (is_int (rowid r)) (t r) refl h refl (ints_fi
 -- ---- writes
 
 module _ {R : Type 0} (shape : Shape R) (laws : IsShape shape) where
-  placed_again : (old new : Database) → new.schema ≡ old.schema → IsPlaced old.schema shape.table → IsPlaced new.schema shape.table
-  placed_again old new same p = subst (λ s. IsPlaced s shape.table) (sym same) p
-
   -- a row comes in: under a key that is free it comes to its place
   pub inserted : (row : List Row → Row) (x : R) (old new : Database) → Inserts shape.table row old new → IsQuiet old.schema → IsFormed shape old
       → ((there : List Row) → (v : Value) × (is_int v ≡ true) × (row there ≡ shape.stored v x))
@@ -112,20 +121,16 @@ module _ {R : Type 0} (shape : Shape R) (laws : IsShape shape) where
   inserted row x old new inserts quiet formed laid =
       let p = formed.placed in
       let did = inserts p.at p.tree p.has quiet in
-      let treed = laws.treed p.tree in
       let there = stored_rows shape old in
-      let old_is : stored_rows shape old ≡ old.trees p.tree = rows_placed shape laws old p.at p.tree p.has in
-      let new_has = subst (λ s. HasTable s p.at (shape.table p.tree)) (sym did.spares.schema) p.has in
-      let new_is : stored_rows shape new ≡ new.trees p.tree = rows_placed shape laws new p.at p.tree new_has in
-      let at_tree : old.trees (shape.table p.tree).tree ≡ there = ap old.trees treed ∙ sym old_is in
+      let table = standing shape laws old new p did.spares.schema in
       let mine = laid (old.trees (shape.table p.tree).tree) in
       let r = shape.stored mine.0 x in
-      let rows : stored_rows shape new ≡ put_row r there = new_is ∙ sym (ap new.trees treed) ∙ did.rows ∙ rw (mine.2, at_tree) refl in
-      let free : is_taken there r ≡ false = rw (← at_tree, ← mine.2) did.free in
+      let rows : stored_rows shape new ≡ put_row r there = table.after ∙ did.rows ∙ rw (mine.2, table.before) refl in
+      let free : is_taken there r ≡ false = rw (← table.before, ← mine.2) did.free in
       let says : shape.typed r ≡ x = laws.says mine.0 x in
       let whole : IsStored shape r = ap (shape.stored (rowid r)) says ∙ laws.again mine.0 x in (
         record {
-          placed = record { at = p.at; tree = p.tree; has = new_has };
+          placed = table.placed;
           keyed = subst IsKeyed (sym rows) (record { ints = put_ints r there (laws.numbered mine.0 x mine.1) formed.keyed.ints; rises = IsTable-put_row r there formed.keyed.rises });
           stored = subst (AllByRecursion (IsStored shape)) (sym rows) (all-put_row (IsStored shape) r there whole formed.stored);
         },
@@ -143,15 +148,11 @@ module _ {R : Type 0} (shape : Shape R) (laws : IsShape shape) where
   deleted goes test old new deletes quiet formed same =
       let p = formed.placed in
       let did = deletes p.at p.tree p.has quiet in
-      let treed = laws.treed p.tree in
       let there = stored_rows shape old in
-      let old_is : stored_rows shape old ≡ old.trees p.tree = rows_placed shape laws old p.at p.tree p.has in
-      let new_has = subst (λ s. HasTable s p.at (shape.table p.tree)) (sym did.spares.schema) p.has in
-      let new_is : stored_rows shape new ≡ new.trees p.tree = rows_placed shape laws new p.at p.tree new_has in
-      let at_tree : old.trees (shape.table p.tree).tree ≡ there = ap old.trees treed ∙ sym old_is in
-      let rows : stored_rows shape new ≡ filter (λ r. not (goes r)) there = new_is ∙ sym (ap new.trees treed) ∙ did.rows (subst IsKeyed (sym at_tree) formed.keyed) ∙ ap (filter (λ r. not (goes r))) at_tree in (
+      let table = standing shape laws old new p did.spares.schema in
+      let rows : stored_rows shape new ≡ filter (λ r. not (goes r)) there = table.after ∙ did.rows (subst IsKeyed (sym table.before) formed.keyed) ∙ ap (filter (λ r. not (goes r))) table.before in (
         record {
-          placed = record { at = p.at; tree = p.tree; has = new_has };
+          placed = table.placed;
           keyed = subst IsKeyed (sym rows) (record { ints = ints_filter (λ r. not (goes r)) there formed.keyed.ints; rises = table_filter (λ r. not (goes r)) there formed.keyed.rises });
           stored = subst (AllByRecursion (IsStored shape)) (sym rows) (all_filter (IsStored shape) (λ r. not (goes r)) there formed.stored);
         },
@@ -168,10 +169,10 @@ module _ {R : Type 0} (shape : Shape R) (laws : IsShape shape) where
       → IsFormed shape new × (rows_of shape new ≡ rows_of shape old)
   spared t old new spares other counted formed =
       let p = formed.placed in
-      let new_has = subst (λ s. HasTable s p.at (shape.table p.tree)) (sym spares.schema) p.has in
+      let table = standing shape laws old new p spares.schema in
       let named = laws.named p.tree in
       let kept = spares.others p.at (shape.table p.tree) p.has (ap (λ n. is_other n t.name) named ∙ other) (ap (λ n. is_other n sequence_name) named ∙ counted) in
-      let rows : stored_rows shape new ≡ stored_rows shape old = rows_placed shape laws new p.at p.tree new_has ∙ sym (ap new.trees (laws.treed p.tree)) ∙ kept ∙ ap old.trees (laws.treed p.tree) ∙ sym (rows_placed shape laws old p.at p.tree p.has) in (
-        record { placed = record { at = p.at; tree = p.tree; has = new_has }; keyed = subst IsKeyed (sym rows) formed.keyed; stored = subst (AllByRecursion (IsStored shape)) (sym rows) formed.stored },
+      let rows : stored_rows shape new ≡ stored_rows shape old = table.after ∙ kept ∙ table.before in (
+        record { placed = table.placed; keyed = subst IsKeyed (sym rows) formed.keyed; stored = subst (AllByRecursion (IsStored shape)) (sym rows) formed.stored },
         ap (λ l. arranged shape.key (map shape.typed l)) rows,
       )

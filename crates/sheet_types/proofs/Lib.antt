@@ -15,3 +15,4 @@ pub mod KeyOrder
 pub mod NumberTexts
 pub mod Patterns
 pub mod UuidTexts
+pub mod NewWorld

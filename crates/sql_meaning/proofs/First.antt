@@ -103,7 +103,7 @@ module _ (text : List ℕ) (table : ℕ → Table) (test : Test) (by : List (Ter
         let t = table tree in
         let schema = old.now.schema in
         let q : Program = record { lets = []; body = paged_query t.tree (terms_of_test t test) (shown_terms t) by one_row } in
-        let known = understood_is schema text _ (page_is schema text at t test by one_row (it tree) has (plan tree)) in
+        let known = understood_is schema text _ (page_is schema _ text at t test by one_row (it tree) (it tree).one.0 ((it tree).one.1 schema) has (plan tree)) in
         let got = reads_as text params old new schema refl (Select q _) (ap command_of known.0) (subst IsPlain (sym known.0) (refl, refl)) known.1 rows shown in
         let all = page_of schema at t has test (shown_terms t) by one_row old.now.trees params rows given (got.answer Null) in
         subst (λ (m : Listing). ShowsFirst m.key m.shown m.by (filter m.keeps (old.now.trees t.tree)) rows) (is tree) (listing_first _ _ _ _ all.0 rows all.1 all.2);

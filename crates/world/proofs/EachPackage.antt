@@ -14,7 +14,7 @@ use Rattle.sheet_types.proofs.Found.{found, not_found, All-found}
 use Rattle.sheet_types.proofs.Order.{list_any-arranged, All-arranged, All-of_arranged}
 use Rattle.sheet_types.proofs.Same.{In, In-all, All-In, In-flat_map, any_in, one_passes}
 use Rattle.ledger_laws.proofs.Requests.{added_is_named, of_request, one_receipt, no_more_than}
-use Rattle.ledger_laws.proofs.Ledger.{ledger_numbers}
+use Rattle.ledger_laws.proofs.Shifting.{numbers_below}
 use Rattle.ledger_laws.proofs.Packages.{stand_flat}
 use Rattle.identity_register.proofs.Finding.{contained}
 use Rattle.identity_register.proofs.Answering.{any_flat_map}
@@ -50,8 +50,8 @@ number_within : (w : World) (n : ℕ) → IsRegister w → list_any (λ p. has r
 number_within w n register there =
     let numbered : Receipt → Bool = λ r. bytes_eq (receipt_key r) (n ∷ []) in
     let s : (s : Receipt) × (find numbered (receipts_of w) ≡ Some s) = found numbered (receipts_of w) (in_packages numbered w ∙ there) in
-    let Within : Receipt → Type 0 = λ r. r.seq < 0 + length (receipts_of w) + 1 in
-    let is : Within s.0 × (numbered s.0 ≡ true) = All-found Within numbered s.0 (receipts_of w) s.1 (ledger_numbers (archive_of w) [] (receipts_of w) register.balanced.ledger) in
+    let Within : Receipt → Type 0 = λ r. r.seq < length (receipts_of w) + 1 in
+    let is : Within s.0 × (numbered s.0 ≡ true) = All-found Within numbered s.0 (receipts_of w) s.1 (numbers_below w (length (receipts_of w) + 1) register.balanced.ledger refl) in
     let number : s.0.seq ≡ n = ap (λ zs. slice_index zs 0) ((bytes_eq-Decides (receipt_key s.0) (n ∷ [])).0 is.1) in
     omega (arith, is.0, number)
 

@@ -1,6 +1,6 @@
 -- What nothing speaks against fits the package that it names.
-use Rattle.std.specs.Prelude.{◌≡◌, ℕ, ◌+◌, ◌<◌, Bool, true, false, not, ◌&&◌, List, [], ◌∷◌, ◌++◌, Option, length, flat_map, refl, bytes_eq, Some, None}
-use Rattle.std.proofs.Common.{sym, ap, ◌∙◌, arith}
+use Rattle.std.specs.Prelude.{◌≡◌, ℕ, ◌+◌, ◌<◌, Bool, true, false, not, ◌&&◌, List, [], ◌∷◌, ◌++◌, Option, length, refl, bytes_eq, Some, None}
+use Rattle.std.proofs.Common.{sym, ap, ◌∙◌}
 use Rattle.std.proofs.lemmas.Bool.{false≢true, and_parts, and_from, or_parts, false_from_ne_true, lt-ltb}
 use Rattle.std.specs.Bool.{then_some}
 use Rattle.std.specs.List.{AllByRecursion}
@@ -21,19 +21,17 @@ use Rattle.sheet_types.specs.declared.command.Content.{Content}
 use Rattle.sheet_types.specs.declared.command.Item.{Item}
 use Rattle.sheet_types.specs.declared.command.Relation.{Relation}
 use Rattle.sheet_types.specs.declared.command.Request.{Request}
-use Rattle.sheet_types.specs.declared.receipt.Receipt.{Receipt}
 use Rattle.sheet_types.specs.declared.refusal.Refusal.{Refusal}
 use Rattle.sheet_types.specs.declared.refusal.Refusal.TheVariants.{IdReused, UnknownPackage, TooMany, IdentityUsed}
 use Rattle.sheet_types.proofs.Basics.{None≢Some, bytes_eq_itself, not_false, before-differs}
 use Rattle.sheet_types.proofs.Every.{All-weaker, All-left, none_pass, none_any}
 use Rattle.sheet_types.proofs.Fitting.{digest_fits, item_kind_of}
 use Rattle.sheet_types.proofs.Found.{none_found, All-found}
-use Rattle.sheet_types.proofs.Order.{before_numbers, All-of_arranged}
+use Rattle.sheet_types.proofs.Order.{before_numbers}
 use Rattle.ledger_laws.proofs.Accepting.{rows_fail}
 use Rattle.ledger_laws.proofs.Facts.{kept_at}
-use Rattle.ledger_laws.proofs.Ledger.{ledger_numbers, never_named, custody_none, thing_of, thing_of_item}
-use Rattle.ledger_laws.proofs.Packages.{stand_at}
-use Rattle.ledger_laws.proofs.Shifting.{flat_stand}
+use Rattle.ledger_laws.proofs.Ledger.{never_named, custody_none, thing_of, thing_of_item}
+use Rattle.ledger_laws.proofs.Shifting.{of_package, numbers_below}
 use Rattle.identity_register.specs.Reads.{is_fit_end, is_fit_moved}
 use Rattle.world.specs.Carrying.{Meets}
 use Rattle.world.specs.Laws.{IsServed, package_of, live_reasons}
@@ -42,24 +40,14 @@ use Rattle.world.specs.Steps.{NothingAgainst, FitsWhereAccepted, NothingAgainstA
 use Rattle.world.proofs.FirstRows.{passes, last}
 use Rattle.world.proofs.Parts.{refused_by_parts, refused_unless_live, first_of_both}
 
--- ---- the receipts of a package, among all
-
--- a fact of all receipts is one of those of a package
-pub of_package : (P : Receipt → Type 0) (w : World) (p : List ℕ) → AllByRecursion P (receipts_of w) → AllByRecursion P (holdings w p).receipts
-of_package P w p h = stand_at (λ _ s. P s) w p (flat_stand P w.packages (All-of_arranged receipt_key P (flat_map (λ x. x.receipts) w.packages) h))
-
--- the next number is above all
-pub numbers_below : (w : World) → IsRegister w → AllByRecursion (λ s. s.seq < length (receipts_of w) + 1) (receipts_of w)
-numbers_below w register =
-    All-weaker (λ s. s.seq < length {A = Receipt} [] + length (receipts_of w) + 1) (λ s. s.seq < length (receipts_of w) + 1) (λ s lt. omega (arith, lt)) (receipts_of w)
-    (ledger_numbers (archive_of w) [] (receipts_of w) register.balanced.ledger)
+-- ---- a new receipt among all
 
 new_number : (w : World) (p : List ℕ) → IsRegister w → has receipt_key ((length (receipts_of w) + 1) ∷ []) (holdings w p).receipts ≡ false
 new_number w p register =
     let n : ℕ = length (receipts_of w) + 1 in
     none_any (λ s. bytes_eq (receipt_key s) (n ∷ [])) (holdings w p).receipts
     (All-weaker (λ s. s.seq < n) (λ s. bytes_eq (receipt_key s) (n ∷ []) ≡ false) (λ s lt. before-differs (receipt_key s) (n ∷ []) (before_numbers s.seq n ∙ lt-ltb s.seq n lt))
-    (holdings w p).receipts (of_package (λ s. s.seq < n) w p (numbers_below w register)))
+    (holdings w p).receipts (of_package (λ s. s.seq < n) w p (numbers_below w n register.balanced.ledger refl)))
 
 new_request : (w : World) (id p : List ℕ) → kept w id ≡ None → has (λ r. r.request) id (holdings w p).receipts ≡ false
 new_request w id p new =

@@ -25,7 +25,7 @@ use Rattle.world.specs.Laws.{IsServed, package_of}
 use Rattle.world.specs.Steps.{TooManyBySums, TicketAfter, sums_moved, sums_after, sums_next, is_past_limits}
 use Rattle.world.proofs.Carrying.{carried_out_in_one}
 use Rattle.world.proofs.Counting.{sums_after_command}
-use Rattle.world.proofs.Fitting.{numbers_below}
+use Rattle.ledger_laws.proofs.Shifting.{numbers_below}
 
 -- ---- the receipts
 
@@ -45,7 +45,7 @@ receipts_next w q register served live =
     ap receipts_of (carried_out_in_one w (receipt_of w q) q.command served)
     ∙ receipts_gained (after_command (receipt_of w q) q.command) w (package_of q.command) (receipt_of w q)
     (λ x below. ap (put receipt_key (receipt_of w q)) (same_receipts q.command x) ∙ with_receipt_gains (receipt_of w q) x below)
-    (numbers_below w register) register.arranged live
+    (numbers_below w (length (receipts_of w) + 1) register.balanced.ledger refl) register.arranged live
 
 -- ---- the limits
 
@@ -139,4 +139,4 @@ ticket_after w q id register served live =
     ap (ticket_from 0 id) (receipts_next w q register served live)
     ∙ fold-append (λ m r. cond (names_package id r) (max m r.seq) m) 0 (receipts_of w) (receipt_of w q ∷ [])
     ∙ ap (λ b. cond b (max (ticket w id) (length (receipts_of w) + 1)) (ticket w id)) (names_its_own w q.id q.at q.command id served)
-    ∙ ap (λ m. cond (bytes_eq id (package_of q.command)) m (ticket w id)) (greatest (ticket w id) (length (receipts_of w) + 1) (ticket_below 0 id (length (receipts_of w) + 1) (receipts_of w) (omega arith) (numbers_below w register)))
+    ∙ ap (λ m. cond (bytes_eq id (package_of q.command)) m (ticket w id)) (greatest (ticket w id) (length (receipts_of w) + 1) (ticket_below 0 id (length (receipts_of w) + 1) (receipts_of w) (omega arith) (numbers_below w (length (receipts_of w) + 1) register.balanced.ledger refl)))
