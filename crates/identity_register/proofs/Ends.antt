@@ -27,9 +27,10 @@ use Rattle.sheet_types.proofs.Order.{list_any-arranged}
 use Rattle.sheet_types.proofs.Same.{In, In-map, All-In, any_in}
 use Rattle.sheet_types.proofs.LineReading.{uuid_length}
 use Rattle.package_tables.specs.Package.{Tables}
+use Rattle.package_tables.specs.Mappings.{mapping_rows}
 use Rattle.package_tables.specs.declared.rows.IdentityRow.{IdentityRow}
 use Rattle.package_tables.specs.declared.rows.MappingRow.{MappingRow}
-use Rattle.identity_register.specs.Answers.{is_linked_row, mapping_rows, are_ends}
+use Rattle.identity_register.specs.Answers.{is_linked_row, are_ends}
 use Rattle.identity_register.specs.Numbering.{Numbered, place_in_tables, identity_row, number_of, mapping_row, tiles_media_rows, rows_media_rows, is_pair}
 use Rattle.identity_register.specs.Reads.{Says}
 use Rattle.identity_register.proofs.Deleting.{same_tests, same_number, pos_same}

@@ -26,12 +26,13 @@ use Rattle.sheet_types.proofs.Same.{In, In-map, In-of_map, In-flat_map, All-In, 
 use Rattle.sheet_types.proofs.LineReading.{uuid_back}
 use Rattle.package_tables.specs.Calls.{Answers}
 use Rattle.package_tables.specs.Package.{Tables}
+use Rattle.package_tables.specs.Mappings.{mapping_rows}
 use Rattle.package_tables.specs.declared.rows.AttributeRow.{AttributeRow}
 use Rattle.package_tables.specs.declared.rows.IdentityRow.{IdentityRow}
 use Rattle.package_tables.specs.declared.rows.MappingRow.{MappingRow}
 use Rattle.package_tables.specs.declared.rows.MediaRow.{MediaRow}
 use Rattle.package_tables.specs.declared.rows.TileRow.{TileRow}
-use Rattle.identity_register.specs.Answers.{IsContentOf, mapping_rows}
+use Rattle.identity_register.specs.Answers.{IsContentOf}
 use Rattle.identity_register.specs.Gathered.{tile_placed, medium_placed, attributes_placed, IsPlaced, IsItemOf, IsNamed, IsLinkOf}
 use Rattle.identity_register.specs.Numbering.{Numbered, identity_row, number_of, mapping_row}
 use Rattle.identity_register.specs.Reads.{Says}

@@ -9,7 +9,9 @@ use Rattle.sqlite.specs.State.{State, Survives}
 use Rattle.sql_meaning.specs.Transactions.{Steps}
 use Rattle.sql_meaning.proofs.Transactions.{steps_then, steps_weaker}
 use Rattle.package_tables.specs.Package.{Tables, tables_of, AreFormed}
+use Rattle.package_tables.specs.Mappings.{mapping_rows}
 use Rattle.package_tables.specs.Calls.{Makes, Answers, OnTables}
+use Rattle.package_tables.specs.Changes.{AddsPair, DropsPair}
 use Rattle.package_tables.proofs.Stepping.{makes_steps}
 use Rattle.package_tables.specs.declared.rows.IdentityRow.{IdentityRow}
 use Rattle.package_tables.specs.declared.rows.MappingRow.{MappingRow}
@@ -18,14 +20,12 @@ use Rattle.sheet_types.specs.World.{Package, link_key, base_kind, other_kind}
 use Rattle.sheet_types.specs.Lines.{IsUuid}
 use Rattle.sheet_types.specs.Register.{HasEnds}
 use Rattle.sheet_types.specs.declared.command.Mapping.{Mapping}
-use Rattle.sheet_types.specs.declared.command.Mapping.TheVariants.{TilesMedia, RowsMedia}
 use Rattle.sheet_types.specs.declared.command.Relation.{Relation}
 use Rattle.sheet_types.specs.declared.frame.Frame.{Frame}
 use Rattle.sheet_types.proofs.Basics.{and-true}
 use Rattle.sheet_types.proofs.Every.{none_pass}
 use Rattle.sheet_types.proofs.Order.{list_any-arranged}
-use Rattle.identity_register.specs.Answers.{mapping_rows}
-use Rattle.identity_register.specs.Numbering.{number_of, mapping_row, with_link, without_link, AddsLink, DropsLink, IsRowOf}
+use Rattle.identity_register.specs.Numbering.{number_of, mapping_row, with_link, without_link, IsRowOf}
 use Rattle.identity_register.specs.Reads.{Says}
 use Rattle.identity_register.specs.Calls.{Becomes}
 use Rattle.identity_register.specs.Changes.{IsNewLink, link_added, IsLink, link_removed}
@@ -82,23 +82,15 @@ module _ (f : Frame) (p : Package) (t : Tables) (says : Says f p t) where
       ∙ no_row k l e fits.ends says.linked says.ends (links_apart l fits.new)
 
   -- the tables get the row of the link
-  pub link_put : (l : Relation) (b m : ℤ) (after : Tables) → number_of says.numbered l.base ≡ b → number_of says.numbered l.media ≡ m → IsNewLink l p → AddsLink l.mapping b m t after → after ≡ with_link l.mapping (mapping_row says.numbered l) t
-  link_put l b m after is_base is_media fits adds = one l.mapping refl adds
+  pub link_put : (l : Relation) (b m : ℤ) (after : Tables) → number_of says.numbered l.base ≡ b → number_of says.numbered l.media ≡ m → IsNewLink l p → AddsPair l.mapping (record { base_id = b; related_id = m }) t after → after ≡ with_link l.mapping (mapping_row says.numbered l) t
+  link_put l b m after is_base is_media fits adds = adds (row_free l.mapping l _ row_is refl fits) ∙ ap (λ r. with_link l.mapping r t) row_is
     where
       row_is : ◌≡◌ {A = MappingRow} (record { base_id = b; related_id = m }) (mapping_row says.numbered l)
       row_is = rw (is_base, is_media) refl
 
-      one : (n : Mapping) → l.mapping ≡ n → AddsLink n b m t after → after ≡ with_link n (mapping_row says.numbered l) t
-      one TilesMedia e given = given (row_free TilesMedia l _ row_is e fits) ∙ ap (λ r. with_link TilesMedia r t) row_is
-      one RowsMedia e given = given (row_free RowsMedia l _ row_is e fits) ∙ ap (λ r. with_link RowsMedia r t) row_is
-
   -- the tables lose the row of the link
-  pub link_taken : (l : Relation) (b m : ℤ) (after : Tables) → number_of says.numbered l.base ≡ b → number_of says.numbered l.media ≡ m → DropsLink l.mapping b m t after → after ≡ without_link l.mapping (mapping_row says.numbered l) t
-  link_taken l b m after is_base is_media drops = one l.mapping drops
-    where
-      one : (n : Mapping) → DropsLink n b m t after → after ≡ without_link n (mapping_row says.numbered l) t
-      one TilesMedia given = given ∙ rw (is_base, is_media) refl
-      one RowsMedia given = given ∙ rw (is_base, is_media) refl
+  pub link_taken : (l : Relation) (b m : ℤ) (after : Tables) → number_of says.numbered l.base ≡ b → number_of says.numbered l.media ≡ m → DropsPair l.mapping b m t after → after ≡ without_link l.mapping (mapping_row says.numbered l) t
+  link_taken l b m after is_base is_media drops = drops ∙ rw (is_base, is_media) refl
 
 -- ---- the steps
 
@@ -113,34 +105,36 @@ ends_steps l base media {old} {mid} {new} one two =
     (λ m chain. (chain.2.0 ∙ chain.1.0, λ formed. (chain.1.1 formed, subst (λ d. IsRowOf l.media (tables_of d) m) chain.1.0 (chain.2.1 (subst AreFormed (sym chain.1.0) formed)))))
     (steps_then one two)
 
-joined : (l : Relation) (base media : IdentityRow) (old mid new : Database) → FoundEnds l base media old mid → OnTables (AddsLink l.mapping base.local_id media.local_id) mid new → Becomes (IsNewLink l) (link_added l) old new
+joined : (l : Relation) (base media : IdentityRow) (old mid new : Database) → FoundEnds l base media old mid → OnTables (AddsPair l.mapping (record { base_id = base.local_id; related_id = media.local_id })) mid new → Becomes (IsNewLink l) (link_added l) old new
 joined l base media old mid new found added f p reads fits =
     let rows = found.1 reads.formed in
     let did = added (subst AreFormed (sym found.0) reads.formed) in
     let is_base = found_number f p (tables_of old) reads.says l.base fits.base base rows.0 in
     let is_media = found_number f p (tables_of old) reads.says l.media fits.media media rows.1 in
-    let after = link_put f p (tables_of old) reads.says l base.local_id media.local_id (tables_of new) is_base is_media fits (subst (λ d. AddsLink l.mapping base.local_id media.local_id (tables_of d) (tables_of new)) found.0 did.1) in
+    let after = link_put f p (tables_of old) reads.says l base.local_id media.local_id (tables_of new) is_base is_media fits (subst (λ d. AddsPair l.mapping (record { base_id = base.local_id; related_id = media.local_id }) (tables_of d) (tables_of new)) found.0 did.1) in
     record { formed = did.0; says = subst (Says f (link_added l p)) (sym after) (links f p (tables_of old) l reads.says fits.new fits.ends) }
 
-parted : (l : Relation) (base media : IdentityRow) (old mid new : Database) → FoundEnds l base media old mid → OnTables (DropsLink l.mapping base.local_id media.local_id) mid new → Becomes (IsLink l) (link_removed l) old new
+parted : (l : Relation) (base media : IdentityRow) (old mid new : Database) → FoundEnds l base media old mid → OnTables (DropsPair l.mapping base.local_id media.local_id) mid new → Becomes (IsLink l) (link_removed l) old new
 parted l base media old mid new found dropped f p reads fits =
     let rows = found.1 reads.formed in
     let did = dropped (subst AreFormed (sym found.0) reads.formed) in
     let is_base = found_number f p (tables_of old) reads.says l.base fits.base base rows.0 in
     let is_media = found_number f p (tables_of old) reads.says l.media fits.media media rows.1 in
-    let after = link_taken f p (tables_of old) reads.says l base.local_id media.local_id (tables_of new) is_base is_media (subst (λ d. DropsLink l.mapping base.local_id media.local_id (tables_of d) (tables_of new)) found.0 did.1) in
+    let after = link_taken f p (tables_of old) reads.says l base.local_id media.local_id (tables_of new) is_base is_media (subst (λ d. DropsPair l.mapping base.local_id media.local_id (tables_of d) (tables_of new)) found.0 did.1) in
     record { formed = did.0; says = subst (Says f (link_removed l p)) (sym after) (unlinks f p (tables_of old) reads.says l (ends_there f p (tables_of old) reads.says l fits.base fits.there)) }
 
 -- both ends are found, and the link comes in
-pub link_steps : {E F : Type 0} (l : Relation) (base media : IdentityRow) {old mid new : State} {r : Result (Unit {0}) F} → Steps {E = E} (λ m. FoundEnds l base m) old mid (Ok media) → Steps (λ _. OnTables (AddsLink l.mapping base.local_id media.local_id)) mid new r
+pub link_steps : {E F : Type 0} (l : Relation) (base media : IdentityRow) {old mid new : State} {r : Result (Unit {0}) F} → Steps {E = E} (λ m. FoundEnds l base m) old mid (Ok media)
+    → Makes (AddsPair l.mapping (record { base_id = base.local_id; related_id = media.local_id })) mid new r → Survives mid new (λ _. ⊥)
     → Steps (λ _. Becomes (IsNewLink l) (link_added l)) old new r
-link_steps l base media {old} {mid} {new} first next = steps_weaker (λ _. Becomes (IsNewLink l) (link_added l)) (λ _ chain. joined l base media old.now chain.0 new.now chain.1 chain.2) (steps_then first next)
+link_steps l base media {old} {mid} {new} first makes survives =
+    steps_weaker (λ _. Becomes (IsNewLink l) (link_added l)) (λ _ chain. joined l base media old.now chain.0 new.now chain.1 chain.2)
+    (steps_then first (makes_steps (AddsPair l.mapping (record { base_id = base.local_id; related_id = media.local_id })) makes survives))
 
 -- both ends are found, and the link goes
-pub unlink_steps : {E F : Type 0} (l : Relation) (base media : IdentityRow) {old mid new : State} {r : Result (Unit {0}) F} → Steps {E = E} (λ m. FoundEnds l base m) old mid (Ok media) → Steps (λ _. OnTables (DropsLink l.mapping base.local_id media.local_id)) mid new r
+pub unlink_steps : {E F : Type 0} (l : Relation) (base media : IdentityRow) {old mid new : State} {r : Result (Unit {0}) F} → Steps {E = E} (λ m. FoundEnds l base m) old mid (Ok media)
+    → Makes (DropsPair l.mapping base.local_id media.local_id) mid new r → Survives mid new (λ _. ⊥)
     → Steps (λ _. Becomes (IsLink l) (link_removed l)) old new r
-unlink_steps l base media {old} {mid} {new} first next = steps_weaker (λ _. Becomes (IsLink l) (link_removed l)) (λ _ chain. parted l base media old.now chain.0 new.now chain.1 chain.2) (steps_then first next)
-
--- a write of the table of a mapping
-pub mapping_steps : {E : Type 0} (Change : Mapping → Tables → Tables → Type 0) (m n : Mapping) {old new : State} {r : Result (Unit {0}) E} → m ≡ n → Makes (Change n) old new r → Survives old new (λ _. ⊥) → Steps (λ _. OnTables (Change m)) old new r
-mapping_steps {E} Change m n {old} {new} {r} same makes survives = subst (λ k. Steps (λ _. OnTables (Change k)) old new r) (sym same) (makes_steps (Change n) makes survives)
+unlink_steps l base media {old} {mid} {new} first makes survives =
+    steps_weaker (λ _. Becomes (IsLink l) (link_removed l)) (λ _ chain. parted l base media old.now chain.0 new.now chain.1 chain.2)
+    (steps_then first (makes_steps (DropsPair l.mapping base.local_id media.local_id) makes survives))

@@ -26,8 +26,8 @@ use Rattle.sheet_types.proofs.Same.{In, In-of_map, All-In}
 use Rattle.sheet_types.proofs.Basics.{bytes_eq_itself, bytes_eq_swap, or-false}
 use Rattle.package_tables.specs.Shapes.{tiles_media_shape, rows_media_shape}
 use Rattle.package_tables.specs.Package.{Tables}
+use Rattle.package_tables.specs.Mappings.{mapping_rows}
 use Rattle.package_tables.specs.declared.rows.MappingRow.{MappingRow}
-use Rattle.identity_register.specs.Answers.{mapping_rows}
 use Rattle.identity_register.specs.Numbering.{Numbered, place_in_tables, number_of, mapping_row, tiles_media_rows, rows_media_rows, with_link, without_link, is_pair}
 use Rattle.identity_register.specs.Reads.{Says, SaysLinks}
 use Rattle.identity_register.proofs.Adding.{turned}

@@ -8,9 +8,9 @@ use Rattle.sheet_types.specs.declared.command.Mapping.TheVariants.{TilesMedia, R
 use Rattle.sheet_types.specs.declared.command.Relation.{Relation}
 use Rattle.sheet_types.specs.declared.frame.Frame.{Frame}
 use Rattle.package_tables.specs.Package.{Tables}
+use Rattle.package_tables.specs.Mappings.{mapping_rows}
 use Rattle.package_tables.specs.Shapes.{tiles_media_shape}
 use Rattle.package_tables.specs.declared.rows.MappingRow.{MappingRow}
-use Rattle.identity_register.specs.Answers.{mapping_rows}
 use Rattle.identity_register.specs.Numbering.{Numbered, mapping_row, tiles_media_rows, rows_media_rows}
 use Rattle.identity_register.specs.Reads.{Says}
 

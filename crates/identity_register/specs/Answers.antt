@@ -1,19 +1,12 @@
 -- What the mapping tables answer of rows.
-use Rattle.std.specs.Prelude.{◌≡◌, ℤ, pos, Bool, List, Contains, if◌then◌else◌, ◌||◌, ◌&&◌}
+use Rattle.std.specs.Prelude.{◌≡◌, ℤ, pos, Bool, Contains, if◌then◌else◌, ◌||◌, ◌&&◌}
 use Rattle.std.specs.List.{list_any}
 use Rattle.std.specs.Ordering.{int_eq}
 use Rattle.sheet_types.specs.World.{kind_number, base_kind, other_kind}
 use Rattle.sheet_types.specs.declared.command.Content.{Content}
 use Rattle.sheet_types.specs.declared.command.Content.TheVariants.{Tile, Media, Row}
 use Rattle.sheet_types.specs.declared.command.Mapping.{Mapping}
-use Rattle.sheet_types.specs.declared.command.Mapping.TheVariants.{TilesMedia, RowsMedia}
 use Rattle.package_tables.specs.Package.{Tables}
-use Rattle.package_tables.specs.declared.rows.MappingRow.{MappingRow}
-
--- the table of a mapping
-abbrev pub mapping_rows : Mapping → Tables → List MappingRow
-mapping_rows TilesMedia t = t.tiles_media
-mapping_rows RowsMedia t = t.rows_media
 
 abbrev pub is_linked_medium : ℤ → Tables → Bool
 is_linked_medium number t = list_any (λ r. int_eq r.related_id number) t.tiles_media || list_any (λ r. int_eq r.related_id number) t.rows_media

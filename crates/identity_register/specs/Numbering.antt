@@ -16,10 +16,11 @@ use Rattle.sheet_types.specs.declared.command.Item.{Item}
 use Rattle.sheet_types.specs.declared.command.Mapping.{Mapping}
 use Rattle.sheet_types.specs.declared.command.Mapping.TheVariants.{TilesMedia, RowsMedia}
 use Rattle.sheet_types.specs.declared.command.Relation.{Relation}
-use Rattle.package_tables.specs.Shapes.{tile_shape, medium_shape, attribute_shape, identity_shape, tiles_media_shape, rows_media_shape}
+use Rattle.package_tables.specs.Shapes.{tile_shape, medium_shape, attribute_shape, identity_shape}
 use Rattle.package_tables.specs.Package.{Tables}
+use Rattle.package_tables.specs.Mappings.{pair_shape, mapping_rows, with_mapping_rows}
 use Rattle.package_tables.specs.Calls.{IsGreatest}
-use Rattle.package_tables.specs.Changes.{AddsTile, AddsMedium, AddsAttribute, AddsTilesMedia, AddsRowsMedia, DropsTilesMedia, DropsRowsMedia}
+use Rattle.package_tables.specs.Changes.{AddsTile, AddsMedium, AddsAttribute}
 use Rattle.package_tables.specs.declared.rows.TileRow.{TileRow}
 use Rattle.package_tables.specs.declared.rows.MediaRow.{MediaRow}
 use Rattle.package_tables.specs.declared.rows.AttributeRow.{AttributeRow}
@@ -122,30 +123,18 @@ DropsRows kind number before after = after ≡ without_identity kind number (wit
 
 -- the tables with the row of one link more
 abbrev pub with_link : Mapping → MappingRow → Tables → Tables
-with_link TilesMedia row t = record t { tiles_media = put tiles_media_shape.key row t.tiles_media }
-with_link RowsMedia row t = record t { rows_media = put rows_media_shape.key row t.rows_media }
+with_link m row t = with_mapping_rows m (put (pair_shape m).key row (mapping_rows m t)) t
 
 abbrev pub is_pair : MappingRow → MappingRow → Bool
 is_pair a b = int_eq a.base_id b.base_id && int_eq a.related_id b.related_id
 
 -- the tables without the row of a link
 abbrev pub without_link : Mapping → MappingRow → Tables → Tables
-without_link TilesMedia row t = record t { tiles_media = filter (λ r. not (is_pair r row)) t.tiles_media }
-without_link RowsMedia row t = record t { rows_media = filter (λ r. not (is_pair r row)) t.rows_media }
+without_link m row t = with_mapping_rows m (filter (λ r. not (is_pair r row)) (mapping_rows m t)) t
 
 -- the identity row of a UUID
 abbrev pub IsRowOf : List ℕ → Tables → IdentityRow → Type 0
 IsRowOf id t r = Contains t.identities r × (bytes_eq r.uuid (uuid_text id) ≡ true)
-
--- a mapping row comes in, where no row has its ends
-abbrev pub AddsLink : Mapping → ℤ → ℤ → Tables → Tables → Type 0
-AddsLink TilesMedia base related before after = AddsTilesMedia (record { base_id = base; related_id = related }) before after
-AddsLink RowsMedia base related before after = AddsRowsMedia (record { base_id = base; related_id = related }) before after
-
--- the mapping row of these ends goes
-abbrev pub DropsLink : Mapping → ℤ → ℤ → Tables → Tables → Type 0
-DropsLink TilesMedia base related before after = DropsTilesMedia base related before after
-DropsLink RowsMedia base related before after = DropsRowsMedia base related before after
 
 -- ---- a free number
 

@@ -5,19 +5,17 @@ ghost use Rattle.sql_meaning.specs.Transactions.{Steps};
 ghost use Rattle.package_tables.specs.Calls.{OnTables, Answers};
 ghost use Rattle.identity_register.specs.Calls.{Becomes};
 ghost use Rattle.identity_register.specs.Changes.{IsLooseItem, item_deleted, IsNewLink, link_added, IsLink, link_removed};
-ghost use Rattle.identity_register.specs.Numbering.{IsRowOf, DropsContent, DropsRows, AddsLink, DropsLink};
+ghost use Rattle.identity_register.specs.Numbering.{IsRowOf, DropsContent, DropsRows};
 
 use crate::kinds::{MEDIUM, ROW, TILE};
 use package_tables::attributes::delete_attribute;
 use package_tables::fault::Fault;
 use package_tables::identities::{delete_identity, identity_by_uuid_inside};
-use package_tables::mappings::{
-    delete_rows_media, delete_tiles_media, insert_rows_media, insert_tiles_media,
-};
+use package_tables::mappings::{delete_pair, insert_pair};
 use package_tables::media::delete_medium;
 use package_tables::rows::IdentityRow;
 use package_tables::tiles::delete_tile;
-use sheet_types::command::{Mapping, Relation};
+use sheet_types::command::Relation;
 use sqlite::{Alter, Transaction};
 use uuid::Uuid;
 
@@ -71,38 +69,6 @@ pub fn delete<S: Alter>(tx: &mut Transaction<'_, S>, identity: Uuid) -> Result<(
     drop_rows(tx, row.kind, row.local_id)
 }
 
-/// Puts a mapping row in.
-fn put_pair<S: Alter>(
-    tx: &mut Transaction<'_, S>,
-    mapping: Mapping,
-    base: i64,
-    related: i64,
-) -> Result<(), Fault>
-    ensures same_reference { tx.new.conn.ghost_name ≡ tx.old.conn.ghost_name }
-    ensures steps { Steps (λ _. OnTables (AddsLink mapping base related)) (state S.Store tx.old.conn.now) (state S.Store tx.new.conn.now) result }
-{
-    match mapping {
-        Mapping::TilesMedia => insert_tiles_media(tx, base, related),
-        Mapping::RowsMedia => insert_rows_media(tx, base, related),
-    }
-}
-
-/// Takes a mapping row out.
-fn drop_pair<S: Alter>(
-    tx: &mut Transaction<'_, S>,
-    mapping: Mapping,
-    base: i64,
-    related: i64,
-) -> Result<(), Fault>
-    ensures same_reference { tx.new.conn.ghost_name ≡ tx.old.conn.ghost_name }
-    ensures steps { Steps (λ _. OnTables (DropsLink mapping base related)) (state S.Store tx.old.conn.now) (state S.Store tx.new.conn.now) result }
-{
-    match mapping {
-        Mapping::TilesMedia => delete_tiles_media(tx, base, related),
-        Mapping::RowsMedia => delete_rows_media(tx, base, related),
-    }
-}
-
 /// Links two items of the kinds that the mapping joins, which are not linked by it (OGC 18-000, user-defined mapping tables).
 ///
 /// # Errors
@@ -114,7 +80,7 @@ pub fn link<S: Alter>(tx: &mut Transaction<'_, S>, relation: Relation) -> Result
 {
     let base = row_of_item(tx, relation.base)?;
     let media = row_of_item(tx, relation.media)?;
-    put_pair(tx, relation.mapping, base.local_id, media.local_id)
+    insert_pair(tx, relation.mapping, base.local_id, media.local_id)
 }
 
 /// Takes a link out that is there.
@@ -128,5 +94,5 @@ pub fn unlink<S: Alter>(tx: &mut Transaction<'_, S>, relation: Relation) -> Resu
 {
     let base = row_of_item(tx, relation.base)?;
     let media = row_of_item(tx, relation.media)?;
-    drop_pair(tx, relation.mapping, base.local_id, media.local_id)
+    delete_pair(tx, relation.mapping, base.local_id, media.local_id)
 }

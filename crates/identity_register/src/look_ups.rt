@@ -12,19 +12,15 @@ ghost use Rattle.sheet_types.specs.Texts.{kind_of, uuid_text};
 ghost use Rattle.sheet_types.specs.World.{item_of, link_key, kind_number, is_item_kind};
 ghost use Rattle.sheet_types.specs.declared.receipt.MovedKind.{MovedKind};
 ghost use Rattle.package_tables.specs.Calls.{LooksUp, IsOneOf};
-ghost use Rattle.identity_register.specs.Answers.{is_linked_medium, is_linked_row, mapping_rows, are_ends, IsContentOf};
+ghost use Rattle.identity_register.specs.Answers.{is_linked_medium, is_linked_row, are_ends, IsContentOf};
 ghost use Rattle.identity_register.specs.Calls.{Sees};
-ghost use Rattle.identity_register.specs.Numbering.{is_pair};
 
 use crate::kinds::{MEDIUM, ROW, TILE};
 use crate::row_contents::{of_attributes, of_medium, of_tile};
 use package_tables::attributes::attribute_by_id;
 use package_tables::fault::Fault;
 use package_tables::identities::identity_by_uuid;
-use package_tables::mappings::{
-    rows_media_of_base, rows_media_of_pair, rows_media_of_related, tiles_media_of_base,
-    tiles_media_of_pair, tiles_media_of_related,
-};
+use package_tables::mappings::{pair_of_base, pair_of_ends, pair_of_related};
 use package_tables::media::medium_by_id;
 use package_tables::rows::IdentityRow;
 use package_tables::tiles::{tile_at, tile_by_id};
@@ -98,28 +94,6 @@ fn are_ends(mapping: Mapping, base: i64, other: i64) -> bool
     }
 }
 
-/// Whether the table of the mapping relates the rows of these numbers.
-fn has_pair<S: Alter>(
-    conn: &mut Connection<S>,
-    mapping: Mapping,
-    base: i64,
-    other: i64,
-) -> Result<bool, Fault>
-    requires { Rests (state S.Store conn.old) }
-    ensures { LooksUp (λ t found. found ≡ list_any (λ r. is_pair r (record { base_id = base; related_id = other })) (mapping_rows mapping t)) (state S.Store conn.old) (state S.Store conn.new) result }
-{
-    match mapping {
-        Mapping::TilesMedia => {
-            let found = tiles_media_of_pair(conn, base, other)?;
-            Ok(found.is_some())
-        }
-        Mapping::RowsMedia => {
-            let found = rows_media_of_pair(conn, base, other)?;
-            Ok(found.is_some())
-        }
-    }
-}
-
 /// Whether the package has this link.
 pub fn has_link<S: Alter>(conn: &mut Connection<S>, relation: Relation) -> Result<bool, Fault>
     requires { Rests (state S.Store conn.old) }
@@ -134,7 +108,8 @@ pub fn has_link<S: Alter>(conn: &mut Connection<S>, relation: Relation) -> Resul
     if !are_ends(relation.mapping, base.kind, other.kind) {
         return Ok(false);
     }
-    has_pair(conn, relation.mapping, base.local_id, other.local_id)
+    let found = pair_of_ends(conn, relation.mapping, base.local_id, other.local_id)?;
+    Ok(found.is_some())
 }
 
 /// Whether a mapping table names the medium of this number.
@@ -142,8 +117,8 @@ fn medium_is_linked<S: Alter>(conn: &mut Connection<S>, number: i64) -> Result<b
     requires { Rests (state S.Store conn.old) }
     ensures { LooksUp (λ t found. found ≡ is_linked_medium number t) (state S.Store conn.old) (state S.Store conn.new) result }
 {
-    let to_tile = tiles_media_of_related(conn, number)?;
-    let to_row = rows_media_of_related(conn, number)?;
+    let to_tile = pair_of_related(conn, Mapping::TilesMedia, number)?;
+    let to_row = pair_of_related(conn, Mapping::RowsMedia, number)?;
     Ok(to_tile.is_some() || to_row.is_some())
 }
 
@@ -154,12 +129,12 @@ fn row_is_linked<S: Alter>(conn: &mut Connection<S>, kind: i64, number: i64) -> 
 {
     match kind {
         TILE => {
-            let found = tiles_media_of_base(conn, number)?;
+            let found = pair_of_base(conn, Mapping::TilesMedia, number)?;
             Ok(found.is_some())
         }
         MEDIUM => medium_is_linked(conn, number),
         _ => {
-            let found = rows_media_of_base(conn, number)?;
+            let found = pair_of_base(conn, Mapping::RowsMedia, number)?;
             Ok(found.is_some())
         }
     }

@@ -18,7 +18,7 @@ use crate::row_contents::{of_attributes, of_medium, of_tile};
 use package_tables::attributes::all_attributes;
 use package_tables::fault::Fault;
 use package_tables::identities::all_identities;
-use package_tables::mappings::{all_rows_media, all_tiles_media};
+use package_tables::mappings::all_pairs;
 use package_tables::media::all_media;
 use package_tables::rows::{AttributeRow, IdentityRow, MappingRow, MediaRow, TileRow};
 use package_tables::tiles::all_tiles;
@@ -234,8 +234,8 @@ fn links_by<S: Alter>(
     requires { Rests (state S.Store conn.old) }
     ensures { LooksUp (λ t found. AreLinksBy rows.now t found.items) (state S.Store conn.old) (state S.Store conn.new) result }
 {
-    let of_tiles = all_tiles_media(conn, alloc)?;
-    let of_rows = all_rows_media(conn, alloc)?;
+    let of_tiles = all_pairs(conn, Mapping::TilesMedia, alloc)?;
+    let of_rows = all_pairs(conn, Mapping::RowsMedia, alloc)?;
     let mut links = links_of(Mapping::TilesMedia, rows, &of_tiles, alloc)?;
     let others = links_of(Mapping::RowsMedia, rows, &of_rows, alloc)?;
     links.extend_from_slice(&others)?;

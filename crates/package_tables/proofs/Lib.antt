@@ -11,6 +11,7 @@ pub mod MediumStatements
 pub mod AttributeStatements
 pub mod TilesMediaStatements
 pub mod RowsMediaStatements
+pub mod Pairs
 pub mod IdentityStatements
 pub mod Changing
 pub mod ReceiptStatements

@@ -42,9 +42,9 @@ delete_plan tree schema at h = rw (h.stored, h.by_tree) refl
 pub known : IsKnown tiles_media_shape (λ t. t.tiles_media) mapping_shown
 known = record { laws = tiles_media_shape_is; formed = λ db f. f.tiles_media; lists = λ db. refl; back = λ r. record { base_id = int_at r 0; related_id = int_at r 1 }; returns = λ x. refl }
 
-tiles_media_of_pair_text : (tree : ℕ) → IsSelect (codes "SELECT * FROM tiles_media WHERE base_id = ?1 AND related_id = ?2") (tiles_media tree) (both (equals 0 0) (equals 1 1)) []
+of_ends_text : (tree : ℕ) → IsSelect (codes "SELECT * FROM tiles_media WHERE base_id = ?1 AND related_id = ?2") (tiles_media tree) (both (equals 0 0) (equals 1 1)) []
 unfolding everything
-tiles_media_of_pair_text tree = record {
+of_ends_text tree = record {
   parse = _;
   asks = _;
   src = _;
@@ -60,16 +60,16 @@ tiles_media_of_pair_text tree = record {
   sorted = λ schema at. (_, refl, refl);
 }
 
-tiles_media_of_pair_plan : (tree : ℕ) → IsPlannedSelect (tiles_media tree) (both (equals 0 0) (equals 1 1)) []
+of_ends_plan : (tree : ℕ) → IsPlannedSelect (tiles_media tree) (both (equals 0 0) (equals 1 1)) []
 unfolding resolving
-tiles_media_of_pair_plan tree schema at h = rw (h.stored, h.by_tree) refl
+of_ends_plan tree schema at h = rw (h.stored, h.by_tree) refl
 
-pub tiles_media_of_pair : (base_id : ℤ) (related_id : ℤ) → IsRead tiles_media_shape mapping_shown (codes "SELECT * FROM tiles_media WHERE base_id = ?1 AND related_id = ?2") (Int base_id ∷ Int related_id ∷ []) (λ x. int_eq x.base_id base_id && int_eq x.related_id related_id)
-tiles_media_of_pair base_id related_id = record { test = _; by = _; selects = tiles_media_of_pair_text; planned = tiles_media_of_pair_plan; given = refl; listing = _; is = λ tree. refl; shows = λ v x. refl; passing = λ v x. (both_same (same_number x.base_id base_id) (same_number x.related_id related_id)) }
+pub of_ends : (base_id : ℤ) (related_id : ℤ) → IsRead tiles_media_shape mapping_shown (codes "SELECT * FROM tiles_media WHERE base_id = ?1 AND related_id = ?2") (Int base_id ∷ Int related_id ∷ []) (λ x. int_eq x.base_id base_id && int_eq x.related_id related_id)
+of_ends base_id related_id = record { test = _; by = _; selects = of_ends_text; planned = of_ends_plan; given = refl; listing = _; is = λ tree. refl; shows = λ v x. refl; passing = λ v x. (both_same (same_number x.base_id base_id) (same_number x.related_id related_id)) }
 
-tiles_media_of_base_text : (tree : ℕ) → IsSelect (codes "SELECT * FROM tiles_media WHERE base_id = ?1") (tiles_media tree) (equals 0 0) []
+of_base_text : (tree : ℕ) → IsSelect (codes "SELECT * FROM tiles_media WHERE base_id = ?1") (tiles_media tree) (equals 0 0) []
 unfolding everything
-tiles_media_of_base_text tree = record {
+of_base_text tree = record {
   parse = _;
   asks = _;
   src = _;
@@ -85,16 +85,16 @@ tiles_media_of_base_text tree = record {
   sorted = λ schema at. (_, refl, refl);
 }
 
-tiles_media_of_base_plan : (tree : ℕ) → IsPlannedSelect (tiles_media tree) (equals 0 0) []
+of_base_plan : (tree : ℕ) → IsPlannedSelect (tiles_media tree) (equals 0 0) []
 unfolding resolving
-tiles_media_of_base_plan tree schema at h = rw (h.stored, h.by_tree) refl
+of_base_plan tree schema at h = rw (h.stored, h.by_tree) refl
 
-pub tiles_media_of_base : (base_id : ℤ) → IsRead tiles_media_shape mapping_shown (codes "SELECT * FROM tiles_media WHERE base_id = ?1") (Int base_id ∷ []) (λ x. int_eq x.base_id base_id)
-tiles_media_of_base base_id = record { test = _; by = _; selects = tiles_media_of_base_text; planned = tiles_media_of_base_plan; given = refl; listing = _; is = λ tree. refl; shows = λ v x. refl; passing = λ v x. (same_number x.base_id base_id) }
+pub of_base : (base_id : ℤ) → IsRead tiles_media_shape mapping_shown (codes "SELECT * FROM tiles_media WHERE base_id = ?1") (Int base_id ∷ []) (λ x. int_eq x.base_id base_id)
+of_base base_id = record { test = _; by = _; selects = of_base_text; planned = of_base_plan; given = refl; listing = _; is = λ tree. refl; shows = λ v x. refl; passing = λ v x. (same_number x.base_id base_id) }
 
-tiles_media_of_related_text : (tree : ℕ) → IsSelect (codes "SELECT * FROM tiles_media WHERE related_id = ?1") (tiles_media tree) (equals 1 0) []
+of_related_text : (tree : ℕ) → IsSelect (codes "SELECT * FROM tiles_media WHERE related_id = ?1") (tiles_media tree) (equals 1 0) []
 unfolding everything
-tiles_media_of_related_text tree = record {
+of_related_text tree = record {
   parse = _;
   asks = _;
   src = _;
@@ -110,12 +110,12 @@ tiles_media_of_related_text tree = record {
   sorted = λ schema at. (_, refl, refl);
 }
 
-tiles_media_of_related_plan : (tree : ℕ) → IsPlannedSelect (tiles_media tree) (equals 1 0) []
+of_related_plan : (tree : ℕ) → IsPlannedSelect (tiles_media tree) (equals 1 0) []
 unfolding resolving
-tiles_media_of_related_plan tree schema at h = rw (h.stored, h.by_tree) refl
+of_related_plan tree schema at h = rw (h.stored, h.by_tree) refl
 
-pub tiles_media_of_related : (related_id : ℤ) → IsRead tiles_media_shape mapping_shown (codes "SELECT * FROM tiles_media WHERE related_id = ?1") (Int related_id ∷ []) (λ x. int_eq x.related_id related_id)
-tiles_media_of_related related_id = record { test = _; by = _; selects = tiles_media_of_related_text; planned = tiles_media_of_related_plan; given = refl; listing = _; is = λ tree. refl; shows = λ v x. refl; passing = λ v x. (same_number x.related_id related_id) }
+pub of_related : (related_id : ℤ) → IsRead tiles_media_shape mapping_shown (codes "SELECT * FROM tiles_media WHERE related_id = ?1") (Int related_id ∷ []) (λ x. int_eq x.related_id related_id)
+of_related related_id = record { test = _; by = _; selects = of_related_text; planned = of_related_plan; given = refl; listing = _; is = λ tree. refl; shows = λ v x. refl; passing = λ v x. (same_number x.related_id related_id) }
 
 all_text : (tree : ℕ) → IsSelect (codes "SELECT * FROM tiles_media ORDER BY base_id, related_id") (tiles_media tree) always ((col 1 1, ascending) ∷ (col 1 2, ascending) ∷ [])
 unfolding everything

@@ -2,8 +2,10 @@
 use Rattle.std.specs.Prelude.{◌≡◌, ◌&&◌, ℤ, false, not, filter}
 use Rattle.std.specs.Ordering.{int_eq}
 use Rattle.sheet_types.specs.Ordered.{put, has}
-use Rattle.package_tables.specs.Shapes.{tile_shape, medium_shape, attribute_shape, tiles_media_shape, rows_media_shape, identity_shape}
+use Rattle.sheet_types.specs.declared.command.Mapping.{Mapping}
+use Rattle.package_tables.specs.Shapes.{tile_shape, medium_shape, attribute_shape, identity_shape}
 use Rattle.package_tables.specs.Package.{Tables}
+use Rattle.package_tables.specs.Mappings.{pair_shape, mapping_rows, with_mapping_rows}
 use Rattle.package_tables.specs.declared.rows.AttributeRow.{AttributeRow}
 use Rattle.package_tables.specs.declared.rows.IdentityRow.{IdentityRow}
 use Rattle.package_tables.specs.declared.rows.MappingRow.{MappingRow}
@@ -30,17 +32,12 @@ AddsAttribute row before after = has attribute_shape.key (attribute_shape.key ro
 abbrev pub DropsAttribute : ℤ → Tables → Tables → Type 0
 DropsAttribute id before after = after ≡ record before { rows = filter (λ x. not (int_eq x.id id)) before.rows }
 
-abbrev pub AddsTilesMedia : MappingRow → Tables → Tables → Type 0
-AddsTilesMedia row before after = has tiles_media_shape.key (tiles_media_shape.key row) before.tiles_media ≡ false → after ≡ record before { tiles_media = put tiles_media_shape.key row before.tiles_media }
+-- a pair is a row of a mapping's table
+abbrev pub AddsPair : Mapping → MappingRow → Tables → Tables → Type 0
+AddsPair m row before after = has (pair_shape m).key ((pair_shape m).key row) (mapping_rows m before) ≡ false → after ≡ with_mapping_rows m (put (pair_shape m).key row (mapping_rows m before)) before
 
-abbrev pub DropsTilesMedia : ℤ → ℤ → Tables → Tables → Type 0
-DropsTilesMedia base_id related_id before after = after ≡ record before { tiles_media = filter (λ x. not (int_eq x.base_id base_id && int_eq x.related_id related_id)) before.tiles_media }
-
-abbrev pub AddsRowsMedia : MappingRow → Tables → Tables → Type 0
-AddsRowsMedia row before after = has rows_media_shape.key (rows_media_shape.key row) before.rows_media ≡ false → after ≡ record before { rows_media = put rows_media_shape.key row before.rows_media }
-
-abbrev pub DropsRowsMedia : ℤ → ℤ → Tables → Tables → Type 0
-DropsRowsMedia base_id related_id before after = after ≡ record before { rows_media = filter (λ x. not (int_eq x.base_id base_id && int_eq x.related_id related_id)) before.rows_media }
+abbrev pub DropsPair : Mapping → ℤ → ℤ → Tables → Tables → Type 0
+DropsPair m base_id related_id before after = after ≡ with_mapping_rows m (filter (λ x. not (int_eq x.base_id base_id && int_eq x.related_id related_id)) (mapping_rows m before)) before
 
 abbrev pub AddsIdentity : IdentityRow → Tables → Tables → Type 0
 AddsIdentity row before after = has identity_shape.key (identity_shape.key row) before.identities ≡ false → after ≡ record before { identities = put identity_shape.key row before.identities }

@@ -3,6 +3,7 @@ pub mod Form
 pub mod Shape
 pub mod Shapes
 pub mod Package
+pub mod Mappings
 pub mod Faults
 pub mod Calls
 pub mod Changes

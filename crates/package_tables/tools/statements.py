@@ -8,6 +8,8 @@ import os
 # whether its key is the rowid, its columns, the columns by which all rows are read, and its statements:
 #   deletes: (function, columns)      finds: (statement, columns, forms)      alls: function
 # The form of a find at rest has the name of its statement; the one inside a transaction has `_inside` after it.
+# The mapping tables have no functions here, but the facts alone: each function of src/mappings.rt serves both, and its
+# answers, which cite the facts of both by proofs/Mappings.antt, are written by hand.
 INT, TEXT, BLOB = "int", "text", "blob"
 REST, INSIDE = "", "_inside"
 TABLES = [
@@ -20,14 +22,14 @@ TABLES = [
     dict(file="AttributeStatements", module="attributes", list="rows", shape="attribute_shape", table="sheet_rows", row="AttributeRow", shown="attribute_shown", change="Attribute", keyed=True,
          columns=[("id", INT), ("x", INT), ("y", INT), ("code", INT), ("label", TEXT)], by=["id"],
          insert="insert_attribute", delete=("delete_attribute", ["id"]), finds=[("attribute_by_id", ["id"], [REST])], all="all_attributes", greatest="greatest_attribute_id"),
-    dict(file="TilesMediaStatements", module="mappings", list="tiles_media", shape="tiles_media_shape", table="tiles_media", row="MappingRow", shown="mapping_shown", change="TilesMedia", keyed=False,
+    dict(file="TilesMediaStatements", list="tiles_media", shape="tiles_media_shape", table="tiles_media", row="MappingRow", shown="mapping_shown", keyed=False,
          columns=[("base_id", INT), ("related_id", INT)], by=["base_id", "related_id"],
-         insert="insert_tiles_media", delete=("delete_tiles_media", ["base_id", "related_id"]),
-         finds=[("tiles_media_of_pair", ["base_id", "related_id"], [REST]), ("tiles_media_of_base", ["base_id"], [REST]), ("tiles_media_of_related", ["related_id"], [REST])], all="all_tiles_media"),
-    dict(file="RowsMediaStatements", module="mappings", list="rows_media", shape="rows_media_shape", table="rows_media", row="MappingRow", shown="mapping_shown", change="RowsMedia", keyed=False,
+         delete=(None, ["base_id", "related_id"]),
+         finds=[("of_ends", ["base_id", "related_id"], []), ("of_base", ["base_id"], []), ("of_related", ["related_id"], [])]),
+    dict(file="RowsMediaStatements", list="rows_media", shape="rows_media_shape", table="rows_media", row="MappingRow", shown="mapping_shown", keyed=False,
          columns=[("base_id", INT), ("related_id", INT)], by=["base_id", "related_id"],
-         insert="insert_rows_media", delete=("delete_rows_media", ["base_id", "related_id"]),
-         finds=[("rows_media_of_pair", ["base_id", "related_id"], [REST]), ("rows_media_of_base", ["base_id"], [REST]), ("rows_media_of_related", ["related_id"], [REST])], all="all_rows_media"),
+         delete=(None, ["base_id", "related_id"]),
+         finds=[("of_ends", ["base_id", "related_id"], []), ("of_base", ["base_id"], []), ("of_related", ["related_id"], [])]),
     dict(file="IdentityStatements", module="identities", list="identities", shape="identity_shape", table="sheet_identity", row="IdentityRow", shown="identity_shown", change="Identity", keyed=False,
          columns=[("kind", INT), ("local_id", INT), ("uuid", TEXT)], by=["kind", "local_id"],
          insert="insert_identity", delete=("delete_identity", ["kind", "local_id"]),
@@ -407,6 +409,8 @@ def write(path, lines):
 def main():
     for t in TABLES:
         write("proofs/%s.antt" % t["file"], statements(t))
+        if "module" not in t:
+            continue
         folder = "proofs/%s/" % t["module"]
         write(folder + t["insert"] + "/Answers.antt", insert_answer(t))
         write(folder + t["delete"][0] + "/Answers.antt", delete_answer(t))

@@ -7,7 +7,7 @@ use identity_register::look_ups::find;
 use package_tables::attributes::{all_attributes, insert_attribute};
 use package_tables::fault::Fault;
 use package_tables::identities::{all_identities, insert_identity};
-use package_tables::mappings::{all_rows_media, all_tiles_media};
+use package_tables::mappings::all_pairs;
 use package_tables::media::{all_media, insert_medium};
 use package_tables::schema::create_schema;
 use package_tables::tiles::{all_tiles, insert_tile};
@@ -215,23 +215,16 @@ fn attributes<S: Alter>(alloc: Global, conn: &mut Connection<S>) -> Result<Strin
     Ok(told)
 }
 
-fn tiles_media<S: Alter>(alloc: Global, conn: &mut Connection<S>) -> Result<String, Fault> {
+fn pairs<S: Alter>(
+    alloc: Global,
+    conn: &mut Connection<S>,
+    mapping: Mapping,
+) -> Result<String, Fault> {
     if !is_at_rest(conn) {
         return Err(Fault::StoreFault);
     }
     let mut told = String::new(alloc);
-    for row in all_tiles_media(conn, alloc)? {
-        told.push_str(format!(in alloc; "{} {};", row.base_id, row.related_id)?.as_str())?;
-    }
-    Ok(told)
-}
-
-fn rows_media<S: Alter>(alloc: Global, conn: &mut Connection<S>) -> Result<String, Fault> {
-    if !is_at_rest(conn) {
-        return Err(Fault::StoreFault);
-    }
-    let mut told = String::new(alloc);
-    for row in all_rows_media(conn, alloc)? {
+    for row in all_pairs(conn, mapping, alloc)? {
         told.push_str(format!(in alloc; "{} {};", row.base_id, row.related_id)?.as_str())?;
     }
     Ok(told)
@@ -276,16 +269,16 @@ fn a_link_comes_and_goes(rt: HostRuntime) -> Result<(), Fail> {
     let conn = &mut conn;
     assert!(rt; filled(conn)?);
     assert!(rt; linked(conn, tile_to_medium())?);
-    assert_eq!(rt; tiles_media(a, conn)?.as_str(), "7 4;");
-    assert_eq!(rt; rows_media(a, conn)?.as_str(), "");
+    assert_eq!(rt; pairs(a, conn, Mapping::TilesMedia)?.as_str(), "7 4;");
+    assert_eq!(rt; pairs(a, conn, Mapping::RowsMedia)?.as_str(), "");
     assert!(rt; linked(conn, row_to_medium())?);
-    assert_eq!(rt; tiles_media(a, conn)?.as_str(), "7 4;");
-    assert_eq!(rt; rows_media(a, conn)?.as_str(), "3 7;");
+    assert_eq!(rt; pairs(a, conn, Mapping::TilesMedia)?.as_str(), "7 4;");
+    assert_eq!(rt; pairs(a, conn, Mapping::RowsMedia)?.as_str(), "3 7;");
     assert!(rt; unlinked(conn, tile_to_medium())?);
-    assert_eq!(rt; tiles_media(a, conn)?.as_str(), "");
-    assert_eq!(rt; rows_media(a, conn)?.as_str(), "3 7;");
+    assert_eq!(rt; pairs(a, conn, Mapping::TilesMedia)?.as_str(), "");
+    assert_eq!(rt; pairs(a, conn, Mapping::RowsMedia)?.as_str(), "3 7;");
     assert!(rt; unlinked(conn, row_to_medium())?);
-    assert_eq!(rt; rows_media(a, conn)?.as_str(), "");
+    assert_eq!(rt; pairs(a, conn, Mapping::RowsMedia)?.as_str(), "");
     assert_eq!(rt; identities(a, conn)?.as_str(), "1 7;1 9;2 4;2 7;3 3;");
     Ok(())
 }

@@ -10,9 +10,7 @@ use package_tables::identities::{
     identity_by_uuid_inside, insert_identity,
 };
 use package_tables::mappings::{
-    all_rows_media, all_tiles_media, delete_rows_media, delete_tiles_media, insert_rows_media,
-    insert_tiles_media, rows_media_of_base, rows_media_of_pair, rows_media_of_related,
-    tiles_media_of_base, tiles_media_of_pair, tiles_media_of_related,
+    all_pairs, delete_pair, insert_pair, pair_of_base, pair_of_ends, pair_of_related,
 };
 use package_tables::media::{
     all_media, delete_medium, greatest_medium_id, insert_medium, medium_by_id,
@@ -22,10 +20,15 @@ use package_tables::schema::create_schema;
 use package_tables::tiles::{
     all_tiles, delete_tile, greatest_tile_id, insert_tile, tile_at, tile_by_id,
 };
+use sheet_types::command::Mapping;
 use sql_meaning::resting::is_at_rest;
 use sqlite::{Alter, Connection, Transaction};
 use std::alloc::{AllocError, Global};
 use std::test::Fail;
+
+const OF_TILES: Mapping = Mapping::TilesMedia;
+
+const OF_ROWS: Mapping = Mapping::RowsMedia;
 
 const FIRST: &str = "00000000-0000-4000-8000-000000000001";
 
@@ -70,7 +73,7 @@ fn attribute(alloc: Global, row: Option<AttributeRow>) -> Result<String, AllocEr
     }
 }
 
-fn mapping(alloc: Global, row: Option<MappingRow>) -> Result<String, AllocError> {
+fn pair(alloc: Global, row: Option<MappingRow>) -> Result<String, AllocError> {
     match row {
         None => format!(in alloc; "-"),
         Some(m) => format!(in alloc; "{} {}", m.base_id, m.related_id),
@@ -102,10 +105,10 @@ fn fill_attributes<S: Alter>(tx: &mut Transaction<'_, S>) -> Result<(), Fault> {
 }
 
 fn fill_mappings<S: Alter>(tx: &mut Transaction<'_, S>) -> Result<(), Fault> {
-    insert_tiles_media(tx, 7, 4)?;
-    insert_tiles_media(tx, 9, 5)?;
-    insert_rows_media(tx, 2, 5)?;
-    insert_rows_media(tx, 3, 4)
+    insert_pair(tx, OF_TILES, 7, 4)?;
+    insert_pair(tx, OF_TILES, 9, 5)?;
+    insert_pair(tx, OF_ROWS, 2, 5)?;
+    insert_pair(tx, OF_ROWS, 3, 4)
 }
 
 fn fill_identities<S: Alter>(tx: &mut Transaction<'_, S>) -> Result<(), Fault> {
@@ -125,8 +128,8 @@ fn fill_ends<S: Alter>(tx: &mut Transaction<'_, S>) -> Result<(), Fault> {
 
 fn link_ends<S: Alter>(tx: &mut Transaction<'_, S>) -> Result<(), Fault> {
     let most = i64::MAX;
-    insert_tiles_media(tx, most, 0)?;
-    insert_rows_media(tx, 0, 0)?;
+    insert_pair(tx, OF_TILES, most, 0)?;
+    insert_pair(tx, OF_ROWS, 0, 0)?;
     insert_identity(tx, 1, most, FIRST)?;
     insert_identity(tx, 3, 0, SECOND)
 }
@@ -136,8 +139,8 @@ fn empty_ends<S: Alter>(tx: &mut Transaction<'_, S>) -> Result<(), Fault> {
     delete_tile(tx, -1)?;
     delete_medium(tx, i64::MAX)?;
     delete_attribute(tx, 1)?;
-    delete_tiles_media(tx, 0, 0)?;
-    delete_rows_media(tx, 0, 1)?;
+    delete_pair(tx, OF_TILES, 0, 0)?;
+    delete_pair(tx, OF_ROWS, 0, 1)?;
     delete_identity(tx, 2, 0)
 }
 
@@ -148,8 +151,8 @@ fn empty<S: Alter>(tx: &mut Transaction<'_, S>) -> Result<(), Fault> {
 }
 
 fn unlink<S: Alter>(tx: &mut Transaction<'_, S>) -> Result<(), Fault> {
-    delete_tiles_media(tx, 9, 5)?;
-    delete_rows_media(tx, 3, 4)?;
+    delete_pair(tx, OF_TILES, 9, 5)?;
+    delete_pair(tx, OF_ROWS, 3, 4)?;
     delete_identity(tx, 2, 7)
 }
 
@@ -279,96 +282,54 @@ fn told_all_attributes<S: Alter>(alloc: Global, conn: &mut Connection<S>) -> Res
     Ok(told)
 }
 
-fn told_tiles_media_of_pair<S: Alter>(
+fn told_pair_of_ends<S: Alter>(
     alloc: Global,
     conn: &mut Connection<S>,
+    mapping: Mapping,
     base_id: i64,
     related_id: i64,
 ) -> Result<String, Fault> {
     if !is_at_rest(conn) {
         return Err(Fault::StoreFault);
     }
-    Ok(mapping(alloc, tiles_media_of_pair(conn, base_id, related_id)?)?)
+    Ok(pair(alloc, pair_of_ends(conn, mapping, base_id, related_id)?)?)
 }
 
-fn told_tiles_media_of_base<S: Alter>(
+fn told_pair_of_base<S: Alter>(
     alloc: Global,
     conn: &mut Connection<S>,
+    mapping: Mapping,
     base_id: i64,
 ) -> Result<String, Fault> {
     if !is_at_rest(conn) {
         return Err(Fault::StoreFault);
     }
-    Ok(mapping(alloc, tiles_media_of_base(conn, base_id)?)?)
+    Ok(pair(alloc, pair_of_base(conn, mapping, base_id)?)?)
 }
 
-fn told_tiles_media_of_related<S: Alter>(
+fn told_pair_of_related<S: Alter>(
     alloc: Global,
     conn: &mut Connection<S>,
+    mapping: Mapping,
     related_id: i64,
 ) -> Result<String, Fault> {
     if !is_at_rest(conn) {
         return Err(Fault::StoreFault);
     }
-    Ok(mapping(alloc, tiles_media_of_related(conn, related_id)?)?)
+    Ok(pair(alloc, pair_of_related(conn, mapping, related_id)?)?)
 }
 
-fn told_all_tiles_media<S: Alter>(
+fn told_all_pairs<S: Alter>(
     alloc: Global,
     conn: &mut Connection<S>,
+    mapping: Mapping,
 ) -> Result<String, Fault> {
     if !is_at_rest(conn) {
         return Err(Fault::StoreFault);
     }
     let mut told = String::new(alloc);
-    for row in all_tiles_media(conn, alloc)? {
-        told.push_str(mapping(alloc, Some(row))?.as_str())?;
-        told.push(';')?;
-    }
-    Ok(told)
-}
-
-fn told_rows_media_of_pair<S: Alter>(
-    alloc: Global,
-    conn: &mut Connection<S>,
-    base_id: i64,
-    related_id: i64,
-) -> Result<String, Fault> {
-    if !is_at_rest(conn) {
-        return Err(Fault::StoreFault);
-    }
-    Ok(mapping(alloc, rows_media_of_pair(conn, base_id, related_id)?)?)
-}
-
-fn told_rows_media_of_base<S: Alter>(
-    alloc: Global,
-    conn: &mut Connection<S>,
-    base_id: i64,
-) -> Result<String, Fault> {
-    if !is_at_rest(conn) {
-        return Err(Fault::StoreFault);
-    }
-    Ok(mapping(alloc, rows_media_of_base(conn, base_id)?)?)
-}
-
-fn told_rows_media_of_related<S: Alter>(
-    alloc: Global,
-    conn: &mut Connection<S>,
-    related_id: i64,
-) -> Result<String, Fault> {
-    if !is_at_rest(conn) {
-        return Err(Fault::StoreFault);
-    }
-    Ok(mapping(alloc, rows_media_of_related(conn, related_id)?)?)
-}
-
-fn told_all_rows_media<S: Alter>(alloc: Global, conn: &mut Connection<S>) -> Result<String, Fault> {
-    if !is_at_rest(conn) {
-        return Err(Fault::StoreFault);
-    }
-    let mut told = String::new(alloc);
-    for row in all_rows_media(conn, alloc)? {
-        told.push_str(mapping(alloc, Some(row))?.as_str())?;
+    for row in all_pairs(conn, mapping, alloc)? {
+        told.push_str(pair(alloc, Some(row))?.as_str())?;
         told.push(';')?;
     }
     Ok(told)
@@ -499,19 +460,19 @@ fn relations_are_found(rt: HostRuntime) -> Result<(), Fail> {
     let mut conn = Connection::open_in_memory(a)?;
     let conn = &mut conn;
     assert!(rt; filled(conn)?);
-    assert_eq!(rt; told_tiles_media_of_pair(a, conn, 7, 4)?.as_str(), "7 4");
-    assert_eq!(rt; told_tiles_media_of_pair(a, conn, 7, 5)?.as_str(), "-");
-    assert_eq!(rt; told_tiles_media_of_pair(a, conn, 4, 7)?.as_str(), "-");
-    assert_eq!(rt; told_tiles_media_of_base(a, conn, 9)?.as_str(), "9 5");
-    assert_eq!(rt; told_tiles_media_of_related(a, conn, 4)?.as_str(), "7 4");
-    assert_eq!(rt; told_tiles_media_of_related(a, conn, 5)?.as_str(), "9 5");
-    assert_eq!(rt; told_tiles_media_of_related(a, conn, 9)?.as_str(), "-");
-    assert_eq!(rt; told_all_tiles_media(a, conn)?.as_str(), "7 4;9 5;");
-    assert_eq!(rt; told_rows_media_of_pair(a, conn, 2, 5)?.as_str(), "2 5");
-    assert_eq!(rt; told_rows_media_of_pair(a, conn, 5, 2)?.as_str(), "-");
-    assert_eq!(rt; told_rows_media_of_base(a, conn, 3)?.as_str(), "3 4");
-    assert_eq!(rt; told_rows_media_of_related(a, conn, 5)?.as_str(), "2 5");
-    assert_eq!(rt; told_all_rows_media(a, conn)?.as_str(), "2 5;3 4;");
+    assert_eq!(rt; told_pair_of_ends(a, conn, OF_TILES, 7, 4)?.as_str(), "7 4");
+    assert_eq!(rt; told_pair_of_ends(a, conn, OF_TILES, 7, 5)?.as_str(), "-");
+    assert_eq!(rt; told_pair_of_ends(a, conn, OF_TILES, 4, 7)?.as_str(), "-");
+    assert_eq!(rt; told_pair_of_base(a, conn, OF_TILES, 9)?.as_str(), "9 5");
+    assert_eq!(rt; told_pair_of_related(a, conn, OF_TILES, 4)?.as_str(), "7 4");
+    assert_eq!(rt; told_pair_of_related(a, conn, OF_TILES, 5)?.as_str(), "9 5");
+    assert_eq!(rt; told_pair_of_related(a, conn, OF_TILES, 9)?.as_str(), "-");
+    assert_eq!(rt; told_all_pairs(a, conn, OF_TILES)?.as_str(), "7 4;9 5;");
+    assert_eq!(rt; told_pair_of_ends(a, conn, OF_ROWS, 2, 5)?.as_str(), "2 5");
+    assert_eq!(rt; told_pair_of_ends(a, conn, OF_ROWS, 5, 2)?.as_str(), "-");
+    assert_eq!(rt; told_pair_of_base(a, conn, OF_ROWS, 3)?.as_str(), "3 4");
+    assert_eq!(rt; told_pair_of_related(a, conn, OF_ROWS, 5)?.as_str(), "2 5");
+    assert_eq!(rt; told_all_pairs(a, conn, OF_ROWS)?.as_str(), "2 5;3 4;");
     Ok(())
 }
 
@@ -550,8 +511,8 @@ fn one_row_of_each_table_goes(rt: HostRuntime) -> Result<(), Fail> {
     assert_eq!(rt; told_all_tiles(a, conn)?.as_str(), "7 2 3 1 2;");
     assert_eq!(rt; told_all_media(a, conn)?.as_str(), "4 3 image/png;");
     assert_eq!(rt; told_all_attributes(a, conn)?.as_str(), "2 100 -7 31 well;");
-    assert_eq!(rt; told_all_tiles_media(a, conn)?.as_str(), "7 4;");
-    assert_eq!(rt; told_all_rows_media(a, conn)?.as_str(), "2 5;");
+    assert_eq!(rt; told_all_pairs(a, conn, OF_TILES)?.as_str(), "7 4;");
+    assert_eq!(rt; told_all_pairs(a, conn, OF_ROWS)?.as_str(), "2 5;");
     assert_eq!(rt;
         told_all_identities(a, conn)?.as_str(),
         "1 7 00000000-0000-4000-8000-000000000001;"
@@ -582,10 +543,10 @@ fn the_least_and_the_greatest_rows_are_found(rt: HostRuntime) -> Result<(), Fail
         "9223372036854775807 0 0 9223372036854775807 "
     );
     assert_eq!(rt;
-        told_tiles_media_of_base(a, conn, i64::MAX)?.as_str(),
+        told_pair_of_base(a, conn, OF_TILES, i64::MAX)?.as_str(),
         "9223372036854775807 0"
     );
-    assert_eq!(rt; told_rows_media_of_pair(a, conn, 0, 0)?.as_str(), "0 0");
+    assert_eq!(rt; told_pair_of_ends(a, conn, OF_ROWS, 0, 0)?.as_str(), "0 0");
     assert_eq!(rt;
         told_identity_by_key(a, conn, 1, i64::MAX)?.as_str(),
         "1 9223372036854775807 00000000-0000-4000-8000-000000000001"
@@ -610,8 +571,8 @@ fn tables_without_rows_are_read(rt: HostRuntime) -> Result<(), Fail> {
     assert_eq!(rt; told_all_tiles(a, conn)?.as_str(), "");
     assert_eq!(rt; told_all_media(a, conn)?.as_str(), "");
     assert_eq!(rt; told_all_attributes(a, conn)?.as_str(), "");
-    assert_eq!(rt; told_all_tiles_media(a, conn)?.as_str(), "");
-    assert_eq!(rt; told_all_rows_media(a, conn)?.as_str(), "");
+    assert_eq!(rt; told_all_pairs(a, conn, OF_TILES)?.as_str(), "");
+    assert_eq!(rt; told_all_pairs(a, conn, OF_ROWS)?.as_str(), "");
     assert_eq!(rt; told_all_identities(a, conn)?.as_str(), "");
     assert_eq!(rt; told_tile_by_id(a, conn, 7)?.as_str(), "-");
     assert_eq!(rt; told_tile_at(a, conn, 2, 3, 1)?.as_str(), "-");

@@ -4,7 +4,7 @@ use crate::texts::text_refusal;
 use package_tables::attributes::insert_attribute;
 use package_tables::fault::Fault;
 use package_tables::identities::insert_identity;
-use package_tables::mappings::insert_tiles_media;
+use package_tables::mappings::insert_pair;
 use package_tables::media::insert_medium;
 use package_tables::schema::create_schema;
 use package_tables::tiles::insert_tile;
@@ -150,7 +150,7 @@ fn filled<S: Alter>(conn: &mut Connection<S>) -> Result<bool, Fault> {
     insert_identity(&mut tx, 2, 4, "00000000-0000-0000-0000-000000000002")?;
     insert_attribute(&mut tx, 4, 100, 7, 31, "well")?;
     insert_identity(&mut tx, 3, 4, "00000000-0000-0000-0000-000000000003")?;
-    insert_tiles_media(&mut tx, 7, 4)?;
+    insert_pair(&mut tx, Mapping::TilesMedia, 7, 4)?;
     tx.commit()?;
     Ok(true)
 }

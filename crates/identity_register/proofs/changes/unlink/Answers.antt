@@ -10,4 +10,4 @@ pub returns-clause-steps : goal.returns-clause-steps
 returns-clause-steps g c =
     let base : FitsSigned w64 c.in_ok-base.base.local_id = search rules in
     let media : FitsSigned w64 c.in_ok-media.media.local_id = search rules in
-    unlink_steps c.args.relation c.in_ok-base.base c.in_ok-media.media (ends_steps c.args.relation c.in_ok-base.base c.in_ok-media.media c.in_ok-base.ensures.steps c.in_ok-media.ensures.steps) (simp (to_z-of_z, base, media) at c.drop_pair.ensures.steps)
+    unlink_steps c.args.relation c.in_ok-base.base c.in_ok-media.media (ends_steps c.args.relation c.in_ok-base.base c.in_ok-media.media c.in_ok-base.ensures.steps c.in_ok-media.ensures.steps) (simp (to_z-of_z, base, media) at c.delete_pair.ensures.wrote) c.delete_pair.ensures.survives

@@ -1,14 +1,16 @@
 -- A link is there where the rows of its ends are of its kinds and are related.
 use Rattle.std.proofs.Common.{◌≡◌, ◌∙◌, ap, sym, Ok, rules, false}
-use Rattle.std.specs.List.{list_any}
 use mir.Syntax.{w64}
 use mir.Val.{SFits}
 use Rattle.std.proofs.lemmas.Int.{to_z-of_z}
 use Rattle.sql_meaning.proofs.Staying.{looks_stays, stays_then}
-use Rattle.identity_register.specs.Answers.{mapping_rows, are_ends}
+use Rattle.package_tables.specs.Calls.{IsOneOf}
+use Rattle.package_tables.specs.Mappings.{mapping_rows}
+use Rattle.package_tables.specs.declared.rows.MappingRow.{MappingRow}
+use Rattle.identity_register.specs.Answers.{are_ends}
 use Rattle.identity_register.specs.Numbering.{is_pair}
-use Rattle.identity_register.proofs.Looking.{looked, looked_then, sees, sees_last, fails}
-use Rattle.identity_register.proofs.Answering.{IsRowFor}
+use Rattle.identity_register.proofs.Looking.{looked, looked_then, sees, fails}
+use Rattle.identity_register.proofs.Answering.{IsRowFor, one_tells}
 use Rattle.identity_register.proofs.Ends.{no_base, no_other, no_such_link, link_by_rows}
 use Rattle.identity_register.proofs.look_ups.has_link.Goals as goal
 
@@ -33,6 +35,9 @@ returns-then-not-are_ends g c =
     sees (looked_then (IsRowFor c.args.relation.media) (looked (IsRowFor c.args.relation.base) (c.in_ok-base.was ∙ ap Ok c.in-Some.is) c.row_of.ensures.looked) (c.in_ok-other.was ∙ ap Ok c.in-Some-2.is) c.row_of-2.ensures.looked)
     (λ f p t says h. sym (no_such_link f p t says c.args.relation c.row_of.ensures.fit c.row_of-2.ensures.fit c.in-Some.base c.in-Some-2.other h.0 h.1 wrong))
 
+pub returns-in_err-found : goal.returns-in_err-found
+returns-in_err-found g c = fails c.from_residual-in_err-found.result c.from_residual-in_err-found.ensures.0 (stays_then (stays_then (looks_stays c.row_of.ensures.looked) (looks_stays c.row_of-2.ensures.looked)) (looks_stays c.pair_of_ends.ensures))
+
 pub returns : goal.returns
 returns g c =
     let kind : SFits w64 c.in-Some.base.kind = search rules in
@@ -41,7 +46,10 @@ returns g c =
     let other_number : SFits w64 c.in-Some-2.other.local_id = search rules in
     let told = simp to_z-of_z at c.are_ends.ensures in
     let right = sym told ∙ c.if-not-are_ends.false in
-    sees_last (λ t found. found ≡ list_any (λ r. is_pair r (record { base_id = c.in-Some.base.local_id; related_id = c.in-Some-2.other.local_id })) (mapping_rows c.args.relation.mapping t)) c.has_pair.result
+    let pair : MappingRow = record { base_id = c.in-Some.base.local_id; related_id = c.in-Some-2.other.local_id } in
+    let found = looked_then (λ t. IsOneOf (λ r. is_pair r pair) (mapping_rows c.args.relation.mapping t))
     (looked_then (IsRowFor c.args.relation.media) (looked (IsRowFor c.args.relation.base) (c.in_ok-base.was ∙ ap Ok c.in-Some.is) c.row_of.ensures.looked) (c.in_ok-other.was ∙ ap Ok c.in-Some-2.is) c.row_of-2.ensures.looked)
-    (simp to_z-of_z at c.has_pair.ensures)
-    (λ f p t found says h told. told ∙ link_by_rows f p t says c.args.relation c.row_of.ensures.fit c.row_of-2.ensures.fit c.in-Some.base c.in-Some-2.other h.0 h.1 right)
+    c.in_ok-found.was (simp to_z-of_z at c.pair_of_ends.ensures) in
+    sees found
+    (λ f p t says h. c.is_some.ensures ∙ one_tells (λ r. is_pair r pair) (mapping_rows c.args.relation.mapping t) c.in_ok-found.found h.1
+    ∙ link_by_rows f p t says c.args.relation c.row_of.ensures.fit c.row_of-2.ensures.fit c.in-Some.base c.in-Some-2.other h.0.0 h.0.1 right)

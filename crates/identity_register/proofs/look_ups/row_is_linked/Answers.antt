@@ -12,7 +12,7 @@ pub returns-in_ok-found-in-1 : goal.returns-in_ok-found-in-1
 returns-in_ok-found-in-1 g c =
     let number = c.ranges.number in
     let kind : c.args.kind ≡ pos 1 = omega (arith, ints) in
-    tells (λ t found. found ≡ is_linked_row c.args.kind c.args.number t) (looked (λ t. IsOneOf (λ x. int_eq x.base_id c.args.number) t.tiles_media) c.in_ok-found-in-1.was (simp to_z-of_z at c.tiles_media_of_base.ensures))
+    tells (λ t found. found ≡ is_linked_row c.args.kind c.args.number t) (looked (λ t. IsOneOf (λ x. int_eq x.base_id c.args.number) t.tiles_media) c.in_ok-found-in-1.was (simp to_z-of_z at c.pair_of_base.ensures))
     (λ t h. c.is_some.ensures ∙ one_tells (λ x. int_eq x.base_id c.args.number) t.tiles_media c.in_ok-found-in-1.found h ∙ ap (λ k. is_linked_row k c.args.number t) (sym kind))
 
 pub returns-in-2 : goal.returns-in-2
@@ -28,5 +28,5 @@ returns-in_ok-found-in_default g c =
     let other = c.in_default in
     let one : int_eq c.args.kind (pos 1) ≡ false = grind (arith, ints, c.in_default, c.ranges.kind) in
     let two : int_eq c.args.kind (pos 2) ≡ false = grind (arith, ints, c.in_default, c.ranges.kind) in
-    tells (λ t found. found ≡ is_linked_row c.args.kind c.args.number t) (looked (λ t. IsOneOf (λ x. int_eq x.base_id c.args.number) t.rows_media) c.in_ok-found-in_default.was (simp to_z-of_z at c.rows_media_of_base.ensures))
+    tells (λ t found. found ≡ is_linked_row c.args.kind c.args.number t) (looked (λ t. IsOneOf (λ x. int_eq x.base_id c.args.number) t.rows_media) c.in_ok-found-in_default.was (simp to_z-of_z at c.pair_of_base-in_default.ensures))
     (λ t h. c.is_some-in_default.ensures ∙ one_tells (λ x. int_eq x.base_id c.args.number) t.rows_media c.in_ok-found-in_default.found h ∙ rw (one, two) refl)

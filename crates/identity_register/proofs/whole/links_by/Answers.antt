@@ -15,13 +15,13 @@ use Rattle.identity_register.proofs.Gathering.{links_are, tells_if}
 use Rattle.identity_register.proofs.whole.links_by.Goals as goal
 
 pub returns-in_err-links : goal.returns-in_err-links
-returns-in_err-links g c = fails c.from_residual-in_err-links.result c.from_residual-in_err-links.ensures.0 (stays_then (looks_stays c.all_tiles_media.ensures) (looks_stays c.all_rows_media.ensures))
+returns-in_err-links g c = fails c.from_residual-in_err-links.result c.from_residual-in_err-links.ensures.0 (stays_then (looks_stays c.all_pairs.ensures) (looks_stays c.all_pairs-2.ensures))
 
 pub returns-in_err-others : goal.returns-in_err-others
-returns-in_err-others g c = fails c.from_residual-in_err-others.result c.from_residual-in_err-others.ensures.0 (stays_then (looks_stays c.all_tiles_media.ensures) (looks_stays c.all_rows_media.ensures))
+returns-in_err-others g c = fails c.from_residual-in_err-others.result c.from_residual-in_err-others.ensures.0 (stays_then (looks_stays c.all_pairs.ensures) (looks_stays c.all_pairs-2.ensures))
 
 pub returns-in_err-extend_from_slice : goal.returns-in_err-extend_from_slice
-returns-in_err-extend_from_slice g c = fails c.from_residual-in_err-extend_from_slice.result c.from_residual-in_err-extend_from_slice.ensures.0 (stays_then (looks_stays c.all_tiles_media.ensures) (looks_stays c.all_rows_media.ensures))
+returns-in_err-extend_from_slice g c = fails c.from_residual-in_err-extend_from_slice.result c.from_residual-in_err-extend_from_slice.ensures.0 (stays_then (looks_stays c.all_pairs.ensures) (looks_stays c.all_pairs-2.ensures))
 
 pub returns : goal.returns
 returns g c =
@@ -36,7 +36,7 @@ returns g c =
     let both : joined ≡ made ++ others = chosen _ _ _ _ c.extend_from_slice.ensures.items (ap is_ok c.in_ok-extend_from_slice.was) ∙ ap (λ l. made ++ l) c.deref-3.ensures.value in
     tells_if (λ t found. AreLinksBy rows t found.items) c.links_in_order.result
     (looked_then (λ t found. AreAll (then_cmp (on (λ x. x.base_id) int_cmp) (on (λ x. x.related_id) int_cmp)) t.rows_media found.items)
-    (looked (λ t found. AreAll (then_cmp (on (λ x. x.base_id) int_cmp) (on (λ x. x.related_id) int_cmp)) t.tiles_media found.items) c.in_ok-of_tiles.was c.all_tiles_media.ensures)
-    c.in_ok-of_rows.was c.all_rows_media.ensures)
+    (looked (λ t found. AreAll (then_cmp (on (λ x. x.base_id) int_cmp) (on (λ x. x.related_id) int_cmp)) t.tiles_media found.items) c.in_ok-of_tiles.was c.all_pairs.ensures)
+    c.in_ok-of_rows.was c.all_pairs-2.ensures)
     (λ x e t h f p says all. links_are f p t says rows of_tiles of_rows made others x.items all h.0.0 h.1.0 first second
     (subst (λ l. IsPermutation l x.items) both (subst (λ r. IfOk r (λ sorted. IsPermutation joined sorted.items)) e c.links_in_order.ensures.same)) (subst (λ r. IfOk r (λ sorted. IsArranged link_key sorted.items)) e c.links_in_order.ensures.order))

@@ -1,0 +1,92 @@
+-- The facts of the statements on a mapping's table, whichever it is.
+use Rattle.std.proofs.Common.{◌≡◌, ℕ, ℤ, List, [], ◌∷◌, Bool, true, refl}
+use Rattle.std.specs.Prelude.{◌&&◌}
+use Rattle.std.specs.Ordering.{int_eq, int_cmp, on, then_cmp}
+use Rattle.sqlite.specs.Order.{Row, column}
+use Rattle.sqlite.specs.Edit.{next_rowid}
+use Rattle.sqlite.specs.Effect.{Database}
+use Rattle.sqlite.specs.declared.types.Value.TheVariants.{Int}
+use Rattle.sql_meaning.specs.Reading.{equals, both, is_same, passes}
+use Rattle.sql_meaning.specs.Writing.{Spares}
+use Rattle.sql_meaning.proofs.Insert.{IsInsert, IsRow}
+use Rattle.sql_meaning.proofs.Delete.{IsDelete, IsPlannedDelete}
+use Rattle.sheet_types.specs.declared.command.Mapping.{Mapping}
+use Rattle.sheet_types.specs.declared.command.Mapping.TheVariants.{TilesMedia, RowsMedia}
+use Rattle.package_tables.specs.Shape.{IsShape, IsFormed, rows_of}
+use Rattle.package_tables.specs.Package.{tables_of, AreFormed}
+use Rattle.package_tables.specs.Mappings.{mapping_table, pair_shape, mapping_rows, with_mapping_rows, insert_text, delete_text, of_ends_text, of_base_text, of_related_text, all_text}
+use Rattle.package_tables.specs.Shown.{mapping_shown}
+use Rattle.package_tables.specs.declared.rows.MappingRow.{MappingRow}
+use Rattle.package_tables.proofs.Looking.{IsKnown, IsRead, IsRanked}
+use Rattle.package_tables.proofs.Written.{tiles_media_shape_is, tiles_media_written, rows_media_shape_is, rows_media_written}
+use Rattle.package_tables.proofs.TilesMediaStatements as tiles
+use Rattle.package_tables.proofs.RowsMediaStatements as rows
+
+-- ---- the table is one of the fourteen
+
+pub pair_shape_is : (m : Mapping) → IsShape (pair_shape m)
+pair_shape_is TilesMedia = tiles_media_shape_is
+pair_shape_is RowsMedia = rows_media_shape_is
+
+pub pairs_formed : (m : Mapping) (db : Database) → AreFormed db → IsFormed (pair_shape m) db
+pairs_formed TilesMedia db f = f.tiles_media
+pairs_formed RowsMedia db f = f.rows_media
+
+pub pairs_listed : (m : Mapping) (db : Database) → mapping_rows m (tables_of db) ≡ rows_of (pair_shape m) db
+pairs_listed TilesMedia db = refl
+pairs_listed RowsMedia db = refl
+
+pub pairs_written : (m : Mapping) (tree : ℕ) (old new : Database) → Spares (mapping_table m tree) old new → AreFormed old → IsFormed (pair_shape m) new → AreFormed new × (tables_of new ≡ with_mapping_rows m (rows_of (pair_shape m) new) (tables_of old))
+pairs_written TilesMedia = tiles_media_written
+pairs_written RowsMedia = rows_media_written
+
+-- ---- writes
+
+pub inserts : (m : Mapping) (tree : ℕ) → IsInsert (insert_text m) (mapping_table m tree)
+inserts TilesMedia = tiles.insert_text
+inserts RowsMedia = rows.insert_text
+
+pub inserts_row : (m : Mapping) (row : MappingRow) (tree : ℕ) (there : List Row) → IsRow (mapping_table m tree) (Int row.base_id ∷ Int row.related_id ∷ []) there ((pair_shape m).stored (Int (next_rowid there)) row)
+inserts_row TilesMedia = tiles.insert_row
+inserts_row RowsMedia = rows.insert_row
+
+pub deletes : (m : Mapping) (tree : ℕ) → IsDelete (delete_text m) (mapping_table m tree) (both (equals 0 0) (equals 1 1))
+deletes TilesMedia = tiles.delete_text
+deletes RowsMedia = rows.delete_text
+
+pub deletes_planned : (m : Mapping) (tree : ℕ) → IsPlannedDelete (mapping_table m tree) (both (equals 0 0) (equals 1 1))
+deletes_planned TilesMedia = tiles.delete_plan
+deletes_planned RowsMedia = rows.delete_plan
+
+-- the rows that the DELETE tests for are those of the two numbers
+pub deletes_rows : (m : Mapping) (base_id related_id : ℤ) (tree : ℕ)
+    → ◌≡◌ {A = Row → Bool} (λ r. passes (mapping_table m tree) (both (equals 0 0) (equals 1 1)) (Int base_id ∷ Int related_id ∷ []) r) (λ r. is_same (column r 1) (Int base_id) && is_same (column r 2) (Int related_id))
+deletes_rows TilesMedia base_id related_id tree = refl
+deletes_rows RowsMedia base_id related_id tree = refl
+
+-- ---- look-ups
+
+pub known : (m : Mapping) → IsKnown (pair_shape m) (mapping_rows m) mapping_shown
+known TilesMedia = tiles.known
+known RowsMedia = rows.known
+
+pub of_ends : (m : Mapping) (base_id related_id : ℤ) → IsRead (pair_shape m) mapping_shown (of_ends_text m) (Int base_id ∷ Int related_id ∷ []) (λ x. int_eq x.base_id base_id && int_eq x.related_id related_id)
+of_ends TilesMedia = tiles.of_ends
+of_ends RowsMedia = rows.of_ends
+
+pub of_base : (m : Mapping) (base_id : ℤ) → IsRead (pair_shape m) mapping_shown (of_base_text m) (Int base_id ∷ []) (λ x. int_eq x.base_id base_id)
+of_base TilesMedia = tiles.of_base
+of_base RowsMedia = rows.of_base
+
+pub of_related : (m : Mapping) (related_id : ℤ) → IsRead (pair_shape m) mapping_shown (of_related_text m) (Int related_id ∷ []) (λ x. int_eq x.related_id related_id)
+of_related TilesMedia = tiles.of_related
+of_related RowsMedia = rows.of_related
+
+pub all : (m : Mapping) → IsRead (pair_shape m) mapping_shown (all_text m) [] (λ x. true)
+all TilesMedia = tiles.all
+all RowsMedia = rows.all
+
+pub all_ranked : (m : Mapping) → IsRanked (all m) (then_cmp (on (λ x. x.base_id) int_cmp) (on (λ x. x.related_id) int_cmp))
+unfolding all
+all_ranked TilesMedia = tiles.all_ranked
+all_ranked RowsMedia = rows.all_ranked
