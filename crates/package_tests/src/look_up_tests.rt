@@ -14,24 +14,8 @@ use sheet_types::receipt::MovedKind;
 use sql_meaning::resting::is_at_rest;
 use sqlite::{Alter, Connection};
 use std::test::Fail;
+use test_values::fill_with_a_link;
 use uuid::Uuid;
-
-fn filled<S: Alter>(conn: &mut Connection<S>) -> Result<bool, Fault> {
-    if !conn.is_autocommit() {
-        return Ok(false);
-    }
-    let mut tx = conn.transaction();
-    create_schema(&mut tx)?;
-    insert_tile(&mut tx, 7, 2, 3, 1, b"ab")?;
-    insert_identity(&mut tx, 1, 7, "00000000-0000-0000-0000-000000000001")?;
-    insert_medium(&mut tx, 4, b"png", "image/png")?;
-    insert_identity(&mut tx, 2, 4, "00000000-0000-0000-0000-000000000002")?;
-    insert_attribute(&mut tx, 4, 100, -7, 31, "well")?;
-    insert_identity(&mut tx, 3, 4, "00000000-0000-0000-0000-000000000003")?;
-    insert_pair(&mut tx, Mapping::TilesMedia, 7, 4)?;
-    tx.commit()?;
-    Ok(true)
-}
 
 // Each but the last has the local number 4 of its kind.
 fn filled_with_rows<S: Alter>(conn: &mut Connection<S>) -> Result<bool, Fault> {
@@ -109,7 +93,7 @@ fn code<S: Alter>(conn: &mut Connection<S>, id: u128) -> Result<i64, Fault> {
 #[test]
 fn look_ups_answer_of_the_package(rt: HostRuntime) -> Result<(), Fail> {
     let mut conn = Connection::open_in_memory(rt.alloc())?;
-    assert!(rt; filled(&mut conn)?);
+    assert!(rt; fill_with_a_link(&mut conn)?);
     assert!(rt; kind(&mut conn, 1)? == Some(MovedKind::TileItem));
     assert!(rt; kind(&mut conn, 3)? == Some(MovedKind::RowItem));
     assert!(rt; kind(&mut conn, 4)? == None);

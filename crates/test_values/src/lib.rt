@@ -5,6 +5,8 @@ mod packages;
 mod requests;
 mod values;
 
-pub use crate::packages::{can_be_made, empty_package, is_good, new_package, new_tables};
+pub use crate::packages::{
+    can_be_made, empty_package, fill_with_a_link, is_good, new_package, new_tables,
+};
 pub use crate::requests::{Asks, BEGUN, archive, item, question, request_of, told};
 pub use crate::values::{AT, FRAME, NOTHING, text};

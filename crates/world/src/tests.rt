@@ -1,13 +1,7 @@
 // Requests and the numbers of the reasons for which they are refused, by the rules: 4 a text, 5 a size, 7 no such item, 8 a kind, 9 no such place, 10 outside the frame, 11 a taken place, 12 a link that is there, 13 one that is not, 14 an item that is linked; 0 where none holds.
 use crate::judging::package_refusal;
 use crate::texts::text_refusal;
-use package_tables::attributes::insert_attribute;
 use package_tables::fault::Fault;
-use package_tables::identities::insert_identity;
-use package_tables::mappings::insert_pair;
-use package_tables::media::insert_medium;
-use package_tables::schema::create_schema;
-use package_tables::tiles::insert_tile;
 use sheet_types::collections::{Bytes, Text};
 use sheet_types::command::{Command, Content, Mapping, Mode, Request};
 use sheet_types::frame::{Frame, Rect};
@@ -16,7 +10,7 @@ use sql_meaning::resting::is_at_rest;
 use sqlite::{Alter, Connection};
 use std::alloc::Global;
 use std::test::Fail;
-use test_values::{AT, FRAME, is_good};
+use test_values::{AT, FRAME, fill_with_a_link, is_good};
 use uuid::Uuid;
 
 fn package() -> Uuid {
@@ -138,23 +132,6 @@ fn labels(rt: HostRuntime) -> Result<(), Fail> {
 
 // ---- a package in memory: a tile with a medium, and a row that is linked to nothing
 
-fn filled<S: Alter>(conn: &mut Connection<S>) -> Result<bool, Fault> {
-    if !conn.is_autocommit() {
-        return Ok(false);
-    }
-    let mut tx = conn.transaction();
-    create_schema(&mut tx)?;
-    insert_tile(&mut tx, 7, 2, 3, 1, b"ab")?;
-    insert_identity(&mut tx, 1, 7, "00000000-0000-0000-0000-000000000001")?;
-    insert_medium(&mut tx, 4, b"png", "image/png")?;
-    insert_identity(&mut tx, 2, 4, "00000000-0000-0000-0000-000000000002")?;
-    insert_attribute(&mut tx, 4, 100, 7, 31, "well")?;
-    insert_identity(&mut tx, 3, 4, "00000000-0000-0000-0000-000000000003")?;
-    insert_pair(&mut tx, Mapping::TilesMedia, 7, 4)?;
-    tx.commit()?;
-    Ok(true)
-}
-
 fn judged<S: Alter>(
     conn: &mut Connection<S>,
     frame: &Frame,
@@ -170,7 +147,7 @@ fn judged<S: Alter>(
 fn items_that_come(rt: HostRuntime) -> Result<(), Fail> {
     let alloc = rt.alloc();
     let mut conn = Connection::open_in_memory(alloc)?;
-    assert!(rt; filled(&mut conn)?);
+    assert!(rt; fill_with_a_link(&mut conn)?);
     for (zoom, column, row, wanted) in [
         (2i64, 3i64, 1i64, 11u8),
         (2, 1, 3, 0),
@@ -206,7 +183,7 @@ fn items_that_come(rt: HostRuntime) -> Result<(), Fail> {
 #[test]
 fn items_that_go(rt: HostRuntime) -> Result<(), Fail> {
     let mut conn = Connection::open_in_memory(rt.alloc())?;
-    assert!(rt; filled(&mut conn)?);
+    assert!(rt; fill_with_a_link(&mut conn)?);
     for (id, wanted) in [(1u128, 14u8), (2, 14), (3, 0), (9, 7)] {
         let command = Command::Delete {
             package: package(),
@@ -220,7 +197,7 @@ fn items_that_go(rt: HostRuntime) -> Result<(), Fail> {
 #[test]
 fn links(rt: HostRuntime) -> Result<(), Fail> {
     let mut conn = Connection::open_in_memory(rt.alloc())?;
-    assert!(rt; filled(&mut conn)?);
+    assert!(rt; fill_with_a_link(&mut conn)?);
     for (mapping, base, media, coming, going) in [
         (Mapping::TilesMedia, 1u128, 2u128, 12u8, 0u8),
         (Mapping::RowsMedia, 3, 2, 0, 13),
@@ -255,7 +232,7 @@ fn links(rt: HostRuntime) -> Result<(), Fail> {
 #[test]
 fn a_split_has_none_of_these(rt: HostRuntime) -> Result<(), Fail> {
     let mut conn = Connection::open_in_memory(rt.alloc())?;
-    assert!(rt; filled(&mut conn)?);
+    assert!(rt; fill_with_a_link(&mut conn)?);
     let command = Command::Split {
         package: package(),
         child: Uuid::from_u128(8),
