@@ -14,6 +14,7 @@ use Rattle.sql_meaning.specs.Writing.{EachChained}
 use Rattle.sql_meaning.proofs.Transactions.{steps_then, steps_weaker}
 use Rattle.sheet_types.specs.Ordered.{arranged, put, has}
 use Rattle.sheet_types.specs.World.{Package, kind_number, receipt_key, with_receipt}
+use Rattle.sheet_types.specs.Reading.{optional_uuid_text}
 use Rattle.sheet_types.specs.Texts.{uuid_text}
 use Rattle.sheet_types.specs.declared.frame.Frame.{Frame}
 use Rattle.sheet_types.specs.declared.receipt.Moved.{Moved}
@@ -31,7 +32,7 @@ use Rattle.package_tables.proofs.Stepping.{makes_steps}
 use Rattle.package_tables.specs.Entries.{AddsReceipt, AddsMoved}
 use Rattle.package_tables.specs.declared.rows.MovedRow.{MovedRow}
 use Rattle.package_tables.specs.declared.rows.ReceiptRow.{ReceiptRow}
-use Rattle.identity_register.specs.Reads.{Says, end_text, receipt_row, moved_row, moved_rows}
+use Rattle.identity_register.specs.Reads.{Says, receipt_row, moved_row, moved_rows}
 use Rattle.identity_register.specs.Calls.{Becomes}
 use Rattle.custody.specs.Receipts.{IsNewReceipt}
 use Rattle.custody.specs.Entries.{Enters, rows_from}
@@ -45,14 +46,6 @@ differ a b unequal = one (bytes_eq a b) refl
     one : (v : Bool) → bytes_eq a b ≡ v → v ≡ false
     one false e = refl
     one true e = absurd (unequal ((bytes_eq-Decides a b).0 e))
-
-head_of : List ℕ → ℕ
-head_of [] = 0
-head_of (x ∷ xs) = x
-
-second_of : List ℕ → ℕ
-second_of [] = 0
-second_of (x ∷ xs) = head_of xs
 
 pub apart : {a b : List ℕ} → bytes_eq a b ≡ false → a ≡ b → ⊥
 apart {a} {b} h e = true≢false (sym ((bytes_eq-Decides a b).1 e) ∙ h)
@@ -205,7 +198,7 @@ kind_stored RowsMediaLink = refl
 -- a row that was put in is that of the thing
 pub moved_steps : {E : Type 0} (seq position : ℕ) (m : Moved) {s at kind size : ℤ} {base other digest : List ℕ} {old new : State} {q : Result (Unit {0}) E}
     → Makes (AddsMoved (record { seq = s; position = at; kind = kind; base = base; other = other; size = size; fingerprint = digest })) old new q → Survives old new (λ _. ⊥)
-    → s ≡ pos seq → at ≡ pos position → kind ≡ pos (kind_number m.kind) → base ≡ uuid_text m.base → other ≡ end_text m.other → size ≡ pos m.size → digest ≡ option_map_or encode_lower m.fingerprint []
+    → s ≡ pos seq → at ≡ pos position → kind ≡ pos (kind_number m.kind) → base ≡ uuid_text m.base → other ≡ optional_uuid_text m.other → size ≡ pos m.size → digest ≡ option_map_or encode_lower m.fingerprint []
     → Steps (λ _. Enters (moved_row seq position m)) old new q
 moved_steps {E} seq position m {s} {at} {kind} {size} {base} {other} {digest} {old} {new} {q} makes survives e₁ e₂ e₃ e₄ e₅ e₆ e₇ =
     let row : MovedRow = record { seq = s; position = at; kind = kind; base = base; other = other; size = size; fingerprint = digest } in
@@ -214,7 +207,7 @@ moved_steps {E} seq position m {s} {at} {kind} {size} {base} {other} {digest} {o
 
 pub head_steps : {E : Type 0} (r : Receipt) {s tiles media rows links bytes : ℤ} {request at line source target : List ℕ} {old new : State} {q : Result (Unit {0}) E}
     → Makes (AddsReceipt (record { seq = s; request = request; at = at; line = line; source = source; target = target; n_tiles = tiles; n_media = media; n_rows = rows; n_links = links; n_bytes = bytes })) old new q → Survives old new (λ _. ⊥)
-    → s ≡ pos r.seq → request ≡ uuid_text r.request → at ≡ r.at → line ≡ r.line → source ≡ end_text r.source → target ≡ end_text r.target
+    → s ≡ pos r.seq → request ≡ uuid_text r.request → at ≡ r.at → line ≡ r.line → source ≡ optional_uuid_text r.source → target ≡ optional_uuid_text r.target
     → tiles ≡ pos r.tiles → media ≡ pos r.media → rows ≡ pos r.rows → links ≡ pos r.links → bytes ≡ pos r.bytes
     → Steps (λ _. OnTables (AddsReceipt (receipt_row r))) old new q
 head_steps {E} r {s} {tiles} {media} {rows} {links} {bytes} {request} {at} {line} {source} {target} {old} {new} {q} makes survives e₁ e₂ e₃ e₄ e₅ e₆ e₇ e₈ e₉ f₁ f₂ =

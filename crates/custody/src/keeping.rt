@@ -7,6 +7,7 @@ ghost use Rattle.hex.specs.Hex.{encode_lower};
 ghost use Rattle.sqlite.specs.Held.{state};
 ghost use Rattle.sql_meaning.specs.Transactions.{Rests, Looks};
 ghost use Rattle.sheet_types.specs.Lines.{IsUuid, is_bytes};
+ghost use Rattle.sheet_types.specs.Reading.{optional_uuid_text};
 ghost use Rattle.sheet_types.specs.Texts.{uuid_text};
 ghost use Rattle.sheet_types.specs.World.{kind_number};
 ghost use Rattle.sheet_types.specs.declared.receipt.Moved.{Moved};
@@ -14,7 +15,7 @@ ghost use Rattle.sheet_types.specs.declared.receipt.MovedKind.{MovedKind};
 ghost use Rattle.sheet_types.specs.declared.receipt.Receipt.{Receipt};
 ghost use Rattle.package_tables.specs.Calls.{LooksUp, IsOneOf, AreThose};
 ghost use Rattle.identity_register.specs.Calls.{Sees};
-ghost use Rattle.identity_register.specs.Reads.{IsFitReceipt, end_text, is_fit_end, is_fit_moved, receipt_row};
+ghost use Rattle.identity_register.specs.Reads.{IsFitReceipt, is_fit_end, is_fit_moved, receipt_row};
 ghost use Rattle.custody.specs.Entries.{row_at, rows_at};
 ghost use Rattle.custody.specs.Receipts.{IsKept};
 
@@ -77,9 +78,9 @@ fn uuid_of(text: &str) -> Result<Uuid, Fault>
 
 /// The UUID of a stored text, which is empty where there is none.
 fn end_of(text: &str) -> Result<Option<Uuid>, Fault>
-    ensures text { IfOk result (λ end. text.now ≡ end_text end) }
+    ensures text { IfOk result (λ end. text.now ≡ optional_uuid_text end) }
     ensures fit { IfOk result (λ end. is_fit_end end ≡ true) }
-    ensures none { IfErr result (λ _. (end : Option (List ℕ)) → is_fit_end end ≡ true → text.now ≢ end_text end) }
+    ensures none { IfErr result (λ _. (end : Option (List ℕ)) → is_fit_end end ≡ true → text.now ≢ optional_uuid_text end) }
 {
     match read_stored_optional(text) {
         Some(None) => Ok(None),
@@ -116,7 +117,7 @@ fn thing_at(
     other: Option<Uuid>,
 ) -> Result<Moved, Fault>
     requires base { (row.now.base ≡ uuid_text base) × IsUuid base }
-    requires other { (row.now.other ≡ end_text other) × (is_fit_end other ≡ true) }
+    requires other { (row.now.other ≡ optional_uuid_text other) × (is_fit_end other ≡ true) }
     ensures row { IfOk result (λ thing. row.now ≡ row_at seq position thing) }
     ensures fit { IfOk result (λ thing. is_fit_moved thing ≡ true) }
     ensures none { IfErr result (λ _. (thing : Moved) → is_fit_moved thing ≡ true → row.now ≢ row_at seq position thing) }

@@ -11,12 +11,13 @@ ghost use Rattle.sqlite.specs.Held.{state};
 ghost use Rattle.sql_meaning.specs.Transactions.{Rests, Looks, Steps};
 ghost use Rattle.sql_meaning.specs.Writing.{EachChained};
 ghost use Rattle.sheet_types.specs.Lines.{uuid_in};
+ghost use Rattle.sheet_types.specs.Reading.{optional_uuid_text};
 ghost use Rattle.sheet_types.specs.Texts.{uuid_text};
 ghost use Rattle.sheet_types.specs.World.{with_receipt};
 ghost use Rattle.package_tables.specs.Calls.{LooksUp, OnTables};
 ghost use Rattle.package_tables.specs.Entries.{AddsReceipt};
 ghost use Rattle.identity_register.specs.Calls.{Becomes, Sees};
-ghost use Rattle.identity_register.specs.Reads.{end_text, receipt_row, moved_row};
+ghost use Rattle.identity_register.specs.Reads.{receipt_row, moved_row};
 ghost use Rattle.custody.specs.Entries.{Enters, rows_from, is_of};
 ghost use Rattle.custody.specs.Receipts.{IsNewReceipt, is_named};
 
@@ -45,7 +46,7 @@ fn stored(number: u64) -> Result<i64, Fault>
 /// The text of a UUID that may be missing: empty where it is.
 fn end_text(end: Option<Uuid>, buffer: &mut [u8]) -> &str
     requires { 36 ≤ length buffer.old }
-    ensures { result.now ≡ end_text end }
+    ensures { result.now ≡ optional_uuid_text end }
 {
     match end {
         Some(id) => id.hyphenated().encode_lower(buffer),

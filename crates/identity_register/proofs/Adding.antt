@@ -80,9 +80,6 @@ module _ (p : Package) (n : Numbered) (fresh : has_item p n.item.identity ≡ fa
   rows_media_kept numbered l TilesMedia h = refl
   rows_media_kept numbered l RowsMedia h = ap (λ r. r ∷ []) (row_kept numbered l h)
 
-  more_items : Package
-  more_items = record p { items = put item_key n.item p.items }
-
   still_there : (q : Item → Bool) → list_any q p.items ≡ true → list_any q (put item_key n.item p.items) ≡ true
   still_there q h = list_any-put item_key q n.item p.items ∙ ap (λ b. q n.item || b) h ∙ or-true (q n.item)
 

@@ -67,9 +67,6 @@ any_same a b [] h = refl
 any_same a b (x ∷ xs) h = ap (λ v. v || list_any a xs) h.0 ∙ ap (λ v. b x || v) (any_same a b xs h.1)
 
 module _ (f : Frame) (p : Package) (t : Tables) (says : Says f p t) where
-  ns : List Numbered
-  ns = says.numbered
-
   -- the end of a link is an item where the kind and the number are
   pub end_is : (n : Numbered) → In n says.numbered → (kind : MovedKind) (id : List ℕ) → has item_key (kind_number kind ∷ id) p.items ≡ true
       → ((kind_number kind == kind_number (kind_of n.item.content)) && int_eq (number_of says.numbered id) n.number) ≡ bytes_eq id n.item.identity

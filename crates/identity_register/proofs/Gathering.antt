@@ -1,8 +1,8 @@
 -- The items and links that whole tables give are those of the package.
-use Rattle.std.proofs.Common.{◌≡◌, ℕ, suc, ◌+◌, ◌<◌, pos, List, [], ◌∷◌, ◌++◌, map, length, get_or, take, true, Some, Result, Ok, Err, refl, sym, ap, subst, ◌∙◌, inl, inr, append_assoc, arith}
+use Rattle.std.proofs.Common.{◌≡◌, ℕ, suc, ◌+◌, ◌<◌, pos, List, [], ◌∷◌, ◌++◌, map, length, get_or, take, true, Some, Result, Ok, Err, refl, sym, ap, subst, ◌∙◌, inl, inr, arith}
 use Rattle.std.specs.Prelude.{bytes_eq, flat_map, unsigned_abs, unwrap_or, Contains, IsPermutation}
 use Rattle.std.specs.List.{AllByRecursion, AllZip, AllAdjacentBelow}
-use Rattle.std.proofs.lemmas.List.{map-append, take_more}
+use Rattle.std.proofs.lemmas.List.{take_more}
 use Rattle.std.proofs.lemmas.List.Elements.{All-contains_itself, recursion_from_All}
 use Rattle.std.proofs.lemmas.Slice.Zip.{all_zipped_more}
 use Rattle.std.proofs.lemmas.List.Sorted.{IsPermutation-sym, Contains-permutation, All-permutation}
@@ -86,10 +86,6 @@ pub zip_more : {A B : Type 0} (R : A → B → Type 0) (rows : List A) (i : ℕ)
 zip_more R rows i d row made now x less is pushed all one =
     let cut : take (i + 1) rows ≡ take i rows ++ row ∷ [] = take_more rows i d less ∙ ap (λ r. take i rows ++ r ∷ []) (sym is) in
     subst (λ l. AllZip R l now) (sym cut) (subst (AllZip R (take i rows ++ row ∷ [])) (sym pushed) (all_zipped_more R (take i rows) made row x all one))
-
--- one element more
-pub placed_more : {X Y : Type 0} (f : X → Y) (now old : List Y) (xs : List X) (x : X) → now ≡ old ++ map f xs → now ++ f x ∷ [] ≡ old ++ map f (xs ++ x ∷ [])
-placed_more f now old xs x e = ap (λ l. l ++ f x ∷ []) e ∙ append_assoc old (map f xs) (f x ∷ []) ∙ ap (λ l. old ++ l) (sym (map-append f xs (x ∷ [])))
 
 -- ---- contents
 

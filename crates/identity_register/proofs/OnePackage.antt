@@ -41,7 +41,8 @@ use Rattle.package_tables.specs.declared.rows.ReceiptRow.{ReceiptRow}
 use Rattle.identity_register.specs.Answers.{IsContentOf, are_ends}
 use Rattle.identity_register.specs.Laws.{ReadsAlone, TreesReadAlone}
 use Rattle.identity_register.specs.Numbering.{Numbered, identity_row, tile_rows, media_rows, attribute_rows}
-use Rattle.identity_register.specs.Reads.{Says, Reads, IsFitReceipt, is_fit_end, is_fit_moved, end_text, head_row, receipt_row, moved_row, moved_rows}
+use Rattle.sheet_types.specs.Reading.{optional_uuid_text}
+use Rattle.identity_register.specs.Reads.{Says, Reads, IsFitReceipt, is_fit_end, is_fit_moved, head_row, receipt_row, moved_row, moved_rows}
 use Rattle.identity_register.proofs.Answering.{kind_number_tells}
 use Rattle.identity_register.proofs.Contents.{content_by_row}
 use Rattle.identity_register.proofs.Deleting.{pos_same}
@@ -113,7 +114,7 @@ text_long : (id : List ℕ) → length (uuid_text id) ≡ 36
 text_long id = by_index_length 36 _
 
 -- the end that a text is of
-same_end : (a b : Option (List ℕ)) → is_fit_end a ≡ true → is_fit_end b ≡ true → end_text a ≡ end_text b → a ≡ b
+same_end : (a b : Option (List ℕ)) → is_fit_end a ≡ true → is_fit_end b ≡ true → optional_uuid_text a ≡ optional_uuid_text b → a ≡ b
 same_end None None h g e = refl
 same_end None (Some b) h g e = absurd (let long = text_long b in let same : 0 ≡ length (uuid_text b) = ap length e in omega arith)
 same_end (Some a) None h g e = absurd (let long = text_long a in let same : length (uuid_text a) ≡ 0 = ap length e in omega arith)

@@ -6,6 +6,7 @@ use Rattle.hex.specs.Hex.{encode_lower}
 use Rattle.sqlite.specs.Effect.{Database}
 use Rattle.sheet_types.specs.Ordered.{arranged}
 use Rattle.sheet_types.specs.Matrix.{is_good_frame}
+use Rattle.sheet_types.specs.Reading.{optional_uuid_text}
 use Rattle.sheet_types.specs.Texts.{uuid_text}
 use Rattle.sheet_types.specs.World.{Package, item_key, link_key, receipt_key, kind_number}
 use Rattle.sheet_types.specs.Lines.{is_uuid, is_bytes}
@@ -16,6 +17,7 @@ use Rattle.sheet_types.specs.declared.frame.Frame.{Frame}
 use Rattle.sheet_types.specs.declared.receipt.Moved.{Moved}
 use Rattle.sheet_types.specs.declared.receipt.Receipt.{Receipt}
 use Rattle.package_tables.specs.Shapes.{tile_shape, medium_shape, attribute_shape, tiles_media_shape, rows_media_shape, identity_shape, receipt_shape, moved_shape}
+use Rattle.package_tables.specs.Creation.{head_of}
 use Rattle.package_tables.specs.Package.{Tables, tables_of, AreFormed}
 use Rattle.package_tables.specs.Fixed.{HasFixed}
 use Rattle.package_tables.specs.declared.rows.AttributeRow.{AttributeRow}
@@ -28,13 +30,9 @@ use Rattle.package_tables.specs.declared.rows.ReceiptRow.{ReceiptRow}
 use Rattle.package_tables.specs.declared.rows.TileRow.{TileRow}
 use Rattle.identity_register.specs.Numbering.{Numbered, IsNumbering, tile_rows, media_rows, attribute_rows, identity_row, tiles_media_rows, rows_media_rows}
 
--- a UUID that may be missing: the empty text where it is
-abbrev pub end_text : Option (List ℕ) → List ℕ
-end_text end = option_map_or uuid_text end []
-
 -- the head of a package, made at a moment
 abbrev pub head_row : Package → List ℕ → HeadRow
-head_row p created = record { id = pos 1; version = pos 1; «package» = uuid_text p.uuid; parent = end_text p.parent; depth = pos p.depth; loan = pos p.loan; created = created }
+head_row p created = head_of p.uuid p.parent p.depth p.loan created
 
 abbrev pub receipt_row : Receipt → ReceiptRow
 receipt_row r = record {
@@ -42,8 +40,8 @@ receipt_row r = record {
   request = uuid_text r.request;
   at = r.at;
   line = r.line;
-  source = end_text r.source;
-  target = end_text r.target;
+  source = optional_uuid_text r.source;
+  target = optional_uuid_text r.target;
   n_tiles = pos r.tiles;
   n_media = pos r.media;
   n_rows = pos r.rows;
@@ -57,7 +55,7 @@ moved_row seq position m = record {
   position = pos position;
   kind = pos (kind_number m.kind);
   base = uuid_text m.base;
-  other = end_text m.other;
+  other = optional_uuid_text m.other;
   size = pos m.size;
   fingerprint = option_map_or encode_lower m.fingerprint [];
 }

@@ -143,9 +143,6 @@ module _ (w : World) (id moment child into : List ℕ) (ticket : ℤ) (types : H
     apart' : bytes_eq into child ≡ false
     apart' = bytes_eq_swap into child ∙ k.apart
 
-    middle : World
-    middle = changed take_all into w
-
     at_mid : (p : List ℕ) → holdings next p ≡ cond (bytes_eq p child) no_package (cond (bytes_eq p into) (take_all (holdings w into)) (holdings w p))
     at_mid p = holdings_closed child p (changed take_all into w) ∙ ap (λ x. cond (bytes_eq p child) no_package x) (holdings_changed take_all w into p (λ x. refl) k.into_live)
 

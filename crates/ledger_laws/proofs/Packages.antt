@@ -92,10 +92,6 @@ each_found (x ∷ ps) h = (
       (λ y before is. ap (λ b. cond b (Some x) (find (at_uuid y.uuid) ps)) (before-differs x.uuid y.uuid before) ∙ is) ps h.0 (each_found ps h.1),
 )
 
--- a fact of what stands under each UUID is one of each package
-pub all_at : (w : World) (P : Package → Type 0) → IsArranged package_key w.packages → ((p : List ℕ) → P (holdings w p)) → AllByRecursion P w.packages
-all_at w P distinct h = All-weaker (λ x. find (at_uuid x.uuid) w.packages ≡ Some x) P (λ x is. subst P (ap (λ o. unwrap_or o no_package) is) (h x.uuid)) w.packages (each_found w.packages distinct)
-
 -- under a UUID that is not live stands nothing
 pub holdings_none : (w : World) (p : List ℕ) → is_live w p ≡ false → holdings w p ≡ no_package
 holdings_none w p dead = ap (λ o. unwrap_or o no_package) (not_found (at_uuid p) w.packages dead)

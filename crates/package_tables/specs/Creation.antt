@@ -1,8 +1,8 @@
 -- A new package: its head, and what its tables say.
 use Rattle.std.specs.Prelude.{◌≡◌, ℕ, ◌≤◌, pos, List, [], ◌∷◌, Option}
-use Rattle.std.specs.Option.{option_map_or}
 use Rattle.sqlite.specs.Effect.{Database}
 use Rattle.sql_meaning.specs.Blank.{IsBlank, no_schema}
+use Rattle.sheet_types.specs.Reading.{optional_uuid_text}
 use Rattle.sheet_types.specs.Texts.{uuid_text}
 use Rattle.sheet_types.specs.declared.frame.Frame.{Frame}
 use Rattle.package_tables.specs.Package.{Tables, tables_of, AreFormed}
@@ -16,7 +16,7 @@ use Rattle.package_tables.specs.declared.rows.RelationRow.{RelationRow}
 
 -- the head of a package, with the moment at which it was made. The archive has no parent
 abbrev pub head_of : List ℕ → Option (List ℕ) → ℕ → ℕ → List ℕ → HeadRow
-head_of uuid parent depth loan created = record { id = pos 1; version = pos 1; «package» = uuid_text uuid; parent = option_map_or uuid_text parent []; depth = pos depth; loan = pos loan; created = created }
+head_of uuid parent depth loan created = record { id = pos 1; version = pos 1; «package» = uuid_text uuid; parent = optional_uuid_text parent; depth = pos depth; loan = pos loan; created = created }
 
 -- tables that have no rows
 abbrev pub no_rows : Tables

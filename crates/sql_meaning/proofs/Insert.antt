@@ -18,7 +18,7 @@ use Rattle.sqlite.specs.Term.{Term, lit, col}
 use Rattle.sqlite.specs.Edit.{edit_of, put_all, numbered, with_rowid}
 use Rattle.sqlite.specs.Does.{AtPlace, OnRows}
 use Rattle.sqlite.specs.Rows.{Task, stamped, rowids_for, count_of, Counts}
-use Rattle.sqlite.specs.Effect.{Database, IsDatabase, value_rows}
+use Rattle.sqlite.specs.Effect.{Database, value_rows}
 use Rattle.sqlite.specs.Tree.{Trees}
 use Rattle.sqlite.specs.declared.error.Error.{Error}
 use Rattle.sqlite.specs.State.{State, mode_of, Executes, ExecutesInside}
@@ -27,7 +27,7 @@ use Rattle.sqlite_rules.proofs.ActionLemmas.{no_works}
 use Rattle.sqlite_schema.specs.declared.schema.Keys.TheVariants.{Enforced}
 use Rattle.sqlite.proofs.Callers.{IsPlain, command_of, runs_as, one_step}
 use Rattle.sql_meaning.specs.Known.{counters, HasTable, IsQuiet, sequence_name, is_other}
-use Rattle.sql_meaning.specs.Writing.{Inserted, Inserts, WritesInside, Soundly}
+use Rattle.sql_meaning.specs.Writing.{Inserted, Inserts, WritesInside}
 use Rattle.sql_meaning.proofs.Resolve.{inserts_in, understood_is}
 use Rattle.sql_meaning.specs.Kinds.{has_kinds}
 use Rattle.sql_meaning.proofs.Casts.{cast_row_kept}
@@ -128,12 +128,3 @@ module _ (text : List ℕ) (table : ℕ → Table) (it : (tree : ℕ) → IsInse
   -- in a transaction
   pub inserted_inside : (r : Result ℕ Error) → ExecutesInside 0 text params old new r → WritesInside (Inserts table row) old new r
   inserted_inside = writes_inside (Inserts table row) text params old new inserted
-
-  sound_after : (count : ℕ) → Executes text params old new (Ok count) → (at tree : ℕ) → HasTable old.now.schema at (table tree) → IsDatabase new.now
-  sound_after count h at tree has =
-      let known = (understood_is old.now.schema text _ (insert_is old.now.schema text at (table tree) (it tree) has)).0 in
-      (runs_as text params old new old.now.schema refl (Insert at (Values (terms_of (table tree)) (width (table tree)))) (ap command_of known) (subst IsPlain (sym known) (refl, refl)) count h).sound
-
-  -- in a transaction, and the new database is sound
-  pub inserted_soundly : (r : Result ℕ Error) → ExecutesInside 0 text params old new r → WritesInside (Soundly table (Inserts table row)) old new r
-  inserted_soundly = writes_inside (Soundly table (Inserts table row)) text params old new (λ count h. (inserted count h, sound_after count h))

@@ -52,9 +52,6 @@ tables_alone s t db one two = zip_alone IsTableRow one_table _ _ _ one.lists.lis
 
 -- ---- the indexes
 
-same_kind : {a b : List ℕ} {v w : Value} → v ≡ value.Text a → w ≡ value.Text b → v ≡ w → a ≡ b
-same_kind one two same = let e = sym one ∙ same ∙ two in cc
-
 -- the automatic index of a place has a name of its own
 same_automatic : (front name : List ℕ) (i j : ℕ) → i < 65536 → j < 65536 → front ++ (name ++ (codes "_" ++ decimal (i + 1))) ≡ front ++ (name ++ (codes "_" ++ decimal (j + 1))) → i ≡ j
 same_automatic front name i j low less same =
