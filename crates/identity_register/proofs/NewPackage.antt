@@ -7,7 +7,7 @@ use Rattle.sql_meaning.specs.Transactions.{Holds}
 use Rattle.sheet_types.specs.Lines.{IsUuid}
 use Rattle.sheet_types.specs.Matrix.{is_good_frame}
 use Rattle.sheet_types.specs.declared.frame.Frame.{Frame}
-use Rattle.package_tables.specs.Creation.{head_of, new_tables, Says as SaysTables}
+use Rattle.package_tables.specs.Creation.{head_of, new_tables, HoldsTables}
 use Rattle.package_tables.specs.Fixed.{contents_of}
 use Rattle.package_tables.specs.declared.rows.HeadRow.{HeadRow}
 use Rattle.identity_register.specs.Creation.{new_package, Keeps, IsMadeAt}
@@ -31,11 +31,11 @@ module _ (f : Frame) (uuid : List ℕ) (parent : Option (List ℕ)) (depth loan 
     of_receipts = record { distinct_receipts = tt; fit = tt; kept = refl; receipts = refl; moved = refl };
   }
 
-  new_reads : (db : Database) → SaysTables db (new_tables f (head_of uuid parent depth loan created)) → Reads f (new_package uuid parent depth loan) db
+  new_reads : (db : Database) → HoldsTables db (new_tables f (head_of uuid parent depth loan created)) → Reads f (new_package uuid parent depth loan) db
   new_reads db it = record { formed = it.formed; says = subst (Says f (new_package uuid parent depth loan)) (sym it.says) new_says }
 
   -- a store that holds those tables keeps the package
-  pub new_keeps : (s : State) → SaysTables s.now (new_tables f (head_of uuid parent depth loan created)) → Holds s s.now → Keeps f (new_package uuid parent depth loan) s
+  pub new_keeps : (s : State) → HoldsTables s.now (new_tables f (head_of uuid parent depth loan created)) → Holds s s.now → Keeps f (new_package uuid parent depth loan) s
   new_keeps s it holds = record {
     holds = holds;
     reads = new_reads s.now it;
@@ -43,7 +43,7 @@ module _ (f : Frame) (uuid : List ℕ) (parent : Option (List ℕ)) (depth loan 
   }
 
 -- and its head and its contents say when it was made
-pub new_dated : (f : Frame) (head : HeadRow) (s : State) → SaysTables s.now (new_tables f head) → IsMadeAt f head.created s
+pub new_dated : (f : Frame) (head : HeadRow) (s : State) → HoldsTables s.now (new_tables f head) → IsMadeAt f head.created s
 new_dated f head s it = record {
   created = subst (λ t. map (λ h. h.created) t.heads ≡ head.created ∷ []) (sym it.says) refl;
   last_change = subst (λ t. t.contents ≡ contents_of f head.created) (sym it.says) refl;

@@ -17,7 +17,7 @@ use Rattle.package_tables.specs.Tables.{sheet_rows}
 use Rattle.package_tables.specs.Shapes.{attribute_shape, int_at, text_at}
 use Rattle.package_tables.specs.Shown.{attribute_shown}
 use Rattle.package_tables.specs.declared.rows.AttributeRow.{AttributeRow}
-use Rattle.package_tables.proofs.Looking.{IsKnown, IsRead, IsRanked}
+use Rattle.package_tables.proofs.Looking.{IsKnown, IsLookUp, IsRanked}
 use Rattle.package_tables.proofs.Newest.{IsNewest}
 use Rattle.package_tables.proofs.Ranking.{one_number}
 use Rattle.package_tables.proofs.Values.{same_number}
@@ -64,7 +64,7 @@ attribute_by_id_plan : (tree : ℕ) → IsPlannedSelect (sheet_rows tree) (equal
 unfolding resolving
 attribute_by_id_plan tree schema at h = rw (h.stored, h.by_tree) refl
 
-pub attribute_by_id : (id : ℤ) → IsRead attribute_shape attribute_shown (codes "SELECT * FROM sheet_rows WHERE id = ?1") (Int id ∷ []) (λ x. int_eq x.id id)
+pub attribute_by_id : (id : ℤ) → IsLookUp attribute_shape attribute_shown (codes "SELECT * FROM sheet_rows WHERE id = ?1") (Int id ∷ []) (λ x. int_eq x.id id)
 attribute_by_id id = record { test = _; by = _; selects = attribute_by_id_text; planned = attribute_by_id_plan; given = refl; listing = _; is = λ tree. refl; shows = λ v x. refl; passing = λ v x. (same_number x.id id) }
 
 all_text : (tree : ℕ) → IsSelect (codes "SELECT * FROM sheet_rows ORDER BY id") (sheet_rows tree) always ((col 1 0, ascending) ∷ [])
@@ -89,7 +89,7 @@ all_plan : (tree : ℕ) → IsPlannedSelect (sheet_rows tree) always ((col 1 0, 
 unfolding resolving
 all_plan tree schema at h = rw (h.stored, h.by_tree) refl
 
-pub all : IsRead attribute_shape attribute_shown (codes "SELECT * FROM sheet_rows ORDER BY id") [] (λ x. true)
+pub all : IsLookUp attribute_shape attribute_shown (codes "SELECT * FROM sheet_rows ORDER BY id") [] (λ x. true)
 all = record { test = _; by = _; selects = all_text; planned = all_plan; given = refl; listing = _; is = λ tree. refl; shows = λ v x. refl; passing = λ v x. refl }
 
 pub all_ranked : IsRanked all (on (λ x. x.id) int_cmp)

@@ -15,10 +15,10 @@ use Rattle.package_tables.specs.Package.{Tables}
 use Rattle.package_tables.specs.Calls.{OnTables}
 use Rattle.package_tables.specs.SchemaMade.{IsNewPackage, BecomesPackage}
 use Rattle.package_tables.specs.SchemaMaking.{ChangedInside}
-use Rattle.package_tables.specs.Creation.{Says, Fills, Becomes, no_rows, fixed_tables, new_tables}
+use Rattle.package_tables.specs.Creation.{HoldsTables, Fills, TablesBecome, no_rows, fixed_tables, new_tables}
 
 -- a new package holds nothing
-pub new_says : (db : Database) → IsNewPackage db → Says db no_rows
+pub new_says : (db : Database) → IsNewPackage db → HoldsTables db no_rows
 new_says db h = record { formed = h.formed; says = h.says }
 
 -- the making of the schema, as steps
@@ -31,11 +31,11 @@ schema_steps {X} {E} {old} {new} {r} made kept survives = record { made = λ cle
     at (Err e) it keeps = keeps
 
 -- a change of tables that are known
-pub says_then : {X Y E F : Type 0} (t u : Tables) {old mid new : State} {x : X} {r : Result Y F} → Steps {E = E} (λ _. Fills t) old mid (Ok x) → Steps (λ _. OnTables (Becomes t u)) mid new r → Steps (λ _. Fills u) old new r
+pub says_then : {X Y E F : Type 0} (t u : Tables) {old mid new : State} {x : X} {r : Result Y F} → Steps {E = E} (λ _. Fills t) old mid (Ok x) → Steps (λ _. OnTables (TablesBecome t u)) mid new r → Steps (λ _. Fills u) old new r
 says_then {X} {Y} {E} {F} t u {old} {mid} {new} {x} {r} first next =
-    steps_weaker (λ _. Fills u) (λ y it blank. let was = it.1 blank in let both = it.2 was.formed in record { formed = both.0; says = both.1 was.says }) (steps_then {X = X} {E = E} {First = λ _. Fills t} {Next = λ _. OnTables (Becomes t u)} {x = x} first next)
+    steps_weaker (λ _. Fills u) (λ y it blank. let was = it.1 blank in let both = it.2 was.formed in record { formed = both.0; says = both.1 was.says }) (steps_then {X = X} {E = E} {First = λ _. Fills t} {Next = λ _. OnTables (TablesBecome t u)} {x = x} first next)
 
 -- the head comes to tables that have none
-pub head_becomes : {X E : Type 0} (f : Frame) (head : HeadRow) {old new : State} {r : Result X E} → Steps (λ _. OnTables (AddsHead head)) old new r → Steps (λ _. OnTables (Becomes (fixed_tables f head.created) (new_tables f head))) old new r
-head_becomes f head h = tables_weaker {A = AddsHead head} (Becomes (fixed_tables f head.created) (new_tables f head))
+pub head_becomes : {X E : Type 0} (f : Frame) (head : HeadRow) {old new : State} {r : Result X E} → Steps (λ _. OnTables (AddsHead head)) old new r → Steps (λ _. OnTables (TablesBecome (fixed_tables f head.created) (new_tables f head))) old new r
+head_becomes f head h = tables_weaker {A = AddsHead head} (TablesBecome (fixed_tables f head.created) (new_tables f head))
     (λ b a adds is. adds (ap (λ (t : Tables). has head_shape.key (head_shape.key head) t.heads) is) ∙ ap (λ (t : Tables). record t { heads = put head_shape.key head t.heads }) is) h

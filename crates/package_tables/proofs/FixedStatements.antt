@@ -26,7 +26,7 @@ use Rattle.sql_meaning.proofs.Resolve.{one_table}
 use Rattle.sql_meaning.proofs.Select.{IsSelect, IsPlannedSelect}
 use Rattle.package_tables.specs.Shapes.{int_at, text_at}
 use Rattle.package_tables.specs.Shown.{spatial_ref_sys_shown, contents_shown, tile_matrix_set_shown, tile_matrix_shown, relation_shown}
-use Rattle.package_tables.proofs.Looking.{IsKnown, IsRead}
+use Rattle.package_tables.proofs.Looking.{IsKnown, IsLookUp}
 use Rattle.package_tables.proofs.Written.{spatial_ref_sys_shape_is, contents_shape_is, tile_matrix_set_shape_is, tile_matrix_shape_is, relation_shape_is}
 use Rattle.std.specs.Ordering.{on, int_cmp}
 use Rattle.std.proofs.lemmas.Cmp.{on_total, int_cmp_total}
@@ -112,7 +112,7 @@ all_spatial_ref_sys_plan : (tree : ℕ) → IsPlannedSelect (gpkg_spatial_ref_sy
 unfolding resolving
 all_spatial_ref_sys_plan tree schema at h = rw (h.stored, h.by_tree) refl
 
-pub all_spatial_ref_sys : IsRead spatial_ref_sys_shape spatial_ref_sys_shown (codes "SELECT * FROM gpkg_spatial_ref_sys ORDER BY srs_id") [] (λ x. true)
+pub all_spatial_ref_sys : IsLookUp spatial_ref_sys_shape spatial_ref_sys_shown (codes "SELECT * FROM gpkg_spatial_ref_sys ORDER BY srs_id") [] (λ x. true)
 all_spatial_ref_sys = record { test = _; by = _; selects = all_spatial_ref_sys_text; planned = all_spatial_ref_sys_plan; given = refl; listing = _; is = λ tree. refl; shows = λ v x. refl; passing = λ v x. refl }
 
 pub contents_known : IsKnown contents_shape (λ t. t.contents) contents_shown
@@ -140,7 +140,7 @@ all_contents_plan : (tree : ℕ) → IsPlannedSelect (gpkg_contents tree) always
 unfolding resolving
 all_contents_plan tree schema at h = rw (h.stored, h.by_tree) refl
 
-pub all_contents : IsRead contents_shape contents_shown (codes "SELECT * FROM gpkg_contents ORDER BY table_name") [] (λ x. true)
+pub all_contents : IsLookUp contents_shape contents_shown (codes "SELECT * FROM gpkg_contents ORDER BY table_name") [] (λ x. true)
 all_contents = record { test = _; by = _; selects = all_contents_text; planned = all_contents_plan; given = refl; listing = _; is = λ tree. refl; shows = λ v x. refl; passing = λ v x. refl }
 
 pub tile_matrix_set_known : IsKnown tile_matrix_set_shape (λ t. t.tile_matrix_set) tile_matrix_set_shown
@@ -168,7 +168,7 @@ all_tile_matrix_sets_plan : (tree : ℕ) → IsPlannedSelect (gpkg_tile_matrix_s
 unfolding resolving
 all_tile_matrix_sets_plan tree schema at h = rw (h.stored, h.by_tree) refl
 
-pub all_tile_matrix_sets : IsRead tile_matrix_set_shape tile_matrix_set_shown (codes "SELECT * FROM gpkg_tile_matrix_set ORDER BY table_name") [] (λ x. true)
+pub all_tile_matrix_sets : IsLookUp tile_matrix_set_shape tile_matrix_set_shown (codes "SELECT * FROM gpkg_tile_matrix_set ORDER BY table_name") [] (λ x. true)
 all_tile_matrix_sets = record { test = _; by = _; selects = all_tile_matrix_sets_text; planned = all_tile_matrix_sets_plan; given = refl; listing = _; is = λ tree. refl; shows = λ v x. refl; passing = λ v x. refl }
 
 pub tile_matrix_known : IsKnown tile_matrix_shape (λ t. t.tile_matrix) tile_matrix_shown
@@ -196,7 +196,7 @@ all_tile_matrices_plan : (tree : ℕ) → IsPlannedSelect (gpkg_tile_matrix tree
 unfolding resolving
 all_tile_matrices_plan tree schema at h = rw (h.stored, h.by_tree) refl
 
-pub all_tile_matrices : IsRead tile_matrix_shape tile_matrix_shown (codes "SELECT * FROM gpkg_tile_matrix ORDER BY zoom_level") [] (λ x. true)
+pub all_tile_matrices : IsLookUp tile_matrix_shape tile_matrix_shown (codes "SELECT * FROM gpkg_tile_matrix ORDER BY zoom_level") [] (λ x. true)
 all_tile_matrices = record { test = _; by = _; selects = all_tile_matrices_text; planned = all_tile_matrices_plan; given = refl; listing = _; is = λ tree. refl; shows = λ v x. refl; passing = λ v x. refl }
 
 pub relations_known : IsKnown relation_shape (λ t. t.relations) relation_shown
@@ -224,7 +224,7 @@ all_relations_plan : (tree : ℕ) → IsPlannedSelect (gpkgext_relations tree) a
 unfolding resolving
 all_relations_plan tree schema at h = rw (h.stored, h.by_tree) refl
 
-pub all_relations : IsRead relation_shape relation_shown (codes "SELECT * FROM gpkgext_relations ORDER BY id") [] (λ x. true)
+pub all_relations : IsLookUp relation_shape relation_shown (codes "SELECT * FROM gpkgext_relations ORDER BY id") [] (λ x. true)
 all_relations = record { test = _; by = _; selects = all_relations_text; planned = all_relations_plan; given = refl; listing = _; is = λ tree. refl; shows = λ v x. refl; passing = λ v x. refl }
 
 pub all_spatial_ref_sys_ranked : IsRanked all_spatial_ref_sys (on (λ x. x.srs_id) int_cmp)

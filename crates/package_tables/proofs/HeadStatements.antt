@@ -15,7 +15,7 @@ use Rattle.sql_meaning.proofs.Resolve.{one_table}
 use Rattle.sql_meaning.proofs.Select.{IsSelect, IsPlannedSelect}
 use Rattle.package_tables.specs.Shapes.{int_at, text_at}
 use Rattle.package_tables.specs.Shown.{head_shown}
-use Rattle.package_tables.proofs.Looking.{IsKnown, IsRead}
+use Rattle.package_tables.proofs.Looking.{IsKnown, IsLookUp}
 use Rattle.package_tables.proofs.Written.{head_shape_is}
 use Rattle.std.specs.Ordering.{on, int_cmp}
 use Rattle.std.proofs.lemmas.Cmp.{on_total, int_cmp_total}
@@ -54,7 +54,7 @@ all_heads_plan : (tree : ℕ) → IsPlannedSelect (sheet_package tree) always ((
 unfolding resolving
 all_heads_plan tree schema at h = rw (h.stored, h.by_tree) refl
 
-pub all_heads : IsRead head_shape head_shown (codes "SELECT * FROM sheet_package ORDER BY id") [] (λ x. true)
+pub all_heads : IsLookUp head_shape head_shown (codes "SELECT * FROM sheet_package ORDER BY id") [] (λ x. true)
 all_heads = record { test = _; by = _; selects = all_heads_text; planned = all_heads_plan; given = refl; listing = _; is = λ tree. refl; shows = λ v x. refl; passing = λ v x. refl }
 
 pub all_heads_ranked : IsRanked all_heads (on (λ x. x.id) int_cmp)

@@ -18,7 +18,7 @@ use Rattle.package_tables.specs.Tables.{sheet_identity}
 use Rattle.package_tables.specs.Shapes.{identity_shape, int_at, text_at}
 use Rattle.package_tables.specs.Shown.{identity_shown}
 use Rattle.package_tables.specs.declared.rows.IdentityRow.{IdentityRow}
-use Rattle.package_tables.proofs.Looking.{IsKnown, IsRead, IsRanked}
+use Rattle.package_tables.proofs.Looking.{IsKnown, IsLookUp, IsRanked}
 use Rattle.package_tables.proofs.Ranking.{two_numbers}
 use Rattle.package_tables.proofs.Values.{same_number, same_text, both_same}
 use Rattle.package_tables.proofs.Written.{identity_shape_is}
@@ -64,7 +64,7 @@ identity_by_uuid_plan : (tree : ℕ) → IsPlannedSelect (sheet_identity tree) (
 unfolding resolving
 identity_by_uuid_plan tree schema at h = rw (h.stored, h.by_tree) refl
 
-pub identity_by_uuid : (uuid : List ℕ) → IsRead identity_shape identity_shown (codes "SELECT * FROM sheet_identity WHERE uuid = ?1") (Text uuid ∷ []) (λ x. bytes_eq x.uuid uuid)
+pub identity_by_uuid : (uuid : List ℕ) → IsLookUp identity_shape identity_shown (codes "SELECT * FROM sheet_identity WHERE uuid = ?1") (Text uuid ∷ []) (λ x. bytes_eq x.uuid uuid)
 identity_by_uuid uuid = record { test = _; by = _; selects = identity_by_uuid_text; planned = identity_by_uuid_plan; given = refl; listing = _; is = λ tree. refl; shows = λ v x. refl; passing = λ v x. (same_text x.uuid uuid) }
 
 identity_by_key_text : (tree : ℕ) → IsSelect (codes "SELECT * FROM sheet_identity WHERE kind = ?1 AND local_id = ?2") (sheet_identity tree) (both (equals 0 0) (equals 1 1)) []
@@ -89,7 +89,7 @@ identity_by_key_plan : (tree : ℕ) → IsPlannedSelect (sheet_identity tree) (b
 unfolding resolving
 identity_by_key_plan tree schema at h = rw (h.stored, h.by_tree) refl
 
-pub identity_by_key : (kind : ℤ) (local_id : ℤ) → IsRead identity_shape identity_shown (codes "SELECT * FROM sheet_identity WHERE kind = ?1 AND local_id = ?2") (Int kind ∷ Int local_id ∷ []) (λ x. int_eq x.kind kind && int_eq x.local_id local_id)
+pub identity_by_key : (kind : ℤ) (local_id : ℤ) → IsLookUp identity_shape identity_shown (codes "SELECT * FROM sheet_identity WHERE kind = ?1 AND local_id = ?2") (Int kind ∷ Int local_id ∷ []) (λ x. int_eq x.kind kind && int_eq x.local_id local_id)
 identity_by_key kind local_id = record { test = _; by = _; selects = identity_by_key_text; planned = identity_by_key_plan; given = refl; listing = _; is = λ tree. refl; shows = λ v x. refl; passing = λ v x. (both_same (same_number x.kind kind) (same_number x.local_id local_id)) }
 
 all_text : (tree : ℕ) → IsSelect (codes "SELECT * FROM sheet_identity ORDER BY kind, local_id") (sheet_identity tree) always ((col 1 1, ascending) ∷ (col 1 2, ascending) ∷ [])
@@ -114,7 +114,7 @@ all_plan : (tree : ℕ) → IsPlannedSelect (sheet_identity tree) always ((col 1
 unfolding resolving
 all_plan tree schema at h = rw (h.stored, h.by_tree) refl
 
-pub all : IsRead identity_shape identity_shown (codes "SELECT * FROM sheet_identity ORDER BY kind, local_id") [] (λ x. true)
+pub all : IsLookUp identity_shape identity_shown (codes "SELECT * FROM sheet_identity ORDER BY kind, local_id") [] (λ x. true)
 all = record { test = _; by = _; selects = all_text; planned = all_plan; given = refl; listing = _; is = λ tree. refl; shows = λ v x. refl; passing = λ v x. refl }
 
 pub all_ranked : IsRanked all (then_cmp (on (λ x. x.kind) int_cmp) (on (λ x. x.local_id) int_cmp))

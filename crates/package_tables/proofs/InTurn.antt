@@ -6,7 +6,7 @@ use Rattle.sql_meaning.specs.Transactions.{Steps}
 use Rattle.sql_meaning.proofs.Transactions.{steps_then, steps_weaker}
 use Rattle.package_tables.specs.Package.{Tables, tables_of}
 use Rattle.package_tables.specs.Calls.{OnTables}
-use Rattle.package_tables.specs.Creation.{Becomes}
+use Rattle.package_tables.specs.Creation.{TablesBecome}
 
 -- the steps, with their change as a caller says it
 pub tables_weaker : {X E : Type 0} {A : Tables → Tables → Type 0} (C : Tables → Tables → Type 0) {old new : State} {r : Result X E} → ((b a : Tables) → A b a → C b a) → Steps (λ _. OnTables A) old new r → Steps (λ _. OnTables C) old new r
@@ -45,9 +45,9 @@ module _ {R : Type 0} (rows : Tables → List R) (with_rows : List R → Tables 
 
 -- tables that are known to the last row, of which one list that was empty is filled
 module _ {R : Type 0} (rows : Tables → List R) (with_rows : List R → Tables → Tables) where
-  pub becomes_first : {X E : Type 0} (t : Tables) (to : List R) {old new : State} {r : Result X E} → rows t ≡ [] → Steps (λ _. OnTables (λ b a. rows b ≡ [] → a ≡ with_rows to b)) old new r → Steps (λ _. OnTables (Becomes t (with_rows to t))) old new r
-  becomes_first t to none h = tables_weaker {A = λ b a. rows b ≡ [] → a ≡ with_rows to b} (Becomes t (with_rows to t)) (λ b a set is. set (ap rows is ∙ none) ∙ ap (with_rows to) is) h
+  pub becomes_first : {X E : Type 0} (t : Tables) (to : List R) {old new : State} {r : Result X E} → rows t ≡ [] → Steps (λ _. OnTables (λ b a. rows b ≡ [] → a ≡ with_rows to b)) old new r → Steps (λ _. OnTables (TablesBecome t (with_rows to t))) old new r
+  becomes_first t to none h = tables_weaker {A = λ b a. rows b ≡ [] → a ≡ with_rows to b} (TablesBecome t (with_rows to t)) (λ b a set is. set (ap rows is ∙ none) ∙ ap (with_rows to) is) h
 
-  pub becomes_then : {X Y E F : Type 0} (from t : Tables) (to : List R) {old mid new : State} {x : X} {r : Result Y F} → rows t ≡ [] → Steps {E = E} (λ _. OnTables (Becomes from t)) old mid (Ok x)
-      → Steps (λ _. OnTables (λ b a. rows b ≡ [] → a ≡ with_rows to b)) mid new r → Steps (λ _. OnTables (Becomes from (with_rows to t))) old new r
-  becomes_then from t to none first next = tables_then {A = Becomes from t} {B = λ b a. rows b ≡ [] → a ≡ with_rows to b} (Becomes from (with_rows to t)) (λ b m a one two is. let here = one is in two (ap rows here ∙ none) ∙ ap (with_rows to) here) first next
+  pub becomes_then : {X Y E F : Type 0} (from t : Tables) (to : List R) {old mid new : State} {x : X} {r : Result Y F} → rows t ≡ [] → Steps {E = E} (λ _. OnTables (TablesBecome from t)) old mid (Ok x)
+      → Steps (λ _. OnTables (λ b a. rows b ≡ [] → a ≡ with_rows to b)) mid new r → Steps (λ _. OnTables (TablesBecome from (with_rows to t))) old new r
+  becomes_then from t to none first next = tables_then {A = TablesBecome from t} {B = λ b a. rows b ≡ [] → a ≡ with_rows to b} (TablesBecome from (with_rows to t)) (λ b m a one two is. let here = one is in two (ap rows here ∙ none) ∙ ap (with_rows to) here) first next

@@ -39,7 +39,7 @@ pub record IsKnown {R : Type 0} (shape : Shape R) (list : Tables → List R) (sh
   pub returns : (x : R) → back (shown x) ≡ x
 
 -- with these parameters the text is a SELECT * of the rows whose values pass
-pub record IsRead {R : Type 0} (shape : Shape R) (shown : R → Row) (text : List ℕ) (params : Row) (keeps : R → Bool) : Type 0 where
+pub record IsLookUp {R : Type 0} (shape : Shape R) (shown : R → Row) (text : List ℕ) (params : Row) (keeps : R → Bool) : Type 0 where
   pub test : Test
   pub by : List (Term × Key)
   pub selects : (tree : ℕ) → IsSelect text (shape.table tree) test by
@@ -51,7 +51,7 @@ pub record IsRead {R : Type 0} (shape : Shape R) (shown : R → Row) (text : Lis
   pub passing : (v : Value) (x : R) → listing.keeps (shape.stored v x) ≡ keeps x
 
 -- the rows come by these keys, which order the values so
-pub record IsRanked {R : Type 0} {shape : Shape R} {shown : R → Row} {text : List ℕ} {params : Row} {keeps : R → Bool} (read : IsRead shape shown text params keeps) (cmp : R → R → Ordering) : Type 0 where
+pub record IsRanked {R : Type 0} {shape : Shape R} {shown : R → Row} {text : List ℕ} {params : Row} {keeps : R → Bool} (read : IsLookUp shape shown text params keeps) (cmp : R → R → Ordering) : Type 0 where
   pub keys : R → Row
   pub keyed : (v : Value) (x : R) → read.listing.key (shape.stored v x) ≡ keys x
   pub total : IsTotalOrder cmp
@@ -67,7 +67,7 @@ HasHead shown rows first = MatchOption first (rows ≡ []) (λ x. slice_get rows
 abbrev pub AreShown : {R : Type 0} → (R → Row) → List Row → List R → Type 0
 AreShown shown rows xs = rows ≡ map shown xs
 
-module _ {R : Type 0} {shape : Shape R} {list : Tables → List R} {shown : R → Row} (known : IsKnown shape list shown) {text : List ℕ} {params : Row} {keeps : R → Bool} (read : IsRead shape shown text params keeps) where
+module _ {R : Type 0} {shape : Shape R} {list : Tables → List R} {shown : R → Row} (known : IsKnown shape list shown) {text : List ℕ} {params : Row} {keeps : R → Bool} (read : IsLookUp shape shown text params keeps) where
   abbrev IsListed : Database → List Row → Type 0
   IsListed db rows = (at tree : ℕ) → HasTable db.schema at (shape.table tree) → IsListing read.listing.key read.listing.shown read.listing.by (filter read.listing.keeps (db.trees (shape.table tree).tree)) rows
 

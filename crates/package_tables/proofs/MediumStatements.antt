@@ -17,7 +17,7 @@ use Rattle.package_tables.specs.Tables.{sheet_media}
 use Rattle.package_tables.specs.Shapes.{medium_shape, int_at, text_at, blob_at}
 use Rattle.package_tables.specs.Shown.{medium_shown}
 use Rattle.package_tables.specs.declared.rows.MediaRow.{MediaRow}
-use Rattle.package_tables.proofs.Looking.{IsKnown, IsRead, IsRanked}
+use Rattle.package_tables.proofs.Looking.{IsKnown, IsLookUp, IsRanked}
 use Rattle.package_tables.proofs.Newest.{IsNewest}
 use Rattle.package_tables.proofs.Ranking.{one_number}
 use Rattle.package_tables.proofs.Values.{same_number}
@@ -64,7 +64,7 @@ medium_by_id_plan : (tree : ℕ) → IsPlannedSelect (sheet_media tree) (equals 
 unfolding resolving
 medium_by_id_plan tree schema at h = rw (h.stored, h.by_tree) refl
 
-pub medium_by_id : (id : ℤ) → IsRead medium_shape medium_shown (codes "SELECT * FROM sheet_media WHERE id = ?1") (Int id ∷ []) (λ x. int_eq x.id id)
+pub medium_by_id : (id : ℤ) → IsLookUp medium_shape medium_shown (codes "SELECT * FROM sheet_media WHERE id = ?1") (Int id ∷ []) (λ x. int_eq x.id id)
 medium_by_id id = record { test = _; by = _; selects = medium_by_id_text; planned = medium_by_id_plan; given = refl; listing = _; is = λ tree. refl; shows = λ v x. refl; passing = λ v x. (same_number x.id id) }
 
 all_text : (tree : ℕ) → IsSelect (codes "SELECT * FROM sheet_media ORDER BY id") (sheet_media tree) always ((col 1 0, ascending) ∷ [])
@@ -89,7 +89,7 @@ all_plan : (tree : ℕ) → IsPlannedSelect (sheet_media tree) always ((col 1 0,
 unfolding resolving
 all_plan tree schema at h = rw (h.stored, h.by_tree) refl
 
-pub all : IsRead medium_shape medium_shown (codes "SELECT * FROM sheet_media ORDER BY id") [] (λ x. true)
+pub all : IsLookUp medium_shape medium_shown (codes "SELECT * FROM sheet_media ORDER BY id") [] (λ x. true)
 all = record { test = _; by = _; selects = all_text; planned = all_plan; given = refl; listing = _; is = λ tree. refl; shows = λ v x. refl; passing = λ v x. refl }
 
 pub all_ranked : IsRanked all (on (λ x. x.id) int_cmp)

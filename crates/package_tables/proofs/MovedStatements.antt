@@ -21,7 +21,7 @@ use Rattle.package_tables.specs.Shown.{moved_shown}
 use Rattle.std.proofs.Common.{map}
 use Rattle.sql_meaning.specs.Reading.{IsListing}
 use Rattle.package_tables.specs.Calls.{Rises}
-use Rattle.package_tables.proofs.Looking.{IsKnown, IsRead}
+use Rattle.package_tables.proofs.Looking.{IsKnown, IsLookUp}
 use Rattle.package_tables.proofs.Ranked.{ranked}
 use Rattle.package_tables.proofs.Values.{same_number, same_text, both_same}
 use Rattle.package_tables.proofs.Written.{moved_shape_is}
@@ -62,7 +62,7 @@ moved_of_plan : (tree : ℕ) → IsPlannedSelect (sheet_items tree) (equals 0 0)
 unfolding resolving
 moved_of_plan tree schema at h = rw (h.stored, h.by_tree) refl
 
-pub moved_of : (seq : ℤ) → IsRead moved_shape moved_shown (codes "SELECT * FROM sheet_items WHERE seq = ?1 ORDER BY position") (Int seq ∷ []) (λ x. int_eq x.seq seq)
+pub moved_of : (seq : ℤ) → IsLookUp moved_shape moved_shown (codes "SELECT * FROM sheet_items WHERE seq = ?1 ORDER BY position") (Int seq ∷ []) (λ x. int_eq x.seq seq)
 moved_of seq = record { test = _; by = _; selects = moved_of_text; planned = moved_of_plan; given = refl; listing = _; is = λ tree. refl; shows = λ v x. refl; passing = λ v x. same_number x.seq seq }
 
 all_moved_text : (tree : ℕ) → IsSelect (codes "SELECT * FROM sheet_items ORDER BY seq") (sheet_items tree) always ((col 1 1, ascending) ∷ [])
@@ -87,7 +87,7 @@ all_moved_plan : (tree : ℕ) → IsPlannedSelect (sheet_items tree) always ((co
 unfolding resolving
 all_moved_plan tree schema at h = rw (h.stored, h.by_tree) refl
 
-pub all_moved : IsRead moved_shape moved_shown (codes "SELECT * FROM sheet_items ORDER BY seq") [] (λ x. true)
+pub all_moved : IsLookUp moved_shape moved_shown (codes "SELECT * FROM sheet_items ORDER BY seq") [] (λ x. true)
 all_moved = record { test = _; by = _; selects = all_moved_text; planned = all_moved_plan; given = refl; listing = _; is = λ tree. refl; shows = λ v x. refl; passing = λ v x. refl }
 
 pub moved_of_ranked : (seq : ℤ) (there rows : List Row) → IsListing (moved_of seq).listing.key (moved_of seq).listing.shown (moved_of seq).listing.by there rows → (xs : List MovedRow) → rows ≡ map moved_shown xs → Rises (λ x. x.position) xs
@@ -120,5 +120,5 @@ moved_of_kind_plan : (tree : ℕ) → IsPlannedSelect (sheet_items tree) (both (
 unfolding resolving
 moved_of_kind_plan tree schema at h = rw (h.stored, h.by_tree) refl
 
-pub moved_of_kind : (base : List ℕ) (kind : ℤ) → IsRead moved_shape moved_shown (codes "SELECT * FROM sheet_items WHERE base = ?1 AND kind = ?2") (Text base ∷ Int kind ∷ []) (λ x. bytes_eq x.base base && int_eq x.kind kind)
+pub moved_of_kind : (base : List ℕ) (kind : ℤ) → IsLookUp moved_shape moved_shown (codes "SELECT * FROM sheet_items WHERE base = ?1 AND kind = ?2") (Text base ∷ Int kind ∷ []) (λ x. bytes_eq x.base base && int_eq x.kind kind)
 moved_of_kind base kind = record { test = _; by = _; selects = moved_of_kind_text; planned = moved_of_kind_plan; given = refl; listing = _; is = λ tree. refl; shows = λ v x. refl; passing = λ v x. both_same (same_text x.base base) (same_number x.kind kind) }

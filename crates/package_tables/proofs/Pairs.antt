@@ -17,7 +17,7 @@ use Rattle.package_tables.specs.Package.{tables_of, AreFormed}
 use Rattle.package_tables.specs.Mappings.{mapping_table, pair_shape, mapping_rows, with_mapping_rows, insert_text, delete_text, of_ends_text, of_base_text, of_related_text, all_text}
 use Rattle.package_tables.specs.Shown.{mapping_shown}
 use Rattle.package_tables.specs.declared.rows.MappingRow.{MappingRow}
-use Rattle.package_tables.proofs.Looking.{IsKnown, IsRead, IsRanked}
+use Rattle.package_tables.proofs.Looking.{IsKnown, IsLookUp, IsRanked}
 use Rattle.package_tables.proofs.Written.{tiles_media_shape_is, tiles_media_written, rows_media_shape_is, rows_media_written}
 use Rattle.package_tables.proofs.TilesMediaStatements as tiles
 use Rattle.package_tables.proofs.RowsMediaStatements as rows
@@ -70,19 +70,19 @@ pub known : (m : Mapping) → IsKnown (pair_shape m) (mapping_rows m) mapping_sh
 known TilesMedia = tiles.known
 known RowsMedia = rows.known
 
-pub of_ends : (m : Mapping) (base_id related_id : ℤ) → IsRead (pair_shape m) mapping_shown (of_ends_text m) (Int base_id ∷ Int related_id ∷ []) (λ x. int_eq x.base_id base_id && int_eq x.related_id related_id)
+pub of_ends : (m : Mapping) (base_id related_id : ℤ) → IsLookUp (pair_shape m) mapping_shown (of_ends_text m) (Int base_id ∷ Int related_id ∷ []) (λ x. int_eq x.base_id base_id && int_eq x.related_id related_id)
 of_ends TilesMedia = tiles.of_ends
 of_ends RowsMedia = rows.of_ends
 
-pub of_base : (m : Mapping) (base_id : ℤ) → IsRead (pair_shape m) mapping_shown (of_base_text m) (Int base_id ∷ []) (λ x. int_eq x.base_id base_id)
+pub of_base : (m : Mapping) (base_id : ℤ) → IsLookUp (pair_shape m) mapping_shown (of_base_text m) (Int base_id ∷ []) (λ x. int_eq x.base_id base_id)
 of_base TilesMedia = tiles.of_base
 of_base RowsMedia = rows.of_base
 
-pub of_related : (m : Mapping) (related_id : ℤ) → IsRead (pair_shape m) mapping_shown (of_related_text m) (Int related_id ∷ []) (λ x. int_eq x.related_id related_id)
+pub of_related : (m : Mapping) (related_id : ℤ) → IsLookUp (pair_shape m) mapping_shown (of_related_text m) (Int related_id ∷ []) (λ x. int_eq x.related_id related_id)
 of_related TilesMedia = tiles.of_related
 of_related RowsMedia = rows.of_related
 
-pub all : (m : Mapping) → IsRead (pair_shape m) mapping_shown (all_text m) [] (λ x. true)
+pub all : (m : Mapping) → IsLookUp (pair_shape m) mapping_shown (all_text m) [] (λ x. true)
 all TilesMedia = tiles.all
 all RowsMedia = rows.all
 

@@ -16,7 +16,7 @@ use Rattle.sql_meaning.proofs.Resolve.{one_table}
 use Rattle.sql_meaning.proofs.Select.{IsSelect, IsPlannedSelect}
 use Rattle.package_tables.specs.Shapes.{int_at, text_at}
 use Rattle.package_tables.specs.Shown.{receipt_shown}
-use Rattle.package_tables.proofs.Looking.{IsKnown, IsRead}
+use Rattle.package_tables.proofs.Looking.{IsKnown, IsLookUp}
 use Rattle.package_tables.proofs.Values.{same_text}
 use Rattle.package_tables.proofs.Written.{receipt_shape_is}
 use Rattle.std.specs.Ordering.{on, int_cmp}
@@ -56,7 +56,7 @@ receipt_by_request_plan : (tree : ℕ) → IsPlannedSelect (sheet_receipts tree)
 unfolding resolving
 receipt_by_request_plan tree schema at h = rw (h.stored, h.by_tree) refl
 
-pub receipt_by_request : (request : List ℕ) → IsRead receipt_shape receipt_shown (codes "SELECT * FROM sheet_receipts WHERE request = ?1") (Text request ∷ []) (λ x. bytes_eq x.request request)
+pub receipt_by_request : (request : List ℕ) → IsLookUp receipt_shape receipt_shown (codes "SELECT * FROM sheet_receipts WHERE request = ?1") (Text request ∷ []) (λ x. bytes_eq x.request request)
 receipt_by_request request = record { test = _; by = _; selects = receipt_by_request_text; planned = receipt_by_request_plan; given = refl; listing = _; is = λ tree. refl; shows = λ v x. refl; passing = λ v x. same_text x.request request }
 
 all_receipts_text : (tree : ℕ) → IsSelect (codes "SELECT * FROM sheet_receipts ORDER BY seq") (sheet_receipts tree) always ((col 1 0, ascending) ∷ [])
@@ -81,7 +81,7 @@ all_receipts_plan : (tree : ℕ) → IsPlannedSelect (sheet_receipts tree) alway
 unfolding resolving
 all_receipts_plan tree schema at h = rw (h.stored, h.by_tree) refl
 
-pub all_receipts : IsRead receipt_shape receipt_shown (codes "SELECT * FROM sheet_receipts ORDER BY seq") [] (λ x. true)
+pub all_receipts : IsLookUp receipt_shape receipt_shown (codes "SELECT * FROM sheet_receipts ORDER BY seq") [] (λ x. true)
 all_receipts = record { test = _; by = _; selects = all_receipts_text; planned = all_receipts_plan; given = refl; listing = _; is = λ tree. refl; shows = λ v x. refl; passing = λ v x. refl }
 
 pub all_receipts_ranked : IsRanked all_receipts (on (λ x. x.seq) int_cmp)

@@ -18,7 +18,7 @@ use Rattle.package_tables.specs.Tables.{sheet_tiles}
 use Rattle.package_tables.specs.Shapes.{tile_shape, int_at, blob_at}
 use Rattle.package_tables.specs.Shown.{tile_shown}
 use Rattle.package_tables.specs.declared.rows.TileRow.{TileRow}
-use Rattle.package_tables.proofs.Looking.{IsKnown, IsRead, IsRanked}
+use Rattle.package_tables.proofs.Looking.{IsKnown, IsLookUp, IsRanked}
 use Rattle.package_tables.proofs.Newest.{IsNewest}
 use Rattle.package_tables.proofs.Ranking.{one_number}
 use Rattle.package_tables.proofs.Values.{same_number, both_same}
@@ -65,7 +65,7 @@ tile_by_id_plan : (tree : ℕ) → IsPlannedSelect (sheet_tiles tree) (equals 0 
 unfolding resolving
 tile_by_id_plan tree schema at h = rw (h.stored, h.by_tree) refl
 
-pub tile_by_id : (id : ℤ) → IsRead tile_shape tile_shown (codes "SELECT * FROM sheet_tiles WHERE id = ?1") (Int id ∷ []) (λ x. int_eq x.id id)
+pub tile_by_id : (id : ℤ) → IsLookUp tile_shape tile_shown (codes "SELECT * FROM sheet_tiles WHERE id = ?1") (Int id ∷ []) (λ x. int_eq x.id id)
 tile_by_id id = record { test = _; by = _; selects = tile_by_id_text; planned = tile_by_id_plan; given = refl; listing = _; is = λ tree. refl; shows = λ v x. refl; passing = λ v x. (same_number x.id id) }
 
 tile_at_text : (tree : ℕ) → IsSelect (codes "SELECT * FROM sheet_tiles WHERE zoom_level = ?1 AND tile_column = ?2 AND tile_row = ?3") (sheet_tiles tree) (both (both (equals 1 0) (equals 2 1)) (equals 3 2)) []
@@ -90,7 +90,7 @@ tile_at_plan : (tree : ℕ) → IsPlannedSelect (sheet_tiles tree) (both (both (
 unfolding resolving
 tile_at_plan tree schema at h = rw (h.stored, h.by_tree) refl
 
-pub tile_at : (zoom_level : ℤ) (tile_column : ℤ) (tile_row : ℤ) → IsRead tile_shape tile_shown (codes "SELECT * FROM sheet_tiles WHERE zoom_level = ?1 AND tile_column = ?2 AND tile_row = ?3") (Int zoom_level ∷ Int tile_column ∷ Int tile_row ∷ []) (λ x. int_eq x.zoom_level zoom_level && int_eq x.tile_column tile_column && int_eq x.tile_row tile_row)
+pub tile_at : (zoom_level : ℤ) (tile_column : ℤ) (tile_row : ℤ) → IsLookUp tile_shape tile_shown (codes "SELECT * FROM sheet_tiles WHERE zoom_level = ?1 AND tile_column = ?2 AND tile_row = ?3") (Int zoom_level ∷ Int tile_column ∷ Int tile_row ∷ []) (λ x. int_eq x.zoom_level zoom_level && int_eq x.tile_column tile_column && int_eq x.tile_row tile_row)
 tile_at zoom_level tile_column tile_row = record { test = _; by = _; selects = tile_at_text; planned = tile_at_plan; given = refl; listing = _; is = λ tree. refl; shows = λ v x. refl; passing = λ v x. (both_same (both_same (same_number x.zoom_level zoom_level) (same_number x.tile_column tile_column)) (same_number x.tile_row tile_row)) }
 
 all_text : (tree : ℕ) → IsSelect (codes "SELECT * FROM sheet_tiles ORDER BY id") (sheet_tiles tree) always ((col 1 0, ascending) ∷ [])
@@ -115,7 +115,7 @@ all_plan : (tree : ℕ) → IsPlannedSelect (sheet_tiles tree) always ((col 1 0,
 unfolding resolving
 all_plan tree schema at h = rw (h.stored, h.by_tree) refl
 
-pub all : IsRead tile_shape tile_shown (codes "SELECT * FROM sheet_tiles ORDER BY id") [] (λ x. true)
+pub all : IsLookUp tile_shape tile_shown (codes "SELECT * FROM sheet_tiles ORDER BY id") [] (λ x. true)
 all = record { test = _; by = _; selects = all_text; planned = all_plan; given = refl; listing = _; is = λ tree. refl; shows = λ v x. refl; passing = λ v x. refl }
 
 pub all_ranked : IsRanked all (on (λ x. x.id) int_cmp)

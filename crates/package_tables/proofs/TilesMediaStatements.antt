@@ -18,7 +18,7 @@ use Rattle.package_tables.specs.Tables.{tiles_media}
 use Rattle.package_tables.specs.Shapes.{tiles_media_shape, int_at}
 use Rattle.package_tables.specs.Shown.{mapping_shown}
 use Rattle.package_tables.specs.declared.rows.MappingRow.{MappingRow}
-use Rattle.package_tables.proofs.Looking.{IsKnown, IsRead, IsRanked}
+use Rattle.package_tables.proofs.Looking.{IsKnown, IsLookUp, IsRanked}
 use Rattle.package_tables.proofs.Ranking.{two_numbers}
 use Rattle.package_tables.proofs.Values.{same_number, both_same}
 use Rattle.package_tables.proofs.Written.{tiles_media_shape_is}
@@ -64,7 +64,7 @@ of_ends_plan : (tree : ℕ) → IsPlannedSelect (tiles_media tree) (both (equals
 unfolding resolving
 of_ends_plan tree schema at h = rw (h.stored, h.by_tree) refl
 
-pub of_ends : (base_id : ℤ) (related_id : ℤ) → IsRead tiles_media_shape mapping_shown (codes "SELECT * FROM tiles_media WHERE base_id = ?1 AND related_id = ?2") (Int base_id ∷ Int related_id ∷ []) (λ x. int_eq x.base_id base_id && int_eq x.related_id related_id)
+pub of_ends : (base_id : ℤ) (related_id : ℤ) → IsLookUp tiles_media_shape mapping_shown (codes "SELECT * FROM tiles_media WHERE base_id = ?1 AND related_id = ?2") (Int base_id ∷ Int related_id ∷ []) (λ x. int_eq x.base_id base_id && int_eq x.related_id related_id)
 of_ends base_id related_id = record { test = _; by = _; selects = of_ends_text; planned = of_ends_plan; given = refl; listing = _; is = λ tree. refl; shows = λ v x. refl; passing = λ v x. (both_same (same_number x.base_id base_id) (same_number x.related_id related_id)) }
 
 of_base_text : (tree : ℕ) → IsSelect (codes "SELECT * FROM tiles_media WHERE base_id = ?1") (tiles_media tree) (equals 0 0) []
@@ -89,7 +89,7 @@ of_base_plan : (tree : ℕ) → IsPlannedSelect (tiles_media tree) (equals 0 0) 
 unfolding resolving
 of_base_plan tree schema at h = rw (h.stored, h.by_tree) refl
 
-pub of_base : (base_id : ℤ) → IsRead tiles_media_shape mapping_shown (codes "SELECT * FROM tiles_media WHERE base_id = ?1") (Int base_id ∷ []) (λ x. int_eq x.base_id base_id)
+pub of_base : (base_id : ℤ) → IsLookUp tiles_media_shape mapping_shown (codes "SELECT * FROM tiles_media WHERE base_id = ?1") (Int base_id ∷ []) (λ x. int_eq x.base_id base_id)
 of_base base_id = record { test = _; by = _; selects = of_base_text; planned = of_base_plan; given = refl; listing = _; is = λ tree. refl; shows = λ v x. refl; passing = λ v x. (same_number x.base_id base_id) }
 
 of_related_text : (tree : ℕ) → IsSelect (codes "SELECT * FROM tiles_media WHERE related_id = ?1") (tiles_media tree) (equals 1 0) []
@@ -114,7 +114,7 @@ of_related_plan : (tree : ℕ) → IsPlannedSelect (tiles_media tree) (equals 1 
 unfolding resolving
 of_related_plan tree schema at h = rw (h.stored, h.by_tree) refl
 
-pub of_related : (related_id : ℤ) → IsRead tiles_media_shape mapping_shown (codes "SELECT * FROM tiles_media WHERE related_id = ?1") (Int related_id ∷ []) (λ x. int_eq x.related_id related_id)
+pub of_related : (related_id : ℤ) → IsLookUp tiles_media_shape mapping_shown (codes "SELECT * FROM tiles_media WHERE related_id = ?1") (Int related_id ∷ []) (λ x. int_eq x.related_id related_id)
 of_related related_id = record { test = _; by = _; selects = of_related_text; planned = of_related_plan; given = refl; listing = _; is = λ tree. refl; shows = λ v x. refl; passing = λ v x. (same_number x.related_id related_id) }
 
 all_text : (tree : ℕ) → IsSelect (codes "SELECT * FROM tiles_media ORDER BY base_id, related_id") (tiles_media tree) always ((col 1 1, ascending) ∷ (col 1 2, ascending) ∷ [])
@@ -139,7 +139,7 @@ all_plan : (tree : ℕ) → IsPlannedSelect (tiles_media tree) always ((col 1 1,
 unfolding resolving
 all_plan tree schema at h = rw (h.stored, h.by_tree) refl
 
-pub all : IsRead tiles_media_shape mapping_shown (codes "SELECT * FROM tiles_media ORDER BY base_id, related_id") [] (λ x. true)
+pub all : IsLookUp tiles_media_shape mapping_shown (codes "SELECT * FROM tiles_media ORDER BY base_id, related_id") [] (λ x. true)
 all = record { test = _; by = _; selects = all_text; planned = all_plan; given = refl; listing = _; is = λ tree. refl; shows = λ v x. refl; passing = λ v x. refl }
 
 pub all_ranked : IsRanked all (then_cmp (on (λ x. x.base_id) int_cmp) (on (λ x. x.related_id) int_cmp))

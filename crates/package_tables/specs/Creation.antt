@@ -31,17 +31,17 @@ abbrev pub new_tables : Frame → HeadRow → Tables
 new_tables f head = record (fixed_tables f head.created) { heads = head ∷ [] }
 
 -- the database has the tables of a package, and they say this
-pub record Says (db : Database) (t : Tables) : Type 0 where
+pub record HoldsTables (db : Database) (t : Tables) : Type 0 where
   pub formed : AreFormed db
   pub says : tables_of db ≡ t
 
 -- a database that was blank says this
 abbrev pub Fills : Tables → Database → Database → Type 0
-Fills t old new = IsBlank no_schema old → Says new t
+Fills t old new = IsBlank no_schema old → HoldsTables new t
 
 -- tables that said the first say the second
-abbrev pub Becomes : Tables → Tables → Tables → Tables → Type 0
-Becomes from to before after = before ≡ from → after ≡ to
+abbrev pub TablesBecome : Tables → Tables → Tables → Tables → Type 0
+TablesBecome from to before after = before ≡ from → after ≡ to
 
 -- one list that was the first becomes the second, and nothing else changes
 abbrev pub SystemsBecome : List SpatialRefSysRow → List SpatialRefSysRow → Tables → Tables → Type 0

@@ -9,7 +9,7 @@ ghost use Rattle.sql_meaning.specs.Blank.{IsBlank, no_schema};
 ghost use Rattle.sql_meaning.specs.Transactions.{Rests, Holds, Steps, Turns};
 ghost use Rattle.package_tables.specs.Calls.{OnTables};
 ghost use Rattle.package_tables.specs.Entries.{AddsHead};
-ghost use Rattle.package_tables.specs.Creation.{head_of, new_tables, Says, Fills, IsFitInfo};
+ghost use Rattle.package_tables.specs.Creation.{head_of, new_tables, HoldsTables, Fills, IsFitInfo};
 
 use crate::fault::Fault;
 use crate::fixed_rows::insert_fixed;
@@ -119,7 +119,7 @@ pub fn create<S: Alter + Drop>(
     requires frame { IsTrue (is_good_frame frame.now) }
     requires info { IsFitInfo info.now.depth info.now.loan }
     ensures made { (HasCleanDisk (state S.Store conn) → IsBlank no_schema (state S.Store conn).now) → IfOk result (λ made. HasCleanDisk (state S.Store made.conn)
-        → Says (state S.Store made.conn).now (new_tables frame.now (head_of info.now.package info.now.parent info.now.depth info.now.loan info.now.created.now)) × Holds (state S.Store made.conn) (state S.Store made.conn).now) }
+        → HoldsTables (state S.Store made.conn).now (new_tables frame.now (head_of info.now.package info.now.parent info.now.depth info.now.loan info.now.created.now)) × Holds (state S.Store made.conn) (state S.Store made.conn).now) }
     ensures rests { IfOk result (λ made. Rests (state S.Store made.conn)) }
     ensures clean { IfOk result (λ made. HasCleanDisk (state S.Store made.conn) → HasCleanDisk (state S.Store conn)) }
 {

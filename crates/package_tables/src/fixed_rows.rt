@@ -6,7 +6,7 @@ ghost use Rattle.sql_meaning.specs.Transactions.{Steps};
 ghost use Rattle.package_tables.specs.Calls.{OnTables};
 ghost use Rattle.package_tables.specs.Entries.{AddsContents};
 ghost use Rattle.package_tables.specs.Fixed.{is_standard, standard_systems, systems_of, content, contents_of, matrix_set, levels_of, two_relations};
-ghost use Rattle.package_tables.specs.Creation.{SystemsBecome, ContentsBecome, MatrixSetsBecome, RelationsBecome, Becomes, no_rows, fixed_tables};
+ghost use Rattle.package_tables.specs.Creation.{SystemsBecome, ContentsBecome, MatrixSetsBecome, RelationsBecome, TablesBecome, no_rows, fixed_tables};
 
 use crate::fault::Fault;
 use crate::fixed::{
@@ -151,7 +151,7 @@ pub(crate) fn insert_fixed<S: Alter>(
 ) -> Result<(), Fault>
     requires { IsTrue (is_good_frame frame.now) }
     ensures same_reference { tx.new.conn.ghost_name ≡ tx.old.conn.ghost_name }
-    ensures steps { Steps (λ _. OnTables (Becomes no_rows (fixed_tables frame.now at.now))) (state S.Store tx.old.conn.now) (state S.Store tx.new.conn.now) result }
+    ensures steps { Steps (λ _. OnTables (TablesBecome no_rows (fixed_tables frame.now at.now))) (state S.Store tx.old.conn.now) (state S.Store tx.new.conn.now) result }
 {
     insert_systems(alloc, tx, frame.srs_id)?;
     insert_all_contents(tx, frame, at)?;

@@ -223,7 +223,7 @@ def statements(t):
         "use Rattle.package_tables.specs.Shapes.{%s, int_at, text_at, blob_at}" % t["shape"],
         "use Rattle.package_tables.specs.Shown.{%s}" % t["shown"],
         "use Rattle.package_tables.specs.declared.rows.%s.{%s}" % (t["row"], t["row"]),
-        "use Rattle.package_tables.proofs.Looking.{IsKnown, IsRead, IsRanked}",
+        "use Rattle.package_tables.proofs.Looking.{IsKnown, IsLookUp, IsRanked}",
         "use Rattle.package_tables.proofs.Newest.{IsNewest}",
         "use Rattle.package_tables.proofs.Ranking.{one_number, two_numbers}",
         "use Rattle.package_tables.proofs.Values.{same_number, same_text, both_same}",
@@ -256,12 +256,12 @@ def statements(t):
         out += text_of(name, select_text(t, columns), t, test_of(t, columns), "[]", condition(columns))
         out += [
             "",
-            "pub %s : %s → IsRead %s %s (codes \"%s\") (%s) (λ x. %s)" % (name, arguments(t, columns), t["shape"], t["shown"], select_text(t, columns), bound(t, columns), keeps(t, columns, "x")),
+            "pub %s : %s → IsLookUp %s %s (codes \"%s\") (%s) (λ x. %s)" % (name, arguments(t, columns), t["shape"], t["shown"], select_text(t, columns), bound(t, columns), keeps(t, columns, "x")),
             "%s %s = %s" % (name, " ".join(columns), read_record(name, "λ v x. " + same(t, columns, "x"))),
         ]
     by = "(%s[])" % "".join("(col 1 %d, ascending) ∷ " % place(t, c) for c in t["by"])
     out += text_of("all", all_text(t), t, "always", by, "refl")
-    out += ["", "pub all : IsRead %s %s (codes \"%s\") [] (λ x. true)" % (t["shape"], t["shown"], all_text(t)), "all = %s" % read_record("all", "λ v x. refl")]
+    out += ["", "pub all : IsLookUp %s %s (codes \"%s\") [] (λ x. true)" % (t["shape"], t["shown"], all_text(t)), "all = %s" % read_record("all", "λ v x. refl")]
     out += ranked(t)
     if "greatest" in t:
         out += newest_facts(t)
