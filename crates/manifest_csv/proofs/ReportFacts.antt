@@ -1,6 +1,6 @@
 -- A report grows by a line for each reply.
 use Rattle.std.proofs.Common.{◌≡◌, ◌∙◌, ◌+◌, ◌++◌, [], ◌∷◌, ℕ, List, Result, length, drop, append_assoc, append-nil, ap, sym, subst, arith}
-use Rattle.manifest_csv.specs.Reports.{report_line, report_lines, report_of, report_header}
+use Rattle.manifest_csv.specs.Reports.{report_line, report_lines}
 use Rattle.sheet_types.specs.declared.receipt.Receipt.{Receipt}
 use Rattle.sheet_types.specs.declared.refusal.Refusal.{Refusal}
 use Rattle.sheet_types.specs.declared.command.Request.{Request}
@@ -19,9 +19,3 @@ lines_more n (d ∷ ds) (x ∷ xs) request rest reply h =
     ap (λ l. report_line n d.id x ++ l) (lines_more (n + 1) ds xs request rest reply h)
     ∙ sym (append_assoc (report_line n d.id x) (report_lines (n + 1) ds xs) (report_line (n + 1 + length xs) request.id reply))
     ∙ ap (λ k. (report_line n d.id x ++ report_lines (n + 1) ds xs) ++ report_line k request.id reply) later
-
-pub report_more : (requests : List Request) (replies : List (Result Receipt Refusal)) (request : Request) (rest : List Request) (reply : Result Receipt Refusal)
-    → drop (length replies) requests ≡ request ∷ rest
-    → report_of requests (replies ++ reply ∷ []) ≡ report_of requests replies ++ report_line (1 + length replies) request.id reply
-report_more requests replies request rest reply h =
-    ap (λ l. report_header ++ l) (lines_more 1 requests replies request rest reply h) ∙ sym (append_assoc report_header (report_lines 1 requests replies) (report_line (1 + length replies) request.id reply))
