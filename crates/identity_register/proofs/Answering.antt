@@ -8,7 +8,7 @@ use Rattle.std.proofs.lemmas.Slice.Eq.{bytes_eq-Decides}
 use Rattle.sheet_types.specs.Matrix.{is_within}
 use Rattle.sheet_types.specs.Refuse.{is_at}
 use Rattle.sheet_types.specs.Texts.{uuid_text, kind_of}
-use Rattle.sheet_types.specs.World.{Package, item_key, kind_number, item_of}
+use Rattle.sheet_types.specs.World.{Package, item_key, kind_number, item_of, has_item}
 use Rattle.sheet_types.specs.Lines.{IsUuid}
 use Rattle.sheet_types.specs.declared.command.Content.{Content}
 use Rattle.sheet_types.specs.declared.command.Content.TheVariants.{Tile, Media, Row}
@@ -108,13 +108,19 @@ module _ (f : Frame) (p : Package) (t : Tables) (says : Says f p t) where
       let theirs : find (λ y. bytes_eq y.item.identity m.item.identity) says.numbered ≡ Some m = find_itself m says.numbered says.numbers.identities i in
       some_same (sym (subst (λ id. find (λ y. bytes_eq y.item.identity id) says.numbered ≡ Some m) same theirs) ∙ mine)
 
-  -- an item is found under its identity
+  -- an item is there under its identity
+  pub item_there : (n : Numbered) → In n says.numbered → has_item p n.item.identity ≡ true
+  item_there n i =
+      let q : Item → Bool = λ x. bytes_eq x.identity n.item.identity in
+      let items : List Item = map (λ m. m.item) says.numbered in
+      ap (list_any q) says.items ∙ list_any-arranged item_key q items ∙ any_in q n.item items (In-map (λ m. m.item) n says.numbered i) (bytes_eq_itself n.item.identity)
+
+  -- and is found there
   pub item_is : (n : Numbered) → In n says.numbered → item_of p n.item.identity ≡ Some n.item
   item_is n i =
       let q : Item → Bool = λ x. bytes_eq x.identity n.item.identity in
       let items : List Item = map (λ m. m.item) says.numbered in
-      let any : list_any q p.items ≡ true = ap (list_any q) says.items ∙ list_any-arranged item_key q items ∙ any_in q n.item items (In-map (λ m. m.item) n says.numbered i) (bytes_eq_itself n.item.identity) in
-      let it = found q p.items any in
+      let it = found q p.items (item_there n i) in
       let all : AllByRecursion (λ x. In x items) p.items = subst (AllByRecursion (λ x. In x items)) (sym says.items) (All-arranged item_key (λ x. In x items) items (In-all items)) in
       let here = All-found (λ x. In x items) q it.0 p.items it.1 all in
       let m = In-of_map (λ y. y.item) it.0 says.numbered here.0 in

@@ -1,15 +1,15 @@
--- What the rows of the mapping tables say of the links of a package.
+-- What the rows of the mapping tables say of the links of a package, and the rows of its ends of the state of a link.
 use Rattle.std.proofs.Common.{◌≡◌, ℕ, pos, List, [], ◌∷◌, ◌++◌, map, Bool, true, false, refl, sym, ap, subst, ◌∙◌, length, inl, inr}
-use Rattle.std.specs.Prelude.{◌&&◌, ◌||◌, ◌==◌, bytes_eq, flat_map, unsigned_abs, Contains}
+use Rattle.std.specs.Prelude.{◌&&◌, ◌||◌, not, if◌then◌else◌, ◌==◌, bytes_eq, flat_map, unsigned_abs, Contains}
 use Rattle.std.specs.List.{AllByRecursion, list_any}
 use Rattle.std.specs.Ordering.{int_eq}
-use Rattle.std.proofs.lemmas.Bool.{true≢false, and_parts, and_from}
+use Rattle.std.proofs.lemmas.Bool.{true≢false, and_parts, and_from, and_right}
 use Rattle.std.proofs.lemmas.Slice.Eq.{bytes_eq-Decides}
 use borrow.Author.Tests.{eqb-true}
 use Rattle.sheet_types.specs.Cut.{has_end}
 use Rattle.sheet_types.specs.Ordered.{has}
 use Rattle.sheet_types.specs.Texts.{uuid_text, kind_of}
-use Rattle.sheet_types.specs.World.{Package, item_key, link_key, link_kind, kind_number, base_kind, other_kind, has_item}
+use Rattle.sheet_types.specs.World.{Package, item_key, link_key, link_kind, kind_number, base_kind, other_kind, has_item, has_kind}
 use Rattle.sheet_types.specs.Lines.{IsUuid}
 use Rattle.sheet_types.specs.Register.{HasEnds}
 use Rattle.sheet_types.specs.declared.command.Content.{Content}
@@ -30,13 +30,15 @@ use Rattle.package_tables.specs.Package.{Tables}
 use Rattle.package_tables.specs.Mappings.{mapping_rows}
 use Rattle.package_tables.specs.declared.rows.IdentityRow.{IdentityRow}
 use Rattle.package_tables.specs.declared.rows.MappingRow.{MappingRow}
-use Rattle.identity_register.specs.Answers.{is_linked_row, are_ends}
+use Rattle.identity_register.specs.Answers.{is_linked_row, are_ends, link_state}
+use Rattle.identity_register.specs.declared.look_ups.LinkState.{LinkState}
+use Rattle.identity_register.specs.declared.look_ups.LinkState.TheVariants.{UnknownEnd, WrongKinds, Absent, There}
 use Rattle.identity_register.specs.Numbering.{Numbered, place_in_tables, identity_row, number_of, mapping_row, tiles_media_rows, rows_media_rows, is_pair}
 use Rattle.identity_register.specs.Reads.{Says}
 use Rattle.identity_register.proofs.Deleting.{same_tests, same_number, pos_same}
 use Rattle.identity_register.proofs.Linking.{same_mapping, end_of, number_is, pair_same, one_passes, bytes_eq_append}
 use Rattle.identity_register.proofs.Adding.{other_end}
-use Rattle.identity_register.proofs.Answering.{any_flat_map, item_of_row}
+use Rattle.identity_register.proofs.Answering.{any_flat_map, item_of_row, item_there}
 use Rattle.identity_register.proofs.MappingTables.{rows_in, rows_there, pair_key, table_says}
 use Rattle.identity_register.proofs.Finding.{in_range, no_row_of_uuid}
 
@@ -65,6 +67,27 @@ any_or a b (x ∷ xs) = or_both (a x) (list_any a xs) (b x) (list_any b xs) ∙ 
 pub any_same : {X : Type 0} (a b : X → Bool) (xs : List X) → AllByRecursion (λ x. a x ≡ b x) xs → list_any a xs ≡ list_any b xs
 any_same a b [] h = refl
 any_same a b (x ∷ xs) h = ap (λ v. v || list_any a xs) h.0 ∙ ap (λ v. b x || v) (any_same a b xs h.1)
+
+-- ---- the states of a link
+
+-- the state by the three things that are asked in turn: whether the ends are known, whether they are of the right kinds, whether the link is there
+abbrev pub state_by : Bool → Bool → Bool → LinkState
+state_by known right there = if not known then UnknownEnd else if not right then WrongKinds else if there then There else Absent
+
+abbrev pub is_there : LinkState → Bool
+is_there UnknownEnd = false
+is_there WrongKinds = false
+is_there Absent = false
+is_there There = true
+
+-- where each follows from the next, the last tells the state
+there_last : (known right there : Bool) → (there ≡ true → right ≡ true) → (right ≡ true → known ≡ true) → is_there (state_by known right there) ≡ there
+there_last true true true h g = refl
+there_last true true false h g = refl
+there_last true false true h g = absurd (true≢false (sym (h refl)))
+there_last true false false h g = refl
+there_last false right false h g = refl
+there_last false right true h g = absurd (true≢false (sym (g (h refl))))
 
 module _ (f : Frame) (p : Package) (t : Tables) (says : Says f p t) where
   -- the end of a link is an item where the kind and the number are
@@ -183,22 +206,29 @@ module _ (f : Frame) (p : Package) (t : Tables) (says : Says f p t) where
         subst (λ b. has item_key (kind_number (other_kind l.mapping) ∷ b) p.items ≡ true) media_is (subst (λ m. has item_key (kind_number (other_kind m) ∷ x.media) p.items ≡ true) mapping ends.1),
       )
 
-  -- what has no end is no link
-  no_link_unless : (l : Relation) → IsUuid l.base → (HasEnds p l → ⊥) → has link_key (link_key l) p.links ≡ false
-  no_link_unless l fit none = one (has link_key (link_key l) p.links) refl
+  -- an item of a kind is an item
+  item_of_kind : (kind : MovedKind) (id : List ℕ) → has_kind p kind id ≡ true → has_item p id ≡ true
+  item_of_kind kind id here = one (has_item p id) refl
     where
-      one : (b : Bool) → has link_key (link_key l) p.links ≡ b → b ≡ false
-      one false e = refl
-      one true e = absurd (none (ends_there l fit e))
+      one : (b : Bool) → has_item p id ≡ b → b ≡ true
+      one true e = refl
+      one false e = absurd (true≢false (sym (bytes_eq_itself id) ∙ other_end p (kind_number kind) id id e here))
 
-  absent : (kind : MovedKind) (id : List ℕ) → has_item p id ≡ false → has item_key (kind_number kind ∷ id) p.items ≡ true → ⊥
-  absent kind id none here = true≢false (sym (bytes_eq_itself id) ∙ other_end p (kind_number kind) id id none here)
+  -- a link that is there has ends that are known, of its kinds
+  pub link_told : (l : Relation) → IsUuid l.base → is_there (link_state p l) ≡ has link_key (link_key l) p.links
+  link_told l fit = there_last (has_item p l.base && has_item p l.media) (has_kind p (base_kind l.mapping) l.base && has_kind p (other_kind l.mapping) l.media) (has link_key (link_key l) p.links)
+      (λ there. let ends = ends_there l fit there in and_from _ _ ends.0 ends.1)
+      (λ right. let ends = and_parts (has_kind p (base_kind l.mapping) l.base) (has_kind p (other_kind l.mapping) l.media) right in and_from _ _ (item_of_kind (base_kind l.mapping) l.base ends.0) (item_of_kind (other_kind l.mapping) l.media ends.1))
 
-  pub no_base : (l : Relation) → IsUuid l.base → list_any (λ r. bytes_eq r.uuid (uuid_text l.base)) t.identities ≡ false → has link_key (link_key l) p.links ≡ false
-  no_base l fit none = no_link_unless l fit (λ ends. absent (base_kind l.mapping) l.base (no_row_of_uuid f p t says l.base none) ends.0)
+  -- an end that no row has is not known
+  pub no_base : (l : Relation) → list_any (λ r. bytes_eq r.uuid (uuid_text l.base)) t.identities ≡ false → UnknownEnd ≡ link_state p l
+  no_base l none =
+      ap (λ b. state_by (b && has_item p l.media) (has_kind p (base_kind l.mapping) l.base && has_kind p (other_kind l.mapping) l.media) (has link_key (link_key l) p.links)) (sym (no_row_of_uuid f p t says l.base none))
 
-  pub no_other : (l : Relation) → IsUuid l.base → list_any (λ r. bytes_eq r.uuid (uuid_text l.media)) t.identities ≡ false → has link_key (link_key l) p.links ≡ false
-  no_other l fit none = no_link_unless l fit (λ ends. absent (other_kind l.mapping) l.media (no_row_of_uuid f p t says l.media none) ends.1)
+  pub no_other : (l : Relation) → list_any (λ r. bytes_eq r.uuid (uuid_text l.media)) t.identities ≡ false → UnknownEnd ≡ link_state p l
+  no_other l none =
+      ap (λ b. state_by b (has_kind p (base_kind l.mapping) l.base && has_kind p (other_kind l.mapping) l.media) (has link_key (link_key l) p.links))
+      (sym (and_right (has_item p l.base) (has_item p l.media) (no_row_of_uuid f p t says l.media none)))
 
   -- the kind of an end, by its row
   kind_there : (n : Numbered) → In n says.numbered → (kind : MovedKind) → has item_key (kind_number kind ∷ n.item.identity) p.items ≡ true → (kind_number kind == kind_number (kind_of n.item.content)) ≡ true
@@ -211,10 +241,10 @@ module _ (f : Frame) (p : Package) (t : Tables) (says : Says f p t) where
       ap (list_any q) says.items ∙ list_any-arranged item_key q items ∙ any_in q n.item items (In-map (λ m. m.item) n says.numbered i) (subst (λ k. bytes_eq (item_key n.item) (k ∷ n.item.identity) ≡ true) e (bytes_eq_itself (item_key n.item)))
 
   module _ (l : Relation) (n m : Numbered) (base_in : In n says.numbered) (other_in : In m says.numbered) (base_named : n.item.identity ≡ l.base) (other_named : m.item.identity ≡ l.media) where
-    wrong_ends : IsUuid l.base → are_ends l.mapping (identity_row n).kind (identity_row m).kind ≡ false → has link_key (link_key l) p.links ≡ false
-    wrong_ends fit wrong = no_link_unless l fit (λ ends. true≢false (sym (and_from _ _
+    ends_right : HasEnds p l → are_ends l.mapping (identity_row n).kind (identity_row m).kind ≡ true
+    ends_right ends = and_from _ _
         (pos_same _ _ ∙ kind_there n base_in (base_kind l.mapping) (rw base_named ends.0))
-        (pos_same _ _ ∙ kind_there m other_in (other_kind l.mapping) (rw other_named ends.1))) ∙ wrong))
+        (pos_same _ _ ∙ kind_there m other_in (other_kind l.mapping) (rw other_named ends.1))
 
     right_ends : are_ends l.mapping (identity_row n).kind (identity_row m).kind ≡ true → HasEnds p l
     right_ends right =
@@ -241,17 +271,47 @@ module _ (f : Frame) (p : Package) (t : Tables) (says : Says f p t) where
           | inr at ↦ rw at.1 (sym (ap (λ v. v && bytes_eq (x.base ++ x.media) (l.base ++ l.media)) at.0))
         ]
 
-  -- by the rows of its ends, a link is not there or its row is
+  -- by the rows of its ends
   module _ (l : Relation) (base_fit : IsUuid l.base) (other_fit : IsUuid l.media) (base other : IdentityRow) (base_row : Contains t.identities base × (bytes_eq base.uuid (uuid_text l.base) ≡ true)) (other_row : Contains t.identities other × (bytes_eq other.uuid (uuid_text l.media) ≡ true)) where
-    pub no_such_link : are_ends l.mapping base.kind other.kind ≡ false → has link_key (link_key l) p.links ≡ false
-    no_such_link wrong =
+    -- both are known
+    known_ends : (has_item p l.base && has_item p l.media) ≡ true
+    known_ends =
         let n = item_of_row f p t says l.base base_fit base base_row in
         let m = item_of_row f p t says l.media other_fit other other_row in
-        wrong_ends l n.0 m.0 n.1 m.1 n.3 m.3 base_fit (ap (λ r. are_ends l.mapping r.kind (identity_row m.0).kind) n.2 ∙ ap (λ r. are_ends l.mapping base.kind r.kind) m.2 ∙ wrong)
+        and_from _ _ (subst (λ x. has_item p x ≡ true) n.3 (item_there f p t says n.0 n.1)) (subst (λ x. has_item p x ≡ true) m.3 (item_there f p t says m.0 m.1))
 
+    -- they are of the kinds of the link where their rows are
+    kinds_told : are_ends l.mapping base.kind other.kind ≡ (has_kind p (base_kind l.mapping) l.base && has_kind p (other_kind l.mapping) l.media)
+    kinds_told =
+        let n = item_of_row f p t says l.base base_fit base base_row in
+        let m = item_of_row f p t says l.media other_fit other other_row in
+        let rows : are_ends l.mapping (identity_row n.0).kind (identity_row m.0).kind ≡ are_ends l.mapping base.kind other.kind = ap (λ r. are_ends l.mapping r.kind (identity_row m.0).kind) n.2 ∙ ap (λ r. are_ends l.mapping base.kind r.kind) m.2 in
+        both (are_ends l.mapping base.kind other.kind) (has_kind p (base_kind l.mapping) l.base && has_kind p (other_kind l.mapping) l.media)
+        (λ right. let ends = right_ends l n.0 m.0 n.1 m.1 n.3 m.3 (rows ∙ right) in and_from _ _ ends.0 ends.1)
+        (λ kinds. sym rows ∙ ends_right l n.0 m.0 n.1 m.1 n.3 m.3 (and_parts (has_kind p (base_kind l.mapping) l.base) (has_kind p (other_kind l.mapping) l.media) kinds))
+      where
+        both : (a b : Bool) → (a ≡ true → b ≡ true) → (b ≡ true → a ≡ true) → a ≡ b
+        both true true h g = refl
+        both true false h g = sym (h refl)
+        both false true h g = g refl
+        both false false h g = refl
+
+    pub wrong_kinds : are_ends l.mapping base.kind other.kind ≡ false → WrongKinds ≡ link_state p l
+    wrong_kinds wrong =
+        ap (λ b. state_by true b (has link_key (link_key l) p.links)) (sym wrong ∙ kinds_told)
+        ∙ ap (λ b. state_by b (has_kind p (base_kind l.mapping) l.base && has_kind p (other_kind l.mapping) l.media) (has link_key (link_key l) p.links)) (sym known_ends)
+
+    -- whether its row is there
     pub link_by_rows : are_ends l.mapping base.kind other.kind ≡ true → list_any (λ r. is_pair r (record { base_id = base.local_id; related_id = other.local_id })) (mapping_rows l.mapping t) ≡ has link_key (link_key l) p.links
     link_by_rows right =
         let n = item_of_row f p t says l.base base_fit base base_row in
         let m = item_of_row f p t says l.media other_fit other other_row in
         let row : mapping_row says.numbered l ≡ record { base_id = base.local_id; related_id = other.local_id } = row_is l n.0 m.0 n.1 m.1 n.3 m.3 ∙ ap (λ r. record { base_id = r.local_id; related_id = m.0.number }) n.2 ∙ ap (λ r. record { base_id = base.local_id; related_id = r.local_id }) m.2 in
-        subst (λ row. list_any (λ r. is_pair r row) (mapping_rows l.mapping t) ≡ has link_key (link_key l) p.links) row (pair_told l n.0 m.0 n.1 m.1 n.3 m.3 (right_ends l n.0 m.0 n.1 m.1 n.3 m.3 (ap (λ r. are_ends l.mapping r.kind (identity_row m.0).kind) n.2 ∙ ap (λ r. are_ends l.mapping base.kind r.kind) m.2 ∙ right)))
+        let kinds = and_parts (has_kind p (base_kind l.mapping) l.base) (has_kind p (other_kind l.mapping) l.media) (sym kinds_told ∙ right) in
+        subst (λ row. list_any (λ r. is_pair r row) (mapping_rows l.mapping t) ≡ has link_key (link_key l) p.links) row (pair_told l n.0 m.0 n.1 m.1 n.3 m.3 kinds)
+
+    pub right_kinds : (there : Bool) → are_ends l.mapping base.kind other.kind ≡ true → there ≡ list_any (λ r. is_pair r (record { base_id = base.local_id; related_id = other.local_id })) (mapping_rows l.mapping t) → state_by true true there ≡ link_state p l
+    right_kinds there right told =
+        ap (λ b. state_by true true b) (told ∙ link_by_rows right)
+        ∙ ap (λ b. state_by true b (has link_key (link_key l) p.links)) (sym right ∙ kinds_told)
+        ∙ ap (λ b. state_by b (has_kind p (base_kind l.mapping) l.base && has_kind p (other_kind l.mapping) l.media) (has link_key (link_key l) p.links)) (sym known_ends)

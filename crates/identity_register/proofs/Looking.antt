@@ -78,3 +78,17 @@ sees_last Last (Err e) first next says = fails (Err e) refl (stays_then first.st
 pub tells_so : {X E : Type 0} (Last Answer : Tables → X → Type 0) {a b : State} (r : Result X E) → Looks {X = X} {E = E} (Answers Last) a b r → ((t : Tables) (x : X) → Last t x → Answer t x) → Looks {X = X} {E = E} (Answers Answer) a b r
 tells_so Last Answer (Ok x) it so = tells Answer (looked Last refl it) (λ t. so t x)
 tells_so Last Answer (Err e) it so = fails (Err e) refl (looks_stays it)
+
+-- what a look tells of the package says what follows from it
+pub sees_so : {X Y E E' : Type 0} (Given : Frame → Package → X → Type 0) {Answer : Frame → Package → Y → Type 0} {old new : State} {r : Result X E} {x : X} {y : Y} → r ≡ Ok x → Looks {X = X} {E = E} (Sees Given) old new r
+    → ((f : Frame) (p : Package) (t : Tables) → Says f p t → Given f p x → Answer f p y) → Looks {X = Y} {E = E'} (Sees Answer) old new (Ok y)
+sees_so {X} {E} Given {old} {new} {r} {x} is looks so = record {
+  rests = it.rests;
+  done = λ clean. let d = it.done clean in (d.0, (d.1.0, λ f p reads. so f p (tables_of old.now) reads.says (d.1.1 f p reads)));
+  was_open = it.was_open;
+  holds = it.holds;
+  survives = it.survives;
+}
+  where
+    it : Looks {X = X} {E = E} (Sees Given) old new (Ok x)
+    it = subst (Looks (Sees Given) old new) is looks

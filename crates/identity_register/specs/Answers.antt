@@ -1,12 +1,16 @@
--- What the mapping tables answer of rows.
-use Rattle.std.specs.Prelude.{◌≡◌, ℤ, pos, Bool, Contains, if◌then◌else◌, ◌||◌, ◌&&◌}
+-- What the tables of a package answer of rows, and a package of a link.
+use Rattle.std.specs.Prelude.{◌≡◌, ℤ, pos, Bool, Contains, not, if◌then◌else◌, ◌||◌, ◌&&◌}
 use Rattle.std.specs.List.{list_any}
 use Rattle.std.specs.Ordering.{int_eq}
-use Rattle.sheet_types.specs.World.{kind_number, base_kind, other_kind}
+use Rattle.sheet_types.specs.Ordered.{has}
+use Rattle.sheet_types.specs.World.{Package, has_item, has_kind, link_key, kind_number, base_kind, other_kind}
 use Rattle.sheet_types.specs.declared.command.Content.{Content}
 use Rattle.sheet_types.specs.declared.command.Content.TheVariants.{Tile, Media, Row}
 use Rattle.sheet_types.specs.declared.command.Mapping.{Mapping}
+use Rattle.sheet_types.specs.declared.command.Relation.{Relation}
 use Rattle.package_tables.specs.Package.{Tables}
+use Rattle.identity_register.specs.declared.look_ups.LinkState.{LinkState}
+use Rattle.identity_register.specs.declared.look_ups.LinkState.TheVariants.{UnknownEnd, WrongKinds, Absent, There}
 
 abbrev pub is_linked_medium : ℤ → Tables → Bool
 is_linked_medium number t = list_any (λ r. int_eq r.related_id number) t.tiles_media || list_any (λ r. int_eq r.related_id number) t.rows_media
@@ -21,6 +25,14 @@ is_linked_row kind number t =
 -- these numbers tell the kinds that a mapping relates
 abbrev pub are_ends : Mapping → ℤ → ℤ → Bool
 are_ends m base other = int_eq (pos (kind_number (base_kind m))) base && int_eq (pos (kind_number (other_kind m))) other
+
+-- How a link that is to come in stands in a package: the first of these in the order in which a link is judged, first whether its ends are known, then their kinds, then the link itself. Profile.
+abbrev pub link_state : Package → Relation → LinkState
+link_state p l =
+    if not (has_item p l.base && has_item p l.media) then UnknownEnd
+    else if not (has_kind p (base_kind l.mapping) l.base && has_kind p (other_kind l.mapping) l.media) then WrongKinds
+    else if has link_key (link_key l) p.links then There
+    else Absent
 
 -- the row of this kind and number has this content
 abbrev pub IsContentOf : ℤ → ℤ → Tables → Content → Type 0

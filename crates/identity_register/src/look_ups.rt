@@ -12,7 +12,7 @@ ghost use Rattle.sheet_types.specs.Texts.{kind_of, uuid_text};
 ghost use Rattle.sheet_types.specs.World.{item_of, link_key, kind_number, is_item_kind};
 ghost use Rattle.sheet_types.specs.declared.receipt.MovedKind.{MovedKind};
 ghost use Rattle.package_tables.specs.Calls.{LooksUp, IsOneOf};
-ghost use Rattle.identity_register.specs.Answers.{is_linked_medium, is_linked_row, are_ends, IsContentOf};
+ghost use Rattle.identity_register.specs.Answers.{is_linked_medium, is_linked_row, are_ends, link_state, IsContentOf};
 ghost use Rattle.identity_register.specs.Calls.{Sees};
 
 use crate::kinds::{MEDIUM, ROW, TILE};
@@ -84,7 +84,7 @@ pub fn has_tile_at<S: Alter>(
     Ok(found.is_some())
 }
 
-/// Whether rows of these kinds can be the ends of a relation.
+/// Whether rows of these kinds can be the ends of a relation (OGC 18-000, user-defined mapping tables).
 fn are_ends(mapping: Mapping, base: i64, other: i64) -> bool
     ensures { result ≡ are_ends mapping base other }
 {
@@ -94,22 +94,55 @@ fn are_ends(mapping: Mapping, base: i64, other: i64) -> bool
     }
 }
 
+/// What a package says of a link that is to come in.
+#[derive(Clone, Copy, PartialEq, Eq)]
+pub enum LinkState {
+    /// The package has no item of one of the ends, or of neither.
+    UnknownEnd,
+    /// It has both, and one is not of the kind that the mapping relates.
+    WrongKinds,
+    /// The ends are right, and no link relates them.
+    Absent,
+    /// The package has this link.
+    There,
+}
+
+/// How a link stands in the package: the rows of its ends are looked up, and their pair where they are of the right kinds.
+pub fn link_state<S: Alter>(
+    conn: &mut Connection<S>,
+    relation: Relation,
+) -> Result<LinkState, Fault>
+    requires { Rests (state S.Store conn.old) }
+    ensures told { Looks (Sees (λ f p found. found ≡ link_state p relation)) (state S.Store conn.old) (state S.Store conn.new) result }
+    ensures fit { IsUuid relation.base }
+{
+    let Some(base) = row_of(conn, relation.base)? else {
+        return Ok(LinkState::UnknownEnd);
+    };
+    let Some(other) = row_of(conn, relation.media)? else {
+        return Ok(LinkState::UnknownEnd);
+    };
+    if !are_ends(relation.mapping, base.kind, other.kind) {
+        return Ok(LinkState::WrongKinds);
+    }
+    let pair = pair_of_ends(conn, relation.mapping, base.local_id, other.local_id)?;
+    let there = pair.is_some();
+    Ok(if there {
+        LinkState::There
+    } else {
+        LinkState::Absent
+    })
+}
+
 /// Whether the package has this link.
 pub fn has_link<S: Alter>(conn: &mut Connection<S>, relation: Relation) -> Result<bool, Fault>
     requires { Rests (state S.Store conn.old) }
     ensures { Looks (Sees (λ f p found. found ≡ has link_key (link_key relation) p.links)) (state S.Store conn.old) (state S.Store conn.new) result }
 {
-    let Some(base) = row_of(conn, relation.base)? else {
-        return Ok(false);
-    };
-    let Some(other) = row_of(conn, relation.media)? else {
-        return Ok(false);
-    };
-    if !are_ends(relation.mapping, base.kind, other.kind) {
-        return Ok(false);
+    match link_state(conn, relation)? {
+        LinkState::There => Ok(true),
+        LinkState::UnknownEnd | LinkState::WrongKinds | LinkState::Absent => Ok(false),
     }
-    let found = pair_of_ends(conn, relation.mapping, base.local_id, other.local_id)?;
-    Ok(found.is_some())
 }
 
 /// Whether a mapping table names the medium of this number.

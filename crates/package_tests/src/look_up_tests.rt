@@ -1,7 +1,9 @@
 // What the look-ups answer of packages in memory: a tile with a medium and a row that is linked to nothing, and a row with a
 // medium beside a tile and another row that are linked to nothing. What is expected follows from what was put in.
 
-use identity_register::look_ups::{find, has_link, has_tile_at, is_linked, kind_of_item};
+use identity_register::look_ups::{
+    LinkState, find, has_link, has_tile_at, is_linked, kind_of_item, link_state,
+};
 use package_tables::attributes::insert_attribute;
 use package_tables::fault::Fault;
 use package_tables::identities::insert_identity;
@@ -77,6 +79,19 @@ fn related<S: Alter>(
     )
 }
 
+fn relation_state<S: Alter>(
+    conn: &mut Connection<S>,
+    mapping: Mapping,
+    base: u128,
+    media: u128,
+) -> Result<LinkState, Fault> {
+    if !is_at_rest(conn) {
+        return Err(Fault::StoreFault);
+    }
+    let relation = Relation::new(mapping, Uuid::from_u128(base), Uuid::from_u128(media));
+    link_state(conn, relation)
+}
+
 fn code<S: Alter>(conn: &mut Connection<S>, id: u128) -> Result<i64, Fault> {
     if !is_at_rest(conn) {
         return Err(Fault::StoreFault);
@@ -123,5 +138,27 @@ fn look_ups_tell_links_of_rows_from_those_of_tiles(rt: HostRuntime) -> Result<()
     assert!(rt; !linked(&mut conn, 4)?);
     assert!(rt; !linked(&mut conn, 1)?);
     assert!(rt; code(&mut conn, 4)? == 32);
+    Ok(())
+}
+
+// Both ends are to be known before their kinds are judged.
+#[test]
+fn a_link_that_is_to_come_in_has_a_state(rt: HostRuntime) -> Result<(), Fail> {
+    let mut conn = Connection::open_in_memory(rt.alloc())?;
+    assert!(rt; filled_with_rows(&mut conn)?);
+    let unknown_base = relation_state(&mut conn, Mapping::RowsMedia, 9, 2)?;
+    assert!(rt; unknown_base == LinkState::UnknownEnd);
+    let unknown_medium = relation_state(&mut conn, Mapping::TilesMedia, 3, 9)?;
+    assert!(rt; unknown_medium == LinkState::UnknownEnd);
+    let row_for_tile = relation_state(&mut conn, Mapping::TilesMedia, 3, 2)?;
+    assert!(rt; row_for_tile == LinkState::WrongKinds);
+    let ends_exchanged = relation_state(&mut conn, Mapping::RowsMedia, 2, 3)?;
+    assert!(rt; ends_exchanged == LinkState::WrongKinds);
+    let of_a_tile = relation_state(&mut conn, Mapping::TilesMedia, 1, 2)?;
+    assert!(rt; of_a_tile == LinkState::Absent);
+    let of_another_row = relation_state(&mut conn, Mapping::RowsMedia, 4, 2)?;
+    assert!(rt; of_another_row == LinkState::Absent);
+    let there = relation_state(&mut conn, Mapping::RowsMedia, 3, 2)?;
+    assert!(rt; there == LinkState::There);
     Ok(())
 }

@@ -1,6 +1,6 @@
 -- The first reason that holds, by what was looked up.
 use Rattle.std.proofs.Common.{◌≡◌, ℕ, ℤ, List, [], ◌∷◌, Bool, true, false, Option, Some, None, refl, sym, ap, ◌∙◌}
-use Rattle.std.specs.Prelude.{drop, not, ◌&&◌, is_some, option_map}
+use Rattle.std.specs.Prelude.{drop, not, ◌&&◌, ◌||◌, if◌then◌else◌, cond, find, bytes_eq, is_some, option_map}
 use Rattle.std.specs.Bool.{then_some}
 use Rattle.std.specs.List.{list_any}
 use Rattle.sheet_types.specs.Cut.{has_end}
@@ -8,15 +8,16 @@ use Rattle.sheet_types.specs.Ordered.{has}
 use Rattle.sheet_types.specs.Matrix.{first_row, has_place, in_frame}
 use Rattle.sheet_types.specs.Refuse.{is_at}
 use Rattle.sheet_types.specs.Texts.{kind_of}
-use Rattle.sheet_types.specs.World.{Package, item_of, has_item, has_kind, kind_is, base_kind, other_kind, link_key}
+use Rattle.sheet_types.specs.World.{Package, item_of, has_item, has_kind, base_kind, other_kind, link_key}
 use Rattle.sheet_types.specs.declared.command.Relation.{Relation}
 use Rattle.sheet_types.specs.declared.frame.Frame.{Frame}
 use Rattle.sheet_types.specs.declared.receipt.MovedKind.{MovedKind}
+use Rattle.sheet_types.specs.declared.refusal.Refusal.{Refusal}
 use Rattle.sheet_types.specs.declared.refusal.Refusal.TheVariants.{UnknownItem, WrongKind, BadPlace, OutOfFrame, PlaceTaken, LinkThere, Linked}
-use Rattle.package_tables.specs.Package.{Tables}
-use Rattle.identity_register.specs.Reads.{Says}
+use Rattle.identity_register.specs.Answers.{link_state}
+use Rattle.identity_register.specs.declared.look_ups.LinkState.{LinkState}
+use Rattle.identity_register.specs.declared.look_ups.LinkState.TheVariants.{UnknownEnd, WrongKinds, Absent, There}
 use Rattle.world.specs.Reasons.{tile_reasons, delete_reasons, link_reasons}
-use Rattle.world.proofs.ItemKinds.{item_known, kind_known}
 
 -- ---- rows
 
@@ -46,6 +47,9 @@ IsNamed id f p found = found ≡ list_any (has_end id) p.links
 abbrev pub IsThere : Relation → Frame → Package → Bool → Type 0
 IsThere l f p found = found ≡ has link_key (link_key l) p.links
 
+abbrev pub IsState : Relation → Frame → Package → LinkState → Type 0
+IsState l f p found = found ≡ link_state p l
+
 -- ---- a tile
 
 pub no_place : (f g : Frame) (p : Package) (zoom column row : ℤ) (has_one : Bool) → has_one ≡ has_place g zoom column row → has_one ≡ false → f ≡ g → Some BadPlace ≡ first_row (tile_reasons f p zoom column row)
@@ -64,6 +68,19 @@ on_frame f g x y inside is same = ap (λ b. then_some (not b) OutOfFrame) (is �
 
 -- ---- an item that goes
 
+-- one passes where one is found
+any_found : {X : Type 0} (q : X → Bool) (xs : List X) → list_any q xs ≡ is_some (find q xs)
+any_found q [] = refl
+any_found q (x ∷ xs) = elim (q x) as (λ v. (v || list_any q xs) ≡ is_some (cond v (Some x) (find q xs))) [ true ↦ refl | false ↦ any_found q xs ]
+
+some_mapped : {X Y : Type 0} (f : X → Y) (o : Option X) → is_some (option_map f o) ≡ is_some o
+some_mapped f None = refl
+some_mapped f (Some x) = refl
+
+-- an item is there where its kind is found
+item_known : (p : Package) (id : List ℕ) (found : Option MovedKind) → found ≡ option_map (λ i. kind_of i.content) (item_of p id) → has_item p id ≡ is_some found
+item_known p id found is = any_found (λ i. bytes_eq i.identity id) p.items ∙ sym (some_mapped (λ i. kind_of i.content) (item_of p id)) ∙ ap is_some (sym is)
+
 pub no_item : (f : Frame) (p : Package) (id : List ℕ) (found : Option MovedKind) → KindIs id f p found → is_some found ≡ false → Some UnknownItem ≡ first_row (delete_reasons p id)
 no_item f p id found is none = holds (not (has_item p id)) UnknownItem (drop 1 (delete_reasons p id)) (ap not (item_known p id found is ∙ none))
 
@@ -74,32 +91,18 @@ an_item f p id found linked is some told =
 
 -- ---- a link that comes
 
-not-and-false : (a : Bool) → not (a && false) ≡ true
-not-and-false true = refl
-not-and-false false = refl
+-- the reason that a state of the link tells
+abbrev pub reason_told : LinkState → Option Refusal
+reason_told UnknownEnd = Some UnknownItem
+reason_told WrongKinds = Some WrongKind
+reason_told Absent = None
+reason_told There = Some LinkThere
 
-pub no_base : (f : Frame) (p : Package) (l : Relation) → KindIs l.base f p None → Some UnknownItem ≡ first_row (link_reasons p l)
-no_base f p l is = holds (not (has_item p l.base && has_item p l.media)) UnknownItem (drop 1 (link_reasons p l)) (ap (λ b. not (b && has_item p l.media)) (item_known p l.base None is))
-
-pub no_media : (f : Frame) (p : Package) (l : Relation) → KindIs l.media f p None → Some UnknownItem ≡ first_row (link_reasons p l)
-no_media f p l is = holds (not (has_item p l.base && has_item p l.media)) UnknownItem (drop 1 (link_reasons p l)) (ap (λ b. not (has_item p l.base && b)) (item_known p l.media None is) ∙ not-and-false (has_item p l.base))
-
-module _ (f : Frame) (p : Package) (t : Tables) (says : Says f p t) (l : Relation) (base media : MovedKind) (base_is : KindIs l.base f p (Some base)) (media_is : KindIs l.media f p (Some media)) where
-  both_there : not (has_item p l.base && has_item p l.media) ≡ false
-  both_there = ap (λ b. not (b && has_item p l.media)) (item_known p l.base (Some base) base_is) ∙ ap not (item_known p l.media (Some media) media_is)
-
-  kinds_are : (has_kind p (base_kind l.mapping) l.base && has_kind p (other_kind l.mapping) l.media) ≡ (kind_is base (base_kind l.mapping) && kind_is media (other_kind l.mapping))
-  kinds_are =
-      ap (λ b. b && has_kind p (other_kind l.mapping) l.media) (kind_known f p t says l.base base (base_kind l.mapping) base_is)
-      ∙ ap (λ b. kind_is base (base_kind l.mapping) && b) (kind_known f p t says l.media media (other_kind l.mapping) media_is)
-
-  pub wrong_kinds : (right : Bool) → right ≡ (kind_is base (base_kind l.mapping) && kind_is media (other_kind l.mapping)) → right ≡ false → Some WrongKind ≡ first_row (link_reasons p l)
-  wrong_kinds right is wrong =
-      holds (not (has_kind p (base_kind l.mapping) l.base && has_kind p (other_kind l.mapping) l.media)) WrongKind (drop 2 (link_reasons p l)) (ap not (kinds_are ∙ sym is ∙ wrong))
-      ∙ sym (passes (not (has_item p l.base && has_item p l.media)) UnknownItem (drop 1 (link_reasons p l)) both_there)
-
-  pub right_kinds : (right there : Bool) → right ≡ (kind_is base (base_kind l.mapping) && kind_is media (other_kind l.mapping)) → right ≡ true → IsThere l f p there → then_some there LinkThere ≡ first_row (link_reasons p l)
-  right_kinds right there is so told =
-      ap (λ b. then_some b LinkThere) told ∙ last (has link_key (link_key l) p.links) LinkThere
-      ∙ sym (passes (not (has_kind p (base_kind l.mapping) l.base && has_kind p (other_kind l.mapping) l.media)) WrongKind (drop 2 (link_reasons p l)) (ap not (kinds_are ∙ sym is ∙ so)))
-      ∙ sym (passes (not (has_item p l.base && has_item p l.media)) UnknownItem (drop 1 (link_reasons p l)) both_there)
+pub reason_is : (p : Package) (l : Relation) → reason_told (link_state p l) ≡ first_row (link_reasons p l)
+reason_is p l = each (has_item p l.base && has_item p l.media) (has_kind p (base_kind l.mapping) l.base && has_kind p (other_kind l.mapping) l.media) (has link_key (link_key l) p.links)
+  where
+    each : (known right there : Bool) → reason_told (if not known then UnknownEnd else if not right then WrongKinds else if there then There else Absent) ≡ first_row ((not known, UnknownItem) ∷ (not right, WrongKind) ∷ (there, LinkThere) ∷ [])
+    each true true true = refl
+    each true true false = refl
+    each true false there = refl
+    each false right there = refl

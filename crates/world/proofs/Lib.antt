@@ -1,5 +1,4 @@
 pub mod Seeing
-pub mod ItemKinds
 pub mod FirstRows
 pub mod Parts
 pub mod Carrying

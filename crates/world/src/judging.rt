@@ -1,18 +1,18 @@
 // Why a package does not take a command. Each reason is looked up by a key or an index, and the look-ups stop at the first that holds. An error is want of memory, or a store that failed, and tells nothing of the package.
-ghost use Rattle.std.specs.Prelude.{◌≡◌, ◌&&◌, IsTrue};
+ghost use Rattle.std.specs.Prelude.{◌≡◌, IsTrue};
 ghost use Rattle.sqlite.specs.Held.{state};
 ghost use Rattle.sql_meaning.specs.Transactions.{Rests};
 ghost use Rattle.sheet_types.specs.Matrix.{is_good_frame, first_row};
-ghost use Rattle.sheet_types.specs.World.{kind_is, base_kind, other_kind};
 ghost use Rattle.world.specs.Calls.{Judges};
 ghost use Rattle.world.specs.Reasons.{tile_reasons, content_reasons, delete_reasons, link_reasons, unlink_reasons, package_reasons};
 
-use identity_register::look_ups::{has_link, has_tile_at, is_linked, kind_of_item};
+use identity_register::look_ups::{
+    LinkState, has_link, has_tile_at, is_linked, kind_of_item, link_state,
+};
 use matrix_rules::ground::{has_place, in_frame};
 use package_tables::fault::Fault;
-use sheet_types::command::{Command, Content, Mapping, Relation};
+use sheet_types::command::{Command, Content, Relation};
 use sheet_types::frame::Frame;
-use sheet_types::receipt::MovedKind;
 use sheet_types::refusal::Refusal;
 use sqlite::{Alter, Connection};
 use uuid::Uuid;
@@ -75,17 +75,6 @@ fn refusal_of_delete<S: Alter>(
     Ok(linked.then_some(Refusal::Linked))
 }
 
-/// Whether items of these kinds can be the ends of a link. OGC 18-000, user-defined mapping tables.
-fn are_ends(mapping: Mapping, base: MovedKind, media: MovedKind) -> bool
-    ensures { result ≡ (kind_is base (base_kind mapping) && kind_is media (other_kind mapping)) }
-{
-    let wanted = match mapping {
-        Mapping::TilesMedia => MovedKind::TileItem,
-        Mapping::RowsMedia => MovedKind::RowItem,
-    };
-    base.number() == wanted.number() && media.number() == MovedKind::MediaItem.number()
-}
-
 /// Why a link does not come in.
 fn refusal_of_link<S: Alter>(
     conn: &mut Connection<S>,
@@ -94,17 +83,12 @@ fn refusal_of_link<S: Alter>(
     requires { Rests (state S.Store conn.old) }
     ensures { Judges (λ f p found. found ≡ first_row (link_reasons p relation)) (state S.Store conn.old) (state S.Store conn.new) result }
 {
-    let Some(base) = kind_of_item(conn, relation.base)? else {
-        return Ok(Some(Refusal::UnknownItem));
-    };
-    let Some(media) = kind_of_item(conn, relation.media)? else {
-        return Ok(Some(Refusal::UnknownItem));
-    };
-    if !are_ends(relation.mapping, base, media) {
-        return Ok(Some(Refusal::WrongKind));
+    match link_state(conn, relation)? {
+        LinkState::UnknownEnd => Ok(Some(Refusal::UnknownItem)),
+        LinkState::WrongKinds => Ok(Some(Refusal::WrongKind)),
+        LinkState::There => Ok(Some(Refusal::LinkThere)),
+        LinkState::Absent => Ok(None),
     }
-    let there = has_link(conn, relation)?;
-    Ok(there.then_some(Refusal::LinkThere))
 }
 
 /// Why a link does not go.
