@@ -1,5 +1,5 @@
 -- The line of an addition says of the item what a receipt says of it.
-use Rattle.std.proofs.Common.{◌≡◌, ◌∙◌, sym, ap, subst, refl, ℕ, List, Some, Result, Ok, Err, IfOk, string_bytes}
+use Rattle.std.proofs.Common.{◌≡◌, sym, subst, refl, ℕ, List, Some, Result, Ok, Err, IfOk, string_bytes}
 use Rattle.sheet_types.specs.Step.{added_item}
 use Rattle.sheet_types.specs.Texts.{Adds, entry_line, line}
 use Rattle.sheet_types.specs.World.{item_moved}
