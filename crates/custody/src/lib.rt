@@ -3,7 +3,7 @@
 
 pub mod keeping;
 
-ghost use Rattle.std.specs.Prelude.{◌≡◌, ◌<◌, ◌≤◌, ◌||◌, [], pos, IfOk, IfErr, length};
+ghost use Rattle.std.specs.Prelude.{◌≡◌, ◌<◌, ◌≤◌, ◌||◌, [], pos, IfOk, IfErr};
 ghost use Rattle.std.specs.List.{list_any};
 ghost use Rattle.std.specs.Option.{option_map_or};
 ghost use Rattle.hex.specs.Hex.{encode_lower};
@@ -11,7 +11,6 @@ ghost use Rattle.sqlite.specs.Held.{state};
 ghost use Rattle.sql_meaning.specs.Transactions.{Rests, Looks, Steps};
 ghost use Rattle.sql_meaning.specs.Writing.{EachChained};
 ghost use Rattle.sheet_types.specs.Lines.{uuid_in};
-ghost use Rattle.sheet_types.specs.Reading.{optional_uuid_text};
 ghost use Rattle.sheet_types.specs.Texts.{uuid_text};
 ghost use Rattle.sheet_types.specs.World.{with_receipt};
 ghost use Rattle.package_tables.specs.Calls.{LooksUp, OnTables};
@@ -27,6 +26,7 @@ use package_tables::moved::{insert_moved, moved_of_kind};
 use package_tables::receipts::insert_receipt;
 use sheet_types::fingerprints::spell;
 use sheet_types::receipt::{Moved, Receipt};
+use sheet_types::words::OrEmpty;
 use sqlite::{Alter, Connection, Transaction};
 use uuid::Uuid;
 
@@ -41,17 +41,6 @@ fn stored(number: u64) -> Result<i64, Fault>
         return Err(Fault::StoreFault);
     }
     Ok(number as i64)
-}
-
-/// The text of a UUID that may be missing: empty where it is.
-fn end_text(end: Option<Uuid>, buffer: &mut [u8]) -> &str
-    requires { 36 ≤ length buffer.old }
-    ensures { result.now ≡ optional_uuid_text end }
-{
-    match end {
-        Some(id) => id.hyphenated().encode_lower(buffer),
-        None => "",
-    }
 }
 
 /// The text of a fingerprint that may be missing: empty where it is.
@@ -81,7 +70,7 @@ fn enter_moved<S: Alter>(
     let mut base_buffer = Uuid::encode_buffer();
     let base = moved.base.hyphenated().encode_lower(&mut base_buffer);
     let mut other_buffer = Uuid::encode_buffer();
-    let other = end_text(moved.other, &mut other_buffer);
+    let other = OrEmpty(moved.other).encode_lower(&mut other_buffer);
     let mut digest_buffer = [0; 64];
     let digest = digest_text(moved.fingerprint, &mut digest_buffer);
     insert_moved(tx, seq, position, kind, base, other, size, digest)
@@ -119,9 +108,9 @@ fn enter_row<S: Alter>(tx: &mut Transaction<'_, S>, receipt: &Receipt) -> Result
         .hyphenated()
         .encode_lower(&mut request_buffer);
     let mut source_buffer = Uuid::encode_buffer();
-    let source = end_text(receipt.source, &mut source_buffer);
+    let source = OrEmpty(receipt.source).encode_lower(&mut source_buffer);
     let mut target_buffer = Uuid::encode_buffer();
-    let target = end_text(receipt.target, &mut target_buffer);
+    let target = OrEmpty(receipt.target).encode_lower(&mut target_buffer);
     let at = receipt.at.as_str();
     let line = receipt.line.as_str();
     insert_receipt(

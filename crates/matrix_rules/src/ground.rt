@@ -41,7 +41,8 @@ pub fn has_place(frame: &Frame, zoom: i64, column: i64, row: i64) -> bool
     if !has_level(frame, zoom) {
         return false;
     }
-    (0 <= column) & (column < columns_at(frame, zoom)) & (0 <= row) & (row < rows_at(frame, zoom))
+    let axes = axes_at(frame, zoom);
+    (0 <= column) & (column < axes.across.tiles) & (0 <= row) & (row < axes.down.tiles)
 }
 
 /// Whether both ends of the rectangle are places, the first not past the last.

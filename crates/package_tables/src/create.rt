@@ -1,10 +1,8 @@
 //! A package with nothing in it: its tables, the rows that each package has, and its head.
-ghost use Rattle.std.specs.Prelude.{◌≡◌, ◌≤◌, List, ℕ, Option, [], string_bytes, IfOk, IsTrue, true, false};
-ghost use Rattle.std.specs.Option.{option_map_or};
+ghost use Rattle.std.specs.Prelude.{◌≡◌, IfOk, IsTrue};
 ghost use Rattle.sqlite.specs.State.{HasCleanDisk};
 ghost use Rattle.sqlite.specs.Held.{state};
 ghost use Rattle.sheet_types.specs.Matrix.{is_good_frame};
-ghost use Rattle.sheet_types.specs.Texts.{uuid_text};
 ghost use Rattle.sql_meaning.specs.Blank.{IsBlank, no_schema};
 ghost use Rattle.sql_meaning.specs.Transactions.{Rests, Holds, Steps, Turns};
 ghost use Rattle.package_tables.specs.Calls.{OnTables};
@@ -17,8 +15,9 @@ use crate::head::insert_head;
 use crate::package::Package;
 use crate::schema::create_schema;
 use sheet_types::frame::Frame;
+use sheet_types::words::OrEmpty;
 use sqlite::{Alter, Connection, Transaction};
-use std::alloc::{AllocError, Global};
+use std::alloc::Global;
 use uuid::Uuid;
 
 /// What the head of a package says (profile): its UUID, its parent (none for the archive), how many loans it is below the archive (0 or 1), the
@@ -32,41 +31,19 @@ pub struct Info<'t> {
     pub created: &'t str,
 }
 
-/// A UUID that may be missing: the empty text where it is.
-fn parent_text(alloc: Global, parent: Option<Uuid>) -> Result<String, AllocError>
-    ensures { IfOk result (λ text. string_bytes text ≡ option_map_or uuid_text parent []) }
-{
-    match parent {
-        Some(uuid) => format!(in alloc; "{uuid}"),
-        None => Ok(String::new(alloc)),
-    }
-}
-
 /// The row of the head.
-fn insert_info<S: Alter>(
-    alloc: Global,
-    tx: &mut Transaction<'_, S>,
-    info: &Info<'_>,
-) -> Result<(), Fault>
+fn insert_info<S: Alter>(tx: &mut Transaction<'_, S>, info: &Info<'_>) -> Result<(), Fault>
     requires { IsFitInfo info.now.depth info.now.loan }
     ensures same_reference { tx.new.conn.ghost_name ≡ tx.old.conn.ghost_name }
     ensures steps { Steps (λ _. OnTables (AddsHead (head_of info.now.package info.now.parent info.now.depth info.now.loan info.now.created.now))) (state S.Store tx.old.conn.now) (state S.Store tx.new.conn.now) result }
 {
-    let uuid = info.package;
-    let package = format!(in alloc; "{uuid}")?;
-    let parent = parent_text(alloc, info.parent)?;
+    let mut package_buffer = Uuid::encode_buffer();
+    let package = info.package.hyphenated().encode_lower(&mut package_buffer);
+    let mut parent_buffer = Uuid::encode_buffer();
+    let parent = OrEmpty(info.parent).encode_lower(&mut parent_buffer);
     let depth = info.depth as i64;
     let loan = info.loan as i64;
-    insert_head(
-        tx,
-        1,
-        1,
-        package.as_str(),
-        parent.as_str(),
-        depth,
-        loan,
-        info.created,
-    )
+    insert_head(tx, 1, 1, package, parent, depth, loan, info.created)
 }
 
 /// All that a new package has.
@@ -83,7 +60,7 @@ fn fill<S: Alter>(
 {
     create_schema(tx)?;
     insert_fixed(alloc, tx, frame, info.created)?;
-    insert_info(alloc, tx, info)
+    insert_info(tx, info)
 }
 
 /// Makes a package in a store that is blank, in one transaction.

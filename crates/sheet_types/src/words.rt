@@ -1,5 +1,5 @@
 // The words of lists, lines and manifests.
-ghost use Rattle.std.specs.Prelude.{◌≡◌, ◌≢◌, IfSome, IfNone, Some};
+ghost use Rattle.std.specs.Prelude.{◌≡◌, ◌≢◌, ◌≤◌, IfSome, IfNone, Some, length};
 ghost use Rattle.sheet_types.specs.Reading.{optional_uuid_text};
 ghost use Rattle.sheet_types.specs.Texts.{kind_word, mapping_word, mode_word};
 ghost use Rattle.sheet_types.specs.declared.command.Mapping.{Mapping};
@@ -51,14 +51,25 @@ impl fmt::Display for Mode {
 #[derive(Clone, Copy, PartialEq, Eq)]
 pub struct OrEmpty(pub Option<Uuid>);
 
+impl OrEmpty {
+    /// The text, which is written into the buffer; the buffer of `Uuid::encode_buffer` is long enough.
+    pub fn encode_lower(self, buffer: &mut [u8]) -> &str
+        requires { 36 ≤ length buffer.old }
+        ensures { result.now ≡ optional_uuid_text self.0 }
+    {
+        match self.0 {
+            Some(id) => id.hyphenated().encode_lower(buffer),
+            None => "",
+        }
+    }
+}
+
 impl fmt::Display for OrEmpty {
     ghost output = { λ id. Some (optional_uuid_text id.0) };
 
     fn fmt<W: fmt::Write>(&self, f: &mut fmt::Formatter<W>) -> fmt::Result {
-        match self.0 {
-            Some(id) => write!(f, "{id}"),
-            None => f.write_str(""),
-        }
+        let mut buffer = Uuid::encode_buffer();
+        f.write_str(self.encode_lower(&mut buffer))
     }
 }
 

@@ -10,4 +10,4 @@ returns-clause-steps g c =
     let size_fits : FitsSigned w64 c.in_ok-size.size = search rules in
     moved_steps c.args.seq c.args.position c.args.moved (simp (to_z-of_z, seq_fits, position_fits, size_fits) at c.insert_moved.ensures.wrote) c.insert_moved.ensures.survives
     c.in_ok-seq.ensures.stored c.in_ok-position.ensures.stored (ap (to_z w64) c.number-kind.ensures ∙ kind_stored c.args.moved.kind) (c.encode_lower-base.ensures.text ∙ ap uuid_text c.hyphenated.ensures)
-    c.end_text-other.ensures c.in_ok-size.ensures.stored c.digest_text-digest.ensures
+    c.encode_lower-other.ensures c.in_ok-size.ensures.stored c.digest_text-digest.ensures
