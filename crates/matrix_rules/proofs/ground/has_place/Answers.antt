@@ -8,9 +8,8 @@ returns c =
     let zoom = c.ranges.zoom in
     let column = c.ranges.column in
     let row = c.ranges.row in
-    let columns : FitsSigned w64 c.columns_at.result = search rules in
-    let rows : FitsSigned w64 c.rows_at.result = search rules in
+    let columns : FitsSigned w64 c.axes_at-axes.result.across.tiles = search rules in
+    let rows : FitsSigned w64 c.axes_at-axes.result.down.tiles = search rules in
     let level : has_level c.args.frame.now c.args.zoom ≡ true = search rules in
-    let width = simp to_z-of_z at c.columns_at.ensures in
-    let height = simp to_z-of_z at c.rows_at.ensures in
-    simp to_z-of_z (rw (level, width, height) refl)
+    let axes = simp to_z-of_z at c.axes_at-axes.ensures.axes in
+    simp to_z-of_z (rw (level, axes) refl)
