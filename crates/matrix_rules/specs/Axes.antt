@@ -1,6 +1,7 @@
 -- The axes of a frame at one zoom, both by the same numbers.
-use Rattle.std.specs.Prelude.{◌^◌, ℤ, pos, ◌-ℤ◌, ◌*ℤ◌, ◌≤ℤ◌, int_div, unsigned_abs}
+use Rattle.std.specs.Prelude.{◌^◌, ℤ, pos, ◌*ℤ◌, ◌≤ℤ◌, int_div, unsigned_abs}
 use Rattle.sheet_types.specs.declared.frame.Frame.{Frame}
+use Rattle.sheet_types.specs.Matrix.{width_at, height_at, level_of, pixel_x_size, pixel_y_size, tile_span_x, tile_span_y}
 use Rattle.matrix_rules.specs.declared.axis.Axis.{Axis}
 use Rattle.matrix_rules.specs.declared.axis.Axes.{Axes}
 
@@ -12,10 +13,11 @@ axis_of extent tile matrix level = record {
   span = tile *ℤ int_div extent (matrix *ℤ pos (2 ^ unsigned_abs level) *ℤ tile);
 }
 
+-- in the words of the model
 abbrev pub axes : Frame → ℤ → Axes
 axes f zoom = record {
-  across = axis_of (f.max_x -ℤ f.min_x) f.tile_width f.matrix_width (zoom -ℤ f.first_zoom);
-  down = axis_of (f.max_y -ℤ f.min_y) f.tile_height f.matrix_height (zoom -ℤ f.first_zoom);
+  across = record { tiles = width_at f (level_of f zoom); pixel_size = pixel_x_size f zoom; span = tile_span_x f zoom };
+  down = record { tiles = height_at f (level_of f zoom); pixel_size = pixel_y_size f zoom; span = tile_span_y f zoom };
 }
 
 -- how far from the start of an axis its tiles may begin and end

@@ -1,4 +1,4 @@
-// The axes of a frame at one zoom.
+// The axes of a frame at one zoom: what a tile matrix says (OGC GeoPackage 1.3, 2.2.7).
 ghost use Rattle.std.specs.Prelude.{◌≡◌, pos, ◌*ℤ◌, ◌≤ℤ◌, int_div, IsTrue};
 ghost use Rattle.sheet_types.specs.Matrix.{is_good_frame, has_level};
 ghost use Rattle.matrix_rules.specs.Axes.{axis_of, axes, HasPixels, IsAxis, IsOffset};
@@ -8,13 +8,13 @@ use sheet_types::frame::Frame;
 
 /// One axis of a frame at one zoom.
 #[derive(Clone, Copy)]
-pub(crate) struct Axis {
-    /// The tiles along it.
-    pub(crate) tiles: i64,
+pub struct Axis {
+    /// The tiles along it: the columns or the rows.
+    pub tiles: i64,
     /// The size of a pixel on the ground.
-    pub(crate) pixel_size: i64,
+    pub pixel_size: i64,
     /// The size of a tile on the ground.
-    pub(crate) span: i64,
+    pub span: i64,
 }
 
 impl Axis {
@@ -31,15 +31,15 @@ impl Axis {
 
 /// Both axes of a frame at one zoom.
 #[derive(Clone, Copy)]
-pub(crate) struct Axes {
+pub struct Axes {
     /// From west to east.
-    pub(crate) across: Axis,
+    pub across: Axis,
     /// From north to south.
-    pub(crate) down: Axis,
+    pub down: Axis,
 }
 
-/// The axes of a frame at this zoom.
-pub(crate) fn axes_at(frame: &Frame, zoom: i64) -> Axes
+/// The axes of a frame at a zoom level that it has. Each level doubles the tiles of the one before (profile).
+pub fn axes_at(frame: &Frame, zoom: i64) -> Axes
     requires good { IsTrue (is_good_frame frame.now) }
     requires level { IsTrue (has_level frame.now zoom) }
     ensures axes { result ≡ axes frame.now zoom }

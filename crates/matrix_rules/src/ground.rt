@@ -1,6 +1,6 @@
 // The ground of tiles and of rectangles, and what lies inside.
 ghost use Rattle.std.specs.Prelude.{◌≡◌, IsTrue};
-ghost use Rattle.sheet_types.specs.Matrix.{is_good_frame, has_level, width_at, height_at, level_of, pixel_x_size, pixel_y_size, has_place, block_ground, tile_ground, is_good_rect, lies_within, tile_inside, has_point, point_inside, in_frame, one_tile};
+ghost use Rattle.sheet_types.specs.Matrix.{is_good_frame, has_level, has_place, block_ground, tile_ground, is_good_rect, lies_within, tile_inside, has_point, point_inside, in_frame, one_tile};
 ghost use Rattle.matrix_rules.specs.Axes.{IsOffset};
 ghost use Rattle.matrix_rules.specs.Places.{offsets};
 
@@ -13,24 +13,6 @@ pub(crate) fn has_level(frame: &Frame, zoom: i64) -> bool
 {
     let end = frame.first_zoom + frame.levels;
     (frame.first_zoom <= zoom) & (zoom < end)
-}
-
-/// The columns of a zoom level that the frame has. Each level doubles them (profile).
-pub fn columns_at(frame: &Frame, zoom: i64) -> i64
-    requires good { IsTrue (is_good_frame frame.now) }
-    requires level { IsTrue (has_level frame.now zoom) }
-    ensures { result ≡ width_at frame.now (level_of frame.now zoom) }
-{
-    axes_at(frame, zoom).across.tiles
-}
-
-/// The rows of a zoom level that the frame has. Each level doubles them (profile).
-pub fn rows_at(frame: &Frame, zoom: i64) -> i64
-    requires good { IsTrue (is_good_frame frame.now) }
-    requires level { IsTrue (has_level frame.now zoom) }
-    ensures { result ≡ height_at frame.now (level_of frame.now zoom) }
-{
-    axes_at(frame, zoom).down.tiles
 }
 
 /// Whether there is such a tile: the frame has the zoom, and the column and the row are among its.
@@ -53,24 +35,6 @@ pub fn is_good(frame: &Frame, rect: &Rect) -> bool
     let first = has_place(frame, rect.zoom, rect.column, rect.row);
     let last = has_place(frame, rect.zoom, rect.last_column, rect.last_row);
     first & last & (rect.column <= rect.last_column) & (rect.row <= rect.last_row)
-}
-
-/// The width of a pixel of a zoom level on the ground.
-pub fn pixel_x_size(frame: &Frame, zoom: i64) -> i64
-    requires good { IsTrue (is_good_frame frame.now) }
-    requires level { IsTrue (has_level frame.now zoom) }
-    ensures { result ≡ pixel_x_size frame.now zoom }
-{
-    axes_at(frame, zoom).across.pixel_size
-}
-
-/// The height of a pixel of a zoom level on the ground.
-pub fn pixel_y_size(frame: &Frame, zoom: i64) -> i64
-    requires good { IsTrue (is_good_frame frame.now) }
-    requires level { IsTrue (has_level frame.now zoom) }
-    ensures { result ≡ pixel_y_size frame.now zoom }
-{
-    axes_at(frame, zoom).down.pixel_size
 }
 
 /// Where the ground of a rectangle begins and ends along both axes of its frame.

@@ -1,9 +1,7 @@
 // Frames, grounds, edges and spans whose values were worked out by hand and by a second program.
+use crate::axis::axes_at;
 use crate::check::FrameRules;
-use crate::ground::{
-    columns_at, ground, has_place, in_frame, is_good, pixel_x_size, pixel_y_size, point_inside,
-    rows_at, tile_inside,
-};
+use crate::ground::{ground, has_place, in_frame, is_good, point_inside, tile_inside};
 use crate::reach::span;
 use crate::spans::Span;
 use sheet_types::frame::{Frame, FrameFault, Ground, Rect};
@@ -259,29 +257,29 @@ fn frames_at_their_limits(rt: HostRuntime) {
 
 #[test]
 fn columns_and_rows_of_each_zoom(rt: HostRuntime) {
-    assert_eq!(rt; columns_at(&SQUARE, 0), 1);
-    assert_eq!(rt; rows_at(&SQUARE, 2), 4);
-    assert_eq!(rt; columns_at(&OBLONG, 2), 3);
-    assert_eq!(rt; rows_at(&OBLONG, 2), 2);
-    assert_eq!(rt; columns_at(&OBLONG, 3), 6);
-    assert_eq!(rt; rows_at(&OBLONG, 3), 4);
-    assert_eq!(rt; columns_at(&GREATEST, 20), 488_281_250);
-    assert_eq!(rt; rows_at(&GREATEST, 20), 488_281_250);
+    assert_eq!(rt; axes_at(&SQUARE, 0).across.tiles, 1);
+    assert_eq!(rt; axes_at(&SQUARE, 2).down.tiles, 4);
+    assert_eq!(rt; axes_at(&OBLONG, 2).across.tiles, 3);
+    assert_eq!(rt; axes_at(&OBLONG, 2).down.tiles, 2);
+    assert_eq!(rt; axes_at(&OBLONG, 3).across.tiles, 6);
+    assert_eq!(rt; axes_at(&OBLONG, 3).down.tiles, 4);
+    assert_eq!(rt; axes_at(&GREATEST, 20).across.tiles, 488_281_250);
+    assert_eq!(rt; axes_at(&GREATEST, 20).down.tiles, 488_281_250);
 }
 
 #[test]
 fn pixels_of_each_zoom(rt: HostRuntime) {
     // 4096 over 4 tiles of 256.
-    assert_eq!(rt; pixel_x_size(&SQUARE, 2), 4);
-    assert_eq!(rt; pixel_y_size(&SQUARE, 0), 16);
+    assert_eq!(rt; axes_at(&SQUARE, 2).across.pixel_size, 4);
+    assert_eq!(rt; axes_at(&SQUARE, 0).down.pixel_size, 16);
     // 6000 over 3 and over 6 tiles of 10, 1200 over 2 and over 4 tiles of 5.
-    assert_eq!(rt; pixel_x_size(&OBLONG, 2), 200);
-    assert_eq!(rt; pixel_x_size(&OBLONG, 3), 100);
-    assert_eq!(rt; pixel_y_size(&OBLONG, 2), 120);
-    assert_eq!(rt; pixel_y_size(&OBLONG, 3), 60);
+    assert_eq!(rt; axes_at(&OBLONG, 2).across.pixel_size, 200);
+    assert_eq!(rt; axes_at(&OBLONG, 3).across.pixel_size, 100);
+    assert_eq!(rt; axes_at(&OBLONG, 2).down.pixel_size, 120);
+    assert_eq!(rt; axes_at(&OBLONG, 3).down.pixel_size, 60);
     // 2 * 10^12 over 488281250 tiles of 4096.
-    assert_eq!(rt; pixel_x_size(&GREATEST, 20), 1);
-    assert_eq!(rt; pixel_y_size(&GREATEST, 20), 1);
+    assert_eq!(rt; axes_at(&GREATEST, 20).across.pixel_size, 1);
+    assert_eq!(rt; axes_at(&GREATEST, 20).down.pixel_size, 1);
 }
 
 #[test]

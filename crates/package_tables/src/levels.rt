@@ -10,7 +10,7 @@ ghost use Rattle.package_tables.specs.Creation.{MatricesBecome};
 
 use crate::fault::Fault;
 use crate::fixed::insert_tile_matrix;
-use matrix_rules::ground::{columns_at, pixel_x_size, pixel_y_size, rows_at};
+use matrix_rules::axis::axes_at;
 use sheet_types::frame::Frame;
 use sqlite::{Alter, Transaction};
 
@@ -25,20 +25,17 @@ fn insert_level<S: Alter>(
     ensures same_reference { tx.new.conn.ghost_name ≡ tx.old.conn.ghost_name }
     ensures steps { Steps (λ _. OnTables (AddsTileMatrix (level_row frame.now zoom))) (state S.Store tx.old.conn.now) (state S.Store tx.new.conn.now) result }
 {
-    let width = columns_at(frame, zoom);
-    let height = rows_at(frame, zoom);
-    let across = pixel_x_size(frame, zoom);
-    let down = pixel_y_size(frame, zoom);
+    let axes = axes_at(frame, zoom);
     insert_tile_matrix(
         tx,
         "sheet_tiles",
         zoom,
-        width,
-        height,
+        axes.across.tiles,
+        axes.down.tiles,
         frame.tile_width,
         frame.tile_height,
-        across,
-        down,
+        axes.across.pixel_size,
+        axes.down.pixel_size,
     )
 }
 

@@ -10,11 +10,11 @@ returns-clause-steps g c =
     let zoom = c.ranges.zoom in
     let tile_width : FitsSigned w64 a.frame.now.tile_width = search rules in
     let tile_height : FitsSigned w64 a.frame.now.tile_height = search rules in
-    let width : FitsSigned w64 c.columns_at-width.result = search rules in
-    let height : FitsSigned w64 c.rows_at-height.result = search rules in
-    let across : FitsSigned w64 c.pixel_x_size-across.result = search rules in
-    let down : FitsSigned w64 c.pixel_y_size-down.result = search rules in
+    let width : FitsSigned w64 c.axes_at-axes.result.across.tiles = search rules in
+    let height : FitsSigned w64 c.axes_at-axes.result.down.tiles = search rules in
+    let across : FitsSigned w64 c.axes_at-axes.result.across.pixel_size = search rules in
+    let down : FitsSigned w64 c.axes_at-axes.result.down.pixel_size = search rules in
     let made = simp (to_z-of_z, zoom, tile_width, tile_height, width, height, across, down) at c.insert_tile_matrix.ensures.wrote in
     makes_steps (AddsTileMatrix (level_row a.frame.now a.zoom))
-    (rw (simp (to_z-of_z, zoom) at c.columns_at-width.ensures, simp (to_z-of_z, zoom) at c.rows_at-height.ensures, simp (to_z-of_z, zoom) at c.pixel_x_size-across.ensures, simp (to_z-of_z, zoom) at c.pixel_y_size-down.ensures) at made)
+    (rw (simp (to_z-of_z, zoom) at c.axes_at-axes.ensures.axes) at made)
     c.insert_tile_matrix.ensures.survives
