@@ -345,6 +345,12 @@ fn uuids(rt: HostRuntime) -> Result<(), Fail> {
     assert_eq!(rt; read_stored_optional(" "), None);
     let shown = format!(in alloc; "[{}] [{}]", OrEmpty(Some(archive())), OrEmpty(None))?;
     assert_eq!(rt; shown.as_str(), "[a0000000-0000-4000-8000-000000000000] []");
+    let mut buffer = Uuid::encode_buffer();
+    assert_eq!(rt;
+        OrEmpty(Some(archive())).encode_lower(&mut buffer),
+        "a0000000-0000-4000-8000-000000000000"
+    );
+    assert_eq!(rt; OrEmpty(None).encode_lower(&mut buffer), "");
     Ok(())
 }
 
