@@ -43,7 +43,7 @@ module _ {S W : Type 0} (g : Ghosts S) (clean : (seen : Seen S) → AllClean g s
   import_ended writer writer' (Unread Header) it = (refl, it.2, (Header, (λ h. let e = h in cc), it.0))
   import_ended writer writer' (Unread (Record n)) it = (refl, it.2, (Record n, (λ h. let e = h in cc), it.0))
   import_ended writer writer' (Unread Read) it = (refl, it.2, (Read, (λ h. let e = h in cc), it.0))
-  import_ended writer writer' (Interrupted n why) it = inr (inl (ran (contents writer) (contents writer') (Err (Interrupted n why)) it.0 it.1 it.2, why, it.2.written.1, refl, it.2.written.2))
+  import_ended writer writer' (Interrupted n fault) it = inr (inl (ran (contents writer) (contents writer') (Err (Interrupted n fault)) it.0 it.1 it.2, fault, it.2.written.1, refl, it.2.written.2))
   import_ended writer writer' Unwritten it = inr (inr (inl (ran (contents writer) (contents writer') (Err Unwritten) it.0 it.1 it.2, refl, it.2.written)))
 
   -- an import that went through, and the packages after it

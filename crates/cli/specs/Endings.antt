@@ -1,10 +1,9 @@
 -- How the program ends: its exit status, and the line that it prints before (profile).
-use Rattle.std.specs.Prelude.{ℕ, ◌==◌, List, [], ◌∷◌, ◌++◌, codes, if◌then◌else◌}
-use Rattle.sheet_types.specs.Refusals.{refusal_number}
-use Rattle.sheet_types.specs.declared.refusal.Refusal.{Refusal}
+use Rattle.std.specs.Prelude.{ℕ, List, [], ◌∷◌, ◌++◌, codes}
 use Rattle.manifest_csv.specs.declared.importing.ImportFault.{ImportFault}
 use Rattle.manifest_csv.specs.declared.importing.ImportFault.TheVariants.{Unread, Stopped as Interrupted, Unwritten}
 use Rattle.manifest_csv.specs.declared.lists.ReadFault.TheVariants.{Header, Record, Read, Memory}
+use Rattle.cli.specs.Failures.{of_fault}
 use Rattle.cli.specs.declared.statuses.What.{What}
 use Rattle.cli.specs.declared.statuses.What.TheVariants.{BadUuid, BadMoment, BadFrame, BadList}
 use Rattle.cli.specs.declared.statuses.Failure.{Failure}
@@ -31,10 +30,6 @@ failure_word StoreFault = codes "StoreFault"
 abbrev pub line_of : List ℕ → List ℕ → List ℕ
 line_of about word = about ++ (58 ∷ 32 ∷ word ++ (10 ∷ []))
 
--- what gave out, of a reply that stops an import
-abbrev pub failure_of : Refusal → Failure
-failure_of why = if refusal_number why == 24 then OutOfMemory else StoreFault
-
 -- on standard output
 abbrev pub output_text : Outcome → List ℕ
 output_text Done = []
@@ -53,5 +48,5 @@ import_outcome (Unread Memory) = Stopped OutOfMemory
 import_outcome (Unread Header) = Refused BadList
 import_outcome (Unread (Record n)) = Refused BadList
 import_outcome (Unread Read) = Refused BadList
-import_outcome (Interrupted n why) = Stopped (failure_of why)
+import_outcome (Interrupted n fault) = Stopped (of_fault fault)
 import_outcome Unwritten = Stopped StoreFault

@@ -3,6 +3,7 @@ use Rattle.std.specs.Prelude.{◌≡◌, ◌≢◌, ◌⊎◌, ◌≤◌, ℕ, L
 use Rattle.std.specs.List.{AllByRecursion}
 use Rattle.std.specs.Io.KnownBytes.{Appends}
 use Rattle.sqlite.specs.Store.{Ghosts}
+use Rattle.package_tables.specs.declared.fault.Fault.{Fault}
 use Rattle.sheet_types.specs.Step.{Run}
 use Rattle.sheet_types.specs.Texts.{uuid_text}
 use Rattle.sheet_types.specs.World.{World}
@@ -18,7 +19,7 @@ use Rattle.manifest_csv.specs.RequestLists.{IsList}
 use Rattle.manifest_csv.specs.Sent.{WentOut, WentOutPast}
 use Rattle.manifest_csv.specs.declared.lists.ReadFault.{ReadFault}
 use Rattle.manifest_csv.specs.declared.lists.ReadFault.TheVariants.{Memory}
-use Rattle.cli.specs.Endings.{failure_of}
+use Rattle.cli.specs.Failures.{of_fault}
 use Rattle.cli.specs.declared.statuses.What.TheVariants.{BadList}
 use Rattle.cli.specs.declared.statuses.Failure.{Failure}
 use Rattle.cli.specs.declared.statuses.Failure.TheVariants.{StoreFault}
@@ -74,7 +75,7 @@ printed ran = report ran ++ live_text ran.next
 abbrev pub Stops : {W : Type 0} → World → Option (List ℕ) → W → W → Option (List ℕ) → Option (List ℕ) → Failure → Type 0
 Stops w text writer writer' before after failure =
     (writer' ≡ writer)
-    ⊎ ((ran : Ran w text) × (why : Refusal) × AreStopped ran.replies why × (failure ≡ failure_of why) × Appends before after (report ran))
+    ⊎ ((ran : Ran w text) × (fault : Fault) × AreStopped ran.replies fault × (failure ≡ of_fault fault) × Appends before after (report ran))
     ⊎ ((ran : Ran w text) × (failure ≡ StoreFault) × WentOutPast (report_before ran.requests ran.replies) before after (report ran))
     ⊎ ((ran : Ran w text) × IsComplete ran × WentOutPast (report ran) before after (printed ran))
 

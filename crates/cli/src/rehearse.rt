@@ -17,7 +17,6 @@ use manifest_csv::lists::ReadFault;
 use manifest_csv::package_manifests::write_manifest;
 use manifest_csv::sending::send;
 use memory_files::MemoryFile;
-use sheet_types::refusal::Refusal;
 use shelves::file_memory::MemoryFileShelf;
 use shelves::shelf::Shelf;
 use sqlite::{Alter, FileStore};
@@ -68,12 +67,10 @@ fn end_of_import(fault: ImportFault) -> Outcome
     ensures { result ≡ import_outcome fault }
 {
     match fault {
-        ImportFault::Unread(ReadFault::Memory) | ImportFault::Stopped(_, Refusal::OutOfMemory) =>
-            Outcome::Stopped(Failure::OutOfMemory),
+        ImportFault::Unread(ReadFault::Memory) => Outcome::Stopped(Failure::OutOfMemory),
         ImportFault::Unread(_) => Outcome::Refused(What::BadList),
-        ImportFault::Stopped(_, _) | ImportFault::Unwritten => {
-            Outcome::Stopped(Failure::StoreFault)
-        }
+        ImportFault::Stopped(_, fault) => Outcome::Stopped(Failure::from(fault)),
+        ImportFault::Unwritten => Outcome::Stopped(Failure::StoreFault),
     }
 }
 

@@ -1,18 +1,20 @@
 -- An import, reply by reply.
-use Rattle.std.proofs.Common.{◌≡◌, ◌∙◌, refl, sym, ap, subst, ℕ, zero, suc, ◌+◌, ◌-◌, ◌<◌, ◌≤◌, List, [], ◌∷◌, ◌++◌, take, drop, length, get_or, length-append, Option, IfSome, Result, Ok, Err, arith}
+use Rattle.std.proofs.Common.{◌≡◌, ◌∙◌, refl, sym, ap, subst, ℕ, ◌+◌, ◌-◌, ◌<◌, ◌≤◌, List, [], ◌∷◌, ◌++◌, take, drop, length, get_or, length-append, Option, IfSome, Result, Ok, Err, arith}
 use Rattle.std.specs.List.{AllByRecursion}
 use Rattle.std.specs.Io.KnownBytes.{Appends}
-use Rattle.std.proofs.lemmas.List.{take_more}
+use Rattle.std.proofs.lemmas.List.{drop_more, take_more}
 use Rattle.std.proofs.Math.Seq.{take-append_seam}
 use Rattle.std.proofs.KnownBytes.{Appends-trans, Appends-nil}
 use Rattle.sqlite.specs.Store.{Ghosts}
+use Rattle.package_tables.specs.declared.fault.Fault.{Fault}
 use Rattle.sheet_types.specs.declared.command.Request.{Request}
 use Rattle.sheet_types.specs.declared.receipt.Receipt.{Receipt}
 use Rattle.sheet_types.specs.declared.refusal.Refusal.{Refusal}
 use Rattle.sheet_types.proofs.Every.{All-snoc}
+use Rattle.world.specs.Faults.{fault_refusal}
 use Rattle.world.specs.Worlds.{Seen, IsRun}
 use Rattle.world.proofs.Running.{IsApplied, run_none, run_more}
-use Rattle.manifest_csv.specs.Imports.{Ends, GoesOn, IsReported, IsImported, Imports, lines_before, report_before}
+use Rattle.manifest_csv.specs.Imports.{GoesOn, IsReported, IsImported, Imports, lines_before, report_before}
 use Rattle.manifest_csv.specs.Reports.{report_header, report_line, report_lines, report_of}
 use Rattle.manifest_csv.specs.RequestLists.{IsList}
 use Rattle.manifest_csv.specs.Sent.{WentOut, WentOutPast}
@@ -20,15 +22,6 @@ use Rattle.manifest_csv.specs.declared.importing.ImportFault.{ImportFault}
 use Rattle.manifest_csv.specs.declared.importing.ImportFault.TheVariants.{Unread, Stopped, Unwritten}
 use Rattle.manifest_csv.proofs.ReportFacts.{lines_more}
 use Rattle.manifest_csv.proofs.SentFacts.{went_out_after, went_out_of, went_out_past, past_after}
-
--- what is left begins with the next
-drop_next : {X : Type 0} (xs : List X) (n : ℕ) (d : X) → n < length xs → drop n xs ≡ get_or xs n d ∷ drop (n + 1) xs
-drop_next [] n d within = absurd (let e = within in omega arith)
-drop_next (x ∷ xs) zero d within = refl
-drop_next (x ∷ xs) (suc n) d within =
-    let less : n < length xs = omega (arith, within) in
-    let on : suc (n + 1) ≡ suc n + 1 = omega arith in
-    subst (λ k. drop (suc n) (x ∷ xs) ≡ get_or (x ∷ xs) (suc n) d ∷ drop k (x ∷ xs)) on (drop_next xs n d less)
 
 -- all but the one that was put last
 all_but_last : {X : Type 0} (xs : List X) (x : X) → take (length (xs ++ x ∷ []) - 1) (xs ++ x ∷ []) ≡ xs
@@ -69,7 +62,7 @@ module _ {S : Type 0} (g : Ghosts S) where
     lines : report_lines 1 requests (it.replies ++ reply ∷ []) ≡ report_lines 1 requests it.replies ++ report_line (n + 1) request.id reply
     lines =
         let rest : drop (length it.replies) requests ≡ request ∷ drop (n + 1) requests =
-        ap (λ k. drop k requests) it.counted ∙ drop_next requests n request within ∙ ap (λ x. x ∷ drop (n + 1) requests) (sym is) in
+        ap (λ k. drop k requests) it.counted ∙ drop_more requests n request within ∙ ap (λ x. x ∷ drop (n + 1) requests) (sym is) in
         let number : 1 + length it.replies ≡ n + 1 = omega (arith, it.counted) in
         lines_more 1 requests it.replies request (drop (n + 1) requests) reply rest ∙ ap (λ k. report_lines 1 requests it.replies ++ report_line k request.id reply) number
 
@@ -85,12 +78,12 @@ module _ {S : Type 0} (g : Ghosts S) where
       one_more line goes = record { replies = it.replies ++ reply ∷ []; counted = counted_more; ran = ran_more; goes_on = All-snoc GoesOn it.replies reply it.goes_on goes; written = all_written line }
 
       -- one more, which ends it
-      pub stopped : (why : Refusal) → (reply ≡ Err why) × Ends why → Appends between after (report_line (n + 1) request.id reply) → IsReported g requests old new before after (Err (Stopped (n + 1) why))
-      stopped why end line = record {
+      pub stopped : (fault : Fault) → reply ≡ Err (fault_refusal fault) → Appends between after (report_line (n + 1) request.id reply) → IsReported g requests old new before after (Err (Stopped (n + 1) fault))
+      stopped fault end line = record {
         replies = it.replies ++ reply ∷ [];
         some = some;
         ran = ran_so;
-        written = (sym counted_more, (it.replies, ap (λ r. it.replies ++ r ∷ []) end.0, it.goes_on, end.1), all_written line);
+        written = (sym counted_more, (it.replies, ap (λ r. it.replies ++ r ∷ []) end, it.goes_on), all_written line);
       }
 
       -- its line could not be written whole
@@ -116,7 +109,7 @@ module _ {S : Type 0} (g : Ghosts S) where
     ran = it.ran;
     written = (it.written.0, it.written.1, Appends-trans before mid after report_header (report_lines 1 requests it.replies) header it.written.2);
   }
-  after_header requests old new before mid after (Err (Stopped n why)) header it = record {
+  after_header requests old new before mid after (Err (Stopped n fault)) header it = record {
     replies = it.replies;
     some = it.some;
     ran = it.ran;
@@ -138,6 +131,6 @@ module _ {S : Type 0} (g : Ghosts S) where
   pub imported : {W : Type 0} (text : Option (List ℕ)) (requests : List Request) (old new : Seen S) (writer writer' : W) (before after : Option (List ℕ)) (r : Result (Unit {0}) ImportFault) → IfSome text (λ t. IsList t requests) → IsImported g requests old new before after r
       → Imports g text old new writer writer' before after r
   imported text requests old new writer writer' before after (Ok x) list it = (requests, list, it)
-  imported text requests old new writer writer' before after (Err (Stopped n why)) list it = (requests, list, it)
+  imported text requests old new writer writer' before after (Err (Stopped n fault)) list it = (requests, list, it)
   imported text requests old new writer writer' before after (Err Unwritten) list it = (requests, list, it)
   imported text requests old new writer writer' before after (Err (Unread fault)) list it = absurd it.written

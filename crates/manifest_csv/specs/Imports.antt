@@ -1,12 +1,14 @@
 -- What an import makes of a world, and what it writes. Profile.
-use Rattle.std.specs.Prelude.{◌≡◌, ◌⊎◌, ◌≤◌, ◌-◌, ℕ, List, [], ◌∷◌, ◌++◌, Option, Some, None, Result, Ok, Err, IfErr, IfSome, length, take}
+use Rattle.std.specs.Prelude.{◌≡◌, ◌⊎◌, ◌≤◌, ◌-◌, ℕ, List, [], ◌∷◌, ◌++◌, Option, Some, None, Result, Ok, Err, IfSome, length, take}
 use Rattle.std.specs.List.{AllByRecursion}
 use Rattle.std.specs.Io.KnownBytes.{Appends}
 use Rattle.sqlite.specs.Store.{Ghosts}
+use Rattle.package_tables.specs.declared.fault.Fault.{Fault}
+use Rattle.sheet_types.specs.Step.{IsFault}
 use Rattle.sheet_types.specs.declared.command.Request.{Request}
 use Rattle.sheet_types.specs.declared.receipt.Receipt.{Receipt}
 use Rattle.sheet_types.specs.declared.refusal.Refusal.{Refusal}
-use Rattle.sheet_types.specs.declared.refusal.Refusal.TheVariants.{OutOfMemory, StoreFault}
+use Rattle.world.specs.Faults.{fault_refusal}
 use Rattle.world.specs.Worlds.{Seen, IsRun}
 use Rattle.manifest_csv.specs.RequestLists.{IsList, MeetsFirst}
 use Rattle.manifest_csv.specs.declared.lists.ReadFault.{ReadFault}
@@ -16,22 +18,18 @@ use Rattle.manifest_csv.specs.Sent.{WentOutPast}
 use Rattle.manifest_csv.specs.declared.importing.ImportFault.{ImportFault}
 use Rattle.manifest_csv.specs.declared.importing.ImportFault.TheVariants.{Unread, Stopped, Unwritten}
 
--- want of memory or a store that failed: what ends an import
-abbrev pub Ends : Refusal → Type 0
-Ends why = (why ≡ OutOfMemory) ⊎ (why ≡ StoreFault)
-
 -- a reply after which an import goes on
 abbrev pub GoesOn : Result Receipt Refusal → Type 0
-GoesOn reply = IfErr reply (λ why. ¬ Ends why)
+GoesOn reply = ¬ IsFault reply
 
--- what a reply ends an import with, if it does
-abbrev pub IsEndOf : Result Receipt Refusal → Option Refusal → Type 0
+-- the fault that a reply ends an import with, if it does
+abbrev pub IsEndOf : Result Receipt Refusal → Option Fault → Type 0
 IsEndOf reply None = GoesOn reply
-IsEndOf reply (Some why) = (reply ≡ Err why) × Ends why
+IsEndOf reply (Some fault) = reply ≡ Err (fault_refusal fault)
 
--- the replies of an import that was stopped by the last of them
-abbrev pub AreStopped : List (Result Receipt Refusal) → Refusal → Type 0
-AreStopped replies why = (before : List (Result Receipt Refusal)) × (replies ≡ before ++ Err why ∷ []) × AllByRecursion GoesOn before × Ends why
+-- the replies of an import that was stopped by this fault, which the last of them tells
+abbrev pub AreStopped : List (Result Receipt Refusal) → Fault → Type 0
+AreStopped replies fault = (before : List (Result Receipt Refusal)) × (replies ≡ before ++ Err (fault_refusal fault) ∷ []) × AllByRecursion GoesOn before
 
 -- the lines of all replies but the last
 abbrev pub lines_before : List Request → List (Result Receipt Refusal) → List ℕ
@@ -45,7 +43,7 @@ report_before requests (reply ∷ replies) = report_header ++ lines_before reque
 -- What was written for these replies to a list of requests. text is the whole that was due: all lines so far; sent is what had gone out before the last of them.
 abbrev pub IsWritten : List Request → List (Result Receipt Refusal) → List ℕ → List ℕ → Option (List ℕ) → Option (List ℕ) → Result (Unit {0}) ImportFault → Type 0
 IsWritten requests replies sent text before after (Ok x) = (length replies ≡ length requests) × AllByRecursion GoesOn replies × Appends before after text
-IsWritten requests replies sent text before after (Err (Stopped n why)) = (n ≡ length replies) × AreStopped replies why × Appends before after text
+IsWritten requests replies sent text before after (Err (Stopped n fault)) = (n ≡ length replies) × AreStopped replies fault × Appends before after text
 IsWritten requests replies sent text before after (Err Unwritten) = WentOutPast sent before after text
 IsWritten requests replies sent text before after (Err (Unread fault)) = ⊥
 
@@ -71,6 +69,6 @@ module _ {S : Type 0} (g : Ghosts S) where
   -- An import of a text: of a list that is read, its requests are carried out and reported. Of one that is not, nothing is carried out and nothing is written.
   abbrev pub Imports : {W : Type 0} → Option (List ℕ) → Seen S → Seen S → W → W → Option (List ℕ) → Option (List ℕ) → Result (Unit {0}) ImportFault → Type 0
   Imports text old new writer writer' before after (Err (Unread fault)) = IsWhyUnread text fault × (new ≡ old) × (writer' ≡ writer)
-  Imports text old new writer writer' before after (Err (Stopped n why)) = (requests : List Request) × IfSome text (λ t. IsList t requests) × IsImported requests old new before after (Err (Stopped n why))
+  Imports text old new writer writer' before after (Err (Stopped n fault)) = (requests : List Request) × IfSome text (λ t. IsList t requests) × IsImported requests old new before after (Err (Stopped n fault))
   Imports text old new writer writer' before after (Err Unwritten) = (requests : List Request) × IfSome text (λ t. IsList t requests) × IsImported requests old new before after (Err Unwritten)
   Imports text old new writer writer' before after (Ok x) = (requests : List Request) × IfSome text (λ t. IsList t requests) × IsImported requests old new before after (Ok x)

@@ -7,10 +7,12 @@ use Rattle.uuid.specs.Text.{parsed_hyphenated}
 use Rattle.hex.specs.Hex.{decode_of}
 use Rattle.csv.specs.Records.{field_at}
 use Rattle.sheet_types.specs.Texts.{kind_word, mapping_word, mode_word}
+use Rattle.sheet_types.specs.Step.{relation}
 use Rattle.sheet_types.specs.declared.command.Content.{Content}
 use Rattle.sheet_types.specs.declared.command.Content.TheVariants.{Tile, Media, Row}
 use Rattle.sheet_types.specs.declared.command.Command.{Command}
 use Rattle.sheet_types.specs.declared.command.Command.TheVariants.{Add, Delete, Link, Unlink, Split, Merge}
+use Rattle.sheet_types.specs.declared.command.Relation.{Relation}
 use Rattle.sheet_types.specs.declared.command.Request.{Request}
 use Rattle.sheet_types.specs.declared.receipt.MovedKind.TheVariants.{TileItem, MediaItem, RowItem}
 
@@ -50,16 +52,19 @@ IsContent fields (Media content_type bytes) = IsTextAt fields 6 (kind_word Media
 IsContent fields (Row x y code label) = IsTextAt fields 6 (kind_word RowItem) × IsNumberAt fields 12 x × IsNumberAt fields 13 y × IsNumberAt fields 14 code × IsTextAt fields 16 label
     × AreEmpty fields (7 ∷ 8 ∷ 9 ∷ 10 ∷ 11 ∷ 17 ∷ [])
 
+-- the fields of a link and of an unlink alike, which this word begins, and that those which they don't use are empty
+abbrev pub NamesLink : List (List ℕ) → List ℕ → List ℕ → Relation → Type 0
+NamesLink fields word holder link = IsTextAt fields 2 word × IsUuidAt fields 3 holder × IsTextAt fields 6 (mapping_word link.mapping) × IsUuidAt fields 4 link.base × IsUuidAt fields 5 link.media
+    × AreEmpty fields (7 ∷ 8 ∷ 9 ∷ 10 ∷ 11 ∷ 12 ∷ 13 ∷ 14 ∷ 15 ∷ 16 ∷ 17 ∷ [])
+
 -- the fields of a command, and that those which it doesn't use are empty
 abbrev pub IsCommand : List (List ℕ) → Command → Type 0
 IsCommand fields (Add target identity content) = IsTextAt fields 2 (codes "add") × IsUuidAt fields 3 target × IsUuidAt fields 4 identity × IsContent fields content
     × AreEmpty fields (5 ∷ 15 ∷ [])
 IsCommand fields (Delete source identity) = IsTextAt fields 2 (codes "delete") × IsUuidAt fields 3 source × IsUuidAt fields 4 identity
     × AreEmpty fields (5 ∷ 6 ∷ 7 ∷ 8 ∷ 9 ∷ 10 ∷ 11 ∷ 12 ∷ 13 ∷ 14 ∷ 15 ∷ 16 ∷ 17 ∷ [])
-IsCommand fields (Link target mapping base media) = IsTextAt fields 2 (codes "link") × IsUuidAt fields 3 target × IsTextAt fields 6 (mapping_word mapping) × IsUuidAt fields 4 base × IsUuidAt fields 5 media
-    × AreEmpty fields (7 ∷ 8 ∷ 9 ∷ 10 ∷ 11 ∷ 12 ∷ 13 ∷ 14 ∷ 15 ∷ 16 ∷ 17 ∷ [])
-IsCommand fields (Unlink source mapping base media) = IsTextAt fields 2 (codes "unlink") × IsUuidAt fields 3 source × IsTextAt fields 6 (mapping_word mapping) × IsUuidAt fields 4 base × IsUuidAt fields 5 media
-    × AreEmpty fields (7 ∷ 8 ∷ 9 ∷ 10 ∷ 11 ∷ 12 ∷ 13 ∷ 14 ∷ 15 ∷ 16 ∷ 17 ∷ [])
+IsCommand fields (Link target mapping base media) = NamesLink fields (codes "link") target (relation mapping base media)
+IsCommand fields (Unlink source mapping base media) = NamesLink fields (codes "unlink") source (relation mapping base media)
 IsCommand fields (Split source child mode rect) = IsTextAt fields 2 (codes "split") × IsUuidAt fields 3 source × IsUuidAt fields 5 child × IsTextAt fields 6 (mode_word mode)
     × IsNumberAt fields 7 rect.zoom × IsNumberAt fields 8 rect.column × IsNumberAt fields 10 rect.last_column × IsNumberAt fields 9 rect.row × IsNumberAt fields 11 rect.last_row
     × AreEmpty fields (4 ∷ 12 ∷ 13 ∷ 14 ∷ 15 ∷ 16 ∷ 17 ∷ [])

@@ -7,6 +7,7 @@ ghost use Rattle.manifest_csv.specs.Imports.{IsEndOf, IsReported, Imports};
 use crate::lists::{ReadFault, read_requests};
 use crate::reports::{header_line, line_buffer, put_line};
 use crate::sending::{WriteFault, send};
+use package_tables::fault::Fault;
 use sheet_types::command::Request;
 use sheet_types::error::OutOfMemory;
 use sheet_types::receipt::Receipt;
@@ -22,8 +23,8 @@ use world::world::World;
 pub enum ImportFault {
     /// The list was not read. Nothing was carried out and nothing was written.
     Unread(ReadFault),
-    /// The request of this number got this reply, which is want of memory or a store that failed. Its line is the last of the report.
-    Stopped(u64, Refusal),
+    /// The reply to the request of this number tells this fault. Its line is the last of the report.
+    Stopped(u64, Fault),
     /// The writer failed. The requests up to the line being written were carried out, and a beginning of the report went out, and not all of it.
     Unwritten,
 }
@@ -48,13 +49,13 @@ impl From<WriteFault> for ImportFault {
     }
 }
 
-/// What a reply ends an import with, if it does.
-fn end_of(reply: &Result<Receipt, Refusal>) -> Option<Refusal>
+/// The fault that a reply ends an import with, if it does.
+fn end_of(reply: &Result<Receipt, Refusal>) -> Option<Fault>
     ensures { IsEndOf reply.now result }
 {
     match reply {
-        Err(Refusal::OutOfMemory) => Some(Refusal::OutOfMemory),
-        Err(Refusal::StoreFault) => Some(Refusal::StoreFault),
+        Err(Refusal::OutOfMemory) => Some(Fault::OutOfMemory),
+        Err(Refusal::StoreFault) => Some(Fault::StoreFault),
         _ => None,
     }
 }
@@ -77,8 +78,8 @@ fn report_each<S: Alter + Drop, H: Shelf<S>, W: Write>(
         let reply = world.apply(alloc, request, shelf);
         put_line(buffer, at as u64 + 1, request.id, &reply);
         send(writer, buffer.as_bytes())?;
-        if let Some(why) = end_of(&reply) {
-            return Err(ImportFault::Stopped(at as u64 + 1, why));
+        if let Some(fault) = end_of(&reply) {
+            return Err(ImportFault::Stopped(at as u64 + 1, fault));
         }
     }
     Ok(())

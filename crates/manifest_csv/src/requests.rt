@@ -2,19 +2,21 @@
 ghost use Rattle.std.specs.Prelude.{◌≡◌, ℕ, List, IfOk, IfSome, IfNone};
 ghost use Rattle.csv.specs.Records.{fields_of};
 ghost use Rattle.world.specs.Laws.{IsServed};
-ghost use Rattle.manifest_csv.specs.Requests.{IsCommand, IsContent, IsRequest};
+ghost use Rattle.manifest_csv.specs.Requests.{IsCommand, IsContent, IsRequest, NamesLink};
 ghost use Rattle.sheet_types.specs.declared.command.Command.TheVariants as command;
 ghost use Rattle.sheet_types.specs.declared.command.Command.{Command};
 ghost use Rattle.sheet_types.specs.declared.command.Content.{Content};
 ghost use Rattle.sheet_types.specs.declared.command.Mapping.{Mapping};
+ghost use Rattle.sheet_types.specs.declared.command.Relation.{Relation};
 ghost use Rattle.sheet_types.specs.declared.command.Request.{Request};
 
 use crate::contents::{media_of, row_of, tile_of};
 use crate::fields::{are_empty, has_text, mapping_at, text_at, uuid_at};
 use csv::StringRecord;
-use sheet_types::command::{Command, Content, Request};
+use sheet_types::command::{Command, Content, Relation, Request};
 use sheet_types::error::OutOfMemory;
 use std::alloc::Global;
+use uuid::Uuid;
 
 /// The columns that a deletion leaves empty.
 const NOT_OF_DELETE: [usize; 13] = [5, 6, 7, 8, 9, 10, 11, 12, 13, 14, 15, 16, 17];
@@ -22,24 +24,33 @@ const NOT_OF_DELETE: [usize; 13] = [5, 6, 7, 8, 9, 10, 11, 12, 13, 14, 15, 16, 1
 /// The columns that links and unlinks leave empty.
 const NOT_OF_LINK: [usize; 11] = [7, 8, 9, 10, 11, 12, 13, 14, 15, 16, 17];
 
-/// The link that a record asks for.
-pub fn link_of(row: &StringRecord) -> Option<Command>
-    ensures some { IfSome result (λ found. IsCommand (fields_of row.now) found) }
-    ensures served { IfSome result (λ found. IsServed found) }
-    ensures none { IfNone result ((target base media : List ℕ) (mapping : Mapping) → ¬ IsCommand (fields_of row.now) (command.Link target mapping base media)) }
+/// The package and the link that a record names which begins with this word.
+fn named_link(row: &StringRecord, word: &str) -> Option<(Uuid, Relation)>
+    ensures some { IfSome result (λ named. NamesLink (fields_of row.now) word.now named.0 named.1) }
+    ensures none { IfNone result ((holder : List ℕ) (link : Relation) → ¬ NamesLink (fields_of row.now) word.now holder link) }
 {
-    if !has_text(row, 2, "link") || !are_empty(row, &NOT_OF_LINK) {
+    if !has_text(row, 2, word) || !are_empty(row, &NOT_OF_LINK) {
         return None;
     }
     let package = uuid_at(row, 3)?;
     let mapping = mapping_at(row, 6)?;
     let base = uuid_at(row, 4)?;
     let media = uuid_at(row, 5)?;
+    Some((package, Relation::new(mapping, base, media)))
+}
+
+/// The link that a record asks for.
+pub fn link_of(row: &StringRecord) -> Option<Command>
+    ensures some { IfSome result (λ found. IsCommand (fields_of row.now) found) }
+    ensures served { IfSome result (λ found. IsServed found) }
+    ensures none { IfNone result ((target base media : List ℕ) (mapping : Mapping) → ¬ IsCommand (fields_of row.now) (command.Link target mapping base media)) }
+{
+    let (package, link) = named_link(row, "link")?;
     Some(Command::Link {
         package,
-        mapping,
-        base,
-        media,
+        mapping: link.mapping,
+        base: link.base,
+        media: link.media,
     })
 }
 
@@ -49,18 +60,12 @@ pub fn unlink_of(row: &StringRecord) -> Option<Command>
     ensures served { IfSome result (λ found. IsServed found) }
     ensures none { IfNone result ((source base media : List ℕ) (mapping : Mapping) → ¬ IsCommand (fields_of row.now) (command.Unlink source mapping base media)) }
 {
-    if !has_text(row, 2, "unlink") || !are_empty(row, &NOT_OF_LINK) {
-        return None;
-    }
-    let package = uuid_at(row, 3)?;
-    let mapping = mapping_at(row, 6)?;
-    let base = uuid_at(row, 4)?;
-    let media = uuid_at(row, 5)?;
+    let (package, link) = named_link(row, "unlink")?;
     Some(Command::Unlink {
         package,
-        mapping,
-        base,
-        media,
+        mapping: link.mapping,
+        base: link.base,
+        media: link.media,
     })
 }
 

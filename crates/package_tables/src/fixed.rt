@@ -233,7 +233,7 @@ impl FromRow for ContentsRow {
     }
 }
 
-/// All rows of the contents (OGC GeoPackage 1.3, 1.1.3), in any order.
+/// All rows of the contents (OGC GeoPackage 1.3, 1.1.3). The text orders them, so that a report of them is always the same; the clause promises no order, as nobody needs one.
 pub fn all_contents<S: Alter>(
     conn: &mut Connection<S>,
     alloc: Global,
@@ -267,7 +267,7 @@ impl FromRow for TileMatrixSetRow {
     }
 }
 
-/// All tile matrix sets (OGC GeoPackage 1.3, 2.2.6), in any order.
+/// All tile matrix sets (OGC GeoPackage 1.3, 2.2.6); as with the contents, no order is promised.
 pub fn all_tile_matrix_sets<S: Alter>(
     conn: &mut Connection<S>,
     alloc: Global,

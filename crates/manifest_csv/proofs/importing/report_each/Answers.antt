@@ -25,7 +25,7 @@ returns-in-Some g c =
     let line : Appends (g.W.Write.contents c.loop-at.writer) (g.W.Write.contents c.send.new.writer) (report_line (c.loop-at.at + 1) c.index-requests-at.result.id c.apply-reply.result) =
     subst (Appends (g.W.Write.contents c.loop-at.writer) (g.W.Write.contents c.send.new.writer)) (c.as_bytes.ensures.value ∙ c.put_line.ensures.text) c.in_ok-send.ensures.ok in
     stopped g.S.Store c.args.requests.now c.loop-at.at c.args.world.now c.loop-at.world c.apply-reply.new.self (g.W.Write.contents c.args.writer.now) (g.W.Write.contents c.loop-at.writer) c.loop-at.invariant.so_far c.loop-at-test.true c.index-requests-at.result c.index-requests-at.is c.apply-reply.result (record { step = c.apply-reply.ensures.step; opens = c.apply-reply.ensures.opens; failed = c.apply-reply.ensures.failed; cause = c.apply-reply.ensures.cause; usable = c.apply-reply.ensures.usable })
-    (g.W.Write.contents c.send.new.writer) c.in-Some.why (subst (IsEndOf c.apply-reply.result) c.in-Some.is c.end_of.ensures) line
+    (g.W.Write.contents c.send.new.writer) c.in-Some.fault (subst (IsEndOf c.apply-reply.result) c.in-Some.is c.end_of.ensures) line
 
 pub loop-at-preserved : goal.loop-at-preserved
 loop-at-preserved g c =
