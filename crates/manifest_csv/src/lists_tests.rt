@@ -1,13 +1,10 @@
 // Lists whose requests and faults were worked out by hand; the digests are Python's `hashlib`.
 use crate::lists::{ReadFault, read_requests, requests_of};
 use crate::records::{Ending, read_records};
-use crate::test_streams::Failing;
+use crate::test_streams::{Failing, HEADER, list, list_ended};
 use sheet_types::command::{Command, Content, Request};
 use sheet_types::lines::line;
-use std::alloc::{AllocError, Global};
-
-const HEADER: &str =
-    "request,at,command,package,identity,other,kind,zoom,column,row,last_column,last_row,x,y,code,ticket,text,data";
+use std::alloc::Global;
 
 const TILE: &str =
     "90000000-0000-4000-8000-000000000001,2024-05-01T08:00:00.000Z,add,a0000000-0000-4000-8000-000000000000,00000000-0000-4000-8000-000000000001,,tile,2,3,3,,,,,,,,41";
@@ -22,18 +19,6 @@ const SEVENTEEN: &str = ",,,,,,,,,,,,,,,,";
 
 const NINETEEN: &str = ",,,,,,,,,,,,,,,,,,";
 
-/// The header and these records, each ended by `end`.
-fn list(alloc: Global, end: &str, records: &[&str]) -> Result<String, AllocError> {
-    let mut text = String::new(alloc);
-    text.push_str(HEADER)?;
-    text.push_str(end)?;
-    for record in records {
-        text.push_str(record)?;
-        text.push_str(end)?;
-    }
-    Ok(text)
-}
-
 /// How many requests a text has, or its fault.
 fn outcome(alloc: Global, text: &[u8]) -> Result<usize, ReadFault> {
     let requests = read_requests(alloc, text)?;
@@ -42,7 +27,7 @@ fn outcome(alloc: Global, text: &[u8]) -> Result<usize, ReadFault> {
 
 /// The same of the list of these records.
 fn outcome_of(alloc: Global, records: &[&str]) -> Result<usize, ReadFault> {
-    let Ok(text) = list(alloc, "\n", records) else {
+    let Ok(text) = list(alloc, records) else {
         return Err(ReadFault::Memory);
     };
     outcome(alloc, text.as_bytes())
@@ -102,7 +87,7 @@ fn a_text_without_the_header(rt: HostRuntime) {
 
 #[test]
 fn the_first_tile(rt: HostRuntime) {
-    let text = list(rt.alloc(), "\n", &[TILE]).expect(&rt, "memory");
+    let text = list(rt.alloc(), &[TILE]).expect(&rt, "memory");
     let requests = read_requests(rt.alloc(), text.as_bytes()).expect(&rt, "a list");
     assert_eq!(rt; requests.len(), 1);
     assert!(rt; requests[0].id.as_u128() == 0x9000_0000_0000_4000_8000_0000_0000_0001);
@@ -118,7 +103,7 @@ fn the_first_tile(rt: HostRuntime) {
 
 #[test]
 fn every_command_that_is_served(rt: HostRuntime) {
-    let text = list(
+    let text = list_ended(
         rt.alloc(),
         "\n",
         &[
@@ -147,7 +132,7 @@ fn every_command_that_is_served(rt: HostRuntime) {
 
 #[test]
 fn a_tile_of_the_greatest_size(rt: HostRuntime) {
-    let mut text = list(rt.alloc(), "\n", &[]).expect(&rt, "memory");
+    let mut text = list(rt.alloc(), &[]).expect(&rt, "memory");
     let digits = "a5".repeat(rt.alloc(), 1_048_576).expect(&rt, "memory");
     text.push_str(
         "90000000-0000-4000-8000-000000000001,T,add,a0000000-0000-4000-8000-000000000000,00000000-0000-4000-8000-000000000001,,tile,2,3,3,,,,,,,,",
@@ -166,7 +151,7 @@ fn a_tile_of_the_greatest_size(rt: HostRuntime) {
 
 #[test]
 fn a_label_with_quotes_and_a_moment_over_two_lines(rt: HostRuntime) {
-    let text = list(
+    let text = list_ended(
         rt.alloc(),
         "\r\n",
         &[
@@ -189,7 +174,7 @@ fn a_label_with_quotes_and_a_moment_over_two_lines(rt: HostRuntime) {
 
 #[test]
 fn a_list_that_is_cut_short(rt: HostRuntime) {
-    let text = list(rt.alloc(), "", &["\n", TILE]).expect(&rt, "memory");
+    let text = list_ended(rt.alloc(), "", &["\n", TILE]).expect(&rt, "memory");
     let bytes = text.as_bytes();
     let whole = bytes.len();
     assert_eq!(rt; outcome(rt.alloc(), bytes), Ok(1));
@@ -210,9 +195,9 @@ fn a_list_that_is_cut_short(rt: HostRuntime) {
 #[test]
 fn ends_of_records_and_what_is_passed_over(rt: HostRuntime) {
     for end in ["\n", "\r\n", "\r", "\n\n\r\n", "\r\r"] {
-        let text = list(rt.alloc(), end, &[TILE, DELETION]).expect(&rt, "memory");
+        let text = list_ended(rt.alloc(), end, &[TILE, DELETION]).expect(&rt, "memory");
         assert_eq!(rt; outcome(rt.alloc(), text.as_bytes()), Ok(2));
-        let marked = list(rt.alloc(), end, &[TILE, NO_REQUEST]).expect(&rt, "memory");
+        let marked = list_ended(rt.alloc(), end, &[TILE, NO_REQUEST]).expect(&rt, "memory");
         assert_eq!(rt;
             outcome(rt.alloc(), marked.as_bytes()),
             Err(ReadFault::Record(2))
@@ -291,7 +276,7 @@ fn records_that_are_not_read(rt: HostRuntime) {
 
 /// The fault of a list of these records whose reader fails at its end.
 fn fault_of_failing(alloc: Global, records: &[&str]) -> Option<ReadFault> {
-    let Ok(text) = list(alloc, "\n", records) else {
+    let Ok(text) = list(alloc, records) else {
         return None;
     };
     let reader = Failing::new(text.as_bytes());
@@ -322,7 +307,7 @@ fn records_and_how_they_ended(rt: HostRuntime) {
         (Ending::Failed, Err(ReadFault::Read)),
         (Ending::Memory, Err(ReadFault::Memory)),
     ] {
-        let text = list(rt.alloc(), "\n", &[TILE]).expect(&rt, "memory");
+        let text = list(rt.alloc(), &[TILE]).expect(&rt, "memory");
         let (rows, _) = read_records(rt.alloc(), text.as_bytes());
         assert_eq!(rt;
             requests_of(rt.alloc(), rows, ended).map(|requests| requests.len()),

@@ -1,19 +1,26 @@
-// What the tests of imports and manifests share: lists, a reader and a writer that fail.
+// What the tests of lists, imports and manifests share: the texts of lists, a reader and a writer that fail.
 
 use std::alloc::{AllocError, Global};
 use std::io::{Error, ErrorKind, Read, Result as IoResult, Write};
 
-const HEADER: &str =
-    "request,at,command,package,identity,other,kind,zoom,column,row,last_column,last_row,x,y,code,ticket,text,data\n";
+/// The first line of every list, without its end.
+pub const HEADER: &str =
+    "request,at,command,package,identity,other,kind,zoom,column,row,last_column,last_row,x,y,code,ticket,text,data";
 
-/// The header and these records, each with its line end.
-pub fn list(alloc: Global, records: &[&str]) -> Result<String, AllocError> {
+/// The header and these records, each ended by `end`.
+pub fn list_ended(alloc: Global, end: &str, records: &[&str]) -> Result<String, AllocError> {
     let mut text = String::from_str(alloc, HEADER)?;
+    text.push_str(end)?;
     for record in records {
         text.push_str(record)?;
-        text.push_str("\n")?;
+        text.push_str(end)?;
     }
     Ok(text)
+}
+
+/// The header and these records, each ended by LF.
+pub fn list(alloc: Global, records: &[&str]) -> Result<String, AllocError> {
+    list_ended(alloc, "\n", records)
 }
 
 /// Takes seven bytes a call at most, and fails once it has taken as many as it has room for.

@@ -3,17 +3,20 @@ use crate::pictures::Picture;
 use crate::runs::Outcome;
 use std::process::Abort;
 
+/// The number of the reply that a store failed, below zero as those of faults are here.
 pub const STORE_FAULT: i64 = -25;
 
+/// The number of the reply that memory was wanting.
 pub const OUT_OF_MEMORY: i64 = -24;
 
-// The worlds before and after the request, where nothing fails.
+/// The worlds before and after the request, where nothing fails.
 #[derive(Drop)]
 pub struct Both {
     pub before: Picture,
     pub after: Outcome,
 }
 
+/// Whether a text was read, and is this one.
 pub fn same(found: &Option<String>, wanted: &str) -> bool {
     match found {
         Some(text) => text.as_str() == wanted,
@@ -21,7 +24,7 @@ pub fn same(found: &Option<String>, wanted: &str) -> bool {
     }
 }
 
-// The reply is that of the request, or a fault; the files that a crash leaves, and the world itself where it can be read, are those of before or after.
+/// The reply is that of the request, or a fault; the files that a crash leaves, and the world itself where it can be read, are those of before or after.
 pub fn expect_fits(rt: &impl Abort, found: &Outcome, both: &Both) {
     let is_before = found.left.is(&both.before);
     let is_after = found.left.is(&both.after.left);
@@ -46,7 +49,7 @@ pub fn expect_fits(rt: &impl Abort, found: &Outcome, both: &Both) {
     }
 }
 
-// Whether nothing failed up to the end, the reading of the world with it.
+/// Whether nothing failed up to the end, the reading of the world with it.
 pub fn went_through(found: &Outcome, both: &Both) -> bool {
     found.number == both.after.number && same(&found.live, both.after.left.held.as_str())
 }

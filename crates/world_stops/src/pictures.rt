@@ -90,7 +90,7 @@ fn write_receipt(text: &mut String, alloc: Global, receipt: &Receipt) -> Result<
     Ok(())
 }
 
-// The receipt, or the number of the reason.
+/// The receipt, or the number of the reason.
 pub fn reply_text(alloc: Global, reply: &Result<Receipt, Refusal>) -> Result<String, Fault> {
     let mut text = String::new(alloc);
     match reply {
@@ -166,7 +166,7 @@ fn table_text<S: Alter>(alloc: Global, conn: &mut Connection<S>) -> Result<Strin
     Ok(text)
 }
 
-// How many items and links a store has, the text of these and of the receipt of a request, and that of all its tables.
+/// How many items and links a store has, the text of these and of the receipt of a request, and that of all its tables.
 #[derive(Drop)]
 pub struct Picture {
     pub things: usize,
@@ -175,11 +175,13 @@ pub struct Picture {
 }
 
 impl Picture {
+    /// Whether both pictures show the same.
     pub fn is(&self, other: &Picture) -> bool {
         self.held.as_str() == other.held.as_str() && self.tables.as_str() == other.tables.as_str()
     }
 }
 
+/// What a store reads as, for the receipt of a request.
 pub fn read_picture<S: Alter>(
     alloc: Global,
     conn: &mut Connection<S>,
@@ -197,7 +199,7 @@ pub fn read_picture<S: Alter>(
     })
 }
 
-// What a world itself reads as.
+/// What a world itself reads as.
 pub fn seen<S: Alter + Drop>(
     alloc: Global,
     world: &mut World<S>,

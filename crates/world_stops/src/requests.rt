@@ -14,7 +14,7 @@ use world::world::World;
 
 const LATER: &str = "2024-05-01T09:30:00.000Z";
 
-// A request by its number, and its moment.
+/// A request by its number, and its moment.
 #[derive(Clone, Copy)]
 pub struct Step {
     pub number: u8,
@@ -22,7 +22,7 @@ pub struct Step {
     pub asks: Asks,
 }
 
-// The request of that number, later than all that the world was prepared by.
+/// The request of that number, later than all that the world was prepared by.
 pub fn later(number: u8, asks: Asks) -> Step {
     Step {
         number,
@@ -31,7 +31,7 @@ pub fn later(number: u8, asks: Asks) -> Step {
     }
 }
 
-// The request of that number, at the moment of those that the world is prepared by.
+/// The request of that number, at the moment of those that the world is prepared by.
 pub fn again(number: u8, asks: Asks) -> Step {
     Step {
         number,
@@ -40,7 +40,7 @@ pub fn again(number: u8, asks: Asks) -> Step {
     }
 }
 
-// A tile, a medium and a row, and a link of the first two.
+/// A tile, a medium and a row, and a link of the first two.
 pub fn preparation() -> [Step; 4] {
     [
         again(1, Asks::Tile(1, [2, 3, 3])),
@@ -50,6 +50,7 @@ pub fn preparation() -> [Step; 4] {
     ]
 }
 
+/// The request of a step.
 pub fn request(alloc: Global, step: &Step) -> Result<Request, Fault> {
     request_of(alloc, step.number, step.at, step.asks)
 }
@@ -73,6 +74,7 @@ impl<S: Alter> Shelf<S> for EmptyShelf {
     }
 }
 
+/// What a world replies to a request; the shelf has no store to give, and is asked for none.
 pub fn reply_to<S: Alter + Drop>(
     world: &mut World<S>,
     alloc: Global,

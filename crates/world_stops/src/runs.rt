@@ -43,7 +43,7 @@ fn begun<S: Alter + Drop>(alloc: Global, conn: Connection<S>) -> Result<Option<W
     Ok(Some(world))
 }
 
-// `None` where a disk stopped.
+/// A world over these files that the preparation went through, or `None` where a disk stopped.
 pub fn prepared<D: Disk + Drop>(
     alloc: Global,
     files: Files<D>,
@@ -58,7 +58,7 @@ pub fn prepared<D: Disk + Drop>(
     }
 }
 
-// `None` where memory was refused.
+/// A world in memory that the preparation went through, or `None` where memory was refused.
 pub fn prepared_in_memory(alloc: Global) -> Result<Option<World<MemStore>>, Fault> {
     match blank_store(alloc) {
         Ok(conn) => begun(alloc, conn),
@@ -66,7 +66,7 @@ pub fn prepared_in_memory(alloc: Global) -> Result<Option<World<MemStore>>, Faul
     }
 }
 
-// What the one store of a world holds.
+/// What the one store of a world holds.
 pub fn held_by<S: Alter + Drop>(
     alloc: Global,
     world: World<S>,
@@ -78,20 +78,21 @@ pub fn held_by<S: Alter + Drop>(
     }
 }
 
-// What is left of a file: what was synced, as after a stop of the machine, or all that was written, as after the end of a process.
+/// What is left of a file: what was synced, as after a stop of the machine, or all that was written, as after the end of a process.
 #[derive(Clone, Copy)]
 pub enum Leaves {
     Synced,
     Written,
 }
 
-// Of the log and of the database file.
+/// Of the log and of the database file.
 #[derive(Clone, Copy)]
 pub struct Left {
     pub log: Leaves,
     pub db: Leaves,
 }
 
+/// A disk whose files come back after a crash.
 pub trait Revive: Disk {
     fn revive(self, alloc: Global, leaves: Leaves) -> Result<Self, Fault>
         ensures { IfOk result (λ file. IsTrue (Self.Disk.is_usable file)) };
@@ -118,7 +119,7 @@ impl Revive for Fuse<Memory> {
     }
 }
 
-// The files come back, and are opened again.
+/// The files come back, and are opened again.
 pub fn left_by<D: Revive + Drop>(
     alloc: Global,
     world: World<FileStore<D>>,
@@ -139,7 +140,7 @@ pub fn left_by<D: Revive + Drop>(
     }
 }
 
-// What came of a request: its reply as a number and as a text, what the world read as then, where it could be read, and what a crash left.
+/// What came of a request: its reply as a number and as a text, what the world read as then, where it could be read, and what a crash left.
 #[derive(Drop)]
 pub struct Outcome {
     pub number: i64,
@@ -184,7 +185,7 @@ fn with_left(reply: Reply, left: Picture) -> Outcome {
     }
 }
 
-// `None` where a disk stopped before the request.
+/// What came of a request over these files, or `None` where a disk stopped before the request.
 pub fn run<D: Revive + Drop>(
     alloc: Global,
     files: Files<D>,
@@ -204,7 +205,7 @@ pub fn run<D: Revive + Drop>(
     Ok(Some(with_left(reply, left)))
 }
 
-// `None` where memory was refused before the request.
+/// What came of a request to a world in memory, or `None` where memory was refused before the request.
 pub fn run_in_memory(alloc: Global, step: &Step) -> Result<Option<Outcome>, Fault> {
     let Some(mut world) = prepared_in_memory(alloc)? else {
         return Ok(None);
@@ -215,7 +216,7 @@ pub fn run_in_memory(alloc: Global, step: &Step) -> Result<Option<Outcome>, Faul
     Ok(Some(with_left(reply, left)))
 }
 
-// What a crash leaves of the world before the request.
+/// What a crash leaves of the world before the request.
 pub fn untouched<D: Revive + Drop>(
     alloc: Global,
     files: Files<D>,
@@ -232,7 +233,7 @@ pub fn untouched<D: Revive + Drop>(
     }
 }
 
-// What a world in memory holds before the request.
+/// What a world in memory holds before the request.
 pub fn untouched_in_memory(alloc: Global, step: &Step) -> Result<Option<Picture>, Fault> {
     match prepared_in_memory(alloc)? {
         Some(world) => Ok(Some(held_by(alloc, world, question(step.number))?)),
