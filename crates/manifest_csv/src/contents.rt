@@ -5,6 +5,7 @@ ghost use Rattle.manifest_csv.specs.Requests.{IsContent};
 ghost use Rattle.sheet_types.specs.declared.command.Content.{Content};
 ghost use Rattle.sheet_types.specs.declared.command.Content.TheVariants as content;
 
+use crate::columns::{CODE, COLUMN, DATA, KIND, ROW, TEXT, X, Y, ZOOM};
 use crate::fields::{are_empty, has_text, hex_at, number_at, text_at};
 use csv::StringRecord;
 use sheet_types::collections::Bytes;
@@ -26,19 +27,19 @@ pub fn tile_of(alloc: Global, row: &StringRecord) -> Result<Option<Content>, Out
     ensures some { IfOk result (λ found. IfSome found (λ tile. IsContent (fields_of row.now) tile)) }
     ensures none { IfOk result (λ found. IfNone found ((zoom column line : ℤ) (bytes : List ℕ) → ¬ IsContent (fields_of row.now) (content.Tile zoom column line bytes))) }
 {
-    if !has_text(row, 6, "tile") || !are_empty(row, &NOT_OF_TILE) {
+    if !has_text(row, KIND, "tile") || !are_empty(row, &NOT_OF_TILE) {
         return Ok(None);
     }
-    let Some(zoom) = number_at(row, 7) else {
+    let Some(zoom) = number_at(row, ZOOM) else {
         return Ok(None);
     };
-    let Some(column) = number_at(row, 8) else {
+    let Some(column) = number_at(row, COLUMN) else {
         return Ok(None);
     };
-    let Some(line) = number_at(row, 9) else {
+    let Some(line) = number_at(row, ROW) else {
         return Ok(None);
     };
-    let Some(data) = hex_at(alloc, row, 17)? else {
+    let Some(data) = hex_at(alloc, row, DATA)? else {
         return Ok(None);
     };
     let bytes = Bytes::from_vec(data);
@@ -55,13 +56,13 @@ pub fn media_of(alloc: Global, row: &StringRecord) -> Result<Option<Content>, Ou
     ensures some { IfOk result (λ found. IfSome found (λ medium. IsContent (fields_of row.now) medium)) }
     ensures none { IfOk result (λ found. IfNone found ((content_type bytes : List ℕ) → ¬ IsContent (fields_of row.now) (content.Media content_type bytes))) }
 {
-    if !has_text(row, 6, "media") || !are_empty(row, &NOT_OF_MEDIA) {
+    if !has_text(row, KIND, "media") || !are_empty(row, &NOT_OF_MEDIA) {
         return Ok(None);
     }
-    let Some(content_type) = text_at(alloc, row, 16)? else {
+    let Some(content_type) = text_at(alloc, row, TEXT)? else {
         return Ok(None);
     };
-    let Some(data) = hex_at(alloc, row, 17)? else {
+    let Some(data) = hex_at(alloc, row, DATA)? else {
         return Ok(None);
     };
     let bytes = Bytes::from_vec(data);
@@ -76,19 +77,19 @@ pub fn row_of(alloc: Global, row: &StringRecord) -> Result<Option<Content>, OutO
     ensures some { IfOk result (λ found. IfSome found (λ added. IsContent (fields_of row.now) added)) }
     ensures none { IfOk result (λ found. IfNone found ((x y code : ℤ) (label : List ℕ) → ¬ IsContent (fields_of row.now) (content.Row x y code label))) }
 {
-    if !has_text(row, 6, "row") || !are_empty(row, &NOT_OF_ROW) {
+    if !has_text(row, KIND, "row") || !are_empty(row, &NOT_OF_ROW) {
         return Ok(None);
     }
-    let Some(x) = number_at(row, 12) else {
+    let Some(x) = number_at(row, X) else {
         return Ok(None);
     };
-    let Some(y) = number_at(row, 13) else {
+    let Some(y) = number_at(row, Y) else {
         return Ok(None);
     };
-    let Some(code) = number_at(row, 14) else {
+    let Some(code) = number_at(row, CODE) else {
         return Ok(None);
     };
-    let Some(label) = text_at(alloc, row, 16)? else {
+    let Some(label) = text_at(alloc, row, TEXT)? else {
         return Ok(None);
     };
     Ok(Some(Content::Row { x, y, code, label }))

@@ -1,6 +1,7 @@
 //! Lists as CSV (RFC 4180, as the crate `csv` reads it): request lists, reports and manifests.
 #![tactic(auto)]
 
+mod columns;
 mod contents;
 mod fields;
 pub mod importing;

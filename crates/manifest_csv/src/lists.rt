@@ -9,6 +9,7 @@ ghost use Rattle.manifest_csv.specs.RequestLists.{AreList, Asks, IsFaultFrom, Is
 ghost use Rattle.manifest_csv.specs.declared.records.Ending.TheVariants as ending;
 ghost use Rattle.manifest_csv.specs.declared.lists.ReadFault.TheVariants as fault;
 
+use crate::columns::COUNT;
 use crate::fields::has_text;
 use crate::records::{Ending, read_records};
 use crate::requests::request_of;
@@ -46,7 +47,7 @@ impl From<OutOfMemory> for ReadFault {
 }
 
 /// The names of the columns, in their order.
-const COLUMNS: [&str; 18] = [
+const COLUMNS: [&str; COUNT] = [
     "request",
     "at",
     "command",
@@ -94,7 +95,7 @@ fn request_in(alloc: Global, number: u64, row: ByteRecord) -> Result<Request, Re
         return Err(ReadFault::Read);
     };
     // `request_of` looks again, and finds no request: only here is a record of another length told from one that asks nothing.
-    if text.len() != 18 {
+    if text.len() != COUNT {
         return Err(ReadFault::Read);
     }
     match request_of(alloc, &text)? {

@@ -10,6 +10,7 @@ ghost use Rattle.sheet_types.specs.declared.command.Mapping.{Mapping};
 ghost use Rattle.sheet_types.specs.declared.command.Relation.{Relation};
 ghost use Rattle.sheet_types.specs.declared.command.Request.{Request};
 
+use crate::columns::{AT, COMMAND, COUNT, IDENTITY, KIND, OTHER, PACKAGE, REQUEST};
 use crate::contents::{media_of, row_of, tile_of};
 use crate::fields::{are_empty, has_text, mapping_at, text_at, uuid_at};
 use csv::StringRecord;
@@ -29,13 +30,13 @@ fn named_link(row: &StringRecord, word: &str) -> Option<(Uuid, Relation)>
     ensures some { IfSome result (λ named. NamesLink (fields_of row.now) word.now named.0 named.1) }
     ensures none { IfNone result ((holder : List ℕ) (link : Relation) → ¬ NamesLink (fields_of row.now) word.now holder link) }
 {
-    if !has_text(row, 2, word) || !are_empty(row, &NOT_OF_LINK) {
+    if !has_text(row, COMMAND, word) || !are_empty(row, &NOT_OF_LINK) {
         return None;
     }
-    let package = uuid_at(row, 3)?;
-    let mapping = mapping_at(row, 6)?;
-    let base = uuid_at(row, 4)?;
-    let media = uuid_at(row, 5)?;
+    let package = uuid_at(row, PACKAGE)?;
+    let mapping = mapping_at(row, KIND)?;
+    let base = uuid_at(row, IDENTITY)?;
+    let media = uuid_at(row, OTHER)?;
     Some((package, Relation::new(mapping, base, media)))
 }
 
@@ -75,11 +76,11 @@ pub fn delete_of(row: &StringRecord) -> Option<Command>
     ensures served { IfSome result (λ found. IsServed found) }
     ensures none { IfNone result ((source identity : List ℕ) → ¬ IsCommand (fields_of row.now) (command.Delete source identity)) }
 {
-    if !has_text(row, 2, "delete") || !are_empty(row, &NOT_OF_DELETE) {
+    if !has_text(row, COMMAND, "delete") || !are_empty(row, &NOT_OF_DELETE) {
         return None;
     }
-    let package = uuid_at(row, 3)?;
-    let identity = uuid_at(row, 4)?;
+    let package = uuid_at(row, PACKAGE)?;
+    let identity = uuid_at(row, IDENTITY)?;
     Some(Command::Delete { package, identity })
 }
 
@@ -106,13 +107,13 @@ pub fn add_of(alloc: Global, row: &StringRecord) -> Result<Option<Command>, OutO
     ensures served { IfOk result (λ found. IfSome found (λ addition. IsServed addition)) }
     ensures none { IfOk result (λ found. IfNone found ((target identity : List ℕ) (content : Content) → ¬ IsCommand (fields_of row.now) (command.Add target identity content))) }
 {
-    if !has_text(row, 2, "add") || !are_empty(row, &NOT_OF_ADD) {
+    if !has_text(row, COMMAND, "add") || !are_empty(row, &NOT_OF_ADD) {
         return Ok(None);
     }
-    let Some(package) = uuid_at(row, 3) else {
+    let Some(package) = uuid_at(row, PACKAGE) else {
         return Ok(None);
     };
-    let Some(identity) = uuid_at(row, 4) else {
+    let Some(identity) = uuid_at(row, IDENTITY) else {
         return Ok(None);
     };
     let Some(content) = content_of(alloc, row)? else {
@@ -149,13 +150,13 @@ pub fn request_of(alloc: Global, row: &StringRecord) -> Result<Option<Request>, 
     ensures served { IfOk result (λ found. IfSome found (λ request. IsServed request.command)) }
     ensures none { IfOk result (λ found. IfNone found ((request : Request) → IsServed request.command → ¬ IsRequest (fields_of row.now) request)) }
 {
-    if row.len() != 18 {
+    if row.len() != COUNT {
         return Ok(None);
     }
-    let Some(id) = uuid_at(row, 0) else {
+    let Some(id) = uuid_at(row, REQUEST) else {
         return Ok(None);
     };
-    let Some(at) = text_at(alloc, row, 1)? else {
+    let Some(at) = text_at(alloc, row, AT)? else {
         return Ok(None);
     };
     let Some(command) = command_of(alloc, row)? else {
