@@ -94,7 +94,7 @@ all_there xs ys h = recursion_from_All (Contains xs) ys (All-permutation (Contai
 
 -- the rows of the user tables are contents under their kinds and numbers
 pub contents_are : (t : Tables) (tiles : List TileRow) (media : List MediaRow) (rows : List AttributeRow) → IsPermutation t.tiles tiles → IsPermutation t.media media → IsPermutation t.rows rows
-    → AllByRecursion (IsPlaced t) (([] ++ map tile_placed tiles) ++ map medium_placed media ++ map attributes_placed rows)
+    → AllByRecursion (IsPlaced t) (map tile_placed tiles ++ map medium_placed media ++ map attributes_placed rows)
 contents_are t tiles media rows h i j =
     All-append (IsPlaced t) (map tile_placed tiles ++ map medium_placed media) (map attributes_placed rows)
     (All-append (IsPlaced t) (map tile_placed tiles) (map medium_placed media) (All-map (IsPlaced t) tile_placed tiles (All-weaker _ _ (λ r k. (refl, k)) tiles (all_there t.tiles tiles h))) (All-map (IsPlaced t) medium_placed media (All-weaker _ _ (λ r k. (refl, k)) media (all_there t.media media i))))

@@ -1,7 +1,7 @@
 // What a whole package holds, read by one statement a table. Identity rows and the rows of the user tables are both read
 // in the order of kind and number, so that each identity meets its content without a look-up. An error is want of memory, a
 // store that failed, or rows that no package has; the store holds what it held.
-ghost use Rattle.std.specs.Prelude.{◌≡◌, ◌++◌, map, pos, Some, bytes_eq, IfOk, IfErr, OnOk, IsTrue, IsPermutation};
+ghost use Rattle.std.specs.Prelude.{◌≡◌, ◌++◌, map, pos, Some, bytes_eq, IfOk, IfErr, IsTrue, IsPermutation};
 ghost use Rattle.std.specs.List.{AllByRecursion, AllZip, IsDistinct};
 ghost use Rattle.sqlite.specs.Held.{state};
 ghost use Rattle.sql_meaning.specs.Transactions.{Rests, Looks};
@@ -37,46 +37,31 @@ pub struct Placed {
     pub content: Content,
 }
 
-/// Puts the tiles behind the contents that are there.
-fn place_tiles(tiles: Vec<TileRow>, placed: &mut Vec<Placed>) -> Result<(), Fault>
-    ensures { OnOk result (placed.new.items ≡ placed.old.items ++ map tile_placed tiles.items) }
+/// What rows of the user tables hold, by kind and number.
+fn contents_of(
+    tiles: Vec<TileRow>,
+    media: Vec<MediaRow>,
+    rows: Vec<AttributeRow>,
+    alloc: Global,
+) -> Result<Vec<Placed>, Fault>
+    ensures { IfOk result (λ placed. placed.items ≡ map tile_placed tiles.items ++ map medium_placed media.items ++ map attributes_placed rows.items) }
 {
-    for tile in tiles {
-        placed.push(Placed {
-            kind: TILE,
-            number: tile.id,
-            content: of_tile(tile),
-        })?;
-    }
-    Ok(())
-}
-
-/// Puts the media behind the contents that are there.
-fn place_media(media: Vec<MediaRow>, placed: &mut Vec<Placed>) -> Result<(), Fault>
-    ensures { OnOk result (placed.new.items ≡ placed.old.items ++ map medium_placed media.items) }
-{
-    for medium in media {
-        placed.push(Placed {
-            kind: MEDIUM,
-            number: medium.id,
-            content: of_medium(medium),
-        })?;
-    }
-    Ok(())
-}
-
-/// Puts the attributes rows behind the contents that are there.
-fn place_attributes(rows: Vec<AttributeRow>, placed: &mut Vec<Placed>) -> Result<(), Fault>
-    ensures { OnOk result (placed.new.items ≡ placed.old.items ++ map attributes_placed rows.items) }
-{
-    for row in rows {
-        placed.push(Placed {
-            kind: ROW,
-            number: row.id,
-            content: of_attributes(row),
-        })?;
-    }
-    Ok(())
+    let tiles = tiles.into_iter().map(|tile| Placed {
+        kind: TILE,
+        number: tile.id,
+        content: of_tile(tile),
+    });
+    let media = media.into_iter().map(|medium| Placed {
+        kind: MEDIUM,
+        number: medium.id,
+        content: of_medium(medium),
+    });
+    let rows = rows.into_iter().map(|row| Placed {
+        kind: ROW,
+        number: row.id,
+        content: of_attributes(row),
+    });
+    Ok(tiles.chain(media).chain(rows).collect(alloc)?)
 }
 
 /// What the user tables hold, by kind and number.
@@ -87,11 +72,7 @@ fn all_contents<S: Alter>(conn: &mut Connection<S>, alloc: Global) -> Result<Vec
     let tiles = all_tiles(conn, alloc)?;
     let media = all_media(conn, alloc)?;
     let rows = all_attributes(conn, alloc)?;
-    let mut placed = Vec::new(alloc);
-    place_tiles(tiles, &mut placed)?;
-    place_media(media, &mut placed)?;
-    place_attributes(rows, &mut placed)?;
-    Ok(placed)
+    contents_of(tiles, media, rows, alloc)
 }
 
 /// The item of an identity row and of the content at its kind and number.

@@ -3,7 +3,7 @@ use Rattle.std.proofs.Common.{◌≡◌, refl, ◌<◌, [], ◌∷◌, ◌++◌,
 use Rattle.csv.specs.Writing.{default_writer, end_text, is_blank, row_body, row_text}
 use Rattle.sheet_types.specs.declared.command.Item.{Item}
 use Rattle.sheet_types.specs.declared.command.Relation.{Relation}
-use Rattle.manifest_csv.specs.Manifests.{items_text, links_text, manifest_header, manifest_of}
+use Rattle.manifest_csv.specs.Manifests.{item_fields, link_fields, manifest_header, manifest_of, records_text}
 use Rattle.manifest_csv.proofs.SentFacts.{some_first}
 
 some_last : (first second : List ℕ) → 0 < length second → 0 < length (first ++ second)
@@ -16,4 +16,4 @@ some_row fields =
     some_last (row_body default_writer fields) (blank ++ end_text default_writer.terminator) (some_last blank (end_text default_writer.terminator) (omega (arith, one)))
 
 pub some_manifest : (items : List Item) (links : List Relation) → 0 < length (manifest_of items links)
-some_manifest items links = some_first (row_text default_writer manifest_header) (items_text items ++ links_text links) (some_row manifest_header)
+some_manifest items links = some_first (row_text default_writer manifest_header) (records_text item_fields items ++ records_text link_fields links) (some_row manifest_header)

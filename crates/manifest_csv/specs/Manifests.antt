@@ -35,15 +35,13 @@ item_fields item =
 abbrev pub link_fields : Relation → List (List ℕ)
 link_fields link = mapping_word link.mapping ∷ uuid_text link.base ∷ uuid_text link.media ∷ [] ∷ [] ∷ [] ∷ [] ∷ [] ∷ [] ∷ codes "0" ∷ [] ∷ [] ∷ []
 
-abbrev pub items_text : List Item → List ℕ
-items_text items = flat_map (λ item. row_text default_writer (item_fields item)) items
-
-abbrev pub links_text : List Relation → List ℕ
-links_text links = flat_map (λ link. row_text default_writer (link_fields link)) links
+-- records, one after the other
+abbrev pub records_text : {X : Type 0} → (X → List (List ℕ)) → List X → List ℕ
+records_text fields = flat_map (λ x. row_text default_writer (fields x))
 
 -- the header, the items and the links, in their order
 abbrev pub manifest_of : List Item → List Relation → List ℕ
-manifest_of items links = row_text default_writer manifest_header ++ (items_text items ++ links_text links)
+manifest_of items links = row_text default_writer manifest_header ++ (records_text item_fields items ++ records_text link_fields links)
 
 -- a writer with the crate's defaults that stands between two records
 abbrev pub IsBetween : {W : Type 0} → Writer W → Type 0

@@ -1,10 +1,10 @@
 // The manifest of a package as one text.
-ghost use Rattle.std.specs.Prelude.{◌≡◌, ◌∷◌, [], IfOk, OnOk, Some, codes, decimal, map, string_bytes};
+ghost use Rattle.std.specs.Prelude.{◌≡◌, ◌∷◌, [], ℕ, List, IfOk, OnOk, Some, codes, decimal, map, string_bytes};
 ghost use Rattle.std.specs.Fmt.{signed_decimal};
 ghost use Rattle.std.specs.Io.KnownBytes.{Appends};
 ghost use Rattle.hex.specs.Hex.{encode_lower};
 ghost use Rattle.csv.specs.Writing.{default_writer, row_text, text_written};
-ghost use Rattle.manifest_csv.specs.Manifests.{IsBetween, item_fields, items_text, link_fields, links_text, manifest_header, manifest_of};
+ghost use Rattle.manifest_csv.specs.Manifests.{IsBetween, item_fields, link_fields, manifest_header, manifest_of, records_text};
 ghost use Rattle.sheet_types.specs.Texts.{fingerprint, size, uuid_text};
 
 use csv::{Writer, WriterBuilder};
@@ -147,78 +147,69 @@ fn write_row(
     )
 }
 
-// Writes the record of an item. The fields that don't apply to its kind are empty.
-fn write_item(writer: &mut Writer<Vec<u8>>, alloc: Global, item: &Item) -> Result<(), OutOfMemory>
-    requires { IsBetween writer.old }
-    ensures text { OnOk result (Appends (text_written (λ v. Some v.items) writer.old) (text_written (λ v. Some v.items) writer.new) (row_text default_writer (item_fields item.now))) }
-    ensures between { OnOk result (IsBetween writer.new) }
-{
-    match &item.content {
-        Content::Tile {
-            zoom,
-            column,
-            row,
-            ..
-        } => write_tile(writer, alloc, item, *zoom, *column, *row),
-        Content::Media { content_type, .. } => {
-            write_medium(writer, alloc, item, content_type.as_str())
-        }
-        Content::Row { x, y, code, label } => {
-            write_row(writer, alloc, item, *x, *y, *code, label.as_str())
+// What a manifest has a record of.
+trait Record {
+    ghost fields: { Self → List (List ℕ) };
+
+    // Writes the record.
+    fn write(&self, writer: &mut Writer<Vec<u8>>, alloc: Global) -> Result<(), OutOfMemory>
+        requires { IsBetween writer.old }
+        ensures text { OnOk result (Appends (text_written (λ v. Some v.items) writer.old) (text_written (λ v. Some v.items) writer.new) (row_text default_writer (fields self.now))) }
+        ensures between { OnOk result (IsBetween writer.new) };
+}
+
+// The fields that don't apply to an item's kind are empty.
+impl Record for Item {
+    ghost fields = { item_fields };
+
+    fn write(&self, writer: &mut Writer<Vec<u8>>, alloc: Global) -> Result<(), OutOfMemory> {
+        match &self.content {
+            Content::Tile {
+                zoom,
+                column,
+                row,
+                ..
+            } => write_tile(writer, alloc, self, *zoom, *column, *row),
+            Content::Media { content_type, .. } => {
+                write_medium(writer, alloc, self, content_type.as_str())
+            }
+            Content::Row { x, y, code, label } => {
+                write_row(writer, alloc, self, *x, *y, *code, label.as_str())
+            }
         }
     }
 }
 
-// Writes the record of a link: no place, the size 0, neither fingerprint nor text.
-fn write_link(
-    writer: &mut Writer<Vec<u8>>,
-    alloc: Global,
-    link: &Relation,
-) -> Result<(), OutOfMemory>
-    requires { IsBetween writer.old }
-    ensures text { OnOk result (Appends (text_written (λ v. Some v.items) writer.old) (text_written (λ v. Some v.items) writer.new) (row_text default_writer (link_fields link.now))) }
-    ensures between { OnOk result (IsBetween writer.new) }
-{
-    let kind = format!(in alloc; "{}", link.mapping)?;
-    let base = format!(in alloc; "{}", link.base)?;
-    let media = format!(in alloc; "{}", link.media)?;
-    let (kind, base, media) = (kind.as_bytes(), base.as_bytes(), media.as_bytes());
-    write_record(
-        writer,
-        &[
-            kind, base, media, b"", b"", b"", b"", b"", b"", b"0", b"", b"",
-        ],
-    )
-}
+// A link has no place, the size 0, and neither fingerprint nor text.
+impl Record for Relation {
+    ghost fields = { link_fields };
 
-// Writes the records of items in turn.
-fn write_items(
-    writer: &mut Writer<Vec<u8>>,
-    alloc: Global,
-    items: &[Item],
-) -> Result<(), OutOfMemory>
-    requires { IsBetween writer.old }
-    ensures text { OnOk result (Appends (text_written (λ v. Some v.items) writer.old) (text_written (λ v. Some v.items) writer.new) (items_text items.now)) }
-    ensures between { OnOk result (IsBetween writer.new) }
-{
-    for item in items {
-        write_item(writer, alloc, item)?;
+    fn write(&self, writer: &mut Writer<Vec<u8>>, alloc: Global) -> Result<(), OutOfMemory> {
+        let kind = format!(in alloc; "{}", self.mapping)?;
+        let base = format!(in alloc; "{}", self.base)?;
+        let media = format!(in alloc; "{}", self.media)?;
+        let (kind, base, media) = (kind.as_bytes(), base.as_bytes(), media.as_bytes());
+        write_record(
+            writer,
+            &[
+                kind, base, media, b"", b"", b"", b"", b"", b"", b"0", b"", b"",
+            ],
+        )
     }
-    Ok(())
 }
 
-// Writes the records of links in turn.
-fn write_links(
+// Writes the records in turn.
+fn write_records<R: Record>(
     writer: &mut Writer<Vec<u8>>,
     alloc: Global,
-    links: &[Relation],
+    records: &[R],
 ) -> Result<(), OutOfMemory>
     requires { IsBetween writer.old }
-    ensures text { OnOk result (Appends (text_written (λ v. Some v.items) writer.old) (text_written (λ v. Some v.items) writer.new) (links_text links.now)) }
+    ensures text { OnOk result (Appends (text_written (λ v. Some v.items) writer.old) (text_written (λ v. Some v.items) writer.new) (records_text R.fields records.now)) }
     ensures between { OnOk result (IsBetween writer.new) }
 {
-    for link in links {
-        write_link(writer, alloc, link)?;
+    for record in records {
+        record.write(writer, alloc)?;
     }
     Ok(())
 }
@@ -233,8 +224,8 @@ pub fn manifest_text(
 {
     let mut writer = WriterBuilder::new().from_writer(Vec::new(alloc));
     write_header(&mut writer)?;
-    write_items(&mut writer, alloc, items)?;
-    write_links(&mut writer, alloc, links)?;
+    write_records(&mut writer, alloc, items)?;
+    write_records(&mut writer, alloc, links)?;
     match writer.into_inner() {
         Ok(text) => Ok(text),
         Err(_) => Err(OutOfMemory),

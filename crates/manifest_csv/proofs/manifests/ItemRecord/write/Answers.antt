@@ -1,6 +1,6 @@
 -- The text of a row is its own label, and its signs are those of its numbers.
 use Rattle.std.proofs.Common.{rules, FitsSigned, w64, to_z-of_z}
-use Rattle.manifest_csv.proofs.manifests.write_item.Goals as goal
+use Rattle.manifest_csv.proofs.manifests.ItemRecord.write.Goals as goal
 
 pub returns-in-Row-clause-text : goal.returns-in-Row-clause-text
 returns-in-Row-clause-text c =
