@@ -28,7 +28,7 @@ numbers_once (y ∷ []) (z ∷ []) l f g e = ap (λ n. n ∷ []) (number_once y 
 numbers_once (y ∷ []) (z ∷ v ∷ zs) l f g e = absurd cc
 numbers_once (y ∷ x ∷ ys) (z ∷ []) l f g e = absurd cc
 numbers_once (y ∷ x ∷ ys) (z ∷ v ∷ zs) l f g e =
-    let cut = cut_once 44 (signed_decimal y) (signed_decimal z) (numbers_text (x ∷ ys)) (numbers_text (v ∷ zs)) (signed_lacks y) (signed_lacks z) e in
+    let cut = cut_once 44 (signed_decimal y) (signed_decimal z) (numbers_text (x ∷ ys)) (numbers_text (v ∷ zs)) (signed_lacks 44 y (omega arith)) (signed_lacks 44 z (omega arith)) e in
     let first : y ≡ z = number_once y z f.0 g.0 cut.0 in
     let rest : x ∷ ys ≡ v ∷ zs = numbers_once (x ∷ ys) (v ∷ zs) (cc) f.1 g.1 cut.1 in
     cc

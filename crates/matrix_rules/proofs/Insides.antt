@@ -12,7 +12,8 @@ use Rattle.matrix_rules.specs.Places.{is_inside, is_between, offsets}
 use Rattle.matrix_rules.proofs.Frames.{GoodFrame}
 use Rattle.matrix_rules.proofs.Grids.{Grid, grid_x, grid_y}
 use Rattle.matrix_rules.proofs.Blocks.{block, along}
-use Rattle.matrix_rules.proofs.Parts.{same_test, positive_product}
+use Rattle.std.specs.Cmp.{both_ways}
+use Rattle.matrix_rules.proofs.Parts.{positive_product}
 
 -- a good rectangle's offsets, between those of the frame's edges
 pub record Edges (f : Frame) (o : Offsets) : Type 0 where
@@ -67,10 +68,10 @@ regrouped false b c d = refl
 
 -- places on one axis compare as their offsets do, and the other way round where these are counted downwards
 same_start : (m x y : ℤ) → int_le (m +ℤ x) (m +ℤ y) ≡ int_le x y
-same_start m x y = same_test _ _ (λ h. int_le_so x y (omega (arith, ints, h))) (λ h. int_le_so (m +ℤ x) (m +ℤ y) (omega (arith, ints, h)))
+same_start m x y = both_ways _ _ (λ h. int_le_so x y (omega (arith, ints, h))) (λ h. int_le_so (m +ℤ x) (m +ℤ y) (omega (arith, ints, h)))
 
 turned_start : (m x y : ℤ) → int_le (m -ℤ x) (m -ℤ y) ≡ int_le y x
-turned_start m x y = same_test _ _ (λ h. int_le_so y x (omega (arith, ints, h))) (λ h. int_le_so (m -ℤ x) (m -ℤ y) (omega (arith, ints, h)))
+turned_start m x y = both_ways _ _ (λ h. int_le_so y x (omega (arith, ints, h))) (λ h. int_le_so (m -ℤ x) (m -ℤ y) (omega (arith, ints, h)))
 
 -- ground within ground, by the offsets of both
 measured : (f : Frame) (r s : Rect) → lies_within (block_ground f r) (block_ground f s)

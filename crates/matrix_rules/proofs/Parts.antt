@@ -1,18 +1,12 @@
 -- Which of equal parts lie between two ends.
-use Rattle.std.specs.Prelude.{◌≡◌, ◌↔◌, ℕ, suc, ◌+◌, ◌-◌, ◌*◌, ◌/◌, ◌<◌, ◌≤◌, Bool, true, false, ◌&&◌, ℤ, pos, negsuc, ◌+ℤ◌, ◌-ℤ◌, ◌*ℤ◌, ◌≤ℤ◌, ◌<ℤ◌, int_le, int_div, refl}
+use Rattle.std.specs.Prelude.{◌≡◌, ◌↔◌, ℕ, suc, ◌+◌, ◌-◌, ◌*◌, ◌/◌, ◌<◌, ◌≤◌, true, false, ◌&&◌, ℤ, pos, negsuc, ◌+ℤ◌, ◌-ℤ◌, ◌*ℤ◌, ◌≤ℤ◌, ◌<ℤ◌, int_le, int_div, refl}
+use Rattle.std.specs.Cmp.{both_ways}
 use Rattle.std.proofs.Common.{arith, sym}
 use Rattle.std.proofs.lemmas.Bool.{and_parts, and_from, false_from_ne_true}
 use Rattle.std.proofs.lemmas.Int.{ints}
 use Rattle.std.proofs.Math.Nat.{div-lt_iff_lt-mul, le-div_iff_mul-le, mul-le-mul_right}
 use Rattle.sheet_types.specs.Matrix.{is_within}
 use Rattle.matrix_rules.specs.Places.{is_between}
-
--- two tests that pass together are one
-pub same_test : (a b : Bool) → (a ≡ true → b ≡ true) → (b ≡ true → a ≡ true) → a ≡ b
-same_test true true f g = refl
-same_test false false f g = refl
-same_test true false f g = sym (f refl)
-same_test false true f g = g refl
 
 -- the part c begins at or after the start exactly where it is no less than the quotient rounded up
 starts : (start length c : ℕ) → 0 < length → (start ≤ c * length) ↔ ((start + length - 1) / length ≤ c)
@@ -36,7 +30,7 @@ before_axis start length c some = let more = positive_product c length some in s
 
 between : (start end length : ℕ) (part : ℤ) → 0 < length → is_between (pos start) (pos end) (pos length) part ≡ is_within (pos ((start + length - 1) / length)) (pos (end / length) -ℤ pos 1) part
 between start end length (pos c) some =
-    same_test (int_le (pos start) (pos (c * length)) && int_le (pos ((c + 1) * length)) (pos end)) (int_le (pos ((start + length - 1) / length)) (pos c) && int_le (pos c) (pos (end / length) -ℤ pos 1))
+    both_ways (int_le (pos start) (pos (c * length)) && int_le (pos ((c + 1) * length)) (pos end)) (int_le (pos ((start + length - 1) / length)) (pos c) && int_le (pos c) (pos (end / length) -ℤ pos 1))
     (λ h.
     let parts = and_parts (int_le (pos start) (pos (c * length))) (int_le (pos ((c + 1) * length)) (pos end)) h in
     let low : (start + length - 1) / length ≤ c = (starts start length c some).0 (omega (arith, ints, parts.0)) in

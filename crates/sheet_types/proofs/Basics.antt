@@ -103,11 +103,14 @@ pub before_trans : (a b c : List ℕ) → is_before a b ≡ true → is_before b
 before_trans a b c h g = ap is_lt (nat_list_cmp_total.trans a b c (lt_is_less (slice_cmp nat_cmp a b) h) (lt_is_less (slice_cmp nat_cmp b c) g))
 
 -- less is not less the other way
-not_both : (o : Ordering) → is_lt o ≡ true → is_lt (ordering_reverse o) ≡ true → ⊥
-not_both Less h g = false≢true g
-not_both Equal h g = false≢true h
-not_both Greater h g = false≢true h
+one_way : (o : Ordering) → is_lt o ≡ true → is_lt (ordering_reverse o) ≡ false
+one_way Less h = refl
+one_way Equal h = absurd (false≢true h)
+one_way Greater h = absurd (false≢true h)
 
--- of two keys only one stands before the other
+-- of two keys only one is before the other
+pub before_not_after : (a b : List ℕ) → is_before a b ≡ true → is_before b a ≡ false
+before_not_after a b h = ap is_lt (nat_list_cmp_total.antisymm b a) ∙ one_way (slice_cmp nat_cmp a b) h
+
 pub before_one_way : (a b : List ℕ) → is_before a b ≡ true → is_before b a ≡ true → ⊥
-before_one_way a b h g = not_both (slice_cmp nat_cmp a b) h (ap is_lt (sym (nat_list_cmp_total.antisymm b a)) ∙ g)
+before_one_way a b h g = true≢false (sym g ∙ before_not_after a b h)

@@ -1,5 +1,5 @@
 -- Texts cut at a byte that their parts do not have, and numbers between commas.
-use Rattle.std.proofs.Common.{◌≡◌, ◌≢◌, ℕ, zero, suc, ◌+◌, ◌/◌, ◌%◌, ◌==◌, List, [], ◌∷◌, ◌++◌, length, take, true, false, if◌then◌else◌, ℤ, pos, negsuc, FitsSigned, w64, Option, Some, None, IfNone, refl, sym, ap, ◌∙◌, arith}
+use Rattle.std.proofs.Common.{◌≡◌, ◌≢◌, ℕ, zero, suc, ◌+◌, ◌<◌, ◌/◌, ◌%◌, ◌==◌, List, [], ◌∷◌, ◌++◌, length, take, true, false, if◌then◌else◌, ℤ, pos, negsuc, FitsSigned, w64, Option, Some, None, IfNone, refl, sym, ap, ◌∙◌, arith}
 use Rattle.std.specs.List.{AllByRecursion, position_or_len, before_first}
 use Rattle.std.specs.Fmt.{signed_decimal, decimal, digits, digits_onto, digit_glyph}
 use Rattle.std.proofs.lemmas.Bool.{eq-eqb}
@@ -40,37 +40,41 @@ cut_once c (x ∷ xs) (y ∷ ys) r s h g e =
     let p = cut_once c xs ys r s h.1 g.1 rest in
     (cc (first, p.0), p.1)
 
--- digits are no comma
-glyph_lacks : (n : ℕ) → (digit_glyph false (n % 10) == 44) ≡ false
-glyph_lacks n = grind (arith, nat_tests)
+-- no digit is a byte below the digit 0
+glyph_lacks : (c n : ℕ) → c < 48 → (digit_glyph false (n % 10) == c) ≡ false
+glyph_lacks c n low = grind (arith, nat_tests)
 
-digits_lack : (k n : ℕ) (acc : List ℕ) → Lacks 44 acc → Lacks 44 (digits_onto k 10 false n acc)
-digits_lack zero n acc h = h
-digits_lack (suc k) n acc h =
-    elim (n / 10 == 0) as (λ v. Lacks 44 (if v then digit_glyph false (n % 10) ∷ acc else digits_onto k 10 false (n / 10) (digit_glyph false (n % 10) ∷ acc))) [
-      | true ↦ (glyph_lacks n, h)
-      | false ↦ digits_lack k (n / 10) (digit_glyph false (n % 10) ∷ acc) (glyph_lacks n, h)
+digits_lack : (c k n : ℕ) (acc : List ℕ) → c < 48 → Lacks c acc → Lacks c (digits_onto k 10 false n acc)
+digits_lack c zero n acc low h = h
+digits_lack c (suc k) n acc low h =
+    elim (n / 10 == 0) as (λ v. Lacks c (if v then digit_glyph false (n % 10) ∷ acc else digits_onto k 10 false (n / 10) (digit_glyph false (n % 10) ∷ acc))) [
+      | true ↦ (glyph_lacks c n low, h)
+      | false ↦ digits_lack c k (n / 10) (digit_glyph false (n % 10) ∷ acc) low (glyph_lacks c n low, h)
     ]
 
-decimal_lacks : (n : ℕ) → Lacks 44 (decimal n)
+pub decimal_lacks : (c n : ℕ) → c < 48 → Lacks c (decimal n)
 unfolding digits
-decimal_lacks n = digits_lack 64 n [] tt
+decimal_lacks c n low = digits_lack c 64 n [] low tt
 
-pub signed_lacks : (z : ℤ) → Lacks 44 (signed_decimal z)
-signed_lacks (pos n) = decimal_lacks n
-signed_lacks (negsuc n) = (refl, decimal_lacks (suc n))
+-- nor is the minus, where it is below that too
+pub signed_lacks : (c : ℕ) (z : ℤ) → c < 45 → Lacks c (signed_decimal z)
+signed_lacks c (pos n) low = decimal_lacks c n (omega arith)
+signed_lacks c (negsuc n) low = (no_minus, decimal_lacks c (suc n) (omega arith))
+  where
+    no_minus : (45 == c) ≡ false
+    no_minus = grind (arith, nat_tests)
 
 -- a text with a comma behind a number has a comma
 pub has_comma : (z : ℤ) (rest text : List ℕ) → text ≡ signed_decimal z ++ (44 ∷ rest) → position_or_len (λ b. b == 44) text ≡ length text → ⊥
 has_comma z rest text is all =
-    let here : position_or_len (λ b. b == 44) text ≡ length (signed_decimal z) = rw is (position-lacks 44 (signed_decimal z) rest (signed_lacks z)) in
+    let here : position_or_len (λ b. b == 44) text ≡ length (signed_decimal z) = rw is (position-lacks 44 (signed_decimal z) rest (signed_lacks 44 z (omega arith))) in
     let long : length text ≡ length (signed_decimal z) + suc (length rest) = ap length is ∙ length-append (signed_decimal z) (44 ∷ rest) in
     omega (arith, here, long, all)
 
 -- what stands before the first comma is the number
 pub before_comma : (z : ℤ) (rest text front : List ℕ) → text ≡ signed_decimal z ++ (44 ∷ rest) → front ≡ before_first (λ b. b == 44) text → front ≡ signed_decimal z
 before_comma z rest text front is said =
-    let here : position_or_len (λ b. b == 44) (signed_decimal z ++ (44 ∷ rest)) ≡ length (signed_decimal z) = position-lacks 44 (signed_decimal z) rest (signed_lacks z) in
+    let here : position_or_len (λ b. b == 44) (signed_decimal z ++ (44 ∷ rest)) ≡ length (signed_decimal z) = position-lacks 44 (signed_decimal z) rest (signed_lacks 44 z (omega arith)) in
     said ∙ ap (λ (t : List ℕ). before_first (λ b. b == 44) t) is ∙ ap (λ (n : ℕ). take n (signed_decimal z ++ (44 ∷ rest))) here ∙ take-append_seam (signed_decimal z) (44 ∷ rest)
 
 -- ---- numbers with single commas between them
@@ -105,7 +109,7 @@ none_rest n z text rest is h = record { none = by }
     by [] l f e = cc l
     by (y ∷ []) l f e = cc l
     by (y ∷ x ∷ zs) l f e =
-        let cut = cut_once 44 (signed_decimal z) (signed_decimal y) rest (numbers_text (x ∷ zs)) (signed_lacks z) (signed_lacks y) (sym is ∙ e) in
+        let cut = cut_once 44 (signed_decimal z) (signed_decimal y) rest (numbers_text (x ∷ zs)) (signed_lacks 44 z (omega arith)) (signed_lacks 44 y (omega arith)) (sym is ∙ e) in
         h.none (x ∷ zs) (cc l) f.1 cut.1
 
 -- then it is no frame either

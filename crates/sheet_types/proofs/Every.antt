@@ -35,8 +35,7 @@ All-append P (x ∷ xs) ys h g = (h.0, All-append P xs ys h.1 g)
 
 -- of a list and one more
 pub All-snoc : {X : Type 0} (P : X → Type 0) (xs : List X) (y : X) → AllByRecursion P xs → P y → AllByRecursion P (xs ++ y ∷ [])
-All-snoc P [] y h p = (p, tt)
-All-snoc P (x ∷ xs) y h p = (h.0, All-snoc P xs y h.1 p)
+All-snoc P xs y h p = All-append P xs (y ∷ []) h (p, tt)
 
 -- of what a filter takes
 pub All-filter : {X : Type 0} (P : X → Type 0) (t : X → Bool) (xs : List X) → AllByRecursion P xs → AllByRecursion P (filter t xs)

@@ -1,20 +1,19 @@
 -- A line read back is the entry that wrote it, and no other text is read so.
-use Rattle.std.specs.Prelude.{◌≡◌, ℕ, zero, suc, ◌^◌, ◌<◌, ◌==◌, Bool, true, false, not, ◌&&◌, nat_lt, List, [], ◌∷◌, refl, bytes_eq, Option, Some, None, option_map, unwrap_or, length, slice_index, ℤ, pos, negsuc, neg_ℤ, unsigned_abs, codes, decimal, if◌then◌else◌}
-use Rattle.std.proofs.Common.{sym, ap, subst, ◌∙◌, arith, get_or, inl}
+use Rattle.std.specs.Prelude.{◌≡◌, ℕ, zero, suc, ◌^◌, ◌<◌, ◌==◌, true, false, not, ◌&&◌, nat_lt, List, [], ◌∷◌, refl, bytes_eq, Option, Some, None, option_map, unwrap_or, length, slice_index, ℤ, pos, negsuc, neg_ℤ, unsigned_abs, codes, decimal, if◌then◌else◌}
+use Rattle.std.proofs.Common.{sym, ap, subst, ◌∙◌, arith, inl}
 use Rattle.std.proofs.lemmas.Bool.{and_parts, and_from, ltb-true, eqb-true}
 use Rattle.std.proofs.lemmas.Bool.Decides.{nat_tests}
 use Rattle.std.specs.Prelude.{All}
-use Rattle.std.proofs.lemmas.List.Elements.{All-from_recursion}
+use Rattle.std.proofs.lemmas.List.Elements.{All-from_recursion, All-from_get_or, recursion_from_All}
 use Rattle.std.proofs.lemmas.List.Splits.{slice_split_at, slice_split_none}
 use Rattle.std.proofs.lemmas.Slice.Eq.{bytes_eq-Decides}
 use Rattle.std.proofs.lemmas.Fmt.{decimal_is_IsNumeral}
-use Rattle.std.proofs.lemmas.Str.Parse.{digit_from_value}
 use Rattle.std.specs.List.{slice_split, list_all, AllByRecursion}
 use Rattle.std.specs.Option.{option_and_then}
 use Rattle.std.specs.Bool.{then_some}
 use Rattle.std.specs.Fmt.{signed_decimal}
 use Rattle.std.specs.Result.{result_unwrap_or}
-use Rattle.std.specs.Str.Parse.{AllDigits, IsNumeral, digits_value}
+use Rattle.std.specs.Str.Parse.{IsNumeral, digits_value}
 use Rattle.hex.specs.Hex.{encode_with, encode_lower, lower_digits, IsBytes}
 use Rattle.hex.proofs.HexLemmas.{decode_of-encode_lower}
 use Rattle.uuid.specs.Text.{lower, hex_digit, nibble, digit_place, is_hyphen_place}
@@ -29,43 +28,26 @@ use Rattle.sheet_types.specs.declared.command.Mode.TheVariants.{Strict, Follow}
 use Rattle.sheet_types.specs.declared.receipt.MovedKind.{MovedKind}
 use Rattle.sheet_types.specs.declared.receipt.MovedKind.TheVariants.{TileItem, MediaItem, RowItem, TilesMediaLink, RowsMediaLink}
 use Rattle.sheet_types.proofs.Basics.{bytes_eq_itself, None≢Some, not_true}
+use Rattle.sheet_types.proofs.Commas.{Lacks, decimal_lacks, signed_lacks}
 
 -- ---- parts with no space in them
 
--- no byte of it is a space
-abbrev Lacks : List ℕ → Type 0
-Lacks xs = AllByRecursion (λ c. (c == 32) ≡ false) xs
-
 -- such parts are found again in their line
-split_spaced : (x : List ℕ) (xs : List (List ℕ)) → Lacks x → AllByRecursion Lacks xs → slice_split (λ c. c == 32) (spaced (x ∷ xs)) ≡ x ∷ xs
+split_spaced : (x : List ℕ) (xs : List (List ℕ)) → Lacks 32 x → AllByRecursion (Lacks 32) xs → slice_split (λ c. c == 32) (spaced (x ∷ xs)) ≡ x ∷ xs
 split_spaced x [] h hs = slice_split_none (λ c. c == 32) x (All-from_recursion (λ c. (c == 32) ≡ false) x h)
 split_spaced x (y ∷ ys) h hs =
     slice_split_at (λ c. c == 32) x 32 (spaced (y ∷ ys)) (All-from_recursion (λ c. (c == 32) ≡ false) x h) refl ∙ ap (λ zs. x ∷ zs) (split_spaced y ys hs.0 hs.1)
-
--- by places
-lacks_at : (xs : List ℕ) → ((k : ℕ) → k < length xs → (get_or xs k 0 == 32) ≡ false) → Lacks xs
-lacks_at [] h = tt
-lacks_at (x ∷ xs) h = (h 0 (omega arith), lacks_at xs (λ k lt. h (suc k) (omega arith)))
 
 -- a digit of sixteen is no space
 not_space : (d : ℕ) → d < 16 → (hex_digit lower d == 32) ≡ false
 not_space d small = grind (arith, nat_tests)
 
 -- the text of a UUID has no space
-uuid_lacks : (id : List ℕ) → Lacks (uuid_text id)
-uuid_lacks id = lacks_at (uuid_text id) (λ k lt.
+uuid_lacks : (id : List ℕ) → Lacks 32 (uuid_text id)
+uuid_lacks id = recursion_from_All _ (uuid_text id) (All-from_get_or (λ c. (c == 32) ≡ false) (uuid_text id) 0 (λ k lt.
     let within : k < 36 = rw (by_index_length 36 (λ j. if is_hyphen_place j then 45 else hex_digit lower (nibble id (digit_place j)))) at lt in
     ap (λ c. c == 32) (by_index_at 36 (λ j. if is_hyphen_place j then 45 else hex_digit lower (nibble id (digit_place j))) k 0 within)
-    ∙ elim (is_hyphen_place k) as (λ v. ((if v then 45 else hex_digit lower (nibble id (digit_place k))) == 32) ≡ false) [ true ↦ refl | false ↦ not_space (nibble id (digit_place k)) (nibble_small id (digit_place k)) ])
-
--- a digit is no space
-digit_no_space : (c : ℕ) → 47 < c → (c == 32) ≡ false
-digit_no_space c h = grind (arith, nat_tests)
-
--- digits have no space
-digits_lack : (ds : List ℕ) → AllDigits 10 ds → Lacks ds
-digits_lack [] h = tt
-digits_lack (c ∷ ds) h = (digit_no_space c (let r = digit_from_value c h.0 in omega arith), digits_lack ds h.1)
+    ∙ elim (is_hyphen_place k) as (λ v. ((if v then 45 else hex_digit lower (nibble id (digit_place k))) == 32) ≡ false) [ true ↦ refl | false ↦ not_space (nibble id (digit_place k)) (nibble_small id (digit_place k)) ]))
 
 -- a number that is not below 0
 number_small : (n : ℕ) → is_number (pos n) ≡ true → n < 2 ^ 64
@@ -76,29 +58,28 @@ number_small_below : (n : ℕ) → is_number (negsuc n) ≡ true → suc n < 2 ^
 number_small_below n h = grind (arith, nat_tests)
 
 -- the text of a number has no space
-number_lacks : (z : ℤ) → is_number z ≡ true → Lacks (signed_decimal z)
-number_lacks (pos n) h = digits_lack (decimal n) (decimal_is_IsNumeral n (number_small n h)).0.1
-number_lacks (negsuc n) h = (refl, digits_lack (decimal (suc n)) (decimal_is_IsNumeral (suc n) (number_small_below n h)).0.1)
+number_lacks : (z : ℤ) → Lacks 32 (signed_decimal z)
+number_lacks z = signed_lacks 32 z (omega arith)
 
--- what is taken from such a text is no space
-slice_lacks : (t : List ℕ) → Lacks t → (k : ℕ) → (slice_index t k == 32) ≡ false
-slice_lacks [] h k = refl
-slice_lacks (x ∷ t) h zero = h.0
-slice_lacks (x ∷ t) h (suc k) = slice_lacks t h.1 k
+-- what is taken from a text that lacks a byte is not that byte
+slice_lacks : (c : ℕ) (t : List ℕ) → (0 == c) ≡ false → Lacks c t → (k : ℕ) → (slice_index t k == c) ≡ false
+slice_lacks c [] some h k = some
+slice_lacks c (x ∷ t) some h zero = h.0
+slice_lacks c (x ∷ t) some h (suc k) = slice_lacks c t some h.1 k
 
 -- a text that is written out
-lacks_by_test : (xs : List ℕ) → list_all (λ c. not (c == 32)) xs ≡ true → Lacks xs
+lacks_by_test : (xs : List ℕ) → list_all (λ c. not (c == 32)) xs ≡ true → Lacks 32 xs
 lacks_by_test [] h = tt
 lacks_by_test (c ∷ xs) h = let parts : (not (c == 32) ≡ true) × (list_all (λ x. not (x == 32)) xs ≡ true) = and_parts (not (c == 32)) (list_all (λ x. not (x == 32)) xs) h in (not_true (c == 32) parts.0, lacks_by_test xs parts.1)
 
 -- the text of a digest has no space
-hex_lacks : (bytes : List ℕ) → Lacks (encode_lower bytes)
+hex_lacks : (bytes : List ℕ) → Lacks 32 (encode_lower bytes)
 unfolding encode_with
 hex_lacks [] = tt
-hex_lacks (b ∷ bytes) = (slice_lacks lower_digits (lacks_by_test lower_digits refl) _, (slice_lacks lower_digits (lacks_by_test lower_digits refl) _, hex_lacks bytes))
+hex_lacks (b ∷ bytes) = (slice_lacks 32 lower_digits refl (lacks_by_test lower_digits refl) _, (slice_lacks 32 lower_digits refl (lacks_by_test lower_digits refl) _, hex_lacks bytes))
 
 -- the word of a kind has no space
-kind_lacks : (kind : MovedKind) → Lacks (kind_word kind)
+kind_lacks : (kind : MovedKind) → Lacks 32 (kind_word kind)
 kind_lacks TileItem = lacks_by_test (kind_word TileItem) refl
 kind_lacks MediaItem = lacks_by_test (kind_word MediaItem) refl
 kind_lacks RowItem = lacks_by_test (kind_word RowItem) refl
@@ -106,12 +87,12 @@ kind_lacks TilesMediaLink = lacks_by_test (kind_word TilesMediaLink) refl
 kind_lacks RowsMediaLink = lacks_by_test (kind_word RowsMediaLink) refl
 
 -- the word of a mapping has no space
-mapping_lacks : (mapping : Mapping) → Lacks (mapping_word mapping)
+mapping_lacks : (mapping : Mapping) → Lacks 32 (mapping_word mapping)
 mapping_lacks TilesMedia = lacks_by_test (mapping_word TilesMedia) refl
 mapping_lacks RowsMedia = lacks_by_test (mapping_word RowsMedia) refl
 
 -- the word of a mode has no space
-mode_lacks : (mode : Mode) → Lacks (mode_word mode)
+mode_lacks : (mode : Mode) → Lacks 32 (mode_word mode)
 mode_lacks Strict = lacks_by_test (mode_word Strict) refl
 mode_lacks Follow = lacks_by_test (mode_word Follow) refl
 
@@ -161,27 +142,13 @@ uuid_back id h = ap (λ o. unwrap_or o []) (sym (parses_hyphenated_text lower id
 digest_back : (n : ℕ) (bytes : List ℕ) → is_bytes n bytes ≡ true → digest_in (encode_lower bytes) ≡ bytes
 digest_back n bytes h = ap (λ r. result_unwrap_or r []) (decode_of-encode_lower bytes (small_at bytes (small_bytes bytes (and_parts (length bytes == n) (list_all (λ b. nat_lt b 256) bytes) h).1)))
 
--- digits begin with no sign
-no_minus : (bs : List ℕ) → AllDigits 10 bs → 0 < length bs → (slice_index bs 0 == 45) ≡ false
-no_minus [] h some = refl
-no_minus (c ∷ bs) h some = sign_no (let r = digit_from_value c h.0 in omega arith)
-  where
-    sign_no : 47 < c → (c == 45) ≡ false
-    sign_no lt = grind (arith, nat_tests)
-
--- nor with the other
-no_plus : (bs : List ℕ) → AllDigits 10 bs → 0 < length bs → (slice_index bs 0 == 43) ≡ false
-no_plus [] h some = refl
-no_plus (c ∷ bs) h some = sign_no (let r = digit_from_value c h.0 in omega arith)
-  where
-    sign_no : 47 < c → (c == 43) ≡ false
-    sign_no lt = grind (arith, nat_tests)
-
 -- a number
 number_back : (z : ℤ) → is_number z ≡ true → number_in (signed_decimal z) ≡ z
 number_back (pos n) h =
     let d : IsNumeral 10 (decimal n) × (digits_value 10 (decimal n) ≡ n) = decimal_is_IsNumeral n (number_small n h) in
-    rw (no_minus (decimal n) d.0.1 d.0.0, no_plus (decimal n) d.0.1 d.0.0) (ap pos d.1)
+    let no_minus = slice_lacks 45 (decimal n) refl (decimal_lacks 45 n (omega arith)) 0 in
+    let no_plus = slice_lacks 43 (decimal n) refl (decimal_lacks 43 n (omega arith)) 0 in
+    rw (no_minus, no_plus) (ap pos d.1)
 number_back (negsuc n) h =
     let d : IsNumeral 10 (decimal (suc n)) × (digits_value 10 (decimal (suc n)) ≡ suc n) = decimal_is_IsNumeral (suc n) (number_small_below n h) in
     ap (λ k. neg_ℤ (pos k)) d.1
@@ -192,49 +159,45 @@ number_back (negsuc n) h =
 abbrev parts_in : List ℕ → Option Entry
 parts_in text = entry_in (slice_split (λ c. c == 32) text)
 
--- two tests
-two : (a b : Bool) → (a && b) ≡ true → (a ≡ true) × (b ≡ true)
-two a b h = and_parts a b h
-
 -- an entry
 back : (e : Entry) → IsFitEntry e → parts_in (entry_line e) ≡ Some e
 back (Adds p identity kind size digest) fit =
-    let f3 = two _ _ fit in
-    let f2 = two _ _ f3.0 in
-    let f1 = two _ _ f2.0 in
-    let f0 = two _ _ f1.0 in
+    let f3 = and_parts _ _ fit in
+    let f2 = and_parts _ _ f3.0 in
+    let f1 = and_parts _ _ f2.0 in
+    let f0 = and_parts _ _ f1.0 in
     ap entry_in (split_spaced (codes "add") (uuid_text p ∷ uuid_text identity ∷ kind_word kind ∷ decimal size ∷ encode_lower digest ∷ []) (lacks_by_test (codes "add") refl)
-    (uuid_lacks p, (uuid_lacks identity, (kind_lacks kind, (number_lacks (pos size) f2.1, (hex_lacks digest, tt))))))
+    (uuid_lacks p, (uuid_lacks identity, (kind_lacks kind, (number_lacks (pos size), (hex_lacks digest, tt))))))
     ∙ (λ j. option_map (λ k. Adds (uuid_back p f0.0 j) (uuid_back identity f0.1 j) k (unsigned_abs (number_back (pos size) f2.1 j)) (digest_back 32 digest f3.1 j)) (kind_back kind j))
 back (Deletes p identity) fit =
-    let f = two _ _ fit in
+    let f = and_parts _ _ fit in
     ap entry_in (split_spaced (codes "delete") (uuid_text p ∷ uuid_text identity ∷ []) (lacks_by_test (codes "delete") refl) (uuid_lacks p, (uuid_lacks identity, tt)))
     ∙ (λ j. Some (Deletes (uuid_back p f.0 j) (uuid_back identity f.1 j)))
 back (Links p mapping base media) fit =
-    let f1 = two _ _ fit in
-    let f0 = two _ _ f1.0 in
+    let f1 = and_parts _ _ fit in
+    let f0 = and_parts _ _ f1.0 in
     ap entry_in (split_spaced (codes "link") (mapping_word mapping ∷ uuid_text p ∷ uuid_text base ∷ uuid_text media ∷ []) (lacks_by_test (codes "link") refl) (mapping_lacks mapping, (uuid_lacks p, (uuid_lacks base, (uuid_lacks media, tt)))))
     ∙ (λ j. option_map (λ m. Links (uuid_back p f0.0 j) m (uuid_back base f0.1 j) (uuid_back media f1.1 j)) (mapping_back mapping j))
 back (Unlinks p mapping base media) fit =
-    let f1 = two _ _ fit in
-    let f0 = two _ _ f1.0 in
+    let f1 = and_parts _ _ fit in
+    let f0 = and_parts _ _ f1.0 in
     ap entry_in (split_spaced (codes "unlink") (mapping_word mapping ∷ uuid_text p ∷ uuid_text base ∷ uuid_text media ∷ []) (lacks_by_test (codes "unlink") refl) (mapping_lacks mapping, (uuid_lacks p, (uuid_lacks base, (uuid_lacks media, tt)))))
     ∙ (λ j. option_map (λ m. Unlinks (uuid_back p f0.0 j) m (uuid_back base f0.1 j) (uuid_back media f1.1 j)) (mapping_back mapping j))
 back (Splits p child mode rect) fit =
-    let f1 = two _ _ fit in
-    let f0 = two _ _ f1.0 in
-    let r3 = two _ _ f1.1 in
-    let r2 = two _ _ r3.0 in
-    let r1 = two _ _ r2.0 in
-    let r0 = two _ _ r1.0 in
+    let f1 = and_parts _ _ fit in
+    let f0 = and_parts _ _ f1.0 in
+    let r3 = and_parts _ _ f1.1 in
+    let r2 = and_parts _ _ r3.0 in
+    let r1 = and_parts _ _ r2.0 in
+    let r0 = and_parts _ _ r1.0 in
     ap entry_in (split_spaced (codes "split") (uuid_text p ∷ uuid_text child ∷ mode_word mode ∷ signed_decimal rect.zoom ∷ signed_decimal rect.column ∷ signed_decimal rect.last_column ∷ signed_decimal rect.row ∷ signed_decimal rect.last_row ∷ []) (lacks_by_test (codes "split") refl)
-    (uuid_lacks p, (uuid_lacks child, (mode_lacks mode, (number_lacks rect.zoom r0.0, (number_lacks rect.column r0.1, (number_lacks rect.last_column r1.1, (number_lacks rect.row r2.1, (number_lacks rect.last_row r3.1, tt)))))))))
+    (uuid_lacks p, (uuid_lacks child, (mode_lacks mode, (number_lacks rect.zoom, (number_lacks rect.column, (number_lacks rect.last_column, (number_lacks rect.row, (number_lacks rect.last_row, tt)))))))))
     ∙ (λ j. option_map (λ m. Splits (uuid_back p f0.0 j) (uuid_back child f0.1 j) m
     (record { zoom = number_back rect.zoom r0.0 j; column = number_back rect.column r0.1 j; last_column = number_back rect.last_column r1.1 j; row = number_back rect.row r2.1 j; last_row = number_back rect.last_row r3.1 j })) (mode_back mode j))
 back (Merges child into ticket) fit =
-    let f1 = two _ _ fit in
-    let f0 = two _ _ f1.0 in
-    ap entry_in (split_spaced (codes "merge") (uuid_text child ∷ uuid_text into ∷ signed_decimal ticket ∷ []) (lacks_by_test (codes "merge") refl) (uuid_lacks child, (uuid_lacks into, (number_lacks ticket f1.1, tt))))
+    let f1 = and_parts _ _ fit in
+    let f0 = and_parts _ _ f1.0 in
+    ap entry_in (split_spaced (codes "merge") (uuid_text child ∷ uuid_text into ∷ signed_decimal ticket ∷ []) (lacks_by_test (codes "merge") refl) (uuid_lacks child, (uuid_lacks into, (number_lacks ticket, tt))))
     ∙ (λ j. Some (Merges (uuid_back child f0.0 j) (uuid_back into f0.1 j) (number_back ticket f1.1 j)))
 
 -- the line of a fit entry is read as that entry

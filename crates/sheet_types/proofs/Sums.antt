@@ -1,9 +1,10 @@
 -- Sums and counts of lists, by a measure of their elements.
 use Rattle.std.specs.Prelude.{◌≡◌, ℕ, ◌+◌, Bool, true, false, cond, not, ◌||◌, List, [], ◌∷◌, map, filter, length, refl, flat_map, sum_by, ◌≤◌, count_by}
 use Rattle.std.proofs.Common.{ap, ◌∙◌, arith}
-use Rattle.std.proofs.lemmas.Bool.{false≢true, or_parts}
+use Rattle.std.proofs.lemmas.Bool.{false≢true}
 use Rattle.std.specs.List.{list_any, AllByRecursion}
 use Rattle.std.proofs.lemmas.List.Sums.{sum_by-append, sum_by-cons}
+use Rattle.sheet_types.proofs.Every.{none_pass}
 
 -- equal measures
 pub sum_by-same : {X : Type 0} (f g : X → ℕ) → ((x : X) → f x ≡ g x) → (xs : List X) → sum_by f xs ≡ sum_by g xs
@@ -81,8 +82,7 @@ any_some p (x ∷ xs) h =
 
 -- none passes, and none is counted
 pub any_none : {X : Type 0} (p : X → Bool) (xs : List X) → list_any p xs ≡ false → count_by p xs ≡ 0
-any_none p [] h = refl
-any_none p (x ∷ xs) h = let parts : (p x ≡ false) × (list_any p xs ≡ false) = or_parts (p x) (list_any p xs) h in omega (arith, count-cons p x xs false parts.0, any_none p xs parts.1)
+any_none p xs h = count_none p xs (none_pass p xs h)
 
 -- a weaker test counts more
 pub count_le : {X : Type 0} (p q : X → Bool) → ((x : X) → p x ≡ true → q x ≡ true) → (xs : List X) → count_by p xs ≤ count_by q xs

@@ -1,11 +1,11 @@
 // The digests of contents, and their texts (FIPS 180-4, 6.2).
-ghost use Rattle.std.specs.Prelude.{◌≡◌, ◌≢◌, ◌++◌, ◌∷◌, [], List, ℕ, Some, IfSome, IfNone, length};
+ghost use Rattle.std.specs.Prelude.{◌≡◌, ◌≢◌, ◌++◌, ◌∷◌, [], List, ℕ, Some, IfSome, IfNone};
 ghost use Rattle.std.specs.Fmt.{signed_decimal};
 ghost use Rattle.sha2.specs.Hashers.{Holds256};
 ghost use Rattle.sha2.specs.Sha256.{sha256};
 ghost use Rattle.hex.specs.Hex.{encode_lower};
 ghost use Rattle.sheet_types.specs.Reading.{IsDigest};
-ghost use Rattle.sheet_types.specs.Texts.{fingerprint, spaced, headed};
+ghost use Rattle.sheet_types.specs.Texts.{fingerprint, spaced};
 
 use crate::command::Content;
 use itoa::Buffer;

@@ -1,14 +1,15 @@
 -- What `SELECT * FROM t WHERE .. ORDER BY .. LIMIT 1` answers.
-use Rattle.std.proofs.Common.{◌≡◌, ◌⊎◌, inl, inr, ℕ, pos, List, [], ◌∷◌, map, take, true, false, refl, sym, ap, subst, ◌∙◌, Result, arith, length, Ordering, Less, Equal, Greater}
-use Rattle.std.proofs.lemmas.List.{length-map}
+use Rattle.std.proofs.Common.{◌≡◌, ◌⊎◌, inl, inr, ℕ, pos, List, [], ◌∷◌, map, take, true, false, refl, sym, ap, subst, ◌∙◌, Result, arith, Ordering, Less, Equal, Greater}
+use Rattle.std.proofs.lemmas.List.{length-map, nil_from_length}
 use Rattle.std.specs.Prelude.{filter, IfOk, IfErr}
 use Rattle.std.specs.List.{AllByRecursion}
 use Rattle.std.specs.List.Sorted.{IsPermutation}
 use Rattle.std.specs.Ordering.{on, is_gt, ordering_reverse}
 use Rattle.std.specs.Cmp.{IsTotalOrder}
 use Rattle.std.proofs.lemmas.Cmp.{on_total}
-use Rattle.std.proofs.lemmas.List.Sorted.{All-permutation, length_permutation, IsPermutation-sym}
-use Rattle.std.proofs.lemmas.List.Elements.{recursion_from_All, All-from_recursion}
+use Rattle.std.proofs.lemmas.List.Sorted.{length_permutation, IsPermutation-sym}
+use Rattle.sqlite_trees.proofs.ListLemmas.{all_from_map, all-permutation}
+use Rattle.sqlite_rules.proofs.ListLemmas.{all_from}
 use Rattle.sqlite_trees.specs.Tree.{IsAscending}
 use Rattle.sqlite_exec.proofs.PartitionLemmas.{ascending_from_sorted}
 use Rattle.sqlite_sql.proofs.QueryLemmas.{key_cmp_total}
@@ -36,26 +37,10 @@ has_from_map f [] y h = absurd h
 has_from_map f (x ∷ xs) y (inl same) = (x, inl refl, same)
 has_from_map f (x ∷ xs) y (inr later) = let it = has_from_map f xs y later in (it.0, inr it.1, it.2)
 
-all_from_map : {A B : Type 0} (P : B → Type 0) (f : A → B) (xs : List A) → AllByRecursion P (map f xs) → AllByRecursion (λ x. P (f x)) xs
-all_from_map P f [] h = tt
-all_from_map P f (x ∷ xs) h = (h.0, all_from_map P f xs h.1)
-
-has_itself : {X : Type 0} (xs : List X) → AllByRecursion (Has xs) xs
-has_itself [] = tt
-has_itself {X} (x ∷ xs) = (inl refl, weaker xs (has_itself xs))
-  where
-    weaker : (ys : List X) → AllByRecursion (Has xs) ys → AllByRecursion (Has (x ∷ xs)) ys
-    weaker [] h = tt
-    weaker (y ∷ ys) h = (inr h.0, weaker ys h.1)
-
 not_above : (o : Ordering) → o ≡ ordering_reverse o → is_gt o ≡ false
 not_above Less h = refl
 not_above Equal h = refl
 not_above Greater h = absurd cc
-
-none_from : {X : Type 0} (xs : List X) → length xs ≡ 0 → xs ≡ []
-none_from [] h = refl
-none_from (x ∷ xs) h = absurd (omega arith)
 
 module _ (key shown : Row → Row) (by : List Key) where
   abbrev pair : Row → Row × Row
@@ -68,13 +53,13 @@ module _ (key shown : Row → Row) (by : List Key) where
   total = on_total (λ (o : Row × Row). o.0) (key_cmp_total by 0)
 
   at_front : (xs : List Row) (ordered : List (Row × Row)) → IsPermutation (map pair xs) ordered → IsAscending (λ a b. is_gt (cmp a b) ≡ false) ordered → ShowsFirst key shown by xs (take 1 (map (λ o. o.1) ordered))
-  at_front xs [] same up = inl (none_from xs (omega (arith, rw length-map at (length_permutation (map pair xs) [] same))), refl)
+  at_front xs [] same up = inl (nil_from_length xs (omega (arith, rw length-map at (length_permutation (map pair xs) [] same))), refl)
   at_front xs (o ∷ more) same up =
-      let has = recursion_from_All (Has (map pair xs)) (o ∷ more) (All-permutation (Has (map pair xs)) (map pair xs) (o ∷ more) same (All-from_recursion (Has (map pair xs)) (map pair xs) (has_itself (map pair xs)))) in
+      let has = all-permutation (Has (map pair xs)) (map pair xs) (o ∷ more) same (all_from (Has (map pair xs)) (map pair xs) (λ _ there. there)) in
       let r = has_from_map pair xs o has.0 in
       let P : Row × Row → Type 0 = λ z. is_gt (cmp o z) ≡ false in
       let each : AllByRecursion P (o ∷ more) = (not_above (cmp o o) (total.antisymm o o), up.0) in
-      let back = recursion_from_All P (map pair xs) (All-permutation P (o ∷ more) (map pair xs) (IsPermutation-sym (map pair xs) (o ∷ more) same) (All-from_recursion P (o ∷ more) each)) in
+      let back = all-permutation P (o ∷ more) (map pair xs) (IsPermutation-sym (map pair xs) (o ∷ more) same) each in
       let least = all_from_map P pair xs back in
       inr (r.0, record { there = r.1; least = subst (λ (z : Row × Row). AllByRecursion (λ x. is_gt (key_cmp 0 by z.0 (key x)) ≡ false) xs) r.2 least }, ap (λ (z : Row × Row). z.1 ∷ []) r.2)
 

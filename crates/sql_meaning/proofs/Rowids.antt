@@ -5,10 +5,10 @@ use Rattle.std.specs.List.{list_any}
 use Rattle.std.specs.List.Sorted.{IsPermutation}
 use Rattle.std.specs.Ordering.{is_eq, ordering_reverse}
 use Rattle.std.specs.Cmp.{both_ways}
-use Rattle.std.proofs.lemmas.Bool.{cases_Bool, or_parts}
-use Rattle.std.proofs.lemmas.List.Elements.{All-nil, All-cons, All-head, All-tail, All-map, All-filter, All-from_recursion, filter_passes, filter_agree}
+use Rattle.std.proofs.lemmas.Bool.{cases_Bool, and_parts, or_parts}
+use Rattle.std.proofs.lemmas.List.Elements.{All-nil, All-cons, All-head, All-tail, All-map, All-filter, All-from_recursion, recursion_from_All, filter_passes, filter_agree}
 use Rattle.std.proofs.lemmas.List.Sorted.{All-permutation, IsPermutation-map, IsPermutation-sym}
-use Rattle.sqlite_trees.proofs.ListLemmas.{map-map}
+use Rattle.sqlite_trees.proofs.ListLemmas.{all_of, filter_all, filter_same, map-map}
 use Rattle.sqlite.specs.declared.types.Value.{Value}
 use Rattle.sqlite.specs.declared.types.Value.TheVariants as value
 use Rattle.sqlite.specs.Order.{Row}
@@ -19,7 +19,6 @@ use Rattle.sqlite_rules.specs.Calls.{ids_of}
 use Rattle.sqlite_value.specs.Order.{value_cmp}
 use Rattle.sqlite_value.proofs.OrderLemmas.{value_cmp_total}
 use Rattle.sql_meaning.specs.Writing.{IsKeyed}
-use Rattle.sql_meaning.proofs.Casts.{both_true}
 
 any_none : {A : Type 0} (q : A → Bool) (xs : List A) → list_any q xs ≡ false → All (λ x. q x ≡ false) xs
 any_none q [] h = All-nil (λ x. q x ≡ false)
@@ -40,20 +39,12 @@ filter_twice p q (x ∷ xs) = one (q x) (filter_twice p q xs)
     one true more = rw more refl
     one false more = more
 
-pub filter_all : {A : Type 0} (xs : List A) → filter (λ x. true) xs ≡ xs
-filter_all [] = refl
-filter_all (x ∷ xs) = rw (filter_all xs) refl
-
-filter_on : {A : Type 0} (p q : A → Bool) (xs : List A) → All (λ x. p x ≡ q x) xs → filter p xs ≡ filter q xs
-filter_on p q [] all = refl
-filter_on p q (x ∷ xs) all = rw (All-head (λ y. p y ≡ q y) x xs all, filter_on p q xs (All-tail (λ y. p y ≡ q y) x xs all)) refl
-
 none_of : (a b : Bool) → not a && not b ≡ not (a || b)
 none_of true b = refl
 none_of false b = refl
 
 without_ids : (xs : List Row) (ids : List ℤ) → without_all xs ids ≡ filter (λ r. not (list_any (λ id. has_rowid id r) ids)) xs
-without_ids xs [] = sym (filter_all xs)
+without_ids xs [] = sym (filter_all (λ _. true) xs (all_of (λ _. true ≡ true) (λ _. refl) xs))
 without_ids xs (id ∷ ids) =
     without_ids (without_rowid id xs) ids ∙ filter_twice (λ r. not (list_any (λ i. has_rowid i r) ids)) (λ r. not (has_rowid id r)) xs
     ∙ filter_agree _ _ (λ r. none_of (has_rowid id r) (list_any (λ i. has_rowid i r) ids)) xs
@@ -70,7 +61,7 @@ IsIntKeyed r = rowid r ≡ value.Int (id_in (rowid r))
 
 all_ints : (xs : List Row) → have_rowids xs ≡ true → All IsIntKeyed xs
 all_ints [] h = All-nil IsIntKeyed
-all_ints (x ∷ xs) h = let two = both_true (is_int (rowid x)) (have_rowids xs) h in All-cons IsIntKeyed x xs (int_of (rowid x) two.0) (all_ints xs two.1)
+all_ints (x ∷ xs) h = let two = and_parts (is_int (rowid x)) (have_rowids xs) h in All-cons IsIntKeyed x xs (int_of (rowid x) two.0) (all_ints xs two.1)
 
 -- of rows whose rowids rise, only the row itself has its rowid
 pub only_one : (xs : List Row) → IsTable xs → All (λ r. All (λ s. is_eq (value_cmp (rowid r) (rowid s)) ≡ true → s ≡ r) xs) xs
@@ -125,7 +116,7 @@ module _ (xs : List Row) (keyed : IsKeyed xs) (p : Row → Bool) (ids : List ℤ
 
   -- what is left where these rowids are taken out
   pub left_without : without_all xs ids ≡ filter (λ r. not (p r)) xs
-  left_without = without_ids xs ids ∙ filter_on _ _ xs (λ k d lt. ap not (picked k d lt))
+  left_without = without_ids xs ids ∙ filter_same _ _ xs (recursion_from_All _ xs (λ k d lt. ap not (picked k d lt)))
 
 -- the same of the rows that a query found
 pub left_by_found : (xs : List Row) (keyed : IsKeyed xs) (p : Row → Bool) (key shown : Row → Row) (ordered : List (Row × Row)) (found : List Row) → ((r : Row) → rowid (shown r) ≡ rowid r) → found ≡ map (λ o. o.1) ordered

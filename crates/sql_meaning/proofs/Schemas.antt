@@ -140,10 +140,10 @@ one_view row a b one two =
 
 -- ---- the schema
 
-abbrev schema_of : List Table → List Index → List View → Schema
+abbrev pub schema_of : List Table → List Index → List View → Schema
 schema_of tables indexes views = record { tables = tables; indexes = indexes; views = views }
 
-same_schemas : (ts us : List Table) (is js : List Index) (vs ws : List View) → ts ≡ us → is ≡ js → vs ≡ ws → schema_of ts is vs ≡ schema_of us js ws
+pub same_schemas : (ts us : List Table) (is js : List Index) (vs ws : List View) → ts ≡ us → is ≡ js → vs ≡ ws → schema_of ts is vs ≡ schema_of us js ws
 same_schemas ts us is js vs ws p q r = rw (p, q, r) refl
 
 -- Trees have at most one sound schema, so what is said of a store by its trees may speak of their schema.

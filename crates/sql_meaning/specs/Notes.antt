@@ -1,20 +1,15 @@
 -- The table of the worked example.
-use Rattle.std.specs.Prelude.{ℕ, ℤ, Bool, true, false, ◌&&◌, List, [], ◌∷◌, Some, codes}
-use Rattle.sqlite.specs.Collation.TheVariants.{Binary}
+use Rattle.std.specs.Prelude.{ℕ, ℤ, true, false, ◌&&◌, List, [], ◌∷◌, Some, codes}
 use Rattle.sqlite.specs.declared.types.Value.TheVariants as value
 use Rattle.sqlite.specs.Order.{Row, column as value_in}
 use Rattle.sqlite_sql.specs.declared.ops.CompareOp.TheVariants.{Ge, Lt}
 use Rattle.sql_meaning.specs.Reading.{Listing, is_same, stands, ascending, descending}
 use Rattle.sqlite.specs.Table.{Table}
 use Rattle.sqlite.specs.Kind.TheVariants.{Integer, Text}
-use Rattle.sqlite_schema.specs.declared.schema.Kind.{Kind}
-use Rattle.sqlite_schema.specs.declared.schema.Column.{Column}
 use Rattle.sqlite.specs.Effect.{Database}
 use Rattle.sql_meaning.specs.declared.example.Note.{Note}
+use Rattle.sql_meaning.specs.Known.{column}
 use Rattle.sql_meaning.specs.Writing.{Inserts, Chained}
-
-abbrev column : List ℕ → Kind → Bool → Column
-column name kind needed = record { name = name; kind = kind; is_strict = true; not_null = needed; default = value.Null; collation = Binary }
 
 -- CREATE TABLE notes (seq INTEGER PRIMARY KEY, place INTEGER NOT NULL, text TEXT NOT NULL) STRICT
 abbrev pub note_table : ℕ → Table
