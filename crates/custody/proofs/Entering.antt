@@ -4,7 +4,7 @@ use Rattle.std.specs.Prelude.{bytes_eq, flat_map}
 use Rattle.std.specs.Option.{option_map_or}
 use Rattle.hex.specs.Hex.{encode_lower}
 use Rattle.std.specs.List.{AllByRecursion, IsDistinct, list_any}
-use Rattle.std.proofs.lemmas.Bool.{true≢false}
+use Rattle.std.proofs.lemmas.Bool.{true≢false, false_from_ne_true}
 use Rattle.std.proofs.lemmas.List.{take_more, take_all}
 use Rattle.std.proofs.lemmas.Slice.Eq.{bytes_eq-Decides}
 use Rattle.sqlite.specs.Effect.{Database}
@@ -21,7 +21,7 @@ use Rattle.sheet_types.specs.declared.receipt.Moved.{Moved}
 use Rattle.sheet_types.specs.declared.receipt.MovedKind.{MovedKind}
 use Rattle.sheet_types.specs.declared.receipt.MovedKind.TheVariants.{TileItem, MediaItem, RowItem, TilesMediaLink, RowsMediaLink}
 use Rattle.sheet_types.specs.declared.receipt.Receipt.{Receipt}
-use Rattle.sheet_types.proofs.Every.{All-weaker, All-both, All-append, All-map, none_pass, none_any}
+use Rattle.sheet_types.proofs.Every.{All-weaker, All-both, All-map, All-of_map, All-flat_map, none_pass, none_any}
 use Rattle.sheet_types.proofs.Order.{list_any-arranged}
 use Rattle.sheet_types.proofs.Arranging.{arranged-insert}
 use Rattle.sheet_types.proofs.Basics.{bytes_eq_swap}
@@ -41,11 +41,7 @@ use Rattle.custody.specs.Entries.{Enters, rows_from}
 
 -- keys that are one are equal
 pub differ : (a b : List ℕ) → (a ≡ b → ⊥) → bytes_eq a b ≡ false
-differ a b unequal = one (bytes_eq a b) refl
-  where
-    one : (v : Bool) → bytes_eq a b ≡ v → v ≡ false
-    one false e = refl
-    one true e = absurd (unequal ((bytes_eq-Decides a b).0 e))
+differ a b unequal = false_from_ne_true (bytes_eq a b) (λ e. unequal ((bytes_eq-Decides a b).0 e))
 
 pub apart : {a b : List ℕ} → bytes_eq a b ≡ false → a ≡ b → ⊥
 apart {a} {b} h e = true≢false (sym ((bytes_eq-Decides a b).1 e) ∙ h)
@@ -70,17 +66,13 @@ unfolding IsDistinct
 positions seq n [] = tt
 positions seq n (m ∷ ms) = (after seq n (n + 1) ms (omega arith), positions seq (n + 1) ms)
 
-all_flat : {X Y : Type 0} (P : Y → Type 0) (f : X → List Y) (xs : List X) → AllByRecursion (λ x. AllByRecursion P (f x)) xs → AllByRecursion P (flat_map f xs)
-all_flat P f [] h = tt
-all_flat P f (x ∷ xs) h = All-append P (f x) (flat_map f xs) h.0 (all_flat P f xs h.1)
-
 others : (s seq k n : ℕ) (things : List Moved) → bytes_eq (s ∷ []) (seq ∷ []) ≡ false → AllByRecursion (λ y. bytes_eq (key y) (seq ∷ k ∷ []) ≡ false) (rows_from s n things)
 others s seq k n [] h = tt
 others s seq k n (m ∷ ms) h = (elsewhere s seq n k h, others s seq k (n + 1) ms h)
 
 -- no row of the receipts of other numbers has the key
 free : (seq k : ℕ) (entered : List Receipt) → AllByRecursion (λ e. bytes_eq (receipt_key e) (seq ∷ []) ≡ false) entered → AllByRecursion (λ y. bytes_eq (key y) (seq ∷ k ∷ []) ≡ false) (flat_map moved_rows entered)
-free seq k entered h = all_flat (λ y. bytes_eq (key y) (seq ∷ k ∷ []) ≡ false) moved_rows entered (All-weaker _ _ (λ e d. others e.seq seq k 0 e.items d) entered h)
+free seq k entered h = All-flat_map (λ y. bytes_eq (key y) (seq ∷ k ∷ []) ≡ false) moved_rows entered (All-weaker _ _ (λ e d. others e.seq seq k 0 e.items d) entered h)
 
 -- a row whose key is none of these
 abbrev IsFree : List MovedRow → MovedRow → Type 0
@@ -109,20 +101,13 @@ come (x ∷ xs) base old new formed is free distinct chain =
     let one = chain.1 formed in
     let put_in : tables_of mid ≡ record (tables_of old) { moved = put key x (tables_of old).moved } = one.1 (ap (has key (key x)) is ∙ has_none base x free.0) in
     let there : (tables_of mid).moved ≡ arranged key (x ∷ base) = ap (λ (t : Tables). t.moved) put_in ∙ ap (put key x) is in
-    let rest = come xs (x ∷ base) mid new one.0 there (All-both _ _ _ (λ z d h. (d, h)) xs (of_keys xs distinct.0) free.1) distinct.1 chain.2 in
+    let apart_keys : AllByRecursion (λ y. bytes_eq (key x) (key y) ≡ false) xs = All-of_map (λ y. bytes_eq (key x) y ≡ false) key xs distinct.0 in
+    let rest = come xs (x ∷ base) mid new one.0 there (All-both _ _ _ (λ z d h. (d, h)) xs apart_keys free.1) distinct.1 chain.2 in
     record {
       formed = rest.formed;
       are = rest.are ∙ ap (λ (t : Tables). record t { moved = arranged key (xs ++ x ∷ base) }) put_in
-          ∙ ap (λ m. record (tables_of old) { moved = m }) (arranged-insert key xs base x (turned_keys xs distinct.0));
+          ∙ ap (λ m. record (tables_of old) { moved = m }) (arranged-insert key xs base x (All-weaker _ _ (λ y d. bytes_eq_swap (key y) (key x) ∙ d) xs apart_keys));
     }
-  where
-    of_keys : (ys : List MovedRow) → AllByRecursion (λ y. bytes_eq (key x) y ≡ false) (map key ys) → AllByRecursion (λ y. bytes_eq (key x) (key y) ≡ false) ys
-    of_keys [] h = tt
-    of_keys (y ∷ ys) h = (h.0, of_keys ys h.1)
-
-    turned_keys : (ys : List MovedRow) → AllByRecursion (λ y. bytes_eq (key x) y ≡ false) (map key ys) → AllByRecursion (λ y. bytes_eq (key y) (key x) ≡ false) ys
-    turned_keys [] h = tt
-    turned_keys (y ∷ ys) h = (bytes_eq_swap (key y) (key x) ∙ h.0, turned_keys ys h.1)
 
 -- ---- the receipt
 

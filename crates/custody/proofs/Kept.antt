@@ -1,10 +1,9 @@
 -- The receipt that is read back from the rows of a request is the one that the package keeps.
-use Rattle.std.proofs.Common.{◌≡◌, ℕ, pos, List, [], ◌∷◌, map, Bool, true, false, refl, sym, ap, subst, ◌∙◌, Option, Some, None}
-use Rattle.std.specs.Prelude.{bytes_eq, filter, Contains, IsPermutation}
+use Rattle.std.proofs.Common.{◌≡◌, ℕ, pos, List, map, Bool, true, false, refl, sym, ap, subst, ◌∙◌, Option, Some, None}
+use Rattle.std.specs.Prelude.{bytes_eq, filter, Contains}
 use Rattle.std.specs.List.{AllByRecursion, list_any, enumerate_from}
 use Rattle.std.specs.Ordering.{int_eq}
-use Rattle.std.proofs.lemmas.Bool.{true≢false, or_parts}
-use Rattle.std.proofs.lemmas.List.Sorted.{Contains-permutation, IsPermutation-sym}
+use Rattle.std.proofs.lemmas.List.Sorted.{IsPermutation-sym}
 use Rattle.std.proofs.lemmas.Slice.Eq.{bytes_eq-Decides}
 use borrow.Author.Tests.{eq-eqb}
 use Rattle.sheet_types.specs.Lines.{IsUuid}
@@ -15,6 +14,7 @@ use Rattle.sheet_types.specs.declared.frame.Frame.{Frame}
 use Rattle.sheet_types.specs.declared.receipt.Moved.{Moved}
 use Rattle.sheet_types.specs.declared.receipt.Receipt.{Receipt}
 use Rattle.sheet_types.proofs.Every.{All-filter}
+use Rattle.sheet_types.proofs.LineReading.{same_uuid}
 use Rattle.sheet_types.proofs.Order.{list_any-arranged}
 use Rattle.sheet_types.proofs.Same.{In, In-all, In-filter, In-map, In-of_map, All-In, Contains-In}
 use Rattle.package_tables.specs.Calls.{IsOneOf, AreThose}
@@ -24,7 +24,7 @@ use Rattle.package_tables.specs.declared.rows.MovedRow.{MovedRow}
 use Rattle.package_tables.specs.declared.rows.ReceiptRow.{ReceiptRow}
 use Rattle.identity_register.specs.Reads.{Says, IsFitReceipt, is_fit_moved, moved_row, receipt_row}
 use Rattle.identity_register.proofs.Deleting.{pos_same}
-use Rattle.identity_register.proofs.Finding.{contained, in_arranged, same_uuid}
+use Rattle.identity_register.proofs.Finding.{contained, in_arranged, moved, no_text}
 use Rattle.identity_register.proofs.OnePackage.{to_arranged, by_places, in_place, same_place, same_receipt, thing_stored, thing_moved}
 use Rattle.custody.specs.Entries.{rows_from, rows_at}
 
@@ -32,9 +32,6 @@ use Rattle.custody.specs.Entries.{rows_from, rows_at}
 
 of_filter : {X : Type 0} (t : X → Bool) (x : X) (xs : List X) → In x (filter t xs) → In x xs
 of_filter t x xs i = All-In (λ y. In y xs) x (filter t xs) (All-filter (λ y. In y xs) t xs (In-all xs)) i
-
-in_permutation : {X : Type 0} (xs ys : List X) (x : X) → IsPermutation xs ys → In x xs → In x ys
-in_permutation xs ys x same i = contained ys x (Contains-permutation xs ys x same (Contains-In x xs i))
 
 -- ---- the tables
 
@@ -55,14 +52,14 @@ module _ (f : Frame) (p : Package) (t : Tables) (says : Says f p t) where
       to z at =
           let row : MovedRow = moved_row s.seq z.0 z.1 in
           let found : In row (rows_from s.seq 0 things) = In-map (λ m. moved_row s.seq m.0 m.1) z (enumerate_from 0 things) at in
-          let passing : In row (filter (is_under s.seq) t.moved) = in_permutation (rows_from s.seq 0 things) (filter (is_under s.seq) t.moved) row (IsPermutation-sym (filter (is_under s.seq) t.moved) (rows_from s.seq 0 things) are) found in
+          let passing : In row (filter (is_under s.seq) t.moved) = moved row (rows_from s.seq 0 things) (filter (is_under s.seq) t.moved) (IsPermutation-sym (filter (is_under s.seq) t.moved) (rows_from s.seq 0 things) are) found in
           thing_moved f t p says s i z (All-In (λ m. is_fit_moved m ≡ true) z.1 things fit (in_place 0 z things at)) (of_filter (is_under s.seq) row t.moved passing)
 
       fro : (z : ℕ × Moved) → In z (enumerate_from 0 s.items) → In z (enumerate_from 0 things)
       fro z at =
           let row : MovedRow = moved_row s.seq z.0 z.1 in
           let passing : In row (filter (is_under s.seq) t.moved) = In-filter (is_under s.seq) row t.moved (thing_stored f t p says s i z at) (pos_same s.seq s.seq ∙ eq-eqb s.seq s.seq refl) in
-          let w = In-of_map (λ m. moved_row s.seq m.0 m.1) row (enumerate_from 0 things) (in_permutation (filter (is_under s.seq) t.moved) (rows_from s.seq 0 things) row are passing) in
+          let w = In-of_map (λ m. moved_row s.seq m.0 m.1) row (enumerate_from 0 things) (moved row (filter (is_under s.seq) t.moved) (rows_from s.seq 0 things) are passing) in
           let fit_w = All-In (λ m. is_fit_moved m ≡ true) w.0.1 things fit (in_place 0 w.0 things w.1) in
           let fit_z = All-In (λ m. is_fit_moved m ≡ true) z.1 s.items (All-In IsFitReceipt s says.entered says.fit i).items (in_place 0 z s.items at) in
           subst (λ v. In v (enumerate_from 0 things)) (same_place w.0 z s.seq s.seq fit_w fit_z w.2) w.1
@@ -83,14 +80,5 @@ module _ (f : Frame) (p : Package) (t : Tables) (says : Says f p t) where
   pub none_kept : (id : List ℕ) → IsRowFor id t None → has (λ r. r.request) id p.receipts ≡ false
   none_kept id none =
       ap (has (λ r. r.request) id) says.kept ∙ list_any-arranged receipt_key (λ r. bytes_eq r.request id) says.entered
-      ∙ fails says.entered (sym (ap (list_any (λ x. bytes_eq x.request (uuid_text id))) says.receipts ∙ list_any-arranged receipt_shape.key (λ x. bytes_eq x.request (uuid_text id)) (map receipt_row says.entered)) ∙ none)
-    where
-      one : (a : List ℕ) (b : Bool) → bytes_eq a id ≡ b → bytes_eq (uuid_text a) (uuid_text id) ≡ false → b ≡ false
-      one a true e h = absurd (true≢false (sym ((bytes_eq-Decides (uuid_text a) (uuid_text id)).1 (ap uuid_text ((bytes_eq-Decides a id).0 e))) ∙ h))
-      one a false e h = refl
-
-      fails : (rs : List Receipt) → list_any (λ x. bytes_eq x.request (uuid_text id)) (map receipt_row rs) ≡ false → list_any (λ r. bytes_eq r.request id) rs ≡ false
-      fails [] h = refl
-      fails (r ∷ rs) h =
-          let parts = or_parts (bytes_eq (uuid_text r.request) (uuid_text id)) (list_any (λ x. bytes_eq x.request (uuid_text id)) (map receipt_row rs)) h in
-          rw (one r.request (bytes_eq r.request id) refl parts.0) (fails rs parts.1)
+      ∙ no_text receipt_row (λ x. x.request) (λ r. r.request) (λ r. refl) id says.entered
+      (sym (ap (list_any (λ x. bytes_eq x.request (uuid_text id))) says.receipts ∙ list_any-arranged receipt_shape.key (λ x. bytes_eq x.request (uuid_text id)) (map receipt_row says.entered)) ∙ none)

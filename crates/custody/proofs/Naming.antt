@@ -7,7 +7,8 @@ use Rattle.sheet_types.proofs.UuidTexts.{parsed_36}
 use Rattle.std.specs.List.{AllByRecursion, list_any}
 use Rattle.std.specs.Ordering.{int_eq}
 use Rattle.std.specs.Option.{option_map_or}
-use Rattle.std.proofs.lemmas.Slice.Eq.{bytes_eq-Decides}
+use Rattle.std.proofs.lemmas.Bool.{and_parts}
+use Rattle.std.proofs.lemmas.List.Folds.{list_any-append}
 use Rattle.sheet_types.specs.Balance.{names_identity}
 use Rattle.sheet_types.specs.Texts.{uuid_text}
 use Rattle.sheet_types.specs.Lines.{is_uuid, is_bytes, uuid_in}
@@ -19,8 +20,9 @@ use Rattle.sheet_types.specs.declared.receipt.MovedKind.TheVariants.{TileItem, M
 use Rattle.sheet_types.specs.declared.receipt.Receipt.{Receipt}
 use Rattle.sheet_types.proofs.LineReading.{uuid_back}
 use Rattle.sheet_types.proofs.Order.{list_any-arranged}
-use Rattle.identity_register.proofs.Answering.{any_append, any_flat_map}
+use Rattle.identity_register.proofs.Answering.{any_flat_map}
 use Rattle.identity_register.proofs.Ends.{any_or}
+use Rattle.identity_register.proofs.Finding.{same_text}
 use Rattle.package_tables.specs.Package.{Tables}
 use Rattle.package_tables.specs.Shapes.{moved_shape}
 use Rattle.identity_register.specs.Reads.{Says, IsFitReceipt, is_fit_end, is_fit_moved, moved_rows}
@@ -39,7 +41,7 @@ texts_same : (a b : List ℕ) → uuid_in (uuid_text a) ≡ a → uuid_in (uuid_
 texts_same a b ha hb = one (bytes_eq a b) refl
   where
     one : (v : Bool) → bytes_eq a b ≡ v → bytes_eq (uuid_text a) (uuid_text b) ≡ bytes_eq a b
-    one true e = (bytes_eq-Decides (uuid_text a) (uuid_text b)).1 (ap uuid_text ((bytes_eq-Decides a b).0 e)) ∙ sym e
+    one true e = same_text a b e ∙ sym e
     one false e = differ (uuid_text a) (uuid_text b) (λ f. apart e (sym ha ∙ ap uuid_in f ∙ hb)) ∙ sym e
 
 -- the kinds of items are those of the numbers 1 to 3
@@ -60,18 +62,14 @@ three_kinds false RowsMediaLink = refl
 module _ (id : List ℕ) (back : uuid_in (uuid_text id) ≡ id) where
   one_thing : (seq n : ℕ) (m : Moved) → is_fit_moved m ≡ true → list_any (λ x. is_of id (pos 1) x || is_of id (pos 2) x || is_of id (pos 3) x) (rows_from seq n (m ∷ [])) ≡ list_any (λ y. is_item_kind y.kind && bytes_eq y.base id) (m ∷ [])
   one_thing seq n m fit =
-      ap (λ b. b || false) (three_kinds (bytes_eq (uuid_text m.base) (uuid_text id)) m.kind ∙ ap (λ b. is_item_kind m.kind && b) (texts_same m.base id (uuid_back m.base (and_first (is_uuid m.base) (is_fit_end m.other) (and_first (is_uuid m.base && is_fit_end m.other) (option_map_or (is_bytes 32) m.fingerprint true) fit))) back))
-    where
-      and_first : (a b : Bool) → (a && b) ≡ true → a ≡ true
-      and_first true b h = refl
-      and_first false b h = h
+      ap (λ b. b || false) (three_kinds (bytes_eq (uuid_text m.base) (uuid_text id)) m.kind ∙ ap (λ b. is_item_kind m.kind && b) (texts_same m.base id (uuid_back m.base (and_parts (is_uuid m.base) (is_fit_end m.other) (and_parts (is_uuid m.base && is_fit_end m.other) (option_map_or (is_bytes 32) m.fingerprint true) fit).0).0) back))
 
   things : (seq n : ℕ) (ms : List Moved) → AllByRecursion (λ m. is_fit_moved m ≡ true) ms → list_any (λ x. is_of id (pos 1) x || is_of id (pos 2) x || is_of id (pos 3) x) (rows_from seq n ms) ≡ list_any (λ y. is_item_kind y.kind && bytes_eq y.base id) ms
   things seq n [] h = refl
   things seq n (m ∷ ms) h =
-      any_append (λ x. is_of id (pos 1) x || is_of id (pos 2) x || is_of id (pos 3) x) (rows_from seq n (m ∷ [])) (rows_from seq (n + 1) ms)
+      list_any-append (λ x. is_of id (pos 1) x || is_of id (pos 2) x || is_of id (pos 3) x) (rows_from seq n (m ∷ [])) (rows_from seq (n + 1) ms)
       ∙ (λ i. one_thing seq n m h.0 i || things seq (n + 1) ms h.1 i)
-      ∙ sym (any_append (λ y. is_item_kind y.kind && bytes_eq y.base id) (m ∷ []) ms)
+      ∙ sym (list_any-append (λ y. is_item_kind y.kind && bytes_eq y.base id) (m ∷ []) ms)
 
   entered_names : (rs : List Receipt) → AllByRecursion IsFitReceipt rs → AllByRecursion (λ r. list_any (λ x. is_of id (pos 1) x || is_of id (pos 2) x || is_of id (pos 3) x) (moved_rows r) ≡ names_identity id r) rs
   entered_names [] h = tt

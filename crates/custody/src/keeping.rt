@@ -1,5 +1,5 @@
 // The receipt that a package keeps for a request, read back from the rows that say it.
-ghost use Rattle.std.specs.Prelude.{◌≡◌, ◌≢◌, ◌<◌, ℕ, true, pos, List, [], Option, bytes_eq, All, IfOk, IfErr};
+ghost use Rattle.std.specs.Prelude.{◌≡◌, ◌≢◌, ◌<◌, ℕ, true, pos, List, [], Option, bytes_eq, IfOk, IfErr};
 ghost use Rattle.std.specs.List.{AllByRecursion};
 ghost use Rattle.std.specs.Option.{option_map_or};
 ghost use Rattle.std.specs.Ordering.{int_eq};
@@ -9,9 +9,7 @@ ghost use Rattle.sql_meaning.specs.Transactions.{Rests, Looks};
 ghost use Rattle.sheet_types.specs.Lines.{IsUuid, is_bytes};
 ghost use Rattle.sheet_types.specs.Reading.{optional_uuid_text};
 ghost use Rattle.sheet_types.specs.Texts.{uuid_text};
-ghost use Rattle.sheet_types.specs.World.{kind_number};
 ghost use Rattle.sheet_types.specs.declared.receipt.Moved.{Moved};
-ghost use Rattle.sheet_types.specs.declared.receipt.MovedKind.{MovedKind};
 ghost use Rattle.sheet_types.specs.declared.receipt.Receipt.{Receipt};
 ghost use Rattle.package_tables.specs.Calls.{LooksUp, IsOneOf, AreThose};
 ghost use Rattle.identity_register.specs.Calls.{Sees};
@@ -20,6 +18,7 @@ ghost use Rattle.custody.specs.Entries.{row_at, rows_at};
 ghost use Rattle.custody.specs.Receipts.{IsKept};
 
 use identity_register::fitting::fits;
+use identity_register::kinds::kind_of_number;
 use package_tables::fault::Fault;
 use package_tables::moved::moved_of;
 use package_tables::receipts::receipt_by_request;
@@ -27,7 +26,7 @@ use package_tables::rows::{MovedRow, ReceiptRow};
 use sheet_types::collections::MovedList;
 use sheet_types::fingerprints::read_fingerprint;
 use sheet_types::reading::{read_stored_optional, read_stored_uuid};
-use sheet_types::receipt::{Moved, MovedKind, Receipt};
+use sheet_types::receipt::{Moved, Receipt};
 use sqlite::{Alter, Connection};
 use std::alloc::Global;
 use uuid::Uuid;
@@ -41,17 +40,6 @@ fn counted(number: i64) -> Result<u64, Fault>
         return Err(Fault::StoreFault);
     }
     Ok(number as u64)
-}
-
-/// The kind of a thing that is stored by this number (profile).
-fn kind_of_number(number: i64) -> Result<MovedKind, Fault>
-    ensures kind { IfOk result (λ kind. number ≡ pos (kind_number kind)) }
-    ensures none { IfErr result (λ _. (kind : MovedKind) → number ≢ pos (kind_number kind)) }
-{
-    let Ok(number) = u8::try_from(number) else {
-        return Err(Fault::StoreFault);
-    };
-    MovedKind::from_number(number).ok_or(Fault::StoreFault)
 }
 
 // Each byte of an array fits, which no clause can say of it: the walk reads them.

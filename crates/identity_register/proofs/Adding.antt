@@ -2,7 +2,7 @@
 use Rattle.std.proofs.Common.{◌≡◌, ℕ, pos, List, [], ◌∷◌, ◌++◌, map, Bool, true, false, refl, sym, ap, subst, ◌∙◌}
 use Rattle.std.specs.Prelude.{◌||◌, ◌==◌, bytes_eq, flat_map}
 use Rattle.std.specs.List.{AllByRecursion, IsDistinct, list_any}
-use Rattle.std.proofs.lemmas.Bool.{true≢false, and_parts}
+use Rattle.std.proofs.lemmas.Bool.{true≢false, and_parts, false_from_ne_true}
 use Rattle.std.proofs.lemmas.Slice.Eq.{bytes_eq-Decides}
 use Rattle.sheet_types.specs.Ordered.{arranged, put, has}
 use Rattle.sheet_types.specs.Matrix.{is_within}
@@ -23,17 +23,9 @@ use Rattle.package_tables.specs.Package.{Tables}
 use Rattle.identity_register.specs.Numbering.{Numbered, greatest_number, place_in_tables, tile_rows, media_rows, attribute_rows, identity_row, number_of, mapping_row, tiles_media_rows, rows_media_rows, puts, with_item}
 use Rattle.identity_register.specs.Reads.{Says}
 use Rattle.identity_register.proofs.Deleting.{flat_map_same}
+use Rattle.identity_register.proofs.Finding.{weaker_any}
 
 -- ---- who has an identity
-
-weaker_any : {X : Type 0} (p q : X → Bool) → ((x : X) → p x ≡ true → q x ≡ true) → (xs : List X) → list_any q xs ≡ false → list_any p xs ≡ false
-weaker_any p q f [] h = refl
-weaker_any p q f (x ∷ xs) h = one (p x) (q x) refl refl h (weaker_any p q f xs)
-  where
-    one : (a b : Bool) → p x ≡ a → q x ≡ b → (b || list_any q xs) ≡ false → (list_any q xs ≡ false → list_any p xs ≡ false) → list_any p (x ∷ xs) ≡ false
-    one a true e g h rest = absurd (true≢false h)
-    one true false e g h rest = absurd (true≢false (sym (f x e) ∙ g))
-    one false false e g h rest = rw e (rest h)
 
 -- what has a kind and an identity has the identity
 item_from_kind : (kind : ℕ) (id : List ℕ) (i : Item) → bytes_eq (item_key i) (kind ∷ id) ≡ true → bytes_eq i.identity id ≡ true
@@ -41,17 +33,10 @@ item_from_kind kind id i h = (and_parts (kind_number (kind_of i.content) == kind
 
 -- an identity that no item has is the end of no link
 pub other_end : (p : Package) (kind : ℕ) (new id : List ℕ) → has_item p new ≡ false → has item_key (kind ∷ id) p.items ≡ true → bytes_eq new id ≡ false
-other_end p kind new id fresh there = one (bytes_eq new id) refl
+other_end p kind new id fresh there = false_from_ne_true (bytes_eq new id) (λ e. true≢false (sym there ∙ weaker_any (λ i. bytes_eq (item_key i) (kind ∷ id)) (λ i. bytes_eq i.identity new) (same e) p.items fresh))
   where
-    one : (b : Bool) → bytes_eq new id ≡ b → b ≡ false
-    one false e = refl
-    one true e = absurd (true≢false (sym there ∙ weaker_any (λ i. bytes_eq (item_key i) (kind ∷ id)) (λ i. bytes_eq i.identity new) (λ i h. same i h) p.items fresh))
-      where
-        same : (i : Item) → bytes_eq (item_key i) (kind ∷ id) ≡ true → bytes_eq i.identity new ≡ true
-        same i h = subst (λ x. bytes_eq i.identity x ≡ true) (sym (named_same e)) (item_from_kind kind id i h)
-          where
-            named_same : bytes_eq new id ≡ true → new ≡ id
-            named_same f = (bytes_eq-Decides new id).0 f
+    same : bytes_eq new id ≡ true → (i : Item) → bytes_eq (item_key i) (kind ∷ id) ≡ true → bytes_eq i.identity new ≡ true
+    same e i h = subst (λ x. bytes_eq i.identity x ≡ true) (sym ((bytes_eq-Decides new id).0 e)) (item_from_kind kind id i h)
 
 -- ---- the tables
 

@@ -4,6 +4,7 @@ use Rattle.std.specs.Prelude.{◌&&◌, ◌||◌, find, bytes_eq, flat_map, Cont
 use Rattle.std.specs.List.{AllByRecursion, list_any}
 use Rattle.std.specs.Ordering.{int_eq}
 use Rattle.std.proofs.lemmas.Int.{ints}
+use Rattle.std.proofs.lemmas.List.Folds.{list_any-append}
 use Rattle.std.proofs.lemmas.Slice.Eq.{bytes_eq-Decides}
 use Rattle.sheet_types.specs.Matrix.{is_within}
 use Rattle.sheet_types.specs.Refuse.{is_at}
@@ -20,6 +21,7 @@ use Rattle.sheet_types.proofs.Basics.{some_same, bytes_eq_itself, or-false}
 use Rattle.sheet_types.proofs.Every.{All-each}
 use Rattle.sheet_types.proofs.Found.{found, not_found, All-found}
 use Rattle.sheet_types.proofs.Order.{All-arranged, list_any-arranged}
+use Rattle.sheet_types.proofs.LineReading.{same_uuid}
 use Rattle.sheet_types.proofs.Same.{In, In-all, In-map, In-of_map, All-In, any_in}
 use Rattle.package_tables.specs.Calls.{IsOneOf}
 use Rattle.package_tables.specs.Package.{Tables}
@@ -28,7 +30,7 @@ use Rattle.package_tables.specs.declared.rows.TileRow.{TileRow}
 use Rattle.package_tables.specs.declared.rows.IdentityRow.{IdentityRow}
 use Rattle.identity_register.specs.Numbering.{Numbered, identity_row, tile_rows}
 use Rattle.identity_register.specs.Reads.{Says}
-use Rattle.identity_register.proofs.Finding.{row_numbered, same_uuid, no_row_of_uuid, contained}
+use Rattle.identity_register.proofs.Finding.{row_numbered, no_row_of_uuid, contained, any_map}
 use Rattle.identity_register.proofs.Linking.{find_itself}
 
 -- a kind is known by its number
@@ -61,22 +63,10 @@ kind_number_tells RowsMediaLink RowsMediaLink e = refl
 
 -- ---- lists
 
-pub any_append : {X : Type 0} (q : X → Bool) (xs ys : List X) → list_any q (xs ++ ys) ≡ (list_any q xs || list_any q ys)
-any_append q [] ys = refl
-any_append q (x ∷ xs) ys = ap (λ b. q x || b) (any_append q xs ys) ∙ sym (or_assoc (q x) (list_any q xs) (list_any q ys))
-  where
-    or_assoc : (a b c : Bool) → ((a || b) || c) ≡ (a || (b || c))
-    or_assoc true b c = refl
-    or_assoc false b c = refl
-
 -- some row of some element passes where some element does
 pub any_flat_map : {X Y : Type 0} (f : X → List Y) (q : Y → Bool) (test : X → Bool) (xs : List X) → AllByRecursion (λ x. list_any q (f x) ≡ test x) xs → list_any q (flat_map f xs) ≡ list_any test xs
 any_flat_map f q test [] h = refl
-any_flat_map f q test (x ∷ xs) h = any_append q (f x) (flat_map f xs) ∙ ap (λ b. b || list_any q (flat_map f xs)) h.0 ∙ ap (λ b. test x || b) (any_flat_map f q test xs h.1)
-
-any_map : {X Y : Type 0} (f : X → Y) (q : Y → Bool) (xs : List X) → list_any q (map f xs) ≡ list_any (λ x. q (f x)) xs
-any_map f q [] = refl
-any_map f q (x ∷ xs) = ap (λ b. q (f x) || b) (any_map f q xs)
+any_flat_map f q test (x ∷ xs) h = list_any-append q (f x) (flat_map f xs) ∙ ap (λ b. b || list_any q (flat_map f xs)) h.0 ∙ ap (λ b. test x || b) (any_flat_map f q test xs h.1)
 
 -- a row is found where one passes
 pub one_tells : {R : Type 0} (keeps : R → Bool) (rows : List R) (found : Option R) → IsOneOf keeps rows found → is_some found ≡ list_any keeps rows

@@ -13,7 +13,7 @@ use Rattle.sheet_types.specs.declared.command.Content.TheVariants.{Tile, Media, 
 use Rattle.sheet_types.specs.declared.command.Item.{Item}
 use Rattle.sheet_types.specs.declared.frame.Frame.{Frame}
 use Rattle.sheet_types.proofs.Basics.{bytes_eq_itself}
-use Rattle.sheet_types.proofs.Same.{In, All-In}
+use Rattle.sheet_types.proofs.Same.{In, In-of_flat_map, All-In}
 use Rattle.package_tables.specs.Calls.{Answers, IsOneOf}
 use Rattle.package_tables.specs.Package.{Tables}
 use Rattle.package_tables.specs.Shapes.{tile_shape, medium_shape, attribute_shape}
@@ -26,7 +26,7 @@ use Rattle.identity_register.specs.Numbering.{Numbered, place_in_tables, tile_ro
 use Rattle.identity_register.specs.Reads.{Says}
 use Rattle.identity_register.proofs.Answering.{item_of_row, same_item}
 use Rattle.identity_register.proofs.Deleting.{same_tests}
-use Rattle.identity_register.proofs.Finding.{contained, in_arranged, in_flat_map}
+use Rattle.identity_register.proofs.Finding.{contained, in_arranged}
 use Rattle.identity_register.proofs.Looking.{looked, tells}
 
 pub int_same : (a b : ℤ) → int_eq a b ≡ true → a ≡ b
@@ -68,19 +68,19 @@ module _ (f : Frame) (p : Package) (t : Tables) (says : Says f p t) where
   content_is : (n : Numbered) → In n says.numbered → (content : Content) → IsContentOf (pos (kind_number (kind_of n.item.content))) n.number t content → content ≡ n.item.content
   content_is n i (Tile z c w b) h =
       let row : TileRow = record { id = n.number; zoom_level = z; tile_column = c; tile_row = w; tile_data = b } in
-      let it = in_flat_map (λ m. tile_rows m.number m.item.content) row says.numbered (in_arranged tile_shape.key (flat_map (λ m. tile_rows m.number m.item.content) says.numbered) row (subst (In row) says.tiles (contained t.tiles row h.1))) in
+      let it = In-of_flat_map (λ m. tile_rows m.number m.item.content) row says.numbered (in_arranged tile_shape.key (flat_map (λ m. tile_rows m.number m.item.content) says.numbered) row (subst (In row) says.tiles (contained t.tiles row h.1))) in
       let is = tile_is it.0.number it.0.item.content row it.2 in
       let same : it.0 ≡ n = one_place it.0 n it.1 i (ap (λ x. kind_number (kind_of x)) is.0 ∙ sym (ap unsigned_abs h.0)) is.1 in
       sym is.0 ∙ ap (λ x. x.item.content) same
   content_is n i (Media k b) h =
       let row : MediaRow = record { id = n.number; «data» = b; content_type = k } in
-      let it = in_flat_map (λ m. media_rows m.number m.item.content) row says.numbered (in_arranged medium_shape.key (flat_map (λ m. media_rows m.number m.item.content) says.numbered) row (subst (In row) says.media (contained t.media row h.1))) in
+      let it = In-of_flat_map (λ m. media_rows m.number m.item.content) row says.numbered (in_arranged medium_shape.key (flat_map (λ m. media_rows m.number m.item.content) says.numbered) row (subst (In row) says.media (contained t.media row h.1))) in
       let is = medium_is it.0.number it.0.item.content row it.2 in
       let same : it.0 ≡ n = one_place it.0 n it.1 i (ap (λ x. kind_number (kind_of x)) is.0 ∙ sym (ap unsigned_abs h.0)) is.1 in
       sym is.0 ∙ ap (λ x. x.item.content) same
   content_is n i (Row x y c l) h =
       let row : AttributeRow = record { id = n.number; x = x; y = y; code = c; label = l } in
-      let it = in_flat_map (λ m. attribute_rows m.number m.item.content) row says.numbered (in_arranged attribute_shape.key (flat_map (λ m. attribute_rows m.number m.item.content) says.numbered) row (subst (In row) says.rows (contained t.rows row h.1))) in
+      let it = In-of_flat_map (λ m. attribute_rows m.number m.item.content) row says.numbered (in_arranged attribute_shape.key (flat_map (λ m. attribute_rows m.number m.item.content) says.numbered) row (subst (In row) says.rows (contained t.rows row h.1))) in
       let is = attributes_are it.0.number it.0.item.content row it.2 in
       let same : it.0 ≡ n = one_place it.0 n it.1 i (ap (λ x. kind_number (kind_of x)) is.0 ∙ sym (ap unsigned_abs h.0)) is.1 in
       sym is.0 ∙ ap (λ x. x.item.content) same

@@ -5,6 +5,7 @@ use Rattle.std.specs.List.{AllByRecursion, IsDistinct, list_any}
 use Rattle.std.specs.Ordering.{int_eq}
 use Rattle.std.proofs.lemmas.Bool.{true≢false, false≢true, and_parts, or_parts}
 use borrow.Author.Tests.{eqb-true, eq-eqb}
+use Rattle.std.proofs.lemmas.List.Elements.{filter-append}
 use Rattle.std.proofs.lemmas.Slice.Eq.{bytes_eq-Decides}
 use Rattle.sheet_types.specs.Ordered.{arranged, without, is_among}
 use Rattle.sheet_types.specs.Cut.{has_end}
@@ -34,18 +35,10 @@ use Rattle.identity_register.specs.Reads.{Says}
 
 -- ---- lists
 
-filter_append : {X : Type 0} (t : X → Bool) (xs ys : List X) → filter t (xs ++ ys) ≡ filter t xs ++ filter t ys
-filter_append t [] ys = refl
-filter_append t (x ∷ xs) ys = one (t x) (filter_append t xs ys)
-  where
-    one : (b : Bool) → filter t (xs ++ ys) ≡ filter t xs ++ filter t ys → cond b (x ∷ filter t (xs ++ ys)) (filter t (xs ++ ys)) ≡ cond b (x ∷ filter t xs) (filter t xs) ++ filter t ys
-    one true h = ap (λ l. x ∷ l) h
-    one false h = h
-
 -- what goes of the rows is all rows of what goes
 pub filter-flat_map : {X Y : Type 0} (f : X → List Y) (test : Y → Bool) (keep : X → Bool) (xs : List X) → AllByRecursion (λ x. filter test (f x) ≡ cond (keep x) (f x) []) xs → filter test (flat_map f xs) ≡ flat_map f (filter keep xs)
 filter-flat_map f test keep [] h = refl
-filter-flat_map f test keep (x ∷ xs) h = filter_append test (f x) (flat_map f xs) ∙ one (keep x) h.0 (filter-flat_map f test keep xs h.1)
+filter-flat_map f test keep (x ∷ xs) h = filter-append test (f x) (flat_map f xs) ∙ one (keep x) h.0 (filter-flat_map f test keep xs h.1)
   where
     one : (b : Bool) → filter test (f x) ≡ cond b (f x) [] → filter test (flat_map f xs) ≡ flat_map f (filter keep xs) → filter test (f x) ++ filter test (flat_map f xs) ≡ flat_map f (cond b (x ∷ filter keep xs) (filter keep xs))
     one true e rest = rw (e, rest) refl
@@ -94,19 +87,11 @@ unfolding IsDistinct
 same_tests f g n [] hf hg i = tt
 same_tests {X} f g n (x ∷ xs) hf hg i = elim i [
   | inl e ↦ (subst (λ y. bytes_eq (f x) (f y) ≡ bytes_eq (g x) (g y)) e (bytes_eq_itself (f x) ∙ sym (bytes_eq_itself (g x))), subst (λ y. AllByRecursion (λ m. bytes_eq (f m) (f y) ≡ bytes_eq (g m) (g y)) xs) e (all_apart xs (All-of_map _ f xs hf.0) (All-of_map _ g xs hg.0)))
-  | inr j ↦ (apart xs (All-of_map _ f xs hf.0) j ∙ sym (apart' xs (All-of_map _ g xs hg.0) j), same_tests f g n xs hf.1 hg.1 j)
+  | inr j ↦ (All-In (λ y. bytes_eq (f x) (f y) ≡ false) n xs (All-of_map _ f xs hf.0) j ∙ sym (All-In (λ y. bytes_eq (g x) (g y) ≡ false) n xs (All-of_map _ g xs hg.0) j), same_tests f g n xs hf.1 hg.1 j)
 ]
   where
     all_apart : (ys : List X) → AllByRecursion (λ y. bytes_eq (f x) (f y) ≡ false) ys → AllByRecursion (λ y. bytes_eq (g x) (g y) ≡ false) ys → AllByRecursion (λ m. bytes_eq (f m) (f x) ≡ bytes_eq (g m) (g x)) ys
     all_apart ys h k = All-both _ _ _ (λ m a b. bytes_eq_swap (f m) (f x) ∙ a ∙ sym (bytes_eq_swap (g m) (g x) ∙ b)) ys h k
-
-    apart : (ys : List X) → AllByRecursion (λ y. bytes_eq (f x) (f y) ≡ false) ys → In n ys → bytes_eq (f x) (f n) ≡ false
-    apart [] h j = absurd j
-    apart (y ∷ ys) h j = elim j [ inl e ↦ subst (λ z. bytes_eq (f x) (f z) ≡ false) e h.0 | inr k ↦ apart ys h.1 k ]
-
-    apart' : (ys : List X) → AllByRecursion (λ y. bytes_eq (g x) (g y) ≡ false) ys → In n ys → bytes_eq (g x) (g n) ≡ false
-    apart' [] h j = absurd j
-    apart' (y ∷ ys) h j = elim j [ inl e ↦ subst (λ z. bytes_eq (g x) (g z) ≡ false) e h.0 | inr k ↦ apart' ys h.1 k ]
 
 -- of two tests of which the first is passed, the second
 pub place_test : (a b : Bool) → a ≡ true → (a && (b && true)) ≡ b

@@ -1,6 +1,7 @@
 -- What the rows of the mapping tables say of the links of a package, and the rows of its ends of the state of a link.
 use Rattle.std.proofs.Common.{◌≡◌, ℕ, pos, List, [], ◌∷◌, ◌++◌, map, Bool, true, false, refl, sym, ap, subst, ◌∙◌, length, inl, inr}
 use Rattle.std.specs.Prelude.{◌&&◌, ◌||◌, not, if◌then◌else◌, ◌==◌, bytes_eq, flat_map, unsigned_abs, Contains}
+use Rattle.std.specs.Cmp.{both_ways}
 use Rattle.std.specs.List.{AllByRecursion, list_any}
 use Rattle.std.specs.Ordering.{int_eq}
 use Rattle.std.proofs.lemmas.Bool.{true≢false, and_parts, and_from, and_right}
@@ -24,7 +25,7 @@ use Rattle.sheet_types.specs.declared.receipt.MovedKind.TheVariants.{TileItem, M
 use Rattle.sheet_types.proofs.Every.{All-weaker, All-each, none_any}
 use Rattle.sheet_types.proofs.Basics.{bytes_eq_itself, bytes_eq_swap, or-false, and-true}
 use Rattle.sheet_types.proofs.Order.{list_any-arranged}
-use Rattle.sheet_types.proofs.Same.{In, In-map, All-In, any_in}
+use Rattle.sheet_types.proofs.Same.{In, In-map, All-In, any_in, any_at}
 use Rattle.sheet_types.proofs.LineReading.{uuid_length}
 use Rattle.package_tables.specs.Package.{Tables}
 use Rattle.package_tables.specs.Mappings.{mapping_rows}
@@ -36,7 +37,7 @@ use Rattle.identity_register.specs.declared.look_ups.LinkState.TheVariants.{Unkn
 use Rattle.identity_register.specs.Numbering.{Numbered, place_in_tables, identity_row, number_of, mapping_row, tiles_media_rows, rows_media_rows, is_pair}
 use Rattle.identity_register.specs.Reads.{Says}
 use Rattle.identity_register.proofs.Deleting.{same_tests, same_number, pos_same}
-use Rattle.identity_register.proofs.Linking.{same_mapping, end_of, number_is, pair_same, one_passes, bytes_eq_append}
+use Rattle.identity_register.proofs.Linking.{same_mapping, end_of, number_is, pair_same, bytes_eq_append}
 use Rattle.identity_register.proofs.Adding.{other_end}
 use Rattle.identity_register.proofs.Answering.{any_flat_map, item_of_row, item_there}
 use Rattle.identity_register.proofs.MappingTables.{rows_in, rows_there, pair_key, table_says}
@@ -192,7 +193,7 @@ module _ (f : Frame) (p : Package) (t : Tables) (says : Says f p t) where
   -- a link that the package has, by its key, has its ends there
   pub ends_there : (l : Relation) → IsUuid l.base → has link_key (link_key l) p.links ≡ true → HasEnds p l
   ends_there l fit h =
-      let it = one_passes (λ x. bytes_eq (link_key x) (link_key l)) says.linked (of_links (λ x. bytes_eq (link_key x) (link_key l)) ∙ h) in
+      let it = any_at (λ x. bytes_eq (link_key x) (link_key l)) says.linked (of_links (λ x. bytes_eq (link_key x) (link_key l)) ∙ h) in
       let x = it.0 in
       let ends : HasEnds p x = All-In (HasEnds p) x says.linked says.ends it.1 in
       let key = and_parts (kind_number (link_kind x.mapping) == kind_number (link_kind l.mapping)) (bytes_eq (x.base ++ x.media) (l.base ++ l.media)) it.2 in
@@ -286,15 +287,9 @@ module _ (f : Frame) (p : Package) (t : Tables) (says : Says f p t) where
         let n = item_of_row f p t says l.base base_fit base base_row in
         let m = item_of_row f p t says l.media other_fit other other_row in
         let rows : are_ends l.mapping (identity_row n.0).kind (identity_row m.0).kind ≡ are_ends l.mapping base.kind other.kind = ap (λ r. are_ends l.mapping r.kind (identity_row m.0).kind) n.2 ∙ ap (λ r. are_ends l.mapping base.kind r.kind) m.2 in
-        both (are_ends l.mapping base.kind other.kind) (has_kind p (base_kind l.mapping) l.base && has_kind p (other_kind l.mapping) l.media)
+        both_ways (are_ends l.mapping base.kind other.kind) (has_kind p (base_kind l.mapping) l.base && has_kind p (other_kind l.mapping) l.media)
         (λ right. let ends = right_ends l n.0 m.0 n.1 m.1 n.3 m.3 (rows ∙ right) in and_from _ _ ends.0 ends.1)
         (λ kinds. sym rows ∙ ends_right l n.0 m.0 n.1 m.1 n.3 m.3 (and_parts (has_kind p (base_kind l.mapping) l.base) (has_kind p (other_kind l.mapping) l.media) kinds))
-      where
-        both : (a b : Bool) → (a ≡ true → b ≡ true) → (b ≡ true → a ≡ true) → a ≡ b
-        both true true h g = refl
-        both true false h g = sym (h refl)
-        both false true h g = g refl
-        both false false h g = refl
 
     pub wrong_kinds : are_ends l.mapping base.kind other.kind ≡ false → WrongKinds ≡ link_state p l
     wrong_kinds wrong =

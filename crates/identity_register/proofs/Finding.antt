@@ -1,20 +1,21 @@
 -- From a row that a table has to the item or link that it stands for.
-use Rattle.std.proofs.Common.{◌≡◌, ℕ, pos, List, [], ◌∷◌, ◌++◌, map, Bool, true, false, refl, sym, ap, subst, ◌∙◌, inl, inr}
-use Rattle.std.specs.Prelude.{◌⊎◌, bytes_eq, flat_map, Contains, All}
+use Rattle.std.proofs.Common.{◌≡◌, ℕ, pos, List, [], ◌∷◌, map, Bool, true, false, refl, sym, ap, subst, ◌∙◌}
+use Rattle.std.specs.Prelude.{◌||◌, bytes_eq, Contains, All, IsPermutation}
 use Rattle.std.specs.List.{list_any}
-use Rattle.std.proofs.lemmas.Bool.{true≢false, or_parts}
+use Rattle.std.proofs.lemmas.Bool.{true≢false, false_from_ne_true}
 use Rattle.std.proofs.lemmas.List.Elements.{All-from_recursion}
+use Rattle.std.proofs.lemmas.List.Sorted.{Contains-permutation}
 use Rattle.std.proofs.lemmas.Slice.Eq.{bytes_eq-Decides}
 use Rattle.sheet_types.specs.Matrix.{is_within}
 use Rattle.sheet_types.specs.Ordered.{arranged}
 use Rattle.sheet_types.specs.Texts.{uuid_text}
 use Rattle.sheet_types.specs.World.{Package, item_key, has_item}
-use Rattle.sheet_types.specs.Lines.{IsUuid, uuid_in}
+use Rattle.sheet_types.specs.Lines.{IsUuid}
 use Rattle.sheet_types.specs.declared.frame.Frame.{Frame}
+use Rattle.sheet_types.proofs.Found.{any_implies}
 use Rattle.sheet_types.proofs.Order.{All-arranged, list_any-arranged}
-use Rattle.sheet_types.proofs.Same.{In, In-all, In-of_map, All-In}
-use Rattle.sheet_types.proofs.LineReading.{uuid_back}
-use Rattle.sheet_types.proofs.Basics.{bytes_eq_itself}
+use Rattle.sheet_types.proofs.Same.{In, In-all, In-of_map, All-In, Contains-In}
+use Rattle.sheet_types.proofs.LineReading.{same_uuid}
 use Rattle.package_tables.specs.Package.{Tables}
 use Rattle.package_tables.specs.Shapes.{identity_shape}
 use Rattle.package_tables.specs.declared.rows.IdentityRow.{IdentityRow}
@@ -32,19 +33,30 @@ contained xs x h = all_contains (λ y. In y xs) xs x (All-from_recursion (λ y. 
 pub in_arranged : {X : Type 0} (key : X → List ℕ) (xs : List X) (x : X) → In x (arranged key xs) → In x xs
 in_arranged key xs x i = All-In (λ y. In y xs) x (arranged key xs) (All-arranged key (λ y. In y xs) xs (In-all xs)) i
 
-pub in_append : {X : Type 0} (y : X) (xs ys : List X) → In y (xs ++ ys) → In y xs ⊎ In y ys
-in_append y [] ys i = inr i
-in_append y (x ∷ xs) ys i = elim i [ inl e ↦ inl (inl e) | inr j ↦ elim (in_append y xs ys j) [ inl a ↦ inl (inr a) | inr b ↦ inr b ] ]
+-- elements stay elements in another order
+pub moved : {X : Type 0} (x : X) (xs ys : List X) → IsPermutation xs ys → In x xs → In x ys
+moved x xs ys h i = contained ys x (Contains-permutation xs ys x h (Contains-In x xs i))
 
-pub in_flat_map : {X Y : Type 0} (f : X → List Y) (y : Y) (xs : List X) → In y (flat_map f xs) → (x : X) × In x xs × In y (f x)
-in_flat_map f y [] i = absurd i
-in_flat_map f y (x ∷ xs) i = elim (in_append y (f x) (flat_map f xs) i) [ inl a ↦ (x, inl refl, a) | inr b ↦ let it = in_flat_map f y xs b in (it.0, inr it.1, it.2) ]
+pub any_map : {X Y : Type 0} (f : X → Y) (q : Y → Bool) (xs : List X) → list_any q (map f xs) ≡ list_any (λ x. q (f x)) xs
+any_map f q [] = refl
+any_map f q (x ∷ xs) = ap (λ b. q (f x) || b) (any_map f q xs)
+
+-- where none passes a test, none passes a stronger one
+pub weaker_any : {X : Type 0} (p q : X → Bool) → ((x : X) → p x ≡ true → q x ≡ true) → (xs : List X) → list_any q xs ≡ false → list_any p xs ≡ false
+weaker_any p q f xs h = false_from_ne_true (list_any p xs) (λ e. true≢false (sym (any_implies p q f xs e) ∙ h))
 
 -- ---- identities
 
--- the texts of two UUIDs are one where the UUIDs are
-pub same_uuid : (a b : List ℕ) → IsUuid a → IsUuid b → uuid_text a ≡ uuid_text b → a ≡ b
-same_uuid a b ha hb e = sym (uuid_back a ha) ∙ ap uuid_in e ∙ uuid_back b hb
+-- UUIDs that are one have one text
+pub same_text : (a b : List ℕ) → bytes_eq a b ≡ true → bytes_eq (uuid_text a) (uuid_text b) ≡ true
+same_text a b e = (bytes_eq-Decides (uuid_text a) (uuid_text b)).1 (ap uuid_text ((bytes_eq-Decides a b).0 e))
+
+-- where no row has the text of a UUID, none is of that UUID
+pub no_text : {X Y : Type 0} (row : X → Y) (text : Y → List ℕ) (uuid : X → List ℕ) → ((x : X) → text (row x) ≡ uuid_text (uuid x)) → (id : List ℕ) (xs : List X)
+    → list_any (λ r. bytes_eq (text r) (uuid_text id)) (map row xs) ≡ false → list_any (λ x. bytes_eq (uuid x) id) xs ≡ false
+no_text row text uuid is id xs none =
+    weaker_any (λ x. bytes_eq (uuid x) id) (λ x. bytes_eq (text (row x)) (uuid_text id)) (λ x e. ap (λ v. bytes_eq v (uuid_text id)) (is x) ∙ same_text (uuid x) id e) xs
+    (sym (any_map row (λ r. bytes_eq (text r) (uuid_text id)) xs) ∙ none)
 
 module _ (f : Frame) (p : Package) (t : Tables) (says : Says f p t) where
   -- the item that an identity row is of
@@ -68,15 +80,8 @@ module _ (f : Frame) (p : Package) (t : Tables) (says : Says f p t) where
 
   -- where no row has the text, there is no such item
   pub no_row_of_uuid : (id : List ℕ) → list_any (λ r. bytes_eq r.uuid (uuid_text id)) t.identities ≡ false → has_item p id ≡ false
-  no_row_of_uuid id none = rw says.items (list_any-arranged item_key (λ i. bytes_eq i.identity id) (map (λ n. n.item) says.numbered) ∙ fails says.numbered (rw says.identities at none))
-    where
-      rows_fail : (ns : List Numbered) → list_any (λ r. bytes_eq r.uuid (uuid_text id)) (map identity_row ns) ≡ false → list_any (λ i. bytes_eq i.identity id) (map (λ n. n.item) ns) ≡ false
-      rows_fail [] h = refl
-      rows_fail (n ∷ ns) h = one (bytes_eq n.item.identity id) refl (rows_fail ns (or_parts (bytes_eq (uuid_text n.item.identity) (uuid_text id)) _ h).1)
-        where
-          one : (b : Bool) → bytes_eq n.item.identity id ≡ b → list_any (λ i. bytes_eq i.identity id) (map (λ m. m.item) ns) ≡ false → list_any (λ i. bytes_eq i.identity id) (map (λ m. m.item) (n ∷ ns)) ≡ false
-          one false e rest = rw e rest
-          one true e rest = absurd (true≢false (sym (ap (λ x. bytes_eq (uuid_text x) (uuid_text id)) ((bytes_eq-Decides n.item.identity id).0 e) ∙ bytes_eq_itself (uuid_text id)) ∙ (or_parts (bytes_eq (uuid_text n.item.identity) (uuid_text id)) _ h).0))
-
-      fails : (ns : List Numbered) → list_any (λ r. bytes_eq r.uuid (uuid_text id)) (arranged identity_shape.key (map identity_row ns)) ≡ false → list_any (λ i. bytes_eq i.identity id) (map (λ n. n.item) ns) ≡ false
-      fails ns h = rows_fail ns (sym (list_any-arranged identity_shape.key (λ r. bytes_eq r.uuid (uuid_text id)) (map identity_row ns)) ∙ h)
+  no_row_of_uuid id none =
+      rw says.items (list_any-arranged item_key (λ i. bytes_eq i.identity id) (map (λ n. n.item) says.numbered))
+      ∙ any_map (λ n. n.item) (λ i. bytes_eq i.identity id) says.numbered
+      ∙ no_text identity_row (λ r. r.uuid) (λ n. n.item.identity) (λ n. refl) id says.numbered
+      (sym (ap (list_any (λ r. bytes_eq r.uuid (uuid_text id))) says.identities ∙ list_any-arranged identity_shape.key (λ r. bytes_eq r.uuid (uuid_text id)) (map identity_row says.numbered)) ∙ none)

@@ -22,8 +22,8 @@ use Rattle.sheet_types.specs.declared.frame.Frame.{Frame}
 use Rattle.sheet_types.specs.declared.receipt.MovedKind.{MovedKind}
 use Rattle.sheet_types.proofs.Basics.{some_same, bytes_eq_itself, before_trans}
 use Rattle.sheet_types.proofs.Every.{All-weaker, All-append, All-map}
-use Rattle.sheet_types.proofs.Same.{In, In-map, In-of_map, In-flat_map, All-In, Contains-In, same_list}
-use Rattle.sheet_types.proofs.LineReading.{uuid_back}
+use Rattle.sheet_types.proofs.Same.{In, In-map, In-of_map, In-append, In-of_append, In-flat_map, In-of_flat_map, All-In, Contains-In, same_list}
+use Rattle.sheet_types.proofs.LineReading.{uuid_back, same_uuid}
 use Rattle.package_tables.specs.Calls.{Answers}
 use Rattle.package_tables.specs.Package.{Tables}
 use Rattle.package_tables.specs.Mappings.{mapping_rows}
@@ -39,7 +39,7 @@ use Rattle.identity_register.specs.Reads.{Says}
 use Rattle.identity_register.specs.declared.whole.Placed.{Placed}
 use Rattle.identity_register.proofs.Answering.{same_item, item_is}
 use Rattle.identity_register.proofs.Contents.{content_by_row, one_place}
-use Rattle.identity_register.proofs.Finding.{contained, in_arranged, in_append, in_flat_map, row_numbered, same_uuid}
+use Rattle.identity_register.proofs.Finding.{contained, in_arranged, moved, row_numbered}
 use Rattle.identity_register.proofs.Linking.{end_of}
 use Rattle.identity_register.proofs.Looking.{Looked, tells, fails}
 use Rattle.identity_register.proofs.MappingTables.{rows_in, rows_there, own_row, pair_key, table_says}
@@ -59,18 +59,6 @@ zip_right R y [] [] h i = absurd i
 zip_right R y (x ∷ xs) [] h i = absurd i
 zip_right R y [] (z ∷ zs) h i = absurd h
 zip_right R y (x ∷ xs) (z ∷ zs) h i = elim i [ inl e ↦ (x, inl refl, subst (λ v. R x v) e h.0) | inr j ↦ let it = zip_right R y xs zs h.1 j in (it.0, inr it.1, it.2) ]
-
-in_first : {X : Type 0} (x : X) (xs ys : List X) → In x xs → In x (xs ++ ys)
-in_first x [] ys i = absurd i
-in_first x (z ∷ zs) ys i = elim i [ inl e ↦ inl e | inr j ↦ inr (in_first x zs ys j) ]
-
-in_second : {X : Type 0} (x : X) (xs ys : List X) → In x ys → In x (xs ++ ys)
-in_second x [] ys i = i
-in_second x (z ∷ zs) ys i = inr (in_second x zs ys i)
-
--- elements stay elements in another order
-pub moved : {X : Type 0} (x : X) (xs ys : List X) → IsPermutation xs ys → In x xs → In x ys
-moved x xs ys h i = contained ys x (Contains-permutation xs ys x h (Contains-In x xs i))
 
 -- keys that rise from each element to the next rise to each later one
 pub rising : {X : Type 0} (key : X → List ℕ) (xs : List X) → AllAdjacentBelow (λ x y. is_before (key x) (key y) ≡ true) xs (length xs) → IsArranged key xs
@@ -167,7 +155,7 @@ module _ (f : Frame) (p : Package) (t : Tables) (says : Says f p t) where
   -- a mapping row is of a link, and a link has its row
   link_of_row : (m : Mapping) (r : MappingRow) → In r (mapping_rows m t) → (l : Relation) × In l says.linked × (l.mapping ≡ m) × (mapping_row says.numbered l ≡ r)
   link_of_row m r i =
-      let it = in_flat_map (λ l. rows_in m says.numbered l l.mapping) r says.linked (in_arranged pair_key (flat_map (λ l. rows_in m says.numbered l l.mapping) says.linked) r (subst (In r) (table_says f p t says m) i)) in
+      let it = In-of_flat_map (λ l. rows_in m says.numbered l l.mapping) r says.linked (in_arranged pair_key (flat_map (λ l. rows_in m says.numbered l l.mapping) says.linked) r (subst (In r) (table_says f p t says m) i)) in
       elim (rows_there m it.0.mapping says.numbered it.0) [
         | inl at ↦ (it.0, it.1, at.0, only (mapping_row says.numbered it.0) (subst (In r) at.1 it.2))
         | inr at ↦ absurd (subst (In r) at.1 it.2)
@@ -205,7 +193,7 @@ module _ (f : Frame) (p : Package) (t : Tables) (says : Says f p t) where
       same_list link_key found p.links order (subst (IsArranged link_key) (sym says.links) (distinct_arranged link_key says.linked says.distinct_links)) to fro
     where
       to : (x : Relation) → In x found → In x p.links
-      to x i = elim (in_append x made others (moved x found (made ++ others) (IsPermutation-sym (made ++ others) found moves) i)) [
+      to x i = elim (In-of_append x made others (moved x found (made ++ others) (IsPermutation-sym (made ++ others) found moves) i)) [
         | inl a ↦ made_of rows all TilesMedia of_tiles made first tiles x a
         | inr b ↦ made_of rows all RowsMedia of_rows others second media x b
       ]
@@ -214,8 +202,8 @@ module _ (f : Frame) (p : Package) (t : Tables) (says : Says f p t) where
       fro x i = moved x (made ++ others) found moves (one x.mapping refl (in_arranged link_key says.linked x (subst (In x) says.links i)))
         where
           one : (m : Mapping) → x.mapping ≡ m → In x says.linked → In x (made ++ others)
-          one TilesMedia e j = in_first x made others (is_made rows all TilesMedia of_tiles made first tiles x e j)
-          one RowsMedia e j = in_second x made others (is_made rows all RowsMedia of_rows others second media x e j)
+          one TilesMedia e j = In-append x made others (inl (is_made rows all TilesMedia of_tiles made first tiles x e j))
+          one RowsMedia e j = In-append x made others (inr (is_made rows all RowsMedia of_rows others second media x e j))
 
 -- what was looked at answers by a last value
 pub tells_if : {X E : Type 0} {Fact : Tables → Type 0} (Answer : Tables → X → Type 0) {old new : State} (r : Result X E) → Looked Fact old new

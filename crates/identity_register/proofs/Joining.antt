@@ -7,7 +7,7 @@ use Rattle.std.proofs.lemmas.Bool.{or_from}
 use Rattle.sqlite.specs.Effect.{Database}
 use Rattle.sqlite.specs.State.{State, Survives}
 use Rattle.sql_meaning.specs.Transactions.{Steps}
-use Rattle.sql_meaning.proofs.Transactions.{steps_then, steps_weaker}
+use Rattle.sql_meaning.proofs.Transactions.{steps_then, steps_weaker, steps_answer}
 use Rattle.package_tables.specs.Package.{Tables, tables_of, AreFormed}
 use Rattle.package_tables.specs.Mappings.{mapping_rows}
 use Rattle.package_tables.specs.Calls.{Makes, Answers, OnTables}
@@ -25,7 +25,8 @@ use Rattle.sheet_types.specs.declared.frame.Frame.{Frame}
 use Rattle.sheet_types.proofs.Basics.{and-true}
 use Rattle.sheet_types.proofs.Every.{none_pass}
 use Rattle.sheet_types.proofs.Order.{list_any-arranged}
-use Rattle.identity_register.specs.Numbering.{number_of, mapping_row, with_link, without_link, IsRowOf}
+use Rattle.identity_register.specs.Numbering.{number_of, mapping_row, with_link, without_link, IsRowOf, AreRowsOfEnds}
+use Rattle.identity_register.specs.declared.changes.EndRows.{EndRows}
 use Rattle.identity_register.specs.Reads.{Says}
 use Rattle.identity_register.specs.Calls.{Becomes}
 use Rattle.identity_register.specs.Changes.{IsNewLink, link_added, IsLink, link_removed}
@@ -95,46 +96,43 @@ module _ (f : Frame) (p : Package) (t : Tables) (says : Says f p t) where
 -- ---- the steps
 
 -- what two look-ups found of the ends of a link
-abbrev pub FoundEnds : Relation → IdentityRow → IdentityRow → Database → Database → Type 0
-FoundEnds l base media old new = (new ≡ old) × (AreFormed old → IsRowOf l.base (tables_of old) base × IsRowOf l.media (tables_of old) media)
+pub ends_steps : {E F : Type 0} (a b : List ℕ) (base media : IdentityRow) {old mid new : State} → Steps {E = E} (Answers (IsRowOf a)) old mid (Ok base) → Steps {E = F} (Answers (IsRowOf b)) mid new (Ok media)
+    → Steps {X = EndRows} {E = F} (Answers (AreRowsOfEnds a b)) old new (Ok (record { base = base; media = media }))
+ends_steps {E} {F} a b base media {old} {mid} {new} one two =
+    steps_answer {F = F} (Answers (AreRowsOfEnds a b)) (record { base = base; media = media })
+    (λ chain. (chain.2.0 ∙ chain.1.0, λ formed. (chain.1.1 formed, subst (λ d. IsRowOf b (tables_of d) media) chain.1.0 (chain.2.1 (subst AreFormed (sym chain.1.0) formed)))))
+    (steps_then {F = F} one two)
 
-pub ends_steps : {E F : Type 0} (l : Relation) (base media : IdentityRow) {old mid new : State} → Steps {E = E} (Answers (IsRowOf l.base)) old mid (Ok base) → Steps {E = F} (Answers (IsRowOf l.media)) mid new (Ok media)
-    → Steps {E = F} (λ m. FoundEnds l base m) old new (Ok media)
-ends_steps l base media {old} {mid} {new} one two =
-    steps_weaker (λ m. FoundEnds l base m)
-    (λ m chain. (chain.2.0 ∙ chain.1.0, λ formed. (chain.1.1 formed, subst (λ d. IsRowOf l.media (tables_of d) m) chain.1.0 (chain.2.1 (subst AreFormed (sym chain.1.0) formed)))))
-    (steps_then one two)
-
-joined : (l : Relation) (base media : IdentityRow) (old mid new : Database) → FoundEnds l base media old mid → OnTables (AddsPair l.mapping (record { base_id = base.local_id; related_id = media.local_id })) mid new → Becomes (IsNewLink l) (link_added l) old new
-joined l base media old mid new found added f p reads fits =
+joined : (l : Relation) (ends : EndRows) (old mid new : Database) → Answers (AreRowsOfEnds l.base l.media) ends old mid → OnTables (AddsPair l.mapping (record { base_id = ends.base.local_id; related_id = ends.media.local_id })) mid new → Becomes (IsNewLink l) (link_added l) old new
+joined l ends old mid new found added f p reads fits =
     let rows = found.1 reads.formed in
     let did = added (subst AreFormed (sym found.0) reads.formed) in
-    let is_base = found_number f p (tables_of old) reads.says l.base fits.base base rows.0 in
-    let is_media = found_number f p (tables_of old) reads.says l.media fits.media media rows.1 in
-    let after = link_put f p (tables_of old) reads.says l base.local_id media.local_id (tables_of new) is_base is_media fits (subst (λ d. AddsPair l.mapping (record { base_id = base.local_id; related_id = media.local_id }) (tables_of d) (tables_of new)) found.0 did.1) in
+    let is_base = found_number f p (tables_of old) reads.says l.base fits.base ends.base rows.0 in
+    let is_media = found_number f p (tables_of old) reads.says l.media fits.media ends.media rows.1 in
+    let after = link_put f p (tables_of old) reads.says l ends.base.local_id ends.media.local_id (tables_of new) is_base is_media fits (subst (λ d. AddsPair l.mapping (record { base_id = ends.base.local_id; related_id = ends.media.local_id }) (tables_of d) (tables_of new)) found.0 did.1) in
     record { formed = did.0; says = subst (Says f (link_added l p)) (sym after) (links f p (tables_of old) l reads.says fits.new fits.ends) }
 
-parted : (l : Relation) (base media : IdentityRow) (old mid new : Database) → FoundEnds l base media old mid → OnTables (DropsPair l.mapping base.local_id media.local_id) mid new → Becomes (IsLink l) (link_removed l) old new
-parted l base media old mid new found dropped f p reads fits =
+parted : (l : Relation) (ends : EndRows) (old mid new : Database) → Answers (AreRowsOfEnds l.base l.media) ends old mid → OnTables (DropsPair l.mapping ends.base.local_id ends.media.local_id) mid new → Becomes (IsLink l) (link_removed l) old new
+parted l ends old mid new found dropped f p reads fits =
     let rows = found.1 reads.formed in
     let did = dropped (subst AreFormed (sym found.0) reads.formed) in
-    let is_base = found_number f p (tables_of old) reads.says l.base fits.base base rows.0 in
-    let is_media = found_number f p (tables_of old) reads.says l.media fits.media media rows.1 in
-    let after = link_taken f p (tables_of old) reads.says l base.local_id media.local_id (tables_of new) is_base is_media (subst (λ d. DropsPair l.mapping base.local_id media.local_id (tables_of d) (tables_of new)) found.0 did.1) in
+    let is_base = found_number f p (tables_of old) reads.says l.base fits.base ends.base rows.0 in
+    let is_media = found_number f p (tables_of old) reads.says l.media fits.media ends.media rows.1 in
+    let after = link_taken f p (tables_of old) reads.says l ends.base.local_id ends.media.local_id (tables_of new) is_base is_media (subst (λ d. DropsPair l.mapping ends.base.local_id ends.media.local_id (tables_of d) (tables_of new)) found.0 did.1) in
     record { formed = did.0; says = subst (Says f (link_removed l p)) (sym after) (unlinks f p (tables_of old) reads.says l (ends_there f p (tables_of old) reads.says l fits.base fits.there)) }
 
 -- both ends are found, and the link comes in
-pub link_steps : {E F : Type 0} (l : Relation) (base media : IdentityRow) {old mid new : State} {r : Result (Unit {0}) F} → Steps {E = E} (λ m. FoundEnds l base m) old mid (Ok media)
-    → Makes (AddsPair l.mapping (record { base_id = base.local_id; related_id = media.local_id })) mid new r → Survives mid new (λ _. ⊥)
+pub link_steps : {E F : Type 0} (l : Relation) (ends : EndRows) {old mid new : State} {r : Result (Unit {0}) F} → Steps {E = E} (Answers (AreRowsOfEnds l.base l.media)) old mid (Ok ends)
+    → Makes (AddsPair l.mapping (record { base_id = ends.base.local_id; related_id = ends.media.local_id })) mid new r → Survives mid new (λ _. ⊥)
     → Steps (λ _. Becomes (IsNewLink l) (link_added l)) old new r
-link_steps l base media {old} {mid} {new} first makes survives =
-    steps_weaker (λ _. Becomes (IsNewLink l) (link_added l)) (λ _ chain. joined l base media old.now chain.0 new.now chain.1 chain.2)
-    (steps_then first (makes_steps (AddsPair l.mapping (record { base_id = base.local_id; related_id = media.local_id })) makes survives))
+link_steps l ends {old} {mid} {new} first makes survives =
+    steps_weaker (λ _. Becomes (IsNewLink l) (link_added l)) (λ _ chain. joined l ends old.now chain.0 new.now chain.1 chain.2)
+    (steps_then first (makes_steps (AddsPair l.mapping (record { base_id = ends.base.local_id; related_id = ends.media.local_id })) makes survives))
 
 -- both ends are found, and the link goes
-pub unlink_steps : {E F : Type 0} (l : Relation) (base media : IdentityRow) {old mid new : State} {r : Result (Unit {0}) F} → Steps {E = E} (λ m. FoundEnds l base m) old mid (Ok media)
-    → Makes (DropsPair l.mapping base.local_id media.local_id) mid new r → Survives mid new (λ _. ⊥)
+pub unlink_steps : {E F : Type 0} (l : Relation) (ends : EndRows) {old mid new : State} {r : Result (Unit {0}) F} → Steps {E = E} (Answers (AreRowsOfEnds l.base l.media)) old mid (Ok ends)
+    → Makes (DropsPair l.mapping ends.base.local_id ends.media.local_id) mid new r → Survives mid new (λ _. ⊥)
     → Steps (λ _. Becomes (IsLink l) (link_removed l)) old new r
-unlink_steps l base media {old} {mid} {new} first makes survives =
-    steps_weaker (λ _. Becomes (IsLink l) (link_removed l)) (λ _ chain. parted l base media old.now chain.0 new.now chain.1 chain.2)
-    (steps_then first (makes_steps (DropsPair l.mapping base.local_id media.local_id) makes survives))
+unlink_steps l ends {old} {mid} {new} first makes survives =
+    steps_weaker (λ _. Becomes (IsLink l) (link_removed l)) (λ _ chain. parted l ends old.now chain.0 new.now chain.1 chain.2)
+    (steps_then first (makes_steps (DropsPair l.mapping ends.base.local_id ends.media.local_id) makes survives))

@@ -3,7 +3,7 @@ use Rattle.std.proofs.Common.{◌≡◌, ℕ, List, [], ◌∷◌, ◌++◌, map
 use Rattle.std.specs.Prelude.{not, ◌&&◌, ◌||◌, ◌==◌, filter, find, bytes_eq, flat_map, unsigned_abs}
 use Rattle.std.specs.List.{AllByRecursion, IsDistinct, list_any}
 use Rattle.std.specs.Ordering.{int_eq}
-use Rattle.std.proofs.lemmas.Bool.{true≢false, false≢true, and_parts}
+use Rattle.std.proofs.lemmas.Bool.{true≢false, false≢true, and_parts, and_left}
 use Rattle.std.proofs.lemmas.Slice.Eq.{bytes_eq-Decides}
 use borrow.Author.Tests.{eqb-true, eq-eqb}
 use Rattle.sheet_types.specs.Ordered.{arranged, put, without, has, is_among}
@@ -22,7 +22,7 @@ use Rattle.sheet_types.proofs.Order.{list_any-arranged}
 use Rattle.sheet_types.proofs.Arranging.{filter-arranged}
 use Rattle.sheet_types.proofs.LineReading.{uuid_length}
 use Rattle.sheet_types.proofs.Found.{filter_same}
-use Rattle.sheet_types.proofs.Same.{In, In-of_map, All-In}
+use Rattle.sheet_types.proofs.Same.{In, In-of_map, All-In, any_at}
 use Rattle.sheet_types.proofs.Basics.{bytes_eq_itself, bytes_eq_swap, or-false}
 use Rattle.package_tables.specs.Shapes.{tiles_media_shape, rows_media_shape}
 use Rattle.package_tables.specs.Package.{Tables}
@@ -94,15 +94,6 @@ bytes_eq_append (x ∷ xs) b (y ∷ ys) d h = ap (λ v. (x == y) && v) (bytes_eq
     and_assoc true v w = refl
     and_assoc false v w = refl
 
--- an element that passes, where some does
-pub one_passes : {X : Type 0} (q : X → Bool) (xs : List X) → list_any q xs ≡ true → (x : X) × In x xs × (q x ≡ true)
-one_passes q [] h = absurd (false≢true h)
-one_passes {X} q (x ∷ xs) h = one (q x) refl (one_passes q xs)
-  where
-    one : (b : Bool) → q x ≡ b → (list_any q xs ≡ true → (y : X) × In y xs × (q y ≡ true)) → (y : X) × In y (x ∷ xs) × (q y ≡ true)
-    one true e rest = (x, inl refl, e)
-    one false e rest = let it = rest (sym (ap (λ b. b || list_any q xs) e) ∙ h) in (it.0, inr it.1, it.2)
-
 -- a mapping is known by the number of its links
 pub same_mapping : (a b : Mapping) → (kind_number (link_kind a) == kind_number (link_kind b)) ≡ true → a ≡ b
 same_mapping TilesMedia TilesMedia h = refl
@@ -122,7 +113,7 @@ module _ (f : Frame) (p : Package) (t : Tables) (says : Says f p t) where
   -- an item that the package has is numbered
   pub numbered_item : (q : Item → Bool) → list_any q p.items ≡ true → (n : Numbered) × In n says.numbered × (q n.item ≡ true)
   numbered_item q h =
-      let it = one_passes q (map (λ m. m.item) says.numbered) (sym (list_any-arranged item_key q (map (λ m. m.item) says.numbered)) ∙ ap (list_any q) (sym says.items) ∙ h) in
+      let it = any_at q (map (λ m. m.item) says.numbered) (sym (list_any-arranged item_key q (map (λ m. m.item) says.numbered)) ∙ ap (list_any q) (sym says.items) ∙ h) in
       let n = In-of_map (λ m. m.item) it.0 says.numbered it.1 in
       (n.0, n.1, ap q n.2 ∙ it.2)
 
@@ -183,11 +174,7 @@ module _ (f : Frame) (p : Package) (t : Tables) (says : Says f p t) (l : Relatio
   one_goes x same hx = ap (λ b. cond (not b) (mapping_row says.numbered x ∷ []) []) (pair_same f p t says x l same hx here)
 
   apart : (x : Relation) (m n : Mapping) → x.mapping ≡ m → l.mapping ≡ n → (kind_number (link_kind m) == kind_number (link_kind n)) ≡ false → keep x ≡ true
-  apart x m n e g differ = let other : bytes_eq (link_key x) (link_key l) ≡ false = rw (e, g) (first (kind_number (link_kind m) == kind_number (link_kind n)) (bytes_eq (x.base ++ x.media) (l.base ++ l.media)) differ) in ap not other
-    where
-      first : (u v : Bool) → u ≡ false → (u && v) ≡ false
-      first true v h = absurd (true≢false h)
-      first false v h = refl
+  apart x m n e g differ = let other : bytes_eq (link_key x) (link_key l) ≡ false = rw (e, g) (and_left (kind_number (link_kind m) == kind_number (link_kind n)) (bytes_eq (x.base ++ x.media) (l.base ++ l.media)) differ) in ap not other
 
   -- in the table of its mapping the row goes
   row_less : (k : Mapping) → l.mapping ≡ k → (x : Relation) → HasEnds p x → filter (λ r. not (is_pair r row)) (rows_in k says.numbered x x.mapping) ≡ cond (keep x) (rows_in k says.numbered x x.mapping) []

@@ -27,7 +27,7 @@ own_width f = ap (λ k. f.matrix_width *ℤ pos (2 ^ k)) (own_level f.first_zoom
 own_height : (f : Frame) → height_at f (level_of f (f.first_zoom +ℤ pos 0)) ≡ f.matrix_height
 own_height f = ap (λ k. f.matrix_height *ℤ pos (2 ^ k)) (own_level f.first_zoom) ∙ once f.matrix_height
 
-head_same : {X : Type 0} {x y : X} {xs ys : List X} → x ∷ xs ≡ y ∷ ys → x ≡ y
+pub head_same : {X : Type 0} {x y : X} {xs ys : List X} → x ∷ xs ≡ y ∷ ys → x ≡ y
 head_same e = cc
 
 -- levels that are the same have the same first one

@@ -27,9 +27,9 @@ use Rattle.sheet_types.specs.declared.receipt.Receipt.{Receipt}
 use Rattle.sheet_types.proofs.Found.{found, All-found}
 use Rattle.sheet_types.proofs.Basics.{bytes_eq_itself, bytes_eq_swap}
 use Rattle.sheet_types.proofs.Every.{All-weaker, All-of_map, All-map}
-use Rattle.sheet_types.proofs.LineReading.{uuid_length, small_bytes, small_at}
+use Rattle.sheet_types.proofs.LineReading.{uuid_length, small_bytes, small_at, same_uuid}
 use Rattle.sheet_types.proofs.Order.{put_arranged, All-arranged}
-use Rattle.sheet_types.proofs.Same.{In, In-all, In-map, In-of_map, In-flat_map, All-In, Contains-In, any_in, same_list}
+use Rattle.sheet_types.proofs.Same.{In, In-all, In-map, In-of_map, In-flat_map, In-of_flat_map, All-In, Contains-In, any_in, same_list}
 use Rattle.sql_meaning.proofs.Schemas.{sound_alone}
 use Rattle.package_tables.specs.Package.{Tables, tables_of}
 use Rattle.package_tables.specs.Shapes.{tile_shape, medium_shape, attribute_shape, identity_shape, receipt_shape, moved_shape}
@@ -47,9 +47,9 @@ use Rattle.identity_register.proofs.Answering.{kind_number_tells}
 use Rattle.identity_register.proofs.Contents.{content_by_row}
 use Rattle.identity_register.proofs.Deleting.{pos_same}
 use Rattle.identity_register.proofs.Ends.{link_by_rows}
-use Rattle.identity_register.proofs.OneFrame.{one_frame}
+use Rattle.identity_register.proofs.OneFrame.{head_same, one_frame}
 use Rattle.identity_register.proofs.Linking.{same_mapping, end_of, bytes_eq_append}
-use Rattle.identity_register.proofs.Finding.{in_arranged, in_flat_map, same_uuid}
+use Rattle.identity_register.proofs.Finding.{in_arranged}
 
 -- ---- arranged lists
 
@@ -212,7 +212,7 @@ module _ (f : Frame) (t : Tables) where
   pub thing_moved : (q : Package) (two : Says f q t) (s : Receipt) → In s two.entered → (z : ℕ × Moved) → is_fit_moved z.1 ≡ true → In (moved_row s.seq z.0 z.1) t.moved → In z (enumerate_from 0 s.items)
   thing_moved q two s j z fit_z stored =
       let row : MovedRow = moved_row s.seq z.0 z.1 in
-      let it = in_flat_map moved_rows row two.entered (in_arranged moved_shape.key (flat_map moved_rows two.entered) row (subst (In row) two.moved stored)) in
+      let it = In-of_flat_map moved_rows row two.entered (in_arranged moved_shape.key (flat_map moved_rows two.entered) row (subst (In row) two.moved stored)) in
       let w = In-of_map (λ m. moved_row it.0.seq m.0 m.1) row (enumerate_from 0 it.0.items) it.2 in
       let receipt : it.0 ≡ s = one_of_key receipt_key two.entered it.0 s two.distinct_receipts it.1 j (ap (λ k. k ∷ []) (nat_of it.0.seq s.seq (ap (λ x. x.seq) w.2))) in
       let fit_w = All-In (λ m. is_fit_moved m ≡ true) w.0.1 it.0.items (All-In IsFitReceipt it.0 two.entered two.fit it.1).items (in_place 0 w.0 it.0.items w.1) in
@@ -319,7 +319,7 @@ module _ (f : Frame) (t : Tables) where
 
   pub one_package : (p q : Package) → Says f p t → Says f q t → p ≡ q
   one_package p q one two =
-      let head : head_row p one.created ≡ head_row q two.created = first_same (sym one.head ∙ two.head) in
+      let head : head_row p one.created ≡ head_row q two.created = head_same (sym one.head ∙ two.head) in
       let uuid : p.uuid ≡ q.uuid = same_uuid p.uuid q.uuid one.fit_head.uuid two.fit_head.uuid (ap (λ h. h.package) head) in
       let parent : p.parent ≡ q.parent = same_end p.parent q.parent one.fit_head.parent two.fit_head.parent (ap (λ h. h.parent) head) in
       let depth : p.depth ≡ q.depth = nat_of p.depth q.depth (ap (λ h. h.depth) head) in
@@ -332,9 +332,6 @@ module _ (f : Frame) (t : Tables) where
       same_list receipt_key p.receipts q.receipts (receipts_arranged p one) (receipts_arranged q two) (kept_there p q one two) (kept_there q p two one) in
       λ n. record { uuid = uuid n; parent = parent n; depth = depth n; loan = loan n; items = items n; links = links n; receipts = receipts n }
     where
-      first_same : {X : Type 0} {x y : X} → x ∷ [] ≡ y ∷ [] → x ≡ y
-      first_same e = cc
-
       receipts_arranged : (p : Package) (one : Says f p t) → IsArranged receipt_key p.receipts
       receipts_arranged p one = subst (IsArranged receipt_key) (sym one.kept) (distinct_arranged receipt_key one.entered one.distinct_receipts)
 

@@ -26,6 +26,7 @@ use Rattle.package_tables.specs.declared.rows.MediaRow.{MediaRow}
 use Rattle.package_tables.specs.declared.rows.AttributeRow.{AttributeRow}
 use Rattle.package_tables.specs.declared.rows.MappingRow.{MappingRow}
 use Rattle.package_tables.specs.declared.rows.IdentityRow.{IdentityRow}
+use Rattle.identity_register.specs.declared.changes.EndRows.{EndRows}
 
 -- an item and the local number of its row
 pub record Numbered : Type 0 where
@@ -135,6 +136,10 @@ without_link m row t = with_mapping_rows m (filter (λ r. not (is_pair r row)) (
 -- the identity row of a UUID
 abbrev pub IsRowOf : List ℕ → Tables → IdentityRow → Type 0
 IsRowOf id t r = Contains t.identities r × (bytes_eq r.uuid (uuid_text id) ≡ true)
+
+-- those of the base and the medium of a link
+abbrev pub AreRowsOfEnds : List ℕ → List ℕ → Tables → EndRows → Type 0
+AreRowsOfEnds base media t rows = IsRowOf base t rows.base × IsRowOf media t rows.media
 
 -- ---- a free number
 

@@ -5,7 +5,7 @@ ghost use Rattle.sql_meaning.specs.Transactions.{Steps};
 ghost use Rattle.package_tables.specs.Calls.{OnTables, Answers};
 ghost use Rattle.identity_register.specs.Calls.{Becomes};
 ghost use Rattle.identity_register.specs.Changes.{IsLooseItem, item_deleted, IsNewLink, link_added, IsLink, link_removed};
-ghost use Rattle.identity_register.specs.Numbering.{IsRowOf, DropsContent, DropsRows};
+ghost use Rattle.identity_register.specs.Numbering.{IsRowOf, AreRowsOfEnds, DropsContent, DropsRows};
 
 use crate::kinds::{MEDIUM, ROW, TILE};
 use package_tables::attributes::delete_attribute;
@@ -28,6 +28,27 @@ fn row_of_item<S: Alter>(tx: &mut Transaction<'_, S>, identity: Uuid) -> Result<
     let text = identity.hyphenated().encode_lower(&mut buffer);
     let found = identity_by_uuid_inside(tx, text)?;
     found.ok_or(Fault::StoreFault)
+}
+
+/// The rows that stand for the ends of a link.
+#[derive(Drop)]
+pub struct EndRows {
+    pub base: IdentityRow,
+    pub media: IdentityRow,
+}
+
+/// The rows that stand for the base and the medium of a link.
+fn rows_of_ends<S: Alter>(
+    tx: &mut Transaction<'_, S>,
+    base: Uuid,
+    media: Uuid,
+) -> Result<EndRows, Fault>
+    ensures same_reference { tx.new.conn.ghost_name ≡ tx.old.conn.ghost_name }
+    ensures steps { Steps (Answers (AreRowsOfEnds base media)) (state S.Store tx.old.conn.now) (state S.Store tx.new.conn.now) result }
+{
+    let base = row_of_item(tx, base)?;
+    let media = row_of_item(tx, media)?;
+    Ok(EndRows { base, media })
 }
 
 /// Takes out the row of a user table, by its kind and number.
@@ -78,9 +99,8 @@ pub fn link<S: Alter>(tx: &mut Transaction<'_, S>, relation: Relation) -> Result
     ensures same_reference { tx.new.conn.ghost_name ≡ tx.old.conn.ghost_name }
     ensures steps { Steps (λ _. Becomes (IsNewLink relation) (link_added relation)) (state S.Store tx.old.conn.now) (state S.Store tx.new.conn.now) result }
 {
-    let base = row_of_item(tx, relation.base)?;
-    let media = row_of_item(tx, relation.media)?;
-    insert_pair(tx, relation.mapping, base.local_id, media.local_id)
+    let ends = rows_of_ends(tx, relation.base, relation.media)?;
+    insert_pair(tx, relation.mapping, ends.base.local_id, ends.media.local_id)
 }
 
 /// Takes a link out that is there.
@@ -92,7 +112,6 @@ pub fn unlink<S: Alter>(tx: &mut Transaction<'_, S>, relation: Relation) -> Resu
     ensures same_reference { tx.new.conn.ghost_name ≡ tx.old.conn.ghost_name }
     ensures steps { Steps (λ _. Becomes (IsLink relation) (link_removed relation)) (state S.Store tx.old.conn.now) (state S.Store tx.new.conn.now) result }
 {
-    let base = row_of_item(tx, relation.base)?;
-    let media = row_of_item(tx, relation.media)?;
-    delete_pair(tx, relation.mapping, base.local_id, media.local_id)
+    let ends = rows_of_ends(tx, relation.base, relation.media)?;
+    delete_pair(tx, relation.mapping, ends.base.local_id, ends.media.local_id)
 }

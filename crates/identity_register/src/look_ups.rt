@@ -1,6 +1,6 @@
 // What is asked of a package at rest, each by a key or an index. An error is want of memory, a store that failed, or rows that
 // no package has; the store holds what it held.
-ghost use Rattle.std.specs.Prelude.{◌≡◌, ◌≢◌, pos, true, option_map, bytes_eq, IfOk, IfErr};
+ghost use Rattle.std.specs.Prelude.{◌≡◌, pos, option_map, bytes_eq};
 ghost use Rattle.std.specs.List.{list_any};
 ghost use Rattle.sqlite.specs.Held.{state};
 ghost use Rattle.sql_meaning.specs.Transactions.{Rests, Looks};
@@ -9,13 +9,12 @@ ghost use Rattle.sheet_types.specs.Ordered.{has};
 ghost use Rattle.sheet_types.specs.Lines.{IsUuid};
 ghost use Rattle.sheet_types.specs.Refuse.{is_at};
 ghost use Rattle.sheet_types.specs.Texts.{kind_of, uuid_text};
-ghost use Rattle.sheet_types.specs.World.{item_of, link_key, kind_number, is_item_kind};
-ghost use Rattle.sheet_types.specs.declared.receipt.MovedKind.{MovedKind};
+ghost use Rattle.sheet_types.specs.World.{item_of, link_key};
 ghost use Rattle.package_tables.specs.Calls.{LooksUp, IsOneOf};
 ghost use Rattle.identity_register.specs.Answers.{is_linked_medium, is_linked_row, are_ends, link_state, IsContentOf};
 ghost use Rattle.identity_register.specs.Calls.{Sees};
 
-use crate::kinds::{MEDIUM, ROW, TILE};
+use crate::kinds::{kind_of_number, MEDIUM, ROW, TILE};
 use crate::row_contents::{of_attributes, of_medium, of_tile};
 use package_tables::attributes::attribute_by_id;
 use package_tables::fault::Fault;
@@ -40,19 +39,6 @@ fn row_of<S: Alter>(conn: &mut Connection<S>, identity: Uuid) -> Result<Option<I
     identity_by_uuid(conn, text)
 }
 
-/// The kind of item that a row of `sheet_identity` tells by its number (profile).
-fn kind_in(number: i64) -> Result<MovedKind, Fault>
-    ensures kind { IfOk result (λ kind. number ≡ pos (kind_number kind)) }
-    ensures none { IfErr result (λ _. (kind : MovedKind) → is_item_kind kind ≡ true → number ≢ pos (kind_number kind)) }
-{
-    match number {
-        TILE => Ok(MovedKind::TileItem),
-        MEDIUM => Ok(MovedKind::MediaItem),
-        ROW => Ok(MovedKind::RowItem),
-        _ => Err(Fault::StoreFault),
-    }
-}
-
 /// The kind of the item of this identity, without its content.
 pub fn kind_of_item<S: Alter>(
     conn: &mut Connection<S>,
@@ -64,7 +50,7 @@ pub fn kind_of_item<S: Alter>(
     match row_of(conn, identity)? {
         None => Ok(None),
         Some(row) => {
-            let kind = kind_in(row.kind)?;
+            let kind = kind_of_number(row.kind)?;
             Ok(Some(kind))
         }
     }

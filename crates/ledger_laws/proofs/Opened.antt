@@ -9,7 +9,7 @@ use Rattle.std.specs.Option.{option_map_or}
 use Rattle.sheet_types.specs.Ordered.{IsArranged}
 use Rattle.sheet_types.specs.Matrix.{is_within}
 use Rattle.sheet_types.specs.Texts.{Entry, Adds, Deletes, Links, Unlinks, Splits, Merges, uuid_text}
-use Rattle.sheet_types.specs.Lines.{is_uuid, is_rect, is_number, is_splitting, is_merging, uuid_in}
+use Rattle.sheet_types.specs.Lines.{is_uuid, is_rect, is_number, is_splitting, is_merging}
 use Rattle.sheet_types.specs.World.{World, Package, package_key, receipt_key, receipts_of, holdings, no_package, is_live}
 use Rattle.sheet_types.specs.Custody.{is_split, is_merge, ends_at, after, is_open_among}
 use Rattle.sheet_types.specs.Refuse.{is_archive, greatest_depth}
@@ -24,14 +24,14 @@ use Rattle.sheet_types.proofs.Every.{All-weaker, All-both, All-filter, All-taken
 use Rattle.sheet_types.proofs.Sums.{sum_by-map, sum_by-same, sum_by-same_all, sum_by-filter, filter_less, count_le_all, any_none}
 use Rattle.sheet_types.proofs.Found.{found, All-found}
 use Rattle.sheet_types.proofs.Order.{All-arranged, All-of_arranged, sum_by-arranged, list_any-arranged, with_key, arranged_counts}
-use Rattle.sheet_types.proofs.Same.{In, In-all, All-In, In-filter, In-map, In-of_map, In-flat_map, any_in, one_passes, Contains-In}
-use Rattle.sheet_types.proofs.LineReading.{line-entry_from, uuid_back}
+use Rattle.sheet_types.proofs.Same.{In, In-all, All-In, In-filter, In-map, In-of_map, In-flat_map, any_in, any_at, two_are_one, Contains-In}
+use Rattle.sheet_types.proofs.LineReading.{line-entry_from, same_uuid}
 use Rattle.ledger_laws.proofs.Packages.{at_uuid, each_found, stand_flat}
 use Rattle.ledger_laws.proofs.Shifting.{each_stands, ends_at_some}
 use Rattle.ledger_laws.proofs.Ledger.{by_entry}
 use Rattle.ledger_laws.proofs.Facts.{ledger_entered}
 use Rattle.ledger_laws.proofs.Merging.{lent_to, lent_once}
-use Rattle.ledger_laws.proofs.Rounds.{at, said, grows, first_round, open_falls, origin, all_found, any_at, any_of_taken}
+use Rattle.ledger_laws.proofs.Rounds.{at, said, grows, first_round, open_falls, origin, all_found, any_of_taken}
 
 -- ---- receipts of splits and of merges
 
@@ -56,10 +56,6 @@ merge_source r (Deletes p identity) of merge = absurd (false≢true (sym (by_ent
 merge_source r (Links p mapping base media) of merge = absurd (false≢true (sym (by_entry is_merging r (Links p mapping base media) of.says) ∙ merge))
 merge_source r (Unlinks p mapping base media) of merge = absurd (false≢true (sym (by_entry is_merging r (Unlinks p mapping base media) of.says) ∙ merge))
 merge_source r (Splits p child mode rect) of merge = absurd (false≢true (sym (by_entry is_merging r (Splits p child mode rect) of.says) ∙ merge))
-
--- UUIDs of one text are one
-same_uuid : (a b : List ℕ) → is_uuid a ≡ true → is_uuid b ≡ true → uuid_text a ≡ uuid_text b → a ≡ b
-same_uuid a b ha hb e = sym (uuid_back a ha) ∙ ap uuid_in e ∙ uuid_back b hb
 
 -- no split of a sound ledger lends under the archive's UUID
 never_archive : (archive : List ℕ) (past rs : List Receipt) → IsLedger archive past rs → AllByRecursion (λ r. is_split r ≡ true → ends_at r.target archive ≡ false) rs
@@ -153,7 +149,7 @@ module _ (Store : Type 0) (head : Store → Option Head) (claims : Store → Lis
   root_live = In-filter ends root stores root_in.0 (grows Store head claims IsFormed IsTied frame_of read stores 0 (length stores) root (omega arith) root_in.1)
 
   the_root : (s : Store) → In s lives → rooted s ≡ true → s ≡ root
-  the_root s i h = one_passes rooted s root stores (omega (arith, stands.in_order.one_archive)) (live_in s i).0 root_in.0 h root_in.1
+  the_root s i h = two_are_one rooted s root stores (omega (arith, stands.in_order.one_archive)) (live_in s i).0 root_in.0 h root_in.1
 
   rooted_depth : (s : Store) → In s lives → rooted s ≡ ((read s).depth == 0)
   rooted_depth s i = ap (λ o. option_map_or (λ h. h.depth == 0) o false) (reads_at s i).heads
@@ -231,7 +227,7 @@ module _ (Store : Type 0) (head : Store → Option Head) (claims : Store → Lis
         let same : archive_of v ≡ (read s).uuid = archive_uuid ∙ ap (λ x. (read x).uuid) (sym (the_root z j rootz)) ∙ ez ∙ sym es in
         absurd (true≢false (sym lends.1 ∙ ap (ends_at l.receipt.target) (sym same) ∙ never))
     | inr m ↦
-        let one : m.receipt ≡ l.receipt = one_passes (lent_to k) m.receipt l.receipt ledger (lent_once v k balanced.ledger) m.entered_as l.entered_as
+        let one : m.receipt ≡ l.receipt = two_are_one (lent_to k) m.receipt l.receipt ledger (lent_once v k balanced.ledger) m.entered_as l.entered_as
         (subst (λ u. lent_to u m.receipt ≡ true) ez m.lends) (subst (λ u. lent_to u l.receipt ≡ true) es l.lends) in
         subst (λ c. makes c z ≡ true) (sym m.says ∙ ap claim_of one ∙ l.says) m.loan
   ]

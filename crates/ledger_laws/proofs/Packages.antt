@@ -13,7 +13,7 @@ use Rattle.std.proofs.lemmas.Bool.{true≢false, false≢true, le-ltb, lt-ltb}
 use Rattle.std.specs.Option.{option_map_or}
 use Rattle.sheet_types.specs.Balance.{archive_of}
 use Rattle.sheet_types.proofs.Basics.{None≢Some, or-false, bytes_eq_itself, bytes_eq_swap, before-differs}
-use Rattle.sheet_types.proofs.Every.{All-weaker, All-both, All-left, All-right, All-append}
+use Rattle.sheet_types.proofs.Every.{All-weaker, All-both, All-left, All-right, All-append, All-flat_map}
 use Rattle.sheet_types.proofs.Sums.{count-cons, none_counted}
 use Rattle.sheet_types.proofs.Found.{found, not_found, All-found}
 use Rattle.sheet_types.proofs.Order.{before_numbers, put_last, All-of_arranged, arranged_last, counts_arranged, filter_arranged}
@@ -229,8 +229,7 @@ All-changed f p P Q here other (x ∷ ps) h = (
 
 -- a fact of each receipt, over all packages in a row
 pub stand_flat : (P : Receipt → Type 0) (ps : List Package) → AllByRecursion (λ x. AllByRecursion P x.receipts) ps → AllByRecursion P (flat_map (λ x. x.receipts) ps)
-stand_flat P [] h = tt
-stand_flat P (x ∷ ps) h = All-append P x.receipts (flat_map (λ y. y.receipts) ps) h.0 (stand_flat P ps h.1)
+stand_flat P ps h = All-flat_map P (λ (x : Package). x.receipts) ps h
 
 -- two packages weigh no more than all
 pub two_places : (h : Package → ℕ) (w : World) (p p' : List ℕ) → IsArranged package_key w.packages → bytes_eq p' p ≡ false → is_live w p ≡ true → is_live w p' ≡ true

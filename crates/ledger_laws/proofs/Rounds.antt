@@ -12,7 +12,7 @@ use Rattle.sheet_types.proofs.Basics.{not_true}
 use Rattle.sheet_types.proofs.Every.{All-weaker}
 use Rattle.sheet_types.proofs.Sums.{count-cons}
 use Rattle.sheet_types.proofs.Found.{filter_same}
-use Rattle.sheet_types.proofs.Same.{In}
+use Rattle.sheet_types.proofs.Same.{In, any_at}
 
 -- ---- lists
 
@@ -70,14 +70,6 @@ any_fewer f t u p more (x ∷ xs) h =
     ] refl
 
 -- an element that passes, by the list in which it is
-pub any_at : {Y : Type 0} (p : Y → Bool) (ys : List Y) → list_any p ys ≡ true → (y : Y) × In y ys × (p y ≡ true)
-any_at p [] h = absurd (false≢true h)
-any_at p (y ∷ ys) h =
-    elim (p y) as (λ v. p y ≡ v → (v || list_any p ys) ≡ true → (z : _) × In z (y ∷ ys) × (p z ≡ true)) [
-      | true ↦ λ e _. (y, inl refl, e)
-      | false ↦ λ _ more. let z : (z : _) × In z ys × (p z ≡ true) = any_at p ys more in (z.0, inr z.1, z.2)
-    ] refl h
-
 pub any_of_taken : {X Y : Type 0} (f : X → List Y) (t : X → Bool) (p : Y → Bool) (xs : List X) → list_any p (flat_map f (filter t xs)) ≡ true → (x : X) × In x xs × (t x ≡ true) × (y : Y) × In y (f x) × (p y ≡ true)
 any_of_taken f t p [] h = absurd (false≢true h)
 any_of_taken {X} {Y} f t p (x ∷ xs) h =

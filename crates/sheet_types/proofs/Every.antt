@@ -1,5 +1,5 @@
 -- What holds of every element of a list.
-use Rattle.std.specs.Prelude.{◌≡◌, Bool, true, false, cond, List, [], ◌∷◌, ◌++◌, map, filter, refl}
+use Rattle.std.specs.Prelude.{◌≡◌, Bool, true, false, cond, List, [], ◌∷◌, ◌++◌, map, filter, flat_map, refl}
 use Rattle.std.proofs.lemmas.Bool.{or_parts}
 use Rattle.std.specs.List.{list_any, AllByRecursion}
 
@@ -66,3 +66,8 @@ none_pass p (x ∷ xs) h = let parts : (p x ≡ false) × (list_any p xs ≡ fal
 pub none_any : {X : Type 0} (p : X → Bool) (xs : List X) → AllByRecursion (λ x. p x ≡ false) xs → list_any p xs ≡ false
 none_any p [] h = refl
 none_any p (x ∷ xs) h = rw h.0 (none_any p xs h.1)
+
+-- of lists in a row
+pub All-flat_map : {X Y : Type 0} (P : Y → Type 0) (f : X → List Y) (xs : List X) → AllByRecursion (λ x. AllByRecursion P (f x)) xs → AllByRecursion P (flat_map f xs)
+All-flat_map P f [] h = tt
+All-flat_map P f (x ∷ xs) h = All-append P (f x) (flat_map f xs) h.0 (All-flat_map P f xs h.1)

@@ -223,3 +223,7 @@ taken text (Some x) e h =
 pub line-entry_from : (text : List ℕ) (e : Entry) → entry_from text ≡ Some e → IsFitEntry e × (text ≡ entry_line e)
 unfolding entry_from
 line-entry_from text e h = taken text (parts_in text) e h
+
+-- UUIDs of one text are one
+pub same_uuid : (a b : List ℕ) → is_uuid a ≡ true → is_uuid b ≡ true → uuid_text a ≡ uuid_text b → a ≡ b
+same_uuid a b ha hb e = sym (uuid_back a ha) ∙ ap uuid_in e ∙ uuid_back b hb

@@ -12,7 +12,7 @@ use Rattle.sheet_types.proofs.Basics.{bytes_eq_itself}
 use Rattle.sheet_types.proofs.Every.{none_any, All-each}
 use Rattle.sheet_types.proofs.Found.{found, not_found, All-found}
 use Rattle.sheet_types.proofs.Order.{list_any-arranged, All-arranged, All-of_arranged}
-use Rattle.sheet_types.proofs.Same.{In, In-all, All-In, In-flat_map, any_in, one_passes}
+use Rattle.sheet_types.proofs.Same.{In, In-all, All-In, In-flat_map, any_in, two_are_one}
 use Rattle.ledger_laws.proofs.Requests.{added_is_named, of_request, one_receipt, no_more_than}
 use Rattle.ledger_laws.proofs.Shifting.{numbers_below}
 use Rattle.ledger_laws.proofs.Packages.{stand_flat}
@@ -43,7 +43,7 @@ kept_is_there w id p r register here kept =
     let passes : of_request id r ≡ true = ap (λ k. bytes_eq k id) kept.1 ∙ bytes_eq_itself id in
     let s : (s : Receipt) × (find (of_request id) (receipts_of w) ≡ Some s) = found (of_request id) (receipts_of w) (any_in (of_request id) r (receipts_of w) among passes) in
     let is : In s.0 (receipts_of w) × (of_request id s.0 ≡ true) = All-found (λ x. In x (receipts_of w)) (of_request id) s.0 (receipts_of w) s.1 (In-all (receipts_of w)) in
-    s.1 ∙ ap Some (one_passes (of_request id) s.0 r (receipts_of w) (one_receipt (archive_of w) id [] (receipts_of w) register.balanced.ledger) is.0 among is.1 passes)
+    s.1 ∙ ap Some (two_are_one (of_request id) s.0 r (receipts_of w) (one_receipt (archive_of w) id [] (receipts_of w) register.balanced.ledger) is.0 among is.1 passes)
 
 -- the number of a receipt that some package has is not past the count
 number_within : (w : World) (n : ℕ) → IsRegister w → list_any (λ p. has receipt_key (n ∷ []) p.receipts) w.packages ≡ true → n ≤ length (receipts_of w)
