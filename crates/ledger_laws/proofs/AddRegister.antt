@@ -6,7 +6,7 @@ use Rattle.std.proofs.lemmas.Slice.Eq.{bytes_eq-Decides}
 use Rattle.std.specs.List.{list_any, AllByRecursion}
 use Rattle.sheet_types.specs.Ordered.{put, has}
 use Rattle.sheet_types.specs.Texts.{entry_of, is_moment}
-use Rattle.sheet_types.specs.World.{World, Package, item_key, item_thing, link_key, receipts_of, holdings, no_package, is_live, item_moved, base_kind, kind_number, is_tile}
+use Rattle.sheet_types.specs.World.{World, Package, item_key, item_thing, link_key, receipts_of, holdings, no_package, is_live, item_moved, is_tile}
 use Rattle.sheet_types.specs.Custody.{custody}
 use Rattle.sheet_types.specs.Step.{accepted, receipt_of, kept_reply, added_item}
 use Rattle.sheet_types.specs.Refuse.{refusal, reasons, bad_text, has_good_size, takes_place, place_of}
@@ -18,7 +18,7 @@ use Rattle.ledger_laws.proofs.Ledger.{is_item_of, by_entry, agree_none}
 use Rattle.sheet_types.specs.Balance.{names_as, is_unaltered, IsLedger, MayFollow}
 use Rattle.sheet_types.specs.Custody.{is_add, is_used}
 use Rattle.sheet_types.specs.Texts.{size, fingerprint, kind_of}
-use Rattle.sheet_types.specs.World.{other_kind, is_item_kind}
+use Rattle.sheet_types.specs.World.{is_item_kind}
 use Rattle.sheet_types.specs.declared.receipt.Moved.{Moved}
 use Rattle.sheet_types.proofs.Basics.{or-true}
 use Rattle.sheet_types.proofs.Every.{none_any}
@@ -42,7 +42,7 @@ use Rattle.ledger_laws.proofs.Accepting.{rows_fail, new_identity, keeps}
 use Rattle.ledger_laws.proofs.Ledger.{never_named, custody_none, thing_of, thing_of_item}
 use Rattle.sheet_types.proofs.Sums.{count-cons, not_both_count}
 use Rattle.ledger_laws.proofs.Facts.{kept_at}
-use Rattle.ledger_laws.proofs.Keeping.{fit_moves, fit_all, places_count, tile_at, apart_places}
+use Rattle.ledger_laws.proofs.Keeping.{ends_kept, fit_moves, fit_all, places_count, tile_at, apart_places}
 use Rattle.sheet_types.proofs.Distinct.{distinct_counts, counts_distinct}
 use Rattle.ledger_laws.proofs.OnePackage as one
 
@@ -163,7 +163,7 @@ module _ (w : World) (id moment p identity : List ℕ) (content : Content) (type
         not_both_count (tile_at n) x.items (item ∷ []) (subst (λ m. m ≤ 1) (places_count n x.items) (distinct_counts (λ i. place_of i.content) n (filter is_tile x.items) k.places)) (count_one (tile_at n) item)
             (λ a b. apart_places w alone x n register.frame (fit_here, tt) k.fit (free, tt) b a),
       ));
-      ends = All-weaker (HasEnds x) (HasEnds (one.change w p receipt (entry_of asked.command) items (λ y. y.links) x)) (λ l h. (has_more (kind_number (base_kind l.mapping) ∷ l.base) h.0, has_more (kind_number (other_kind l.mapping) ∷ l.media) h.1)) x.links k.ends;
+      ends = All-weaker (HasEnds x) (HasEnds (one.change w p receipt (entry_of asked.command) items (λ y. y.links) x)) (ends_kept x (one.change w p receipt (entry_of asked.command) items (λ y. y.links) x) has_more) x.links k.ends;
       parent = one.parent_kept w p receipt (entry_of asked.command) items (λ y. y.links) register fits;
     }
       where

@@ -38,6 +38,10 @@ use Rattle.ledger_laws.proofs.Ledger.{none_after}
 use Rattle.ledger_laws.proofs.Packages.{by_place, at_uuid, each_found}
 use Rattle.sheet_types.proofs.Distinct.{distinct_counts, counts_distinct}
 
+-- a package that has each item of another has the ends of its links
+pub ends_kept : (x y : Package) → ((n : List ℕ) → has item_key n x.items ≡ true → has item_key n y.items ≡ true) → (l : Relation) → HasEnds x l → HasEnds y l
+ends_kept x y more l h = (more (kind_number (base_kind l.mapping) ∷ l.base) h.0, more (kind_number (other_kind l.mapping) ∷ l.media) h.1)
+
 -- ---- an item is fit in any package of the frame
 
 -- one item

@@ -9,7 +9,7 @@ use Rattle.std.proofs.lemmas.Slice.Eq.{bytes_eq-Decides}
 use Rattle.std.specs.List.{list_any, AllByRecursion}
 use Rattle.sheet_types.specs.Ordered.{put, arranged, has, without, IsArranged, is_among}
 use Rattle.sheet_types.specs.Texts.{entry_of}
-use Rattle.sheet_types.specs.World.{World, Package, package_key, receipt_key, item_key, link_key, receipts_of, holdings, no_package, is_live, changed, with_receipt, item_moved, link_moved, item_thing, is_tile, base_kind, kind_number}
+use Rattle.sheet_types.specs.World.{World, Package, package_key, receipt_key, item_key, link_key, receipts_of, holdings, no_package, is_live, changed, with_receipt, item_moved, link_moved, item_thing, is_tile}
 use Rattle.sheet_types.specs.Custody.{ends_at, is_merge, is_split, after}
 use Rattle.sheet_types.specs.Cut.{moved_of}
 use Rattle.sheet_types.specs.Step.{accepted, joined, receipt_of, kept_reply}
@@ -19,7 +19,6 @@ use Rattle.sheet_types.proofs.LineReading.{entry_from-line}
 use Rattle.sheet_types.specs.Lines.{HasTypes, entry_from, is_splitting, is_merging}
 use Rattle.ledger_laws.proofs.Ledger.{by_entry}
 use Rattle.ledger_laws.proofs.CutEnds.{least_none, none_taken}
-use Rattle.sheet_types.specs.World.{other_kind}
 use Rattle.sheet_types.specs.Refuse.{greatest_depth}
 use Rattle.sheet_types.specs.declared.command.Command.TheVariants.{Merge}
 use Rattle.sheet_types.specs.Balance.{Balanced, IsLedger, MayFollow, archive_of, IsLoan, is_split_to, holds}
@@ -43,7 +42,7 @@ use Rattle.sheet_types.proofs.Found.{found, any_implies}
 use Rattle.sheet_types.proofs.Sums.{sum_by-map, sum_by-flat_map, count-cons, none_counted, any_some, any_none, count_le, not_both_count}
 use Rattle.ledger_laws.proofs.Shifting.{weighed, goes, Shift, each_stands, of_package, balance_kept, ends_at_is, numbers_below}
 use Rattle.ledger_laws.proofs.Facts.{ledger_arranged, may_move, custody_moved, items_held, links_held, kept_at, holds_once}
-use Rattle.ledger_laws.proofs.Keeping.{made_by, loan_stays, fit_all, places_count, tile_at, apart_places, live_changed, live_closed, parent_moves, package_moves, receipts_kept, sum_by-changed, all_live_at, open_kept, open_is_split}
+use Rattle.ledger_laws.proofs.Keeping.{ends_kept, made_by, loan_stays, fit_all, places_count, tile_at, apart_places, live_changed, live_closed, parent_moves, package_moves, receipts_kept, sum_by-changed, all_live_at, open_kept, open_is_split}
 use Rattle.sheet_types.proofs.Distinct.{distinct_counts, counts_distinct}
 
 -- the measure of a receipt is that of its items and links
@@ -449,19 +448,14 @@ module _ (w : World) (id moment child into : List ℕ) (ticket : ℤ) (types : H
     away_at : (q : List ℕ) → is_live w q ≡ true → ends_at (holdings w q).parent child ≡ false
     away_at q live = (at_all w (λ x. ends_at x.parent child ≡ false) q k.no_loans live).0
 
+    has_merged : (n : List ℕ) → has item_key n merged.items ≡ (has item_key n (holdings w child).items || has item_key n (holdings w into).items)
+    has_merged n = list_any-arranged item_key (λ i. bytes_eq (item_key i) n) ((holdings w child).items ++ (holdings w into).items) ∙ list_any-append (λ i. bytes_eq (item_key i) n) (holdings w child).items (holdings w into).items
+
     ends_child : (l : Relation) → HasEnds (holdings w child) l → HasEnds merged l
-    ends_child l h = (has_either (kind_number (base_kind l.mapping) ∷ l.base) h.0, has_either (kind_number (other_kind l.mapping) ∷ l.media) h.1)
-      where
-        has_either : (n : List ℕ) → has item_key n (holdings w child).items ≡ true → has item_key n merged.items ≡ true
-        has_either n e = list_any-arranged item_key (λ i. bytes_eq (item_key i) n) ((holdings w child).items ++ (holdings w into).items)
-            ∙ list_any-append (λ i. bytes_eq (item_key i) n) (holdings w child).items (holdings w into).items ∙ ap (λ b. b || has item_key n (holdings w into).items) e
+    ends_child = ends_kept (holdings w child) merged (λ n e. has_merged n ∙ ap (λ b. b || has item_key n (holdings w into).items) e)
 
     ends_into : (l : Relation) → HasEnds (holdings w into) l → HasEnds merged l
-    ends_into l h = (has_either (kind_number (base_kind l.mapping) ∷ l.base) h.0, has_either (kind_number (other_kind l.mapping) ∷ l.media) h.1)
-      where
-        has_either : (n : List ℕ) → has item_key n (holdings w into).items ≡ true → has item_key n merged.items ≡ true
-        has_either n e = list_any-arranged item_key (λ i. bytes_eq (item_key i) n) ((holdings w child).items ++ (holdings w into).items)
-            ∙ list_any-append (λ i. bytes_eq (item_key i) n) (holdings w child).items (holdings w into).items ∙ ap (λ b. has item_key n (holdings w child).items || b) e ∙ or-true (has item_key n (holdings w child).items)
+    ends_into = ends_kept (holdings w into) merged (λ n e. has_merged n ∙ ap (λ b. has item_key n (holdings w child).items || b) e ∙ or-true (has item_key n (holdings w child).items))
 
     both_items : (P : Item → Type 0) → AllByRecursion P (holdings w child).items → AllByRecursion P (holdings w into).items → AllByRecursion P merged.items
     both_items P a b = All-arranged item_key P ((holdings w child).items ++ (holdings w into).items) (All-append P (holdings w child).items (holdings w into).items a b)

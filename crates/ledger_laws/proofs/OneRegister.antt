@@ -6,7 +6,7 @@ use Rattle.std.proofs.lemmas.Slice.Eq.{bytes_eq-Decides}
 use Rattle.std.specs.List.{AllByRecursion}
 use Rattle.sheet_types.specs.Ordered.{put, has, is_among}
 use Rattle.sheet_types.specs.Texts.{entry_of}
-use Rattle.sheet_types.specs.World.{World, Package, link_key, item_key, holdings, is_live, has_kind, base_kind, other_kind, kind_number, is_tile}
+use Rattle.sheet_types.specs.World.{World, Package, link_key, item_key, holdings, has_kind, base_kind, other_kind, kind_number, is_tile}
 use Rattle.sheet_types.specs.Step.{accepted, receipt_of, kept_reply, relation}
 use Rattle.sheet_types.specs.Refuse.{refusal, reasons, place_of}
 use Rattle.sheet_types.specs.Lines.{IsUuid, HasTypes, is_splitting}
@@ -22,7 +22,7 @@ use Rattle.sheet_types.specs.declared.receipt.MovedKind.{MovedKind}
 use Rattle.sheet_types.proofs.Order.{All-put, filter_arranged, put_arranged}
 use Rattle.ledger_laws.proofs.Accepting.{rows_fail, keeps}
 use Rattle.sheet_types.proofs.Every.{none_pass, All-both, All-filter}
-use Rattle.sheet_types.proofs.Basics.{not_false, and_true}
+use Rattle.sheet_types.proofs.Basics.{not_false}
 use Rattle.sheet_types.proofs.Without.{is_one}
 use Rattle.ledger_laws.proofs.Facts.{kept_at}
 use Rattle.ledger_laws.proofs.Keeping.{fit_all, places_less}
@@ -40,12 +40,11 @@ module _ (w : World) (id moment p identity : List ℕ) (register : IsRegister w)
   delete_register : HasTypes asked.command → kept_reply w asked ≡ None → refusal w (accepted w asked) asked ≡ None → IsRegister (accepted w asked)
   delete_register types no_reply no_refusal =
       let fails : AllByRecursion (λ row. row.0 ≡ false) (reasons w (accepted w asked) asked) = rows_fail (reasons w (accepted w asked) asked) no_refusal in
-      let live : is_live w p ≡ true = and_true (is_live w p) (not_false (is_live w p && true) fails.1.0) in
       let x : Package = holdings w p in
-      let k : IsKeptPackage w x = kept_at w p register live in
+      let fits = delete_fits w id moment p identity register types no_reply no_refusal in
+      let k : IsKeptPackage w x = kept_at w p register fits.live in
       let t : Item → Bool = λ i. not (is_among (identity ∷ []) i.identity) in
       let untied : AllByRecursion (λ l. (bytes_eq l.base identity || bytes_eq l.media identity) ≡ false) x.links = none_pass (λ l. bytes_eq l.base identity || bytes_eq l.media identity) x.links fails.1.1.1.1.1.1.1.1.1.1.1.1.1.0 in
-      let fits = delete_fits w id moment p identity register types no_reply no_refusal in
       let no_split : is_split (receipt_of w asked) ≡ false = by_entry is_splitting (receipt_of w asked) (entry_of asked.command) fits.says in
       one.register_after w p (receipt_of w asked) (entry_of asked.command) (delete_items w id moment p identity register) (λ y. y.links) register fits
       (record {
@@ -86,11 +85,9 @@ module _ (w : World) (id moment p : List ℕ) (mapping : Mapping) (base media : 
 
   unlink_register : HasTypes unlink_asked.command → kept_reply w unlink_asked ≡ None → refusal w (accepted w unlink_asked) unlink_asked ≡ None → IsRegister (accepted w unlink_asked)
   unlink_register types no_reply no_refusal =
-      let fails : AllByRecursion (λ row. row.0 ≡ false) (reasons w (accepted w unlink_asked) unlink_asked) = rows_fail (reasons w (accepted w unlink_asked) unlink_asked) no_refusal in
-      let live : is_live w p ≡ true = and_true (is_live w p) (not_false (is_live w p && true) fails.1.0) in
       let x : Package = holdings w p in
-      let k : IsKeptPackage w x = kept_at w p register live in
       let fits = unlink_fits w id moment p mapping base media register types no_reply no_refusal in
+      let k : IsKeptPackage w x = kept_at w p register fits.live in
       let no_split : is_split (receipt_of w unlink_asked) ≡ false = by_entry is_splitting (receipt_of w unlink_asked) (entry_of unlink_asked.command) fits.says in
       one.register_after w p (receipt_of w unlink_asked) (entry_of unlink_asked.command) (λ y. y.items) (unlink_links w id moment p mapping base media register) register fits
       (record {
@@ -111,13 +108,12 @@ module _ (w : World) (id moment p : List ℕ) (mapping : Mapping) (base media : 
   link_register : HasTypes link_asked.command → kept_reply w link_asked ≡ None → refusal w (accepted w link_asked) link_asked ≡ None → IsRegister (accepted w link_asked)
   link_register types no_reply no_refusal =
       let fails : AllByRecursion (λ row. row.0 ≡ false) (reasons w (accepted w link_asked) link_asked) = rows_fail (reasons w (accepted w link_asked) link_asked) no_refusal in
-      let live : is_live w p ≡ true = and_true (is_live w p) (not_false (is_live w p && true) fails.1.0) in
       let x : Package = holdings w p in
-      let k : IsKeptPackage w x = kept_at w p register live in
+      let fits = link_fits w id moment p mapping base media register types no_reply no_refusal in
+      let k : IsKeptPackage w x = kept_at w p register fits.live in
       let kinds : (has_kind x (base_kind mapping) base ≡ true) × (has_kind x (other_kind mapping) media ≡ true) =
       and_parts (has_kind x (base_kind mapping) base) (has_kind x (other_kind mapping) media) (not_false (has_kind x (base_kind mapping) base && has_kind x (other_kind mapping) media) fails.1.1.1.1.1.1.1.0) in
       let new : AllByRecursion (λ l. bytes_eq (link_key l) (link_key linked_now) ≡ false) x.links = none_pass (λ l. bytes_eq (link_key l) (link_key linked_now)) x.links fails.1.1.1.1.1.1.1.1.1.1.1.0 in
-      let fits = link_fits w id moment p mapping base media register types no_reply no_refusal in
       let no_split : is_split (receipt_of w link_asked) ≡ false = by_entry is_splitting (receipt_of w link_asked) (entry_of link_asked.command) fits.says in
       one.register_after w p (receipt_of w link_asked) (entry_of link_asked.command) (λ y. y.items) (λ y. put link_key linked_now y.links) register fits
       (record {

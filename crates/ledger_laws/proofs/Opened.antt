@@ -1,7 +1,7 @@
 -- A world that a list of stores stands for is that of a register.
 use Rattle.std.specs.Prelude.{◌≡◌, ◌⊎◌, ℕ, suc, ◌+◌, ◌≤◌, ◌==◌, nat_le, Bool, true, false, cond, not, ◌&&◌, ◌||◌, List, [], ◌∷◌, ◌++◌, map, filter, find, length, refl, Option, Some, None, is_some, is_none, unwrap_or, MatchOption, count_by, flat_map, nat_lt, bytes_eq, pos, int_lt}
 use Rattle.std.proofs.Common.{sym, ap, subst, ◌∙◌, arith, inl, inr}
-use Rattle.std.proofs.lemmas.Bool.{true≢false, false≢true, and_parts, and_from, false_from_ne_true, eq-eqb}
+use Rattle.std.proofs.lemmas.Bool.{true≢false, false≢true, and_parts, and_from, false_from_ne_true, true_from_ne_false, eq-eqb}
 use Rattle.std.proofs.lemmas.Bool.Decides.{nat_tests}
 use Rattle.std.proofs.lemmas.Slice.Eq.{bytes_eq-Decides}
 use Rattle.std.specs.List.{list_any, AllByRecursion}
@@ -373,7 +373,7 @@ module _ (Store : Type 0) (head : Store → Option Head) (claims : Store → Lis
       let first = first_round Store head claims IsFormed IsTied frame_of read stores (length stores) o.0 (live_in o.0 o.1).1 in
       let split_of : IsOpenSplitOf Store head claims IsFormed IsTied frame_of read stores o.0 c =
       (first.0, first.2, Contains-In c (claims o.0) claimed, open_falls Store head claims IsFormed IsTied frame_of read stores first.0 (length stores) c first.1 told') in
-      let some : list_any (makes c) stores ≡ true = not_none (list_any (makes c) stores) (λ none.
+      let some : list_any (makes c) stores ≡ true = true_from_ne_false (list_any (makes c) stores) (λ none.
       stands.in_order.none_missing t.0 (o.0, c, Contains-In o.0 stores (live_in o.0 o.1).0, split_of, t.2, text, eq-eqb (count_by (makes c) stores) 0 (any_none (makes c) stores none))) in
       let z : (z : Store) × In z stores × (makes c z ≡ true) = any_at (makes c) stores some in
       let made : list_any (λ x. makes x z.0 && is_open_claim (told (length stores)) x) (told (length stores)) ≡ true =
@@ -383,10 +383,6 @@ module _ (Store : Type 0) (head : Store → Option Head) (claims : Store → Lis
       let live' : In z.0 lives = In-filter ends z.0 stores z.1 found' in
       let uuid : (read z.0).uuid ≡ unwrap_or r.target [] = same_uuid (read z.0).uuid t.0 (reads_at z.0 live').uuid t.2 (loan_uuid z.0 c live' z.2 ∙ text) ∙ sym (ap (λ x. unwrap_or x []) t.1) in
       subst (λ u. is_live v u ≡ true) uuid (live_there z.0 live')
-    where
-      not_none : (b : Bool) → (b ≡ false → ⊥) → b ≡ true
-      not_none true f = refl
-      not_none false f = absurd (f refl)
 
   register : IsRegister v
   register = record {

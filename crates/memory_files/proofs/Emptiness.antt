@@ -4,31 +4,23 @@ use Rattle.std.specs.Prelude.{Result, Ok, Err, IfOk}
 use Rattle.std.specs.List.{AllZip}
 use Rattle.sqlite.specs.Effect.{Database, IsDatabase}
 use Rattle.sqlite.specs.Tree.{Trees}
-use Rattle.sqlite.specs.Table.{Table}
 use Rattle.sqlite.specs.Schema.{Schema}
-use Rattle.sqlite_schema.specs.declared.schema.Index.{Index}
-use Rattle.sqlite_schema.specs.declared.schema.View.{View}
 use Rattle.sqlite.specs.State.{State, Opens, IsLive}
 use Rattle.sqlite.specs.Files.{AreFoundIn}
 use Rattle.sqlite_wal.specs.Recovery.{Image}
 use Rattle.sqlite_trees.specs.Objects.{catalog_tree}
 use Rattle.sqlite_catalog.specs.Listing.{AreListed, IsTableRow, IsIndexRow, IsViewRow}
 use Rattle.sql_meaning.specs.Blank.{IsBlank, no_schema}
+use Rattle.sql_meaning.proofs.Schemas.{same_schemas}
 
 none_zip : {A B : Type 0} (R : A → B → Type 0) (ys : List B) → AllZip R [] ys → ys ≡ []
 none_zip R [] zipped = refl
 none_zip R (y ∷ ys) zipped = absurd zipped
 
-abbrev schema_of : List Table → List Index → List View → Schema
-schema_of tables indexes views = record { tables = tables; indexes = indexes; views = views }
-
-same : (ts : List Table) (is : List Index) (vs : List View) → ts ≡ [] → is ≡ [] → vs ≡ [] → schema_of ts is vs ≡ no_schema
-same ts is vs p q r = rw (p, q, r) refl
-
 -- no objects are the list of no other schema
 no_objects : (schema : Schema) → AreListed [] schema → schema ≡ no_schema
 no_objects schema listed =
-    same schema.tables schema.indexes schema.views (none_zip IsTableRow schema.tables listed.tables) (none_zip (IsIndexRow schema.tables) schema.indexes listed.indexes) (none_zip IsViewRow schema.views listed.views)
+    same_schemas schema.tables [] schema.indexes [] schema.views [] (none_zip IsTableRow schema.tables listed.tables) (none_zip (IsIndexRow schema.tables) schema.indexes listed.indexes) (none_zip IsViewRow schema.views listed.views)
 
 pub unlisted : (db : Database) → IsDatabase db → db.trees catalog_tree ≡ [] → IsBlank no_schema db
 unlisted db sound none = record { is = no_objects db.schema (subst (λ objects. AreListed objects db.schema) none sound.lists.listed); empty = tt }

@@ -1,5 +1,5 @@
 -- Of a sound ledger each rule, of an unsound one the rule that it breaks.
-use Rattle.std.specs.Prelude.{◌≡◌, refl, ℕ, List, pos, false, [], ◌∷◌, Some, None, Ok, ◌==◌, bytes_eq, unwrap_or, is_some}
+use Rattle.std.specs.Prelude.{◌≡◌, refl, ℕ, List, pos, false, [], ◌∷◌, Some, Ok, ◌==◌, bytes_eq, unwrap_or, is_some}
 use Rattle.std.proofs.Common.{ap, sym, subst, ◌∙◌}
 use Rattle.std.proofs.lemmas.Bool.{false≢true, true≢false}
 use Rattle.std.proofs.lemmas.Map.Keys.{IsDistinct-head}
@@ -16,7 +16,7 @@ use Rattle.sheet_types.specs.Step.{outcome, receipt_of, source_of, target_of}
 use Rattle.sheet_types.specs.Balance.{IsLedger, MovesFor, stands_in}
 use Rattle.sheet_types.specs.declared.command.Mode.TheVariants.{Strict}
 use Rattle.sheet_types.specs.declared.receipt.MovedKind.TheVariants.{TileItem}
-use Rattle.sheet_types.proofs.Basics.{differ}
+use Rattle.sheet_types.proofs.Basics.{None≢Some, differ}
 use Rattle.model_examples.specs.Sheets.{archive, crew, second_crew, item, quarter}
 use Rattle.model_examples.specs.Story.{moved_corner, moved_small}
 use Rattle.model_examples.specs.Ledgers.{added, taken_out, SoundLedger, WrongNumbers, WrongLines, WrongThings, WrongMoves, AddedTwice, WrongHoldings, WrongSums, NothingHeld, NoRegister, one_lent, same_key, TakenKey, AlteredThenDeleted}
@@ -85,10 +85,6 @@ wrong_numbers = (
 abbrev corner_entry : Entry
 corner_entry = Adds archive (item 1) TileItem 1 digest
 
--- a text that is the line of no command
-no_line : {e : Entry} → None ≡ Some e → ⊥
-no_line says = differ is_some refl refl says
-
 pub wrong_lines : WrongLines
 unfolding by_index digits decode_pairs encode_with entry_from
 wrong_lines = (
@@ -98,10 +94,10 @@ wrong_lines = (
       let MovesIt : Entry → Type 0 = λ e. MovesFor e (moved_small ∷ []) in
       let same : h.0.entered.0 ≡ corner_entry = sym (ap (λ o. unwrap_or o corner_entry) h.0.entered.1.says) in
       differ (λ things. list_any (λ m. bytes_eq m.base (item 1)) things) refl refl (subst MovesIt same h.0.entered.1.moves)),
-  (λ h. no_line h.0.entered.1.says),
-  (λ h. no_line h.1.0.entered.1.says),
-  (λ h. no_line h.1.1.0.entered.1.says),
-  (λ h. no_line h.1.1.0.entered.1.says),
+  (λ h. None≢Some h.0.entered.1.says),
+  (λ h. None≢Some h.1.0.entered.1.says),
+  (λ h. None≢Some h.1.1.0.entered.1.says),
+  (λ h. None≢Some h.1.1.0.entered.1.says),
 )
 
 pub wrong_things : WrongThings

@@ -1,10 +1,11 @@
 -- What an UPDATE of one row makes of a table's values.
 use Rattle.std.proofs.Common.{◌≡◌, ℕ, ◌≤◌, List, [], ◌∷◌, map, length, Bool, true, false, cond, refl, sym, ap, subst, ◌∙◌, Less, arith}
 use Rattle.std.proofs.lemmas.List.{length-map}
-use Rattle.std.specs.Prelude.{◌&&◌, filter, bytes_eq, if◌then◌else◌}
+use Rattle.std.proofs.lemmas.List.Sorted.{length_permutation}
+use Rattle.std.proofs.lemmas.List.Sums.{length-filter}
+use Rattle.std.specs.Prelude.{◌&&◌, filter, bytes_eq, count_by, if◌then◌else◌}
 use Rattle.std.specs.List.{AllByRecursion}
-use Rattle.std.proofs.lemmas.Bool.{true≢false, false≢true}
-use Rattle.std.proofs.lemmas.Slice.Eq.{bytes_eq-Decides}
+use Rattle.std.proofs.lemmas.Bool.{false≢true}
 use Rattle.sqlite_value.specs.Order.{value_cmp}
 use Rattle.sqlite.specs.Table.{Table}
 use Rattle.sqlite.specs.Order.{Row}
@@ -14,49 +15,26 @@ use Rattle.sqlite.specs.declared.types.Value.{Value}
 use Rattle.sqlite.specs.Effect.{Database}
 use Rattle.sqlite_trees.specs.View.{is_int}
 use Rattle.sheet_types.specs.Ordered.{is_before, arranged, put, IsArranged}
-use Rattle.sheet_types.proofs.Basics.{before-differs}
+use Rattle.sheet_types.proofs.Order.{counts_arranged}
 use Rattle.sql_meaning.specs.Known.{IsQuiet}
 use Rattle.sql_meaning.specs.Kinds.{has_kinds}
 use Rattle.sql_meaning.specs.Writing.{Updates, Spares, IsKeyed}
 use Rattle.package_tables.specs.Shape.{Shape, IsShape, IsFormed, IsStored, stored_rows, rows_of}
 use Rattle.package_tables.specs.Package.{Tables, tables_of, AreFormed}
+use Rattle.package_tables.proofs.Reading.{arranged_permutation}
 use Rattle.package_tables.proofs.Shapes.{standing, arranged-filter}
 
 -- ---- lists in the order of a key
 
 module _ {R : Type 0} (key : R → List ℕ) where
-  length-put : (x : R) (xs : List R) → length (put key x xs) ≡ length (x ∷ xs)
-  length-put x [] = refl
-  length-put x (y ∷ ys) = elim (is_before (key y) (key x)) as (λ v. length (cond v (y ∷ put key x ys) (x ∷ y ∷ ys)) ≡ length (x ∷ y ∷ ys)) [
-    | true ↦ let more = length-put x ys in omega (arith, more)
-    | false ↦ refl
-  ]
-
   pub length-arranged : (xs : List R) → length (arranged key xs) ≡ length xs
-  length-arranged [] = refl
-  length-arranged (x ∷ xs) = let more = length-arranged xs in let here = length-put x (arranged key xs) in omega (arith, more, here)
-
-  none_again : (k : List ℕ) (x : R) (xs : List R) → key x ≡ k → AllByRecursion (λ y. is_before (key x) (key y) ≡ true) xs → filter (λ y. bytes_eq (key y) k) xs ≡ []
-  none_again k x [] is h = refl
-  none_again k x (y ∷ ys) is h =
-      let other : bytes_eq (key y) k ≡ false = one (bytes_eq (key y) k) refl in
-      rw other (none_again k x ys is h.1)
-    where
-      one : (b : Bool) → bytes_eq (key y) k ≡ b → b ≡ false
-      one true e =
-          let same : key x ≡ key y = is ∙ sym ((bytes_eq-Decides (key y) k).0 e) in
-          let differs : bytes_eq (key x) (key y) ≡ false = before-differs (key x) (key y) h.0 in
-          absurd (true≢false (sym ((bytes_eq-Decides (key x) (key y)).1 same) ∙ differs))
-      one false e = refl
+  length-arranged xs = length_permutation xs (arranged key xs) (arranged_permutation key xs)
 
   -- where the keys rise, at most one element has a key
   pub at_most_one : (k : List ℕ) (xs : List R) → IsArranged key xs → length (filter (λ x. bytes_eq (key x) k) xs) ≤ 1
-  at_most_one k [] h = omega arith
-  at_most_one k (x ∷ xs) h = one (bytes_eq (key x) k) refl (at_most_one k xs h.1)
-    where
-      one : (b : Bool) → bytes_eq (key x) k ≡ b → length (filter (λ y. bytes_eq (key y) k) xs) ≤ 1 → length (filter (λ y. bytes_eq (key y) k) (x ∷ xs)) ≤ 1
-      one true e more = rw (e, none_again k x xs ((bytes_eq-Decides (key x) k).0 e) h.0) (omega arith)
-      one false e more = rw e more
+  at_most_one k xs h =
+      let counted : count_by (λ x. bytes_eq (key x) k) xs ≤ 1 = counts_arranged key k xs h in
+      omega (arith, length-filter (λ x. bytes_eq (key x) k) xs, counted)
 
   module _ (f : R → R) (same : (x : R) → key (f x) ≡ key x) where
     map-put : (x : R) (xs : List R) → put key (f x) (map f xs) ≡ map f (put key x xs)

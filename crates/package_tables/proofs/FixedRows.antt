@@ -11,7 +11,7 @@ use Rattle.sheet_types.proofs.Order.{put_last}
 use Rattle.sheet_types.proofs.Basics.{before-differs}
 use Rattle.matrix_rules.proofs.Frames.{GoodFrame}
 use Rattle.std.specs.Cmp.{signed_Decides}
-use Rattle.std.proofs.lemmas.Bool.{true≢false, or_parts}
+use Rattle.std.proofs.lemmas.Bool.{true≢false, false_from_ne_true, or_parts}
 use Rattle.std.proofs.lemmas.Slice.Eq.{bytes_eq-Decides}
 use Rattle.std.proofs.lemmas.Int.{ints}
 use Rattle.sqlite.specs.State.{State, Survives}
@@ -86,10 +86,7 @@ same_signed (pos a) (negsuc b) e = absurd cc
 same_signed (negsuc a) (pos b) e = absurd cc
 
 other_key : (m n : ℤ) → n ≢ m → bytes_eq (signed_key m) (signed_key n) ≡ false
-other_key m n differ = elim (bytes_eq (signed_key m) (signed_key n)) as (λ b. bytes_eq (signed_key m) (signed_key n) ≡ b → b ≡ false) [
-  | true ↦ λ e. absurd (differ (sym (same_signed m n ((bytes_eq-Decides (signed_key m) (signed_key n)).0 e))))
-  | false ↦ λ e. refl
-] refl
+other_key m n differ = false_from_ne_true _ (λ e. differ (sym (same_signed m n ((bytes_eq-Decides (signed_key m) (signed_key n)).0 e))))
 
 differs : (n m : ℤ) → int_eq n m ≡ false → n ≢ m
 differs n m h = λ e. true≢false (sym ((signed_Decides n m).1 e) ∙ h)

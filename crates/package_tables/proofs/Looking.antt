@@ -1,5 +1,5 @@
 -- From the clauses of `query_all` to what a look-up answers of the tables, inside a transaction and at rest.
-use Rattle.std.proofs.Common.{◌≡◌, ◌⊎◌, inl, inr, Ordering, ℕ, ℤ, List, [], ◌∷◌, map, Bool, true, false, Option, Some, Result, Ok, Err, IsTrue, refl, sym, ap, subst}
+use Rattle.std.proofs.Common.{◌≡◌, ◌⊎◌, inl, inr, Ordering, ℕ, ℤ, List, [], map, Bool, true, false, Option, Some, Result, Ok, Err, IsTrue, sym, subst}
 use Rattle.std.specs.Prelude.{slice_get, filter, MatchOption, IfOk, IfErr, IsOkAnd, IsPermutation}
 use Rattle.std.specs.Cmp.{IsTotalOrder}
 use Rattle.sqlite.specs.Query.{key_cmp}
@@ -19,6 +19,7 @@ use Rattle.sql_meaning.proofs.Where.{are_given}
 use Rattle.sql_meaning.proofs.Select.{IsSelect, IsPlannedSelect, listing_of, listed}
 use Rattle.sql_meaning.proofs.Answering.{shown_unchanged, failed_unchanged, found_looks}
 use Rattle.sql_meaning.proofs.Transactions.{Shuts, Settles}
+use Rattle.sqlite_trees.proofs.ListLemmas.{all_of, filter_all}
 use Rattle.package_tables.specs.Shape.{Shape, IsShape, IsFormed, rows_of}
 use Rattle.package_tables.specs.Package.{Tables, tables_of, AreFormed}
 use Rattle.package_tables.specs.Calls.{TellsInside, Tells, Answers, LooksUp, IsOneOf, AreThose, AreAll, Rises}
@@ -27,8 +28,7 @@ use Rattle.package_tables.proofs.Reading.{those, one_of}
 use Rattle.package_tables.proofs.Ranking.{in_order}
 
 pub filter_every : {R : Type 0} {keeps : R → Bool} → ((x : R) → keeps x ≡ true) → (xs : List R) → filter keeps xs ≡ xs
-filter_every every [] = refl
-filter_every every (x ∷ xs) = rw (every x) (ap (λ k. x ∷ k) (filter_every every xs))
+filter_every {R} {keeps} every xs = filter_all keeps xs (all_of (λ x. keeps x ≡ true) every xs)
 
 -- the table is one of the fourteen, and a SELECT * shows its values so
 pub record IsKnown {R : Type 0} (shape : Shape R) (list : Tables → List R) (shown : R → Row) : Type 0 where

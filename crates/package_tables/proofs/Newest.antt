@@ -36,7 +36,8 @@ use Rattle.package_tables.specs.Package.{Tables, tables_of, AreFormed}
 use Rattle.package_tables.specs.Calls.{TellsInside, Tells, IsGreatest}
 use Rattle.package_tables.specs.Shown.{BeginsWith}
 use Rattle.package_tables.specs.declared.fault.Fault.{Fault}
-use Rattle.package_tables.proofs.Shapes.{rows_placed, arranged-filter, all_filter}
+use Rattle.sheet_types.proofs.Every.{All-filter}
+use Rattle.package_tables.proofs.Shapes.{rows_placed, arranged-filter}
 use Rattle.package_tables.proofs.Reading.{arranged_permutation}
 use Rattle.package_tables.proofs.Looking.{IsKnown, AreSaid, filter_every}
 
@@ -110,7 +111,7 @@ module _ {R : Type 0} {shape : Shape R} {list : Tables → List R} {shown' : R �
       let shows = subst (λ k. ShowsFirst (λ r. column r 0 ∷ []) newest.shown (descending ∷ []) k rows) same (finds.first p.at p.tree p.has) in
       let kept = arranged-filter shape.key shape.typed keeps newest.pass there (tested there f.stored) in
       subst (λ k. IsGreatest number k found) (kept ∙ ap (filter keeps) (sym (known.lists db)))
-      (greatest_in shape number newest.shown newest.begins newest.keyed (filter newest.pass there) rows (all_filter (IsStored shape) newest.pass there f.stored) found head shows)
+      (greatest_in shape number newest.shown newest.begins newest.keyed (filter newest.pass there) rows (All-filter (IsStored shape) newest.pass there f.stored) found head shows)
 
   -- inside a transaction
   tells_greatest : {Y : Type 0} (items : Y → List Row) (old new : State) (answer : Result Y Error) → (HasCleanDisk new → IfOk answer (λ y. Shown text params old new (items y)))

@@ -1,7 +1,8 @@
 -- From the rows that a SELECT lists to answers over the tables.
 use Rattle.std.proofs.Common.{◌≡◌, ℕ, List, [], ◌∷◌, map, Bool, true, false, cond, Option, Some, None, suc, zero, refl, sym, ap, subst, ◌∙◌, arith}
 use Rattle.std.specs.Prelude.{filter, slice_get, Contains, MatchOption, IsPermutation, if◌then◌else◌}
-use Rattle.std.specs.List.{AllByRecursion, list_any}
+use Rattle.std.specs.List.{AllByRecursion}
+use Rattle.std.proofs.lemmas.List.{nil_from_length}
 use Rattle.std.proofs.lemmas.List.Sorted.{IsPermutation-refl, IsPermutation-sym, IsPermutation-trans, IsPermutation-cons, IsPermutation-insert, IsPermutation-map, Contains-permutation, length_permutation}
 use Rattle.sqlite_trees.proofs.ListLemmas.{IsPermutation-filter, map-map}
 use Rattle.sqlite.specs.Order.{Row}
@@ -9,8 +10,10 @@ use Rattle.sqlite.specs.Tree.{rowid}
 use Rattle.sqlite.specs.Effect.{Database}
 use Rattle.sqlite.specs.declared.types.Value.{Value}
 use Rattle.sheet_types.specs.Ordered.{arranged, put, is_before}
+use Rattle.sheet_types.proofs.Every.{none_any}
 use Rattle.sql_meaning.specs.Known.{HasTable}
 use Rattle.sql_meaning.specs.Reading.{Listing, IsListing}
+use Rattle.sql_meaning.proofs.Changed.{none_kept}
 use Rattle.package_tables.specs.Shape.{Shape, IsShape, IsFormed, IsStored, stored_rows, rows_of}
 use Rattle.package_tables.specs.Calls.{IsOneOf, AreThose}
 use Rattle.package_tables.proofs.Shapes.{rows_placed}
@@ -41,18 +44,6 @@ filter_contains {R} p (x ∷ xs) y h = one (p x) refl (filter_contains p xs y) h
     one true e more (zero, below, is) = ((zero, omega arith, is), ap p (sym is) ∙ e)
     one true e more (suc k, below, is) = later (more (k, omega (arith, below), is))
     one false e more c = later (more c)
-
-none_pass : {R : Type 0} (p : R → Bool) (xs : List R) → filter p xs ≡ [] → list_any p xs ≡ false
-none_pass p [] h = refl
-none_pass {R} p (x ∷ xs) h = one (p x) refl (none_pass p xs) h
-  where
-    one : (b : Bool) → p x ≡ b → (filter p xs ≡ [] → list_any p xs ≡ false) → cond b (x ∷ filter p xs) (filter p xs) ≡ [] → list_any p (x ∷ xs) ≡ false
-    one true e more c = absurd cc
-    one false e more c = rw e (more c)
-
-nothing : {R : Type 0} (xs : List R) → IsPermutation xs [] → xs ≡ []
-nothing [] h = refl
-nothing (x ∷ xs) h = absurd (omega (arith, length_permutation (x ∷ xs) [] h))
 
 -- ---- a listing of a table's rows
 
@@ -99,7 +90,7 @@ module _ {R : Type 0} (shape : Shape R) (laws : IsShape shape) (shown : R → Ro
 
     -- the first of them
     pub one_of : (first : Option R) → MatchOption first (rows ≡ []) (λ x. slice_get rows 0 ≡ Some (shown x)) → IsOneOf keeps (rows_of shape db) first
-    one_of None empty = none_pass keeps (rows_of shape db) (nothing _ (subst (λ k. IsPermutation (filter keeps (rows_of shape db)) (map back k)) empty answered))
+    one_of None empty = none_any keeps (rows_of shape db) (none_kept keeps (rows_of shape db) (nil_from_length _ (sym (length_permutation _ [] (subst (λ k. IsPermutation (filter keeps (rows_of shape db)) (map back k)) empty answered)))))
     one_of (Some x) head = filter_contains keeps (rows_of shape db) x (Contains-permutation _ _ x (IsPermutation-sym _ _ answered) (there rows head))
       where
         there : (rows : List Row) → slice_get rows 0 ≡ Some (shown x) → Contains (map back rows) x

@@ -16,7 +16,7 @@ use Rattle.sqlite.specs.Effect.{Database}
 use Rattle.sqlite_trees.specs.View.{is_int}
 use Rattle.sheet_types.specs.Ordered.{arranged, put, has}
 use Rattle.sheet_types.proofs.Arranging.{put_put, filter-arranged}
-use Rattle.sheet_types.proofs.Every.{none_pass}
+use Rattle.sheet_types.proofs.Every.{All-filter, none_pass}
 use Rattle.sheet_types.proofs.Order.{list_any-arranged}
 use Rattle.sql_meaning.specs.Known.{HasTable, IsQuiet, is_other, sequence_name}
 use Rattle.sql_meaning.specs.Writing.{Inserts, Deletes, Spares, IsKeyed}
@@ -94,13 +94,9 @@ module _ {R : Type 0} (key : R → List ℕ) (typed : Row → R) where
   pub arranged-filter : (keeps : R → Bool) (test : Row → Bool) (rows : List Row) → AllByRecursion (λ r. test r ≡ keeps (typed r)) rows → arranged key (map typed (filter test rows)) ≡ filter keeps (arranged key (map typed rows))
   arranged-filter keeps test rows h = ap (arranged key) (filter-typed keeps test rows h) ∙ sym (filter-arranged key keeps (map typed rows))
 
-pub all_filter : (P : Row → Type 0) (t : Row → Bool) (rows : List Row) → AllByRecursion P rows → AllByRecursion P (filter t rows)
-all_filter P t [] h = tt
-all_filter P t (r ∷ rows) h = elim (t r) as (λ v. AllByRecursion P (cond v (r ∷ filter t rows) (filter t rows))) [ true ↦ (h.0, all_filter P t rows h.1) | false ↦ all_filter P t rows h.1 ]
-
 table_filter : (t : Row → Bool) (rows : List Row) → IsTable rows → IsTable (filter t rows)
 table_filter t [] h = tt
-table_filter t (r ∷ rows) h = elim (t r) as (λ v. IsTable (cond v (r ∷ filter t rows) (filter t rows))) [ true ↦ (all_filter _ t rows h.0, table_filter t rows h.1) | false ↦ table_filter t rows h.1 ]
+table_filter t (r ∷ rows) h = elim (t r) as (λ v. IsTable (cond v (r ∷ filter t rows) (filter t rows))) [ true ↦ (All-filter _ t rows h.0, table_filter t rows h.1) | false ↦ table_filter t rows h.1 ]
 
 ints_filter : (t : Row → Bool) (rows : List Row) → have_rowids rows ≡ true → have_rowids (filter t rows) ≡ true
 ints_filter t [] h = refl
@@ -154,7 +150,7 @@ module _ {R : Type 0} (shape : Shape R) (laws : IsShape shape) where
         record {
           placed = table.placed;
           keyed = subst IsKeyed (sym rows) (record { ints = ints_filter (λ r. not (goes r)) there formed.keyed.ints; rises = table_filter (λ r. not (goes r)) there formed.keyed.rises });
-          stored = subst (AllByRecursion (IsStored shape)) (sym rows) (all_filter (IsStored shape) (λ r. not (goes r)) there formed.stored);
+          stored = subst (AllByRecursion (IsStored shape)) (sym rows) (All-filter (IsStored shape) (λ r. not (goes r)) there formed.stored);
         },
         ap (λ l. arranged shape.key (map shape.typed l)) rows
             ∙ arranged-filter shape.key shape.typed (λ x. not (test x)) (λ r. not (goes r)) there (tested there formed.stored),

@@ -5,7 +5,7 @@ ghost use Rattle.sheet_types.specs.Matrix.{is_good_frame};
 ghost use Rattle.sql_meaning.specs.Transactions.{Steps};
 ghost use Rattle.package_tables.specs.Calls.{OnTables};
 ghost use Rattle.package_tables.specs.Entries.{AddsContents};
-ghost use Rattle.package_tables.specs.Fixed.{is_standard, standard_systems, systems_of, content, contents_of, matrix_set, levels_of, two_relations};
+ghost use Rattle.package_tables.specs.Fixed.{is_standard, standard_systems, systems_of, content, contents_of, matrix_set, two_relations};
 ghost use Rattle.package_tables.specs.Creation.{SystemsBecome, ContentsBecome, MatrixSetsBecome, RelationsBecome, TablesBecome, no_rows, fixed_tables};
 
 use crate::fault::Fault;
