@@ -1,5 +1,5 @@
 -- A receipt that is entered under a free number, row by row.
-use Rattle.std.proofs.Common.{◌≡◌, ℕ, zero, suc, ℤ, ◌<◌, ◌≤◌, ◌+◌, pos, take, get_or, length, List, [], ◌∷◌, ◌++◌, map, Bool, true, false, Result, Ok, refl, sym, ap, subst, ◌∙◌, to_z, w64, arith}
+use Rattle.std.proofs.Common.{◌≡◌, ℕ, zero, suc, ℤ, ◌<◌, ◌≤◌, ◌+◌, pos, take, get_or, length, List, [], ◌∷◌, ◌++◌, map, false, Result, Ok, refl, sym, ap, subst, ◌∙◌, to_z, w64, arith}
 use Rattle.std.specs.Prelude.{bytes_eq, flat_map}
 use Rattle.std.specs.Option.{option_map_or}
 use Rattle.hex.specs.Hex.{encode_lower}

@@ -99,8 +99,8 @@ pub fn link<S: Alter>(tx: &mut Transaction<'_, S>, relation: Relation) -> Result
     ensures same_reference { tx.new.conn.ghost_name ≡ tx.old.conn.ghost_name }
     ensures steps { Steps (λ _. Becomes (IsNewLink relation) (link_added relation)) (state S.Store tx.old.conn.now) (state S.Store tx.new.conn.now) result }
 {
-    let ends = rows_of_ends(tx, relation.base, relation.media)?;
-    insert_pair(tx, relation.mapping, ends.base.local_id, ends.media.local_id)
+    let EndRows { base, media } = rows_of_ends(tx, relation.base, relation.media)?;
+    insert_pair(tx, relation.mapping, base.local_id, media.local_id)
 }
 
 /// Takes a link out that is there.
@@ -112,6 +112,6 @@ pub fn unlink<S: Alter>(tx: &mut Transaction<'_, S>, relation: Relation) -> Resu
     ensures same_reference { tx.new.conn.ghost_name ≡ tx.old.conn.ghost_name }
     ensures steps { Steps (λ _. Becomes (IsLink relation) (link_removed relation)) (state S.Store tx.old.conn.now) (state S.Store tx.new.conn.now) result }
 {
-    let ends = rows_of_ends(tx, relation.base, relation.media)?;
-    delete_pair(tx, relation.mapping, ends.base.local_id, ends.media.local_id)
+    let EndRows { base, media } = rows_of_ends(tx, relation.base, relation.media)?;
+    delete_pair(tx, relation.mapping, base.local_id, media.local_id)
 }

@@ -14,7 +14,7 @@ ghost use Rattle.package_tables.specs.Calls.{LooksUp, IsOneOf};
 ghost use Rattle.identity_register.specs.Answers.{is_linked_medium, is_linked_row, are_ends, link_state, IsContentOf};
 ghost use Rattle.identity_register.specs.Calls.{Sees};
 
-use crate::kinds::{kind_of_number, MEDIUM, ROW, TILE};
+use crate::kinds::{MEDIUM, ROW, TILE, kind_of_number};
 use crate::row_contents::{of_attributes, of_medium, of_tile};
 use package_tables::attributes::attribute_by_id;
 use package_tables::fault::Fault;

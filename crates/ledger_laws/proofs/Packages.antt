@@ -13,7 +13,7 @@ use Rattle.std.proofs.lemmas.Bool.{true≢false, false≢true, le-ltb, lt-ltb}
 use Rattle.std.specs.Option.{option_map_or}
 use Rattle.sheet_types.specs.Balance.{archive_of}
 use Rattle.sheet_types.proofs.Basics.{None≢Some, or-false, bytes_eq_itself, bytes_eq_swap, before-differs}
-use Rattle.sheet_types.proofs.Every.{All-weaker, All-both, All-left, All-right, All-append, All-flat_map}
+use Rattle.sheet_types.proofs.Every.{All-weaker, All-both, All-left, All-right, All-flat_map}
 use Rattle.sheet_types.proofs.Sums.{count-cons, none_counted}
 use Rattle.sheet_types.proofs.Found.{found, not_found, All-found}
 use Rattle.sheet_types.proofs.Order.{before_numbers, put_last, All-of_arranged, arranged_last, counts_arranged, filter_arranged}

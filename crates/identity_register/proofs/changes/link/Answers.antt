@@ -4,6 +4,6 @@ use Rattle.identity_register.proofs.changes.link.Goals as goal
 
 pub returns-clause-steps : goal.returns-clause-steps
 returns-clause-steps g c =
-    let base : FitsSigned w64 c.in_ok-ends.ends.base.local_id = search rules in
-    let media : FitsSigned w64 c.in_ok-ends.ends.media.local_id = search rules in
-    link_steps c.args.relation c.in_ok-ends.ends c.in_ok-ends.ensures.steps (simp (to_z-of_z, base, media) at c.insert_pair.ensures.wrote) c.insert_pair.ensures.survives
+    let base : FitsSigned w64 c.in_ok-base.field-0.base.local_id = search rules in
+    let media : FitsSigned w64 c.in_ok-base.field-0.media.local_id = search rules in
+    link_steps c.args.relation c.in_ok-base.field-0 c.in_ok-base.ensures.steps (simp (to_z-of_z, base, media) at c.insert_pair.ensures.wrote) c.insert_pair.ensures.survives
