@@ -5,7 +5,8 @@
     tools/public_functions.py --missing  the functions that lack a clause, an edit or a test; status 1 where there is one
 
 An edit counts for the public function in whose body it stands, and for each public function of the same file that calls the function in which it
-stands, directly or through others of the file. A test counts where it, or a helper of its file, names the function before a bracket.
+stands, directly or through others of the file. A test counts where it, or a helper, names the function before a bracket; a helper is a function or an
+impl of the test's file, of a module of its crate that the file uses, or of the crates of test values.
 A law needs neither: a function with an empty body, or one with no result, no `&mut` and no handle, whose call can only give the fact of its clause.
 """
 import os
@@ -13,6 +14,7 @@ import re
 import sys
 
 ROOT = os.path.dirname(os.path.dirname(os.path.abspath(__file__)))
+TEST_VALUES = ["test_values", "test_worlds"]
 HEAD = re.compile(r"^(?P<indent>\s*)(?P<pub>pub(?:\((?:crate|super)\))? )?fn (?P<name>\w+)", re.M)
 
 
@@ -89,10 +91,25 @@ def reached(names, bodies, start):
     while todo:
         body = bodies.get(todo.pop(), "")
         for name in names:
-            if name not in seen and re.search(rf"\b{name}\(", body):
+            if name not in seen and re.search(rf"\b{name}\b" if name[0].isupper() else rf"\b{name}\(", body):
                 seen.add(name)
                 todo.append(name)
     return seen
+
+
+def helpers(crate, text):
+    """The texts that a test of a file may lead to, by the names of functions and of the types of impls."""
+    folders = [os.path.join(ROOT, "crates", it, "src") for it in TEST_VALUES]
+    paths = [os.path.join(folder, file) for folder in folders if os.path.isdir(folder) for file in sorted(os.listdir(folder))]
+    of_tests = re.findall(r"^#\[cfg\(test\)\]\nmod (\w+);", read(os.path.join(ROOT, "crates", crate, "src", "lib.rt")), re.M)
+    paths += [os.path.join(ROOT, "crates", crate, "src", f"{it}.rt") for it in re.findall(r"^use crate::(\w+)::", text, re.M) if it in of_tests]
+    bodies = {}
+    for whole in [read(path) for path in paths if os.path.isfile(path)] + [text]:
+        impls = list(re.finditer(r"^impl[^\n]* for (?P<type>\w+)[^\n]*\{.*?^\}", whole, re.M | re.S))
+        own = [it for it in functions(whole) if not any(impl.start() < it["start"] < impl.end() for impl in impls)]
+        bodies |= {it["name"]: whole[it["start"] : it["end"]] for it in own}
+        bodies |= {it["type"]: it[0] for it in impls}
+    return bodies
 
 
 def tests_by_name():
@@ -104,7 +121,7 @@ def tests_by_name():
             if "#[test]" not in text:
                 continue
             listed = functions(text)
-            bodies = {it["name"]: text[it["start"] : it["end"]] for it in listed}
+            bodies = helpers(crate, text)
             for it in listed:
                 if re.search(r"#\[test\][^\n]*\n(?:\s*(?:#|//|ghost)[^\n]*\n)*\s*$", text[: it["start"] + 1] + "\n") or "#[test]" in text[max(0, it["start"] - 200) : it["start"]].rsplit("}", 1)[-1]:
                     whole = "\n".join(bodies[name] for name in reached(set(bodies), bodies, it["name"]) if name in bodies)
