@@ -4,6 +4,7 @@ use Rattle.std.specs.Prelude.{◌&&◌, ◌==◌}
 use Rattle.std.specs.List.{AllByRecursion, list_all}
 use Rattle.std.proofs.lemmas.Bool.{and_parts}
 use Rattle.std.proofs.lemmas.Bool.Decides.{nat_tests}
+use Rattle.std.proofs.lemmas.List.Elements.{All-from_get_or, recursion_from_All}
 use borrow.Author.Tests.{eqb-true}
 use Rattle.uuid.specs.Text.{parsed, parsed_hyphenated, parsed_simple, digits_of, has_hyphens, is_hex_digit, value_of, byte_of_digits, by_index}
 use Rattle.uuid.proofs.TextLemmas.{by_index_length, by_index_at}
@@ -15,8 +16,7 @@ use Rattle.sheet_types.proofs.UuidTexts.{parsed_36}
 
 -- what holds at each index holds of all
 pub small_at : (xs : List ℕ) → ((k : ℕ) → k < length xs → get_or xs k 0 < 256) → AllByRecursion (λ b. b < 256) xs
-small_at [] h = tt
-small_at (x ∷ xs) h = (h 0 (omega arith), small_at xs (λ k lt. h (suc k) (omega arith)))
+small_at xs h = recursion_from_All (λ b. b < 256) xs (All-from_get_or (λ b. b < 256) xs 0 h)
 
 -- what holds of all holds at each index
 all_at : (test : ℕ → Bool) (xs : List ℕ) (k : ℕ) → list_all test xs ≡ true → k < length xs → test (get_or xs k 0) ≡ true
