@@ -2,6 +2,7 @@
 // medium beside a tile and another row that are linked to nothing. What is expected follows from what was put in.
 
 use crate::steps::{is_named_by_a_link, is_taken, kind};
+use identity_register::kinds::kind_of_number;
 use identity_register::look_ups::{LinkState, find, has_link, link_state};
 use package_tables::attributes::insert_attribute;
 use package_tables::fault::Fault;
@@ -125,5 +126,17 @@ fn a_link_that_is_to_come_in_has_a_state(rt: HostRuntime) -> Result<(), Fail> {
     assert!(rt; of_another_row == LinkState::Absent);
     let there = relation_state(&mut conn, Mapping::RowsMedia, 3, 2)?;
     assert!(rt; there == LinkState::There);
+    Ok(())
+}
+
+// From the least number to the greatest, and one beyond each.
+#[test]
+fn a_stored_number_tells_a_kind(rt: HostRuntime) -> Result<(), Fail> {
+    assert!(rt; kind_of_number(1)? == MovedKind::TileItem);
+    assert!(rt; kind_of_number(5)? == MovedKind::RowsMediaLink);
+    assert!(rt; kind_of_number(0).is_err());
+    assert!(rt; kind_of_number(6).is_err());
+    assert!(rt; kind_of_number(-1).is_err());
+    assert!(rt; kind_of_number(257).is_err());
     Ok(())
 }
