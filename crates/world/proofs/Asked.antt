@@ -1,13 +1,15 @@
 -- Members that are looked at one after the other, and what the first of them have told.
-use Rattle.std.proofs.Common.{◌≡◌, sym, subst, ℕ, zero, suc, ◌+◌, ◌≤◌, List, [], ◌∷◌, take, length, slice_get, Some, Result, Ok, Err, IsErr, inl, inr, arith}
+use Rattle.std.proofs.Common.{◌≡◌, sym, subst, ℕ, zero, suc, ◌+◌, ◌≤◌, List, [], ◌∷◌, take, length, slice_get, Some, Result, Ok, Err, IsErr, arith}
 use Rattle.std.specs.List.{AllByRecursion}
 use Rattle.std.proofs.lemmas.List.{take_all}
+use Rattle.std.proofs.lemmas.Slice.Zip.{AllZip-long}
 use Rattle.sqlite.specs.Store.{Ghosts}
 use Rattle.sqlite.specs.Held.{state}
+use Rattle.sqlite_trees.proofs.ListLemmas.{all-slice_get}
 use Rattle.sheet_types.specs.World.{World, Package}
 use Rattle.sheet_types.specs.Register.{IsRegister}
 use Rattle.sheet_types.specs.declared.frame.Frame.{Frame}
-use Rattle.sheet_types.proofs.Same.{In}
+use Rattle.sheet_types.proofs.Same.{In, In-all}
 use Rattle.sql_meaning.specs.Transactions.{Looks}
 use Rattle.sql_meaning.proofs.Staying.{looks_stays}
 use Rattle.sql_meaning.proofs.Transactions.{Shuts, Settles}
@@ -15,19 +17,13 @@ use Rattle.identity_register.specs.Calls.{Sees}
 use Rattle.world.specs.Members.{AllRest, AllClean, AllOpen, IsMember, AreMembers, AllStay, TurnsAt}
 use Rattle.world.specs.Asking.{AsksAll}
 use Rattle.world.specs.declared.members.Member.{Member}
-use Rattle.world.proofs.Standing.{zip_length, all_still, all_stay_then, members_stay, clean_before, turn_rests, turn_open, turn_clean, turn_stays, told_at}
+use Rattle.world.proofs.Standing.{all_still, all_stay_then, members_stay, clean_before, turn_rests, turn_open, turn_clean, turn_stays, told_at}
 
 -- the first elements and one more
-take_one_more : {X : Type 0} (P : X → Type 0) (xs : List X) (n : ℕ) (x : X) → AllByRecursion P (take n xs) → slice_get xs n ≡ Some x → P x → AllByRecursion P (take (n + 1) xs)
+pub take_one_more : {X : Type 0} (P : X → Type 0) (xs : List X) (n : ℕ) (x : X) → AllByRecursion P (take n xs) → slice_get xs n ≡ Some x → P x → AllByRecursion P (take (n + 1) xs)
 take_one_more P [] n x each place is = absurd (let e = place in cc)
 take_one_more P (y ∷ ys) zero x each place is = let same : x ≡ y = cc in (subst P same is, tt)
 take_one_more P (y ∷ ys) (suc n) x each place is = let on : suc n + 1 ≡ suc (n + 1) = omega arith in subst (λ k. AllByRecursion P (take k (y ∷ ys))) (sym on) (each.0, take_one_more P ys n x each.1 place is)
-
--- what stands at a place is an element
-placed : {X : Type 0} (xs : List X) (at : ℕ) (x : X) → slice_get xs at ≡ Some x → In x xs
-placed [] at x place = absurd (let e = place in cc)
-placed (y ∷ ys) zero x place = let same : y ≡ x = cc in inl same
-placed (y ∷ ys) (suc at) x place = inr (placed ys at x place)
 
 module _ {S : Type 0} (g : Ghosts S) where
   -- all were only read, and each of the first n packages has told this
@@ -45,7 +41,7 @@ module _ {S : Type 0} (g : Ghosts S) where
     stay = it.stay;
     stays_open = it.stays_open;
     told = λ clean w count are.
-        let long : length old ≡ length w.packages = zip_length (IsMember g w) old w.packages are.each in
+        let long : length w.packages ≡ length old = AllZip-long (IsMember g w) old w.packages are.each in
         so w are.register (subst (AllByRecursion Fact) (take_all n w.packages (omega (arith, long, past))) (it.told clean count w are));
   }
 
@@ -91,7 +87,7 @@ module _ {S : Type 0} (g : Ghosts S) where
         stays_open = λ clean was. next_open x is clean was;
         told = λ clean w count are.
             let one : (p : Package) × (slice_get w.packages n ≡ Some p) × Look w.frame p x = one_told x is clean count w are in
-            so w one.0 are.register (placed w.packages n one.0 one.1) one.2;
+            so w one.0 are.register (all-slice_get (λ y. In y w.packages) w.packages n one.0 one.1 (In-all w.packages)) one.2;
       }
 
       -- a look that failed tells nothing

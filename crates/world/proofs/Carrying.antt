@@ -28,14 +28,18 @@ carried_out_in_one w r (Merge child into ticket) served = absurd served
 pub change_steps : {E : Type 0} (command form : Command) {old new : State} {r : Result (Unit {0}) E} → command ≡ form → Steps (λ _. Becomes (Meets form) (changed_by form)) old new r → Steps (λ _. Becomes (Meets command) (changed_by command)) old new r
 change_steps command form {old} {new} {r} is steps = subst (λ c. Steps (λ _. Becomes (Meets c) (changed_by c)) old new r) (sym is) steps
 
--- no change leaves another list of receipts
+-- a change leaves the head of its package and the receipts
+pub same_rest : (command : Command) (p : Package) → changed_by command p ≡ record p { items = (changed_by command p).items; links = (changed_by command p).links }
+same_rest (Add uuid identity content) p = refl
+same_rest (Delete uuid identity) p = refl
+same_rest (Link uuid mapping base media) p = refl
+same_rest (Unlink uuid mapping base media) p = refl
+same_rest (Split uuid child mode rect) p = refl
+same_rest (Merge child into ticket) p = refl
+
+-- so a receipt that was new still is
 still_new : (r : Receipt) (command : Command) (p : Package) → IsNewReceipt r p → IsNewReceipt r (changed_by command p)
-still_new r (Add uuid identity content) p new = record { number = new.number; request = new.request; fit = new.fit }
-still_new r (Delete uuid identity) p new = record { number = new.number; request = new.request; fit = new.fit }
-still_new r (Link uuid mapping base media) p new = record { number = new.number; request = new.request; fit = new.fit }
-still_new r (Unlink uuid mapping base media) p new = record { number = new.number; request = new.request; fit = new.fit }
-still_new r (Split uuid child mode rect) p new = new
-still_new r (Merge child into ticket) p new = new
+still_new r command p new = subst (IsNewReceipt r) (sym (same_rest command p)) (record { number = new.number; request = new.request; fit = new.fit })
 
 -- and then its receipt
 pub receipt_then : {E F : Type 0} (r : Receipt) (command : Command) {old mid new : State} {x : Unit {0}} {q : Result (Unit {0}) F} → Steps {E = E} (λ _. Becomes (Meets command) (changed_by command)) old mid (Ok x) → Steps (λ _. Becomes (IsNewReceipt r) (with_receipt r)) mid new q

@@ -2,6 +2,7 @@
 use Rattle.std.specs.Prelude.{◌≡◌, ◌⊎◌, ℕ, zero, suc, ◌+◌, true, false, cond, List, [], ◌∷◌, map, Some, slice_get, slice_set, refl, bytes_eq, Result, Ok, Err, IsErr, IsTrue, OnErr, if◌then◌else◌}
 use Rattle.std.proofs.Common.{sym, ap, subst, ◌∙◌, inl, inr, arith}
 use Rattle.std.specs.List.{AllByRecursion, AllZip}
+use Rattle.std.proofs.lemmas.List.{map-id}
 use Rattle.std.proofs.lemmas.List.Elements.{All-set, All-from_recursion, recursion_from_All}
 use Rattle.std.proofs.lemmas.Option.{slice_get_within}
 use Rattle.sqlite.specs.Tree.{Trees}
@@ -9,11 +10,11 @@ use Rattle.sqlite.specs.Store.{Ghosts}
 use Rattle.sqlite.specs.Held.{Held, state}
 use Rattle.sqlite.specs.State.{HasCleanDisk, Survives}
 use Rattle.sqlite.proofs.StateLemmas.{clean_if_open}
+use Rattle.sqlite_trees.proofs.ListLemmas.{all-slice_get}
 use Rattle.sheet_types.specs.Custody.{ticket}
 use Rattle.sheet_types.specs.Ordered.{IsArranged, is_before}
 use Rattle.sheet_types.specs.World.{World, Package, package_key}
 use Rattle.sheet_types.specs.declared.command.Command.{Command}
-use Rattle.sheet_types.specs.declared.command.Command.TheVariants.{Add, Delete, Link, Unlink, Split, Merge}
 use Rattle.sheet_types.specs.declared.receipt.Receipt.{Receipt}
 use Rattle.sheet_types.specs.declared.receipt.Sums.{Sums}
 use Rattle.sheet_types.proofs.Basics.{bytes_eq_itself, bytes_eq_swap, before-differs}
@@ -25,10 +26,11 @@ use Rattle.sql_meaning.proofs.StoreLemmas.{at_set, one_turned, same_world}
 use Rattle.identity_register.specs.Reads.{Reads}
 use Rattle.world.specs.Carrying.{after_command}
 use Rattle.world.specs.Laws.{package_of}
-use Rattle.world.specs.Members.{AllRest, AllClean, AllOpen, AllStay, IsMember, AreMembers}
+use Rattle.world.specs.Members.{AllRest, AllClean, AllOpen, AllStay, StaysMember, IsMember, AreMembers}
 use Rattle.world.specs.Turning.{IsDue, CarriesOut, CarriesOutAt, turned, world_after, LeavesAsBefore, LeftAs}
 use Rattle.world.specs.declared.members.Member.{Member}
-use Rattle.world.proofs.Standing.{at_place, zip_at}
+use Rattle.world.proofs.Carrying.{same_rest}
+use Rattle.world.proofs.Standing.{zip_at, zip_both}
 
 -- ---- two lists, place by place
 
@@ -54,63 +56,59 @@ zip_so P R Q f (x ∷ xs) (y ∷ ys) all h = (f x y all.0 h.0, zip_so P R Q f xs
 
 -- ---- the change of the package of one UUID
 
-module _ (f : Package → Package) (id : List ℕ) where
-  -- the packages after it
-  abbrev after_all : List Package → List Package
-  after_all ps = map (λ x. cond (bytes_eq x.uuid id) (f x) x) ps
-
+module _ (id : List ℕ) where
   -- the packages behind it have others
   differ : (p : Package) (ps : List Package) → p.uuid ≡ id → AllByRecursion (λ y. is_before p.uuid y.uuid ≡ true) ps → AllByRecursion (λ y. bytes_eq y.uuid id ≡ false) ps
   differ p ps named h = All-weaker (λ y. is_before p.uuid y.uuid ≡ true) (λ y. bytes_eq y.uuid id ≡ false) (λ y before. bytes_eq_swap y.uuid id ∙ subst (λ u. bytes_eq u y.uuid ≡ false) named (before-differs p.uuid y.uuid before)) ps h
 
   -- and so have those before it
-  differs : (q p : Package) (ps : List Package) (at : ℕ) → AllByRecursion (λ y. is_before q.uuid y.uuid ≡ true) ps → slice_get ps at ≡ Some p → p.uuid ≡ id → bytes_eq q.uuid id ≡ false
-  differs q p ps at h place named = subst (λ u. bytes_eq q.uuid u ≡ false) named (before-differs q.uuid p.uuid (at_place (λ y. is_before q.uuid y.uuid ≡ true) ps at p place h))
+  pub differs : (q p : Package) (ps : List Package) (at : ℕ) → AllByRecursion (λ y. is_before q.uuid y.uuid ≡ true) ps → slice_get ps at ≡ Some p → p.uuid ≡ id → bytes_eq q.uuid id ≡ false
+  differs q p ps at h place named = subst (λ u. bytes_eq q.uuid u ≡ false) named (before-differs q.uuid p.uuid (all-slice_get (λ y. is_before q.uuid y.uuid ≡ true) ps at p place h))
 
-  same_uuid : (q p : Package) → q ≡ p → p.uuid ≡ id → bytes_eq q.uuid id ≡ true
+  pub same_uuid : (q p : Package) → q ≡ p → p.uuid ≡ id → bytes_eq q.uuid id ≡ true
   same_uuid q p same named = ap (λ x. bytes_eq x.uuid id) same ∙ ap (λ u. bytes_eq u id) named ∙ bytes_eq_itself id
 
-  none_changed : (ps : List Package) → AllByRecursion (λ y. bytes_eq y.uuid id ≡ false) ps → after_all ps ≡ ps
-  none_changed [] h = refl
-  none_changed (p ∷ ps) h = rw h.0 (ap (λ xs. p ∷ xs) (none_changed ps h.1))
+  -- something of each package, and something else of that one
+  module _ {X : Type 0} (g h : Package → X) where
+    abbrev told_apart : List Package → List X
+    told_apart ps = map (λ x. cond (bytes_eq x.uuid id) (g x) (h x)) ps
 
-  -- it is a change at the place of that package
-  pub changed_set : (ps : List Package) (at : ℕ) (p : Package) → IsArranged package_key ps → slice_get ps at ≡ Some p → p.uuid ≡ id → after_all ps ≡ slice_set ps at (f p)
-  changed_set [] at p h place named = absurd (let e = place in cc)
-  changed_set (q ∷ ps) zero p h place named =
-      let same : q ≡ p = cc in
-      rw (same_uuid q p same named, none_changed ps (differ q ps (ap (λ (x : Package). x.uuid) same ∙ named) h.0)) (ap (λ x. f x ∷ ps) same)
-  changed_set (q ∷ ps) (suc at) p h place named =
-      rw (differs q p ps at h.0 place named) (ap (λ xs. q ∷ xs) (changed_set ps at p h.1 place named))
+    none_apart : (ps : List Package) → AllByRecursion (λ y. bytes_eq y.uuid id ≡ false) ps → told_apart ps ≡ map h ps
+    none_apart [] others = refl
+    none_apart (p ∷ ps) others = rw others.0 (ap (λ xs. h p ∷ xs) (none_apart ps others.1))
 
-  module _ {A : Type 0} (R R' : A → Package → Type 0) (others : (y : A) (q : Package) → bytes_eq q.uuid id ≡ false → R y q → R' y q) where
-    zip_others : (xs : List A) (ps : List Package) → AllByRecursion (λ y. bytes_eq y.uuid id ≡ false) ps → AllZip R xs ps → AllZip R' xs ps
-    zip_others [] [] h zip = tt
-    zip_others [] (p ∷ ps) h zip = absurd zip
-    zip_others (x ∷ xs) [] h zip = absurd zip
-    zip_others (x ∷ xs) (p ∷ ps) h zip = (others x p h.0 zip.0, zip_others xs ps h.1 zip.1)
-
-    -- what goes with the packages, one of each list changed
-    pub zip_changed : (xs : List A) (ps : List Package) (at : ℕ) (was now : A) (p : Package) → (R was p → R' now (f p)) → IsArranged package_key ps → slice_get xs at ≡ Some was → slice_get ps at ≡ Some p → p.uuid ≡ id
-        → AllZip R xs ps → AllZip R' (slice_set xs at now) (slice_set ps at (f p))
-    zip_changed [] ps at was now p here h place at_p named zip = absurd (let e = place in cc)
-    zip_changed (x ∷ xs) [] at was now p here h place at_p named zip = absurd zip
-    zip_changed (x ∷ xs) (q ∷ ps) zero was now p here h place at_p named zip =
-        let same_x : x ≡ was = cc in
+    -- it is the first of each, set at the place of that package
+    pub apart_set : (ps : List Package) (at : ℕ) (p : Package) → IsArranged package_key ps → slice_get ps at ≡ Some p → p.uuid ≡ id → told_apart ps ≡ slice_set (map h ps) at (g p)
+    apart_set [] at p arranged place named = absurd (let e = place in cc)
+    apart_set (q ∷ ps) zero p arranged place named =
         let same : q ≡ p = cc in
-        (here (subst (λ y. R was y) same (subst (λ y. R y q) same_x zip.0)), zip_others xs ps (differ q ps (ap (λ (x : Package). x.uuid) same ∙ named) h.0) zip.1)
-    zip_changed (x ∷ xs) (q ∷ ps) (suc at) was now p here h place at_p named zip =
-        (others x q (differs q p ps at h.0 at_p named) zip.0, zip_changed xs ps at was now p here h.1 place at_p named zip.1)
+        rw (same_uuid q p same named, none_apart ps (differ q ps (ap (λ (x : Package). x.uuid) same ∙ named) arranged.0)) (ap (λ x. g x ∷ map h ps) same)
+    apart_set (q ∷ ps) (suc at) p arranged place named =
+        rw (differs q p ps at arranged.0 place named) (ap (λ xs. h q ∷ xs) (apart_set ps at p arranged.1 place named))
 
--- ---- a command leaves the head of its package
+  module _ (f : Package → Package) where
+    -- a change of that package is one at its place
+    pub changed_set : (ps : List Package) (at : ℕ) (p : Package) → IsArranged package_key ps → slice_get ps at ≡ Some p → p.uuid ≡ id → map (λ x. cond (bytes_eq x.uuid id) (f x) x) ps ≡ slice_set ps at (f p)
+    changed_set ps at p arranged place named = apart_set f (λ x. x) ps at p arranged place named ∙ ap (λ xs. slice_set xs at (f p)) (map-id ps)
 
-same_head : (r : Receipt) (command : Command) (p : Package) → after_command r command p ≡ record p { items = (after_command r command p).items; links = (after_command r command p).links; receipts = (after_command r command p).receipts }
-same_head r (Add uuid identity content) p = refl
-same_head r (Delete uuid identity) p = refl
-same_head r (Link uuid mapping base media) p = refl
-same_head r (Unlink uuid mapping base media) p = refl
-same_head r (Split uuid child mode rect) p = refl
-same_head r (Merge child into ticket) p = refl
+    module _ {A : Type 0} (R R' : A → Package → Type 0) (others : (y : A) (q : Package) → bytes_eq q.uuid id ≡ false → R y q → R' y q) where
+      zip_others : (xs : List A) (ps : List Package) → AllByRecursion (λ y. bytes_eq y.uuid id ≡ false) ps → AllZip R xs ps → AllZip R' xs ps
+      zip_others [] [] h zip = tt
+      zip_others [] (p ∷ ps) h zip = absurd zip
+      zip_others (x ∷ xs) [] h zip = absurd zip
+      zip_others (x ∷ xs) (p ∷ ps) h zip = (others x p h.0 zip.0, zip_others xs ps h.1 zip.1)
+
+      -- what goes with the packages, one of each list changed
+      pub zip_changed : (xs : List A) (ps : List Package) (at : ℕ) (was now : A) (p : Package) → (R was p → R' now (f p)) → IsArranged package_key ps → slice_get xs at ≡ Some was → slice_get ps at ≡ Some p → p.uuid ≡ id
+          → AllZip R xs ps → AllZip R' (slice_set xs at now) (slice_set ps at (f p))
+      zip_changed [] ps at was now p here h place at_p named zip = absurd (let e = place in cc)
+      zip_changed (x ∷ xs) [] at was now p here h place at_p named zip = absurd zip
+      zip_changed (x ∷ xs) (q ∷ ps) zero was now p here h place at_p named zip =
+          let same_x : x ≡ was = cc in
+          let same : q ≡ p = cc in
+          (here (subst (λ y. R was y) same (subst (λ y. R y q) same_x zip.0)), zip_others xs ps (differ q ps (ap (λ (x : Package). x.uuid) same ∙ named) h.0) zip.1)
+      zip_changed (x ∷ xs) (q ∷ ps) (suc at) was now p here h place at_p named zip =
+          (others x q (differs q p ps at h.0 at_p named) zip.0, zip_changed xs ps at was now p here h.1 place at_p named zip.1)
 
 -- ---- the members
 
@@ -138,8 +136,8 @@ module _ {S : Type 0} (g : Ghosts S) (shuts : Shuts g) where
   pub done_members : {E : Type 0} (r : Receipt) (command : Command) (sums : Sums) (old new : List (Member S)) (at : ℕ) → CarriesOutAt g {E = E} r command sums old new at (Ok tt) → (w : World) (count : ℕ) → AreMembers g old count w → IsDue w at r command sums
       → AreMembers g new (count + 1) (world_after r command w)
   done_members {E} r command sums old new at it w count are due = record {
-    each = subst (λ xs. AllZip (IsMember g next) xs next.packages) (sym it.others) (subst (λ ps. AllZip (IsMember g next) (slice_set old at now) ps) (sym (changed_set f id w.packages at due.holds are.register.arranged due.place due.named))
-        (zip_changed f id (IsMember g w) (IsMember g next) others old w.packages at it.was now due.holds here are.register.arranged it.place due.place due.named are.each));
+    each = subst (λ xs. AllZip (IsMember g next) xs next.packages) (sym it.others) (subst (λ ps. AllZip (IsMember g next) (slice_set old at now) ps) (sym (changed_set id f w.packages at due.holds are.register.arranged due.place due.named))
+        (zip_changed id f (IsMember g w) (IsMember g next) others old w.packages at it.was now due.holds here are.register.arranged it.place due.place due.named are.each));
     counted = ap (λ n. n + 1) are.counted ∙ sym due.counted;
     register = due.register;
   }
@@ -169,12 +167,12 @@ module _ {S : Type 0} (g : Ghosts S) (shuts : Shuts g) where
 
       here : IsMember g w it.was due.holds → IsMember g next now (f due.holds)
       here is = record {
-        uuid = is.uuid ∙ sym (ap (λ x. x.uuid) (same_head r command due.holds));
-        parent = is.parent ∙ sym (ap (λ x. x.parent) (same_head r command due.holds));
-        depth = is.depth ∙ sym (ap (λ x. x.depth) (same_head r command due.holds));
-        loan = is.loan ∙ sym (ap (λ x. x.loan) (same_head r command due.holds));
+        uuid = is.uuid ∙ sym (ap (λ x. x.uuid) (same_rest command due.holds));
+        parent = is.parent ∙ sym (ap (λ x. x.parent) (same_rest command due.holds));
+        depth = is.depth ∙ sym (ap (λ x. x.depth) (same_rest command due.holds));
+        loan = is.loan ∙ sym (ap (λ x. x.loan) (same_rest command due.holds));
         sums = due.sums;
-        ticket = sym (ap (ticket next) (ap (λ x. x.uuid) (same_head r command due.holds)) ∙ due.tickets due.holds.uuid ∙ ap (λ b. if b then r.seq else ticket w due.holds.uuid) (ap (λ u. bytes_eq u id) due.named ∙ bytes_eq_itself id));
+        ticket = sym (ap (ticket next) (ap (λ x. x.uuid) (same_rest command due.holds)) ∙ due.tickets due.holds.uuid ∙ ap (λ b. if b then r.seq else ticket w due.holds.uuid) (ap (λ u. bytes_eq u id) due.named ∙ bytes_eq_itself id));
         reads = λ is_open. (it.turn.turns.done (clean_if_open (g.view it.last.store) (shuts it.last.store) is_open)).0 w.frame due.holds (is.reads (it.turn.was_open is_open)) due.fits;
       }
 
@@ -222,16 +220,11 @@ module _ {S : Type 0} (g : Ghosts S) (shuts : Shuts g) (settles : Settles g) whe
 
   -- members that were only read leave no more than they left
   pub stay_leaves : (old new : List (Member S)) → AllRest g old → AllStay g old new → LeavesAsBefore g old new
-  stay_leaves old new rests stay clean w count are open' = zip_left old new w.packages (recursion_from_All (λ (m : Member S). HasCleanDisk (state g m.conn)) new clean) stay (each_leaves old count w rests open' are)
-    where
-      zip_left : (xs ys : List (Member S)) (ps : List Package) → AllByRecursion (λ (m : Member S). HasCleanDisk (state g m.conn)) ys → AllStay g xs ys → EachLeaves g (λ m. m.conn) (LeftAs w.frame) xs ps → EachLeaves g (λ m. m.conn) (LeftAs w.frame) ys ps
-      zip_left [] [] [] disks one each = tt
-      zip_left [] [] (p ∷ ps) disks one each = absurd each
-      zip_left [] (y ∷ ys) ps disks one each = absurd one
-      zip_left (x ∷ xs) [] ps disks one each = absurd one
-      zip_left (x ∷ xs) (y ∷ ys) [] disks one each = absurd each
-      zip_left (x ∷ xs) (y ∷ ys) (p ∷ ps) disks one each =
-          (λ trees may. elim (one.0.stays.survives.crash disks.0 trees may) [ inl before ↦ each.0 trees before | inr none ↦ absurd none ], zip_left xs ys ps disks.1 one.1 each.1)
+  stay_leaves old new rests stay clean w count are open' =
+      let Clean : Member S → Type 0 = λ m. HasCleanDisk (state g m.conn) in
+      let Left : Member S → Package → Type 0 = λ m p. (trees : Trees) → (state g m.conn).may_leave trees → LeftAs w.frame trees p in
+      zip_so Clean (λ m p. Clean m → Left m p) Left (λ m p disk left. left disk) new w.packages (recursion_from_All Clean new clean)
+      (zip_both (StaysMember g) Left (λ m p. Clean m → Left m p) (λ m n p stays left disk trees may. elim (stays.stays.survives.crash disk trees may) [ inl before ↦ left trees before | inr none ↦ absurd none ]) old new w.packages stay (each_leaves old count w rests open' are))
 
   -- what a crash leaves of them reads as the world that they stand for
   pub read_leaves : (old new : List (Member S)) (count : ℕ) (w : World) (after : List Package) → AllRest g old → AllStay g old new → AreMembers g old count w → AllOpen g old → LeavesEither g (λ m. m.conn) (LeftAs w.frame) new w.packages after
@@ -258,7 +251,7 @@ module _ {S : Type 0} (g : Ghosts S) (shuts : Shuts g) (settles : Settles g) whe
   crash_members {E} r command sums old new at reply it rests w count are due open' clean dbs may =
       elim (one_turned g (λ m. m.conn) (LeftAs w.frame) old at it.was now w.packages (f due.holds) dbs it.place (each_leaves old count w rests open' are) turn (subst (λ ms. MayLeave g (λ m. m.conn) ms dbs) it.others may)) [
         | inl before ↦ inl before
-        | inr after ↦ inr (subst (AllZip (LeftAs w.frame) dbs) (sym (changed_set f (package_of command) w.packages at due.holds are.register.arranged due.place due.named)) after)
+        | inr after ↦ inr (subst (AllZip (LeftAs w.frame) dbs) (sym (changed_set (package_of command) f w.packages at due.holds are.register.arranged due.place due.named)) after)
       ]
     where
       f : Package → Package
@@ -279,7 +272,7 @@ module _ {S : Type 0} (g : Ghosts S) (shuts : Shuts g) (settles : Settles g) whe
           subst (IsMember g w it.was) same there.2
 
       was_open : IsTrue (state g it.was.conn).is_open
-      was_open = at_place (λ m. IsTrue (state g m.conn).is_open) old at it.was it.place (recursion_from_All (λ m. IsTrue (state g m.conn).is_open) old open')
+      was_open = all-slice_get (λ m. IsTrue (state g m.conn).is_open) old at it.was it.place (recursion_from_All (λ m. IsTrue (state g m.conn).is_open) old open')
 
       turn : (trees : Trees) → (state g now.conn).may_leave trees → (state g it.was.conn).may_leave trees ⊎ LeftAs w.frame trees (f due.holds)
       turn trees left = elim (it.turn.turns.survives.crash clean_last trees (subst (λ h. (state g h).may_leave trees) (same_conn r sums it.was it.last reply) left)) [

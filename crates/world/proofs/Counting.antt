@@ -174,13 +174,19 @@ sums_after_command w q register live fits = counted w q.id q.at register q.comma
 is_short : (low high : ℕ) (xs : List ℕ) → is_length_within low high xs ≡ true → length xs ≤ high
 is_short low high xs h = leb-true (length xs) high (and_parts (nat_le low (length xs)) (nat_le (length xs) high) h).1
 
--- an item of a good size has no more than the greatest, and is of one kind
-bytes_of_one : (id : List ℕ) (content : Content) → has_good_size content ≡ true → size content ≤ 1048576 * ((sums_of_item (added_item id content)).tiles + (sums_of_item (added_item id content)).media + (sums_of_item (added_item id content)).rows)
-bytes_of_one id (Tile zoom column row bytes) good = is_short 1 1048576 bytes good
-bytes_of_one id (Media content_type bytes) good = is_short 1 1048576 bytes (and_parts (is_length_within 1 1048576 bytes) (is_length_within 1 100 content_type) good).0
-bytes_of_one id (Row x y code label) good =
+-- an item of a good size is no greater than the greatest
+pub size_within : (content : Content) → has_good_size content ≡ true → size content ≤ 1048576
+size_within (Tile zoom column row bytes) good = is_short 1 1048576 bytes good
+size_within (Media content_type bytes) good = is_short 1 1048576 bytes (and_parts (is_length_within 1 1048576 bytes) (is_length_within 1 100 content_type) good).0
+size_within (Row x y code label) good =
     let few : length label ≤ 200 = is_short 0 200 label (and_parts (is_length_within 0 200 label) (is_within (pos 0) (pos 999999) code) good).0 in
     omega (arith, few)
+
+-- and is of one kind
+bytes_of_one : (id : List ℕ) (content : Content) → has_good_size content ≡ true → size content ≤ 1048576 * ((sums_of_item (added_item id content)).tiles + (sums_of_item (added_item id content)).media + (sums_of_item (added_item id content)).rows)
+bytes_of_one id (Tile zoom column row bytes) good = size_within (Tile zoom column row bytes) good
+bytes_of_one id (Media content_type bytes) good = size_within (Media content_type bytes) good
+bytes_of_one id (Row x y code label) good = size_within (Row x y code label) good
 
 bytes_of_all : (items : List Item) → AllByRecursion (λ i. has_good_size i.content ≡ true) items → sum_by (λ i. size i.content) items ≤ 1048576 * (count_by is_tile items + count_by is_medium items + count_by is_row items)
 bytes_of_all [] h = omega arith

@@ -1,20 +1,18 @@
 -- What a request comes to, by what the members and the request tell.
-use Rattle.std.proofs.Common.{◌≡◌, refl, sym, ap, subst, ◌∙◌, ℕ, zero, suc, ◌+◌, List, [], ◌∷◌, Bool, true, false, cond, length, get_or, slice_get, Option, Some, None, Ok, Err, bytes_eq}
-use Rattle.std.specs.Prelude.{find, unwrap_or}
+use Rattle.std.proofs.Common.{◌≡◌, refl, sym, ap, subst, ◌∙◌, ℕ, ◌+◌, List, [], ◌∷◌, Bool, true, false, cond, length, get_or, slice_get, Option, Some, None, Ok, Err, bytes_eq}
+use Rattle.std.specs.Prelude.{unwrap_or}
 use Rattle.std.specs.Bool.{then_some}
 use Rattle.std.specs.Option.{option_or}
-use Rattle.std.proofs.lemmas.Option.{slice_get_within}
 use Rattle.sqlite.specs.Store.{Ghosts}
 use Rattle.sheet_types.specs.Answers.{sums_held}
 use Rattle.sheet_types.specs.Custody.{kept}
 use Rattle.sheet_types.specs.Lines.{IsUuid, HasTypes}
 use Rattle.sheet_types.specs.Matrix.{first_row}
-use Rattle.sheet_types.specs.Ordered.{is_before, IsArranged}
 use Rattle.sheet_types.specs.Refuse.{refusal, identity_used, too_many}
 use Rattle.sheet_types.specs.Register.{IsRegister}
 use Rattle.sheet_types.specs.Step.{accepted, outcome, receipt_of, receipt_over, moved}
 use Rattle.sheet_types.specs.Texts.{line}
-use Rattle.sheet_types.specs.World.{World, Package, package_key, is_live, holdings, no_package, receipts_of}
+use Rattle.sheet_types.specs.World.{World, is_live, holdings, no_package, receipts_of}
 use Rattle.sheet_types.specs.declared.command.Command.{Command}
 use Rattle.sheet_types.specs.declared.command.Command.TheVariants.{Add, Delete, Link, Unlink, Split, Merge}
 use Rattle.sheet_types.specs.declared.command.Request.{Request}
@@ -24,10 +22,9 @@ use Rattle.sheet_types.specs.declared.receipt.Receipt.{Receipt}
 use Rattle.sheet_types.specs.declared.receipt.Sums.{Sums}
 use Rattle.sheet_types.specs.declared.refusal.Refusal.{Refusal}
 use Rattle.sheet_types.specs.declared.refusal.Refusal.TheVariants.{IdReused, UnknownPackage, IdentityUsed, TooMany}
-use Rattle.sheet_types.proofs.Basics.{None≢Some, bytes_eq_itself, before-differs}
+use Rattle.sheet_types.proofs.Basics.{None≢Some}
 use Rattle.sheet_types.proofs.Every.{All-each}
 use Rattle.ledger_laws.proofs.Packages.{at_all}
-use Rattle.sqlite_trees.proofs.ListLemmas.{all-slice_get}
 use Rattle.world.specs.Asking.{StandsAt}
 use Rattle.world.specs.Carrying.{Fits}
 use Rattle.world.specs.Deciding.{IsAskedOf, IsPlaced, refusal_before, Decides}
@@ -44,7 +41,8 @@ use Rattle.world.specs.declared.members.Member.{Member}
 use Rattle.world.proofs.Due.{due_where_accepted}
 use Rattle.world.proofs.Fitting.{fits_where_accepted, refused_in_turn, refused_as_unknown}
 use Rattle.world.proofs.Outcomes.{kept_outcome, reused_outcome, refused_outcome, accepted_outcome}
-use Rattle.world.proofs.Overfull.{any_at_place, member_holds, members_tell_too_many, members_tell_uncounted}
+use Rattle.world.proofs.Overfull.{member_holds, members_tell_too_many, members_tell_uncounted}
+use Rattle.world.proofs.Placed.{stands_named}
 use Rattle.world.proofs.Standing.{zip_at}
 
 -- ---- a request that came before
@@ -150,40 +148,14 @@ fits_there f count at q w register uuid types placed before = fits_where_accepte
 
 -- ---- its place
 
--- The packages have different UUIDs, so the one of this UUID is the one that is found.
-found_there : (uuid : List ℕ) (ps : List Package) (at : ℕ) (x : Package) → IsArranged package_key ps → slice_get ps at ≡ Some x → x.uuid ≡ uuid → find (λ p. bytes_eq p.uuid uuid) ps ≡ Some x
-found_there uuid [] at x arranged place named = absurd (None≢Some place)
-found_there uuid (y ∷ ps) zero x arranged place named =
-    let same : y ≡ x = cc in
-    let own : bytes_eq y.uuid uuid ≡ true = ap (λ u. bytes_eq u uuid) (ap (λ z. z.uuid) same ∙ named) ∙ bytes_eq_itself uuid in
-    ap (λ b. cond b (Some y) (find (λ p. bytes_eq p.uuid uuid) ps)) own ∙ ap Some same
-found_there uuid (y ∷ ps) (suc at) x arranged place named =
-    let before : is_before y.uuid x.uuid ≡ true = all-slice_get (λ z. is_before y.uuid z.uuid ≡ true) ps at x place arranged.0 in
-    let differs : bytes_eq y.uuid uuid ≡ false = subst (λ u. bytes_eq y.uuid u ≡ false) named (before-differs y.uuid x.uuid before) in
-    ap (λ b. cond b (Some y) (find (λ p. bytes_eq p.uuid uuid) ps)) differs ∙ found_there uuid ps at x arranged.1 place named
-
 module _ {S : Type 0} (g : Ghosts S) where
-  -- a member of this UUID is where its package stands
-  stands_named : (members : List (Member S)) (uuid : List ℕ) (at : ℕ) (m : Member S) → slice_get members at ≡ Some m → m.uuid ≡ uuid → StandsAt g members uuid at
-  stands_named members uuid at m place named = record {
-    within = slice_get_within members at m place;
-    member = m;
-    place = place;
-    named = named;
-    live = λ w count are. let here = there w count are in any_at_place (λ p. bytes_eq p.uuid uuid) w.packages at here.0 here.1 (ap (λ u. bytes_eq u uuid) here.2 ∙ bytes_eq_itself uuid);
-    holds = λ w count are. let here = there w count are in here.1 ∙ ap (λ o. Some (unwrap_or o no_package)) (sym (found_there uuid w.packages at here.0 are.register.arranged here.1 here.2));
-  }
-    where
-      there : (w : World) (count : ℕ) → AreMembers g members count w → (p : Package) × (slice_get w.packages at ≡ Some p) × (p.uuid ≡ uuid)
-      there w count are = let here = zip_at (IsMember g w) members w.packages at m are.each place in (here.0, here.1, sym here.2.uuid ∙ named)
-
   -- the member at the place of a request's package is of that UUID
   stands_placed : (f : Frame) (members : List (Member S)) (count at : ℕ) (q : Request) (w : World) (was : Member S) → AreMembers g members count w → IsPlaced f count at q w → slice_get members at ≡ Some was → StandsAt g members (package_of q.command) at
   stands_placed f members count at q w was are placed place =
       let here = zip_at (IsMember g w) members w.packages at was are.each place in
       let same : here.0 ≡ holdings w (package_of q.command) = ap (λ o. unwrap_or o no_package) (sym here.1 ∙ placed.place) in
       let named : (holdings w (package_of q.command)).uuid ≡ package_of q.command = (at_all w (λ _. Unit {0}) (package_of q.command) (All-each (λ _. Unit {0}) (λ _. tt) w.packages) placed.live).1 in
-      stands_named members (package_of q.command) at was place (here.2.uuid ∙ ap (λ x. x.uuid) same ∙ named)
+      stands_named g members (package_of q.command) at was place (here.2.uuid ∙ ap (λ x. x.uuid) same ∙ named)
 
   module _ (members : List (Member S)) (count at : ℕ) (q : Request) (w : World) (was : Member S) (are : AreMembers g members count w) (placed : IsPlaced w.frame count at q w) (place : slice_get members at ≡ Some was) (uuid : IsUuid q.id) (types : HasTypes q.command) (before : refusal_before w q ≡ None) where
     stands : StandsAt g members (package_of q.command) at

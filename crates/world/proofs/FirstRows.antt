@@ -12,12 +12,11 @@ use Rattle.sheet_types.specs.World.{Package, item_of, has_item, has_kind, base_k
 use Rattle.sheet_types.specs.declared.command.Relation.{Relation}
 use Rattle.sheet_types.specs.declared.frame.Frame.{Frame}
 use Rattle.sheet_types.specs.declared.receipt.MovedKind.{MovedKind}
-use Rattle.sheet_types.specs.declared.refusal.Refusal.{Refusal}
 use Rattle.sheet_types.specs.declared.refusal.Refusal.TheVariants.{UnknownItem, WrongKind, BadPlace, OutOfFrame, PlaceTaken, LinkThere, Linked}
 use Rattle.identity_register.specs.Answers.{link_state}
 use Rattle.identity_register.specs.declared.look_ups.LinkState.{LinkState}
 use Rattle.identity_register.specs.declared.look_ups.LinkState.TheVariants.{UnknownEnd, WrongKinds, Absent, There}
-use Rattle.world.specs.Reasons.{tile_reasons, delete_reasons, link_reasons}
+use Rattle.world.specs.Reasons.{tile_reasons, delete_reasons, link_reasons, reason_told}
 
 -- ---- rows
 
@@ -90,13 +89,6 @@ an_item f p id found linked is some told =
     ∙ sym (passes (not (has_item p id)) UnknownItem (drop 1 (delete_reasons p id)) (ap not (item_known p id found is ∙ some)))
 
 -- ---- a link that comes
-
--- the reason that a state of the link tells
-abbrev pub reason_told : LinkState → Option Refusal
-reason_told UnknownEnd = Some UnknownItem
-reason_told WrongKinds = Some WrongKind
-reason_told Absent = None
-reason_told There = Some LinkThere
 
 pub reason_is : (p : Package) (l : Relation) → reason_told (link_state p l) ≡ first_row (link_reasons p l)
 reason_is p l = each (has_item p l.base && has_item p l.media) (has_kind p (base_kind l.mapping) l.base && has_kind p (other_kind l.mapping) l.media) (has link_key (link_key l) p.links)

@@ -20,23 +20,14 @@ use Rattle.sheet_types.specs.declared.receipt.Sums.{Sums}
 use Rattle.sheet_types.proofs.Basics.{or-false, bytes_eq_swap}
 use Rattle.sheet_types.proofs.Every.{All-weaker}
 use Rattle.ledger_laws.proofs.Packages.{at_uuid, each_found, receipts_gained, with_receipt_gains}
-use Rattle.world.specs.Carrying.{Meets, Fits, changed_by, after_command}
+use Rattle.world.specs.Carrying.{Meets, Fits, after_command}
 use Rattle.world.specs.Laws.{IsServed, package_of}
 use Rattle.world.specs.Steps.{TooManyBySums, TicketAfter, sums_moved, sums_after, sums_next, is_past_limits}
-use Rattle.world.proofs.Carrying.{carried_out_in_one}
+use Rattle.world.proofs.Carrying.{carried_out_in_one, same_rest}
 use Rattle.world.proofs.Counting.{sums_after_command}
 use Rattle.ledger_laws.proofs.Shifting.{numbers_below}
 
 -- ---- the receipts
-
--- no change leaves another list of receipts
-same_receipts : (command : Command) (x : Package) → (changed_by command x).receipts ≡ x.receipts
-same_receipts (Add uuid identity content) x = refl
-same_receipts (Delete uuid identity) x = refl
-same_receipts (Link uuid mapping base media) x = refl
-same_receipts (Unlink uuid mapping base media) x = refl
-same_receipts (Split uuid child mode rect) x = refl
-same_receipts (Merge child into ticket) x = refl
 
 -- the receipt of a served command is the last
 pub receipts_next : (w : World) (q : Request) → IsRegister w → IsServed q.command → is_live w (package_of q.command) ≡ true → receipts_of (accepted w q) ≡ receipts_of w ++ receipt_of w q ∷ []
@@ -44,7 +35,7 @@ receipts_next w q register served live =
     let r : Receipt = receipt_of w q in
     ap receipts_of (carried_out_in_one w (receipt_of w q) q.command served)
     ∙ receipts_gained (after_command (receipt_of w q) q.command) w (package_of q.command) (receipt_of w q)
-    (λ x below. ap (put receipt_key (receipt_of w q)) (same_receipts q.command x) ∙ with_receipt_gains (receipt_of w q) x below)
+    (λ x below. ap (λ (y : Package). put receipt_key (receipt_of w q) y.receipts) (same_rest q.command x) ∙ with_receipt_gains (receipt_of w q) x below)
     (numbers_below w (length (receipts_of w) + 1) register.balanced.ledger refl) register.arranged live
 
 -- ---- the limits

@@ -1,28 +1,25 @@
 -- What the sums of the members tell of the world that a request would leave.
 use Rattle.std.proofs.Common.{◌≡◌, ◌<◌, ◌≤◌, refl, sym, ap, subst, ◌∙◌, ℕ, zero, suc, ◌+◌, ◌*◌, List, [], ◌∷◌, Bool, true, false, cond, ◌||◌, map, length, slice_get, slice_set, Some, None, bytes_eq, arith}
-use Rattle.std.specs.Prelude.{find, not, nat_lt, nat_le, pos, unwrap_or}
-use Rattle.std.specs.List.{AllByRecursion, AllZip, list_any}
-use Rattle.std.proofs.lemmas.Bool.{or_parts, and_parts, lt-ltb, le-ltb, ltb-false, leb-true, leb-false}
+use Rattle.std.specs.Prelude.{find, not, nat_lt, nat_le, unwrap_or}
+use Rattle.std.specs.List.{list_any}
+use Rattle.std.proofs.lemmas.Bool.{or_parts, lt-ltb, le-ltb, ltb-false, leb-true, leb-false}
+use Rattle.std.proofs.lemmas.Slice.Zip.{AllZip-long}
 use Rattle.sqlite.specs.Store.{Ghosts}
-use Rattle.sqlite_trees.proofs.ListLemmas.{all-slice_get}
 use Rattle.sheet_types.specs.Answers.{sums_held}
-use Rattle.sheet_types.specs.Matrix.{first_row, is_within}
-use Rattle.sheet_types.specs.Ordered.{is_before, IsArranged}
-use Rattle.sheet_types.specs.Refuse.{too_many, greatest_items, greatest_links, greatest_packages, greatest_receipts, bad_text, has_good_size, is_length_within}
+use Rattle.sheet_types.specs.Matrix.{first_row}
+use Rattle.sheet_types.specs.Refuse.{too_many, greatest_items, greatest_links, greatest_packages, greatest_receipts, bad_text, has_good_size}
 use Rattle.sheet_types.specs.Register.{IsRegister}
 use Rattle.sheet_types.specs.Step.{accepted, receipt_of}
 use Rattle.sheet_types.specs.Texts.{size, is_moment}
-use Rattle.sheet_types.specs.World.{World, Package, package_key, is_live, holdings, no_package, receipts_of}
+use Rattle.sheet_types.specs.World.{World, Package, is_live, holdings, no_package, receipts_of}
 use Rattle.sheet_types.specs.declared.command.Command.{Command}
 use Rattle.sheet_types.specs.declared.command.Command.TheVariants.{Add, Delete, Link, Unlink, Split, Merge}
-use Rattle.sheet_types.specs.declared.command.Content.{Content}
-use Rattle.sheet_types.specs.declared.command.Content.TheVariants.{Tile, Media, Row}
 use Rattle.sheet_types.specs.declared.command.Request.{Request}
 use Rattle.sheet_types.specs.declared.receipt.Sums.{Sums}
 use Rattle.sheet_types.specs.declared.refusal.Refusal.TheVariants.{BadText, TooLarge}
-use Rattle.sheet_types.proofs.Basics.{None≢Some, or-true, not_false, bytes_eq_itself, bytes_eq_swap, before-differs}
-use Rattle.sheet_types.proofs.Every.{All-weaker}
-use Rattle.sheet_types.proofs.Found.{found}
+use Rattle.sheet_types.proofs.Basics.{None≢Some, not_false}
+use Rattle.sheet_types.proofs.Found.{found, All-found}
+use Rattle.sheet_types.proofs.Same.{In, In-all, In-map, any_in}
 use Rattle.ledger_laws.proofs.Packages.{at_uuid}
 use Rattle.world.specs.Asking.{StandsAt}
 use Rattle.world.specs.Carrying.{Fits}
@@ -33,9 +30,10 @@ use Rattle.world.specs.Steps.{is_past_limits, sums_moved, sums_more, sums_after,
 use Rattle.world.specs.Sums.{IsCounted, CanCount}
 use Rattle.world.specs.TooMany.{TooManyUncounted, MemberHolds, MembersHoldNext, MembersTellTooMany, MembersTellUncounted}
 use Rattle.world.specs.declared.members.Member.{Member}
-use Rattle.world.proofs.Counting.{sums_after_command, bytes_within}
+use Rattle.world.proofs.Changing.{apart_set}
+use Rattle.world.proofs.Counting.{sums_after_command, bytes_within, size_within}
 use Rattle.world.proofs.Limits.{too_many_by_sums}
-use Rattle.world.proofs.Standing.{zip_at, zip_length}
+use Rattle.world.proofs.Standing.{zip_at, zip_map}
 
 -- ---- one place of a list
 
@@ -53,12 +51,6 @@ get_set_other (y ∷ xs) zero (suc j) x differs = refl
 get_set_other (y ∷ xs) (suc i) zero x differs = refl
 get_set_other (y ∷ xs) (suc i) (suc j) x differs = get_set_other xs i j x (λ e. differs (ap suc e))
 
--- where the element at a place passes, one does
-pub any_at_place : {X : Type 0} (p : X → Bool) (xs : List X) (i : ℕ) (x : X) → slice_get xs i ≡ Some x → p x ≡ true → list_any p xs ≡ true
-any_at_place p [] i x place passes = absurd (None≢Some place)
-any_at_place p (y ∷ xs) zero x place passes = let same : y ≡ x = cc in ap (λ z. p z || list_any p xs) same ∙ ap (λ b. b || list_any p xs) passes
-any_at_place p (y ∷ xs) (suc i) x place passes = ap (λ b. p y || b) (any_at_place p xs i x place passes) ∙ or-true (p y)
-
 -- a number and one more is past a bound that the number has reached
 pub one_more_is_over : (bound n : ℕ) → nat_lt bound (n + 1) ≡ nat_le bound n
 one_more_is_over bound n =
@@ -73,47 +65,13 @@ module _ (p : List ℕ) (f : Sums → Sums) where
   abbrev next : Package → Sums
   next y = cond (bytes_eq y.uuid p) (f (sums_held y)) (sums_held y)
 
-  -- packages of other UUIDs hold what they held
-  others_hold : (ps : List Package) → AllByRecursion (λ y. bytes_eq y.uuid p ≡ false) ps → map sums_held ps ≡ map next ps
-  others_hold [] others = refl
-  others_hold (y ∷ ps) others = ap (λ b. cond b (f (sums_held y)) (sums_held y) ∷ map sums_held ps) (sym others.0) ∙ ap (λ ss. next y ∷ ss) (others_hold ps others.1)
-
-  -- and the one of this UUID stands at one place
-  one_holds : (ps : List Package) (at : ℕ) (x : Package) → IsArranged package_key ps → slice_get ps at ≡ Some x → x.uuid ≡ p → slice_set (map sums_held ps) at (f (sums_held x)) ≡ map next ps
-  one_holds [] at x arranged place named = absurd (None≢Some place)
-  one_holds (y ∷ ps) zero x arranged place named =
-      let same : y ≡ x = cc in
-      let own : bytes_eq y.uuid p ≡ true = ap (λ u. bytes_eq u p) (ap (λ z. z.uuid) same ∙ named) ∙ bytes_eq_itself p in
-      let others : AllByRecursion (λ z. bytes_eq z.uuid p ≡ false) ps = All-weaker (λ z. is_before y.uuid z.uuid ≡ true) (λ z. bytes_eq z.uuid p ≡ false)
-      (λ z before. bytes_eq_swap z.uuid p ∙ subst (λ u. bytes_eq u z.uuid ≡ false) (ap (λ v. v.uuid) same ∙ named) (before-differs y.uuid z.uuid before)) ps arranged.0 in
-      ap (λ v. f (sums_held v) ∷ map sums_held ps) (sym same)
-      ∙ ap (λ b. cond b (f (sums_held y)) (sums_held y) ∷ map sums_held ps) (sym own)
-      ∙ ap (λ ss. next y ∷ ss) (others_hold ps others)
-  one_holds (y ∷ ps) (suc at) x arranged place named =
-      let before : is_before y.uuid x.uuid ≡ true = all-slice_get (λ z. is_before y.uuid z.uuid ≡ true) ps at x place arranged.0 in
-      let differs : bytes_eq y.uuid p ≡ false = subst (λ u. bytes_eq y.uuid u ≡ false) named (before-differs y.uuid x.uuid before) in
-      ap (λ b. cond b (f (sums_held y)) (sums_held y) ∷ slice_set (map sums_held ps) at (f (sums_held x))) (sym differs)
-      ∙ ap (λ ss. next y ∷ ss) (one_holds ps at x arranged.1 place named)
-
   -- where it passes a test, one does
   one_passes : (test : Sums → Bool) (ps : List Package) (x : Package) → find (at_uuid p) ps ≡ Some x → test (f (sums_held x)) ≡ true → list_any test (map next ps) ≡ true
-  one_passes test [] x is passes = absurd (None≢Some is)
-  one_passes test (y ∷ ps) x is passes =
-      elim (bytes_eq y.uuid p) as (λ v. cond v (Some y) (find (at_uuid p) ps) ≡ Some x → (test (cond v (f (sums_held y)) (sums_held y)) || list_any test (map next ps)) ≡ true) [
-        | true ↦ λ e. let same : y ≡ x = ap (λ o. unwrap_or o y) e in ap (λ z. test (f (sums_held z)) || list_any test (map next ps)) same ∙ ap (λ b. b || list_any test (map next ps)) passes
-        | false ↦ λ e. ap (λ b. test (sums_held y) || b) (one_passes test ps x e passes) ∙ or-true (test (sums_held y))
-      ] is
+  one_passes test ps x is passes =
+      let there : In x ps × (bytes_eq x.uuid p ≡ true) = All-found (λ y. In y ps) (at_uuid p) x ps is (In-all ps) in
+      any_in test (next x) (map next ps) (In-map next x ps there.0) (ap (λ b. test (cond b (f (sums_held x)) (sums_held x))) there.1 ∙ passes)
 
 -- ---- sums that can be counted
-
--- an item of a good size is no greater than the greatest
-size_within : (content : Content) → has_good_size content ≡ true → size content ≤ 1048576
-size_within (Tile zoom column row bytes) good = leb-true (length bytes) 1048576 (and_parts (nat_le 1 (length bytes)) (nat_le (length bytes) 1048576) good).1
-size_within (Media content_type bytes) good =
-    leb-true (length bytes) 1048576 (and_parts (nat_le 1 (length bytes)) (nat_le (length bytes) 1048576) (and_parts (is_length_within 1 1048576 bytes) (is_length_within 1 100 content_type) good).0).1
-size_within (Row x y code label) good =
-    let few : length label ≤ 200 = leb-true (length label) 200 (and_parts (nat_le 0 (length label)) (nat_le (length label) 200) (and_parts (is_length_within 0 200 label) (is_within (pos 0) (pos 999999) code) good).0).1 in
-    omega (arith, few)
 
 -- where neither of two reasons holds, the second does not
 second_fails : (a b : Bool) → first_row ((a, BadText) ∷ (b, TooLarge) ∷ []) ≡ None → b ≡ false
@@ -184,12 +142,6 @@ too_many_uncounted w q register live fits texts cannot = uncounted w q.id q.at r
 -- ---- the members
 
 module _ {S : Type 0} (g : Ghosts S) where
-  sums_kept : (w : World) (ms : List (Member S)) (ps : List Package) → AllZip (IsMember g w) ms ps → map (λ (m : Member S). m.sums) ms ≡ map sums_held ps
-  sums_kept w [] [] are = refl
-  sums_kept w [] (y ∷ ps) are = absurd are
-  sums_kept w (m ∷ ms) [] are = absurd are
-  sums_kept w (m ∷ ms) (y ∷ ps) are = ap (λ s. s ∷ map (λ (x : Member S). x.sums) ms) are.0.sums ∙ ap (λ ss. sums_held y ∷ ss) (sums_kept w ms ps are.1)
-
   -- the member at the place of a package is it
   stands_for : (members : List (Member S)) (count at : ℕ) (w : World) (uuid : List ℕ) (was : Member S) → AreMembers g members count w → StandsAt g members uuid at → slice_get members at ≡ Some was → IsMember g w was (holdings w uuid)
   stands_for members count at w uuid was are stands place =
@@ -204,14 +156,14 @@ module _ {S : Type 0} (g : Ghosts S) where
   members_hold_next members count at w q was are stands place =
       let p : List ℕ = package_of q.command in
       let named : (holdings w (package_of q.command)).uuid ≡ package_of q.command = sym (stands_for members count at w (package_of q.command) stands.member are stands stands.place).uuid ∙ stands.named in
-      ap (λ ss. slice_set ss at (sums_after q.command (sums_moved (receipt_of w q)) was.sums)) (sums_kept w members w.packages are.each)
+      ap (λ ss. slice_set ss at (sums_after q.command (sums_moved (receipt_of w q)) was.sums)) (zip_map (IsMember g w) (λ m. m.sums) sums_held (λ m y is. is.sums) members w.packages are.each)
       ∙ ap (λ s. slice_set (map sums_held w.packages) at (sums_after q.command (sums_moved (receipt_of w q)) s)) (member_holds members count at w (package_of q.command) was are stands place)
-      ∙ one_holds (package_of q.command) (sums_after q.command (sums_moved (receipt_of w q))) w.packages at (holdings w (package_of q.command)) are.register.arranged (stands.holds w count are) named
+      ∙ sym (apart_set (package_of q.command) (λ y. sums_after q.command (sums_moved (receipt_of w q)) (sums_held y)) sums_held w.packages at (holdings w (package_of q.command)) are.register.arranged (stands.holds w count are) named)
 
   pub members_tell_too_many : MembersTellTooMany g
   members_tell_too_many members count at w q was are stands place fits =
       ap (λ ss. list_any is_past_limits ss || nat_lt greatest_packages (length members) || nat_lt greatest_receipts (count + 1)) (members_hold_next members count at w q was are stands place)
-      ∙ ap (λ n. list_any is_past_limits (sums_next w q) || nat_lt greatest_packages n || nat_lt greatest_receipts (count + 1)) (zip_length (IsMember g w) members w.packages are.each)
+      ∙ ap (λ n. list_any is_past_limits (sums_next w q) || nat_lt greatest_packages n || nat_lt greatest_receipts (count + 1)) (sym (AllZip-long (IsMember g w) members w.packages are.each))
       ∙ ap (λ n. list_any is_past_limits (sums_next w q) || nat_lt greatest_packages (length w.packages) || nat_lt greatest_receipts (n + 1)) are.counted
       ∙ sym (too_many_by_sums w q are.register (stands.live w count are) fits)
 

@@ -1,5 +1,5 @@
 -- Looks at the package of one store, one after the other, and what is judged by them.
-use Rattle.std.proofs.Common.{◌≡◌, sym, subst, ◌∙◌, Result, Ok, Err, IsErr, IsTrue, arith}
+use Rattle.std.proofs.Common.{◌≡◌, sym, subst, ◌∙◌, Result, Ok, Err, IsTrue, arith}
 use Rattle.sqlite.specs.Store.{Ghosts}
 use Rattle.sqlite.specs.Held.{Held, state}
 use Rattle.sqlite.specs.State.{State, HasCleanDisk}
@@ -45,11 +45,6 @@ seen_then {Fact} Answer {a} {b} {c} {r} {x} first is looks = record {
 pub judges : {X E : Type 0} {Fact : Frame → Package → Type 0} {Answer : Frame → Package → X → Type 0} {old new : State} {x : X} → Seen Fact old new
     → ((f : Frame) (p : Package) → Reads f p old.now → Fact f p → Answer f p x) → Judges {X = X} {E = E} Answer old new (Ok x)
 judges it so = record { stays = it.stays; stays_open = λ clean was. it.stays_open clean; told = λ clean f p reads. let t = it.told clean in so f p (reads t.0) (t.1.1 f p (reads t.0)) }
-
--- a look that failed tells nothing
-pub judges_not : {X E : Type 0} {Answer : Frame → Package → X → Type 0} {old new : State} (r : Result X E) → IsErr r → Stays old new → Judges {X = X} {E = E} Answer old new r
-judges_not (Ok x) failed it = cc
-judges_not (Err e) failed it = record { stays = it; stays_open = λ clean. tt; told = λ clean. tt }
 
 -- a judgement says what follows from it
 pub judges_so : {X E : Type 0} (Given : Frame → Package → X → Type 0) {Answer : Frame → Package → X → Type 0} {old new : State} (r : Result X E) → ((x : X) (f : Frame) (p : Package) → Given f p x → Answer f p x) → Judges {X = X} {E = E} Given old new r → Judges {X = X} {E = E} Answer old new r

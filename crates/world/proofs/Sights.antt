@@ -1,8 +1,8 @@
 -- What is kept of the members tells which packages there are and how much each of them holds.
-use Rattle.std.proofs.Common.{◌≡◌, refl, sym, ap, subst, ◌∙◌, ℕ, List, [], ◌∷◌, map, Some, None, slice_get, Result, Ok, Err, IfOk}
+use Rattle.std.proofs.Common.{◌≡◌, sym, ap, subst, ◌∙◌, ℕ, List, map, Some, None, slice_get, Result, Ok, Err, IfOk}
 use Rattle.std.specs.Bool.{then_some}
-use Rattle.std.specs.List.{AllZip}
 use Rattle.sqlite.specs.Store.{Ghosts}
+use Rattle.sqlite_trees.proofs.ListLemmas.{map-map}
 use Rattle.sheet_types.specs.Answers.{PackageSight, sums_held, sums_of, package_sights}
 use Rattle.sheet_types.specs.Custody.{ticket}
 use Rattle.sheet_types.specs.World.{World, Package, holdings}
@@ -12,7 +12,7 @@ use Rattle.world.specs.Reading.{sight_of, member_sight}
 use Rattle.world.specs.Worlds.{Seen, StandsFor}
 use Rattle.world.specs.declared.members.Member.{Member}
 use Rattle.world.specs.declared.reading.PackageSight.{PackageSight as Listed}
-use Rattle.world.proofs.Standing.{zip_at}
+use Rattle.world.proofs.Standing.{zip_at, zip_map}
 
 module _ {S : Type 0} (g : Ghosts S) where
   abbrev sight : World → Package → PackageSight
@@ -25,15 +25,9 @@ module _ {S : Type 0} (g : Ghosts S) where
       ∙ ap (λ n. record { uuid = p.uuid; parent = p.parent; depth = n; ticket = m.ticket }) is.depth
       ∙ ap (λ n. record { uuid = p.uuid; parent = p.parent; depth = p.depth; ticket = n }) is.ticket
 
-  each_sight : (w : World) (ms : List (Member S)) (ps : List Package) → AllZip (IsMember g w) ms ps → map sight_of (map member_sight ms) ≡ map (sight w) ps
-  each_sight w [] [] zip = refl
-  each_sight w [] (p ∷ ps) zip = absurd zip
-  each_sight w (m ∷ ms) [] zip = absurd zip
-  each_sight w (m ∷ ms) (p ∷ ps) zip = ap (λ s. s ∷ map sight_of (map member_sight ms)) (one_sight w m p zip.0) ∙ ap (λ ss. sight w p ∷ ss) (each_sight w ms ps zip.1)
-
   -- the members are listed as the packages of the world
   sights_told : (w : World) (ms : List (Member S)) (count : ℕ) → AreMembers g ms count w → map sight_of (map member_sight ms) ≡ package_sights w
-  sights_told w ms count are = each_sight w ms w.packages are.each
+  sights_told w ms count are = map-map sight_of member_sight ms ∙ zip_map (IsMember g w) (λ m. sight_of (member_sight m)) (sight w) (one_sight w) ms w.packages are.each
 
   -- and so is what was made a list of
   pub listed : {X E : Type 0} (items : X → List Listed) (r : Result X E) (ms : List (Member S)) (now : Seen S) → ms ≡ now.members → IfOk r (λ x. items x ≡ map member_sight ms) → IfOk r (λ x. (w : World) → StandsFor g now w → map sight_of (items x) ≡ package_sights w)

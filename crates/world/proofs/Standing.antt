@@ -1,12 +1,14 @@
 -- Members that were only read stand for the world that they stood for, and a look at one of them reads one.
-use Rattle.std.proofs.Common.{◌≡◌, refl, sym, ap, subst, ◌∙◌, ℕ, zero, suc, List, [], ◌∷◌, length, slice_get, Some, Result, Ok, arith}
+use Rattle.std.proofs.Common.{◌≡◌, refl, sym, ap, subst, ◌∙◌, ℕ, zero, suc, List, [], ◌∷◌, map, length, slice_get, Some, Result, Ok, arith}
 use Rattle.std.specs.Prelude.{slice_set, IsTrue}
 use Rattle.std.specs.List.{AllZip, AllByRecursion}
 use Rattle.std.proofs.lemmas.List.Elements.{All-set, All-from_recursion, recursion_from_All}
 use Rattle.std.proofs.lemmas.Option.{slice_get_within}
+use Rattle.std.proofs.lemmas.Slice.Zip.{AllZip-long}
 use Rattle.sqlite.specs.Store.{Ghosts}
 use Rattle.sqlite.specs.Held.{Held, state}
 use Rattle.sqlite.specs.State.{State, HasCleanDisk}
+use Rattle.sqlite_trees.proofs.ListLemmas.{all-slice_get}
 use Rattle.sheet_types.specs.World.{World, Package}
 use Rattle.sheet_types.specs.declared.frame.Frame.{Frame}
 use Rattle.sql_meaning.specs.Transactions.{Rests, Looks}
@@ -21,7 +23,7 @@ use Rattle.world.specs.declared.members.Member.{Member}
 use Rattle.world.proofs.Seeing.{stays_still}
 
 -- two relations of one list, place by place
-zip_both : {X Y Z : Type 0} (P : X → Y → Type 0) (Q : X → Z → Type 0) (R : Y → Z → Type 0) → ((x : X) (y : Y) (z : Z) → P x y → Q x z → R y z) → (xs : List X) (ys : List Y) (zs : List Z) → AllZip P xs ys → AllZip Q xs zs → AllZip R ys zs
+pub zip_both : {X Y Z : Type 0} (P : X → Y → Type 0) (Q : X → Z → Type 0) (R : Y → Z → Type 0) → ((x : X) (y : Y) (z : Z) → P x y → Q x z → R y z) → (xs : List X) (ys : List Y) (zs : List Z) → AllZip P xs ys → AllZip Q xs zs → AllZip R ys zs
 zip_both P Q R f [] [] [] one two = tt
 zip_both P Q R f [] [] (z ∷ zs) one two = absurd two
 zip_both P Q R f [] (y ∷ ys) zs one two = absurd one
@@ -52,18 +54,12 @@ zip_at R (z ∷ zs) [] at x zip place = absurd zip
 zip_at R (z ∷ zs) (y ∷ ys) zero x zip place = let same : z ≡ x = cc in (y, refl, subst (λ v. R v y) same zip.0)
 zip_at R (z ∷ zs) (y ∷ ys) (suc at) x zip place = zip_at R zs ys at x zip.1 place
 
--- and the one list is as long as the other
-pub zip_length : {X Y : Type 0} (R : X → Y → Type 0) (xs : List X) (ys : List Y) → AllZip R xs ys → length xs ≡ length ys
-zip_length R [] [] zip = refl
-zip_length R [] (y ∷ ys) zip = absurd zip
-zip_length R (x ∷ xs) [] zip = absurd zip
-zip_length R (x ∷ xs) (y ∷ ys) zip = ap suc (zip_length R xs ys zip.1)
-
--- what stands at a place has what each has
-pub at_place : {X : Type 0} (P : X → Type 0) (xs : List X) (at : ℕ) (x : X) → slice_get xs at ≡ Some x → AllByRecursion P xs → P x
-at_place P [] at x place h = absurd (let e = place in cc)
-at_place P (y ∷ ys) zero x place h = let same : y ≡ x = cc in subst P same h.0
-at_place P (y ∷ ys) (suc at) x place h = at_place P ys at x place h.1
+-- what is the same of both at each place makes the same list
+pub zip_map : {X Y Z : Type 0} (R : X → Y → Type 0) (f : X → Z) (g : Y → Z) → ((x : X) (y : Y) → R x y → f x ≡ g y) → (xs : List X) (ys : List Y) → AllZip R xs ys → map f xs ≡ map g ys
+zip_map R f g same [] [] zip = refl
+zip_map R f g same [] (y ∷ ys) zip = absurd zip
+zip_map R f g same (x ∷ xs) [] zip = absurd zip
+zip_map R f g same (x ∷ xs) (y ∷ ys) zip = ap (λ z. z ∷ map f xs) (same x y zip.0) ∙ ap (λ zs. g y ∷ zs) (zip_map R f g same xs ys zip.1)
 
 module _ {S : Type 0} (g : Ghosts S) where
   member_then : (a b c : Member S) → StaysMember g a b → StaysMember g b c → StaysMember g a c
@@ -94,7 +90,7 @@ module _ {S : Type 0} (g : Ghosts S) where
       All-from_recursion Clean old (zip_each (StaysMember g) Clean Clean (λ m n stays after. omega (arith, stays.stays.survives.clean, after)) old new it (recursion_from_All Clean new clean))
 
   pub stay_length : (old new : List (Member S)) → AllStay g old new → length old ≡ length new
-  stay_length old new it = zip_length (StaysMember g) old new it
+  stay_length old new it = sym (AllZip-long (StaysMember g) old new it)
 
   module _ (old new : List (Member S)) (at : ℕ) {Turn : State → State → Type 0} (turn : TurnsAt g old new at Turn) where
     -- a turn that ends at rest leaves all at rest
@@ -105,7 +101,7 @@ module _ {S : Type 0} (g : Ghosts S) where
     pub turn_open : (IsTrue (state g turn.was.conn).is_open → IsTrue (state g turn.last).is_open) → AllOpen g old → AllOpen g new
     turn_open last was =
         let Open : Member S → Type 0 = λ m. IsTrue (state g m.conn).is_open in
-        let here : Open turn.was = at_place Open old at turn.was turn.place (recursion_from_All Open old was) in
+        let here : Open turn.was = all-slice_get Open old at turn.was turn.place (recursion_from_All Open old was) in
         rw turn.others (All-set Open old at (record turn.was { conn = turn.last }) (last here) was)
 
     -- the disk of the one that took it, by all the disks

@@ -1,5 +1,5 @@
 -- The reasons for a refusal by what they ask: the request alone, or one package and its frame. Each list is in the order of the model, of which the first that holds is the reply. Profile.
-use Rattle.std.specs.Prelude.{ℕ, ℤ, Bool, not, ◌&&◌, ◌||◌, List, [], ◌∷◌}
+use Rattle.std.specs.Prelude.{ℕ, ℤ, Bool, not, ◌&&◌, ◌||◌, List, [], ◌∷◌, Option, Some, None}
 use Rattle.std.specs.List.{list_any}
 use Rattle.sheet_types.specs.Ordered.{has}
 use Rattle.sheet_types.specs.Matrix.{has_place, in_frame}
@@ -16,6 +16,8 @@ use Rattle.sheet_types.specs.declared.command.Request.{Request}
 use Rattle.sheet_types.specs.declared.frame.Frame.{Frame}
 use Rattle.sheet_types.specs.declared.refusal.Refusal.{Refusal}
 use Rattle.sheet_types.specs.declared.refusal.Refusal.TheVariants.{BadText, TooLarge, UnknownItem, WrongKind, BadPlace, OutOfFrame, PlaceTaken, LinkThere, UnknownLink, Linked}
+use Rattle.identity_register.specs.declared.look_ups.LinkState.{LinkState}
+use Rattle.identity_register.specs.declared.look_ups.LinkState.TheVariants.{UnknownEnd, WrongKinds, Absent, There}
 
 -- of the request alone: its moment, its texts and its sizes
 abbrev pub text_reasons : Request → List (Bool × Refusal)
@@ -42,6 +44,13 @@ link_reasons p l =
     ∷ (not (has_kind p (base_kind l.mapping) l.base && has_kind p (other_kind l.mapping) l.media), WrongKind)
     ∷ (has link_key (link_key l) p.links, LinkThere)
     ∷ []
+
+-- which of them a state of the link tells
+abbrev pub reason_told : LinkState → Option Refusal
+reason_told UnknownEnd = Some UnknownItem
+reason_told WrongKinds = Some WrongKind
+reason_told Absent = None
+reason_told There = Some LinkThere
 
 -- of a link that is to go
 abbrev pub unlink_reasons : Package → Relation → List (Bool × Refusal)

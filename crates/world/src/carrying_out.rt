@@ -20,7 +20,6 @@ use sheet_types::command::{Command, Relation};
 use sheet_types::receipt::Receipt;
 use sheet_types::refusal::Refusal;
 use sqlite::{Alter, Connection, Error, Transaction};
-use std::fmt;
 
 /// Where the change of a package failed, and why.
 #[derive(Clone, Copy, PartialEq, Eq, Debug, thiserror::Error)]

@@ -1,5 +1,5 @@
 // The first member of a world: the archive, with nothing in it.
-ghost use Rattle.std.specs.Prelude.{◌≡◌, ◌<◌, ◌≤◌, ◌+◌, [], ◌∷◌, ◌++◌, IfOk, IsTrue, length, vec_len, vec_capacity};
+ghost use Rattle.std.specs.Prelude.{◌≡◌, IfOk, IsTrue, length};
 ghost use Rattle.sqlite.specs.Held.{state};
 ghost use Rattle.sqlite.specs.State.{HasCleanDisk};
 ghost use Rattle.sheet_types.specs.Matrix.{is_good_frame};
@@ -8,6 +8,7 @@ ghost use Rattle.sql_meaning.specs.Blank.{IsBlank, no_schema};
 ghost use Rattle.world.specs.Members.{AllRest, AllClean, AllMadeAt, AreMembers};
 
 use crate::members::Member;
+use crate::reserving::push_reserved;
 use identity_register::creation::create;
 use identity_register::fitting::fits;
 use package_tables::create::Info;
@@ -17,7 +18,6 @@ use sheet_types::receipt::Sums;
 use sql_meaning::resting::is_at_rest;
 use sqlite::{Alter, Connection};
 use std::alloc::Global;
-use std::fmt;
 use uuid::Uuid;
 
 /// Why no world was made.
@@ -39,23 +39,6 @@ impl From<Fault> for CreateFault {
     fn from(fault: Fault) -> CreateFault {
         CreateFault::Failed(fault)
     }
-}
-
-/// Takes no memory.
-pub(crate) fn push_reserved<T: Drop>(items: &mut Vec<T>, item: T)
-    requires { vec_len items.old < vec_capacity items.old }
-    ensures items { items.new.items ≡ items.old.items ++ item ∷ [] }
-    ensures len { vec_len items.new ≡ vec_len items.old + 1 }
-    ensures capacity { vec_capacity items.old ≤ vec_capacity items.new }
-{
-    let _ = items.push(item);
-}
-
-/// An empty list with room for one.
-pub(crate) fn room_for_one<T: Drop>(alloc: Global) -> Result<Vec<T>, Fault>
-    ensures { IfOk result (λ room. (room.items ≡ []) × (1 ≤ vec_capacity room)) }
-{
-    Ok(Vec::with_capacity(alloc, 1)?)
 }
 
 /// The archive alone, in a store that is blank where its disk is clean. Its place among the members is there before anything is written.

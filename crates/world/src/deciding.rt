@@ -35,8 +35,11 @@ use uuid::Uuid;
 /// A change that is due: the place of the member whose package changes, the receipt that is the reply, and what the package holds after it.
 #[derive(Drop)]
 pub struct Change {
+    /// Where the member stands.
     pub at: usize,
+    /// The reply.
     pub receipt: Receipt,
+    /// What the package holds after the change.
     pub sums: Sums,
 }
 

@@ -4,7 +4,7 @@ ghost use Rattle.sqlite.specs.Held.{state};
 ghost use Rattle.sql_meaning.specs.Transactions.{Rests};
 ghost use Rattle.sheet_types.specs.Matrix.{is_good_frame, first_row};
 ghost use Rattle.world.specs.Calls.{Judges};
-ghost use Rattle.world.specs.Reasons.{tile_reasons, content_reasons, delete_reasons, link_reasons, unlink_reasons, package_reasons};
+ghost use Rattle.world.specs.Reasons.{tile_reasons, content_reasons, delete_reasons, link_reasons, reason_told, unlink_reasons, package_reasons};
 
 use identity_register::look_ups::{
     LinkState, has_link, has_tile_at, is_linked, kind_of_item, link_state,
@@ -75,6 +75,18 @@ fn refusal_of_delete<S: Alter>(
     Ok(linked.then_some(Refusal::Linked))
 }
 
+/// Why a link does not come in that stands so.
+fn reason_told(found: LinkState) -> Option<Refusal>
+    ensures { result ≡ reason_told found }
+{
+    match found {
+        LinkState::UnknownEnd => Some(Refusal::UnknownItem),
+        LinkState::WrongKinds => Some(Refusal::WrongKind),
+        LinkState::There => Some(Refusal::LinkThere),
+        LinkState::Absent => None,
+    }
+}
+
 /// Why a link does not come in.
 fn refusal_of_link<S: Alter>(
     conn: &mut Connection<S>,
@@ -83,12 +95,8 @@ fn refusal_of_link<S: Alter>(
     requires { Rests (state S.Store conn.old) }
     ensures { Judges (λ f p found. found ≡ first_row (link_reasons p relation)) (state S.Store conn.old) (state S.Store conn.new) result }
 {
-    match link_state(conn, relation)? {
-        LinkState::UnknownEnd => Ok(Some(Refusal::UnknownItem)),
-        LinkState::WrongKinds => Ok(Some(Refusal::WrongKind)),
-        LinkState::There => Ok(Some(Refusal::LinkThere)),
-        LinkState::Absent => Ok(None),
-    }
+    let found = link_state(conn, relation)?;
+    Ok(reason_told(found))
 }
 
 /// Why a link does not go.

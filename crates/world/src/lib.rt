@@ -24,6 +24,7 @@ mod reading_tests;
 mod receipt_tests;
 pub mod receipts;
 pub mod register_laws;
+mod reserving;
 pub mod step_laws;
 pub mod sums;
 #[cfg(test)]

@@ -6,7 +6,9 @@ use uuid::Uuid;
 /// A live package: its store, its place in the register, and what is kept of it so that nothing is counted again.
 #[derive(Drop)]
 pub struct Member<S: Alter + Drop> {
+    /// Its store.
     pub conn: Connection<S>,
+    /// The package's own.
     pub uuid: Uuid,
     /// The package that it is lent from, none of the archive.
     pub parent: Option<Uuid>,

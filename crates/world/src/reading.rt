@@ -9,8 +9,8 @@ ghost use Rattle.world.specs.Reading.{sight_of, member_sight};
 ghost use Rattle.world.specs.Worlds.{StandsFor, IsRead, TellsOf};
 
 use crate::asking::{kept_in_all, place_of};
-use crate::creating::push_reserved;
 use crate::members::Member;
+use crate::reserving::push_reserved;
 use crate::world::World;
 use identity_register::whole::holdings;
 use package_tables::fault::Fault;
@@ -23,9 +23,13 @@ use uuid::Uuid;
 /// What the list of packages says of a live one: its parent, where it is a loan, how many loans it is below the archive, and the number of the last receipt of it, 0 where there is none.
 #[derive(Clone, Copy, PartialEq, Eq)]
 pub struct PackageSight {
+    /// The package's own.
     pub uuid: Uuid,
+    /// The package that it is lent from, none of the archive.
     pub parent: Option<Uuid>,
+    /// How many loans it is below the archive.
     pub depth: u64,
+    /// The number of the last receipt that names the package, 0 where there is none.
     pub ticket: u64,
 }
 

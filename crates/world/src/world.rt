@@ -12,8 +12,9 @@ ghost use Rattle.world.specs.Laws.{IsServed, AreServed};
 ghost use Rattle.world.specs.Worlds.{StandsFor, IsStep, IsRun, StandsStill, StaysOpen, LeavesNoTrace};
 
 use crate::applying::serve;
-use crate::creating::{CreateFault, archive_alone, push_reserved, room_for_one};
+use crate::creating::{CreateFault, archive_alone};
 use crate::members::Member;
+use crate::reserving::{push_reserved, room_for_one};
 use matrix_rules::check::FrameRules;
 use sheet_types::command::Request;
 use sheet_types::error::OutOfMemory;

@@ -2,10 +2,10 @@
 use Rattle.std.proofs.Common.{◌≡◌, ◌≤◌, ◌∙◌, refl, sym, subst, map, length, false}
 use Rattle.std.specs.List.{list_any}
 use Rattle.std.proofs.lemmas.List.{take_all, length-map, length-set}
+use Rattle.std.proofs.lemmas.Map.Keys.{any_passes_from_place}
 use Rattle.world.specs.Steps.{is_past_limits}
 use Rattle.world.specs.TooMany.{sums_with}
 use Rattle.world.specs.declared.members.Member.{Member}
-use Rattle.world.proofs.Overfull.{any_at_place}
 use Rattle.world.proofs.Placed.{none_more}
 use Rattle.world.proofs.too_many.any_past_limits.Goals as goal
 
@@ -14,7 +14,7 @@ loop-place-init g c = record { none = refl }
 
 pub returns-then-is_past_limits : goal.returns-then-is_past_limits
 returns-then-is_past_limits g c =
-    sym (any_at_place is_past_limits (sums_with c.args.members.now c.args.at c.args.sums) c.loop-place.place c.sums_at.result c.sums_at.ensures (sym c.is_past_limits.ensures ∙ c.if-is_past_limits.true))
+    sym (any_passes_from_place is_past_limits (sums_with c.args.members.now c.args.at c.args.sums) c.loop-place.place c.sums_at.result c.sums_at.ensures (sym c.is_past_limits.ensures ∙ c.if-is_past_limits.true))
 
 pub loop-place-preserved : goal.loop-place-preserved
 loop-place-preserved g c = record {

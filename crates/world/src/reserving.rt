@@ -1,0 +1,22 @@
+// Lists whose room is there before it is needed.
+ghost use Rattle.std.specs.Prelude.{◌≡◌, ◌<◌, ◌≤◌, ◌+◌, [], ◌∷◌, ◌++◌, IfOk, vec_len, vec_capacity};
+
+use package_tables::fault::Fault;
+use std::alloc::Global;
+
+/// Takes no memory.
+pub(crate) fn push_reserved<T: Drop>(items: &mut Vec<T>, item: T)
+    requires { vec_len items.old < vec_capacity items.old }
+    ensures items { items.new.items ≡ items.old.items ++ item ∷ [] }
+    ensures len { vec_len items.new ≡ vec_len items.old + 1 }
+    ensures capacity { vec_capacity items.old ≤ vec_capacity items.new }
+{
+    let _ = items.push(item);
+}
+
+/// An empty list with room for one.
+pub(crate) fn room_for_one<T: Drop>(alloc: Global) -> Result<Vec<T>, Fault>
+    ensures { IfOk result (λ room. (room.items ≡ []) × (1 ≤ vec_capacity room)) }
+{
+    Ok(Vec::with_capacity(alloc, 1)?)
+}
