@@ -1,4 +1,4 @@
-// What the words of a command line ask for.
+//! What the words of a command line ask for.
 ghost use Rattle.std.specs.Prelude.{◌≡◌, IfSome, IfNone, MatchResult};
 ghost use Rattle.sheet_types.specs.declared.frame.Frame.{Frame};
 ghost use Rattle.cli.specs.Arguments.{IsFrame, IsFirstUnread, Asks};

@@ -1,4 +1,4 @@
-// A rehearsal: what a list of requests would come to, shown by a world in memory that ends with the program.
+//! A rehearsal: what a list of requests would come to, shown by a world in memory that ends with the program.
 ghost use Rattle.std.specs.Prelude.{◌≡◌, ℕ, List, map, IfOk, string_bytes};
 ghost use Rattle.sheet_types.specs.World.{new_world};
 ghost use Rattle.sheet_types.specs.declared.frame.Frame.{Frame};

@@ -1,4 +1,4 @@
-// How the program ends: its exit status, and the line that it prints before.
+//! How the program ends: its exit status, and the line that it prints before.
 ghost use Rattle.std.specs.Prelude.{◌≡◌};
 ghost use Rattle.cli.specs.Endings.{outcome_status, output_text, error_text};
 

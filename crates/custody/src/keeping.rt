@@ -1,4 +1,4 @@
-// The receipt that a package keeps for a request, read back from the rows that say it.
+//! The receipt that a package keeps for a request, read back from the rows that say it.
 ghost use Rattle.std.specs.Prelude.{◌≡◌, ◌≢◌, ◌<◌, ℕ, true, pos, List, [], Option, bytes_eq, IfOk, IfErr};
 ghost use Rattle.std.specs.List.{AllByRecursion};
 ghost use Rattle.std.specs.Option.{option_map_or};

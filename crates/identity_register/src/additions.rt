@@ -1,4 +1,4 @@
-// An item that comes into a package inside a transaction.
+//! An item that comes into a package inside a transaction.
 ghost use Rattle.std.specs.Prelude.{◌≡◌, pos, true};
 ghost use Rattle.sqlite.specs.Held.{state};
 ghost use Rattle.sql_meaning.specs.Transactions.{Steps};

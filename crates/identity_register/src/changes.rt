@@ -1,4 +1,4 @@
-// What is changed of a package inside a transaction, one item or link at a time.
+//! What is changed of a package inside a transaction, one item or link at a time.
 ghost use Rattle.std.specs.Prelude.{◌≡◌};
 ghost use Rattle.sqlite.specs.Held.{state};
 ghost use Rattle.sql_meaning.specs.Transactions.{Steps};

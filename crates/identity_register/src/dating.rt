@@ -1,4 +1,4 @@
-// The moment of the last change of a package.
+//! The moment of the last change of a package.
 ghost use Rattle.std.specs.Prelude.{◌≡◌, ⊤};
 ghost use Rattle.sqlite.specs.Held.{state};
 ghost use Rattle.sql_meaning.specs.Transactions.{Steps};

@@ -1,4 +1,4 @@
-// The kinds of items and of what receipts moved, by the numbers that rows have of them (profile).
+//! The kinds of items and of what receipts moved, by the numbers that rows have of them (profile).
 ghost use Rattle.std.specs.Prelude.{◌≡◌, ◌≢◌, pos, IfOk, IfErr};
 ghost use Rattle.sheet_types.specs.World.{kind_number};
 ghost use Rattle.sheet_types.specs.declared.receipt.MovedKind.{MovedKind};

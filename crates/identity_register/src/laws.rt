@@ -1,4 +1,4 @@
-// Laws of the reading of stores, each the contract of a function that does nothing.
+//! Laws of the reading of stores, each the contract of a function that does nothing.
 ghost use Rattle.identity_register.specs.Laws.{ReadsAlone, TreesReadAlone};
 
 /// A store reads as at most one package.

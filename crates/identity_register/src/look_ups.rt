@@ -1,5 +1,5 @@
-// What is asked of a package at rest, each by a key or an index. An error is want of memory, a store that failed, or rows that
-// no package has; the store holds what it held.
+//! What is asked of a package at rest, each by a key or an index. An error is want of memory, a store that failed, or rows that
+//! no package has; the store holds what it held.
 ghost use Rattle.std.specs.Prelude.{◌≡◌, pos, option_map, bytes_eq};
 ghost use Rattle.std.specs.List.{list_any};
 ghost use Rattle.sqlite.specs.Held.{state};

@@ -1,4 +1,4 @@
-// The content that a row of a user table holds.
+//! The content that a row of a user table holds.
 ghost use Rattle.std.specs.Prelude.{◌≡◌};
 ghost use Rattle.sheet_types.specs.declared.command.Content.TheVariants.{Tile, Media, Row};
 

@@ -1,6 +1,6 @@
-// What a whole package holds, read by one statement a table. Identity rows and the rows of the user tables are both read
-// in the order of kind and number, so that each identity meets its content without a look-up. An error is want of memory, a
-// store that failed, or rows that no package has; the store holds what it held.
+//! What a whole package holds, read by one statement a table. Identity rows and the rows of the user tables are both read
+//! in the order of kind and number, so that each identity meets its content without a look-up. An error is want of memory, a
+//! store that failed, or rows that no package has; the store holds what it held.
 ghost use Rattle.std.specs.Prelude.{◌≡◌, ◌++◌, map, pos, Some, bytes_eq, IfOk, IfErr, IsTrue, IsPermutation};
 ghost use Rattle.std.specs.List.{AllByRecursion, AllZip, IsDistinct};
 ghost use Rattle.sqlite.specs.Held.{state};

@@ -1,4 +1,4 @@
-// Laws of the model, each the contract of a function that does nothing.
+//! Laws of the model, each the contract of a function that does nothing.
 ghost use Rattle.ledger_laws.specs.Laws.{NewWorldIsRegister, AddKeepsRegister, DeleteKeepsRegister, LinkKeepsRegister, UnlinkKeepsRegister, SplitKeepsRegister, MergeKeepsRegister, StepKeepsRegister, RunKeepsRegister, RunOfBoth, RepeatChangesNothing, MovesWhole, FollowIsLeast, LineIsReadBack, OneWorld, StandsWithoutFault, OpenedIsRegister};
 
 /// A new world of a good frame is a register.

@@ -1,4 +1,4 @@
-// The columns of a list by their places in a record (profile; their names are in `lists`).
+//! The columns of a list by their places in a record (profile; their names are in `lists`).
 
 /// How many there are; a record has a field for each.
 pub const COUNT: usize = 18;

@@ -1,4 +1,4 @@
-// The content that a record adds.
+//! The content that a record adds.
 ghost use Rattle.std.specs.Prelude.{◌≡◌, ℕ, ℤ, List, IfOk, IfSome, IfNone};
 ghost use Rattle.csv.specs.Records.{fields_of};
 ghost use Rattle.manifest_csv.specs.Requests.{IsContent};

@@ -1,4 +1,4 @@
-// The fields of one record, column by column.
+//! The fields of one record, column by column.
 ghost use Rattle.std.specs.Prelude.{◌≡◌, ◌↔◌, ℕ, ℤ, List, IfOk, FitsSigned, IsTrue, IfSome, IfNone, Some};
 ghost use Rattle.std.specs.Int.{w64};
 ghost use Rattle.std.specs.Option.{option_and_then};

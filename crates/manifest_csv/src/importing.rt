@@ -1,4 +1,4 @@
-// A request list, carried out by a world, and the report of it.
+//! A request list, carried out by a world, and the report of it.
 ghost use Rattle.std.specs.Prelude.{◌≡◌, ◌≤◌};
 ghost use Rattle.std.specs.String.{string_capacity};
 ghost use Rattle.world.specs.Laws.{AreServed};

@@ -1,4 +1,4 @@
-// A request list as a whole: its header, its requests, and the fault that is met first.
+//! A request list as a whole: its header, its requests, and the fault that is met first.
 ghost use Rattle.std.specs.Prelude.{◌≡◌, ◌⊎◌, ◌↔◌, [], ◌∷◌, map, IsTrue, IfOk, IfErr, IfSome};
 ghost use Rattle.std.specs.List.{AllZip};
 ghost use Rattle.std.specs.Vec.Iter.{into_iter_items};

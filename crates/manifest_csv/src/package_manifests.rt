@@ -1,4 +1,4 @@
-// The manifest of a live package, made whole and then written.
+//! The manifest of a live package, made whole and then written.
 ghost use Rattle.std.specs.Prelude.{◌≡◌};
 ghost use Rattle.world.specs.Worlds.{IsRead};
 ghost use Rattle.manifest_csv.specs.PackageManifests.{IsManifest, WritesNothing};

@@ -1,4 +1,4 @@
-// The records of a list, over any reader.
+//! The records of a list, over any reader.
 ghost use Rattle.std.specs.Prelude.{◌≡◌, ℕ, List, map, IfSome};
 ghost use Rattle.csv.specs.Reading.{AreRecords, Reached, default_config, strip_bom};
 ghost use Rattle.csv.specs.Records.{fields_of};

@@ -1,4 +1,4 @@
-// The report of an import, line by line, in room that was reserved before.
+//! The report of an import, line by line, in room that was reserved before.
 ghost use Rattle.std.specs.Prelude.{◌≡◌, ◌≤◌, ◌+◌, ◌++◌, IfOk, length, string_bytes, string_len};
 ghost use Rattle.std.specs.String.{string_capacity};
 ghost use Rattle.manifest_csv.specs.Reports.{refusal_of, report_header, report_line, seq_of};

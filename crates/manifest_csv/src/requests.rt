@@ -1,4 +1,4 @@
-// Which request a record is.
+//! Which request a record is.
 ghost use Rattle.std.specs.Prelude.{◌≡◌, ℕ, List, IfOk, IfSome, IfNone};
 ghost use Rattle.csv.specs.Records.{fields_of};
 ghost use Rattle.world.specs.Laws.{IsServed};

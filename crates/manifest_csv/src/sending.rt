@@ -1,4 +1,4 @@
-// A text out to a writer.
+//! A text out to a writer.
 ghost use Rattle.std.specs.Prelude.{OnOk, OnErr};
 ghost use Rattle.std.specs.Io.KnownBytes.{Appends};
 ghost use Rattle.manifest_csv.specs.Sent.{WentOut};

@@ -1,4 +1,4 @@
-// The axes of a frame at one zoom: what a tile matrix says (OGC GeoPackage 1.3, 2.2.7).
+//! The axes of a frame at one zoom: what a tile matrix says (OGC GeoPackage 1.3, 2.2.7).
 ghost use Rattle.std.specs.Prelude.{◌≡◌, pos, ◌*ℤ◌, ◌≤ℤ◌, int_div, IsTrue};
 ghost use Rattle.sheet_types.specs.Matrix.{is_good_frame, has_level};
 ghost use Rattle.matrix_rules.specs.Axes.{axis_of, axes, HasPixels, IsAxis, IsOffset};

@@ -1,4 +1,4 @@
-// The rules of a frame.
+//! The rules of a frame.
 ghost use Rattle.std.specs.Prelude.{◌≡◌, ◌^◌, ◌&&◌, ◌+ℤ◌, ◌-ℤ◌, ◌*ℤ◌, pos, negsuc, ◌≤ℤ◌, ◌<ℤ◌, unsigned_abs, MatchResult, Option, None, Some, int_le, int_lt, IsTrue};
 ghost use Rattle.sheet_types.specs.declared.frame.FrameFault.{FrameFault};
 ghost use Rattle.sheet_types.specs.Matrix.{is_within, is_good_bound, frame_fault, divides, width_at, height_at, last_level, ten_to_12};

@@ -1,4 +1,4 @@
-// The ground of tiles and of rectangles, and what lies inside.
+//! The ground of tiles and of rectangles, and what lies inside.
 ghost use Rattle.std.specs.Prelude.{◌≡◌, IsTrue};
 ghost use Rattle.sheet_types.specs.Matrix.{is_good_frame, has_level, has_place, block_ground, tile_ground, is_good_rect, lies_within, tile_inside, has_point, point_inside, in_frame, one_tile};
 ghost use Rattle.matrix_rules.specs.Axes.{IsOffset};

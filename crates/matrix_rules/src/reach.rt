@@ -1,4 +1,4 @@
-// The places of one zoom that lie inside a rectangle.
+//! The places of one zoom that lie inside a rectangle.
 ghost use Rattle.std.specs.Prelude.{◌≡◌, ℤ, pos, ◌≤ℤ◌, int_div, IsTrue, IfSome, IfNone, false};
 ghost use Rattle.sheet_types.specs.Matrix.{is_good_frame, is_good_rect};
 ghost use Rattle.matrix_rules.specs.Axes.{IsOffset};

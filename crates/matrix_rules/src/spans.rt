@@ -1,4 +1,4 @@
-// Blocks of places.
+//! Blocks of places.
 
 /// A block of places of one zoom level, both ends included.
 #[derive(Clone, Copy, PartialEq, Eq)]

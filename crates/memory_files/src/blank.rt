@@ -1,4 +1,4 @@
-// A store over files that hold nothing yet.
+//! A store over files that hold nothing yet.
 ghost use Rattle.std.specs.Prelude.{◌≡◌, [], IsTrue, IfOk, IfErr};
 ghost use Rattle.sqlite.specs.Held.{IsNew};
 ghost use Rattle.sqlite.specs.Opening.{is_open_error};

@@ -1,4 +1,4 @@
-// What adding, deleting, linking and unlinking answer.
+//! What adding, deleting, linking and unlinking answer.
 ghost use Rattle.model_examples.specs.Adding.{Texts, FirstTile, NoSuchPlace, TileSizes, UsedForGood, LinkedMedium, RowMediumAndLink};
 
 /// A UUID as text, the bytes that are hashed of an item of each kind, and a digest.

@@ -1,4 +1,4 @@
-// What the reading calls answer, and what the ledger says of each package.
+//! What the reading calls answer, and what the ledger says of each package.
 ghost use Rattle.model_examples.specs.Answering.{NewWorld, ListOfPackages, SumsOfPackages, HoldingsOfPackages, KeptReceipts, WholeLedger, Custody, Account, OpenLoans};
 
 /// A new world is one empty archive.

@@ -1,4 +1,4 @@
-// What a frame's rules say.
+//! What a frame's rules say.
 ghost use Rattle.model_examples.specs.Frames.{FrameFaults, FinestPixel, FrameLimits, FirstFault, GroundOfATile, Places, PointsOnEdges, TilesInside, GoodRectangles};
 
 /// One frame for each fault, and the frames beside it that are good.

@@ -1,4 +1,4 @@
-// Which ledgers are sound, for which worlds they account, and which items are altered.
+//! Which ledgers are sound, for which worlds they account, and which items are altered.
 ghost use Rattle.model_examples.specs.Ledgers.{SoundLedger, LedgerOfRequests, WrongNumbers, WrongLines, WrongThings, WrongMoves, AddedTwice, WrongHoldings, WrongSums, NothingHeld, NoRegister, ShortNames, TakenKey, AlteredItems, AlteredThenDeleted};
 
 /// A tile is added, lent and brought back.

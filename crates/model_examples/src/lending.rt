@@ -1,4 +1,4 @@
-// What a split takes, and what it leaves.
+//! What a split takes, and what it leaves.
 ghost use Rattle.model_examples.specs.Lending.{CutOverZooms, NothingInside, SharedMedium, FollowTwoRounds, StrictTakesMedia, PlaceOfALoan};
 
 /// Tiles of three zooms, of which a quarter of the sheet takes those inside.

@@ -1,4 +1,4 @@
-// The last reason of refusal: more than a package, the register or the ledger may hold.
+//! The last reason of refusal: more than a package, the register or the ledger may hold.
 ghost use Rattle.model_examples.specs.Limits.{ManyPackages, FullPackage, FullLedger};
 
 /// 256 packages may live, counted after the request.

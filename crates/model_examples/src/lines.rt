@@ -1,4 +1,4 @@
-// Which texts are read as an entry.
+//! Which texts are read as an entry.
 ghost use Rattle.model_examples.specs.Lines.{ReadWhole, NoLines, BeginsAsSplit};
 
 /// The lines of a split and of a merge, with numbers at their limits.

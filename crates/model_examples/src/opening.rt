@@ -1,4 +1,4 @@
-// Which stores are live, and which fault opening answers.
+//! Which stores are live, and which fault opening answers.
 ghost use Rattle.model_examples.specs.Opening.{Orphan, Lent, Returned, FoundDownwards, AnswersNoArchive, AnswersTwoArchives, AnswersNotAPackage, StraysAreLeft, AnswersTwoCopies, AnswersMissingPackage, AnswersForeignFrame, AnswersDangling, AnswersOutOfAccount, AnswersAltered, NewStoreStands};
 
 /// A split that stopped before the parent's commit leaves an orphan.

@@ -1,4 +1,4 @@
-// The reasons of refusal, each with what it refuses and what it lets pass.
+//! The reasons of refusal, each with what it refuses and what it lets pass.
 ghost use Rattle.model_examples.specs.Refusing.{ReusedIdentity, NotLive, UsedName, Moments, BadTexts, Sizes, UsedIdentity, UnknownItems, WrongKinds, BadPlaces, TakenPlaces, LinksThere, UnknownLinks, LinkedItems, NotLent, TornLinks, ForeignAndStale, LoansOfLoans, Collisions};
 
 /// A kept request's identity comes with another line.

@@ -1,4 +1,4 @@
-// What comes back by a merge, what may come twice, and what is gone.
+//! What comes back by a merge, what may come twice, and what is gone.
 ghost use Rattle.model_examples.specs.Returning.{ThereAndBack, ColumnThereAndBack, CrossedLinks, ContentsAndLinks, CollisionOnReturn, ColumnCollision, SplitThatComesTwice, KeptAfterMerge, RefusedReturns, InPlace};
 
 /// Two tiles are lent and brought back, their bytes as before.

@@ -1,4 +1,4 @@
-// A step of the register, and a run of steps.
+//! A step of the register, and a run of steps.
 ghost use Rattle.model_examples.specs.Steps.{RefusedChangesNothing, KeptChangesNothing, FaultAnywhere, SmallRun, OneReplyEach};
 
 /// Whatever is refused, the world stays.

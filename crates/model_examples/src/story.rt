@@ -1,4 +1,4 @@
-// A story of nine requests, each with its receipt and the whole world after it.
+//! A story of nine requests, each with its receipt and the whole world after it.
 ghost use Rattle.model_examples.specs.Story.{AddsARow, AddsATile, AddsAMedium, LinksThem, LendsThem, AddsToTheLoan, BringsThemBack, UnlinksThem, DeletesOne};
 
 /// A row of four bytes is added to the new archive.

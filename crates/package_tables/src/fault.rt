@@ -1,4 +1,4 @@
-// Why a call on a package fails.
+//! Why a call on a package fails.
 ghost use Rattle.std.specs.Prelude.{◌≡◌, IsOk, MatchResult};
 ghost use Rattle.package_tables.specs.Faults.{fault_of};
 ghost use Rattle.package_tables.specs.declared.fault.Fault.TheVariants.{OutOfMemory};

@@ -1,4 +1,4 @@
-// The statements on the tables that are the same in every package but for the frame: reference systems, contents, tile matrices and relations.
+//! The statements on the tables that are the same in every package but for the frame: reference systems, contents, tile matrices and relations.
 ghost use Rattle.std.specs.Prelude.{◌≡◌, true};
 ghost use Rattle.std.specs.Ordering.{on, int_cmp};
 ghost use Rattle.sqlite.specs.State.{Survives};

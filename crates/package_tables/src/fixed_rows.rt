@@ -1,4 +1,4 @@
-// The rows that each package has from its start: reference systems, contents, tile matrices and relations.
+//! The rows that each package has from its start: reference systems, contents, tile matrices and relations.
 ghost use Rattle.std.specs.Prelude.{◌≡◌, [], ◌∷◌, IsTrue, IsOk};
 ghost use Rattle.sqlite.specs.Held.{state};
 ghost use Rattle.sheet_types.specs.Matrix.{is_good_frame};

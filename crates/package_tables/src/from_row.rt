@@ -1,4 +1,4 @@
-// From the rows that a SELECT answers to values.
+//! From the rows that a SELECT answers to values.
 ghost use Rattle.std.specs.Prelude.{◌≡◌, ◌≢◌, ℕ, ℤ, List, [], map, slice_get, IfOk, IfErr, IsOkAnd, MatchOption, IsUtf8};
 ghost use Rattle.std.specs.List.{AllByRecursion};
 ghost use Rattle.sqlite.specs.Order.{column};

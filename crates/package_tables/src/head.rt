@@ -1,4 +1,4 @@
-// The statements on `sheet_package`.
+//! The statements on `sheet_package`.
 ghost use Rattle.std.specs.Prelude.{◌≡◌};
 ghost use Rattle.std.specs.Ordering.{on, int_cmp};
 ghost use Rattle.sqlite.specs.State.{Survives};

@@ -1,4 +1,4 @@
-// The statements on `sheet_identity`.
+//! The statements on `sheet_identity`.
 ghost use Rattle.std.specs.Prelude.{◌≡◌, ◌&&◌, bytes_eq};
 ghost use Rattle.std.specs.Ordering.{int_eq, int_cmp, on, then_cmp};
 ghost use Rattle.sqlite.specs.State.{Survives};

@@ -1,4 +1,4 @@
-// The tile matrices of a frame's zoom levels. OGC GeoPackage 1.3, 2.2.7.
+//! The tile matrices of a frame's zoom levels. OGC GeoPackage 1.3, 2.2.7.
 ghost use Rattle.std.specs.Prelude.{◌≡◌, pos, ◌<◌, ◌+ℤ◌, unsigned_abs, [], IsTrue};
 ghost use Rattle.sqlite.specs.Held.{state};
 ghost use Rattle.sheet_types.specs.Matrix.{is_good_frame, has_level};

@@ -1,5 +1,5 @@
-// The statements on `tiles_media` and `rows_media`, the two mapping tables. A pair is a row of either; each function looks into
-// the table of the mapping that it is given.
+//! The statements on `tiles_media` and `rows_media`, the two mapping tables. A pair is a row of either; each function looks into
+//! the table of the mapping that it is given.
 ghost use Rattle.std.specs.Prelude.{◌≡◌, ◌&&◌};
 ghost use Rattle.std.specs.Ordering.{int_eq, int_cmp, on, then_cmp};
 ghost use Rattle.sqlite.specs.State.{Survives};

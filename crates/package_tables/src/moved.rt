@@ -1,4 +1,4 @@
-// The statements on `sheet_items`.
+//! The statements on `sheet_items`.
 ghost use Rattle.std.specs.Prelude.{◌≡◌, ◌&&◌, bytes_eq};
 ghost use Rattle.std.specs.Ordering.{int_cmp, int_eq, on};
 ghost use Rattle.sqlite.specs.State.{Survives};

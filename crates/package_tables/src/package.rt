@@ -1,4 +1,4 @@
-// A package and its transactions.
+//! A package and its transactions.
 ghost use Rattle.std.specs.Prelude.{◌≡◌, true, false};
 
 use sqlite::{Alter, Connection, Transaction};

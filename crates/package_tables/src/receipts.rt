@@ -1,4 +1,4 @@
-// The statements on `sheet_receipts`.
+//! The statements on `sheet_receipts`.
 ghost use Rattle.std.specs.Prelude.{◌≡◌, bytes_eq};
 ghost use Rattle.std.specs.Ordering.{int_cmp, on};
 ghost use Rattle.sqlite.specs.State.{Survives};

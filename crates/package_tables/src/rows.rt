@@ -1,4 +1,4 @@
-// The rows of a package's tables, a struct a table, each field a column of the same name.
+//! The rows of a package's tables, a struct a table, each field a column of the same name.
 use sheet_types::collections::{Bytes, Text};
 
 /// A row of `sheet_tiles` (OGC GeoPackage 1.3, 2.2.8, tile pyramid user data tables).

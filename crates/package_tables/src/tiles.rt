@@ -1,4 +1,4 @@
-// The statements on `sheet_tiles`.
+//! The statements on `sheet_tiles`.
 ghost use Rattle.std.specs.Prelude.{◌≡◌, ◌&&◌};
 ghost use Rattle.std.specs.Ordering.{int_eq, int_cmp, on};
 ghost use Rattle.sqlite.specs.State.{Survives};

@@ -1,4 +1,4 @@
-// What a command may hold, whatever the world is.
+//! What a command may hold, whatever the world is.
 ghost use Rattle.std.specs.Prelude.{◌≡◌, ◌==◌};
 ghost use Rattle.std.specs.List.{list_all, list_any};
 ghost use Rattle.sheet_types.specs.Refuse.{bad_text, is_printable, has_good_size, too_large};

@@ -1,4 +1,4 @@
-// The digests of contents, and their texts (FIPS 180-4, 6.2).
+//! The digests of contents, and their texts (FIPS 180-4, 6.2).
 ghost use Rattle.std.specs.Prelude.{◌≡◌, ◌≢◌, ◌++◌, ◌∷◌, [], List, ℕ, Some, IfSome, IfNone};
 ghost use Rattle.std.specs.Fmt.{signed_decimal};
 ghost use Rattle.sha2.specs.Hashers.{Holds256};

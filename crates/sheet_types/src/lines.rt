@@ -1,4 +1,4 @@
-// The lines under which commands are entered.
+//! The lines under which commands are entered.
 ghost use Rattle.std.specs.Prelude.{◌≡◌, ℕ, List, IfOk, Some, string_bytes};
 ghost use Rattle.sheet_types.specs.Reading.{rect_text};
 ghost use Rattle.sheet_types.specs.Texts.{Adds, entry_line, line};

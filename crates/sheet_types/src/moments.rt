@@ -1,4 +1,4 @@
-// Moments of requests.
+//! Moments of requests.
 ghost use Rattle.std.specs.Prelude.{◌≡◌, ◌<◌, ◌+◌, IsTrue, length};
 ghost use Rattle.sheet_types.specs.Texts.{is_moment, fits_pattern, two_digits};
 

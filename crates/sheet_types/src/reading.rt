@@ -1,4 +1,4 @@
-// Texts that are read: identities, numbers, frames.
+//! Texts that are read: identities, numbers, frames.
 ghost use Rattle.std.specs.Prelude.{◌≡◌, ◌≢◌, ◌∷◌, ◌++◌, [], ℤ, ℕ, List, IfSome, IfNone, FitsSigned};
 ghost use Rattle.std.specs.Int.{w64};
 ghost use Rattle.std.specs.Fmt.{signed_decimal};

@@ -1,4 +1,4 @@
-// The order in which items, links and identities stand.
+//! The order in which items, links and identities stand.
 ghost use Rattle.std.specs.Prelude.{◌≡◌, ◌≢◌, [], length, unwrap_or, IfSome, IfNone};
 ghost use Rattle.std.specs.Ordering.{nat_cmp};
 ghost use Rattle.std.specs.Cmp.Lexicographic.{slice_cmp};

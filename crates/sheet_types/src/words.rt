@@ -1,4 +1,4 @@
-// The words of lists, lines and manifests.
+//! The words of lists, lines and manifests.
 ghost use Rattle.std.specs.Prelude.{◌≡◌, ◌≢◌, ◌≤◌, IfSome, IfNone, Some, length};
 ghost use Rattle.sheet_types.specs.Reading.{optional_uuid_text};
 ghost use Rattle.sheet_types.specs.Texts.{kind_word, mapping_word, mode_word};

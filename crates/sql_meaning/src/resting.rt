@@ -1,4 +1,4 @@
-// Whether a connection may be asked: each look-up outside a transaction wants one that is at rest.
+//! Whether a connection may be asked: each look-up outside a transaction wants one that is at rest.
 ghost use Rattle.std.specs.Prelude.{IsTrue};
 ghost use Rattle.sqlite.specs.Held.{state};
 ghost use Rattle.sql_meaning.specs.Transactions.{Rests};

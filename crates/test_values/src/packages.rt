@@ -1,4 +1,4 @@
-// New packages, with what the calls that make them ask for tested first, and what a change and a look-up ask for.
+//! New packages, with what the calls that make them ask for tested first, and what a change and a look-up ask for.
 ghost use Rattle.std.specs.Prelude.{◌≤◌, IsTrue, IfOk};
 ghost use Rattle.sheet_types.specs.Matrix.{is_good_frame};
 ghost use Rattle.sqlite.specs.Held.{state};

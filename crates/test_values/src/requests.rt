@@ -1,4 +1,4 @@
-// Requests to one archive, in a few words each.
+//! Requests to one archive, in a few words each.
 
 use crate::values::text;
 use package_tables::fault::Fault;

@@ -1,4 +1,4 @@
-// A frame, a moment, a text, and the sums of nothing.
+//! A frame, a moment, a text, and the sums of nothing.
 
 use package_tables::fault::Fault;
 use sheet_types::collections::Text;

@@ -1,4 +1,4 @@
-// A world of one archive in memory, and requests to worlds of any store, with what the calls ask for tested first.
+//! A world of one archive in memory, and requests to worlds of any store, with what the calls ask for tested first.
 ghost use Rattle.std.specs.Prelude.{IfOk};
 ghost use Rattle.sqlite.specs.Held.{state};
 ghost use Rattle.sqlite.specs.State.{HasCleanDisk};

@@ -1,4 +1,4 @@
-// One request over the members of a world: what it comes to is decided, and where a change is due it is carried out.
+//! One request over the members of a world: what it comes to is decided, and where a change is due it is carried out.
 ghost use Rattle.std.specs.Prelude.{◌≡◌, ◌≤◌, ◌↔◌, IsTrue, length};
 ghost use Rattle.sheet_types.specs.Matrix.{is_good_frame};
 ghost use Rattle.sheet_types.specs.Refuse.{greatest_receipts};

@@ -1,4 +1,4 @@
-// The change of one package that a command asks for, with its receipt, in one transaction of the package's store.
+//! The change of one package that a command asks for, with its receipt, in one transaction of the package's store.
 ghost use Rattle.std.specs.Prelude.{◌≡◌, ◌≢◌, ◌↔◌, Err, IsTrue};
 ghost use Rattle.sqlite.specs.Held.{state};
 ghost use Rattle.sqlite.specs.State.{Survives};

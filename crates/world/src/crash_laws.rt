@@ -1,4 +1,4 @@
-// What a crash leaves of a world between two calls, the contract of a function that does nothing.
+//! What a crash leaves of a world between two calls, the contract of a function that does nothing.
 ghost use Rattle.world.specs.Worlds.{LeftAsItStands};
 
 use sqlite::Alter;

@@ -1,4 +1,4 @@
-// The first member of a world: the archive, with nothing in it.
+//! The first member of a world: the archive, with nothing in it.
 ghost use Rattle.std.specs.Prelude.{◌≡◌, IfOk, IsTrue, length};
 ghost use Rattle.sqlite.specs.Held.{state};
 ghost use Rattle.sqlite.specs.State.{HasCleanDisk};

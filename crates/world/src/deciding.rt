@@ -1,4 +1,4 @@
-// What a request comes to before anything is written: the reply, or the change that is due. The members are read in the order in which the reasons are told, and no further than the first that holds.
+//! What a request comes to before anything is written: the reply, or the change that is due. The members are read in the order in which the reasons are told, and no further than the first that holds.
 ghost use Rattle.std.specs.Prelude.{◌≡◌, ◌<◌, ◌≤◌, ◌+◌, IsTrue, None, Some, Ok, Err, IfOk, length, slice_get, bytes_eq, false, if◌then◌else◌};
 ghost use Rattle.std.specs.Option.{option_map_or};
 ghost use Rattle.sheet_types.specs.Custody.{kept, is_used};

@@ -1,4 +1,4 @@
-// Why a package does not take a command. Each reason is looked up by a key or an index, and the look-ups stop at the first that holds. An error is want of memory, or a store that failed, and tells nothing of the package.
+//! Why a package does not take a command. Each reason is looked up by a key or an index, and the look-ups stop at the first that holds. An error is want of memory, or a store that failed, and tells nothing of the package.
 ghost use Rattle.std.specs.Prelude.{◌≡◌, IsTrue};
 ghost use Rattle.sqlite.specs.Held.{state};
 ghost use Rattle.sql_meaning.specs.Transactions.{Rests};

@@ -1,4 +1,4 @@
-// How the judging of a request falls into parts, and where a command is carried out, each law the contract of a function that does nothing.
+//! How the judging of a request falls into parts, and where a command is carried out, each law the contract of a function that does nothing.
 ghost use Rattle.world.specs.Laws.{RefusedByParts, RefusedUnlessLive, CarriedOutInOne};
 
 /// Where its package is live, a served request is refused for the first of: an identity reused, its text, an identity used, its package, and what would be too many.

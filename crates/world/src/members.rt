@@ -1,4 +1,4 @@
-// The live packages of a world, each with its open store and what is kept of it.
+//! The live packages of a world, each with its open store and what is kept of it.
 use sheet_types::receipt::Sums;
 use sqlite::{Alter, Connection};
 use uuid::Uuid;

@@ -1,4 +1,4 @@
-// What a world is asked for without changing it: the packages, what one of them holds and how much, and a kept receipt.
+//! What a world is asked for without changing it: the packages, what one of them holds and how much, and a kept receipt.
 ghost use Rattle.std.specs.Prelude.{◌≡◌, ◌<◌, ◌≤◌, ◌+◌, ◌++◌, ℕ, Some, IfOk, map, length, slice_get, vec_len, vec_capacity};
 ghost use Rattle.std.specs.Option.{option_map};
 ghost use Rattle.sheet_types.specs.Answers.{sums_of, package_sights, holdings_answer, receipt_answer};

@@ -1,4 +1,4 @@
-// The receipt of a command that is accepted, made before anything is written.
+//! The receipt of a command that is accepted, made before anything is written.
 ghost use Rattle.std.specs.Prelude.{◌≡◌, [], ◌∷◌, IfOk, string_bytes};
 ghost use Rattle.sheet_types.specs.Step.{receipt_over, count_of, links_of};
 ghost use Rattle.sheet_types.specs.Texts.{line};

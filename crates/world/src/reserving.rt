@@ -1,4 +1,4 @@
-// Lists whose room is there before it is needed.
+//! Lists whose room is there before it is needed.
 ghost use Rattle.std.specs.Prelude.{◌≡◌, ◌<◌, ◌≤◌, ◌+◌, [], ◌∷◌, ◌++◌, IfOk, vec_len, vec_capacity};
 
 use package_tables::fault::Fault;

@@ -1,4 +1,4 @@
-// What a request makes of a world, by what is kept of it, so that a request is carried out without looking over the whole world. Each law is the contract of a function that does nothing.
+//! What a request makes of a world, by what is kept of it, so that a request is carried out without looking over the whole world. Each law is the contract of a function that does nothing.
 ghost use Rattle.world.specs.Steps.{FitsWhereAccepted, NothingAgainstAccepted, RefusedInTurn, RefusedAsUnknown, BytesWithin, SumsAfter, TooManyBySums, TicketAfter, KeptOutcome, ReusedOutcome, RefusedOutcome, AcceptedOutcome};
 
 /// The receipt of a served request that nothing speaks against is new to its package, which is as the command's change needs it.

@@ -1,4 +1,4 @@
-// What a package holds after a command, by what it held and what the receipt moved.
+//! What a package holds after a command, by what it held and what the receipt moved.
 ghost use Rattle.std.specs.Prelude.{◌≡◌};
 ghost use Rattle.std.specs.Option.{SomeIff};
 ghost use Rattle.world.specs.Steps.{IsWithin, sums_moved, sums_more, sums_less, sums_after};

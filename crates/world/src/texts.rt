@@ -1,4 +1,4 @@
-// What is wrong with a request whatever the world is.
+//! What is wrong with a request whatever the world is.
 ghost use Rattle.std.specs.Prelude.{◌≡◌};
 ghost use Rattle.sheet_types.specs.Matrix.{first_row};
 ghost use Rattle.world.specs.Reasons.{text_reasons};

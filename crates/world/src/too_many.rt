@@ -1,4 +1,4 @@
-// Whether a request would leave too many: a package past its limits, too many packages or too many receipts. What each package holds is kept, so nothing is counted.
+//! Whether a request would leave too many: a package past its limits, too many packages or too many receipts. What each package holds is kept, so nothing is counted.
 ghost use Rattle.std.specs.Prelude.{◌≡◌, ◌<◌, length, slice_get, Some};
 ghost use Rattle.std.specs.List.{list_any};
 ghost use Rattle.world.specs.Steps.{is_past_limits};

@@ -1,4 +1,4 @@
-// The change of one member of a world: its store takes a turn, and what is kept of it is brought up to date.
+//! The change of one member of a world: its store takes a turn, and what is kept of it is brought up to date.
 ghost use Rattle.std.specs.Prelude.{◌≡◌, ◌<◌, ℕ, ◌+◌, length, vec_capacity, Err, OnOk, OnErr};
 ghost use Rattle.sheet_types.specs.World.{World};
 ghost use Rattle.sql_meaning.specs.Stores.{LeavesEither};

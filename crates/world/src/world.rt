@@ -1,4 +1,4 @@
-// An archive and its loans, and what requests make of them.
+//! An archive and its loans, and what requests make of them.
 ghost use Rattle.std.specs.Prelude.{◌≡◌, ◌↔◌, true, false, Err, IfOk, OnErr, IsTrue};
 ghost use Rattle.sqlite.specs.Held.{state};
 ghost use Rattle.sqlite.specs.State.{HasCleanDisk};
