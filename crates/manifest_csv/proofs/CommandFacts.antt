@@ -7,6 +7,11 @@ use Rattle.sheet_types.specs.declared.command.Command.TheVariants.{Add, Delete, 
 use Rattle.world.specs.Laws.{IsServed}
 use Rattle.manifest_csv.specs.Requests.{IsCommand}
 
+-- what holds anyway holds where there is none
+pub if_none : {X P : Type 0} (found : Option X) → P → IfNone found P
+if_none (Some x) holds = tt
+if_none None holds = holds
+
 pub no_command : (fields : List (List ℕ)) (found : Option Command) → ((target identity : List ℕ) (content : Content) → ¬ IsCommand fields (Add target identity content))
     → ((source identity : List ℕ) → ¬ IsCommand fields (Delete source identity)) → ((target base media : List ℕ) (mapping : Mapping) → ¬ IsCommand fields (Link target mapping base media))
     → IfNone found ((source base media : List ℕ) (mapping : Mapping) → ¬ IsCommand fields (Unlink source mapping base media))
