@@ -6,8 +6,7 @@ mod requests;
 mod values;
 
 pub use crate::packages::{
-    Change, at_rest, can_be_made, committed, empty_package, fill_with_a_link, is_good, new_package,
-    new_tables,
+    can_be_made, empty_package, fill_with_a_link, is_good, new_package, new_tables,
 };
 pub use crate::requests::{Asks, BEGUN, archive, item, question, request_of, told};
 pub use crate::values::{AT, FRAME, NOTHING, text};

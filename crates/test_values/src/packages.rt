@@ -1,8 +1,6 @@
-//! New packages, with what the calls that make them ask for tested first, and what a change and a look-up ask for.
-ghost use Rattle.std.specs.Prelude.{◌≤◌, IsTrue, IfOk};
+//! New packages, with what the calls that make them ask for tested first.
+ghost use Rattle.std.specs.Prelude.{◌≤◌, IsTrue};
 ghost use Rattle.sheet_types.specs.Matrix.{is_good_frame};
-ghost use Rattle.sqlite.specs.Held.{state};
-ghost use Rattle.sql_meaning.specs.Transactions.{Rests};
 
 use crate::values::FRAME;
 use matrix_rules::check::FrameRules;
@@ -12,13 +10,13 @@ use package_tables::fault::Fault;
 use package_tables::identities::insert_identity;
 use package_tables::mappings::insert_pair;
 use package_tables::media::insert_medium;
-use package_tables::package::{Package, begin};
+use package_tables::package::Package;
 use package_tables::schema::create_schema;
 use package_tables::tiles::insert_tile;
 use sheet_types::command::Mapping;
 use sheet_types::frame::Frame;
 use sql_meaning::resting::is_at_rest;
-use sqlite::{Alter, Connection, Transaction};
+use sqlite::{Alter, Connection};
 use std::alloc::Global;
 use uuid::Uuid;
 
@@ -84,54 +82,22 @@ pub fn empty_package<S: Alter + Drop>(
     Ok(new_tables(alloc, conn, &FRAME, &info)?.into_connection())
 }
 
-/// A change of a package, inside a transaction.
-pub trait Change<S: Alter> {
-    fn make(&self, tx: &mut Transaction<'_, S>) -> Result<(), Fault>;
-}
-
-/// Makes a change in a transaction of its own. Tells whether no other stood in its way.
-pub fn committed<S: Alter, C: Change<S>>(
-    conn: &mut Connection<S>,
-    change: &C,
-) -> Result<bool, Fault> {
-    if !conn.is_autocommit() {
-        return Ok(false);
-    }
-    let mut tx = begin(conn);
-    change.make(&mut tx)?;
-    tx.commit()?;
-    Ok(true)
-}
-
-/// Passes a connection that may be asked.
-pub fn at_rest<S: Alter>(conn: &Connection<S>) -> Result<(), Fault>
-    ensures { IfOk result (λ _. Rests (state S.Store conn.now)) }
-{
-    if is_at_rest(conn) {
-        Ok(())
-    } else {
-        Err(Fault::StoreFault)
-    }
-}
-
-struct WithALink;
-
-impl<S: Alter> Change<S> for WithALink {
-    fn make(&self, tx: &mut Transaction<'_, S>) -> Result<(), Fault> {
-        create_schema(tx)?;
-        insert_tile(tx, 7, 2, 3, 1, b"ab")?;
-        insert_identity(tx, 1, 7, "00000000-0000-0000-0000-000000000001")?;
-        insert_medium(tx, 4, b"png", "image/png")?;
-        insert_identity(tx, 2, 4, "00000000-0000-0000-0000-000000000002")?;
-        insert_attribute(tx, 4, 100, -7, 31, "well")?;
-        insert_identity(tx, 3, 4, "00000000-0000-0000-0000-000000000003")?;
-        insert_pair(tx, Mapping::TilesMedia, 7, 4)
-    }
-}
-
 /// Fills a blank store with a tile that is linked to a medium, and a row that is linked to nothing: a tile 7 at column 3 and row 1
 /// of zoom 2, and a medium and a row that both have the number 4; their identities are 1, 2 and 3. Tells whether no transaction
 /// stood in its way.
 pub fn fill_with_a_link<S: Alter>(conn: &mut Connection<S>) -> Result<bool, Fault> {
-    committed(conn, &WithALink)
+    if !conn.is_autocommit() {
+        return Ok(false);
+    }
+    let mut tx = conn.transaction();
+    create_schema(&mut tx)?;
+    insert_tile(&mut tx, 7, 2, 3, 1, b"ab")?;
+    insert_identity(&mut tx, 1, 7, "00000000-0000-0000-0000-000000000001")?;
+    insert_medium(&mut tx, 4, b"png", "image/png")?;
+    insert_identity(&mut tx, 2, 4, "00000000-0000-0000-0000-000000000002")?;
+    insert_attribute(&mut tx, 4, 100, -7, 31, "well")?;
+    insert_identity(&mut tx, 3, 4, "00000000-0000-0000-0000-000000000003")?;
+    insert_pair(&mut tx, Mapping::TilesMedia, 7, 4)?;
+    tx.commit()?;
+    Ok(true)
 }
