@@ -1,13 +1,14 @@
 // What requests come to over two packages in memory, one after the other, each change taking its turn. What is expected follows from what each command asks for. The digest is that of `tile 2 3 1`, LF and `ab` by another program's SHA-256.
 use package_tables::fault::Fault;
-use sheet_types::collections::Bytes;
-use sheet_types::command::{Command, Content, Mapping, Request};
+use sheet_types::command::{Command, Mapping, Request};
 use sheet_types::receipt::{Receipt, Sums};
 use sheet_types::refusal::Refusal;
 use sqlite::{Alter, Connection, MemStore};
 use std::alloc::Global;
 use std::test::Fail;
-use test_values::{AT, FRAME, NOTHING, empty_package, is_good, text};
+use test_values::{
+    AT, FRAME, NOTHING, empty_package, is_good, medium_content, sums, text, tile_content,
+};
 use uuid::Uuid;
 use world::asking::are_at_rest;
 use world::deciding::{Decision, decide};
@@ -78,12 +79,7 @@ fn tile(
     Ok(Command::Add {
         package,
         identity: item(number),
-        content: Content::Tile {
-            zoom: 2,
-            column: 3,
-            row,
-            bytes: Bytes::from_vec(Vec::from_slice(alloc, bytes)?),
-        },
+        content: tile_content(alloc, [2, 3, row], bytes)?,
     })
 }
 
@@ -91,10 +87,7 @@ fn medium(alloc: Global, number: u8) -> Result<Command, Fault> {
     Ok(Command::Add {
         package: second_package(),
         identity: item(number),
-        content: Content::Media {
-            content_type: text(alloc, "image/png")?,
-            bytes: Bytes::from_vec(b"png".to_vec(alloc)?),
-        },
+        content: medium_content(alloc, "image/png", b"png")?,
     })
 }
 
@@ -227,13 +220,7 @@ fn the_first_tile_is_due(rt: HostRuntime) -> Result<(), Fail> {
     assert!(rt; change.receipt.source.is_none());
     assert!(rt; change.receipt.target == Some(second_package()));
     assert_eq!(rt; change.receipt.items.as_slice().len(), 1);
-    let held = Sums {
-        tiles: 1,
-        media: 0,
-        rows: 0,
-        links: 0,
-        bytes: 2,
-    };
+    let held = sums(1, 0, 0, 0, 2);
     assert!(rt; change.sums == held);
     assert!(rt; turned(&mut members, 0, alloc, &request)? == (1, 1));
     assert!(rt; keeps(members.as_slice(), held, 1));
@@ -320,13 +307,7 @@ fn links_hold_their_ends(rt: HostRuntime) -> Result<(), Fail> {
     assert!(rt; turned(&mut members, 3, alloc, &unlinked)? == (1, 4));
     let ends = asked(alloc, 5, AT, delete(2))?;
     assert!(rt; turned(&mut members, 4, alloc, &ends)? == (1, 5));
-    let held = Sums {
-        tiles: 1,
-        media: 0,
-        rows: 0,
-        links: 0,
-        bytes: 2,
-    };
+    let held = sums(1, 0, 0, 0, 2);
     assert!(rt; keeps(members.as_slice(), held, 5));
     Ok(())
 }

@@ -1,17 +1,18 @@
 // A world of one archive in memory, from its making on: what it replies to requests that come one after the other, and to a list. What is expected follows from the rules of a frame and of each command; the digests are those of another program's SHA-256.
 use package_tables::fault::Fault;
-use sheet_types::collections::Bytes;
-use sheet_types::command::{Command, Content, Mapping, Request};
+use sheet_types::command::{Command, Mapping, Request};
 use sheet_types::fingerprints::spell;
 use sheet_types::frame::{Frame, FrameFault};
-use sheet_types::receipt::{Moved, MovedKind, Receipt};
+use sheet_types::receipt::{Moved, MovedKind, Receipt, Sums};
 use sheet_types::refusal::Refusal;
 use shelves::memory::MemoryShelf;
 use sqlite::MemStore;
 use std::alloc::Global;
 use std::process::Abort;
 use std::test::Fail;
-use test_values::{Asks, BEGUN, FRAME, archive, item, question, request_of, text, told};
+use test_values::{
+    Asks, BEGUN, FRAME, Step, archive, counts, item, question, sums, text, tile_content, told,
+};
 use test_worlds::{applied, blank_store, new_world};
 use uuid::Uuid;
 use world::applying::are_served;
@@ -39,35 +40,25 @@ fn unmade(alloc: Global, frame: &Frame, at: &str) -> Result<Option<CreateFault>,
     }
 }
 
-// A request by its number and moment, and what is to be told of it.
+// A request, and what is to be told of it.
 #[derive(Clone, Copy)]
-struct Step {
-    number: u8,
-    at: &'static str,
-    asks: Asks,
+struct Expected {
+    step: Step,
     told: i64,
 }
 
-fn step_now(number: u8, asks: Asks, told: i64) -> Step {
-    Step {
-        number,
-        at: BEGUN,
-        asks,
+fn step_now(number: u8, asks: Asks, told: i64) -> Expected {
+    Expected {
+        step: Step::now(number, asks),
         told,
     }
 }
 
-fn step_at(number: u8, at: &'static str, asks: Asks, told: i64) -> Step {
-    Step {
-        number,
-        at,
-        asks,
+fn step_at(number: u8, at: &'static str, asks: Asks, told: i64) -> Expected {
+    Expected {
+        step: Step { number, at, asks },
         told,
     }
-}
-
-fn request(alloc: Global, step: &Step) -> Result<Request, Fault> {
-    request_of(alloc, step.number, step.at, step.asks)
 }
 
 fn reply_to(
@@ -75,25 +66,25 @@ fn reply_to(
     alloc: Global,
     step: &Step,
 ) -> Result<Result<Receipt, Refusal>, Fault> {
-    let request = request(alloc, step)?;
+    let request = step.request(alloc)?;
     applied(world, alloc, &request, &mut MemoryShelf::new(alloc))
 }
 
 // One after the other, in a world that begins with nothing.
-fn expect_told(rt: &impl Abort, alloc: Global, steps: &[Step]) -> Result<(), Fault> {
+fn expect_told(rt: &impl Abort, alloc: Global, steps: &[Expected]) -> Result<(), Fault> {
     let mut world = new_world(alloc)?;
-    for step in steps {
-        let number = told(&reply_to(&mut world, alloc, step)?);
-        assert_eq!(rt; number, step.told);
+    for expected in steps {
+        let number = told(&reply_to(&mut world, alloc, &expected.step)?);
+        assert_eq!(rt; number, expected.told);
         assert!(rt; !world.has_failed());
     }
     Ok(())
 }
 
-fn requests(alloc: Global, steps: &[Step]) -> Result<Vec<Request>, Fault> {
+fn requests(alloc: Global, steps: &[Expected]) -> Result<Vec<Request>, Fault> {
     let mut list = Vec::new(alloc);
-    for step in steps {
-        list.push(request(alloc, step)?)?;
+    for expected in steps {
+        list.push(expected.step.request(alloc)?)?;
     }
     Ok(list)
 }
@@ -117,13 +108,13 @@ fn expect_ran(
     rt: &impl Abort,
     world: &mut World<MemStore>,
     alloc: Global,
-    steps: &[Step],
+    steps: &[Expected],
 ) -> Result<(), Fault> {
     let list = requests(alloc, steps)?;
     let numbers = ran(world, alloc, &list)?;
     assert_eq!(rt; numbers.len(), steps.len());
-    for (number, step) in numbers.as_slice().iter().zip(steps) {
-        assert_eq!(rt; *number, step.told);
+    for (number, expected) in numbers.as_slice().iter().zip(steps) {
+        assert_eq!(rt; *number, expected.told);
     }
     Ok(())
 }
@@ -147,7 +138,7 @@ struct Wanted {
     other: Option<Uuid>,
     size: u64,
     digest: &'static str,
-    sums: [u64; 5],
+    sums: Sums,
 }
 
 // The thing that moved. The digest of a link is empty.
@@ -171,11 +162,7 @@ fn expect_receipt(rt: &impl Abort, receipt: &Receipt, number: u8, wanted: &Wante
     assert_eq!(rt; receipt.at.as_str(), BEGUN);
     assert!(rt; receipt.source == wanted.source);
     assert!(rt; receipt.target == wanted.target);
-    assert_eq!(rt; receipt.tiles, wanted.sums[0]);
-    assert_eq!(rt; receipt.media, wanted.sums[1]);
-    assert_eq!(rt; receipt.rows, wanted.sums[2]);
-    assert_eq!(rt; receipt.links, wanted.sums[3]);
-    assert_eq!(rt; receipt.bytes, wanted.sums[4]);
+    assert!(rt; counts(receipt) == wanted.sums);
     assert_eq!(rt; receipt.items.as_slice().len(), 1);
     expect_moved(rt, receipt.items.as_slice()[0], wanted);
 }
@@ -187,7 +174,7 @@ fn addition(
     base: u8,
     size: u64,
     digest: &'static str,
-    sums: [u64; 5],
+    sums: Sums,
 ) -> Wanted {
     Wanted {
         seq: u64::from(number),
@@ -208,12 +195,19 @@ fn the_first_tile(rt: HostRuntime) -> Result<(), Fail> {
     let mut world = new_world(alloc)?;
     assert!(rt; world.frame() == FRAME);
     assert!(rt; !world.has_failed());
-    let receipt = received(&mut world, alloc, &step_now(1, Asks::Tile(1, [2, 3, 3]), 1))?;
+    let receipt = received(&mut world, alloc, &Step::now(1, Asks::Tile(1, [2, 3, 3])))?;
     expect_receipt(
         &rt,
         &receipt,
         1,
-        &addition(1, MovedKind::TileItem, 1, 1, TILE_DIGEST, [1, 0, 0, 0, 1]),
+        &addition(
+            1,
+            MovedKind::TileItem,
+            1,
+            1,
+            TILE_DIGEST,
+            sums(1, 0, 0, 0, 1),
+        ),
     );
     assert_eq!(rt;
         receipt.line.as_str(),
@@ -226,14 +220,14 @@ fn the_first_tile(rt: HostRuntime) -> Result<(), Fail> {
 fn things_of_other_kinds(rt: HostRuntime) -> Result<(), Fail> {
     let alloc = rt.alloc();
     let mut world = new_world(alloc)?;
-    let receipt = received(&mut world, alloc, &step_now(1, Asks::Row(1, 0, 4096), 1))?;
+    let receipt = received(&mut world, alloc, &Step::now(1, Asks::Row(1, 0, 4096)))?;
     expect_receipt(
         &rt,
         &receipt,
         1,
-        &addition(1, MovedKind::RowItem, 1, 4, ROW_DIGEST, [0, 0, 1, 0, 4]),
+        &addition(1, MovedKind::RowItem, 1, 4, ROW_DIGEST, sums(0, 0, 1, 0, 4)),
     );
-    let receipt = received(&mut world, alloc, &step_now(2, Asks::Medium(3), 2))?;
+    let receipt = received(&mut world, alloc, &Step::now(2, Asks::Medium(3)))?;
     expect_receipt(
         &rt,
         &receipt,
@@ -244,15 +238,15 @@ fn things_of_other_kinds(rt: HostRuntime) -> Result<(), Fail> {
             3,
             2,
             MEDIUM_DIGEST,
-            [0, 1, 0, 0, 2],
+            sums(0, 1, 0, 0, 2),
         ),
     );
     let receipt = received(
         &mut world,
         alloc,
-        &step_now(3, Asks::Link(Mapping::RowsMedia, 1, 3), 3),
+        &Step::now(3, Asks::Link(Mapping::RowsMedia, 1, 3)),
     )?;
-    let mut wanted = addition(3, MovedKind::RowsMediaLink, 1, 0, "", [0, 0, 0, 1, 0]);
+    let mut wanted = addition(3, MovedKind::RowsMediaLink, 1, 0, "", sums(0, 0, 0, 1, 0));
     wanted.other = Some(item(3));
     expect_receipt(&rt, &receipt, 3, &wanted);
     Ok(())
@@ -263,9 +257,16 @@ fn things_of_other_kinds(rt: HostRuntime) -> Result<(), Fail> {
 fn an_item_goes_out(rt: HostRuntime) -> Result<(), Fail> {
     let alloc = rt.alloc();
     let mut world = new_world(alloc)?;
-    let _added = received(&mut world, alloc, &step_now(1, Asks::Tile(1, [2, 3, 3]), 1))?;
-    let receipt = received(&mut world, alloc, &step_now(2, Asks::Delete(1), 2))?;
-    let mut wanted = addition(2, MovedKind::TileItem, 1, 1, TILE_DIGEST, [1, 0, 0, 0, 1]);
+    let _added = received(&mut world, alloc, &Step::now(1, Asks::Tile(1, [2, 3, 3])))?;
+    let receipt = received(&mut world, alloc, &Step::now(2, Asks::Delete(1)))?;
+    let mut wanted = addition(
+        2,
+        MovedKind::TileItem,
+        1,
+        1,
+        TILE_DIGEST,
+        sums(1, 0, 0, 0, 1),
+    );
     wanted.source = Some(archive());
     wanted.target = None;
     expect_receipt(&rt, &receipt, 2, &wanted);
@@ -281,10 +282,17 @@ fn an_item_goes_out(rt: HostRuntime) -> Result<(), Fail> {
 fn what_comes_again(rt: HostRuntime) -> Result<(), Fail> {
     let alloc = rt.alloc();
     let mut world = new_world(alloc)?;
-    let wanted = addition(1, MovedKind::TileItem, 1, 1, TILE_DIGEST, [1, 0, 0, 0, 1]);
-    let mut again = step_now(1, Asks::Tile(1, [2, 3, 3]), 1);
+    let wanted = addition(
+        1,
+        MovedKind::TileItem,
+        1,
+        1,
+        TILE_DIGEST,
+        sums(1, 0, 0, 0, 1),
+    );
+    let mut again = Step::now(1, Asks::Tile(1, [2, 3, 3]));
     expect_receipt(&rt, &received(&mut world, alloc, &again)?, 1, &wanted);
-    let _gone = received(&mut world, alloc, &step_now(2, Asks::Delete(1), 2))?;
+    let _gone = received(&mut world, alloc, &Step::now(2, Asks::Delete(1)))?;
     expect_receipt(&rt, &received(&mut world, alloc, &again)?, 1, &wanted);
     again.at = LATER;
     expect_receipt(&rt, &received(&mut world, alloc, &again)?, 1, &wanted);
@@ -379,7 +387,7 @@ fn ends_of_a_link(rt: HostRuntime) -> Result<(), Fail> {
 }
 
 // A receipt, each reason that one of these commands can meet in a small world, in the order of the reasons, and repeats.
-fn each_reason() -> [Step; 19] {
+fn each_reason() -> [Expected; 19] {
     [
         step_now(1, Asks::Tile(1, [2, 0, 0]), 1),
         step_at(1, LATER, Asks::Tile(1, [2, 0, 0]), 1),
@@ -435,30 +443,17 @@ fn a_list_comes_again(rt: HostRuntime) -> Result<(), Fail> {
     Ok(())
 }
 
-// So many bytes.
-fn filled(alloc: Global, length: usize) -> Result<Vec<u8>, Fault> {
-    let mut bytes = Vec::with_capacity(alloc, length)?;
-    for _ in 0..length {
-        bytes.push(b'A')?;
-    }
-    Ok(bytes)
-}
-
 // What is told of the addition of a tile of so many bytes, and the bytes of its receipt.
 fn told_of_size(alloc: Global, length: usize) -> Result<(i64, u64), Fault> {
     let mut world = new_world(alloc)?;
+    let bytes = "A".repeat(alloc, length)?;
     let request = Request {
         id: question(1),
         at: text(alloc, BEGUN)?,
         command: Command::Add {
             package: archive(),
             identity: item(1),
-            content: Content::Tile {
-                zoom: 2,
-                column: 3,
-                row: 3,
-                bytes: Bytes::from_vec(filled(alloc, length)?),
-            },
+            content: tile_content(alloc, [2, 3, 3], bytes.as_bytes())?,
         },
     };
     let reply = applied(&mut world, alloc, &request, &mut MemoryShelf::new(alloc))?;

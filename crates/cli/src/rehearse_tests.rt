@@ -2,10 +2,10 @@
 use crate::arguments::Words;
 use crate::rehearse::rehearse;
 use crate::statuses::{Failure, Outcome, What, status_of};
-use std::alloc::{AllocError, Global};
-use std::io::{Error, ErrorKind, Result as IoResult, Write};
+use std::alloc::Global;
 use std::process::Abort;
 use std::test::Fail;
+use test_values::{FIRST_TILE, Narrow, list};
 
 const GOOD: Words<'static> = Words {
     archive: "a0000000-0000-4000-8000-000000000000",
@@ -13,29 +13,14 @@ const GOOD: Words<'static> = Words {
     frame: "25832,0,0,4096,4096,256,256,0,3,1,1",
 };
 
-const HEADER: &str =
-    "request,at,command,package,identity,other,kind,zoom,column,row,last_column,last_row,x,y,code,ticket,text,data\n";
-
-const FIRST_TILE: &str =
-    "90000000-0000-4000-8000-000000000001,2024-05-01T08:00:00.000Z,add,a0000000-0000-4000-8000-000000000000,00000000-0000-4000-8000-000000000001,,tile,2,3,3,,,,,,,,41\n";
-
 const SECOND_TILE: &str =
-    "90000000-0000-4000-8000-000000000002,2024-05-01T08:00:00.000Z,add,a0000000-0000-4000-8000-000000000000,00000000-0000-4000-8000-000000000002,,tile,2,4,3,,,,,,,,42\n";
+    "90000000-0000-4000-8000-000000000002,2024-05-01T08:00:00.000Z,add,a0000000-0000-4000-8000-000000000000,00000000-0000-4000-8000-000000000002,,tile,2,4,3,,,,,,,,42";
 
 const SPLIT: &str =
-    "90000000-0000-4000-8000-000000000002,2024-05-01T08:00:00.000Z,split,a0000000-0000-4000-8000-000000000000,,b0000000-0000-4000-8000-000000000000,strict,1,0,0,0,0,,,,,,\n";
+    "90000000-0000-4000-8000-000000000002,2024-05-01T08:00:00.000Z,split,a0000000-0000-4000-8000-000000000000,,b0000000-0000-4000-8000-000000000000,strict,1,0,0,0,0,,,,,,";
 
 const OF_FIRST_TILE: &str =
     "line,request,seq,refusal\n1,90000000-0000-4000-8000-000000000001,1,0\npackage a0000000-0000-4000-8000-000000000000\nkind,identity,other,zoom,column,row,x,y,code,size,fingerprint,text\ntile,00000000-0000-4000-8000-000000000001,,2,3,3,,,,1,b363ee0ecc9cf61b12ecdafd75dca2779729b4fcc5f1bd718c33aad2c94af4f8,\n";
-
-/// The header and these records.
-fn list(alloc: Global, records: &[&str]) -> Result<String, AllocError> {
-    let mut text = String::from_str(alloc, HEADER)?;
-    for record in records {
-        text.push_str(record)?;
-    }
-    Ok(text)
-}
 
 /// Expects that the rehearsal of a list ends so and writes this.
 fn expect_rehearsal(rt: &impl Abort, alloc: Global, text: &[u8], outcome: Outcome, wanted: &str) {
@@ -61,14 +46,17 @@ fn a_refused_rehearsal_writes_nothing(rt: HostRuntime) {
 
 // The header alone: an archive with nothing in it.
 #[test]
-fn an_empty_list_is_carried_out(rt: HostRuntime) {
+fn an_empty_list_is_carried_out(rt: HostRuntime) -> Result<(), Fail> {
+    let alloc = rt.alloc();
+    let text = list(alloc, &[])?;
     expect_rehearsal(
         &rt,
-        rt.alloc(),
-        HEADER.as_bytes(),
+        alloc,
+        text.as_bytes(),
         Outcome::Done,
         "line,request,seq,refusal\npackage a0000000-0000-4000-8000-000000000000\nkind,identity,other,zoom,column,row,x,y,code,size,fingerprint,text\n",
     );
+    Ok(())
 }
 
 #[test]
@@ -169,31 +157,6 @@ fn a_list_that_is_cut_short(rt: HostRuntime) -> Result<(), Fail> {
     Ok(())
 }
 
-/// Takes eleven bytes a call at most, and fails once it has taken as many as it has room for.
-#[derive(Drop)]
-struct Narrow {
-    taken: Vec<u8>,
-    room: usize,
-}
-
-impl Write for Narrow {
-    fn write(&mut self, buf: &[u8]) -> IoResult<usize> {
-        let left = self.room.saturating_sub(self.taken.len());
-        let taking = left.min(buf.len()).min(11);
-        if taking == 0 {
-            return Err(Error::from(ErrorKind::BrokenPipe));
-        }
-        if self.taken.extend_from_slice(&buf[..taking]).is_err() {
-            return Err(Error::from(ErrorKind::OutOfMemory));
-        }
-        Ok(taking)
-    }
-
-    fn flush(&mut self) -> IoResult<()> {
-        Ok(())
-    }
-}
-
 // A writer with every smaller room fails: in the report, in the package's line, in the manifest.
 #[test]
 fn writers_that_fail(rt: HostRuntime) -> Result<(), Fail> {
@@ -201,10 +164,7 @@ fn writers_that_fail(rt: HostRuntime) -> Result<(), Fail> {
     let text = list(alloc, &[FIRST_TILE])?;
     let wanted = OF_FIRST_TILE.as_bytes();
     for room in 0..wanted.len() {
-        let mut out = Narrow {
-            taken: Vec::new(alloc),
-            room,
-        };
+        let mut out = Narrow::new(alloc, room);
         let outcome = rehearse(alloc, &GOOD, text.as_bytes(), &mut out);
         assert_eq!(rt; outcome, Outcome::Stopped(Failure::StoreFault));
         assert_eq!(rt; out.taken.as_slice(), &wanted[..room]);

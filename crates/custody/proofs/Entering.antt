@@ -29,7 +29,8 @@ use Rattle.package_tables.specs.Shapes.{receipt_shape, moved_shape}
 use Rattle.package_tables.specs.Package.{Tables, tables_of, AreFormed}
 use Rattle.package_tables.specs.Calls.{Makes, OnTables}
 use Rattle.package_tables.proofs.Stepping.{makes_steps}
-use Rattle.package_tables.specs.Entries.{AddsReceipt, AddsMoved}
+use Rattle.package_tables.specs.Listed.{receipts, moved}
+use Rattle.package_tables.specs.Changes.{Adds}
 use Rattle.package_tables.specs.declared.rows.MovedRow.{MovedRow}
 use Rattle.package_tables.specs.declared.rows.ReceiptRow.{ReceiptRow}
 use Rattle.identity_register.specs.Reads.{Says, receipt_row, moved_row, moved_rows}
@@ -153,7 +154,7 @@ module _ (f : Frame) (p : Package) (t : Tables) (says : Says f p t) (r : Receipt
     };
   }
 
-receipt_entered : (r : Receipt) (old mid new : Database) → OnTables (AddsReceipt (receipt_row r)) old mid → EachChained Enters (moved_rows r) mid new → Becomes (IsNewReceipt r) (with_receipt r) old new
+receipt_entered : (r : Receipt) (old mid new : Database) → OnTables (Adds receipts (receipt_row r)) old mid → EachChained Enters (moved_rows r) mid new → Becomes (IsNewReceipt r) (with_receipt r) old new
 receipt_entered r old mid new head items f p reads fits =
     let says = reads.says in
     let one = head reads.formed in
@@ -165,7 +166,7 @@ receipt_entered r old mid new head items f p reads fits =
     record { formed = all.formed; says = subst (Says f (with_receipt r p)) are (enters f p (tables_of old) says r fits) }
 
 -- the row of the receipt comes in, and then those of the things that it moved
-pub receipt_steps : {E F : Type 0} (r : Receipt) {old mid new : State} {x : Unit {0}} {q : Result (Unit {0}) F} → Steps {E = E} (λ _. OnTables (AddsReceipt (receipt_row r))) old mid (Ok x) → Steps (λ _. EachChained Enters (moved_rows r)) mid new q
+pub receipt_steps : {E F : Type 0} (r : Receipt) {old mid new : State} {x : Unit {0}} {q : Result (Unit {0}) F} → Steps {E = E} (λ _. OnTables (Adds receipts (receipt_row r))) old mid (Ok x) → Steps (λ _. EachChained Enters (moved_rows r)) mid new q
     → Steps (λ _. Becomes (IsNewReceipt r) (with_receipt r)) old new q
 receipt_steps r {old} {mid} {new} first next =
     steps_weaker (λ _. Becomes (IsNewReceipt r) (with_receipt r)) (λ _ chain. receipt_entered r old.now chain.0 new.now chain.1 chain.2) (steps_then first next)
@@ -182,23 +183,23 @@ kind_stored RowsMediaLink = refl
 
 -- a row that was put in is that of the thing
 pub moved_steps : {E : Type 0} (seq position : ℕ) (m : Moved) {s at kind size : ℤ} {base other digest : List ℕ} {old new : State} {q : Result (Unit {0}) E}
-    → Makes (AddsMoved (record { seq = s; position = at; kind = kind; base = base; other = other; size = size; fingerprint = digest })) old new q → Survives old new (λ _. ⊥)
+    → Makes (Adds moved (record { seq = s; position = at; kind = kind; base = base; other = other; size = size; fingerprint = digest })) old new q → Survives old new (λ _. ⊥)
     → s ≡ pos seq → at ≡ pos position → kind ≡ pos (kind_number m.kind) → base ≡ uuid_text m.base → other ≡ optional_uuid_text m.other → size ≡ pos m.size → digest ≡ option_map_or encode_lower m.fingerprint []
     → Steps (λ _. Enters (moved_row seq position m)) old new q
 moved_steps {E} seq position m {s} {at} {kind} {size} {base} {other} {digest} {old} {new} {q} makes survives e₁ e₂ e₃ e₄ e₅ e₆ e₇ =
     let row : MovedRow = record { seq = s; position = at; kind = kind; base = base; other = other; size = size; fingerprint = digest } in
     let is : row ≡ moved_row seq position m = λ i. record { seq = e₁ i; position = e₂ i; kind = e₃ i; base = e₄ i; other = e₅ i; size = e₆ i; fingerprint = e₇ i } in
-    subst (λ r. Steps (λ _. Enters r) old new q) is (makes_steps (AddsMoved row) makes survives)
+    subst (λ r. Steps (λ _. Enters r) old new q) is (makes_steps (Adds moved row) makes survives)
 
 pub head_steps : {E : Type 0} (r : Receipt) {s tiles media rows links bytes : ℤ} {request at line source target : List ℕ} {old new : State} {q : Result (Unit {0}) E}
-    → Makes (AddsReceipt (record { seq = s; request = request; at = at; line = line; source = source; target = target; n_tiles = tiles; n_media = media; n_rows = rows; n_links = links; n_bytes = bytes })) old new q → Survives old new (λ _. ⊥)
+    → Makes (Adds receipts (record { seq = s; request = request; at = at; line = line; source = source; target = target; n_tiles = tiles; n_media = media; n_rows = rows; n_links = links; n_bytes = bytes })) old new q → Survives old new (λ _. ⊥)
     → s ≡ pos r.seq → request ≡ uuid_text r.request → at ≡ r.at → line ≡ r.line → source ≡ optional_uuid_text r.source → target ≡ optional_uuid_text r.target
     → tiles ≡ pos r.tiles → media ≡ pos r.media → rows ≡ pos r.rows → links ≡ pos r.links → bytes ≡ pos r.bytes
-    → Steps (λ _. OnTables (AddsReceipt (receipt_row r))) old new q
+    → Steps (λ _. OnTables (Adds receipts (receipt_row r))) old new q
 head_steps {E} r {s} {tiles} {media} {rows} {links} {bytes} {request} {at} {line} {source} {target} {old} {new} {q} makes survives e₁ e₂ e₃ e₄ e₅ e₆ e₇ e₈ e₉ f₁ f₂ =
     let row : ReceiptRow = record { seq = s; request = request; at = at; line = line; source = source; target = target; n_tiles = tiles; n_media = media; n_rows = rows; n_links = links; n_bytes = bytes } in
     let is : row ≡ receipt_row r = λ i. record { seq = e₁ i; request = e₂ i; at = e₃ i; line = e₄ i; source = e₅ i; target = e₆ i; n_tiles = e₇ i; n_media = e₈ i; n_rows = e₉ i; n_links = f₁ i; n_bytes = f₂ i } in
-    subst (λ x. Steps (λ _. OnTables (AddsReceipt x)) old new q) is (makes_steps (AddsReceipt row) makes survives)
+    subst (λ x. Steps (λ _. OnTables (Adds receipts x)) old new q) is (makes_steps (Adds receipts row) makes survives)
 
 -- ---- the rows of a receipt, as far as a loop has come
 

@@ -6,13 +6,14 @@ use Rattle.sqlite.specs.Effect.{Database}
 use Rattle.sheet_types.specs.Texts.{uuid_text}
 use Rattle.sheet_types.specs.declared.receipt.Moved.{Moved}
 use Rattle.package_tables.specs.Calls.{OnTables}
-use Rattle.package_tables.specs.Entries.{AddsMoved}
+use Rattle.package_tables.specs.Listed.{moved}
+use Rattle.package_tables.specs.Changes.{Adds}
 use Rattle.package_tables.specs.declared.rows.MovedRow.{MovedRow}
 use Rattle.identity_register.specs.Reads.{moved_row}
 
 -- one row of a moved thing more
 abbrev pub Enters : MovedRow → Database → Database → Type 0
-Enters row = OnTables (AddsMoved row)
+Enters row = OnTables (Adds moved row)
 
 -- the rows of things that are moved under a number, by their positions from n
 abbrev pub rows_from : ℕ → ℕ → List Moved → List MovedRow

@@ -19,13 +19,14 @@ ghost use Rattle.custody.specs.Receipts.{IsKept};
 
 use identity_register::fitting::fits;
 use identity_register::kinds::kind_of_number;
+use identity_register::stored_texts::stored_uuid;
 use package_tables::fault::Fault;
 use package_tables::moved::moved_of;
 use package_tables::receipts::receipt_by_request;
 use package_tables::rows::{MovedRow, ReceiptRow};
 use sheet_types::collections::MovedList;
 use sheet_types::fingerprints::read_fingerprint;
-use sheet_types::reading::{read_stored_optional, read_stored_uuid};
+use sheet_types::reading::read_stored_optional;
 use sheet_types::receipt::{Moved, Receipt};
 use sqlite::{Alter, Connection};
 use std::alloc::Global;
@@ -49,19 +50,6 @@ fn bytes_fit<const N: usize>(bytes: &[u8; N])
     for place in 0..N {
         let _ = bytes[place];
     }
-}
-
-/// The UUID of a stored text.
-fn uuid_of(text: &str) -> Result<Uuid, Fault>
-    ensures text { IfOk result (λ id. text.now ≡ uuid_text id) }
-    ensures fit { IfOk result IsUuid }
-    ensures none { IfErr result (λ _. (id : List ℕ) → IsUuid id → text.now ≢ uuid_text id) }
-{
-    let Some(id) = read_stored_uuid(text) else {
-        return Err(Fault::StoreFault);
-    };
-    fits(id);
-    Ok(id)
 }
 
 /// The UUID of a stored text, which is empty where there is none.
@@ -135,7 +123,7 @@ fn things_of(alloc: Global, seq: i64, rows: &[MovedRow]) -> Result<MovedList, Fa
     let mut things = Vec::new(alloc);
     for position in 0..rows.len() {
         let row = &rows[position];
-        let base = uuid_of(row.base.as_str())?;
+        let base = stored_uuid(row.base.as_str())?;
         let other = end_of(row.other.as_str())?;
         things.push(thing_at(row, seq, position, base, other)?)?;
     }
@@ -162,7 +150,7 @@ fn receipt_of(row: ReceiptRow, items: MovedList) -> Result<Receipt, Fault>
     ensures none { IfErr result (λ _. (receipt : Receipt) → IsFitReceipt receipt → receipt_row receipt ≢ row) }
 {
     let seq = counted(row.seq)?;
-    let request = uuid_of(row.request.as_str())?;
+    let request = stored_uuid(row.request.as_str())?;
     let source = end_of(row.source.as_str())?;
     let target = end_of(row.target.as_str())?;
     let tiles = counted(row.n_tiles)?;

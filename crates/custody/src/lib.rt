@@ -14,7 +14,8 @@ ghost use Rattle.sheet_types.specs.Lines.{uuid_in};
 ghost use Rattle.sheet_types.specs.Texts.{uuid_text};
 ghost use Rattle.sheet_types.specs.World.{with_receipt};
 ghost use Rattle.package_tables.specs.Calls.{LooksUp, OnTables};
-ghost use Rattle.package_tables.specs.Entries.{AddsReceipt};
+ghost use Rattle.package_tables.specs.Listed.{receipts};
+ghost use Rattle.package_tables.specs.Changes.{Adds};
 ghost use Rattle.identity_register.specs.Calls.{Becomes, Sees};
 ghost use Rattle.identity_register.specs.Reads.{receipt_row, moved_row};
 ghost use Rattle.custody.specs.Entries.{Enters, rows_from, is_of};
@@ -94,7 +95,7 @@ fn enter_things<S: Alter>(
 /// Enters the row of a receipt, without the things that it moved.
 fn enter_row<S: Alter>(tx: &mut Transaction<'_, S>, receipt: &Receipt) -> Result<(), Fault>
     ensures same_reference { tx.new.conn.ghost_name ≡ tx.old.conn.ghost_name }
-    ensures steps { Steps (λ _. OnTables (AddsReceipt (receipt_row receipt.now))) (state S.Store tx.old.conn.now) (state S.Store tx.new.conn.now) result }
+    ensures steps { Steps (λ _. OnTables (Adds receipts (receipt_row receipt.now))) (state S.Store tx.old.conn.now) (state S.Store tx.new.conn.now) result }
 {
     let seq = stored(receipt.seq)?;
     let tiles = stored(receipt.tiles)?;

@@ -1,6 +1,6 @@
 -- What an answer of the tables says of the package that they are read as.
-use Rattle.std.proofs.Common.{◌≡◌, ℕ, ℤ, pos, List, [], ◌∷◌, map, Bool, true, false, Option, Some, None, refl, sym, ap, subst, ◌∙◌, arith}
-use Rattle.std.specs.Prelude.{◌&&◌, ◌||◌, find, bytes_eq, flat_map, Contains, option_map, unsigned_abs, is_some}
+use Rattle.std.proofs.Common.{◌≡◌, ℕ, ℤ, List, [], ◌∷◌, map, Bool, true, false, Option, Some, None, refl, sym, ap, subst, ◌∙◌, arith}
+use Rattle.std.specs.Prelude.{◌&&◌, ◌||◌, find, bytes_eq, flat_map, Contains, is_some}
 use Rattle.std.specs.List.{AllByRecursion, list_any}
 use Rattle.std.specs.Ordering.{int_eq}
 use Rattle.std.proofs.lemmas.Int.{ints}
@@ -8,7 +8,7 @@ use Rattle.std.proofs.lemmas.List.Folds.{list_any-append}
 use Rattle.std.proofs.lemmas.Slice.Eq.{bytes_eq-Decides}
 use Rattle.sheet_types.specs.Matrix.{is_within}
 use Rattle.sheet_types.specs.Refuse.{is_at}
-use Rattle.sheet_types.specs.Texts.{uuid_text, kind_of}
+use Rattle.sheet_types.specs.Texts.{uuid_text}
 use Rattle.sheet_types.specs.World.{Package, item_key, kind_number, item_of, has_item}
 use Rattle.sheet_types.specs.Lines.{IsUuid}
 use Rattle.sheet_types.specs.declared.command.Content.{Content}
@@ -131,13 +131,9 @@ module _ (f : Frame) (p : Package) (t : Tables) (says : Says f p t) where
       let same : it.0.item.identity ≡ id = same_uuid it.0.item.identity id (All-In (λ m. IsUuid m.item.identity) it.0 says.numbered says.numbers.uuids it.1) fit text in
       (it.0, it.1, it.2, same, subst (λ x. item_of p x ≡ Some it.0.item) same (item_is it.0 it.1))
 
-  -- the kind that is stored is that of the item
-  pub kind_of_row : (id : List ℕ) → IsUuid id → (r : IdentityRow) (kind : MovedKind) → Contains t.identities r × (bytes_eq r.uuid (uuid_text id) ≡ true) → r.kind ≡ pos (kind_number kind)
-      → Some kind ≡ option_map (λ i. kind_of i.content) (item_of p id)
-  kind_of_row id fit r kind h e =
-      let it = item_of_row id fit r h in
-      let same : kind_number (kind_of it.0.item.content) ≡ kind_number kind = ap unsigned_abs (ap (λ x. x.kind) it.2 ∙ e) in
-      rw it.4 (ap Some (sym (kind_number_tells (kind_of it.0.item.content) kind same)))
+  -- so the item is there
+  pub known_by_row : (id : List ℕ) → IsUuid id → (r : IdentityRow) → Contains t.identities r × (bytes_eq r.uuid (uuid_text id) ≡ true) → has_item p id ≡ true
+  known_by_row id fit r h = let it = item_of_row id fit r h in subst (λ x. has_item p x ≡ true) it.3 (item_there it.0 it.1)
 
   -- ---- tiles
 

@@ -2,6 +2,7 @@
 use Rattle.std.proofs.Common.{◌≡◌, ℕ, ℤ, pos, List, [], ◌∷◌, true, Option, Some, Result, Ok, sym, ap, subst, ◌∙◌, inl, inr, arith}
 use Rattle.std.specs.Prelude.{bytes_eq, flat_map, unsigned_abs, Contains}
 use Rattle.std.specs.Ordering.{int_eq}
+use Rattle.std.specs.Result.{result_ok}
 use Rattle.std.proofs.lemmas.Slice.Eq.{bytes_eq-Decides}
 use Rattle.sqlite.specs.State.{State}
 use Rattle.sql_meaning.specs.Transactions.{Looks}
@@ -33,10 +34,10 @@ pub int_same : (a b : ℤ) → int_eq a b ≡ true → a ≡ b
 int_same a b h = grind (arith)
 
 -- the row that a look-up by the number found says what the number's content is
-pub content_found : {R E : Type 0} (id : R → ℤ) (rows : Tables → List R) (kind number : ℤ) {r : R} {content : Content} {a b : State} {found : Result (Option R) E} → found ≡ Ok (Some r)
+pub content_found : {R E F : Type 0} (id : R → ℤ) (rows : Tables → List R) (kind number : ℤ) {r : R} {content : Content} {a b : State} {o : Option R} {found : Result (Option R) E} {made : Result R F} → found ≡ Ok o → o ≡ result_ok made → made ≡ Ok r
     → Looks {X = Option R} {E = E} (Answers (λ t. IsOneOf (λ x. int_eq (id x) number) (rows t))) a b found → ((t : Tables) → Contains (rows t) r → IsContentOf kind (id r) t content) → Looks {X = Content} {E = E} (Answers (IsContentOf kind number)) a b (Ok content)
-content_found id rows kind number {r} {content} is looks so =
-    tells (IsContentOf kind number) (looked (λ t. IsOneOf (λ x. int_eq (id x) number) (rows t)) is looks)
+content_found id rows kind number {r} {content} answered there is looks so =
+    tells (IsContentOf kind number) (looked (λ t. IsOneOf (λ x. int_eq (id x) number) (rows t)) (answered ∙ ap Ok (there ∙ ap result_ok is)) looks)
     (λ t h. subst (λ n. IsContentOf kind n t content) (int_same (id r) number h.1) (so t h.0))
 
 -- ---- the one row of a content

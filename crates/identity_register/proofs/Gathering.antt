@@ -1,12 +1,11 @@
 -- The items and links that whole tables give are those of the package.
 use Rattle.std.proofs.Common.{◌≡◌, ℕ, suc, ◌+◌, ◌<◌, pos, List, [], ◌∷◌, ◌++◌, map, length, get_or, take, true, Some, Result, Ok, Err, refl, sym, ap, subst, ◌∙◌, inl, inr, arith}
-use Rattle.std.specs.Prelude.{bytes_eq, flat_map, unsigned_abs, unwrap_or, Contains, IsPermutation}
+use Rattle.std.specs.Prelude.{bytes_eq, flat_map, unsigned_abs, Contains, IsPermutation}
 use Rattle.std.specs.List.{AllByRecursion, AllZip, AllAdjacentBelow}
 use Rattle.std.proofs.lemmas.List.{take_more}
 use Rattle.std.proofs.lemmas.List.Elements.{All-contains_itself, recursion_from_All}
 use Rattle.std.proofs.lemmas.Slice.Zip.{all_zipped_more}
 use Rattle.std.proofs.lemmas.List.Sorted.{IsPermutation-sym, Contains-permutation, All-permutation}
-use Rattle.uuid.specs.Text.{parsed_hyphenated}
 use Rattle.sqlite.specs.State.{State}
 use Rattle.sql_meaning.specs.Transactions.{Looks}
 use Rattle.sheet_types.specs.Ordered.{has, is_before, IsArranged}
@@ -23,7 +22,7 @@ use Rattle.sheet_types.specs.declared.receipt.MovedKind.{MovedKind}
 use Rattle.sheet_types.proofs.Basics.{some_same, bytes_eq_itself, before_trans}
 use Rattle.sheet_types.proofs.Every.{All-weaker, All-append, All-map}
 use Rattle.sheet_types.proofs.Same.{In, In-map, In-of_map, In-append, In-of_append, In-flat_map, In-of_flat_map, All-In, Contains-In, same_list}
-use Rattle.sheet_types.proofs.LineReading.{uuid_back, same_uuid}
+use Rattle.sheet_types.proofs.LineReading.{same_uuid}
 use Rattle.package_tables.specs.Calls.{Answers}
 use Rattle.package_tables.specs.Package.{Tables}
 use Rattle.package_tables.specs.Mappings.{mapping_rows}
@@ -91,17 +90,17 @@ contents_are t tiles media rows h i j =
 -- ---- items
 
 module _ (f : Frame) (p : Package) (t : Tables) (says : Says f p t) where
-  -- the item that an identity row is of, by the UUID that its text reads as
-  row_item : (r : IdentityRow) → Contains t.identities r → (id : List ℕ) → parsed_hyphenated r.uuid ≡ Some id → (n : Numbered) × In n says.numbered × (identity_row n ≡ r) × (n.item.identity ≡ id)
-  row_item r h id e =
+  -- the item that an identity row is of, by the UUID whose text it has
+  row_item : (r : IdentityRow) → Contains t.identities r → (id : List ℕ) → r.uuid ≡ uuid_text id → IsUuid id → (n : Numbered) × In n says.numbered × (identity_row n ≡ r) × (n.item.identity ≡ id)
+  row_item r h id e uuid =
       let it = row_numbered f p t says r h in
       let fit : IsUuid it.0.item.identity = All-In (λ m. IsUuid m.item.identity) it.0 says.numbered says.numbers.uuids it.1 in
-      (it.0, it.1, it.2, sym (uuid_back it.0.item.identity fit) ∙ ap (λ o. unwrap_or o []) (ap (λ x. parsed_hyphenated x.uuid) it.2 ∙ e))
+      (it.0, it.1, it.2, same_uuid it.0.item.identity id fit uuid (ap (λ x. x.uuid) it.2 ∙ e))
 
   -- so is the item that was made of the row and its content
   item_there : (r : IdentityRow) → Contains t.identities r → (placed : List Placed) → AllByRecursion (IsPlaced t) placed → (i : Item) → IsItemOf placed r i → (n : Numbered) × In n says.numbered × (identity_row n ≡ r) × (n.item ≡ i)
   item_there r h placed all i it =
-      let n = row_item r h i.identity it.identity in
+      let n = row_item r h i.identity it.identity it.fit in
       let fit : IsUuid n.0.item.identity = All-In (λ m. IsUuid m.item.identity) n.0 says.numbered says.numbers.uuids n.1 in
       let named : bytes_eq r.uuid (uuid_text n.0.item.identity) ≡ true = subst (λ x. bytes_eq x.uuid (uuid_text n.0.item.identity) ≡ true) n.2 (bytes_eq_itself (uuid_text n.0.item.identity)) in
       let content : IsContentOf r.kind r.local_id t i.content = All-In (IsPlaced t) (record { kind = r.kind; number = r.local_id; content = i.content }) placed all (contained placed _ it.content) in
@@ -140,7 +139,7 @@ module _ (f : Frame) (p : Package) (t : Tables) (says : Says f p t) where
   named_is : (rows : List IdentityRow) → IsPermutation t.identities rows → (kind : MovedKind) (id found : List ℕ) → has item_key (kind_number kind ∷ id) p.items ≡ true → IsNamed rows (pos (kind_number kind)) (number_of says.numbered id) found → found ≡ id
   named_is rows all kind id found there it =
       let m = end_of f p t says kind id there in
-      let n = row_item it.row (Contains-permutation rows t.identities it.row (IsPermutation-sym t.identities rows all) it.there) found it.identity in
+      let n = row_item it.row (Contains-permutation rows t.identities it.row (IsPermutation-sym t.identities rows all) it.there) found it.identity it.fit in
       let kinds : kind_number (kind_of n.0.item.content) ≡ kind_number (kind_of m.0.item.content) = ap unsigned_abs (ap (λ r. r.kind) n.2 ∙ it.kind_is) ∙ sym m.2 in
       let numbers : n.0.number ≡ m.0.number = ap (λ r. r.local_id) n.2 ∙ it.number_is ∙ m.4 in
       sym n.3 ∙ ap (λ x. x.item.identity) (one_place f p t says n.0 m.0 n.1 m.1 kinds numbers) ∙ m.3

@@ -11,7 +11,8 @@ use Rattle.sql_meaning.proofs.Transactions.{steps_then, steps_weaker, steps_answ
 use Rattle.package_tables.specs.Package.{Tables, tables_of, AreFormed}
 use Rattle.package_tables.specs.Mappings.{mapping_rows}
 use Rattle.package_tables.specs.Calls.{Makes, Answers, OnTables}
-use Rattle.package_tables.specs.Changes.{AddsPair, DropsPair}
+use Rattle.package_tables.specs.Listed.{pairs}
+use Rattle.package_tables.specs.Changes.{Adds, DropsPair}
 use Rattle.package_tables.proofs.Stepping.{makes_steps}
 use Rattle.package_tables.specs.declared.rows.IdentityRow.{IdentityRow}
 use Rattle.package_tables.specs.declared.rows.MappingRow.{MappingRow}
@@ -83,7 +84,7 @@ module _ (f : Frame) (p : Package) (t : Tables) (says : Says f p t) where
       ∙ no_row k l e fits.ends says.linked says.ends (links_apart l fits.new)
 
   -- the tables get the row of the link
-  pub link_put : (l : Relation) (b m : ℤ) (after : Tables) → number_of says.numbered l.base ≡ b → number_of says.numbered l.media ≡ m → IsNewLink l p → AddsPair l.mapping (record { base_id = b; related_id = m }) t after → after ≡ with_link l.mapping (mapping_row says.numbered l) t
+  pub link_put : (l : Relation) (b m : ℤ) (after : Tables) → number_of says.numbered l.base ≡ b → number_of says.numbered l.media ≡ m → IsNewLink l p → Adds (pairs l.mapping) (record { base_id = b; related_id = m }) t after → after ≡ with_link l.mapping (mapping_row says.numbered l) t
   link_put l b m after is_base is_media fits adds = adds (row_free l.mapping l _ row_is refl fits) ∙ ap (λ r. with_link l.mapping r t) row_is
     where
       row_is : ◌≡◌ {A = MappingRow} (record { base_id = b; related_id = m }) (mapping_row says.numbered l)
@@ -103,13 +104,13 @@ ends_steps {E} {F} a b base media {old} {mid} {new} one two =
     (λ chain. (chain.2.0 ∙ chain.1.0, λ formed. (chain.1.1 formed, subst (λ d. IsRowOf b (tables_of d) media) chain.1.0 (chain.2.1 (subst AreFormed (sym chain.1.0) formed)))))
     (steps_then {F = F} one two)
 
-joined : (l : Relation) (ends : EndRows) (old mid new : Database) → Answers (AreRowsOfEnds l.base l.media) ends old mid → OnTables (AddsPair l.mapping (record { base_id = ends.base.local_id; related_id = ends.media.local_id })) mid new → Becomes (IsNewLink l) (link_added l) old new
+joined : (l : Relation) (ends : EndRows) (old mid new : Database) → Answers (AreRowsOfEnds l.base l.media) ends old mid → OnTables (Adds (pairs l.mapping) (record { base_id = ends.base.local_id; related_id = ends.media.local_id })) mid new → Becomes (IsNewLink l) (link_added l) old new
 joined l ends old mid new found added f p reads fits =
     let rows = found.1 reads.formed in
     let did = added (subst AreFormed (sym found.0) reads.formed) in
     let is_base = found_number f p (tables_of old) reads.says l.base fits.base ends.base rows.0 in
     let is_media = found_number f p (tables_of old) reads.says l.media fits.media ends.media rows.1 in
-    let after = link_put f p (tables_of old) reads.says l ends.base.local_id ends.media.local_id (tables_of new) is_base is_media fits (subst (λ d. AddsPair l.mapping (record { base_id = ends.base.local_id; related_id = ends.media.local_id }) (tables_of d) (tables_of new)) found.0 did.1) in
+    let after = link_put f p (tables_of old) reads.says l ends.base.local_id ends.media.local_id (tables_of new) is_base is_media fits (subst (λ d. Adds (pairs l.mapping) (record { base_id = ends.base.local_id; related_id = ends.media.local_id }) (tables_of d) (tables_of new)) found.0 did.1) in
     record { formed = did.0; says = subst (Says f (link_added l p)) (sym after) (links f p (tables_of old) l reads.says fits.new fits.ends) }
 
 parted : (l : Relation) (ends : EndRows) (old mid new : Database) → Answers (AreRowsOfEnds l.base l.media) ends old mid → OnTables (DropsPair l.mapping ends.base.local_id ends.media.local_id) mid new → Becomes (IsLink l) (link_removed l) old new
@@ -123,11 +124,11 @@ parted l ends old mid new found dropped f p reads fits =
 
 -- both ends are found, and the link comes in
 pub link_steps : {E F : Type 0} (l : Relation) (ends : EndRows) {old mid new : State} {r : Result (Unit {0}) F} → Steps {E = E} (Answers (AreRowsOfEnds l.base l.media)) old mid (Ok ends)
-    → Makes (AddsPair l.mapping (record { base_id = ends.base.local_id; related_id = ends.media.local_id })) mid new r → Survives mid new (λ _. ⊥)
+    → Makes (Adds (pairs l.mapping) (record { base_id = ends.base.local_id; related_id = ends.media.local_id })) mid new r → Survives mid new (λ _. ⊥)
     → Steps (λ _. Becomes (IsNewLink l) (link_added l)) old new r
 link_steps l ends {old} {mid} {new} first makes survives =
     steps_weaker (λ _. Becomes (IsNewLink l) (link_added l)) (λ _ chain. joined l ends old.now chain.0 new.now chain.1 chain.2)
-    (steps_then first (makes_steps (AddsPair l.mapping (record { base_id = ends.base.local_id; related_id = ends.media.local_id })) makes survives))
+    (steps_then first (makes_steps (Adds (pairs l.mapping) (record { base_id = ends.base.local_id; related_id = ends.media.local_id })) makes survives))
 
 -- both ends are found, and the link goes
 pub unlink_steps : {E F : Type 0} (l : Relation) (ends : EndRows) {old mid new : State} {r : Result (Unit {0}) F} → Steps {E = E} (Answers (AreRowsOfEnds l.base l.media)) old mid (Ok ends)

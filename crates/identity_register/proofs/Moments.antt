@@ -9,7 +9,7 @@ use Rattle.sheet_types.specs.Ordered.{IsArranged}
 use Rattle.sheet_types.specs.World.{Package}
 use Rattle.sheet_types.specs.declared.frame.Frame.{Frame}
 use Rattle.package_tables.specs.Calls.{OnTables}
-use Rattle.package_tables.specs.Entries.{SetsLastChange}
+use Rattle.package_tables.specs.Changes.{SetsLastChange}
 use Rattle.package_tables.specs.Fixed.{contents_of}
 use Rattle.package_tables.specs.Package.{Tables, tables_of}
 use Rattle.package_tables.specs.Shapes.{contents_shape}

@@ -14,7 +14,8 @@ use Rattle.package_tables.specs.Shapes.{tile_shape, medium_shape, attribute_shap
 use Rattle.package_tables.specs.Calls.{Makes, Tells, Answers, OnTables, IsOneOf}
 use Rattle.std.specs.Option.{is_some}
 use Rattle.package_tables.specs.declared.rows.IdentityRow.{IdentityRow}
-use Rattle.package_tables.specs.Changes.{AddsIdentity}
+use Rattle.package_tables.specs.Listed.{identities}
+use Rattle.package_tables.specs.Changes.{Adds}
 use Rattle.package_tables.proofs.Stepping.{makes_steps, tells_steps}
 use Rattle.sheet_types.specs.Ordered.{put, has}
 use Rattle.sheet_types.specs.Matrix.{is_within}
@@ -102,13 +103,13 @@ module _ (f : Frame) (p : Package) (t : Tables) (says : Says f p t) where
       adds (rw says.rows (list_any-arranged attribute_shape.key (λ r. bytes_eq (attribute_shape.key r) (unsigned_abs number ∷ [])) _ ∙ no_rows _ (λ m. attribute_rows m.number m.item.content) says.numbered (All-weaker _ _ (attribute_apart number) says.numbered apart)))
 
   -- and then its identity
-  both_in : (n : Numbered) (u v : Tables) → AreApart (kind_number (kind_of n.item.content)) n.number → AddsContent n.number n.item.content t u → AddsIdentity (identity_row n) u v → with_item n t ≡ v
+  both_in : (n : Numbered) (u v : Tables) → AreApart (kind_number (kind_of n.item.content)) n.number → AddsContent n.number n.item.content t u → Adds identities (identity_row n) u v → with_item n t ≡ v
   both_in n u v apart content identity =
       let e = content_in n.number n.item.content u apart content in
       let free : has identity_shape.key (identity_shape.key (identity_row n)) u.identities ≡ false = ap (λ x. has identity_shape.key (identity_shape.key (identity_row n)) x.identities) e ∙ identity_free (kind_number (kind_of n.item.content)) n.number apart in
       sym (identity free ∙ ap {A = Tables} (λ x. record x { identities = put identity_shape.key (identity_row n) x.identities }) e)
 
-item_in : (n : Numbered) (old mid last new : Database) → Answers (IsGap (identity_row n).kind) n.number old mid → OnTables (AddsContent n.number n.item.content) mid last → OnTables (AddsIdentity (identity_row n)) last new
+item_in : (n : Numbered) (old mid last new : Database) → Answers (IsGap (identity_row n).kind) n.number old mid → OnTables (AddsContent n.number n.item.content) mid last → OnTables (Adds identities (identity_row n)) last new
     → Becomes (IsNewItem n.item.identity) (item_added n.item) old new
 item_in n old mid last new found content identity f p reads fits =
     let formed_mid = subst AreFormed (sym found.0) reads.formed in
@@ -122,11 +123,11 @@ item_in n old mid last new found content identity f p reads fits =
 
 -- a free number is found, and the rows are put under it
 pub add_steps : {E F G : Type 0} (n : Numbered) {old mid last new : State} {x : Unit {0}} {r : Result (Unit {0}) G} → Steps {E = E} (Answers (IsGap (identity_row n).kind)) old mid (Ok n.number) → Steps {E = F} (λ _. OnTables (AddsContent n.number n.item.content)) mid last (Ok x)
-    → Makes (AddsIdentity (identity_row n)) last new r → Survives last new (λ _. ⊥) → Steps (λ _. Becomes (IsNewItem n.item.identity) (item_added n.item)) old new r
+    → Makes (Adds identities (identity_row n)) last new r → Survives last new (λ _. ⊥) → Steps (λ _. Becomes (IsNewItem n.item.identity) (item_added n.item)) old new r
 add_steps n {old} {mid} {last} {new} one two makes survives =
     steps_weaker (λ _. Becomes (IsNewItem n.item.identity) (item_added n.item))
     (λ _ chain. item_in n old.now chain.0 chain.2.0 new.now chain.1 chain.2.1 chain.2.2)
-    (steps_then one (steps_then two (makes_steps (AddsIdentity (identity_row n)) makes survives)))
+    (steps_then one (steps_then two (makes_steps (Adds identities (identity_row n)) makes survives)))
 
 -- ---- steps
 
@@ -170,7 +171,7 @@ pub gap_of : {E : Type 0} {kind k : ℤ} {old new : State} {r : Result ℤ E} �
 gap_of {E} {kind} {k} {old} {new} {r} same gap = subst (λ z. Steps (Answers (IsGap z)) old new r) same gap
 
 -- an identity row, by what its parts are
-pub identity_makes : {E : Type 0} (kind k number : ℤ) (text u : List ℕ) (old new : State) (r : Result (Unit {0}) E) → kind ≡ k → text ≡ u → Makes (AddsIdentity (record { kind = kind; local_id = number; uuid = text })) old new r
-    → Makes (AddsIdentity (record { kind = k; local_id = number; uuid = u })) old new r
+pub identity_makes : {E : Type 0} (kind k number : ℤ) (text u : List ℕ) (old new : State) (r : Result (Unit {0}) E) → kind ≡ k → text ≡ u → Makes (Adds identities (record { kind = kind; local_id = number; uuid = text })) old new r
+    → Makes (Adds identities (record { kind = k; local_id = number; uuid = u })) old new r
 identity_makes {E} kind k number text u old new r same texts makes =
-    subst (λ z. Makes (AddsIdentity (record { kind = z; local_id = number; uuid = u })) old new r) same (subst (λ z. Makes (AddsIdentity (record { kind = kind; local_id = number; uuid = z })) old new r) texts makes)
+    subst (λ z. Makes (Adds identities (record { kind = z; local_id = number; uuid = u })) old new r) same (subst (λ z. Makes (Adds identities (record { kind = kind; local_id = number; uuid = z })) old new r) texts makes)

@@ -1,6 +1,7 @@
 -- What the rows of whole tables say of the items and the links of a package.
-use Rattle.std.specs.Prelude.{◌≡◌, ℕ, ℤ, pos, List, Some, Contains, IsPermutation}
-use Rattle.uuid.specs.Text.{parsed_hyphenated}
+use Rattle.std.specs.Prelude.{◌≡◌, ℕ, ℤ, pos, List, Contains, IsPermutation}
+use Rattle.sheet_types.specs.Lines.{IsUuid}
+use Rattle.sheet_types.specs.Texts.{uuid_text}
 use Rattle.sheet_types.specs.World.{Package, kind_number, base_kind, other_kind}
 use Rattle.sheet_types.specs.declared.command.Content.TheVariants.{Tile, Media, Row}
 use Rattle.sheet_types.specs.declared.command.Item.{Item}
@@ -35,7 +36,8 @@ IsPlaced t x = IsContentOf x.kind x.number t x.content
 
 -- the item of an identity row, where these are the contents
 pub record IsItemOf (placed : List Placed) (r : IdentityRow) (i : Item) : Type 0 where
-  pub identity : parsed_hyphenated r.uuid ≡ Some i.identity
+  pub identity : r.uuid ≡ uuid_text i.identity
+  pub fit : IsUuid i.identity
   pub content : Contains placed (record { kind = r.kind; number = r.local_id; content = i.content })
 
 -- all items of the package that the tables say, where these are all identity rows
@@ -50,7 +52,8 @@ pub record IsNamed (rows : List IdentityRow) (kind number : ℤ) (id : List ℕ)
   pub there : Contains rows row
   pub kind_is : row.kind ≡ kind
   pub number_is : row.local_id ≡ number
-  pub identity : parsed_hyphenated row.uuid ≡ Some id
+  pub identity : row.uuid ≡ uuid_text id
+  pub fit : IsUuid id
 
 -- the link of a mapping row
 pub record IsLinkOf (m : Mapping) (rows : List IdentityRow) (r : MappingRow) (l : Relation) : Type 0 where

@@ -20,7 +20,8 @@ use Rattle.package_tables.specs.Shapes.{tile_shape, medium_shape, attribute_shap
 use Rattle.package_tables.specs.Package.{Tables}
 use Rattle.package_tables.specs.Mappings.{pair_shape, mapping_rows, with_mapping_rows}
 use Rattle.package_tables.specs.Calls.{IsGreatest}
-use Rattle.package_tables.specs.Changes.{AddsTile, AddsMedium, AddsAttribute}
+use Rattle.package_tables.specs.Listed.{tiles, media, attributes}
+use Rattle.package_tables.specs.Changes.{Adds}
 use Rattle.package_tables.specs.declared.rows.TileRow.{TileRow}
 use Rattle.package_tables.specs.declared.rows.MediaRow.{MediaRow}
 use Rattle.package_tables.specs.declared.rows.AttributeRow.{AttributeRow}
@@ -169,6 +170,6 @@ IsGap kind t number = (is_within (pos 1) greatest_number number ≡ true) × (is
 
 -- the row of a content comes in, where its number is free
 abbrev pub AddsContent : ℤ → Content → Tables → Tables → Type 0
-AddsContent number (Tile zoom column row bytes) before after = AddsTile (record { id = number; zoom_level = zoom; tile_column = column; tile_row = row; tile_data = bytes }) before after
-AddsContent number (Media content_type bytes) before after = AddsMedium (record { id = number; «data» = bytes; content_type = content_type }) before after
-AddsContent number (Row x y code label) before after = AddsAttribute (record { id = number; x = x; y = y; code = code; label = label }) before after
+AddsContent number (Tile zoom column row bytes) before after = Adds tiles (record { id = number; zoom_level = zoom; tile_column = column; tile_row = row; tile_data = bytes }) before after
+AddsContent number (Media content_type bytes) before after = Adds media (record { id = number; «data» = bytes; content_type = content_type }) before after
+AddsContent number (Row x y code label) before after = Adds attributes (record { id = number; x = x; y = y; code = code; label = label }) before after

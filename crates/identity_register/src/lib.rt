@@ -10,4 +10,5 @@ pub mod kinds;
 pub mod laws;
 pub mod look_ups;
 mod row_contents;
+pub mod stored_texts;
 pub mod whole;

@@ -1,6 +1,7 @@
 //! What is asked of a package at rest, each by a key or an index. An error is want of memory, a store that failed, or rows that
 //! no package has; the store holds what it held.
-ghost use Rattle.std.specs.Prelude.{◌≡◌, pos, option_map, bytes_eq};
+ghost use Rattle.std.specs.Prelude.{◌≡◌, bytes_eq};
+ghost use Rattle.std.specs.Bool.{then_some};
 ghost use Rattle.std.specs.List.{list_any};
 ghost use Rattle.sqlite.specs.Held.{state};
 ghost use Rattle.sql_meaning.specs.Transactions.{Rests, Looks};
@@ -8,13 +9,13 @@ ghost use Rattle.sheet_types.specs.Cut.{has_end};
 ghost use Rattle.sheet_types.specs.Ordered.{has};
 ghost use Rattle.sheet_types.specs.Lines.{IsUuid};
 ghost use Rattle.sheet_types.specs.Refuse.{is_at};
-ghost use Rattle.sheet_types.specs.Texts.{kind_of, uuid_text};
-ghost use Rattle.sheet_types.specs.World.{item_of, link_key};
+ghost use Rattle.sheet_types.specs.Texts.{uuid_text};
+ghost use Rattle.sheet_types.specs.World.{has_item, item_of, link_key};
 ghost use Rattle.package_tables.specs.Calls.{LooksUp, IsOneOf};
 ghost use Rattle.identity_register.specs.Answers.{is_linked_medium, is_linked_row, are_ends, link_state, IsContentOf};
 ghost use Rattle.identity_register.specs.Calls.{Sees};
 
-use crate::kinds::{MEDIUM, ROW, TILE, kind_of_number};
+use crate::kinds::{MEDIUM, ROW, TILE};
 use crate::row_contents::{of_attributes, of_medium, of_tile};
 use package_tables::attributes::attribute_by_id;
 use package_tables::fault::Fault;
@@ -24,7 +25,6 @@ use package_tables::media::medium_by_id;
 use package_tables::rows::IdentityRow;
 use package_tables::tiles::{tile_at, tile_by_id};
 use sheet_types::command::{Content, Item, Mapping, Relation};
-use sheet_types::receipt::MovedKind;
 use sqlite::{Alter, Connection};
 use uuid::Uuid;
 
@@ -37,23 +37,6 @@ fn row_of<S: Alter>(conn: &mut Connection<S>, identity: Uuid) -> Result<Option<I
     let mut buffer = Uuid::encode_buffer();
     let text = identity.hyphenated().encode_lower(&mut buffer);
     identity_by_uuid(conn, text)
-}
-
-/// The kind of the item of this identity, without its content.
-pub fn kind_of_item<S: Alter>(
-    conn: &mut Connection<S>,
-    identity: Uuid,
-) -> Result<Option<MovedKind>, Fault>
-    requires { Rests (state S.Store conn.old) }
-    ensures { Looks (Sees (λ f p found. found ≡ option_map (λ i. kind_of i.content) (item_of p identity))) (state S.Store conn.old) (state S.Store conn.new) result }
-{
-    match row_of(conn, identity)? {
-        None => Ok(None),
-        Some(row) => {
-            let kind = kind_of_number(row.kind)?;
-            Ok(Some(kind))
-        }
-    }
 }
 
 /// Whether the package has a tile at this place.
@@ -159,48 +142,18 @@ fn row_is_linked<S: Alter>(conn: &mut Connection<S>, kind: i64, number: i64) -> 
     }
 }
 
-/// Whether a link of the package names the item.
-pub fn is_linked<S: Alter>(conn: &mut Connection<S>, identity: Uuid) -> Result<bool, Fault>
+/// Whether a link of the package names the item; `None` where the package has no such item.
+pub fn is_linked<S: Alter>(conn: &mut Connection<S>, identity: Uuid) -> Result<Option<bool>, Fault>
     requires { Rests (state S.Store conn.old) }
-    ensures { Looks (Sees (λ f p found. found ≡ list_any (has_end identity) p.links)) (state S.Store conn.old) (state S.Store conn.new) result }
+    ensures { Looks (Sees (λ f p found. found ≡ then_some (has_item p identity) (list_any (has_end identity) p.links))) (state S.Store conn.old) (state S.Store conn.new) result }
 {
     match row_of(conn, identity)? {
-        None => Ok(false),
-        Some(row) => row_is_linked(conn, row.kind, row.local_id),
+        None => Ok(None),
+        Some(row) => {
+            let linked = row_is_linked(conn, row.kind, row.local_id)?;
+            Ok(Some(linked))
+        }
     }
-}
-
-/// The tile of this number.
-fn tile_content<S: Alter>(conn: &mut Connection<S>, number: i64) -> Result<Content, Fault>
-    requires { Rests (state S.Store conn.old) }
-    ensures { LooksUp (IsContentOf (pos 1) number) (state S.Store conn.old) (state S.Store conn.new) result }
-{
-    let Some(tile) = tile_by_id(conn, number)? else {
-        return Err(Fault::StoreFault);
-    };
-    Ok(of_tile(tile))
-}
-
-/// The medium of this number.
-fn medium_content<S: Alter>(conn: &mut Connection<S>, number: i64) -> Result<Content, Fault>
-    requires { Rests (state S.Store conn.old) }
-    ensures { LooksUp (IsContentOf (pos 2) number) (state S.Store conn.old) (state S.Store conn.new) result }
-{
-    let Some(medium) = medium_by_id(conn, number)? else {
-        return Err(Fault::StoreFault);
-    };
-    Ok(of_medium(medium))
-}
-
-/// The attributes row of this number.
-fn attributes_content<S: Alter>(conn: &mut Connection<S>, number: i64) -> Result<Content, Fault>
-    requires { Rests (state S.Store conn.old) }
-    ensures { LooksUp (IsContentOf (pos 3) number) (state S.Store conn.old) (state S.Store conn.new) result }
-{
-    let Some(row) = attribute_by_id(conn, number)? else {
-        return Err(Fault::StoreFault);
-    };
-    Ok(of_attributes(row))
 }
 
 /// What the row of this kind and number holds.
@@ -209,9 +162,18 @@ fn content_of<S: Alter>(conn: &mut Connection<S>, kind: i64, number: i64) -> Res
     ensures { LooksUp (IsContentOf kind number) (state S.Store conn.old) (state S.Store conn.new) result }
 {
     match kind {
-        TILE => tile_content(conn, number),
-        MEDIUM => medium_content(conn, number),
-        ROW => attributes_content(conn, number),
+        TILE => {
+            let tile = tile_by_id(conn, number)?.ok_or(Fault::StoreFault)?;
+            Ok(of_tile(tile))
+        }
+        MEDIUM => {
+            let medium = medium_by_id(conn, number)?.ok_or(Fault::StoreFault)?;
+            Ok(of_medium(medium))
+        }
+        ROW => {
+            let row = attribute_by_id(conn, number)?.ok_or(Fault::StoreFault)?;
+            Ok(of_attributes(row))
+        }
         _ => Err(Fault::StoreFault),
     }
 }

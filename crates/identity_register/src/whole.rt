@@ -1,13 +1,13 @@
 //! What a whole package holds, read by one statement a table. Identity rows and the rows of the user tables are both read
 //! in the order of kind and number, so that each identity meets its content without a look-up. An error is want of memory, a
 //! store that failed, or rows that no package has; the store holds what it held.
-ghost use Rattle.std.specs.Prelude.{◌≡◌, ◌++◌, map, pos, Some, bytes_eq, IfOk, IfErr, IsTrue, IsPermutation};
+ghost use Rattle.std.specs.Prelude.{◌≡◌, ◌++◌, map, pos, bytes_eq, IfOk, IfErr, IsTrue, IsPermutation};
 ghost use Rattle.std.specs.List.{AllByRecursion, AllZip, IsDistinct};
 ghost use Rattle.sqlite.specs.Held.{state};
 ghost use Rattle.sql_meaning.specs.Transactions.{Rests, Looks};
-ghost use Rattle.uuid.specs.Text.{parsed_hyphenated};
 ghost use Rattle.sheet_types.specs.Lines.{IsUuid};
 ghost use Rattle.sheet_types.specs.Ordered.{IsArranged};
+ghost use Rattle.sheet_types.specs.Texts.{uuid_text};
 ghost use Rattle.sheet_types.specs.World.{item_key, link_key, kind_number, base_kind};
 ghost use Rattle.package_tables.specs.Calls.{LooksUp};
 ghost use Rattle.identity_register.specs.Calls.{Sees};
@@ -15,6 +15,7 @@ ghost use Rattle.identity_register.specs.Gathered.{tile_placed, medium_placed, a
 
 use crate::kinds::{MEDIUM, ROW, TILE};
 use crate::row_contents::{of_attributes, of_medium, of_tile};
+use crate::stored_texts::stored_uuid;
 use package_tables::attributes::all_attributes;
 use package_tables::fault::Fault;
 use package_tables::identities::all_identities;
@@ -23,7 +24,6 @@ use package_tables::media::all_media;
 use package_tables::rows::{AttributeRow, IdentityRow, MappingRow, MediaRow, TileRow};
 use package_tables::tiles::all_tiles;
 use sheet_types::command::{Content, Item, Mapping, Relation};
-use sheet_types::reading::read_uuid;
 use sheet_types::sorting::{item_is_before, link_is_before};
 use sqlite::{Alter, Connection};
 use std::alloc::Global;
@@ -77,19 +77,18 @@ fn all_contents<S: Alter>(conn: &mut Connection<S>, alloc: Global) -> Result<Vec
 
 /// The item of an identity row and of the content at its kind and number.
 fn item_at(row: &IdentityRow, placed: Placed) -> Result<Item, Fault>
-    ensures identity { IfOk result (λ i. parsed_hyphenated row.now.uuid ≡ Some i.identity) }
+    ensures identity { IfOk result (λ i. row.now.uuid ≡ uuid_text i.identity) }
+    ensures fit { IfOk result (λ i. IsUuid i.identity) }
     ensures content { IfOk result (λ i. placed ≡ record { kind = row.now.kind; number = row.now.local_id; content = i.content }) }
 {
     if row.kind != placed.kind || row.local_id != placed.number {
         return Err(Fault::StoreFault);
     }
-    match read_uuid(row.uuid.as_str()) {
-        Some(identity) => Ok(Item {
-            identity,
-            content: placed.content,
-        }),
-        None => Err(Fault::StoreFault),
-    }
+    let identity = stored_uuid(row.uuid.as_str())?;
+    Ok(Item {
+        identity,
+        content: placed.content,
+    })
 }
 
 /// The items of identity rows, whose contents come in the same order.
@@ -147,10 +146,7 @@ fn name_of(rows: &[IdentityRow], kind: i64, number: i64) -> Result<Uuid, Fault>
     if row.kind != kind || row.local_id != number {
         return Err(Fault::StoreFault);
     }
-    match read_uuid(row.uuid.as_str()) {
-        Some(identity) => Ok(identity),
-        None => Err(Fault::StoreFault),
-    }
+    stored_uuid(row.uuid.as_str())
 }
 
 /// The kind that a mapping has at its base, by its number.

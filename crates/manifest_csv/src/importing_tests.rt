@@ -2,19 +2,17 @@
 use crate::importing::{ImportFault, import};
 use crate::lists::ReadFault;
 use crate::package_manifests::write_manifest;
-use crate::test_streams::{Failing, Narrow, list};
-use sheet_types::receipt::Sums;
 use shelves::memory::MemoryShelf;
 use sqlite::MemStore;
 use std::alloc::Global;
 use std::process::Abort;
 use std::test::Fail;
-use test_values::{archive, question};
+use test_values::{
+    FIRST_TILE, Failing, MANIFEST_OF_THE_FIRST, NO_REQUEST, Narrow, SEVENTEEN, archive, list,
+    question, sums,
+};
 use test_worlds::new_world;
 use world::world::World;
-
-const FIRST_TILE: &str =
-    "90000000-0000-4000-8000-000000000001,2024-05-01T08:00:00.000Z,add,a0000000-0000-4000-8000-000000000000,00000000-0000-4000-8000-000000000001,,tile,2,3,3,,,,,,,,41";
 
 /// Another identity at the place of the first tile.
 const SECOND_AT_ITS_PLACE: &str =
@@ -25,10 +23,6 @@ const SECOND_BESIDE: &str =
 
 const DELETION_OF_THE_FIRST: &str =
     "90000000-0000-4000-8000-000000000003,2024-05-01T08:00:00.000Z,delete,a0000000-0000-4000-8000-000000000000,00000000-0000-4000-8000-000000000001,,,,,,,,,,,,,";
-
-const NO_REQUEST: &str = ",,,,,,,,,,,,,,,,,";
-
-const SEVENTEEN: &str = ",,,,,,,,,,,,,,,,";
 
 const REPORT_OF_THE_FIRST: &str =
     "line,request,seq,refusal\n1,90000000-0000-4000-8000-000000000001,1,0\n";
@@ -50,14 +44,8 @@ fn expect_import(
 
 /// Expects that the archive holds so many tiles, media, rows, links and bytes.
 fn expect_sums(rt: &impl Abort, world: &World<MemStore>, wanted: [u64; 5]) {
-    let sums = Sums {
-        tiles: wanted[0],
-        media: wanted[1],
-        rows: wanted[2],
-        links: wanted[3],
-        bytes: wanted[4],
-    };
-    assert!(rt; world.sums(archive()) == Some(sums));
+    let held = sums(wanted[0], wanted[1], wanted[2], wanted[3], wanted[4]);
+    assert!(rt; world.sums(archive()) == Some(held));
 }
 
 fn expect_manifest(rt: &impl Abort, alloc: Global, world: &mut World<MemStore>, wanted: &str) {
@@ -96,12 +84,7 @@ fn the_first_tile(rt: HostRuntime) -> Result<(), Fail> {
         Ok(()),
         REPORT_OF_THE_FIRST,
     );
-    expect_manifest(
-        &rt,
-        alloc,
-        &mut world,
-        "kind,identity,other,zoom,column,row,x,y,code,size,fingerprint,text\ntile,00000000-0000-4000-8000-000000000001,,2,3,3,,,,1,b363ee0ecc9cf61b12ecdafd75dca2779729b4fcc5f1bd718c33aad2c94af4f8,\n",
-    );
+    expect_manifest(&rt, alloc, &mut world, MANIFEST_OF_THE_FIRST);
     let Some(receipt) = world.receipt(alloc, question(1))? else {
         return Err(Fail::new("a receipt"));
     };
@@ -330,9 +313,7 @@ fn row_medium_and_link(rt: HostRuntime) -> Result<(), Fail> {
 /// The list of a tile of so many bytes 0xa5.
 fn list_of_a_tile(alloc: Global, size: usize) -> Result<String, Fail> {
     let mut text = list(alloc, &[])?;
-    text.push_str(
-        "90000000-0000-4000-8000-000000000001,2024-05-01T08:00:00.000Z,add,a0000000-0000-4000-8000-000000000000,00000000-0000-4000-8000-000000000001,,tile,2,3,3,,,,,,,,",
-    )?;
+    text.push_str(FIRST_TILE.trim_end_matches("41"))?;
     let digits = "a5".repeat(alloc, size)?;
     text.push_str(digits.as_str())?;
     text.push_str("\n")?;

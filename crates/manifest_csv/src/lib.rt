@@ -26,6 +26,4 @@ pub mod sending;
 #[cfg(test)]
 mod sending_tests;
 #[cfg(test)]
-mod test_streams;
-#[cfg(test)]
 mod tests;

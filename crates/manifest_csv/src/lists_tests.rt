@@ -1,21 +1,13 @@
 // Lists whose requests and faults were worked out by hand; the digests are Python's `hashlib`.
 use crate::lists::{ReadFault, read_requests, requests_of};
 use crate::records::{Ending, read_records};
-use crate::test_streams::{Failing, HEADER, list, list_ended};
 use sheet_types::command::{Command, Content, Request};
 use sheet_types::lines::line;
 use std::alloc::Global;
-
-const TILE: &str =
-    "90000000-0000-4000-8000-000000000001,2024-05-01T08:00:00.000Z,add,a0000000-0000-4000-8000-000000000000,00000000-0000-4000-8000-000000000001,,tile,2,3,3,,,,,,,,41";
+use test_values::{FIRST_TILE, Failing, HEADER, NO_REQUEST, SEVENTEEN, list, list_ended};
 
 const DELETION: &str =
     "90000000-0000-4000-8000-000000000002,2024-05-01T08:00:00.000Z,delete,a0000000-0000-4000-8000-000000000000,00000000-0000-4000-8000-000000000001,,,,,,,,,,,,,";
-
-/// A record of eighteen fields that names no command.
-const NO_REQUEST: &str = ",,,,,,,,,,,,,,,,,";
-
-const SEVENTEEN: &str = ",,,,,,,,,,,,,,,,";
 
 const NINETEEN: &str = ",,,,,,,,,,,,,,,,,,";
 
@@ -62,7 +54,7 @@ fn a_text_without_the_header(rt: HostRuntime) {
         Err(ReadFault::Header)
     );
     assert_eq!(rt;
-        outcome(rt.alloc(), TILE.as_bytes()),
+        outcome(rt.alloc(), FIRST_TILE.as_bytes()),
         Err(ReadFault::Header)
     );
     for refused in [
@@ -87,7 +79,7 @@ fn a_text_without_the_header(rt: HostRuntime) {
 
 #[test]
 fn the_first_tile(rt: HostRuntime) {
-    let text = list(rt.alloc(), &[TILE]).expect(&rt, "memory");
+    let text = list(rt.alloc(), &[FIRST_TILE]).expect(&rt, "memory");
     let requests = read_requests(rt.alloc(), text.as_bytes()).expect(&rt, "a list");
     assert_eq!(rt; requests.len(), 1);
     assert!(rt; requests[0].id.as_u128() == 0x9000_0000_0000_4000_8000_0000_0000_0001);
@@ -174,7 +166,7 @@ fn a_label_with_quotes_and_a_moment_over_two_lines(rt: HostRuntime) {
 
 #[test]
 fn a_list_that_is_cut_short(rt: HostRuntime) {
-    let text = list_ended(rt.alloc(), "", &["\n", TILE]).expect(&rt, "memory");
+    let text = list_ended(rt.alloc(), "", &["\n", FIRST_TILE]).expect(&rt, "memory");
     let bytes = text.as_bytes();
     let whole = bytes.len();
     assert_eq!(rt; outcome(rt.alloc(), bytes), Ok(1));
@@ -195,9 +187,9 @@ fn a_list_that_is_cut_short(rt: HostRuntime) {
 #[test]
 fn ends_of_records_and_what_is_passed_over(rt: HostRuntime) {
     for end in ["\n", "\r\n", "\r", "\n\n\r\n", "\r\r"] {
-        let text = list_ended(rt.alloc(), end, &[TILE, DELETION]).expect(&rt, "memory");
+        let text = list_ended(rt.alloc(), end, &[FIRST_TILE, DELETION]).expect(&rt, "memory");
         assert_eq!(rt; outcome(rt.alloc(), text.as_bytes()), Ok(2));
-        let marked = list_ended(rt.alloc(), end, &[TILE, NO_REQUEST]).expect(&rt, "memory");
+        let marked = list_ended(rt.alloc(), end, &[FIRST_TILE, NO_REQUEST]).expect(&rt, "memory");
         assert_eq!(rt;
             outcome(rt.alloc(), marked.as_bytes()),
             Err(ReadFault::Record(2))
@@ -241,7 +233,7 @@ fn records_that_are_no_requests(rt: HostRuntime) {
             Err(ReadFault::Record(1))
         );
         assert_eq!(rt;
-            outcome_of(rt.alloc(), &[TILE, DELETION, refused, SEVENTEEN]),
+            outcome_of(rt.alloc(), &[FIRST_TILE, DELETION, refused, SEVENTEEN]),
             Err(ReadFault::Record(3))
         );
     }
@@ -254,15 +246,15 @@ fn records_that_are_not_read(rt: HostRuntime) {
         NINETEEN,
         " ",
         "\"\"",
-        TILE.trim_end_matches(",41"),
+        FIRST_TILE.trim_end_matches(",41"),
     ] {
         assert_eq!(rt; outcome_of(rt.alloc(), &[refused]), Err(ReadFault::Read));
         assert_eq!(rt;
-            outcome_of(rt.alloc(), &[TILE, refused, NO_REQUEST]),
+            outcome_of(rt.alloc(), &[FIRST_TILE, refused, NO_REQUEST]),
             Err(ReadFault::Read)
         );
         assert_eq!(rt;
-            outcome_of(rt.alloc(), &[TILE, NO_REQUEST, refused]),
+            outcome_of(rt.alloc(), &[FIRST_TILE, NO_REQUEST, refused]),
             Err(ReadFault::Record(2))
         );
     }
@@ -287,11 +279,11 @@ fn fault_of_failing(alloc: Global, records: &[&str]) -> Option<ReadFault> {
 fn a_reader_that_fails(rt: HostRuntime) {
     assert_eq!(rt; fault_of_failing(rt.alloc(), &[]), Some(ReadFault::Read));
     assert_eq!(rt;
-        fault_of_failing(rt.alloc(), &[TILE, DELETION]),
+        fault_of_failing(rt.alloc(), &[FIRST_TILE, DELETION]),
         Some(ReadFault::Read)
     );
     assert_eq!(rt;
-        fault_of_failing(rt.alloc(), &[TILE, NO_REQUEST, DELETION]),
+        fault_of_failing(rt.alloc(), &[FIRST_TILE, NO_REQUEST, DELETION]),
         Some(ReadFault::Record(2))
     );
     let reader = Failing::new(b"".as_slice());
@@ -307,7 +299,7 @@ fn records_and_how_they_ended(rt: HostRuntime) {
         (Ending::Failed, Err(ReadFault::Read)),
         (Ending::Memory, Err(ReadFault::Memory)),
     ] {
-        let text = list(rt.alloc(), &[TILE]).expect(&rt, "memory");
+        let text = list(rt.alloc(), &[FIRST_TILE]).expect(&rt, "memory");
         let (rows, _) = read_records(rt.alloc(), text.as_bytes());
         assert_eq!(rt;
             requests_of(rt.alloc(), rows, ended).map(|requests| requests.len()),

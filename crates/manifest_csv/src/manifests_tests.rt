@@ -1,53 +1,34 @@
 // Manifests that were written out by hand; the digests are another program's SHA-256.
 use crate::manifests::manifest_text;
 use package_tables::fault::Fault;
-use sheet_types::collections::Bytes;
-use sheet_types::command::{Content, Item, Mapping, Relation};
+use sheet_types::command::{Item, Mapping, Relation};
 use std::alloc::Global;
 use std::test::Fail;
-use test_values::text;
+use test_values::{medium_content, row_content, tile_content};
 use uuid::Uuid;
 
 fn identity(number: u8) -> Uuid {
     Uuid::from_u128(0x00000000_0000_4000_8000_00000000A000 | u128::from(number))
 }
 
-fn bytes(alloc: Global, content: &[u8]) -> Result<Bytes, Fault> {
-    Ok(Bytes::from_vec(Vec::from_slice(alloc, content)?))
-}
-
 fn tile(alloc: Global) -> Result<Item, Fault> {
     Ok(Item {
         identity: identity(1),
-        content: Content::Tile {
-            zoom: 2,
-            column: 3,
-            row: 3,
-            bytes: bytes(alloc, b"A")?,
-        },
+        content: tile_content(alloc, [2, 3, 3], b"A")?,
     })
 }
 
 fn medium(alloc: Global) -> Result<Item, Fault> {
     Ok(Item {
         identity: identity(3),
-        content: Content::Media {
-            content_type: text(alloc, "image/jpeg")?,
-            bytes: bytes(alloc, b"JP")?,
-        },
+        content: medium_content(alloc, "image/jpeg", b"JP")?,
     })
 }
 
-fn row(alloc: Global, place: (i64, i64), code: i64, label: &str) -> Result<Item, Fault> {
-    let (x, y) = place;
+fn row(alloc: Global, point: [i64; 2], code: i64, label: &str) -> Result<Item, Fault> {
     Ok(Item {
         identity: identity(1),
-        content: Content::Row {
-            x,
-            y,
-            code,
-            label: text(alloc, label)?,
-        },
+        content: row_content(alloc, point, code, label)?,
     })
 }
 
@@ -72,7 +53,7 @@ fn the_first_tile(rt: HostRuntime) -> Result<(), Fail> {
 #[test]
 fn row_medium_and_links(rt: HostRuntime) -> Result<(), Fail> {
     let alloc = rt.alloc();
-    let items = [medium(alloc)?, row(alloc, (0, 4096), 7, "gate")?];
+    let items = [medium(alloc)?, row(alloc, [0, 4096], 7, "gate")?];
     let links = [
         Relation {
             mapping: Mapping::TilesMedia,
@@ -96,8 +77,8 @@ fn row_medium_and_links(rt: HostRuntime) -> Result<(), Fail> {
 fn quoted_and_negative(rt: HostRuntime) -> Result<(), Fail> {
     let alloc = rt.alloc();
     let items = [
-        row(alloc, (0, 4096), 0, "a,\"b")?,
-        row(alloc, (-5, -4096), 0, "line")?,
+        row(alloc, [0, 4096], 0, "a,\"b")?,
+        row(alloc, [-5, -4096], 0, "line")?,
     ];
     let written = manifest_text(alloc, &items, &[])?;
     let want =

@@ -1,29 +1,19 @@
 // Manifests of packages that are live, and of one that is not. The bytes were written out by hand; the digest is Python's `hashlib`.
 use crate::importing::import;
 use crate::package_manifests::{ManifestFault, write_manifest};
-use crate::test_streams::{Narrow, list};
 use shelves::memory::MemoryShelf;
 use sqlite::MemStore;
 use std::alloc::Global;
 use std::test::Fail;
-use test_values::archive;
+use test_values::{FIRST_TILE, MANIFEST_OF_THE_FIRST, Narrow, archive, list};
 use test_worlds::new_world;
 use uuid::Uuid;
 use world::world::World;
 
-// A header of 67 bytes and a record of 116.
-const OF_ONE_TILE: &str =
-    "kind,identity,other,zoom,column,row,x,y,code,size,fingerprint,text\ntile,00000000-0000-4000-8000-000000000001,,2,3,3,,,,1,b363ee0ecc9cf61b12ecdafd75dca2779729b4fcc5f1bd718c33aad2c94af4f8,\n";
-
 /// An archive with one tile.
 fn world_of_one_tile(alloc: Global) -> Result<World<MemStore>, Fail> {
     let mut world = new_world(alloc)?;
-    let text = list(
-        alloc,
-        &[
-            "90000000-0000-4000-8000-000000000001,2024-05-01T08:00:00.000Z,add,a0000000-0000-4000-8000-000000000000,00000000-0000-4000-8000-000000000001,,tile,2,3,3,,,,,,,,41",
-        ],
-    )?;
+    let text = list(alloc, &[FIRST_TILE])?;
     let mut report: Vec<u8> = Vec::new(alloc);
     match import(
         alloc,
@@ -73,8 +63,8 @@ fn a_live_package(rt: HostRuntime) -> Result<(), Fail> {
         assert!(rt; write_manifest(alloc, &mut world, archive(), &mut out) == Ok(()));
     }
     let mut wanted = String::from_str(alloc, "before\n")?;
-    wanted.push_str(OF_ONE_TILE)?;
-    wanted.push_str(OF_ONE_TILE)?;
+    wanted.push_str(MANIFEST_OF_THE_FIRST)?;
+    wanted.push_str(MANIFEST_OF_THE_FIRST)?;
     assert_eq!(rt; out.as_slice(), wanted.as_bytes());
     Ok(())
 }
@@ -83,7 +73,7 @@ fn a_live_package(rt: HostRuntime) -> Result<(), Fail> {
 fn writers_that_fail(rt: HostRuntime) -> Result<(), Fail> {
     let alloc = rt.alloc();
     let mut world = world_of_one_tile(alloc)?;
-    let manifest = OF_ONE_TILE.as_bytes();
+    let manifest = MANIFEST_OF_THE_FIRST.as_bytes();
     let whole = manifest.len();
     for room in 0..whole {
         let mut out = Narrow::new(alloc, room);

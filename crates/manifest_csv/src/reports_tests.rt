@@ -4,33 +4,22 @@ ghost use Rattle.std.specs.String.{string_capacity};
 
 use crate::reports::{header_line, line_buffer, put_line};
 use crate::sending::{WriteFault, send};
-use sheet_types::collections::{MovedList, Text};
+use package_tables::fault::Fault;
 use sheet_types::receipt::Receipt;
 use sheet_types::refusal::Refusal;
-use std::alloc::{AllocError, Global};
+use std::alloc::Global;
 use std::test::Fail;
+use test_values::{ONE_MEDIUM, archive, moved_medium, receipt_of};
 use uuid::Uuid;
 
 fn request(number: u8) -> Uuid {
     Uuid::from_u128(0x9000ABCD_0000_4000_8000_000000000000 | u128::from(number))
 }
 
-// The receipt of an empty tile, under this number.
-fn receipt(alloc: Global, seq: u64) -> Result<Receipt, AllocError> {
-    Ok(Receipt {
-        seq,
-        request: request(1),
-        at: Text::from_string(String::from_str(alloc, "2026-03-01T12:00:00.000Z")?),
-        line: Text::from_string(String::from_str(alloc, "add")?),
-        source: None,
-        target: None,
-        items: MovedList::from_vec(Vec::new(alloc)),
-        tiles: 1,
-        media: 0,
-        rows: 0,
-        links: 0,
-        bytes: 0,
-    })
+// A receipt of this number.
+fn receipt(alloc: Global, seq: u64) -> Result<Receipt, Fault> {
+    let thing = moved_medium(archive());
+    receipt_of(alloc, seq, request(1), archive(), thing, ONE_MEDIUM)
 }
 
 // Writes the line of one reply.

@@ -15,13 +15,14 @@ use Rattle.sql_meaning.proofs.Select.{IsSelect, IsPlannedSelect}
 use Rattle.sql_meaning.proofs.First.{IsFirst, IsPlannedFirst}
 use Rattle.package_tables.specs.Tables.{sheet_rows}
 use Rattle.package_tables.specs.Shapes.{attribute_shape, int_at, text_at}
+use Rattle.package_tables.specs.Listed.{attributes}
 use Rattle.package_tables.specs.Shown.{attribute_shown}
 use Rattle.package_tables.specs.declared.rows.AttributeRow.{AttributeRow}
 use Rattle.package_tables.proofs.Looking.{IsKnown, IsLookUp, IsRanked}
 use Rattle.package_tables.proofs.Newest.{IsNewest}
 use Rattle.package_tables.proofs.Ranking.{one_number}
 use Rattle.package_tables.proofs.Values.{same_number}
-use Rattle.package_tables.proofs.Written.{attribute_shape_is}
+use Rattle.package_tables.proofs.Written.{attributes_listed}
 
 pub insert_text : (tree : ℕ) → IsInsert (codes "INSERT INTO sheet_rows VALUES (?1, ?2, ?3, ?4, ?5)") (sheet_rows tree)
 unfolding everything
@@ -39,8 +40,8 @@ pub delete_plan : (tree : ℕ) → IsPlannedDelete (sheet_rows tree) (equals 0 0
 unfolding resolving
 delete_plan tree schema at h = rw (h.stored, h.by_tree) refl
 
-pub known : IsKnown attribute_shape (λ t. t.rows) attribute_shown
-known = record { laws = attribute_shape_is; formed = λ db f. f.rows; lists = λ db. refl; back = λ r. record { id = int_at r 0; x = int_at r 1; y = int_at r 2; code = int_at r 3; label = text_at r 4 }; returns = λ x. refl }
+pub known : IsKnown attributes attribute_shown
+known = record { is = attributes_listed; back = λ r. record { id = int_at r 0; x = int_at r 1; y = int_at r 2; code = int_at r 3; label = text_at r 4 }; returns = λ x. refl }
 
 attribute_by_id_text : (tree : ℕ) → IsSelect (codes "SELECT * FROM sheet_rows WHERE id = ?1") (sheet_rows tree) (equals 0 0) []
 unfolding everything

@@ -18,9 +18,11 @@ use Rattle.sheet_types.specs.Ordered.{is_before, arranged, put, IsArranged}
 use Rattle.sheet_types.proofs.Order.{counts_arranged}
 use Rattle.sql_meaning.specs.Known.{IsQuiet}
 use Rattle.sql_meaning.specs.Kinds.{has_kinds}
-use Rattle.sql_meaning.specs.Writing.{Updates, Spares, IsKeyed}
+use Rattle.sql_meaning.specs.Writing.{Updates, IsKeyed}
 use Rattle.package_tables.specs.Shape.{Shape, IsShape, IsFormed, IsStored, stored_rows, rows_of}
-use Rattle.package_tables.specs.Package.{Tables, tables_of, AreFormed}
+use Rattle.package_tables.specs.Package.{tables_of, AreFormed}
+use Rattle.package_tables.specs.Listed.{Listed}
+use Rattle.package_tables.proofs.Lists.{IsListed}
 use Rattle.package_tables.proofs.Reading.{arranged_permutation}
 use Rattle.package_tables.proofs.Shapes.{standing, arranged-filter}
 
@@ -152,17 +154,14 @@ module _ {R : Type 0} (shape : Shape R) (laws : IsShape shape) where
           let passed = ap length (arranged-filter shape.key shape.typed (λ x. bytes_eq (shape.key x) k) hits rows (tested rows h)) in
           subst (λ n. n ≤ 1) (sym passed ∙ as_values) (at_most_one shape.key k (arranged shape.key (map shape.typed rows)) apart)
 
--- the table that is changed is one of the fourteen
-module _ {R : Type 0} (shape : Shape R) (laws : IsShape shape) (with_rows : List R → Tables → Tables)
-    (written : (tree : ℕ) (old new : Database) → Spares (shape.table tree) old new → AreFormed old → IsFormed shape new → AreFormed new × (tables_of new ≡ with_rows (rows_of shape new) (tables_of old)))
-    (formed_in : (db : Database) → AreFormed db → IsFormed shape db) where
+module _ {R : Type 0} {list : Listed R} (is : IsListed list) where
   pub changes : (hits : Row → Bool) (change : Row → Row) (k : List ℕ) (make : R → R) (old new : Database) → AreFormed old
-      → ((v : Value) (x : R) → hits (shape.stored v x) ≡ bytes_eq (shape.key x) k) → ((v : Value) (x : R) → change (shape.stored v x) ≡ shape.stored v (make x))
-      → ((x : R) → shape.key (make x) ≡ shape.key x) → ((v : Value) (x : R) → rowid (shape.stored v (make x)) ≡ rowid (shape.stored v x))
-      → ((tree : ℕ) (v : Value) (x : R) → is_int v ≡ true → has_kinds (shape.table tree) (shape.stored v x) ≡ true) → IsArranged shape.key (rows_of shape old) → Updates shape.table hits change old new
-      → AreFormed new × (tables_of new ≡ with_rows (map (λ x. if bytes_eq (shape.key x) k then make x else x) (rows_of shape old)) (tables_of old))
+      → ((v : Value) (x : R) → hits (list.shape.stored v x) ≡ bytes_eq (list.shape.key x) k) → ((v : Value) (x : R) → change (list.shape.stored v x) ≡ list.shape.stored v (make x))
+      → ((x : R) → list.shape.key (make x) ≡ list.shape.key x) → ((v : Value) (x : R) → rowid (list.shape.stored v (make x)) ≡ rowid (list.shape.stored v x))
+      → ((tree : ℕ) (v : Value) (x : R) → is_int v ≡ true → has_kinds (list.shape.table tree) (list.shape.stored v x) ≡ true) → IsArranged list.shape.key (list.rows (tables_of old)) → Updates list.shape.table hits change old new
+      → AreFormed new × (tables_of new ≡ list.with_rows (map (λ x. if bytes_eq (list.shape.key x) k then make x else x) (list.rows (tables_of old))) (tables_of old))
   changes hits change k make old new formed same makes keys rowids kinds apart updates =
-      let here = formed_in old formed in
-      let did = changed shape laws hits change k make old new updates formed.quiet here same makes keys rowids kinds apart in
-      let both = written here.placed.tree old new (updates here.placed.at here.placed.tree here.placed.has formed.quiet).spares formed did.0 in
-      (both.0, both.1 ∙ ap (λ l. with_rows l (tables_of old)) did.1)
+      let here = is.formed old formed in
+      let did = changed list.shape is.laws hits change k make old new updates formed.quiet here same makes keys rowids kinds (rw (sym (is.lists old)) apart) in
+      let both = is.written here.placed.tree old new (updates here.placed.at here.placed.tree here.placed.has formed.quiet).spares formed did.0 in
+      (both.0, rw (is.lists old) (both.1 ∙ ap (λ l. list.with_rows l (tables_of old)) did.1))

@@ -1,16 +1,16 @@
 -- A database with the tables of a package and no rows says that they are empty.
-use Rattle.std.proofs.Common.{◌≡◌, true, Result, Ok, Err, ap, ◌∙◌}
+use Rattle.std.proofs.Common.{◌≡◌, [], ◌∷◌, true, Result, Ok, Err, refl}
 use Rattle.std.specs.Prelude.{OnOk}
 use Rattle.sqlite.specs.Effect.{Database}
 use Rattle.sqlite.specs.State.{State, HasCleanDisk, KeepsCommit, Survives}
-use Rattle.sheet_types.specs.Ordered.{put, has}
 use Rattle.sheet_types.specs.declared.frame.Frame.{Frame}
-use Rattle.package_tables.specs.Entries.{AddsHead}
+use Rattle.package_tables.specs.Listed.{heads}
+use Rattle.package_tables.specs.Changes.{Adds}
 use Rattle.package_tables.specs.declared.rows.HeadRow.{HeadRow}
-use Rattle.package_tables.proofs.InTurn.{tables_weaker}
+use Rattle.package_tables.proofs.Written.{heads_listed}
+use Rattle.package_tables.proofs.InTurn.{Done, made_by, becomes_first}
 use Rattle.sql_meaning.specs.Transactions.{Made, Steps}
 use Rattle.sql_meaning.proofs.Transactions.{steps_then, steps_weaker}
-use Rattle.package_tables.specs.Shapes.{head_shape}
 use Rattle.package_tables.specs.Package.{Tables}
 use Rattle.package_tables.specs.Calls.{OnTables}
 use Rattle.package_tables.specs.SchemaMade.{IsNewPackage, BecomesPackage}
@@ -36,6 +36,5 @@ says_then {X} {Y} {E} {F} t u {old} {mid} {new} {x} {r} first next =
     steps_weaker (λ _. Fills u) (λ y it blank. let was = it.1 blank in let both = it.2 was.formed in record { formed = both.0; says = both.1 was.says }) (steps_then {X = X} {E = E} {First = λ _. Fills t} {Next = λ _. OnTables (TablesBecome t u)} {x = x} first next)
 
 -- the head comes to tables that have none
-pub head_becomes : {X E : Type 0} (f : Frame) (head : HeadRow) {old new : State} {r : Result X E} → Steps (λ _. OnTables (AddsHead head)) old new r → Steps (λ _. OnTables (TablesBecome (fixed_tables f head.created) (new_tables f head))) old new r
-head_becomes f head h = tables_weaker {A = AddsHead head} (TablesBecome (fixed_tables f head.created) (new_tables f head))
-    (λ b a adds is. adds (ap (λ (t : Tables). has head_shape.key (head_shape.key head) t.heads) is) ∙ ap (λ (t : Tables). record t { heads = put head_shape.key head t.heads }) is) h
+pub head_becomes : (f : Frame) (head : HeadRow) {old new : State} {r : Done} → Steps (λ _. OnTables (Adds heads head)) old new r → Steps (λ _. OnTables (TablesBecome (fixed_tables f head.created) (new_tables f head))) old new r
+head_becomes f head h = becomes_first heads (fixed_tables f head.created) (head ∷ []) refl (made_by heads_listed head [] (head ∷ []) refl refl h)

@@ -1,12 +1,12 @@
 -- Which tables have the fixed rows of a frame: those of a new package, and what a change of the last change leaves.
-use Rattle.std.proofs.Common.{◌≡◌, ℕ, List, [], ◌∷◌, map, length, get_or, Bool, true, false, cond, refl, sym, ap, subst, ◌∙◌, arith}
-use Rattle.std.specs.Prelude.{if◌then◌else◌, bytes_eq, codes}
+use Rattle.std.proofs.Common.{◌≡◌, ℕ, List, [], ◌∷◌, length, get_or, Bool, true, false, cond, refl, sym, ap, subst, ◌∙◌, arith}
+use Rattle.std.specs.Prelude.{bytes_eq, codes}
 use Rattle.std.specs.List.{AllByRecursion}
 use Rattle.sheet_types.specs.Ordered.{IsArranged, is_before}
 use Rattle.sheet_types.specs.declared.frame.Frame.{Frame}
 use Rattle.package_tables.specs.Shapes.{contents_shape}
 use Rattle.package_tables.specs.Package.{Tables}
-use Rattle.package_tables.specs.Entries.{SetsLastChange}
+use Rattle.package_tables.specs.Changes.{SetsLastChange, redated}
 use Rattle.package_tables.specs.Fixed.{HasFixed, undated, content, contents_of}
 use Rattle.package_tables.specs.declared.rows.ContentsRow.{ContentsRow}
 
@@ -25,7 +25,7 @@ all_apart f = ((refl, (refl, tt)), ((refl, tt), (tt, tt)))
 pub names_apart : (f : Frame) (t : Tables) → HasFixed f t → IsArranged contents_shape.key t.contents
 names_apart f t has = apart t.contents (subst (IsArranged contents_shape.key) (sym has.contents) (all_apart f))
 
-still_undated : (at name : List ℕ) (cs : List ContentsRow) → undated (map (λ (c : ContentsRow). if bytes_eq c.table_name name then record c { last_change = at } else c) cs) ≡ undated cs
+still_undated : (at name : List ℕ) (cs : List ContentsRow) → undated (redated at name cs) ≡ undated cs
 still_undated at name [] = refl
 still_undated at name (c ∷ cs) =
     let rest = still_undated at name cs in
@@ -47,15 +47,11 @@ fixed_kept f at name before after has is = record {
 
 -- ---- each row of the contents in turn
 
--- the rows of one name get the moment
-abbrev set_in : List ℕ → List ℕ → List ContentsRow → List ContentsRow
-set_in at name = map (λ (c : ContentsRow). if bytes_eq c.table_name name then record c { last_change = at } else c)
-
 -- a row is what it is without its moment, with its moment
 dated_again : (c d : ContentsRow) → record c { last_change = [] } ≡ d → c ≡ record d { last_change = c.last_change }
 dated_again c d e = ap (λ (x : ContentsRow). record x { last_change = c.last_change }) e
 
-all_set : (f : Frame) (at : List ℕ) (cs : List ContentsRow) → undated cs ≡ contents_of f [] → set_in at (codes "sheet_tiles") (set_in at (codes "sheet_rows") (set_in at (codes "sheet_media") cs)) ≡ contents_of f at
+all_set : (f : Frame) (at : List ℕ) (cs : List ContentsRow) → undated cs ≡ contents_of f [] → redated at (codes "sheet_tiles") (redated at (codes "sheet_rows") (redated at (codes "sheet_media") cs)) ≡ contents_of f at
 all_set f at [] h = absurd (let e = h in cc)
 all_set f at (a ∷ []) h = absurd (let e = ap length h in omega (arith, e))
 all_set f at (a ∷ b ∷ []) h = absurd (let e = ap length h in omega (arith, e))
@@ -63,7 +59,7 @@ all_set f at (a ∷ b ∷ c ∷ []) h =
     let media = dated_again a (content (codes "sheet_media") (codes "attributes") f []) (ap (λ l. get_or l 0 a) h) in
     let rows = dated_again b (content (codes "sheet_rows") (codes "attributes") f []) (ap (λ l. get_or l 1 b) h) in
     let tiles = dated_again c (content (codes "sheet_tiles") (codes "tiles") f []) (ap (λ l. get_or l 2 c) h) in
-    λ i. set_in at (codes "sheet_tiles") (set_in at (codes "sheet_rows") (set_in at (codes "sheet_media") (media i ∷ rows i ∷ tiles i ∷ [])))
+    λ i. redated at (codes "sheet_tiles") (redated at (codes "sheet_rows") (redated at (codes "sheet_media") (media i ∷ rows i ∷ tiles i ∷ [])))
 all_set f at (a ∷ b ∷ c ∷ d ∷ cs) h = absurd (let e = ap length h in omega (arith, e))
 
 -- Where each of the three tables gets the moment, the contents are those of the frame at the moment, and nothing else changed.
@@ -71,5 +67,5 @@ pub dated_in_turn : (f : Frame) (at : List ℕ) (t u v w : Tables) → HasFixed 
     → w ≡ record t { contents = contents_of f at }
 dated_in_turn f at t u v w has media rows tiles =
     tiles
-    ∙ ap (λ (x : Tables). record x { contents = set_in at (codes "sheet_tiles") x.contents }) (rows ∙ ap (λ (x : Tables). record x { contents = set_in at (codes "sheet_rows") x.contents }) media)
+    ∙ ap (λ (x : Tables). record x { contents = redated at (codes "sheet_tiles") x.contents }) (rows ∙ ap (λ (x : Tables). record x { contents = redated at (codes "sheet_rows") x.contents }) media)
     ∙ ap (λ (l : List ContentsRow). record t { contents = l }) (all_set f at t.contents has.contents)

@@ -1,5 +1,5 @@
--- The fixed rows, as they come in one after the other.
-use Rattle.std.proofs.Common.{◌≡◌, ◌≢◌, ℕ, ℤ, pos, negsuc, ◌<◌, ◌+◌, List, [], ◌∷◌, true, false, Result, refl, sym, ◌∙◌, arith, map, unsigned_abs, ◌+ℤ◌, ◌≤ℤ◌, ◌<ℤ◌, Ok, zero, suc, ◌≤◌}
+-- The rows that the frame gives: its own reference system, and its levels, as they come in.
+use Rattle.std.proofs.Common.{◌≡◌, ◌≢◌, ℕ, ℤ, pos, negsuc, ◌<◌, ◌+◌, List, [], ◌∷◌, true, false, refl, sym, ◌∙◌, arith, map, unsigned_abs, ◌+ℤ◌, ◌≤ℤ◌, ◌<ℤ◌, zero, suc, ◌≤◌}
 use Rattle.std.specs.Prelude.{◌||◌, bytes_eq}
 use Rattle.std.specs.List.{AllByRecursion, range_with_len}
 use Rattle.std.specs.Ordering.{int_eq, nat_cmp}
@@ -14,68 +14,10 @@ use Rattle.std.specs.Cmp.{signed_Decides}
 use Rattle.std.proofs.lemmas.Bool.{true≢false, false_from_ne_true, or_parts}
 use Rattle.std.proofs.lemmas.Slice.Eq.{bytes_eq-Decides}
 use Rattle.std.proofs.lemmas.Int.{ints}
-use Rattle.sqlite.specs.State.{State, Survives}
 use Rattle.sheet_types.specs.Ordered.{put, has, is_before}
 use Rattle.sheet_types.specs.declared.frame.Frame.{Frame}
-use Rattle.sql_meaning.specs.Transactions.{Steps}
-use Rattle.package_tables.specs.Shapes.{spatial_ref_sys_shape, contents_shape, tile_matrix_set_shape, tile_matrix_shape, relation_shape, signed_key}
-use Rattle.package_tables.specs.Calls.{Makes, OnTables}
-use Rattle.package_tables.specs.Entries.{AddsSpatialRefSys, AddsContents, AddsTileMatrixSet, AddsTileMatrix, AddsRelation}
+use Rattle.package_tables.specs.Shapes.{spatial_ref_sys_shape, tile_matrix_shape, signed_key}
 use Rattle.package_tables.specs.Fixed.{standard_systems, own_system, is_standard, systems_of, level_row, first_levels}
-use Rattle.package_tables.specs.Creation.{SystemsBecome, ContentsBecome, MatrixSetsBecome, MatricesBecome, RelationsBecome}
-use Rattle.package_tables.specs.declared.fault.Fault.{Fault}
-use Rattle.package_tables.specs.declared.rows.SpatialRefSysRow.{SpatialRefSysRow}
-use Rattle.package_tables.specs.declared.rows.ContentsRow.{ContentsRow}
-use Rattle.package_tables.specs.declared.rows.TileMatrixSetRow.{TileMatrixSetRow}
-use Rattle.package_tables.specs.declared.rows.TileMatrixRow.{TileMatrixRow}
-use Rattle.package_tables.specs.declared.rows.RelationRow.{RelationRow}
-use Rattle.package_tables.proofs.InTurn.{made_by, made_then}
-use Rattle.package_tables.proofs.Stepping.{makes_steps}
-
--- what these calls answer
-abbrev pub Done : Type 0
-Done = Result (Unit {0}) Fault
-
-abbrev pub done : Done
-done = Ok tt
-
-pub system_made : (row : SpatialRefSysRow) (from to : List SpatialRefSysRow) {old new : State} {r : Done} → has spatial_ref_sys_shape.key (spatial_ref_sys_shape.key row) from ≡ false → put spatial_ref_sys_shape.key row from ≡ to
-    → Makes (AddsSpatialRefSys row) old new r → Survives old new (λ _. ⊥) → Steps (λ _. OnTables (SystemsBecome from to)) old new r
-system_made row from to {old} {new} {r} free is wrote survives =
-    made_by (λ t. t.spatial_ref_sys) (λ l t. record t { spatial_ref_sys = l }) spatial_ref_sys_shape.key (λ l t. refl) (λ k l t. refl) row from to free is (makes_steps (AddsSpatialRefSys row) wrote survives)
-
-pub systems_then : (j k l : List SpatialRefSysRow) {old mid new : State} {r : Done} → Steps (λ _. OnTables (SystemsBecome j k)) old mid done → Steps (λ _. OnTables (SystemsBecome k l)) mid new r
-    → Steps (λ _. OnTables (SystemsBecome j l)) old new r
-systems_then j k l first next = made_then (λ t. t.spatial_ref_sys) (λ l t. record t { spatial_ref_sys = l }) spatial_ref_sys_shape.key (λ l t. refl) (λ k l t. refl) j k l first next
-
-pub content_made : (row : ContentsRow) (from to : List ContentsRow) {old new : State} {r : Done} → has contents_shape.key (contents_shape.key row) from ≡ false → put contents_shape.key row from ≡ to
-    → Steps (λ _. OnTables (AddsContents row)) old new r → Steps (λ _. OnTables (ContentsBecome from to)) old new r
-content_made row from to free is h = made_by (λ t. t.contents) (λ l t. record t { contents = l }) contents_shape.key (λ l t. refl) (λ k l t. refl) row from to free is h
-
-pub contents_then : (j k l : List ContentsRow) {old mid new : State} {r : Done} → Steps (λ _. OnTables (ContentsBecome j k)) old mid done → Steps (λ _. OnTables (ContentsBecome k l)) mid new r
-    → Steps (λ _. OnTables (ContentsBecome j l)) old new r
-contents_then j k l first next = made_then (λ t. t.contents) (λ l t. record t { contents = l }) contents_shape.key (λ l t. refl) (λ k l t. refl) j k l first next
-
-pub matrix_set_made : (row : TileMatrixSetRow) {old new : State} {r : Done} → Makes (AddsTileMatrixSet row) old new r → Survives old new (λ _. ⊥) → Steps (λ _. OnTables (MatrixSetsBecome [] (row ∷ []))) old new r
-matrix_set_made row {old} {new} {r} wrote survives =
-    made_by (λ t. t.tile_matrix_set) (λ l t. record t { tile_matrix_set = l }) tile_matrix_set_shape.key (λ l t. refl) (λ k l t. refl) row [] (row ∷ []) refl refl (makes_steps (AddsTileMatrixSet row) wrote survives)
-
-pub matrix_made : (row : TileMatrixRow) (from to : List TileMatrixRow) {old new : State} {r : Done} → has tile_matrix_shape.key (tile_matrix_shape.key row) from ≡ false → put tile_matrix_shape.key row from ≡ to
-    → Steps (λ _. OnTables (AddsTileMatrix row)) old new r → Steps (λ _. OnTables (MatricesBecome from to)) old new r
-matrix_made row from to free is h = made_by (λ t. t.tile_matrix) (λ l t. record t { tile_matrix = l }) tile_matrix_shape.key (λ l t. refl) (λ k l t. refl) row from to free is h
-
-pub matrices_then : (j k l : List TileMatrixRow) {old mid new : State} {r : Done} → Steps (λ _. OnTables (MatricesBecome j k)) old mid done → Steps (λ _. OnTables (MatricesBecome k l)) mid new r
-    → Steps (λ _. OnTables (MatricesBecome j l)) old new r
-matrices_then j k l first next = made_then (λ t. t.tile_matrix) (λ l t. record t { tile_matrix = l }) tile_matrix_shape.key (λ l t. refl) (λ k l t. refl) j k l first next
-
-pub relation_made : (row : RelationRow) (from to : List RelationRow) {old new : State} {r : Done} → has relation_shape.key (relation_shape.key row) from ≡ false → put relation_shape.key row from ≡ to
-    → Makes (AddsRelation row) old new r → Survives old new (λ _. ⊥) → Steps (λ _. OnTables (RelationsBecome from to)) old new r
-relation_made row from to {old} {new} {r} free is wrote survives =
-    made_by (λ t. t.relations) (λ l t. record t { relations = l }) relation_shape.key (λ l t. refl) (λ k l t. refl) row from to free is (makes_steps (AddsRelation row) wrote survives)
-
-pub relations_then : (j k l : List RelationRow) {old mid new : State} {r : Done} → Steps (λ _. OnTables (RelationsBecome j k)) old mid done → Steps (λ _. OnTables (RelationsBecome k l)) mid new r
-    → Steps (λ _. OnTables (RelationsBecome j l)) old new r
-relations_then j k l first next = made_then (λ t. t.relations) (λ l t. record t { relations = l }) relation_shape.key (λ l t. refl) (λ k l t. refl) j k l first next
 
 -- ---- the frame's own reference system
 

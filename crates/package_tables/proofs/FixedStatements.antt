@@ -25,9 +25,10 @@ use Rattle.sql_meaning.specs.Reading.{always, ascending}
 use Rattle.sql_meaning.proofs.Resolve.{one_table}
 use Rattle.sql_meaning.proofs.Select.{IsSelect, IsPlannedSelect}
 use Rattle.package_tables.specs.Shapes.{int_at, text_at}
+use Rattle.package_tables.specs.Listed.{systems, contents, matrix_sets, matrices, relations}
 use Rattle.package_tables.specs.Shown.{spatial_ref_sys_shown, contents_shown, tile_matrix_set_shown, tile_matrix_shown, relation_shown}
 use Rattle.package_tables.proofs.Looking.{IsKnown, IsLookUp}
-use Rattle.package_tables.proofs.Written.{spatial_ref_sys_shape_is, contents_shape_is, tile_matrix_set_shape_is, tile_matrix_shape_is, relation_shape_is}
+use Rattle.package_tables.proofs.Written.{systems_listed, contents_listed, matrix_sets_listed, matrices_listed, relations_listed}
 use Rattle.std.specs.Ordering.{on, int_cmp}
 use Rattle.std.proofs.lemmas.Cmp.{on_total, int_cmp_total}
 use Rattle.package_tables.proofs.Looking.{IsRanked}
@@ -87,8 +88,8 @@ contents_kinds tree (Real x) c h = absurd cc
 contents_kinds tree (Text t) c h = absurd cc
 contents_kinds tree (Blob b) c h = absurd cc
 
-pub spatial_ref_sys_known : IsKnown spatial_ref_sys_shape (λ t. t.spatial_ref_sys) spatial_ref_sys_shown
-spatial_ref_sys_known = record { laws = spatial_ref_sys_shape_is; formed = λ db f. f.spatial_ref_sys; lists = λ db. refl; back = λ r. record { srs_name = text_at r 0; srs_id = int_at r 1; organization = text_at r 2; organization_coordsys_id = int_at r 3; definition = text_at r 4; description = text_at r 5 }; returns = λ x. refl }
+pub spatial_ref_sys_known : IsKnown systems spatial_ref_sys_shown
+spatial_ref_sys_known = record { is = systems_listed; back = λ r. record { srs_name = text_at r 0; srs_id = int_at r 1; organization = text_at r 2; organization_coordsys_id = int_at r 3; definition = text_at r 4; description = text_at r 5 }; returns = λ x. refl }
 
 all_spatial_ref_sys_text : (tree : ℕ) → IsSelect (codes "SELECT * FROM gpkg_spatial_ref_sys ORDER BY srs_id") (gpkg_spatial_ref_sys tree) always ((col 1 0, ascending) ∷ [])
 unfolding everything
@@ -115,8 +116,8 @@ all_spatial_ref_sys_plan tree schema at h = rw (h.stored, h.by_tree) refl
 pub all_spatial_ref_sys : IsLookUp spatial_ref_sys_shape spatial_ref_sys_shown (codes "SELECT * FROM gpkg_spatial_ref_sys ORDER BY srs_id") [] (λ x. true)
 all_spatial_ref_sys = record { test = _; by = _; selects = all_spatial_ref_sys_text; planned = all_spatial_ref_sys_plan; given = refl; listing = _; is = λ tree. refl; shows = λ v x. refl; passing = λ v x. refl }
 
-pub contents_known : IsKnown contents_shape (λ t. t.contents) contents_shown
-contents_known = record { laws = contents_shape_is; formed = λ db f. f.contents; lists = λ db. refl; back = λ r. record { table_name = text_at r 0; data_type = text_at r 1; identifier = text_at r 2; description = text_at r 3; last_change = text_at r 4; min_x = int_at r 5; min_y = int_at r 6; max_x = int_at r 7; max_y = int_at r 8; srs_id = int_at r 9 }; returns = λ x. refl }
+pub contents_known : IsKnown contents contents_shown
+contents_known = record { is = contents_listed; back = λ r. record { table_name = text_at r 0; data_type = text_at r 1; identifier = text_at r 2; description = text_at r 3; last_change = text_at r 4; min_x = int_at r 5; min_y = int_at r 6; max_x = int_at r 7; max_y = int_at r 8; srs_id = int_at r 9 }; returns = λ x. refl }
 
 all_contents_text : (tree : ℕ) → IsSelect (codes "SELECT * FROM gpkg_contents ORDER BY table_name") (gpkg_contents tree) always ((col 1 1, ascending) ∷ [])
 unfolding everything
@@ -143,8 +144,8 @@ all_contents_plan tree schema at h = rw (h.stored, h.by_tree) refl
 pub all_contents : IsLookUp contents_shape contents_shown (codes "SELECT * FROM gpkg_contents ORDER BY table_name") [] (λ x. true)
 all_contents = record { test = _; by = _; selects = all_contents_text; planned = all_contents_plan; given = refl; listing = _; is = λ tree. refl; shows = λ v x. refl; passing = λ v x. refl }
 
-pub tile_matrix_set_known : IsKnown tile_matrix_set_shape (λ t. t.tile_matrix_set) tile_matrix_set_shown
-tile_matrix_set_known = record { laws = tile_matrix_set_shape_is; formed = λ db f. f.tile_matrix_set; lists = λ db. refl; back = λ r. record { table_name = text_at r 0; srs_id = int_at r 1; min_x = int_at r 2; min_y = int_at r 3; max_x = int_at r 4; max_y = int_at r 5 }; returns = λ x. refl }
+pub tile_matrix_set_known : IsKnown matrix_sets tile_matrix_set_shown
+tile_matrix_set_known = record { is = matrix_sets_listed; back = λ r. record { table_name = text_at r 0; srs_id = int_at r 1; min_x = int_at r 2; min_y = int_at r 3; max_x = int_at r 4; max_y = int_at r 5 }; returns = λ x. refl }
 
 all_tile_matrix_sets_text : (tree : ℕ) → IsSelect (codes "SELECT * FROM gpkg_tile_matrix_set ORDER BY table_name") (gpkg_tile_matrix_set tree) always ((col 1 1, ascending) ∷ [])
 unfolding everything
@@ -171,8 +172,8 @@ all_tile_matrix_sets_plan tree schema at h = rw (h.stored, h.by_tree) refl
 pub all_tile_matrix_sets : IsLookUp tile_matrix_set_shape tile_matrix_set_shown (codes "SELECT * FROM gpkg_tile_matrix_set ORDER BY table_name") [] (λ x. true)
 all_tile_matrix_sets = record { test = _; by = _; selects = all_tile_matrix_sets_text; planned = all_tile_matrix_sets_plan; given = refl; listing = _; is = λ tree. refl; shows = λ v x. refl; passing = λ v x. refl }
 
-pub tile_matrix_known : IsKnown tile_matrix_shape (λ t. t.tile_matrix) tile_matrix_shown
-tile_matrix_known = record { laws = tile_matrix_shape_is; formed = λ db f. f.tile_matrix; lists = λ db. refl; back = λ r. record { table_name = text_at r 0; zoom_level = int_at r 1; matrix_width = int_at r 2; matrix_height = int_at r 3; tile_width = int_at r 4; tile_height = int_at r 5; pixel_x_size = int_at r 6; pixel_y_size = int_at r 7 }; returns = λ x. refl }
+pub tile_matrix_known : IsKnown matrices tile_matrix_shown
+tile_matrix_known = record { is = matrices_listed; back = λ r. record { table_name = text_at r 0; zoom_level = int_at r 1; matrix_width = int_at r 2; matrix_height = int_at r 3; tile_width = int_at r 4; tile_height = int_at r 5; pixel_x_size = int_at r 6; pixel_y_size = int_at r 7 }; returns = λ x. refl }
 
 all_tile_matrices_text : (tree : ℕ) → IsSelect (codes "SELECT * FROM gpkg_tile_matrix ORDER BY zoom_level") (gpkg_tile_matrix tree) always ((col 1 2, ascending) ∷ [])
 unfolding everything
@@ -199,8 +200,8 @@ all_tile_matrices_plan tree schema at h = rw (h.stored, h.by_tree) refl
 pub all_tile_matrices : IsLookUp tile_matrix_shape tile_matrix_shown (codes "SELECT * FROM gpkg_tile_matrix ORDER BY zoom_level") [] (λ x. true)
 all_tile_matrices = record { test = _; by = _; selects = all_tile_matrices_text; planned = all_tile_matrices_plan; given = refl; listing = _; is = λ tree. refl; shows = λ v x. refl; passing = λ v x. refl }
 
-pub relations_known : IsKnown relation_shape (λ t. t.relations) relation_shown
-relations_known = record { laws = relation_shape_is; formed = λ db f. f.relations; lists = λ db. refl; back = λ r. record { id = int_at r 0; base_table_name = text_at r 1; base_primary_column = text_at r 2; related_table_name = text_at r 3; related_primary_column = text_at r 4; relation_name = text_at r 5; mapping_table_name = text_at r 6 }; returns = λ x. refl }
+pub relations_known : IsKnown relations relation_shown
+relations_known = record { is = relations_listed; back = λ r. record { id = int_at r 0; base_table_name = text_at r 1; base_primary_column = text_at r 2; related_table_name = text_at r 3; related_primary_column = text_at r 4; relation_name = text_at r 5; mapping_table_name = text_at r 6 }; returns = λ x. refl }
 
 all_relations_text : (tree : ℕ) → IsSelect (codes "SELECT * FROM gpkgext_relations ORDER BY id") (gpkgext_relations tree) always ((col 1 0, ascending) ∷ [])
 unfolding everything

@@ -14,9 +14,10 @@ use Rattle.sql_meaning.specs.Reading.{always, ascending}
 use Rattle.sql_meaning.proofs.Resolve.{one_table}
 use Rattle.sql_meaning.proofs.Select.{IsSelect, IsPlannedSelect}
 use Rattle.package_tables.specs.Shapes.{int_at, text_at}
+use Rattle.package_tables.specs.Listed.{heads}
 use Rattle.package_tables.specs.Shown.{head_shown}
 use Rattle.package_tables.proofs.Looking.{IsKnown, IsLookUp}
-use Rattle.package_tables.proofs.Written.{head_shape_is}
+use Rattle.package_tables.proofs.Written.{heads_listed}
 use Rattle.std.specs.Ordering.{on, int_cmp}
 use Rattle.std.proofs.lemmas.Cmp.{on_total, int_cmp_total}
 use Rattle.package_tables.proofs.Looking.{IsRanked}
@@ -29,8 +30,8 @@ insert_text tree = record { parse = _; rows = _; parsed = refl; statement = refl
 pub insert_row : (row : HeadRow) (tree : ℕ) (there : List Row) → IsRow (sheet_package tree) (Int row.id ∷ Int row.version ∷ Text row.package ∷ Text row.parent ∷ Int row.depth ∷ Int row.loan ∷ Text row.created ∷ []) there (head_shape.stored Null row)
 insert_row row tree there = record { source = _; laid = refl; kinds = refl; placed = λ top. refl }
 
-pub heads_known : IsKnown head_shape (λ t. t.heads) head_shown
-heads_known = record { laws = head_shape_is; formed = λ db f. f.heads; lists = λ db. refl; back = λ r. record { id = int_at r 0; version = int_at r 1; «package» = text_at r 2; parent = text_at r 3; depth = int_at r 4; loan = int_at r 5; created = text_at r 6 }; returns = λ x. refl }
+pub heads_known : IsKnown heads head_shown
+heads_known = record { is = heads_listed; back = λ r. record { id = int_at r 0; version = int_at r 1; «package» = text_at r 2; parent = text_at r 3; depth = int_at r 4; loan = int_at r 5; created = text_at r 6 }; returns = λ x. refl }
 
 all_heads_text : (tree : ℕ) → IsSelect (codes "SELECT * FROM sheet_package ORDER BY id") (sheet_package tree) always ((col 1 0, ascending) ∷ [])
 unfolding everything

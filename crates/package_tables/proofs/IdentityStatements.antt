@@ -16,12 +16,13 @@ use Rattle.sql_meaning.proofs.Resolve.{one_table}
 use Rattle.sql_meaning.proofs.Select.{IsSelect, IsPlannedSelect}
 use Rattle.package_tables.specs.Tables.{sheet_identity}
 use Rattle.package_tables.specs.Shapes.{identity_shape, int_at, text_at}
+use Rattle.package_tables.specs.Listed.{identities}
 use Rattle.package_tables.specs.Shown.{identity_shown}
 use Rattle.package_tables.specs.declared.rows.IdentityRow.{IdentityRow}
 use Rattle.package_tables.proofs.Looking.{IsKnown, IsLookUp, IsRanked}
 use Rattle.package_tables.proofs.Ranking.{two_numbers}
 use Rattle.package_tables.proofs.Values.{same_number, same_text, both_same}
-use Rattle.package_tables.proofs.Written.{identity_shape_is}
+use Rattle.package_tables.proofs.Written.{identities_listed}
 
 pub insert_text : (tree : ℕ) → IsInsert (codes "INSERT INTO sheet_identity VALUES (?1, ?2, ?3)") (sheet_identity tree)
 unfolding everything
@@ -39,8 +40,8 @@ pub delete_plan : (tree : ℕ) → IsPlannedDelete (sheet_identity tree) (both (
 unfolding resolving
 delete_plan tree schema at h = rw (h.stored, h.by_tree) refl
 
-pub known : IsKnown identity_shape (λ t. t.identities) identity_shown
-known = record { laws = identity_shape_is; formed = λ db f. f.identities; lists = λ db. refl; back = λ r. record { kind = int_at r 0; local_id = int_at r 1; uuid = text_at r 2 }; returns = λ x. refl }
+pub known : IsKnown identities identity_shown
+known = record { is = identities_listed; back = λ r. record { kind = int_at r 0; local_id = int_at r 1; uuid = text_at r 2 }; returns = λ x. refl }
 
 identity_by_uuid_text : (tree : ℕ) → IsSelect (codes "SELECT * FROM sheet_identity WHERE uuid = ?1") (sheet_identity tree) (equals 2 0) []
 unfolding everything

@@ -1,53 +1,63 @@
 -- Calls that write, one after the other in one transaction.
-use Rattle.std.proofs.Common.{◌≡◌, ℕ, List, [], false, Result, Ok, ap, ◌∙◌}
-use Rattle.sqlite.specs.State.{State}
+use Rattle.std.proofs.Common.{◌≡◌, List, [], false, Result, Ok, ap, sym, ◌∙◌}
+use Rattle.sqlite.specs.State.{State, Survives}
 use Rattle.sheet_types.specs.Ordered.{put, has}
 use Rattle.sql_meaning.specs.Transactions.{Steps}
-use Rattle.sql_meaning.proofs.Transactions.{steps_then, steps_weaker}
+use Rattle.sql_meaning.proofs.Transactions.{steps_then, steps_none, steps_weaker}
 use Rattle.package_tables.specs.Package.{Tables, tables_of}
-use Rattle.package_tables.specs.Calls.{OnTables}
+use Rattle.package_tables.specs.Listed.{Listed}
+use Rattle.package_tables.specs.Calls.{Makes, OnTables}
+use Rattle.package_tables.specs.Changes.{Adds, ListBecomes}
 use Rattle.package_tables.specs.Creation.{TablesBecome}
+use Rattle.package_tables.specs.declared.fault.Fault.{Fault}
+use Rattle.package_tables.proofs.Lists.{IsListed}
+use Rattle.package_tables.proofs.Stepping.{makes_steps}
 
 -- the steps, with their change as a caller says it
-pub tables_weaker : {X E : Type 0} {A : Tables → Tables → Type 0} (C : Tables → Tables → Type 0) {old new : State} {r : Result X E} → ((b a : Tables) → A b a → C b a) → Steps (λ _. OnTables A) old new r → Steps (λ _. OnTables C) old new r
+tables_weaker : {X E : Type 0} {A : Tables → Tables → Type 0} (C : Tables → Tables → Type 0) {old new : State} {r : Result X E} → ((b a : Tables) → A b a → C b a) → Steps (λ _. OnTables A) old new r → Steps (λ _. OnTables C) old new r
 tables_weaker C {old} {new} f h = steps_weaker (λ _. OnTables C) (λ x it formed. let one = it formed in (one.0, f (tables_of old.now) (tables_of new.now) one.1)) h
 
 -- one call after the other
-pub tables_then : {X Y E F : Type 0} {A B : Tables → Tables → Type 0} (C : Tables → Tables → Type 0) {old mid new : State} {x : X} {r : Result Y F} → ((b m a : Tables) → A b m → B m a → C b a)
+tables_then : {X Y E F : Type 0} {A B : Tables → Tables → Type 0} (C : Tables → Tables → Type 0) {old mid new : State} {x : X} {r : Result Y F} → ((b m a : Tables) → A b m → B m a → C b a)
     → Steps {E = E} (λ _. OnTables A) old mid (Ok x) → Steps (λ _. OnTables B) mid new r → Steps (λ _. OnTables C) old new r
 tables_then C {old} {mid} {new} f first next =
     steps_weaker (λ _. OnTables C) (λ y it formed. let one = it.1 formed in let two = it.2 one.0 in (two.0, f (tables_of old.now) (tables_of it.0) (tables_of new.now) one.1 two.1)) (steps_then first next)
 
 -- ---- one list of the tables, which calls change in turn
 
-module _ {R : Type 0} (rows : Tables → List R) (with_rows : List R → Tables → Tables) (key : R → List ℕ) (reads : (l : List R) (t : Tables) → rows (with_rows l t) ≡ l)
-    (again : (k l : List R) (t : Tables) → with_rows l (with_rows k t) ≡ with_rows l t) where
-  -- a row comes to a list that is known
-  pub put_to : (row : R) (from : List R) (b a : Tables) → has key (key row) from ≡ false → (has key (key row) (rows b) ≡ false → a ≡ with_rows (put key row (rows b)) b) → rows b ≡ from → a ≡ with_rows (put key row from) b
-  put_to row from b a free adds is = adds (ap (has key (key row)) is ∙ free) ∙ ap (λ l. with_rows (put key row l) b) is
+-- what these calls answer
+abbrev pub Done : Type 0
+Done = Result (Unit {0}) Fault
+
+abbrev pub done : Done
+done = Ok tt
+
+module _ {R : Type 0} {list : Listed R} (is : IsListed list) where
+  -- a row that comes to a known list makes this list of it
+  pub made_by : (row : R) (from to : List R) {old new : State} {r : Done} → has list.shape.key (list.shape.key row) from ≡ false → put list.shape.key row from ≡ to
+      → Steps (λ _. OnTables (Adds list row)) old new r → Steps (λ _. OnTables (ListBecomes list from to)) old new r
+  made_by row from to free whole h =
+      tables_weaker {A = Adds list row} (ListBecomes list from to) (λ b a adds known. adds (ap (has list.shape.key (list.shape.key row)) known ∙ free) ∙ ap (λ l. list.with_rows l b) (ap (put list.shape.key row) known ∙ whole)) h
+
+  pub entered_by : (row : R) (from to : List R) {old new : State} {r : Done} → has list.shape.key (list.shape.key row) from ≡ false → put list.shape.key row from ≡ to
+      → Makes (Adds list row) old new r → Survives old new (λ _. ⊥) → Steps (λ _. OnTables (ListBecomes list from to)) old new r
+  entered_by row from to free whole wrote survives = made_by row from to free whole (makes_steps (Adds list row) wrote survives)
 
   -- two changes of the list in turn
-  pub set_then : (k l : List R) (b m a : Tables) → m ≡ with_rows k b → (rows m ≡ k → a ≡ with_rows l m) → a ≡ with_rows l b
-  set_then k l b m a first next = next (ap rows first ∙ reads k b) ∙ ap (with_rows l) first ∙ again k l b
+  pub made_then : (j k l : List R) {old mid new : State} {r : Done} → Steps (λ _. OnTables (ListBecomes list j k)) old mid done → Steps (λ _. OnTables (ListBecomes list k l)) mid new r
+      → Steps (λ _. OnTables (ListBecomes list j l)) old new r
+  made_then j k l first next =
+      tables_then {A = ListBecomes list j k} {B = ListBecomes list k l} (ListBecomes list j l) (λ b m a one two known. let mid = one known in two (ap list.rows mid ∙ is.reads k b) ∙ ap (list.with_rows l) mid ∙ is.again k l b) first next
 
--- ---- the same of calls
-
-module _ {R : Type 0} (rows : Tables → List R) (with_rows : List R → Tables → Tables) (key : R → List ℕ) (reads : (l : List R) (t : Tables) → rows (with_rows l t) ≡ l)
-    (again : (k l : List R) (t : Tables) → with_rows l (with_rows k t) ≡ with_rows l t) where
-  -- a row that comes to a known list makes this list of it
-  pub made_by : {X E : Type 0} (row : R) (from to : List R) {old new : State} {r : Result X E} → has key (key row) from ≡ false → put key row from ≡ to
-      → Steps (λ _. OnTables (λ b a. has key (key row) (rows b) ≡ false → a ≡ with_rows (put key row (rows b)) b)) old new r → Steps (λ _. OnTables (λ b a. rows b ≡ from → a ≡ with_rows to b)) old new r
-  made_by row from to free is h = tables_weaker (λ b a. rows b ≡ from → a ≡ with_rows to b) (λ b a adds known. put_to rows with_rows key reads again row from b a free adds known ∙ ap (λ l. with_rows l b) is) h
-
-  pub made_then : {X Y E F : Type 0} (j k l : List R) {old mid new : State} {x : X} {r : Result Y F} → Steps {E = E} (λ _. OnTables (λ b a. rows b ≡ j → a ≡ with_rows k b)) old mid (Ok x)
-      → Steps (λ _. OnTables (λ b a. rows b ≡ k → a ≡ with_rows l b)) mid new r → Steps (λ _. OnTables (λ b a. rows b ≡ j → a ≡ with_rows l b)) old new r
-  made_then j k l first next = tables_then {A = λ b a. rows b ≡ j → a ≡ with_rows k b} {B = λ b a. rows b ≡ k → a ≡ with_rows l b} (λ b a. rows b ≡ j → a ≡ with_rows l b) (λ b m a one two known. set_then rows with_rows key reads again k l b m a (one known) two) first next
+  -- where nothing is done the list stays
+  pub made_none : (from to : List R) (s : State) → from ≡ to → Steps (λ _. OnTables (ListBecomes list from to)) s s done
+  made_none from to s alike = steps_none {E = Fault} (λ _. OnTables (ListBecomes list from to)) s tt (λ formed. (formed, λ known. sym (is.same (tables_of s.now)) ∙ ap (λ l. list.with_rows l (tables_of s.now)) (known ∙ alike)))
 
 -- tables that are known to the last row, of which one list that was empty is filled
-module _ {R : Type 0} (rows : Tables → List R) (with_rows : List R → Tables → Tables) where
-  pub becomes_first : {X E : Type 0} (t : Tables) (to : List R) {old new : State} {r : Result X E} → rows t ≡ [] → Steps (λ _. OnTables (λ b a. rows b ≡ [] → a ≡ with_rows to b)) old new r → Steps (λ _. OnTables (TablesBecome t (with_rows to t))) old new r
-  becomes_first t to none h = tables_weaker {A = λ b a. rows b ≡ [] → a ≡ with_rows to b} (TablesBecome t (with_rows to t)) (λ b a set is. set (ap rows is ∙ none) ∙ ap (with_rows to) is) h
+module _ {R : Type 0} (list : Listed R) where
+  pub becomes_first : (t : Tables) (to : List R) {old new : State} {r : Done} → list.rows t ≡ [] → Steps (λ _. OnTables (ListBecomes list [] to)) old new r → Steps (λ _. OnTables (TablesBecome t (list.with_rows to t))) old new r
+  becomes_first t to none h = tables_weaker {A = ListBecomes list [] to} (TablesBecome t (list.with_rows to t)) (λ b a set is. set (ap list.rows is ∙ none) ∙ ap (list.with_rows to) is) h
 
-  pub becomes_then : {X Y E F : Type 0} (from t : Tables) (to : List R) {old mid new : State} {x : X} {r : Result Y F} → rows t ≡ [] → Steps {E = E} (λ _. OnTables (TablesBecome from t)) old mid (Ok x)
-      → Steps (λ _. OnTables (λ b a. rows b ≡ [] → a ≡ with_rows to b)) mid new r → Steps (λ _. OnTables (TablesBecome from (with_rows to t))) old new r
-  becomes_then from t to none first next = tables_then {A = TablesBecome from t} {B = λ b a. rows b ≡ [] → a ≡ with_rows to b} (TablesBecome from (with_rows to t)) (λ b m a one two is. let here = one is in two (ap rows here ∙ none) ∙ ap (with_rows to) here) first next
+  pub becomes_then : (from t : Tables) (to : List R) {old mid new : State} {r : Done} → list.rows t ≡ [] → Steps (λ _. OnTables (TablesBecome from t)) old mid done → Steps (λ _. OnTables (ListBecomes list [] to)) mid new r
+      → Steps (λ _. OnTables (TablesBecome from (list.with_rows to t))) old new r
+  becomes_then from t to none first next = tables_then {A = TablesBecome from t} {B = ListBecomes list [] to} (TablesBecome from (list.with_rows to t)) (λ b m a one two is. let here = one is in two (ap list.rows here ∙ none) ∙ ap (list.with_rows to) here) first next

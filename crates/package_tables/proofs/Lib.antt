@@ -1,4 +1,5 @@
 pub mod Shapes
+pub mod Lists
 pub mod Written
 pub mod Making
 pub mod Reading

@@ -5,25 +5,31 @@ use Rattle.std.specs.Cmp.{IsTotalOrder}
 use Rattle.sqlite.specs.Query.{key_cmp}
 use Rattle.sqlite.specs.Order.{Row}
 use Rattle.sqlite.specs.Term.{Term}
+use Rattle.sqlite.specs.Table.{Table}
+use Rattle.sqlite_ast.specs.declared.Select.{Select as Written}
+use Rattle.sqlite_ast.specs.declared.Source.{Source as From}
+use Rattle.sqlite_ast.specs.declared.Shown.{Shown as Item}
 use Rattle.sqlite.specs.Store.{Ghosts}
 use Rattle.sqlite.specs.Effect.{Database}
 use Rattle.sqlite.specs.Held.{Held, state}
 use Rattle.sqlite.specs.declared.error.Error.{Error}
 use Rattle.sqlite.specs.declared.types.Value.{Value}
-use Rattle.sqlite.specs.State.{State, HasCleanDisk, IsUnchanged, IsRolledBack, Survives, Shown, FailsToQuery, IsTooLate, CommitsShowing}
+use Rattle.sqlite.specs.State.{State, HasCleanDisk, IsUnchanged, Survives, Shown, FailsToQuery, IsTooLate, CommitsShowing}
 use Rattle.sqlite_value.specs.declared.keys.Key.{Key}
 use Rattle.sql_meaning.specs.Known.{HasTable}
 use Rattle.sql_meaning.specs.Reading.{Test, Listing, IsListing, Finds}
 use Rattle.sql_meaning.specs.Transactions.{Rests}
 use Rattle.sql_meaning.proofs.Where.{are_given}
-use Rattle.sql_meaning.proofs.Select.{IsSelect, IsPlannedSelect, listing_of, listed}
+use Rattle.sql_meaning.proofs.Select.{IsReading, IsSelect, IsPlannedSelect, listing_of, listed}
 use Rattle.sql_meaning.proofs.Answering.{shown_unchanged, failed_unchanged, found_looks}
 use Rattle.sql_meaning.proofs.Transactions.{Shuts, Settles}
 use Rattle.sqlite_trees.proofs.ListLemmas.{all_of, filter_all}
-use Rattle.package_tables.specs.Shape.{Shape, IsShape, IsFormed, rows_of}
+use Rattle.package_tables.specs.Shape.{Shape}
 use Rattle.package_tables.specs.Package.{Tables, tables_of, AreFormed}
+use Rattle.package_tables.specs.Listed.{Listed}
 use Rattle.package_tables.specs.Calls.{TellsInside, Tells, Answers, LooksUp, IsOneOf, AreThose, AreAll, Rises}
 use Rattle.package_tables.specs.declared.fault.Fault.{Fault}
+use Rattle.package_tables.proofs.Lists.{IsListed}
 use Rattle.package_tables.proofs.Reading.{those, one_of}
 use Rattle.package_tables.proofs.Ranking.{in_order}
 
@@ -31,10 +37,8 @@ pub filter_every : {R : Type 0} {keeps : R → Bool} → ((x : R) → keeps x �
 filter_every {R} {keeps} every xs = filter_all keeps xs (all_of (λ x. keeps x ≡ true) every xs)
 
 -- the table is one of the fourteen, and a SELECT * shows its values so
-pub record IsKnown {R : Type 0} (shape : Shape R) (list : Tables → List R) (shown : R → Row) : Type 0 where
-  pub laws : IsShape shape
-  pub formed : (db : Database) → AreFormed db → IsFormed shape db
-  pub lists : (db : Database) → list (tables_of db) ≡ rows_of shape db
+pub record IsKnown {R : Type 0} (list : Listed R) (shown : R → Row) : Type 0 where
+  pub is : IsListed list
   pub back : Row → R
   pub returns : (x : R) → back (shown x) ≡ x
 
@@ -67,65 +71,69 @@ HasHead shown rows first = MatchOption first (rows ≡ []) (λ x. slice_get rows
 abbrev pub AreShown : {R : Type 0} → (R → Row) → List Row → List R → Type 0
 AreShown shown rows xs = rows ≡ map shown xs
 
-module _ {R : Type 0} {shape : Shape R} {list : Tables → List R} {shown : R → Row} (known : IsKnown shape list shown) {text : List ℕ} {params : Row} {keeps : R → Bool} (read : IsLookUp shape shown text params keeps) where
-  abbrev IsListed : Database → List Row → Type 0
-  IsListed db rows = (at tree : ℕ) → HasTable db.schema at (shape.table tree) → IsListing read.listing.key read.listing.shown read.listing.by (filter read.listing.keeps (db.trees (shape.table tree).tree)) rows
+-- what the rows of a reading say of the tables is an answer inside a transaction
+module _ {Of : Written → From → Item → Type 0} {text : List ℕ} {t : Table} {test : Test} {by : List (Term × Key)} (reads : IsReading Of text t test by) {X Y : Type 0} (params : Row) (items : Y → List Row) (Says : List Row → X → Type 0) (Answer : Tables → X → Type 0)
+    (old new : State) (means : AreFormed old.now → (rows : List Row) → Shown text params old new rows → (x : X) → Says rows x → Answer (tables_of old.now) x) where
+  pub told : (answer : Result Y Error) (result : Result X Fault) → (HasCleanDisk new → IfOk answer (λ y. Shown text params old new (items y))) → (HasCleanDisk new → IfErr answer (λ e. FailsToQuery text params old new e ⊎ IsTooLate text params old new e))
+      → AreSaid items Says answer result → Tells Answer old new result
+  told answer result ok err said clean = at answer result (ok clean) (err clean) said
+    where
+      bare : (rows : List Row) → Shown text params old new rows → IsUnchanged old new
+      bare rows shows = shown_unchanged text reads.parse reads.asks reads.parsed reads.statement params old new rows shows
+
+      at : (answer : Result Y Error) (result : Result X Fault) → IfOk answer (λ y. Shown text params old new (items y)) → IfErr answer (λ e. FailsToQuery text params old new e ⊎ IsTooLate text params old new e) → AreSaid items Says answer result
+          → TellsInside Answer old new result
+      at (Ok y) (Ok x) shows fails said = (bare (items y) shows, λ formed. means formed (items y) shows x said)
+      at (Ok y) (Err f) shows fails said = inl (bare (items y) shows)
+      at (Err e) (Ok x) shows fails said = absurd said
+      at (Err e) (Err f) shows (inl why) said = failed_unchanged text reads.parse reads.asks reads.parsed reads.statement params old new e why
+      at (Err e) (Err f) shows (inr late) said = inl late.5
+
+module _ {R : Type 0} {list : Listed R} {shown : R → Row} (known : IsKnown list shown) {text : List ℕ} {params : Row} {keeps : R → Bool} (read : IsLookUp list.shape shown text params keeps) where
+  abbrev AreListed : Database → List Row → Type 0
+  AreListed db rows = (at tree : ℕ) → HasTable db.schema at (list.shape.table tree) → IsListing read.listing.key read.listing.shown read.listing.by (filter read.listing.keeps (db.trees (list.shape.table tree).tree)) rows
 
   -- what the rows say answers a question on the tables
   abbrev Means : {X : Type 0} → (List Row → X → Type 0) → (Tables → X → Type 0) → Type 0
-  Means {X} Says Answer = (db : Database) → AreFormed db → (rows : List Row) → IsListed db rows → (x : X) → Says rows x → Answer (tables_of db) x
+  Means {X} Says Answer = (db : Database) → AreFormed db → (rows : List Row) → AreListed db rows → (x : X) → Says rows x → Answer (tables_of db) x
 
-  first_means : Means (HasHead shown) (λ t. IsOneOf keeps (list t))
+  first_means : Means (HasHead shown) (λ t. IsOneOf keeps (list.rows t))
   first_means db formed rows listing first head =
-      subst (λ k. IsOneOf keeps k first) (sym (known.lists db)) (one_of shape known.laws shown known.back known.returns read.listing keeps read.shows read.passing db (known.formed db formed) rows listing first head)
+      subst (λ k. IsOneOf keeps k first) (sym (known.is.lists db)) (one_of list.shape known.is.laws shown known.back known.returns read.listing keeps read.shows read.passing db (known.is.formed db formed) rows listing first head)
 
-  all_mean : Means (AreShown shown) (λ t. AreThose keeps (list t))
+  all_mean : Means (AreShown shown) (λ t. AreThose keeps (list.rows t))
   all_mean db formed rows listing xs are =
-      subst (λ k. AreThose keeps k xs) (sym (known.lists db)) (those shape known.laws shown known.back known.returns read.listing keeps read.shows read.passing db (known.formed db formed) rows listing xs are)
+      subst (λ k. AreThose keeps k xs) (sym (known.is.lists db)) (those list.shape known.is.laws shown known.back known.returns read.listing keeps read.shows read.passing db (known.is.formed db formed) rows listing xs are)
 
   -- every row, in order
   module _ (every : (x : R) → keeps x ≡ true) {cmp : R → R → Ordering} (ranked : IsRanked read cmp) where
-    in_order_mean : Means (AreShown shown) (λ t. AreAll cmp (list t))
+    in_order_mean : Means (AreShown shown) (λ t. AreAll cmp (list.rows t))
     in_order_mean db formed rows listing xs are = (
-      subst (λ k. IsPermutation k xs) (filter_every every (list (tables_of db))) (all_mean db formed rows listing xs are),
-      in_order shape known.laws shown known.back known.returns read.listing read.shows ranked.keys ranked.keyed cmp ranked.total ranked.alike db (known.formed db formed) rows listing xs are,
+      subst (λ k. IsPermutation k xs) (filter_every every (list.rows (tables_of db))) (all_mean db formed rows listing xs are),
+      in_order list.shape known.is.laws shown known.back known.returns read.listing read.shows ranked.keys ranked.keyed cmp ranked.total ranked.alike db (known.is.formed db formed) rows listing xs are,
     )
 
   -- all rows that pass, in the order of a number
   module _ (number : R → ℤ) (rank : (there rows : List Row) → IsListing read.listing.key read.listing.shown read.listing.by there rows → (xs : List R) → AreShown shown rows xs → Rises number xs) where
-    ranked_mean : Means (AreShown shown) (λ t xs. AreThose keeps (list t) xs × Rises number xs)
-    ranked_mean db formed rows listing xs are = let p = (known.formed db formed).placed in (all_mean db formed rows listing xs are, rank (filter read.listing.keeps (db.trees (shape.table p.tree).tree)) rows (listing p.at p.tree p.has) xs are)
+    ranked_mean : Means (AreShown shown) (λ t xs. AreThose keeps (list.rows t) xs × Rises number xs)
+    ranked_mean db formed rows listing xs are = let p = (known.is.formed db formed).placed in (all_mean db formed rows listing xs are, rank (filter read.listing.keeps (db.trees (list.shape.table p.tree).tree)) rows (listing p.at p.tree p.has) xs are)
 
   module _ {X Y : Type 0} (items : Y → List Row) (Says : List Row → X → Type 0) (Answer : Tables → X → Type 0) (means : Means Says Answer) where
-    bare : (old new : State) (rows : List Row) → Shown text params old new rows → IsUnchanged old new
-    bare old new rows said = shown_unchanged text (read.selects 0).parse (read.selects 0).asks (read.selects 0).parsed (read.selects 0).statement params old new rows said
-
-    failed : (old new : State) (e : Error) → FailsToQuery text params old new e → IsUnchanged old new ⊎ IsRolledBack old new
-    failed old new e why = failed_unchanged text (read.selects 0).parse (read.selects 0).asks (read.selects 0).parsed (read.selects 0).statement params old new e why
-
     -- inside a transaction
     tells : (old new : State) (answer : Result Y Error) (result : Result X Fault) → (HasCleanDisk new → IfOk answer (λ y. Shown text params old new (items y)))
         → (HasCleanDisk new → IfErr answer (λ e. FailsToQuery text params old new e ⊎ IsTooLate text params old new e)) → AreSaid items Says answer result → Tells Answer old new result
-    tells old new answer result ok err said clean = at answer result (ok clean) (err clean) said
-      where
-        at : (answer : Result Y Error) (result : Result X Fault) → IfOk answer (λ y. Shown text params old new (items y)) → IfErr answer (λ e. FailsToQuery text params old new e ⊎ IsTooLate text params old new e)
-            → AreSaid items Says answer result → TellsInside Answer old new result
-        at (Ok y) (Ok x) shows fails said =
-            (bare old new (items y) shows, λ formed. means old.now formed (items y) (λ at tree has. (listed text shape.table read.test read.by read.selects read.planned params read.given read.listing read.is old new (items y) shows at tree has).0) x said)
-        at (Ok y) (Err f) shows fails said = inl (bare old new (items y) shows)
-        at (Err e) (Ok x) shows fails said = absurd said
-        at (Err e) (Err f) shows (inl why) said = failed old new e why
-        at (Err e) (Err f) shows (inr late) said = inl late.5
+    tells old new = told (read.selects 0) params items Says Answer old new
+        (λ formed rows shows. means old.now formed rows (λ at tree has. (listed text list.shape.table read.test read.by read.selects read.planned params read.given read.listing read.is old new rows shows at tree has).0))
 
     -- at rest
     looks : {S : Type 0} (g : Ghosts S) (shuts : Shuts g) (settles : Settles g) (old new : Held S) (rests : Rests (state g old)) (answer : Result Y Error) (result : Result X Fault)
         → (HasCleanDisk (state g new) → IfOk answer (λ y. Shown text params (state g old) (state g new) (items y))) → (HasCleanDisk (state g new) → IfErr answer (FailsToQuery text params (state g old) (state g new)))
         → (old.in_transaction ≡ false → new.in_transaction ≡ false) → Survives (state g old) (state g new) (CommitsShowing text params (state g old)) → AreSaid items Says answer result → LooksUp Answer (state g old) (state g new) result
     looks g shuts settles old new rests answer result ok err mode survives said =
-        let found = found_looks text shape.table read.test read.by read.selects read.planned params read.given read.listing read.is g shuts settles items old new rests answer ok err mode survives in
+        let found = found_looks text list.shape.table read.test read.by read.selects read.planned params read.given read.listing read.is g shuts settles items old new rests answer ok err mode survives in
         record { rests = found.rests; done = λ clean. at answer result (found.done clean) said; was_open = found.was_open; holds = found.holds; survives = found.survives }
       where
-        at : (answer : Result Y Error) (result : Result X Fault) → IfOk answer (λ y. IsTrue (state g new).is_open × Finds shape.table read.listing (items y) (state g old).now (state g new).now) → AreSaid items Says answer result
+        at : (answer : Result Y Error) (result : Result X Fault) → IfOk answer (λ y. IsTrue (state g new).is_open × Finds list.shape.table read.listing (items y) (state g old).now (state g new).now) → AreSaid items Says answer result
             → IfOk result (λ x. IsTrue (state g new).is_open × Answers Answer x (state g old).now (state g new).now)
         at (Ok y) (Ok x) found said = (found.0, (found.1.same, λ formed. means (state g old).now formed (items y) found.1.listed x said))
         at (Err e) (Ok x) found said = absurd said
@@ -141,8 +149,8 @@ module _ {R : Type 0} {shape : Shape R} {list : Tables → List R} {shown : R �
       fails : HasCleanDisk new → IfErr answer (λ e. FailsToQuery text params old new e ⊎ IsTooLate text params old new e)
       fails = subst (λ p. HasCleanDisk new → IfErr answer (λ e. FailsToQuery text p old new e ⊎ IsTooLate text p old new e)) same err
 
-      pub tells_one : (result : Result (Option R) Fault) → AreSaid items (HasHead shown) answer result → Tells (λ t. IsOneOf keeps (list t)) old new result
-      tells_one result said = tells items (HasHead shown) (λ t. IsOneOf keeps (list t)) first_means old new answer result shows fails said
+      pub tells_one : (result : Result (Option R) Fault) → AreSaid items (HasHead shown) answer result → Tells (λ t. IsOneOf keeps (list.rows t)) old new result
+      tells_one result said = tells items (HasHead shown) (λ t. IsOneOf keeps (list.rows t)) first_means old new answer result shows fails said
 
     module _ {S : Type 0} (g : Ghosts S) (shuts : Shuts g) (settles : Settles g) (old new : Held S) (rests : Rests (state g old)) (answer : Result Y Error) (ok : HasCleanDisk (state g new) → IfOk answer (λ y. Shown text given (state g old) (state g new) (items y)))
         (err : HasCleanDisk (state g new) → IfErr answer (FailsToQuery text given (state g old) (state g new))) (mode : old.in_transaction ≡ false → new.in_transaction ≡ false)
@@ -152,20 +160,20 @@ module _ {R : Type 0} {shape : Shape R} {list : Tables → List R} {shown : R �
           looks items Says Answer means g shuts settles old new rests answer result (subst (λ p. HasCleanDisk (state g new) → IfOk answer (λ y. Shown text p (state g old) (state g new) (items y))) same ok)
           (subst (λ p. HasCleanDisk (state g new) → IfErr answer (FailsToQuery text p (state g old) (state g new))) same err) mode (subst (λ p. Survives (state g old) (state g new) (CommitsShowing text p (state g old))) same survives) said
 
-      pub looks_one : (result : Result (Option R) Fault) → AreSaid items (HasHead shown) answer result → LooksUp (λ t. IsOneOf keeps (list t)) (state g old) (state g new) result
-      looks_one result said = answers (HasHead shown) (λ t. IsOneOf keeps (list t)) first_means result said
+      pub looks_one : (result : Result (Option R) Fault) → AreSaid items (HasHead shown) answer result → LooksUp (λ t. IsOneOf keeps (list.rows t)) (state g old) (state g new) result
+      looks_one result said = answers (HasHead shown) (λ t. IsOneOf keeps (list.rows t)) first_means result said
 
       -- every row, in order
       pub looks_in_order : {X : Type 0} (every : (x : R) → keeps x ≡ true) {cmp : R → R → Ordering} (ranked : IsRanked read cmp) (of : X → List R) (result : Result X Fault) → AreSaid items (λ rows x. AreShown shown rows (of x)) answer result
-          → LooksUp (λ t x. AreAll cmp (list t) (of x)) (state g old) (state g new) result
+          → LooksUp (λ t x. AreAll cmp (list.rows t) (of x)) (state g old) (state g new) result
       looks_in_order every {cmp} ranked of result said =
-          answers (λ rows x. AreShown shown rows (of x)) (λ t x. AreAll cmp (list t) (of x)) (λ db formed rows listing x are. in_order_mean every ranked db formed rows listing (of x) are) result said
+          answers (λ rows x. AreShown shown rows (of x)) (λ t x. AreAll cmp (list.rows t) (of x)) (λ db formed rows listing x are. in_order_mean every ranked db formed rows listing (of x) are) result said
 
-      pub looks_all : {X : Type 0} (of : X → List R) (result : Result X Fault) → AreSaid items (λ rows x. AreShown shown rows (of x)) answer result → LooksUp (λ t x. AreThose keeps (list t) (of x)) (state g old) (state g new) result
-      looks_all of result said = answers (λ rows x. AreShown shown rows (of x)) (λ t x. AreThose keeps (list t) (of x)) (λ db formed rows listing x are. all_mean db formed rows listing (of x) are) result said
+      pub looks_all : {X : Type 0} (of : X → List R) (result : Result X Fault) → AreSaid items (λ rows x. AreShown shown rows (of x)) answer result → LooksUp (λ t x. AreThose keeps (list.rows t) (of x)) (state g old) (state g new) result
+      looks_all of result said = answers (λ rows x. AreShown shown rows (of x)) (λ t x. AreThose keeps (list.rows t) (of x)) (λ db formed rows listing x are. all_mean db formed rows listing (of x) are) result said
 
       -- all rows that pass, in the order of a number
       pub looks_ranked : {X : Type 0} (of : X → List R) (number : R → ℤ) → ((there rows : List Row) → IsListing read.listing.key read.listing.shown read.listing.by there rows → (xs : List R) → AreShown shown rows xs → Rises number xs)
-          → (result : Result X Fault) → AreSaid items (λ rows x. AreShown shown rows (of x)) answer result → LooksUp (λ t x. AreThose keeps (list t) (of x) × Rises number (of x)) (state g old) (state g new) result
+          → (result : Result X Fault) → AreSaid items (λ rows x. AreShown shown rows (of x)) answer result → LooksUp (λ t x. AreThose keeps (list.rows t) (of x) × Rises number (of x)) (state g old) (state g new) result
       looks_ranked of number rank result said =
-          answers (λ rows x. AreShown shown rows (of x)) (λ t x. AreThose keeps (list t) (of x) × Rises number (of x)) (λ db formed rows listing x are. ranked_mean number rank db formed rows listing (of x) are) result said
+          answers (λ rows x. AreShown shown rows (of x)) (λ t x. AreThose keeps (list.rows t) (of x) × Rises number (of x)) (λ db formed rows listing x are. ranked_mean number rank db formed rows listing (of x) are) result said

@@ -1,19 +1,24 @@
 -- From what a statement makes of a database to what a call makes of the tables.
-use Rattle.std.proofs.Common.{◌≡◌, ℕ, List, Bool, true, false, Result, Ok, Err, ap, ◌∙◌}
-use Rattle.std.specs.Prelude.{not, filter, IsOk, MatchResult}
+use Rattle.std.proofs.Common.{◌≡◌, ℕ, List, Bool, true, Result, Ok, Err, ap, ◌∙◌}
+use Rattle.std.specs.Prelude.{IsOk, MatchResult}
 use Rattle.sqlite.specs.Order.{Row}
 use Rattle.sqlite.specs.Effect.{Database}
 use Rattle.sqlite.specs.declared.error.Error.{Error}
 use Rattle.sqlite.specs.declared.types.Value.{Value}
-use Rattle.sqlite.specs.State.{State}
+use Rattle.sqlite.specs.State.{State, ExecutesInside}
 use Rattle.sqlite_trees.specs.View.{is_int}
-use Rattle.sheet_types.specs.Ordered.{put, has}
-use Rattle.sql_meaning.specs.Writing.{Inserts, Deletes, Spares, WritesInside}
-use Rattle.package_tables.specs.Shape.{Shape, IsShape, IsFormed, rows_of}
+use Rattle.sql_meaning.specs.Reading.{Test, passes}
+use Rattle.sql_meaning.proofs.Where.{are_given}
+use Rattle.sql_meaning.proofs.Insert.{IsInsert, IsRow, inserted_inside}
+use Rattle.sql_meaning.proofs.Delete.{IsDelete, IsPlannedDelete, removed_inside}
+use Rattle.sql_meaning.specs.Writing.{Inserts, Deletes, WritesInside}
 use Rattle.package_tables.specs.Package.{Tables, tables_of, AreFormed}
+use Rattle.package_tables.specs.Listed.{Listed}
 use Rattle.package_tables.specs.Calls.{MakesInside}
+use Rattle.package_tables.specs.Changes.{Adds, Drops}
 use Rattle.package_tables.specs.Faults.{fault_of}
 use Rattle.package_tables.specs.declared.fault.Fault.{Fault}
+use Rattle.package_tables.proofs.Lists.{IsListed}
 use Rattle.package_tables.proofs.Shapes.{inserted, deleted}
 
 -- a statement's change of the database is a change of the tables
@@ -25,22 +30,33 @@ makes Writes Change old new (Ok x) (Err f) means settled it = absurd (let k = se
 makes Writes Change old new (Err e) (Ok y) means settled it = absurd (let k = settled in cc)
 makes Writes Change old new (Err e) (Err f) means settled it = it
 
--- the table that is written is one of the fourteen: `with_rows` puts its new list in place of the old
-module _ {R : Type 0} (shape : Shape R) (laws : IsShape shape) (with_rows : List R → Tables → Tables)
-    (written : (tree : ℕ) (old new : Database) → Spares (shape.table tree) old new → AreFormed old → IsFormed shape new → AreFormed new × (tables_of new ≡ with_rows (rows_of shape new) (tables_of old)))
-    (formed_in : (db : Database) → AreFormed db → IsFormed shape db) where
-  pub puts : (row : List Row → Row) (x : R) (old new : Database) → AreFormed old → ((there : List Row) → (v : Value) × (is_int v ≡ true) × (row there ≡ shape.stored v x)) → Inserts shape.table row old new
-      → AreFormed new × (has shape.key (shape.key x) (rows_of shape old) ≡ false → tables_of new ≡ with_rows (put shape.key x (rows_of shape old)) (tables_of old))
+module _ {R : Type 0} {list : Listed R} (is : IsListed list) where
+  puts : (row : List Row → Row) (x : R) (old new : Database) → AreFormed old → ((there : List Row) → (v : Value) × (is_int v ≡ true) × (row there ≡ list.shape.stored v x)) → Inserts list.shape.table row old new
+      → AreFormed new × Adds list x (tables_of old) (tables_of new)
   puts row x old new formed laid inserts =
-      let here = formed_in old formed in
-      let did = inserted shape laws row x old new inserts formed.quiet here laid in
-      let both = written here.placed.tree old new (inserts here.placed.at here.placed.tree here.placed.has formed.quiet).spares formed did.0 in
-      (both.0, λ fresh. both.1 ∙ ap (λ l. with_rows l (tables_of old)) (did.1 fresh))
+      let here = is.formed old formed in
+      let did = inserted list.shape is.laws row x old new inserts formed.quiet here laid in
+      let both = is.written here.placed.tree old new (inserts here.placed.at here.placed.tree here.placed.has formed.quiet).spares formed did.0 in
+      (both.0, rw (is.lists old) (λ fresh. both.1 ∙ ap (λ l. list.with_rows l (tables_of old)) (did.1 fresh)))
 
-  pub drops : (goes : Row → Bool) (test : R → Bool) (old new : Database) → AreFormed old → ((v : Value) (x : R) → goes (shape.stored v x) ≡ test x) → Deletes shape.table goes old new
-      → AreFormed new × (tables_of new ≡ with_rows (filter (λ x. not (test x)) (rows_of shape old)) (tables_of old))
+  drops : (goes : Row → Bool) (test : R → Bool) (old new : Database) → AreFormed old → ((v : Value) (x : R) → goes (list.shape.stored v x) ≡ test x) → Deletes list.shape.table goes old new
+      → AreFormed new × Drops list test (tables_of old) (tables_of new)
   drops goes test old new formed same deletes =
-      let here = formed_in old formed in
-      let did = deleted shape laws goes test old new deletes formed.quiet here same in
-      let both = written here.placed.tree old new (deletes here.placed.at here.placed.tree here.placed.has formed.quiet).spares formed did.0 in
-      (both.0, both.1 ∙ ap (λ l. with_rows l (tables_of old)) did.1)
+      let here = is.formed old formed in
+      let did = deleted list.shape is.laws goes test old new deletes formed.quiet here same in
+      let both = is.written here.placed.tree old new (deletes here.placed.at here.placed.tree here.placed.has formed.quiet).spares formed did.0 in
+      (both.0, rw (is.lists old) (both.1 ∙ ap (λ l. list.with_rows l (tables_of old)) did.1))
+
+-- a row comes in by an INSERT, and rows go by a DELETE, inside a transaction
+module _ {R : Type 0} {list : Listed R} (is : IsListed list) where
+  pub enters : {Y : Type 0} {text : List ℕ} {params : Row} {row : List Row → Row} (x : R) → ((tree : ℕ) → IsInsert text (list.shape.table tree)) → ((tree : ℕ) (there : List Row) → IsRow (list.shape.table tree) params there (row there))
+      → ((there : List Row) → (v : Value) × (is_int v ≡ true) × (row there ≡ list.shape.stored v x)) → (old new : State) (r : Result ℕ Error) (s : Result Y Fault) → MatchResult r (λ _. IsOk s) (λ e. s ≡ Err (fault_of e))
+      → ExecutesInside 0 text params old new r → MakesInside (Adds list x) old new s
+  enters {Y} {text} {params} {row} x inserts given laid old new r s settled ran =
+      makes (Inserts list.shape.table row) (Adds list x) old new r s (λ formed. puts is row x old.now new.now formed laid) settled (inserted_inside text list.shape.table inserts params row given old new r ran)
+
+  pub leaves : {Y : Type 0} {text : List ℕ} {by : Test} (goes : Row → Bool) (test : R → Bool) → ((v : Value) (x : R) → goes (list.shape.stored v x) ≡ test x) → ((tree : ℕ) → IsDelete text (list.shape.table tree) by)
+      → ((tree : ℕ) → IsPlannedDelete (list.shape.table tree) by) → (params : Row) → are_given by params ≡ true → ((tree : ℕ) → ◌≡◌ {A = Row → Bool} (λ r. passes (list.shape.table tree) by params r) goes) → (old new : State) (r : Result ℕ Error) (s : Result Y Fault)
+      → MatchResult r (λ _. IsOk s) (λ e. s ≡ Err (fault_of e)) → ExecutesInside 0 text params old new r → MakesInside (Drops list test) old new s
+  leaves {Y} {text} {by} goes test same deletes planned params given passing old new r s settled ran =
+      makes (Deletes list.shape.table goes) (Drops list test) old new r s (λ formed. drops is goes test old.now new.now formed same) settled (removed_inside text list.shape.table by deletes planned params given goes passing old new r ran)

@@ -15,13 +15,14 @@ use Rattle.sql_meaning.proofs.Select.{IsSelect, IsPlannedSelect}
 use Rattle.sql_meaning.proofs.First.{IsFirst, IsPlannedFirst}
 use Rattle.package_tables.specs.Tables.{sheet_media}
 use Rattle.package_tables.specs.Shapes.{medium_shape, int_at, text_at, blob_at}
+use Rattle.package_tables.specs.Listed.{media}
 use Rattle.package_tables.specs.Shown.{medium_shown}
 use Rattle.package_tables.specs.declared.rows.MediaRow.{MediaRow}
 use Rattle.package_tables.proofs.Looking.{IsKnown, IsLookUp, IsRanked}
 use Rattle.package_tables.proofs.Newest.{IsNewest}
 use Rattle.package_tables.proofs.Ranking.{one_number}
 use Rattle.package_tables.proofs.Values.{same_number}
-use Rattle.package_tables.proofs.Written.{medium_shape_is}
+use Rattle.package_tables.proofs.Written.{media_listed}
 
 pub insert_text : (tree : ℕ) → IsInsert (codes "INSERT INTO sheet_media VALUES (?1, ?2, ?3)") (sheet_media tree)
 unfolding everything
@@ -39,8 +40,8 @@ pub delete_plan : (tree : ℕ) → IsPlannedDelete (sheet_media tree) (equals 0 
 unfolding resolving
 delete_plan tree schema at h = rw (h.stored, h.by_tree) refl
 
-pub known : IsKnown medium_shape (λ t. t.media) medium_shown
-known = record { laws = medium_shape_is; formed = λ db f. f.media; lists = λ db. refl; back = λ r. record { id = int_at r 0; «data» = blob_at r 1; content_type = text_at r 2 }; returns = λ x. refl }
+pub known : IsKnown media medium_shown
+known = record { is = media_listed; back = λ r. record { id = int_at r 0; «data» = blob_at r 1; content_type = text_at r 2 }; returns = λ x. refl }
 
 medium_by_id_text : (tree : ℕ) → IsSelect (codes "SELECT * FROM sheet_media WHERE id = ?1") (sheet_media tree) (equals 0 0) []
 unfolding everything

@@ -17,6 +17,7 @@ use Rattle.sql_meaning.specs.Reading.{both, equals, always, ascending}
 use Rattle.sql_meaning.proofs.Resolve.{one_table}
 use Rattle.sql_meaning.proofs.Select.{IsSelect, IsPlannedSelect}
 use Rattle.package_tables.specs.Shapes.{int_at, text_at}
+use Rattle.package_tables.specs.Listed.{moved}
 use Rattle.package_tables.specs.Shown.{moved_shown}
 use Rattle.std.proofs.Common.{map}
 use Rattle.sql_meaning.specs.Reading.{IsListing}
@@ -24,7 +25,7 @@ use Rattle.package_tables.specs.Calls.{Rises}
 use Rattle.package_tables.proofs.Looking.{IsKnown, IsLookUp}
 use Rattle.package_tables.proofs.Ranked.{ranked}
 use Rattle.package_tables.proofs.Values.{same_number, same_text, both_same}
-use Rattle.package_tables.proofs.Written.{moved_shape_is}
+use Rattle.package_tables.proofs.Written.{moved_listed}
 use Rattle.std.specs.Ordering.{on, int_cmp}
 use Rattle.std.proofs.lemmas.Cmp.{on_total, int_cmp_total}
 use Rattle.package_tables.proofs.Looking.{IsRanked}
@@ -37,8 +38,8 @@ insert_text tree = record { parse = _; rows = _; parsed = refl; statement = refl
 pub insert_row : (row : MovedRow) (tree : ℕ) (there : List Row) → IsRow (sheet_items tree) (Int row.seq ∷ Int row.position ∷ Int row.kind ∷ Text row.base ∷ Text row.other ∷ Int row.size ∷ Text row.fingerprint ∷ []) there (moved_shape.stored (Int (next_rowid there)) row)
 insert_row row tree there = record { source = _; laid = refl; kinds = refl; placed = λ top. refl }
 
-pub moved_known : IsKnown moved_shape (λ t. t.moved) moved_shown
-moved_known = record { laws = moved_shape_is; formed = λ db f. f.moved; lists = λ db. refl; back = λ r. record { seq = int_at r 0; position = int_at r 1; kind = int_at r 2; base = text_at r 3; other = text_at r 4; size = int_at r 5; fingerprint = text_at r 6 }; returns = λ x. refl }
+pub moved_known : IsKnown moved moved_shown
+moved_known = record { is = moved_listed; back = λ r. record { seq = int_at r 0; position = int_at r 1; kind = int_at r 2; base = text_at r 3; other = text_at r 4; size = int_at r 5; fingerprint = text_at r 6 }; returns = λ x. refl }
 
 moved_of_text : (tree : ℕ) → IsSelect (codes "SELECT * FROM sheet_items WHERE seq = ?1 ORDER BY position") (sheet_items tree) (equals 0 0) ((col 1 2, ascending) ∷ [])
 unfolding everything

@@ -1,5 +1,5 @@
 -- From `SELECT * .. ORDER BY id DESC LIMIT 1` to the greatest number of the rows that pass, inside a transaction.
-use Rattle.std.proofs.Common.{◌≡◌, ◌⊎◌, inl, inr, ℕ, ℤ, ◌≤ℤ◌, List, [], ◌∷◌, map, Bool, true, false, Option, Some, None, Result, Ok, Err, sym, ap, subst, ◌∙◌, Ordering, Less, Equal, Greater, arith, suc}
+use Rattle.std.proofs.Common.{◌≡◌, ◌⊎◌, inl, inr, ℕ, ℤ, ◌≤ℤ◌, List, [], ◌∷◌, map, Bool, true, false, Option, Some, None, Result, sym, ap, subst, ◌∙◌, Ordering, Less, Equal, Greater, arith, suc}
 use Rattle.std.specs.Prelude.{filter, IfOk, IfErr, Contains, ◌<ℤ◌}
 use Rattle.std.specs.List.{AllByRecursion}
 use Rattle.std.specs.Ordering.{is_gt, int_cmp, MatchOrdering}
@@ -21,7 +21,7 @@ use Rattle.sqlite.specs.Effect.{Database}
 use Rattle.sqlite.specs.declared.error.Error.{Error}
 use Rattle.sqlite.specs.declared.types.Value.{Value}
 use Rattle.sqlite.specs.declared.types.Value.TheVariants.{Int}
-use Rattle.sqlite.specs.State.{State, HasCleanDisk, IsUnchanged, Shown, FailsToQuery, IsTooLate}
+use Rattle.sqlite.specs.State.{State, HasCleanDisk, Shown, FailsToQuery, IsTooLate}
 use Rattle.sqlite_trees.proofs.ListLemmas.{map-map}
 use Rattle.sheet_types.specs.Ordered.{arranged}
 use Rattle.sheet_types.proofs.Order.{All-arranged}
@@ -30,16 +30,16 @@ use Rattle.sql_meaning.proofs.Select.{listing_of}
 use Rattle.sql_meaning.proofs.First.{IsFirst, IsPlannedFirst, first_found}
 use Rattle.sql_meaning.proofs.Where.{are_given}
 use Rattle.sql_meaning.proofs.Greatest.{greatest_of}
-use Rattle.sql_meaning.proofs.Answering.{shown_unchanged, failed_unchanged}
 use Rattle.package_tables.specs.Shape.{Shape, IsStored, stored_rows}
 use Rattle.package_tables.specs.Package.{Tables, tables_of, AreFormed}
-use Rattle.package_tables.specs.Calls.{TellsInside, Tells, IsGreatest}
+use Rattle.package_tables.specs.Listed.{Listed}
+use Rattle.package_tables.specs.Calls.{Tells, IsGreatest}
 use Rattle.package_tables.specs.Shown.{BeginsWith}
 use Rattle.package_tables.specs.declared.fault.Fault.{Fault}
 use Rattle.sheet_types.proofs.Every.{All-filter}
 use Rattle.package_tables.proofs.Shapes.{rows_placed, arranged-filter}
 use Rattle.package_tables.proofs.Reading.{arranged_permutation}
-use Rattle.package_tables.proofs.Looking.{IsKnown, AreSaid, filter_every}
+use Rattle.package_tables.proofs.Looking.{IsKnown, AreSaid, told, filter_every}
 
 pub not_above : (a b : ℤ) → is_gt (int_cmp a b) ≡ false → a ≤ℤ b
 not_above a b h = one (int_cmp a b) (int_ranks a b) h
@@ -94,46 +94,36 @@ pub record IsNewest {R : Type 0} (shape : Shape R) (number : R → ℤ) (text : 
   pub begins : (v : Value) (x : R) → column (shown (shape.stored v x)) 0 ≡ Int (number x)
   pub keyed : (v : Value) (x : R) → column (shape.stored v x) 0 ≡ Int (number x)
 
-module _ {R : Type 0} {shape : Shape R} {list : Tables → List R} {shown' : R → Row} (known : IsKnown shape list shown') {number : R → ℤ} {text : List ℕ} {params : Row} {keeps : R → Bool} (newest : IsNewest shape number text params keeps) where
+module _ {R : Type 0} {list : Listed R} {shown' : R → Row} (known : IsKnown list shown') {number : R → ℤ} {text : List ℕ} {params : Row} {keeps : R → Bool} (newest : IsNewest list.shape number text params keeps) where
   abbrev listing : Listing
   listing = record { keeps = newest.pass; key = λ r. column r 0 ∷ []; shown = newest.shown; by = descending ∷ [] }
 
-  tested : (rows : List Row) → AllByRecursion (IsStored shape) rows → AllByRecursion (λ r. newest.pass r ≡ keeps (shape.typed r)) rows
+  tested : (rows : List Row) → AllByRecursion (IsStored list.shape) rows → AllByRecursion (λ r. newest.pass r ≡ keeps (list.shape.typed r)) rows
   tested [] h = tt
-  tested (r ∷ rows) h = (ap newest.pass (sym h.0) ∙ newest.passing (rowid r) (shape.typed r), tested rows h.1)
+  tested (r ∷ rows) h = (ap newest.pass (sym h.0) ∙ newest.passing (rowid r) (list.shape.typed r), tested rows h.1)
 
-  answered : (db new : Database) → AreFormed db → (rows : List Row) → FindsFirst shape.table listing rows db new → (found : Option ℤ) → BeginsWith rows found → IsGreatest number (filter keeps (list (tables_of db))) found
+  answered : (db new : Database) → AreFormed db → (rows : List Row) → FindsFirst list.shape.table listing rows db new → (found : Option ℤ) → BeginsWith rows found → IsGreatest number (filter keeps (list.rows (tables_of db))) found
   answered db new formed rows finds found head =
-      let f = known.formed db formed in
+      let f = known.is.formed db formed in
       let p = f.placed in
-      let there = stored_rows shape db in
-      let same : filter newest.pass (db.trees (shape.table p.tree).tree) ≡ filter newest.pass there = ap (filter newest.pass) (sym (rows_placed shape known.laws db p.at p.tree p.has)) in
+      let there = stored_rows list.shape db in
+      let same : filter newest.pass (db.trees (list.shape.table p.tree).tree) ≡ filter newest.pass there = ap (filter newest.pass) (sym (rows_placed list.shape known.is.laws db p.at p.tree p.has)) in
       let shows = subst (λ k. ShowsFirst (λ r. column r 0 ∷ []) newest.shown (descending ∷ []) k rows) same (finds.first p.at p.tree p.has) in
-      let kept = arranged-filter shape.key shape.typed keeps newest.pass there (tested there f.stored) in
-      subst (λ k. IsGreatest number k found) (kept ∙ ap (filter keeps) (sym (known.lists db)))
-      (greatest_in shape number newest.shown newest.begins newest.keyed (filter newest.pass there) rows (All-filter (IsStored shape) newest.pass there f.stored) found head shows)
+      let kept = arranged-filter list.shape.key list.shape.typed keeps newest.pass there (tested there f.stored) in
+      subst (λ k. IsGreatest number k found) (kept ∙ ap (filter keeps) (sym (known.is.lists db)))
+      (greatest_in list.shape number newest.shown newest.begins newest.keyed (filter newest.pass there) rows (All-filter (IsStored list.shape) newest.pass there f.stored) found head shows)
 
   -- inside a transaction
   tells_greatest : {Y : Type 0} (items : Y → List Row) (old new : State) (answer : Result Y Error) → (HasCleanDisk new → IfOk answer (λ y. Shown text params old new (items y)))
       → (HasCleanDisk new → IfErr answer (λ e. FailsToQuery text params old new e ⊎ IsTooLate text params old new e)) → (result : Result (Option ℤ) Fault) → AreSaid items BeginsWith answer result
-      → Tells (λ t. IsGreatest number (filter keeps (list t))) old new result
-  tells_greatest {Y} items old new answer ok err result said clean = at answer result (ok clean) (err clean) said
-    where
-      bare : (rows : List Row) → Shown text params old new rows → IsUnchanged old new
-      bare rows showing = shown_unchanged text (newest.selects 0).parse (newest.selects 0).asks (newest.selects 0).parsed (newest.selects 0).statement params old new rows showing
-
-      at : (answer : Result Y Error) (result : Result (Option ℤ) Fault) → IfOk answer (λ y. Shown text params old new (items y)) → IfErr answer (λ e. FailsToQuery text params old new e ⊎ IsTooLate text params old new e)
-          → AreSaid items BeginsWith answer result → TellsInside (λ t. IsGreatest number (filter keeps (list t))) old new result
-      at (Ok y) (Ok found) showing fails said =
-          (bare (items y) showing, λ formed. answered old.now new.now formed (items y) (first_found text shape.table newest.test newest.by newest.selects newest.planned params newest.given listing newest.is old new (items y) showing) found said)
-      at (Ok y) (Err f) showing fails said = inl (bare (items y) showing)
-      at (Err e) (Ok found) showing fails said = absurd said
-      at (Err e) (Err f) showing (inl why) said = failed_unchanged text (newest.selects 0).parse (newest.selects 0).asks (newest.selects 0).parsed (newest.selects 0).statement params old new e why
-      at (Err e) (Err f) showing (inr late) said = inl late.5
+      → Tells (λ t. IsGreatest number (filter keeps (list.rows t))) old new result
+  tells_greatest items old new answer ok err result said =
+      told (newest.selects 0) params items BeginsWith (λ t. IsGreatest number (filter keeps (list.rows t))) old new
+      (λ formed rows shows. answered old.now new.now formed rows (first_found text list.shape.table newest.test newest.by newest.selects newest.planned params newest.given listing newest.is old new rows shows)) answer result ok err said
 
   -- the same of a text that asks for no row in particular
   pub tells_greatest_of_all : {Y : Type 0} (every : (x : R) → keeps x ≡ true) (items : Y → List Row) (old new : State) (answer : Result Y Error) → (HasCleanDisk new → IfOk answer (λ y. Shown text params old new (items y)))
-      → (HasCleanDisk new → IfErr answer (λ e. FailsToQuery text params old new e ⊎ IsTooLate text params old new e)) → (result : Result (Option ℤ) Fault) → AreSaid items BeginsWith answer result → Tells (λ t. IsGreatest number (list t)) old new result
+      → (HasCleanDisk new → IfErr answer (λ e. FailsToQuery text params old new e ⊎ IsTooLate text params old new e)) → (result : Result (Option ℤ) Fault) → AreSaid items BeginsWith answer result → Tells (λ t. IsGreatest number (list.rows t)) old new result
   tells_greatest_of_all every items old new answer ok err result said =
-      let whole : (λ t. filter keeps (list t)) ≡ list = λ i. λ t. filter_every every (list t) i in
+      let whole : (λ t. filter keeps (list.rows t)) ≡ list.rows = λ i. λ t. filter_every every (list.rows t) i in
       subst (λ (of : Tables → List R). Tells (λ t. IsGreatest number (of t)) old new result) whole (tells_greatest items old new answer ok err result said)

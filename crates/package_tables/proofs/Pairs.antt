@@ -4,41 +4,19 @@ use Rattle.std.specs.Prelude.{◌&&◌}
 use Rattle.std.specs.Ordering.{int_eq, int_cmp, on, then_cmp}
 use Rattle.sqlite.specs.Order.{Row, column}
 use Rattle.sqlite.specs.Edit.{next_rowid}
-use Rattle.sqlite.specs.Effect.{Database}
 use Rattle.sqlite.specs.declared.types.Value.TheVariants.{Int}
 use Rattle.sql_meaning.specs.Reading.{equals, both, is_same, passes}
-use Rattle.sql_meaning.specs.Writing.{Spares}
 use Rattle.sql_meaning.proofs.Insert.{IsInsert, IsRow}
 use Rattle.sql_meaning.proofs.Delete.{IsDelete, IsPlannedDelete}
 use Rattle.sheet_types.specs.declared.command.Mapping.{Mapping}
 use Rattle.sheet_types.specs.declared.command.Mapping.TheVariants.{TilesMedia, RowsMedia}
-use Rattle.package_tables.specs.Shape.{IsShape, IsFormed, rows_of}
-use Rattle.package_tables.specs.Package.{tables_of, AreFormed}
-use Rattle.package_tables.specs.Mappings.{mapping_table, pair_shape, mapping_rows, with_mapping_rows, insert_text, delete_text, of_ends_text, of_base_text, of_related_text, all_text}
+use Rattle.package_tables.specs.Listed.{pairs}
+use Rattle.package_tables.specs.Mappings.{mapping_table, pair_shape, insert_text, delete_text, of_ends_text, of_base_text, of_related_text, all_text}
 use Rattle.package_tables.specs.Shown.{mapping_shown}
 use Rattle.package_tables.specs.declared.rows.MappingRow.{MappingRow}
 use Rattle.package_tables.proofs.Looking.{IsKnown, IsLookUp, IsRanked}
-use Rattle.package_tables.proofs.Written.{tiles_media_shape_is, tiles_media_written, rows_media_shape_is, rows_media_written}
 use Rattle.package_tables.proofs.TilesMediaStatements as tiles
 use Rattle.package_tables.proofs.RowsMediaStatements as rows
-
--- ---- the table is one of the fourteen
-
-pub pair_shape_is : (m : Mapping) → IsShape (pair_shape m)
-pair_shape_is TilesMedia = tiles_media_shape_is
-pair_shape_is RowsMedia = rows_media_shape_is
-
-pub pairs_formed : (m : Mapping) (db : Database) → AreFormed db → IsFormed (pair_shape m) db
-pairs_formed TilesMedia db f = f.tiles_media
-pairs_formed RowsMedia db f = f.rows_media
-
-pub pairs_listed : (m : Mapping) (db : Database) → mapping_rows m (tables_of db) ≡ rows_of (pair_shape m) db
-pairs_listed TilesMedia db = refl
-pairs_listed RowsMedia db = refl
-
-pub pairs_written : (m : Mapping) (tree : ℕ) (old new : Database) → Spares (mapping_table m tree) old new → AreFormed old → IsFormed (pair_shape m) new → AreFormed new × (tables_of new ≡ with_mapping_rows m (rows_of (pair_shape m) new) (tables_of old))
-pairs_written TilesMedia = tiles_media_written
-pairs_written RowsMedia = rows_media_written
 
 -- ---- writes
 
@@ -66,7 +44,7 @@ deletes_rows RowsMedia base_id related_id tree = refl
 
 -- ---- look-ups
 
-pub known : (m : Mapping) → IsKnown (pair_shape m) (mapping_rows m) mapping_shown
+pub known : (m : Mapping) → IsKnown (pairs m) mapping_shown
 known TilesMedia = tiles.known
 known RowsMedia = rows.known
 

@@ -15,10 +15,11 @@ use Rattle.sql_meaning.specs.Reading.{equals, always, ascending}
 use Rattle.sql_meaning.proofs.Resolve.{one_table}
 use Rattle.sql_meaning.proofs.Select.{IsSelect, IsPlannedSelect}
 use Rattle.package_tables.specs.Shapes.{int_at, text_at}
+use Rattle.package_tables.specs.Listed.{receipts}
 use Rattle.package_tables.specs.Shown.{receipt_shown}
 use Rattle.package_tables.proofs.Looking.{IsKnown, IsLookUp}
 use Rattle.package_tables.proofs.Values.{same_text}
-use Rattle.package_tables.proofs.Written.{receipt_shape_is}
+use Rattle.package_tables.proofs.Written.{receipts_listed}
 use Rattle.std.specs.Ordering.{on, int_cmp}
 use Rattle.std.proofs.lemmas.Cmp.{on_total, int_cmp_total}
 use Rattle.package_tables.proofs.Looking.{IsRanked}
@@ -31,8 +32,8 @@ insert_text tree = record { parse = _; rows = _; parsed = refl; statement = refl
 pub insert_row : (row : ReceiptRow) (tree : ℕ) (there : List Row) → IsRow (sheet_receipts tree) (Int row.seq ∷ Text row.request ∷ Text row.at ∷ Text row.line ∷ Text row.source ∷ Text row.target ∷ Int row.n_tiles ∷ Int row.n_media ∷ Int row.n_rows ∷ Int row.n_links ∷ Int row.n_bytes ∷ []) there (receipt_shape.stored Null row)
 insert_row row tree there = record { source = _; laid = refl; kinds = refl; placed = λ top. refl }
 
-pub receipts_known : IsKnown receipt_shape (λ t. t.receipts) receipt_shown
-receipts_known = record { laws = receipt_shape_is; formed = λ db f. f.receipts; lists = λ db. refl; back = λ r. record { seq = int_at r 0; request = text_at r 1; at = text_at r 2; line = text_at r 3; source = text_at r 4; target = text_at r 5; n_tiles = int_at r 6; n_media = int_at r 7; n_rows = int_at r 8; n_links = int_at r 9; n_bytes = int_at r 10 }; returns = λ x. refl }
+pub receipts_known : IsKnown receipts receipt_shown
+receipts_known = record { is = receipts_listed; back = λ r. record { seq = int_at r 0; request = text_at r 1; at = text_at r 2; line = text_at r 3; source = text_at r 4; target = text_at r 5; n_tiles = int_at r 6; n_media = int_at r 7; n_rows = int_at r 8; n_links = int_at r 9; n_bytes = int_at r 10 }; returns = λ x. refl }
 
 receipt_by_request_text : (tree : ℕ) → IsSelect (codes "SELECT * FROM sheet_receipts WHERE request = ?1") (sheet_receipts tree) (equals 1 0) []
 unfolding everything

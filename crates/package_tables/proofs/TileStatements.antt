@@ -16,13 +16,14 @@ use Rattle.sql_meaning.proofs.Select.{IsSelect, IsPlannedSelect}
 use Rattle.sql_meaning.proofs.First.{IsFirst, IsPlannedFirst}
 use Rattle.package_tables.specs.Tables.{sheet_tiles}
 use Rattle.package_tables.specs.Shapes.{tile_shape, int_at, blob_at}
+use Rattle.package_tables.specs.Listed.{tiles}
 use Rattle.package_tables.specs.Shown.{tile_shown}
 use Rattle.package_tables.specs.declared.rows.TileRow.{TileRow}
 use Rattle.package_tables.proofs.Looking.{IsKnown, IsLookUp, IsRanked}
 use Rattle.package_tables.proofs.Newest.{IsNewest}
 use Rattle.package_tables.proofs.Ranking.{one_number}
 use Rattle.package_tables.proofs.Values.{same_number, both_same}
-use Rattle.package_tables.proofs.Written.{tile_shape_is}
+use Rattle.package_tables.proofs.Written.{tiles_listed}
 
 pub insert_text : (tree : ℕ) → IsInsert (codes "INSERT INTO sheet_tiles VALUES (?1, ?2, ?3, ?4, ?5)") (sheet_tiles tree)
 unfolding everything
@@ -40,8 +41,8 @@ pub delete_plan : (tree : ℕ) → IsPlannedDelete (sheet_tiles tree) (equals 0 
 unfolding resolving
 delete_plan tree schema at h = rw (h.stored, h.by_tree) refl
 
-pub known : IsKnown tile_shape (λ t. t.tiles) tile_shown
-known = record { laws = tile_shape_is; formed = λ db f. f.tiles; lists = λ db. refl; back = λ r. record { id = int_at r 0; zoom_level = int_at r 1; tile_column = int_at r 2; tile_row = int_at r 3; tile_data = blob_at r 4 }; returns = λ x. refl }
+pub known : IsKnown tiles tile_shown
+known = record { is = tiles_listed; back = λ r. record { id = int_at r 0; zoom_level = int_at r 1; tile_column = int_at r 2; tile_row = int_at r 3; tile_data = blob_at r 4 }; returns = λ x. refl }
 
 tile_by_id_text : (tree : ℕ) → IsSelect (codes "SELECT * FROM sheet_tiles WHERE id = ?1") (sheet_tiles tree) (equals 0 0) []
 unfolding everything

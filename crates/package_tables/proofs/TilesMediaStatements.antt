@@ -16,12 +16,14 @@ use Rattle.sql_meaning.proofs.Resolve.{one_table}
 use Rattle.sql_meaning.proofs.Select.{IsSelect, IsPlannedSelect}
 use Rattle.package_tables.specs.Tables.{tiles_media}
 use Rattle.package_tables.specs.Shapes.{tiles_media_shape, int_at}
+use Rattle.sheet_types.specs.declared.command.Mapping.TheVariants.{TilesMedia}
+use Rattle.package_tables.specs.Listed.{pairs}
 use Rattle.package_tables.specs.Shown.{mapping_shown}
 use Rattle.package_tables.specs.declared.rows.MappingRow.{MappingRow}
 use Rattle.package_tables.proofs.Looking.{IsKnown, IsLookUp, IsRanked}
 use Rattle.package_tables.proofs.Ranking.{two_numbers}
 use Rattle.package_tables.proofs.Values.{same_number, both_same}
-use Rattle.package_tables.proofs.Written.{tiles_media_shape_is}
+use Rattle.package_tables.proofs.Written.{pairs_listed}
 
 pub insert_text : (tree : ℕ) → IsInsert (codes "INSERT INTO tiles_media VALUES (?1, ?2)") (tiles_media tree)
 unfolding everything
@@ -39,8 +41,8 @@ pub delete_plan : (tree : ℕ) → IsPlannedDelete (tiles_media tree) (both (equ
 unfolding resolving
 delete_plan tree schema at h = rw (h.stored, h.by_tree) refl
 
-pub known : IsKnown tiles_media_shape (λ t. t.tiles_media) mapping_shown
-known = record { laws = tiles_media_shape_is; formed = λ db f. f.tiles_media; lists = λ db. refl; back = λ r. record { base_id = int_at r 0; related_id = int_at r 1 }; returns = λ x. refl }
+pub known : IsKnown (pairs TilesMedia) mapping_shown
+known = record { is = pairs_listed TilesMedia; back = λ r. record { base_id = int_at r 0; related_id = int_at r 1 }; returns = λ x. refl }
 
 of_ends_text : (tree : ℕ) → IsSelect (codes "SELECT * FROM tiles_media WHERE base_id = ?1 AND related_id = ?2") (tiles_media tree) (both (equals 0 0) (equals 1 1)) []
 unfolding everything

@@ -1,4 +1,4 @@
--- A write to one table is a change of that one list.
+-- Each list of the tables meets what it has to: a write to one table is a change of that one list.
 use Rattle.std.proofs.Common.{◌≡◌, ℕ, zero, suc, List, [], ◌∷◌, Bool, true, refl, sym, subst, get_or}
 use Rattle.std.specs.Prelude.{◌&&◌, ⊤}
 use Rattle.std.proofs.lemmas.Bool.{and_parts}
@@ -6,7 +6,8 @@ use Rattle.sqlite.specs.Effect.{Database}
 use Rattle.sqlite.specs.Table.{Table}
 use Rattle.sql_meaning.specs.Known.{IsQuiet, is_other, sequence_name}
 use Rattle.sql_meaning.specs.Writing.{Spares}
-use Rattle.package_tables.specs.Tables.{gpkg_spatial_ref_sys, gpkg_contents, gpkg_tile_matrix_set, gpkg_tile_matrix, gpkgext_relations, sheet_tiles, sheet_media, sheet_rows, tiles_media, rows_media, sheet_package, sheet_identity, sheet_receipts, sheet_items}
+use Rattle.sheet_types.specs.declared.command.Mapping.{Mapping}
+use Rattle.sheet_types.specs.declared.command.Mapping.TheVariants.{TilesMedia, RowsMedia}
 use Rattle.package_tables.specs.Shape.{Shape, IsShape, IsFormed, rows_of}
 use Rattle.package_tables.specs.Shapes.{spatial_ref_sys_shape, contents_shape, tile_matrix_set_shape, tile_matrix_shape, relation_shape, tile_shape, medium_shape, attribute_shape, tiles_media_shape, rows_media_shape, head_shape, identity_shape, receipt_shape, moved_shape}
 use Rattle.package_tables.specs.Package.{Tables, tables_of, AreFormed}
@@ -23,51 +24,9 @@ use Rattle.package_tables.specs.declared.rows.SpatialRefSysRow.{SpatialRefSysRow
 use Rattle.package_tables.specs.declared.rows.TileMatrixRow.{TileMatrixRow}
 use Rattle.package_tables.specs.declared.rows.TileMatrixSetRow.{TileMatrixSetRow}
 use Rattle.package_tables.specs.declared.rows.TileRow.{TileRow}
+use Rattle.package_tables.specs.Listed.{systems, contents, matrix_sets, matrices, relations, tiles, media, attributes, pairs, heads, identities, receipts, moved}
 use Rattle.package_tables.proofs.Shapes.{spared}
-
--- ---- the shapes meet what they have to
-
-pub spatial_ref_sys_shape_is : IsShape spatial_ref_sys_shape
-spatial_ref_sys_shape_is = record { named = λ tree. refl; treed = λ tree. refl; says = λ v x. refl; again = λ v x. refl; numbered = λ v x h. refl }
-
-pub contents_shape_is : IsShape contents_shape
-contents_shape_is = record { named = λ tree. refl; treed = λ tree. refl; says = λ v x. refl; again = λ v x. refl; numbered = λ v x h. h }
-
-pub tile_matrix_set_shape_is : IsShape tile_matrix_set_shape
-tile_matrix_set_shape_is = record { named = λ tree. refl; treed = λ tree. refl; says = λ v x. refl; again = λ v x. refl; numbered = λ v x h. h }
-
-pub tile_matrix_shape_is : IsShape tile_matrix_shape
-tile_matrix_shape_is = record { named = λ tree. refl; treed = λ tree. refl; says = λ v x. refl; again = λ v x. refl; numbered = λ v x h. h }
-
-pub relation_shape_is : IsShape relation_shape
-relation_shape_is = record { named = λ tree. refl; treed = λ tree. refl; says = λ v x. refl; again = λ v x. refl; numbered = λ v x h. refl }
-
-pub tile_shape_is : IsShape tile_shape
-tile_shape_is = record { named = λ tree. refl; treed = λ tree. refl; says = λ v x. refl; again = λ v x. refl; numbered = λ v x h. refl }
-
-pub medium_shape_is : IsShape medium_shape
-medium_shape_is = record { named = λ tree. refl; treed = λ tree. refl; says = λ v x. refl; again = λ v x. refl; numbered = λ v x h. refl }
-
-pub attribute_shape_is : IsShape attribute_shape
-attribute_shape_is = record { named = λ tree. refl; treed = λ tree. refl; says = λ v x. refl; again = λ v x. refl; numbered = λ v x h. refl }
-
-pub tiles_media_shape_is : IsShape tiles_media_shape
-tiles_media_shape_is = record { named = λ tree. refl; treed = λ tree. refl; says = λ v x. refl; again = λ v x. refl; numbered = λ v x h. h }
-
-pub rows_media_shape_is : IsShape rows_media_shape
-rows_media_shape_is = record { named = λ tree. refl; treed = λ tree. refl; says = λ v x. refl; again = λ v x. refl; numbered = λ v x h. h }
-
-pub head_shape_is : IsShape head_shape
-head_shape_is = record { named = λ tree. refl; treed = λ tree. refl; says = λ v x. refl; again = λ v x. refl; numbered = λ v x h. refl }
-
-pub identity_shape_is : IsShape identity_shape
-identity_shape_is = record { named = λ tree. refl; treed = λ tree. refl; says = λ v x. refl; again = λ v x. refl; numbered = λ v x h. h }
-
-pub receipt_shape_is : IsShape receipt_shape
-receipt_shape_is = record { named = λ tree. refl; treed = λ tree. refl; says = λ v x. refl; again = λ v x. refl; numbered = λ v x h. refl }
-
-pub moved_shape_is : IsShape moved_shape
-moved_shape_is = record { named = λ tree. refl; treed = λ tree. refl; says = λ v x. refl; again = λ v x. refl; numbered = λ v x h. h }
+use Rattle.package_tables.proofs.Lists.{IsListed}
 
 -- ---- the tables by their names
 
@@ -80,8 +39,8 @@ data Name : Type 0 where
   Tiles : Name
   Media : Name
   Rows : Name
-  TilesMedia : Name
-  RowsMedia : Name
+  TilePairs : Name
+  RowPairs : Name
   Heads : Name
   Identities : Name
   Receipts : Name
@@ -96,8 +55,8 @@ RowOf Relations = RelationRow
 RowOf Tiles = TileRow
 RowOf Media = MediaRow
 RowOf Rows = AttributeRow
-RowOf TilesMedia = MappingRow
-RowOf RowsMedia = MappingRow
+RowOf TilePairs = MappingRow
+RowOf RowPairs = MappingRow
 RowOf Heads = HeadRow
 RowOf Identities = IdentityRow
 RowOf Receipts = ReceiptRow
@@ -112,31 +71,31 @@ shape_of Relations = relation_shape
 shape_of Tiles = tile_shape
 shape_of Media = medium_shape
 shape_of Rows = attribute_shape
-shape_of TilesMedia = tiles_media_shape
-shape_of RowsMedia = rows_media_shape
+shape_of TilePairs = tiles_media_shape
+shape_of RowPairs = rows_media_shape
 shape_of Heads = head_shape
 shape_of Identities = identity_shape
 shape_of Receipts = receipt_shape
 shape_of Moved = moved_shape
 
 shape_of_is : (n : Name) → IsShape (shape_of n)
-shape_of_is SpatialRefSys = spatial_ref_sys_shape_is
-shape_of_is Contents = contents_shape_is
-shape_of_is TileMatrixSet = tile_matrix_set_shape_is
-shape_of_is TileMatrix = tile_matrix_shape_is
-shape_of_is Relations = relation_shape_is
-shape_of_is Tiles = tile_shape_is
-shape_of_is Media = medium_shape_is
-shape_of_is Rows = attribute_shape_is
-shape_of_is TilesMedia = tiles_media_shape_is
-shape_of_is RowsMedia = rows_media_shape_is
-shape_of_is Heads = head_shape_is
-shape_of_is Identities = identity_shape_is
-shape_of_is Receipts = receipt_shape_is
-shape_of_is Moved = moved_shape_is
+shape_of_is SpatialRefSys = record { named = λ tree. refl; treed = λ tree. refl; says = λ v x. refl; again = λ v x. refl; numbered = λ v x h. refl }
+shape_of_is Contents = record { named = λ tree. refl; treed = λ tree. refl; says = λ v x. refl; again = λ v x. refl; numbered = λ v x h. h }
+shape_of_is TileMatrixSet = record { named = λ tree. refl; treed = λ tree. refl; says = λ v x. refl; again = λ v x. refl; numbered = λ v x h. h }
+shape_of_is TileMatrix = record { named = λ tree. refl; treed = λ tree. refl; says = λ v x. refl; again = λ v x. refl; numbered = λ v x h. h }
+shape_of_is Relations = record { named = λ tree. refl; treed = λ tree. refl; says = λ v x. refl; again = λ v x. refl; numbered = λ v x h. refl }
+shape_of_is Tiles = record { named = λ tree. refl; treed = λ tree. refl; says = λ v x. refl; again = λ v x. refl; numbered = λ v x h. refl }
+shape_of_is Media = record { named = λ tree. refl; treed = λ tree. refl; says = λ v x. refl; again = λ v x. refl; numbered = λ v x h. refl }
+shape_of_is Rows = record { named = λ tree. refl; treed = λ tree. refl; says = λ v x. refl; again = λ v x. refl; numbered = λ v x h. refl }
+shape_of_is TilePairs = record { named = λ tree. refl; treed = λ tree. refl; says = λ v x. refl; again = λ v x. refl; numbered = λ v x h. h }
+shape_of_is RowPairs = record { named = λ tree. refl; treed = λ tree. refl; says = λ v x. refl; again = λ v x. refl; numbered = λ v x h. h }
+shape_of_is Heads = record { named = λ tree. refl; treed = λ tree. refl; says = λ v x. refl; again = λ v x. refl; numbered = λ v x h. refl }
+shape_of_is Identities = record { named = λ tree. refl; treed = λ tree. refl; says = λ v x. refl; again = λ v x. refl; numbered = λ v x h. h }
+shape_of_is Receipts = record { named = λ tree. refl; treed = λ tree. refl; says = λ v x. refl; again = λ v x. refl; numbered = λ v x h. refl }
+shape_of_is Moved = record { named = λ tree. refl; treed = λ tree. refl; says = λ v x. refl; again = λ v x. refl; numbered = λ v x h. h }
 
 abbrev all : List Name
-all = SpatialRefSys ∷ Contents ∷ TileMatrixSet ∷ TileMatrix ∷ Relations ∷ Tiles ∷ Media ∷ Rows ∷ TilesMedia ∷ RowsMedia ∷ Heads ∷ Identities ∷ Receipts ∷ Moved ∷ []
+all = SpatialRefSys ∷ Contents ∷ TileMatrixSet ∷ TileMatrix ∷ Relations ∷ Tiles ∷ Media ∷ Rows ∷ TilePairs ∷ RowPairs ∷ Heads ∷ Identities ∷ Receipts ∷ Moved ∷ []
 
 -- the lists of some tables, one after the other
 abbrev Lists : List Name → Type 0
@@ -251,44 +210,44 @@ written place tree old new apart spares formed here =
     let did = others_kept ((ShapeAt place).table tree) old new spares all place apart (each_formed old formed) here in
     (are_formed new (subst IsQuiet (sym spares.schema) formed.quiet) did.0, λ i. as_tables (did.1 i))
 
-pub spatial_ref_sys_written : (tree : ℕ) (old new : Database) → Spares (gpkg_spatial_ref_sys tree) old new → AreFormed old → IsFormed spatial_ref_sys_shape new → AreFormed new × (tables_of new ≡ record (tables_of old) { spatial_ref_sys = rows_of spatial_ref_sys_shape new })
-spatial_ref_sys_written tree old new = written 0 tree old new refl
+-- ---- each list
 
-pub contents_written : (tree : ℕ) (old new : Database) → Spares (gpkg_contents tree) old new → AreFormed old → IsFormed contents_shape new → AreFormed new × (tables_of new ≡ record (tables_of old) { contents = rows_of contents_shape new })
-contents_written tree old new = written 1 tree old new refl
+pub systems_listed : IsListed systems
+systems_listed = record { laws = shape_of_is SpatialRefSys; formed = λ db f. f.spatial_ref_sys; lists = λ db. refl; written = λ tree old new. written 0 tree old new refl; reads = λ l t. refl; again = λ k l t. refl; same = λ t. refl }
 
-pub tile_matrix_set_written : (tree : ℕ) (old new : Database) → Spares (gpkg_tile_matrix_set tree) old new → AreFormed old → IsFormed tile_matrix_set_shape new → AreFormed new × (tables_of new ≡ record (tables_of old) { tile_matrix_set = rows_of tile_matrix_set_shape new })
-tile_matrix_set_written tree old new = written 2 tree old new refl
+pub contents_listed : IsListed contents
+contents_listed = record { laws = shape_of_is Contents; formed = λ db f. f.contents; lists = λ db. refl; written = λ tree old new. written 1 tree old new refl; reads = λ l t. refl; again = λ k l t. refl; same = λ t. refl }
 
-pub tile_matrix_written : (tree : ℕ) (old new : Database) → Spares (gpkg_tile_matrix tree) old new → AreFormed old → IsFormed tile_matrix_shape new → AreFormed new × (tables_of new ≡ record (tables_of old) { tile_matrix = rows_of tile_matrix_shape new })
-tile_matrix_written tree old new = written 3 tree old new refl
+pub matrix_sets_listed : IsListed matrix_sets
+matrix_sets_listed = record { laws = shape_of_is TileMatrixSet; formed = λ db f. f.tile_matrix_set; lists = λ db. refl; written = λ tree old new. written 2 tree old new refl; reads = λ l t. refl; again = λ k l t. refl; same = λ t. refl }
 
-pub relations_written : (tree : ℕ) (old new : Database) → Spares (gpkgext_relations tree) old new → AreFormed old → IsFormed relation_shape new → AreFormed new × (tables_of new ≡ record (tables_of old) { relations = rows_of relation_shape new })
-relations_written tree old new = written 4 tree old new refl
+pub matrices_listed : IsListed matrices
+matrices_listed = record { laws = shape_of_is TileMatrix; formed = λ db f. f.tile_matrix; lists = λ db. refl; written = λ tree old new. written 3 tree old new refl; reads = λ l t. refl; again = λ k l t. refl; same = λ t. refl }
 
-pub tiles_written : (tree : ℕ) (old new : Database) → Spares (sheet_tiles tree) old new → AreFormed old → IsFormed tile_shape new → AreFormed new × (tables_of new ≡ record (tables_of old) { tiles = rows_of tile_shape new })
-tiles_written tree old new = written 5 tree old new refl
+pub relations_listed : IsListed relations
+relations_listed = record { laws = shape_of_is Relations; formed = λ db f. f.relations; lists = λ db. refl; written = λ tree old new. written 4 tree old new refl; reads = λ l t. refl; again = λ k l t. refl; same = λ t. refl }
 
-pub media_written : (tree : ℕ) (old new : Database) → Spares (sheet_media tree) old new → AreFormed old → IsFormed medium_shape new → AreFormed new × (tables_of new ≡ record (tables_of old) { media = rows_of medium_shape new })
-media_written tree old new = written 6 tree old new refl
+pub tiles_listed : IsListed tiles
+tiles_listed = record { laws = shape_of_is Tiles; formed = λ db f. f.tiles; lists = λ db. refl; written = λ tree old new. written 5 tree old new refl; reads = λ l t. refl; again = λ k l t. refl; same = λ t. refl }
 
-pub rows_written : (tree : ℕ) (old new : Database) → Spares (sheet_rows tree) old new → AreFormed old → IsFormed attribute_shape new → AreFormed new × (tables_of new ≡ record (tables_of old) { rows = rows_of attribute_shape new })
-rows_written tree old new = written 7 tree old new refl
+pub media_listed : IsListed media
+media_listed = record { laws = shape_of_is Media; formed = λ db f. f.media; lists = λ db. refl; written = λ tree old new. written 6 tree old new refl; reads = λ l t. refl; again = λ k l t. refl; same = λ t. refl }
 
-pub tiles_media_written : (tree : ℕ) (old new : Database) → Spares (tiles_media tree) old new → AreFormed old → IsFormed tiles_media_shape new → AreFormed new × (tables_of new ≡ record (tables_of old) { tiles_media = rows_of tiles_media_shape new })
-tiles_media_written tree old new = written 8 tree old new refl
+pub attributes_listed : IsListed attributes
+attributes_listed = record { laws = shape_of_is Rows; formed = λ db f. f.rows; lists = λ db. refl; written = λ tree old new. written 7 tree old new refl; reads = λ l t. refl; again = λ k l t. refl; same = λ t. refl }
 
-pub rows_media_written : (tree : ℕ) (old new : Database) → Spares (rows_media tree) old new → AreFormed old → IsFormed rows_media_shape new → AreFormed new × (tables_of new ≡ record (tables_of old) { rows_media = rows_of rows_media_shape new })
-rows_media_written tree old new = written 9 tree old new refl
+pub pairs_listed : (m : Mapping) → IsListed (pairs m)
+pairs_listed TilesMedia = record { laws = shape_of_is TilePairs; formed = λ db f. f.tiles_media; lists = λ db. refl; written = λ tree old new. written 8 tree old new refl; reads = λ l t. refl; again = λ k l t. refl; same = λ t. refl }
+pairs_listed RowsMedia = record { laws = shape_of_is RowPairs; formed = λ db f. f.rows_media; lists = λ db. refl; written = λ tree old new. written 9 tree old new refl; reads = λ l t. refl; again = λ k l t. refl; same = λ t. refl }
 
-pub heads_written : (tree : ℕ) (old new : Database) → Spares (sheet_package tree) old new → AreFormed old → IsFormed head_shape new → AreFormed new × (tables_of new ≡ record (tables_of old) { heads = rows_of head_shape new })
-heads_written tree old new = written 10 tree old new refl
+pub heads_listed : IsListed heads
+heads_listed = record { laws = shape_of_is Heads; formed = λ db f. f.heads; lists = λ db. refl; written = λ tree old new. written 10 tree old new refl; reads = λ l t. refl; again = λ k l t. refl; same = λ t. refl }
 
-pub identities_written : (tree : ℕ) (old new : Database) → Spares (sheet_identity tree) old new → AreFormed old → IsFormed identity_shape new → AreFormed new × (tables_of new ≡ record (tables_of old) { identities = rows_of identity_shape new })
-identities_written tree old new = written 11 tree old new refl
+pub identities_listed : IsListed identities
+identities_listed = record { laws = shape_of_is Identities; formed = λ db f. f.identities; lists = λ db. refl; written = λ tree old new. written 11 tree old new refl; reads = λ l t. refl; again = λ k l t. refl; same = λ t. refl }
 
-pub receipts_written : (tree : ℕ) (old new : Database) → Spares (sheet_receipts tree) old new → AreFormed old → IsFormed receipt_shape new → AreFormed new × (tables_of new ≡ record (tables_of old) { receipts = rows_of receipt_shape new })
-receipts_written tree old new = written 12 tree old new refl
+pub receipts_listed : IsListed receipts
+receipts_listed = record { laws = shape_of_is Receipts; formed = λ db f. f.receipts; lists = λ db. refl; written = λ tree old new. written 12 tree old new refl; reads = λ l t. refl; again = λ k l t. refl; same = λ t. refl }
 
-pub moved_written : (tree : ℕ) (old new : Database) → Spares (sheet_items tree) old new → AreFormed old → IsFormed moved_shape new → AreFormed new × (tables_of new ≡ record (tables_of old) { moved = rows_of moved_shape new })
-moved_written tree old new = written 13 tree old new refl
+pub moved_listed : IsListed moved
+moved_listed = record { laws = shape_of_is Moved; formed = λ db f. f.moved; lists = λ db. refl; written = λ tree old new. written 13 tree old new refl; reads = λ l t. refl; again = λ k l t. refl; same = λ t. refl }

@@ -8,11 +8,6 @@ use Rattle.sheet_types.specs.declared.frame.Frame.{Frame}
 use Rattle.package_tables.specs.Package.{Tables, tables_of, AreFormed}
 use Rattle.package_tables.specs.Fixed.{systems_of, contents_of, matrix_set, levels_of, two_relations}
 use Rattle.package_tables.specs.declared.rows.HeadRow.{HeadRow}
-use Rattle.package_tables.specs.declared.rows.SpatialRefSysRow.{SpatialRefSysRow}
-use Rattle.package_tables.specs.declared.rows.ContentsRow.{ContentsRow}
-use Rattle.package_tables.specs.declared.rows.TileMatrixSetRow.{TileMatrixSetRow}
-use Rattle.package_tables.specs.declared.rows.TileMatrixRow.{TileMatrixRow}
-use Rattle.package_tables.specs.declared.rows.RelationRow.{RelationRow}
 
 -- the head of a package, with the moment at which it was made. The archive has no parent
 abbrev pub head_of : List ℕ → Option (List ℕ) → ℕ → ℕ → List ℕ → HeadRow
@@ -42,22 +37,6 @@ Fills t old new = IsBlank no_schema old → HoldsTables new t
 -- tables that said the first say the second
 abbrev pub TablesBecome : Tables → Tables → Tables → Tables → Type 0
 TablesBecome from to before after = before ≡ from → after ≡ to
-
--- one list that was the first becomes the second, and nothing else changes
-abbrev pub SystemsBecome : List SpatialRefSysRow → List SpatialRefSysRow → Tables → Tables → Type 0
-SystemsBecome from to before after = before.spatial_ref_sys ≡ from → after ≡ record before { spatial_ref_sys = to }
-
-abbrev pub ContentsBecome : List ContentsRow → List ContentsRow → Tables → Tables → Type 0
-ContentsBecome from to before after = before.contents ≡ from → after ≡ record before { contents = to }
-
-abbrev pub MatrixSetsBecome : List TileMatrixSetRow → List TileMatrixSetRow → Tables → Tables → Type 0
-MatrixSetsBecome from to before after = before.tile_matrix_set ≡ from → after ≡ record before { tile_matrix_set = to }
-
-abbrev pub MatricesBecome : List TileMatrixRow → List TileMatrixRow → Tables → Tables → Type 0
-MatricesBecome from to before after = before.tile_matrix ≡ from → after ≡ record before { tile_matrix = to }
-
-abbrev pub RelationsBecome : List RelationRow → List RelationRow → Tables → Tables → Type 0
-RelationsBecome from to before after = before.relations ≡ from → after ≡ record before { relations = to }
 
 -- depths are 0 and 1, loans go to 1,000,000,000 (profile)
 abbrev pub IsFitInfo : ℕ → ℕ → Type 0

@@ -4,11 +4,11 @@ pub mod Shape
 pub mod Shapes
 pub mod Package
 pub mod Mappings
+pub mod Listed
 pub mod Faults
 pub mod Calls
 pub mod Changes
 pub mod Fixed
-pub mod Entries
 pub mod Creation
 pub mod SchemaMaking
 pub mod SchemaMade

@@ -5,7 +5,8 @@ ghost use Rattle.sqlite.specs.State.{Survives};
 ghost use Rattle.sqlite.specs.Held.{state};
 ghost use Rattle.sql_meaning.specs.Transactions.{Rests};
 ghost use Rattle.package_tables.specs.Calls.{Makes, Tells, LooksUp, IsOneOf, AreAll, IsGreatest};
-ghost use Rattle.package_tables.specs.Changes.{AddsAttribute, DropsAttribute};
+ghost use Rattle.package_tables.specs.Listed.{attributes};
+ghost use Rattle.package_tables.specs.Changes.{Adds, DropsAttribute};
 
 use crate::fault::{Fault, settled};
 use crate::from_row::{FromRow, all_of, first_of, number_at, number_of, text_at};
@@ -42,7 +43,7 @@ pub fn insert_attribute<S: Alter>(
     label: &str,
 ) -> Result<(), Fault>
     ensures same_reference { tx.new.conn.ghost_name ≡ tx.old.conn.ghost_name }
-    ensures wrote { Makes (AddsAttribute (record { id = id; x = x; y = y; code = code; label = label.now })) (state S.Store tx.old.conn.now) (state S.Store tx.new.conn.now) result }
+    ensures wrote { Makes (Adds attributes (record { id = id; x = x; y = y; code = code; label = label.now })) (state S.Store tx.old.conn.now) (state S.Store tx.new.conn.now) result }
     ensures survives { Survives (state S.Store tx.old.conn.now) (state S.Store tx.new.conn.now) (λ _. ⊥) }
 {
     settled(tx.execute(

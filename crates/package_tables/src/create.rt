@@ -6,7 +6,8 @@ ghost use Rattle.sheet_types.specs.Matrix.{is_good_frame};
 ghost use Rattle.sql_meaning.specs.Blank.{IsBlank, no_schema};
 ghost use Rattle.sql_meaning.specs.Transactions.{Rests, Holds, Steps, Turns};
 ghost use Rattle.package_tables.specs.Calls.{OnTables};
-ghost use Rattle.package_tables.specs.Entries.{AddsHead};
+ghost use Rattle.package_tables.specs.Listed.{heads};
+ghost use Rattle.package_tables.specs.Changes.{Adds};
 ghost use Rattle.package_tables.specs.Creation.{head_of, new_tables, HoldsTables, Fills, IsFitInfo};
 
 use crate::fault::Fault;
@@ -35,7 +36,7 @@ pub struct Info<'t> {
 fn insert_info<S: Alter>(tx: &mut Transaction<'_, S>, info: &Info<'_>) -> Result<(), Fault>
     requires { IsFitInfo info.now.depth info.now.loan }
     ensures same_reference { tx.new.conn.ghost_name ≡ tx.old.conn.ghost_name }
-    ensures steps { Steps (λ _. OnTables (AddsHead (head_of info.now.package info.now.parent info.now.depth info.now.loan info.now.created.now))) (state S.Store tx.old.conn.now) (state S.Store tx.new.conn.now) result }
+    ensures steps { Steps (λ _. OnTables (Adds heads (head_of info.now.package info.now.parent info.now.depth info.now.loan info.now.created.now))) (state S.Store tx.old.conn.now) (state S.Store tx.new.conn.now) result }
 {
     let mut package_buffer = Uuid::encode_buffer();
     let package = info.package.hyphenated().encode_lower(&mut package_buffer);

@@ -5,7 +5,8 @@ ghost use Rattle.sqlite.specs.State.{Survives};
 ghost use Rattle.sqlite.specs.Held.{state};
 ghost use Rattle.sql_meaning.specs.Transactions.{Rests, Steps};
 ghost use Rattle.package_tables.specs.Calls.{Makes, LooksUp, AreThose, AreAll, OnTables};
-ghost use Rattle.package_tables.specs.Entries.{AddsSpatialRefSys, AddsContents, AddsTileMatrixSet, AddsTileMatrix, AddsRelation, SetsLastChange};
+ghost use Rattle.package_tables.specs.Listed.{contents, matrices, matrix_sets, relations, systems};
+ghost use Rattle.package_tables.specs.Changes.{Adds, SetsLastChange};
 ghost use Rattle.sheet_types.specs.Ordered.{IsArranged};
 ghost use Rattle.package_tables.specs.Package.{tables_of};
 ghost use Rattle.package_tables.specs.Shapes.{contents_shape};
@@ -27,7 +28,7 @@ pub(crate) fn insert_spatial_ref_sys<S: Alter>(
     description: &str,
 ) -> Result<(), Fault>
     ensures same_reference { tx.new.conn.ghost_name ≡ tx.old.conn.ghost_name }
-    ensures wrote { Makes (AddsSpatialRefSys (record { srs_name = srs_name.now; srs_id = srs_id; organization = organization.now; organization_coordsys_id = organization_coordsys_id; definition = definition.now; description = description.now })) (state S.Store tx.old.conn.now) (state S.Store tx.new.conn.now) result }
+    ensures wrote { Makes (Adds systems (record { srs_name = srs_name.now; srs_id = srs_id; organization = organization.now; organization_coordsys_id = organization_coordsys_id; definition = definition.now; description = description.now })) (state S.Store tx.old.conn.now) (state S.Store tx.new.conn.now) result }
     ensures survives { Survives (state S.Store tx.old.conn.now) (state S.Store tx.new.conn.now) (λ _. ⊥) }
 {
     settled(tx.execute(
@@ -58,7 +59,7 @@ pub(crate) fn insert_contents<S: Alter>(
     srs_id: i64,
 ) -> Result<(), Fault>
     ensures same_reference { tx.new.conn.ghost_name ≡ tx.old.conn.ghost_name }
-    ensures wrote { Makes (AddsContents (record { table_name = table_name.now; data_type = data_type.now; identifier = identifier.now; description = description.now; last_change = last_change.now; min_x = min_x; min_y = min_y; max_x = max_x; max_y = max_y; srs_id = srs_id })) (state S.Store tx.old.conn.now) (state S.Store tx.new.conn.now) result }
+    ensures wrote { Makes (Adds contents (record { table_name = table_name.now; data_type = data_type.now; identifier = identifier.now; description = description.now; last_change = last_change.now; min_x = min_x; min_y = min_y; max_x = max_x; max_y = max_y; srs_id = srs_id })) (state S.Store tx.old.conn.now) (state S.Store tx.new.conn.now) result }
     ensures survives { Survives (state S.Store tx.old.conn.now) (state S.Store tx.new.conn.now) (λ _. ⊥) }
 {
     settled(tx.execute(
@@ -89,7 +90,7 @@ pub(crate) fn insert_tile_matrix_set<S: Alter>(
     max_y: i64,
 ) -> Result<(), Fault>
     ensures same_reference { tx.new.conn.ghost_name ≡ tx.old.conn.ghost_name }
-    ensures wrote { Makes (AddsTileMatrixSet (record { table_name = table_name.now; srs_id = srs_id; min_x = min_x; min_y = min_y; max_x = max_x; max_y = max_y })) (state S.Store tx.old.conn.now) (state S.Store tx.new.conn.now) result }
+    ensures wrote { Makes (Adds matrix_sets (record { table_name = table_name.now; srs_id = srs_id; min_x = min_x; min_y = min_y; max_x = max_x; max_y = max_y })) (state S.Store tx.old.conn.now) (state S.Store tx.new.conn.now) result }
     ensures survives { Survives (state S.Store tx.old.conn.now) (state S.Store tx.new.conn.now) (λ _. ⊥) }
 {
     settled(tx.execute(
@@ -111,7 +112,7 @@ pub(crate) fn insert_tile_matrix<S: Alter>(
     pixel_y_size: i64,
 ) -> Result<(), Fault>
     ensures same_reference { tx.new.conn.ghost_name ≡ tx.old.conn.ghost_name }
-    ensures wrote { Makes (AddsTileMatrix (record { table_name = table_name.now; zoom_level = zoom_level; matrix_width = matrix_width; matrix_height = matrix_height; tile_width = tile_width; tile_height = tile_height; pixel_x_size = pixel_x_size; pixel_y_size = pixel_y_size })) (state S.Store tx.old.conn.now) (state S.Store tx.new.conn.now) result }
+    ensures wrote { Makes (Adds matrices (record { table_name = table_name.now; zoom_level = zoom_level; matrix_width = matrix_width; matrix_height = matrix_height; tile_width = tile_width; tile_height = tile_height; pixel_x_size = pixel_x_size; pixel_y_size = pixel_y_size })) (state S.Store tx.old.conn.now) (state S.Store tx.new.conn.now) result }
     ensures survives { Survives (state S.Store tx.old.conn.now) (state S.Store tx.new.conn.now) (λ _. ⊥) }
 {
     settled(tx.execute(
@@ -141,7 +142,7 @@ pub(crate) fn insert_relation<S: Alter>(
     mapping_table_name: &str,
 ) -> Result<(), Fault>
     ensures same_reference { tx.new.conn.ghost_name ≡ tx.old.conn.ghost_name }
-    ensures wrote { Makes (AddsRelation (record { id = id; base_table_name = base_table_name.now; base_primary_column = base_primary_column.now; related_table_name = related_table_name.now; related_primary_column = related_primary_column.now; relation_name = relation_name.now; mapping_table_name = mapping_table_name.now })) (state S.Store tx.old.conn.now) (state S.Store tx.new.conn.now) result }
+    ensures wrote { Makes (Adds relations (record { id = id; base_table_name = base_table_name.now; base_primary_column = base_primary_column.now; related_table_name = related_table_name.now; related_primary_column = related_primary_column.now; relation_name = relation_name.now; mapping_table_name = mapping_table_name.now })) (state S.Store tx.old.conn.now) (state S.Store tx.new.conn.now) result }
     ensures survives { Survives (state S.Store tx.old.conn.now) (state S.Store tx.new.conn.now) (λ _. ⊥) }
 {
     settled(tx.execute(

@@ -4,9 +4,10 @@ ghost use Rattle.sqlite.specs.Held.{state};
 ghost use Rattle.sheet_types.specs.Matrix.{is_good_frame};
 ghost use Rattle.sql_meaning.specs.Transactions.{Steps};
 ghost use Rattle.package_tables.specs.Calls.{OnTables};
-ghost use Rattle.package_tables.specs.Entries.{AddsContents};
+ghost use Rattle.package_tables.specs.Listed.{contents, matrix_sets, relations, systems};
+ghost use Rattle.package_tables.specs.Changes.{Adds, ListBecomes};
 ghost use Rattle.package_tables.specs.Fixed.{is_standard, standard_systems, systems_of, content, contents_of, matrix_set, two_relations};
-ghost use Rattle.package_tables.specs.Creation.{SystemsBecome, ContentsBecome, MatrixSetsBecome, RelationsBecome, TablesBecome, no_rows, fixed_tables};
+ghost use Rattle.package_tables.specs.Creation.{TablesBecome, no_rows, fixed_tables};
 
 use crate::fault::Fault;
 use crate::fixed::{
@@ -20,7 +21,7 @@ use std::alloc::Global;
 /// The reference systems that OGC GeoPackage 1.3 wants in each package.
 fn insert_standard_systems<S: Alter>(tx: &mut Transaction<'_, S>) -> Result<(), Fault>
     ensures same_reference { tx.new.conn.ghost_name ≡ tx.old.conn.ghost_name }
-    ensures steps { Steps (λ _. OnTables (SystemsBecome [] standard_systems)) (state S.Store tx.old.conn.now) (state S.Store tx.new.conn.now) result }
+    ensures steps { Steps (λ _. OnTables (ListBecomes systems [] standard_systems)) (state S.Store tx.old.conn.now) (state S.Store tx.new.conn.now) result }
 {
     insert_spatial_ref_sys(tx, "undefined cartesian", -1, "NONE", -1, "undefined", "")?;
     insert_spatial_ref_sys(tx, "undefined geographic", 0, "NONE", 0, "undefined", "")?;
@@ -40,7 +41,7 @@ fn insert_own_system<S: Alter>(
     srs_id: i64,
 ) -> Result<(), Fault>
     ensures same_reference { tx.new.conn.ghost_name ≡ tx.old.conn.ghost_name }
-    ensures steps { Steps (λ _. OnTables (SystemsBecome standard_systems (systems_of srs_id))) (state S.Store tx.old.conn.now) (state S.Store tx.new.conn.now) result }
+    ensures steps { Steps (λ _. OnTables (ListBecomes systems standard_systems (systems_of srs_id))) (state S.Store tx.old.conn.now) (state S.Store tx.new.conn.now) result }
     ensures standard { IsTrue (is_standard srs_id) → IsOk result }
 {
     if is_standard(srs_id) {
@@ -56,7 +57,7 @@ fn insert_systems<S: Alter>(
     srs_id: i64,
 ) -> Result<(), Fault>
     ensures same_reference { tx.new.conn.ghost_name ≡ tx.old.conn.ghost_name }
-    ensures steps { Steps (λ _. OnTables (SystemsBecome [] (systems_of srs_id))) (state S.Store tx.old.conn.now) (state S.Store tx.new.conn.now) result }
+    ensures steps { Steps (λ _. OnTables (ListBecomes systems [] (systems_of srs_id))) (state S.Store tx.old.conn.now) (state S.Store tx.new.conn.now) result }
 {
     insert_standard_systems(tx)?;
     insert_own_system(alloc, tx, srs_id)
@@ -71,7 +72,7 @@ fn insert_content<S: Alter>(
     at: &str,
 ) -> Result<(), Fault>
     ensures same_reference { tx.new.conn.ghost_name ≡ tx.old.conn.ghost_name }
-    ensures steps { Steps (λ _. OnTables (AddsContents (content table_name.now data_type.now frame.now at.now))) (state S.Store tx.old.conn.now) (state S.Store tx.new.conn.now) result }
+    ensures steps { Steps (λ _. OnTables (Adds contents (content table_name.now data_type.now frame.now at.now))) (state S.Store tx.old.conn.now) (state S.Store tx.new.conn.now) result }
 {
     let Frame {
         srs_id,
@@ -92,7 +93,7 @@ fn insert_all_contents<S: Alter>(
     at: &str,
 ) -> Result<(), Fault>
     ensures same_reference { tx.new.conn.ghost_name ≡ tx.old.conn.ghost_name }
-    ensures steps { Steps (λ _. OnTables (ContentsBecome [] (contents_of frame.now at.now))) (state S.Store tx.old.conn.now) (state S.Store tx.new.conn.now) result }
+    ensures steps { Steps (λ _. OnTables (ListBecomes contents [] (contents_of frame.now at.now))) (state S.Store tx.old.conn.now) (state S.Store tx.new.conn.now) result }
 {
     insert_content(tx, "sheet_tiles", "tiles", frame, at)?;
     insert_content(tx, "sheet_rows", "attributes", frame, at)?;
@@ -102,7 +103,7 @@ fn insert_all_contents<S: Alter>(
 /// The tile matrix set of the tiles.
 fn insert_matrix_set<S: Alter>(tx: &mut Transaction<'_, S>, frame: &Frame) -> Result<(), Fault>
     ensures same_reference { tx.new.conn.ghost_name ≡ tx.old.conn.ghost_name }
-    ensures steps { Steps (λ _. OnTables (MatrixSetsBecome [] (matrix_set frame.now ∷ []))) (state S.Store tx.old.conn.now) (state S.Store tx.new.conn.now) result }
+    ensures steps { Steps (λ _. OnTables (ListBecomes matrix_sets [] (matrix_set frame.now ∷ []))) (state S.Store tx.old.conn.now) (state S.Store tx.new.conn.now) result }
 {
     let Frame {
         srs_id,
@@ -118,7 +119,7 @@ fn insert_matrix_set<S: Alter>(tx: &mut Transaction<'_, S>, frame: &Frame) -> Re
 /// Which table names the media of which: the mapping tables (OGC 18-000, relations).
 fn insert_relations<S: Alter>(tx: &mut Transaction<'_, S>) -> Result<(), Fault>
     ensures same_reference { tx.new.conn.ghost_name ≡ tx.old.conn.ghost_name }
-    ensures steps { Steps (λ _. OnTables (RelationsBecome [] two_relations)) (state S.Store tx.old.conn.now) (state S.Store tx.new.conn.now) result }
+    ensures steps { Steps (λ _. OnTables (ListBecomes relations [] two_relations)) (state S.Store tx.old.conn.now) (state S.Store tx.new.conn.now) result }
 {
     insert_relation(
         tx,

@@ -5,7 +5,8 @@ ghost use Rattle.sqlite.specs.State.{Survives};
 ghost use Rattle.sqlite.specs.Held.{state};
 ghost use Rattle.sql_meaning.specs.Transactions.{Rests};
 ghost use Rattle.package_tables.specs.Calls.{Makes, LooksUp, AreAll};
-ghost use Rattle.package_tables.specs.Entries.{AddsHead};
+ghost use Rattle.package_tables.specs.Listed.{heads};
+ghost use Rattle.package_tables.specs.Changes.{Adds};
 
 use crate::fault::{Fault, settled};
 use crate::from_row::{FromRow, all_of, number_at, text_at};
@@ -25,7 +26,7 @@ pub(crate) fn insert_head<S: Alter>(
     created: &str,
 ) -> Result<(), Fault>
     ensures same_reference { tx.new.conn.ghost_name ≡ tx.old.conn.ghost_name }
-    ensures wrote { Makes (AddsHead (record { id = id; version = version; «package» = «package».now; parent = parent.now; depth = depth; loan = loan; created = created.now })) (state S.Store tx.old.conn.now) (state S.Store tx.new.conn.now) result }
+    ensures wrote { Makes (Adds heads (record { id = id; version = version; «package» = «package».now; parent = parent.now; depth = depth; loan = loan; created = created.now })) (state S.Store tx.old.conn.now) (state S.Store tx.new.conn.now) result }
     ensures survives { Survives (state S.Store tx.old.conn.now) (state S.Store tx.new.conn.now) (λ _. ⊥) }
 {
     settled(tx.execute(

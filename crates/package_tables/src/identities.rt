@@ -5,7 +5,8 @@ ghost use Rattle.sqlite.specs.State.{Survives};
 ghost use Rattle.sqlite.specs.Held.{state};
 ghost use Rattle.sql_meaning.specs.Transactions.{Rests};
 ghost use Rattle.package_tables.specs.Calls.{Makes, Tells, LooksUp, IsOneOf, AreAll};
-ghost use Rattle.package_tables.specs.Changes.{AddsIdentity, DropsIdentity};
+ghost use Rattle.package_tables.specs.Listed.{identities};
+ghost use Rattle.package_tables.specs.Changes.{Adds, DropsIdentity};
 
 use crate::fault::{Fault, settled};
 use crate::from_row::{FromRow, all_of, first_of, number_at, text_at};
@@ -40,7 +41,7 @@ pub fn insert_identity<S: Alter>(
     uuid: &str,
 ) -> Result<(), Fault>
     ensures same_reference { tx.new.conn.ghost_name ≡ tx.old.conn.ghost_name }
-    ensures wrote { Makes (AddsIdentity (record { kind = kind; local_id = local_id; uuid = uuid.now })) (state S.Store tx.old.conn.now) (state S.Store tx.new.conn.now) result }
+    ensures wrote { Makes (Adds identities (record { kind = kind; local_id = local_id; uuid = uuid.now })) (state S.Store tx.old.conn.now) (state S.Store tx.new.conn.now) result }
     ensures survives { Survives (state S.Store tx.old.conn.now) (state S.Store tx.new.conn.now) (λ _. ⊥) }
 {
     settled(tx.execute(

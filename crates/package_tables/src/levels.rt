@@ -4,9 +4,9 @@ ghost use Rattle.sqlite.specs.Held.{state};
 ghost use Rattle.sheet_types.specs.Matrix.{is_good_frame, has_level};
 ghost use Rattle.sql_meaning.specs.Transactions.{Steps};
 ghost use Rattle.package_tables.specs.Calls.{OnTables};
-ghost use Rattle.package_tables.specs.Entries.{AddsTileMatrix};
+ghost use Rattle.package_tables.specs.Listed.{matrices};
+ghost use Rattle.package_tables.specs.Changes.{Adds, ListBecomes};
 ghost use Rattle.package_tables.specs.Fixed.{level_row, levels_of};
-ghost use Rattle.package_tables.specs.Creation.{MatricesBecome};
 
 use crate::fault::Fault;
 use crate::fixed::insert_tile_matrix;
@@ -23,7 +23,7 @@ fn insert_level<S: Alter>(
     requires good { IsTrue (is_good_frame frame.now) }
     requires level { IsTrue (has_level frame.now zoom) }
     ensures same_reference { tx.new.conn.ghost_name ≡ tx.old.conn.ghost_name }
-    ensures steps { Steps (λ _. OnTables (AddsTileMatrix (level_row frame.now zoom))) (state S.Store tx.old.conn.now) (state S.Store tx.new.conn.now) result }
+    ensures steps { Steps (λ _. OnTables (Adds matrices (level_row frame.now zoom))) (state S.Store tx.old.conn.now) (state S.Store tx.new.conn.now) result }
 {
     let axes = axes_at(frame, zoom);
     insert_tile_matrix(
@@ -64,7 +64,7 @@ pub(crate) fn insert_levels<S: Alter>(
 ) -> Result<(), Fault>
     requires { IsTrue (is_good_frame frame.now) }
     ensures same_reference { tx.new.conn.ghost_name ≡ tx.old.conn.ghost_name }
-    ensures steps { Steps (λ _. OnTables (MatricesBecome [] (levels_of frame.now))) (state S.Store tx.old.conn.now) (state S.Store tx.new.conn.now) result }
+    ensures steps { Steps (λ _. OnTables (ListBecomes matrices [] (levels_of frame.now))) (state S.Store tx.old.conn.now) (state S.Store tx.new.conn.now) result }
 {
     let levels = level_count(frame);
     for level in 0..levels {

@@ -6,7 +6,8 @@ ghost use Rattle.sqlite.specs.State.{Survives};
 ghost use Rattle.sqlite.specs.Held.{state};
 ghost use Rattle.sql_meaning.specs.Transactions.{Rests};
 ghost use Rattle.package_tables.specs.Calls.{Makes, LooksUp, IsOneOf, AreAll};
-ghost use Rattle.package_tables.specs.Changes.{AddsPair, DropsPair};
+ghost use Rattle.package_tables.specs.Listed.{pairs};
+ghost use Rattle.package_tables.specs.Changes.{Adds, DropsPair};
 ghost use Rattle.package_tables.specs.Mappings.{mapping_rows, insert_text, delete_text, of_ends_text, of_base_text, of_related_text, all_text};
 
 use crate::fault::{Fault, settled};
@@ -50,7 +51,7 @@ pub fn insert_pair<S: Alter>(
     related_id: i64,
 ) -> Result<(), Fault>
     ensures same_reference { tx.new.conn.ghost_name ≡ tx.old.conn.ghost_name }
-    ensures wrote { Makes (AddsPair mapping (record { base_id = base_id; related_id = related_id })) (state S.Store tx.old.conn.now) (state S.Store tx.new.conn.now) result }
+    ensures wrote { Makes (Adds (pairs mapping) (record { base_id = base_id; related_id = related_id })) (state S.Store tx.old.conn.now) (state S.Store tx.new.conn.now) result }
     ensures survives { Survives (state S.Store tx.old.conn.now) (state S.Store tx.new.conn.now) (λ _. ⊥) }
 {
     settled(tx.execute(insert_text(mapping), params![base_id, related_id]))

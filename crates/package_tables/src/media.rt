@@ -5,7 +5,8 @@ ghost use Rattle.sqlite.specs.State.{Survives};
 ghost use Rattle.sqlite.specs.Held.{state};
 ghost use Rattle.sql_meaning.specs.Transactions.{Rests};
 ghost use Rattle.package_tables.specs.Calls.{Makes, Tells, LooksUp, IsOneOf, AreAll, IsGreatest};
-ghost use Rattle.package_tables.specs.Changes.{AddsMedium, DropsMedium};
+ghost use Rattle.package_tables.specs.Listed.{media};
+ghost use Rattle.package_tables.specs.Changes.{Adds, DropsMedium};
 
 use crate::fault::{Fault, settled};
 use crate::from_row::{FromRow, all_of, bytes_at, first_of, number_at, number_of, text_at};
@@ -38,7 +39,7 @@ pub fn insert_medium<S: Alter>(
     content_type: &str,
 ) -> Result<(), Fault>
     ensures same_reference { tx.new.conn.ghost_name ≡ tx.old.conn.ghost_name }
-    ensures wrote { Makes (AddsMedium (record { id = id; «data» = «data».now; content_type = content_type.now })) (state S.Store tx.old.conn.now) (state S.Store tx.new.conn.now) result }
+    ensures wrote { Makes (Adds media (record { id = id; «data» = «data».now; content_type = content_type.now })) (state S.Store tx.old.conn.now) (state S.Store tx.new.conn.now) result }
     ensures survives { Survives (state S.Store tx.old.conn.now) (state S.Store tx.new.conn.now) (λ _. ⊥) }
 {
     settled(tx.execute(

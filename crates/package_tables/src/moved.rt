@@ -5,7 +5,8 @@ ghost use Rattle.sqlite.specs.State.{Survives};
 ghost use Rattle.sqlite.specs.Held.{state};
 ghost use Rattle.sql_meaning.specs.Transactions.{Rests};
 ghost use Rattle.package_tables.specs.Calls.{Makes, LooksUp, IsOneOf, AreThose, Rises, AreAll};
-ghost use Rattle.package_tables.specs.Entries.{AddsMoved};
+ghost use Rattle.package_tables.specs.Listed.{moved};
+ghost use Rattle.package_tables.specs.Changes.{Adds};
 
 use crate::fault::{Fault, settled};
 use crate::from_row::{FromRow, all_of, first_of, number_at, text_at};
@@ -25,7 +26,7 @@ pub fn insert_moved<S: Alter>(
     fingerprint: &str,
 ) -> Result<(), Fault>
     ensures same_reference { tx.new.conn.ghost_name ≡ tx.old.conn.ghost_name }
-    ensures wrote { Makes (AddsMoved (record { seq = seq; position = position; kind = kind; base = base.now; other = other.now; size = size; fingerprint = fingerprint.now })) (state S.Store tx.old.conn.now) (state S.Store tx.new.conn.now) result }
+    ensures wrote { Makes (Adds moved (record { seq = seq; position = position; kind = kind; base = base.now; other = other.now; size = size; fingerprint = fingerprint.now })) (state S.Store tx.old.conn.now) (state S.Store tx.new.conn.now) result }
     ensures survives { Survives (state S.Store tx.old.conn.now) (state S.Store tx.new.conn.now) (λ _. ⊥) }
 {
     settled(tx.execute(

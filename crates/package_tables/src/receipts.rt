@@ -5,7 +5,8 @@ ghost use Rattle.sqlite.specs.State.{Survives};
 ghost use Rattle.sqlite.specs.Held.{state};
 ghost use Rattle.sql_meaning.specs.Transactions.{Rests};
 ghost use Rattle.package_tables.specs.Calls.{Makes, LooksUp, IsOneOf, AreAll};
-ghost use Rattle.package_tables.specs.Entries.{AddsReceipt};
+ghost use Rattle.package_tables.specs.Listed.{receipts};
+ghost use Rattle.package_tables.specs.Changes.{Adds};
 
 use crate::fault::{Fault, settled};
 use crate::from_row::{FromRow, all_of, first_of, number_at, text_at};
@@ -29,7 +30,7 @@ pub fn insert_receipt<S: Alter>(
     n_bytes: i64,
 ) -> Result<(), Fault>
     ensures same_reference { tx.new.conn.ghost_name ≡ tx.old.conn.ghost_name }
-    ensures wrote { Makes (AddsReceipt (record { seq = seq; request = request.now; at = at.now; line = line.now; source = source.now; target = target.now; n_tiles = n_tiles; n_media = n_media; n_rows = n_rows; n_links = n_links; n_bytes = n_bytes })) (state S.Store tx.old.conn.now) (state S.Store tx.new.conn.now) result }
+    ensures wrote { Makes (Adds receipts (record { seq = seq; request = request.now; at = at.now; line = line.now; source = source.now; target = target.now; n_tiles = n_tiles; n_media = n_media; n_rows = n_rows; n_links = n_links; n_bytes = n_bytes })) (state S.Store tx.old.conn.now) (state S.Store tx.new.conn.now) result }
     ensures survives { Survives (state S.Store tx.old.conn.now) (state S.Store tx.new.conn.now) (λ _. ⊥) }
 {
     settled(tx.execute(

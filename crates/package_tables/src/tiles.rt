@@ -5,7 +5,8 @@ ghost use Rattle.sqlite.specs.State.{Survives};
 ghost use Rattle.sqlite.specs.Held.{state};
 ghost use Rattle.sql_meaning.specs.Transactions.{Rests};
 ghost use Rattle.package_tables.specs.Calls.{Makes, Tells, LooksUp, IsOneOf, AreAll, IsGreatest};
-ghost use Rattle.package_tables.specs.Changes.{AddsTile, DropsTile};
+ghost use Rattle.package_tables.specs.Listed.{tiles};
+ghost use Rattle.package_tables.specs.Changes.{Adds, DropsTile};
 
 use crate::fault::{Fault, settled};
 use crate::from_row::{FromRow, all_of, bytes_at, first_of, number_at, number_of};
@@ -42,7 +43,7 @@ pub fn insert_tile<S: Alter>(
     tile_data: &[u8],
 ) -> Result<(), Fault>
     ensures same_reference { tx.new.conn.ghost_name ≡ tx.old.conn.ghost_name }
-    ensures wrote { Makes (AddsTile (record { id = id; zoom_level = zoom_level; tile_column = tile_column; tile_row = tile_row; tile_data = tile_data.now })) (state S.Store tx.old.conn.now) (state S.Store tx.new.conn.now) result }
+    ensures wrote { Makes (Adds tiles (record { id = id; zoom_level = zoom_level; tile_column = tile_column; tile_row = tile_row; tile_data = tile_data.now })) (state S.Store tx.old.conn.now) (state S.Store tx.new.conn.now) result }
     ensures survives { Survives (state S.Store tx.old.conn.now) (state S.Store tx.new.conn.now) (λ _. ⊥) }
 {
     settled(tx.execute(

@@ -4,7 +4,7 @@ Run it in the crate's folder, and then rt fmt and rt tidy. The Rust functions ar
 statement in the order of the parameters."""
 import os
 
-# a table: its module of src, its list in Tables, shape, constant, type of row, word of a row as shown, word for a change,
+# a table: its module of src, its list of specs/Listed, shape, constant, type of row, word of a row as shown,
 # whether its key is the rowid, its columns, the columns by which all rows are read, and its statements:
 #   deletes: (function, columns)      finds: (statement, columns, forms)      alls: function
 # The form of a find at rest has the name of its statement; the one inside a transaction has `_inside` after it.
@@ -13,24 +13,24 @@ import os
 INT, TEXT, BLOB = "int", "text", "blob"
 REST, INSIDE = "", "_inside"
 TABLES = [
-    dict(file="TileStatements", module="tiles", list="tiles", shape="tile_shape", table="sheet_tiles", row="TileRow", shown="tile_shown", change="Tile", keyed=True,
+    dict(file="TileStatements", module="tiles", list="tiles", shape="tile_shape", table="sheet_tiles", row="TileRow", shown="tile_shown", keyed=True,
          columns=[("id", INT), ("zoom_level", INT), ("tile_column", INT), ("tile_row", INT), ("tile_data", BLOB)], by=["id"],
          insert="insert_tile", delete=("delete_tile", ["id"]), finds=[("tile_by_id", ["id"], [REST]), ("tile_at", ["zoom_level", "tile_column", "tile_row"], [REST])], all="all_tiles", greatest="greatest_tile_id"),
-    dict(file="MediumStatements", module="media", list="media", shape="medium_shape", table="sheet_media", row="MediaRow", shown="medium_shown", change="Medium", keyed=True,
+    dict(file="MediumStatements", module="media", list="media", shape="medium_shape", table="sheet_media", row="MediaRow", shown="medium_shown", keyed=True,
          columns=[("id", INT), ("data", BLOB), ("content_type", TEXT)], by=["id"],
          insert="insert_medium", delete=("delete_medium", ["id"]), finds=[("medium_by_id", ["id"], [REST])], all="all_media", greatest="greatest_medium_id"),
-    dict(file="AttributeStatements", module="attributes", list="rows", shape="attribute_shape", table="sheet_rows", row="AttributeRow", shown="attribute_shown", change="Attribute", keyed=True,
+    dict(file="AttributeStatements", module="attributes", list="attributes", shape="attribute_shape", table="sheet_rows", row="AttributeRow", shown="attribute_shown", keyed=True,
          columns=[("id", INT), ("x", INT), ("y", INT), ("code", INT), ("label", TEXT)], by=["id"],
          insert="insert_attribute", delete=("delete_attribute", ["id"]), finds=[("attribute_by_id", ["id"], [REST])], all="all_attributes", greatest="greatest_attribute_id"),
-    dict(file="TilesMediaStatements", list="tiles_media", shape="tiles_media_shape", table="tiles_media", row="MappingRow", shown="mapping_shown", keyed=False,
+    dict(file="TilesMediaStatements", list="TilesMedia", shape="tiles_media_shape", table="tiles_media", row="MappingRow", shown="mapping_shown", keyed=False,
          columns=[("base_id", INT), ("related_id", INT)], by=["base_id", "related_id"],
          delete=(None, ["base_id", "related_id"]),
          finds=[("of_ends", ["base_id", "related_id"], []), ("of_base", ["base_id"], []), ("of_related", ["related_id"], [])]),
-    dict(file="RowsMediaStatements", list="rows_media", shape="rows_media_shape", table="rows_media", row="MappingRow", shown="mapping_shown", keyed=False,
+    dict(file="RowsMediaStatements", list="RowsMedia", shape="rows_media_shape", table="rows_media", row="MappingRow", shown="mapping_shown", keyed=False,
          columns=[("base_id", INT), ("related_id", INT)], by=["base_id", "related_id"],
          delete=(None, ["base_id", "related_id"]),
          finds=[("of_ends", ["base_id", "related_id"], []), ("of_base", ["base_id"], []), ("of_related", ["related_id"], [])]),
-    dict(file="IdentityStatements", module="identities", list="identities", shape="identity_shape", table="sheet_identity", row="IdentityRow", shown="identity_shown", change="Identity", keyed=False,
+    dict(file="IdentityStatements", module="identities", list="identities", shape="identity_shape", table="sheet_identity", row="IdentityRow", shown="identity_shown", keyed=False,
          columns=[("kind", INT), ("local_id", INT), ("uuid", TEXT)], by=["kind", "local_id"],
          insert="insert_identity", delete=("delete_identity", ["kind", "local_id"]),
          finds=[("identity_by_uuid", ["uuid"], [REST, INSIDE]), ("identity_by_key", ["kind", "local_id"], [INSIDE])], all="all_identities"),
@@ -42,6 +42,11 @@ VALUE = {INT: "Int", TEXT: "Text", BLOB: "Blob"}
 TYPE = {INT: "ℤ", TEXT: "List ℕ", BLOB: "List ℕ"}
 SAME = {INT: "same_number", TEXT: "same_text"}
 EQUAL = {INT: "int_eq", TEXT: "bytes_eq"}
+
+
+def listed(t):
+    """the list of a table, and the lemma that it meets what a list has to"""
+    return (t["list"], "%s_listed" % t["list"]) if "module" in t else ("(pairs %s)" % t["list"], "pairs_listed %s" % t["list"])
 
 
 def quoted(name):
@@ -221,13 +226,15 @@ def statements(t):
         "use Rattle.sql_meaning.proofs.First.{IsFirst, IsPlannedFirst}",
         "use Rattle.package_tables.specs.Tables.{%s}" % t["table"],
         "use Rattle.package_tables.specs.Shapes.{%s, int_at, text_at, blob_at}" % t["shape"],
+        "use Rattle.sheet_types.specs.declared.command.Mapping.TheVariants.{TilesMedia, RowsMedia}",
+        "use Rattle.package_tables.specs.Listed.{%s}" % (t["list"] if "module" in t else "pairs"),
         "use Rattle.package_tables.specs.Shown.{%s}" % t["shown"],
         "use Rattle.package_tables.specs.declared.rows.%s.{%s}" % (t["row"], t["row"]),
         "use Rattle.package_tables.proofs.Looking.{IsKnown, IsLookUp, IsRanked}",
         "use Rattle.package_tables.proofs.Newest.{IsNewest}",
         "use Rattle.package_tables.proofs.Ranking.{one_number, two_numbers}",
         "use Rattle.package_tables.proofs.Values.{same_number, same_text, both_same}",
-        "use Rattle.package_tables.proofs.Written.{%s_is}" % t["shape"],
+        "use Rattle.package_tables.proofs.Written.{%s}" % listed(t)[1].split()[0],
         "",
         "pub insert_text : (tree : ℕ) → IsInsert (codes \"%s\") (%s tree)" % (insert_text(t), t["table"]),
         "unfolding everything",
@@ -248,9 +255,9 @@ def statements(t):
         "unfolding resolving",
         "delete_plan tree schema at h = rw (h.stored, h.by_tree) refl",
         "",
-        "pub known : IsKnown %s (λ t. t.%s) %s" % (t["shape"], t["list"], t["shown"]),
-        "known = record { laws = %s_is; formed = λ db f. f.%s; lists = λ db. refl; back = λ r. record { %s }; returns = λ x. refl }"
-        % (t["shape"], t["list"], "; ".join("%s = %s_at r %d" % (quoted(c), k, j) for j, (c, k) in enumerate(t["columns"]))),
+        "pub known : IsKnown %s %s" % (listed(t)[0], t["shown"]),
+        "known = record { is = %s; back = λ r. record { %s }; returns = λ x. refl }"
+        % (listed(t)[1], "; ".join("%s = %s_at r %d" % (quoted(c), k, j) for j, (c, k) in enumerate(t["columns"]))),
     ]
     for name, columns, _ in t["finds"]:
         out += text_of(name, select_text(t, columns), t, test_of(t, columns), "[]", condition(columns))
@@ -310,27 +317,19 @@ def insert_answer(t):
         "use Rattle.std.proofs.Common.{pos, refl, to_z-of_z}",
         "use Rattle.sqlite.specs.Held.{state}",
         "use Rattle.sqlite.specs.Edit.{next_rowid}",
-        "use Rattle.sqlite.specs.declared.types.Value.TheVariants.{Int, Null}",
-        "use Rattle.sql_meaning.specs.Writing.{Inserts}",
-        "use Rattle.sql_meaning.proofs.Insert.{inserted_inside}",
-        "use Rattle.package_tables.specs.Tables.{%s}" % t["table"],
-        "use Rattle.package_tables.specs.Shapes.{%s}" % t["shape"],
-        "use Rattle.package_tables.specs.Changes.{Adds%s}" % t["change"],
+        "use Rattle.sqlite.specs.declared.types.Value.TheVariants.{Int}",
         "use Rattle.package_tables.specs.declared.rows.%s.{%s}" % (t["row"], t["row"]),
-        "use Rattle.package_tables.proofs.Making.{makes, puts}",
+        "use Rattle.package_tables.proofs.Making.{enters}",
         "use Rattle.package_tables.proofs.%s.{insert_text, insert_row}" % t["file"],
-        "use Rattle.package_tables.proofs.Written.{%s_is, %s_written}" % (t["shape"], t["list"]),
+        "use Rattle.package_tables.proofs.Written.{%s_listed}" % t["list"],
         "use Rattle.package_tables.proofs.%s.%s.Goals as goal" % (t["module"], t["insert"]),
         "",
         "pub returns-clause-wrote : goal.returns-clause-wrote",
         "returns-clause-wrote g c clean begun =",
     ] + STATES + [
         "    let row : %s = record { %s } in" % (t["row"], fields),
-        "    makes (Inserts %s (λ there. %s)) (Adds%s row) old new c.execute.result _" % (t["table"], stored(t), t["change"]),
-        "    (λ formed. puts %s %s_is (λ rows t. record t { %s = rows }) %s_written (λ db f. f.%s) (λ there. %s) row old.now new.now formed (λ there. %s))" % (t["shape"], t["shape"], t["list"], t["list"], t["list"], stored(t), laid),
-        "    c.settled.ensures",
-        "    (inserted_inside _ %s insert_text _ _ (insert_row row) old new c.execute.result" % t["table"],
-        "    %s)" % ran(t, names),
+        "    enters %s_listed row insert_text (insert_row row) (λ there. %s) old new c.execute.result _ c.settled.ensures" % (t["list"], laid),
+        "    %s" % ran(t, names),
     ]
 
 
@@ -339,7 +338,6 @@ def delete_answer(t):
     goes = "λ r. " + " && ".join("is_same (column r %d) (%s a.%s%s)" % (place(t, c), VALUE[kind_of(t, c)], c, "" if kind_of(t, c) == INT else ".now") for c in columns)
     tested = "λ x. " + " && ".join("%s x.%s a.%s%s" % (EQUAL[kind_of(t, c)], c, c, "" if kind_of(t, c) == INT else ".now") for c in columns)
     alike = nested(lambda a, b: "(both_same %s %s)" % (a, b), ["(%s x.%s a.%s%s)" % (SAME[kind_of(t, c)], c, c, "" if kind_of(t, c) == INT else ".now") for c in columns])
-    given_to = " ".join("a.%s%s" % (c, "" if kind_of(t, c) == INT else ".now") for c in columns)
     return [
         "use Rattle.std.proofs.Common.{refl, to_z-of_z}",
         "use Rattle.std.specs.Prelude.{◌&&◌, bytes_eq}",
@@ -347,26 +345,18 @@ def delete_answer(t):
         "use Rattle.sqlite.specs.Held.{state}",
         "use Rattle.sqlite.specs.Order.{column}",
         "use Rattle.sqlite.specs.declared.types.Value.TheVariants.{Int, Text}",
-        "use Rattle.sql_meaning.specs.Reading.{equals, both, is_same}",
-        "use Rattle.sql_meaning.specs.Writing.{Deletes}",
-        "use Rattle.sql_meaning.proofs.Delete.{removed_inside}",
-        "use Rattle.package_tables.specs.Tables.{%s}" % t["table"],
-        "use Rattle.package_tables.specs.Shapes.{%s}" % t["shape"],
-        "use Rattle.package_tables.specs.Changes.{Drops%s}" % t["change"],
-        "use Rattle.package_tables.proofs.Making.{makes, drops}",
+        "use Rattle.sql_meaning.specs.Reading.{is_same}",
+        "use Rattle.package_tables.proofs.Making.{leaves}",
         "use Rattle.package_tables.proofs.%s.{delete_text, delete_plan}" % t["file"],
-        "use Rattle.package_tables.proofs.Written.{%s_is, %s_written}" % (t["shape"], t["list"]),
+        "use Rattle.package_tables.proofs.Written.{%s_listed}" % t["list"],
         "use Rattle.package_tables.proofs.Values.{same_number, same_text, both_same}",
         "use Rattle.package_tables.proofs.%s.%s.Goals as goal" % (t["module"], name),
         "",
         "pub returns-clause-wrote : goal.returns-clause-wrote",
         "returns-clause-wrote g c clean begun =",
     ] + STATES + [
-        "    makes (Deletes %s (%s)) (Drops%s %s) old new c.execute.result _" % (t["table"], goes, t["change"], given_to),
-        "    (λ formed. drops %s %s_is (λ rows t. record t { %s = rows }) %s_written (λ db f. f.%s) (%s) (%s) old.now new.now formed (λ v x. %s))" % (t["shape"], t["shape"], t["list"], t["list"], t["list"], goes, tested, alike),
-        "    c.settled.ensures",
-        "    (removed_inside _ %s %s delete_text delete_plan _ refl _ (λ tree. refl) old new c.execute.result" % (t["table"], test_of(t, columns)),
-        "    %s)" % ran(t, columns),
+        "    leaves %s_listed (%s) (%s) (λ v x. %s) delete_text delete_plan _ refl (λ tree. refl) old new c.execute.result _ c.settled.ensures" % (t["list"], goes, tested, alike),
+        "    %s" % ran(t, columns),
     ]
 
 

@@ -1,22 +1,22 @@
 // What the changes do to the tables of a package in memory. The expected rows are written by hand, from what each change
 // is to put in or take out.
 
-use identity_register::additions::add;
-use identity_register::changes::{delete, link, unlink};
+use crate::steps::{Added, Linked, Unlinked};
+use crate::tables::{attributes, identities, media, pairs, tiles};
+use identity_register::changes::delete;
 use identity_register::look_ups::find;
-use package_tables::attributes::{all_attributes, insert_attribute};
+use package_tables::attributes::insert_attribute;
 use package_tables::fault::Fault;
-use package_tables::identities::{all_identities, insert_identity};
-use package_tables::mappings::all_pairs;
-use package_tables::media::{all_media, insert_medium};
+use package_tables::identities::insert_identity;
+use package_tables::media::insert_medium;
 use package_tables::schema::create_schema;
-use package_tables::tiles::{all_tiles, insert_tile};
-use sheet_types::collections::{Bytes, Text};
+use package_tables::tiles::insert_tile;
+use sheet_types::collections::Bytes;
 use sheet_types::command::{Content, Mapping, Relation};
-use sql_meaning::resting::is_at_rest;
 use sqlite::{Alter, Connection, Transaction};
 use std::alloc::Global;
 use std::test::Fail;
+use test_values::{Change, at_rest, committed, text};
 use uuid::Uuid;
 
 const FIRST_TILE: &str = "00000000-0000-4000-8000-000000000001";
@@ -46,19 +46,11 @@ fn first_row() -> Uuid {
 }
 
 fn tile_to_medium() -> Relation {
-    Relation {
-        mapping: Mapping::TilesMedia,
-        base: first_tile(),
-        media: first_medium(),
-    }
+    Relation::new(Mapping::TilesMedia, first_tile(), first_medium())
 }
 
 fn row_to_medium() -> Relation {
-    Relation {
-        mapping: Mapping::RowsMedia,
-        base: first_row(),
-        media: second_medium(),
-    }
+    Relation::new(Mapping::RowsMedia, first_row(), second_medium())
 }
 
 // ---- steps; they have no clause, so that the proof of a test does not carry the state of each call
@@ -80,79 +72,34 @@ fn fill_identities<S: Alter>(tx: &mut Transaction<'_, S>) -> Result<(), Fault> {
     insert_identity(tx, 3, 3, FIRST_ROW)
 }
 
-fn filled<S: Alter>(conn: &mut Connection<S>) -> Result<bool, Fault> {
-    if !conn.is_autocommit() {
-        return Ok(false);
+struct Filled;
+
+impl<S: Alter> Change<S> for Filled {
+    fn make(&self, tx: &mut Transaction<'_, S>) -> Result<(), Fault> {
+        create_schema(tx)?;
+        fill_contents(tx)?;
+        fill_identities(tx)
     }
-    let mut tx = conn.transaction();
-    create_schema(&mut tx)?;
-    fill_contents(&mut tx)?;
-    fill_identities(&mut tx)?;
-    tx.commit()?;
-    Ok(true)
 }
 
 // A medium of 3 bytes has the last number that may be.
-fn filled_to_the_last<S: Alter>(conn: &mut Connection<S>) -> Result<bool, Fault> {
-    if !conn.is_autocommit() {
-        return Ok(false);
+struct FilledToTheLast;
+
+impl<S: Alter> Change<S> for FilledToTheLast {
+    fn make(&self, tx: &mut Transaction<'_, S>) -> Result<(), Fault> {
+        create_schema(tx)?;
+        insert_medium(tx, 1_000_000, b"tif", "image/tiff")?;
+        insert_identity(tx, 2, 1_000_000, FIRST_MEDIUM)
     }
-    let mut tx = conn.transaction();
-    create_schema(&mut tx)?;
-    insert_medium(&mut tx, 1_000_000, b"tif", "image/tiff")?;
-    insert_identity(&mut tx, 2, 1_000_000, FIRST_MEDIUM)?;
-    tx.commit()?;
-    Ok(true)
 }
 
-pub(crate) fn linked<S: Alter>(
-    conn: &mut Connection<S>,
-    relation: Relation,
-) -> Result<bool, Fault> {
-    if !conn.is_autocommit() {
-        return Ok(false);
-    }
-    let mut tx = conn.transaction();
-    link(&mut tx, relation)?;
-    tx.commit()?;
-    Ok(true)
-}
+#[derive(Drop)]
+struct Deleted(Uuid);
 
-pub(crate) fn unlinked<S: Alter>(
-    conn: &mut Connection<S>,
-    relation: Relation,
-) -> Result<bool, Fault> {
-    if !conn.is_autocommit() {
-        return Ok(false);
+impl<S: Alter> Change<S> for Deleted {
+    fn make(&self, tx: &mut Transaction<'_, S>) -> Result<(), Fault> {
+        delete(tx, self.0)
     }
-    let mut tx = conn.transaction();
-    unlink(&mut tx, relation)?;
-    tx.commit()?;
-    Ok(true)
-}
-
-fn deleted<S: Alter>(conn: &mut Connection<S>, identity: Uuid) -> Result<bool, Fault> {
-    if !conn.is_autocommit() {
-        return Ok(false);
-    }
-    let mut tx = conn.transaction();
-    delete(&mut tx, identity)?;
-    tx.commit()?;
-    Ok(true)
-}
-
-fn added<S: Alter>(
-    conn: &mut Connection<S>,
-    identity: Uuid,
-    content: &Content,
-) -> Result<bool, Fault> {
-    if !conn.is_autocommit() {
-        return Ok(false);
-    }
-    let mut tx = conn.transaction();
-    add(&mut tx, identity, content)?;
-    tx.commit()?;
-    Ok(true)
 }
 
 fn a_tile(alloc: Global) -> Result<Content, Fault> {
@@ -166,7 +113,7 @@ fn a_tile(alloc: Global) -> Result<Content, Fault> {
 
 fn a_medium(alloc: Global) -> Result<Content, Fault> {
     Ok(Content::Media {
-        content_type: Text::from_string("image/png".to_string(alloc)?),
+        content_type: text(alloc, "image/png")?,
         bytes: Bytes::from_vec(b"png".to_vec(alloc)?),
     })
 }
@@ -176,70 +123,8 @@ fn a_row(alloc: Global) -> Result<Content, Fault> {
         x: 5,
         y: -6,
         code: 7,
-        label: Text::from_string("spring".to_string(alloc)?),
+        label: text(alloc, "spring")?,
     })
-}
-
-// ---- the tables as texts, on a connection that is at rest
-
-fn tiles<S: Alter>(alloc: Global, conn: &mut Connection<S>) -> Result<String, Fault> {
-    if !is_at_rest(conn) {
-        return Err(Fault::StoreFault);
-    }
-    let mut told = String::new(alloc);
-    for row in all_tiles(conn, alloc)? {
-        told.push_str(format!(in alloc; "{};", row.id)?.as_str())?;
-    }
-    Ok(told)
-}
-
-fn media<S: Alter>(alloc: Global, conn: &mut Connection<S>) -> Result<String, Fault> {
-    if !is_at_rest(conn) {
-        return Err(Fault::StoreFault);
-    }
-    let mut told = String::new(alloc);
-    for row in all_media(conn, alloc)? {
-        told.push_str(format!(in alloc; "{};", row.id)?.as_str())?;
-    }
-    Ok(told)
-}
-
-fn attributes<S: Alter>(alloc: Global, conn: &mut Connection<S>) -> Result<String, Fault> {
-    if !is_at_rest(conn) {
-        return Err(Fault::StoreFault);
-    }
-    let mut told = String::new(alloc);
-    for row in all_attributes(conn, alloc)? {
-        told.push_str(format!(in alloc; "{};", row.id)?.as_str())?;
-    }
-    Ok(told)
-}
-
-fn pairs<S: Alter>(
-    alloc: Global,
-    conn: &mut Connection<S>,
-    mapping: Mapping,
-) -> Result<String, Fault> {
-    if !is_at_rest(conn) {
-        return Err(Fault::StoreFault);
-    }
-    let mut told = String::new(alloc);
-    for row in all_pairs(conn, mapping, alloc)? {
-        told.push_str(format!(in alloc; "{} {};", row.base_id, row.related_id)?.as_str())?;
-    }
-    Ok(told)
-}
-
-// Each identity as its kind and its local number.
-fn identities<S: Alter>(alloc: Global, conn: &mut Connection<S>) -> Result<String, Fault> {
-    if !is_at_rest(conn) {
-        return Err(Fault::StoreFault);
-    }
-    let mut told = String::new(alloc);
-    for row in all_identities(conn, alloc)? {
-        told.push_str(format!(in alloc; "{} {};", row.kind, row.local_id)?.as_str())?;
-    }
-    Ok(told)
 }
 
 // The bytes of a medium; nothing where it is none.
@@ -248,9 +133,7 @@ fn medium_bytes<S: Alter>(
     conn: &mut Connection<S>,
     identity: Uuid,
 ) -> Result<Vec<u8>, Fault> {
-    if !is_at_rest(conn) {
-        return Err(Fault::StoreFault);
-    }
+    at_rest(conn)?;
     match find(conn, identity)? {
         None => Ok(Vec::new(alloc)),
         Some(item) => match item.content {
@@ -267,19 +150,22 @@ fn a_link_comes_and_goes(rt: HostRuntime) -> Result<(), Fail> {
     let a = rt.alloc();
     let mut conn = Connection::open_in_memory(a)?;
     let conn = &mut conn;
-    assert!(rt; filled(conn)?);
-    assert!(rt; linked(conn, tile_to_medium())?);
+    assert!(rt; committed(conn, &Filled)?);
+    assert!(rt; committed(conn, &Linked(tile_to_medium()))?);
     assert_eq!(rt; pairs(a, conn, Mapping::TilesMedia)?.as_str(), "7 4;");
     assert_eq!(rt; pairs(a, conn, Mapping::RowsMedia)?.as_str(), "");
-    assert!(rt; linked(conn, row_to_medium())?);
+    assert!(rt; committed(conn, &Linked(row_to_medium()))?);
     assert_eq!(rt; pairs(a, conn, Mapping::TilesMedia)?.as_str(), "7 4;");
     assert_eq!(rt; pairs(a, conn, Mapping::RowsMedia)?.as_str(), "3 7;");
-    assert!(rt; unlinked(conn, tile_to_medium())?);
+    assert!(rt; committed(conn, &Unlinked(tile_to_medium()))?);
     assert_eq!(rt; pairs(a, conn, Mapping::TilesMedia)?.as_str(), "");
     assert_eq!(rt; pairs(a, conn, Mapping::RowsMedia)?.as_str(), "3 7;");
-    assert!(rt; unlinked(conn, row_to_medium())?);
+    assert!(rt; committed(conn, &Unlinked(row_to_medium()))?);
     assert_eq!(rt; pairs(a, conn, Mapping::RowsMedia)?.as_str(), "");
-    assert_eq!(rt; identities(a, conn)?.as_str(), "1 7;1 9;2 4;2 7;3 3;");
+    assert_eq!(rt;
+        identities(a, conn)?.as_str(),
+        "1 7 00000000-0000-4000-8000-000000000001;1 9 00000000-0000-4000-8000-000000000002;2 4 00000000-0000-4000-8000-000000000003;2 7 00000000-0000-4000-8000-000000000004;3 3 00000000-0000-4000-8000-000000000005;"
+    );
     Ok(())
 }
 
@@ -288,20 +174,29 @@ fn an_item_of_each_kind_is_deleted(rt: HostRuntime) -> Result<(), Fail> {
     let a = rt.alloc();
     let mut conn = Connection::open_in_memory(a)?;
     let conn = &mut conn;
-    assert!(rt; filled(conn)?);
-    assert!(rt; linked(conn, tile_to_medium())?);
-    assert!(rt; unlinked(conn, tile_to_medium())?);
-    assert!(rt; deleted(conn, first_tile())?);
-    assert_eq!(rt; tiles(a, conn)?.as_str(), "9;");
-    assert_eq!(rt; media(a, conn)?.as_str(), "4;7;");
-    assert_eq!(rt; identities(a, conn)?.as_str(), "1 9;2 4;2 7;3 3;");
-    assert!(rt; deleted(conn, second_medium())?);
-    assert_eq!(rt; media(a, conn)?.as_str(), "4;");
-    assert_eq!(rt; identities(a, conn)?.as_str(), "1 9;2 4;3 3;");
-    assert!(rt; deleted(conn, first_row())?);
+    assert!(rt; committed(conn, &Filled)?);
+    assert!(rt; committed(conn, &Linked(tile_to_medium()))?);
+    assert!(rt; committed(conn, &Unlinked(tile_to_medium()))?);
+    assert!(rt; committed(conn, &Deleted(first_tile()))?);
+    assert_eq!(rt; tiles(a, conn)?.as_str(), "9 2 0 0 1;");
+    assert_eq!(rt; media(a, conn)?.as_str(), "4 3 image/png;7 0 image/jpeg;");
+    assert_eq!(rt;
+        identities(a, conn)?.as_str(),
+        "1 9 00000000-0000-4000-8000-000000000002;2 4 00000000-0000-4000-8000-000000000003;2 7 00000000-0000-4000-8000-000000000004;3 3 00000000-0000-4000-8000-000000000005;"
+    );
+    assert!(rt; committed(conn, &Deleted(second_medium()))?);
+    assert_eq!(rt; media(a, conn)?.as_str(), "4 3 image/png;");
+    assert_eq!(rt;
+        identities(a, conn)?.as_str(),
+        "1 9 00000000-0000-4000-8000-000000000002;2 4 00000000-0000-4000-8000-000000000003;3 3 00000000-0000-4000-8000-000000000005;"
+    );
+    assert!(rt; committed(conn, &Deleted(first_row()))?);
     assert_eq!(rt; attributes(a, conn)?.as_str(), "");
-    assert_eq!(rt; tiles(a, conn)?.as_str(), "9;");
-    assert_eq!(rt; identities(a, conn)?.as_str(), "1 9;2 4;");
+    assert_eq!(rt; tiles(a, conn)?.as_str(), "9 2 0 0 1;");
+    assert_eq!(rt;
+        identities(a, conn)?.as_str(),
+        "1 9 00000000-0000-4000-8000-000000000002;2 4 00000000-0000-4000-8000-000000000003;"
+    );
     Ok(())
 }
 
@@ -310,16 +205,22 @@ fn an_item_of_each_kind_is_added(rt: HostRuntime) -> Result<(), Fail> {
     let a = rt.alloc();
     let mut conn = Connection::open_in_memory(a)?;
     let conn = &mut conn;
-    assert!(rt; filled(conn)?);
-    assert!(rt; added(conn, Uuid::from_u128(6), &a_tile(a)?)?);
-    assert_eq!(rt; tiles(a, conn)?.as_str(), "7;9;10;");
-    assert!(rt; added(conn, Uuid::from_u128(7), &a_medium(a)?)?);
-    assert_eq!(rt; media(a, conn)?.as_str(), "4;7;8;");
-    assert!(rt; added(conn, Uuid::from_u128(8), &a_row(a)?)?);
-    assert_eq!(rt; attributes(a, conn)?.as_str(), "3;4;");
+    assert!(rt; committed(conn, &Filled)?);
+    assert!(rt; committed(conn, &Added(Uuid::from_u128(6), &a_tile(a)?))?);
+    assert_eq!(rt; tiles(a, conn)?.as_str(), "7 2 3 1 2;9 2 0 0 1;10 2 1 3 4;");
+    assert!(rt; committed(conn, &Added(Uuid::from_u128(7), &a_medium(a)?))?);
+    assert_eq!(rt;
+        media(a, conn)?.as_str(),
+        "4 3 image/png;7 0 image/jpeg;8 3 image/png;"
+    );
+    assert!(rt; committed(conn, &Added(Uuid::from_u128(8), &a_row(a)?))?);
+    assert_eq!(rt;
+        attributes(a, conn)?.as_str(),
+        "3 100 -7 31 well;4 5 -6 7 spring;"
+    );
     assert_eq!(rt;
         identities(a, conn)?.as_str(),
-        "1 7;1 9;1 10;2 4;2 7;2 8;3 3;3 4;"
+        "1 7 00000000-0000-4000-8000-000000000001;1 9 00000000-0000-4000-8000-000000000002;1 10 00000000-0000-0000-0000-000000000006;2 4 00000000-0000-4000-8000-000000000003;2 7 00000000-0000-4000-8000-000000000004;2 8 00000000-0000-0000-0000-000000000007;3 3 00000000-0000-4000-8000-000000000005;3 4 00000000-0000-0000-0000-000000000008;"
     );
     Ok(())
 }
@@ -329,14 +230,23 @@ fn numbers_are_found_below_the_last_that_may_be(rt: HostRuntime) -> Result<(), F
     let a = rt.alloc();
     let mut conn = Connection::open_in_memory(a)?;
     let conn = &mut conn;
-    assert!(rt; filled_to_the_last(conn)?);
-    assert!(rt; added(conn, Uuid::from_u128(6), &a_medium(a)?)?);
-    assert_eq!(rt; media(a, conn)?.as_str(), "1;1000000;");
+    assert!(rt; committed(conn, &FilledToTheLast)?);
+    assert!(rt; committed(conn, &Added(Uuid::from_u128(6), &a_medium(a)?))?);
+    assert_eq!(rt;
+        media(a, conn)?.as_str(),
+        "1 3 image/png;1000000 3 image/tiff;"
+    );
     assert!(rt; medium_bytes(a, conn, Uuid::from_u128(6))?.as_slice() == b"png".as_slice());
     assert!(rt; medium_bytes(a, conn, first_medium())?.as_slice() == b"tif".as_slice());
-    assert!(rt; added(conn, Uuid::from_u128(7), &a_medium(a)?)?);
-    assert_eq!(rt; media(a, conn)?.as_str(), "1;2;1000000;");
-    assert!(rt; added(conn, Uuid::from_u128(8), &a_tile(a)?)?);
-    assert_eq!(rt; identities(a, conn)?.as_str(), "1 1;2 1;2 2;2 1000000;");
+    assert!(rt; committed(conn, &Added(Uuid::from_u128(7), &a_medium(a)?))?);
+    assert_eq!(rt;
+        media(a, conn)?.as_str(),
+        "1 3 image/png;2 3 image/png;1000000 3 image/tiff;"
+    );
+    assert!(rt; committed(conn, &Added(Uuid::from_u128(8), &a_tile(a)?))?);
+    assert_eq!(rt;
+        identities(a, conn)?.as_str(),
+        "1 1 00000000-0000-0000-0000-000000000008;2 1 00000000-0000-0000-0000-000000000006;2 2 00000000-0000-0000-0000-000000000007;2 1000000 00000000-0000-4000-8000-000000000003;"
+    );
     Ok(())
 }

@@ -1,7 +1,7 @@
 // Whole packages in memory, read back. What is expected follows from what was put in: items by kind and UUID, links by
 // mapping, base and medium, however the local numbers stand.
 
-use crate::change_tests::{linked, unlinked};
+use crate::steps::{Linked, Unlinked};
 use identity_register::whole::holdings;
 use package_tables::attributes::insert_attribute;
 use package_tables::fault::Fault;
@@ -10,19 +10,17 @@ use package_tables::media::insert_medium;
 use package_tables::schema::create_schema;
 use package_tables::tiles::insert_tile;
 use sheet_types::command::{Content, Item, Mapping, Relation};
-use sql_meaning::resting::is_at_rest;
 use sqlite::{Alter, Connection, Transaction};
 use std::alloc::Global;
 use std::test::Fail;
+use test_values::{Change, at_rest, committed};
 use uuid::Uuid;
 
 fn held<S: Alter>(
     alloc: Global,
     conn: &mut Connection<S>,
 ) -> Result<(Vec<Item>, Vec<Relation>), Fault> {
-    if !is_at_rest(conn) {
-        return Err(Fault::StoreFault);
-    }
+    at_rest(conn)?;
     holdings(conn, alloc)
 }
 
@@ -74,24 +72,18 @@ fn put_row<S: Alter>(tx: &mut Transaction<'_, S>, place: u16) -> Result<(), Faul
     name(tx, 3, number, identity)
 }
 
-fn fill<S: Alter>(tx: &mut Transaction<'_, S>) -> Result<(), Fault> {
-    create_schema(tx)?;
-    for place in 0..300u16 {
-        put_tile(tx, place)?;
-        put_medium(tx, place)?;
-        put_row(tx, place)?;
-    }
-    Ok(())
-}
+struct Filled;
 
-fn filled<S: Alter>(conn: &mut Connection<S>) -> Result<bool, Fault> {
-    if !conn.is_autocommit() {
-        return Ok(false);
+impl<S: Alter> Change<S> for Filled {
+    fn make(&self, tx: &mut Transaction<'_, S>) -> Result<(), Fault> {
+        create_schema(tx)?;
+        for place in 0..300u16 {
+            put_tile(tx, place)?;
+            put_medium(tx, place)?;
+            put_row(tx, place)?;
+        }
+        Ok(())
     }
-    let mut tx = conn.transaction();
-    fill(&mut tx)?;
-    tx.commit()?;
-    Ok(true)
 }
 
 fn is_content(content: &Content, kind: u8, place: u16) -> bool {
@@ -170,44 +162,30 @@ fn second_medium() -> Uuid {
 }
 
 fn of_tile(base: Uuid, media: Uuid) -> Relation {
-    Relation {
-        mapping: Mapping::TilesMedia,
-        base,
-        media,
-    }
+    Relation::new(Mapping::TilesMedia, base, media)
 }
 
 fn of_row(base: Uuid, media: Uuid) -> Relation {
-    Relation {
-        mapping: Mapping::RowsMedia,
-        base,
-        media,
-    }
+    Relation::new(Mapping::RowsMedia, base, media)
 }
 
 // The numbers stand the other way round than the UUIDs.
-fn put_ends<S: Alter>(tx: &mut Transaction<'_, S>) -> Result<(), Fault> {
-    create_schema(tx)?;
-    insert_tile(tx, 2, 0, 0, 0, b"a")?;
-    name(tx, 1, 2, first())?;
-    insert_tile(tx, 1, 0, 1, 0, b"b")?;
-    name(tx, 1, 1, second())?;
-    insert_attribute(tx, 1, 0, 0, 0, "")?;
-    name(tx, 3, 1, third())?;
-    insert_medium(tx, 2, b"c", "image/png")?;
-    name(tx, 2, 2, first_medium())?;
-    insert_medium(tx, 1, b"d", "image/png")?;
-    name(tx, 2, 1, second_medium())
-}
+struct WithEnds;
 
-fn with_ends<S: Alter>(conn: &mut Connection<S>) -> Result<bool, Fault> {
-    if !conn.is_autocommit() {
-        return Ok(false);
+impl<S: Alter> Change<S> for WithEnds {
+    fn make(&self, tx: &mut Transaction<'_, S>) -> Result<(), Fault> {
+        create_schema(tx)?;
+        insert_tile(tx, 2, 0, 0, 0, b"a")?;
+        name(tx, 1, 2, first())?;
+        insert_tile(tx, 1, 0, 1, 0, b"b")?;
+        name(tx, 1, 1, second())?;
+        insert_attribute(tx, 1, 0, 0, 0, "")?;
+        name(tx, 3, 1, third())?;
+        insert_medium(tx, 2, b"c", "image/png")?;
+        name(tx, 2, 2, first_medium())?;
+        insert_medium(tx, 1, b"d", "image/png")?;
+        name(tx, 2, 1, second_medium())
     }
-    let mut tx = conn.transaction();
-    put_ends(&mut tx)?;
-    tx.commit()?;
-    Ok(true)
 }
 
 // ---- tests
@@ -217,7 +195,7 @@ fn many_items_are_read_back(rt: HostRuntime) -> Result<(), Fail> {
     let a = rt.alloc();
     let mut conn = Connection::open_in_memory(a)?;
     let conn = &mut conn;
-    assert!(rt; filled(conn)?);
+    assert!(rt; committed(conn, &Filled)?);
     let (found, links) = held(a, conn)?;
     assert!(rt; found.len() == 900);
     assert!(rt; are_those(&found, 0, 1));
@@ -232,20 +210,20 @@ fn links_across_are_read_back(rt: HostRuntime) -> Result<(), Fail> {
     let a = rt.alloc();
     let mut conn = Connection::open_in_memory(a)?;
     let conn = &mut conn;
-    assert!(rt; with_ends(conn)?);
+    assert!(rt; committed(conn, &WithEnds)?);
     assert!(rt; all_links(a, conn)?.is_empty());
-    assert!(rt; linked(conn, of_row(third(), first_medium()))?);
-    assert!(rt; linked(conn, of_tile(second(), first_medium()))?);
-    assert!(rt; linked(conn, of_tile(first(), second_medium()))?);
+    assert!(rt; committed(conn, &Linked(of_row(third(), first_medium())))?);
+    assert!(rt; committed(conn, &Linked(of_tile(second(), first_medium())))?);
+    assert!(rt; committed(conn, &Linked(of_tile(first(), second_medium())))?);
     let kept = [
         of_tile(second(), first_medium()),
         of_row(third(), first_medium()),
     ];
     let expected = [of_tile(first(), second_medium()), kept[0], kept[1]];
     assert!(rt; all_links(a, conn)?.as_slice() == expected.as_slice());
-    assert!(rt; unlinked(conn, of_tile(first(), second_medium()))?);
+    assert!(rt; committed(conn, &Unlinked(of_tile(first(), second_medium())))?);
     assert!(rt; all_links(a, conn)?.as_slice() == kept.as_slice());
-    assert!(rt; linked(conn, of_tile(first(), second_medium()))?);
+    assert!(rt; committed(conn, &Linked(of_tile(first(), second_medium())))?);
     assert!(rt; all_links(a, conn)?.as_slice() == expected.as_slice());
     Ok(())
 }

@@ -18,6 +18,10 @@ mod receipt_tests;
 #[cfg(test)]
 mod schema_tests;
 #[cfg(test)]
+mod steps;
+#[cfg(test)]
+mod tables;
+#[cfg(test)]
 mod user_rows_tests;
 #[cfg(test)]
 mod values;

@@ -1,17 +1,16 @@
 // A package that was just made, in memory: nothing is found in it, and what is put into it is.
 
-use identity_register::additions::add;
-use identity_register::look_ups::{find, has_tile_at, is_linked, kind_of_item};
+use crate::steps::{Added, is_named_by_a_link, is_taken, kind};
+use identity_register::look_ups::find;
 use package_tables::create::Info;
 use package_tables::fault::Fault;
 use sheet_types::collections::Bytes;
 use sheet_types::command::Content;
 use sheet_types::receipt::MovedKind;
-use sql_meaning::resting::is_at_rest;
 use sqlite::{Alter, Connection};
 use std::alloc::Global;
 use std::test::Fail;
-use test_values::{AT, FRAME, new_package};
+use test_values::{AT, FRAME, at_rest, committed, new_package};
 use uuid::Uuid;
 
 // A loan of the package 1.
@@ -26,26 +25,17 @@ fn made<S: Alter + Drop>(alloc: Global, conn: Connection<S>) -> Result<Connectio
     new_package(alloc, conn, &FRAME, &info)
 }
 
-fn added<S: Alter>(alloc: Global, conn: &mut Connection<S>) -> Result<bool, Fault> {
-    if !conn.is_autocommit() {
-        return Ok(false);
-    }
-    let content = Content::Tile {
+fn a_tile(alloc: Global) -> Result<Content, Fault> {
+    Ok(Content::Tile {
         zoom: 2,
         column: 3,
         row: 1,
         bytes: Bytes::from_vec(b"webp".to_vec(alloc)?),
-    };
-    let mut tx = conn.transaction();
-    add(&mut tx, Uuid::from_u128(9), &content)?;
-    tx.commit()?;
-    Ok(true)
+    })
 }
 
 fn is_found<S: Alter>(conn: &mut Connection<S>) -> Result<bool, Fault> {
-    if !is_at_rest(conn) {
-        return Err(Fault::StoreFault);
-    }
+    at_rest(conn)?;
     match find(conn, Uuid::from_u128(9))? {
         None => Ok(false),
         Some(item) => match item.content {
@@ -55,39 +45,19 @@ fn is_found<S: Alter>(conn: &mut Connection<S>) -> Result<bool, Fault> {
     }
 }
 
-fn kind<S: Alter>(conn: &mut Connection<S>) -> Result<Option<MovedKind>, Fault> {
-    if !is_at_rest(conn) {
-        return Err(Fault::StoreFault);
-    }
-    kind_of_item(conn, Uuid::from_u128(9))
-}
-
-fn linked<S: Alter>(conn: &mut Connection<S>) -> Result<bool, Fault> {
-    if !is_at_rest(conn) {
-        return Err(Fault::StoreFault);
-    }
-    is_linked(conn, Uuid::from_u128(9))
-}
-
-fn placed<S: Alter>(conn: &mut Connection<S>) -> Result<bool, Fault> {
-    if !is_at_rest(conn) {
-        return Err(Fault::StoreFault);
-    }
-    has_tile_at(conn, 2, 3, 1)
-}
-
 #[test]
 fn a_new_package_holds_what_is_put_into_it_alone(rt: HostRuntime) -> Result<(), Fail> {
     let alloc = rt.alloc();
     let mut conn = made(alloc, Connection::open_in_memory(alloc)?)?;
     assert!(rt; !is_found(&mut conn)?);
-    assert!(rt; kind(&mut conn)? == None);
-    assert!(rt; !linked(&mut conn)?);
-    assert!(rt; !placed(&mut conn)?);
-    assert!(rt; added(alloc, &mut conn)?);
+    assert!(rt; kind(&mut conn, 9)? == None);
+    assert!(rt; is_named_by_a_link(&mut conn, 9)? == None);
+    assert!(rt; !is_taken(&mut conn, 3, 1)?);
+    let tile = a_tile(alloc)?;
+    assert!(rt; committed(&mut conn, &Added(Uuid::from_u128(9), &tile))?);
     assert!(rt; is_found(&mut conn)?);
-    assert!(rt; kind(&mut conn)? == Some(MovedKind::TileItem));
-    assert!(rt; !linked(&mut conn)?);
-    assert!(rt; placed(&mut conn)?);
+    assert!(rt; kind(&mut conn, 9)? == Some(MovedKind::TileItem));
+    assert!(rt; is_named_by_a_link(&mut conn, 9)? == Some(false));
+    assert!(rt; is_taken(&mut conn, 3, 1)?);
     Ok(())
 }

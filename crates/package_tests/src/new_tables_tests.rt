@@ -1,24 +1,21 @@
 // A new package, in memory and on a disk, and what comes into it. The expected rows are those of the GeoPackage standard and of the profile.
 
-use crate::values::{archive, close, open};
+use crate::tables::{contents, found, heads, listed, moved, receipt};
+use crate::values::{HEAD, archive, close, open};
 use package_tables::create::Info;
 use package_tables::fault::Fault;
 use package_tables::fixed::{
-    all_contents, all_relations, all_spatial_ref_sys, all_tile_matrices, all_tile_matrix_sets,
-    set_last_change,
+    all_relations, all_spatial_ref_sys, all_tile_matrices, all_tile_matrix_sets, set_last_change,
 };
-use package_tables::head::all_heads;
-use package_tables::moved::{all_moved, insert_moved, moved_of, moved_of_kind};
-use package_tables::package::{Package, begin};
-use package_tables::receipts::{all_receipts, insert_receipt, receipt_by_request};
-use package_tables::rows::{MovedRow, ReceiptRow};
+use package_tables::moved::{all_moved, insert_moved, moved_of_kind};
+use package_tables::package::Package;
+use package_tables::receipts::{all_receipts, insert_receipt};
 use sheet_types::frame::Frame;
-use sql_meaning::resting::is_at_rest;
 use sqlite::{Alter, Connection, Error, Transaction};
 use sqlite_disk::Memory;
-use std::alloc::{AllocError, Global};
+use std::alloc::Global;
 use std::test::Fail;
-use test_values::{AT, FRAME, new_tables};
+use test_values::{AT, Change, FRAME, at_rest, committed, new_tables};
 use uuid::Uuid;
 
 const LATER: &str = "2026-11-23T09:00:00.000Z";
@@ -31,8 +28,6 @@ const MATRICES: &str =
 
 const RELATIONS: &str =
     "1 sheet_tiles id sheet_media id media tiles_media|2 sheet_rows id sheet_media id media rows_media|";
-
-const HEAD: &str = "1 1 00000000-0000-0000-0000-000000000001  0 0 2026-11-22T09:00:00.000Z|";
 
 fn made<S: Alter + Drop>(alloc: Global, conn: Connection<S>) -> Result<Package<S>, Fault> {
     new_tables(alloc, conn, &FRAME, &archive())
@@ -70,257 +65,70 @@ fn object_count<S: Alter>(conn: &mut Connection<S>) -> Result<usize, Error> {
 }
 
 fn systems<S: Alter>(alloc: Global, conn: &mut Connection<S>) -> Result<String, Fault> {
-    if !is_at_rest(conn) {
-        return Err(Fault::StoreFault);
-    }
-    let mut told = String::new(alloc);
-    for row in &all_spatial_ref_sys(conn, alloc)? {
-        let line = format!(in alloc;
-            "{} {} {} {} {} {}|",
-            row.srs_id,
-            row.srs_name.as_str(),
-            row.organization.as_str(),
-            row.organization_coordsys_id,
-            row.definition.as_str(),
-            row.description.as_str()
-        )?;
-        told.push_str(line.as_str())?;
-    }
-    Ok(told)
-}
-
-fn contents<S: Alter>(alloc: Global, conn: &mut Connection<S>) -> Result<String, Fault> {
-    if !is_at_rest(conn) {
-        return Err(Fault::StoreFault);
-    }
-    let mut told = String::new(alloc);
-    for row in &all_contents(conn, alloc)? {
-        let names = format!(in alloc;
-            "{} {} {} {} {}",
-            row.table_name.as_str(),
-            row.data_type.as_str(),
-            row.identifier.as_str(),
-            row.description.as_str(),
-            row.last_change.as_str()
-        )?;
-        let line = format!(in alloc;
-            "{} {} {} {} {} {}|",
-            names.as_str(),
-            row.min_x,
-            row.min_y,
-            row.max_x,
-            row.max_y,
-            row.srs_id
-        )?;
-        told.push_str(line.as_str())?;
-    }
-    Ok(told)
+    at_rest(conn)?;
+    listed(alloc, &all_spatial_ref_sys(conn, alloc)?, '|')
 }
 
 fn matrix_sets<S: Alter>(alloc: Global, conn: &mut Connection<S>) -> Result<String, Fault> {
-    if !is_at_rest(conn) {
-        return Err(Fault::StoreFault);
-    }
-    let mut told = String::new(alloc);
-    for row in &all_tile_matrix_sets(conn, alloc)? {
-        let line = format!(in alloc;
-            "{} {} {} {} {} {}|",
-            row.table_name.as_str(),
-            row.srs_id,
-            row.min_x,
-            row.min_y,
-            row.max_x,
-            row.max_y
-        )?;
-        told.push_str(line.as_str())?;
-    }
-    Ok(told)
+    at_rest(conn)?;
+    listed(alloc, &all_tile_matrix_sets(conn, alloc)?, '|')
 }
 
 fn matrices<S: Alter>(alloc: Global, conn: &mut Connection<S>) -> Result<String, Fault> {
-    if !is_at_rest(conn) {
-        return Err(Fault::StoreFault);
-    }
-    let mut told = String::new(alloc);
-    for row in &all_tile_matrices(conn, alloc)? {
-        let line = format!(in alloc;
-            "{} {} {} {} {} {} {} {}|",
-            row.table_name.as_str(),
-            row.zoom_level,
-            row.matrix_width,
-            row.matrix_height,
-            row.tile_width,
-            row.tile_height,
-            row.pixel_x_size,
-            row.pixel_y_size
-        )?;
-        told.push_str(line.as_str())?;
-    }
-    Ok(told)
+    at_rest(conn)?;
+    listed(alloc, &all_tile_matrices(conn, alloc)?, '|')
 }
 
 fn relations<S: Alter>(alloc: Global, conn: &mut Connection<S>) -> Result<String, Fault> {
-    if !is_at_rest(conn) {
-        return Err(Fault::StoreFault);
-    }
-    let mut told = String::new(alloc);
-    for row in &all_relations(conn, alloc)? {
-        let base = format!(in alloc;
-            "{} {} {}",
-            row.id,
-            row.base_table_name.as_str(),
-            row.base_primary_column.as_str()
-        )?;
-        let line = format!(in alloc;
-            "{} {} {} {} {}|",
-            base.as_str(),
-            row.related_table_name.as_str(),
-            row.related_primary_column.as_str(),
-            row.relation_name.as_str(),
-            row.mapping_table_name.as_str()
-        )?;
-        told.push_str(line.as_str())?;
-    }
-    Ok(told)
+    at_rest(conn)?;
+    listed(alloc, &all_relations(conn, alloc)?, '|')
 }
 
-fn heads<S: Alter>(alloc: Global, conn: &mut Connection<S>) -> Result<String, Fault> {
-    if !is_at_rest(conn) {
-        return Err(Fault::StoreFault);
-    }
-    let mut told = String::new(alloc);
-    for row in &all_heads(conn, alloc)? {
-        let line = format!(in alloc;
-            "{} {} {} {} {} {} {}|",
-            row.id,
-            row.version,
-            row.package.as_str(),
-            row.parent.as_str(),
-            row.depth,
-            row.loan,
-            row.created.as_str()
-        )?;
-        told.push_str(line.as_str())?;
-    }
-    Ok(told)
-}
+// Three receipts, and what two of them moved.
+struct Entered;
 
-fn receipt(alloc: Global, row: Option<ReceiptRow>) -> Result<String, AllocError> {
-    match row {
-        None => format!(in alloc; "-"),
-        Some(r) => format!(in alloc;
-            "{} {} {} {} {}",
-            r.seq,
-            r.request.as_str(),
-            r.line.as_str(),
-            r.target.as_str(),
-            r.n_bytes
-        ),
+impl<S: Alter> Change<S> for Entered {
+    fn make(&self, tx: &mut Transaction<'_, S>) -> Result<(), Fault> {
+        insert_receipt(tx, 1, "q1", AT, "first", "", "A", 1, 0, 0, 0, 5)?;
+        insert_receipt(tx, 2, "q2", LATER, "second", "A", "", 0, 1, 0, 0, 7)?;
+        insert_receipt(tx, 3, "q3", LATER, "third", "A", "B", 0, 1, 0, 0, 7)?;
+        insert_moved(tx, 1, 0, 1, "i1", "", 5, "f1")?;
+        insert_moved(tx, 2, 1, 2, "i3", "", 4, "f3")?;
+        insert_moved(tx, 2, 0, 2, "i2", "", 3, "f2")?;
+        set_last_change(tx, LATER, "sheet_media")
     }
-}
-
-fn moved(alloc: Global, row: Option<MovedRow>) -> Result<String, AllocError> {
-    match row {
-        None => format!(in alloc; "-"),
-        Some(m) => format!(in alloc;
-            "{} {} {} {} {} {} {}",
-            m.seq,
-            m.position,
-            m.kind,
-            m.base.as_str(),
-            m.other.as_str(),
-            m.size,
-            m.fingerprint.as_str()
-        ),
-    }
-}
-
-fn enter<S: Alter>(tx: &mut Transaction<'_, S>) -> Result<(), Fault> {
-    insert_receipt(tx, 1, "q1", AT, "first", "", "A", 1, 0, 0, 0, 5)?;
-    insert_receipt(tx, 2, "q2", LATER, "second", "A", "", 0, 1, 0, 0, 7)?;
-    insert_receipt(tx, 3, "q3", LATER, "third", "A", "B", 0, 1, 0, 0, 7)?;
-    insert_moved(tx, 1, 0, 1, "i1", "", 5, "f1")?;
-    insert_moved(tx, 2, 1, 2, "i3", "", 4, "f3")?;
-    insert_moved(tx, 2, 0, 2, "i2", "", 3, "f2")?;
-    set_last_change(tx, LATER, "sheet_media")
 }
 
 // Receipts and things with the least and the greatest numbers, and with texts that are empty.
-fn enter_ends<S: Alter>(tx: &mut Transaction<'_, S>) -> Result<(), Fault> {
-    let most = i64::MAX;
-    insert_receipt(tx, 0, "q0", AT, "", "", "", 0, 0, 0, 0, 0)?;
-    insert_receipt(tx, most, "q1", AT, "", "A", "", 0, 0, 0, 0, most)?;
-    insert_moved(tx, 0, 0, 1, "i1", "", 0, "")?;
-    insert_moved(tx, 0, most, 5, "i2", "i1", most, "")
+struct EnteredToTheEnds;
+
+impl<S: Alter> Change<S> for EnteredToTheEnds {
+    fn make(&self, tx: &mut Transaction<'_, S>) -> Result<(), Fault> {
+        let most = i64::MAX;
+        insert_receipt(tx, 0, "q0", AT, "", "", "", 0, 0, 0, 0, 0)?;
+        insert_receipt(tx, most, "q1", AT, "", "A", "", 0, 0, 0, 0, most)?;
+        insert_moved(tx, 0, 0, 1, "i1", "", 0, "")?;
+        insert_moved(tx, 0, most, 5, "i2", "i1", most, "")
+    }
 }
 
-fn entered_ends<S: Alter>(conn: &mut Connection<S>) -> Result<bool, Fault> {
-    if !conn.is_autocommit() {
-        return Ok(false);
-    }
-    let mut tx = begin(conn);
-    enter_ends(&mut tx)?;
-    tx.commit()?;
-    Ok(true)
-}
+// A fourth receipt.
+struct EnteredOnceMore;
 
-fn entered<S: Alter>(conn: &mut Connection<S>) -> Result<bool, Fault> {
-    if !conn.is_autocommit() {
-        return Ok(false);
+impl<S: Alter> Change<S> for EnteredOnceMore {
+    fn make(&self, tx: &mut Transaction<'_, S>) -> Result<(), Fault> {
+        insert_receipt(tx, 4, "q4", LATER, "fourth", "B", "A", 1, 2, 3, 4, 5)
     }
-    let mut tx = begin(conn);
-    enter(&mut tx)?;
-    tx.commit()?;
-    Ok(true)
-}
-
-// A fourth receipt, in a transaction of its own.
-fn entered_once_more<S: Alter>(conn: &mut Connection<S>) -> Result<(), Fault> {
-    if !conn.is_autocommit() {
-        return Err(Fault::StoreFault);
-    }
-    let mut tx = begin(conn);
-    insert_receipt(&mut tx, 4, "q4", LATER, "fourth", "B", "A", 1, 2, 3, 4, 5)?;
-    tx.commit()?;
-    Ok(())
-}
-
-fn by_request<S: Alter>(
-    alloc: Global,
-    conn: &mut Connection<S>,
-    request: &str,
-) -> Result<String, Fault> {
-    if !is_at_rest(conn) {
-        return Err(Fault::StoreFault);
-    }
-    let row = receipt_by_request(conn, request)?;
-    Ok(receipt(alloc, row)?)
 }
 
 fn receipt_count<S: Alter>(alloc: Global, conn: &mut Connection<S>) -> Result<usize, Fault> {
-    if !is_at_rest(conn) {
-        return Err(Fault::StoreFault);
-    }
+    at_rest(conn)?;
     Ok(all_receipts(conn, alloc)?.len())
 }
 
 fn moved_count<S: Alter>(alloc: Global, conn: &mut Connection<S>) -> Result<usize, Fault> {
-    if !is_at_rest(conn) {
-        return Err(Fault::StoreFault);
-    }
+    at_rest(conn)?;
     Ok(all_moved(conn, alloc)?.len())
-}
-
-fn of_seq<S: Alter>(alloc: Global, conn: &mut Connection<S>, seq: i64) -> Result<String, Fault> {
-    if !is_at_rest(conn) {
-        return Err(Fault::StoreFault);
-    }
-    let mut told = String::new(alloc);
-    for row in moved_of(conn, alloc, seq)? {
-        told.push_str(moved(alloc, Some(row))?.as_str())?;
-        told.push(';')?;
-    }
-    Ok(told)
 }
 
 fn of_kind<S: Alter>(
@@ -329,11 +137,8 @@ fn of_kind<S: Alter>(
     base: &str,
     kind: i64,
 ) -> Result<String, Fault> {
-    if !is_at_rest(conn) {
-        return Err(Fault::StoreFault);
-    }
-    let row = moved_of_kind(conn, base, kind)?;
-    Ok(moved(alloc, row)?)
+    at_rest(conn)?;
+    found(alloc, &moved_of_kind(conn, base, kind)?)
 }
 
 #[test]
@@ -389,16 +194,19 @@ fn the_least_and_the_greatest_are_entered(rt: HostRuntime) -> Result<(), Fail> {
     let mut conn = made(alloc, Connection::open_in_memory(alloc)?)?.into_connection();
     assert_eq!(rt; receipt_count(alloc, &mut conn)?, 0);
     assert_eq!(rt; moved_count(alloc, &mut conn)?, 0);
-    assert_eq!(rt; of_seq(alloc, &mut conn, 0)?.as_str(), "");
-    assert!(rt; entered_ends(&mut conn)?);
-    assert_eq!(rt; by_request(alloc, &mut conn, "q0")?.as_str(), "0 q0   0");
+    assert_eq!(rt; moved(alloc, &mut conn, 0)?.as_str(), "");
+    assert!(rt; committed(&mut conn, &EnteredToTheEnds)?);
     assert_eq!(rt;
-        by_request(alloc, &mut conn, "q1")?.as_str(),
-        "9223372036854775807 q1   9223372036854775807"
+        receipt(alloc, &mut conn, "q0")?.as_str(),
+        "0 q0 2026-11-22T09:00:00.000Z    0 0 0 0 0"
     );
-    assert_eq!(rt; by_request(alloc, &mut conn, "Q1")?.as_str(), "-");
     assert_eq!(rt;
-        of_seq(alloc, &mut conn, 0)?.as_str(),
+        receipt(alloc, &mut conn, "q1")?.as_str(),
+        "9223372036854775807 q1 2026-11-22T09:00:00.000Z  A  0 0 0 0 9223372036854775807"
+    );
+    assert_eq!(rt; receipt(alloc, &mut conn, "Q1")?.as_str(), "-");
+    assert_eq!(rt;
+        moved(alloc, &mut conn, 0)?.as_str(),
         "0 0 1 i1  0 ;0 9223372036854775807 5 i2 i1 9223372036854775807 ;"
     );
     assert_eq!(rt;
@@ -416,20 +224,20 @@ fn the_least_and_the_greatest_are_entered(rt: HostRuntime) -> Result<(), Fail> {
 fn receipts_and_what_they_moved_are_found(rt: HostRuntime) -> Result<(), Fail> {
     let alloc = rt.alloc();
     let mut conn = made(alloc, Connection::open_in_memory(alloc)?)?.into_connection();
-    assert!(rt; entered(&mut conn)?);
+    assert!(rt; committed(&mut conn, &Entered)?);
     assert_eq!(rt;
-        by_request(alloc, &mut conn, "q2")?.as_str(),
-        "2 q2 second  7"
+        receipt(alloc, &mut conn, "q2")?.as_str(),
+        "2 q2 2026-11-23T09:00:00.000Z second A  0 1 0 0 7"
     );
-    assert_eq!(rt; by_request(alloc, &mut conn, "q4")?.as_str(), "-");
+    assert_eq!(rt; receipt(alloc, &mut conn, "q4")?.as_str(), "-");
     assert_eq!(rt;
-        by_request(alloc, &mut conn, "q1")?.as_str(),
-        "1 q1 first A 5"
+        receipt(alloc, &mut conn, "q1")?.as_str(),
+        "1 q1 2026-11-22T09:00:00.000Z first  A 1 0 0 0 5"
     );
     assert_eq!(rt; receipt_count(alloc, &mut conn)?, 3);
     assert_eq!(rt; moved_count(alloc, &mut conn)?, 3);
     assert_eq!(rt;
-        of_seq(alloc, &mut conn, 2)?.as_str(),
+        moved(alloc, &mut conn, 2)?.as_str(),
         "2 0 2 i2  3 f2;2 1 2 i3  4 f3;"
     );
     assert_eq!(rt;
@@ -460,17 +268,17 @@ fn receipts_and_what_they_moved_are_found(rt: HostRuntime) -> Result<(), Fail> {
 fn a_receipt_comes_whole_or_not_at_all(rt: HostRuntime) -> Result<(), Fail> {
     let alloc = rt.alloc();
     let mut conn = made(alloc, Connection::open_in_memory(alloc)?)?.into_connection();
-    assert!(rt; entered(&mut conn)?);
-    if let Err(fault) = entered_once_more(&mut conn) {
+    assert!(rt; committed(&mut conn, &Entered)?);
+    if let Err(fault) = committed(&mut conn, &EnteredOnceMore) {
         assert!(rt; fault == Fault::OutOfMemory);
         assert_eq!(rt; receipt_count(alloc, &mut conn)?, 3);
-        assert_eq!(rt; by_request(alloc, &mut conn, "q4")?.as_str(), "-");
-        entered_once_more(&mut conn)?;
+        assert_eq!(rt; receipt(alloc, &mut conn, "q4")?.as_str(), "-");
+        assert!(rt; committed(&mut conn, &EnteredOnceMore)?);
     }
     assert_eq!(rt; receipt_count(alloc, &mut conn)?, 4);
     assert_eq!(rt;
-        by_request(alloc, &mut conn, "q4")?.as_str(),
-        "4 q4 fourth A 5"
+        receipt(alloc, &mut conn, "q4")?.as_str(),
+        "4 q4 2026-11-23T09:00:00.000Z fourth B A 1 2 3 4 5"
     );
     Ok(())
 }

@@ -1,19 +1,16 @@
 // A receipt that comes into a new package in memory. The expected rows follow from the columns of the profile.
 
+use crate::tables::{moved, receipt};
 use crate::values::archive;
 use custody::keeping::kept;
 use custody::{enter, names};
 use package_tables::fault::Fault;
-use package_tables::moved::moved_of;
-use package_tables::package::begin;
-use package_tables::receipts::receipt_by_request;
 use sheet_types::collections::MovedList;
 use sheet_types::receipt::{Moved, MovedKind, Receipt};
-use sql_meaning::resting::is_at_rest;
-use sqlite::{Alter, Connection};
+use sqlite::{Alter, Connection, Transaction};
 use std::alloc::Global;
 use std::test::Fail;
-use test_values::{AT, FRAME, new_package, text};
+use test_values::{AT, Change, FRAME, at_rest, committed, new_package, text};
 use uuid::Uuid;
 
 // The loan of a medium, with its link to a tile.
@@ -75,60 +72,18 @@ fn give_back(alloc: Global) -> Result<Receipt, Fault> {
     })
 }
 
-fn entered<S: Alter>(conn: &mut Connection<S>, receipt: &Receipt) -> Result<bool, Fault> {
-    if !conn.is_autocommit() {
-        return Ok(false);
+#[derive(Drop)]
+struct Entered<'a>(&'a Receipt);
+
+impl<'a, S: Alter> Change<S> for Entered<'a> {
+    fn make(&self, tx: &mut Transaction<'_, S>) -> Result<(), Fault> {
+        enter(tx, self.0)
     }
-    let mut tx = begin(conn);
-    enter(&mut tx, receipt)?;
-    tx.commit()?;
-    Ok(true)
 }
 
 fn is_named<S: Alter>(conn: &mut Connection<S>, identity: u128) -> Result<bool, Fault> {
-    if !is_at_rest(conn) {
-        return Err(Fault::StoreFault);
-    }
+    at_rest(conn)?;
     names(conn, Uuid::from_u128(identity))
-}
-
-fn receipt_row<S: Alter>(alloc: Global, conn: &mut Connection<S>) -> Result<String, Fault> {
-    if !is_at_rest(conn) {
-        return Err(Fault::StoreFault);
-    }
-    let Some(r) = receipt_by_request(conn, "00000000-0000-0000-0000-000000000009")? else {
-        return Err(Fault::StoreFault);
-    };
-    let told = format!(in alloc;
-        "{} {} {} {} {} {}",
-        r.seq,
-        r.line.as_str(),
-        r.source.as_str(),
-        r.target.as_str(),
-        r.n_media,
-        r.n_bytes
-    )?;
-    Ok(told)
-}
-
-fn moved_rows<S: Alter>(alloc: Global, conn: &mut Connection<S>) -> Result<String, Fault> {
-    if !is_at_rest(conn) {
-        return Err(Fault::StoreFault);
-    }
-    let mut told = String::new(alloc);
-    for m in &moved_of(conn, alloc, 7)? {
-        let line = format!(in alloc;
-            "{} {} {} {} {} {}|",
-            m.position,
-            m.kind,
-            m.base.as_str(),
-            m.other.as_str(),
-            m.size,
-            m.fingerprint.as_str()
-        )?;
-        told.push_str(line.as_str())?;
-    }
-    Ok(told)
 }
 
 #[test]
@@ -141,15 +96,14 @@ fn a_receipt_is_entered_and_names_its_items(rt: HostRuntime) -> Result<(), Fail>
         &archive(),
     )?;
     assert!(rt; !is_named(&mut conn, 2)?);
-    let receipt = loan(alloc)?;
-    assert!(rt; entered(&mut conn, &receipt)?);
+    assert!(rt; committed(&mut conn, &Entered(&loan(alloc)?))?);
     assert_eq!(rt;
-        receipt_row(alloc, &mut conn)?.as_str(),
-        "7 the line 00000000-0000-0000-0000-000000000001  1 5"
+        receipt(alloc, &mut conn, "00000000-0000-0000-0000-000000000009")?.as_str(),
+        "7 00000000-0000-0000-0000-000000000009 2026-11-22T09:00:00.000Z the line 00000000-0000-0000-0000-000000000001  0 1 0 1 5"
     );
     assert_eq!(rt;
-        moved_rows(alloc, &mut conn)?.as_str(),
-        "0 2 00000000-0000-0000-0000-000000000002  5 abababababababababababababababababababababababababababababababab|1 4 00000000-0000-0000-0000-000000000003 00000000-0000-0000-0000-000000000002 0 |"
+        moved(alloc, &mut conn, 7)?.as_str(),
+        "7 0 2 00000000-0000-0000-0000-000000000002  5 abababababababababababababababababababababababababababababababab;7 1 4 00000000-0000-0000-0000-000000000003 00000000-0000-0000-0000-000000000002 0 ;"
     );
     assert!(rt; is_named(&mut conn, 2)?);
     assert!(rt; !is_named(&mut conn, 3)?);
@@ -170,9 +124,7 @@ fn is_kept<S: Alter>(
     conn: &mut Connection<S>,
     receipt: &Receipt,
 ) -> Result<bool, Fault> {
-    if !is_at_rest(conn) {
-        return Err(Fault::StoreFault);
-    }
+    at_rest(conn)?;
     match kept(conn, alloc, receipt.request)? {
         None => Ok(false),
         Some(found) => Ok(is_same(&found, receipt)),
@@ -184,9 +136,7 @@ fn has_kept<S: Alter>(
     conn: &mut Connection<S>,
     request: u128,
 ) -> Result<bool, Fault> {
-    if !is_at_rest(conn) {
-        return Err(Fault::StoreFault);
-    }
+    at_rest(conn)?;
     let found = kept(conn, alloc, Uuid::from_u128(request))?;
     Ok(found.is_some())
 }
@@ -203,8 +153,8 @@ fn a_receipt_is_kept_for_its_request(rt: HostRuntime) -> Result<(), Fail> {
     let lent = loan(alloc)?;
     let back = give_back(alloc)?;
     assert!(rt; !has_kept(alloc, &mut conn, 9)?);
-    assert!(rt; entered(&mut conn, &lent)?);
-    assert!(rt; entered(&mut conn, &back)?);
+    assert!(rt; committed(&mut conn, &Entered(&lent))?);
+    assert!(rt; committed(&mut conn, &Entered(&back))?);
     assert!(rt; is_kept(alloc, &mut conn, &lent)?);
     assert!(rt; is_kept(alloc, &mut conn, &back)?);
     assert!(rt; !has_kept(alloc, &mut conn, 11)?);

@@ -1,11 +1,12 @@
 // The objects of a new package, as the store lists them.
 
+use crate::steps::Tables;
 use crate::values::{close, open};
-use package_tables::schema::create_schema;
 use sqlite::{Alter, Connection, Error};
 use sqlite_disk::Memory;
 use std::alloc::Global;
 use std::test::Fail;
+use test_values::committed;
 
 // As stock SQLite 3.40.1 lists them after the same statements.
 const OBJECTS: &str = "index by_rows_media rows_media
@@ -43,17 +44,7 @@ table sqlite_sequence sqlite_sequence
 table tiles_media tiles_media
 ";
 
-// The helpers have no clause, so that the proof of a test does not carry the state of each call.
-fn made<S: Alter>(conn: &mut Connection<S>) -> Result<bool, Error> {
-    if !conn.is_autocommit() {
-        return Ok(false);
-    }
-    let mut tx = conn.transaction();
-    create_schema(&mut tx)?;
-    tx.commit()?;
-    Ok(true)
-}
-
+// The helper has no clause, so that the proof of a test does not carry the state of each call.
 fn objects<S: Alter>(alloc: Global, conn: &mut Connection<S>) -> Result<String, Error> {
     let rows = conn.query_all(
         "SELECT type || ' ' || name || ' ' || tbl_name FROM sqlite_schema ORDER BY name",
@@ -71,7 +62,7 @@ fn objects<S: Alter>(alloc: Global, conn: &mut Connection<S>) -> Result<String, 
 #[test]
 fn a_schema_in_memory(rt: HostRuntime) -> Result<(), Fail> {
     let mut conn = Connection::open_in_memory(rt.alloc())?;
-    assert!(rt; made(&mut conn)?);
+    assert!(rt; committed(&mut conn, &Tables)?);
     assert_eq!(rt; objects(rt.alloc(), &mut conn)?.as_str(), OBJECTS);
     Ok(())
 }
@@ -80,7 +71,7 @@ fn a_schema_in_memory(rt: HostRuntime) -> Result<(), Fail> {
 fn a_schema_on_a_disk_is_there_when_it_is_opened_again(rt: HostRuntime) -> Result<(), Fail> {
     let alloc = rt.alloc();
     let mut conn = open(alloc, Memory::new(alloc))?;
-    assert!(rt; made(&mut conn)?);
+    assert!(rt; committed(&mut conn, &Tables)?);
     let mut again = open(alloc, close(conn)?)?;
     assert_eq!(rt; objects(alloc, &mut again)?.as_str(), OBJECTS);
     Ok(())

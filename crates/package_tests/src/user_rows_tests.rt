@@ -1,30 +1,27 @@
 // What the statements on the user tables, the mapping tables and the identities do to a package in memory. The expected
 // rows are what stock SQLite 3.40.1 answers after the same statements.
 
+use crate::steps::Tables;
+use crate::tables::{attributes, found, identities, media, pairs, tiles};
 use package_tables::attributes::{
-    all_attributes, attribute_by_id, delete_attribute, greatest_attribute_id, insert_attribute,
+    attribute_by_id, delete_attribute, greatest_attribute_id, insert_attribute,
 };
 use package_tables::fault::Fault;
 use package_tables::identities::{
-    all_identities, delete_identity, identity_by_key_inside, identity_by_uuid,
-    identity_by_uuid_inside, insert_identity,
+    delete_identity, identity_by_key_inside, identity_by_uuid, identity_by_uuid_inside,
+    insert_identity,
 };
 use package_tables::mappings::{
-    all_pairs, delete_pair, insert_pair, pair_of_base, pair_of_ends, pair_of_related,
+    delete_pair, insert_pair, pair_of_base, pair_of_ends, pair_of_related,
 };
-use package_tables::media::{
-    all_media, delete_medium, greatest_medium_id, insert_medium, medium_by_id,
-};
-use package_tables::rows::{AttributeRow, IdentityRow, MappingRow, MediaRow, TileRow};
+use package_tables::media::{delete_medium, greatest_medium_id, insert_medium, medium_by_id};
 use package_tables::schema::create_schema;
-use package_tables::tiles::{
-    all_tiles, delete_tile, greatest_tile_id, insert_tile, tile_at, tile_by_id,
-};
+use package_tables::tiles::{delete_tile, greatest_tile_id, insert_tile, tile_at, tile_by_id};
 use sheet_types::command::Mapping;
-use sql_meaning::resting::is_at_rest;
 use sqlite::{Alter, Connection, Transaction};
-use std::alloc::{AllocError, Global};
+use std::alloc::Global;
 use std::test::Fail;
+use test_values::{Change, at_rest, committed};
 
 const OF_TILES: Mapping = Mapping::TilesMedia;
 
@@ -37,55 +34,6 @@ const SECOND: &str = "00000000-0000-4000-8000-000000000002";
 // Of 300 characters, the last thirty of two bytes.
 const LONG: &str =
     "A well at the old mill, dry since the spring; see the sheet to the west. A well at the old mill, dry since the spring; see the sheet to the west. A well at the old mill, dry since the spring; see the sheet to the west. A well at the old mill, dry since the spring; see téééééééééééééééééééééééééééééé";
-
-// ---- rows as texts; none is "-"
-
-fn tile(alloc: Global, row: Option<TileRow>) -> Result<String, AllocError> {
-    match row {
-        None => format!(in alloc; "-"),
-        Some(t) => format!(in alloc;
-            "{} {} {} {} {}",
-            t.id,
-            t.zoom_level,
-            t.tile_column,
-            t.tile_row,
-            t.tile_data.as_slice().len()
-        ),
-    }
-}
-
-fn medium(alloc: Global, row: Option<MediaRow>) -> Result<String, AllocError> {
-    match row {
-        None => format!(in alloc; "-"),
-        Some(m) => format!(in alloc;
-            "{} {} {}",
-            m.id,
-            m.data.as_slice().len(),
-            m.content_type.as_str()
-        ),
-    }
-}
-
-fn attribute(alloc: Global, row: Option<AttributeRow>) -> Result<String, AllocError> {
-    match row {
-        None => format!(in alloc; "-"),
-        Some(a) => format!(in alloc; "{} {} {} {} {}", a.id, a.x, a.y, a.code, a.label.as_str()),
-    }
-}
-
-fn pair(alloc: Global, row: Option<MappingRow>) -> Result<String, AllocError> {
-    match row {
-        None => format!(in alloc; "-"),
-        Some(m) => format!(in alloc; "{} {}", m.base_id, m.related_id),
-    }
-}
-
-fn identity(alloc: Global, row: Option<IdentityRow>) -> Result<String, AllocError> {
-    match row {
-        None => format!(in alloc; "-"),
-        Some(i) => format!(in alloc; "{} {} {}", i.kind, i.local_id, i.uuid.as_str()),
-    }
-}
 
 // ---- steps; they have no clause, so that the proof of a test does not carry the state of each call
 
@@ -157,45 +105,39 @@ fn unlink<S: Alter>(tx: &mut Transaction<'_, S>) -> Result<(), Fault> {
 }
 
 // A package with two rows in each table.
-fn filled<S: Alter>(conn: &mut Connection<S>) -> Result<bool, Fault> {
-    if !conn.is_autocommit() {
-        return Ok(false);
+struct Filled;
+
+impl<S: Alter> Change<S> for Filled {
+    fn make(&self, tx: &mut Transaction<'_, S>) -> Result<(), Fault> {
+        create_schema(tx)?;
+        fill_tiles(tx)?;
+        fill_media(tx)?;
+        fill_attributes(tx)?;
+        fill_mappings(tx)?;
+        fill_identities(tx)
     }
-    let mut tx = conn.transaction();
-    create_schema(&mut tx)?;
-    fill_tiles(&mut tx)?;
-    fill_media(&mut tx)?;
-    fill_attributes(&mut tx)?;
-    fill_mappings(&mut tx)?;
-    fill_identities(&mut tx)?;
-    tx.commit()?;
-    Ok(true)
 }
 
 // The same with the least and the greatest values.
-fn filled_to_the_ends<S: Alter>(conn: &mut Connection<S>) -> Result<bool, Fault> {
-    if !conn.is_autocommit() {
-        return Ok(false);
+struct FilledToTheEnds;
+
+impl<S: Alter> Change<S> for FilledToTheEnds {
+    fn make(&self, tx: &mut Transaction<'_, S>) -> Result<(), Fault> {
+        create_schema(tx)?;
+        fill_ends(tx)?;
+        link_ends(tx)?;
+        empty_ends(tx)
     }
-    let mut tx = conn.transaction();
-    create_schema(&mut tx)?;
-    fill_ends(&mut tx)?;
-    link_ends(&mut tx)?;
-    empty_ends(&mut tx)?;
-    tx.commit()?;
-    Ok(true)
 }
 
 // One row of each table goes.
-fn emptied<S: Alter>(conn: &mut Connection<S>) -> Result<bool, Fault> {
-    if !conn.is_autocommit() {
-        return Ok(false);
+struct Emptied;
+
+impl<S: Alter> Change<S> for Emptied {
+    fn make(&self, tx: &mut Transaction<'_, S>) -> Result<(), Fault> {
+        empty(tx)?;
+        unlink(tx)
     }
-    let mut tx = conn.transaction();
-    empty(&mut tx)?;
-    unlink(&mut tx)?;
-    tx.commit()?;
-    Ok(true)
 }
 
 // ---- look-ups, on a connection that is at rest
@@ -205,10 +147,8 @@ fn told_tile_by_id<S: Alter>(
     conn: &mut Connection<S>,
     id: i64,
 ) -> Result<String, Fault> {
-    if !is_at_rest(conn) {
-        return Err(Fault::StoreFault);
-    }
-    Ok(tile(alloc, tile_by_id(conn, id)?)?)
+    at_rest(conn)?;
+    found(alloc, &tile_by_id(conn, id)?)
 }
 
 fn told_tile_at<S: Alter>(
@@ -218,22 +158,8 @@ fn told_tile_at<S: Alter>(
     tile_column: i64,
     tile_row: i64,
 ) -> Result<String, Fault> {
-    if !is_at_rest(conn) {
-        return Err(Fault::StoreFault);
-    }
-    Ok(tile(alloc, tile_at(conn, zoom_level, tile_column, tile_row)?)?)
-}
-
-fn told_all_tiles<S: Alter>(alloc: Global, conn: &mut Connection<S>) -> Result<String, Fault> {
-    if !is_at_rest(conn) {
-        return Err(Fault::StoreFault);
-    }
-    let mut told = String::new(alloc);
-    for row in all_tiles(conn, alloc)? {
-        told.push_str(tile(alloc, Some(row))?.as_str())?;
-        told.push(';')?;
-    }
-    Ok(told)
+    at_rest(conn)?;
+    found(alloc, &tile_at(conn, zoom_level, tile_column, tile_row)?)
 }
 
 fn told_medium_by_id<S: Alter>(
@@ -241,22 +167,8 @@ fn told_medium_by_id<S: Alter>(
     conn: &mut Connection<S>,
     id: i64,
 ) -> Result<String, Fault> {
-    if !is_at_rest(conn) {
-        return Err(Fault::StoreFault);
-    }
-    Ok(medium(alloc, medium_by_id(conn, id)?)?)
-}
-
-fn told_all_media<S: Alter>(alloc: Global, conn: &mut Connection<S>) -> Result<String, Fault> {
-    if !is_at_rest(conn) {
-        return Err(Fault::StoreFault);
-    }
-    let mut told = String::new(alloc);
-    for row in all_media(conn, alloc)? {
-        told.push_str(medium(alloc, Some(row))?.as_str())?;
-        told.push(';')?;
-    }
-    Ok(told)
+    at_rest(conn)?;
+    found(alloc, &medium_by_id(conn, id)?)
 }
 
 fn told_attribute_by_id<S: Alter>(
@@ -264,22 +176,8 @@ fn told_attribute_by_id<S: Alter>(
     conn: &mut Connection<S>,
     id: i64,
 ) -> Result<String, Fault> {
-    if !is_at_rest(conn) {
-        return Err(Fault::StoreFault);
-    }
-    Ok(attribute(alloc, attribute_by_id(conn, id)?)?)
-}
-
-fn told_all_attributes<S: Alter>(alloc: Global, conn: &mut Connection<S>) -> Result<String, Fault> {
-    if !is_at_rest(conn) {
-        return Err(Fault::StoreFault);
-    }
-    let mut told = String::new(alloc);
-    for row in all_attributes(conn, alloc)? {
-        told.push_str(attribute(alloc, Some(row))?.as_str())?;
-        told.push(';')?;
-    }
-    Ok(told)
+    at_rest(conn)?;
+    found(alloc, &attribute_by_id(conn, id)?)
 }
 
 fn told_pair_of_ends<S: Alter>(
@@ -289,10 +187,8 @@ fn told_pair_of_ends<S: Alter>(
     base_id: i64,
     related_id: i64,
 ) -> Result<String, Fault> {
-    if !is_at_rest(conn) {
-        return Err(Fault::StoreFault);
-    }
-    Ok(pair(alloc, pair_of_ends(conn, mapping, base_id, related_id)?)?)
+    at_rest(conn)?;
+    found(alloc, &pair_of_ends(conn, mapping, base_id, related_id)?)
 }
 
 fn told_pair_of_base<S: Alter>(
@@ -301,10 +197,8 @@ fn told_pair_of_base<S: Alter>(
     mapping: Mapping,
     base_id: i64,
 ) -> Result<String, Fault> {
-    if !is_at_rest(conn) {
-        return Err(Fault::StoreFault);
-    }
-    Ok(pair(alloc, pair_of_base(conn, mapping, base_id)?)?)
+    at_rest(conn)?;
+    found(alloc, &pair_of_base(conn, mapping, base_id)?)
 }
 
 fn told_pair_of_related<S: Alter>(
@@ -313,26 +207,8 @@ fn told_pair_of_related<S: Alter>(
     mapping: Mapping,
     related_id: i64,
 ) -> Result<String, Fault> {
-    if !is_at_rest(conn) {
-        return Err(Fault::StoreFault);
-    }
-    Ok(pair(alloc, pair_of_related(conn, mapping, related_id)?)?)
-}
-
-fn told_all_pairs<S: Alter>(
-    alloc: Global,
-    conn: &mut Connection<S>,
-    mapping: Mapping,
-) -> Result<String, Fault> {
-    if !is_at_rest(conn) {
-        return Err(Fault::StoreFault);
-    }
-    let mut told = String::new(alloc);
-    for row in all_pairs(conn, mapping, alloc)? {
-        told.push_str(pair(alloc, Some(row))?.as_str())?;
-        told.push(';')?;
-    }
-    Ok(told)
+    at_rest(conn)?;
+    found(alloc, &pair_of_related(conn, mapping, related_id)?)
 }
 
 fn told_identity_by_uuid<S: Alter>(
@@ -340,22 +216,8 @@ fn told_identity_by_uuid<S: Alter>(
     conn: &mut Connection<S>,
     uuid: &str,
 ) -> Result<String, Fault> {
-    if !is_at_rest(conn) {
-        return Err(Fault::StoreFault);
-    }
-    Ok(identity(alloc, identity_by_uuid(conn, uuid)?)?)
-}
-
-fn told_all_identities<S: Alter>(alloc: Global, conn: &mut Connection<S>) -> Result<String, Fault> {
-    if !is_at_rest(conn) {
-        return Err(Fault::StoreFault);
-    }
-    let mut told = String::new(alloc);
-    for row in all_identities(conn, alloc)? {
-        told.push_str(identity(alloc, Some(row))?.as_str())?;
-        told.push(';')?;
-    }
-    Ok(told)
+    at_rest(conn)?;
+    found(alloc, &identity_by_uuid(conn, uuid)?)
 }
 
 // ---- look-ups inside a transaction
@@ -371,20 +233,24 @@ fn identities_inside<S: Alter>(
     alloc: Global,
     tx: &mut Transaction<'_, S>,
 ) -> Result<String, Fault> {
-    let mut told = identity(alloc, identity_by_uuid_inside(tx, SECOND)?)?;
+    let mut told = found(alloc, &identity_by_uuid_inside(tx, SECOND)?)?;
     told.push(';')?;
-    told.push_str(identity(alloc, identity_by_key_inside(tx, 1, 7)?)?.as_str())?;
+    told.push_str(found(alloc, &identity_by_key_inside(tx, 1, 7)?)?.as_str())?;
     told.push(';')?;
-    told.push_str(identity(alloc, identity_by_key_inside(tx, 7, 1)?)?.as_str())?;
+    told.push_str(found(alloc, &identity_by_key_inside(tx, 7, 1)?)?.as_str())?;
     Ok(told)
 }
 
-fn told_numbers<S: Alter>(alloc: Global, conn: &mut Connection<S>) -> Result<String, Fault> {
+// Dropped without a commit.
+fn begun<S: Alter>(conn: &mut Connection<S>) -> Result<Transaction<'_, S>, Fault> {
     if !conn.is_autocommit() {
         return Err(Fault::StoreFault);
     }
-    let mut tx = conn.transaction();
-    numbers(alloc, &mut tx)
+    Ok(conn.transaction())
+}
+
+fn told_numbers<S: Alter>(alloc: Global, conn: &mut Connection<S>) -> Result<String, Fault> {
+    numbers(alloc, &mut begun(conn)?)
 }
 
 fn told_identity_by_key<S: Alter>(
@@ -393,32 +259,15 @@ fn told_identity_by_key<S: Alter>(
     kind: i64,
     local_id: i64,
 ) -> Result<String, Fault> {
-    if !conn.is_autocommit() {
-        return Err(Fault::StoreFault);
-    }
-    let mut tx = conn.transaction();
-    Ok(identity(alloc, identity_by_key_inside(&mut tx, kind, local_id)?)?)
+    let mut tx = begun(conn)?;
+    found(alloc, &identity_by_key_inside(&mut tx, kind, local_id)?)
 }
 
 fn told_identities_inside<S: Alter>(
     alloc: Global,
     conn: &mut Connection<S>,
 ) -> Result<String, Fault> {
-    if !conn.is_autocommit() {
-        return Err(Fault::StoreFault);
-    }
-    let mut tx = conn.transaction();
-    identities_inside(alloc, &mut tx)
-}
-
-fn scheme<S: Alter>(conn: &mut Connection<S>) -> Result<bool, Fault> {
-    if !conn.is_autocommit() {
-        return Ok(false);
-    }
-    let mut tx = conn.transaction();
-    create_schema(&mut tx)?;
-    tx.commit()?;
-    Ok(true)
+    identities_inside(alloc, &mut begun(conn)?)
 }
 
 // ---- tests
@@ -428,29 +277,23 @@ fn user_rows_are_found(rt: HostRuntime) -> Result<(), Fail> {
     let a = rt.alloc();
     let mut conn = Connection::open_in_memory(a)?;
     let conn = &mut conn;
-    assert!(rt; filled(conn)?);
+    assert!(rt; committed(conn, &Filled)?);
     assert_eq!(rt; told_tile_by_id(a, conn, 7)?.as_str(), "7 2 3 1 2");
     assert_eq!(rt; told_tile_by_id(a, conn, 8)?.as_str(), "-");
     assert_eq!(rt; told_tile_at(a, conn, 2, 3, 1)?.as_str(), "7 2 3 1 2");
     assert_eq!(rt; told_tile_at(a, conn, 2, 1, 3)?.as_str(), "-");
-    assert_eq!(rt; told_all_tiles(a, conn)?.as_str(), "7 2 3 1 2;9 2 0 0 1;");
+    assert_eq!(rt; tiles(a, conn)?.as_str(), "7 2 3 1 2;9 2 0 0 1;");
     assert_eq!(rt; told_medium_by_id(a, conn, 4)?.as_str(), "4 3 image/png");
     assert_eq!(rt; told_medium_by_id(a, conn, 5)?.as_str(), "5 0 image/jpeg");
     assert_eq!(rt; told_medium_by_id(a, conn, 6)?.as_str(), "-");
-    assert_eq!(rt;
-        told_all_media(a, conn)?.as_str(),
-        "4 3 image/png;5 0 image/jpeg;"
-    );
+    assert_eq!(rt; media(a, conn)?.as_str(), "4 3 image/png;5 0 image/jpeg;");
     assert_eq!(rt;
         told_attribute_by_id(a, conn, 2)?.as_str(),
         "2 100 -7 31 well"
     );
     assert_eq!(rt; told_attribute_by_id(a, conn, 3)?.as_str(), "3 0 0 0 ");
     assert_eq!(rt; told_attribute_by_id(a, conn, 4)?.as_str(), "-");
-    assert_eq!(rt;
-        told_all_attributes(a, conn)?.as_str(),
-        "2 100 -7 31 well;3 0 0 0 ;"
-    );
+    assert_eq!(rt; attributes(a, conn)?.as_str(), "2 100 -7 31 well;3 0 0 0 ;");
     Ok(())
 }
 
@@ -459,7 +302,7 @@ fn relations_are_found(rt: HostRuntime) -> Result<(), Fail> {
     let a = rt.alloc();
     let mut conn = Connection::open_in_memory(a)?;
     let conn = &mut conn;
-    assert!(rt; filled(conn)?);
+    assert!(rt; committed(conn, &Filled)?);
     assert_eq!(rt; told_pair_of_ends(a, conn, OF_TILES, 7, 4)?.as_str(), "7 4");
     assert_eq!(rt; told_pair_of_ends(a, conn, OF_TILES, 7, 5)?.as_str(), "-");
     assert_eq!(rt; told_pair_of_ends(a, conn, OF_TILES, 4, 7)?.as_str(), "-");
@@ -467,12 +310,12 @@ fn relations_are_found(rt: HostRuntime) -> Result<(), Fail> {
     assert_eq!(rt; told_pair_of_related(a, conn, OF_TILES, 4)?.as_str(), "7 4");
     assert_eq!(rt; told_pair_of_related(a, conn, OF_TILES, 5)?.as_str(), "9 5");
     assert_eq!(rt; told_pair_of_related(a, conn, OF_TILES, 9)?.as_str(), "-");
-    assert_eq!(rt; told_all_pairs(a, conn, OF_TILES)?.as_str(), "7 4;9 5;");
+    assert_eq!(rt; pairs(a, conn, OF_TILES)?.as_str(), "7 4;9 5;");
     assert_eq!(rt; told_pair_of_ends(a, conn, OF_ROWS, 2, 5)?.as_str(), "2 5");
     assert_eq!(rt; told_pair_of_ends(a, conn, OF_ROWS, 5, 2)?.as_str(), "-");
     assert_eq!(rt; told_pair_of_base(a, conn, OF_ROWS, 3)?.as_str(), "3 4");
     assert_eq!(rt; told_pair_of_related(a, conn, OF_ROWS, 5)?.as_str(), "2 5");
-    assert_eq!(rt; told_all_pairs(a, conn, OF_ROWS)?.as_str(), "2 5;3 4;");
+    assert_eq!(rt; pairs(a, conn, OF_ROWS)?.as_str(), "2 5;3 4;");
     Ok(())
 }
 
@@ -481,7 +324,7 @@ fn identities_are_found(rt: HostRuntime) -> Result<(), Fail> {
     let a = rt.alloc();
     let mut conn = Connection::open_in_memory(a)?;
     let conn = &mut conn;
-    assert!(rt; filled(conn)?);
+    assert!(rt; committed(conn, &Filled)?);
     let first = "1 7 00000000-0000-4000-8000-000000000001";
     let second = "2 7 00000000-0000-4000-8000-000000000002";
     assert_eq!(rt; told_identity_by_uuid(a, conn, FIRST)?.as_str(), first);
@@ -489,7 +332,7 @@ fn identities_are_found(rt: HostRuntime) -> Result<(), Fail> {
     assert_eq!(rt; told_identity_by_key(a, conn, 2, 7)?.as_str(), second);
     assert_eq!(rt; told_identity_by_key(a, conn, 7, 2)?.as_str(), "-");
     assert_eq!(rt;
-        told_all_identities(a, conn)?.as_str(),
+        identities(a, conn)?.as_str(),
         "1 7 00000000-0000-4000-8000-000000000001;2 7 00000000-0000-4000-8000-000000000002;"
     );
     assert_eq!(rt;
@@ -504,17 +347,17 @@ fn one_row_of_each_table_goes(rt: HostRuntime) -> Result<(), Fail> {
     let a = rt.alloc();
     let mut conn = Connection::open_in_memory(a)?;
     let conn = &mut conn;
-    assert!(rt; filled(conn)?);
+    assert!(rt; committed(conn, &Filled)?);
     assert_eq!(rt; told_numbers(a, conn)?.as_str(), "9 5 3");
-    assert!(rt; emptied(conn)?);
+    assert!(rt; committed(conn, &Emptied)?);
     assert_eq!(rt; told_numbers(a, conn)?.as_str(), "7 4 2");
-    assert_eq!(rt; told_all_tiles(a, conn)?.as_str(), "7 2 3 1 2;");
-    assert_eq!(rt; told_all_media(a, conn)?.as_str(), "4 3 image/png;");
-    assert_eq!(rt; told_all_attributes(a, conn)?.as_str(), "2 100 -7 31 well;");
-    assert_eq!(rt; told_all_pairs(a, conn, OF_TILES)?.as_str(), "7 4;");
-    assert_eq!(rt; told_all_pairs(a, conn, OF_ROWS)?.as_str(), "2 5;");
+    assert_eq!(rt; tiles(a, conn)?.as_str(), "7 2 3 1 2;");
+    assert_eq!(rt; media(a, conn)?.as_str(), "4 3 image/png;");
+    assert_eq!(rt; attributes(a, conn)?.as_str(), "2 100 -7 31 well;");
+    assert_eq!(rt; pairs(a, conn, OF_TILES)?.as_str(), "7 4;");
+    assert_eq!(rt; pairs(a, conn, OF_ROWS)?.as_str(), "2 5;");
     assert_eq!(rt;
-        told_all_identities(a, conn)?.as_str(),
+        identities(a, conn)?.as_str(),
         "1 7 00000000-0000-4000-8000-000000000001;"
     );
     Ok(())
@@ -525,14 +368,14 @@ fn the_least_and_the_greatest_rows_are_found(rt: HostRuntime) -> Result<(), Fail
     let a = rt.alloc();
     let mut conn = Connection::open_in_memory(a)?;
     let conn = &mut conn;
-    assert!(rt; filled_to_the_ends(conn)?);
+    assert!(rt; committed(conn, &FilledToTheEnds)?);
     assert_eq!(rt; told_tile_by_id(a, conn, -1)?.as_str(), "-");
     assert_eq!(rt;
         told_tile_at(a, conn, 20, i64::MAX, 0)?.as_str(),
         "9223372036854775807 20 9223372036854775807 0 1"
     );
     assert_eq!(rt;
-        told_all_tiles(a, conn)?.as_str(),
+        tiles(a, conn)?.as_str(),
         "0 0 0 0 0;9223372036854775807 20 9223372036854775807 0 1;"
     );
     assert_eq!(rt; told_medium_by_id(a, conn, 0)?.as_str(), "0 0 ");
@@ -567,13 +410,13 @@ fn tables_without_rows_are_read(rt: HostRuntime) -> Result<(), Fail> {
     let a = rt.alloc();
     let mut conn = Connection::open_in_memory(a)?;
     let conn = &mut conn;
-    assert!(rt; scheme(conn)?);
-    assert_eq!(rt; told_all_tiles(a, conn)?.as_str(), "");
-    assert_eq!(rt; told_all_media(a, conn)?.as_str(), "");
-    assert_eq!(rt; told_all_attributes(a, conn)?.as_str(), "");
-    assert_eq!(rt; told_all_pairs(a, conn, OF_TILES)?.as_str(), "");
-    assert_eq!(rt; told_all_pairs(a, conn, OF_ROWS)?.as_str(), "");
-    assert_eq!(rt; told_all_identities(a, conn)?.as_str(), "");
+    assert!(rt; committed(conn, &Tables)?);
+    assert_eq!(rt; tiles(a, conn)?.as_str(), "");
+    assert_eq!(rt; media(a, conn)?.as_str(), "");
+    assert_eq!(rt; attributes(a, conn)?.as_str(), "");
+    assert_eq!(rt; pairs(a, conn, OF_TILES)?.as_str(), "");
+    assert_eq!(rt; pairs(a, conn, OF_ROWS)?.as_str(), "");
+    assert_eq!(rt; identities(a, conn)?.as_str(), "");
     assert_eq!(rt; told_tile_by_id(a, conn, 7)?.as_str(), "-");
     assert_eq!(rt; told_tile_at(a, conn, 2, 3, 1)?.as_str(), "-");
     assert_eq!(rt; told_medium_by_id(a, conn, 5)?.as_str(), "-");

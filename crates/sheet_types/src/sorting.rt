@@ -1,12 +1,11 @@
 //! The order in which items, links and identities stand.
-ghost use Rattle.std.specs.Prelude.{◌≡◌, ◌≢◌, [], length, unwrap_or, IfSome, IfNone};
+ghost use Rattle.std.specs.Prelude.{◌≡◌, [], length, unwrap_or};
 ghost use Rattle.std.specs.Ordering.{nat_cmp};
 ghost use Rattle.std.specs.Cmp.Lexicographic.{slice_cmp};
 ghost use Rattle.sheet_types.specs.Ordered.{is_before};
-ghost use Rattle.sheet_types.specs.World.{thing_key, moved_key, item_key, link_key, link_kind, kind_number};
-ghost use Rattle.sheet_types.specs.declared.receipt.MovedKind.{MovedKind};
+ghost use Rattle.sheet_types.specs.World.{thing_key, moved_key, item_key, link_key};
 
-use crate::command::{Item, Mapping, Relation};
+use crate::command::{Item, Relation};
 use crate::receipt::{Moved, MovedKind};
 use std::cmp::Ordering;
 use uuid::Uuid;
@@ -16,48 +15,6 @@ pub fn uuid_is_before(a: Uuid, b: Uuid) -> bool
     ensures { result ≡ is_before a b }
 {
     a.cmp(&b).is_lt()
-}
-
-impl MovedKind {
-    /// The number by which the kind is stored, 1 to 5 (profile).
-    pub fn number(self) -> u8
-        ensures { result ≡ kind_number self }
-    {
-        match self {
-            MovedKind::TileItem => 1,
-            MovedKind::MediaItem => 2,
-            MovedKind::RowItem => 3,
-            MovedKind::TilesMediaLink => 4,
-            MovedKind::RowsMediaLink => 5,
-        }
-    }
-
-    /// The kind of a number, `None` where it is not from 1 to 5.
-    pub fn from_number(number: u8) -> Option<MovedKind>
-        ensures some { IfSome result (λ kind. number ≡ kind_number kind) }
-        ensures none { IfNone result ((kind : MovedKind) → number ≢ kind_number kind) }
-    {
-        match number {
-            1 => Some(MovedKind::TileItem),
-            2 => Some(MovedKind::MediaItem),
-            3 => Some(MovedKind::RowItem),
-            4 => Some(MovedKind::TilesMediaLink),
-            5 => Some(MovedKind::RowsMediaLink),
-            _ => None,
-        }
-    }
-}
-
-impl Mapping {
-    /// The kind under which a receipt has a link of this mapping.
-    pub fn link_kind(self) -> MovedKind
-        ensures { result ≡ link_kind self }
-    {
-        match self {
-            Mapping::TilesMedia => MovedKind::TilesMediaLink,
-            Mapping::RowsMedia => MovedKind::RowsMediaLink,
-        }
-    }
 }
 
 // The order of the bytes, of which both have as many.

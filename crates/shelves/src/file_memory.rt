@@ -5,7 +5,7 @@ ghost use Rattle.sqlite.specs.Files.{file_state};
 ghost use Rattle.sql_meaning.specs.Blank.{IsBlank, no_schema};
 ghost use Rattle.shelves.specs.declared.shelf.ShelfFault.TheVariants.{OutOfMemory};
 
-use crate::shelf::{Shelf, ShelfFault};
+use crate::shelf::{Shelf, ShelfFault, counted};
 use memory_files::{MemoryFile, blank_in_files};
 use sqlite::{Connection, FileStore};
 use std::alloc::Global;
@@ -38,14 +38,8 @@ impl Shelf<FileStore<MemoryFile>> for MemoryFileShelf {
         ensures counts { CountsFault result self.old.failures self.new.failures }
         ensures fault { IfErr result (λ fault. fault ≡ OutOfMemory) }
     {
-        match blank_in_files(self.alloc, SEED) {
-            Ok(conn) => Ok(conn),
-            // Nothing but memory can be wanting to a file in memory.
-            Err(_) => {
-                self.failures = self.failures.saturating_add(1);
-                Err(ShelfFault::OutOfMemory)
-            }
-        }
+        let made = blank_in_files(self.alloc, SEED);
+        counted(made, &mut self.failures)
     }
 
     fn failures(&self) -> u64 {

@@ -6,7 +6,7 @@ ghost use Rattle.sqlite.specs.Steps.{over_memory};
 ghost use Rattle.sql_meaning.specs.Blank.{IsBlank, no_schema};
 ghost use Rattle.shelves.specs.declared.shelf.ShelfFault.TheVariants.{OutOfMemory};
 
-use crate::shelf::{Shelf, ShelfFault};
+use crate::shelf::{Shelf, ShelfFault, counted};
 use sqlite::{Connection, MemStore};
 use std::alloc::Global;
 use uuid::Uuid;
@@ -35,13 +35,8 @@ impl Shelf<MemStore> for MemoryShelf {
         ensures counts { CountsFault result self.old.failures self.new.failures }
         ensures fault { IfErr result (λ fault. fault ≡ OutOfMemory) }
     {
-        match Connection::open_in_memory(self.alloc) {
-            Ok(conn) => Ok(conn),
-            Err(_) => {
-                self.failures = self.failures.saturating_add(1);
-                Err(ShelfFault::OutOfMemory)
-            }
-        }
+        let made = Connection::open_in_memory(self.alloc);
+        counted(made, &mut self.failures)
     }
 
     fn failures(&self) -> u64 {

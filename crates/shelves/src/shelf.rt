@@ -1,9 +1,10 @@
 //! A shelf, as a register asks it for the store of a new package.
-ghost use Rattle.std.specs.Prelude.{◌≡◌, ℕ, IfOk};
+ghost use Rattle.std.specs.Prelude.{◌≡◌, ℕ, Ok, IfOk, IfErr};
 ghost use Rattle.sqlite_disk.specs.Disk.{CountsFault};
 ghost use Rattle.sqlite.specs.Held.{state};
 ghost use Rattle.sqlite.specs.State.{HasCleanDisk};
 ghost use Rattle.sql_meaning.specs.Blank.{IsBlank, no_schema};
+ghost use Rattle.shelves.specs.declared.shelf.ShelfFault.TheVariants.{OutOfMemory};
 
 use sqlite::{Alter, Connection};
 use std::fmt;
@@ -35,4 +36,22 @@ pub trait Shelf<S: Alter> {
     /// How often `blank` has answered a fault.
     fn failures(&self) -> u64
         ensures { result ≡ failures_of self.now };
+}
+
+// The store that was made in memory. Nothing but memory can have been wanting where none was, which is counted.
+pub(crate) fn counted<T, E>(made: Result<T, E>, failures: &mut u64) -> Result<T, ShelfFault>
+where
+    T: Drop,
+    E: Drop,
+    ensures made { IfOk result (λ store. made ≡ Ok store) }
+    ensures counts { CountsFault result failures.old failures.new }
+    ensures fault { IfErr result (λ fault. fault ≡ OutOfMemory) }
+{
+    match made {
+        Ok(store) => Ok(store),
+        Err(_) => {
+            *failures = failures.saturating_add(1);
+            Err(ShelfFault::OutOfMemory)
+        }
+    }
 }

@@ -2,6 +2,7 @@
 ghost use Rattle.std.specs.Prelude.{◌≤◌, IsTrue};
 ghost use Rattle.sheet_types.specs.Matrix.{is_good_frame};
 
+use crate::changes::{Change, committed};
 use crate::values::FRAME;
 use matrix_rules::check::FrameRules;
 use package_tables::attributes::insert_attribute;
@@ -16,7 +17,7 @@ use package_tables::tiles::insert_tile;
 use sheet_types::command::Mapping;
 use sheet_types::frame::Frame;
 use sql_meaning::resting::is_at_rest;
-use sqlite::{Alter, Connection};
+use sqlite::{Alter, Connection, Transaction};
 use std::alloc::Global;
 use uuid::Uuid;
 
@@ -82,22 +83,24 @@ pub fn empty_package<S: Alter + Drop>(
     Ok(new_tables(alloc, conn, &FRAME, &info)?.into_connection())
 }
 
+struct WithALink;
+
+impl<S: Alter> Change<S> for WithALink {
+    fn make(&self, tx: &mut Transaction<'_, S>) -> Result<(), Fault> {
+        create_schema(tx)?;
+        insert_tile(tx, 7, 2, 3, 1, b"ab")?;
+        insert_identity(tx, 1, 7, "00000000-0000-0000-0000-000000000001")?;
+        insert_medium(tx, 4, b"png", "image/png")?;
+        insert_identity(tx, 2, 4, "00000000-0000-0000-0000-000000000002")?;
+        insert_attribute(tx, 4, 100, -7, 31, "well")?;
+        insert_identity(tx, 3, 4, "00000000-0000-0000-0000-000000000003")?;
+        insert_pair(tx, Mapping::TilesMedia, 7, 4)
+    }
+}
+
 /// Fills a blank store with a tile that is linked to a medium, and a row that is linked to nothing: a tile 7 at column 3 and row 1
 /// of zoom 2, and a medium and a row that both have the number 4; their identities are 1, 2 and 3. Tells whether no transaction
 /// stood in its way.
 pub fn fill_with_a_link<S: Alter>(conn: &mut Connection<S>) -> Result<bool, Fault> {
-    if !conn.is_autocommit() {
-        return Ok(false);
-    }
-    let mut tx = conn.transaction();
-    create_schema(&mut tx)?;
-    insert_tile(&mut tx, 7, 2, 3, 1, b"ab")?;
-    insert_identity(&mut tx, 1, 7, "00000000-0000-0000-0000-000000000001")?;
-    insert_medium(&mut tx, 4, b"png", "image/png")?;
-    insert_identity(&mut tx, 2, 4, "00000000-0000-0000-0000-000000000002")?;
-    insert_attribute(&mut tx, 4, 100, -7, 31, "well")?;
-    insert_identity(&mut tx, 3, 4, "00000000-0000-0000-0000-000000000003")?;
-    insert_pair(&mut tx, Mapping::TilesMedia, 7, 4)?;
-    tx.commit()?;
-    Ok(true)
+    committed(conn, &WithALink)
 }

@@ -1,8 +1,8 @@
 //! Requests to one archive, in a few words each.
 
+use crate::contents::{medium_content, row_content, tile_content};
 use crate::values::text;
 use package_tables::fault::Fault;
-use sheet_types::collections::Bytes;
 use sheet_types::command::{Command, Content, Mapping, Request};
 use sheet_types::receipt::Receipt;
 use sheet_types::refusal::Refusal;
@@ -61,39 +61,22 @@ fn add(package: Uuid, number: u8, content: Content) -> Command {
     }
 }
 
-fn tile(alloc: Global, place: [i64; 3], bytes: &[u8]) -> Result<Content, Fault> {
-    Ok(Content::Tile {
-        zoom: place[0],
-        column: place[1],
-        row: place[2],
-        bytes: Bytes::from_vec(Vec::from_slice(alloc, bytes)?),
-    })
-}
-
-fn medium(alloc: Global) -> Result<Content, Fault> {
-    Ok(Content::Media {
-        content_type: text(alloc, "image/jpeg")?,
-        bytes: Bytes::from_vec(b"JP".to_vec(alloc)?),
-    })
-}
-
-fn row(alloc: Global, x: i64, y: i64) -> Result<Content, Fault> {
-    Ok(Content::Row {
-        x,
-        y,
-        code: 7,
-        label: text(alloc, "gate")?,
-    })
-}
-
 fn command(alloc: Global, asks: Asks) -> Result<Command, Fault> {
     let package = archive();
     match asks {
-        Asks::Tile(number, place) => Ok(add(package, number, tile(alloc, place, b"A")?)),
-        Asks::NoBytes(number, place) => Ok(add(package, number, tile(alloc, place, b"")?)),
-        Asks::Elsewhere(number, place) => Ok(add(stranger(), number, tile(alloc, place, b"A")?)),
-        Asks::Row(number, x, y) => Ok(add(package, number, row(alloc, x, y)?)),
-        Asks::Medium(number) => Ok(add(package, number, medium(alloc)?)),
+        Asks::Tile(number, place) => Ok(add(package, number, tile_content(alloc, place, b"A")?)),
+        Asks::NoBytes(number, place) => Ok(add(package, number, tile_content(alloc, place, b"")?)),
+        Asks::Elsewhere(number, place) => Ok(add(
+            stranger(),
+            number,
+            tile_content(alloc, place, b"A")?,
+        )),
+        Asks::Row(number, x, y) => Ok(add(package, number, row_content(alloc, [x, y], 7, "gate")?)),
+        Asks::Medium(number) => Ok(add(
+            package,
+            number,
+            medium_content(alloc, "image/jpeg", b"JP")?,
+        )),
         Asks::Delete(number) => Ok(Command::Delete {
             package,
             identity: item(number),
@@ -113,13 +96,35 @@ fn command(alloc: Global, asks: Asks) -> Result<Command, Fault> {
     }
 }
 
-/// The request of a number, at a moment.
-pub fn request_of(alloc: Global, number: u8, at: &str, asks: Asks) -> Result<Request, Fault> {
-    Ok(Request {
-        id: question(number),
-        at: text(alloc, at)?,
-        command: command(alloc, asks)?,
-    })
+/// A request by its number and moment.
+#[derive(Clone, Copy)]
+pub struct Step {
+    /// The number of its identity.
+    pub number: u8,
+    /// When it comes.
+    pub at: &'static str,
+    /// What it asks for.
+    pub asks: Asks,
+}
+
+impl Step {
+    /// A request at the moment at which the archive was made.
+    pub fn now(number: u8, asks: Asks) -> Step {
+        Step {
+            number,
+            at: BEGUN,
+            asks,
+        }
+    }
+
+    /// The request itself.
+    pub fn request(&self, alloc: Global) -> Result<Request, Fault> {
+        Ok(Request {
+            id: question(self.number),
+            at: text(alloc, self.at)?,
+            command: command(alloc, self.asks)?,
+        })
+    }
 }
 
 /// The number of the receipt, or that of the reason, below zero.

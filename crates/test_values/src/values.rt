@@ -33,6 +33,13 @@ pub const NOTHING: Sums = Sums {
     bytes: 0,
 };
 
+/// What one medium of three bytes counts.
+pub const ONE_MEDIUM: Sums = Sums {
+    media: 1,
+    bytes: 3,
+    ..NOTHING
+};
+
 /// A text of the types that requests and receipts are made of.
 pub fn text(alloc: Global, s: &str) -> Result<Text, Fault> {
     let mut inner = String::new(alloc);

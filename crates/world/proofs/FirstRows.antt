@@ -1,17 +1,17 @@
 -- The first reason that holds, by what was looked up.
 use Rattle.std.proofs.Common.{◌≡◌, ℕ, ℤ, List, [], ◌∷◌, Bool, true, false, Option, Some, None, refl, sym, ap, ◌∙◌}
-use Rattle.std.specs.Prelude.{drop, not, ◌&&◌, ◌||◌, if◌then◌else◌, cond, find, bytes_eq, is_some, option_map}
+use Rattle.std.specs.Prelude.{drop, not, ◌&&◌, if◌then◌else◌}
 use Rattle.std.specs.Bool.{then_some}
 use Rattle.std.specs.List.{list_any}
+use Rattle.std.specs.Option.{option_map_or}
 use Rattle.sheet_types.specs.Cut.{has_end}
 use Rattle.sheet_types.specs.Ordered.{has}
 use Rattle.sheet_types.specs.Matrix.{first_row, has_place, in_frame}
 use Rattle.sheet_types.specs.Refuse.{is_at}
-use Rattle.sheet_types.specs.Texts.{kind_of}
-use Rattle.sheet_types.specs.World.{Package, item_of, has_item, has_kind, base_kind, other_kind, link_key}
+use Rattle.sheet_types.specs.World.{Package, has_item, has_kind, base_kind, other_kind, link_key}
 use Rattle.sheet_types.specs.declared.command.Relation.{Relation}
 use Rattle.sheet_types.specs.declared.frame.Frame.{Frame}
-use Rattle.sheet_types.specs.declared.receipt.MovedKind.{MovedKind}
+use Rattle.sheet_types.specs.declared.refusal.Refusal.{Refusal}
 use Rattle.sheet_types.specs.declared.refusal.Refusal.TheVariants.{UnknownItem, WrongKind, BadPlace, OutOfFrame, PlaceTaken, LinkThere, Linked}
 use Rattle.identity_register.specs.Answers.{link_state}
 use Rattle.identity_register.specs.declared.look_ups.LinkState.{LinkState}
@@ -20,7 +20,7 @@ use Rattle.world.specs.Reasons.{tile_reasons, delete_reasons, link_reasons, reas
 
 -- ---- rows
 
-holds : {X : Type 0} (b : Bool) (x : X) (rows : List (Bool × X)) → b ≡ true → Some x ≡ first_row ((b, x) ∷ rows)
+pub holds : {X : Type 0} (b : Bool) (x : X) (rows : List (Bool × X)) → b ≡ true → Some x ≡ first_row ((b, x) ∷ rows)
 holds true x rows h = refl
 holds false x rows h = cc
 
@@ -34,14 +34,11 @@ last false x = refl
 
 -- ---- what the look-ups answer
 
-abbrev pub KindIs : List ℕ → Frame → Package → Option MovedKind → Type 0
-KindIs id f p found = found ≡ option_map (λ i. kind_of i.content) (item_of p id)
-
 abbrev pub IsTaken : ℤ → ℤ → ℤ → Frame → Package → Bool → Type 0
 IsTaken zoom column row f p found = found ≡ list_any (λ i. is_at zoom column row i.content) p.items
 
-abbrev pub IsNamed : List ℕ → Frame → Package → Bool → Type 0
-IsNamed id f p found = found ≡ list_any (has_end id) p.links
+abbrev pub IsLinked : List ℕ → Frame → Package → Option Bool → Type 0
+IsLinked id f p found = found ≡ then_some (has_item p id) (list_any (has_end id) p.links)
 
 abbrev pub IsThere : Relation → Frame → Package → Bool → Type 0
 IsThere l f p found = found ≡ has link_key (link_key l) p.links
@@ -67,26 +64,17 @@ on_frame f g x y inside is same = ap (λ b. then_some (not b) OutOfFrame) (is �
 
 -- ---- an item that goes
 
--- one passes where one is found
-any_found : {X : Type 0} (q : X → Bool) (xs : List X) → list_any q xs ≡ is_some (find q xs)
-any_found q [] = refl
-any_found q (x ∷ xs) = elim (q x) as (λ v. (v || list_any q xs) ≡ is_some (cond v (Some x) (find q xs))) [ true ↦ refl | false ↦ any_found q xs ]
+-- why an item does not go, by whether it is there and whether a link names it
+abbrev delete_reason : Option Bool → Option Refusal
+delete_reason found = option_map_or (λ linked. then_some linked Linked) found (Some UnknownItem)
 
-some_mapped : {X Y : Type 0} (f : X → Y) (o : Option X) → is_some (option_map f o) ≡ is_some o
-some_mapped f None = refl
-some_mapped f (Some x) = refl
-
--- an item is there where its kind is found
-item_known : (p : Package) (id : List ℕ) (found : Option MovedKind) → found ≡ option_map (λ i. kind_of i.content) (item_of p id) → has_item p id ≡ is_some found
-item_known p id found is = any_found (λ i. bytes_eq i.identity id) p.items ∙ sym (some_mapped (λ i. kind_of i.content) (item_of p id)) ∙ ap is_some (sym is)
-
-pub no_item : (f : Frame) (p : Package) (id : List ℕ) (found : Option MovedKind) → KindIs id f p found → is_some found ≡ false → Some UnknownItem ≡ first_row (delete_reasons p id)
-no_item f p id found is none = holds (not (has_item p id)) UnknownItem (drop 1 (delete_reasons p id)) (ap not (item_known p id found is ∙ none))
-
-pub an_item : (f : Frame) (p : Package) (id : List ℕ) (found : Option MovedKind) (linked : Bool) → KindIs id f p found → is_some found ≡ true → IsNamed id f p linked → then_some linked Linked ≡ first_row (delete_reasons p id)
-an_item f p id found linked is some told =
-    ap (λ b. then_some b Linked) told ∙ last (list_any (has_end id) p.links) Linked
-    ∙ sym (passes (not (has_item p id)) UnknownItem (drop 1 (delete_reasons p id)) (ap not (item_known p id found is ∙ some)))
+pub delete_told : (p : Package) (id : List ℕ) (found : Option Bool) → found ≡ then_some (has_item p id) (list_any (has_end id) p.links) → delete_reason found ≡ first_row (delete_reasons p id)
+delete_told p id found told = ap delete_reason told ∙ each (has_item p id) (list_any (has_end id) p.links)
+  where
+    each : (known linked : Bool) → delete_reason (then_some known linked) ≡ first_row ((not known, UnknownItem) ∷ (linked, Linked) ∷ [])
+    each true true = refl
+    each true false = refl
+    each false linked = refl
 
 -- ---- a link that comes
 

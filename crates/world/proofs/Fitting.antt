@@ -175,23 +175,18 @@ nothing_against_accepted w next q served new none =
 none_reused : (w : World) (q : Request) → kept w q.id ≡ None → id_reused w q ≡ false
 none_reused w q new = ap (λ k. option_map_or (λ r. not (bytes_eq r.line (line q.command))) k false) new
 
--- the first row, and then the others
-row_then : {X : Type 0} (b : Bool) (x : X) (rows : List (Bool × X)) → first_row ((b, x) ∷ rows) ≡ option_or (then_some b x) (first_row rows)
-row_then true x rows = refl
-row_then false x rows = refl
-
 pub refused_in_turn : RefusedInTurn
 refused_in_turn w next q served new live =
     let x : Package = holdings w (package_of q.command) in
     let last_rows : List (Bool × Refusal) = (too_many next, TooMany) ∷ [] in
     let package_rows : List (Bool × Refusal) = package_reasons w.frame x q.command ++ last_rows in
-    let identity_rows : List (Bool × Refusal) = (identity_used w q.command, IdentityUsed) ∷ package_rows in
     let texts : Option Refusal = first_row (text_reasons q) in
+    let identity_row : List (Bool × Refusal) = (identity_used w q.command, IdentityUsed) ∷ [] in
     let identity : Option Refusal = then_some (identity_used w q.command) IdentityUsed in
     refused_by_parts w next x q served live refl
-    ∙ passes (id_reused w q) IdReused (text_reasons q ++ identity_rows) (none_reused w q new)
-    ∙ first_of_both (text_reasons q) identity_rows
-    ∙ ap (option_or texts) (row_then (identity_used w q.command) IdentityUsed package_rows)
+    ∙ passes (id_reused w q) IdReused (text_reasons q ++ identity_row ++ package_rows) (none_reused w q new)
+    ∙ first_of_both (text_reasons q) (identity_row ++ package_rows)
+    ∙ ap (option_or texts) (first_of_both identity_row package_rows ∙ ap (λ o. option_or o (first_row package_rows)) (sym (last (identity_used w q.command) IdentityUsed)))
     ∙ ap (λ o. option_or texts (option_or identity o)) (first_of_both (package_reasons w.frame x q.command) last_rows)
     ∙ ap (λ o. option_or texts (option_or identity (option_or (first_row (package_reasons w.frame x q.command)) o))) (sym (last (too_many next) TooMany))
 

@@ -1,5 +1,5 @@
 -- Where the member of a package stands, there stands the package.
-use Rattle.std.proofs.Common.{◌≡◌, refl, sym, ap, subst, ◌∙◌, ℕ, List, [], ◌∷◌, Bool, false, ◌||◌, take, slice_get, Some, bytes_eq, ◌+◌}
+use Rattle.std.proofs.Common.{◌≡◌, refl, sym, ap, subst, ◌∙◌, ℕ, List, [], ◌∷◌, Bool, false, take, slice_get, Some, bytes_eq, ◌+◌}
 use Rattle.std.specs.Prelude.{find, unwrap_or}
 use Rattle.std.specs.List.{AllZip, list_any}
 use Rattle.std.proofs.lemmas.Map.Keys.{any_passes_from_place}
@@ -11,18 +11,16 @@ use Rattle.sheet_types.specs.World.{World, Package, package_key, no_package}
 use Rattle.sheet_types.proofs.Basics.{bytes_eq_itself}
 use Rattle.sheet_types.proofs.Every.{none_pass, none_any}
 use Rattle.ledger_laws.proofs.Packages.{at_uuid, each_found}
+use Rattle.identity_register.proofs.Finding.{any_map}
 use Rattle.world.specs.Members.{IsMember, AreMembers}
 use Rattle.world.specs.Asking.{StandsAt, StandsNowhere}
 use Rattle.world.specs.declared.members.Member.{Member}
-use Rattle.world.proofs.Standing.{zip_at}
+use Rattle.world.proofs.Standing.{zip_at, zip_map}
 use Rattle.world.proofs.Asked.{take_one_more}
 
 -- tests that agree place by place
 any_zip : {X Y : Type 0} (R : X → Y → Type 0) (p : X → Bool) (q : Y → Bool) → ((x : X) (y : Y) → R x y → p x ≡ q y) → (xs : List X) (ys : List Y) → AllZip R xs ys → list_any p xs ≡ list_any q ys
-any_zip R p q f [] [] zip = refl
-any_zip R p q f [] (y ∷ ys) zip = absurd zip
-any_zip R p q f (x ∷ xs) [] zip = absurd zip
-any_zip R p q f (x ∷ xs) (y ∷ ys) zip = ap (λ b. b || list_any p xs) (f x y zip.0) ∙ ap (λ b. q y || b) (any_zip R p q f xs ys zip.1)
+any_zip R p q f xs ys zip = sym (any_map p (λ b. b) xs) ∙ ap (list_any (λ b. b)) (zip_map R p q f xs ys zip) ∙ any_map q (λ b. b) ys
 
 -- the first elements and one more
 pub none_more : {X : Type 0} (p : X → Bool) (xs : List X) (n : ℕ) (x : X) → list_any p (take n xs) ≡ false → slice_get xs n ≡ Some x → p x ≡ false → list_any p (take (n + 1) xs) ≡ false

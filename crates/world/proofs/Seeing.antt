@@ -26,21 +26,6 @@ seen {X} {E} Answer {old} {new} {r} {x} is looks = record { stays = looks_stays 
     it : Looks {X = X} {E = E} (Sees Answer) old new (Ok x)
     it = subst (Looks (Sees Answer) old new) is looks
 
--- and one more
-pub seen_then : {X E : Type 0} {Fact : Frame → Package → Type 0} (Answer : Frame → Package → X → Type 0) {a b c : State} {r : Result X E} {x : X} → Seen Fact a b → r ≡ Ok x → Looks {X = X} {E = E} (Sees Answer) b c r → Seen (λ f p. Fact f p × Answer f p x) a c
-seen_then {Fact} Answer {a} {b} {c} {r} {x} first is looks = record {
-  stays = stays_then first.stays next.stays;
-  stays_open = next.stays_open;
-  told = λ clean.
-      let before : HasCleanDisk b = omega (arith, next.stays.survives.clean, clean) in
-      let d = first.told before in
-      let e = next.told clean in
-      (d.0, (e.1.0 ∙ d.1.0, λ f p reads. (d.1.1 f p reads, e.1.1 f p (subst (Reads f p) (sym d.1.0) reads))));
-}
-  where
-    next : Seen (λ f p. Answer f p x) b c
-    next = seen Answer is looks
-
 -- what was found is judged
 pub judges : {X E : Type 0} {Fact : Frame → Package → Type 0} {Answer : Frame → Package → X → Type 0} {old new : State} {x : X} → Seen Fact old new
     → ((f : Frame) (p : Package) → Reads f p old.now → Fact f p → Answer f p x) → Judges {X = X} {E = E} Answer old new (Ok x)

@@ -22,15 +22,6 @@ use Rattle.world.specs.Members.{AllRest, AllClean, AllOpen, IsMember, AreMembers
 use Rattle.world.specs.declared.members.Member.{Member}
 use Rattle.world.proofs.Seeing.{stays_still}
 
--- two relations of one list, place by place
-pub zip_both : {X Y Z : Type 0} (P : X → Y → Type 0) (Q : X → Z → Type 0) (R : Y → Z → Type 0) → ((x : X) (y : Y) (z : Z) → P x y → Q x z → R y z) → (xs : List X) (ys : List Y) (zs : List Z) → AllZip P xs ys → AllZip Q xs zs → AllZip R ys zs
-zip_both P Q R f [] [] [] one two = tt
-zip_both P Q R f [] [] (z ∷ zs) one two = absurd two
-zip_both P Q R f [] (y ∷ ys) zs one two = absurd one
-zip_both P Q R f (x ∷ xs) [] zs one two = absurd one
-zip_both P Q R f (x ∷ xs) (y ∷ ys) [] one two = absurd two
-zip_both P Q R f (x ∷ xs) (y ∷ ys) (z ∷ zs) one two = (f x y z one.0 two.0, zip_both P Q R f xs ys zs one.1 two.1)
-
 -- one relation after another
 zip_then : {X Y Z : Type 0} (P : X → Y → Type 0) (Q : Y → Z → Type 0) (R : X → Z → Type 0) → ((x : X) (y : Y) (z : Z) → P x y → Q y z → R x z) → (xs : List X) (ys : List Y) (zs : List Z) → AllZip P xs ys → AllZip Q ys zs → AllZip R xs zs
 zip_then P Q R f [] [] [] one two = tt
@@ -39,6 +30,17 @@ zip_then P Q R f [] (y ∷ ys) zs one two = absurd one
 zip_then P Q R f (x ∷ xs) [] zs one two = absurd one
 zip_then P Q R f (x ∷ xs) (y ∷ ys) [] one two = absurd two
 zip_then P Q R f (x ∷ xs) (y ∷ ys) (z ∷ zs) one two = (f x y z one.0 two.0, zip_then P Q R f xs ys zs one.1 two.1)
+
+-- a relation, looked at from the other list
+zip_turned : {X Y : Type 0} (R : X → Y → Type 0) (xs : List X) (ys : List Y) → AllZip R xs ys → AllZip (λ y x. R x y) ys xs
+zip_turned R [] [] zip = tt
+zip_turned R [] (y ∷ ys) zip = absurd zip
+zip_turned R (x ∷ xs) [] zip = absurd zip
+zip_turned R (x ∷ xs) (y ∷ ys) zip = (zip.0, zip_turned R xs ys zip.1)
+
+-- two relations of one list, place by place
+pub zip_both : {X Y Z : Type 0} (P : X → Y → Type 0) (Q : X → Z → Type 0) (R : Y → Z → Type 0) → ((x : X) (y : Y) (z : Z) → P x y → Q x z → R y z) → (xs : List X) (ys : List Y) (zs : List Z) → AllZip P xs ys → AllZip Q xs zs → AllZip R ys zs
+zip_both P Q R f xs ys zs one two = zip_then (λ y x. P x y) Q R (λ y x z. f x y z) ys xs zs (zip_turned P xs ys one) two
 
 -- what each of the one list has by its place in the other
 zip_each : {X Y : Type 0} (R : X → Y → Type 0) (P : Y → Type 0) (Q : X → Type 0) → ((x : X) (y : Y) → R x y → P y → Q x) → (xs : List X) (ys : List Y) → AllZip R xs ys → AllByRecursion P ys → AllByRecursion Q xs

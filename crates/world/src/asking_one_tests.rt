@@ -2,19 +2,19 @@
 use crate::asking::are_at_rest;
 use crate::asking_one::{item_at, refusal_at, thing_moved};
 use crate::members::Member;
+use crate::values::member_of;
 use package_tables::fault::Fault;
 use package_tables::identities::insert_identity;
 use package_tables::schema::create_schema;
 use package_tables::tiles::insert_tile;
-use sheet_types::collections::Bytes;
-use sheet_types::command::{Command, Content, Item, Mapping};
+use sheet_types::command::{Command, Item, Mapping};
 use sheet_types::receipt::{Moved, MovedKind};
 use sheet_types::refusal::Refusal;
 use sql_meaning::resting::is_at_rest;
 use sqlite::{Alter, Connection};
 use std::alloc::Global;
 use std::test::Fail;
-use test_values::{FRAME, NOTHING, is_good};
+use test_values::{FRAME, NOTHING, is_good, tile_content};
 use uuid::Uuid;
 
 fn package() -> Uuid {
@@ -44,18 +44,6 @@ fn filled<S: Alter>(conn: &mut Connection<S>, with_tile: bool) -> Result<(), Fau
     Ok(())
 }
 
-fn member<S: Alter + Drop>(conn: Connection<S>, uuid: Uuid) -> Member<S> {
-    Member {
-        conn,
-        uuid,
-        parent: None,
-        depth: 0,
-        loan: 0,
-        sums: NOTHING,
-        ticket: 0,
-    }
-}
-
 fn two<S: Alter + Drop>(
     alloc: Global,
     first: Connection<S>,
@@ -66,8 +54,8 @@ fn two<S: Alter + Drop>(
     filled(&mut first, false)?;
     filled(&mut second, true)?;
     let mut members = Vec::new(alloc);
-    members.push(member(first, Uuid::from_u128(8)))?;
-    members.push(member(second, package()))?;
+    members.push(member_of(first, Uuid::from_u128(8), NOTHING, 0))?;
+    members.push(member_of(second, package(), NOTHING, 0))?;
     Ok(members)
 }
 
@@ -108,12 +96,7 @@ fn added(alloc: Global, row: i64) -> Result<Command, Fault> {
     Ok(Command::Add {
         package: package(),
         identity: medium(),
-        content: Content::Tile {
-            zoom: 2,
-            column: 3,
-            row,
-            bytes: Bytes::from_vec(b"abc".to_vec(alloc)?),
-        },
+        content: tile_content(alloc, [2, 3, row], b"abc")?,
     })
 }
 

@@ -1,12 +1,11 @@
 // Each command that changes one package, carried out with its receipt in a new package in memory. What is expected follows from what the command asks for.
 
 use crate::carrying_out::{TurnFault, apply_to_package};
-use crate::values::{MADE, receipt_of};
+use crate::values::{MADE, add_medium};
 use custody::names;
 use identity_register::look_ups::{find, has_link};
 use package_tables::fault::Fault;
 use package_tables::fixed::all_contents;
-use sheet_types::collections::Bytes;
 use sheet_types::command::{Command, Content, Mapping, Relation};
 use sheet_types::receipt::{Moved, MovedKind, Receipt};
 use sheet_types::refusal::Refusal;
@@ -14,7 +13,7 @@ use sql_meaning::resting::is_at_rest;
 use sqlite::{Alter, Connection};
 use std::alloc::Global;
 use std::test::Fail;
-use test_values::{NOTHING, empty_package, text};
+use test_values::{NOTHING, empty_package, receipt_of, tile_content};
 use uuid::Uuid;
 
 fn package() -> Uuid {
@@ -102,26 +101,14 @@ fn add_tile<S: Alter>(alloc: Global, conn: &mut Connection<S>, seq: u64) -> Resu
     let command = Command::Add {
         package: package(),
         identity: tile(),
-        content: Content::Tile {
-            zoom: 2,
-            column: 3,
-            row: 1,
-            bytes: Bytes::from_vec(b"ab".to_vec(alloc)?),
-        },
+        content: tile_content(alloc, [2, 3, 1], b"ab")?,
     };
     let receipt = receipt(alloc, seq, MovedKind::TileItem, tile(), None)?;
     carried(conn, &command, &receipt)
 }
 
-fn add_medium<S: Alter>(alloc: Global, conn: &mut Connection<S>, seq: u64) -> Result<(), Fault> {
-    let command = Command::Add {
-        package: package(),
-        identity: medium(),
-        content: Content::Media {
-            content_type: text(alloc, "image/png")?,
-            bytes: Bytes::from_vec(b"png".to_vec(alloc)?),
-        },
-    };
+fn bring_medium<S: Alter>(alloc: Global, conn: &mut Connection<S>, seq: u64) -> Result<(), Fault> {
+    let command = add_medium(alloc, package(), medium())?;
     let receipt = receipt(alloc, seq, MovedKind::MediaItem, medium(), None)?;
     carried(conn, &command, &receipt)
 }
@@ -180,7 +167,7 @@ fn a_link_comes_and_goes(rt: HostRuntime) -> Result<(), Fail> {
     let alloc = rt.alloc();
     let mut conn = empty_package(alloc, Connection::open_in_memory(alloc)?, package(), MADE)?;
     add_tile(alloc, &mut conn, 1)?;
-    add_medium(alloc, &mut conn, 2)?;
+    bring_medium(alloc, &mut conn, 2)?;
     link(alloc, &mut conn, 3)?;
     assert!(rt; is_linked(&mut conn)?);
     unlink(alloc, &mut conn, 4)?;

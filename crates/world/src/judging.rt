@@ -6,9 +6,7 @@ ghost use Rattle.sheet_types.specs.Matrix.{is_good_frame, first_row};
 ghost use Rattle.world.specs.Calls.{Judges};
 ghost use Rattle.world.specs.Reasons.{tile_reasons, content_reasons, delete_reasons, link_reasons, reason_told, unlink_reasons, package_reasons};
 
-use identity_register::look_ups::{
-    LinkState, has_link, has_tile_at, is_linked, kind_of_item, link_state,
-};
+use identity_register::look_ups::{LinkState, has_link, has_tile_at, is_linked, link_state};
 use matrix_rules::ground::{has_place, in_frame};
 use package_tables::fault::Fault;
 use sheet_types::command::{Command, Content, Relation};
@@ -68,11 +66,10 @@ fn refusal_of_delete<S: Alter>(
     requires { Rests (state S.Store conn.old) }
     ensures { Judges (λ f p found. found ≡ first_row (delete_reasons p identity)) (state S.Store conn.old) (state S.Store conn.new) result }
 {
-    if kind_of_item(conn, identity)?.is_none() {
-        return Ok(Some(Refusal::UnknownItem));
+    match is_linked(conn, identity)? {
+        None => Ok(Some(Refusal::UnknownItem)),
+        Some(linked) => Ok(linked.then_some(Refusal::Linked)),
     }
-    let linked = is_linked(conn, identity)?;
-    Ok(linked.then_some(Refusal::Linked))
 }
 
 /// Why a link does not come in that stands so.

@@ -1,61 +1,21 @@
 // What a world in memory tells after a few requests, and what two members tell. What is expected follows from what each request asks for: an item counts the bytes of its tile, medium or label.
 use crate::applying::is_served;
 use crate::asking::are_at_rest;
-use crate::carrying_out::apply_to_package;
 use crate::members::Member;
 use crate::reading::{PackageSight, holdings_in, sights_of, sums_in};
-use crate::values::{MADE, ONE_MEDIUM, add_medium, moved_medium, receipt_of};
+use crate::values::{item, member_with_a_medium, package, request};
 use crate::world::World;
 use identity_register::whole::holdings;
 use package_tables::fault::Fault;
-use sheet_types::collections::Bytes;
 use sheet_types::command::{Command, Content, Item, Mapping, Relation, Request};
-use sheet_types::receipt::{Receipt, Sums};
 use shelves::memory::MemoryShelf;
 use shelves::shelf::Shelf;
 use sql_meaning::resting::is_at_rest;
 use sqlite::{Alter, Connection, MemStore};
 use std::alloc::Global;
 use std::test::Fail;
-use test_values::{AT, FRAME, NOTHING, empty_package, text};
+use test_values::{AT, FRAME, NOTHING, medium_content, row_content, sums, text, tile_content};
 use uuid::Uuid;
-
-fn package(number: u64) -> Uuid {
-    Uuid::from_u128(u128::from(number))
-}
-
-fn item(number: u64) -> Uuid {
-    Uuid::from_u128(u128::from(number | 16))
-}
-
-fn request(number: u64) -> Uuid {
-    Uuid::from_u128(u128::from(number | 32))
-}
-
-fn tile(alloc: Global, bytes: &[u8]) -> Result<Content, Fault> {
-    Ok(Content::Tile {
-        zoom: 2,
-        column: 3,
-        row: 1,
-        bytes: Bytes::from_vec(Vec::from_slice(alloc, bytes)?),
-    })
-}
-
-fn medium(alloc: Global, bytes: &[u8]) -> Result<Content, Fault> {
-    Ok(Content::Media {
-        content_type: text(alloc, "image/png")?,
-        bytes: Bytes::from_vec(Vec::from_slice(alloc, bytes)?),
-    })
-}
-
-fn row(alloc: Global, label: &str) -> Result<Content, Fault> {
-    Ok(Content::Row {
-        x: 5,
-        y: 6,
-        code: 7,
-        label: text(alloc, label)?,
-    })
-}
 
 // An archive in memory, of package 1.
 fn archive(alloc: Global) -> Result<World<MemStore>, Fail> {
@@ -152,10 +112,10 @@ fn are_links(links: &[Relation], expected: &[Relation]) -> bool {
 
 // Four items and three links, added in another order than that in which they are told.
 fn filled(world: &mut World<MemStore>, alloc: Global) -> Result<u64, Fail> {
-    added(world, alloc, 1, row(alloc, "mark")?)?;
-    added(world, alloc, 3, medium(alloc, b"c")?)?;
-    added(world, alloc, 2, medium(alloc, b"png")?)?;
-    added(world, alloc, 4, tile(alloc, b"ab")?)?;
+    added(world, alloc, 1, row_content(alloc, [5, 6], 7, "mark")?)?;
+    added(world, alloc, 3, medium_content(alloc, "image/png", b"c")?)?;
+    added(world, alloc, 2, medium_content(alloc, "image/png", b"png")?)?;
+    added(world, alloc, 4, tile_content(alloc, [2, 3, 1], b"ab")?)?;
     linked(world, alloc, 5, link(Mapping::RowsMedia, 1, 2))?;
     linked(world, alloc, 6, link(Mapping::TilesMedia, 4, 3))?;
     linked(world, alloc, 7, link(Mapping::TilesMedia, 4, 2))
@@ -200,13 +160,7 @@ fn an_archive_after_a_few_requests(rt: HostRuntime) -> Result<(), Fail> {
         link(Mapping::RowsMedia, 1, 2),
     ];
     assert!(rt; are_links(links.as_slice(), &expected));
-    let held = Sums {
-        tiles: 1,
-        media: 2,
-        rows: 1,
-        links: 3,
-        bytes: 10,
-    };
+    let held = sums(1, 2, 1, 3, 10);
     assert!(rt; world.sums(package(1)) == Some(held));
     let sights = world.packages(alloc)?;
     assert_eq!(rt; sights.len(), 1);
@@ -263,44 +217,18 @@ fn the_stores_of_a_world(rt: HostRuntime) -> Result<(), Fail> {
     Ok(())
 }
 
-// The receipt of the medium of a package, numbered as the package is.
-fn receipt(alloc: Global, number: u64) -> Result<Receipt, Fault> {
-    let thing = moved_medium(item(number));
-    receipt_of(
-        alloc,
-        number,
-        request(number),
-        package(number),
-        thing,
-        ONE_MEDIUM,
-    )
-}
-
 // A loan of package 1, two levels below an archive, with one medium.
 fn member<S: Alter + Drop>(
     alloc: Global,
     conn: Connection<S>,
     number: u64,
 ) -> Result<Member<S>, Fault> {
-    let mut conn = empty_package(alloc, conn, package(number), MADE)?;
-    let command = add_medium(alloc, package(number), item(number))?;
-    let receipt = receipt(alloc, number)?;
-    if !is_at_rest(&conn) {
-        return Err(Fault::StoreFault);
-    }
-    apply_to_package(&mut conn, &command, &receipt)?;
-    Ok(Member {
-        conn,
-        uuid: package(number),
-        parent: Some(package(1)),
-        depth: 2,
-        loan: 1,
-        sums: Sums {
-            media: number,
-            ..NOTHING
-        },
-        ticket: number,
-    })
+    let mut member = member_with_a_medium(alloc, conn, number, number)?;
+    member.parent = Some(package(1));
+    member.depth = 2;
+    member.loan = 1;
+    member.sums = sums(0, number, 0, 0, 0);
+    Ok(member)
 }
 
 fn two(alloc: Global) -> Result<Vec<Member<MemStore>>, Fault> {
@@ -335,10 +263,7 @@ fn each_of_two_members(rt: HostRuntime) -> Result<(), Fail> {
     assert!(rt; holds(&mut members, alloc, 3)?);
     assert!(rt; !holds(&mut members, alloc, 1)?);
     for number in 2..4_u64 {
-        let held = Sums {
-            media: number,
-            ..NOTHING
-        };
+        let held = sums(0, number, 0, 0, 0);
         assert!(rt; sums_in(members.as_slice(), package(number)) == Some(held));
     }
     assert!(rt; sums_in(members.as_slice(), package(1)).is_none());

@@ -1,40 +1,24 @@
 // Receipts field by field, by the rules. The digest is that of `tile 2 3 3`, LF and `A` by another program's SHA-256.
 use crate::receipts::receipt_over;
-use sheet_types::collections::{Bytes, Text};
+use package_tables::fault::Fault;
 use sheet_types::command::{Command, Content, Mapping, Relation, Request};
-use sheet_types::error::OutOfMemory;
 use sheet_types::fingerprints::spell;
 use sheet_types::receipt::{Moved, MovedKind, Receipt};
 use std::alloc::Global;
 use std::process::Abort;
 use std::test::Fail;
-use uuid::Uuid;
-
-const AT: &str = "2026-11-22T09:00:00.000Z";
+use test_values::{AT, archive, counts, item, question, sums, text, tile_content};
 
 const DIGEST: &str = "b363ee0ecc9cf61b12ecdafd75dca2779729b4fcc5f1bd718c33aad2c94af4f8";
 
-fn archive() -> Uuid {
-    Uuid::from_u128(0xa0000000_0000_4000_8000_000000000000)
+fn tile(alloc: Global) -> Result<Content, Fault> {
+    tile_content(alloc, [2, 3, 3], b"A")
 }
 
-fn identity(number: u8) -> Uuid {
-    Uuid::from_u128(0x00000000_0000_4000_8000_000000000000 | u128::from(number))
-}
-
-fn tile(alloc: Global) -> Result<Content, OutOfMemory> {
-    Ok(Content::Tile {
-        zoom: 2,
-        column: 3,
-        row: 3,
-        bytes: Bytes::from_vec(Vec::from_slice(alloc, b"A")?),
-    })
-}
-
-fn asked(alloc: Global, command: Command) -> Result<Request, OutOfMemory> {
+fn asked(alloc: Global, command: Command) -> Result<Request, Fault> {
     Ok(Request {
-        id: identity(9),
-        at: Text::from_string(String::from_str(alloc, AT)?),
+        id: question(9),
+        at: text(alloc, AT)?,
         command,
     })
 }
@@ -42,26 +26,18 @@ fn asked(alloc: Global, command: Command) -> Result<Request, OutOfMemory> {
 // What every receipt of one thing has of its request.
 fn expect_asked(rt: &impl Abort, receipt: &Receipt, seq: u64, thing: Moved) {
     assert_eq!(rt; receipt.seq, seq);
-    assert!(rt; receipt.request == identity(9));
+    assert!(rt; receipt.request == question(9));
     assert_eq!(rt; receipt.at.as_str(), AT);
     assert_eq!(rt; receipt.items.as_slice().len(), 1);
     assert!(rt; receipt.items.as_slice()[0] == thing);
 }
 
-fn expect_sums(rt: &impl Abort, receipt: &Receipt, wanted: [u64; 5]) {
-    assert_eq!(rt; receipt.tiles, wanted[0]);
-    assert_eq!(rt; receipt.media, wanted[1]);
-    assert_eq!(rt; receipt.rows, wanted[2]);
-    assert_eq!(rt; receipt.links, wanted[3]);
-    assert_eq!(rt; receipt.bytes, wanted[4]);
-}
-
 #[test]
 fn tile_added(rt: HostRuntime) -> Result<(), Fail> {
     let alloc = rt.alloc();
-    let thing = Moved::of_content(identity(1), &tile(alloc)?);
+    let thing = Moved::of_content(item(1), &tile(alloc)?);
     assert!(rt; thing.kind == MovedKind::TileItem);
-    assert!(rt; thing.base == identity(1));
+    assert!(rt; thing.base == item(1));
     assert!(rt; thing.other.is_none());
     assert_eq!(rt; thing.size, 1);
     let Some(digest) = thing.fingerprint else {
@@ -73,7 +49,7 @@ fn tile_added(rt: HostRuntime) -> Result<(), Fail> {
         alloc,
         Command::Add {
             package: archive(),
-            identity: identity(1),
+            identity: item(1),
             content: tile(alloc)?,
         },
     )?;
@@ -85,7 +61,7 @@ fn tile_added(rt: HostRuntime) -> Result<(), Fail> {
     );
     assert!(rt; receipt.source.is_none());
     assert!(rt; receipt.target == Some(archive()));
-    expect_sums(&rt, &receipt, [1, 0, 0, 0, 1]);
+    assert!(rt; counts(&receipt) == sums(1, 0, 0, 0, 1));
     Ok(())
 }
 
@@ -94,8 +70,8 @@ fn row_linked(rt: HostRuntime) -> Result<(), Fail> {
     let alloc = rt.alloc();
     let link = Relation {
         mapping: Mapping::RowsMedia,
-        base: identity(1),
-        media: identity(3),
+        base: item(1),
+        media: item(3),
     };
     let thing = Moved::of_link(&link);
     let request = asked(
@@ -116,19 +92,19 @@ fn row_linked(rt: HostRuntime) -> Result<(), Fail> {
     );
     assert!(rt; receipt.source.is_none());
     assert!(rt; receipt.target == Some(archive()));
-    expect_sums(&rt, &receipt, [0, 0, 0, 1, 0]);
+    assert!(rt; counts(&receipt) == sums(0, 0, 0, 1, 0));
     Ok(())
 }
 
 #[test]
 fn tile_deleted(rt: HostRuntime) -> Result<(), Fail> {
     let alloc = rt.alloc();
-    let thing = Moved::of_content(identity(1), &tile(alloc)?);
+    let thing = Moved::of_content(item(1), &tile(alloc)?);
     let request = asked(
         alloc,
         Command::Delete {
             package: archive(),
-            identity: identity(1),
+            identity: item(1),
         },
     )?;
     let receipt = receipt_over(alloc, 2, &request, thing)?;
@@ -139,6 +115,6 @@ fn tile_deleted(rt: HostRuntime) -> Result<(), Fail> {
     );
     assert!(rt; receipt.source == Some(archive()));
     assert!(rt; receipt.target.is_none());
-    expect_sums(&rt, &receipt, [1, 0, 0, 0, 1]);
+    assert!(rt; counts(&receipt) == sums(1, 0, 0, 0, 1));
     Ok(())
 }

@@ -2,7 +2,6 @@
 use crate::judging::package_refusal;
 use crate::texts::text_refusal;
 use package_tables::fault::Fault;
-use sheet_types::collections::{Bytes, Text};
 use sheet_types::command::{Command, Content, Mapping, Mode, Request};
 use sheet_types::frame::{Frame, Rect};
 use sheet_types::refusal::Refusal;
@@ -10,12 +9,10 @@ use sql_meaning::resting::is_at_rest;
 use sqlite::{Alter, Connection};
 use std::alloc::Global;
 use std::test::Fail;
-use test_values::{AT, FRAME, fill_with_a_link, is_good};
+use test_values::{
+    AT, FRAME, archive, fill_with_a_link, is_good, medium_content, row_content, text, tile_content,
+};
 use uuid::Uuid;
-
-fn package() -> Uuid {
-    Uuid::from_u128(0xa0000000_0000_4000_8000_000000000000)
-}
 
 fn number(refusal: Option<Refusal>) -> u8 {
     match refusal {
@@ -24,40 +21,29 @@ fn number(refusal: Option<Refusal>) -> u8 {
     }
 }
 
-fn repeated(alloc: Global, part: &str, times: usize) -> Result<Text, Fault> {
-    let mut inner = String::new(alloc);
-    for _ in 0..times {
-        inner.push_str(part)?;
-    }
-    Ok(Text::from_string(inner))
-}
-
 fn added(content: Content) -> Command {
     Command::Add {
-        package: package(),
+        package: archive(),
         identity: Uuid::from_u128(9),
         content,
     }
 }
 
-fn tile(alloc: Global, zoom: i64, column: i64, row: i64, bytes: &[u8]) -> Result<Command, Fault> {
-    Ok(added(Content::Tile {
-        zoom,
-        column,
-        row,
-        bytes: Bytes::from_vec(bytes.to_vec(alloc)?),
-    }))
+fn tile(alloc: Global, place: [i64; 3], bytes: &[u8]) -> Result<Command, Fault> {
+    Ok(added(tile_content(alloc, place, bytes)?))
 }
 
-fn medium(content_type: Text, bytes: Bytes) -> Command {
-    added(Content::Media {
-        content_type,
-        bytes,
-    })
+fn medium(alloc: Global, content_type: &str) -> Result<Command, Fault> {
+    Ok(added(medium_content(alloc, content_type, b"png")?))
 }
 
-fn attributes_row(x: i64, y: i64, code: i64, label: Text) -> Command {
-    added(Content::Row { x, y, code, label })
+fn attributes_row(
+    alloc: Global,
+    point: [i64; 2],
+    code: i64,
+    label: &str,
+) -> Result<Command, Fault> {
+    Ok(added(row_content(alloc, point, code, label)?))
 }
 
 // ---- texts and sizes
@@ -65,7 +51,7 @@ fn attributes_row(x: i64, y: i64, code: i64, label: Text) -> Command {
 fn asked(alloc: Global, at: &str, command: Command) -> Result<u8, Fault> {
     let request = Request {
         id: Uuid::from_u128(1),
-        at: repeated(alloc, at, 1)?,
+        at: text(alloc, at)?,
         command,
     };
     Ok(number(text_refusal(&request)))
@@ -81,13 +67,13 @@ fn moments(rt: HostRuntime) -> Result<(), Fail> {
         ("2026-11-22 09:00:00.000Z", 4),
     ] {
         assert_eq!(rt;
-            asked(alloc, at, tile(alloc, 0, 0, 0, b"a")?)?,
+            asked(alloc, at, tile(alloc, [0, 0, 0], b"a")?)?,
             wanted,
             "at {at}"
         );
     }
-    assert_eq!(rt; asked(alloc, AT, tile(alloc, 0, 0, 0, b"")?)?, 5);
-    assert_eq!(rt; asked(alloc, "", tile(alloc, 0, 0, 0, b"")?)?, 4);
+    assert_eq!(rt; asked(alloc, AT, tile(alloc, [0, 0, 0], b"")?)?, 5);
+    assert_eq!(rt; asked(alloc, "", tile(alloc, [0, 0, 0], b"")?)?, 4);
     Ok(())
 }
 
@@ -102,8 +88,7 @@ fn content_types(rt: HostRuntime) -> Result<(), Fail> {
         ("\u{e4}", 1, 4),
         ("\u{e4}", 101, 4),
     ] {
-        let bytes = Bytes::from_vec(b"png".to_vec(alloc)?);
-        let command = medium(repeated(alloc, part, times)?, bytes);
+        let command = medium(alloc, part.repeat(alloc, times)?.as_str())?;
         assert_eq!(rt; asked(alloc, AT, command)?, wanted, "at {times} of {part}");
     }
     Ok(())
@@ -124,7 +109,7 @@ fn labels(rt: HostRuntime) -> Result<(), Fail> {
         ("\u{e4}", 100, 0, 0),
         ("\u{e4}", 101, 0, 5),
     ] {
-        let command = attributes_row(0, 0, code, repeated(alloc, part, times)?);
+        let command = attributes_row(alloc, [0, 0], code, part.repeat(alloc, times)?.as_str())?;
         assert_eq!(rt; asked(alloc, AT, command)?, wanted, "at {times} of {part}");
     }
     Ok(())
@@ -158,7 +143,7 @@ fn items_that_come(rt: HostRuntime) -> Result<(), Fail> {
         (2, -1, 0, 9),
         (3, 0, 0, 9),
     ] {
-        let command = tile(alloc, zoom, column, row, b"a")?;
+        let command = tile(alloc, [zoom, column, row], b"a")?;
         assert_eq!(rt;
             judged(&mut conn, &FRAME, &command)?,
             wanted,
@@ -171,11 +156,10 @@ fn items_that_come(rt: HostRuntime) -> Result<(), Fail> {
         (0, 0, 10),
         (4096, 1, 10),
     ] {
-        let command = attributes_row(x, y, 0, repeated(alloc, "well", 1)?);
+        let command = attributes_row(alloc, [x, y], 0, "well")?;
         assert_eq!(rt; judged(&mut conn, &FRAME, &command)?, wanted, "at {x} {y}");
     }
-    let bytes = Bytes::from_vec(b"png".to_vec(alloc)?);
-    let command = medium(repeated(alloc, "image/png", 1)?, bytes);
+    let command = medium(alloc, "image/png")?;
     assert_eq!(rt; judged(&mut conn, &FRAME, &command)?, 0);
     Ok(())
 }
@@ -186,7 +170,7 @@ fn items_that_go(rt: HostRuntime) -> Result<(), Fail> {
     assert!(rt; fill_with_a_link(&mut conn)?);
     for (id, wanted) in [(1u128, 14u8), (2, 14), (3, 0), (9, 7)] {
         let command = Command::Delete {
-            package: package(),
+            package: archive(),
             identity: Uuid::from_u128(id),
         };
         assert_eq!(rt; judged(&mut conn, &FRAME, &command)?, wanted, "at {id}");
@@ -212,14 +196,14 @@ fn links(rt: HostRuntime) -> Result<(), Fail> {
         let base = Uuid::from_u128(base);
         let media = Uuid::from_u128(media);
         let link = Command::Link {
-            package: package(),
+            package: archive(),
             mapping,
             base,
             media,
         };
         assert_eq!(rt; judged(&mut conn, &FRAME, &link)?, coming);
         let unlink = Command::Unlink {
-            package: package(),
+            package: archive(),
             mapping,
             base,
             media,
@@ -234,7 +218,7 @@ fn a_split_has_none_of_these(rt: HostRuntime) -> Result<(), Fail> {
     let mut conn = Connection::open_in_memory(rt.alloc())?;
     assert!(rt; fill_with_a_link(&mut conn)?);
     let command = Command::Split {
-        package: package(),
+        package: archive(),
         child: Uuid::from_u128(8),
         mode: Mode::Strict,
         rect: Rect {

@@ -1,57 +1,28 @@
 // What a package holds after each command, and what is too many, by the rules: a package holds up to 1 000 000 items of a kind and 4 000 000 links, there are up to 256 packages and 1 000 000 000 receipts.
-use crate::members::Member;
 use crate::sums::{sums_after, sums_moved};
 use crate::too_many::{any_past_limits, is_past_limits, is_too_many};
-use sheet_types::collections::{Bytes, MovedList, Text};
-use sheet_types::command::{Command, Content, Mapping};
-use sheet_types::receipt::{Receipt, Sums};
-use sqlite::{Alter, Connection};
+use crate::values::member_of;
+use sheet_types::command::{Command, Mapping};
+use sqlite::Connection;
 use std::test::Fail;
+use test_values::{moved_medium, receipt_of, sums, tile_content};
 use uuid::Uuid;
 
 fn identity(number: u128) -> Uuid {
     Uuid::from_u128(number)
 }
 
-fn sums(tiles: u64, media: u64, rows: u64, links: u64, bytes: u64) -> Sums {
-    Sums {
-        tiles,
-        media,
-        rows,
-        links,
-        bytes,
-    }
-}
-
-fn member<S: Alter + Drop>(conn: Connection<S>, number: u128, sums: Sums) -> Member<S> {
-    Member {
-        conn,
-        uuid: identity(number),
-        parent: None,
-        depth: 0,
-        loan: 0,
-        sums,
-        ticket: 0,
-    }
-}
-
 #[test]
 fn moved_by_a_receipt(rt: HostRuntime) -> Result<(), Fail> {
-    let alloc = rt.alloc();
-    let receipt = Receipt {
-        seq: 1,
-        request: identity(1),
-        at: Text::from_string(String::new(alloc)),
-        line: Text::from_string(String::new(alloc)),
-        source: None,
-        target: None,
-        items: MovedList::from_vec(Vec::new(alloc)),
-        tiles: 1,
-        media: 2,
-        rows: 3,
-        links: 4,
-        bytes: 5,
-    };
+    let thing = moved_medium(identity(2));
+    let receipt = receipt_of(
+        rt.alloc(),
+        1,
+        identity(1),
+        identity(3),
+        thing,
+        sums(1, 2, 3, 4, 5),
+    )?;
     assert!(rt; sums_moved(&receipt) == sums(1, 2, 3, 4, 5));
     Ok(())
 }
@@ -61,12 +32,7 @@ fn held_after_an_addition_and_a_deletion(rt: HostRuntime) -> Result<(), Fail> {
     let add = Command::Add {
         package: identity(1),
         identity: identity(2),
-        content: Content::Tile {
-            zoom: 0,
-            column: 0,
-            row: 0,
-            bytes: Bytes::from_vec(Vec::from_slice(rt.alloc(), b"abc")?),
-        },
+        content: tile_content(rt.alloc(), [0, 0, 0], b"abc")?,
     };
     let delete = Command::Delete {
         package: identity(1),
@@ -118,8 +84,8 @@ fn limits_of_the_members(rt: HostRuntime) -> Result<(), Fail> {
     let most = sums(1_000_000, 0, 0, 0, 1_000_000);
     let past = sums(1_000_001, 0, 0, 0, 1_000_001);
     let mut members = Vec::new(alloc);
-    members.push(member(Connection::open_in_memory(alloc)?, 1, most))?;
-    members.push(member(Connection::open_in_memory(alloc)?, 2, past))?;
+    members.push(member_of(Connection::open_in_memory(alloc)?, identity(1), most, 0))?;
+    members.push(member_of(Connection::open_in_memory(alloc)?, identity(2), past, 0))?;
     assert!(rt; any_past_limits(members.as_slice(), 0, most));
     assert!(rt; !any_past_limits(members.as_slice(), 1, most));
     assert!(rt; any_past_limits(members.as_slice(), 1, past));
@@ -136,10 +102,15 @@ fn limit_of_packages(rt: HostRuntime) -> Result<(), Fail> {
     let none = sums(0, 0, 0, 0, 0);
     let mut members = Vec::new(alloc);
     for number in 0..256u64 {
-        members.push(member(Connection::open_in_memory(alloc)?, u128::from(number), none))?;
+        members.push(member_of(
+            Connection::open_in_memory(alloc)?,
+            identity(u128::from(number)),
+            none,
+            0,
+        ))?;
     }
     assert!(rt; !is_too_many(members.as_slice(), 0, none, 1));
-    members.push(member(Connection::open_in_memory(alloc)?, 256, none))?;
+    members.push(member_of(Connection::open_in_memory(alloc)?, identity(256), none, 0))?;
     assert!(rt; is_too_many(members.as_slice(), 0, none, 1));
     Ok(())
 }

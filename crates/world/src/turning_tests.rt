@@ -4,7 +4,7 @@ use crate::asking::are_at_rest;
 use crate::members::Member;
 use crate::sums::{sums_after, sums_moved};
 use crate::turning::turn_at;
-use crate::values::{MADE, ONE_MEDIUM, add_medium, moved_medium, receipt_of};
+use crate::values::{MADE, add_medium, member_of, package};
 use identity_register::look_ups::find;
 use package_tables::fault::Fault;
 use sheet_types::command::{Command, Mode};
@@ -14,42 +14,25 @@ use sql_meaning::resting::is_at_rest;
 use sqlite::{Alter, Connection};
 use std::alloc::Global;
 use std::test::Fail;
-use test_values::{NOTHING, empty_package};
+use test_values::{NOTHING, ONE_MEDIUM, empty_package, moved_medium, receipt_of, sums};
 use uuid::Uuid;
-
-fn package(number: u128) -> Uuid {
-    Uuid::from_u128(number)
-}
 
 fn medium() -> Uuid {
     Uuid::from_u128(16)
 }
 
-fn sums(media: u64, bytes: u64) -> Sums {
-    Sums {
-        tiles: 0,
-        media,
-        rows: 0,
-        links: 0,
-        bytes,
-    }
+fn of_media(media: u64, bytes: u64) -> Sums {
+    sums(0, media, 0, 0, bytes)
 }
 
 // An empty package.
 fn member<S: Alter + Drop>(
     alloc: Global,
     conn: Connection<S>,
-    number: u128,
+    number: u64,
 ) -> Result<Member<S>, Fault> {
-    Ok(Member {
-        conn: empty_package(alloc, conn, package(number), MADE)?,
-        uuid: package(number),
-        parent: None,
-        depth: 0,
-        loan: 0,
-        sums: NOTHING,
-        ticket: 0,
-    })
+    let conn = empty_package(alloc, conn, package(number), MADE)?;
+    Ok(member_of(conn, package(number), NOTHING, 0))
 }
 
 // The receipt of this number for the medium, of 3 bytes.
@@ -136,14 +119,14 @@ fn one_member_turns(rt: HostRuntime) -> Result<(), Fail> {
     turned(&mut members, &adding(alloc)?, &receipt(alloc, 7)?)?;
     assert!(rt; holds(&mut members, 1)?);
     assert!(rt; !holds(&mut members, 0)?);
-    assert!(rt; keeps(members.as_slice(), 1, sums(1, 3), 7));
-    assert!(rt; keeps(members.as_slice(), 0, sums(0, 0), 0));
+    assert!(rt; keeps(members.as_slice(), 1, of_media(1, 3), 7));
+    assert!(rt; keeps(members.as_slice(), 0, of_media(0, 0), 0));
     assert!(rt; turned(&mut members, &splitting(), &receipt(alloc, 8)?).is_err());
-    assert!(rt; keeps(members.as_slice(), 1, sums(1, 3), 7));
+    assert!(rt; keeps(members.as_slice(), 1, of_media(1, 3), 7));
     assert!(rt; holds(&mut members, 1)?);
     turned(&mut members, &deleting(), &receipt(alloc, 8)?)?;
     assert!(rt; !holds(&mut members, 1)?);
-    assert!(rt; keeps(members.as_slice(), 1, sums(0, 0), 8));
+    assert!(rt; keeps(members.as_slice(), 1, of_media(0, 0), 8));
     Ok(())
 }
 
@@ -151,10 +134,12 @@ fn one_member_turns(rt: HostRuntime) -> Result<(), Fail> {
 fn sums_that_cannot_be_counted(rt: HostRuntime) -> Result<(), Fail> {
     let alloc = rt.alloc();
     let add = adding(alloc)?;
-    assert!(rt; sums_after(&add, sums(1, 3), sums(4, u64::MAX - 3)) == Some(sums(5, u64::MAX)));
-    assert!(rt; sums_after(&add, sums(1, 3), sums(4, u64::MAX - 2)).is_none());
-    assert!(rt; sums_after(&deleting(), sums(1, 3), sums(4, 3)) == Some(sums(3, 0)));
-    assert!(rt; sums_after(&deleting(), sums(1, 3), sums(4, 2)).is_none());
-    assert!(rt; sums_after(&splitting(), sums(1, 3), sums(4, 2)) == Some(sums(4, 2)));
+    assert!(rt;
+        sums_after(&add, of_media(1, 3), of_media(4, u64::MAX - 3)) == Some(of_media(5, u64::MAX))
+    );
+    assert!(rt; sums_after(&add, of_media(1, 3), of_media(4, u64::MAX - 2)).is_none());
+    assert!(rt; sums_after(&deleting(), of_media(1, 3), of_media(4, 3)) == Some(of_media(3, 0)));
+    assert!(rt; sums_after(&deleting(), of_media(1, 3), of_media(4, 2)).is_none());
+    assert!(rt; sums_after(&splitting(), of_media(1, 3), of_media(4, 2)) == Some(of_media(4, 2)));
     Ok(())
 }

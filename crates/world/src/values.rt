@@ -1,71 +1,74 @@
-// What the tests of single parts share: a moment, and receipts of one thing.
+// What the tests of single parts share: the moment of a new package, identities, the addition of a medium, and members.
 
+use crate::carrying_out::apply_to_package;
+use crate::members::Member;
 use package_tables::fault::Fault;
-use sheet_types::collections::{Bytes, MovedList};
-use sheet_types::command::{Command, Content};
-use sheet_types::receipt::{Moved, MovedKind, Receipt, Sums};
+use sheet_types::command::Command;
+use sheet_types::receipt::Sums;
+use sql_meaning::resting::is_at_rest;
+use sqlite::{Alter, Connection};
 use std::alloc::Global;
-use test_values::{AT, text};
+use test_values::{ONE_MEDIUM, empty_package, medium_content, moved_medium, receipt_of};
 use uuid::Uuid;
 
 // Before the first receipt.
 pub(crate) const MADE: &str = "2026-11-22T08:00:00.000Z";
 
-// What one medium of three bytes counts.
-pub(crate) const ONE_MEDIUM: Sums = Sums {
-    tiles: 0,
-    media: 1,
-    rows: 0,
-    links: 0,
-    bytes: 3,
-};
-
-// A medium of three bytes, as a receipt says that it moved.
-pub(crate) fn moved_medium(identity: Uuid) -> Moved {
-    Moved {
-        kind: MovedKind::MediaItem,
-        base: identity,
-        other: None,
-        size: 3,
-        fingerprint: None,
-    }
+pub(crate) fn package(number: u64) -> Uuid {
+    Uuid::from_u128(u128::from(number))
 }
 
-// The addition of that medium.
+// An item of the package of that number, and the request that brought it.
+pub(crate) fn item(number: u64) -> Uuid {
+    Uuid::from_u128(u128::from(number | 16))
+}
+
+pub(crate) fn request(number: u64) -> Uuid {
+    Uuid::from_u128(u128::from(number | 32))
+}
+
+// The addition of a medium of three bytes.
 pub(crate) fn add_medium(alloc: Global, package: Uuid, identity: Uuid) -> Result<Command, Fault> {
     Ok(Command::Add {
         package,
         identity,
-        content: Content::Media {
-            content_type: text(alloc, "image/png")?,
-            bytes: Bytes::from_vec(b"png".to_vec(alloc)?),
-        },
+        content: medium_content(alloc, "image/png", b"png")?,
     })
 }
 
-// A receipt of this number for one thing, with these sums.
-pub(crate) fn receipt_of(
-    alloc: Global,
-    seq: u64,
-    request: Uuid,
-    package: Uuid,
-    thing: Moved,
+// A member without parent, of a store that holds so much.
+pub(crate) fn member_of<S: Alter + Drop>(
+    conn: Connection<S>,
+    uuid: Uuid,
     sums: Sums,
-) -> Result<Receipt, Fault> {
-    let mut things = Vec::new(alloc);
-    things.push(thing)?;
-    Ok(Receipt {
-        seq,
-        request,
-        at: text(alloc, AT)?,
-        line: text(alloc, "the line")?,
-        source: None,
-        target: Some(package),
-        items: MovedList::from_vec(things),
-        tiles: sums.tiles,
-        media: sums.media,
-        rows: sums.rows,
-        links: sums.links,
-        bytes: sums.bytes,
-    })
+    ticket: u64,
+) -> Member<S> {
+    Member {
+        conn,
+        uuid,
+        parent: None,
+        depth: 0,
+        loan: 0,
+        sums,
+        ticket,
+    }
+}
+
+// The package of a number with one medium, added with the receipt of this number.
+pub(crate) fn member_with_a_medium<S: Alter + Drop>(
+    alloc: Global,
+    conn: Connection<S>,
+    number: u64,
+    seq: u64,
+) -> Result<Member<S>, Fault> {
+    let (uuid, medium) = (package(number), item(number));
+    let mut conn = empty_package(alloc, conn, uuid, MADE)?;
+    let command = add_medium(alloc, uuid, medium)?;
+    let thing = moved_medium(medium);
+    let receipt = receipt_of(alloc, seq, request(number), uuid, thing, ONE_MEDIUM)?;
+    if !is_at_rest(&conn) {
+        return Err(Fault::StoreFault);
+    }
+    apply_to_package(&mut conn, &command, &receipt)?;
+    Ok(member_of(conn, uuid, ONE_MEDIUM, seq))
 }

@@ -7,20 +7,12 @@ use sheet_types::refusal::Refusal;
 use shelves::shelf::{Shelf, ShelfFault};
 use sqlite::{Alter, Connection};
 use std::alloc::Global;
-use test_values::{Asks, BEGUN, request_of};
+use test_values::{Asks, Step};
 use test_worlds::applied;
 use uuid::Uuid;
 use world::world::World;
 
 const LATER: &str = "2024-05-01T09:30:00.000Z";
-
-/// A request by its number, and its moment.
-#[derive(Clone, Copy)]
-pub struct Step {
-    pub number: u8,
-    pub at: &'static str,
-    pub asks: Asks,
-}
 
 /// The request of that number, later than all that the world was prepared by.
 pub fn later(number: u8, asks: Asks) -> Step {
@@ -31,28 +23,14 @@ pub fn later(number: u8, asks: Asks) -> Step {
     }
 }
 
-/// The request of that number, at the moment of those that the world is prepared by.
-pub fn again(number: u8, asks: Asks) -> Step {
-    Step {
-        number,
-        at: BEGUN,
-        asks,
-    }
-}
-
 /// A tile, a medium and a row, and a link of the first two.
 pub fn preparation() -> [Step; 4] {
     [
-        again(1, Asks::Tile(1, [2, 3, 3])),
-        again(2, Asks::Medium(2)),
-        again(3, Asks::Row(3, 5, 4096)),
-        again(4, Asks::Link(Mapping::TilesMedia, 1, 2)),
+        Step::now(1, Asks::Tile(1, [2, 3, 3])),
+        Step::now(2, Asks::Medium(2)),
+        Step::now(3, Asks::Row(3, 5, 4096)),
+        Step::now(4, Asks::Link(Mapping::TilesMedia, 1, 2)),
     ]
-}
-
-/// The request of a step.
-pub fn request(alloc: Global, step: &Step) -> Result<Request, Fault> {
-    request_of(alloc, step.number, step.at, step.asks)
 }
 
 // A shelf that has no store. No request here asks for one.

@@ -2,7 +2,7 @@
 ghost use Rattle.std.specs.Prelude.{◌≡◌, [], IsTrue};
 
 use crate::fitting::{Both, STORE_FAULT, expect_fits, same, went_through};
-use crate::requests::{Step, again, later};
+use crate::requests::later;
 use crate::runs::{Leaves, Left, Outcome, prepared, run, untouched};
 use package_tables::fault::Fault;
 use sheet_types::command::Mapping;
@@ -11,7 +11,7 @@ use sqlite_disk::{Disk, Fuse, Memory};
 use std::alloc::Global;
 use std::process::Abort;
 use std::test::Fail;
-use test_values::Asks;
+use test_values::{Asks, Step};
 
 const SYNCED: Left = Left {
     log: Leaves::Synced,
@@ -66,7 +66,12 @@ fn run_with(
     step: &Step,
     left: Left,
 ) -> Result<Option<Outcome>, Fault> {
-    run(alloc, fused(alloc, stops, calls), step, left)
+    run(
+        alloc,
+        prepared(alloc, fused(alloc, stops, calls))?,
+        step,
+        &left,
+    )
 }
 
 fn is_prepared(alloc: Global, stops: Stops, calls: u64) -> Result<bool, Fault> {
@@ -92,7 +97,8 @@ fn calls_before(alloc: Global, stops: Stops) -> Result<u64, Fault> {
 
 fn both_worlds(alloc: Global, step: &Step) -> Result<Both, Fault> {
     let never = u64::MAX;
-    let before = untouched(alloc, fused(alloc, Stops::Log, never), step, SYNCED)?;
+    let world = prepared(alloc, fused(alloc, Stops::Log, never))?;
+    let before = untouched(alloc, world, step, &SYNCED)?;
     let after = run_with(alloc, Stops::Log, never, step, SYNCED)?;
     match (before, after) {
         (Some(before), Some(after)) => Ok(Both { before, after }),
@@ -284,7 +290,7 @@ fn a_tile_is_unlinked_while_the_file_stops(rt: HostRuntime) -> Result<(), Fail> 
 // Its receipt is the second.
 #[test]
 fn a_request_comes_again_while_the_log_stops(rt: HostRuntime) -> Result<(), Fail> {
-    let step = again(2, Asks::Medium(2));
+    let step = Step::now(2, Asks::Medium(2));
     expect_faults(&rt, rt.alloc(), Stops::Log, &step, 2, 4)?;
     Ok(())
 }
@@ -292,7 +298,7 @@ fn a_request_comes_again_while_the_log_stops(rt: HostRuntime) -> Result<(), Fail
 // Its receipt is the second. It stands in the log, so the file is read only as the world is read afterwards.
 #[test]
 fn a_request_comes_again_while_the_file_stops(rt: HostRuntime) -> Result<(), Fail> {
-    let step = again(2, Asks::Medium(2));
+    let step = Step::now(2, Asks::Medium(2));
     expect_stops(&rt, rt.alloc(), Stops::Db, &step, 2, 4)?;
     Ok(())
 }

@@ -3,15 +3,10 @@ use Rattle.std.specs.Ordering.{int_eq}
 use Rattle.sqlite.specs.Held.{state}
 use Rattle.sqlite.specs.Order.{column}
 use Rattle.sqlite.specs.declared.types.Value.TheVariants.{Int}
-use Rattle.sql_meaning.specs.Reading.{equals, is_same}
-use Rattle.sql_meaning.specs.Writing.{Deletes}
-use Rattle.sql_meaning.proofs.Delete.{removed_inside}
-use Rattle.package_tables.specs.Tables.{sheet_rows}
-use Rattle.package_tables.specs.Shapes.{attribute_shape}
-use Rattle.package_tables.specs.Changes.{DropsAttribute}
-use Rattle.package_tables.proofs.Making.{makes, drops}
+use Rattle.sql_meaning.specs.Reading.{is_same}
+use Rattle.package_tables.proofs.Making.{leaves}
 use Rattle.package_tables.proofs.AttributeStatements.{delete_text, delete_plan}
-use Rattle.package_tables.proofs.Written.{attribute_shape_is, rows_written}
+use Rattle.package_tables.proofs.Written.{attributes_listed}
 use Rattle.package_tables.proofs.Values.{same_number}
 use Rattle.package_tables.proofs.attributes.delete_attribute.Goals as goal
 
@@ -20,8 +15,5 @@ returns-clause-wrote g c clean begun =
     let a = c.args in
     let old = state g.S.Store a.tx.now.conn.now in
     let new = state g.S.Store c.execute.new.self.conn.now in
-    makes (Deletes sheet_rows (λ r. is_same (column r 0) (Int a.id))) (DropsAttribute a.id) old new c.execute.result _
-    (λ formed. drops attribute_shape attribute_shape_is (λ rows t. record t { rows = rows }) rows_written (λ db f. f.rows) (λ r. is_same (column r 0) (Int a.id)) (λ x. int_eq x.id a.id) old.now new.now formed (λ v x. (same_number x.id a.id)))
-    c.settled.ensures
-    (removed_inside _ sheet_rows (equals 0 0) delete_text delete_plan _ refl _ (λ tree. refl) old new c.execute.result
-    (simp (to_z-of_z, c.ranges.id) at (rw (c.params-to_sql.ensures) at (c.execute.ensures.runs clean begun))))
+    leaves attributes_listed (λ r. is_same (column r 0) (Int a.id)) (λ x. int_eq x.id a.id) (λ v x. (same_number x.id a.id)) delete_text delete_plan _ refl (λ tree. refl) old new c.execute.result _ c.settled.ensures
+    (simp (to_z-of_z, c.ranges.id) at (rw (c.params-to_sql.ensures) at (c.execute.ensures.runs clean begun)))

@@ -2,15 +2,10 @@ use Rattle.std.proofs.Common.{refl, to_z-of_z}
 use Rattle.sqlite.specs.Held.{state}
 use Rattle.sqlite.specs.Edit.{next_rowid}
 use Rattle.sqlite.specs.declared.types.Value.TheVariants.{Int}
-use Rattle.sql_meaning.specs.Writing.{Inserts}
-use Rattle.sql_meaning.proofs.Insert.{inserted_inside}
-use Rattle.package_tables.specs.Tables.{gpkg_contents}
-use Rattle.package_tables.specs.Shapes.{contents_shape}
-use Rattle.package_tables.specs.Entries.{AddsContents}
 use Rattle.package_tables.specs.declared.rows.ContentsRow.{ContentsRow}
-use Rattle.package_tables.proofs.Making.{makes, puts}
+use Rattle.package_tables.proofs.Making.{enters}
 use Rattle.package_tables.proofs.FixedStatements.{contents_insert_text, contents_insert_row}
-use Rattle.package_tables.proofs.Written.{contents_shape_is, contents_written}
+use Rattle.package_tables.proofs.Written.{contents_listed}
 use Rattle.package_tables.proofs.fixed.insert_contents.Goals as goal
 
 pub returns-clause-wrote : goal.returns-clause-wrote
@@ -19,9 +14,6 @@ returns-clause-wrote g c clean begun =
     let old = state g.S.Store a.tx.now.conn.now in
     let new = state g.S.Store c.execute.new.self.conn.now in
     let row : ContentsRow = record { table_name = a.table_name.now; data_type = a.data_type.now; identifier = a.identifier.now; description = a.description.now; last_change = a.last_change.now; min_x = a.min_x; min_y = a.min_y; max_x = a.max_x; max_y = a.max_y; srs_id = a.srs_id } in
-    makes (Inserts gpkg_contents (λ there. contents_shape.stored (Int (next_rowid there)) row)) (AddsContents row) old new c.execute.result _
-    (λ formed. puts contents_shape contents_shape_is (λ rows t. record t { contents = rows }) contents_written (λ db f. f.contents) (λ there. contents_shape.stored (Int (next_rowid there)) row) row old.now new.now formed (λ there. (Int (next_rowid there), refl, refl)))
-    c.settled.ensures
-    (inserted_inside _ gpkg_contents contents_insert_text _ _ (contents_insert_row row) old new c.execute.result
+    enters contents_listed row contents_insert_text (contents_insert_row row) (λ there. (Int (next_rowid there), refl, refl)) old new c.execute.result _ c.settled.ensures
     (simp (to_z-of_z, c.ranges.min_x, c.ranges.min_y, c.ranges.max_x, c.ranges.max_y, c.ranges.srs_id)
-    at (rw (c.params-to_sql.ensures, c.params-to_sql-2.ensures, c.params-to_sql-3.ensures, c.params-to_sql-4.ensures, c.params-to_sql-5.ensures, c.params-to_sql-6.ensures, c.params-to_sql-7.ensures, c.params-to_sql-8.ensures, c.params-to_sql-9.ensures, c.params-to_sql-10.ensures) at (c.execute.ensures.runs clean begun))))
+    at (rw (c.params-to_sql.ensures, c.params-to_sql-2.ensures, c.params-to_sql-3.ensures, c.params-to_sql-4.ensures, c.params-to_sql-5.ensures, c.params-to_sql-6.ensures, c.params-to_sql-7.ensures, c.params-to_sql-8.ensures, c.params-to_sql-9.ensures, c.params-to_sql-10.ensures) at (c.execute.ensures.runs clean begun)))

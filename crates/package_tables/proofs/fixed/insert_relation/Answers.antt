@@ -1,15 +1,10 @@
 use Rattle.std.proofs.Common.{pos, refl, to_z-of_z}
 use Rattle.sqlite.specs.Held.{state}
-use Rattle.sqlite.specs.declared.types.Value.TheVariants.{Int, Null}
-use Rattle.sql_meaning.specs.Writing.{Inserts}
-use Rattle.sql_meaning.proofs.Insert.{inserted_inside}
-use Rattle.package_tables.specs.Tables.{gpkgext_relations}
-use Rattle.package_tables.specs.Shapes.{relation_shape}
-use Rattle.package_tables.specs.Entries.{AddsRelation}
+use Rattle.sqlite.specs.declared.types.Value.TheVariants.{Int}
 use Rattle.package_tables.specs.declared.rows.RelationRow.{RelationRow}
-use Rattle.package_tables.proofs.Making.{makes, puts}
+use Rattle.package_tables.proofs.Making.{enters}
 use Rattle.package_tables.proofs.FixedStatements.{relation_insert_text, relation_insert_row}
-use Rattle.package_tables.proofs.Written.{relation_shape_is, relations_written}
+use Rattle.package_tables.proofs.Written.{relations_listed}
 use Rattle.package_tables.proofs.fixed.insert_relation.Goals as goal
 
 pub returns-clause-wrote : goal.returns-clause-wrote
@@ -18,9 +13,6 @@ returns-clause-wrote g c clean begun =
     let old = state g.S.Store a.tx.now.conn.now in
     let new = state g.S.Store c.execute.new.self.conn.now in
     let row : RelationRow = record { id = a.id; base_table_name = a.base_table_name.now; base_primary_column = a.base_primary_column.now; related_table_name = a.related_table_name.now; related_primary_column = a.related_primary_column.now; relation_name = a.relation_name.now; mapping_table_name = a.mapping_table_name.now } in
-    makes (Inserts gpkgext_relations (λ there. relation_shape.stored Null row)) (AddsRelation row) old new c.execute.result _
-    (λ formed. puts relation_shape relation_shape_is (λ rows t. record t { relations = rows }) relations_written (λ db f. f.relations) (λ there. relation_shape.stored Null row) row old.now new.now formed (λ there. (Int (pos 0), refl, refl)))
-    c.settled.ensures
-    (inserted_inside _ gpkgext_relations relation_insert_text _ _ (relation_insert_row row) old new c.execute.result
+    enters relations_listed row relation_insert_text (relation_insert_row row) (λ there. (Int (pos 0), refl, refl)) old new c.execute.result _ c.settled.ensures
     (simp (to_z-of_z, c.ranges.id)
-    at (rw (c.params-to_sql.ensures, c.params-to_sql-2.ensures, c.params-to_sql-3.ensures, c.params-to_sql-4.ensures, c.params-to_sql-5.ensures, c.params-to_sql-6.ensures, c.params-to_sql-7.ensures) at (c.execute.ensures.runs clean begun))))
+    at (rw (c.params-to_sql.ensures, c.params-to_sql-2.ensures, c.params-to_sql-3.ensures, c.params-to_sql-4.ensures, c.params-to_sql-5.ensures, c.params-to_sql-6.ensures, c.params-to_sql-7.ensures) at (c.execute.ensures.runs clean begun)))

@@ -2,15 +2,10 @@ use Rattle.std.proofs.Common.{refl, to_z-of_z}
 use Rattle.sqlite.specs.Held.{state}
 use Rattle.sqlite.specs.Edit.{next_rowid}
 use Rattle.sqlite.specs.declared.types.Value.TheVariants.{Int}
-use Rattle.sql_meaning.specs.Writing.{Inserts}
-use Rattle.sql_meaning.proofs.Insert.{inserted_inside}
-use Rattle.package_tables.specs.Tables.{gpkg_tile_matrix_set}
-use Rattle.package_tables.specs.Shapes.{tile_matrix_set_shape}
-use Rattle.package_tables.specs.Entries.{AddsTileMatrixSet}
 use Rattle.package_tables.specs.declared.rows.TileMatrixSetRow.{TileMatrixSetRow}
-use Rattle.package_tables.proofs.Making.{makes, puts}
+use Rattle.package_tables.proofs.Making.{enters}
 use Rattle.package_tables.proofs.FixedStatements.{tile_matrix_set_insert_text, tile_matrix_set_insert_row}
-use Rattle.package_tables.proofs.Written.{tile_matrix_set_shape_is, tile_matrix_set_written}
+use Rattle.package_tables.proofs.Written.{matrix_sets_listed}
 use Rattle.package_tables.proofs.fixed.insert_tile_matrix_set.Goals as goal
 
 pub returns-clause-wrote : goal.returns-clause-wrote
@@ -19,9 +14,6 @@ returns-clause-wrote g c clean begun =
     let old = state g.S.Store a.tx.now.conn.now in
     let new = state g.S.Store c.execute.new.self.conn.now in
     let row : TileMatrixSetRow = record { table_name = a.table_name.now; srs_id = a.srs_id; min_x = a.min_x; min_y = a.min_y; max_x = a.max_x; max_y = a.max_y } in
-    makes (Inserts gpkg_tile_matrix_set (λ there. tile_matrix_set_shape.stored (Int (next_rowid there)) row)) (AddsTileMatrixSet row) old new c.execute.result _
-    (λ formed. puts tile_matrix_set_shape tile_matrix_set_shape_is (λ rows t. record t { tile_matrix_set = rows }) tile_matrix_set_written (λ db f. f.tile_matrix_set) (λ there. tile_matrix_set_shape.stored (Int (next_rowid there)) row) row old.now new.now formed (λ there. (Int (next_rowid there), refl, refl)))
-    c.settled.ensures
-    (inserted_inside _ gpkg_tile_matrix_set tile_matrix_set_insert_text _ _ (tile_matrix_set_insert_row row) old new c.execute.result
+    enters matrix_sets_listed row tile_matrix_set_insert_text (tile_matrix_set_insert_row row) (λ there. (Int (next_rowid there), refl, refl)) old new c.execute.result _ c.settled.ensures
     (simp (to_z-of_z, c.ranges.srs_id, c.ranges.min_x, c.ranges.min_y, c.ranges.max_x, c.ranges.max_y)
-    at (rw (c.params-to_sql.ensures, c.params-to_sql-2.ensures, c.params-to_sql-3.ensures, c.params-to_sql-4.ensures, c.params-to_sql-5.ensures, c.params-to_sql-6.ensures) at (c.execute.ensures.runs clean begun))))
+    at (rw (c.params-to_sql.ensures, c.params-to_sql-2.ensures, c.params-to_sql-3.ensures, c.params-to_sql-4.ensures, c.params-to_sql-5.ensures, c.params-to_sql-6.ensures) at (c.execute.ensures.runs clean begun)))

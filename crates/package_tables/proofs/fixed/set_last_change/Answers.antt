@@ -13,18 +13,18 @@ use Rattle.sql_meaning.specs.Writing.{Updates}
 use Rattle.sql_meaning.proofs.Update.{changed_inside, change_by}
 use Rattle.package_tables.specs.Tables.{gpkg_contents}
 use Rattle.package_tables.specs.Shapes.{contents_shape}
-use Rattle.package_tables.specs.Entries.{SetsLastChange}
+use Rattle.package_tables.specs.Changes.{SetsLastChange}
 use Rattle.package_tables.proofs.Making.{makes}
 use Rattle.package_tables.proofs.Changing.{changes}
 use Rattle.package_tables.proofs.FixedStatements.{change_text, change_plan, change_terms, contents_kinds}
 use Rattle.package_tables.proofs.Values.{same_text}
-use Rattle.package_tables.proofs.Written.{contents_shape_is, contents_written}
+use Rattle.package_tables.proofs.Written.{contents_listed}
 use Rattle.package_tables.proofs.fixed.set_last_change.Goals as goal
 
 -- where the names of the contents differ, the statement's change is that of the tables
 dated : (at name : List ℕ) (old new : Database) → Updates gpkg_contents (λ r. is_same (column r 1) (Text name)) (change_by change_terms (Text at ∷ Text name ∷ [])) old new → IsArranged contents_shape.key (tables_of old).contents → OnTables (SetsLastChange at name) old new
 dated at name old new updates apart formed =
-    changes contents_shape contents_shape_is (λ rows t. record t { contents = rows }) contents_written (λ db f. f.contents) (λ r. is_same (column r 1) (Text name)) (change_by change_terms (Text at ∷ Text name ∷ [])) name
+    changes contents_listed (λ r. is_same (column r 1) (Text name)) (change_by change_terms (Text at ∷ Text name ∷ [])) name
     (λ x. record x { last_change = at }) old new formed (λ v x. same_text x.table_name name) (λ v x. refl) (λ x. refl) (λ v x. refl) contents_kinds apart updates
 
 pub returns-clause-wrote : goal.returns-clause-wrote

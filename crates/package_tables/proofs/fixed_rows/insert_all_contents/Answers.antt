@@ -3,7 +3,8 @@ use Rattle.sql_meaning.proofs.Transactions.{steps_failed}
 use Rattle.sheet_types.specs.declared.frame.Frame.{Frame}
 use Rattle.package_tables.specs.Fixed.{content, contents_of}
 use Rattle.package_tables.specs.declared.rows.ContentsRow.{ContentsRow}
-use Rattle.package_tables.proofs.FixedRows.{content_made, contents_then}
+use Rattle.package_tables.proofs.Written.{contents_listed}
+use Rattle.package_tables.proofs.InTurn.{made_by, made_then}
 use Rattle.package_tables.proofs.fixed_rows.insert_all_contents.Goals as goal
 
 abbrev tiles : Frame → List ℕ → ContentsRow
@@ -19,10 +20,10 @@ pub returns-clause-steps : goal.returns-clause-steps
 returns-clause-steps g c =
     let f = c.args.frame.now in
     let at = c.args.at.now in
-    contents_then [] (rows f at ∷ tiles f at ∷ []) (contents_of f at)
-    (contents_then [] (tiles f at ∷ []) (rows f at ∷ tiles f at ∷ []) (content_made (tiles f at) [] (tiles f at ∷ []) refl refl c.in_ok-insert_content.ensures.steps)
-    (content_made (rows f at) (tiles f at ∷ []) (rows f at ∷ tiles f at ∷ []) refl refl c.in_ok-insert_content-2.ensures.steps))
-    (content_made (media f at) (rows f at ∷ tiles f at ∷ []) (contents_of f at) refl refl c.insert_content-3.ensures.steps)
+    made_then contents_listed [] (rows f at ∷ tiles f at ∷ []) (contents_of f at)
+    (made_then contents_listed [] (tiles f at ∷ []) (rows f at ∷ tiles f at ∷ []) (made_by contents_listed (tiles f at) [] (tiles f at ∷ []) refl refl c.in_ok-insert_content.ensures.steps)
+    (made_by contents_listed (rows f at) (tiles f at ∷ []) (rows f at ∷ tiles f at ∷ []) refl refl c.in_ok-insert_content-2.ensures.steps))
+    (made_by contents_listed (media f at) (rows f at ∷ tiles f at ∷ []) (contents_of f at) refl refl c.insert_content-3.ensures.steps)
 
 pub returns-in_err-insert_content-clause-steps : goal.returns-in_err-insert_content-clause-steps
 returns-in_err-insert_content-clause-steps g c = steps_failed _ c.from_residual.ensures.0 c.insert_content.ensures.steps
@@ -32,5 +33,5 @@ returns-in_err-insert_content-2-clause-steps g c =
     let f = c.args.frame.now in
     let at = c.args.at.now in
     steps_failed _ c.from_residual-in_err-insert_content-2.ensures.0
-    (contents_then [] (tiles f at ∷ []) (rows f at ∷ tiles f at ∷ []) (content_made (tiles f at) [] (tiles f at ∷ []) refl refl c.in_ok-insert_content.ensures.steps)
-    (content_made (rows f at) (tiles f at ∷ []) (rows f at ∷ tiles f at ∷ []) refl refl c.insert_content-2.ensures.steps))
+    (made_then contents_listed [] (tiles f at ∷ []) (rows f at ∷ tiles f at ∷ []) (made_by contents_listed (tiles f at) [] (tiles f at ∷ []) refl refl c.in_ok-insert_content.ensures.steps)
+    (made_by contents_listed (rows f at) (tiles f at ∷ []) (rows f at ∷ tiles f at ∷ []) refl refl c.insert_content-2.ensures.steps))

@@ -3,12 +3,13 @@ use Rattle.sqlite.specs.State.{State}
 use Rattle.sql_meaning.specs.Transactions.{Steps}
 use Rattle.sql_meaning.proofs.Transactions.{steps_failed}
 use Rattle.sheet_types.specs.declared.frame.Frame.{Frame}
+use Rattle.package_tables.specs.Listed.{contents, matrices, matrix_sets, relations, systems}
 use Rattle.package_tables.specs.Package.{Tables}
 use Rattle.package_tables.specs.Calls.{OnTables}
 use Rattle.package_tables.specs.Fixed.{systems_of, contents_of, matrix_set, levels_of, two_relations}
-use Rattle.package_tables.specs.Creation.{no_rows, fixed_tables, TablesBecome, SystemsBecome, ContentsBecome, MatrixSetsBecome, MatricesBecome, RelationsBecome}
-use Rattle.package_tables.proofs.InTurn.{becomes_first, becomes_then}
-use Rattle.package_tables.proofs.FixedRows.{Done, done}
+use Rattle.package_tables.specs.Changes.{ListBecomes}
+use Rattle.package_tables.specs.Creation.{no_rows, fixed_tables, TablesBecome}
+use Rattle.package_tables.proofs.InTurn.{Done, done, becomes_first, becomes_then}
 use Rattle.package_tables.proofs.fixed_rows.insert_fixed.Goals as goal
 
 module _ (f : Frame) (at : List ℕ) where
@@ -24,20 +25,20 @@ module _ (f : Frame) (at : List ℕ) where
   abbrev t4 : Tables
   t4 = record t3 { tile_matrix = levels_of f }
 
-  one : {old new : State} {r : Done} → Steps (λ _. OnTables (SystemsBecome [] (systems_of f.srs_id))) old new r → Steps (λ _. OnTables (TablesBecome no_rows t1)) old new r
-  one h = becomes_first (λ t. t.spatial_ref_sys) (λ l t. record t { spatial_ref_sys = l }) no_rows (systems_of f.srs_id) refl h
+  one : {old new : State} {r : Done} → Steps (λ _. OnTables (ListBecomes systems [] (systems_of f.srs_id))) old new r → Steps (λ _. OnTables (TablesBecome no_rows t1)) old new r
+  one h = becomes_first systems no_rows (systems_of f.srs_id) refl h
 
-  two : {old mid new : State} {r : Done} → Steps (λ _. OnTables (TablesBecome no_rows t1)) old mid done → Steps (λ _. OnTables (ContentsBecome [] (contents_of f at))) mid new r → Steps (λ _. OnTables (TablesBecome no_rows t2)) old new r
-  two first next = becomes_then (λ t. t.contents) (λ l t. record t { contents = l }) no_rows t1 (contents_of f at) refl first next
+  two : {old mid new : State} {r : Done} → Steps (λ _. OnTables (TablesBecome no_rows t1)) old mid done → Steps (λ _. OnTables (ListBecomes contents [] (contents_of f at))) mid new r → Steps (λ _. OnTables (TablesBecome no_rows t2)) old new r
+  two first next = becomes_then contents no_rows t1 (contents_of f at) refl first next
 
-  three : {old mid new : State} {r : Done} → Steps (λ _. OnTables (TablesBecome no_rows t2)) old mid done → Steps (λ _. OnTables (MatrixSetsBecome [] (matrix_set f ∷ []))) mid new r → Steps (λ _. OnTables (TablesBecome no_rows t3)) old new r
-  three first next = becomes_then (λ t. t.tile_matrix_set) (λ l t. record t { tile_matrix_set = l }) no_rows t2 (matrix_set f ∷ []) refl first next
+  three : {old mid new : State} {r : Done} → Steps (λ _. OnTables (TablesBecome no_rows t2)) old mid done → Steps (λ _. OnTables (ListBecomes matrix_sets [] (matrix_set f ∷ []))) mid new r → Steps (λ _. OnTables (TablesBecome no_rows t3)) old new r
+  three first next = becomes_then matrix_sets no_rows t2 (matrix_set f ∷ []) refl first next
 
-  four : {old mid new : State} {r : Done} → Steps (λ _. OnTables (TablesBecome no_rows t3)) old mid done → Steps (λ _. OnTables (MatricesBecome [] (levels_of f))) mid new r → Steps (λ _. OnTables (TablesBecome no_rows t4)) old new r
-  four first next = becomes_then (λ t. t.tile_matrix) (λ l t. record t { tile_matrix = l }) no_rows t3 (levels_of f) refl first next
+  four : {old mid new : State} {r : Done} → Steps (λ _. OnTables (TablesBecome no_rows t3)) old mid done → Steps (λ _. OnTables (ListBecomes matrices [] (levels_of f))) mid new r → Steps (λ _. OnTables (TablesBecome no_rows t4)) old new r
+  four first next = becomes_then matrices no_rows t3 (levels_of f) refl first next
 
-  five : {old mid new : State} {r : Done} → Steps (λ _. OnTables (TablesBecome no_rows t4)) old mid done → Steps (λ _. OnTables (RelationsBecome [] two_relations)) mid new r → Steps (λ _. OnTables (TablesBecome no_rows (fixed_tables f at))) old new r
-  five first next = becomes_then (λ t. t.relations) (λ l t. record t { relations = l }) no_rows t4 two_relations refl first next
+  five : {old mid new : State} {r : Done} → Steps (λ _. OnTables (TablesBecome no_rows t4)) old mid done → Steps (λ _. OnTables (ListBecomes relations [] two_relations)) mid new r → Steps (λ _. OnTables (TablesBecome no_rows (fixed_tables f at))) old new r
+  five first next = becomes_then relations no_rows t4 two_relations refl first next
 
 pub returns-clause-steps : goal.returns-clause-steps
 returns-clause-steps g c =

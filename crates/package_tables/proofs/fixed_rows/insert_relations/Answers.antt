@@ -2,7 +2,8 @@ use Rattle.std.proofs.Common.{[], ◌∷◌, pos, refl, codes}
 use Rattle.sql_meaning.proofs.Transactions.{steps_failed}
 use Rattle.package_tables.specs.Fixed.{relation, two_relations}
 use Rattle.package_tables.specs.declared.rows.RelationRow.{RelationRow}
-use Rattle.package_tables.proofs.FixedRows.{relation_made, relations_then}
+use Rattle.package_tables.proofs.Written.{relations_listed}
+use Rattle.package_tables.proofs.InTurn.{entered_by, made_then}
 use Rattle.package_tables.proofs.fixed_rows.insert_relations.Goals as goal
 
 abbrev first : RelationRow
@@ -15,7 +16,7 @@ pub returns-clause-steps : goal.returns-clause-steps
 returns-clause-steps g c =
     let one = c.in_ok-insert_relation.ensures in
     let two = c.insert_relation-2.ensures in
-    relations_then [] (first ∷ []) two_relations (relation_made first [] (first ∷ []) refl refl one.wrote one.survives) (relation_made second (first ∷ []) two_relations refl refl two.wrote two.survives)
+    made_then relations_listed [] (first ∷ []) two_relations (entered_by relations_listed first [] (first ∷ []) refl refl one.wrote one.survives) (entered_by relations_listed second (first ∷ []) two_relations refl refl two.wrote two.survives)
 
 pub returns-in_err-insert_relation-clause-steps : goal.returns-in_err-insert_relation-clause-steps
-returns-in_err-insert_relation-clause-steps g c = steps_failed _ c.from_residual.ensures.0 (relation_made first [] (first ∷ []) refl refl c.insert_relation.ensures.wrote c.insert_relation.ensures.survives)
+returns-in_err-insert_relation-clause-steps g c = steps_failed _ c.from_residual.ensures.0 (entered_by relations_listed first [] (first ∷ []) refl refl c.insert_relation.ensures.wrote c.insert_relation.ensures.survives)

@@ -1,15 +1,10 @@
 use Rattle.std.proofs.Common.{pos, refl, to_z-of_z}
 use Rattle.sqlite.specs.Held.{state}
-use Rattle.sqlite.specs.declared.types.Value.TheVariants.{Int, Null}
-use Rattle.sql_meaning.specs.Writing.{Inserts}
-use Rattle.sql_meaning.proofs.Insert.{inserted_inside}
-use Rattle.package_tables.specs.Tables.{sheet_package}
-use Rattle.package_tables.specs.Shapes.{head_shape}
-use Rattle.package_tables.specs.Entries.{AddsHead}
+use Rattle.sqlite.specs.declared.types.Value.TheVariants.{Int}
 use Rattle.package_tables.specs.declared.rows.HeadRow.{HeadRow}
-use Rattle.package_tables.proofs.Making.{makes, puts}
+use Rattle.package_tables.proofs.Making.{enters}
 use Rattle.package_tables.proofs.HeadStatements.{insert_text, insert_row}
-use Rattle.package_tables.proofs.Written.{head_shape_is, heads_written}
+use Rattle.package_tables.proofs.Written.{heads_listed}
 use Rattle.package_tables.proofs.head.insert_head.Goals as goal
 
 pub returns-clause-wrote : goal.returns-clause-wrote
@@ -18,9 +13,6 @@ returns-clause-wrote g c clean begun =
     let old = state g.S.Store a.tx.now.conn.now in
     let new = state g.S.Store c.execute.new.self.conn.now in
     let row : HeadRow = record { id = a.id; version = a.version; «package» = a.package.now; parent = a.parent.now; depth = a.depth; loan = a.loan; created = a.created.now } in
-    makes (Inserts sheet_package (λ there. head_shape.stored Null row)) (AddsHead row) old new c.execute.result _
-    (λ formed. puts head_shape head_shape_is (λ rows t. record t { heads = rows }) heads_written (λ db f. f.heads) (λ there. head_shape.stored Null row) row old.now new.now formed (λ there. (Int (pos 0), refl, refl)))
-    c.settled.ensures
-    (inserted_inside _ sheet_package insert_text _ _ (insert_row row) old new c.execute.result
+    enters heads_listed row insert_text (insert_row row) (λ there. (Int (pos 0), refl, refl)) old new c.execute.result _ c.settled.ensures
     (simp (to_z-of_z, c.ranges.id, c.ranges.version, c.ranges.depth, c.ranges.loan)
-    at (rw (c.params-to_sql.ensures, c.params-to_sql-2.ensures, c.params-to_sql-3.ensures, c.params-to_sql-4.ensures, c.params-to_sql-5.ensures, c.params-to_sql-6.ensures, c.params-to_sql-7.ensures) at (c.execute.ensures.runs clean begun))))
+    at (rw (c.params-to_sql.ensures, c.params-to_sql-2.ensures, c.params-to_sql-3.ensures, c.params-to_sql-4.ensures, c.params-to_sql-5.ensures, c.params-to_sql-6.ensures, c.params-to_sql-7.ensures) at (c.execute.ensures.runs clean begun)))

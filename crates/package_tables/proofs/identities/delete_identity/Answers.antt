@@ -4,15 +4,10 @@ use Rattle.std.specs.Ordering.{int_eq}
 use Rattle.sqlite.specs.Held.{state}
 use Rattle.sqlite.specs.Order.{column}
 use Rattle.sqlite.specs.declared.types.Value.TheVariants.{Int}
-use Rattle.sql_meaning.specs.Reading.{equals, both, is_same}
-use Rattle.sql_meaning.specs.Writing.{Deletes}
-use Rattle.sql_meaning.proofs.Delete.{removed_inside}
-use Rattle.package_tables.specs.Tables.{sheet_identity}
-use Rattle.package_tables.specs.Shapes.{identity_shape}
-use Rattle.package_tables.specs.Changes.{DropsIdentity}
-use Rattle.package_tables.proofs.Making.{makes, drops}
+use Rattle.sql_meaning.specs.Reading.{is_same}
+use Rattle.package_tables.proofs.Making.{leaves}
 use Rattle.package_tables.proofs.IdentityStatements.{delete_text, delete_plan}
-use Rattle.package_tables.proofs.Written.{identity_shape_is, identities_written}
+use Rattle.package_tables.proofs.Written.{identities_listed}
 use Rattle.package_tables.proofs.Values.{same_number, both_same}
 use Rattle.package_tables.proofs.identities.delete_identity.Goals as goal
 
@@ -21,8 +16,5 @@ returns-clause-wrote g c clean begun =
     let a = c.args in
     let old = state g.S.Store a.tx.now.conn.now in
     let new = state g.S.Store c.execute.new.self.conn.now in
-    makes (Deletes sheet_identity (λ r. is_same (column r 1) (Int a.kind) && is_same (column r 2) (Int a.local_id))) (DropsIdentity a.kind a.local_id) old new c.execute.result _
-    (λ formed. drops identity_shape identity_shape_is (λ rows t. record t { identities = rows }) identities_written (λ db f. f.identities) (λ r. is_same (column r 1) (Int a.kind) && is_same (column r 2) (Int a.local_id)) (λ x. int_eq x.kind a.kind && int_eq x.local_id a.local_id) old.now new.now formed (λ v x. (both_same (same_number x.kind a.kind) (same_number x.local_id a.local_id))))
-    c.settled.ensures
-    (removed_inside _ sheet_identity (both (equals 0 0) (equals 1 1)) delete_text delete_plan _ refl _ (λ tree. refl) old new c.execute.result
-    (simp (to_z-of_z, c.ranges.kind, c.ranges.local_id) at (rw (c.params-to_sql.ensures, c.params-to_sql-2.ensures) at (c.execute.ensures.runs clean begun))))
+    leaves identities_listed (λ r. is_same (column r 1) (Int a.kind) && is_same (column r 2) (Int a.local_id)) (λ x. int_eq x.kind a.kind && int_eq x.local_id a.local_id) (λ v x. (both_same (same_number x.kind a.kind) (same_number x.local_id a.local_id))) delete_text delete_plan _ refl (λ tree. refl) old new c.execute.result _ c.settled.ensures
+    (simp (to_z-of_z, c.ranges.kind, c.ranges.local_id) at (rw (c.params-to_sql.ensures, c.params-to_sql-2.ensures) at (c.execute.ensures.runs clean begun)))

@@ -1,36 +1,18 @@
-// What the tests of lists, imports and manifests share: the texts of lists, a reader and a writer that fail.
+//! A writer and a reader that fail.
 
-use std::alloc::{AllocError, Global};
+use std::alloc::Global;
 use std::io::{Error, ErrorKind, Read, Result as IoResult, Write};
-
-/// The first line of every list, without its end.
-pub const HEADER: &str =
-    "request,at,command,package,identity,other,kind,zoom,column,row,last_column,last_row,x,y,code,ticket,text,data";
-
-/// The header and these records, each ended by `end`.
-pub fn list_ended(alloc: Global, end: &str, records: &[&str]) -> Result<String, AllocError> {
-    let mut text = String::from_str(alloc, HEADER)?;
-    text.push_str(end)?;
-    for record in records {
-        text.push_str(record)?;
-        text.push_str(end)?;
-    }
-    Ok(text)
-}
-
-/// The header and these records, each ended by LF.
-pub fn list(alloc: Global, records: &[&str]) -> Result<String, AllocError> {
-    list_ended(alloc, "\n", records)
-}
 
 /// Takes seven bytes a call at most, and fails once it has taken as many as it has room for.
 #[derive(Drop)]
 pub struct Narrow {
+    /// What it has taken.
     pub taken: Vec<u8>,
-    pub room: usize,
+    room: usize,
 }
 
 impl Narrow {
+    /// With room for so many bytes.
     pub fn new(alloc: Global, room: usize) -> Narrow {
         Narrow {
             taken: Vec::new(alloc),
@@ -65,6 +47,7 @@ pub struct Failing<'a> {
 }
 
 impl<'a> Failing<'a> {
+    /// Over these bytes.
     pub fn new(text: &'a [u8]) -> Failing<'a> {
         Failing { text, at: 0 }
     }
