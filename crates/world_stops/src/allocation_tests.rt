@@ -1,7 +1,7 @@
 // One request of each kind in a world in memory. Run by `bench/failing_allocations.sh`, which refuses each allocation in turn: the world is that before the request or the one after it, and the reply fits.
 use crate::fitting::{Both, OUT_OF_MEMORY, expect_fits};
 use crate::requests::later;
-use crate::runs::{Held, prepared_in_memory, run, untouched};
+use crate::runs::{run_in_memory, untouched_in_memory};
 use package_tables::fault::Fault;
 use sheet_types::command::Mapping;
 use std::alloc::Global;
@@ -11,9 +11,9 @@ use test_values::{Asks, Step};
 
 // Ends with `OutOfMemory` where memory is refused outside the request.
 fn expect_whole(rt: &impl Abort, alloc: Global, step: &Step, told: i64) -> Result<(), Fault> {
-    let before = untouched(alloc, prepared_in_memory(alloc)?, step, &Held)?;
-    let after = run(alloc, prepared_in_memory(alloc)?, step, &Held)?;
-    let found = run(alloc, prepared_in_memory(alloc)?, step, &Held)?;
+    let before = untouched_in_memory(alloc, step)?;
+    let after = run_in_memory(alloc, step)?;
+    let found = run_in_memory(alloc, step)?;
     let (Some(before), Some(after), Some(found)) = (before, after, found) else {
         return Err(Fault::OutOfMemory);
     };

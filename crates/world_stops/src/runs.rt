@@ -8,6 +8,7 @@ use crate::pictures::{Picture, read_picture, reply_text, seen};
 use crate::requests::{preparation, reply_to};
 use memory_files::open_blank;
 use package_tables::fault::Fault;
+use sheet_types::command::Request;
 use sqlite::{Alter, Connection, FileStore, Files, MemStore, Options};
 use sqlite_disk::{Crash, Disk, Fuse, Memory};
 use std::alloc::Global;
@@ -65,21 +66,15 @@ pub fn prepared_in_memory(alloc: Global) -> Result<Option<World<MemStore>>, Faul
     }
 }
 
-/// A way to take what is left of a world with one store.
-pub trait Takes<S: Alter + Drop> {
-    /// What it reads as, for the receipt of a request.
-    fn left_by(&self, alloc: Global, world: World<S>, id: Uuid) -> Result<Picture, Fault>;
-}
-
-/// What the store holds, without a crash.
-pub struct Held;
-
-impl<S: Alter + Drop> Takes<S> for Held {
-    fn left_by(&self, alloc: Global, world: World<S>, id: Uuid) -> Result<Picture, Fault> {
-        match world.into_stores().pop() {
-            Some(mut conn) => read_picture(alloc, &mut conn, id),
-            None => Err(Fault::StoreFault),
-        }
+/// What the one store of a world holds.
+pub fn held_by<S: Alter + Drop>(
+    alloc: Global,
+    world: World<S>,
+    id: Uuid,
+) -> Result<Picture, Fault> {
+    match world.into_stores().pop() {
+        Some(mut conn) => read_picture(alloc, &mut conn, id),
+        None => Err(Fault::StoreFault),
     }
 }
 
@@ -124,26 +119,24 @@ impl Revive for Fuse<Memory> {
     }
 }
 
-// The files come back, and are opened again.
-impl<D: Revive + Drop> Takes<FileStore<D>> for Left {
-    fn left_by(
-        &self,
-        alloc: Global,
-        world: World<FileStore<D>>,
-        id: Uuid,
-    ) -> Result<Picture, Fault> {
-        let Some(conn) = world.into_stores().pop() else {
-            return Err(Fault::StoreFault);
-        };
-        let Files { log, db } = conn.into_store().close();
-        let files = Files {
-            log: log.revive(alloc, self.log)?,
-            db: db.revive(alloc, self.db)?,
-        };
-        match Connection::open_files(alloc, files, Options::new(7)) {
-            Ok(mut again) => read_picture(alloc, &mut again, id),
-            Err((error, _)) => Err(Fault::from(error)),
-        }
+/// The files come back, and are opened again.
+pub fn left_by<D: Revive + Drop>(
+    alloc: Global,
+    world: World<FileStore<D>>,
+    left: Left,
+    id: Uuid,
+) -> Result<Picture, Fault> {
+    let Some(conn) = world.into_stores().pop() else {
+        return Err(Fault::StoreFault);
+    };
+    let Files { log, db } = conn.into_store().close();
+    let files = Files {
+        log: log.revive(alloc, left.log)?,
+        db: db.revive(alloc, left.db)?,
+    };
+    match Connection::open_files(alloc, files, Options::new(7)) {
+        Ok(mut again) => read_picture(alloc, &mut again, id),
+        Err((error, _)) => Err(Fault::from(error)),
     }
 }
 
@@ -157,38 +150,93 @@ pub struct Outcome {
     pub left: Picture,
 }
 
-/// What came of a request to a prepared world, or `None` where there is none.
-pub fn run<S: Alter + Drop, T: Takes<S>>(
+// A request in a world, all but what is left of the world.
+#[derive(Drop)]
+struct Reply {
+    number: i64,
+    text: String,
+    has_failed: bool,
+    live: Option<String>,
+}
+
+fn replied<S: Alter + Drop>(
     alloc: Global,
-    prepared: Option<World<S>>,
+    world: &mut World<S>,
+    request: &Request,
+) -> Result<Reply, Fault> {
+    let reply = reply_to(world, alloc, request)?;
+    let has_failed = world.has_failed();
+    let live = seen(alloc, world, request.id).ok();
+    Ok(Reply {
+        number: told(&reply),
+        text: reply_text(alloc, &reply)?,
+        has_failed,
+        live,
+    })
+}
+
+fn with_left(reply: Reply, left: Picture) -> Outcome {
+    Outcome {
+        number: reply.number,
+        reply: reply.text,
+        has_failed: reply.has_failed,
+        live: reply.live,
+        left,
+    }
+}
+
+/// What came of a request over these files, or `None` where a disk stopped before the request.
+pub fn run<D: Revive + Drop>(
+    alloc: Global,
+    files: Files<D>,
     step: &Step,
-    way: &T,
-) -> Result<Option<Outcome>, Fault> {
-    let Some(mut world) = prepared else {
+    left: Left,
+) -> Result<Option<Outcome>, Fault>
+    requires log { IsTrue (D.Disk.is_usable files.log) }
+    requires db { IsTrue (D.Disk.is_usable files.db) }
+    requires empty { D.Disk.seen files.db ≡ [] }
+{
+    let Some(mut world) = prepared(alloc, files)? else {
         return Ok(None);
     };
     let request = step.request(alloc)?;
-    let reply = reply_to(&mut world, alloc, &request)?;
-    let has_failed = world.has_failed();
-    let live = seen(alloc, &mut world, request.id).ok();
-    Ok(Some(Outcome {
-        number: told(&reply),
-        reply: reply_text(alloc, &reply)?,
-        has_failed,
-        live,
-        left: way.left_by(alloc, world, request.id)?,
-    }))
+    let reply = replied(alloc, &mut world, &request)?;
+    let left = left_by(alloc, world, left, request.id)?;
+    Ok(Some(with_left(reply, left)))
 }
 
-/// What is left of a prepared world before the request.
-pub fn untouched<S: Alter + Drop, T: Takes<S>>(
+/// What came of a request to a world in memory, or `None` where memory was refused before the request.
+pub fn run_in_memory(alloc: Global, step: &Step) -> Result<Option<Outcome>, Fault> {
+    let Some(mut world) = prepared_in_memory(alloc)? else {
+        return Ok(None);
+    };
+    let request = step.request(alloc)?;
+    let reply = replied(alloc, &mut world, &request)?;
+    let left = held_by(alloc, world, request.id)?;
+    Ok(Some(with_left(reply, left)))
+}
+
+/// What a crash leaves of the world before the request.
+pub fn untouched<D: Revive + Drop>(
     alloc: Global,
-    prepared: Option<World<S>>,
+    files: Files<D>,
     step: &Step,
-    way: &T,
-) -> Result<Option<Picture>, Fault> {
-    match prepared {
-        Some(world) => Ok(Some(way.left_by(alloc, world, question(step.number))?)),
+    left: Left,
+) -> Result<Option<Picture>, Fault>
+    requires log { IsTrue (D.Disk.is_usable files.log) }
+    requires db { IsTrue (D.Disk.is_usable files.db) }
+    requires empty { D.Disk.seen files.db ≡ [] }
+{
+    match prepared(alloc, files)? {
+        Some(world) => Ok(Some(left_by(alloc, world, left, question(step.number))?)),
+        None => Ok(None),
+    }
+}
+
+/// What a world in memory holds before the request.
+pub fn untouched_in_memory(alloc: Global, step: &Step) -> Result<Option<Picture>, Fault> {
+    match prepared_in_memory(alloc)? {
+        Some(world) => Ok(Some(held_by(alloc, world, question(step.number))?)),
         None => Ok(None),
     }
 }

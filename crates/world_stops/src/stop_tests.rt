@@ -66,12 +66,7 @@ fn run_with(
     step: &Step,
     left: Left,
 ) -> Result<Option<Outcome>, Fault> {
-    run(
-        alloc,
-        prepared(alloc, fused(alloc, stops, calls))?,
-        step,
-        &left,
-    )
+    run(alloc, fused(alloc, stops, calls), step, left)
 }
 
 fn is_prepared(alloc: Global, stops: Stops, calls: u64) -> Result<bool, Fault> {
@@ -97,8 +92,7 @@ fn calls_before(alloc: Global, stops: Stops) -> Result<u64, Fault> {
 
 fn both_worlds(alloc: Global, step: &Step) -> Result<Both, Fault> {
     let never = u64::MAX;
-    let world = prepared(alloc, fused(alloc, Stops::Log, never))?;
-    let before = untouched(alloc, world, step, &SYNCED)?;
+    let before = untouched(alloc, fused(alloc, Stops::Log, never), step, SYNCED)?;
     let after = run_with(alloc, Stops::Log, never, step, SYNCED)?;
     match (before, after) {
         (Some(before), Some(after)) => Ok(Both { before, after }),
