@@ -1,28 +1,30 @@
--- A record that is no addition, deletion, link or unlink asks for nothing that is served.
-use Rattle.std.specs.Prelude.{ℕ, List, Option, Some, None, IfNone}
+-- A record asks for nothing that is served where it asks for nothing with the word that it begins with.
+use Rattle.std.specs.Prelude.{◌≡◌, ℕ, List, codes}
+use Rattle.sheet_types.proofs.Basics.{some_once}
 use Rattle.sheet_types.specs.declared.command.Content.{Content}
 use Rattle.sheet_types.specs.declared.command.Mapping.{Mapping}
 use Rattle.sheet_types.specs.declared.command.Command.{Command}
 use Rattle.sheet_types.specs.declared.command.Command.TheVariants.{Add, Delete, Link, Unlink, Split, Merge}
 use Rattle.world.specs.Laws.{IsServed}
-use Rattle.manifest_csv.specs.Requests.{IsCommand}
+use Rattle.manifest_csv.specs.Requests.{IsCommand, IsTextAt}
 
--- what holds anyway holds where there is none
-pub if_none : {X P : Type 0} (found : Option X) → P → IfNone found P
-if_none (Some x) holds = tt
-if_none None holds = holds
+abbrev pub NoAddition : List (List ℕ) → Type 0
+NoAddition fields = (target identity : List ℕ) (content : Content) → ¬ IsCommand fields (Add target identity content)
 
-pub no_command : (fields : List (List ℕ)) (found : Option Command) → ((target identity : List ℕ) (content : Content) → ¬ IsCommand fields (Add target identity content))
-    → ((source identity : List ℕ) → ¬ IsCommand fields (Delete source identity)) → ((target base media : List ℕ) (mapping : Mapping) → ¬ IsCommand fields (Link target mapping base media))
-    → IfNone found ((source base media : List ℕ) (mapping : Mapping) → ¬ IsCommand fields (Unlink source mapping base media))
-    → IfNone found ((asked : Command) → IsServed asked → ¬ IsCommand fields asked)
-no_command fields (Some asked) add delete link unlink = tt
-no_command fields None add delete link unlink = each
-  where
-    each : (asked : Command) → IsServed asked → ¬ IsCommand fields asked
-    each (Add target identity content) served = add target identity content
-    each (Delete source identity) served = delete source identity
-    each (Link target mapping base media) served = link target base media mapping
-    each (Unlink source mapping base media) served = unlink source base media mapping
-    each (Split source child mode rect) served = absurd served
-    each (Merge child into ticket) served = absurd served
+abbrev pub NoDeletion : List (List ℕ) → Type 0
+NoDeletion fields = (source identity : List ℕ) → ¬ IsCommand fields (Delete source identity)
+
+abbrev pub NoLink : List (List ℕ) → Type 0
+NoLink fields = (target base media : List ℕ) (mapping : Mapping) → ¬ IsCommand fields (Link target mapping base media)
+
+abbrev pub NoUnlink : List (List ℕ) → Type 0
+NoUnlink fields = (source base media : List ℕ) (mapping : Mapping) → ¬ IsCommand fields (Unlink source mapping base media)
+
+pub no_command : (fields : List (List ℕ)) (word : List ℕ) → IsTextAt fields 2 word → (word ≡ codes "add" → NoAddition fields) → (word ≡ codes "delete" → NoDeletion fields)
+    → (word ≡ codes "link" → NoLink fields) → (word ≡ codes "unlink" → NoUnlink fields) → (asked : Command) → IsServed asked → ¬ IsCommand fields asked
+no_command fields word there add delete link unlink (Add target identity content) served is = add (some_once _ _ _ there is.0) target identity content is
+no_command fields word there add delete link unlink (Delete source identity) served is = delete (some_once _ _ _ there is.0) source identity is
+no_command fields word there add delete link unlink (Link target mapping base media) served is = link (some_once _ _ _ there is.0) target base media mapping is
+no_command fields word there add delete link unlink (Unlink source mapping base media) served is = unlink (some_once _ _ _ there is.0) source base media mapping is
+no_command fields word there add delete link unlink (Split source child mode rect) served is = absurd served
+no_command fields word there add delete link unlink (Merge child into ticket) served is = absurd served

@@ -1,6 +1,5 @@
 -- A record is one request at most.
-use Rattle.std.proofs.Common.{◌≡◌, ℕ, ℤ, List, Option, Some, Result, Ok, Err, false, nat_eq, get_or, ap, refl, arith}
-use Rattle.std.proofs.lemmas.Bool.Decides.{nat_tests}
+use Rattle.std.proofs.Common.{◌≡◌, ℕ, ℤ, List, Result, Ok, Err, refl}
 use Rattle.std.proofs.lemmas.Fmt.{signed_decimal_injective}
 use Rattle.hex.specs.Hex.{decode_of}
 use Rattle.sheet_types.proofs.Basics.{some_once}
@@ -15,20 +14,11 @@ use Rattle.sheet_types.specs.declared.command.Request.{Request}
 use Rattle.world.specs.Laws.{IsServed}
 use Rattle.manifest_csv.specs.Requests.{IsCommand, IsContent, IsHexAt, IsNumberAt, IsTextAt}
 use Rattle.manifest_csv.specs.RequestLists.{Asks}
+use Rattle.manifest_csv.proofs.OneWord.{clash}
 
 ok_once : {A E : Type 0} (r : Result A E) (x y : A) → r ≡ Ok x → r ≡ Ok y → x ≡ y
 ok_once (Ok z) x y e f = cc
 ok_once (Err z) x y e f = cc
-
--- the first byte of a word tells it from the others
-abbrev first : List ℕ → ℕ
-first word = get_or word 0 0
-
--- one field is not two words that differ in their first byte
-clash : (field : Option (List ℕ)) (one other : List ℕ) → field ≡ Some one → field ≡ Some other → nat_eq (first one) (first other) ≡ false → ⊥
-clash field one other e f differ =
-    let same : first one ≡ first other = ap first (some_once field one other e f) in
-    grind (arith, nat_tests, same, differ)
 
 one_number : (fields : List (List ℕ)) (column : ℕ) (y z : ℤ) → IsNumberAt fields column y → IsNumberAt fields column z → y ≡ z
 one_number fields column y z one other = signed_decimal_injective y z one.0.sfits other.0.sfits (some_once _ _ _ one.1 other.1)
@@ -46,10 +36,10 @@ one_mapping fields RowsMedia TilesMedia one other = absurd (clash _ _ _ one othe
 
 same_content : (fields : List (List ℕ)) (c d : Content) → IsContent fields c → IsContent fields d → c ≡ d
 same_content fields (Tile z c r x) (Tile z' c' r' x') one other =
-    rw (one_number fields 7 z z' one.1 other.1, one_number fields 8 c c' one.2 other.2, one_number fields 9 r r' one.3 other.3, one_hex fields 17 x x' one.4 other.4) refl
-same_content fields (Media t x) (Media t' x') one other = rw (some_once _ t t' one.1 other.1, one_hex fields 17 x x' one.2 other.2) refl
+    rw (one_number fields 7 z z' one.1.0 other.1.0, one_number fields 8 c c' one.1.1 other.1.1, one_number fields 9 r r' one.1.2 other.1.2, one_hex fields 17 x x' one.1.3 other.1.3) refl
+same_content fields (Media t x) (Media t' x') one other = rw (some_once _ t t' one.1.0 other.1.0, one_hex fields 17 x x' one.1.1 other.1.1) refl
 same_content fields (Row x y k l) (Row x' y' k' l') one other =
-    rw (one_number fields 12 x x' one.1 other.1, one_number fields 13 y y' one.2 other.2, one_number fields 14 k k' one.3 other.3, some_once _ l l' one.4 other.4) refl
+    rw (one_number fields 12 x x' one.1.0 other.1.0, one_number fields 13 y y' one.1.1 other.1.1, one_number fields 14 k k' one.1.2 other.1.2, some_once _ l l' one.1.3 other.1.3) refl
 same_content fields (Tile z c r x) (Media t' x') one other = absurd (clash _ _ _ one.0 other.0 refl)
 same_content fields (Tile z c r x) (Row x' y' k' l') one other = absurd (clash _ _ _ one.0 other.0 refl)
 same_content fields (Media t x) (Tile z' c' r' x') one other = absurd (clash _ _ _ one.0 other.0 refl)
@@ -58,12 +48,12 @@ same_content fields (Row x y k l) (Tile z' c' r' x') one other = absurd (clash _
 same_content fields (Row x y k l) (Media t' x') one other = absurd (clash _ _ _ one.0 other.0 refl)
 
 same_command : (fields : List (List ℕ)) (c d : Command) → IsServed c → IsServed d → IsCommand fields c → IsCommand fields d → c ≡ d
-same_command fields (Add p i c) (Add p' i' c') s t one other = rw (some_once _ p p' one.1 other.1, some_once _ i i' one.2 other.2, same_content fields c c' one.3 other.3) refl
-same_command fields (Delete p i) (Delete p' i') s t one other = rw (some_once _ p p' one.1 other.1, some_once _ i i' one.2 other.2) refl
+same_command fields (Add p i c) (Add p' i' c') s t one other = rw (some_once _ p p' one.1.0 other.1.0, some_once _ i i' one.1.1 other.1.1, same_content fields c c' one.1.2 other.1.2) refl
+same_command fields (Delete p i) (Delete p' i') s t one other = rw (some_once _ p p' one.1.0 other.1.0, some_once _ i i' one.1.1 other.1.1) refl
 same_command fields (Link p m b r) (Link p' m' b' r') s t one other =
-    rw (some_once _ p p' one.1 other.1, one_mapping fields m m' one.2 other.2, some_once _ b b' one.3 other.3, some_once _ r r' one.4 other.4) refl
+    rw (some_once _ p p' one.1.0 other.1.0, one_mapping fields m m' one.1.1 other.1.1, some_once _ b b' one.1.2 other.1.2, some_once _ r r' one.1.3 other.1.3) refl
 same_command fields (Unlink p m b r) (Unlink p' m' b' r') s t one other =
-    rw (some_once _ p p' one.1 other.1, one_mapping fields m m' one.2 other.2, some_once _ b b' one.3 other.3, some_once _ r r' one.4 other.4) refl
+    rw (some_once _ p p' one.1.0 other.1.0, one_mapping fields m m' one.1.1 other.1.1, some_once _ b b' one.1.2 other.1.2, some_once _ r r' one.1.3 other.1.3) refl
 same_command fields (Add p i c) (Delete p' i') s t one other = absurd (clash _ _ _ one.0 other.0 refl)
 same_command fields (Add p i c) (Link p' m' b' r') s t one other = absurd (clash _ _ _ one.0 other.0 refl)
 same_command fields (Add p i c) (Unlink p' m' b' r') s t one other = absurd (clash _ _ _ one.0 other.0 refl)

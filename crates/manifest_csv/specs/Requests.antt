@@ -6,7 +6,7 @@ use Rattle.std.specs.Fmt.{signed_decimal}
 use Rattle.uuid.specs.Text.{parsed_hyphenated}
 use Rattle.hex.specs.Hex.{decode_of}
 use Rattle.csv.specs.Records.{field_at}
-use Rattle.sheet_types.specs.Texts.{kind_word, mapping_word, mode_word}
+use Rattle.sheet_types.specs.Texts.{kind_of, kind_word, mapping_word, mode_word}
 use Rattle.sheet_types.specs.Step.{relation}
 use Rattle.sheet_types.specs.declared.command.Content.{Content}
 use Rattle.sheet_types.specs.declared.command.Content.TheVariants.{Tile, Media, Row}
@@ -14,7 +14,6 @@ use Rattle.sheet_types.specs.declared.command.Command.{Command}
 use Rattle.sheet_types.specs.declared.command.Command.TheVariants.{Add, Delete, Link, Unlink, Split, Merge}
 use Rattle.sheet_types.specs.declared.command.Relation.{Relation}
 use Rattle.sheet_types.specs.declared.command.Request.{Request}
-use Rattle.sheet_types.specs.declared.receipt.MovedKind.TheVariants.{TileItem, MediaItem, RowItem}
 
 -- the names of the columns, in their order
 abbrev pub header : List (List ℕ)
@@ -43,33 +42,50 @@ pub record IsHexAt (fields : List (List ℕ)) (column : ℕ) (bytes : List ℕ) 
 abbrev pub AreEmpty : List (List ℕ) → List ℕ → Type 0
 AreEmpty fields columns = All (λ column. IsTextAt fields column []) columns
 
--- the fields of a content, and that those of other contents are empty
-abbrev pub IsContent : List (List ℕ) → Content → Type 0
-IsContent fields (Tile zoom column row bytes) = IsTextAt fields 6 (kind_word TileItem) × IsNumberAt fields 7 zoom × IsNumberAt fields 8 column × IsNumberAt fields 9 row × IsHexAt fields 17 bytes
+-- the fields of a content beside its kind, and that those of other contents are empty
+abbrev pub HasContent : List (List ℕ) → Content → Type 0
+HasContent fields (Tile zoom column row bytes) = IsNumberAt fields 7 zoom × IsNumberAt fields 8 column × IsNumberAt fields 9 row × IsHexAt fields 17 bytes
     × AreEmpty fields (10 ∷ 11 ∷ 12 ∷ 13 ∷ 14 ∷ 16 ∷ [])
-IsContent fields (Media content_type bytes) = IsTextAt fields 6 (kind_word MediaItem) × IsTextAt fields 16 content_type × IsHexAt fields 17 bytes
+HasContent fields (Media content_type bytes) = IsTextAt fields 16 content_type × IsHexAt fields 17 bytes
     × AreEmpty fields (7 ∷ 8 ∷ 9 ∷ 10 ∷ 11 ∷ 12 ∷ 13 ∷ 14 ∷ [])
-IsContent fields (Row x y code label) = IsTextAt fields 6 (kind_word RowItem) × IsNumberAt fields 12 x × IsNumberAt fields 13 y × IsNumberAt fields 14 code × IsTextAt fields 16 label
+HasContent fields (Row x y code label) = IsNumberAt fields 12 x × IsNumberAt fields 13 y × IsNumberAt fields 14 code × IsTextAt fields 16 label
     × AreEmpty fields (7 ∷ 8 ∷ 9 ∷ 10 ∷ 11 ∷ 17 ∷ [])
 
--- the fields of a link and of an unlink alike, which this word begins, and that those which they don't use are empty
-abbrev pub NamesLink : List (List ℕ) → List ℕ → List ℕ → Relation → Type 0
-NamesLink fields word holder link = IsTextAt fields 2 word × IsUuidAt fields 3 holder × IsTextAt fields 6 (mapping_word link.mapping) × IsUuidAt fields 4 link.base × IsUuidAt fields 5 link.media
+-- a record that adds this content
+abbrev pub IsContent : List (List ℕ) → Content → Type 0
+IsContent fields content = IsTextAt fields 6 (kind_word (kind_of content)) × HasContent fields content
+
+-- the fields of a link and of an unlink alike, and that those which they don't use are empty
+abbrev pub NamesLink : List (List ℕ) → List ℕ → Relation → Type 0
+NamesLink fields holder link = IsUuidAt fields 3 holder × IsTextAt fields 6 (mapping_word link.mapping) × IsUuidAt fields 4 link.base × IsUuidAt fields 5 link.media
     × AreEmpty fields (7 ∷ 8 ∷ 9 ∷ 10 ∷ 11 ∷ 12 ∷ 13 ∷ 14 ∷ 15 ∷ 16 ∷ 17 ∷ [])
 
--- the fields of a command, and that those which it doesn't use are empty
-abbrev pub IsCommand : List (List ℕ) → Command → Type 0
-IsCommand fields (Add target identity content) = IsTextAt fields 2 (codes "add") × IsUuidAt fields 3 target × IsUuidAt fields 4 identity × IsContent fields content
+-- the word of a command
+abbrev pub command_word : Command → List ℕ
+command_word (Add target identity content) = codes "add"
+command_word (Delete source identity) = codes "delete"
+command_word (Link target mapping base media) = codes "link"
+command_word (Unlink source mapping base media) = codes "unlink"
+command_word (Split source child mode rect) = codes "split"
+command_word (Merge child into ticket) = codes "merge"
+
+-- the fields of a command beside its word, and that those which it doesn't use are empty
+abbrev pub HasCommand : List (List ℕ) → Command → Type 0
+HasCommand fields (Add target identity content) = IsUuidAt fields 3 target × IsUuidAt fields 4 identity × IsContent fields content
     × AreEmpty fields (5 ∷ 15 ∷ [])
-IsCommand fields (Delete source identity) = IsTextAt fields 2 (codes "delete") × IsUuidAt fields 3 source × IsUuidAt fields 4 identity
+HasCommand fields (Delete source identity) = IsUuidAt fields 3 source × IsUuidAt fields 4 identity
     × AreEmpty fields (5 ∷ 6 ∷ 7 ∷ 8 ∷ 9 ∷ 10 ∷ 11 ∷ 12 ∷ 13 ∷ 14 ∷ 15 ∷ 16 ∷ 17 ∷ [])
-IsCommand fields (Link target mapping base media) = NamesLink fields (codes "link") target (relation mapping base media)
-IsCommand fields (Unlink source mapping base media) = NamesLink fields (codes "unlink") source (relation mapping base media)
-IsCommand fields (Split source child mode rect) = IsTextAt fields 2 (codes "split") × IsUuidAt fields 3 source × IsUuidAt fields 5 child × IsTextAt fields 6 (mode_word mode)
+HasCommand fields (Link target mapping base media) = NamesLink fields target (relation mapping base media)
+HasCommand fields (Unlink source mapping base media) = NamesLink fields source (relation mapping base media)
+HasCommand fields (Split source child mode rect) = IsUuidAt fields 3 source × IsUuidAt fields 5 child × IsTextAt fields 6 (mode_word mode)
     × IsNumberAt fields 7 rect.zoom × IsNumberAt fields 8 rect.column × IsNumberAt fields 10 rect.last_column × IsNumberAt fields 9 rect.row × IsNumberAt fields 11 rect.last_row
     × AreEmpty fields (4 ∷ 12 ∷ 13 ∷ 14 ∷ 15 ∷ 16 ∷ 17 ∷ [])
-IsCommand fields (Merge child into ticket) = IsTextAt fields 2 (codes "merge") × IsUuidAt fields 3 child × IsUuidAt fields 5 into × IsNumberAt fields 15 ticket
+HasCommand fields (Merge child into ticket) = IsUuidAt fields 3 child × IsUuidAt fields 5 into × IsNumberAt fields 15 ticket
     × AreEmpty fields (4 ∷ 6 ∷ 7 ∷ 8 ∷ 9 ∷ 10 ∷ 11 ∷ 12 ∷ 13 ∷ 14 ∷ 16 ∷ 17 ∷ [])
+
+-- a record that asks for this command
+abbrev pub IsCommand : List (List ℕ) → Command → Type 0
+IsCommand fields command = IsTextAt fields 2 (command_word command) × HasCommand fields command
 
 -- a record that is this request
 pub record IsRequest (fields : List (List ℕ)) (r : Request) : Type 0 where

@@ -5,8 +5,9 @@ ghost use Rattle.std.specs.Option.{option_and_then};
 ghost use Rattle.uuid.specs.Text.{parsed_hyphenated};
 ghost use Rattle.csv.specs.Records.{field_at, fields_of};
 ghost use Rattle.manifest_csv.specs.Requests.{AreEmpty, IsHexAt, IsNumberAt, IsTextAt};
-ghost use Rattle.sheet_types.specs.Texts.{mapping_word};
+ghost use Rattle.sheet_types.specs.Texts.{kind_word, mapping_word};
 ghost use Rattle.sheet_types.specs.declared.command.Mapping.{Mapping};
+ghost use Rattle.sheet_types.specs.declared.receipt.MovedKind.{MovedKind};
 
 use csv::StringRecord;
 use hex::FromHexError;
@@ -14,7 +15,8 @@ use sheet_types::collections::Text;
 use sheet_types::command::Mapping;
 use sheet_types::error::OutOfMemory;
 use sheet_types::reading::{read_number, read_uuid};
-use sheet_types::words::read_mapping;
+use sheet_types::receipt::MovedKind;
+use sheet_types::words::{read_kind, read_mapping};
 use std::alloc::Global;
 use uuid::Uuid;
 
@@ -72,6 +74,17 @@ pub fn hex_at(
         Ok(bytes) => Ok(Some(bytes)),
         Err(FromHexError::OutOfMemory) => Err(OutOfMemory),
         Err(_) => Ok(None),
+    }
+}
+
+/// The kind that this column names.
+pub fn kind_at(row: &StringRecord, column: usize) -> Option<MovedKind>
+    ensures some { IfSome result (λ kind. IsTextAt (fields_of row.now) column (kind_word kind)) }
+    ensures none { IfNone result ((kind : MovedKind) → ¬ IsTextAt (fields_of row.now) column (kind_word kind)) }
+{
+    match row.get(column) {
+        Some(text) => read_kind(text),
+        None => None,
     }
 }
 

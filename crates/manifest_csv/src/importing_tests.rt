@@ -48,6 +48,20 @@ fn expect_sums(rt: &impl Abort, world: &World<MemStore>, wanted: [u64; 5]) {
     assert!(rt; world.sums(archive()) == Some(held));
 }
 
+/// The world after a whole list was imported into a new one; expects this report, and that the archive then holds so much (`expect_sums`).
+fn imported(
+    rt: &impl Abort,
+    alloc: Global,
+    text: &str,
+    report: &str,
+    held: [u64; 5],
+) -> Result<World<MemStore>, Fail> {
+    let mut world = new_world(alloc)?;
+    expect_import(rt, alloc, &mut world, text.as_bytes(), Ok(()), report);
+    expect_sums(rt, &world, held);
+    Ok(world)
+}
+
 fn expect_manifest(rt: &impl Abort, alloc: Global, world: &mut World<MemStore>, wanted: &str) {
     let mut out: Vec<u8> = Vec::new(alloc);
     assert!(rt; write_manifest(alloc, world, archive(), &mut out).is_ok());
@@ -57,33 +71,28 @@ fn expect_manifest(rt: &impl Abort, alloc: Global, world: &mut World<MemStore>, 
 #[test]
 fn the_empty_list(rt: HostRuntime) -> Result<(), Fail> {
     let alloc = rt.alloc();
-    let mut world = new_world(alloc)?;
     let text = list(alloc, &[])?;
-    expect_import(
+    imported(
         &rt,
         alloc,
-        &mut world,
-        text.as_bytes(),
-        Ok(()),
+        text.as_str(),
         "line,request,seq,refusal\n",
-    );
-    expect_sums(&rt, &world, [0, 0, 0, 0, 0]);
+        [0, 0, 0, 0, 0],
+    )?;
     Ok(())
 }
 
 #[test]
 fn the_first_tile(rt: HostRuntime) -> Result<(), Fail> {
     let alloc = rt.alloc();
-    let mut world = new_world(alloc)?;
     let text = list(alloc, &[FIRST_TILE])?;
-    expect_import(
+    let mut world = imported(
         &rt,
         alloc,
-        &mut world,
-        text.as_bytes(),
-        Ok(()),
+        text.as_str(),
         REPORT_OF_THE_FIRST,
-    );
+        [1, 0, 0, 0, 1],
+    )?;
     expect_manifest(&rt, alloc, &mut world, MANIFEST_OF_THE_FIRST);
     let Some(receipt) = world.receipt(alloc, question(1))? else {
         return Err(Fail::new("a receipt"));
@@ -100,22 +109,19 @@ fn the_first_tile(rt: HostRuntime) -> Result<(), Fail> {
 #[test]
 fn no_such_place(rt: HostRuntime) -> Result<(), Fail> {
     let alloc = rt.alloc();
-    let mut world = new_world(alloc)?;
     let text = list(
         alloc,
         &[
             "90000000-0000-4000-8000-000000000001,2024-05-01T08:00:00.000Z,add,a0000000-0000-4000-8000-000000000000,00000000-0000-4000-8000-000000000001,,tile,2,4,3,,,,,,,,41",
         ],
     )?;
-    expect_import(
+    imported(
         &rt,
         alloc,
-        &mut world,
-        text.as_bytes(),
-        Ok(()),
+        text.as_str(),
         "line,request,seq,refusal\n1,90000000-0000-4000-8000-000000000001,0,9\n",
-    );
-    expect_sums(&rt, &world, [0, 0, 0, 0, 0]);
+        [0, 0, 0, 0, 0],
+    )?;
     Ok(())
 }
 
@@ -142,7 +148,6 @@ fn a_list_that_comes_twice(rt: HostRuntime) -> Result<(), Fail> {
 #[test]
 fn refusals_in_the_middle(rt: HostRuntime) -> Result<(), Fail> {
     let alloc = rt.alloc();
-    let mut world = new_world(alloc)?;
     let text = list(
         alloc,
         &[
@@ -153,15 +158,13 @@ fn refusals_in_the_middle(rt: HostRuntime) -> Result<(), Fail> {
             "90000000-0000-4000-8000-000000000001,2024-05-01T08:00:00.000Z,delete,a0000000-0000-4000-8000-000000000000,00000000-0000-4000-8000-000000000001,,,,,,,,,,,,,",
         ],
     )?;
-    expect_import(
+    imported(
         &rt,
         alloc,
-        &mut world,
-        text.as_bytes(),
-        Ok(()),
+        text.as_str(),
         "line,request,seq,refusal\n1,90000000-0000-4000-8000-000000000001,1,0\n2,90000000-0000-4000-8000-000000000002,0,11\n3,90000000-0000-4000-8000-000000000003,2,0\n4,90000000-0000-4000-8000-000000000002,3,0\n5,90000000-0000-4000-8000-000000000001,0,1\n",
-    );
-    expect_sums(&rt, &world, [1, 0, 0, 0, 1]);
+        [1, 0, 0, 0, 1],
+    )?;
     Ok(())
 }
 
@@ -255,22 +258,19 @@ fn a_reader_that_fails_after_a_good_list(rt: HostRuntime) -> Result<(), Fail> {
 #[test]
 fn a_label_in_quotes(rt: HostRuntime) -> Result<(), Fail> {
     let alloc = rt.alloc();
-    let mut world = new_world(alloc)?;
     let text = list(
         alloc,
         &[
             "90000000-0000-4000-8000-000000000001,2024-05-01T08:00:00.000Z,add,a0000000-0000-4000-8000-000000000000,00000000-0000-4000-8000-000000000001,,row,,,,,,0,4096,0,,\"a,\"\"b\",",
         ],
     )?;
-    expect_import(
+    let mut world = imported(
         &rt,
         alloc,
-        &mut world,
-        text.as_bytes(),
-        Ok(()),
+        text.as_str(),
         REPORT_OF_THE_FIRST,
-    );
-    expect_sums(&rt, &world, [0, 0, 1, 0, 4]);
+        [0, 0, 1, 0, 4],
+    )?;
     expect_manifest(
         &rt,
         alloc,
@@ -283,7 +283,6 @@ fn a_label_in_quotes(rt: HostRuntime) -> Result<(), Fail> {
 #[test]
 fn row_medium_and_link(rt: HostRuntime) -> Result<(), Fail> {
     let alloc = rt.alloc();
-    let mut world = new_world(alloc)?;
     let text = list(
         alloc,
         &[
@@ -292,15 +291,13 @@ fn row_medium_and_link(rt: HostRuntime) -> Result<(), Fail> {
             "90000000-0000-4000-8000-000000000003,2024-05-01T08:00:00.000Z,link,a0000000-0000-4000-8000-000000000000,00000000-0000-4000-8000-000000000001,00000000-0000-4000-8000-000000000003,rows_media,,,,,,,,,,,",
         ],
     )?;
-    expect_import(
+    let mut world = imported(
         &rt,
         alloc,
-        &mut world,
-        text.as_bytes(),
-        Ok(()),
+        text.as_str(),
         "line,request,seq,refusal\n1,90000000-0000-4000-8000-000000000001,1,0\n2,90000000-0000-4000-8000-000000000002,2,0\n3,90000000-0000-4000-8000-000000000003,3,0\n",
-    );
-    expect_sums(&rt, &world, [0, 1, 1, 1, 6]);
+        [0, 1, 1, 1, 6],
+    )?;
     expect_manifest(
         &rt,
         alloc,
@@ -323,17 +320,14 @@ fn list_of_a_tile(alloc: Global, size: usize) -> Result<String, Fail> {
 #[test]
 fn a_tile_of_the_greatest_size(rt: HostRuntime) -> Result<(), Fail> {
     let alloc = rt.alloc();
-    let mut world = new_world(alloc)?;
     let text = list_of_a_tile(alloc, 1_048_576)?;
-    expect_import(
+    let mut world = imported(
         &rt,
         alloc,
-        &mut world,
-        text.as_bytes(),
-        Ok(()),
+        text.as_str(),
         REPORT_OF_THE_FIRST,
-    );
-    expect_sums(&rt, &world, [1, 0, 0, 0, 1_048_576]);
+        [1, 0, 0, 0, 1_048_576],
+    )?;
     expect_manifest(
         &rt,
         alloc,
@@ -346,17 +340,14 @@ fn a_tile_of_the_greatest_size(rt: HostRuntime) -> Result<(), Fail> {
 #[test]
 fn a_tile_past_the_greatest_size(rt: HostRuntime) -> Result<(), Fail> {
     let alloc = rt.alloc();
-    let mut world = new_world(alloc)?;
     let text = list_of_a_tile(alloc, 1_048_577)?;
-    expect_import(
+    imported(
         &rt,
         alloc,
-        &mut world,
-        text.as_bytes(),
-        Ok(()),
+        text.as_str(),
         "line,request,seq,refusal\n1,90000000-0000-4000-8000-000000000001,0,5\n",
-    );
-    expect_sums(&rt, &world, [0, 0, 0, 0, 0]);
+        [0, 0, 0, 0, 0],
+    )?;
     Ok(())
 }
 

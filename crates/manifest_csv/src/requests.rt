@@ -1,8 +1,8 @@
 //! Which request a record is.
-ghost use Rattle.std.specs.Prelude.{◌≡◌, ℕ, List, IfOk, IfSome, IfNone};
+ghost use Rattle.std.specs.Prelude.{◌≡◌, ℕ, List, IfOk, IfSome, IfNone, codes};
 ghost use Rattle.csv.specs.Records.{fields_of};
 ghost use Rattle.world.specs.Laws.{IsServed};
-ghost use Rattle.manifest_csv.specs.Requests.{IsCommand, IsContent, IsRequest, NamesLink};
+ghost use Rattle.manifest_csv.specs.Requests.{IsCommand, IsRequest, IsTextAt, NamesLink};
 ghost use Rattle.sheet_types.specs.declared.command.Command.TheVariants as command;
 ghost use Rattle.sheet_types.specs.declared.command.Command.{Command};
 ghost use Rattle.sheet_types.specs.declared.command.Content.{Content};
@@ -11,8 +11,8 @@ ghost use Rattle.sheet_types.specs.declared.command.Relation.{Relation};
 ghost use Rattle.sheet_types.specs.declared.command.Request.{Request};
 
 use crate::columns::{AT, COMMAND, COUNT, IDENTITY, KIND, OTHER, PACKAGE, REQUEST};
-use crate::contents::{media_of, row_of, tile_of};
-use crate::fields::{are_empty, has_text, mapping_at, text_at, uuid_at};
+use crate::contents::content_of;
+use crate::fields::{are_empty, mapping_at, text_at, uuid_at};
 use csv::StringRecord;
 use sheet_types::command::{Command, Content, Relation, Request};
 use sheet_types::error::OutOfMemory;
@@ -25,12 +25,12 @@ const NOT_OF_DELETE: [usize; 13] = [5, 6, 7, 8, 9, 10, 11, 12, 13, 14, 15, 16, 1
 /// The columns that links and unlinks leave empty.
 const NOT_OF_LINK: [usize; 11] = [7, 8, 9, 10, 11, 12, 13, 14, 15, 16, 17];
 
-/// The package and the link that a record names which begins with this word.
-fn named_link(row: &StringRecord, word: &str) -> Option<(Uuid, Relation)>
-    ensures some { IfSome result (λ named. NamesLink (fields_of row.now) word.now named.0 named.1) }
-    ensures none { IfNone result ((holder : List ℕ) (link : Relation) → ¬ NamesLink (fields_of row.now) word.now holder link) }
+/// The package and the link that a record names.
+fn named_link(row: &StringRecord) -> Option<(Uuid, Relation)>
+    ensures some { IfSome result (λ named. NamesLink (fields_of row.now) named.0 named.1) }
+    ensures none { IfNone result ((holder : List ℕ) (link : Relation) → ¬ NamesLink (fields_of row.now) holder link) }
 {
-    if !has_text(row, COMMAND, word) || !are_empty(row, &NOT_OF_LINK) {
+    if !are_empty(row, &NOT_OF_LINK) {
         return None;
     }
     let package = uuid_at(row, PACKAGE)?;
@@ -40,13 +40,14 @@ fn named_link(row: &StringRecord, word: &str) -> Option<(Uuid, Relation)>
     Some((package, Relation::new(mapping, base, media)))
 }
 
-/// The link that a record asks for.
-pub fn link_of(row: &StringRecord) -> Option<Command>
+/// The link that a record asks for which has this word.
+fn link_of(row: &StringRecord) -> Option<Command>
+    requires word { IsTextAt (fields_of row.now) 2 (codes "link") }
     ensures some { IfSome result (λ found. IsCommand (fields_of row.now) found) }
     ensures served { IfSome result (λ found. IsServed found) }
     ensures none { IfNone result ((target base media : List ℕ) (mapping : Mapping) → ¬ IsCommand (fields_of row.now) (command.Link target mapping base media)) }
 {
-    let (package, link) = named_link(row, "link")?;
+    let (package, link) = named_link(row)?;
     Some(Command::Link {
         package,
         mapping: link.mapping,
@@ -55,13 +56,14 @@ pub fn link_of(row: &StringRecord) -> Option<Command>
     })
 }
 
-/// The unlink that a record asks for.
-pub fn unlink_of(row: &StringRecord) -> Option<Command>
+/// The unlink that a record asks for which has this word.
+fn unlink_of(row: &StringRecord) -> Option<Command>
+    requires word { IsTextAt (fields_of row.now) 2 (codes "unlink") }
     ensures some { IfSome result (λ found. IsCommand (fields_of row.now) found) }
     ensures served { IfSome result (λ found. IsServed found) }
     ensures none { IfNone result ((source base media : List ℕ) (mapping : Mapping) → ¬ IsCommand (fields_of row.now) (command.Unlink source mapping base media)) }
 {
-    let (package, link) = named_link(row, "unlink")?;
+    let (package, link) = named_link(row)?;
     Some(Command::Unlink {
         package,
         mapping: link.mapping,
@@ -70,13 +72,14 @@ pub fn unlink_of(row: &StringRecord) -> Option<Command>
     })
 }
 
-/// The deletion that a record asks for.
-pub fn delete_of(row: &StringRecord) -> Option<Command>
+/// The deletion that a record asks for which has this word.
+fn delete_of(row: &StringRecord) -> Option<Command>
+    requires word { IsTextAt (fields_of row.now) 2 (codes "delete") }
     ensures some { IfSome result (λ found. IsCommand (fields_of row.now) found) }
     ensures served { IfSome result (λ found. IsServed found) }
     ensures none { IfNone result ((source identity : List ℕ) → ¬ IsCommand (fields_of row.now) (command.Delete source identity)) }
 {
-    if !has_text(row, COMMAND, "delete") || !are_empty(row, &NOT_OF_DELETE) {
+    if !are_empty(row, &NOT_OF_DELETE) {
         return None;
     }
     let package = uuid_at(row, PACKAGE)?;
@@ -84,30 +87,17 @@ pub fn delete_of(row: &StringRecord) -> Option<Command>
     Some(Command::Delete { package, identity })
 }
 
-/// The content that a record adds, whatever its kind.
-pub fn content_of(alloc: Global, row: &StringRecord) -> Result<Option<Content>, OutOfMemory>
-    ensures some { IfOk result (λ found. IfSome found (λ content. IsContent (fields_of row.now) content)) }
-    ensures none { IfOk result (λ found. IfNone found ((content : Content) → ¬ IsContent (fields_of row.now) content)) }
-{
-    if let Some(tile) = tile_of(alloc, row)? {
-        return Ok(Some(tile));
-    }
-    if let Some(medium) = media_of(alloc, row)? {
-        return Ok(Some(medium));
-    }
-    row_of(alloc, row)
-}
-
 /// The columns that every addition leaves empty.
 const NOT_OF_ADD: [usize; 2] = [5, 15];
 
-/// The addition that a record asks for.
-pub fn add_of(alloc: Global, row: &StringRecord) -> Result<Option<Command>, OutOfMemory>
+/// The addition that a record asks for which has this word.
+fn add_of(alloc: Global, row: &StringRecord) -> Result<Option<Command>, OutOfMemory>
+    requires word { IsTextAt (fields_of row.now) 2 (codes "add") }
     ensures some { IfOk result (λ found. IfSome found (λ addition. IsCommand (fields_of row.now) addition)) }
     ensures served { IfOk result (λ found. IfSome found (λ addition. IsServed addition)) }
     ensures none { IfOk result (λ found. IfNone found ((target identity : List ℕ) (content : Content) → ¬ IsCommand (fields_of row.now) (command.Add target identity content))) }
 {
-    if !has_text(row, COMMAND, "add") || !are_empty(row, &NOT_OF_ADD) {
+    if !are_empty(row, &NOT_OF_ADD) {
         return Ok(None);
     }
     let Some(package) = uuid_at(row, PACKAGE) else {
@@ -126,22 +116,22 @@ pub fn add_of(alloc: Global, row: &StringRecord) -> Result<Option<Command>, OutO
     }))
 }
 
-/// The command that a record asks for, where it is served.
+/// The command that a record asks for, by its word, where it is served.
 pub fn command_of(alloc: Global, row: &StringRecord) -> Result<Option<Command>, OutOfMemory>
     ensures some { IfOk result (λ found. IfSome found (λ asked. IsCommand (fields_of row.now) asked)) }
     ensures served { IfOk result (λ found. IfSome found (λ asked. IsServed asked)) }
     ensures none { IfOk result (λ found. IfNone found ((asked : Command) → IsServed asked → ¬ IsCommand (fields_of row.now) asked)) }
 {
-    if let Some(addition) = add_of(alloc, row)? {
-        return Ok(Some(addition));
+    let Some(word) = row.get(COMMAND) else {
+        return Ok(None);
+    };
+    match word {
+        "add" => add_of(alloc, row),
+        "delete" => Ok(delete_of(row)),
+        "link" => Ok(link_of(row)),
+        "unlink" => Ok(unlink_of(row)),
+        _ => Ok(None),
     }
-    if let Some(deletion) = delete_of(row) {
-        return Ok(Some(deletion));
-    }
-    if let Some(link) = link_of(row) {
-        return Ok(Some(link));
-    }
-    Ok(unlink_of(row))
 }
 
 /// The request that a record is, where its command is served.

@@ -1,8 +1,17 @@
+use Rattle.std.proofs.Common.{refl, codes}
+use Rattle.csv.specs.Records.{field_at, fields_of}
 use Rattle.manifest_csv.proofs.CommandFacts.{no_command}
-use Rattle.csv.specs.Records.{fields_of}
+use Rattle.manifest_csv.proofs.OneWord.{apart, is_word, none_then}
 use Rattle.manifest_csv.proofs.requests.command_of.Goals as goal
 
-pub returns-clause-none : goal.returns-clause-none
-returns-clause-none c =
-    let no_addition = rw c.in_default.is at c.in_ok-addition.ensures.none in
-    no_command (fields_of c.args.row.now) c.unlink_of.result no_addition c.in_default-delete_of.ensures.none c.in_default-link_of.ensures.none c.unlink_of.ensures.none
+pub returns-in-link-clause-none : goal.returns-in-link-clause-none
+returns-in-link-clause-none c =
+    let fields = fields_of c.args.row.now in
+    let word = is_word (field_at fields 2) c.in-Some.word.now (codes "link") c.in-Some.ensures.value c.in-link.is in
+    none_then c.link_of.result (λ none. no_command fields (codes "link") word (λ same. absurd (apart _ _ refl same)) (λ same. absurd (apart _ _ refl same)) (λ same. none) (λ same. absurd (apart _ _ refl same))) c.link_of.ensures.none
+
+pub returns-in-unlink-clause-none : goal.returns-in-unlink-clause-none
+returns-in-unlink-clause-none c =
+    let fields = fields_of c.args.row.now in
+    let word = is_word (field_at fields 2) c.in-Some.word.now (codes "unlink") c.in-Some.ensures.value c.in-unlink.is in
+    none_then c.unlink_of.result (λ none. no_command fields (codes "unlink") word (λ same. absurd (apart _ _ refl same)) (λ same. absurd (apart _ _ refl same)) (λ same. absurd (apart _ _ refl same)) (λ same. none)) c.unlink_of.ensures.none

@@ -1,6 +1,6 @@
 use Rattle.sheet_types.specs.Step.{relation}
-use Rattle.manifest_csv.proofs.CommandFacts.{if_none}
+use Rattle.manifest_csv.proofs.OneWord.{if_none}
 use Rattle.manifest_csv.proofs.requests.unlink_of.Goals as goal
 
 pub returns-in_err-package-clause-none : goal.returns-in_err-package-clause-none
-returns-in_err-package-clause-none c = if_none c.from_residual.result (λ holder base media mapping. c.in_err-package.ensures.none holder (relation mapping base media))
+returns-in_err-package-clause-none c = if_none c.from_residual.result (λ holder base media mapping is. c.in_err-package.ensures.none holder (relation mapping base media) is.1)
