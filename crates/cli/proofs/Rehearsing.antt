@@ -1,5 +1,5 @@
 -- A rehearsal, by what its import and its packages come to.
-use Rattle.std.proofs.Common.{◌≡◌, ◌≢◌, ◌∙◌, refl, sym, ap, subst, ℕ, List, ◌++◌, Option, Some, None, IfSome, IsSome, Result, Ok, Err, MatchResult, inl, inr, take, length, true, false}
+use Rattle.std.proofs.Common.{◌≡◌, ◌∙◌, refl, sym, subst, ℕ, List, Option, IfSome, Result, Ok, Err, MatchResult, inl, inr, take, length}
 use Rattle.std.specs.Io.KnownBytes.{Appends}
 use Rattle.std.proofs.KnownBytes.{Appends-trans}
 use Rattle.sqlite.specs.Store.{Ghosts}
@@ -9,22 +9,19 @@ use Rattle.sheet_types.specs.declared.command.Request.{Request}
 use Rattle.sheet_types.specs.declared.frame.Frame.{Frame}
 use Rattle.world.specs.Members.{AllClean}
 use Rattle.world.specs.Worlds.{Seen, StandsFor}
-use Rattle.manifest_csv.specs.Imports.{Imports, IsImported, IsWritten, IsWhyUnread, report_before}
-use Rattle.manifest_csv.specs.Reports.{report_of}
+use Rattle.manifest_csv.specs.Imports.{Imports, IsImported}
 use Rattle.manifest_csv.specs.RequestLists.{IsList}
-use Rattle.manifest_csv.specs.Sent.{WentOut, WentOutPast}
+use Rattle.manifest_csv.specs.Sent.{WentOut}
 use Rattle.manifest_csv.specs.declared.importing.ImportFault.{ImportFault}
 use Rattle.manifest_csv.specs.declared.importing.ImportFault.TheVariants.{Unread, Stopped as Interrupted, Unwritten}
-use Rattle.manifest_csv.specs.declared.lists.ReadFault.{ReadFault}
 use Rattle.manifest_csv.specs.declared.lists.ReadFault.TheVariants.{Header, Record, Read, Memory}
 use Rattle.manifest_csv.proofs.SentFacts.{went_out_past}
 use Rattle.cli.specs.Arguments.{Asks, IsFirstUnread}
 use Rattle.cli.specs.Endings.{import_outcome}
-use Rattle.cli.specs.Rehearsals.{Ran, IsComplete, report, printed, live_text, Writes, Stops, Rehearses}
+use Rattle.cli.specs.Rehearsals.{Ran, report, live_text, Writes, Rehearses}
 use Rattle.cli.specs.declared.statuses.What.{What}
 use Rattle.cli.specs.declared.statuses.What.TheVariants.{BadUuid, BadMoment, BadFrame, BadList}
 use Rattle.cli.specs.declared.statuses.Failure.{Failure}
-use Rattle.cli.specs.declared.statuses.Outcome.{Outcome}
 use Rattle.cli.specs.declared.statuses.Outcome.TheVariants.{Done, Stopped}
 use Rattle.cli.proofs.FrameTexts.{frame_once, in_range}
 

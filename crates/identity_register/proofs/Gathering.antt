@@ -1,5 +1,5 @@
 -- The items and links that whole tables give are those of the package.
-use Rattle.std.proofs.Common.{◌≡◌, ℕ, suc, ◌+◌, ◌<◌, pos, List, [], ◌∷◌, ◌++◌, map, length, get_or, take, true, Some, Result, Ok, Err, refl, sym, ap, subst, ◌∙◌, inl, inr, arith}
+use Rattle.std.proofs.Common.{◌≡◌, ℕ, suc, ◌+◌, ◌<◌, pos, List, [], ◌∷◌, ◌++◌, map, length, get_or, take, true, Result, Ok, Err, refl, sym, ap, subst, ◌∙◌, inl, inr, arith}
 use Rattle.std.specs.Prelude.{bytes_eq, flat_map, unsigned_abs, Contains, IsPermutation}
 use Rattle.std.specs.List.{AllByRecursion, AllZip, AllAdjacentBelow}
 use Rattle.std.proofs.lemmas.List.{take_more}

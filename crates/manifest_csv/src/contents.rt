@@ -25,7 +25,7 @@ const NOT_OF_MEDIA: [usize; 8] = [7, 8, 9, 10, 11, 12, 13, 14];
 /// The same for a row.
 const NOT_OF_ROW: [usize; 6] = [7, 8, 9, 10, 11, 17];
 
-/// The tile that a record adds which names this kind.
+/// The tile that a record of the kind `tile` adds.
 fn tile_of(alloc: Global, row: &StringRecord) -> Result<Option<Content>, OutOfMemory>
     requires kind { IsTextAt (fields_of row.now) 6 (kind_word TileItem) }
     ensures some { IfOk result (λ found. IfSome found (λ tile. IsContent (fields_of row.now) tile)) }
@@ -55,7 +55,7 @@ fn tile_of(alloc: Global, row: &StringRecord) -> Result<Option<Content>, OutOfMe
     }))
 }
 
-/// The medium that a record adds which names this kind.
+/// The medium that a record of the kind `media` adds.
 fn media_of(alloc: Global, row: &StringRecord) -> Result<Option<Content>, OutOfMemory>
     requires kind { IsTextAt (fields_of row.now) 6 (kind_word MediaItem) }
     ensures some { IfOk result (λ found. IfSome found (λ medium. IsContent (fields_of row.now) medium)) }
@@ -77,7 +77,7 @@ fn media_of(alloc: Global, row: &StringRecord) -> Result<Option<Content>, OutOfM
     }))
 }
 
-/// The row that a record adds which names this kind.
+/// The row that a record of the kind `row` adds.
 fn row_of(alloc: Global, row: &StringRecord) -> Result<Option<Content>, OutOfMemory>
     requires kind { IsTextAt (fields_of row.now) 6 (kind_word RowItem) }
     ensures some { IfOk result (λ found. IfSome found (λ added. IsContent (fields_of row.now) added)) }
@@ -101,7 +101,7 @@ fn row_of(alloc: Global, row: &StringRecord) -> Result<Option<Content>, OutOfMem
     Ok(Some(Content::Row { x, y, code, label }))
 }
 
-/// The content that a record adds, by the kind that it names.
+/// The content that a record adds, by its kind.
 pub fn content_of(alloc: Global, row: &StringRecord) -> Result<Option<Content>, OutOfMemory>
     ensures some { IfOk result (λ found. IfSome found (λ content. IsContent (fields_of row.now) content)) }
     ensures none { IfOk result (λ found. IfNone found ((content : Content) → ¬ IsContent (fields_of row.now) content)) }

@@ -40,7 +40,7 @@ fn named_link(row: &StringRecord) -> Option<(Uuid, Relation)>
     Some((package, Relation::new(mapping, base, media)))
 }
 
-/// The link that a record asks for which has this word.
+/// The link that a record with the word `link` asks for.
 fn link_of(row: &StringRecord) -> Option<Command>
     requires word { IsTextAt (fields_of row.now) 2 (codes "link") }
     ensures some { IfSome result (λ found. IsCommand (fields_of row.now) found) }
@@ -56,7 +56,7 @@ fn link_of(row: &StringRecord) -> Option<Command>
     })
 }
 
-/// The unlink that a record asks for which has this word.
+/// The unlink that a record with the word `unlink` asks for.
 fn unlink_of(row: &StringRecord) -> Option<Command>
     requires word { IsTextAt (fields_of row.now) 2 (codes "unlink") }
     ensures some { IfSome result (λ found. IsCommand (fields_of row.now) found) }
@@ -72,7 +72,7 @@ fn unlink_of(row: &StringRecord) -> Option<Command>
     })
 }
 
-/// The deletion that a record asks for which has this word.
+/// The deletion that a record with the word `delete` asks for.
 fn delete_of(row: &StringRecord) -> Option<Command>
     requires word { IsTextAt (fields_of row.now) 2 (codes "delete") }
     ensures some { IfSome result (λ found. IsCommand (fields_of row.now) found) }
@@ -90,7 +90,7 @@ fn delete_of(row: &StringRecord) -> Option<Command>
 /// The columns that every addition leaves empty.
 const NOT_OF_ADD: [usize; 2] = [5, 15];
 
-/// The addition that a record asks for which has this word.
+/// The addition that a record with the word `add` asks for.
 fn add_of(alloc: Global, row: &StringRecord) -> Result<Option<Command>, OutOfMemory>
     requires word { IsTextAt (fields_of row.now) 2 (codes "add") }
     ensures some { IfOk result (λ found. IfSome found (λ addition. IsCommand (fields_of row.now) addition)) }

@@ -1,11 +1,11 @@
 -- Looks at the package of one store, one after the other, and what is judged by them.
-use Rattle.std.proofs.Common.{◌≡◌, sym, subst, ◌∙◌, Result, Ok, Err, IsTrue, arith}
+use Rattle.std.proofs.Common.{◌≡◌, subst, Result, Ok, Err, IsTrue}
 use Rattle.sqlite.specs.Store.{Ghosts}
 use Rattle.sqlite.specs.Held.{Held, state}
 use Rattle.sqlite.specs.State.{State, HasCleanDisk}
 use Rattle.sql_meaning.specs.Transactions.{Rests, Looks}
 use Rattle.sql_meaning.specs.Staying.{Stays}
-use Rattle.sql_meaning.proofs.Staying.{looks_stays, stays_then}
+use Rattle.sql_meaning.proofs.Staying.{looks_stays}
 use Rattle.sql_meaning.proofs.Transactions.{Shuts, Settles, at_rest, same_survives}
 use Rattle.sheet_types.specs.World.{Package}
 use Rattle.sheet_types.specs.declared.frame.Frame.{Frame}

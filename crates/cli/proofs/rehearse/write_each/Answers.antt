@@ -1,8 +1,6 @@
 -- One package more, or a beginning of it.
-use Rattle.std.proofs.Common.{subst}
-use Rattle.std.specs.Io.KnownBytes.{Appends}
 use Rattle.std.proofs.KnownBytes.{Appends-nil}
-use Rattle.cli.proofs.Pieces.{failed, listed_text, one_written, one_failed}
+use Rattle.cli.proofs.Pieces.{failed, one_written, one_failed}
 use Rattle.cli.proofs.rehearse.write_each.Goals as goal
 
 pub loop-sight-init : goal.loop-sight-init
