@@ -3,7 +3,8 @@ use Rattle.csv.specs.Records.{fields_of}
 use Rattle.sheet_types.specs.Texts.{kind_word}
 use Rattle.sheet_types.specs.declared.receipt.MovedKind.TheVariants.{TileItem, MediaItem, RowItem}
 use Rattle.manifest_csv.proofs.ContentFacts.{no_content}
-use Rattle.manifest_csv.proofs.OneWord.{apart, ok_none_then}
+use Rattle.manifest_csv.proofs.NoneFacts.{ok_none_then}
+use Rattle.manifest_csv.proofs.OneWord.{apart}
 use Rattle.manifest_csv.proofs.contents.content_of.Goals as goal
 
 pub returns-in-TileItem-clause-none : goal.returns-in-TileItem-clause-none

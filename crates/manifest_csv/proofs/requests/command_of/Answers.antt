@@ -1,7 +1,8 @@
 use Rattle.std.proofs.Common.{refl, codes}
 use Rattle.csv.specs.Records.{field_at, fields_of}
 use Rattle.manifest_csv.proofs.CommandFacts.{no_command}
-use Rattle.manifest_csv.proofs.OneWord.{apart, is_word, none_then}
+use Rattle.manifest_csv.proofs.NoneFacts.{none_then}
+use Rattle.manifest_csv.proofs.OneWord.{apart, is_word}
 use Rattle.manifest_csv.proofs.requests.command_of.Goals as goal
 
 pub returns-in-link-clause-none : goal.returns-in-link-clause-none

@@ -1,5 +1,5 @@
 use Rattle.sheet_types.specs.Step.{relation}
-use Rattle.manifest_csv.proofs.OneWord.{if_none}
+use Rattle.manifest_csv.proofs.NoneFacts.{if_none}
 use Rattle.manifest_csv.proofs.requests.unlink_of.Goals as goal
 
 pub returns-in_err-package-clause-none : goal.returns-in_err-package-clause-none
