@@ -78,12 +78,12 @@ module _ (w : World) (id moment p identity : List ℕ) (register : IsRegister w)
 
 -- ---- Unlink
 
-module _ (w : World) (id moment p : List ℕ) (mapping : Mapping) (base media : List ℕ) (register : IsRegister w) where
+module _ (w : World) (id moment p : List ℕ) (mapping : Mapping) (base other : List ℕ) (register : IsRegister w) where
   abbrev pub unlink_asked : Request
-  unlink_asked = unlink_request id moment p mapping base media
+  unlink_asked = unlink_request id moment p mapping base other
 
   abbrev pub unlinked : Relation
-  unlinked = relation mapping base media
+  unlinked = relation mapping base other
 
   abbrev pub unlink_links : Package → List Relation
   unlink_links x = without link_key (link_key unlinked ∷ []) x.links
@@ -93,7 +93,7 @@ module _ (w : World) (id moment p : List ℕ) (mapping : Mapping) (base media : 
       let says : entry_from (receipt_of w unlink_asked).line ≡ Some (entry_of unlink_asked.command) = entry_from-line (entry_of unlink_asked.command) types in
       let fails : AllByRecursion (λ row. row.0 ≡ false) (reasons w (accepted w unlink_asked) unlink_asked) = rows_fail (reasons w (accepted w unlink_asked) unlink_asked) no_refusal in
       let live : is_live w p ≡ true = and_true (is_live w p) (not_false (is_live w p && true) fails.1.0) in
-      let there : has_link (holdings w p) mapping base media ≡ true = not_false (has_link (holdings w p) mapping base media) fails.1.1.1.1.1.1.1.1.1.1.1.1.0 in
+      let there : has_link (holdings w p) mapping base other ≡ true = not_false (has_link (holdings w p) mapping base other) fails.1.1.1.1.1.1.1.1.1.1.1.1.0 in
       let f : (l : Relation) × (find (λ l. bytes_eq (link_key l) (link_key unlinked)) (holdings w p).links ≡ Some l) = found (λ l. bytes_eq (link_key l) (link_key unlinked)) (holdings w p).links there in
       let same : link_key f.0 ≡ link_key unlinked = (bytes_eq-Decides (link_key f.0) (link_key unlinked)).0 (found_passes (λ l. bytes_eq (link_key l) (link_key unlinked)) f.0 (holdings w p).links f.1) in
       let kept : IsKeptPackage w (holdings w p) = kept_at w p register live in

@@ -25,7 +25,7 @@ use Rattle.sheet_types.proofs.Found.{All-found, found, filter_passes}
 
 -- both ends go with a link
 abbrev pub GoesWhole : (List ℕ → Bool) → (Relation → Bool) → Relation → Type 0
-GoesWhole takes_item takes_link l = (takes_link l ≡ true → (takes_item l.base ≡ true) × (takes_item l.media ≡ true)) × (takes_link l ≡ false → (takes_item l.base ≡ false) × (takes_item l.media ≡ false))
+GoesWhole takes_item takes_link l = (takes_link l ≡ true → (takes_item l.base ≡ true) × (takes_item l.other ≡ true)) × (takes_link l ≡ false → (takes_item l.base ≡ false) × (takes_item l.other ≡ false))
 
 -- ---- Follow
 
@@ -42,18 +42,18 @@ all_pass p [] h = tt
 all_pass p (x ∷ xs) h = let parts : (p x ≡ true) × (list_all p xs ≡ true) = and_parts (p x) (list_all p xs) h in (parts.0, all_pass p xs parts.1)
 
 -- the ends of a link are in each closed set together
-closed_each : (links : List Relation) (sets : List (List (List ℕ))) → AllByRecursion (λ s. list_all (λ l. beq (is_among s l.base) (is_among s l.media)) links ≡ true) sets
-    → AllByRecursion (λ l. list_all (λ s. is_among s l.base) sets ≡ list_all (λ s. is_among s l.media) sets) links
-closed_each links [] h = All-each (λ l. list_all (λ s. is_among s l.base) [] ≡ list_all (λ s. is_among s l.media) []) (λ l. refl) links
+closed_each : (links : List Relation) (sets : List (List (List ℕ))) → AllByRecursion (λ s. list_all (λ l. beq (is_among s l.base) (is_among s l.other)) links ≡ true) sets
+    → AllByRecursion (λ l. list_all (λ s. is_among s l.base) sets ≡ list_all (λ s. is_among s l.other) sets) links
+closed_each links [] h = All-each (λ l. list_all (λ s. is_among s l.base) [] ≡ list_all (λ s. is_among s l.other) []) (λ l. refl) links
 closed_each links (s ∷ sets) h =
-    All-both (λ l. beq (is_among s l.base) (is_among s l.media) ≡ true) (λ l. list_all (λ z. is_among z l.base) sets ≡ list_all (λ z. is_among z l.media) sets) (λ l. list_all (λ z. is_among z l.base) (s ∷ sets) ≡ list_all (λ z. is_among z l.media) (s ∷ sets))
-    (λ l here rest. ap (λ b. b && list_all (λ z. is_among z l.base) sets) (beq_same (is_among s l.base) (is_among s l.media) here) ∙ ap (λ b. is_among s l.media && b) rest) links
-    (all_pass (λ l. beq (is_among s l.base) (is_among s l.media)) links h.0) (closed_each links sets h.1)
+    All-both (λ l. beq (is_among s l.base) (is_among s l.other) ≡ true) (λ l. list_all (λ z. is_among z l.base) sets ≡ list_all (λ z. is_among z l.other) sets) (λ l. list_all (λ z. is_among z l.base) (s ∷ sets) ≡ list_all (λ z. is_among z l.other) (s ∷ sets))
+    (λ l here rest. ap (λ b. b && list_all (λ z. is_among z l.base) sets) (beq_same (is_among s l.base) (is_among s l.other) here) ∙ ap (λ b. is_among s l.other && b) rest) links
+    (all_pass (λ l. beq (is_among s l.base) (is_among s l.other)) links h.0) (closed_each links sets h.1)
 
 -- a follow cut tears no link
 pub follow_whole : (x : Package) (ids : List (List ℕ)) → AllByRecursion (GoesWhole (in_each x ids) (touches (in_each x ids))) x.links
-follow_whole x ids = All-weaker (λ l. in_each x ids l.base ≡ in_each x ids l.media) (GoesWhole (in_each x ids) (touches (in_each x ids)))
-    (λ l e. whole (in_each x ids l.base) (in_each x ids l.media) e) x.links
+follow_whole x ids = All-weaker (λ l. in_each x ids l.base ≡ in_each x ids l.other) (GoesWhole (in_each x ids) (touches (in_each x ids)))
+    (λ l e. whole (in_each x ids l.base) (in_each x ids l.other) e) x.links
     (closed_each x.links (closed_sets x ids) (All-weaker (λ s. (holds_all ids s && is_closed x s) ≡ true) (λ s. is_closed x s ≡ true) (λ s h. (and_parts (holds_all ids s) (is_closed x s) h).1) (closed_sets x ids)
     (filter_passes (λ s. holds_all ids s && is_closed x s) (sublists (identities x.items)))))
   where
@@ -109,13 +109,13 @@ module _ (x : Package) (ids : List (List ℕ)) (ends : AllByRecursion (HasEnds x
 
       whole : AllByRecursion (λ i. (set i.identity && has_torn i.identity) ≡ false) x.items → (l : Relation) → HasEnds x l → In l x.links → GoesWhole set (touches set) l
       whole untorn l e member = (
-        (λ touched. elim (set l.base && set l.media) as (λ v. (set l.base && set l.media) ≡ v → (set l.base ≡ true) × (set l.media ≡ true)) [
-          | true ↦ λ both. and_parts (set l.base) (set l.media) both
+        (λ touched. elim (set l.base && set l.other) as (λ v. (set l.base && set l.other) ≡ v → (set l.base ≡ true) × (set l.other ≡ true)) [
+          | true ↦ λ both. and_parts (set l.base) (set l.other) both
           | false ↦ λ apart.
-              let torn : is_torn set l ≡ true = and_from (touches set l) (not (set l.base && set l.media)) touched (ap not apart) in
-              let base : set l.base ≡ false = off l.base l member (end_whole untorn (base_kind l.mapping) l.base e.0) (ap (λ b. b || bytes_eq l.media l.base) (bytes_eq_itself l.base)) torn in
-              let media : set l.media ≡ false = off l.media l member (end_whole untorn (other_kind l.mapping) l.media e.1) (ap (λ b. bytes_eq l.base l.media || b) (bytes_eq_itself l.media) ∙ or-true (bytes_eq l.base l.media)) torn in
-              absurd (true≢false (sym touched ∙ ap (λ b. b || set l.media) base ∙ media))
+              let torn : is_torn set l ≡ true = and_from (touches set l) (not (set l.base && set l.other)) touched (ap not apart) in
+              let base : set l.base ≡ false = off l.base l member (end_whole untorn (base_kind l.mapping) l.base e.0) (ap (λ b. b || bytes_eq l.other l.base) (bytes_eq_itself l.base)) torn in
+              let other : set l.other ≡ false = off l.other l member (end_whole untorn (other_kind l.mapping) l.other e.1) (ap (λ b. bytes_eq l.base l.other || b) (bytes_eq_itself l.other) ∙ or-true (bytes_eq l.base l.other)) torn in
+              absurd (true≢false (sym touched ∙ ap (λ b. b || set l.other) base ∙ other))
         ] refl),
-        (λ left. or_parts (set l.base) (set l.media) left),
+        (λ left. or_parts (set l.base) (set l.other) left),
       )

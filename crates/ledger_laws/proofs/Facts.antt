@@ -27,7 +27,7 @@ use Rattle.sheet_types.specs.declared.command.Content.{Content}
 use Rattle.sheet_types.specs.declared.command.Content.TheVariants.{Tile, Media, Row}
 use Rattle.sheet_types.specs.declared.command.Item.{Item}
 use Rattle.sheet_types.specs.declared.command.Mapping.{Mapping}
-use Rattle.sheet_types.specs.declared.command.Mapping.TheVariants.{TilesMedia, RowsMedia}
+use Rattle.sheet_types.specs.declared.command.Mapping.TheVariants.{TilesMedia, RowsMedia, RowsTiles}
 use Rattle.sheet_types.specs.declared.command.Relation.{Relation}
 use Rattle.sheet_types.specs.declared.command.Request.{Request}
 use Rattle.sheet_types.specs.declared.receipt.Moved.{Moved}
@@ -110,8 +110,8 @@ added_thing r (Adds p identity kind size digest) of add =
     let item : is_item_kind kind ≡ true = (and_parts (is_uuid p && is_uuid identity) (is_item_kind kind) (and_parts (is_uuid p && is_uuid identity && is_item_kind kind) (is_number (pos size)) upto.0).0).1 in
     (record { kind = kind; base = identity; other = None; size = size; fingerprint = Some digest }, of.moves, item, refl, refl)
 added_thing r (Deletes p identity) of add = absurd (false≢true (sym (by_entry is_adding r (Deletes p identity) of.says) ∙ add))
-added_thing r (Links p mapping base media) of add = absurd (false≢true (sym (by_entry is_adding r (Links p mapping base media) of.says) ∙ add))
-added_thing r (Unlinks p mapping base media) of add = absurd (false≢true (sym (by_entry is_adding r (Unlinks p mapping base media) of.says) ∙ add))
+added_thing r (Links p mapping base other) of add = absurd (false≢true (sym (by_entry is_adding r (Links p mapping base other) of.says) ∙ add))
+added_thing r (Unlinks p mapping base other) of add = absurd (false≢true (sym (by_entry is_adding r (Unlinks p mapping base other) of.says) ∙ add))
 added_thing r (Splits p child mode rect) of add = absurd (false≢true (sym (by_entry is_adding r (Splits p child mode rect) of.says) ∙ add))
 added_thing r (Merges child into ticket) of add = absurd (false≢true (sym (by_entry is_adding r (Merges child into ticket) of.says) ∙ add))
 
@@ -156,6 +156,7 @@ same_kind m n same = item_kind_by_number n.kind ∙ ap (λ k. k == 0) (ap (λ zs
 link_number : (mapping : Mapping) → is_item_kind (link_kind mapping) ≡ false
 link_number TilesMedia = refl
 link_number RowsMedia = refl
+link_number RowsTiles = refl
 
 -- a link agrees with all that the ledger says of it
 pub link_agrees : (w : World) (l : Relation) → IsLedger (archive_of w) [] (receipts_of w) → AllByRecursion (λ t. AllByRecursion (Agrees (link_moved l)) t.items) (receipts_of w)
@@ -176,7 +177,7 @@ item_is_thing i = thing_of i.identity i.content
 
 -- what a receipt says of a link is a thing
 pub link_is_thing : (l : Relation) → IsThing (link_moved l)
-link_is_thing l = elim l.mapping as (λ m. IsThing (link_moved (record { mapping = m; base = l.base; media = l.media }))) [ TilesMedia ↦ (refl, refl, refl) | RowsMedia ↦ (refl, refl, refl) ]
+link_is_thing l = elim l.mapping as (λ m. IsThing (link_moved (record { mapping = m; base = l.base; other = l.other }))) [ TilesMedia ↦ (refl, refl, refl) | RowsMedia ↦ (refl, refl, refl) | RowsTiles ↦ (refl, refl, refl) ]
 
 -- a receipt of items and links names things
 pub things_moved : (items : List Item) (links : List Relation) → AllByRecursion IsThing (moved_of items links)
@@ -193,13 +194,16 @@ items_before : (i j : Item) → is_before (item_key i) (item_key j) ≡ true →
 items_before i j h = ap (λ a. is_before a (moved_key (item_moved j))) (item_key_moved i.identity i.content) ∙ ap (is_before (item_key i)) (item_key_moved j.identity j.content) ∙ h
 
 -- items stand before links
-before_link : (content : Content) (mapping : Mapping) (identity base media : List ℕ) → is_before (item_key (added_item identity content)) (link_key (record { mapping = mapping; base = base; media = media })) ≡ true
-before_link (Tile zoom column row bytes) TilesMedia identity base media = refl
-before_link (Tile zoom column row bytes) RowsMedia identity base media = refl
-before_link (Media content_type bytes) TilesMedia identity base media = refl
-before_link (Media content_type bytes) RowsMedia identity base media = refl
-before_link (Row x y code label) TilesMedia identity base media = refl
-before_link (Row x y code label) RowsMedia identity base media = refl
+before_link : (content : Content) (mapping : Mapping) (identity base other : List ℕ) → is_before (item_key (added_item identity content)) (link_key (record { mapping = mapping; base = base; other = other })) ≡ true
+before_link (Tile zoom column row bytes) TilesMedia identity base other = refl
+before_link (Tile zoom column row bytes) RowsMedia identity base other = refl
+before_link (Tile zoom column row bytes) RowsTiles identity base other = refl
+before_link (Media content_type bytes) TilesMedia identity base other = refl
+before_link (Media content_type bytes) RowsMedia identity base other = refl
+before_link (Media content_type bytes) RowsTiles identity base other = refl
+before_link (Row x y code label) TilesMedia identity base other = refl
+before_link (Row x y code label) RowsMedia identity base other = refl
+before_link (Row x y code label) RowsTiles identity base other = refl
 
 -- links stand in their order
 links_in_order : (links : List Relation) → IsArranged link_key links → IsArranged moved_key (map link_moved links)
@@ -213,7 +217,7 @@ order_moved (i ∷ items) links h g = (
   All-append (λ n. is_before (moved_key (item_moved i)) (moved_key n) ≡ true) (map item_moved items) (map link_moved links)
       (All-map (λ n. is_before (moved_key (item_moved i)) (moved_key n) ≡ true) item_moved items (All-weaker (λ j. is_before (item_key i) (item_key j) ≡ true) (λ j. is_before (moved_key (item_moved i)) (moved_key (item_moved j)) ≡ true) (items_before i) items h.0))
       (All-map (λ n. is_before (moved_key (item_moved i)) (moved_key n) ≡ true) link_moved links
-      (All-each (λ l. is_before (moved_key (item_moved i)) (moved_key (link_moved l)) ≡ true) (λ l. ap (λ a. is_before a (link_key l)) (item_key_moved i.identity i.content) ∙ before_link i.content l.mapping i.identity l.base l.media) links)),
+      (All-each (λ l. is_before (moved_key (item_moved i)) (moved_key (link_moved l)) ≡ true) (λ l. ap (λ a. is_before a (link_key l)) (item_key_moved i.identity i.content) ∙ before_link i.content l.mapping i.identity l.base l.other) links)),
   order_moved items links h.1 g,
 )
 
@@ -298,7 +302,7 @@ items_once thing (i ∷ items) h =
 -- no link is the thing of an item
 no_link_is_item : (i : Item) (thing : List ℕ) → bytes_eq (item_thing i) thing ≡ true → (links : List Relation) → count_by (λ l. bytes_eq (link_key l) thing) links ≡ 0
 no_link_is_item i thing e links = count_none (λ l. bytes_eq (link_key l) thing) links (All-each (λ l. bytes_eq (link_key l) thing ≡ false) (λ l. ap (bytes_eq (link_key l)) (sym ((bytes_eq-Decides (item_thing i) thing).0 e))
-    ∙ elim l.mapping as (λ m. bytes_eq (link_key (record { mapping = m; base = l.base; media = l.media })) (item_thing i) ≡ false) [ TilesMedia ↦ refl | RowsMedia ↦ refl ]) links)
+    ∙ elim l.mapping as (λ m. bytes_eq (link_key (record { mapping = m; base = l.base; other = l.other })) (item_thing i) ≡ false) [ TilesMedia ↦ refl | RowsMedia ↦ refl | RowsTiles ↦ refl ]) links)
 
 -- a package holds a thing once at most
 pub once : (x : Package) (thing : List ℕ) → IsDistinct bytes_eq (identities x.items) → IsArranged link_key x.links → weighed (counting thing) x ≤ 1

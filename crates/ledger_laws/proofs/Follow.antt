@@ -76,15 +76,15 @@ all_among test (x ∷ ids) all within passes =
     and_from (is_among (filter test all) x) _ (among_passes test all x w.0 ∙ t.0) (all_among test ids all w.1 t.1)
 
 -- links keep both ends among those that pass
-closed_among : (test : List ℕ → Bool) (all : List (List ℕ)) (links : List Relation) → list_all (λ l. is_among all l.base && is_among all l.media) links ≡ true → list_all (λ l. beq (test l.base) (test l.media)) links ≡ true
-    → list_all (λ l. beq (is_among (filter test all) l.base) (is_among (filter test all) l.media)) links ≡ true
+closed_among : (test : List ℕ → Bool) (all : List (List ℕ)) (links : List Relation) → list_all (λ l. is_among all l.base && is_among all l.other) links ≡ true → list_all (λ l. beq (test l.base) (test l.other)) links ≡ true
+    → list_all (λ l. beq (is_among (filter test all) l.base) (is_among (filter test all) l.other)) links ≡ true
 closed_among test all [] within closed = refl
 closed_among test all (l ∷ links) within closed =
-    let w : ((is_among all l.base && is_among all l.media) ≡ true) × (list_all (λ x. is_among all x.base && is_among all x.media) links ≡ true) = and_parts _ _ within in
-    let ends : (is_among all l.base ≡ true) × (is_among all l.media ≡ true) = and_parts (is_among all l.base) (is_among all l.media) w.0 in
-    let c : (beq (test l.base) (test l.media) ≡ true) × (list_all (λ x. beq (test x.base) (test x.media)) links ≡ true) = and_parts _ _ closed in
-    and_from (beq (is_among (filter test all) l.base) (is_among (filter test all) l.media)) _
-    (ap (λ b. beq b (is_among (filter test all) l.media)) (among_passes test all l.base ends.0) ∙ ap (beq (test l.base)) (among_passes test all l.media ends.1) ∙ c.0)
+    let w : ((is_among all l.base && is_among all l.other) ≡ true) × (list_all (λ x. is_among all x.base && is_among all x.other) links ≡ true) = and_parts _ _ within in
+    let ends : (is_among all l.base ≡ true) × (is_among all l.other ≡ true) = and_parts (is_among all l.base) (is_among all l.other) w.0 in
+    let c : (beq (test l.base) (test l.other) ≡ true) × (list_all (λ x. beq (test x.base) (test x.other)) links ≡ true) = and_parts _ _ closed in
+    and_from (beq (is_among (filter test all) l.base) (is_among (filter test all) l.other)) _
+    (ap (λ b. beq b (is_among (filter test all) l.other)) (among_passes test all l.base ends.0) ∙ ap (beq (test l.base)) (among_passes test all l.other ends.1) ∙ c.0)
     (closed_among test all links w.1 c.1)
 
 -- the law of the least closed set

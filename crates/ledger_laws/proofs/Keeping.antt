@@ -40,7 +40,7 @@ use Rattle.sheet_types.proofs.Distinct.{distinct_counts, counts_distinct}
 
 -- a package that has each item of another has the ends of its links
 pub ends_kept : (x y : Package) → ((n : List ℕ) → has item_key n x.items ≡ true → has item_key n y.items ≡ true) → (l : Relation) → HasEnds x l → HasEnds y l
-ends_kept x y more l h = (more (kind_number (base_kind l.mapping) ∷ l.base) h.0, more (kind_number (other_kind l.mapping) ∷ l.media) h.1)
+ends_kept x y more l h = (more (kind_number (base_kind l.mapping) ∷ l.base) h.0, more (kind_number (other_kind l.mapping) ∷ l.other) h.1)
 
 -- ---- an item is fit in any package of the frame
 
@@ -300,7 +300,7 @@ places_less t k items =
 
 -- such a package keeps the rules
 pub filtered_kept : (w v : World) (x y : Package) (s : List ℕ → Bool) (u : Relation → Bool) → v.frame ≡ w.frame → y.items ≡ filter (λ i. s i.identity) x.items → y.links ≡ filter u x.links
-    → IsUuid y.uuid → IsArranged receipt_key y.receipts → HasParent v y → AllByRecursion (λ l. u l ≡ true → (s l.base ≡ true) × (s l.media ≡ true)) x.links → IsKeptPackage w x → IsKeptPackage v y
+    → IsUuid y.uuid → IsArranged receipt_key y.receipts → HasParent v y → AllByRecursion (λ l. u l ≡ true → (s l.base ≡ true) × (s l.other ≡ true)) x.links → IsKeptPackage w x → IsKeptPackage v y
 filtered_kept w v x y s u frame items links uuid receipts up whole k = record {
   uuid = uuid;
   items = subst (IsArranged item_key) (sym items) (filter_arranged item_key t x.items k.items);
@@ -310,8 +310,8 @@ filtered_kept w v x y s u frame items links uuid receipts up whole k = record {
   uuids = subst (AllByRecursion (λ i. IsUuid i.identity)) (sym items) (All-filter (λ i. IsUuid i.identity) t x.items k.uuids);
   fit = subst (AllByRecursion (IsFit v y)) (sym items) (fit_all w v frame x y (filter t x.items) (All-filter (IsFit w x) t x.items k.fit));
   places = subst (λ zs. IsDistinct bytes_eq (map (λ i. place_of i.content) (filter is_tile zs))) (sym items) (counts_distinct (λ i. place_of i.content) (filter is_tile (filter t x.items)) (λ n. omega (arith, distinct_counts (λ i. place_of i.content) n (filter is_tile x.items) k.places, places_less t n x.items)));
-  ends = subst (AllByRecursion (HasEnds y)) (sym links) (All-taken (HasEnds y) u x.links (All-both (HasEnds x) (λ l. u l ≡ true → (s l.base ≡ true) × (s l.media ≡ true)) (λ l. u l ≡ true → HasEnds y l)
-      (λ l h go taken. (kind_goes (base_kind l.mapping) l.base (go taken).0 h.0, kind_goes (other_kind l.mapping) l.media (go taken).1 h.1)) x.links k.ends whole));
+  ends = subst (AllByRecursion (HasEnds y)) (sym links) (All-taken (HasEnds y) u x.links (All-both (HasEnds x) (λ l. u l ≡ true → (s l.base ≡ true) × (s l.other ≡ true)) (λ l. u l ≡ true → HasEnds y l)
+      (λ l h go taken. (kind_goes (base_kind l.mapping) l.base (go taken).0 h.0, kind_goes (other_kind l.mapping) l.other (go taken).1 h.1)) x.links k.ends whole));
   parent = up;
 }
   where

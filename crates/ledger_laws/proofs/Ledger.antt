@@ -16,10 +16,10 @@ use Rattle.sheet_types.specs.Step.{relation, added_item}
 use Rattle.sheet_types.specs.declared.command.Content.{Content}
 use Rattle.sheet_types.specs.declared.command.Content.TheVariants.{Tile, Media, Row}
 use Rattle.sheet_types.specs.declared.command.Mapping.{Mapping}
-use Rattle.sheet_types.specs.declared.command.Mapping.TheVariants.{TilesMedia, RowsMedia}
+use Rattle.sheet_types.specs.declared.command.Mapping.TheVariants.{TilesMedia, RowsMedia, RowsTiles}
 use Rattle.sheet_types.specs.declared.receipt.Moved.{Moved}
 use Rattle.sheet_types.specs.declared.receipt.MovedKind.{MovedKind}
-use Rattle.sheet_types.specs.declared.receipt.MovedKind.TheVariants.{TileItem, MediaItem, RowItem, TilesMediaLink, RowsMediaLink}
+use Rattle.sheet_types.specs.declared.receipt.MovedKind.TheVariants.{TileItem, MediaItem, RowItem, TilesMediaLink, RowsMediaLink, RowsTilesLink}
 use Rattle.sheet_types.specs.declared.receipt.Receipt.{Receipt}
 use Rattle.std.proofs.lemmas.List.Elements.{filter-append}
 use Rattle.std.proofs.lemmas.List.Folds.{list_any-append}
@@ -46,6 +46,7 @@ item_kind_by_number MediaItem = refl
 item_kind_by_number RowItem = refl
 item_kind_by_number TilesMediaLink = refl
 item_kind_by_number RowsMediaLink = refl
+item_kind_by_number RowsTilesLink = refl
 
 -- an item of this identity
 abbrev pub is_item_of : List ℕ → Moved → Bool
@@ -87,9 +88,10 @@ and_false_or true = refl
 and_false_or false = refl
 
 -- a link is no item
-link_is_no_item : (mapping : Mapping) (id base media : List ℕ) → list_any (is_item_of id) (link_moved (relation mapping base media) ∷ []) ≡ false
-link_is_no_item TilesMedia id base media = refl
-link_is_no_item RowsMedia id base media = refl
+link_is_no_item : (mapping : Mapping) (id base other : List ℕ) → list_any (is_item_of id) (link_moved (relation mapping base other) ∷ []) ≡ false
+link_is_no_item TilesMedia id base other = refl
+link_is_no_item RowsMedia id base other = refl
+link_is_no_item RowsTiles id base other = refl
 
 -- what a receipt that takes from a package moves has stood there, so it was named before
 none_taken : (id p : List ℕ) (past : List Receipt) (ms : List Moved) → AllByRecursion (λ s. names_identity id s ≡ false) past → AllByRecursion (λ s. AllByRecursion IsThing s.items) past
@@ -111,8 +113,8 @@ not_named archive id past r may unused never before_things (Adds p identity kind
     let bases : has (λ m. m.base) id r.items ≡ bytes_eq identity id = ap (has (λ m. m.base) id) of.moves ∙ or-false (bytes_eq identity id) in
     let other : bytes_eq identity id ≡ false = sym bases ∙ sym (ap (λ b. b && has (λ m. m.base) id r.items) line_is) ∙ unused in
     ap (list_any (is_item_of id)) of.moves ∙ rw other (and_false_or (is_item_kind kind))
-not_named archive id past r may unused never before_things (Links p mapping base media) of = ap (list_any (is_item_of id)) of.moves ∙ link_is_no_item mapping id base media
-not_named archive id past r may unused never before_things (Unlinks p mapping base media) of = ap (list_any (is_item_of id)) of.moves ∙ link_is_no_item mapping id base media
+not_named archive id past r may unused never before_things (Links p mapping base other) of = ap (list_any (is_item_of id)) of.moves ∙ link_is_no_item mapping id base other
+not_named archive id past r may unused never before_things (Unlinks p mapping base other) of = ap (list_any (is_item_of id)) of.moves ∙ link_is_no_item mapping id base other
 not_named archive id past r may unused never before_things (Deletes p identity) of = none_taken id p past r.items never before_things may.things r.source of.leaves may.from_source
 not_named archive id past r may unused never before_things (Splits p child mode rect) of = none_taken id p past r.items never before_things may.things r.source of.leaves may.from_source
 not_named archive id past r may unused never before_things (Merges child into ticket) of = none_taken id child past r.items never before_things may.things r.source of.leaves may.from_source

@@ -20,7 +20,7 @@ use Rattle.sheet_types.specs.Register.{IsRegister, IsKeptPackage, HasEnds}
 use Rattle.ledger_laws.specs.Laws.{link_request}
 use Rattle.sheet_types.specs.declared.command.Item.{Item}
 use Rattle.sheet_types.specs.declared.command.Mapping.{Mapping}
-use Rattle.sheet_types.specs.declared.command.Mapping.TheVariants.{TilesMedia, RowsMedia}
+use Rattle.sheet_types.specs.declared.command.Mapping.TheVariants.{TilesMedia, RowsMedia, RowsTiles}
 use Rattle.sheet_types.specs.declared.command.Relation.{Relation}
 use Rattle.sheet_types.specs.declared.command.Request.{Request}
 use Rattle.sheet_types.specs.declared.receipt.MovedKind.{MovedKind}
@@ -47,17 +47,17 @@ kind_held x kind id uuids h =
 -- no item is the thing of a link
 no_item_is_link : (l : Relation) (items : List Item) → has item_thing (link_key l) items ≡ false
 no_item_is_link l items = none_any (λ i. bytes_eq (item_thing i) (link_key l)) items (All-each (λ i. bytes_eq (item_thing i) (link_key l) ≡ false)
-    (λ i. elim l.mapping as (λ m. bytes_eq (item_thing i) (link_key (record { mapping = m; base = l.base; media = l.media })) ≡ false) [ TilesMedia ↦ refl | RowsMedia ↦ refl ]) items)
+    (λ i. elim l.mapping as (λ m. bytes_eq (item_thing i) (link_key (record { mapping = m; base = l.base; other = l.other })) ≡ false) [ TilesMedia ↦ refl | RowsMedia ↦ refl | RowsTiles ↦ refl ]) items)
 
-module _ (w : World) (id moment p : List ℕ) (mapping : Mapping) (base media : List ℕ) (register : IsRegister w) where
+module _ (w : World) (id moment p : List ℕ) (mapping : Mapping) (base other : List ℕ) (register : IsRegister w) where
   abbrev pub asked : Request
-  asked = link_request id moment p mapping base media
+  asked = link_request id moment p mapping base other
 
   abbrev pub linked : Relation
-  linked = relation mapping base media
+  linked = relation mapping base other
 
   -- a link whose base stands in one package stands in no other
-  stood_nowhere : is_live w p ≡ true → has_kind (holdings w p) (base_kind mapping) base ≡ true → has_link (holdings w p) mapping base media ≡ false → custody (receipts_of w) (link_key linked) ≡ None
+  stood_nowhere : is_live w p ≡ true → has_kind (holdings w p) (base_kind mapping) base ≡ true → has_link (holdings w p) mapping base other ≡ false → custody (receipts_of w) (link_key linked) ≡ None
   stood_nowhere live ends not_there =
       elim (custody (receipts_of w) (link_key linked)) as (λ o. custody (receipts_of w) (link_key linked) ≡ o → o ≡ None) [
         | None ↦ λ _. refl
@@ -74,8 +74,8 @@ module _ (w : World) (id moment p : List ℕ) (mapping : Mapping) (base media : 
             let all : HasEnds (holdings w p') f.0 × (bytes_eq (link_key f.0) (link_key linked) ≡ true) = All-found (HasEnds (holdings w p')) (λ l. bytes_eq (link_key l) (link_key linked)) f.0 (holdings w p').links f.1 kept'.ends in
             let mine : (holds (holdings w p) (0 ∷ base) ≡ true) × IsUuid base = kind_held (holdings w p) (base_kind mapping) base kept.uuids ends in
             let theirs : (holds (holdings w p') (0 ∷ f.0.base) ≡ true) × IsUuid f.0.base = kind_held (holdings w p') (base_kind f.0.mapping) f.0.base kept'.uuids all.0.0 in
-            let ends_are : f.0.base ++ f.0.media ≡ base ++ media = ap (drop 1) ((bytes_eq-Decides (link_key f.0) (link_key linked)).0 all.1) in
-            let bases : f.0.base ≡ base = sym (take_at f.0.base f.0.media 16 (uuid_length f.0.base theirs.1)) ∙ ap (take 16) ends_are ∙ take_at base media 16 (uuid_length base mine.1) in
+            let ends_are : f.0.base ++ f.0.other ≡ base ++ other = ap (drop 1) ((bytes_eq-Decides (link_key f.0) (link_key linked)).0 all.1) in
+            let bases : f.0.base ≡ base = sym (take_at f.0.base f.0.other 16 (uuid_length f.0.base theirs.1)) ∙ ap (take 16) ends_are ∙ take_at base other 16 (uuid_length base mine.1) in
             let at_p : custody (receipts_of w) (0 ∷ base) ≡ Some p = (register.balanced.custody_is p (0 ∷ base)).0 mine.0 in
             let at_p' : custody (receipts_of w) (0 ∷ base) ≡ Some p' = (register.balanced.custody_is p' (0 ∷ base)).0 (subst (λ z. holds (holdings w p') (0 ∷ z) ≡ true) bases theirs.0) in
             let same : p' ≡ p = ap (λ o. unwrap_or o p) (sym at_p' ∙ at_p) in
@@ -87,8 +87,8 @@ module _ (w : World) (id moment p : List ℕ) (mapping : Mapping) (base media : 
       let says : entry_from (receipt_of w asked).line ≡ Some (entry_of asked.command) = entry_from-line (entry_of asked.command) types in
       let fails : AllByRecursion (λ row. row.0 ≡ false) (reasons w (accepted w asked) asked) = rows_fail (reasons w (accepted w asked) asked) no_refusal in
       let live : is_live w p ≡ true = and_true (is_live w p) (not_false (is_live w p && true) fails.1.0) in
-      let kinds : (has_kind (holdings w p) (base_kind mapping) base ≡ true) × (has_kind (holdings w p) (other_kind mapping) media ≡ true) =
-      and_parts (has_kind (holdings w p) (base_kind mapping) base) (has_kind (holdings w p) (other_kind mapping) media) (not_false (has_kind (holdings w p) (base_kind mapping) base && has_kind (holdings w p) (other_kind mapping) media) fails.1.1.1.1.1.1.1.0) in
+      let kinds : (has_kind (holdings w p) (base_kind mapping) base ≡ true) × (has_kind (holdings w p) (other_kind mapping) other ≡ true) =
+      and_parts (has_kind (holdings w p) (base_kind mapping) base) (has_kind (holdings w p) (other_kind mapping) other) (not_false (has_kind (holdings w p) (base_kind mapping) base && has_kind (holdings w p) (other_kind mapping) other) fails.1.1.1.1.1.1.1.0) in
       record {
         says = says;
         stands = refl;

@@ -44,7 +44,7 @@ module _ (w : World) (id moment p identity : List ℕ) (register : IsRegister w)
       let fits = delete_fits w id moment p identity register types no_reply no_refusal in
       let k : IsKeptPackage w x = kept_at w p register fits.live in
       let t : Item → Bool = λ i. not (is_among (identity ∷ []) i.identity) in
-      let untied : AllByRecursion (λ l. (bytes_eq l.base identity || bytes_eq l.media identity) ≡ false) x.links = none_pass (λ l. bytes_eq l.base identity || bytes_eq l.media identity) x.links fails.1.1.1.1.1.1.1.1.1.1.1.1.1.0 in
+      let untied : AllByRecursion (λ l. (bytes_eq l.base identity || bytes_eq l.other identity) ≡ false) x.links = none_pass (λ l. bytes_eq l.base identity || bytes_eq l.other identity) x.links fails.1.1.1.1.1.1.1.1.1.1.1.1.1.0 in
       let no_split : is_split (receipt_of w asked) ≡ false = by_entry is_splitting (receipt_of w asked) (entry_of asked.command) fits.says in
       one.register_after w p (receipt_of w asked) (entry_of asked.command) (delete_items w id moment p identity register) (λ y. y.links) register fits
       (record {
@@ -56,10 +56,10 @@ module _ (w : World) (id moment p identity : List ℕ) (register : IsRegister w)
         uuids = All-filter (λ i. IsUuid i.identity) t x.items k.uuids;
         fit = fit_all w (accepted w asked) refl x x (filter t x.items) (All-filter _ t x.items k.fit);
         places = counts_distinct (λ i. place_of i.content) (filter is_tile (filter t x.items)) (λ n. omega (arith, distinct_counts (λ i. place_of i.content) n (filter is_tile x.items) k.places, places_less t n x.items));
-        ends = All-both (λ l. (bytes_eq l.base identity || bytes_eq l.media identity) ≡ false) (HasEnds x) _
+        ends = All-both (λ l. (bytes_eq l.base identity || bytes_eq l.other identity) ≡ false) (HasEnds x) _
             (λ l off ends.
-            let apart : (bytes_eq l.base identity ≡ false) × (bytes_eq l.media identity ≡ false) = or_parts (bytes_eq l.base identity) (bytes_eq l.media identity) off in
-            (kind_stays (base_kind l.mapping) l.base x.items apart.0 ends.0, kind_stays (other_kind l.mapping) l.media x.items apart.1 ends.1)) x.links untied k.ends;
+            let apart : (bytes_eq l.base identity ≡ false) × (bytes_eq l.other identity ≡ false) = or_parts (bytes_eq l.base identity) (bytes_eq l.other identity) off in
+            (kind_stays (base_kind l.mapping) l.base x.items apart.0 ends.0, kind_stays (other_kind l.mapping) l.other x.items apart.1 ends.1)) x.links untied k.ends;
         parent = one.parent_kept w p (receipt_of w asked) (entry_of asked.command) (delete_items w id moment p identity register) (λ y. y.links) register fits;
       })
       no_split
@@ -73,46 +73,46 @@ module _ (w : World) (id moment p identity : List ℕ) (register : IsRegister w)
 pub delete_keeps_register : DeleteKeepsRegister
 delete_keeps_register w id moment p identity types register = keeps IsRegister w (delete_request id moment p identity) register (delete_register w id moment p identity register types)
 
-module _ (w : World) (id moment p : List ℕ) (mapping : Mapping) (base media : List ℕ) (register : IsRegister w) where
+module _ (w : World) (id moment p : List ℕ) (mapping : Mapping) (base other : List ℕ) (register : IsRegister w) where
   abbrev unlink_asked : Request
-  unlink_asked = unlink_request id moment p mapping base media
+  unlink_asked = unlink_request id moment p mapping base other
 
   abbrev link_asked : Request
-  link_asked = link_request id moment p mapping base media
+  link_asked = link_request id moment p mapping base other
 
   abbrev linked_now : Relation
-  linked_now = relation mapping base media
+  linked_now = relation mapping base other
 
   unlink_register : HasTypes unlink_asked.command → kept_reply w unlink_asked ≡ None → refusal w (accepted w unlink_asked) unlink_asked ≡ None → IsRegister (accepted w unlink_asked)
   unlink_register types no_reply no_refusal =
       let x : Package = holdings w p in
-      let fits = unlink_fits w id moment p mapping base media register types no_reply no_refusal in
+      let fits = unlink_fits w id moment p mapping base other register types no_reply no_refusal in
       let k : IsKeptPackage w x = kept_at w p register fits.live in
       let no_split : is_split (receipt_of w unlink_asked) ≡ false = by_entry is_splitting (receipt_of w unlink_asked) (entry_of unlink_asked.command) fits.says in
-      one.register_after w p (receipt_of w unlink_asked) (entry_of unlink_asked.command) (λ y. y.items) (unlink_links w id moment p mapping base media register) register fits
+      one.register_after w p (receipt_of w unlink_asked) (entry_of unlink_asked.command) (λ y. y.items) (unlink_links w id moment p mapping base other register) register fits
       (record {
         uuid = k.uuid;
         items = k.items;
         links = filter_arranged link_key _ x.links k.links;
-        receipts = one.receipts_at_p w p (receipt_of w unlink_asked) (entry_of unlink_asked.command) (λ y. y.items) (unlink_links w id moment p mapping base media register) register fits;
+        receipts = one.receipts_at_p w p (receipt_of w unlink_asked) (entry_of unlink_asked.command) (λ y. y.items) (unlink_links w id moment p mapping base other register) register fits;
         identities = k.identities;
         uuids = k.uuids;
         fit = fit_all w (accepted w unlink_asked) refl x x x.items k.fit;
         places = k.places;
         ends = All-filter _ _ x.links k.ends;
-        parent = one.parent_kept w p (receipt_of w unlink_asked) (entry_of unlink_asked.command) (λ y. y.items) (unlink_links w id moment p mapping base media register) register fits;
+        parent = one.parent_kept w p (receipt_of w unlink_asked) (entry_of unlink_asked.command) (λ y. y.items) (unlink_links w id moment p mapping base other register) register fits;
       })
       no_split
-      (one.contents_after w p (receipt_of w unlink_asked) (entry_of unlink_asked.command) (λ y. y.items) (unlink_links w id moment p mapping base media register) register fits (λ y h. h))
+      (one.contents_after w p (receipt_of w unlink_asked) (entry_of unlink_asked.command) (λ y. y.items) (unlink_links w id moment p mapping base other register) register fits (λ y h. h))
 
   link_register : HasTypes link_asked.command → kept_reply w link_asked ≡ None → refusal w (accepted w link_asked) link_asked ≡ None → IsRegister (accepted w link_asked)
   link_register types no_reply no_refusal =
       let fails : AllByRecursion (λ row. row.0 ≡ false) (reasons w (accepted w link_asked) link_asked) = rows_fail (reasons w (accepted w link_asked) link_asked) no_refusal in
       let x : Package = holdings w p in
-      let fits = link_fits w id moment p mapping base media register types no_reply no_refusal in
+      let fits = link_fits w id moment p mapping base other register types no_reply no_refusal in
       let k : IsKeptPackage w x = kept_at w p register fits.live in
-      let kinds : (has_kind x (base_kind mapping) base ≡ true) × (has_kind x (other_kind mapping) media ≡ true) =
-      and_parts (has_kind x (base_kind mapping) base) (has_kind x (other_kind mapping) media) (not_false (has_kind x (base_kind mapping) base && has_kind x (other_kind mapping) media) fails.1.1.1.1.1.1.1.0) in
+      let kinds : (has_kind x (base_kind mapping) base ≡ true) × (has_kind x (other_kind mapping) other ≡ true) =
+      and_parts (has_kind x (base_kind mapping) base) (has_kind x (other_kind mapping) other) (not_false (has_kind x (base_kind mapping) base && has_kind x (other_kind mapping) other) fails.1.1.1.1.1.1.1.0) in
       let new : AllByRecursion (λ l. bytes_eq (link_key l) (link_key linked_now) ≡ false) x.links = none_pass (λ l. bytes_eq (link_key l) (link_key linked_now)) x.links fails.1.1.1.1.1.1.1.1.1.1.1.0 in
       let no_split : is_split (receipt_of w link_asked) ≡ false = by_entry is_splitting (receipt_of w link_asked) (entry_of link_asked.command) fits.says in
       one.register_after w p (receipt_of w link_asked) (entry_of link_asked.command) (λ y. y.items) (λ y. put link_key linked_now y.links) register fits
@@ -133,8 +133,8 @@ module _ (w : World) (id moment p : List ℕ) (mapping : Mapping) (base media : 
 
 -- the law of a link taken out
 pub unlink_keeps_register : UnlinkKeepsRegister
-unlink_keeps_register w id moment p mapping base media types register = keeps IsRegister w (unlink_request id moment p mapping base media) register (unlink_register w id moment p mapping base media register types)
+unlink_keeps_register w id moment p mapping base other types register = keeps IsRegister w (unlink_request id moment p mapping base other) register (unlink_register w id moment p mapping base other register types)
 
 -- the law of a new link
 pub link_keeps_register : LinkKeepsRegister
-link_keeps_register w id moment p mapping base media types register = keeps IsRegister w (link_request id moment p mapping base media) register (link_register w id moment p mapping base media register types)
+link_keeps_register w id moment p mapping base other types register = keeps IsRegister w (link_request id moment p mapping base other) register (link_register w id moment p mapping base other register types)

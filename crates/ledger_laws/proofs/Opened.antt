@@ -42,8 +42,8 @@ split_target r (Splits p child mode rect) of split =
     (child, of.comes_to, (and_parts (is_uuid p) (is_uuid child) (and_parts (is_uuid p && is_uuid child) (is_rect rect) fit).0).1)
 split_target r (Adds p identity kind size digest) of split = absurd (false≢true (sym (by_entry is_splitting r (Adds p identity kind size digest) of.says) ∙ split))
 split_target r (Deletes p identity) of split = absurd (false≢true (sym (by_entry is_splitting r (Deletes p identity) of.says) ∙ split))
-split_target r (Links p mapping base media) of split = absurd (false≢true (sym (by_entry is_splitting r (Links p mapping base media) of.says) ∙ split))
-split_target r (Unlinks p mapping base media) of split = absurd (false≢true (sym (by_entry is_splitting r (Unlinks p mapping base media) of.says) ∙ split))
+split_target r (Links p mapping base other) of split = absurd (false≢true (sym (by_entry is_splitting r (Links p mapping base other) of.says) ∙ split))
+split_target r (Unlinks p mapping base other) of split = absurd (false≢true (sym (by_entry is_splitting r (Unlinks p mapping base other) of.says) ∙ split))
 split_target r (Merges child into ticket) of split = absurd (false≢true (sym (by_entry is_splitting r (Merges child into ticket) of.says) ∙ split))
 
 -- a merge has a source, which is a UUID
@@ -53,8 +53,8 @@ merge_source r (Merges child into ticket) of merge =
     (child, of.leaves, (and_parts (is_uuid child) (is_uuid into) (and_parts (is_uuid child && is_uuid into) (is_number ticket) fit).0).0)
 merge_source r (Adds p identity kind size digest) of merge = absurd (false≢true (sym (by_entry is_merging r (Adds p identity kind size digest) of.says) ∙ merge))
 merge_source r (Deletes p identity) of merge = absurd (false≢true (sym (by_entry is_merging r (Deletes p identity) of.says) ∙ merge))
-merge_source r (Links p mapping base media) of merge = absurd (false≢true (sym (by_entry is_merging r (Links p mapping base media) of.says) ∙ merge))
-merge_source r (Unlinks p mapping base media) of merge = absurd (false≢true (sym (by_entry is_merging r (Unlinks p mapping base media) of.says) ∙ merge))
+merge_source r (Links p mapping base other) of merge = absurd (false≢true (sym (by_entry is_merging r (Links p mapping base other) of.says) ∙ merge))
+merge_source r (Unlinks p mapping base other) of merge = absurd (false≢true (sym (by_entry is_merging r (Unlinks p mapping base other) of.says) ∙ merge))
 merge_source r (Splits p child mode rect) of merge = absurd (false≢true (sym (by_entry is_merging r (Splits p child mode rect) of.says) ∙ merge))
 
 -- no split of a sound ledger lends under the archive's UUID

@@ -27,8 +27,8 @@ use Rattle.ledger_laws.proofs.Merging.{merge_keeps_register}
 any_request : (w : World) (id moment : List ℕ) (command : Command) → KeepsRegister w (record { id = id; at = moment; command = command })
 any_request w id moment (Add p identity content) = add_keeps_register w id moment p identity content
 any_request w id moment (Delete p identity) = delete_keeps_register w id moment p identity
-any_request w id moment (Link p mapping base media) = link_keeps_register w id moment p mapping base media
-any_request w id moment (Unlink p mapping base media) = unlink_keeps_register w id moment p mapping base media
+any_request w id moment (Link p mapping base other) = link_keeps_register w id moment p mapping base other
+any_request w id moment (Unlink p mapping base other) = unlink_keeps_register w id moment p mapping base other
 any_request w id moment (Split p child mode rect) = split_keeps_register w id moment p child mode rect
 any_request w id moment (Merge child into ticket) = merge_keeps_register w id moment child into ticket
 

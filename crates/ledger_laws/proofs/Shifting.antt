@@ -18,7 +18,7 @@ use Rattle.sheet_types.specs.Balance.{Balanced, IsLedger, MayFollow, archive_of,
 use Rattle.sheet_types.specs.declared.command.Content.{Content}
 use Rattle.sheet_types.specs.declared.command.Content.TheVariants.{Tile, Media, Row}
 use Rattle.sheet_types.specs.declared.command.Item.{Item}
-use Rattle.sheet_types.specs.declared.command.Mapping.TheVariants.{TilesMedia, RowsMedia}
+use Rattle.sheet_types.specs.declared.command.Mapping.TheVariants.{TilesMedia, RowsMedia, RowsTiles}
 use Rattle.sheet_types.specs.declared.command.Relation.{Relation}
 use Rattle.sheet_types.specs.declared.receipt.Moved.{Moved}
 use Rattle.sheet_types.specs.declared.receipt.MovedKind.TheVariants.{TileItem, MediaItem, RowItem}
@@ -66,7 +66,7 @@ thing_item i = thing_of_item i.identity i.content
 
 -- a link is the thing of its key
 pub thing_link : (l : Relation) → moved_thing (link_moved l) ≡ link_key l
-thing_link l = elim l.mapping as (λ m. moved_thing (link_moved (record { mapping = m; base = l.base; media = l.media })) ≡ link_key (record { mapping = m; base = l.base; media = l.media })) [ TilesMedia ↦ refl | RowsMedia ↦ refl ]
+thing_link l = elim l.mapping as (λ m. moved_thing (link_moved (record { mapping = m; base = l.base; other = l.other })) ≡ link_key (record { mapping = m; base = l.base; other = l.other })) [ TilesMedia ↦ refl | RowsMedia ↦ refl | RowsTiles ↦ refl ]
 
 -- items that are this thing
 pub count_items : (thing : List ℕ) (items : List Item) → sum_by (λ i. counting thing (item_moved i)) items ≡ count_by (λ i. bytes_eq (item_thing i) thing) items
@@ -156,19 +156,19 @@ a_link m = cond (not (is_item_kind m.kind)) 1 0
 
 -- a link is no tile
 no_tile : (l : Relation) → a_tile (link_moved l) ≡ 0
-no_tile l = elim l.mapping as (λ m. cond (kind_is TileItem (link_kind m)) 1 0 ≡ 0) [ TilesMedia ↦ refl | RowsMedia ↦ refl ]
+no_tile l = elim l.mapping as (λ m. cond (kind_is TileItem (link_kind m)) 1 0 ≡ 0) [ TilesMedia ↦ refl | RowsMedia ↦ refl | RowsTiles ↦ refl ]
 
 -- a link is no medium
 no_medium : (l : Relation) → a_medium (link_moved l) ≡ 0
-no_medium l = elim l.mapping as (λ m. cond (kind_is MediaItem (link_kind m)) 1 0 ≡ 0) [ TilesMedia ↦ refl | RowsMedia ↦ refl ]
+no_medium l = elim l.mapping as (λ m. cond (kind_is MediaItem (link_kind m)) 1 0 ≡ 0) [ TilesMedia ↦ refl | RowsMedia ↦ refl | RowsTiles ↦ refl ]
 
 -- a link is no row
 no_row : (l : Relation) → a_row (link_moved l) ≡ 0
-no_row l = elim l.mapping as (λ m. cond (kind_is RowItem (link_kind m)) 1 0 ≡ 0) [ TilesMedia ↦ refl | RowsMedia ↦ refl ]
+no_row l = elim l.mapping as (λ m. cond (kind_is RowItem (link_kind m)) 1 0 ≡ 0) [ TilesMedia ↦ refl | RowsMedia ↦ refl | RowsTiles ↦ refl ]
 
 -- a link is one link
 one_link : (l : Relation) → a_link (link_moved l) ≡ 1
-one_link l = elim l.mapping as (λ m. cond (not (is_item_kind (link_kind m))) 1 0 ≡ 1) [ TilesMedia ↦ refl | RowsMedia ↦ refl ]
+one_link l = elim l.mapping as (λ m. cond (not (is_item_kind (link_kind m))) 1 0 ≡ 1) [ TilesMedia ↦ refl | RowsMedia ↦ refl | RowsTiles ↦ refl ]
 
 -- an item is no link
 no_link : (content : Content) (identity : List ℕ) → a_link (item_moved (added_item identity content)) ≡ 0

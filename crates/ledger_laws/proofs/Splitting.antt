@@ -322,14 +322,14 @@ module _ (w : World) (id moment p child : List ℕ) (mode : Mode) (rect : Rect) 
     kept_rest = filtered_kept w next (holdings w p) (give (holdings w p)) (λ id. not (c.s id)) (λ l. not (c.u l)) refl rest_items rest_links kept.uuid
         (receipts_kept receipt (holdings w p).receipts kept.receipts (of_package (λ s. s.seq < receipt.seq) w p below))
         (parent_stays (holdings w p) kept.parent)
-        (All-weaker (GoesWhole c.s c.u) (λ l. not (c.u l) ≡ true → (not (c.s l.base) ≡ true) × (not (c.s l.media) ≡ true))
-        (λ l h left. let both : (c.s l.base ≡ false) × (c.s l.media ≡ false) = h.1 (not_true (c.u l) left) in (ap not both.0, ap not both.1)) (holdings w p).links c.whole)
+        (All-weaker (GoesWhole c.s c.u) (λ l. not (c.u l) ≡ true → (not (c.s l.base) ≡ true) × (not (c.s l.other) ≡ true))
+        (λ l h left. let both : (c.s l.base ≡ false) × (c.s l.other ≡ false) = h.1 (not_true (c.u l) left) in (ap not both.0, ap not both.1)) (holdings w p).links c.whole)
         kept
 
     kept_loan : IsKeptPackage next loan
     kept_loan = filtered_kept w next (holdings w p) loan c.s c.u refl c.items c.links (and_parts (is_uuid p) (is_uuid child) (and_parts (is_uuid p && is_uuid child) (is_rect rect) types).0).1 tt
         (live_then (holdings w p).uuid (ap (is_live w) uuid_p ∙ k.live), ap (λ n. n + 1) (sym (ap (λ u. (holdings next u).depth) uuid_p ∙ depth_stays p k.live)), shallow_loan)
-        (All-weaker (GoesWhole c.s c.u) (λ l. c.u l ≡ true → (c.s l.base ≡ true) × (c.s l.media ≡ true)) (λ l h. h.0) (holdings w p).links c.whole) kept
+        (All-weaker (GoesWhole c.s c.u) (λ l. c.u l ≡ true → (c.s l.base ≡ true) × (c.s l.other ≡ true)) (λ l h. h.0) (holdings w p).links c.whole) kept
       where
         shallow_loan : (holdings w p).depth + 1 ≤ greatest_depth
         shallow_loan = grind (arith, nat_tests, k.shallow)

@@ -36,8 +36,8 @@ module _ (P : Item → Type 0) where
   whole : (w : World) (id moment : List ℕ) (command : Command) → ((i : Item) → IsAdded command i → P i) → AllByRecursion Each w.packages → AllByRecursion Each (accepted w (record { id = id; at = moment; command = command })).packages
   whole w id moment (Add p identity content) new h = All-changed _ p Each Each (λ x _ all. All-put item_key P (added_item identity content) x.items (new (added_item identity content) refl) all) (λ x all. all) w.packages h
   whole w id moment (Delete p identity) new h = All-changed _ p Each Each (λ x _ all. All-filter P _ x.items all) (λ x all. all) w.packages h
-  whole w id moment (Link p mapping base media) new h = All-changed _ p Each Each (λ x _ all. all) (λ x all. all) w.packages h
-  whole w id moment (Unlink p mapping base media) new h = All-changed _ p Each Each (λ x _ all. all) (λ x all. all) w.packages h
+  whole w id moment (Link p mapping base other) new h = All-changed _ p Each Each (λ x _ all. all) (λ x all. all) w.packages h
+  whole w id moment (Unlink p mapping base other) new h = All-changed _ p Each Each (λ x _ all. all) (λ x all. all) w.packages h
   whole w id moment (Split p child mode rect) new h =
       let r = receipt_of w (record { id = id; at = moment; command = Split p child mode rect }) in
       let c : Cut = cut_of w p mode rect in

@@ -5,3 +5,4 @@ pub mod Grids
 pub mod Insides
 pub mod Parts
 pub mod Products
+pub mod Deep

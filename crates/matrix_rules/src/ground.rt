@@ -68,7 +68,7 @@ pub(crate) fn offsets_of(frame: &Frame, rect: &Rect) -> Offsets
 }
 
 /// The ground of a good rectangle.
-fn block(frame: &Frame, rect: &Rect) -> Ground
+pub fn block(frame: &Frame, rect: &Rect) -> Ground
     requires good { IsTrue (is_good_frame frame.now) }
     requires rect { IsTrue (is_good_rect frame.now rect.now) }
     ensures { result ≡ block_ground frame.now rect.now }

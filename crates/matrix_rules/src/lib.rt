@@ -4,6 +4,7 @@
 pub mod axis;
 pub mod check;
 pub mod ground;
+pub mod levels;
 pub mod reach;
 pub mod spans;
 #[cfg(test)]

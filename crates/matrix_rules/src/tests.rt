@@ -1,7 +1,8 @@
 // Frames, grounds, edges and spans whose values were worked out by hand and by a second program.
 use crate::axis::axes_at;
 use crate::check::FrameRules;
-use crate::ground::{ground, has_place, in_frame, is_good, point_inside, tile_inside};
+use crate::ground::{block, ground, has_place, in_frame, is_good, point_inside, tile_inside};
+use crate::levels::{level_count, zoom_at};
 use crate::reach::span;
 use crate::spans::Span;
 use sheet_types::frame::{Frame, FrameFault, Ground, Rect};
@@ -610,4 +611,33 @@ fn spans_between_coarser_tiles(rt: HostRuntime) {
             })
     );
     assert!(rt; span(&OBLONG, &whole, i64::MAX) == None);
+}
+
+#[test]
+fn grounds_of_rectangles(rt: HostRuntime) {
+    let rect = Rect {
+        zoom: 2,
+        column: 1,
+        last_column: 3,
+        row: 0,
+        last_row: 1,
+    };
+    assert!(rt; is_good(&SQUARE, &rect));
+    assert!(rt;
+        block(&SQUARE, &rect)
+            == Ground {
+                west: 1024,
+                south: 2048,
+                east: 4096,
+                north: 4096
+            }
+    );
+}
+
+#[test]
+fn zooms_of_levels(rt: HostRuntime) {
+    assert!(rt; level_count(&SQUARE) == 3);
+    assert!(rt; level_count(&OBLONG) == 2);
+    assert!(rt; zoom_at(&SQUARE, 2) == 2);
+    assert!(rt; zoom_at(&OBLONG, 1) == 3);
 }

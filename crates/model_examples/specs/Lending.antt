@@ -1,13 +1,13 @@
 -- What a split takes, and what it leaves.
-use Rattle.std.specs.Prelude.{◌≡◌, [], ◌∷◌, length, Some, Ok, Err}
+use Rattle.std.specs.Prelude.{◌≡◌, [], ◌∷◌, length, Some, None, Ok, Err, pos}
 use Rattle.sheet_types.specs.World.{World, holdings}
 use Rattle.sheet_types.specs.Step.{outcome}
-use Rattle.sheet_types.specs.declared.command.Command.TheVariants.{Add, Link, Split}
-use Rattle.sheet_types.specs.declared.command.Mapping.TheVariants.{TilesMedia, RowsMedia}
+use Rattle.sheet_types.specs.declared.command.Command.TheVariants.{Add, Delete, Link, Split, Merge}
+use Rattle.sheet_types.specs.declared.command.Mapping.TheVariants.{TilesMedia, RowsMedia, RowsTiles}
 use Rattle.sheet_types.specs.declared.command.Mode.TheVariants.{Strict, Follow}
 use Rattle.sheet_types.specs.declared.command.Request.{Request}
-use Rattle.sheet_types.specs.declared.refusal.Refusal.TheVariants.{BadRectangle, NothingToLend, CutLink}
-use Rattle.model_examples.specs.Sheets.{new_archive, after_all, ask, archive, crew, item, tile, picture, row_at, block, quarter, tile_link, row_link, replied, held, links_held}
+use Rattle.sheet_types.specs.declared.refusal.Refusal.TheVariants.{WrongKind, Linked, BadRectangle, NothingToLend, CutLink}
+use Rattle.model_examples.specs.Sheets.{new_archive, after_all, ask, archive, crew, item, tile, picture, row_at, block, quarter, tile_link, row_link, tile_of_row, answer, replied, held, links_held}
 
 -- ---- cut over zooms: tiles of all zooms that lie inside, and none that reaches past an edge
 
@@ -67,6 +67,33 @@ FollowTwoRounds = (replied chained follow_chain ≡ Ok (9 ∷ 2 ∷ 2 ∷ 0 ∷ 
     × (held (outcome chained follow_chain).1 archive ≡ item 5 ∷ [])
     × (held (outcome chained follow_chain).1 crew ≡ item 1 ∷ item 2 ∷ item 3 ∷ item 4 ∷ [])
     × (links_held (outcome chained follow_chain).1 crew ≡ tile_link 1 3 ∷ tile_link 2 3 ∷ tile_link 2 4 ∷ [])
+
+-- ---- a row related to a tile of another quarter
+
+abbrev row_and_tile : World
+row_and_tile = after_all new_archive (ask 1 (Add archive (item 1) (row_at 100 4000)) ∷ ask 2 (Add archive (item 2) (tile 1 1 1)) ∷ [])
+
+abbrev relate : Request
+relate = ask 3 (Link archive RowsTiles (item 1) (item 2))
+
+abbrev related : World
+related = (outcome row_and_tile relate).1
+
+abbrev follow_row : Request
+follow_row = ask 4 (Split archive crew Follow quarter)
+
+abbrev pub RowRelatedToATile : Type 0
+RowRelatedToATile = (replied row_and_tile relate ≡ Ok (3 ∷ 0 ∷ 0 ∷ 0 ∷ 1 ∷ 0 ∷ [], None, Some archive))
+    × (links_held related archive ≡ tile_of_row 1 2 ∷ [])
+    × (answer related (ask 4 (Link archive RowsTiles (item 2) (item 1))) ≡ Err WrongKind)
+    × (answer related (ask 4 (Delete archive (item 2))) ≡ Err Linked)
+    × (answer related (ask 4 (Delete archive (item 1))) ≡ Err Linked)
+    × (answer related (ask 4 (Split archive crew Strict quarter)) ≡ Err (CutLink (item 1)))
+    × (replied related follow_row ≡ Ok (4 ∷ 1 ∷ 0 ∷ 1 ∷ 1 ∷ 1 ∷ [], Some archive, Some crew))
+    × (held (outcome related follow_row).1 archive ≡ [])
+    × (links_held (outcome related follow_row).1 archive ≡ [])
+    × (links_held (outcome related follow_row).1 crew ≡ tile_of_row 1 2 ∷ [])
+    × (replied (outcome related follow_row).1 (ask 5 (Merge crew archive (pos 4))) ≡ Ok (5 ∷ 1 ∷ 0 ∷ 1 ∷ 1 ∷ 1 ∷ [], Some crew, Some archive))
 
 -- ---- a strict cut takes the media of its tiles and rows, and leaves other media, rows and links
 

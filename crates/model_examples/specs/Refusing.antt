@@ -8,10 +8,10 @@ use Rattle.sheet_types.specs.declared.command.Command.TheVariants.{Add, Delete, 
 use Rattle.sheet_types.specs.declared.command.Content.{Content}
 use Rattle.sheet_types.specs.declared.command.Content.TheVariants.{Media, Row}
 use Rattle.sheet_types.specs.declared.command.Item.{Item}
-use Rattle.sheet_types.specs.declared.command.Mapping.TheVariants.{TilesMedia, RowsMedia}
+use Rattle.sheet_types.specs.declared.command.Mapping.TheVariants.{TilesMedia, RowsMedia, RowsTiles}
 use Rattle.sheet_types.specs.declared.command.Mode.TheVariants.{Strict, Follow}
 use Rattle.sheet_types.specs.declared.refusal.Refusal.TheVariants.{IdReused, UnknownPackage, PackageUsed, BadText, TooLarge, IdentityUsed, UnknownItem, WrongKind, BadPlace, OutOfFrame, PlaceTaken, LinkThere, UnknownLink, Linked, BadRectangle, TooDeep, NothingToLend, CutLink, Foreign, Stale, LoanOpen, Collides}
-use Rattle.model_examples.specs.Sheets.{ask, ask_at, noon, archive, crew, second_crew, third_crew, item, tile, tile_of, picture, row_at, block, quarter, tile_link, row_link, answer}
+use Rattle.model_examples.specs.Sheets.{ask, ask_at, noon, archive, crew, second_crew, third_crew, fourth_crew, item, tile, tile_of, picture, row_at, block, quarter, tile_link, row_link, tile_of_row, answer}
 use Rattle.model_examples.specs.Story.{gate, kept_as, archive_with, crew_with, world_with, receipt_5, receipt_9, world_1, world_3, world_4, world_5, world_6, world_7, world_8}
 
 -- ---- 1: a kept request's identity, for another line
@@ -168,6 +168,10 @@ WrongKinds = (answer world_4 (ask 5 (Link archive RowsMedia (item 2) (item 3))) 
     × (answer world_4 (ask 5 (Link archive TilesMedia (item 1) (item 2))) ≡ Err WrongKind)
     × (answer world_4 (ask 5 (Link archive TilesMedia (item 1) (item 1))) ≡ Err WrongKind)
     × (answer world_4 (ask 5 (Link archive RowsMedia (item 2) (item 1))) ≡ Err WrongKind)
+    × (answer world_4 (ask 5 (Link archive RowsTiles (item 2) (item 1))) ≡ Ok 5)
+    × (answer world_4 (ask 5 (Link archive RowsTiles (item 1) (item 2))) ≡ Err WrongKind)
+    × (answer world_4 (ask 5 (Link archive RowsTiles (item 2) (item 3))) ≡ Err WrongKind)
+    × (answer world_4 (ask 5 (Link archive RowsTiles (item 3) (item 1))) ≡ Err WrongKind)
 
 -- ---- 9 and 10: no such place, and no such point. Which there are is in the examples of frames
 
@@ -202,6 +206,7 @@ LinksThere = (answer world_3 (ask 4 (Link archive TilesMedia (item 1) (item 3)))
 abbrev pub UnknownLinks : Type 0
 UnknownLinks = (answer world_4 (ask 5 (Unlink archive TilesMedia (item 1) (item 3))) ≡ Ok 5)
     × (answer world_4 (ask 5 (Unlink archive RowsMedia (item 1) (item 3))) ≡ Err UnknownLink)
+    × (answer world_4 (ask 5 (Unlink archive RowsTiles (item 1) (item 3))) ≡ Err UnknownLink)
     × (answer world_4 (ask 5 (Unlink archive TilesMedia (item 3) (item 1))) ≡ Err UnknownLink)
     × (answer world_4 (ask 5 (Unlink archive TilesMedia (item 1) (item 2))) ≡ Err UnknownLink)
     × (answer world_4 (ask 5 (Unlink archive TilesMedia (item 9) (item 3))) ≡ Err UnknownLink)
@@ -216,7 +221,11 @@ LinkedItems = (answer world_4 (ask 5 (Delete archive (item 1))) ≡ Err Linked)
     × (answer world_4 (ask 5 (Delete archive (item 2))) ≡ Ok 5)
     × (answer world_8 (ask 9 (Delete archive (item 3))) ≡ Ok 9)
 
--- ---- 15 to 17: a bad rectangle, a loan of a loan, nothing inside
+-- ---- 15 to 17: a bad rectangle, a loan too deep, nothing inside
+
+-- a loan of a tile, so many levels below the archive
+abbrev lent_at : ℕ → World
+lent_at depth = world_with (archive_with [] [] [] ∷ record (crew_with (kept_as 1 (tile 1 0 0) ∷ []) [] []) { depth = depth } ∷ [])
 
 abbrev only_a_picture : World
 only_a_picture = world_with (archive_with (kept_as 3 picture ∷ []) [] [] ∷ [])
@@ -225,15 +234,16 @@ abbrev pub NotLent : Type 0
 NotLent = (answer world_4 (ask 5 (Split archive crew Strict (block 3 0 0 0 0))) ≡ Err BadRectangle)
     × (answer world_4 (ask 5 (Split archive crew Follow (block 1 1 0 0 0))) ≡ Err BadRectangle)
     × (answer world_4 (ask 5 (Split archive crew Follow (block 1 0 0 1 0))) ≡ Err BadRectangle)
-    × (answer world_5 (ask 6 (Split crew second_crew Strict quarter)) ≡ Err TooDeep)
+    × (answer (lent_at 3) (ask 1 (Split crew second_crew Strict quarter)) ≡ Ok 1)
+    × (answer (lent_at 4) (ask 1 (Split crew second_crew Strict quarter)) ≡ Err TooDeep)
     × (answer world_4 (ask 5 (Split archive crew Strict (block 2 0 0 0 0))) ≡ Err NothingToLend)
     × (answer world_4 (ask 5 (Split archive crew Follow (block 2 0 0 0 0))) ≡ Err NothingToLend)
     × (answer only_a_picture (ask 1 (Split archive crew Follow (block 0 0 0 0 0))) ≡ Err NothingToLend)
     -- one row is enough
     × (answer world_1 (ask 2 (Split archive crew Strict (block 1 1 1 1 1))) ≡ Ok 2)
-    -- a bad rectangle before a loan of a loan, and that before nothing inside
-    × (answer world_5 (ask 6 (Split crew second_crew Strict (block 3 0 0 0 0))) ≡ Err BadRectangle)
-    × (answer world_5 (ask 6 (Split crew second_crew Strict (block 1 1 1 1 1))) ≡ Err TooDeep)
+    -- a bad rectangle before a loan too deep, and that before nothing inside
+    × (answer (lent_at 4) (ask 1 (Split crew second_crew Strict (block 3 0 0 0 0))) ≡ Err BadRectangle)
+    × (answer (lent_at 4) (ask 1 (Split crew second_crew Strict (block 1 1 1 1 1))) ≡ Err TooDeep)
 
 -- ---- 18: a strict cut that would tear a link
 
@@ -241,11 +251,26 @@ NotLent = (answer world_4 (ask 5 (Split archive crew Strict (block 3 0 0 0 0))) 
 abbrev torn : World
 torn = world_with (archive_with (kept_as 1 (tile 1 0 0) ∷ kept_as 3 picture ∷ kept_as 4 picture ∷ kept_as 5 picture ∷ kept_as 2 gate ∷ []) (tile_link 1 3 ∷ tile_link 1 4 ∷ tile_link 1 5 ∷ row_link 2 4 ∷ row_link 2 5 ∷ []) [] ∷ [])
 
+-- a row of one quarter related to a tile of another; a row and a tile of a third
+abbrev tiles_of_rows : World
+tiles_of_rows = world_with (archive_with (kept_as 4 (tile 1 1 1) ∷ kept_as 6 (tile 1 1 0) ∷ kept_as 2 (row_at 100 4000) ∷ kept_as 5 (row_at 3000 4000) ∷ []) (tile_of_row 2 4 ∷ tile_of_row 5 6 ∷ []) [] ∷ [])
+
+-- a row related to a tile of another quarter, and a medium of both
+abbrev torn_twice : World
+torn_twice = world_with (archive_with (kept_as 4 (tile 1 1 1) ∷ kept_as 3 picture ∷ kept_as 2 (row_at 100 4000) ∷ []) (tile_link 4 3 ∷ row_link 2 3 ∷ tile_of_row 2 4 ∷ []) [] ∷ [])
+
 abbrev pub TornLinks : Type 0
 TornLinks = (answer torn (ask 1 (Split archive crew Strict quarter)) ≡ Err (CutLink (item 4)))
     × (answer torn (ask 1 (Split archive crew Strict (block 1 1 1 1 1))) ≡ Err (CutLink (item 4)))
     × (answer torn (ask 1 (Split archive crew Follow quarter)) ≡ Ok 1)
     × (answer torn (ask 1 (Split archive crew Strict (block 0 0 0 0 0))) ≡ Ok 1)
+    -- an item of the start itself: the row whose tile stays, the tile whose row stays
+    × (answer tiles_of_rows (ask 1 (Split archive crew Strict quarter)) ≡ Err (CutLink (item 2)))
+    × (answer tiles_of_rows (ask 1 (Split archive crew Strict (block 1 1 1 1 1))) ≡ Err (CutLink (item 4)))
+    × (answer tiles_of_rows (ask 1 (Split archive crew Strict (block 1 1 1 0 0))) ≡ Ok 1)
+    -- the least of all kinds
+    × (answer torn_twice (ask 1 (Split archive crew Strict quarter)) ≡ Err (CutLink (item 2)))
+    × (answer torn_twice (ask 1 (Split archive crew Strict (block 1 1 1 1 1))) ≡ Err (CutLink (item 3)))
 
 -- ---- 19 and 20: a package that is not the parent, and a ticket that is not the loan's
 
@@ -263,17 +288,23 @@ ForeignAndStale = (answer world_5 (ask 6 (Merge crew archive (pos 5))) ≡ Ok 6)
     -- a foreign package before a stale ticket
     × (answer world_5 (ask 6 (Merge crew crew (pos 0))) ≡ Err Foreign)
 
--- ---- 21: a loan that lent. No requests leave one while a loan may not lend
+-- ---- 21: a loan that lent
 
 abbrev lent_on : List Item → List Item → World
 lent_on here there = world_with (archive_with here [] [] ∷ crew_with there [] [] ∷ record (crew_with [] [] []) { uuid = second_crew; parent = Some crew; depth = 2 } ∷ [])
 
-abbrev pub LoansOfLoans : Type 0
-LoansOfLoans = (answer (lent_on [] []) (ask 1 (Merge crew archive (pos 0))) ≡ Err LoanOpen)
+-- as it is, with another loan of the loan
+abbrev lent_twice : List ℕ → World
+lent_twice uuid = world_with (archive_with [] [] [] ∷ crew_with [] [] [] ∷ record (crew_with [] [] []) { uuid = uuid; parent = Some crew; depth = 2 } ∷ record (crew_with [] [] []) { uuid = fourth_crew; parent = Some crew; depth = 2 } ∷ [])
+
+abbrev pub OpenLoans : Type 0
+OpenLoans = (answer (lent_on [] []) (ask 1 (Merge crew archive (pos 0))) ≡ Err (LoanOpen second_crew))
+    × (answer (lent_twice third_crew) (ask 1 (Merge crew archive (pos 0))) ≡ Err (LoanOpen third_crew))
+    × (answer (lent_twice second_crew) (ask 1 (Merge crew archive (pos 0))) ≡ Err (LoanOpen second_crew))
     × (answer (lent_on [] []) (ask 1 (Merge second_crew crew (pos 0))) ≡ Ok 1)
     -- a stale ticket before it, a collision after it
     × (answer (lent_on [] []) (ask 1 (Merge crew archive (pos 1))) ≡ Err (Stale 0))
-    × (answer (lent_on (kept_as 1 (tile 1 0 0) ∷ []) (kept_as 2 (tile 1 0 0) ∷ [])) (ask 1 (Merge crew archive (pos 0))) ≡ Err LoanOpen)
+    × (answer (lent_on (kept_as 1 (tile 1 0 0) ∷ []) (kept_as 2 (tile 1 0 0) ∷ [])) (ask 1 (Merge crew archive (pos 0))) ≡ Err (LoanOpen second_crew))
 
 -- ---- 22: a place that was taken in the parent: the loan's tile of the least zoom, then column, then row
 

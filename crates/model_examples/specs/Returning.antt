@@ -1,6 +1,7 @@
 -- What comes back by a merge, what may come twice, and what is gone.
 use Rattle.std.specs.Prelude.{◌≡◌, [], ◌∷◌, map, length, Some, None, Ok, Err, pos}
-use Rattle.sheet_types.specs.World.{World, holdings}
+use Rattle.sheet_types.specs.World.{World, holdings, receipts_of}
+use Rattle.sheet_types.specs.Answers.{loans_of}
 use Rattle.sheet_types.specs.Step.{outcome}
 use Rattle.sheet_types.specs.declared.command.Command.{Command}
 use Rattle.sheet_types.specs.declared.command.Command.TheVariants.{Add, Delete, Link, Unlink, Split, Merge}
@@ -8,9 +9,9 @@ use Rattle.sheet_types.specs.declared.command.Mapping.TheVariants.{TilesMedia}
 use Rattle.sheet_types.specs.declared.command.Mode.TheVariants.{Strict}
 use Rattle.sheet_types.specs.declared.command.Request.{Request}
 use Rattle.sheet_types.specs.declared.frame.Rect.{Rect}
-use Rattle.sheet_types.specs.declared.refusal.Refusal.TheVariants.{IdReused, UnknownPackage, PackageUsed, TooDeep, Foreign, Stale, Collides}
+use Rattle.sheet_types.specs.declared.refusal.Refusal.TheVariants.{IdReused, UnknownPackage, PackageUsed, TooDeep, Foreign, Stale, LoanOpen, Collides}
 use Rattle.model_examples.specs.Story.{kept_as, archive_with, crew_with, world_with}
-use Rattle.model_examples.specs.Sheets.{new_archive, after_all, ask, ask_at, noon, archive, crew, second_crew, third_crew, item, tile, tile_of, picture, block, quarter, tile_link, replied, answer, held, links_held}
+use Rattle.model_examples.specs.Sheets.{new_archive, after_all, ask, ask_at, noon, archive, crew, second_crew, third_crew, fourth_crew, fifth_crew, item, tile, tile_of, picture, block, quarter, tile_link, replied, answer, held, links_held}
 
 -- ---- there and back: of two tiles of two bytes, over the upper row of the sheet and over its left column
 
@@ -124,7 +125,7 @@ KeptAfterMerge = (replied (after_all once (ask 3 (Add crew (item 2) (tile 1 0 1)
     × (replied merged (ask 3 (Add crew (item 2) (tile 1 0 1))) ≡ Ok (3 ∷ 1 ∷ 0 ∷ 0 ∷ 0 ∷ 1 ∷ [], None, Some crew))
     × (answer merged (ask 5 (Add crew (item 3) (tile 2 0 0))) ≡ Err UnknownPackage)
 
--- ---- a stale ticket, a foreign package, a loan of a loan, a used name
+-- ---- a stale ticket, a foreign package, a used name
 
 abbrev two_loans : World
 two_loans = after_all new_archive
@@ -134,8 +135,47 @@ abbrev pub RefusedReturns : Type 0
 RefusedReturns = (answer two_loans (ask 6 (Merge crew archive (pos 3))) ≡ Err (Stale 5))
     × (answer two_loans (ask 6 (Merge crew second_crew (pos 3))) ≡ Err Foreign)
     × (answer two_loans (ask 6 (Merge archive crew (pos 3))) ≡ Err Foreign)
-    × (answer two_loans (ask 6 (Split crew third_crew Strict quarter)) ≡ Err TooDeep)
     × (answer two_loans (ask 6 (Split archive second_crew Strict quarter)) ≡ Err PackageUsed)
+
+-- ---- an emptied loan with a loan
+
+abbrev lend_on : Request
+lend_on = ask 6 (Split crew third_crew Strict quarter)
+
+abbrev pub EmptiedLoanWithALoan : Type 0
+EmptiedLoanWithALoan = (replied two_loans lend_on ≡ Ok (6 ∷ 2 ∷ 0 ∷ 0 ∷ 0 ∷ 2 ∷ [], Some crew, Some third_crew))
+    × (held (outcome two_loans lend_on).1 crew ≡ [])
+    × ((holdings (outcome two_loans lend_on).1 third_crew).parent ≡ Some crew)
+    × ((holdings (outcome two_loans lend_on).1 third_crew).depth ≡ 2)
+    × (loans_of (outcome two_loans lend_on).1 crew ≡ 1)
+    × (loans_of (outcome two_loans lend_on).1 archive ≡ 2)
+
+-- ---- loans of loans, down to the greatest depth and back
+
+abbrev corner : Rect
+corner = block 2 0 0 0 0
+
+abbrev lent_down : World
+lent_down = after_all new_archive
+    (ask 1 (Add archive (item 1) (tile 2 0 0)) ∷ ask 2 (Split archive crew Strict corner) ∷ ask 3 (Split crew second_crew Strict corner)
+    ∷ ask 4 (Split second_crew third_crew Strict corner) ∷ ask 5 (Split third_crew fourth_crew Strict corner) ∷ [])
+
+abbrev brought_up : World
+brought_up = after_all lent_down
+    (ask 6 (Merge fourth_crew third_crew (pos 5)) ∷ ask 7 (Merge third_crew second_crew (pos 6)) ∷ ask 8 (Merge second_crew crew (pos 7)) ∷ ask 9 (Merge crew archive (pos 8)) ∷ [])
+
+abbrev pub LentDown : Type 0
+LentDown = (length (receipts_of lent_down) ≡ 5)
+    × (held lent_down fourth_crew ≡ item 1 ∷ [])
+    × ((holdings lent_down fourth_crew).depth ≡ 4)
+    × (answer lent_down (ask 6 (Split fourth_crew fifth_crew Strict corner)) ≡ Err TooDeep)
+    × (answer lent_down (ask 6 (Merge crew archive (pos 3))) ≡ Err (LoanOpen second_crew))
+    × (answer lent_down (ask 6 (Merge second_crew archive (pos 4))) ≡ Err Foreign)
+
+abbrev pub BroughtUp : Type 0
+BroughtUp = (map (λ p. p.uuid) brought_up.packages ≡ archive ∷ [])
+    × (held brought_up archive ≡ item 1 ∷ [])
+    × (length (holdings brought_up archive).receipts ≡ 9)
 
 -- ---- what comes back takes its place among what stayed
 

@@ -5,7 +5,7 @@ use Rattle.sheet_types.specs.Step.{outcome, relation}
 use Rattle.sheet_types.specs.declared.command.Command.{Command}
 use Rattle.sheet_types.specs.declared.command.Content.{Content}
 use Rattle.sheet_types.specs.declared.command.Content.TheVariants.{Tile, Media, Row}
-use Rattle.sheet_types.specs.declared.command.Mapping.TheVariants.{TilesMedia, RowsMedia}
+use Rattle.sheet_types.specs.declared.command.Mapping.TheVariants.{TilesMedia, RowsMedia, RowsTiles}
 use Rattle.sheet_types.specs.declared.command.Relation.{Relation}
 use Rattle.sheet_types.specs.declared.command.Request.{Request}
 use Rattle.sheet_types.specs.declared.frame.Frame.{Frame}
@@ -21,7 +21,7 @@ sheet = record { srs_id = pos 25832; min_x = pos 0; min_y = pos 0; max_x = pos 4
 abbrev pub id : ℕ → ℕ → List ℕ
 id first last = first ∷ 0 ∷ 0 ∷ 0 ∷ 0 ∷ 0 ∷ 64 ∷ 0 ∷ 128 ∷ 0 ∷ 0 ∷ 0 ∷ 0 ∷ 0 ∷ 0 ∷ last ∷ []
 
--- a0000000-.., b0000000-.., c0000000-.., d0000000-..
+-- a0000000-.. to f0000000-..
 abbrev pub archive : List ℕ
 archive = id 160 0
 
@@ -33,6 +33,12 @@ second_crew = id 192 0
 
 abbrev pub third_crew : List ℕ
 third_crew = id 208 0
+
+abbrev pub fourth_crew : List ℕ
+fourth_crew = id 224 0
+
+abbrev pub fifth_crew : List ℕ
+fifth_crew = id 240 0
 
 -- 00000000-..-01 and so on, the identities of items; 90000000-..-01 and so on, of requests
 abbrev pub item : ℕ → List ℕ
@@ -104,6 +110,9 @@ tile_link base media = relation TilesMedia (item base) (item media)
 
 abbrev pub row_link : ℕ → ℕ → Relation
 row_link base media = relation RowsMedia (item base) (item media)
+
+abbrev pub tile_of_row : ℕ → ℕ → Relation
+tile_of_row base tile = relation RowsTiles (item base) (item tile)
 
 -- the identities and the links that a package holds
 abbrev pub held : World → List ℕ → List (List ℕ)

@@ -1,5 +1,5 @@
 //! What a split takes, and what it leaves.
-ghost use Rattle.model_examples.specs.Lending.{CutOverZooms, NothingInside, SharedMedium, FollowTwoRounds, StrictTakesMedia, PlaceOfALoan};
+ghost use Rattle.model_examples.specs.Lending.{CutOverZooms, NothingInside, SharedMedium, FollowTwoRounds, RowRelatedToATile, StrictTakesMedia, PlaceOfALoan};
 
 /// Tiles of three zooms, of which a quarter of the sheet takes those inside.
 pub fn cut_over_zooms()
@@ -19,6 +19,11 @@ pub fn shared_medium()
 /// Links are followed until nothing more is found.
 pub fn follow_two_rounds()
     ensures { FollowTwoRounds }
+{}
+
+/// A row related to a tile outside: cut strictly, followed, and brought back.
+pub fn row_related_to_a_tile()
+    ensures { RowRelatedToATile }
 {}
 
 /// A strict cut takes the media of its tiles and rows with all their links.

@@ -1,5 +1,5 @@
 //! The reasons of refusal, each with what it refuses and what it lets pass.
-ghost use Rattle.model_examples.specs.Refusing.{ReusedIdentity, NotLive, UsedName, Moments, BadTexts, Sizes, UsedIdentity, UnknownItems, WrongKinds, BadPlaces, TakenPlaces, LinksThere, UnknownLinks, LinkedItems, NotLent, TornLinks, ForeignAndStale, LoansOfLoans, Collisions};
+ghost use Rattle.model_examples.specs.Refusing.{ReusedIdentity, NotLive, UsedName, Moments, BadTexts, Sizes, UsedIdentity, UnknownItems, WrongKinds, BadPlaces, TakenPlaces, LinksThere, UnknownLinks, LinkedItems, NotLent, TornLinks, ForeignAndStale, OpenLoans, Collisions};
 
 /// A kept request's identity comes with another line.
 pub fn reused_identity()
@@ -71,12 +71,12 @@ pub fn linked_items()
     ensures { LinkedItems }
 {}
 
-/// A bad rectangle, a loan of a loan, and nothing inside.
+/// A bad rectangle, a loan too deep, and nothing inside.
 pub fn not_lent()
     ensures { NotLent }
 {}
 
-/// A strict cut that would tear a link; it names the least medium.
+/// A strict cut that would tear a link; it names the least item of the cut that has one.
 pub fn torn_links()
     ensures { TornLinks }
 {}
@@ -86,9 +86,9 @@ pub fn foreign_and_stale()
     ensures { ForeignAndStale }
 {}
 
-/// A loan that lent.
-pub fn loans_of_loans()
-    ensures { LoansOfLoans }
+/// A loan that lent; it names the least of its loans.
+pub fn open_loans()
+    ensures { OpenLoans }
 {}
 
 /// Of the loan's tiles whose place was taken the first by place.

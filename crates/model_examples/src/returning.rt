@@ -1,5 +1,5 @@
 //! What comes back by a merge, what may come twice, and what is gone.
-ghost use Rattle.model_examples.specs.Returning.{ThereAndBack, ColumnThereAndBack, CrossedLinks, ContentsAndLinks, CollisionOnReturn, ColumnCollision, SplitThatComesTwice, KeptAfterMerge, RefusedReturns, InPlace};
+ghost use Rattle.model_examples.specs.Returning.{ThereAndBack, ColumnThereAndBack, CrossedLinks, ContentsAndLinks, CollisionOnReturn, ColumnCollision, SplitThatComesTwice, KeptAfterMerge, RefusedReturns, EmptiedLoanWithALoan, LentDown, BroughtUp, InPlace};
 
 /// Two tiles are lent and brought back, their bytes as before.
 pub fn there_and_back()
@@ -44,6 +44,21 @@ pub fn kept_after_merge()
 /// Merges and splits that are refused, each for one reason.
 pub fn refused_returns()
     ensures { RefusedReturns }
+{}
+
+/// A loan lends all that it has; its loan is counted as its own.
+pub fn emptied_loan_with_a_loan()
+    ensures { EmptiedLoanWithALoan }
+{}
+
+/// A tile is lent down to the greatest depth, from where it is lent no further.
+pub fn lent_down()
+    ensures { LentDown }
+{}
+
+/// It comes back level by level, with all receipts.
+pub fn brought_up()
+    ensures { BroughtUp }
 {}
 
 /// What comes back, and what is taken out, leaves all in its order.

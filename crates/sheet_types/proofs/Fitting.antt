@@ -80,7 +80,7 @@ pub entry_fits : (command : Command) → HasTypes command → too_large command 
 entry_fits (Add p identity content) types sizes =
     and_from _ _ (and_from _ _ (and_from _ _ types (item_kind_of content)) (size_fits content (not_false (has_good_size content) sizes))) (digest_fits content)
 entry_fits (Delete p identity) types sizes = types
-entry_fits (Link p mapping base media) types sizes = types
-entry_fits (Unlink p mapping base media) types sizes = types
+entry_fits (Link p mapping base other) types sizes = types
+entry_fits (Unlink p mapping base other) types sizes = types
 entry_fits (Split p child mode rect) types sizes = types
 entry_fits (Merge child into ticket) types sizes = types

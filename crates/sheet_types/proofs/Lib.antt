@@ -1,4 +1,5 @@
 pub mod Basics
+pub mod KindNumbers
 pub mod LineReading
 pub mod Fitting
 pub mod Every

@@ -22,18 +22,18 @@ use Rattle.uuid.proofs.RoundTrips.{parses_hyphenated_text}
 use Rattle.sheet_types.specs.Texts.{Entry, Adds, Deletes, Links, Unlinks, Splits, Merges, entry_line, spaced, uuid_text, kind_word, mapping_word, mode_word}
 use Rattle.sheet_types.specs.Lines.{is_bytes, is_uuid, is_number, is_fit_entry, IsFitEntry, kind_in, mapping_in, mode_in, uuid_in, number_in, digest_in, entry_in, entry_from}
 use Rattle.sheet_types.specs.declared.command.Mapping.{Mapping}
-use Rattle.sheet_types.specs.declared.command.Mapping.TheVariants.{TilesMedia, RowsMedia}
+use Rattle.sheet_types.specs.declared.command.Mapping.TheVariants.{TilesMedia, RowsMedia, RowsTiles}
 use Rattle.sheet_types.specs.declared.command.Mode.{Mode}
 use Rattle.sheet_types.specs.declared.command.Mode.TheVariants.{Strict, Follow}
 use Rattle.sheet_types.specs.declared.receipt.MovedKind.{MovedKind}
-use Rattle.sheet_types.specs.declared.receipt.MovedKind.TheVariants.{TileItem, MediaItem, RowItem, TilesMediaLink, RowsMediaLink}
+use Rattle.sheet_types.specs.declared.receipt.MovedKind.TheVariants.{TileItem, MediaItem, RowItem, TilesMediaLink, RowsMediaLink, RowsTilesLink}
 use Rattle.sheet_types.proofs.Basics.{bytes_eq_itself, None≢Some, not_true}
 use Rattle.sheet_types.proofs.Commas.{Lacks, decimal_lacks, signed_lacks}
 
 -- ---- parts with no space in them
 
 -- such parts are found again in their line
-split_spaced : (x : List ℕ) (xs : List (List ℕ)) → Lacks 32 x → AllByRecursion (Lacks 32) xs → slice_split (λ c. c == 32) (spaced (x ∷ xs)) ≡ x ∷ xs
+pub split_spaced : (x : List ℕ) (xs : List (List ℕ)) → Lacks 32 x → AllByRecursion (Lacks 32) xs → slice_split (λ c. c == 32) (spaced (x ∷ xs)) ≡ x ∷ xs
 split_spaced x [] h hs = slice_split_none (λ c. c == 32) x (All-from_recursion (λ c. (c == 32) ≡ false) x h)
 split_spaced x (y ∷ ys) h hs =
     slice_split_at (λ c. c == 32) x 32 (spaced (y ∷ ys)) (All-from_recursion (λ c. (c == 32) ≡ false) x h) refl ∙ ap (λ zs. x ∷ zs) (split_spaced y ys hs.0 hs.1)
@@ -43,22 +43,22 @@ not_space : (d : ℕ) → d < 16 → (hex_digit lower d == 32) ≡ false
 not_space d small = grind (arith, nat_tests)
 
 -- the text of a UUID has no space
-uuid_lacks : (id : List ℕ) → Lacks 32 (uuid_text id)
+pub uuid_lacks : (id : List ℕ) → Lacks 32 (uuid_text id)
 uuid_lacks id = recursion_from_All _ (uuid_text id) (All-from_get_or (λ c. (c == 32) ≡ false) (uuid_text id) 0 (λ k lt.
     let within : k < 36 = rw (by_index_length 36 (λ j. if is_hyphen_place j then 45 else hex_digit lower (nibble id (digit_place j)))) at lt in
     ap (λ c. c == 32) (by_index_at 36 (λ j. if is_hyphen_place j then 45 else hex_digit lower (nibble id (digit_place j))) k 0 within)
     ∙ elim (is_hyphen_place k) as (λ v. ((if v then 45 else hex_digit lower (nibble id (digit_place k))) == 32) ≡ false) [ true ↦ refl | false ↦ not_space (nibble id (digit_place k)) (nibble_small id (digit_place k)) ]))
 
 -- a number that is not below 0
-number_small : (n : ℕ) → is_number (pos n) ≡ true → n < 2 ^ 64
+pub number_small : (n : ℕ) → is_number (pos n) ≡ true → n < 2 ^ 64
 number_small n h = grind (arith, nat_tests)
 
 -- a number below 0
-number_small_below : (n : ℕ) → is_number (negsuc n) ≡ true → suc n < 2 ^ 64
+pub number_small_below : (n : ℕ) → is_number (negsuc n) ≡ true → suc n < 2 ^ 64
 number_small_below n h = grind (arith, nat_tests)
 
 -- the text of a number has no space
-number_lacks : (z : ℤ) → Lacks 32 (signed_decimal z)
+pub number_lacks : (z : ℤ) → Lacks 32 (signed_decimal z)
 number_lacks z = signed_lacks 32 z (omega arith)
 
 -- what is taken from a text that lacks a byte is not that byte
@@ -68,31 +68,33 @@ slice_lacks c (x ∷ t) some h zero = h.0
 slice_lacks c (x ∷ t) some h (suc k) = slice_lacks c t some h.1 k
 
 -- a text that is written out
-lacks_by_test : (xs : List ℕ) → list_all (λ c. not (c == 32)) xs ≡ true → Lacks 32 xs
+pub lacks_by_test : (xs : List ℕ) → list_all (λ c. not (c == 32)) xs ≡ true → Lacks 32 xs
 lacks_by_test [] h = tt
 lacks_by_test (c ∷ xs) h = let parts : (not (c == 32) ≡ true) × (list_all (λ x. not (x == 32)) xs ≡ true) = and_parts (not (c == 32)) (list_all (λ x. not (x == 32)) xs) h in (not_true (c == 32) parts.0, lacks_by_test xs parts.1)
 
 -- the text of a digest has no space
-hex_lacks : (bytes : List ℕ) → Lacks 32 (encode_lower bytes)
+pub hex_lacks : (bytes : List ℕ) → Lacks 32 (encode_lower bytes)
 unfolding encode_with
 hex_lacks [] = tt
 hex_lacks (b ∷ bytes) = (slice_lacks 32 lower_digits refl (lacks_by_test lower_digits refl) _, (slice_lacks 32 lower_digits refl (lacks_by_test lower_digits refl) _, hex_lacks bytes))
 
 -- the word of a kind has no space
-kind_lacks : (kind : MovedKind) → Lacks 32 (kind_word kind)
+pub kind_lacks : (kind : MovedKind) → Lacks 32 (kind_word kind)
 kind_lacks TileItem = lacks_by_test (kind_word TileItem) refl
 kind_lacks MediaItem = lacks_by_test (kind_word MediaItem) refl
 kind_lacks RowItem = lacks_by_test (kind_word RowItem) refl
 kind_lacks TilesMediaLink = lacks_by_test (kind_word TilesMediaLink) refl
 kind_lacks RowsMediaLink = lacks_by_test (kind_word RowsMediaLink) refl
+kind_lacks RowsTilesLink = lacks_by_test (kind_word RowsTilesLink) refl
 
 -- the word of a mapping has no space
-mapping_lacks : (mapping : Mapping) → Lacks 32 (mapping_word mapping)
+pub mapping_lacks : (mapping : Mapping) → Lacks 32 (mapping_word mapping)
 mapping_lacks TilesMedia = lacks_by_test (mapping_word TilesMedia) refl
 mapping_lacks RowsMedia = lacks_by_test (mapping_word RowsMedia) refl
+mapping_lacks RowsTiles = lacks_by_test (mapping_word RowsTiles) refl
 
 -- the word of a mode has no space
-mode_lacks : (mode : Mode) → Lacks 32 (mode_word mode)
+pub mode_lacks : (mode : Mode) → Lacks 32 (mode_word mode)
 mode_lacks Strict = lacks_by_test (mode_word Strict) refl
 mode_lacks Follow = lacks_by_test (mode_word Follow) refl
 
@@ -105,11 +107,13 @@ kind_back MediaItem = refl
 kind_back RowItem = refl
 kind_back TilesMediaLink = refl
 kind_back RowsMediaLink = refl
+kind_back RowsTilesLink = refl
 
 -- a mapping
-mapping_back : (mapping : Mapping) → mapping_in (mapping_word mapping) ≡ Some mapping
+pub mapping_back : (mapping : Mapping) → mapping_in (mapping_word mapping) ≡ Some mapping
 mapping_back TilesMedia = refl
 mapping_back RowsMedia = refl
+mapping_back RowsTiles = refl
 
 -- a mode
 mode_back : (mode : Mode) → mode_in (mode_word mode) ≡ Some mode
@@ -139,11 +143,11 @@ pub uuid_back : (id : List ℕ) → is_uuid id ≡ true → uuid_in (uuid_text i
 uuid_back id h = ap (λ o. unwrap_or o []) (sym (parses_hyphenated_text lower id (inl refl) (uuid_length id h) (uuid_bytes id h)))
 
 -- a digest
-digest_back : (n : ℕ) (bytes : List ℕ) → is_bytes n bytes ≡ true → digest_in (encode_lower bytes) ≡ bytes
+pub digest_back : (n : ℕ) (bytes : List ℕ) → is_bytes n bytes ≡ true → digest_in (encode_lower bytes) ≡ bytes
 digest_back n bytes h = ap (λ r. result_unwrap_or r []) (decode_of-encode_lower bytes (small_at bytes (small_bytes bytes (and_parts (length bytes == n) (list_all (λ b. nat_lt b 256) bytes) h).1)))
 
 -- a number
-number_back : (z : ℤ) → is_number z ≡ true → number_in (signed_decimal z) ≡ z
+pub number_back : (z : ℤ) → is_number z ≡ true → number_in (signed_decimal z) ≡ z
 number_back (pos n) h =
     let d : IsNumeral 10 (decimal n) × (digits_value 10 (decimal n) ≡ n) = decimal_is_IsNumeral n (number_small n h) in
     let no_minus = slice_lacks 45 (decimal n) refl (decimal_lacks 45 n (omega arith)) 0 in
@@ -173,16 +177,16 @@ back (Deletes p identity) fit =
     let f = and_parts _ _ fit in
     ap entry_in (split_spaced (codes "delete") (uuid_text p ∷ uuid_text identity ∷ []) (lacks_by_test (codes "delete") refl) (uuid_lacks p, (uuid_lacks identity, tt)))
     ∙ (λ j. Some (Deletes (uuid_back p f.0 j) (uuid_back identity f.1 j)))
-back (Links p mapping base media) fit =
+back (Links p mapping base other) fit =
     let f1 = and_parts _ _ fit in
     let f0 = and_parts _ _ f1.0 in
-    ap entry_in (split_spaced (codes "link") (mapping_word mapping ∷ uuid_text p ∷ uuid_text base ∷ uuid_text media ∷ []) (lacks_by_test (codes "link") refl) (mapping_lacks mapping, (uuid_lacks p, (uuid_lacks base, (uuid_lacks media, tt)))))
-    ∙ (λ j. option_map (λ m. Links (uuid_back p f0.0 j) m (uuid_back base f0.1 j) (uuid_back media f1.1 j)) (mapping_back mapping j))
-back (Unlinks p mapping base media) fit =
+    ap entry_in (split_spaced (codes "link") (mapping_word mapping ∷ uuid_text p ∷ uuid_text base ∷ uuid_text other ∷ []) (lacks_by_test (codes "link") refl) (mapping_lacks mapping, (uuid_lacks p, (uuid_lacks base, (uuid_lacks other, tt)))))
+    ∙ (λ j. option_map (λ m. Links (uuid_back p f0.0 j) m (uuid_back base f0.1 j) (uuid_back other f1.1 j)) (mapping_back mapping j))
+back (Unlinks p mapping base other) fit =
     let f1 = and_parts _ _ fit in
     let f0 = and_parts _ _ f1.0 in
-    ap entry_in (split_spaced (codes "unlink") (mapping_word mapping ∷ uuid_text p ∷ uuid_text base ∷ uuid_text media ∷ []) (lacks_by_test (codes "unlink") refl) (mapping_lacks mapping, (uuid_lacks p, (uuid_lacks base, (uuid_lacks media, tt)))))
-    ∙ (λ j. option_map (λ m. Unlinks (uuid_back p f0.0 j) m (uuid_back base f0.1 j) (uuid_back media f1.1 j)) (mapping_back mapping j))
+    ap entry_in (split_spaced (codes "unlink") (mapping_word mapping ∷ uuid_text p ∷ uuid_text base ∷ uuid_text other ∷ []) (lacks_by_test (codes "unlink") refl) (mapping_lacks mapping, (uuid_lacks p, (uuid_lacks base, (uuid_lacks other, tt)))))
+    ∙ (λ j. option_map (λ m. Unlinks (uuid_back p f0.0 j) m (uuid_back base f0.1 j) (uuid_back other f1.1 j)) (mapping_back mapping j))
 back (Splits p child mode rect) fit =
     let f1 = and_parts _ _ fit in
     let f0 = and_parts _ _ f1.0 in

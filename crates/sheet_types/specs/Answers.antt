@@ -3,7 +3,7 @@ use Rattle.std.specs.Prelude.{ℕ, List, map, length, Option, count_by, sum_by}
 use Rattle.std.specs.Bool.{then_some}
 use Rattle.sheet_types.specs.Texts.{size}
 use Rattle.sheet_types.specs.World.{World, Package, is_live, holdings, is_tile, is_medium, is_row}
-use Rattle.sheet_types.specs.Custody.{kept, ticket}
+use Rattle.sheet_types.specs.Custody.{kept, ticket, ends_at}
 use Rattle.sheet_types.specs.declared.command.Item.{Item}
 use Rattle.sheet_types.specs.declared.command.Relation.{Relation}
 use Rattle.sheet_types.specs.declared.receipt.Receipt.{Receipt}
@@ -27,6 +27,10 @@ pub record PackageSight : Type 0 where
 -- the live packages, by UUID
 abbrev pub package_sights : World → List PackageSight
 package_sights w = map (λ p. record { uuid = p.uuid; parent = p.parent; depth = p.depth; ticket = ticket w p.uuid }) w.packages
+
+-- how many live packages are loans of this one
+abbrev pub loans_of : World → List ℕ → ℕ
+loans_of w p = count_by (λ x. ends_at x.parent p) w.packages
 
 -- the items of a live package by kind and identity, and its links by kind, base and other end; none for another
 abbrev pub holdings_answer : World → List ℕ → Option (List Item × List Relation)

@@ -42,8 +42,8 @@ is_rect r = is_number r.zoom && is_number r.column && is_number r.last_column &&
 abbrev pub is_fit_entry : Entry → Bool
 is_fit_entry (Adds p identity kind size digest) = is_uuid p && is_uuid identity && is_item_kind kind && is_number (pos size) && is_bytes 32 digest
 is_fit_entry (Deletes p identity) = is_uuid p && is_uuid identity
-is_fit_entry (Links p mapping base media) = is_uuid p && is_uuid base && is_uuid media
-is_fit_entry (Unlinks p mapping base media) = is_uuid p && is_uuid base && is_uuid media
+is_fit_entry (Links p mapping base other) = is_uuid p && is_uuid base && is_uuid other
+is_fit_entry (Unlinks p mapping base other) = is_uuid p && is_uuid base && is_uuid other
 is_fit_entry (Splits p child mode rect) = is_uuid p && is_uuid child && is_rect rect
 is_fit_entry (Merges child into ticket) = is_uuid child && is_uuid into && is_number ticket
 
@@ -54,8 +54,8 @@ IsFitEntry e = is_fit_entry e ≡ true
 abbrev pub has_types : Command → Bool
 has_types (Add p identity content) = is_uuid p && is_uuid identity
 has_types (Delete p identity) = is_uuid p && is_uuid identity
-has_types (Link p mapping base media) = is_uuid p && is_uuid base && is_uuid media
-has_types (Unlink p mapping base media) = is_uuid p && is_uuid base && is_uuid media
+has_types (Link p mapping base other) = is_uuid p && is_uuid base && is_uuid other
+has_types (Unlink p mapping base other) = is_uuid p && is_uuid base && is_uuid other
 has_types (Split p child mode rect) = is_uuid p && is_uuid child && is_rect rect
 has_types (Merge child into ticket) = is_uuid child && is_uuid into && is_number ticket
 
@@ -90,7 +90,7 @@ digest_in word = result_unwrap_or (decode_of word) []
 abbrev pub entry_in : List (List ℕ) → Option Entry
 entry_in (verb ∷ p ∷ identity ∷ []) = then_some (bytes_eq verb (codes "delete")) (Deletes (uuid_in p) (uuid_in identity))
 entry_in (verb ∷ child ∷ into ∷ ticket ∷ []) = then_some (bytes_eq verb (codes "merge")) (Merges (uuid_in child) (uuid_in into) (number_in ticket))
-entry_in (verb ∷ mapping ∷ p ∷ base ∷ media ∷ []) = option_map (λ m. if bytes_eq verb (codes "link") then Links (uuid_in p) m (uuid_in base) (uuid_in media) else Unlinks (uuid_in p) m (uuid_in base) (uuid_in media)) (mapping_in mapping)
+entry_in (verb ∷ mapping ∷ p ∷ base ∷ other ∷ []) = option_map (λ m. if bytes_eq verb (codes "link") then Links (uuid_in p) m (uuid_in base) (uuid_in other) else Unlinks (uuid_in p) m (uuid_in base) (uuid_in other)) (mapping_in mapping)
 entry_in (verb ∷ p ∷ identity ∷ kind ∷ size ∷ digest ∷ []) = option_map (λ k. Adds (uuid_in p) (uuid_in identity) k (unsigned_abs (number_in size)) (digest_in digest)) (kind_in kind)
 entry_in (verb ∷ p ∷ child ∷ mode ∷ zoom ∷ column ∷ last_column ∷ row ∷ last_row ∷ []) =
     option_map (λ m. Splits (uuid_in p) (uuid_in child) m (record { zoom = number_in zoom; column = number_in column; last_column = number_in last_column; row = number_in row; last_row = number_in last_row })) (mode_in mode)

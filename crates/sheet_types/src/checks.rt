@@ -13,6 +13,9 @@ const MAX_LABEL: usize = 200;
 
 const MAX_CODE: i64 = 999_999;
 
+/// How many levels below the archive a loan may lie (profile); the model has it as `greatest_depth`.
+pub const GREATEST_DEPTH: u64 = 4;
+
 /// Whether each part of a content is within its limits (profile): data of 1 to 1,048,576 bytes, a content type of 1 to 100 bytes, a label of 0 to 200 bytes, a code of 0 to 999,999.
 pub fn has_good_size(content: &Content) -> bool
     ensures { result ≡ has_good_size content.now }

@@ -63,14 +63,14 @@ fn write_line(alloc: Global, command: &Command) -> Result<String, AllocError>
             package,
             mapping,
             base,
-            media,
-        } => format!(in alloc; "link {mapping} {package} {base} {media}"),
+            other,
+        } => format!(in alloc; "link {mapping} {package} {base} {other}"),
         Command::Unlink {
             package,
             mapping,
             base,
-            media,
-        } => format!(in alloc; "unlink {mapping} {package} {base} {media}"),
+            other,
+        } => format!(in alloc; "unlink {mapping} {package} {base} {other}"),
         Command::Split {
             package,
             child,

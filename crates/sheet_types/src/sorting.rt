@@ -64,13 +64,13 @@ pub fn item_is_before(a: &Item, b: &Item) -> bool
     .is_lt()
 }
 
-/// Whether a link stands before another: by mapping, base and medium.
+/// Whether a link stands before another: by mapping, base and other end.
 pub fn link_is_before(a: &Relation, b: &Relation) -> bool
     ensures { result ≡ is_before (link_key a.now) (link_key b.now) }
 {
     key_order(
-        (a.mapping.link_kind(), a.base, Some(a.media)),
-        (b.mapping.link_kind(), b.base, Some(b.media)),
+        (a.mapping.link_kind(), a.base, Some(a.other)),
+        (b.mapping.link_kind(), b.base, Some(b.other)),
     )
     .is_lt()
 }

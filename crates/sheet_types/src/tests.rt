@@ -173,7 +173,7 @@ fn lines_of_links(rt: HostRuntime) -> Result<(), Fail> {
         package: archive(),
         mapping: Mapping::TilesMedia,
         base: identity(1),
-        media: identity(2),
+        other: identity(2),
     };
     expect_line(
         &rt,
@@ -185,7 +185,7 @@ fn lines_of_links(rt: HostRuntime) -> Result<(), Fail> {
         package: archive(),
         mapping: Mapping::RowsMedia,
         base: identity(1),
-        media: identity(2),
+        other: identity(2),
     };
     expect_line(
         &rt,
@@ -243,18 +243,18 @@ fn ends_of_commands(rt: HostRuntime) -> Result<(), Fail> {
         package,
         identity: identity(1),
     };
-    let (mapping, base, media) = (Mapping::RowsMedia, identity(1), identity(2));
+    let (mapping, base, other) = (Mapping::RowsMedia, identity(1), identity(2));
     let link = Command::Link {
         package,
         mapping,
         base,
-        media,
+        other,
     };
     let unlink = Command::Unlink {
         package,
         mapping,
         base,
-        media,
+        other,
     };
     let split = Command::Split {
         package,
@@ -444,6 +444,7 @@ fn words(rt: HostRuntime) -> Result<(), Fail> {
         (3, "row"),
         (4, "tiles_media"),
         (5, "rows_media"),
+        (6, "rows_tiles"),
     ] {
         let kind = read_kind(word).ok_or("no kind")?;
         assert_eq!(rt; kind.number(), number);
@@ -453,11 +454,24 @@ fn words(rt: HostRuntime) -> Result<(), Fail> {
     }
     assert!(rt; read_kind("tiles").is_none());
     assert!(rt; MovedKind::from_number(0).is_none());
-    assert!(rt; MovedKind::from_number(6).is_none());
+    assert!(rt; MovedKind::from_number(7).is_none());
     let mapping = read_mapping("rows_media").ok_or("no mapping")?;
     assert!(rt; mapping == Mapping::RowsMedia);
     assert!(rt; mapping.link_kind() == MovedKind::RowsMediaLink);
+    assert!(rt; mapping.base_kind() == MovedKind::RowItem);
+    assert!(rt; mapping.other_kind() == MovedKind::MediaItem);
+    assert!(rt; Mapping::RowsTiles.base_kind() == MovedKind::RowItem);
+    assert!(rt; Mapping::RowsTiles.other_kind() == MovedKind::TileItem);
     assert!(rt; read_mapping("row").is_none());
+    for (word, kind) in [
+        ("tiles_media", MovedKind::TilesMediaLink),
+        ("rows_tiles", MovedKind::RowsTilesLink),
+    ] {
+        let read = read_mapping(word).ok_or("no mapping")?;
+        assert!(rt; read.link_kind() == kind);
+        let shown = format!(in alloc; "{read}")?;
+        assert_eq!(rt; shown.as_str(), word);
+    }
     let mode = read_mode("strict").ok_or("no mode")?;
     assert!(rt; mode == Mode::Strict);
     assert!(rt; read_mode("Strict").is_none());
@@ -474,6 +488,7 @@ fn refusals(rt: HostRuntime) -> Result<(), Fail> {
         (Refusal::PlaceTaken, 11, "PlaceTaken"),
         (Refusal::CutLink(identity(2)), 18, "CutLink"),
         (Refusal::Stale(3), 20, "Stale"),
+        (Refusal::LoanOpen(identity(3)), 21, "LoanOpen"),
         (Refusal::Collides(identity(1)), 22, "Collides"),
         (Refusal::StoreFault, 25, "StoreFault"),
     ] {
@@ -505,7 +520,7 @@ fn orders(rt: HostRuntime) -> Result<(), Fail> {
         Relation::new(Mapping::TilesMedia, loan(), identity(2)),
     ];
     assert!(rt; links[0].base == loan());
-    assert!(rt; links[1].media == identity(2));
+    assert!(rt; links[1].other == identity(2));
     assert!(rt; link_is_before(&links[0], &links[1]));
     assert!(rt; !link_is_before(&links[1], &links[0]));
     let moved = Moved::of_item(&second);

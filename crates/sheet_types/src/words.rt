@@ -21,6 +21,7 @@ impl fmt::Display for MovedKind {
             MovedKind::RowItem => "row",
             MovedKind::TilesMediaLink => "tiles_media",
             MovedKind::RowsMediaLink => "rows_media",
+            MovedKind::RowsTilesLink => "rows_tiles",
         })
     }
 }
@@ -32,6 +33,7 @@ impl fmt::Display for Mapping {
         f.write_str(match self {
             Mapping::TilesMedia => "tiles_media",
             Mapping::RowsMedia => "rows_media",
+            Mapping::RowsTiles => "rows_tiles",
         })
     }
 }
@@ -84,11 +86,12 @@ pub fn read_kind(text: &str) -> Option<MovedKind>
         "row" => Some(MovedKind::RowItem),
         "tiles_media" => Some(MovedKind::TilesMediaLink),
         "rows_media" => Some(MovedKind::RowsMediaLink),
+        "rows_tiles" => Some(MovedKind::RowsTilesLink),
         _ => None,
     }
 }
 
-/// The mapping table that a word names, `None` where it names neither.
+/// The mapping table that a word names, `None` where it names none.
 pub fn read_mapping(text: &str) -> Option<Mapping>
     ensures some { IfSome result (λ mapping. text.now ≡ mapping_word mapping) }
     ensures none { IfNone result ((mapping : Mapping) → text.now ≢ mapping_word mapping) }
@@ -96,6 +99,7 @@ pub fn read_mapping(text: &str) -> Option<Mapping>
     match text {
         "tiles_media" => Some(Mapping::TilesMedia),
         "rows_media" => Some(Mapping::RowsMedia),
+        "rows_tiles" => Some(Mapping::RowsTiles),
         _ => None,
     }
 }

@@ -8,4 +8,4 @@ use Rattle.model_examples.proofs.refusing.not_lent.Goals as goal
 
 pub returns : goal.returns
 unfolding sha256 first_words schedule rounds compress hash_after digest_bytes encode_with decode_pairs by_index digits entry_from
-returns c = (refl, refl, refl, refl, refl, refl, refl, refl, refl, refl)
+returns c = (refl, refl, refl, refl, refl, refl, refl, refl, refl, refl, refl)

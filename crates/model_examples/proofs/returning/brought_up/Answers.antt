@@ -4,8 +4,8 @@ use Rattle.hex.specs.Hex.{encode_with, decode_pairs}
 use Rattle.sha2.specs.Sha256.{sha256, first_words, schedule, rounds, compress, hash_after, digest_bytes}
 use Rattle.uuid.specs.Text.{by_index}
 use Rattle.sheet_types.specs.Lines.{entry_from}
-use Rattle.model_examples.proofs.refusing.loans_of_loans.Goals as goal
+use Rattle.model_examples.proofs.returning.brought_up.Goals as goal
 
 pub returns : goal.returns
 unfolding sha256 first_words schedule rounds compress hash_after digest_bytes encode_with decode_pairs by_index digits entry_from
-returns c = (refl, refl, refl, refl)
+returns c = (refl, refl, refl)
