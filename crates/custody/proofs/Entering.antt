@@ -1,5 +1,5 @@
 -- A receipt that is entered under a free number, row by row.
-use Rattle.std.proofs.Common.{◌≡◌, ℕ, zero, suc, ℤ, ◌<◌, ◌≤◌, ◌+◌, pos, take, get_or, length, List, [], ◌∷◌, ◌++◌, map, false, Result, Ok, refl, sym, ap, subst, ◌∙◌, to_z, w64, arith}
+use Rattle.std.proofs.Common.{◌≡◌, ℕ, zero, suc, ℤ, ◌<◌, ◌≤◌, ◌+◌, pos, take, get_or, length, List, [], ◌∷◌, ◌++◌, map, false, Result, Ok, refl, sym, ap, subst, ◌∙◌, arith}
 use Rattle.std.specs.Prelude.{bytes_eq, flat_map}
 use Rattle.std.specs.Option.{option_map_or}
 use Rattle.hex.specs.Hex.{encode_lower}
@@ -18,8 +18,6 @@ use Rattle.sheet_types.specs.Reading.{optional_uuid_text}
 use Rattle.sheet_types.specs.Texts.{uuid_text}
 use Rattle.sheet_types.specs.declared.frame.Frame.{Frame}
 use Rattle.sheet_types.specs.declared.receipt.Moved.{Moved}
-use Rattle.sheet_types.specs.declared.receipt.MovedKind.{MovedKind}
-use Rattle.sheet_types.specs.declared.receipt.MovedKind.TheVariants.{TileItem, MediaItem, RowItem, TilesMediaLink, RowsMediaLink}
 use Rattle.sheet_types.specs.declared.receipt.Receipt.{Receipt}
 use Rattle.sheet_types.proofs.Every.{All-weaker, All-both, All-map, All-of_map, All-flat_map, none_pass, none_any}
 use Rattle.sheet_types.proofs.Order.{list_any-arranged}
@@ -33,7 +31,7 @@ use Rattle.package_tables.specs.Listed.{receipts, moved}
 use Rattle.package_tables.specs.Changes.{Adds}
 use Rattle.package_tables.specs.declared.rows.MovedRow.{MovedRow}
 use Rattle.package_tables.specs.declared.rows.ReceiptRow.{ReceiptRow}
-use Rattle.identity_register.specs.Reads.{Says, receipt_row, moved_row, moved_rows}
+use Rattle.identity_register.specs.Reads.{Says, Reads, IsFitReceipt, receipt_row, moved_row, moved_rows}
 use Rattle.identity_register.specs.Calls.{Becomes}
 use Rattle.custody.specs.Receipts.{IsNewReceipt}
 use Rattle.custody.specs.Entries.{Enters, rows_from}
@@ -116,11 +114,11 @@ come (x ∷ xs) base old new formed is free distinct chain =
 abbrev with_entry : Receipt → List MovedRow → Tables → Tables
 with_entry r base t = record t { receipts = put receipt_shape.key (receipt_row r) t.receipts; moved = arranged key (moved_rows r ++ base) }
 
-module _ (f : Frame) (p : Package) (t : Tables) (says : Says f p t) (r : Receipt) (fits : IsNewReceipt r p) where
+module _ (f : Frame) (p : Package) (t : Tables) (says : Says f p t) (r : Receipt) (number : has receipt_key (receipt_key r) p.receipts ≡ false) (fit : IsFitReceipt r) where
   numbers_apart : AllByRecursion (λ e. bytes_eq (receipt_key e) (receipt_key r) ≡ false) says.entered
   numbers_apart =
       none_pass (λ e. bytes_eq (receipt_key e) (receipt_key r)) says.entered
-      (sym (list_any-arranged receipt_key (λ e. bytes_eq (receipt_key e) (receipt_key r)) says.entered) ∙ ap (list_any (λ e. bytes_eq (receipt_key e) (receipt_key r))) (sym says.kept) ∙ fits.number)
+      (sym (list_any-arranged receipt_key (λ e. bytes_eq (receipt_key e) (receipt_key r)) says.entered) ∙ ap (list_any (λ e. bytes_eq (receipt_key e) (receipt_key r))) (sym says.kept) ∙ number)
 
   number_free : has receipt_shape.key (receipt_shape.key (receipt_row r)) t.receipts ≡ false
   number_free =
@@ -147,23 +145,28 @@ module _ (f : Frame) (p : Package) (t : Tables) (says : Says f p t) (r : Receipt
     entered = r ∷ says.entered;
     of_receipts = record {
       distinct_receipts = (All-map (λ y. bytes_eq (receipt_key r) y ≡ false) receipt_key says.entered (All-weaker _ _ (λ e d. bytes_eq_swap (receipt_key r) (receipt_key e) ∙ d) says.entered numbers_apart), says.distinct_receipts);
-      fit = (fits.fit, says.fit);
+      fit = (fit, says.fit);
       kept = ap (put receipt_key r) says.kept;
       receipts = ap (put receipt_shape.key (receipt_row r)) says.receipts;
       moved = refl;
     };
   }
 
-receipt_entered : (r : Receipt) (old mid new : Database) → OnTables (Adds receipts (receipt_row r)) old mid → EachChained Enters (moved_rows r) mid new → Becomes (IsNewReceipt r) (with_receipt r) old new
-receipt_entered r old mid new head items f p reads fits =
+-- Of the receipts that are there, only the number must be free.
+pub comes_in : (r : Receipt) (old mid new : Database) → OnTables (Adds receipts (receipt_row r)) old mid → EachChained Enters (moved_rows r) mid new → (f : Frame) (p : Package) → Reads f p old → has receipt_key (receipt_key r) p.receipts ≡ false → IsFitReceipt r
+    → Reads f (with_receipt r p) new
+comes_in r old mid new head items f p reads number fit =
     let says = reads.says in
     let one = head reads.formed in
-    let put_in = one.1 (number_free f p (tables_of old) says r fits) in
+    let put_in = one.1 (number_free f p (tables_of old) says r number fit) in
     let base = flat_map moved_rows says.entered in
     let there : (tables_of mid).moved ≡ arranged key base = ap (λ (t : Tables). t.moved) put_in ∙ says.moved in
-    let all = come (moved_rows r) base mid new one.0 there (rows_free f p (tables_of old) says r fits) (positions r.seq 0 r.items) items in
+    let all = come (moved_rows r) base mid new one.0 there (rows_free f p (tables_of old) says r number fit) (positions r.seq 0 r.items) items in
     let are : with_entry r base (tables_of old) ≡ tables_of new = sym (all.are ∙ ap (λ (t : Tables). record t { moved = arranged key (moved_rows r ++ base) }) put_in) in
-    record { formed = all.formed; says = subst (Says f (with_receipt r p)) are (enters f p (tables_of old) says r fits) }
+    record { formed = all.formed; says = subst (Says f (with_receipt r p)) are (enters f p (tables_of old) says r number fit) }
+
+receipt_entered : (r : Receipt) (old mid new : Database) → OnTables (Adds receipts (receipt_row r)) old mid → EachChained Enters (moved_rows r) mid new → Becomes (IsNewReceipt r) (with_receipt r) old new
+receipt_entered r old mid new head items f p reads fits = comes_in r old mid new head items f p reads fits.number fits.fit
 
 -- the row of the receipt comes in, and then those of the things that it moved
 pub receipt_steps : {E F : Type 0} (r : Receipt) {old mid new : State} {x : Unit {0}} {q : Result (Unit {0}) F} → Steps {E = E} (λ _. OnTables (Adds receipts (receipt_row r))) old mid (Ok x) → Steps (λ _. EachChained Enters (moved_rows r)) mid new q
@@ -172,14 +175,6 @@ receipt_steps r {old} {mid} {new} first next =
     steps_weaker (λ _. Becomes (IsNewReceipt r) (with_receipt r)) (λ _ chain. receipt_entered r old.now chain.0 new.now chain.1 chain.2) (steps_then first next)
 
 -- ---- one row
-
--- the number of a kind as it is stored
-pub kind_stored : (k : MovedKind) → to_z w64 (kind_number k) ≡ pos (kind_number k)
-kind_stored TileItem = refl
-kind_stored MediaItem = refl
-kind_stored RowItem = refl
-kind_stored TilesMediaLink = refl
-kind_stored RowsMediaLink = refl
 
 -- a row that was put in is that of the thing
 pub moved_steps : {E : Type 0} (seq position : ℕ) (m : Moved) {s at kind size : ℤ} {base other digest : List ℕ} {old new : State} {q : Result (Unit {0}) E}

@@ -30,7 +30,7 @@ use Rattle.custody.specs.Entries.{rows_from, rows_at}
 
 -- ---- lists
 
-of_filter : {X : Type 0} (t : X → Bool) (x : X) (xs : List X) → In x (filter t xs) → In x xs
+pub of_filter : {X : Type 0} (t : X → Bool) (x : X) (xs : List X) → In x (filter t xs) → In x xs
 of_filter t x xs i = All-In (λ y. In y xs) x (filter t xs) (All-filter (λ y. In y xs) t xs (In-all xs)) i
 
 -- ---- the tables

@@ -16,7 +16,7 @@ use Rattle.sheet_types.specs.World.{Package, is_item_kind, kind_number, receipt_
 use Rattle.sheet_types.specs.declared.frame.Frame.{Frame}
 use Rattle.sheet_types.specs.declared.receipt.Moved.{Moved}
 use Rattle.sheet_types.specs.declared.receipt.MovedKind.{MovedKind}
-use Rattle.sheet_types.specs.declared.receipt.MovedKind.TheVariants.{TileItem, MediaItem, RowItem, TilesMediaLink, RowsMediaLink}
+use Rattle.sheet_types.specs.declared.receipt.MovedKind.TheVariants.{TileItem, MediaItem, RowItem, TilesMediaLink, RowsMediaLink, RowsTilesLink}
 use Rattle.sheet_types.specs.declared.receipt.Receipt.{Receipt}
 use Rattle.sheet_types.proofs.LineReading.{uuid_back}
 use Rattle.sheet_types.proofs.Order.{list_any-arranged}
@@ -37,7 +37,7 @@ pub read_back : (id : List ℕ) → parsed (uuid_text id) ≡ Some id → uuid_i
 read_back id h = ap (λ o. unwrap_or o []) (sym (parsed_36 (uuid_text id) (by_index_length 36 _)) ∙ h)
 
 -- the texts of two UUIDs are one where the UUIDs are
-texts_same : (a b : List ℕ) → uuid_in (uuid_text a) ≡ a → uuid_in (uuid_text b) ≡ b → bytes_eq (uuid_text a) (uuid_text b) ≡ bytes_eq a b
+pub texts_same : (a b : List ℕ) → uuid_in (uuid_text a) ≡ a → uuid_in (uuid_text b) ≡ b → bytes_eq (uuid_text a) (uuid_text b) ≡ bytes_eq a b
 texts_same a b ha hb = one (bytes_eq a b) refl
   where
     one : (v : Bool) → bytes_eq a b ≡ v → bytes_eq (uuid_text a) (uuid_text b) ≡ bytes_eq a b
@@ -51,11 +51,12 @@ three_kinds true MediaItem = refl
 three_kinds true RowItem = refl
 three_kinds true TilesMediaLink = refl
 three_kinds true RowsMediaLink = refl
-three_kinds false TileItem = refl
-three_kinds false MediaItem = refl
-three_kinds false RowItem = refl
-three_kinds false TilesMediaLink = refl
-three_kinds false RowsMediaLink = refl
+three_kinds true RowsTilesLink = refl
+three_kinds false k = neither (is_item_kind k)
+  where
+    neither : (b : Bool) → false ≡ (b && false)
+    neither true = refl
+    neither false = refl
 
 -- ---- the tables
 

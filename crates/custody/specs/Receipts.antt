@@ -1,7 +1,8 @@
 -- What is entered in a package's custody, and what it answers. Profile.
-use Rattle.std.specs.Prelude.{◌≡◌, ℕ, Bool, false, List, Option, MatchOption, Contains}
+use Rattle.std.specs.Prelude.{◌≡◌, ℕ, Bool, false, ◌&&◌, List, Option, MatchOption, Contains}
 use Rattle.std.specs.List.{list_any}
 use Rattle.sheet_types.specs.Balance.{names_identity}
+use Rattle.sheet_types.specs.Custody.{is_split, ends_at}
 use Rattle.sheet_types.specs.Ordered.{has}
 use Rattle.sheet_types.specs.World.{Package, receipt_key}
 use Rattle.sheet_types.specs.declared.receipt.Receipt.{Receipt}
@@ -20,3 +21,7 @@ IsKept p id found = MatchOption found (has (λ r. r.request) id p.receipts ≡ f
 -- a receipt of the package names the identity as that of an item
 abbrev pub is_named : Package → List ℕ → Bool
 is_named p id = list_any (names_identity id) p.receipts
+
+-- a receipt of the package is that of a split whose target has this identity
+abbrev pub was_lent : Package → List ℕ → Bool
+was_lent p id = list_any (λ r. is_split r && ends_at r.target id) p.receipts

@@ -1,7 +1,9 @@
 //! The receipts that stand in a package: which are entered, and what they name.
 #![tactic(auto)]
 
+pub mod homing;
 pub mod keeping;
+pub mod lending;
 
 ghost use Rattle.std.specs.Prelude.{◌≡◌, ◌<◌, ◌||◌, [], pos, IfOk, IfErr};
 ghost use Rattle.std.specs.List.{list_any};
@@ -21,7 +23,7 @@ ghost use Rattle.identity_register.specs.Reads.{receipt_row, moved_row};
 ghost use Rattle.custody.specs.Entries.{Enters, rows_from, is_of};
 ghost use Rattle.custody.specs.Receipts.{IsNewReceipt, is_named};
 
-use identity_register::kinds::{MEDIUM, ROW, TILE};
+use identity_register::kinds::{MEDIUM, ROW, TILE, number_of_kind};
 use package_tables::fault::Fault;
 use package_tables::moved::{insert_moved, moved_of_kind};
 use package_tables::receipts::insert_receipt;
@@ -67,7 +69,7 @@ fn enter_moved<S: Alter>(
     let seq = stored(seq)?;
     let position = stored(position)?;
     let size = stored(moved.size)?;
-    let kind = moved.kind.number() as i64;
+    let kind = number_of_kind(moved.kind);
     let mut base_buffer = Uuid::encode_buffer();
     let base = moved.base.hyphenated().encode_lower(&mut base_buffer);
     let mut other_buffer = Uuid::encode_buffer();

@@ -12,16 +12,18 @@ use Rattle.sheet_types.specs.Register.{HasEnds}
 use Rattle.sheet_types.specs.Lines.{IsUuid}
 use Rattle.sheet_types.specs.declared.command.Item.{Item}
 use Rattle.sheet_types.specs.declared.command.Mapping.{Mapping}
-use Rattle.sheet_types.specs.declared.command.Mapping.TheVariants.{TilesMedia, RowsMedia}
+use Rattle.sheet_types.specs.declared.command.Mapping.TheVariants.{TilesMedia, RowsMedia, RowsTiles}
 use Rattle.sheet_types.specs.declared.command.Relation.{Relation}
 use Rattle.sheet_types.specs.declared.frame.Frame.{Frame}
 use Rattle.sheet_types.proofs.Every.{All-weaker, All-of_map, All-map, none_pass}
 use Rattle.sheet_types.proofs.Order.{list_any-put, list_any-arranged}
 use Rattle.sheet_types.proofs.Basics.{bytes_eq_swap, or-true}
-use Rattle.package_tables.specs.Shapes.{tile_shape, medium_shape, attribute_shape, identity_shape, tiles_media_shape, rows_media_shape}
+use Rattle.package_tables.specs.Shapes.{tile_shape, medium_shape, attribute_shape, identity_shape}
 use Rattle.package_tables.specs.Package.{Tables}
-use Rattle.identity_register.specs.Numbering.{Numbered, greatest_number, place_in_tables, tile_rows, media_rows, attribute_rows, identity_row, number_of, mapping_row, tiles_media_rows, rows_media_rows, puts, with_item}
-use Rattle.identity_register.specs.Reads.{Says}
+use Rattle.package_tables.specs.declared.rows.MappingRow.{MappingRow}
+use Rattle.identity_register.specs.Numbering.{Numbered, greatest_number, place_in_tables, tile_rows, media_rows, attribute_rows, identity_row, number_of, mapping_row, mapping_is, rows_in, puts, with_item}
+use Rattle.identity_register.specs.Reads.{Says, SaysPairs}
+use Rattle.identity_register.proofs.MappingTables.{row_if, pairs_kept}
 use Rattle.identity_register.proofs.Deleting.{flat_map_same}
 use Rattle.identity_register.proofs.Finding.{weaker_any}
 
@@ -49,21 +51,19 @@ module _ (p : Package) (n : Numbered) (fresh : has_item p n.item.identity ≡ fa
   number_kept : (numbered : List Numbered) (id : List ℕ) → bytes_eq n.item.identity id ≡ false → number_of (n ∷ numbered) id ≡ number_of numbered id
   number_kept numbered id h = rw h refl
 
-  ends_apart : (l : Relation) → HasEnds p l → (bytes_eq n.item.identity l.base ≡ false) × (bytes_eq n.item.identity l.media ≡ false)
-  ends_apart l h = (other_end p (kind_number (base_kind l.mapping)) n.item.identity l.base fresh h.0, other_end p (kind_number (other_kind l.mapping)) n.item.identity l.media fresh h.1)
+  ends_apart : (l : Relation) → HasEnds p l → (bytes_eq n.item.identity l.base ≡ false) × (bytes_eq n.item.identity l.other ≡ false)
+  ends_apart l h = (other_end p (kind_number (base_kind l.mapping)) n.item.identity l.base fresh h.0, other_end p (kind_number (other_kind l.mapping)) n.item.identity l.other fresh h.1)
 
   row_kept : (numbered : List Numbered) (l : Relation) → HasEnds p l → mapping_row (n ∷ numbered) l ≡ mapping_row numbered l
   row_kept numbered l h =
       let apart = ends_apart l h in
-      rw (number_kept numbered l.base apart.0, number_kept numbered l.media apart.1) refl
+      rw (number_kept numbered l.base apart.0, number_kept numbered l.other apart.1) refl
 
-  tiles_media_kept : (numbered : List Numbered) (l : Relation) (m : Mapping) → HasEnds p l → tiles_media_rows (n ∷ numbered) l m ≡ tiles_media_rows numbered l m
-  tiles_media_kept numbered l TilesMedia h = ap (λ r. r ∷ []) (row_kept numbered l h)
-  tiles_media_kept numbered l RowsMedia h = refl
+  rows_kept : (k : Mapping) (numbered : List Numbered) (l : Relation) → HasEnds p l → rows_in k (n ∷ numbered) l ≡ rows_in k numbered l
+  rows_kept k numbered l h = ap (row_if (mapping_is l.mapping k)) (row_kept numbered l h)
 
-  rows_media_kept : (numbered : List Numbered) (l : Relation) (m : Mapping) → HasEnds p l → rows_media_rows (n ∷ numbered) l m ≡ rows_media_rows numbered l m
-  rows_media_kept numbered l TilesMedia h = refl
-  rows_media_kept numbered l RowsMedia h = ap (λ r. r ∷ []) (row_kept numbered l h)
+  pairs_more : (k : Mapping) (numbered : List Numbered) (linked : List Relation) (table : List MappingRow) → AllByRecursion (HasEnds p) linked → SaysPairs k numbered linked table → SaysPairs k (n ∷ numbered) linked table
+  pairs_more k numbered linked table ends = pairs_kept k numbered (n ∷ numbered) linked table (flat_map_same _ _ linked (All-weaker (HasEnds p) _ (rows_kept k numbered) linked ends))
 
   still_there : (q : Item → Bool) → list_any q p.items ≡ true → list_any q (put item_key n.item p.items) ≡ true
   still_there q h = list_any-put item_key q n.item p.items ∙ ap (λ b. q n.item || b) h ∙ or-true (q n.item)
@@ -117,8 +117,9 @@ adds f p t n says fresh uuid range free =
       of_links = record {
         distinct_links = says.distinct_links;
         links = says.links;
-        tiles_media = says.tiles_media ∙ sym (ap (arranged tiles_media_shape.key) (flat_map_same _ _ says.linked (All-weaker (HasEnds p) _ (λ l h. tiles_media_kept p n fresh ns l l.mapping h) says.linked says.ends)));
-        rows_media = says.rows_media ∙ sym (ap (arranged rows_media_shape.key) (flat_map_same _ _ says.linked (All-weaker (HasEnds p) _ (λ l h. rows_media_kept p n fresh ns l l.mapping h) says.linked says.ends)));
+        tiles_media = pairs_more p n fresh TilesMedia ns says.linked t.tiles_media says.ends says.tiles_media;
+        rows_media = pairs_more p n fresh RowsMedia ns says.linked t.rows_media says.ends says.rows_media;
+        rows_tiles = pairs_more p n fresh RowsTiles ns says.linked t.rows_tiles says.ends says.rows_tiles;
       };
       entered = says.entered;
       of_receipts = says.of_receipts;

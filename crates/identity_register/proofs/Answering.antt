@@ -9,14 +9,12 @@ use Rattle.std.proofs.lemmas.Slice.Eq.{bytes_eq-Decides}
 use Rattle.sheet_types.specs.Matrix.{is_within}
 use Rattle.sheet_types.specs.Refuse.{is_at}
 use Rattle.sheet_types.specs.Texts.{uuid_text}
-use Rattle.sheet_types.specs.World.{Package, item_key, kind_number, item_of, has_item}
+use Rattle.sheet_types.specs.World.{Package, item_key, item_of, has_item}
 use Rattle.sheet_types.specs.Lines.{IsUuid}
 use Rattle.sheet_types.specs.declared.command.Content.{Content}
 use Rattle.sheet_types.specs.declared.command.Content.TheVariants.{Tile, Media, Row}
 use Rattle.sheet_types.specs.declared.command.Item.{Item}
 use Rattle.sheet_types.specs.declared.frame.Frame.{Frame}
-use Rattle.sheet_types.specs.declared.receipt.MovedKind.{MovedKind}
-use Rattle.sheet_types.specs.declared.receipt.MovedKind.TheVariants.{TileItem, MediaItem, RowItem, TilesMediaLink, RowsMediaLink}
 use Rattle.sheet_types.proofs.Basics.{some_same, bytes_eq_itself, or-false}
 use Rattle.sheet_types.proofs.Every.{All-each}
 use Rattle.sheet_types.proofs.Found.{found, not_found, All-found}
@@ -32,34 +30,6 @@ use Rattle.identity_register.specs.Numbering.{Numbered, identity_row, tile_rows}
 use Rattle.identity_register.specs.Reads.{Says}
 use Rattle.identity_register.proofs.Finding.{row_numbered, no_row_of_uuid, contained, any_map}
 use Rattle.identity_register.proofs.Linking.{find_itself}
-
--- a kind is known by its number
-pub kind_number_tells : (a b : MovedKind) → kind_number a ≡ kind_number b → a ≡ b
-kind_number_tells TileItem TileItem e = refl
-kind_number_tells TileItem MediaItem e = cc
-kind_number_tells TileItem RowItem e = cc
-kind_number_tells TileItem TilesMediaLink e = cc
-kind_number_tells TileItem RowsMediaLink e = cc
-kind_number_tells MediaItem TileItem e = cc
-kind_number_tells MediaItem MediaItem e = refl
-kind_number_tells MediaItem RowItem e = cc
-kind_number_tells MediaItem TilesMediaLink e = cc
-kind_number_tells MediaItem RowsMediaLink e = cc
-kind_number_tells RowItem TileItem e = cc
-kind_number_tells RowItem MediaItem e = cc
-kind_number_tells RowItem RowItem e = refl
-kind_number_tells RowItem TilesMediaLink e = cc
-kind_number_tells RowItem RowsMediaLink e = cc
-kind_number_tells TilesMediaLink TileItem e = cc
-kind_number_tells TilesMediaLink MediaItem e = cc
-kind_number_tells TilesMediaLink RowItem e = cc
-kind_number_tells TilesMediaLink TilesMediaLink e = refl
-kind_number_tells TilesMediaLink RowsMediaLink e = cc
-kind_number_tells RowsMediaLink TileItem e = cc
-kind_number_tells RowsMediaLink MediaItem e = cc
-kind_number_tells RowsMediaLink RowItem e = cc
-kind_number_tells RowsMediaLink TilesMediaLink e = cc
-kind_number_tells RowsMediaLink RowsMediaLink e = refl
 
 -- ---- lists
 

@@ -17,7 +17,7 @@ use Rattle.sheet_types.specs.declared.command.Content.{Content}
 use Rattle.sheet_types.specs.declared.command.Content.TheVariants.{Tile, Media, Row}
 use Rattle.sheet_types.specs.declared.command.Item.{Item}
 use Rattle.sheet_types.specs.declared.command.Mapping.{Mapping}
-use Rattle.sheet_types.specs.declared.command.Mapping.TheVariants.{TilesMedia, RowsMedia}
+use Rattle.sheet_types.specs.declared.command.Mapping.TheVariants.{TilesMedia, RowsMedia, RowsTiles}
 use Rattle.sheet_types.specs.declared.command.Relation.{Relation}
 use Rattle.sheet_types.specs.declared.frame.Frame.{Frame}
 use Rattle.sheet_types.specs.declared.receipt.MovedKind.{MovedKind}
@@ -28,10 +28,12 @@ use Rattle.sheet_types.proofs.Arranging.{filter-arranged}
 use Rattle.sheet_types.proofs.Found.{any_filter}
 use Rattle.sheet_types.proofs.Same.{In, All-In}
 use Rattle.sheet_types.proofs.Basics.{bytes_eq_itself, bytes_eq_swap, or-false, and-true, not_false}
-use Rattle.package_tables.specs.Shapes.{tile_shape, medium_shape, attribute_shape, identity_shape, tiles_media_shape, rows_media_shape}
+use Rattle.package_tables.specs.Shapes.{tile_shape, medium_shape, attribute_shape, identity_shape}
 use Rattle.package_tables.specs.Package.{Tables}
-use Rattle.identity_register.specs.Numbering.{Numbered, greatest_number, place_in_tables, tile_rows, media_rows, attribute_rows, identity_row, number_of, mapping_row, tiles_media_rows, rows_media_rows, without_content, without_identity}
-use Rattle.identity_register.specs.Reads.{Says}
+use Rattle.package_tables.specs.declared.rows.MappingRow.{MappingRow}
+use Rattle.identity_register.specs.Numbering.{Numbered, greatest_number, place_in_tables, tile_rows, media_rows, attribute_rows, identity_row, number_of, mapping_row, mapping_is, rows_in, without_content, without_identity}
+use Rattle.identity_register.specs.Reads.{Says, SaysPairs}
+use Rattle.identity_register.proofs.MappingTables.{row_if, pairs_kept}
 
 -- ---- lists
 
@@ -252,16 +254,14 @@ module _ (p : Package) (n : Numbered) where
 
   row_left : (ns : List Numbered) (l : Relation) → has_end id l ≡ false → mapping_row (filter kept ns) l ≡ mapping_row ns l
   row_left ns l free =
-      let both = or_parts (bytes_eq l.base id) (bytes_eq l.media id) free in
-      rw (number_left ns l.base both.0, number_left ns l.media both.1) refl
+      let both = or_parts (bytes_eq l.base id) (bytes_eq l.other id) free in
+      rw (number_left ns l.base both.0, number_left ns l.other both.1) refl
 
-  tiles_media_left : (ns : List Numbered) (l : Relation) (m : Mapping) → has_end id l ≡ false → tiles_media_rows (filter kept ns) l m ≡ tiles_media_rows ns l m
-  tiles_media_left ns l TilesMedia free = ap (λ r. r ∷ []) (row_left ns l free)
-  tiles_media_left ns l RowsMedia free = refl
+  rows_left : (k : Mapping) (ns : List Numbered) (l : Relation) → has_end id l ≡ false → rows_in k (filter kept ns) l ≡ rows_in k ns l
+  rows_left k ns l free = ap (row_if (mapping_is l.mapping k)) (row_left ns l free)
 
-  rows_media_left : (ns : List Numbered) (l : Relation) (m : Mapping) → has_end id l ≡ false → rows_media_rows (filter kept ns) l m ≡ rows_media_rows ns l m
-  rows_media_left ns l TilesMedia free = refl
-  rows_media_left ns l RowsMedia free = ap (λ r. r ∷ []) (row_left ns l free)
+  pairs_left : (k : Mapping) (ns : List Numbered) (linked : List Relation) (table : List MappingRow) → AllByRecursion (λ l. has_end id l ≡ false) linked → SaysPairs k ns linked table → SaysPairs k (filter kept ns) linked table
+  pairs_left k ns linked table free = pairs_kept k ns (filter kept ns) linked table (flat_map_same _ _ linked (All-weaker _ _ (rows_left k ns) linked free))
 
   abbrev less_items : List Item
   less_items = without (λ i. i.identity) (id ∷ []) p.items
@@ -271,8 +271,8 @@ module _ (p : Package) (n : Numbered) where
 
   ends_left : (l : Relation) → has_end id l ≡ false → HasEnds p l → HasEnds (record p { items = without (λ i. i.identity) (id ∷ []) p.items }) l
   ends_left l free h =
-      let both = or_parts (bytes_eq l.base id) (bytes_eq l.media id) free in
-      (still_has (kind_number (base_kind l.mapping)) l.base both.0 h.0, still_has (kind_number (other_kind l.mapping)) l.media both.1 h.1)
+      let both = or_parts (bytes_eq l.base id) (bytes_eq l.other id) free in
+      (still_has (kind_number (base_kind l.mapping)) l.base both.0 h.0, still_has (kind_number (other_kind l.mapping)) l.other both.1 h.1)
 
 -- one item less, of which no link speaks
 pub deletes : (f : Frame) (p : Package) (t : Tables) (says : Says f p t) (n : Numbered) → In n says.numbered → list_any (has_end n.item.identity) p.links ≡ false
@@ -312,8 +312,9 @@ deletes f p t says n there free =
       of_links = record {
         distinct_links = says.distinct_links;
         links = says.links;
-        tiles_media = says.tiles_media ∙ sym (ap (arranged tiles_media_shape.key) (flat_map_same _ _ says.linked (All-weaker _ _ (λ l h. tiles_media_left p n ns l l.mapping h) says.linked unnamed)));
-        rows_media = says.rows_media ∙ sym (ap (arranged rows_media_shape.key) (flat_map_same _ _ says.linked (All-weaker _ _ (λ l h. rows_media_left p n ns l l.mapping h) says.linked unnamed)));
+        tiles_media = pairs_left p n TilesMedia ns says.linked t.tiles_media unnamed says.tiles_media;
+        rows_media = pairs_left p n RowsMedia ns says.linked t.rows_media unnamed says.rows_media;
+        rows_tiles = pairs_left p n RowsTiles ns says.linked t.rows_tiles unnamed says.rows_tiles;
       };
       entered = says.entered;
       of_receipts = says.of_receipts;

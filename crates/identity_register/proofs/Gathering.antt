@@ -10,18 +10,18 @@ use Rattle.sqlite.specs.State.{State}
 use Rattle.sql_meaning.specs.Transactions.{Looks}
 use Rattle.sheet_types.specs.Ordered.{has, is_before, IsArranged}
 use Rattle.sheet_types.specs.Texts.{uuid_text, kind_of}
-use Rattle.sheet_types.specs.World.{Package, item_key, link_key, kind_number, base_kind, other_kind}
+use Rattle.sheet_types.specs.World.{Package, item_key, link_key, kind_number, base_kind, other_kind, all_mappings}
 use Rattle.sheet_types.specs.Lines.{IsUuid}
 use Rattle.sheet_types.specs.Register.{HasEnds}
 use Rattle.sheet_types.specs.declared.command.Item.{Item}
 use Rattle.sheet_types.specs.declared.command.Mapping.{Mapping}
-use Rattle.sheet_types.specs.declared.command.Mapping.TheVariants.{TilesMedia, RowsMedia}
+use Rattle.sheet_types.specs.declared.command.Mapping.TheVariants.{TilesMedia, RowsMedia, RowsTiles}
 use Rattle.sheet_types.specs.declared.command.Relation.{Relation}
 use Rattle.sheet_types.specs.declared.frame.Frame.{Frame}
 use Rattle.sheet_types.specs.declared.receipt.MovedKind.{MovedKind}
 use Rattle.sheet_types.proofs.Basics.{some_same, bytes_eq_itself, before_trans}
 use Rattle.sheet_types.proofs.Every.{All-weaker, All-append, All-map}
-use Rattle.sheet_types.proofs.Same.{In, In-map, In-of_map, In-append, In-of_append, In-flat_map, In-of_flat_map, All-In, Contains-In, same_list}
+use Rattle.sheet_types.proofs.Same.{In, In-map, In-of_map, In-flat_map, In-of_flat_map, All-In, Contains-In, same_list}
 use Rattle.sheet_types.proofs.LineReading.{same_uuid}
 use Rattle.package_tables.specs.Calls.{Answers}
 use Rattle.package_tables.specs.Package.{Tables}
@@ -32,8 +32,8 @@ use Rattle.package_tables.specs.declared.rows.MappingRow.{MappingRow}
 use Rattle.package_tables.specs.declared.rows.MediaRow.{MediaRow}
 use Rattle.package_tables.specs.declared.rows.TileRow.{TileRow}
 use Rattle.identity_register.specs.Answers.{IsContentOf}
-use Rattle.identity_register.specs.Gathered.{tile_placed, medium_placed, attributes_placed, IsPlaced, IsItemOf, IsNamed, IsLinkOf}
-use Rattle.identity_register.specs.Numbering.{Numbered, identity_row, number_of, mapping_row}
+use Rattle.identity_register.specs.Gathered.{tile_placed, medium_placed, attributes_placed, IsPlaced, IsItemOf, IsNamed, IsLinkOf, AreLinksIn}
+use Rattle.identity_register.specs.Numbering.{Numbered, identity_row, number_of, mapping_row, rows_in}
 use Rattle.identity_register.specs.Reads.{Says}
 use Rattle.identity_register.specs.declared.whole.Placed.{Placed}
 use Rattle.identity_register.proofs.Answering.{same_item, item_is}
@@ -41,19 +41,19 @@ use Rattle.identity_register.proofs.Contents.{content_by_row, one_place}
 use Rattle.identity_register.proofs.Finding.{contained, in_arranged, moved, row_numbered}
 use Rattle.identity_register.proofs.Linking.{end_of}
 use Rattle.identity_register.proofs.Looking.{Looked, tells, fails}
-use Rattle.identity_register.proofs.MappingTables.{rows_in, rows_there, own_row, pair_key, table_says}
+use Rattle.identity_register.proofs.MappingTables.{rows_there, own_row, pair_key, table_says}
 use Rattle.identity_register.proofs.OnePackage.{to_arranged, distinct_arranged, row_stored, items_arranged}
 
 -- ---- lists
 
 -- an element of one list has one of the other beside it
-zip_left : {A B : Type 0} (R : A → B → Type 0) (x : A) (xs : List A) (ys : List B) → AllZip R xs ys → In x xs → (y : B) × In y ys × R x y
+pub zip_left : {A B : Type 0} (R : A → B → Type 0) (x : A) (xs : List A) (ys : List B) → AllZip R xs ys → In x xs → (y : B) × In y ys × R x y
 zip_left R x [] [] h i = absurd i
 zip_left R x [] (y ∷ ys) h i = absurd i
 zip_left R x (z ∷ zs) [] h i = absurd h
 zip_left R x (z ∷ zs) (y ∷ ys) h i = elim i [ inl e ↦ (y, inl refl, subst (λ v. R v y) e h.0) | inr j ↦ let it = zip_left R x zs ys h.1 j in (it.0, inr it.1, it.2) ]
 
-zip_right : {A B : Type 0} (R : A → B → Type 0) (y : B) (xs : List A) (ys : List B) → AllZip R xs ys → In y ys → (x : A) × In x xs × R x y
+pub zip_right : {A B : Type 0} (R : A → B → Type 0) (y : B) (xs : List A) (ys : List B) → AllZip R xs ys → In y ys → (x : A) × In x xs × R x y
 zip_right R y [] [] h i = absurd i
 zip_right R y (x ∷ xs) [] h i = absurd i
 zip_right R y [] (z ∷ zs) h i = absurd h
@@ -91,7 +91,7 @@ contents_are t tiles media rows h i j =
 
 module _ (f : Frame) (p : Package) (t : Tables) (says : Says f p t) where
   -- the item that an identity row is of, by the UUID whose text it has
-  row_item : (r : IdentityRow) → Contains t.identities r → (id : List ℕ) → r.uuid ≡ uuid_text id → IsUuid id → (n : Numbered) × In n says.numbered × (identity_row n ≡ r) × (n.item.identity ≡ id)
+  pub row_item : (r : IdentityRow) → Contains t.identities r → (id : List ℕ) → r.uuid ≡ uuid_text id → IsUuid id → (n : Numbered) × In n says.numbered × (identity_row n ≡ r) × (n.item.identity ≡ id)
   row_item r h id e uuid =
       let it = row_numbered f p t says r h in
       let fit : IsUuid it.0.item.identity = All-In (λ m. IsUuid m.item.identity) it.0 says.numbered says.numbers.uuids it.1 in
@@ -144,18 +144,18 @@ module _ (f : Frame) (p : Package) (t : Tables) (says : Says f p t) where
       let numbers : n.0.number ≡ m.0.number = ap (λ r. r.local_id) n.2 ∙ it.number_is ∙ m.4 in
       sym n.3 ∙ ap (λ x. x.item.identity) (one_place f p t says n.0 m.0 n.1 m.1 kinds numbers) ∙ m.3
 
-  link_is : (rows : List IdentityRow) → IsPermutation t.identities rows → (l found : Relation) → HasEnds p l → IsLinkOf l.mapping rows (mapping_row says.numbered l) found → found ≡ l
+  pub link_is : (rows : List IdentityRow) → IsPermutation t.identities rows → (l found : Relation) → HasEnds p l → IsLinkOf l.mapping rows (mapping_row says.numbered l) found → found ≡ l
   link_is rows all l found ends it =
       let base : found.base ≡ l.base = named_is rows all (base_kind l.mapping) l.base found.base ends.0 it.base in
-      let media : found.media ≡ l.media = named_is rows all (other_kind l.mapping) l.media found.media ends.1 it.media in
+      let other : found.other ≡ l.other = named_is rows all (other_kind l.mapping) l.other found.other ends.1 it.other in
       let mapping : found.mapping ≡ l.mapping = it.mapping in
-      λ n. record { mapping = mapping n; base = base n; media = media n }
+      λ n. record { mapping = mapping n; base = base n; other = other n }
 
   -- a mapping row is of a link, and a link has its row
-  link_of_row : (m : Mapping) (r : MappingRow) → In r (mapping_rows m t) → (l : Relation) × In l says.linked × (l.mapping ≡ m) × (mapping_row says.numbered l ≡ r)
+  pub link_of_row : (m : Mapping) (r : MappingRow) → In r (mapping_rows m t) → (l : Relation) × In l says.linked × (l.mapping ≡ m) × (mapping_row says.numbered l ≡ r)
   link_of_row m r i =
-      let it = In-of_flat_map (λ l. rows_in m says.numbered l l.mapping) r says.linked (in_arranged pair_key (flat_map (λ l. rows_in m says.numbered l l.mapping) says.linked) r (subst (In r) (table_says f p t says m) i)) in
-      elim (rows_there m it.0.mapping says.numbered it.0) [
+      let it = In-of_flat_map (rows_in m says.numbered) r says.linked (in_arranged pair_key (flat_map (rows_in m says.numbered) says.linked) r (subst (In r) (table_says f p t says m) i)) in
+      elim (rows_there m says.numbered it.0) [
         | inl at ↦ (it.0, it.1, at.0, only (mapping_row says.numbered it.0) (subst (In r) at.1 it.2))
         | inr at ↦ absurd (subst (In r) at.1 it.2)
       ]
@@ -163,49 +163,68 @@ module _ (f : Frame) (p : Package) (t : Tables) (says : Says f p t) where
       only : (x : MappingRow) → In r (x ∷ []) → x ≡ r
       only x j = elim j [ inl same ↦ same | inr k ↦ absurd k ]
 
-  row_of_link : (l : Relation) (m : Mapping) → l.mapping ≡ m → In l says.linked → In (mapping_row says.numbered l) (mapping_rows m t)
+  pub row_of_link : (l : Relation) (m : Mapping) → l.mapping ≡ m → In l says.linked → In (mapping_row says.numbered l) (mapping_rows m t)
   row_of_link l m e i =
       let row : MappingRow = mapping_row says.numbered l in
-      let here : In row (rows_in m says.numbered l l.mapping) = subst (λ k. In row (rows_in m says.numbered l k)) (sym e) (subst (In row) (sym (own_row m says.numbered l)) (inl refl)) in
-      subst (In row) (sym (table_says f p t says m)) (to_arranged pair_key row (flat_map (λ x. rows_in m says.numbered x x.mapping) says.linked) (In-flat_map (λ x. rows_in m says.numbered x x.mapping) l row says.linked i here))
+      let here : In row (rows_in m says.numbered l) = subst (In row) (sym (own_row m says.numbered l e)) (inl refl) in
+      subst (In row) (sym (table_says f p t says m)) (to_arranged pair_key row (flat_map (rows_in m says.numbered) says.linked) (In-flat_map (rows_in m says.numbered) l row says.linked i here))
 
-  ends_of : (l : Relation) → In l says.linked → HasEnds p l
+  pub ends_of : (l : Relation) → In l says.linked → HasEnds p l
   ends_of l i = All-In (HasEnds p) l says.linked says.ends i
 
   -- what was made of the rows of one mapping table are its links
-  made_of : (rows : List IdentityRow) → IsPermutation t.identities rows → (m : Mapping) (stored : List MappingRow) (made : List Relation) → IsPermutation (mapping_rows m t) stored → AllZip (IsLinkOf m rows) stored made → (x : Relation) → In x made → In x p.links
-  made_of rows all m stored made moves zipped x i =
+  made_of : (rows : List IdentityRow) → IsPermutation t.identities rows → (m : Mapping) (made : List Relation) → AreLinksIn m rows t made → (x : Relation) → In x made → In x p.links
+  made_of rows all m made (stored, moves, zipped) x i =
       let it = zip_right (IsLinkOf m rows) x stored made zipped i in
       let l = link_of_row m it.0 (moved it.0 stored (mapping_rows m t) (IsPermutation-sym (mapping_rows m t) stored moves) it.1) in
       let same : x ≡ l.0 = link_is rows all l.0 x (ends_of l.0 l.1) (subst (λ k. IsLinkOf k rows (mapping_row says.numbered l.0) x) (sym l.2) (subst (λ r. IsLinkOf m rows r x) (sym l.3) it.2)) in
       subst (λ y. In y p.links) (sym same) (subst (In l.0) (sym says.links) (to_arranged link_key l.0 says.linked l.1))
 
-  is_made : (rows : List IdentityRow) → IsPermutation t.identities rows → (m : Mapping) (stored : List MappingRow) (made : List Relation) → IsPermutation (mapping_rows m t) stored → AllZip (IsLinkOf m rows) stored made → (l : Relation) → l.mapping ≡ m → In l says.linked → In l made
-  is_made rows all m stored made moves zipped l e i =
+  is_made : (rows : List IdentityRow) → IsPermutation t.identities rows → (m : Mapping) (made : List Relation) → AreLinksIn m rows t made → (l : Relation) → l.mapping ≡ m → In l says.linked → In l made
+  is_made rows all m made (stored, moves, zipped) l e i =
       let it = zip_left (IsLinkOf m rows) (mapping_row says.numbered l) stored made zipped (moved (mapping_row says.numbered l) (mapping_rows m t) stored moves (row_of_link l m e i)) in
       subst (λ y. In y made) (link_is rows all l it.0 (ends_of l i) (subst (λ k. IsLinkOf k rows (mapping_row says.numbered l) it.0) (sym e) it.2)) it.1
 
-  -- the rows of both mapping tables give all links
-  pub links_are : (rows : List IdentityRow) (of_tiles of_rows : List MappingRow) (made others found : List Relation) → IsPermutation t.identities rows → IsPermutation t.tiles_media of_tiles → IsPermutation t.rows_media of_rows
-      → AllZip (IsLinkOf TilesMedia rows) of_tiles made → AllZip (IsLinkOf RowsMedia rows) of_rows others → IsPermutation (made ++ others) found → IsArranged link_key found → found ≡ p.links
-  links_are rows of_tiles of_rows made others found all first second tiles media moves order =
+  -- the links of all mapping tables are all links
+  pub links_are : (rows : List IdentityRow) (made : Mapping → List Relation) (found : List Relation) → IsPermutation t.identities rows → ((m : Mapping) → AreLinksIn m rows t (made m)) → IsPermutation (flat_map made all_mappings) found → IsArranged link_key found → found ≡ p.links
+  links_are rows made found all are moves order =
       same_list link_key found p.links order (subst (IsArranged link_key) (sym says.links) (distinct_arranged link_key says.linked says.distinct_links)) to fro
     where
+      each_mapping : (m : Mapping) → In m all_mappings
+      each_mapping TilesMedia = inl refl
+      each_mapping RowsMedia = inr (inl refl)
+      each_mapping RowsTiles = inr (inr (inl refl))
+
       to : (x : Relation) → In x found → In x p.links
-      to x i = elim (In-of_append x made others (moved x found (made ++ others) (IsPermutation-sym (made ++ others) found moves) i)) [
-        | inl a ↦ made_of rows all TilesMedia of_tiles made first tiles x a
-        | inr b ↦ made_of rows all RowsMedia of_rows others second media x b
-      ]
+      to x i =
+          let it = In-of_flat_map made x all_mappings (moved x found (flat_map made all_mappings) (IsPermutation-sym (flat_map made all_mappings) found moves) i) in
+          made_of rows all it.0 (made it.0) (are it.0) x it.2
 
       fro : (x : Relation) → In x p.links → In x found
-      fro x i = moved x (made ++ others) found moves (one x.mapping refl (in_arranged link_key says.linked x (subst (In x) says.links i)))
-        where
-          one : (m : Mapping) → x.mapping ≡ m → In x says.linked → In x (made ++ others)
-          one TilesMedia e j = In-append x made others (inl (is_made rows all TilesMedia of_tiles made first tiles x e j))
-          one RowsMedia e j = In-append x made others (inr (is_made rows all RowsMedia of_rows others second media x e j))
+      fro x i =
+          moved x (flat_map made all_mappings) found moves
+          (In-flat_map made x.mapping x all_mappings (each_mapping x.mapping) (is_made rows all x.mapping (made x.mapping) (are x.mapping) x refl (in_arranged link_key says.linked x (subst (In x) says.links i))))
 
 -- what was looked at answers by a last value
 pub tells_if : {X E : Type 0} {Fact : Tables → Type 0} (Answer : Tables → X → Type 0) {old new : State} (r : Result X E) → Looked Fact old new
     → ((x : X) → r ≡ Ok x → (t : Tables) → Fact t → Answer t x) → Looks {X = X} {E = E} (Answers Answer) old new r
 tells_if Answer (Ok x) it says = tells Answer it (says x refl)
 tells_if Answer (Err e) it says = fails (Err e) refl it.stays
+
+-- ---- three lists, one for each mapping
+
+abbrev pub by_mapping : {X : Type 0} → X → X → X → Mapping → X
+by_mapping tiles_media rows_media rows_tiles TilesMedia = tiles_media
+by_mapping tiles_media rows_media rows_tiles RowsMedia = rows_media
+by_mapping tiles_media rows_media rows_tiles RowsTiles = rows_tiles
+
+and_nothing : {X : Type 0} (a : List X) → a ++ [] ≡ a
+and_nothing [] = refl
+and_nothing (x ∷ xs) = ap (λ l. x ∷ l) (and_nothing xs)
+
+in_turn : {X : Type 0} (a b c : List X) → (a ++ b) ++ c ≡ a ++ (b ++ c)
+in_turn [] b c = refl
+in_turn (x ∷ xs) b c = ap (λ l. x ∷ l) (in_turn xs b c)
+
+pub joined_lists : {X : Type 0} (a b c : List X) → (a ++ b) ++ c ≡ flat_map (by_mapping a b c) all_mappings
+joined_lists a b c = in_turn a b c ∙ ap (λ l. a ++ (b ++ l)) (sym (and_nothing c))

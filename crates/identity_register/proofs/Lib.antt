@@ -5,6 +5,7 @@ pub mod Finding
 pub mod Dropping
 pub mod Joining
 pub mod Numbers
+pub mod Rooms
 pub mod NewPackage
 pub mod Looking
 pub mod Uuids
@@ -17,3 +18,4 @@ pub mod OnePackage
 mod Gathering
 mod Moments
 mod InOrder
+pub mod Reaching

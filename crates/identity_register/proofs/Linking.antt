@@ -13,7 +13,7 @@ use Rattle.sheet_types.specs.Lines.{IsUuid}
 use Rattle.sheet_types.specs.Register.{HasEnds}
 use Rattle.sheet_types.specs.declared.command.Item.{Item}
 use Rattle.sheet_types.specs.declared.command.Mapping.{Mapping}
-use Rattle.sheet_types.specs.declared.command.Mapping.TheVariants.{TilesMedia, RowsMedia}
+use Rattle.sheet_types.specs.declared.command.Mapping.TheVariants.{TilesMedia, RowsMedia, RowsTiles}
 use Rattle.sheet_types.specs.declared.command.Relation.{Relation}
 use Rattle.sheet_types.specs.declared.frame.Frame.{Frame}
 use Rattle.sheet_types.specs.declared.receipt.MovedKind.{MovedKind}
@@ -24,23 +24,22 @@ use Rattle.sheet_types.proofs.LineReading.{uuid_length}
 use Rattle.sheet_types.proofs.Found.{filter_same}
 use Rattle.sheet_types.proofs.Same.{In, In-of_map, All-In, any_at}
 use Rattle.sheet_types.proofs.Basics.{bytes_eq_itself, bytes_eq_swap, or-false}
-use Rattle.package_tables.specs.Shapes.{tiles_media_shape, rows_media_shape}
 use Rattle.package_tables.specs.Package.{Tables}
-use Rattle.package_tables.specs.Mappings.{mapping_rows}
+use Rattle.package_tables.specs.Mappings.{mapping_rows, with_mapping_rows}
 use Rattle.package_tables.specs.declared.rows.MappingRow.{MappingRow}
-use Rattle.identity_register.specs.Numbering.{Numbered, place_in_tables, number_of, mapping_row, tiles_media_rows, rows_media_rows, with_link, without_link, is_pair}
-use Rattle.identity_register.specs.Reads.{Says, SaysLinks}
+use Rattle.identity_register.specs.Numbering.{Numbered, place_in_tables, number_of, mapping_row, mapping_is, rows_in, with_link, without_link, is_pair}
+use Rattle.identity_register.specs.Reads.{Says, SaysLinks, SaysPairs}
 use Rattle.identity_register.proofs.Adding.{turned}
 use Rattle.identity_register.proofs.Deleting.{filter-flat_map, flat_map-kept, distinct_filter, same_tests, same_number, place_test}
 use Rattle.identity_register.proofs.Finding.{in_range}
-use Rattle.identity_register.proofs.MappingTables.{rows_in, rows_there, pair_key, table_says}
+use Rattle.identity_register.proofs.MappingTables.{rows_there, own_row, no_row_in, pair_key, table_says}
 
 -- ---- other links
 
 -- what the tables say of all else stays where links are others
-says_links : (f : Frame) (p : Package) (t : Tables) (says : Says f p t) (linked links : List Relation) (tiles_media rows_media : List MappingRow) → AllByRecursion (HasEnds p) linked → SaysLinks says.numbered linked links tiles_media rows_media
-    → Says f (record p { links = links }) (record t { tiles_media = tiles_media; rows_media = rows_media })
-says_links f p t says linked links tiles_media rows_media ends of_links = record {
+says_links : (f : Frame) (p : Package) (t : Tables) (says : Says f p t) (linked links : List Relation) (tiles_media rows_media rows_tiles : List MappingRow) → AllByRecursion (HasEnds p) linked → SaysLinks says.numbered linked links tiles_media rows_media rows_tiles
+    → Says f (record p { links = links }) (record t { tiles_media = tiles_media; rows_media = rows_media; rows_tiles = rows_tiles })
+says_links f p t says linked links tiles_media rows_media rows_tiles ends of_links = record {
   good = says.good;
   fixed = says.fixed;
   created = says.created;
@@ -55,31 +54,34 @@ says_links f p t says linked links tiles_media rows_media ends of_links = record
   of_receipts = says.of_receipts;
 }
 
+-- where one table is another, and holds the rows of other links, and so do the tables of the other mappings as they are
+says_in : (f : Frame) (p : Package) (t : Tables) (says : Says f p t) (linked links : List Relation) (m : Mapping) (rows : List MappingRow) → AllByRecursion (HasEnds p) linked → IsDistinct bytes_eq (map link_key linked) → links ≡ arranged link_key linked
+    → SaysPairs m says.numbered linked rows → ((k : Mapping) → mapping_is m k ≡ false → mapping_is k m ≡ false → SaysPairs k says.numbered linked (mapping_rows k t)) → Says f (record p { links = links }) (with_mapping_rows m rows t)
+says_in f p t says linked links TilesMedia rows ends distinct are here others =
+    says_links f p t says linked links rows t.rows_media t.rows_tiles ends (record { distinct_links = distinct; links = are; tiles_media = here; rows_media = others RowsMedia refl refl; rows_tiles = others RowsTiles refl refl })
+says_in f p t says linked links RowsMedia rows ends distinct are here others =
+    says_links f p t says linked links t.tiles_media rows t.rows_tiles ends (record { distinct_links = distinct; links = are; tiles_media = others TilesMedia refl refl; rows_media = here; rows_tiles = others RowsTiles refl refl })
+says_in f p t says linked links RowsTiles rows ends distinct are here others =
+    says_links f p t says linked links t.tiles_media t.rows_media rows ends (record { distinct_links = distinct; links = are; tiles_media = others TilesMedia refl refl; rows_media = others RowsMedia refl refl; rows_tiles = here })
+
 -- ---- a link more
 
 pub links : (f : Frame) (p : Package) (t : Tables) (l : Relation) (says : Says f p t) → has link_key (link_key l) p.links ≡ false → HasEnds p l
     → Says f (record p { links = put link_key l p.links }) (with_link l.mapping (mapping_row says.numbered l) t)
 unfolding IsDistinct
-links f p t l says fresh ends = one l.mapping refl
+links f p t l says fresh ends =
+    says_in f p t says (l ∷ says.linked) (put link_key l p.links) l.mapping (put pair_key row (mapping_rows l.mapping t)) (ends, says.ends) (turned link_key (link_key l) says.linked apart, says.distinct_links) (ap (put link_key l) says.links)
+    (ap (put pair_key row) (table_says f p t says l.mapping) ∙ before l.mapping (row ∷ []) (own_row l.mapping says.numbered l refl)) (λ k differ _. table_says f p t says k ∙ before k [] (no_row_in k says.numbered l differ))
   where
+    row : MappingRow
+    row = mapping_row says.numbered l
+
     apart : AllByRecursion (λ x. bytes_eq (link_key x) (link_key l) ≡ false) says.linked
     apart = none_pass (λ x. bytes_eq (link_key x) (link_key l)) says.linked (sym (list_any-arranged link_key (λ x. bytes_eq (link_key x) (link_key l)) says.linked) ∙ ap (list_any (λ x. bytes_eq (link_key x) (link_key l))) (sym says.links) ∙ fresh)
 
-    more : (tiles_media rows_media : List MappingRow) → tiles_media ≡ arranged tiles_media_shape.key (flat_map (λ x. tiles_media_rows says.numbered x x.mapping) (l ∷ says.linked))
-        → rows_media ≡ arranged rows_media_shape.key (flat_map (λ x. rows_media_rows says.numbered x x.mapping) (l ∷ says.linked))
-        → Says f (record p { links = put link_key l p.links }) (record t { tiles_media = tiles_media; rows_media = rows_media })
-    more tiles_media rows_media tiles rows =
-        says_links f p t says (l ∷ says.linked) (put link_key l p.links) tiles_media rows_media (ends, says.ends)
-        (record { distinct_links = (turned link_key (link_key l) says.linked apart, says.distinct_links); links = ap (put link_key l) says.links; tiles_media = tiles; rows_media = rows })
-
-    -- a table with the rows of the link before those of the others, where its mapping is known
-    table_with : (k m : Mapping) → l.mapping ≡ m
-        → arranged pair_key (rows_in k says.numbered l m ++ flat_map (λ x. rows_in k says.numbered x x.mapping) says.linked) ≡ arranged pair_key (flat_map (λ x. rows_in k says.numbered x x.mapping) (l ∷ says.linked))
-    table_with k m e = sym (ap (λ n. arranged pair_key (rows_in k says.numbered l n ++ flat_map (λ x. rows_in k says.numbered x x.mapping) says.linked)) e)
-
-    one : (m : Mapping) → l.mapping ≡ m → Says f (record p { links = put link_key l p.links }) (with_link m (mapping_row says.numbered l) t)
-    one TilesMedia e = more (put pair_key (mapping_row says.numbered l) t.tiles_media) t.rows_media (ap (put pair_key (mapping_row says.numbered l)) says.tiles_media ∙ table_with TilesMedia TilesMedia e) (says.rows_media ∙ table_with RowsMedia TilesMedia e)
-    one RowsMedia e = more t.tiles_media (put pair_key (mapping_row says.numbered l) t.rows_media) (says.tiles_media ∙ table_with TilesMedia RowsMedia e) (ap (put pair_key (mapping_row says.numbered l)) says.rows_media ∙ table_with RowsMedia RowsMedia e)
+    -- a table with the rows of the link before those of the others
+    before : (k : Mapping) (own : List MappingRow) → rows_in k says.numbered l ≡ own → arranged pair_key (own ++ flat_map (rows_in k says.numbered) says.linked) ≡ arranged pair_key (flat_map (rows_in k says.numbered) (l ∷ says.linked))
+    before k own e = sym (ap (λ r. arranged pair_key (r ++ flat_map (rows_in k says.numbered) says.linked)) e)
 
 -- ---- the numbers of ends
 
@@ -93,13 +95,6 @@ bytes_eq_append (x ∷ xs) b (y ∷ ys) d h = ap (λ v. (x == y) && v) (bytes_eq
     and_assoc : (u v w : Bool) → ((u && v) && w) ≡ (u && (v && w))
     and_assoc true v w = refl
     and_assoc false v w = refl
-
--- a mapping is known by the number of its links
-pub same_mapping : (a b : Mapping) → (kind_number (link_kind a) == kind_number (link_kind b)) ≡ true → a ≡ b
-same_mapping TilesMedia TilesMedia h = refl
-same_mapping TilesMedia RowsMedia h = absurd (false≢true h)
-same_mapping RowsMedia TilesMedia h = absurd (false≢true h)
-same_mapping RowsMedia RowsMedia h = refl
 
 pub find_itself : (n : Numbered) (ns : List Numbered) → IsDistinct bytes_eq (map (λ m. m.item.identity) ns) → In n ns → find (λ m. bytes_eq m.item.identity n.item.identity) ns ≡ Some n
 unfolding IsDistinct
@@ -147,12 +142,12 @@ module _ (f : Frame) (p : Package) (t : Tables) (says : Says f p t) where
   pub pair_same : (x l : Relation) → x.mapping ≡ l.mapping → HasEnds p x → HasEnds p l → is_pair (mapping_row says.numbered x) (mapping_row says.numbered l) ≡ bytes_eq (link_key x) (link_key l)
   pair_same x l same hx hl =
       let base = ends_same (base_kind l.mapping) x.base l.base (subst (λ m. has item_key (kind_number (base_kind m) ∷ x.base) p.items ≡ true) same hx.0) hl.0 in
-      let other = ends_same (other_kind l.mapping) x.media l.media (subst (λ m. has item_key (kind_number (other_kind m) ∷ x.media) p.items ≡ true) same hx.1) hl.1 in
-      ap (λ v. v && int_eq (number_of says.numbered x.media) (number_of says.numbered l.media)) base.0 ∙ ap (λ v. bytes_eq x.base l.base && v) other.0
-      ∙ sym (bytes_eq_append x.base x.media l.base l.media base.1)
+      let other = ends_same (other_kind l.mapping) x.other l.other (subst (λ m. has item_key (kind_number (other_kind m) ∷ x.other) p.items ≡ true) same hx.1) hl.1 in
+      ap (λ v. v && int_eq (number_of says.numbered x.other) (number_of says.numbered l.other)) base.0 ∙ ap (λ v. bytes_eq x.base l.base && v) other.0
+      ∙ sym (bytes_eq_append x.base x.other l.base l.other base.1)
       ∙ sym (first (kind_number (link_kind x.mapping) == kind_number (link_kind l.mapping)) (eq-eqb _ _ (ap (λ m. kind_number (link_kind m)) same)))
     where
-      first : (u : Bool) → u ≡ true → (u && bytes_eq (x.base ++ x.media) (l.base ++ l.media)) ≡ bytes_eq (x.base ++ x.media) (l.base ++ l.media)
+      first : (u : Bool) → u ≡ true → (u && bytes_eq (x.base ++ x.other) (l.base ++ l.other)) ≡ bytes_eq (x.base ++ x.other) (l.base ++ l.other)
       first true h = refl
       first false h = absurd (false≢true h)
 
@@ -173,20 +168,20 @@ module _ (f : Frame) (p : Package) (t : Tables) (says : Says f p t) (l : Relatio
   one_goes : (x : Relation) → x.mapping ≡ l.mapping → HasEnds p x → filter (λ r. not (is_pair r row)) (mapping_row says.numbered x ∷ []) ≡ cond (keep x) (mapping_row says.numbered x ∷ []) []
   one_goes x same hx = ap (λ b. cond (not b) (mapping_row says.numbered x ∷ []) []) (pair_same f p t says x l same hx here)
 
-  apart : (x : Relation) (m n : Mapping) → x.mapping ≡ m → l.mapping ≡ n → (kind_number (link_kind m) == kind_number (link_kind n)) ≡ false → keep x ≡ true
-  apart x m n e g differ = let other : bytes_eq (link_key x) (link_key l) ≡ false = rw (e, g) (and_left (kind_number (link_kind m) == kind_number (link_kind n)) (bytes_eq (x.base ++ x.media) (l.base ++ l.media)) differ) in ap not other
+  apart : (x : Relation) (k : Mapping) → x.mapping ≡ k → mapping_is k l.mapping ≡ false → keep x ≡ true
+  apart x k e differ = let other : bytes_eq (link_key x) (link_key l) ≡ false = rw e (and_left (mapping_is k l.mapping) (bytes_eq (x.base ++ x.other) (l.base ++ l.other)) differ) in ap not other
 
   -- in the table of its mapping the row goes
-  row_less : (k : Mapping) → l.mapping ≡ k → (x : Relation) → HasEnds p x → filter (λ r. not (is_pair r row)) (rows_in k says.numbered x x.mapping) ≡ cond (keep x) (rows_in k says.numbered x x.mapping) []
-  row_less k e x hx = elim (rows_there k x.mapping says.numbered x) [
-    | inl at ↦ rw at.1 (one_goes x (at.0 ∙ sym e) hx)
+  row_less : (x : Relation) → HasEnds p x → filter (λ r. not (is_pair r row)) (rows_in l.mapping says.numbered x) ≡ cond (keep x) (rows_in l.mapping says.numbered x) []
+  row_less x hx = elim (rows_there l.mapping says.numbered x) [
+    | inl at ↦ rw at.1 (one_goes x at.0 hx)
     | inr at ↦ rw at.1 (nothing_kept (keep x))
   ]
 
-  -- which the table of the other mapping does not have
-  row_elsewhere : (k m : Mapping) → l.mapping ≡ m → (kind_number (link_kind k) == kind_number (link_kind m)) ≡ false → (x : Relation) → keep x ≡ false → rows_in k says.numbered x x.mapping ≡ []
-  row_elsewhere k m e differ x gone = elim (rows_there k x.mapping says.numbered x) [
-    | inl at ↦ absurd (true≢false (sym (apart x k m at.0 e differ) ∙ gone))
+  -- which the table of another mapping does not have
+  row_elsewhere : (k : Mapping) → mapping_is k l.mapping ≡ false → (x : Relation) → keep x ≡ false → rows_in k says.numbered x ≡ []
+  row_elsewhere k differ x gone = elim (rows_there k says.numbered x) [
+    | inl at ↦ absurd (true≢false (sym (apart x k at.0 differ) ∙ gone))
     | inr at ↦ at.1
   ]
 
@@ -197,23 +192,14 @@ module _ (f : Frame) (p : Package) (t : Tables) (says : Says f p t) (l : Relatio
 
   -- the link goes, and its row
   pub unlinks : Says f (record p { links = without link_key (link_key l ∷ []) p.links }) (without_link l.mapping row t)
-  unlinks = one l.mapping refl
+  unlinks =
+      says_in f p t says (filter keep says.linked) (without link_key (link_key l ∷ []) p.links) l.mapping (filter (λ r. not (is_pair r row)) (mapping_rows l.mapping t)) (All-filter _ keep says.linked says.ends)
+      (distinct_filter link_key keep says.linked says.distinct_links) links_less goes (λ k _ differ. stays k differ)
     where
-      less : (tiles_media rows_media : List MappingRow) → tiles_media ≡ arranged tiles_media_shape.key (flat_map (λ x. tiles_media_rows says.numbered x x.mapping) (filter keep says.linked))
-          → rows_media ≡ arranged rows_media_shape.key (flat_map (λ x. rows_media_rows says.numbered x x.mapping) (filter keep says.linked))
-          → Says f (record p { links = without link_key (link_key l ∷ []) p.links }) (record t { tiles_media = tiles_media; rows_media = rows_media })
-      less tiles_media rows_media tiles rows =
-          says_links f p t says (filter keep says.linked) (without link_key (link_key l ∷ []) p.links) tiles_media rows_media (All-filter _ keep says.linked says.ends)
-          (record { distinct_links = distinct_filter link_key keep says.linked says.distinct_links; links = links_less; tiles_media = tiles; rows_media = rows })
+      goes : SaysPairs l.mapping says.numbered (filter keep says.linked) (filter (λ r. not (is_pair r row)) (mapping_rows l.mapping t))
+      goes =
+          ap (filter (λ r. not (is_pair r row))) (table_says f p t says l.mapping) ∙ filter-arranged pair_key (λ r. not (is_pair r row)) (flat_map (rows_in l.mapping says.numbered) says.linked)
+          ∙ ap (arranged pair_key) (filter-flat_map (rows_in l.mapping says.numbered) (λ r. not (is_pair r row)) keep says.linked (All-weaker _ _ row_less says.linked says.ends))
 
-      goes : (k : Mapping) → l.mapping ≡ k → filter (λ r. not (is_pair r row)) (mapping_rows k t) ≡ arranged pair_key (flat_map (λ x. rows_in k says.numbered x x.mapping) (filter keep says.linked))
-      goes k e =
-          ap (filter (λ r. not (is_pair r row))) (table_says f p t says k) ∙ filter-arranged pair_key (λ r. not (is_pair r row)) (flat_map (λ x. rows_in k says.numbered x x.mapping) says.linked)
-          ∙ ap (arranged pair_key) (filter-flat_map (λ x. rows_in k says.numbered x x.mapping) (λ r. not (is_pair r row)) keep says.linked (All-weaker _ _ (row_less k e) says.linked says.ends))
-
-      stays : (k m : Mapping) → l.mapping ≡ m → (kind_number (link_kind k) == kind_number (link_kind m)) ≡ false → mapping_rows k t ≡ arranged pair_key (flat_map (λ x. rows_in k says.numbered x x.mapping) (filter keep says.linked))
-      stays k m e differ = table_says f p t says k ∙ sym (ap (arranged pair_key) (flat_map-kept (λ x. rows_in k says.numbered x x.mapping) keep says.linked (All-each _ (row_elsewhere k m e differ) says.linked)))
-
-      one : (m : Mapping) → l.mapping ≡ m → Says f (record p { links = without link_key (link_key l ∷ []) p.links }) (without_link m row t)
-      one TilesMedia e = less (filter (λ r. not (is_pair r row)) t.tiles_media) t.rows_media (goes TilesMedia e) (stays RowsMedia TilesMedia e refl)
-      one RowsMedia e = less t.tiles_media (filter (λ r. not (is_pair r row)) t.rows_media) (stays TilesMedia RowsMedia e refl) (goes RowsMedia e)
+      stays : (k : Mapping) → mapping_is k l.mapping ≡ false → SaysPairs k says.numbered (filter keep says.linked) (mapping_rows k t)
+      stays k differ = table_says f p t says k ∙ sym (ap (arranged pair_key) (flat_map-kept (rows_in k says.numbered) keep says.linked (All-each _ (row_elsewhere k differ) says.linked)))

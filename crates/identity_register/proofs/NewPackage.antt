@@ -26,7 +26,7 @@ module _ (f : Frame) (uuid : List ℕ) (parent : Option (List ℕ)) (depth loan 
     of_items = record { numbers = record { range = tt; numbers = tt; identities = tt; uuids = tt }; items = refl; tiles = refl; media = refl; rows = refl; identities = refl };
     linked = [];
     ends = tt;
-    of_links = record { distinct_links = tt; links = refl; tiles_media = refl; rows_media = refl };
+    of_links = record { distinct_links = tt; links = refl; tiles_media = refl; rows_media = refl; rows_tiles = refl };
     entered = [];
     of_receipts = record { distinct_receipts = tt; fit = tt; kept = refl; receipts = refl; moved = refl };
   }

@@ -26,7 +26,7 @@ use Rattle.sheet_types.specs.declared.command.Content.TheVariants.{Tile, Media, 
 use Rattle.sheet_types.specs.declared.frame.Frame.{Frame}
 use Rattle.sheet_types.proofs.Every.{All-weaker, All-both, All-map, All-of_map, All-each, none_pass, none_any}
 use Rattle.sheet_types.proofs.Order.{list_any-arranged}
-use Rattle.identity_register.specs.Numbering.{Numbered, greatest_number, place_in_tables, identity_row, tile_rows, media_rows, attribute_rows, puts, with_item, IsTaken, IsGap, AddsContent}
+use Rattle.identity_register.specs.Numbering.{Numbered, greatest_number, place_in_tables, identity_row, tile_rows, media_rows, attribute_rows, puts, with_item, IsTaken, IsGap, FindsGap, AddsContent}
 use Rattle.identity_register.specs.Reads.{Says}
 use Rattle.identity_register.specs.Calls.{Becomes}
 use Rattle.identity_register.specs.Changes.{IsNewItem, item_added}
@@ -145,6 +145,9 @@ within_from n low high = and_from (int_le (pos 1) n) (int_le n greatest_number) 
 pub next_from : (n : ℤ) → pos 1 ≤ℤ n → int_le n greatest_number ≡ true → pos 1 ≤ℤ to_z w64 (of_z w64 (n +ℤ pos 1))
 next_from n low high = let fits : FitsSigned w64 (n +ℤ pos 1) = omega (arith, ints) in simp (to_z-of_z, fits) (omega (arith, ints))
 
+pub next_is : (n : ℤ) → pos 1 ≤ℤ n → int_le n greatest_number ≡ true → n +ℤ pos 1 ≡ to_z w64 (of_z w64 (n +ℤ pos 1))
+next_is n low high = let fits : FitsSigned w64 (n +ℤ pos 1) = omega (arith, ints) in sym (to_z-of_z fits)
+
 -- ---- free numbers
 
 -- whether a number is taken, by the row that was looked up
@@ -167,8 +170,8 @@ pub gap_steps : {E F : Type 0} (kind number : ℤ) (taken : Bool) {old new : Sta
 gap_steps {E} {F} kind number taken range none told = steps_answer {E = E} {F = F} (Answers (IsGap kind)) number (λ it. (it.0, λ formed. (range, sym (it.1 formed) ∙ none))) told
 
 -- a gap of a kind, by what its number is
-pub gap_of : {E : Type 0} {kind k : ℤ} {old new : State} {r : Result ℤ E} → kind ≡ k → Steps (Answers (IsGap kind)) old new r → Steps (Answers (IsGap k)) old new r
-gap_of {E} {kind} {k} {old} {new} {r} same gap = subst (λ z. Steps (Answers (IsGap z)) old new r) same gap
+pub gap_of : {E : Type 0} {kind k : ℤ} {old new : State} {r : Result (Option ℤ) E} → kind ≡ k → Steps (Answers (FindsGap kind)) old new r → Steps (Answers (FindsGap k)) old new r
+gap_of {E} {kind} {k} {old} {new} {r} same gap = subst (λ z. Steps (Answers (FindsGap z)) old new r) same gap
 
 -- an identity row, by what its parts are
 pub identity_makes : {E : Type 0} (kind k number : ℤ) (text u : List ℕ) (old new : State) (r : Result (Unit {0}) E) → kind ≡ k → text ≡ u → Makes (Adds identities (record { kind = kind; local_id = number; uuid = text })) old new r

@@ -43,12 +43,12 @@ use Rattle.identity_register.specs.Laws.{ReadsAlone, TreesReadAlone}
 use Rattle.identity_register.specs.Numbering.{Numbered, identity_row, tile_rows, media_rows, attribute_rows}
 use Rattle.sheet_types.specs.Reading.{optional_uuid_text}
 use Rattle.identity_register.specs.Reads.{Says, Reads, IsFitReceipt, is_fit_end, is_fit_moved, head_row, receipt_row, moved_row, moved_rows}
-use Rattle.identity_register.proofs.Answering.{kind_number_tells}
+use Rattle.sheet_types.proofs.KindNumbers.{kind_number_tells, same_mapping}
 use Rattle.identity_register.proofs.Contents.{content_by_row}
 use Rattle.identity_register.proofs.Deleting.{pos_same}
 use Rattle.identity_register.proofs.Ends.{link_by_rows}
 use Rattle.identity_register.proofs.OneFrame.{head_same, one_frame}
-use Rattle.identity_register.proofs.Linking.{same_mapping, end_of, bytes_eq_append}
+use Rattle.identity_register.proofs.Linking.{end_of, bytes_eq_append}
 use Rattle.identity_register.proofs.Finding.{in_arranged}
 
 -- ---- arranged lists
@@ -270,12 +270,12 @@ module _ (f : Frame) (t : Tables) where
   -- a link by its key
   same_link : (a b : Relation) → IsUuid a.base → IsUuid b.base → bytes_eq (link_key a) (link_key b) ≡ true → a ≡ b
   same_link a b ha hb e =
-      let key = and_parts (kind_number (link_kind a.mapping) == kind_number (link_kind b.mapping)) (bytes_eq (a.base ++ a.media) (b.base ++ b.media)) e in
-      let ends = and_parts (bytes_eq a.base b.base) (bytes_eq a.media b.media) (sym (bytes_eq_append a.base a.media b.base b.media (uuid_length a.base ha ∙ sym (uuid_length b.base hb))) ∙ key.1) in
+      let key = and_parts (kind_number (link_kind a.mapping) == kind_number (link_kind b.mapping)) (bytes_eq (a.base ++ a.other) (b.base ++ b.other)) e in
+      let ends = and_parts (bytes_eq a.base b.base) (bytes_eq a.other b.other) (sym (bytes_eq_append a.base a.other b.base b.other (uuid_length a.base ha ∙ sym (uuid_length b.base hb))) ∙ key.1) in
       let mapping : a.mapping ≡ b.mapping = same_mapping a.mapping b.mapping key.0 in
       let base : a.base ≡ b.base = (bytes_eq-Decides a.base b.base).0 ends.0 in
-      let media : a.media ≡ b.media = (bytes_eq-Decides a.media b.media).0 ends.1 in
-      λ n. record { mapping = mapping n; base = base n; media = media n }
+      let other : a.other ≡ b.other = (bytes_eq-Decides a.other b.other).0 ends.1 in
+      λ n. record { mapping = mapping n; base = base n; other = other n }
 
   -- the ends of a link are UUIDs
   end_fit : (p : Package) (one : Says f p t) (kind : MovedKind) (id : List ℕ) → has item_key (kind_number kind ∷ id) p.items ≡ true → IsUuid id
@@ -291,11 +291,11 @@ module _ (f : Frame) (t : Tables) where
   link_there p q one two l i =
       let ends : HasEnds p l = link_ends p one l i in
       let n = end_of f p t one (base_kind l.mapping) l.base ends.0 in
-      let m = end_of f p t one (other_kind l.mapping) l.media ends.1 in
+      let m = end_of f p t one (other_kind l.mapping) l.other ends.1 in
       let base_fit : IsUuid l.base = end_fit p one (base_kind l.mapping) l.base ends.0 in
-      let other_fit : IsUuid l.media = end_fit p one (other_kind l.mapping) l.media ends.1 in
+      let other_fit : IsUuid l.other = end_fit p one (other_kind l.mapping) l.other ends.1 in
       let base_row : Contains t.identities (identity_row n.0) × (bytes_eq (identity_row n.0).uuid (uuid_text l.base) ≡ true) = (row_stored p one n.0 n.1, subst (λ id. bytes_eq (uuid_text n.0.item.identity) (uuid_text id) ≡ true) n.3 (bytes_eq_itself (uuid_text n.0.item.identity))) in
-      let other_row : Contains t.identities (identity_row m.0) × (bytes_eq (identity_row m.0).uuid (uuid_text l.media) ≡ true) = (row_stored p one m.0 m.1, subst (λ id. bytes_eq (uuid_text m.0.item.identity) (uuid_text id) ≡ true) m.3 (bytes_eq_itself (uuid_text m.0.item.identity))) in
+      let other_row : Contains t.identities (identity_row m.0) × (bytes_eq (identity_row m.0).uuid (uuid_text l.other) ≡ true) = (row_stored p one m.0 m.1, subst (λ id. bytes_eq (uuid_text m.0.item.identity) (uuid_text id) ≡ true) m.3 (bytes_eq_itself (uuid_text m.0.item.identity))) in
       let right : are_ends l.mapping (identity_row n.0).kind (identity_row m.0).kind ≡ true = and_from _ _ (kind_is_it _ _ n.2) (kind_is_it _ _ m.2) in
       let mine = link_by_rows f p t one l base_fit other_fit (identity_row n.0) (identity_row m.0) base_row other_row right in
       let theirs = link_by_rows f q t two l base_fit other_fit (identity_row n.0) (identity_row m.0) base_row other_row right in

@@ -27,7 +27,7 @@ item_deleted id p = record p { items = without (λ i. i.identity) (id ∷ []) p.
 -- both ends are there, and the link is not; the ends are UUIDs, as those of each `Uuid` are
 pub record IsNewLink (l : Relation) (p : Package) : Type 0 where
   pub base : IsUuid l.base
-  pub media : IsUuid l.media
+  pub other : IsUuid l.other
   pub new : has link_key (link_key l) p.links ≡ false
   pub ends : HasEnds p l
 
@@ -37,7 +37,7 @@ link_added l p = record p { links = put link_key l p.links }
 -- the link is there; its ends are UUIDs, as those of each `Uuid` are
 pub record IsLink (l : Relation) (p : Package) : Type 0 where
   pub base : IsUuid l.base
-  pub media : IsUuid l.media
+  pub other : IsUuid l.other
   pub there : has link_key (link_key l) p.links ≡ true
 
 abbrev pub link_removed : Relation → Package → Package

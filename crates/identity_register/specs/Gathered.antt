@@ -1,5 +1,6 @@
 -- What the rows of whole tables say of the items and the links of a package.
 use Rattle.std.specs.Prelude.{◌≡◌, ℕ, ℤ, pos, List, Contains, IsPermutation}
+use Rattle.std.specs.List.{AllZip}
 use Rattle.sheet_types.specs.Lines.{IsUuid}
 use Rattle.sheet_types.specs.Texts.{uuid_text}
 use Rattle.sheet_types.specs.World.{Package, kind_number, base_kind, other_kind}
@@ -9,6 +10,7 @@ use Rattle.sheet_types.specs.declared.command.Mapping.{Mapping}
 use Rattle.sheet_types.specs.declared.command.Relation.{Relation}
 use Rattle.sheet_types.specs.declared.frame.Frame.{Frame}
 use Rattle.package_tables.specs.Package.{Tables}
+use Rattle.package_tables.specs.Mappings.{mapping_rows}
 use Rattle.package_tables.specs.declared.rows.AttributeRow.{AttributeRow}
 use Rattle.package_tables.specs.declared.rows.IdentityRow.{IdentityRow}
 use Rattle.package_tables.specs.declared.rows.MappingRow.{MappingRow}
@@ -59,7 +61,11 @@ pub record IsNamed (rows : List IdentityRow) (kind number : ℤ) (id : List ℕ)
 pub record IsLinkOf (m : Mapping) (rows : List IdentityRow) (r : MappingRow) (l : Relation) : Type 0 where
   pub mapping : l.mapping ≡ m
   pub base : IsNamed rows (pos (kind_number (base_kind m))) r.base_id l.base
-  pub media : IsNamed rows (pos (kind_number (other_kind m))) r.related_id l.media
+  pub other : IsNamed rows (pos (kind_number (other_kind m))) r.related_id l.other
+
+-- the links of all rows of the table of a mapping
+abbrev pub AreLinksIn : Mapping → List IdentityRow → Tables → List Relation → Type 0
+AreLinksIn m rows t links = (stored : List MappingRow) × IsPermutation (mapping_rows m t) stored × AllZip (IsLinkOf m rows) stored links
 
 -- all links of the package that the tables say, where these are all identity rows
 abbrev pub AreLinksBy : List IdentityRow → Tables → List Relation → Type 0

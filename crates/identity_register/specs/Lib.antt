@@ -1,8 +1,10 @@
 pub mod Numbering
 pub mod Reads
+pub mod Reach
 pub mod Calls
 pub mod Changes
 pub mod Answers
 pub mod Laws
 pub mod Creation
 pub mod Gathered
+pub mod Room

@@ -6,15 +6,14 @@ use Rattle.std.specs.Option.{option_map_or}
 use Rattle.sheet_types.specs.Ordered.{put}
 use Rattle.sheet_types.specs.Matrix.{is_within}
 use Rattle.sheet_types.specs.Texts.{uuid_text, kind_of}
-use Rattle.sheet_types.specs.World.{kind_number}
+use Rattle.sheet_types.specs.World.{kind_number, kind_is, link_kind}
 use Rattle.sheet_types.specs.declared.receipt.MovedKind.{MovedKind}
-use Rattle.sheet_types.specs.declared.receipt.MovedKind.TheVariants.{TileItem, MediaItem, RowItem, TilesMediaLink, RowsMediaLink}
+use Rattle.sheet_types.specs.declared.receipt.MovedKind.TheVariants.{TileItem, MediaItem, RowItem, TilesMediaLink, RowsMediaLink, RowsTilesLink}
 use Rattle.sheet_types.specs.Lines.{IsUuid}
 use Rattle.sheet_types.specs.declared.command.Content.{Content}
 use Rattle.sheet_types.specs.declared.command.Content.TheVariants.{Tile, Media, Row}
 use Rattle.sheet_types.specs.declared.command.Item.{Item}
 use Rattle.sheet_types.specs.declared.command.Mapping.{Mapping}
-use Rattle.sheet_types.specs.declared.command.Mapping.TheVariants.{TilesMedia, RowsMedia}
 use Rattle.sheet_types.specs.declared.command.Relation.{Relation}
 use Rattle.package_tables.specs.Shapes.{tile_shape, medium_shape, attribute_shape, identity_shape}
 use Rattle.package_tables.specs.Package.{Tables}
@@ -75,15 +74,15 @@ abbrev pub number_of : List Numbered → List ℕ → ℤ
 number_of numbered id = option_map_or (λ n. n.number) (find (λ n. bytes_eq n.item.identity id) numbered) (pos 0)
 
 abbrev pub mapping_row : List Numbered → Relation → MappingRow
-mapping_row numbered l = record { base_id = number_of numbered l.base; related_id = number_of numbered l.media }
+mapping_row numbered l = record { base_id = number_of numbered l.base; related_id = number_of numbered l.other }
 
-abbrev pub tiles_media_rows : List Numbered → Relation → Mapping → List MappingRow
-tiles_media_rows numbered l TilesMedia = mapping_row numbered l ∷ []
-tiles_media_rows numbered l RowsMedia = []
+-- the two mappings are one
+abbrev pub mapping_is : Mapping → Mapping → Bool
+mapping_is a b = kind_is (link_kind a) (link_kind b)
 
-abbrev pub rows_media_rows : List Numbered → Relation → Mapping → List MappingRow
-rows_media_rows numbered l TilesMedia = []
-rows_media_rows numbered l RowsMedia = mapping_row numbered l ∷ []
+-- the rows that the table of a mapping has of a link
+abbrev pub rows_in : Mapping → List Numbered → Relation → List MappingRow
+rows_in m numbered l = if mapping_is l.mapping m then mapping_row numbered l ∷ [] else []
 
 -- ---- an item more
 
@@ -138,9 +137,9 @@ without_link m row t = with_mapping_rows m (filter (λ r. not (is_pair r row)) (
 abbrev pub IsRowOf : List ℕ → Tables → IdentityRow → Type 0
 IsRowOf id t r = Contains t.identities r × (bytes_eq r.uuid (uuid_text id) ≡ true)
 
--- those of the base and the medium of a link
+-- those of the ends of a link
 abbrev pub AreRowsOfEnds : List ℕ → List ℕ → Tables → EndRows → Type 0
-AreRowsOfEnds base media t rows = IsRowOf base t rows.base × IsRowOf media t rows.media
+AreRowsOfEnds base other t rows = IsRowOf base t rows.base × IsRowOf other t rows.other
 
 -- ---- a free number
 
@@ -151,6 +150,7 @@ IsGreatestOf MediaItem t found = IsGreatest (λ x. x.id) t.media found
 IsGreatestOf RowItem t found = IsGreatest (λ x. x.id) t.rows found
 IsGreatestOf TilesMediaLink t found = found ≡ None
 IsGreatestOf RowsMediaLink t found = found ≡ None
+IsGreatestOf RowsTilesLink t found = found ≡ None
 
 -- the number after the greatest of a table; 1 where there is none, or where none comes after it
 abbrev pub number_after : Option ℤ → ℤ
@@ -167,6 +167,15 @@ IsTaken kind number t taken = taken ≡ is_taken kind number t
 -- a number that no identity row of the kind has
 abbrev pub IsGap : ℤ → Tables → ℤ → Type 0
 IsGap kind t number = (is_within (pos 1) greatest_number number ≡ true) × (is_taken kind number t ≡ false)
+
+-- each number of the kind is taken
+abbrev pub AreTaken : ℤ → Tables → Type 0
+AreTaken kind t = (number : ℤ) → is_within (pos 1) greatest_number number ≡ true → is_taken kind number t ≡ true
+
+-- a gap, and none where each number is taken
+abbrev pub FindsGap : ℤ → Tables → Option ℤ → Type 0
+FindsGap kind t (Some number) = IsGap kind t number
+FindsGap kind t None = AreTaken kind t
 
 -- the row of a content comes in, where its number is free
 abbrev pub AddsContent : ℤ → Content → Tables → Tables → Type 0

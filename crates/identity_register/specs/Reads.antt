@@ -12,11 +12,14 @@ use Rattle.sheet_types.specs.World.{Package, item_key, link_key, receipt_key, ki
 use Rattle.sheet_types.specs.Lines.{is_uuid, is_bytes}
 use Rattle.sheet_types.specs.Register.{HasEnds}
 use Rattle.sheet_types.specs.declared.command.Item.{Item}
+use Rattle.sheet_types.specs.declared.command.Mapping.{Mapping}
+use Rattle.sheet_types.specs.declared.command.Mapping.TheVariants.{TilesMedia, RowsMedia, RowsTiles}
 use Rattle.sheet_types.specs.declared.command.Relation.{Relation}
 use Rattle.sheet_types.specs.declared.frame.Frame.{Frame}
 use Rattle.sheet_types.specs.declared.receipt.Moved.{Moved}
 use Rattle.sheet_types.specs.declared.receipt.Receipt.{Receipt}
-use Rattle.package_tables.specs.Shapes.{tile_shape, medium_shape, attribute_shape, tiles_media_shape, rows_media_shape, identity_shape, receipt_shape, moved_shape}
+use Rattle.package_tables.specs.Mappings.{pair_shape}
+use Rattle.package_tables.specs.Shapes.{tile_shape, medium_shape, attribute_shape, identity_shape, receipt_shape, moved_shape}
 use Rattle.package_tables.specs.Creation.{head_of}
 use Rattle.package_tables.specs.Package.{Tables, tables_of, AreFormed}
 use Rattle.package_tables.specs.Fixed.{HasFixed}
@@ -28,7 +31,7 @@ use Rattle.package_tables.specs.declared.rows.MediaRow.{MediaRow}
 use Rattle.package_tables.specs.declared.rows.MovedRow.{MovedRow}
 use Rattle.package_tables.specs.declared.rows.ReceiptRow.{ReceiptRow}
 use Rattle.package_tables.specs.declared.rows.TileRow.{TileRow}
-use Rattle.identity_register.specs.Numbering.{Numbered, IsNumbering, tile_rows, media_rows, attribute_rows, identity_row, tiles_media_rows, rows_media_rows}
+use Rattle.identity_register.specs.Numbering.{Numbered, IsNumbering, tile_rows, media_rows, attribute_rows, identity_row, rows_in}
 
 -- the head of a package, made at a moment
 abbrev pub head_row : Package → List ℕ → HeadRow
@@ -93,12 +96,17 @@ pub record SaysItems (numbered : List Numbered) (of_package : List Item) (tile_t
   pub rows : row_table ≡ arranged attribute_shape.key (flat_map (λ n. attribute_rows n.number n.item.content) numbered)
   pub identities : identity_table ≡ arranged identity_shape.key (map identity_row numbered)
 
--- The links are the package's, each once; the rows of their ends' numbers are all that the mapping tables hold.
-pub record SaysLinks (numbered : List Numbered) (linked of_package : List Relation) (tiles_media_table rows_media_table : List MappingRow) : Type 0 where
+-- the table of a mapping holds the rows of its links, by the numbers of their ends, and no others
+abbrev pub SaysPairs : Mapping → List Numbered → List Relation → List MappingRow → Type 0
+SaysPairs m numbered linked table = table ≡ arranged (pair_shape m).key (flat_map (rows_in m numbered) linked)
+
+-- The links are the package's, each once; their rows are all that the mapping tables hold.
+pub record SaysLinks (numbered : List Numbered) (linked of_package : List Relation) (tiles_media_table rows_media_table rows_tiles_table : List MappingRow) : Type 0 where
   pub distinct_links : IsDistinct bytes_eq (map link_key linked)
   pub links : of_package ≡ arranged link_key linked
-  pub tiles_media : tiles_media_table ≡ arranged tiles_media_shape.key (flat_map (λ l. tiles_media_rows numbered l l.mapping) linked)
-  pub rows_media : rows_media_table ≡ arranged rows_media_shape.key (flat_map (λ l. rows_media_rows numbered l l.mapping) linked)
+  pub tiles_media : SaysPairs TilesMedia numbered linked tiles_media_table
+  pub rows_media : SaysPairs RowsMedia numbered linked rows_media_table
+  pub rows_tiles : SaysPairs RowsTiles numbered linked rows_tiles_table
 
 -- The receipts are the package's, each once and fit to be read back; their rows and those of what they moved are all that these tables hold.
 pub record SaysReceipts (entered of_package : List Receipt) (receipt_table : List ReceiptRow) (moved_table : List MovedRow) : Type 0 where
@@ -120,7 +128,7 @@ pub record Says (f : Frame) (p : Package) (t : Tables) : Type 0 where
   pub open of_items use *
   pub linked : List Relation
   pub ends : AllByRecursion (HasEnds p) linked
-  pub of_links : SaysLinks numbered linked p.links t.tiles_media t.rows_media
+  pub of_links : SaysLinks numbered linked p.links t.tiles_media t.rows_media t.rows_tiles
   pub open of_links use *
   pub entered : List Receipt
   pub of_receipts : SaysReceipts entered p.receipts t.receipts t.moved

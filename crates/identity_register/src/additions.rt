@@ -8,7 +8,8 @@ ghost use Rattle.sheet_types.specs.World.{kind_number};
 ghost use Rattle.package_tables.specs.Calls.{OnTables, Answers};
 ghost use Rattle.identity_register.specs.Calls.{Becomes};
 ghost use Rattle.identity_register.specs.Changes.{IsNewItem, item_added};
-ghost use Rattle.identity_register.specs.Numbering.{IsGreatestOf, IsTaken, IsGap, AddsContent, greatest_number, number_after};
+ghost use Rattle.identity_register.specs.Numbering.{IsGreatestOf, IsTaken, FindsGap, AddsContent, greatest_number, number_after};
+ghost use Rattle.identity_register.specs.Room.{ComesIn};
 
 use package_tables::attributes::{greatest_attribute_id, insert_attribute};
 use package_tables::fault::Fault;
@@ -61,24 +62,27 @@ fn is_taken<S: Alter>(tx: &mut Transaction<'_, S>, kind: i64, number: i64) -> Re
     Ok(found.is_some())
 }
 
-/// The first number that no item of the kind has.
-fn first_gap<S: Alter>(tx: &mut Transaction<'_, S>, kind: i64) -> Result<i64, Fault>
+/// The first number that no item of the kind has; none where each is taken.
+fn first_gap<S: Alter>(tx: &mut Transaction<'_, S>, kind: i64) -> Result<Option<i64>, Fault>
     ensures same_reference { tx.new.conn.ghost_name ≡ tx.old.conn.ghost_name }
-    ensures steps { Steps (Answers (IsGap kind)) (state S.Store tx.old.conn.now) (state S.Store tx.new.conn.now) result }
+    ensures steps { Steps (Answers (FindsGap kind)) (state S.Store tx.old.conn.now) (state S.Store tx.new.conn.now) result }
 {
     for number in 1..=GREATEST {
         let taken = is_taken(tx, kind, number)?;
         if !taken {
-            return Ok(number);
+            return Ok(Some(number));
         }
     }
-    Err(Fault::StoreFault)
+    Ok(None)
 }
 
-/// A number that no item of the kind has: the one after the greatest, and where that is taken, as where the greatest is the last that may be, the first.
-fn free_number<S: Alter>(tx: &mut Transaction<'_, S>, content: &Content) -> Result<i64, Fault>
+/// A number that no item of the kind has: the one after the greatest, and where that is taken, as where the greatest is the last that may be, the first. None where each is taken.
+fn free_number<S: Alter>(
+    tx: &mut Transaction<'_, S>,
+    content: &Content,
+) -> Result<Option<i64>, Fault>
     ensures same_reference { tx.new.conn.ghost_name ≡ tx.old.conn.ghost_name }
-    ensures steps { Steps (Answers (IsGap (pos (kind_number (kind_of content.now))))) (state S.Store tx.old.conn.now) (state S.Store tx.new.conn.now) result }
+    ensures steps { Steps (Answers (FindsGap (pos (kind_number (kind_of content.now))))) (state S.Store tx.old.conn.now) (state S.Store tx.new.conn.now) result }
 {
     let kind = stored_kind(content);
     let number = number_after(greatest(tx, content)?);
@@ -86,7 +90,7 @@ fn free_number<S: Alter>(tx: &mut Transaction<'_, S>, content: &Content) -> Resu
     if taken {
         return first_gap(tx, kind);
     }
-    Ok(number)
+    Ok(Some(number))
 }
 
 /// Puts the row of a content into its table.
@@ -115,6 +119,29 @@ fn put_content<S: Alter>(
     }
 }
 
+/// Takes an item in under a new identity and a local number of its own. Tells whether there was a number for it: where all 1,000,000 of its kind are taken, nothing is changed.
+///
+/// # Errors
+///
+/// Want of memory, or a store that failed. Nothing is committed; the transaction has to be dropped.
+pub fn add_if_room<S: Alter>(
+    tx: &mut Transaction<'_, S>,
+    identity: Uuid,
+    content: &Content,
+) -> Result<bool, Fault>
+    ensures same_reference { tx.new.conn.ghost_name ≡ tx.old.conn.ghost_name }
+    ensures steps { Steps (ComesIn (record { identity = identity; content = content.now })) (state S.Store tx.old.conn.now) (state S.Store tx.new.conn.now) result }
+{
+    let Some(number) = free_number(tx, content)? else {
+        return Ok(false);
+    };
+    put_content(tx, number, content)?;
+    let mut buffer = Uuid::encode_buffer();
+    let text = identity.hyphenated().encode_lower(&mut buffer);
+    insert_identity(tx, stored_kind(content), number, text)?;
+    Ok(true)
+}
+
 /// Takes an item in under a new identity and a local number of its own.
 ///
 /// # Errors
@@ -128,9 +155,6 @@ pub fn add<S: Alter>(
     ensures same_reference { tx.new.conn.ghost_name ≡ tx.old.conn.ghost_name }
     ensures steps { Steps (λ _. Becomes (IsNewItem identity) (item_added (record { identity = identity; content = content.now }))) (state S.Store tx.old.conn.now) (state S.Store tx.new.conn.now) result }
 {
-    let number = free_number(tx, content)?;
-    put_content(tx, number, content)?;
-    let mut buffer = Uuid::encode_buffer();
-    let text = identity.hyphenated().encode_lower(&mut buffer);
-    insert_identity(tx, stored_kind(content), number, text)
+    let came = add_if_room(tx, identity, content)?;
+    if came { Ok(()) } else { Err(Fault::StoreFault) }
 }

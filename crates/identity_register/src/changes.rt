@@ -34,21 +34,21 @@ fn row_of_item<S: Alter>(tx: &mut Transaction<'_, S>, identity: Uuid) -> Result<
 #[derive(Drop)]
 pub struct EndRows {
     pub base: IdentityRow,
-    pub media: IdentityRow,
+    pub other: IdentityRow,
 }
 
-/// The rows that stand for the base and the medium of a link.
+/// The rows that stand for the ends of a link.
 fn rows_of_ends<S: Alter>(
     tx: &mut Transaction<'_, S>,
     base: Uuid,
-    media: Uuid,
+    other: Uuid,
 ) -> Result<EndRows, Fault>
     ensures same_reference { tx.new.conn.ghost_name ≡ tx.old.conn.ghost_name }
-    ensures steps { Steps (Answers (AreRowsOfEnds base media)) (state S.Store tx.old.conn.now) (state S.Store tx.new.conn.now) result }
+    ensures steps { Steps (Answers (AreRowsOfEnds base other)) (state S.Store tx.old.conn.now) (state S.Store tx.new.conn.now) result }
 {
     let base = row_of_item(tx, base)?;
-    let media = row_of_item(tx, media)?;
-    Ok(EndRows { base, media })
+    let other = row_of_item(tx, other)?;
+    Ok(EndRows { base, other })
 }
 
 /// Takes out the row of a user table, by its kind and number.
@@ -99,8 +99,8 @@ pub fn link<S: Alter>(tx: &mut Transaction<'_, S>, relation: Relation) -> Result
     ensures same_reference { tx.new.conn.ghost_name ≡ tx.old.conn.ghost_name }
     ensures steps { Steps (λ _. Becomes (IsNewLink relation) (link_added relation)) (state S.Store tx.old.conn.now) (state S.Store tx.new.conn.now) result }
 {
-    let EndRows { base, media } = rows_of_ends(tx, relation.base, relation.media)?;
-    insert_pair(tx, relation.mapping, base.local_id, media.local_id)
+    let EndRows { base, other } = rows_of_ends(tx, relation.base, relation.other)?;
+    insert_pair(tx, relation.mapping, base.local_id, other.local_id)
 }
 
 /// Takes a link out that is there.
@@ -112,6 +112,6 @@ pub fn unlink<S: Alter>(tx: &mut Transaction<'_, S>, relation: Relation) -> Resu
     ensures same_reference { tx.new.conn.ghost_name ≡ tx.old.conn.ghost_name }
     ensures steps { Steps (λ _. Becomes (IsLink relation) (link_removed relation)) (state S.Store tx.old.conn.now) (state S.Store tx.new.conn.now) result }
 {
-    let EndRows { base, media } = rows_of_ends(tx, relation.base, relation.media)?;
-    delete_pair(tx, relation.mapping, base.local_id, media.local_id)
+    let EndRows { base, other } = rows_of_ends(tx, relation.base, relation.other)?;
+    delete_pair(tx, relation.mapping, base.local_id, other.local_id)
 }

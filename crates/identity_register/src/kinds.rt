@@ -15,6 +15,13 @@ pub const MEDIUM: i64 = 2;
 /// An attributes row.
 pub const ROW: i64 = 3;
 
+/// The number by which a kind is stored.
+pub fn number_of_kind(kind: MovedKind) -> i64
+    ensures { result ≡ pos (kind_number kind) }
+{
+    i64::from(kind.number())
+}
+
 /// The kind that is stored by this number.
 pub fn kind_of_number(number: i64) -> Result<MovedKind, Fault>
     ensures kind { IfOk result (λ kind. number ≡ pos (kind_number kind)) }

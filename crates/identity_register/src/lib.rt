@@ -9,6 +9,8 @@ pub mod fitting;
 pub mod kinds;
 pub mod laws;
 pub mod look_ups;
+pub mod reach;
 mod row_contents;
+pub mod selection;
 pub mod stored_texts;
 pub mod whole;

@@ -1,6 +1,6 @@
 //! What is asked of a package at rest, each by a key or an index. An error is want of memory, a store that failed, or rows that
 //! no package has; the store holds what it held.
-ghost use Rattle.std.specs.Prelude.{◌≡◌, bytes_eq};
+ghost use Rattle.std.specs.Prelude.{◌≡◌, true, bytes_eq, IfOk};
 ghost use Rattle.std.specs.Bool.{then_some};
 ghost use Rattle.std.specs.List.{list_any};
 ghost use Rattle.sqlite.specs.Held.{state};
@@ -12,10 +12,10 @@ ghost use Rattle.sheet_types.specs.Refuse.{is_at};
 ghost use Rattle.sheet_types.specs.Texts.{uuid_text};
 ghost use Rattle.sheet_types.specs.World.{has_item, item_of, link_key};
 ghost use Rattle.package_tables.specs.Calls.{LooksUp, IsOneOf};
-ghost use Rattle.identity_register.specs.Answers.{is_linked_medium, is_linked_row, are_ends, link_state, IsContentOf};
+ghost use Rattle.identity_register.specs.Answers.{is_named_by, is_linked_row, is_end, AreMappingsOf, are_ends, link_state, IsContentOf};
 ghost use Rattle.identity_register.specs.Calls.{Sees};
 
-use crate::kinds::{MEDIUM, ROW, TILE};
+use crate::kinds::{MEDIUM, ROW, TILE, number_of_kind};
 use crate::row_contents::{of_attributes, of_medium, of_tile};
 use package_tables::attributes::attribute_by_id;
 use package_tables::fault::Fault;
@@ -29,7 +29,10 @@ use sqlite::{Alter, Connection};
 use uuid::Uuid;
 
 /// The row that stands for an item.
-fn row_of<S: Alter>(conn: &mut Connection<S>, identity: Uuid) -> Result<Option<IdentityRow>, Fault>
+pub(crate) fn row_of<S: Alter>(
+    conn: &mut Connection<S>,
+    identity: Uuid,
+) -> Result<Option<IdentityRow>, Fault>
     requires { Rests (state S.Store conn.old) }
     ensures looked { LooksUp (λ t. IsOneOf (λ x. bytes_eq x.uuid (uuid_text identity)) t.identities) (state S.Store conn.old) (state S.Store conn.new) result }
     ensures fit { IsUuid identity }
@@ -57,10 +60,7 @@ pub fn has_tile_at<S: Alter>(
 fn are_ends(mapping: Mapping, base: i64, other: i64) -> bool
     ensures { result ≡ are_ends mapping base other }
 {
-    match mapping {
-        Mapping::TilesMedia => base == TILE && other == MEDIUM,
-        Mapping::RowsMedia => base == ROW && other == MEDIUM,
-    }
+    base == number_of_kind(mapping.base_kind()) && other == number_of_kind(mapping.other_kind())
 }
 
 /// What a package says of a link that is to come in.
@@ -88,7 +88,7 @@ pub fn link_state<S: Alter>(
     let Some(base) = row_of(conn, relation.base)? else {
         return Ok(LinkState::UnknownEnd);
     };
-    let Some(other) = row_of(conn, relation.media)? else {
+    let Some(other) = row_of(conn, relation.other)? else {
         return Ok(LinkState::UnknownEnd);
     };
     if !are_ends(relation.mapping, base.kind, other.kind) {
@@ -114,14 +114,35 @@ pub fn has_link<S: Alter>(conn: &mut Connection<S>, relation: Relation) -> Resul
     }
 }
 
-/// Whether a mapping table names the medium of this number.
-fn medium_is_linked<S: Alter>(conn: &mut Connection<S>, number: i64) -> Result<bool, Fault>
-    requires { Rests (state S.Store conn.old) }
-    ensures { LooksUp (λ t found. found ≡ is_linked_medium number t) (state S.Store conn.old) (state S.Store conn.new) result }
+/// The two mappings that relate items of a kind, which each kind has; a fault where the number is of no kind.
+pub(crate) fn mappings_of(kind: i64) -> Result<(Mapping, Mapping), Fault>
+    ensures { IfOk result (λ both. AreMappingsOf kind both.0 both.1) }
 {
-    let to_tile = pair_of_related(conn, Mapping::TilesMedia, number)?;
-    let to_row = pair_of_related(conn, Mapping::RowsMedia, number)?;
-    Ok(to_tile.is_some() || to_row.is_some())
+    match kind {
+        TILE => Ok((Mapping::TilesMedia, Mapping::RowsTiles)),
+        MEDIUM => Ok((Mapping::TilesMedia, Mapping::RowsMedia)),
+        ROW => Ok((Mapping::RowsMedia, Mapping::RowsTiles)),
+        _ => Err(Fault::StoreFault),
+    }
+}
+
+/// Whether the table of a mapping names the row of this kind and number; the mapping relates items of that kind.
+fn is_named_by<S: Alter>(
+    conn: &mut Connection<S>,
+    mapping: Mapping,
+    kind: i64,
+    number: i64,
+) -> Result<bool, Fault>
+    requires rests { Rests (state S.Store conn.old) }
+    requires end { is_end mapping kind ≡ true }
+    ensures { LooksUp (λ t found. found ≡ is_named_by mapping kind number t) (state S.Store conn.old) (state S.Store conn.new) result }
+{
+    if kind == number_of_kind(mapping.base_kind()) {
+        let found = pair_of_base(conn, mapping, number)?;
+        return Ok(found.is_some());
+    }
+    let found = pair_of_related(conn, mapping, number)?;
+    Ok(found.is_some())
 }
 
 /// Whether a mapping table names the row of this kind and number.
@@ -129,17 +150,10 @@ fn row_is_linked<S: Alter>(conn: &mut Connection<S>, kind: i64, number: i64) -> 
     requires { Rests (state S.Store conn.old) }
     ensures { LooksUp (λ t found. found ≡ is_linked_row kind number t) (state S.Store conn.old) (state S.Store conn.new) result }
 {
-    match kind {
-        TILE => {
-            let found = pair_of_base(conn, Mapping::TilesMedia, number)?;
-            Ok(found.is_some())
-        }
-        MEDIUM => medium_is_linked(conn, number),
-        _ => {
-            let found = pair_of_base(conn, Mapping::RowsMedia, number)?;
-            Ok(found.is_some())
-        }
-    }
+    let (one, another) = mappings_of(kind)?;
+    let by_one = is_named_by(conn, one, kind, number)?;
+    let by_another = is_named_by(conn, another, kind, number)?;
+    Ok(by_one | by_another)
 }
 
 /// Whether a link of the package names the item; `None` where the package has no such item.

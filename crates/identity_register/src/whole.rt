@@ -1,19 +1,19 @@
 //! What a whole package holds, read by one statement a table. Identity rows and the rows of the user tables are both read
 //! in the order of kind and number, so that each identity meets its content without a look-up. An error is want of memory, a
 //! store that failed, or rows that no package has; the store holds what it held.
-ghost use Rattle.std.specs.Prelude.{◌≡◌, ◌++◌, map, pos, bytes_eq, IfOk, IfErr, IsTrue, IsPermutation};
+ghost use Rattle.std.specs.Prelude.{◌≡◌, ◌++◌, map, bytes_eq, IfOk, IfErr, IsTrue, IsPermutation};
 ghost use Rattle.std.specs.List.{AllByRecursion, AllZip, IsDistinct};
 ghost use Rattle.sqlite.specs.Held.{state};
 ghost use Rattle.sql_meaning.specs.Transactions.{Rests, Looks};
 ghost use Rattle.sheet_types.specs.Lines.{IsUuid};
 ghost use Rattle.sheet_types.specs.Ordered.{IsArranged};
 ghost use Rattle.sheet_types.specs.Texts.{uuid_text};
-ghost use Rattle.sheet_types.specs.World.{item_key, link_key, kind_number, base_kind};
+ghost use Rattle.sheet_types.specs.World.{item_key, link_key};
 ghost use Rattle.package_tables.specs.Calls.{LooksUp};
 ghost use Rattle.identity_register.specs.Calls.{Sees};
-ghost use Rattle.identity_register.specs.Gathered.{tile_placed, medium_placed, attributes_placed, IsPlaced, IsItemOf, AreItemsBy, IsNamed, IsLinkOf, AreLinksBy};
+ghost use Rattle.identity_register.specs.Gathered.{tile_placed, medium_placed, attributes_placed, IsPlaced, IsItemOf, AreItemsBy, IsNamed, IsLinkOf, AreLinksIn, AreLinksBy};
 
-use crate::kinds::{MEDIUM, ROW, TILE};
+use crate::kinds::{MEDIUM, ROW, TILE, number_of_kind};
 use crate::row_contents::{of_attributes, of_medium, of_tile};
 use crate::stored_texts::stored_uuid;
 use package_tables::attributes::all_attributes;
@@ -149,26 +149,16 @@ fn name_of(rows: &[IdentityRow], kind: i64, number: i64) -> Result<Uuid, Fault>
     stored_uuid(row.uuid.as_str())
 }
 
-/// The kind that a mapping has at its base, by its number.
-fn base_number(mapping: Mapping) -> i64
-    ensures { result ≡ pos (kind_number (base_kind mapping)) }
-{
-    match mapping {
-        Mapping::TilesMedia => TILE,
-        Mapping::RowsMedia => ROW,
-    }
-}
-
 /// The link of a row of a mapping table.
 fn link_of(mapping: Mapping, rows: &[IdentityRow], pair: MappingRow) -> Result<Relation, Fault>
     ensures { IfOk result (λ link. IsLinkOf mapping rows.now pair link) }
 {
-    let base = name_of(rows, base_number(mapping), pair.base_id)?;
-    let media = name_of(rows, MEDIUM, pair.related_id)?;
+    let base = name_of(rows, number_of_kind(mapping.base_kind()), pair.base_id)?;
+    let other = name_of(rows, number_of_kind(mapping.other_kind()), pair.related_id)?;
     Ok(Relation {
         mapping,
         base,
-        media,
+        other,
     })
 }
 
@@ -188,13 +178,27 @@ fn links_of(
     Ok(links)
 }
 
-/// The links by mapping, base and medium; a fault where one is there twice, as in no package.
-fn links_in_order(mut links: Vec<Relation>) -> Result<Vec<Relation>, Fault>
+/// The links of one mapping table of the package whose identity rows these are.
+fn links_in<S: Alter>(
+    conn: &mut Connection<S>,
+    mapping: Mapping,
+    rows: &[IdentityRow],
+    alloc: Global,
+) -> Result<Vec<Relation>, Fault>
+    requires { Rests (state S.Store conn.old) }
+    ensures { LooksUp (λ t links. AreLinksIn mapping rows.now t links.items) (state S.Store conn.old) (state S.Store conn.new) result }
+{
+    let pairs = all_pairs(conn, mapping, alloc)?;
+    links_of(mapping, rows, &pairs, alloc)
+}
+
+/// The links by mapping, base and other end; a fault where one is there twice, as in no package.
+pub(crate) fn links_in_order(mut links: Vec<Relation>) -> Result<Vec<Relation>, Fault>
     ensures same { IfOk result (λ sorted. IsPermutation links.items sorted.items) }
     ensures order { IfOk result (λ sorted. IsArranged link_key sorted.items) }
     ensures twice { IfErr result (λ _. AllByRecursion (λ l. IsUuid l.base) links.items → IsDistinct bytes_eq (map link_key links.items) → ⊥) }
 {
-    links.sort_unstable_by_key(|link| (link.mapping.link_kind().number(), link.base, link.media));
+    links.sort_unstable_by_key(|link| (link.mapping.link_kind().number(), link.base, link.other));
     if links.is_sorted_by(|link, next| link_is_before(link, next)) {
         Ok(links)
     } else {
@@ -202,7 +206,7 @@ fn links_in_order(mut links: Vec<Relation>) -> Result<Vec<Relation>, Fault>
     }
 }
 
-/// All links of the package whose identity rows these are, by mapping, base and medium.
+/// All links of the package whose identity rows these are, by mapping, base and other end.
 fn links_by<S: Alter>(
     conn: &mut Connection<S>,
     rows: &[IdentityRow],
@@ -211,15 +215,15 @@ fn links_by<S: Alter>(
     requires { Rests (state S.Store conn.old) }
     ensures { LooksUp (λ t found. AreLinksBy rows.now t found.items) (state S.Store conn.old) (state S.Store conn.new) result }
 {
-    let of_tiles = all_pairs(conn, Mapping::TilesMedia, alloc)?;
-    let of_rows = all_pairs(conn, Mapping::RowsMedia, alloc)?;
-    let mut links = links_of(Mapping::TilesMedia, rows, &of_tiles, alloc)?;
-    let others = links_of(Mapping::RowsMedia, rows, &of_rows, alloc)?;
-    links.extend_from_slice(&others)?;
+    let mut links = links_in(conn, Mapping::TilesMedia, rows, alloc)?;
+    let rows_media = links_in(conn, Mapping::RowsMedia, rows, alloc)?;
+    let rows_tiles = links_in(conn, Mapping::RowsTiles, rows, alloc)?;
+    links.extend_from_slice(&rows_media)?;
+    links.extend_from_slice(&rows_tiles)?;
     links_in_order(links)
 }
 
-/// All items of the package, by kind and identity, and all its links, by mapping, base and medium. The identity rows are read once for both.
+/// All items of the package, by kind and identity, and all its links, by mapping, base and other end. The identity rows are read once for both.
 pub fn holdings<S: Alter>(
     conn: &mut Connection<S>,
     alloc: Global,

@@ -1,13 +1,15 @@
 -- The statements on `sheet_rows`. Written by tools/statements.py.
 use Rattle.std.proofs.Common.{ℕ, ℤ, List, [], ◌∷◌, true, codes, refl}
+use Rattle.std.specs.Prelude.{◌&&◌, int_le, int_lt}
 use Rattle.std.specs.Ordering.{int_eq, int_cmp, on}
+use Rattle.sqlite_sql.specs.declared.ops.CompareOp.TheVariants.{Ge, Le, Gt, Lt}
 use Rattle.std.proofs.lemmas.Cmp.{on_total, int_cmp_total}
 use Rattle.sqlite.specs.Order.{Row}
 use Rattle.sqlite.specs.Term.{col}
 use Rattle.sqlite.specs.declared.types.Value.TheVariants.{Int, Null, Text}
 use Rattle.sqlite_tied.specs.Compute.{everything}
 use Rattle.sql_meaning.specs.Resolving.{resolving}
-use Rattle.sql_meaning.specs.Reading.{always, equals, ascending, descending}
+use Rattle.sql_meaning.specs.Reading.{always, equals, compares, both, ascending, descending}
 use Rattle.sql_meaning.proofs.Insert.{IsInsert, IsRow}
 use Rattle.sql_meaning.proofs.Delete.{IsDelete, IsPlannedDelete}
 use Rattle.sql_meaning.proofs.Resolve.{one_table, one_source}
@@ -21,7 +23,7 @@ use Rattle.package_tables.specs.declared.rows.AttributeRow.{AttributeRow}
 use Rattle.package_tables.proofs.Looking.{IsKnown, IsLookUp, IsRanked}
 use Rattle.package_tables.proofs.Newest.{IsNewest}
 use Rattle.package_tables.proofs.Ranking.{one_number}
-use Rattle.package_tables.proofs.Values.{same_number}
+use Rattle.package_tables.proofs.Values.{same_number, at_least, at_most, above, below, both_same}
 use Rattle.package_tables.proofs.Written.{attributes_listed}
 
 pub insert_text : (tree : ℕ) → IsInsert (codes "INSERT INTO sheet_rows VALUES (?1, ?2, ?3, ?4, ?5)") (sheet_rows tree)
@@ -67,6 +69,31 @@ attribute_by_id_plan tree schema at h = rw (h.stored, h.by_tree) refl
 
 pub attribute_by_id : (id : ℤ) → IsLookUp attribute_shape attribute_shown (codes "SELECT * FROM sheet_rows WHERE id = ?1") (Int id ∷ []) (λ x. int_eq x.id id)
 attribute_by_id id = record { test = _; by = _; selects = attribute_by_id_text; planned = attribute_by_id_plan; given = refl; listing = _; is = λ tree. refl; shows = λ v x. refl; passing = λ v x. (same_number x.id id) }
+
+attributes_within_text : (tree : ℕ) → IsSelect (codes "SELECT * FROM sheet_rows WHERE x >= ?1 AND x < ?2 AND y > ?3 AND y <= ?4") (sheet_rows tree) (both (both (both (compares Ge 1 0) (compares Lt 1 1)) (compares Gt 2 2)) (compares Le 2 3)) []
+unfolding everything
+attributes_within_text tree = record {
+  parse = _;
+  asks = _;
+  src = _;
+  item = _;
+  parsed = refl;
+  statement = refl;
+  formats = refl;
+  one = one_table refl refl refl refl refl refl refl refl refl refl refl refl refl refl refl;
+  condition = (_, refl, (_, _, refl, (_, _, refl, (_, _, refl, (_, _, _, _, refl, refl, refl, refl, refl, refl, refl), (_, _, _, _, refl, refl, refl, refl, refl, refl, refl)), (_, _, _, _, refl, refl, refl, refl, refl, refl, refl)), (_, _, _, _, refl, refl, refl, refl, refl, refl, refl)));
+  enough = refl;
+  few = λ at. refl;
+  some = λ at. refl;
+  sorted = λ schema at. (_, refl, refl);
+}
+
+attributes_within_plan : (tree : ℕ) → IsPlannedSelect (sheet_rows tree) (both (both (both (compares Ge 1 0) (compares Lt 1 1)) (compares Gt 2 2)) (compares Le 2 3)) []
+unfolding resolving
+attributes_within_plan tree schema at h = rw (h.stored, h.by_tree) refl
+
+pub attributes_within : (west : ℤ) (east : ℤ) (south : ℤ) (north : ℤ) → IsLookUp attribute_shape attribute_shown (codes "SELECT * FROM sheet_rows WHERE x >= ?1 AND x < ?2 AND y > ?3 AND y <= ?4") (Int west ∷ Int east ∷ Int south ∷ Int north ∷ []) (λ x. int_le west x.x && int_lt x.x east && int_lt south x.y && int_le x.y north)
+attributes_within west east south north = record { test = _; by = _; selects = attributes_within_text; planned = attributes_within_plan; given = refl; listing = _; is = λ tree. refl; shows = λ v x. refl; passing = λ v x. (both_same (both_same (both_same (at_least x.x west) (below x.x east)) (above x.y south)) (at_most x.y north)) }
 
 all_text : (tree : ℕ) → IsSelect (codes "SELECT * FROM sheet_rows ORDER BY id") (sheet_rows tree) always ((col 1 0, ascending) ∷ [])
 unfolding everything

@@ -1,5 +1,5 @@
 -- The rows that the frame gives: its own reference system, and its levels, as they come in.
-use Rattle.std.proofs.Common.{◌≡◌, ◌≢◌, ℕ, ℤ, pos, negsuc, ◌<◌, ◌+◌, List, [], ◌∷◌, true, false, refl, sym, ◌∙◌, arith, map, unsigned_abs, ◌+ℤ◌, ◌≤ℤ◌, ◌<ℤ◌, zero, suc, ◌≤◌}
+use Rattle.std.proofs.Common.{◌≡◌, ◌≢◌, ℕ, ℤ, pos, negsuc, ◌<◌, ◌+◌, List, [], ◌∷◌, true, false, refl, sym, ◌∙◌, arith, map, unsigned_abs, ◌+ℤ◌, ◌≤ℤ◌, zero, suc, ◌≤◌}
 use Rattle.std.specs.Prelude.{◌||◌, bytes_eq}
 use Rattle.std.specs.List.{AllByRecursion, range_with_len}
 use Rattle.std.specs.Ordering.{int_eq, nat_cmp}
@@ -9,7 +9,6 @@ use Rattle.std.proofs.lemmas.Cmp.{ranked}
 use Rattle.std.proofs.lemmas.List.FromFn.{map-range_with_len_more}
 use Rattle.sheet_types.proofs.Order.{put_last}
 use Rattle.sheet_types.proofs.Basics.{before-differs}
-use Rattle.matrix_rules.proofs.Frames.{GoodFrame}
 use Rattle.std.specs.Cmp.{signed_Decides}
 use Rattle.std.proofs.lemmas.Bool.{true≢false, false_from_ne_true, or_parts}
 use Rattle.std.proofs.lemmas.Slice.Eq.{bytes_eq-Decides}
@@ -75,12 +74,3 @@ level_free f k low = none_has tile_matrix_shape.key (level_row f (f.first_zoom +
 
 pub level_comes : (f : Frame) (k : ℕ) → pos 0 ≤ℤ f.first_zoom → put tile_matrix_shape.key (level_row f (f.first_zoom +ℤ pos k)) (first_levels f k) ≡ first_levels f (k + 1)
 level_comes f k low = put_last tile_matrix_shape.key (level_row f (f.first_zoom +ℤ pos k)) (first_levels f k) (earlier f k 0 k low (omega arith)) ∙ sym (map-range_with_len_more (λ j. level_row f (f.first_zoom +ℤ pos j)) 0 k k (omega arith))
-
--- how far below the first a level of the frame lies
-pub small_level : (f : Frame) (k : ℕ) → GoodFrame f → k < unsigned_abs f.levels → (k < 21) × ((f.first_zoom +ℤ pos k) <ℤ (f.first_zoom +ℤ f.levels)) × ((f.first_zoom +ℤ pos k) ≤ℤ pos 21)
-small_level f k good lt = few f.first_zoom f.levels good.first_zoom good.levels good.zooms lt
-  where
-    few : (z l : ℤ) → pos 0 ≤ℤ z → pos 1 ≤ℤ l → (z +ℤ l) ≤ℤ pos 21 → k < unsigned_abs l → (k < 21) × ((z +ℤ pos k) <ℤ (z +ℤ l)) × ((z +ℤ pos k) ≤ℤ pos 21)
-    few (pos z) (pos l) low some most lt = (omega (arith, ints, most, lt), omega (arith, ints, lt), omega (arith, ints, most, lt))
-    few (negsuc z) l low some most lt = absurd (omega (arith, ints, low))
-    few (pos z) (negsuc l) low some most lt = absurd (omega (arith, ints, some))

@@ -6,11 +6,13 @@ pub mod Reading
 pub mod Ranking
 pub mod Looking
 pub mod Newest
+pub mod Next
 pub mod Values
 pub mod TileStatements
 pub mod MediumStatements
 pub mod AttributeStatements
 pub mod TilesMediaStatements
+pub mod RowsTilesStatements
 pub mod RowsMediaStatements
 pub mod Pairs
 pub mod IdentityStatements

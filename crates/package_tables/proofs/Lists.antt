@@ -6,7 +6,7 @@ use Rattle.package_tables.specs.Shape.{IsShape, IsFormed, rows_of}
 use Rattle.package_tables.specs.Package.{Tables, tables_of, AreFormed}
 use Rattle.package_tables.specs.Listed.{Listed}
 
--- The table is one of the fourteen, a write to it changes this list and no other, and what is set is read. `proofs/Written` has each.
+-- The table is one of the fifteen, a write to it changes this list and no other, and what is set is read. `proofs/Written` has each.
 pub record IsListed {R : Type 0} (list : Listed R) : Type 0 where
   pub laws : IsShape list.shape
   pub formed : (db : Database) → AreFormed db → IsFormed list.shape db

@@ -36,7 +36,7 @@ use Rattle.package_tables.proofs.Ranking.{in_order}
 pub filter_every : {R : Type 0} {keeps : R → Bool} → ((x : R) → keeps x ≡ true) → (xs : List R) → filter keeps xs ≡ xs
 filter_every {R} {keeps} every xs = filter_all keeps xs (all_of (λ x. keeps x ≡ true) every xs)
 
--- the table is one of the fourteen, and a SELECT * shows its values so
+-- the table is one of the fifteen, and a SELECT * shows its values so
 pub record IsKnown {R : Type 0} (list : Listed R) (shown : R → Row) : Type 0 where
   pub is : IsListed list
   pub back : Row → R

@@ -123,3 +123,28 @@ moved_of_kind_plan tree schema at h = rw (h.stored, h.by_tree) refl
 
 pub moved_of_kind : (base : List ℕ) (kind : ℤ) → IsLookUp moved_shape moved_shown (codes "SELECT * FROM sheet_items WHERE base = ?1 AND kind = ?2") (Text base ∷ Int kind ∷ []) (λ x. bytes_eq x.base base && int_eq x.kind kind)
 moved_of_kind base kind = record { test = _; by = _; selects = moved_of_kind_text; planned = moved_of_kind_plan; given = refl; listing = _; is = λ tree. refl; shows = λ v x. refl; passing = λ v x. both_same (same_text x.base base) (same_number x.kind kind) }
+
+moved_at_text : (tree : ℕ) → IsSelect (codes "SELECT * FROM sheet_items WHERE seq = ?1 AND position = ?2") (sheet_items tree) (both (equals 0 0) (equals 1 1)) []
+unfolding everything
+moved_at_text tree = record {
+  parse = _;
+  asks = _;
+  src = _;
+  item = _;
+  parsed = refl;
+  statement = refl;
+  formats = refl;
+  one = one_table refl refl refl refl refl refl refl refl refl refl refl refl refl refl refl;
+  condition = (_, refl, (_, _, refl, (_, _, _, _, refl, refl, refl, refl, refl, refl, refl), (_, _, _, _, refl, refl, refl, refl, refl, refl, refl)));
+  enough = refl;
+  few = λ at. refl;
+  some = λ at. refl;
+  sorted = λ schema at. (_, refl, refl);
+}
+
+moved_at_plan : (tree : ℕ) → IsPlannedSelect (sheet_items tree) (both (equals 0 0) (equals 1 1)) []
+unfolding resolving
+moved_at_plan tree schema at h = rw (h.stored, h.by_tree) refl
+
+pub moved_at : (seq position : ℤ) → IsLookUp moved_shape moved_shown (codes "SELECT * FROM sheet_items WHERE seq = ?1 AND position = ?2") (Int seq ∷ Int position ∷ []) (λ x. int_eq x.seq seq && int_eq x.position position)
+moved_at seq position = record { test = _; by = _; selects = moved_at_text; planned = moved_at_plan; given = refl; listing = _; is = λ tree. refl; shows = λ v x. refl; passing = λ v x. both_same (same_number x.seq seq) (same_number x.position position) }

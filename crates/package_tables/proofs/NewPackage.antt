@@ -9,10 +9,10 @@ use Rattle.sqlite_schema.specs.Names.{same_name}
 use Rattle.sql_meaning.specs.Writing.{IsKeyed}
 use Rattle.sql_meaning.specs.Known.{IsQuiet}
 use Rattle.sql_meaning.specs.Blank.{IsBlank, no_schema}
-use Rattle.package_tables.specs.Tables.{gpkg_spatial_ref_sys, gpkg_contents, gpkg_tile_matrix_set, gpkg_tile_matrix, gpkgext_relations, sheet_tiles, sheet_media, sheet_rows, tiles_media, rows_media, sheet_package, sheet_identity, sheet_receipts, sheet_items}
+use Rattle.package_tables.specs.Tables.{gpkg_spatial_ref_sys, gpkg_contents, gpkg_tile_matrix_set, gpkg_tile_matrix, gpkgext_relations, sheet_tiles, sheet_media, sheet_rows, tiles_media, rows_media, rows_tiles, sheet_package, sheet_identity, sheet_receipts, sheet_items}
 use Rattle.package_tables.specs.Form.{IsPlaced, HasForm, tree_named}
 use Rattle.package_tables.specs.Shape.{Shape, IsFormed, stored_rows, rows_of}
-use Rattle.package_tables.specs.Shapes.{spatial_ref_sys_shape, contents_shape, tile_matrix_set_shape, tile_matrix_shape, relation_shape, tile_shape, medium_shape, attribute_shape, tiles_media_shape, rows_media_shape, head_shape, identity_shape, receipt_shape, moved_shape}
+use Rattle.package_tables.specs.Shapes.{spatial_ref_sys_shape, contents_shape, tile_matrix_set_shape, tile_matrix_shape, relation_shape, tile_shape, medium_shape, attribute_shape, tiles_media_shape, rows_media_shape, rows_tiles_shape, head_shape, identity_shape, receipt_shape, moved_shape}
 use Rattle.package_tables.specs.Package.{tables_of, AreFormed}
 use Rattle.package_tables.specs.SchemaMaking.{MadeBy, ChangedInside, FailsInside, FailsToMakeBy}
 use Rattle.package_tables.proofs.Texts.{texts, plan}
@@ -26,7 +26,7 @@ quiet = record {
   seq_at = 6;
   seq = 12;
   counts = record { named = refl; there = refl; stored = refl; by_tree = refl };
-  inert = (tt, (((refl, refl), tt), (((refl, refl), ((refl, refl), tt)), (((refl, refl), tt), (tt, (tt, (tt, (tt, (tt, (tt, (tt, (tt, (tt, (tt, (tt, tt)))))))))))))));
+  inert = (tt, (((refl, refl), tt), (((refl, refl), ((refl, refl), tt)), (((refl, refl), tt), (tt, (tt, (tt, (tt, (tt, (tt, (tt, (tt, (tt, (tt, (tt, (tt, tt))))))))))))))));
 }
 
 spatial_ref_sys : IsPlaced package_schema gpkg_spatial_ref_sys
@@ -69,21 +69,25 @@ has_rows_media : IsPlaced package_schema rows_media
 unfolding same_name
 has_rows_media = record { at = 10; tree = 17; has = record { named = refl; there = refl; stored = refl; by_tree = refl } }
 
+has_rows_tiles : IsPlaced package_schema rows_tiles
+unfolding same_name
+has_rows_tiles = record { at = 11; tree = 19; has = record { named = refl; there = refl; stored = refl; by_tree = refl } }
+
 head : IsPlaced package_schema sheet_package
 unfolding same_name
-head = record { at = 11; tree = 19; has = record { named = refl; there = refl; stored = refl; by_tree = refl } }
+head = record { at = 12; tree = 21; has = record { named = refl; there = refl; stored = refl; by_tree = refl } }
 
 identities : IsPlaced package_schema sheet_identity
 unfolding same_name
-identities = record { at = 12; tree = 20; has = record { named = refl; there = refl; stored = refl; by_tree = refl } }
+identities = record { at = 13; tree = 22; has = record { named = refl; there = refl; stored = refl; by_tree = refl } }
 
 receipts : IsPlaced package_schema sheet_receipts
 unfolding same_name
-receipts = record { at = 13; tree = 23; has = record { named = refl; there = refl; stored = refl; by_tree = refl } }
+receipts = record { at = 14; tree = 25; has = record { named = refl; there = refl; stored = refl; by_tree = refl } }
 
 receipt_items : IsPlaced package_schema sheet_items
 unfolding same_name
-receipt_items = record { at = 14; tree = 25; has = record { named = refl; there = refl; stored = refl; by_tree = refl } }
+receipt_items = record { at = 15; tree = 27; has = record { named = refl; there = refl; stored = refl; by_tree = refl } }
 
 pub form : HasForm package_schema
 form = record {
@@ -98,6 +102,7 @@ form = record {
   rows = rows;
   tiles_media = has_tiles_media;
   rows_media = has_rows_media;
+  rows_tiles = has_rows_tiles;
   head = head;
   identities = identities;
   receipts = receipts;
@@ -106,7 +111,7 @@ form = record {
 
 no_rows : (trees : Trees) → AllByRecursion (λ (t : Table). trees t.tree ≡ []) package_schema.tables → AllByRecursion (λ name. trees (tree_named package_schema name) ≡ []) table_names
 unfolding same_name
-no_rows trees (spatial, (contents, (sets, (matrices, (relations, (tiles, (counts, (media, (rows, (links, (others, (head, (identities, (receipts, (items, end))))))))))))))) = (spatial, (contents, (sets, (matrices, (relations, (tiles, (media, (rows, (links, (others, (head, (identities, (receipts, (items, end))))))))))))))
+no_rows trees (spatial, (contents, (sets, (matrices, (relations, (tiles, (counts, (media, (rows, (links, (others, (shown, (head, (identities, (receipts, (items, end)))))))))))))))) = (spatial, (contents, (sets, (matrices, (relations, (tiles, (media, (rows, (links, (others, (shown, (head, (identities, (receipts, (items, end)))))))))))))))
 
 -- a table that is there and has no rows holds rows of its kinds
 no_rows_formed : {R : Type 0} (shape : Shape R) (db : Database) → IsPlaced db.schema shape.table → stored_rows shape db ≡ [] → IsFormed shape db
@@ -135,14 +140,15 @@ module _ (db : Database) (it : IsEmptyForm db) where
     rows = no_rows_formed attribute_shape db it.form.rows it.empty.1.1.1.1.1.1.1.0;
     tiles_media = no_rows_formed tiles_media_shape db it.form.tiles_media it.empty.1.1.1.1.1.1.1.1.0;
     rows_media = no_rows_formed rows_media_shape db it.form.rows_media it.empty.1.1.1.1.1.1.1.1.1.0;
-    heads = no_rows_formed head_shape db it.form.head it.empty.1.1.1.1.1.1.1.1.1.1.0;
-    identities = no_rows_formed identity_shape db it.form.identities it.empty.1.1.1.1.1.1.1.1.1.1.1.0;
-    receipts = no_rows_formed receipt_shape db it.form.receipts it.empty.1.1.1.1.1.1.1.1.1.1.1.1.0;
-    moved = no_rows_formed moved_shape db it.form.receipt_items it.empty.1.1.1.1.1.1.1.1.1.1.1.1.1.0;
+    rows_tiles = no_rows_formed rows_tiles_shape db it.form.rows_tiles it.empty.1.1.1.1.1.1.1.1.1.1.0;
+    heads = no_rows_formed head_shape db it.form.head it.empty.1.1.1.1.1.1.1.1.1.1.1.0;
+    identities = no_rows_formed identity_shape db it.form.identities it.empty.1.1.1.1.1.1.1.1.1.1.1.1.0;
+    receipts = no_rows_formed receipt_shape db it.form.receipts it.empty.1.1.1.1.1.1.1.1.1.1.1.1.1.0;
+    moved = no_rows_formed moved_shape db it.form.receipt_items it.empty.1.1.1.1.1.1.1.1.1.1.1.1.1.1.0;
   }
 
   says : tables_of db ≡ empty_tables
-  says = rw (no_rows_say spatial_ref_sys_shape db it.empty.0, no_rows_say contents_shape db it.empty.1.0, no_rows_say tile_matrix_set_shape db it.empty.1.1.0, no_rows_say tile_matrix_shape db it.empty.1.1.1.0, no_rows_say relation_shape db it.empty.1.1.1.1.0, no_rows_say tile_shape db it.empty.1.1.1.1.1.0, no_rows_say medium_shape db it.empty.1.1.1.1.1.1.0, no_rows_say attribute_shape db it.empty.1.1.1.1.1.1.1.0, no_rows_say tiles_media_shape db it.empty.1.1.1.1.1.1.1.1.0, no_rows_say rows_media_shape db it.empty.1.1.1.1.1.1.1.1.1.0, no_rows_say head_shape db it.empty.1.1.1.1.1.1.1.1.1.1.0, no_rows_say identity_shape db it.empty.1.1.1.1.1.1.1.1.1.1.1.0, no_rows_say receipt_shape db it.empty.1.1.1.1.1.1.1.1.1.1.1.1.0, no_rows_say moved_shape db it.empty.1.1.1.1.1.1.1.1.1.1.1.1.1.0) refl
+  says = rw (no_rows_say spatial_ref_sys_shape db it.empty.0, no_rows_say contents_shape db it.empty.1.0, no_rows_say tile_matrix_set_shape db it.empty.1.1.0, no_rows_say tile_matrix_shape db it.empty.1.1.1.0, no_rows_say relation_shape db it.empty.1.1.1.1.0, no_rows_say tile_shape db it.empty.1.1.1.1.1.0, no_rows_say medium_shape db it.empty.1.1.1.1.1.1.0, no_rows_say attribute_shape db it.empty.1.1.1.1.1.1.1.0, no_rows_say tiles_media_shape db it.empty.1.1.1.1.1.1.1.1.0, no_rows_say rows_media_shape db it.empty.1.1.1.1.1.1.1.1.1.0, no_rows_say rows_tiles_shape db it.empty.1.1.1.1.1.1.1.1.1.1.0, no_rows_say head_shape db it.empty.1.1.1.1.1.1.1.1.1.1.1.0, no_rows_say identity_shape db it.empty.1.1.1.1.1.1.1.1.1.1.1.1.0, no_rows_say receipt_shape db it.empty.1.1.1.1.1.1.1.1.1.1.1.1.1.0, no_rows_say moved_shape db it.empty.1.1.1.1.1.1.1.1.1.1.1.1.1.1.0) refl
 
 keyed_if_empty : (trees : Trees) (tables : List Table) → AllByRecursion (λ (t : Table). trees t.tree ≡ []) tables → AllByRecursion (λ (t : Table). IsKeyed (trees t.tree)) tables
 keyed_if_empty trees [] h = tt

@@ -49,7 +49,7 @@ not_above a b h = one (int_cmp a b) (int_ranks a b) h
     one Equal same e = subst (λ c. a ≤ℤ c) same (≤ℤ_refl a)
     one Greater above e = absurd (true≢false e)
 
-has_mapped : {A B : Type 0} (f : A → B) (xs : List A) (x : A) → Has xs x → Contains (map f xs) (f x)
+pub has_mapped : {A B : Type 0} (f : A → B) (xs : List A) (x : A) → Has xs x → Contains (map f xs) (f x)
 has_mapped f [] x h = absurd h
 has_mapped f (y ∷ xs) x (inl same) = (0, omega arith, ap f (sym same))
 has_mapped f (y ∷ xs) x (inr later) = let (k, below, is) = has_mapped f xs x later in (suc k, omega (arith, below), is)

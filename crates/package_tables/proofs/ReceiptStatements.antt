@@ -1,5 +1,5 @@
 -- The statements on `sheet_receipts`.
-use Rattle.std.proofs.Common.{ℕ, List, [], ◌∷◌, codes, refl}
+use Rattle.std.proofs.Common.{ℕ, ℤ, List, [], ◌∷◌, codes, refl}
 use Rattle.sqlite.specs.Order.{Row}
 use Rattle.sqlite.specs.declared.types.Value.TheVariants.{Int, Null, Text}
 use Rattle.sqlite_tied.specs.Compute.{everything}
@@ -8,19 +8,22 @@ use Rattle.package_tables.specs.Tables.{sheet_receipts}
 use Rattle.package_tables.specs.Shapes.{receipt_shape}
 use Rattle.package_tables.specs.declared.rows.ReceiptRow.{ReceiptRow}
 use Rattle.std.proofs.Common.{true}
-use Rattle.std.specs.Prelude.{bytes_eq}
+use Rattle.std.specs.Prelude.{◌&&◌, bytes_eq}
 use Rattle.sqlite.specs.Term.{col}
 use Rattle.sql_meaning.specs.Resolving.{resolving}
-use Rattle.sql_meaning.specs.Reading.{equals, always, ascending}
-use Rattle.sql_meaning.proofs.Resolve.{one_table}
+use Rattle.sqlite_sql.specs.declared.ops.CompareOp.TheVariants.{Gt}
+use Rattle.sql_meaning.specs.Reading.{equals, both, compares, always, ascending}
+use Rattle.sql_meaning.proofs.Resolve.{one_table, one_source}
+use Rattle.sql_meaning.proofs.First.{IsFirst, IsPlannedFirst}
+use Rattle.package_tables.proofs.Next.{IsNext}
 use Rattle.sql_meaning.proofs.Select.{IsSelect, IsPlannedSelect}
 use Rattle.package_tables.specs.Shapes.{int_at, text_at}
 use Rattle.package_tables.specs.Listed.{receipts}
 use Rattle.package_tables.specs.Shown.{receipt_shown}
 use Rattle.package_tables.proofs.Looking.{IsKnown, IsLookUp}
-use Rattle.package_tables.proofs.Values.{same_text}
+use Rattle.package_tables.proofs.Values.{same_text, above_number, both_same}
 use Rattle.package_tables.proofs.Written.{receipts_listed}
-use Rattle.std.specs.Ordering.{on, int_cmp}
+use Rattle.std.specs.Ordering.{on, int_cmp, is_gt}
 use Rattle.std.proofs.lemmas.Cmp.{on_total, int_cmp_total}
 use Rattle.package_tables.proofs.Looking.{IsRanked}
 use Rattle.package_tables.proofs.Ranking.{one_number}
@@ -88,3 +91,53 @@ all_receipts = record { test = _; by = _; selects = all_receipts_text; planned =
 pub all_receipts_ranked : IsRanked all_receipts (on (λ x. x.seq) int_cmp)
 unfolding all_receipts
 all_receipts_ranked = record { keys = λ x. Int x.seq ∷ []; keyed = λ v x. refl; total = (on_total (λ x. x.seq) int_cmp_total); alike = λ x y. one_number x.seq y.seq }
+
+receipt_after_text : (tree : ℕ) → IsFirst (codes "SELECT * FROM sheet_receipts WHERE seq > ?1 ORDER BY seq LIMIT 1") (sheet_receipts tree) (compares Gt 0 0) ((col 1 0, ascending) ∷ [])
+unfolding everything
+receipt_after_text tree = record {
+  parse = _;
+  asks = _;
+  src = _;
+  item = _;
+  parsed = refl;
+  statement = refl;
+  formats = refl;
+  one = (one_source refl refl refl refl refl refl refl refl refl refl refl refl refl, λ schema. refl);
+  condition = (_, refl, (_, _, _, _, refl, refl, refl, refl, refl, refl, refl));
+  enough = refl;
+  few = λ at. refl;
+  some = λ at. refl;
+  sorted = λ schema at. (_, refl, refl);
+}
+
+receipt_after_plan : (tree : ℕ) → IsPlannedFirst (sheet_receipts tree) (compares Gt 0 0) ((col 1 0, ascending) ∷ [])
+unfolding resolving
+receipt_after_plan tree schema at h = rw (h.stored, h.by_tree) refl
+
+pub receipt_after : (seq : ℤ) → IsNext receipt_shape receipt_shown (λ x. x.seq) (codes "SELECT * FROM sheet_receipts WHERE seq > ?1 ORDER BY seq LIMIT 1") (Int seq ∷ []) (λ x. is_gt (int_cmp x.seq seq))
+receipt_after seq = record { test = _; by = _; selects = receipt_after_text; planned = receipt_after_plan; given = refl; pass = _; listed = _; is = λ tree. refl; shows = λ v x. refl; passing = λ v x. above_number x.seq seq; keyed = λ v x. refl }
+
+receipt_to_after_text : (tree : ℕ) → IsFirst (codes "SELECT * FROM sheet_receipts WHERE target = ?1 AND seq > ?2 ORDER BY seq LIMIT 1") (sheet_receipts tree) (both (equals 5 0) (compares Gt 0 1)) ((col 1 0, ascending) ∷ [])
+unfolding everything
+receipt_to_after_text tree = record {
+  parse = _;
+  asks = _;
+  src = _;
+  item = _;
+  parsed = refl;
+  statement = refl;
+  formats = refl;
+  one = (one_source refl refl refl refl refl refl refl refl refl refl refl refl refl, λ schema. refl);
+  condition = (_, refl, (_, _, refl, (_, _, _, _, refl, refl, refl, refl, refl, refl, refl), (_, _, _, _, refl, refl, refl, refl, refl, refl, refl)));
+  enough = refl;
+  few = λ at. refl;
+  some = λ at. refl;
+  sorted = λ schema at. (_, refl, refl);
+}
+
+receipt_to_after_plan : (tree : ℕ) → IsPlannedFirst (sheet_receipts tree) (both (equals 5 0) (compares Gt 0 1)) ((col 1 0, ascending) ∷ [])
+unfolding resolving
+receipt_to_after_plan tree schema at h = rw (h.stored, h.by_tree) refl
+
+pub receipt_to_after : (target : List ℕ) (seq : ℤ) → IsNext receipt_shape receipt_shown (λ x. x.seq) (codes "SELECT * FROM sheet_receipts WHERE target = ?1 AND seq > ?2 ORDER BY seq LIMIT 1") (Text target ∷ Int seq ∷ []) (λ x. bytes_eq x.target target && is_gt (int_cmp x.seq seq))
+receipt_to_after target seq = record { test = _; by = _; selects = receipt_to_after_text; planned = receipt_to_after_plan; given = refl; pass = _; listed = _; is = λ tree. refl; shows = λ v x. refl; passing = λ v x. both_same (same_text x.target target) (above_number x.seq seq); keyed = λ v x. refl }

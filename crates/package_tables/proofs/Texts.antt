@@ -13,15 +13,16 @@ use Rattle.package_tables.proofs.Texts.SheetMedia.{text as SheetMedia_text, step
 use Rattle.package_tables.proofs.Texts.SheetRows.{text as SheetRows_text, step as SheetRows_step}
 use Rattle.package_tables.proofs.Texts.TilesMedia.{text as TilesMedia_text, step as TilesMedia_step}
 use Rattle.package_tables.proofs.Texts.RowsMedia.{text as RowsMedia_text, step as RowsMedia_step}
+use Rattle.package_tables.proofs.Texts.RowsTiles.{text as RowsTiles_text, step as RowsTiles_step}
 use Rattle.package_tables.proofs.Texts.SheetPackage.{text as SheetPackage_text, step as SheetPackage_step}
 use Rattle.package_tables.proofs.Texts.SheetIdentity.{text as SheetIdentity_text, step as SheetIdentity_step}
 use Rattle.package_tables.proofs.Texts.SheetReceipts.{text as SheetReceipts_text, step as SheetReceipts_step}
 use Rattle.package_tables.proofs.Texts.SheetItems.{text as SheetItems_text, step as SheetItems_step}
 use Rattle.package_tables.proofs.Texts.IndexItemsByBase.{text as IndexItemsByBase_text, step as IndexItemsByBase_step}
-use Rattle.package_tables.proofs.Texts.IndexReceiptsBySource.{text as IndexReceiptsBySource_text, step as IndexReceiptsBySource_step}
 use Rattle.package_tables.proofs.Texts.IndexReceiptsByTarget.{text as IndexReceiptsByTarget_text, step as IndexReceiptsByTarget_step}
 use Rattle.package_tables.proofs.Texts.IndexByTilesMedia.{text as IndexByTilesMedia_text, step as IndexByTilesMedia_step}
 use Rattle.package_tables.proofs.Texts.IndexByRowsMedia.{text as IndexByRowsMedia_text, step as IndexByRowsMedia_step}
+use Rattle.package_tables.proofs.Texts.IndexByRowsTiles.{text as IndexByRowsTiles_text, step as IndexByRowsTiles_step}
 use Rattle.package_tables.proofs.Texts.IndexByXy.{text as IndexByXy_text, step as IndexByXy_step}
 pub mod GpkgSpatialRefSys
 pub mod GpkgContents
@@ -33,19 +34,20 @@ pub mod SheetMedia
 pub mod SheetRows
 pub mod TilesMedia
 pub mod RowsMedia
+pub mod RowsTiles
 pub mod SheetPackage
 pub mod SheetIdentity
 pub mod SheetReceipts
 pub mod SheetItems
 pub mod IndexItemsByBase
-pub mod IndexReceiptsBySource
 pub mod IndexReceiptsByTarget
 pub mod IndexByTilesMedia
 pub mod IndexByRowsMedia
+pub mod IndexByRowsTiles
 pub mod IndexByXy
 
 abbrev pub texts : List (List ℕ)
-texts = GpkgSpatialRefSys_text ∷ GpkgContents_text ∷ GpkgTileMatrixSet_text ∷ GpkgTileMatrix_text ∷ GpkgextRelations_text ∷ SheetTiles_text ∷ SheetMedia_text ∷ SheetRows_text ∷ TilesMedia_text ∷ RowsMedia_text ∷ SheetPackage_text ∷ SheetIdentity_text ∷ SheetReceipts_text ∷ SheetItems_text ∷ IndexItemsByBase_text ∷ IndexReceiptsBySource_text ∷ IndexReceiptsByTarget_text ∷ IndexByTilesMedia_text ∷ IndexByRowsMedia_text ∷ IndexByXy_text ∷ []
+texts = GpkgSpatialRefSys_text ∷ GpkgContents_text ∷ GpkgTileMatrixSet_text ∷ GpkgTileMatrix_text ∷ GpkgextRelations_text ∷ SheetTiles_text ∷ SheetMedia_text ∷ SheetRows_text ∷ TilesMedia_text ∷ RowsMedia_text ∷ RowsTiles_text ∷ SheetPackage_text ∷ SheetIdentity_text ∷ SheetReceipts_text ∷ SheetItems_text ∷ IndexItemsByBase_text ∷ IndexReceiptsByTarget_text ∷ IndexByTilesMedia_text ∷ IndexByRowsMedia_text ∷ IndexByRowsTiles_text ∷ IndexByXy_text ∷ []
 
 pub plan : ExtendsBy texts no_schema package_schema
 plan = (
@@ -80,35 +82,39 @@ plan = (
                     RowsMedia_step,
                     (
                       first_made 12 0,
-                      SheetPackage_step,
+                      RowsTiles_step,
                       (
                         first_made 13 0,
-                        SheetIdentity_step,
+                        SheetPackage_step,
                         (
                           first_made 14 0,
-                          SheetReceipts_step,
+                          SheetIdentity_step,
                           (
                             first_made 15 0,
-                            SheetItems_step,
+                            SheetReceipts_step,
                             (
-                              first_made 15 1,
-                              IndexItemsByBase_step,
+                              first_made 16 0,
+                              SheetItems_step,
                               (
-                                first_made 15 2,
-                                IndexReceiptsBySource_step,
+                                first_made 16 1,
+                                IndexItemsByBase_step,
                                 (
-                                  first_made 15 3,
+                                  first_made 16 2,
                                   IndexReceiptsByTarget_step,
                                   (
-                                    first_made 15 4,
+                                    first_made 16 3,
                                     IndexByTilesMedia_step,
                                     (
-                                      first_made 15 5,
+                                      first_made 16 4,
                                       IndexByRowsMedia_step,
                                       (
-                                        first_made 15 6,
-                                        IndexByXy_step,
-                                        refl,
+                                        first_made 16 5,
+                                        IndexByRowsTiles_step,
+                                        (
+                                          first_made 16 6,
+                                          IndexByXy_step,
+                                          refl,
+                                        ),
                                       ),
                                     ),
                                   ),

@@ -1,14 +1,15 @@
 -- The statements on `sheet_tiles`. Written by tools/statements.py.
 use Rattle.std.proofs.Common.{ℕ, ℤ, List, [], ◌∷◌, true, codes, refl}
-use Rattle.std.specs.Prelude.{◌&&◌}
+use Rattle.std.specs.Prelude.{◌&&◌, int_le}
 use Rattle.std.specs.Ordering.{int_eq, int_cmp, on}
+use Rattle.sqlite_sql.specs.declared.ops.CompareOp.TheVariants.{Ge, Le}
 use Rattle.std.proofs.lemmas.Cmp.{on_total, int_cmp_total}
 use Rattle.sqlite.specs.Order.{Row}
 use Rattle.sqlite.specs.Term.{col}
 use Rattle.sqlite.specs.declared.types.Value.TheVariants.{Int, Null, Blob}
 use Rattle.sqlite_tied.specs.Compute.{everything}
 use Rattle.sql_meaning.specs.Resolving.{resolving}
-use Rattle.sql_meaning.specs.Reading.{always, equals, both, ascending, descending}
+use Rattle.sql_meaning.specs.Reading.{always, equals, compares, both, ascending, descending}
 use Rattle.sql_meaning.proofs.Insert.{IsInsert, IsRow}
 use Rattle.sql_meaning.proofs.Delete.{IsDelete, IsPlannedDelete}
 use Rattle.sql_meaning.proofs.Resolve.{one_table, one_source}
@@ -22,7 +23,7 @@ use Rattle.package_tables.specs.declared.rows.TileRow.{TileRow}
 use Rattle.package_tables.proofs.Looking.{IsKnown, IsLookUp, IsRanked}
 use Rattle.package_tables.proofs.Newest.{IsNewest}
 use Rattle.package_tables.proofs.Ranking.{one_number}
-use Rattle.package_tables.proofs.Values.{same_number, both_same}
+use Rattle.package_tables.proofs.Values.{same_number, at_least, at_most, both_same}
 use Rattle.package_tables.proofs.Written.{tiles_listed}
 
 pub insert_text : (tree : ℕ) → IsInsert (codes "INSERT INTO sheet_tiles VALUES (?1, ?2, ?3, ?4, ?5)") (sheet_tiles tree)
@@ -93,6 +94,31 @@ tile_at_plan tree schema at h = rw (h.stored, h.by_tree) refl
 
 pub tile_at : (zoom_level : ℤ) (tile_column : ℤ) (tile_row : ℤ) → IsLookUp tile_shape tile_shown (codes "SELECT * FROM sheet_tiles WHERE zoom_level = ?1 AND tile_column = ?2 AND tile_row = ?3") (Int zoom_level ∷ Int tile_column ∷ Int tile_row ∷ []) (λ x. int_eq x.zoom_level zoom_level && int_eq x.tile_column tile_column && int_eq x.tile_row tile_row)
 tile_at zoom_level tile_column tile_row = record { test = _; by = _; selects = tile_at_text; planned = tile_at_plan; given = refl; listing = _; is = λ tree. refl; shows = λ v x. refl; passing = λ v x. (both_same (both_same (same_number x.zoom_level zoom_level) (same_number x.tile_column tile_column)) (same_number x.tile_row tile_row)) }
+
+tiles_between_text : (tree : ℕ) → IsSelect (codes "SELECT * FROM sheet_tiles WHERE zoom_level = ?1 AND tile_column >= ?2 AND tile_column <= ?3 AND tile_row >= ?4 AND tile_row <= ?5") (sheet_tiles tree) (both (both (both (both (equals 1 0) (compares Ge 2 1)) (compares Le 2 2)) (compares Ge 3 3)) (compares Le 3 4)) []
+unfolding everything
+tiles_between_text tree = record {
+  parse = _;
+  asks = _;
+  src = _;
+  item = _;
+  parsed = refl;
+  statement = refl;
+  formats = refl;
+  one = one_table refl refl refl refl refl refl refl refl refl refl refl refl refl refl refl;
+  condition = (_, refl, (_, _, refl, (_, _, refl, (_, _, refl, (_, _, refl, (_, _, _, _, refl, refl, refl, refl, refl, refl, refl), (_, _, _, _, refl, refl, refl, refl, refl, refl, refl)), (_, _, _, _, refl, refl, refl, refl, refl, refl, refl)), (_, _, _, _, refl, refl, refl, refl, refl, refl, refl)), (_, _, _, _, refl, refl, refl, refl, refl, refl, refl)));
+  enough = refl;
+  few = λ at. refl;
+  some = λ at. refl;
+  sorted = λ schema at. (_, refl, refl);
+}
+
+tiles_between_plan : (tree : ℕ) → IsPlannedSelect (sheet_tiles tree) (both (both (both (both (equals 1 0) (compares Ge 2 1)) (compares Le 2 2)) (compares Ge 3 3)) (compares Le 3 4)) []
+unfolding resolving
+tiles_between_plan tree schema at h = rw (h.stored, h.by_tree) refl
+
+pub tiles_between : (zoom_level : ℤ) (first_column : ℤ) (last_column : ℤ) (first_row : ℤ) (last_row : ℤ) → IsLookUp tile_shape tile_shown (codes "SELECT * FROM sheet_tiles WHERE zoom_level = ?1 AND tile_column >= ?2 AND tile_column <= ?3 AND tile_row >= ?4 AND tile_row <= ?5") (Int zoom_level ∷ Int first_column ∷ Int last_column ∷ Int first_row ∷ Int last_row ∷ []) (λ x. int_eq x.zoom_level zoom_level && int_le first_column x.tile_column && int_le x.tile_column last_column && int_le first_row x.tile_row && int_le x.tile_row last_row)
+tiles_between zoom_level first_column last_column first_row last_row = record { test = _; by = _; selects = tiles_between_text; planned = tiles_between_plan; given = refl; listing = _; is = λ tree. refl; shows = λ v x. refl; passing = λ v x. (both_same (both_same (both_same (both_same (same_number x.zoom_level zoom_level) (at_least x.tile_column first_column)) (at_most x.tile_column last_column)) (at_least x.tile_row first_row)) (at_most x.tile_row last_row)) }
 
 all_text : (tree : ℕ) → IsSelect (codes "SELECT * FROM sheet_tiles ORDER BY id") (sheet_tiles tree) always ((col 1 0, ascending) ∷ [])
 unfolding everything

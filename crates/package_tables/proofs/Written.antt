@@ -7,9 +7,10 @@ use Rattle.sqlite.specs.Table.{Table}
 use Rattle.sql_meaning.specs.Known.{IsQuiet, is_other, sequence_name}
 use Rattle.sql_meaning.specs.Writing.{Spares}
 use Rattle.sheet_types.specs.declared.command.Mapping.{Mapping}
-use Rattle.sheet_types.specs.declared.command.Mapping.TheVariants.{TilesMedia, RowsMedia}
+use Rattle.sheet_types.specs.declared.command.Mapping.TheVariants.{TilesMedia, RowsMedia, RowsTiles}
 use Rattle.package_tables.specs.Shape.{Shape, IsShape, IsFormed, rows_of}
-use Rattle.package_tables.specs.Shapes.{spatial_ref_sys_shape, contents_shape, tile_matrix_set_shape, tile_matrix_shape, relation_shape, tile_shape, medium_shape, attribute_shape, tiles_media_shape, rows_media_shape, head_shape, identity_shape, receipt_shape, moved_shape}
+use Rattle.package_tables.specs.Shapes.{spatial_ref_sys_shape, contents_shape, tile_matrix_set_shape, tile_matrix_shape, relation_shape, tile_shape, medium_shape, attribute_shape, head_shape, identity_shape, receipt_shape, moved_shape}
+use Rattle.package_tables.specs.Mappings.{pair_shape}
 use Rattle.package_tables.specs.Package.{Tables, tables_of, AreFormed}
 use Rattle.package_tables.specs.declared.rows.AttributeRow.{AttributeRow}
 use Rattle.package_tables.specs.declared.rows.ContentsRow.{ContentsRow}
@@ -39,8 +40,7 @@ data Name : Type 0 where
   Tiles : Name
   Media : Name
   Rows : Name
-  TilePairs : Name
-  RowPairs : Name
+  Pairs : Mapping → Name
   Heads : Name
   Identities : Name
   Receipts : Name
@@ -55,8 +55,7 @@ RowOf Relations = RelationRow
 RowOf Tiles = TileRow
 RowOf Media = MediaRow
 RowOf Rows = AttributeRow
-RowOf TilePairs = MappingRow
-RowOf RowPairs = MappingRow
+RowOf (Pairs m) = MappingRow
 RowOf Heads = HeadRow
 RowOf Identities = IdentityRow
 RowOf Receipts = ReceiptRow
@@ -71,8 +70,7 @@ shape_of Relations = relation_shape
 shape_of Tiles = tile_shape
 shape_of Media = medium_shape
 shape_of Rows = attribute_shape
-shape_of TilePairs = tiles_media_shape
-shape_of RowPairs = rows_media_shape
+shape_of (Pairs m) = pair_shape m
 shape_of Heads = head_shape
 shape_of Identities = identity_shape
 shape_of Receipts = receipt_shape
@@ -87,15 +85,16 @@ shape_of_is Relations = record { named = λ tree. refl; treed = λ tree. refl; s
 shape_of_is Tiles = record { named = λ tree. refl; treed = λ tree. refl; says = λ v x. refl; again = λ v x. refl; numbered = λ v x h. refl }
 shape_of_is Media = record { named = λ tree. refl; treed = λ tree. refl; says = λ v x. refl; again = λ v x. refl; numbered = λ v x h. refl }
 shape_of_is Rows = record { named = λ tree. refl; treed = λ tree. refl; says = λ v x. refl; again = λ v x. refl; numbered = λ v x h. refl }
-shape_of_is TilePairs = record { named = λ tree. refl; treed = λ tree. refl; says = λ v x. refl; again = λ v x. refl; numbered = λ v x h. h }
-shape_of_is RowPairs = record { named = λ tree. refl; treed = λ tree. refl; says = λ v x. refl; again = λ v x. refl; numbered = λ v x h. h }
+shape_of_is (Pairs TilesMedia) = record { named = λ tree. refl; treed = λ tree. refl; says = λ v x. refl; again = λ v x. refl; numbered = λ v x h. h }
+shape_of_is (Pairs RowsMedia) = record { named = λ tree. refl; treed = λ tree. refl; says = λ v x. refl; again = λ v x. refl; numbered = λ v x h. h }
+shape_of_is (Pairs RowsTiles) = record { named = λ tree. refl; treed = λ tree. refl; says = λ v x. refl; again = λ v x. refl; numbered = λ v x h. h }
 shape_of_is Heads = record { named = λ tree. refl; treed = λ tree. refl; says = λ v x. refl; again = λ v x. refl; numbered = λ v x h. refl }
 shape_of_is Identities = record { named = λ tree. refl; treed = λ tree. refl; says = λ v x. refl; again = λ v x. refl; numbered = λ v x h. h }
 shape_of_is Receipts = record { named = λ tree. refl; treed = λ tree. refl; says = λ v x. refl; again = λ v x. refl; numbered = λ v x h. refl }
 shape_of_is Moved = record { named = λ tree. refl; treed = λ tree. refl; says = λ v x. refl; again = λ v x. refl; numbered = λ v x h. h }
 
 abbrev all : List Name
-all = SpatialRefSys ∷ Contents ∷ TileMatrixSet ∷ TileMatrix ∷ Relations ∷ Tiles ∷ Media ∷ Rows ∷ TilePairs ∷ RowPairs ∷ Heads ∷ Identities ∷ Receipts ∷ Moved ∷ []
+all = SpatialRefSys ∷ Contents ∷ TileMatrixSet ∷ TileMatrix ∷ Relations ∷ Tiles ∷ Media ∷ Rows ∷ Pairs TilesMedia ∷ Pairs RowsMedia ∷ Pairs RowsTiles ∷ Heads ∷ Identities ∷ Receipts ∷ Moved ∷ []
 
 -- the lists of some tables, one after the other
 abbrev Lists : List Name → Type 0
@@ -106,7 +105,7 @@ abbrev lists_of : (ns : List Name) → Database → Lists ns
 lists_of [] db = tt
 lists_of (n ∷ ns) db = (rows_of (shape_of n) db, lists_of ns db)
 
--- all fourteen, as the tables of a package
+-- all fifteen, as the tables of a package
 abbrev as_tables : Lists all → Tables
 as_tables l = record {
   spatial_ref_sys = l.0;
@@ -119,10 +118,11 @@ as_tables l = record {
   rows = l.1.1.1.1.1.1.1.0;
   tiles_media = l.1.1.1.1.1.1.1.1.0;
   rows_media = l.1.1.1.1.1.1.1.1.1.0;
-  heads = l.1.1.1.1.1.1.1.1.1.1.0;
-  identities = l.1.1.1.1.1.1.1.1.1.1.1.0;
-  receipts = l.1.1.1.1.1.1.1.1.1.1.1.1.0;
-  moved = l.1.1.1.1.1.1.1.1.1.1.1.1.1.0;
+  rows_tiles = l.1.1.1.1.1.1.1.1.1.1.0;
+  heads = l.1.1.1.1.1.1.1.1.1.1.1.0;
+  identities = l.1.1.1.1.1.1.1.1.1.1.1.1.0;
+  receipts = l.1.1.1.1.1.1.1.1.1.1.1.1.1.0;
+  moved = l.1.1.1.1.1.1.1.1.1.1.1.1.1.1.0;
 }
 
 -- some tables are there and hold rows of their kinds
@@ -179,7 +179,7 @@ module _ (t : Table) (old new : Database) (spares : Spares t old new) where
 
 -- one after the other, and by their names
 each_formed : (db : Database) → AreFormed db → Formed all db
-each_formed db f = (f.spatial_ref_sys, (f.contents, (f.tile_matrix_set, (f.tile_matrix, (f.relations, (f.tiles, (f.media, (f.rows, (f.tiles_media, (f.rows_media, (f.heads, (f.identities, (f.receipts, (f.moved, tt))))))))))))))
+each_formed db f = (f.spatial_ref_sys, (f.contents, (f.tile_matrix_set, (f.tile_matrix, (f.relations, (f.tiles, (f.media, (f.rows, (f.tiles_media, (f.rows_media, (f.rows_tiles, (f.heads, (f.identities, (f.receipts, (f.moved, tt)))))))))))))))
 
 are_formed : (db : Database) → IsQuiet db.schema → Formed all db → AreFormed db
 are_formed db quiet f = record {
@@ -194,10 +194,11 @@ are_formed db quiet f = record {
   rows = f.1.1.1.1.1.1.1.0;
   tiles_media = f.1.1.1.1.1.1.1.1.0;
   rows_media = f.1.1.1.1.1.1.1.1.1.0;
-  heads = f.1.1.1.1.1.1.1.1.1.1.0;
-  identities = f.1.1.1.1.1.1.1.1.1.1.1.0;
-  receipts = f.1.1.1.1.1.1.1.1.1.1.1.1.0;
-  moved = f.1.1.1.1.1.1.1.1.1.1.1.1.1.0;
+  rows_tiles = f.1.1.1.1.1.1.1.1.1.1.0;
+  heads = f.1.1.1.1.1.1.1.1.1.1.1.0;
+  identities = f.1.1.1.1.1.1.1.1.1.1.1.1.0;
+  receipts = f.1.1.1.1.1.1.1.1.1.1.1.1.1.0;
+  moved = f.1.1.1.1.1.1.1.1.1.1.1.1.1.1.0;
 }
 
 -- the table at a place is written
@@ -237,17 +238,18 @@ pub attributes_listed : IsListed attributes
 attributes_listed = record { laws = shape_of_is Rows; formed = λ db f. f.rows; lists = λ db. refl; written = λ tree old new. written 7 tree old new refl; reads = λ l t. refl; again = λ k l t. refl; same = λ t. refl }
 
 pub pairs_listed : (m : Mapping) → IsListed (pairs m)
-pairs_listed TilesMedia = record { laws = shape_of_is TilePairs; formed = λ db f. f.tiles_media; lists = λ db. refl; written = λ tree old new. written 8 tree old new refl; reads = λ l t. refl; again = λ k l t. refl; same = λ t. refl }
-pairs_listed RowsMedia = record { laws = shape_of_is RowPairs; formed = λ db f. f.rows_media; lists = λ db. refl; written = λ tree old new. written 9 tree old new refl; reads = λ l t. refl; again = λ k l t. refl; same = λ t. refl }
+pairs_listed TilesMedia = record { laws = shape_of_is (Pairs TilesMedia); formed = λ db f. f.tiles_media; lists = λ db. refl; written = λ tree old new. written 8 tree old new refl; reads = λ l t. refl; again = λ k l t. refl; same = λ t. refl }
+pairs_listed RowsMedia = record { laws = shape_of_is (Pairs RowsMedia); formed = λ db f. f.rows_media; lists = λ db. refl; written = λ tree old new. written 9 tree old new refl; reads = λ l t. refl; again = λ k l t. refl; same = λ t. refl }
+pairs_listed RowsTiles = record { laws = shape_of_is (Pairs RowsTiles); formed = λ db f. f.rows_tiles; lists = λ db. refl; written = λ tree old new. written 10 tree old new refl; reads = λ l t. refl; again = λ k l t. refl; same = λ t. refl }
 
 pub heads_listed : IsListed heads
-heads_listed = record { laws = shape_of_is Heads; formed = λ db f. f.heads; lists = λ db. refl; written = λ tree old new. written 10 tree old new refl; reads = λ l t. refl; again = λ k l t. refl; same = λ t. refl }
+heads_listed = record { laws = shape_of_is Heads; formed = λ db f. f.heads; lists = λ db. refl; written = λ tree old new. written 11 tree old new refl; reads = λ l t. refl; again = λ k l t. refl; same = λ t. refl }
 
 pub identities_listed : IsListed identities
-identities_listed = record { laws = shape_of_is Identities; formed = λ db f. f.identities; lists = λ db. refl; written = λ tree old new. written 11 tree old new refl; reads = λ l t. refl; again = λ k l t. refl; same = λ t. refl }
+identities_listed = record { laws = shape_of_is Identities; formed = λ db f. f.identities; lists = λ db. refl; written = λ tree old new. written 12 tree old new refl; reads = λ l t. refl; again = λ k l t. refl; same = λ t. refl }
 
 pub receipts_listed : IsListed receipts
-receipts_listed = record { laws = shape_of_is Receipts; formed = λ db f. f.receipts; lists = λ db. refl; written = λ tree old new. written 12 tree old new refl; reads = λ l t. refl; again = λ k l t. refl; same = λ t. refl }
+receipts_listed = record { laws = shape_of_is Receipts; formed = λ db f. f.receipts; lists = λ db. refl; written = λ tree old new. written 13 tree old new refl; reads = λ l t. refl; again = λ k l t. refl; same = λ t. refl }
 
 pub moved_listed : IsListed moved
-moved_listed = record { laws = shape_of_is Moved; formed = λ db f. f.moved; lists = λ db. refl; written = λ tree old new. written 13 tree old new refl; reads = λ l t. refl; again = λ k l t. refl; same = λ t. refl }
+moved_listed = record { laws = shape_of_is Moved; formed = λ db f. f.moved; lists = λ db. refl; written = λ tree old new. written 14 tree old new refl; reads = λ l t. refl; again = λ k l t. refl; same = λ t. refl }

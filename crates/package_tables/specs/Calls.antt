@@ -58,6 +58,10 @@ Rises number (x ∷ xs) = AllByRecursion (λ y. number x ≤ℤ number y) xs × 
 abbrev pub IsGreatest : {R : Type 0} → (R → ℤ) → List R → Option ℤ → Type 0
 IsGreatest number rows found = MatchOption found (rows ≡ []) (λ n. Contains (map number rows) n × All (λ x. number x ≤ℤ n) rows)
 
+-- a row of the least number, if there is any row
+abbrev pub IsLeast : {R : Type 0} → (R → ℤ) → List R → Option R → Type 0
+IsLeast number rows found = MatchOption found (rows ≡ []) (λ x. Contains rows x × AllByRecursion (λ y. number x ≤ℤ number y) rows)
+
 -- ---- among other calls
 
 -- A database of these tables gets the changed ones.

@@ -71,19 +71,24 @@ first_levels f n = map (λ k. level_row f (f.first_zoom +ℤ pos k)) (range_with
 abbrev pub levels_of : Frame → List TileMatrixRow
 levels_of f = first_levels f (unsigned_abs f.levels)
 
-abbrev pub relation : ℤ → List ℕ → List ℕ → RelationRow
-relation number base mapping = record {
+-- a mapping table, by the tables of its two ends and the name of what the other end is
+abbrev pub relation : ℤ → List ℕ → List ℕ → List ℕ → List ℕ → RelationRow
+relation number base related name mapping = record {
   id = number;
   base_table_name = base;
   base_primary_column = codes "id";
-  related_table_name = codes "sheet_media";
+  related_table_name = related;
   related_primary_column = codes "id";
-  relation_name = codes "media";
+  relation_name = name;
   mapping_table_name = mapping;
 }
 
-abbrev pub two_relations : List RelationRow
-two_relations = relation (pos 1) (codes "sheet_tiles") (codes "tiles_media") ∷ relation (pos 2) (codes "sheet_rows") (codes "rows_media") ∷ []
+abbrev pub mapping_relations : List RelationRow
+mapping_relations =
+    relation (pos 1) (codes "sheet_tiles") (codes "sheet_media") (codes "media") (codes "tiles_media")
+    ∷ relation (pos 2) (codes "sheet_rows") (codes "sheet_media") (codes "media") (codes "rows_media")
+    ∷ relation (pos 3) (codes "sheet_rows") (codes "sheet_tiles") (codes "tiles") (codes "rows_tiles")
+    ∷ []
 
 -- the contents whatever the moments of the last change
 abbrev pub undated : List ContentsRow → List ContentsRow
@@ -95,7 +100,7 @@ pub record AreFixed (f : Frame) (systems : List SpatialRefSysRow) (listed : List
   pub contents : undated listed ≡ contents_of f []
   pub tile_matrix_set : sets ≡ matrix_set f ∷ []
   pub tile_matrix : levels ≡ levels_of f
-  pub relations : related ≡ two_relations
+  pub relations : related ≡ mapping_relations
 
 -- the tables have the fixed rows of the frame, and no others beside them
 abbrev pub HasFixed : Frame → Tables → Type 0

@@ -7,7 +7,7 @@ use Rattle.sqlite.specs.Effect.{Database}
 use Rattle.sqlite_schema.specs.Names.{table_named}
 use Rattle.std.specs.Option.{option_and_then, option_map_or}
 use Rattle.sql_meaning.specs.Known.{HasTable, IsQuiet}
-use Rattle.package_tables.specs.Tables.{gpkg_spatial_ref_sys, gpkg_contents, gpkg_tile_matrix_set, gpkg_tile_matrix, gpkgext_relations, sheet_tiles, sheet_media, sheet_rows, tiles_media, rows_media, sheet_package, sheet_identity, sheet_receipts, sheet_items}
+use Rattle.package_tables.specs.Tables.{gpkg_spatial_ref_sys, gpkg_contents, gpkg_tile_matrix_set, gpkg_tile_matrix, gpkgext_relations, sheet_tiles, sheet_media, sheet_rows, tiles_media, rows_media, rows_tiles, sheet_package, sheet_identity, sheet_receipts, sheet_items}
 
 -- the schema has the table at some place, under some tree number
 pub record IsPlaced (schema : Schema) (table : ℕ → Table) : Type 0 where
@@ -23,7 +23,7 @@ tree_named schema name = option_map_or (λ t. t.tree) (option_and_then (λ at. s
 abbrev pub rows_named : Database → List ℕ → List Row
 rows_named db name = db.trees (tree_named db.schema name)
 
--- all fourteen tables are there. Other tables, another order, other trees and further indexes change nothing
+-- all fifteen tables are there. Other tables, another order, other trees and further indexes change nothing
 pub record HasForm (schema : Schema) : Type 0 where
   pub quiet : IsQuiet schema
   pub spatial_ref_sys : IsPlaced schema gpkg_spatial_ref_sys
@@ -36,6 +36,7 @@ pub record HasForm (schema : Schema) : Type 0 where
   pub rows : IsPlaced schema sheet_rows
   pub tiles_media : IsPlaced schema tiles_media
   pub rows_media : IsPlaced schema rows_media
+  pub rows_tiles : IsPlaced schema rows_tiles
   pub head : IsPlaced schema sheet_package
   pub identities : IsPlaced schema sheet_identity
   pub receipts : IsPlaced schema sheet_receipts

@@ -13,3 +13,4 @@ pub mod Creation
 pub mod SchemaMaking
 pub mod SchemaMade
 pub mod Shown
+pub mod Damaged

@@ -3,7 +3,7 @@ use Rattle.std.specs.Prelude.{List}
 use Rattle.sqlite.specs.Effect.{Database}
 use Rattle.sql_meaning.specs.Known.{IsQuiet}
 use Rattle.package_tables.specs.Shape.{rows_of, IsFormed}
-use Rattle.package_tables.specs.Shapes.{spatial_ref_sys_shape, contents_shape, tile_matrix_set_shape, tile_matrix_shape, relation_shape, tile_shape, medium_shape, attribute_shape, tiles_media_shape, rows_media_shape, head_shape, identity_shape, receipt_shape, moved_shape}
+use Rattle.package_tables.specs.Shapes.{spatial_ref_sys_shape, contents_shape, tile_matrix_set_shape, tile_matrix_shape, relation_shape, tile_shape, medium_shape, attribute_shape, tiles_media_shape, rows_media_shape, rows_tiles_shape, head_shape, identity_shape, receipt_shape, moved_shape}
 use Rattle.package_tables.specs.declared.rows.AttributeRow.{AttributeRow}
 use Rattle.package_tables.specs.declared.rows.ContentsRow.{ContentsRow}
 use Rattle.package_tables.specs.declared.rows.HeadRow.{HeadRow}
@@ -29,6 +29,7 @@ pub record Tables : Type 0 where
   pub rows : List AttributeRow
   pub tiles_media : List MappingRow
   pub rows_media : List MappingRow
+  pub rows_tiles : List MappingRow
   pub heads : List HeadRow
   pub identities : List IdentityRow
   pub receipts : List ReceiptRow
@@ -47,6 +48,7 @@ tables_of db = record {
   rows = rows_of attribute_shape db;
   tiles_media = rows_of tiles_media_shape db;
   rows_media = rows_of rows_media_shape db;
+  rows_tiles = rows_of rows_tiles_shape db;
   heads = rows_of head_shape db;
   identities = rows_of identity_shape db;
   receipts = rows_of receipt_shape db;
@@ -66,6 +68,7 @@ pub record AreFormed (db : Database) : Type 0 where
   pub rows : IsFormed attribute_shape db
   pub tiles_media : IsFormed tiles_media_shape db
   pub rows_media : IsFormed rows_media_shape db
+  pub rows_tiles : IsFormed rows_tiles_shape db
   pub heads : IsFormed head_shape db
   pub identities : IsFormed identity_shape db
   pub receipts : IsFormed receipt_shape db

@@ -10,7 +10,7 @@ use Rattle.sqlite_value.specs.Keys.{plain}
 use Rattle.sql_meaning.specs.Known.{counters}
 use Rattle.sql_meaning.specs.Writing.{AreKeyed}
 use Rattle.sql_meaning.specs.Blank.{IsBlank, no_schema}
-use Rattle.package_tables.specs.Tables.{gpkg_spatial_ref_sys, gpkg_contents, gpkg_tile_matrix_set, gpkg_tile_matrix, gpkgext_relations, sheet_tiles, sheet_media, sheet_rows, tiles_media, rows_media, sheet_package, sheet_identity, sheet_receipts, sheet_items}
+use Rattle.package_tables.specs.Tables.{gpkg_spatial_ref_sys, gpkg_contents, gpkg_tile_matrix_set, gpkg_tile_matrix, gpkgext_relations, sheet_tiles, sheet_media, sheet_rows, tiles_media, rows_media, rows_tiles, sheet_package, sheet_identity, sheet_receipts, sheet_items}
 use Rattle.package_tables.specs.Form.{HasForm, rows_named}
 use Rattle.package_tables.specs.Package.{Tables, tables_of, AreFormed}
 
@@ -18,7 +18,7 @@ use Rattle.package_tables.specs.Package.{Tables, tables_of, AreFormed}
 abbrev pub tables_made : List Table
 tables_made =
     gpkg_spatial_ref_sys 0 ∷ gpkg_contents 1 ∷ gpkg_tile_matrix_set 4 ∷ gpkg_tile_matrix 6 ∷ gpkgext_relations 8 ∷ sheet_tiles 10 ∷ counters 12 ∷ sheet_media 13 ∷ sheet_rows 14
-    ∷ tiles_media 15 ∷ rows_media 17 ∷ sheet_package 19 ∷ sheet_identity 20 ∷ sheet_receipts 23 ∷ sheet_items 25 ∷ []
+    ∷ tiles_media 15 ∷ rows_media 17 ∷ rows_tiles 19 ∷ sheet_package 21 ∷ sheet_identity 22 ∷ sheet_receipts 25 ∷ sheet_items 27 ∷ []
 
 -- an index that finds rows and refuses none
 abbrev pub look_up : List ℕ → List ℕ → ℕ → ℕ → Index
@@ -26,9 +26,6 @@ look_up name columns table tree = record { name = name; tree = tree; table = tab
 
 abbrev pub items_by_base : ℕ → ℕ → Index
 items_by_base = look_up (codes "items_by_base") (4 ∷ [])
-
-abbrev pub receipts_by_source : ℕ → ℕ → Index
-receipts_by_source = look_up (codes "receipts_by_source") (5 ∷ [])
 
 abbrev pub receipts_by_target : ℕ → ℕ → Index
 receipts_by_target = look_up (codes "receipts_by_target") (6 ∷ [])
@@ -39,11 +36,14 @@ by_tiles_media = look_up (codes "by_tiles_media") (2 ∷ [])
 abbrev pub by_rows_media : ℕ → ℕ → Index
 by_rows_media = look_up (codes "by_rows_media") (2 ∷ [])
 
+abbrev pub by_rows_tiles : ℕ → ℕ → Index
+by_rows_tiles = look_up (codes "by_rows_tiles") (2 ∷ [])
+
 abbrev pub by_xy : ℕ → ℕ → Index
 by_xy = look_up (codes "by_xy") (2 ∷ 3 ∷ [])
 
 abbrev pub look_ups_made : List Index
-look_ups_made = items_by_base 25 27 ∷ receipts_by_source 23 28 ∷ receipts_by_target 23 29 ∷ by_tiles_media 15 30 ∷ by_rows_media 17 31 ∷ by_xy 14 32 ∷ []
+look_ups_made = items_by_base 27 29 ∷ receipts_by_target 25 30 ∷ by_tiles_media 15 31 ∷ by_rows_media 17 32 ∷ by_rows_tiles 19 33 ∷ by_xy 14 34 ∷ []
 
 -- the first tables, with the index of each of their UNIQUEs, and the first look-up indexes
 abbrev pub first_made : ℕ → ℕ → Schema
@@ -54,14 +54,14 @@ first_made tables look_ups = record {
 }
 
 abbrev pub package_schema : Schema
-package_schema = first_made 15 6
+package_schema = first_made 16 6
 
 abbrev pub table_names : List (List ℕ)
 table_names =
     codes "gpkg_spatial_ref_sys" ∷ codes "gpkg_contents" ∷ codes "gpkg_tile_matrix_set" ∷ codes "gpkg_tile_matrix" ∷ codes "gpkgext_relations" ∷ codes "sheet_tiles" ∷ codes "sheet_media" ∷ codes "sheet_rows"
-    ∷ codes "tiles_media" ∷ codes "rows_media" ∷ codes "sheet_package" ∷ codes "sheet_identity" ∷ codes "sheet_receipts" ∷ codes "sheet_items" ∷ []
+    ∷ codes "tiles_media" ∷ codes "rows_media" ∷ codes "rows_tiles" ∷ codes "sheet_package" ∷ codes "sheet_identity" ∷ codes "sheet_receipts" ∷ codes "sheet_items" ∷ []
 
--- all fourteen tables are there, and have no rows
+-- all fifteen tables are there, and have no rows
 pub record IsEmptyForm (db : Database) : Type 0 where
   pub form : HasForm db.schema
   pub empty : AllByRecursion (λ name. rows_named db name ≡ []) table_names
@@ -79,6 +79,7 @@ empty_tables = record {
   rows = [];
   tiles_media = [];
   rows_media = [];
+  rows_tiles = [];
   heads = [];
   identities = [];
   receipts = [];

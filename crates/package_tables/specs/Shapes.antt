@@ -1,10 +1,10 @@
--- The fourteen tables, each with what its rows say and the key that arranges them. Columns of OGC GeoPackage 1.3 and OGC 18-000, types and keys profile.
+-- The fifteen tables, each with what its rows say and the key that arranges them. Columns of OGC GeoPackage 1.3 and OGC 18-000, types and keys profile.
 use Rattle.std.specs.Prelude.{ℕ, ℤ, pos, negsuc, List, [], ◌∷◌, unsigned_abs}
 use Rattle.sqlite.specs.Table.{Table}
 use Rattle.sqlite.specs.Order.{Row, column}
 use Rattle.sqlite.specs.declared.types.Value.{Value}
 use Rattle.sqlite.specs.declared.types.Value.TheVariants.{Null, Int, Text, Blob}
-use Rattle.package_tables.specs.Tables.{gpkg_spatial_ref_sys, gpkg_contents, gpkg_tile_matrix_set, gpkg_tile_matrix, gpkgext_relations, sheet_tiles, sheet_media, sheet_rows, tiles_media, rows_media, sheet_package, sheet_identity, sheet_receipts, sheet_items}
+use Rattle.package_tables.specs.Tables.{gpkg_spatial_ref_sys, gpkg_contents, gpkg_tile_matrix_set, gpkg_tile_matrix, gpkgext_relations, sheet_tiles, sheet_media, sheet_rows, tiles_media, rows_media, rows_tiles, sheet_package, sheet_identity, sheet_receipts, sheet_items}
 use Rattle.package_tables.specs.Shape.{Shape}
 use Rattle.package_tables.specs.declared.rows.TileRow.{TileRow}
 use Rattle.package_tables.specs.declared.rows.MediaRow.{MediaRow}
@@ -91,6 +91,9 @@ tiles_media_shape = mapping_shape tiles_media
 
 abbrev pub rows_media_shape : Shape MappingRow
 rows_media_shape = mapping_shape rows_media
+
+abbrev pub rows_tiles_shape : Shape MappingRow
+rows_tiles_shape = mapping_shape rows_tiles
 
 abbrev pub head_shape : Shape HeadRow
 head_shape = record {

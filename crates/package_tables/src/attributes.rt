@@ -1,10 +1,10 @@
 //! The statements on `sheet_rows`.
-ghost use Rattle.std.specs.Prelude.{◌≡◌};
+ghost use Rattle.std.specs.Prelude.{◌≡◌, ◌&&◌, int_le, int_lt};
 ghost use Rattle.std.specs.Ordering.{int_eq, int_cmp, on};
 ghost use Rattle.sqlite.specs.State.{Survives};
 ghost use Rattle.sqlite.specs.Held.{state};
 ghost use Rattle.sql_meaning.specs.Transactions.{Rests};
-ghost use Rattle.package_tables.specs.Calls.{Makes, Tells, LooksUp, IsOneOf, AreAll, IsGreatest};
+ghost use Rattle.package_tables.specs.Calls.{Makes, Tells, LooksUp, IsOneOf, AreThose, AreAll, IsGreatest};
 ghost use Rattle.package_tables.specs.Listed.{attributes};
 ghost use Rattle.package_tables.specs.Changes.{Adds, DropsAttribute};
 
@@ -70,6 +70,27 @@ pub fn attribute_by_id<S: Alter>(
     ensures { LooksUp (λ t. IsOneOf (λ x. int_eq x.id id) t.rows) (state S.Store conn.old) (state S.Store conn.new) result }
 {
     first_of(conn.query_all("SELECT * FROM sheet_rows WHERE id = ?1", params![id]))
+}
+
+/// The attributes rows of the points from west on and before east, north of south and not beyond north.
+pub fn attributes_within<S: Alter>(
+    conn: &mut Connection<S>,
+    alloc: Global,
+    west: i64,
+    east: i64,
+    south: i64,
+    north: i64,
+) -> Result<Vec<AttributeRow>, Fault>
+    requires { Rests (state S.Store conn.old) }
+    ensures { LooksUp (λ t found. AreThose (λ x. int_le west x.x && int_lt x.x east && int_lt south x.y && int_le x.y north) t.rows found.items) (state S.Store conn.old) (state S.Store conn.new) result }
+{
+    all_of(
+        alloc,
+        conn.query_all(
+            "SELECT * FROM sheet_rows WHERE x >= ?1 AND x < ?2 AND y > ?3 AND y <= ?4",
+            params![west, east, south, north],
+        ),
+    )
 }
 
 /// All attributes rows, by their numbers.

@@ -21,7 +21,7 @@ use sqlite::{Alter, Connection, Transaction};
 use std::alloc::Global;
 use uuid::Uuid;
 
-/// What the head of a package says (profile): its UUID, its parent (none for the archive), how many loans it is below the archive (0 or 1), the
+/// What the head of a package says (profile): its UUID, its parent (none for the archive), how many levels it is below the archive (0 to 4), the
 /// number of its loan (0 for the archive, at most 1,000,000,000), and the moment at which it was made.
 #[derive(Clone, Copy)]
 pub struct Info<'t> {
@@ -44,7 +44,7 @@ fn insert_info<S: Alter>(tx: &mut Transaction<'_, S>, info: &Info<'_>) -> Result
     let parent = OrEmpty(info.parent).encode_lower(&mut parent_buffer);
     let depth = info.depth as i64;
     let loan = info.loan as i64;
-    insert_head(tx, 1, 1, package, parent, depth, loan, info.created)
+    insert_head(tx, 1, 2, package, parent, depth, loan, info.created)
 }
 
 /// All that a new package has.

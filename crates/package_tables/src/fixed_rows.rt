@@ -6,7 +6,7 @@ ghost use Rattle.sql_meaning.specs.Transactions.{Steps};
 ghost use Rattle.package_tables.specs.Calls.{OnTables};
 ghost use Rattle.package_tables.specs.Listed.{contents, matrix_sets, relations, systems};
 ghost use Rattle.package_tables.specs.Changes.{Adds, ListBecomes};
-ghost use Rattle.package_tables.specs.Fixed.{is_standard, standard_systems, systems_of, content, contents_of, matrix_set, two_relations};
+ghost use Rattle.package_tables.specs.Fixed.{is_standard, standard_systems, systems_of, content, contents_of, matrix_set, mapping_relations};
 ghost use Rattle.package_tables.specs.Creation.{TablesBecome, no_rows, fixed_tables};
 
 use crate::fault::Fault;
@@ -116,10 +116,10 @@ fn insert_matrix_set<S: Alter>(tx: &mut Transaction<'_, S>, frame: &Frame) -> Re
     insert_tile_matrix_set(tx, "sheet_tiles", srs_id, min_x, min_y, max_x, max_y)
 }
 
-/// Which table names the media of which: the mapping tables (OGC 18-000, relations).
+/// Which tables each mapping table relates (OGC 18-000, relations).
 fn insert_relations<S: Alter>(tx: &mut Transaction<'_, S>) -> Result<(), Fault>
     ensures same_reference { tx.new.conn.ghost_name ≡ tx.old.conn.ghost_name }
-    ensures steps { Steps (λ _. OnTables (ListBecomes relations [] two_relations)) (state S.Store tx.old.conn.now) (state S.Store tx.new.conn.now) result }
+    ensures steps { Steps (λ _. OnTables (ListBecomes relations [] mapping_relations)) (state S.Store tx.old.conn.now) (state S.Store tx.new.conn.now) result }
 {
     insert_relation(
         tx,
@@ -140,6 +140,16 @@ fn insert_relations<S: Alter>(tx: &mut Transaction<'_, S>) -> Result<(), Fault>
         "id",
         "media",
         "rows_media",
+    )?;
+    insert_relation(
+        tx,
+        3,
+        "sheet_rows",
+        "id",
+        "sheet_tiles",
+        "id",
+        "tiles",
+        "rows_tiles",
     )
 }
 

@@ -16,6 +16,8 @@ use std::alloc::Global;
 
 const BY_UUID: &str = "SELECT * FROM sheet_identity WHERE uuid = ?1";
 
+const BY_KEY: &str = "SELECT * FROM sheet_identity WHERE kind = ?1 AND local_id = ?2";
+
 impl FromRow for IdentityRow {
     ghost use Rattle.package_tables.specs.Shown.{identity_shown};
 
@@ -89,6 +91,18 @@ pub fn identity_by_uuid_inside<S: Alter>(
     first_of(tx.query_all(BY_UUID, params![uuid]))
 }
 
+/// The lasting identity of this row.
+pub fn identity_by_key<S: Alter>(
+    conn: &mut Connection<S>,
+    kind: i64,
+    local_id: i64,
+) -> Result<Option<IdentityRow>, Fault>
+    requires { Rests (state S.Store conn.old) }
+    ensures { LooksUp (λ t. IsOneOf (λ x. int_eq x.kind kind && int_eq x.local_id local_id) t.identities) (state S.Store conn.old) (state S.Store conn.new) result }
+{
+    first_of(conn.query_all(BY_KEY, params![kind, local_id]))
+}
+
 /// The lasting identity of this row, inside a transaction.
 pub fn identity_by_key_inside<S: Alter>(
     tx: &mut Transaction<'_, S>,
@@ -99,10 +113,7 @@ pub fn identity_by_key_inside<S: Alter>(
     ensures told { Tells (λ t. IsOneOf (λ x. int_eq x.kind kind && int_eq x.local_id local_id) t.identities) (state S.Store tx.old.conn.now) (state S.Store tx.new.conn.now) result }
     ensures survives { Survives (state S.Store tx.old.conn.now) (state S.Store tx.new.conn.now) (λ _. ⊥) }
 {
-    first_of(tx.query_all(
-        "SELECT * FROM sheet_identity WHERE kind = ?1 AND local_id = ?2",
-        params![kind, local_id],
-    ))
+    first_of(tx.query_all(BY_KEY, params![kind, local_id]))
 }
 
 /// All lasting identities, by their kinds and numbers.

@@ -1,5 +1,5 @@
 //! The tile matrices of a frame's zoom levels. OGC GeoPackage 1.3, 2.2.7.
-ghost use Rattle.std.specs.Prelude.{◌≡◌, pos, ◌<◌, ◌+ℤ◌, unsigned_abs, [], IsTrue};
+ghost use Rattle.std.specs.Prelude.{◌≡◌, [], IsTrue};
 ghost use Rattle.sqlite.specs.Held.{state};
 ghost use Rattle.sheet_types.specs.Matrix.{is_good_frame, has_level};
 ghost use Rattle.sql_meaning.specs.Transactions.{Steps};
@@ -11,6 +11,7 @@ ghost use Rattle.package_tables.specs.Fixed.{level_row, levels_of};
 use crate::fault::Fault;
 use crate::fixed::insert_tile_matrix;
 use matrix_rules::axis::axes_at;
+use matrix_rules::levels::{level_count, zoom_at};
 use sheet_types::frame::Frame;
 use sqlite::{Alter, Transaction};
 
@@ -37,24 +38,6 @@ fn insert_level<S: Alter>(
         axes.across.pixel_size,
         axes.down.pixel_size,
     )
-}
-
-/// The number of zoom levels.
-fn level_count(frame: &Frame) -> u64
-    requires { IsTrue (is_good_frame frame.now) }
-    ensures { result ≡ unsigned_abs frame.now.levels }
-{
-    frame.levels.unsigned_abs()
-}
-
-/// The zoom of the level that lies so far below the first.
-fn zoom_at(frame: &Frame, level: u64) -> i64
-    requires good { IsTrue (is_good_frame frame.now) }
-    requires level { level < unsigned_abs frame.now.levels }
-    ensures zoom { result ≡ frame.now.first_zoom +ℤ pos level }
-    ensures level { IsTrue (has_level frame.now result) }
-{
-    frame.first_zoom + level as i64
 }
 
 /// The tile matrices of all zoom levels of a frame.

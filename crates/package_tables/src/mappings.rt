@@ -1,11 +1,11 @@
-//! The statements on `tiles_media` and `rows_media`, the two mapping tables. A pair is a row of either; each function looks into
-//! the table of the mapping that it is given.
+//! The statements on the mapping tables. A pair is a row of one of them; each function looks into the table of the mapping that it is
+//! given.
 ghost use Rattle.std.specs.Prelude.{◌≡◌, ◌&&◌};
 ghost use Rattle.std.specs.Ordering.{int_eq, int_cmp, on, then_cmp};
 ghost use Rattle.sqlite.specs.State.{Survives};
 ghost use Rattle.sqlite.specs.Held.{state};
 ghost use Rattle.sql_meaning.specs.Transactions.{Rests};
-ghost use Rattle.package_tables.specs.Calls.{Makes, LooksUp, IsOneOf, AreAll};
+ghost use Rattle.package_tables.specs.Calls.{Makes, LooksUp, IsOneOf, AreThose, AreAll};
 ghost use Rattle.package_tables.specs.Listed.{pairs};
 ghost use Rattle.package_tables.specs.Changes.{Adds, DropsPair};
 ghost use Rattle.package_tables.specs.Mappings.{mapping_rows, insert_text, delete_text, of_ends_text, of_base_text, of_related_text, all_text};
@@ -40,10 +40,11 @@ fn insert_text(mapping: Mapping) -> &'static str
     match mapping {
         Mapping::TilesMedia => "INSERT INTO tiles_media VALUES (?1, ?2)",
         Mapping::RowsMedia => "INSERT INTO rows_media VALUES (?1, ?2)",
+        Mapping::RowsTiles => "INSERT INTO rows_tiles VALUES (?1, ?2)",
     }
 }
 
-/// Relates a base and a medium, which are not yet related.
+/// Relates a base and another item, which are not yet related.
 pub fn insert_pair<S: Alter>(
     tx: &mut Transaction<'_, S>,
     mapping: Mapping,
@@ -64,10 +65,11 @@ fn delete_text(mapping: Mapping) -> &'static str
     match mapping {
         Mapping::TilesMedia => "DELETE FROM tiles_media WHERE base_id = ?1 AND related_id = ?2",
         Mapping::RowsMedia => "DELETE FROM rows_media WHERE base_id = ?1 AND related_id = ?2",
+        Mapping::RowsTiles => "DELETE FROM rows_tiles WHERE base_id = ?1 AND related_id = ?2",
     }
 }
 
-/// Takes out the relation of a base and a medium.
+/// Takes out the relation of a base and another item.
 pub fn delete_pair<S: Alter>(
     tx: &mut Transaction<'_, S>,
     mapping: Mapping,
@@ -88,10 +90,11 @@ fn of_ends_text(mapping: Mapping) -> &'static str
     match mapping {
         Mapping::TilesMedia => "SELECT * FROM tiles_media WHERE base_id = ?1 AND related_id = ?2",
         Mapping::RowsMedia => "SELECT * FROM rows_media WHERE base_id = ?1 AND related_id = ?2",
+        Mapping::RowsTiles => "SELECT * FROM rows_tiles WHERE base_id = ?1 AND related_id = ?2",
     }
 }
 
-/// The relation of this base and this medium.
+/// The relation of this base and this other item.
 pub fn pair_of_ends<S: Alter>(
     conn: &mut Connection<S>,
     mapping: Mapping,
@@ -111,6 +114,7 @@ fn of_base_text(mapping: Mapping) -> &'static str
     match mapping {
         Mapping::TilesMedia => "SELECT * FROM tiles_media WHERE base_id = ?1",
         Mapping::RowsMedia => "SELECT * FROM rows_media WHERE base_id = ?1",
+        Mapping::RowsTiles => "SELECT * FROM rows_tiles WHERE base_id = ?1",
     }
 }
 
@@ -126,17 +130,34 @@ pub fn pair_of_base<S: Alter>(
     first_of(conn.query_all(of_base_text(mapping), params![base_id]))
 }
 
-/// Text that asks for the pairs of a medium.
+/// All relations of this base, which is a tile or an attributes row as the mapping says.
+pub fn pairs_of_base<S: Alter>(
+    conn: &mut Connection<S>,
+    alloc: Global,
+    mapping: Mapping,
+    base_id: i64,
+) -> Result<Vec<MappingRow>, Fault>
+    requires { Rests (state S.Store conn.old) }
+    ensures { LooksUp (λ t found. AreThose (λ x. int_eq x.base_id base_id) (mapping_rows mapping t) found.items) (state S.Store conn.old) (state S.Store conn.new) result }
+{
+    all_of(
+        alloc,
+        conn.query_all(of_base_text(mapping), params![base_id]),
+    )
+}
+
+/// Text that asks for the pairs of another end.
 fn of_related_text(mapping: Mapping) -> &'static str
     ensures { result.now ≡ of_related_text mapping }
 {
     match mapping {
         Mapping::TilesMedia => "SELECT * FROM tiles_media WHERE related_id = ?1",
         Mapping::RowsMedia => "SELECT * FROM rows_media WHERE related_id = ?1",
+        Mapping::RowsTiles => "SELECT * FROM rows_tiles WHERE related_id = ?1",
     }
 }
 
-/// A relation to this medium.
+/// A relation to this item, which is a medium or a tile as the mapping says.
 pub fn pair_of_related<S: Alter>(
     conn: &mut Connection<S>,
     mapping: Mapping,
@@ -148,6 +169,22 @@ pub fn pair_of_related<S: Alter>(
     first_of(conn.query_all(of_related_text(mapping), params![related_id]))
 }
 
+/// All relations to this item, which is a medium or a tile as the mapping says.
+pub fn pairs_of_related<S: Alter>(
+    conn: &mut Connection<S>,
+    alloc: Global,
+    mapping: Mapping,
+    related_id: i64,
+) -> Result<Vec<MappingRow>, Fault>
+    requires { Rests (state S.Store conn.old) }
+    ensures { LooksUp (λ t found. AreThose (λ x. int_eq x.related_id related_id) (mapping_rows mapping t) found.items) (state S.Store conn.old) (state S.Store conn.new) result }
+{
+    all_of(
+        alloc,
+        conn.query_all(of_related_text(mapping), params![related_id]),
+    )
+}
+
 /// Text that asks for all pairs, by both numbers.
 fn all_text(mapping: Mapping) -> &'static str
     ensures { result.now ≡ all_text mapping }
@@ -155,6 +192,7 @@ fn all_text(mapping: Mapping) -> &'static str
     match mapping {
         Mapping::TilesMedia => "SELECT * FROM tiles_media ORDER BY base_id, related_id",
         Mapping::RowsMedia => "SELECT * FROM rows_media ORDER BY base_id, related_id",
+        Mapping::RowsTiles => "SELECT * FROM rows_tiles ORDER BY base_id, related_id",
     }
 }
 

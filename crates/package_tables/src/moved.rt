@@ -74,6 +74,21 @@ pub fn moved_of<S: Alter>(
     )
 }
 
+/// What a receipt moved at a position, where there is such a thing.
+pub fn moved_at<S: Alter>(
+    conn: &mut Connection<S>,
+    seq: i64,
+    position: i64,
+) -> Result<Option<MovedRow>, Fault>
+    requires { Rests (state S.Store conn.old) }
+    ensures { LooksUp (λ t. IsOneOf (λ x. int_eq x.seq seq && int_eq x.position position) t.moved) (state S.Store conn.old) (state S.Store conn.new) result }
+{
+    first_of(conn.query_all(
+        "SELECT * FROM sheet_items WHERE seq = ?1 AND position = ?2",
+        params![seq, position],
+    ))
+}
+
 /// Some thing that was moved, has this identity and is of the kind of this number, where there is one.
 pub fn moved_of_kind<S: Alter>(
     conn: &mut Connection<S>,

@@ -1,10 +1,10 @@
 //! The statements on `sheet_receipts`.
-ghost use Rattle.std.specs.Prelude.{◌≡◌, bytes_eq};
-ghost use Rattle.std.specs.Ordering.{int_cmp, on};
+ghost use Rattle.std.specs.Prelude.{◌≡◌, ◌&&◌, bytes_eq, filter};
+ghost use Rattle.std.specs.Ordering.{int_cmp, is_gt, on};
 ghost use Rattle.sqlite.specs.State.{Survives};
 ghost use Rattle.sqlite.specs.Held.{state};
 ghost use Rattle.sql_meaning.specs.Transactions.{Rests};
-ghost use Rattle.package_tables.specs.Calls.{Makes, LooksUp, IsOneOf, AreAll};
+ghost use Rattle.package_tables.specs.Calls.{Makes, LooksUp, IsOneOf, IsLeast, AreAll};
 ghost use Rattle.package_tables.specs.Listed.{receipts};
 ghost use Rattle.package_tables.specs.Changes.{Adds};
 
@@ -77,6 +77,35 @@ pub fn receipt_by_request<S: Alter>(
     first_of(conn.query_all(
         "SELECT * FROM sheet_receipts WHERE request = ?1",
         params![request],
+    ))
+}
+
+/// The receipt of the least number above another, where there is one.
+pub fn receipt_after<S: Alter>(
+    conn: &mut Connection<S>,
+    seq: i64,
+) -> Result<Option<ReceiptRow>, Fault>
+    requires { Rests (state S.Store conn.old) }
+    ensures { LooksUp (λ t. IsLeast (λ x. x.seq) (filter (λ x. is_gt (int_cmp x.seq seq)) t.receipts)) (state S.Store conn.old) (state S.Store conn.new) result }
+{
+    first_of(conn.query_all(
+        "SELECT * FROM sheet_receipts WHERE seq > ?1 ORDER BY seq LIMIT 1",
+        params![seq],
+    ))
+}
+
+/// The receipt of the least number above another among those of a target, where there is one.
+pub fn receipt_to_after<S: Alter>(
+    conn: &mut Connection<S>,
+    target: &str,
+    seq: i64,
+) -> Result<Option<ReceiptRow>, Fault>
+    requires { Rests (state S.Store conn.old) }
+    ensures { LooksUp (λ t. IsLeast (λ x. x.seq) (filter (λ x. bytes_eq x.target target.now && is_gt (int_cmp x.seq seq)) t.receipts)) (state S.Store conn.old) (state S.Store conn.new) result }
+{
+    first_of(conn.query_all(
+        "SELECT * FROM sheet_receipts WHERE target = ?1 AND seq > ?2 ORDER BY seq LIMIT 1",
+        params![target, seq],
     ))
 }
 

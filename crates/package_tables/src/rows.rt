@@ -42,7 +42,7 @@ pub struct AttributeRow {
     pub label: Text,
 }
 
-/// A row of `tiles_media` or `rows_media` (OGC 18-000, user-defined mapping tables).
+/// A row of a mapping table (OGC 18-000, user-defined mapping tables).
 #[derive(Clone, Copy, PartialEq, Eq)]
 pub struct MappingRow {
     /// The `id` of the tile or row.
@@ -220,7 +220,7 @@ pub struct RelationRow {
     pub related_table_name: Text,
     /// The column of its key.
     pub related_primary_column: Text,
-    /// What the related rows are; here `media`.
+    /// What the related rows are; here `media` or `tiles`.
     pub relation_name: Text,
     /// The table that says which row is related to which.
     pub mapping_table_name: Text,

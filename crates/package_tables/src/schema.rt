@@ -44,6 +44,9 @@ const TILES_MEDIA: &str =
 const ROWS_MEDIA: &str =
     "CREATE TABLE rows_media (base_id INTEGER NOT NULL, related_id INTEGER NOT NULL, UNIQUE (base_id, related_id)) STRICT";
 
+const ROWS_TILES: &str =
+    "CREATE TABLE rows_tiles (base_id INTEGER NOT NULL, related_id INTEGER NOT NULL, UNIQUE (base_id, related_id)) STRICT";
+
 const HEAD: &str =
     "CREATE TABLE sheet_package (id INTEGER PRIMARY KEY, version INTEGER NOT NULL, package TEXT NOT NULL, parent TEXT NOT NULL, depth INTEGER NOT NULL, loan INTEGER NOT NULL, created TEXT NOT NULL) STRICT";
 
@@ -58,17 +61,17 @@ const RECEIPT_ITEMS: &str =
 
 const ITEMS_BY_BASE: &str = "CREATE INDEX items_by_base ON sheet_items (base)";
 
-const RECEIPTS_BY_SOURCE: &str = "CREATE INDEX receipts_by_source ON sheet_receipts (source)";
-
 const RECEIPTS_BY_TARGET: &str = "CREATE INDEX receipts_by_target ON sheet_receipts (target)";
 
 const TILES_MEDIA_BY_MEDIUM: &str = "CREATE INDEX by_tiles_media ON tiles_media (related_id)";
 
 const ROWS_MEDIA_BY_MEDIUM: &str = "CREATE INDEX by_rows_media ON rows_media (related_id)";
 
+const ROWS_TILES_BY_TILE: &str = "CREATE INDEX by_rows_tiles ON rows_tiles (related_id)";
+
 const ROWS_BY_PLACE: &str = "CREATE INDEX by_xy ON sheet_rows (x, y)";
 
-const STATEMENTS: [&str; 20] = [
+const STATEMENTS: [&str; 21] = [
     SPATIAL_REFERENCE_SYSTEMS,
     CONTENTS,
     TILE_MATRIX_SETS,
@@ -79,15 +82,16 @@ const STATEMENTS: [&str; 20] = [
     ROWS,
     TILES_MEDIA,
     ROWS_MEDIA,
+    ROWS_TILES,
     HEAD,
     IDENTITIES,
     RECEIPTS,
     RECEIPT_ITEMS,
     ITEMS_BY_BASE,
-    RECEIPTS_BY_SOURCE,
     RECEIPTS_BY_TARGET,
     TILES_MEDIA_BY_MEDIUM,
     ROWS_MEDIA_BY_MEDIUM,
+    ROWS_TILES_BY_TILE,
     ROWS_BY_PLACE,
 ];
 

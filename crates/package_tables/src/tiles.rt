@@ -1,10 +1,10 @@
 //! The statements on `sheet_tiles`.
-ghost use Rattle.std.specs.Prelude.{◌≡◌, ◌&&◌};
+ghost use Rattle.std.specs.Prelude.{◌≡◌, ◌&&◌, int_le};
 ghost use Rattle.std.specs.Ordering.{int_eq, int_cmp, on};
 ghost use Rattle.sqlite.specs.State.{Survives};
 ghost use Rattle.sqlite.specs.Held.{state};
 ghost use Rattle.sql_meaning.specs.Transactions.{Rests};
-ghost use Rattle.package_tables.specs.Calls.{Makes, Tells, LooksUp, IsOneOf, AreAll, IsGreatest};
+ghost use Rattle.package_tables.specs.Calls.{Makes, Tells, LooksUp, IsOneOf, AreThose, AreAll, IsGreatest};
 ghost use Rattle.package_tables.specs.Listed.{tiles};
 ghost use Rattle.package_tables.specs.Changes.{Adds, DropsTile};
 
@@ -83,6 +83,28 @@ pub fn tile_at<S: Alter>(
         "SELECT * FROM sheet_tiles WHERE zoom_level = ?1 AND tile_column = ?2 AND tile_row = ?3",
         params![zoom_level, tile_column, tile_row],
     ))
+}
+
+/// The tiles of a zoom level from the first to the last of some columns, and from the first to the last of some rows.
+pub fn tiles_between<S: Alter>(
+    conn: &mut Connection<S>,
+    alloc: Global,
+    zoom_level: i64,
+    first_column: i64,
+    last_column: i64,
+    first_row: i64,
+    last_row: i64,
+) -> Result<Vec<TileRow>, Fault>
+    requires { Rests (state S.Store conn.old) }
+    ensures { LooksUp (λ t found. AreThose (λ x. int_eq x.zoom_level zoom_level && int_le first_column x.tile_column && int_le x.tile_column last_column && int_le first_row x.tile_row && int_le x.tile_row last_row) t.tiles found.items) (state S.Store conn.old) (state S.Store conn.new) result }
+{
+    all_of(
+        alloc,
+        conn.query_all(
+            "SELECT * FROM sheet_tiles WHERE zoom_level = ?1 AND tile_column >= ?2 AND tile_column <= ?3 AND tile_row >= ?4 AND tile_row <= ?5",
+            params![zoom_level, first_column, last_column, first_row, last_row],
+        ),
+    )
 }
 
 /// All tiles, by their numbers.

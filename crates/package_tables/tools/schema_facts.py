@@ -18,18 +18,19 @@ TABLES = {
     "ROWS": ("sheet_rows", 8, 9, 0),
     "TILES_MEDIA": ("tiles_media", 9, 10, 1),
     "ROWS_MEDIA": ("rows_media", 10, 11, 1),
-    "HEAD": ("sheet_package", 11, 12, 0),
-    "IDENTITIES": ("sheet_identity", 12, 13, 2),
-    "RECEIPTS": ("sheet_receipts", 13, 14, 1),
-    "RECEIPT_ITEMS": ("sheet_items", 14, 15, 1),
+    "ROWS_TILES": ("rows_tiles", 11, 12, 1),
+    "HEAD": ("sheet_package", 12, 13, 0),
+    "IDENTITIES": ("sheet_identity", 13, 14, 2),
+    "RECEIPTS": ("sheet_receipts", 14, 15, 1),
+    "RECEIPT_ITEMS": ("sheet_items", 15, 16, 1),
 }
 INDEXES = {
     # the index, its table, the table's place and tree, and how many look-up indexes stand before it
-    "ITEMS_BY_BASE": ("items_by_base", "sheet_items", 14, 25, 0),
-    "RECEIPTS_BY_SOURCE": ("receipts_by_source", "sheet_receipts", 13, 23, 1),
-    "RECEIPTS_BY_TARGET": ("receipts_by_target", "sheet_receipts", 13, 23, 2),
-    "TILES_MEDIA_BY_MEDIUM": ("by_tiles_media", "tiles_media", 9, 15, 3),
-    "ROWS_MEDIA_BY_MEDIUM": ("by_rows_media", "rows_media", 10, 17, 4),
+    "ITEMS_BY_BASE": ("items_by_base", "sheet_items", 15, 27, 0),
+    "RECEIPTS_BY_TARGET": ("receipts_by_target", "sheet_receipts", 14, 25, 1),
+    "TILES_MEDIA_BY_MEDIUM": ("by_tiles_media", "tiles_media", 9, 15, 2),
+    "ROWS_MEDIA_BY_MEDIUM": ("by_rows_media", "rows_media", 10, 17, 3),
+    "ROWS_TILES_BY_TILE": ("by_rows_tiles", "rows_tiles", 11, 19, 4),
     "ROWS_BY_PLACE": ("by_xy", "sheet_rows", 8, 14, 5),
 }
 
@@ -103,11 +104,11 @@ makes : (tree : ℕ) → MakesIndexText text ({table} tree) ({name} tree 0)
 unfolding everything
 makes tree = (_, _, record {{ parsed = refl; statement = refl; formats = refl; table = refl; table_free = refl; name = refl; free = refl; defined = refl; whole = refl }})
 
-has : HasTable (first_made 15 {before}) {at} ({table} {tree})
+has : HasTable (first_made 16 {before}) {at} ({table} {tree})
 unfolding same_name
 has = record {{ named = refl; there = refl; stored = refl; by_tree = refl }}
 
-free : IsFree (first_made 15 {before}) (codes "{name}")
+free : IsFree (first_made 16 {before}) (codes "{name}")
 unfolding same_name
 free = record {{ table = refl; view = refl; index = refl }}
 
@@ -115,11 +116,11 @@ alone : IsAlone text
 unfolding everything
 alone = record {{ statement = _; parsed = refl; names = refl; whole = refl }}
 
-fits : FitsIndex (first_made 15 {before}) text ({table} {tree}) ({name} {tree} 0)
+fits : FitsIndex (first_made 16 {before}) text ({table} {tree}) ({name} {tree} 0)
 unfolding same_name is_utf8 chars lib.Utf8.encode digits fits_kind is_free_name begins same_word value_cmp lib.Ieee.is_nan lib.Ieee.lt
 fits = record {{ alone = alone; free = refl; utf8 = refl; open_name = refl; low = refl; reals = refl; key_reals = refl; fit = refl; short = refl }}
 
-pub step : Extends text (first_made 15 {before}) (first_made 15 {after})
+pub step : Extends text (first_made 16 {before}) (first_made 16 {after})
 step = inr ({at}, {table} {tree}, {name} {tree} 0, makes {tree}, has, free, fits, refl)
 """
 
@@ -159,7 +160,7 @@ def main():
         text = INDEX_FILE.format(name=name, table=table, at=at, tree=tree, before=before, after=before + 1, text=known[constant])
         (folder / f"{module}.antt").write_text(text)
         modules.append(module)
-        steps.append(f"    (first_made 15 {before + 1}, {module}_step,")
+        steps.append(f"    (first_made 16 {before + 1}, {module}_step,")
     uses = "\n".join(f"use Rattle.package_tables.proofs.Texts.{m}.{{text as {m}_text, step as {m}_step}}" for m in modules)
     mods = "\n".join(f"pub mod {m}" for m in modules)
     texts = " ∷ ".join(f"{m}_text" for m in modules)

@@ -7,21 +7,24 @@ import os
 # a table: its module of src, its list of specs/Listed, shape, constant, type of row, word of a row as shown,
 # whether its key is the rowid, its columns, the columns by which all rows are read, and its statements:
 #   deletes: (function, columns)      finds: (statement, columns, forms)      alls: function
+#   ranges: (statement, (column, comparison, parameter) ..), of numbers alone: all rows that pass, in any order
 # The form of a find at rest has the name of its statement; the one inside a transaction has `_inside` after it.
-# The mapping tables have no functions here, but the facts alone: each function of src/mappings.rt serves both, and its
-# answers, which cite the facts of both by proofs/Mappings.antt, are written by hand.
+# The mapping tables have no functions here, but the facts alone: each function of src/mappings.rt serves all, and its
+# answers, which cite the facts of all by proofs/Mappings.antt, are written by hand.
 INT, TEXT, BLOB = "int", "text", "blob"
 REST, INSIDE = "", "_inside"
 TABLES = [
     dict(file="TileStatements", module="tiles", list="tiles", shape="tile_shape", table="sheet_tiles", row="TileRow", shown="tile_shown", keyed=True,
          columns=[("id", INT), ("zoom_level", INT), ("tile_column", INT), ("tile_row", INT), ("tile_data", BLOB)], by=["id"],
-         insert="insert_tile", delete=("delete_tile", ["id"]), finds=[("tile_by_id", ["id"], [REST]), ("tile_at", ["zoom_level", "tile_column", "tile_row"], [REST])], all="all_tiles", greatest="greatest_tile_id"),
+         insert="insert_tile", delete=("delete_tile", ["id"]), finds=[("tile_by_id", ["id"], [REST]), ("tile_at", ["zoom_level", "tile_column", "tile_row"], [REST])],
+         ranges=[("tiles_between", [("zoom_level", "=", "zoom_level"), ("tile_column", ">=", "first_column"), ("tile_column", "<=", "last_column"), ("tile_row", ">=", "first_row"), ("tile_row", "<=", "last_row")])], all="all_tiles", greatest="greatest_tile_id"),
     dict(file="MediumStatements", module="media", list="media", shape="medium_shape", table="sheet_media", row="MediaRow", shown="medium_shown", keyed=True,
          columns=[("id", INT), ("data", BLOB), ("content_type", TEXT)], by=["id"],
          insert="insert_medium", delete=("delete_medium", ["id"]), finds=[("medium_by_id", ["id"], [REST])], all="all_media", greatest="greatest_medium_id"),
     dict(file="AttributeStatements", module="attributes", list="attributes", shape="attribute_shape", table="sheet_rows", row="AttributeRow", shown="attribute_shown", keyed=True,
          columns=[("id", INT), ("x", INT), ("y", INT), ("code", INT), ("label", TEXT)], by=["id"],
-         insert="insert_attribute", delete=("delete_attribute", ["id"]), finds=[("attribute_by_id", ["id"], [REST])], all="all_attributes", greatest="greatest_attribute_id"),
+         insert="insert_attribute", delete=("delete_attribute", ["id"]), finds=[("attribute_by_id", ["id"], [REST])],
+         ranges=[("attributes_within", [("x", ">=", "west"), ("x", "<", "east"), ("y", ">", "south"), ("y", "<=", "north")])], all="all_attributes", greatest="greatest_attribute_id"),
     dict(file="TilesMediaStatements", list="TilesMedia", shape="tiles_media_shape", table="tiles_media", row="MappingRow", shown="mapping_shown", keyed=False,
          columns=[("base_id", INT), ("related_id", INT)], by=["base_id", "related_id"],
          delete=(None, ["base_id", "related_id"]),
@@ -30,10 +33,14 @@ TABLES = [
          columns=[("base_id", INT), ("related_id", INT)], by=["base_id", "related_id"],
          delete=(None, ["base_id", "related_id"]),
          finds=[("of_ends", ["base_id", "related_id"], []), ("of_base", ["base_id"], []), ("of_related", ["related_id"], [])]),
+    dict(file="RowsTilesStatements", list="RowsTiles", shape="rows_tiles_shape", table="rows_tiles", row="MappingRow", shown="mapping_shown", keyed=False,
+         columns=[("base_id", INT), ("related_id", INT)], by=["base_id", "related_id"],
+         delete=(None, ["base_id", "related_id"]),
+         finds=[("of_ends", ["base_id", "related_id"], []), ("of_base", ["base_id"], []), ("of_related", ["related_id"], [])]),
     dict(file="IdentityStatements", module="identities", list="identities", shape="identity_shape", table="sheet_identity", row="IdentityRow", shown="identity_shown", keyed=False,
          columns=[("kind", INT), ("local_id", INT), ("uuid", TEXT)], by=["kind", "local_id"],
          insert="insert_identity", delete=("delete_identity", ["kind", "local_id"]),
-         finds=[("identity_by_uuid", ["uuid"], [REST, INSIDE]), ("identity_by_key", ["kind", "local_id"], [INSIDE])], all="all_identities"),
+         finds=[("identity_by_uuid", ["uuid"], [REST, INSIDE]), ("identity_by_key", ["kind", "local_id"], [REST, INSIDE])], all="all_identities"),
 ]
 
 RESERVED = {"data", "package", "in", "as"}
@@ -151,6 +158,54 @@ def ranked(t):
     ]
 
 
+# a comparison: its word, the fact of it, and the test, where {x} is the value of the row and {p} the parameter
+COMPARED = {
+    "=": (None, "same_number", "int_eq {x} {p}"),
+    ">=": ("Ge", "at_least", "int_le {p} {x}"),
+    "<=": ("Le", "at_most", "int_le {x} {p}"),
+    ">": ("Gt", "above", "int_lt {p} {x}"),
+    "<": ("Lt", "below", "int_lt {x} {p}"),
+}
+
+
+def range_text(t, tests):
+    return "SELECT * FROM %s WHERE %s" % (t["table"], " AND ".join("%s %s ?%d" % (c, op, j + 1) for j, (c, op, _) in enumerate(tests)))
+
+
+def range_facts(t, name, tests):
+    def one(j, c, op):
+        word = COMPARED[op][0]
+        return "(equals %d %d)" % (number(t, c), j) if word is None else "(compares %s %d %d)" % (word, number(t, c), j)
+
+    test = nested(lambda a, b: "(both %s %s)" % (a, b), [one(j, c, op) for j, (c, op, _) in enumerate(tests)])
+    parameters = [p for _, _, p in tests]
+    kept = " && ".join(COMPARED[op][2].format(x="x." + c, p=p) for c, op, p in tests)
+    alike = nested(lambda a, b: "(both_same %s %s)" % (a, b), ["(%s x.%s %s)" % (COMPARED[op][1], c, p) for c, op, p in tests])
+    return text_of(name, range_text(t, tests), t, test, "[]", condition(parameters)) + [
+        "",
+        "pub %s : %s → IsLookUp %s %s (codes \"%s\") (%s[]) (λ x. %s)"
+        % (name, " ".join("(%s : ℤ)" % p for p in parameters), t["shape"], t["shown"], range_text(t, tests), "".join("Int %s ∷ " % p for p in parameters), kept),
+        "%s %s = %s" % (name, " ".join(parameters), read_record(name, "λ v x. " + alike)),
+    ]
+
+
+def range_answer(t, name, tests):
+    parameters = [p for _, _, p in tests]
+    return [
+        "use Rattle.std.proofs.Common.{refl, to_z-of_z}",
+        "use Rattle.package_tables.proofs.Looking.{looks_all}",
+        "use Rattle.package_tables.proofs.%s.{known, %s}" % (t["file"], name),
+        "use Rattle.package_tables.proofs.%s.%s.Goals as goal" % (t["module"], name),
+        "",
+        "pub returns : goal.returns",
+        "returns g c =",
+        "    let e = c.query_all.ensures in",
+        "    looks_all known (%s %s) (λ rows. rows.items) _ (rw (%s) (simp (to_z-of_z, %s) refl)) g.S.Store g.met.S.Store.shut_if_dirty g.met.S.Store.settled"
+        % (name, " ".join("c.args.%s" % p for p in parameters), to_sql(len(parameters)), ", ".join("c.ranges.%s" % p for p in parameters)),
+        "    c.args.conn.now c.query_all.new.self c.requires c.query_all.result e.ok e.err e.mode e.survives (λ found. found.items) c.all_of.result c.all_of.ensures.values",
+    ]
+
+
 def newest_text(t):
     return "SELECT * FROM %s ORDER BY %s DESC LIMIT 1" % (t["table"], t["by"][0])
 
@@ -209,8 +264,9 @@ def statements(t):
     out = [
         "-- The statements on `%s`. Written by tools/statements.py." % t["table"],
         "use Rattle.std.proofs.Common.{◌≡◌, ℕ, ℤ, List, [], ◌∷◌, Bool, true, codes, refl}",
-        "use Rattle.std.specs.Prelude.{◌&&◌, bytes_eq}",
+        "use Rattle.std.specs.Prelude.{◌&&◌, bytes_eq, int_le, int_lt}",
         "use Rattle.std.specs.Ordering.{int_eq, int_cmp, on, then_cmp}",
+        "use Rattle.sqlite_sql.specs.declared.ops.CompareOp.TheVariants.{Ge, Le, Gt, Lt}",
         "use Rattle.std.proofs.lemmas.Cmp.{on_total, then_total, int_cmp_total}",
         "use Rattle.sqlite.specs.Order.{Row}",
         "use Rattle.sqlite.specs.Term.{col}",
@@ -218,7 +274,7 @@ def statements(t):
         "use Rattle.sqlite.specs.declared.types.Value.TheVariants.{Int, Null, Text, Blob}",
         "use Rattle.sqlite_tied.specs.Compute.{everything}",
         "use Rattle.sql_meaning.specs.Resolving.{resolving}",
-        "use Rattle.sql_meaning.specs.Reading.{always, equals, both, ascending, descending}",
+        "use Rattle.sql_meaning.specs.Reading.{always, equals, compares, both, ascending, descending}",
         "use Rattle.sql_meaning.proofs.Insert.{IsInsert, IsRow}",
         "use Rattle.sql_meaning.proofs.Delete.{IsDelete, IsPlannedDelete}",
         "use Rattle.sql_meaning.proofs.Resolve.{one_table, one_source}",
@@ -226,14 +282,14 @@ def statements(t):
         "use Rattle.sql_meaning.proofs.First.{IsFirst, IsPlannedFirst}",
         "use Rattle.package_tables.specs.Tables.{%s}" % t["table"],
         "use Rattle.package_tables.specs.Shapes.{%s, int_at, text_at, blob_at}" % t["shape"],
-        "use Rattle.sheet_types.specs.declared.command.Mapping.TheVariants.{TilesMedia, RowsMedia}",
+        "use Rattle.sheet_types.specs.declared.command.Mapping.TheVariants.{TilesMedia, RowsMedia, RowsTiles}",
         "use Rattle.package_tables.specs.Listed.{%s}" % (t["list"] if "module" in t else "pairs"),
         "use Rattle.package_tables.specs.Shown.{%s}" % t["shown"],
         "use Rattle.package_tables.specs.declared.rows.%s.{%s}" % (t["row"], t["row"]),
         "use Rattle.package_tables.proofs.Looking.{IsKnown, IsLookUp, IsRanked}",
         "use Rattle.package_tables.proofs.Newest.{IsNewest}",
         "use Rattle.package_tables.proofs.Ranking.{one_number, two_numbers}",
-        "use Rattle.package_tables.proofs.Values.{same_number, same_text, both_same}",
+        "use Rattle.package_tables.proofs.Values.{same_number, same_text, at_least, at_most, above, below, both_same}",
         "use Rattle.package_tables.proofs.Written.{%s}" % listed(t)[1].split()[0],
         "",
         "pub insert_text : (tree : ℕ) → IsInsert (codes \"%s\") (%s tree)" % (insert_text(t), t["table"]),
@@ -266,6 +322,8 @@ def statements(t):
             "pub %s : %s → IsLookUp %s %s (codes \"%s\") (%s) (λ x. %s)" % (name, arguments(t, columns), t["shape"], t["shown"], select_text(t, columns), bound(t, columns), keeps(t, columns, "x")),
             "%s %s = %s" % (name, " ".join(columns), read_record(name, "λ v x. " + same(t, columns, "x"))),
         ]
+    for name, tests in t.get("ranges", []):
+        out += range_facts(t, name, tests)
     by = "(%s[])" % "".join("(col 1 %d, ascending) ∷ " % place(t, c) for c in t["by"])
     out += text_of("all", all_text(t), t, "always", by, "refl")
     out += ["", "pub all : IsLookUp %s %s (codes \"%s\") [] (λ x. true)" % (t["shape"], t["shown"], all_text(t)), "all = %s" % read_record("all", "λ v x. refl")]
@@ -407,6 +465,8 @@ def main():
         for name, columns, forms in t["finds"]:
             for form in forms:
                 write(folder + name + form + "/Answers.antt", read_answer(t, name, name + form, columns, form == INSIDE, False))
+        for name, tests in t.get("ranges", []):
+            write(folder + name + "/Answers.antt", range_answer(t, name, tests))
         if "greatest" in t:
             write(folder + t["greatest"] + "/Answers.antt", newest_answer(t))
         write(folder + t["all"] + "/Answers.antt", read_answer(t, "all", t["all"], [], False, True))

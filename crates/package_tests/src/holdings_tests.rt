@@ -161,12 +161,16 @@ fn second_medium() -> Uuid {
     Uuid::from_u128(0x12)
 }
 
-fn of_tile(base: Uuid, media: Uuid) -> Relation {
-    Relation::new(Mapping::TilesMedia, base, media)
+fn of_tile(base: Uuid, other: Uuid) -> Relation {
+    Relation::new(Mapping::TilesMedia, base, other)
 }
 
-fn of_row(base: Uuid, media: Uuid) -> Relation {
-    Relation::new(Mapping::RowsMedia, base, media)
+fn of_row(base: Uuid, other: Uuid) -> Relation {
+    Relation::new(Mapping::RowsMedia, base, other)
+}
+
+fn tile_of(base: Uuid, other: Uuid) -> Relation {
+    Relation::new(Mapping::RowsTiles, base, other)
 }
 
 // The numbers stand the other way round than the UUIDs.
@@ -224,6 +228,16 @@ fn links_across_are_read_back(rt: HostRuntime) -> Result<(), Fail> {
     assert!(rt; committed(conn, &Unlinked(of_tile(first(), second_medium())))?);
     assert!(rt; all_links(a, conn)?.as_slice() == kept.as_slice());
     assert!(rt; committed(conn, &Linked(of_tile(first(), second_medium())))?);
+    assert!(rt; all_links(a, conn)?.as_slice() == expected.as_slice());
+    assert!(rt; committed(conn, &Linked(tile_of(third(), first())))?);
+    let all = [
+        expected[0],
+        expected[1],
+        expected[2],
+        tile_of(third(), first()),
+    ];
+    assert!(rt; all_links(a, conn)?.as_slice() == all.as_slice());
+    assert!(rt; committed(conn, &Unlinked(tile_of(third(), first())))?);
     assert!(rt; all_links(a, conn)?.as_slice() == expected.as_slice());
     Ok(())
 }

@@ -2,7 +2,7 @@
 // medium beside a tile and another row that are linked to nothing. What is expected follows from what was put in.
 
 use crate::steps::{is_named_by_a_link, is_taken, kind};
-use identity_register::kinds::kind_of_number;
+use identity_register::kinds::{kind_of_number, number_of_kind};
 use identity_register::look_ups::{LinkState, find, has_link, link_state};
 use identity_register::stored_texts::stored_uuid;
 use package_tables::attributes::insert_attribute;
@@ -37,28 +37,38 @@ impl<S: Alter> Change<S> for FilledWithRows {
     }
 }
 
-fn relation(mapping: Mapping, base: u128, media: u128) -> Relation {
-    Relation::new(mapping, Uuid::from_u128(base), Uuid::from_u128(media))
+// As those, and the second row is related to the tile.
+struct FilledWithTilesOfRows;
+
+impl<S: Alter> Change<S> for FilledWithTilesOfRows {
+    fn make(&self, tx: &mut Transaction<'_, S>) -> Result<(), Fault> {
+        FilledWithRows.make(tx)?;
+        insert_pair(tx, Mapping::RowsTiles, 5, 4)
+    }
+}
+
+fn relation(mapping: Mapping, base: u128, other: u128) -> Relation {
+    Relation::new(mapping, Uuid::from_u128(base), Uuid::from_u128(other))
 }
 
 fn related<S: Alter>(
     conn: &mut Connection<S>,
     mapping: Mapping,
     base: u128,
-    media: u128,
+    other: u128,
 ) -> Result<bool, Fault> {
     at_rest(conn)?;
-    has_link(conn, relation(mapping, base, media))
+    has_link(conn, relation(mapping, base, other))
 }
 
 fn relation_state<S: Alter>(
     conn: &mut Connection<S>,
     mapping: Mapping,
     base: u128,
-    media: u128,
+    other: u128,
 ) -> Result<LinkState, Fault> {
     at_rest(conn)?;
-    link_state(conn, relation(mapping, base, media))
+    link_state(conn, relation(mapping, base, other))
 }
 
 fn code<S: Alter>(conn: &mut Connection<S>, id: u128) -> Result<i64, Fault> {
@@ -109,6 +119,28 @@ fn look_ups_tell_links_of_rows_from_those_of_tiles(rt: HostRuntime) -> Result<()
     Ok(())
 }
 
+#[test]
+fn look_ups_tell_links_of_rows_to_tiles(rt: HostRuntime) -> Result<(), Fail> {
+    let mut conn = Connection::open_in_memory(rt.alloc())?;
+    assert!(rt; committed(&mut conn, &FilledWithTilesOfRows)?);
+    assert!(rt; related(&mut conn, Mapping::RowsTiles, 4, 1)?);
+    assert!(rt; !related(&mut conn, Mapping::RowsTiles, 3, 1)?);
+    assert!(rt; !related(&mut conn, Mapping::RowsTiles, 1, 4)?);
+    assert!(rt; !related(&mut conn, Mapping::RowsMedia, 4, 2)?);
+    for id in [1u128, 2, 3, 4] {
+        assert!(rt; is_named_by_a_link(&mut conn, id)? == Some(true));
+    }
+    let turned = relation_state(&mut conn, Mapping::RowsTiles, 1, 4)?;
+    assert!(rt; turned == LinkState::WrongKinds);
+    let to_a_medium = relation_state(&mut conn, Mapping::RowsTiles, 4, 2)?;
+    assert!(rt; to_a_medium == LinkState::WrongKinds);
+    let of_another_row = relation_state(&mut conn, Mapping::RowsTiles, 3, 1)?;
+    assert!(rt; of_another_row == LinkState::Absent);
+    let there = relation_state(&mut conn, Mapping::RowsTiles, 4, 1)?;
+    assert!(rt; there == LinkState::There);
+    Ok(())
+}
+
 // Both ends are to be known before their kinds are judged.
 #[test]
 fn a_link_that_is_to_come_in_has_a_state(rt: HostRuntime) -> Result<(), Fail> {
@@ -136,8 +168,16 @@ fn a_link_that_is_to_come_in_has_a_state(rt: HostRuntime) -> Result<(), Fail> {
 fn a_stored_number_tells_a_kind(rt: HostRuntime) -> Result<(), Fail> {
     assert!(rt; kind_of_number(1)? == MovedKind::TileItem);
     assert!(rt; kind_of_number(5)? == MovedKind::RowsMediaLink);
+    assert!(rt; kind_of_number(6)? == MovedKind::RowsTilesLink);
+    for kind in [
+        MovedKind::TileItem,
+        MovedKind::RowItem,
+        MovedKind::RowsTilesLink,
+    ] {
+        assert!(rt; kind_of_number(number_of_kind(kind))? == kind);
+    }
     assert!(rt; kind_of_number(0).is_err());
-    assert!(rt; kind_of_number(6).is_err());
+    assert!(rt; kind_of_number(7).is_err());
     assert!(rt; kind_of_number(-1).is_err());
     assert!(rt; kind_of_number(257).is_err());
     Ok(())

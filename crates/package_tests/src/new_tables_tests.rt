@@ -27,14 +27,14 @@ const MATRICES: &str =
     "sheet_tiles 0 1 1 256 256 16 16|sheet_tiles 1 2 2 256 256 8 8|sheet_tiles 2 4 4 256 256 4 4|";
 
 const RELATIONS: &str =
-    "1 sheet_tiles id sheet_media id media tiles_media|2 sheet_rows id sheet_media id media rows_media|";
+    "1 sheet_tiles id sheet_media id media tiles_media|2 sheet_rows id sheet_media id media rows_media|3 sheet_rows id sheet_tiles id tiles rows_tiles|";
 
 fn made<S: Alter + Drop>(alloc: Global, conn: Connection<S>) -> Result<Package<S>, Fault> {
     new_tables(alloc, conn, &FRAME, &archive())
 }
 
 // A package of another frame: a reference system that each package has, two levels that begin at zoom 3, tiles and matrices that
-// are not square, ground below zero; with a parent, and at the greatest loan.
+// are not square, ground below zero; with a parent, and at the greatest depth and loan.
 fn made_below<S: Alter + Drop>(alloc: Global, conn: Connection<S>) -> Result<Package<S>, Fault> {
     let frame = Frame {
         srs_id: 4326,
@@ -52,7 +52,7 @@ fn made_below<S: Alter + Drop>(alloc: Global, conn: Connection<S>) -> Result<Pac
     let info = Info {
         package: Uuid::from_u128(2),
         parent: Some(Uuid::from_u128(1)),
-        depth: 1,
+        depth: 4,
         loan: 1000000000,
         created: LATER,
     };
@@ -182,9 +182,9 @@ fn a_package_of_another_frame_has_its_rows(rt: HostRuntime) -> Result<(), Fail> 
     );
     assert_eq!(rt;
         heads(alloc, &mut package.conn)?.as_str(),
-        "1 1 00000000-0000-0000-0000-000000000002 00000000-0000-0000-0000-000000000001 1 1000000000 2026-11-23T09:00:00.000Z|"
+        "1 2 00000000-0000-0000-0000-000000000002 00000000-0000-0000-0000-000000000001 4 1000000000 2026-11-23T09:00:00.000Z|"
     );
-    assert_eq!(rt; object_count(&mut package.conn)?, 33);
+    assert_eq!(rt; object_count(&mut package.conn)?, 35);
     Ok(())
 }
 

@@ -2,9 +2,12 @@
 
 use crate::tables::{moved, receipt};
 use crate::values::archive;
+use custody::homing::bring_home;
 use custody::keeping::kept;
+use custody::lending::was_lent;
 use custody::{enter, names};
 use package_tables::fault::Fault;
+use package_tables::package::begin;
 use sheet_types::collections::MovedList;
 use sheet_types::receipt::{Moved, MovedKind, Receipt};
 use sqlite::{Alter, Connection, Transaction};
@@ -158,5 +161,117 @@ fn a_receipt_is_kept_for_its_request(rt: HostRuntime) -> Result<(), Fail> {
     assert!(rt; is_kept(alloc, &mut conn, &lent)?);
     assert!(rt; is_kept(alloc, &mut conn, &back)?);
     assert!(rt; !has_kept(alloc, &mut conn, 11)?);
+    Ok(())
+}
+
+// Brings the receipts of one package home to another, in a transaction of its own. Tells whether no other stood in its way.
+fn brought_home<S: Alter>(
+    child: &mut Connection<S>,
+    conn: &mut Connection<S>,
+) -> Result<bool, Fault> {
+    at_rest(child)?;
+    if !conn.is_autocommit() {
+        return Ok(false);
+    }
+    let mut tx = begin(conn);
+    bring_home(child, &mut tx)?;
+    tx.commit()?;
+    Ok(true)
+}
+
+// The receipt of a number and a request that moved nothing.
+fn empty(alloc: Global, seq: u64, request: u128) -> Result<Receipt, Fault> {
+    let mut receipt = give_back(alloc)?;
+    receipt.seq = seq;
+    receipt.request = Uuid::from_u128(request);
+    receipt.items = MovedList::from_vec(Vec::new(alloc));
+    Ok(receipt)
+}
+
+#[test]
+fn all_receipts_come_home(rt: HostRuntime) -> Result<(), Fail> {
+    let alloc = rt.alloc();
+    let mut child = new_package(
+        alloc,
+        Connection::open_in_memory(alloc)?,
+        &FRAME,
+        &archive(),
+    )?;
+    let mut conn = new_package(
+        alloc,
+        Connection::open_in_memory(alloc)?,
+        &FRAME,
+        &archive(),
+    )?;
+    let own = give_back(alloc)?;
+    let lent = loan(alloc)?;
+    let first = empty(alloc, 0, 20)?;
+    let last = empty(alloc, 300, 21)?;
+    assert!(rt; committed(&mut conn, &Entered(&own))?);
+    assert!(rt; committed(&mut child, &Entered(&last))?);
+    assert!(rt; committed(&mut child, &Entered(&lent))?);
+    assert!(rt; committed(&mut child, &Entered(&first))?);
+    assert!(rt; brought_home(&mut child, &mut conn)?);
+    assert!(rt; is_kept(alloc, &mut conn, &own)?);
+    assert!(rt; is_kept(alloc, &mut conn, &lent)?);
+    assert!(rt; is_kept(alloc, &mut conn, &first)?);
+    assert!(rt; is_kept(alloc, &mut conn, &last)?);
+    assert!(rt; is_kept(alloc, &mut child, &lent)?);
+    assert!(rt; !has_kept(alloc, &mut child, 10)?);
+    assert_eq!(rt;
+        moved(alloc, &mut conn, 7)?.as_str(),
+        "7 0 2 00000000-0000-0000-0000-000000000002  5 abababababababababababababababababababababababababababababababab;7 1 4 00000000-0000-0000-0000-000000000003 00000000-0000-0000-0000-000000000002 0 ;"
+    );
+    Ok(())
+}
+
+// A receipt of nothing under this line, for package 1.
+fn of_line(alloc: Global, seq: u64, line: &str) -> Result<Receipt, Fault> {
+    Ok(Receipt {
+        seq,
+        request: Uuid::from_u128(seq as u128),
+        at: text(alloc, AT)?,
+        line: text(alloc, line)?,
+        source: Some(Uuid::from_u128(5)),
+        target: Some(Uuid::from_u128(1)),
+        items: MovedList::from_vec(Vec::new(alloc)),
+        tiles: 0,
+        media: 0,
+        rows: 0,
+        links: 0,
+        bytes: 0,
+    })
+}
+
+fn is_lent<S: Alter>(conn: &mut Connection<S>, package: u128) -> Result<bool, Fault> {
+    at_rest(conn)?;
+    was_lent(conn, Uuid::from_u128(package))
+}
+
+#[test]
+fn a_split_alone_lends(rt: HostRuntime) -> Result<(), Fail> {
+    let alloc = rt.alloc();
+    let mut conn = new_package(
+        alloc,
+        Connection::open_in_memory(alloc)?,
+        &FRAME,
+        &archive(),
+    )?;
+    let merge = of_line(
+        alloc,
+        2,
+        "merge 00000000-0000-0000-0000-000000000005 00000000-0000-0000-0000-000000000001 1",
+    )?;
+    let other = of_line(alloc, 3, "split 00000000-0000-0000-0000-000000000005")?;
+    let split = of_line(
+        alloc,
+        9,
+        "split 00000000-0000-0000-0000-000000000005 00000000-0000-0000-0000-000000000001 strict 2 0 3 0 3",
+    )?;
+    assert!(rt; !is_lent(&mut conn, 1)?);
+    assert!(rt; committed(&mut conn, &Entered(&other))? && committed(&mut conn, &Entered(&merge))?);
+    assert!(rt; !is_lent(&mut conn, 1)?);
+    assert!(rt; committed(&mut conn, &Entered(&split))?);
+    assert!(rt; is_lent(&mut conn, 1)? && !is_lent(&mut conn, 5)? && !is_lent(&mut conn, 6)?);
     Ok(())
 }

@@ -10,6 +10,7 @@ use test_values::committed;
 
 // As stock SQLite 3.40.1 lists them after the same statements.
 const OBJECTS: &str = "index by_rows_media rows_media
+index by_rows_tiles rows_tiles
 index by_tiles_media tiles_media
 index by_xy sheet_rows
 table gpkg_contents gpkg_contents
@@ -18,9 +19,9 @@ table gpkg_tile_matrix gpkg_tile_matrix
 table gpkg_tile_matrix_set gpkg_tile_matrix_set
 table gpkgext_relations gpkgext_relations
 index items_by_base sheet_items
-index receipts_by_source sheet_receipts
 index receipts_by_target sheet_receipts
 table rows_media rows_media
+table rows_tiles rows_tiles
 table sheet_identity sheet_identity
 table sheet_items sheet_items
 table sheet_media sheet_media
@@ -34,6 +35,7 @@ index sqlite_autoindex_gpkg_tile_matrix_1 gpkg_tile_matrix
 index sqlite_autoindex_gpkg_tile_matrix_set_1 gpkg_tile_matrix_set
 index sqlite_autoindex_gpkgext_relations_1 gpkgext_relations
 index sqlite_autoindex_rows_media_1 rows_media
+index sqlite_autoindex_rows_tiles_1 rows_tiles
 index sqlite_autoindex_sheet_identity_1 sheet_identity
 index sqlite_autoindex_sheet_identity_2 sheet_identity
 index sqlite_autoindex_sheet_items_1 sheet_items

@@ -22,7 +22,7 @@ pub(crate) fn archive() -> Info<'static> {
 
 // The same as the text of its row.
 pub(crate) const HEAD: &str =
-    "1 1 00000000-0000-0000-0000-000000000001  0 0 2026-11-22T09:00:00.000Z|";
+    "1 2 00000000-0000-0000-0000-000000000001  0 0 2026-11-22T09:00:00.000Z|";
 
 pub(crate) fn open(alloc: Global, db: Memory) -> Result<Connection<FileStore<Memory>>, Error>
     requires { IsTrue (memory_is_usable db) }

@@ -7,6 +7,9 @@ use Rattle.identity_register.proofs.Looking.{looked, looked_then, sees, fails}
 use Rattle.custody.proofs.Naming.{named_by_rows}
 use Rattle.custody.proofs.names.Goals as goal
 
+pub returns-in_err-medium : goal.returns-in_err-medium
+returns-in_err-medium g c = fails c.from_residual-in_err-medium.result c.from_residual-in_err-medium.ensures.0 (stays_then (looks_stays c.is_moved_as.ensures.looked) (looks_stays c.is_moved_as-2.ensures.looked))
+
 pub returns-in_err-row : goal.returns-in_err-row
 returns-in_err-row g c =
     fails c.from_residual-in_err-row.result c.from_residual-in_err-row.ensures.0 (stays_then (stays_then (looks_stays c.is_moved_as.ensures.looked) (looks_stays c.is_moved_as-2.ensures.looked)) (looks_stays c.is_moved_as-3.ensures.looked))

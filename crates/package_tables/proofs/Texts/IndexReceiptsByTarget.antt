@@ -21,11 +21,11 @@ makes : (tree : ℕ) → MakesIndexText text (sheet_receipts tree) (receipts_by_
 unfolding everything
 makes tree = (_, _, record { parsed = refl; statement = refl; formats = refl; table = refl; table_free = refl; name = refl; free = refl; defined = refl; whole = refl })
 
-has : HasTable (first_made 15 2) 13 (sheet_receipts 23)
+has : HasTable (first_made 16 1) 14 (sheet_receipts 25)
 unfolding same_name
 has = record { named = refl; there = refl; stored = refl; by_tree = refl }
 
-free : IsFree (first_made 15 2) (codes "receipts_by_target")
+free : IsFree (first_made 16 1) (codes "receipts_by_target")
 unfolding same_name
 free = record { table = refl; view = refl; index = refl }
 
@@ -33,9 +33,9 @@ alone : IsAlone text
 unfolding everything
 alone = record { statement = _; parsed = refl; names = refl; whole = refl }
 
-fits : FitsIndex (first_made 15 2) text (sheet_receipts 23) (receipts_by_target 23 0)
+fits : FitsIndex (first_made 16 1) text (sheet_receipts 25) (receipts_by_target 25 0)
 unfolding same_name is_utf8 chars lib.Utf8.encode digits fits_kind is_free_name begins same_word value_cmp lib.Ieee.is_nan lib.Ieee.lt
 fits = record { alone = alone; free = refl; utf8 = refl; open_name = refl; low = refl; reals = refl; key_reals = refl; fit = refl; short = refl }
 
-pub step : Extends text (first_made 15 2) (first_made 15 3)
-step = inr (13, sheet_receipts 23, receipts_by_target 23 0, makes 23, has, free, fits, refl)
+pub step : Extends text (first_made 16 1) (first_made 16 2)
+step = inr (14, sheet_receipts 25, receipts_by_target 25 0, makes 25, has, free, fits, refl)

@@ -19,7 +19,7 @@ makes : MakesText text (sheet_receipts 0)
 unfolding everything
 makes = (_, _, record { parsed = refl; statement = refl; name = refl; free = refl; defined = refl; fits = refl; whole = refl })
 
-free : IsFree (first_made 13 0) (codes "sheet_receipts")
+free : IsFree (first_made 14 0) (codes "sheet_receipts")
 unfolding same_name
 free = record { table = refl; view = refl; index = refl }
 
@@ -27,7 +27,7 @@ alone : IsAlone text
 unfolding everything
 alone = record { statement = _; parsed = refl; names = refl; whole = refl }
 
-fits : FitsGrown (first_made 13 0) text (sheet_receipts 0)
+fits : FitsGrown (first_made 14 0) text (sheet_receipts 0)
 unfolding same_name is_utf8 chars lib.Utf8.encode digits fits_kind is_free_name begins same_word value_cmp lib.Ieee.is_nan lib.Ieee.lt
 fits = record {
   alone = alone;
@@ -35,9 +35,9 @@ fits = record {
   sequence = tt;
 }
 
-grows : first_made 14 0 ≡ grown (first_made 13 0) (sheet_receipts 0)
+grows : first_made 15 0 ≡ grown (first_made 14 0) (sheet_receipts 0)
 unfolding same_name
 grows = refl
 
-pub step : Extends text (first_made 13 0) (first_made 14 0)
+pub step : Extends text (first_made 14 0) (first_made 15 0)
 step = inl (sheet_receipts 0, makes, free, fits, grows)

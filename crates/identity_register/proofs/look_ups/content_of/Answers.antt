@@ -6,6 +6,9 @@ use Rattle.identity_register.proofs.Looking.{fails}
 use Rattle.identity_register.proofs.Contents.{content_found}
 use Rattle.identity_register.proofs.look_ups.content_of.Goals as goal
 
+pub returns-in_err-tile-in-1 : goal.returns-in_err-tile-in-1
+returns-in_err-tile-in-1 g c = fails c.from_residual-in_err-tile-in-1.result c.from_residual-in_err-tile-in-1.ensures.0 (looks_stays c.tile_by_id.ensures)
+
 pub returns-in_err-medium-in-2 : goal.returns-in_err-medium-in-2
 returns-in_err-medium-in-2 g c = fails c.from_residual-in_err-medium-in-2.result c.from_residual-in_err-medium-in-2.ensures.0 (looks_stays c.medium_by_id.ensures)
 

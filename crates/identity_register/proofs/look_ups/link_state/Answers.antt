@@ -24,7 +24,7 @@ returns-in_err-other-clause-told g c = fails c.from_residual-in_err-other.result
 
 pub returns-in_default-2-clause-told : goal.returns-in_default-2-clause-told
 returns-in_default-2-clause-told g c =
-    sees (looked_then (IsRowFor c.args.relation.media) (looked (IsRowFor c.args.relation.base) (c.in_ok-base.was ∙ ap Ok c.in-Some.is) c.row_of.ensures.looked) (c.in_ok-other.was ∙ ap Ok c.in_default-2.is) c.row_of-2.ensures.looked)
+    sees (looked_then (IsRowFor c.args.relation.other) (looked (IsRowFor c.args.relation.base) (c.in_ok-base.was ∙ ap Ok c.in-Some.is) c.row_of.ensures.looked) (c.in_ok-other.was ∙ ap Ok c.in_default-2.is) c.row_of-2.ensures.looked)
     (λ f p t says h. no_other f p t says c.args.relation h.1)
 
 pub returns-then-not-are_ends-clause-told : goal.returns-then-not-are_ends-clause-told
@@ -33,7 +33,7 @@ returns-then-not-are_ends-clause-told g c =
     let other : SFits w64 c.in-Some-2.other.kind = search rules in
     let told : c.are_ends.result ≡ are_ends c.args.relation.mapping c.in-Some.base.kind c.in-Some-2.other.kind = simp to_z-of_z at c.are_ends.ensures in
     let wrong : are_ends c.args.relation.mapping c.in-Some.base.kind c.in-Some-2.other.kind ≡ false = sym told ∙ c.if-not-are_ends.true in
-    sees (looked_then (IsRowFor c.args.relation.media) (looked (IsRowFor c.args.relation.base) (c.in_ok-base.was ∙ ap Ok c.in-Some.is) c.row_of.ensures.looked) (c.in_ok-other.was ∙ ap Ok c.in-Some-2.is) c.row_of-2.ensures.looked)
+    sees (looked_then (IsRowFor c.args.relation.other) (looked (IsRowFor c.args.relation.base) (c.in_ok-base.was ∙ ap Ok c.in-Some.is) c.row_of.ensures.looked) (c.in_ok-other.was ∙ ap Ok c.in-Some-2.is) c.row_of-2.ensures.looked)
     (λ f p t says h. wrong_kinds f p t says c.args.relation c.row_of.ensures.fit c.row_of-2.ensures.fit c.in-Some.base c.in-Some-2.other h.0 h.1 wrong)
 
 pub returns-in_err-pair-clause-told : goal.returns-in_err-pair-clause-told
@@ -54,6 +54,6 @@ returns-clause-told g c =
       | else-there w ↦ w.result-is ∙ ap (state_by true true) (sym w.if-there.false)
     ] in
     sees (looked_then (λ t. IsOneOf (λ r. is_pair r wanted) (mapping_rows c.args.relation.mapping t))
-    (looked_then (IsRowFor c.args.relation.media) (looked (IsRowFor c.args.relation.base) (c.in_ok-base.was ∙ ap Ok c.in-Some.is) c.row_of.ensures.looked) (c.in_ok-other.was ∙ ap Ok c.in-Some-2.is) c.row_of-2.ensures.looked)
+    (looked_then (IsRowFor c.args.relation.other) (looked (IsRowFor c.args.relation.base) (c.in_ok-base.was ∙ ap Ok c.in-Some.is) c.row_of.ensures.looked) (c.in_ok-other.was ∙ ap Ok c.in-Some-2.is) c.row_of-2.ensures.looked)
     c.in_ok-pair.was (simp to_z-of_z at c.pair_of_ends.ensures))
     (λ f p t says h. state_is ∙ right_kinds f p t says c.args.relation c.row_of.ensures.fit c.row_of-2.ensures.fit c.in-Some.base c.in-Some-2.other h.0.0 h.0.1 c.is_some-there.result right (c.is_some-there.ensures ∙ one_tells (λ r. is_pair r wanted) (mapping_rows c.args.relation.mapping t) c.in_ok-pair.pair h.1))

@@ -1,32 +1,27 @@
--- A mapping table has a row of the kind and number where one was found.
-use Rattle.std.proofs.Common.{◌≡◌, ◌∙◌, ap, sym, refl, pos, arith, false}
-use Rattle.std.specs.Ordering.{int_eq}
-use Rattle.std.proofs.lemmas.Int.{to_z-of_z, ints}
-use Rattle.package_tables.specs.Calls.{IsOneOf}
-use Rattle.identity_register.specs.Answers.{is_linked_medium, is_linked_row}
-use Rattle.identity_register.proofs.Looking.{looked, tells, tells_so}
-use Rattle.identity_register.proofs.Answering.{one_tells}
+-- A mapping table names the row where that of one of the two mappings of its kind does.
+use Rattle.std.proofs.Common.{◌≡◌, ◌∙◌, ap}
+use Rattle.std.specs.Prelude.{◌||◌}
+use Rattle.std.proofs.lemmas.Int.{to_z-of_z}
+use Rattle.sql_meaning.proofs.Staying.{looks_stays, stays_then}
+use Rattle.identity_register.specs.Answers.{is_named_by, is_linked_row, AreMappingsOf}
+use Rattle.identity_register.proofs.Looking.{looked, looked_then, tells, fails}
+use Rattle.identity_register.proofs.Ends.{second_end, linked_by}
 use Rattle.identity_register.proofs.look_ups.row_is_linked.Goals as goal
 
-pub returns-in_ok-found-in-1 : goal.returns-in_ok-found-in-1
-returns-in_ok-found-in-1 g c =
-    let number = c.ranges.number in
-    let kind : c.args.kind ≡ pos 1 = omega (arith, ints) in
-    tells (λ t found. found ≡ is_linked_row c.args.kind c.args.number t) (looked (λ t. IsOneOf (λ x. int_eq x.base_id c.args.number) t.tiles_media) c.in_ok-found-in-1.was (simp to_z-of_z at c.pair_of_base.ensures))
-    (λ t h. c.is_some.ensures ∙ one_tells (λ x. int_eq x.base_id c.args.number) t.tiles_media c.in_ok-found-in-1.found h ∙ ap (λ k. is_linked_row k c.args.number t) (sym kind))
+pub is_named_by-requires-2-clause-end : goal.is_named_by-requires-2-clause-end
+is_named_by-requires-2-clause-end g c =
+    let kind = c.ranges.kind in
+    let are : AreMappingsOf c.args.kind c.in_ok-one.one c.in_ok-one.another = simp to_z-of_z at c.in_ok-one.ensures in
+    simp to_z-of_z (second_end c.args.kind c.in_ok-one.one c.in_ok-one.another are)
 
-pub returns-in-2 : goal.returns-in-2
-returns-in-2 g c =
-    let number = c.ranges.number in
-    let kind : c.args.kind ≡ pos 2 = omega (arith, ints) in
-    tells_so (λ t found. found ≡ is_linked_medium c.args.number t) (λ t found. found ≡ is_linked_row c.args.kind c.args.number t) c.medium_is_linked.result (simp to_z-of_z at c.medium_is_linked.ensures)
-    (λ t found h. h ∙ ap (λ k. is_linked_row k c.args.number t) (sym kind))
+pub returns-in_err-by_another : goal.returns-in_err-by_another
+returns-in_err-by_another g c = fails c.from_residual-in_err-by_another.result c.from_residual-in_err-by_another.ensures.0 (stays_then (looks_stays c.is_named_by.ensures) (looks_stays c.is_named_by-2.ensures))
 
-pub returns-in_ok-found-in_default : goal.returns-in_ok-found-in_default
-returns-in_ok-found-in_default g c =
+pub returns : goal.returns
+returns g c =
     let number = c.ranges.number in
-    let other = c.in_default in
-    let one : int_eq c.args.kind (pos 1) ≡ false = grind (arith, ints, c.in_default, c.ranges.kind) in
-    let two : int_eq c.args.kind (pos 2) ≡ false = grind (arith, ints, c.in_default, c.ranges.kind) in
-    tells (λ t found. found ≡ is_linked_row c.args.kind c.args.number t) (looked (λ t. IsOneOf (λ x. int_eq x.base_id c.args.number) t.rows_media) c.in_ok-found-in_default.was (simp to_z-of_z at c.pair_of_base-in_default.ensures))
-    (λ t h. c.is_some-in_default.ensures ∙ one_tells (λ x. int_eq x.base_id c.args.number) t.rows_media c.in_ok-found-in_default.found h ∙ rw (one, two) refl)
+    let kind = c.ranges.kind in
+    let are : AreMappingsOf c.args.kind c.in_ok-one.one c.in_ok-one.another = simp to_z-of_z at c.in_ok-one.ensures in
+    tells (λ t found. found ≡ is_linked_row c.args.kind c.args.number t)
+    (looked_then (λ t found. found ≡ is_named_by c.in_ok-one.another c.args.kind c.args.number t) (looked (λ t found. found ≡ is_named_by c.in_ok-one.one c.args.kind c.args.number t) c.in_ok-by_one.was (simp to_z-of_z at c.is_named_by.ensures)) c.in_ok-by_another.was (simp to_z-of_z at c.is_named_by-2.ensures))
+    (λ t h. ap (λ b. b || c.in_ok-by_another.by_another) h.0 ∙ ap (λ b. is_named_by c.in_ok-one.one c.args.kind c.args.number t || b) h.1 ∙ linked_by c.args.kind c.args.number t c.in_ok-one.one c.in_ok-one.another are)

@@ -6,7 +6,7 @@ use Rattle.sheet_types.specs.declared.frame.Frame.{Frame}
 use Rattle.package_tables.specs.Listed.{contents, matrices, matrix_sets, relations, systems}
 use Rattle.package_tables.specs.Package.{Tables}
 use Rattle.package_tables.specs.Calls.{OnTables}
-use Rattle.package_tables.specs.Fixed.{systems_of, contents_of, matrix_set, levels_of, two_relations}
+use Rattle.package_tables.specs.Fixed.{systems_of, contents_of, matrix_set, levels_of, mapping_relations}
 use Rattle.package_tables.specs.Changes.{ListBecomes}
 use Rattle.package_tables.specs.Creation.{no_rows, fixed_tables, TablesBecome}
 use Rattle.package_tables.proofs.InTurn.{Done, done, becomes_first, becomes_then}
@@ -37,8 +37,8 @@ module _ (f : Frame) (at : List ℕ) where
   four : {old mid new : State} {r : Done} → Steps (λ _. OnTables (TablesBecome no_rows t3)) old mid done → Steps (λ _. OnTables (ListBecomes matrices [] (levels_of f))) mid new r → Steps (λ _. OnTables (TablesBecome no_rows t4)) old new r
   four first next = becomes_then matrices no_rows t3 (levels_of f) refl first next
 
-  five : {old mid new : State} {r : Done} → Steps (λ _. OnTables (TablesBecome no_rows t4)) old mid done → Steps (λ _. OnTables (ListBecomes relations [] two_relations)) mid new r → Steps (λ _. OnTables (TablesBecome no_rows (fixed_tables f at))) old new r
-  five first next = becomes_then relations no_rows t4 two_relations refl first next
+  five : {old mid new : State} {r : Done} → Steps (λ _. OnTables (TablesBecome no_rows t4)) old mid done → Steps (λ _. OnTables (ListBecomes relations [] mapping_relations)) mid new r → Steps (λ _. OnTables (TablesBecome no_rows (fixed_tables f at))) old new r
+  five first next = becomes_then relations no_rows t4 mapping_relations refl first next
 
 pub returns-clause-steps : goal.returns-clause-steps
 returns-clause-steps g c =

@@ -1,0 +1,16 @@
+use Rattle.std.proofs.Common.{◌≡◌, Ok}
+use Rattle.sqlite.specs.Held.{state}
+use Rattle.sql_meaning.specs.Staying.{Stays}
+use Rattle.sql_meaning.specs.Transactions.{Steps}
+use Rattle.package_tables.specs.declared.fault.Fault.{Fault}
+use Rattle.custody.specs.Homing.{FromClean}
+use Rattle.custody.proofs.Rows.{ThingsSoFar}
+use Rattle.custody.proofs.homing.bring_things.Given as goal
+
+-- The things before the position have come, and the source is as it was.
+abbrev pub invariant-loop-position : goal.invariant-loop-position
+invariant-loop-position g l = record {
+  same : l.tx.conn.ghost_name ≡ l.fn.tx.conn.ghost_name;
+  source : Stays (state g.S.Store l.fn.source) (state g.S.Store l.source);
+  each : Steps {X = Unit {0}} {E = Fault} (λ _. FromClean (state g.S.Store l.source) (ThingsSoFar l.fn.seq l.position (state g.S.Store l.fn.source).now)) (state g.S.Store l.fn.tx.conn.now) (state g.S.Store l.tx.conn.now) (Ok tt);
+}
