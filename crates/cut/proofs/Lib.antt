@@ -1,0 +1,14 @@
+pub mod Asking
+pub mod Lists
+pub mod Testing
+pub mod Members
+pub mod Walking
+pub mod Following
+pub mod Strictly
+pub mod Places
+pub mod Leasts
+pub mod Torn
+pub mod Alike
+pub mod Selecting
+pub mod Kept
+pub mod OfStores

@@ -1,0 +1,3 @@
+pub mod Selecting
+pub mod Lending
+pub mod Faults

@@ -1,0 +1,7 @@
+//! Tests of splits and merges at the level of stores. There is nothing here but tests.
+#![tactic(auto)]
+
+#[cfg(test)]
+mod both_ways;
+#[cfg(test)]
+mod stores;

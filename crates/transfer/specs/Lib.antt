@@ -1,0 +1,4 @@
+pub mod Refusals
+pub mod Parcels
+pub mod Moves
+pub mod Removals

@@ -1,0 +1,9 @@
+//! What moves from one package to another: items by their identities and links by their ends, content and all. No local number.
+#![tactic(auto)]
+
+pub mod lifting;
+pub mod pages;
+pub mod parcel;
+pub mod putting;
+mod refusals;
+pub mod taking;
