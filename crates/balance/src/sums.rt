@@ -1,0 +1,124 @@
+//! Whether what came to each package is what left it and what it holds.
+ghost use Rattle.std.specs.Prelude.{◌≡◌, ◌↔◌, ◌+◌, ℕ, List, false, bytes_eq, sum_by, IsTrue, IfOk};
+ghost use Rattle.std.specs.List.{list_any, AllByRecursion};
+ghost use Rattle.sheet_types.specs.World.{World};
+ghost use Rattle.ledger.specs.Parts.{SumsAddUp};
+ghost use Rattle.sheet_types.specs.Step.{count_of};
+ghost use Rattle.ledger.specs.Flows.{HasFlows, flow_in};
+ghost use Rattle.balance.specs.Sights.{IsSeenWith, ComesUp, ComesUpIn};
+
+use crate::sights::Sight;
+use ledger::flows::{Flow, flow_of, flows};
+use sheet_types::error::OutOfMemory;
+use sheet_types::receipt::{Moved, MovedKind, Receipt};
+use std::alloc::Global;
+use std::collections::BTreeMap;
+use uuid::Uuid;
+
+/// Whether for each of the five measures, and for every UUID, what came is what left and what is held.
+///
+/// # Errors
+///
+/// Want of memory.
+pub fn sums_add_up(alloc: Global, ledger: &[Receipt], sights: &[Sight]) -> Result<bool, OutOfMemory>
+    ensures { IfOk result (λ up. (w : World) → IsSeenWith ledger.now sights.now w → IsTrue up ↔ SumsAddUp w) }
+{
+    let flows = flows(alloc, ledger)?;
+    let seen = are_sums_of(&flows, ledger, sights);
+    let unseen = all_left(&flows, sights);
+    Ok(seen & unseen)
+}
+
+// Whether what came to each package that is seen is what left it and what it holds.
+fn are_sums_of(flows: &BTreeMap<Uuid, Flow>, ledger: &[Receipt], sights: &[Sight]) -> bool
+    requires { HasFlows flows.now ledger.now }
+    ensures { IsTrue result ↔ AllByRecursion (ComesUpIn ledger.now) sights.now }
+{
+    for sight in sights {
+        let flow = flow_of(flows, sight.uuid);
+        if !adds_up(&flow, sight.items.as_slice(), sight.links.as_slice()) {
+            return false;
+        }
+    }
+    true
+}
+
+// Whether all that came to a package that is not seen left it.
+fn all_left(flows: &BTreeMap<Uuid, Flow>, sights: &[Sight]) -> bool
+    ensures { IsTrue result ↔ ((p : List ℕ) → list_any (λ s. bytes_eq s.uuid p) sights.now ≡ false → (flow_in flows.now p).came ≡ (flow_in flows.now p).left) }
+{
+    for (package, flow) in flows.iter() {
+        if !has_left(sights, *package, flow) {
+            return false;
+        }
+    }
+    true
+}
+
+// Whether a package is seen, or all that came to it left it.
+fn has_left(sights: &[Sight], package: Uuid, flow: &Flow) -> bool
+    ensures { IsTrue result ↔ (list_any (λ s. bytes_eq s.uuid «package») sights.now ≡ false → flow.now.came ≡ flow.now.left) }
+{
+    is_seen(sights, package) || (flow.came == flow.left)
+}
+
+// Whether a package of this UUID is seen.
+fn is_seen(sights: &[Sight], package: Uuid) -> bool
+    ensures { result ≡ list_any (λ s. bytes_eq s.uuid «package») sights.now }
+{
+    sights.iter().any(|sight| sight.uuid == package)
+}
+
+// Whether what came is what left and what is held.
+fn adds_up(flow: &Flow, items: &[Moved], links: &[Moved]) -> bool
+    ensures { IsTrue result ↔ ComesUp flow.now items.now links.now }
+{
+    came_up(
+        flow.came.tiles,
+        flow.left.tiles,
+        count_of(items, MovedKind::TileItem),
+    ) & came_up(
+        flow.came.media,
+        flow.left.media,
+        count_of(items, MovedKind::MediaItem),
+    ) & came_up(
+        flow.came.rows,
+        flow.left.rows,
+        count_of(items, MovedKind::RowItem),
+    ) & came_up(flow.came.links, flow.left.links, links.len())
+        & sizes_come_up(flow.came.bytes, flow.left.bytes, items)
+}
+
+// Whether so many came as left and are held.
+fn came_up(came: u128, left: u128, held: usize) -> bool
+    ensures { IsTrue result ↔ (came ≡ left + held) }
+{
+    (left <= came) && (came - left == held as u128)
+}
+
+// How many are of this kind.
+fn count_of(things: &[Moved], kind: MovedKind) -> usize
+    ensures { result ≡ count_of kind things.now }
+{
+    things
+        .iter()
+        .filter(|moved| kind.number() == moved.kind.number())
+        .count()
+}
+
+// Whether so many bytes came as left and are held.
+fn sizes_come_up(came: u128, left: u128, items: &[Moved]) -> bool
+    ensures { IsTrue result ↔ (came ≡ left + sum_by (λ m. m.size) items.now) }
+{
+    if came < left {
+        return false;
+    }
+    let mut rest = came - left;
+    for moved in items {
+        if rest < u128::from(moved.size) {
+            return false;
+        }
+        rest -= u128::from(moved.size);
+    }
+    rest == 0
+}

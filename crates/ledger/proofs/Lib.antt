@@ -1,0 +1,13 @@
+pub mod Uuids
+pub mod Slots
+pub mod Read
+pub mod Parts
+pub mod Maps
+pub mod Lending
+pub mod Custody
+pub mod Walking
+pub mod InOrder
+pub mod Sets
+pub mod Telling
+pub mod Fresh
+pub mod Flowing

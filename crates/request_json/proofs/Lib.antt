@@ -1,0 +1,6 @@
+mod CommandFacts
+mod ContentFacts
+mod MemberFacts
+mod NoneFacts
+pub mod OneRequest
+mod OneWord
