@@ -158,11 +158,11 @@ class Lists:
         linked = [fields for fields in self.added["link"][-60:] if reference.link_of(fields) in self.world.links]
         if linked and (command == "unlink" or draw.random() < 0.1) and draw.random() < 0.9:
             return {**draw.choice(linked), "command": command}
-        mapping = draw.choice(["tiles_media", "rows_media"])
-        base = "tile" if mapping == "tiles_media" else "row"
+        mapping = draw.choice(["tiles_media", "rows_media", "rows_tiles"])
+        base, other = reference.ENDS[mapping]
         if draw.random() < 0.1:
             base = draw.choice(["tile", "media", "row"])
-        other = self.identity("media" if draw.random() < 0.93 else draw.choice(["tile", "row"]))
+        other = self.identity(other if draw.random() < 0.93 else draw.choice(["tile", "media", "row"]))
         fields = {"command": command, "kind": mapping, "identity": self.identity(base), "other": other}
         if command == "link":
             self.added["link"].append(fields)
@@ -234,7 +234,7 @@ class Lists:
         elif how == 3:
             record[draw.randrange(18)] = draw.choice(["x", "0", " "])
         elif how == 4:
-            record[draw.choice([2, 6])] = draw.choice(["", "Add", "add ", "split", "merge", "tile", "TILE", "tiles_media", "rows_media", "strict", "row", "delete", "link"])
+            record[draw.choice([2, 6])] = draw.choice(["", "Add", "add ", "split", "merge", "tile", "TILE", "tiles_media", "rows_media", "rows_tiles", "strict", "row", "delete", "link"])
         elif how == 5:
             draw.choice([record.pop, lambda: record.append("")])()
         elif how == 6:

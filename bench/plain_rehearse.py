@@ -36,12 +36,12 @@ class Package:
         return self.one("SELECT kind, local_id FROM sheet_identity WHERE uuid = ?", identity) or (0, 0)
 
     def has_link(self, request):
-        base, medium = self.key_of(request["identity"]), self.key_of(request["other"])
-        return self.one(f"SELECT 1 FROM {request['kind']} WHERE base_id = ? AND related_id = ?", base[1], medium[1]) is not None
+        base, other = self.key_of(request["identity"]), self.key_of(request["other"])
+        return self.one(f"SELECT 1 FROM {request['kind']} WHERE base_id = ? AND related_id = ?", base[1], other[1]) is not None
 
     def is_linked(self, identity):
         kind, key = self.key_of(identity)
-        asked = {1: [("tiles_media", "base_id")], 2: [("tiles_media", "related_id"), ("rows_media", "related_id")], 3: [("rows_media", "base_id")]}
+        asked = {1: [("tiles_media", "base_id"), ("rows_tiles", "related_id")], 2: [("tiles_media", "related_id"), ("rows_media", "related_id")], 3: [("rows_media", "base_id"), ("rows_tiles", "base_id")]}
         return any(self.one(f"SELECT 1 FROM {table} WHERE {column} = ?", key) for table, column in asked[kind])
 
     def is_used(self, identity):
@@ -63,9 +63,9 @@ class Package:
         if command == "unlink":
             return 0 if self.has_link(request) else 13
         base, medium = self.key_of(identity), self.key_of(request["other"])
-        if (0, 0) in (base, medium):
+        if (0, 0) in (base, other):
             return 7
-        if base[0] != (1 if request["kind"] == "tiles_media" else 3) or medium[0] != 2:
+        if (KIND_NAMES[base[0]], KIND_NAMES[other[0]]) != reference.ENDS[request["kind"]]:
             return 8
         return 12 if self.has_link(request) else 0
 
@@ -140,9 +140,10 @@ class Package:
 
     def manifest(self):
         rows = [reference.item_fields(identity, self.item(kind, key)) for kind, key, identity in self.conn.execute("SELECT * FROM sheet_identity ORDER BY kind, uuid").fetchall()]
-        for table, kind in (("tiles_media", 1), ("rows_media", 3)):
-            ends = f"SELECT a.uuid, b.uuid FROM {table} JOIN sheet_identity a ON a.kind = {kind} AND a.local_id = base_id JOIN sheet_identity b ON b.kind = 2 AND b.local_id = related_id ORDER BY 1, 2"
-            rows += [[table, base, medium, "", "", "", "", "", "", 0, "", ""] for base, medium in self.conn.execute(ends)]
+        for table, (base_kind, other_kind) in reference.ENDS.items():
+            base, other = reference.KINDS[base_kind], reference.KINDS[other_kind]
+            ends = f"SELECT a.uuid, b.uuid FROM {table} JOIN sheet_identity a ON a.kind = {base} AND a.local_id = base_id JOIN sheet_identity b ON b.kind = {other} AND b.local_id = related_id ORDER BY 1, 2"
+            rows += [[table, *pair, "", "", "", "", "", "", 0, "", ""] for pair in self.conn.execute(ends)]
         return [reference.MANIFEST_HEADER + "\n"] + [",".join(map(reference.spelled, fields)) + "\n" for fields in rows]
 
 

@@ -30,15 +30,16 @@ CREATE TABLE sheet_media (id INTEGER PRIMARY KEY AUTOINCREMENT, data BLOB NOT NU
 CREATE TABLE sheet_rows (id INTEGER PRIMARY KEY AUTOINCREMENT, x INTEGER NOT NULL, y INTEGER NOT NULL, code INTEGER NOT NULL, label TEXT NOT NULL) STRICT
 CREATE TABLE tiles_media (base_id INTEGER NOT NULL, related_id INTEGER NOT NULL, UNIQUE (base_id, related_id)) STRICT
 CREATE TABLE rows_media (base_id INTEGER NOT NULL, related_id INTEGER NOT NULL, UNIQUE (base_id, related_id)) STRICT
+CREATE TABLE rows_tiles (base_id INTEGER NOT NULL, related_id INTEGER NOT NULL, UNIQUE (base_id, related_id)) STRICT
 CREATE TABLE sheet_package (id INTEGER PRIMARY KEY, version INTEGER NOT NULL, package TEXT NOT NULL, parent TEXT NOT NULL, depth INTEGER NOT NULL, loan INTEGER NOT NULL, created TEXT NOT NULL) STRICT
 CREATE TABLE sheet_identity (kind INTEGER NOT NULL, local_id INTEGER NOT NULL, uuid TEXT NOT NULL UNIQUE, PRIMARY KEY (kind, local_id)) STRICT
 CREATE TABLE sheet_receipts (seq INTEGER PRIMARY KEY, request TEXT NOT NULL UNIQUE, at TEXT NOT NULL, line TEXT NOT NULL, source TEXT NOT NULL, target TEXT NOT NULL, n_tiles INTEGER NOT NULL, n_media INTEGER NOT NULL, n_rows INTEGER NOT NULL, n_links INTEGER NOT NULL, n_bytes INTEGER NOT NULL) STRICT
 CREATE TABLE sheet_items (seq INTEGER NOT NULL, position INTEGER NOT NULL, kind INTEGER NOT NULL, base TEXT NOT NULL, other TEXT NOT NULL, size INTEGER NOT NULL, fingerprint TEXT NOT NULL, PRIMARY KEY (seq, position)) STRICT
 CREATE INDEX items_by_base ON sheet_items (base)
-CREATE INDEX receipts_by_source ON sheet_receipts (source)
 CREATE INDEX receipts_by_target ON sheet_receipts (target)
 CREATE INDEX by_tiles_media ON tiles_media (related_id)
 CREATE INDEX by_rows_media ON rows_media (related_id)
+CREATE INDEX by_rows_tiles ON rows_tiles (related_id)
 CREATE INDEX by_xy ON sheet_rows (x, y)
 """.strip().splitlines()
 
@@ -57,6 +58,7 @@ MATRICES = [("sheet_tiles", z, 1 << z, 1 << z, 256, 256, 16 >> z, 16 >> z) for z
 RELATIONS = [
     (1, "sheet_tiles", "id", "sheet_media", "id", "media", "tiles_media"),
     (2, "sheet_rows", "id", "sheet_media", "id", "media", "rows_media"),
+    (3, "sheet_rows", "id", "sheet_tiles", "id", "tiles", "rows_tiles"),
 ]
 
 
@@ -78,7 +80,7 @@ def create(conn):
     conn.execute("INSERT INTO gpkg_tile_matrix_set VALUES (?, ?, ?, ?, ?, ?)", ("sheet_tiles", 25832, *BOUNDS))
     conn.executemany("INSERT INTO gpkg_tile_matrix VALUES (?, ?, ?, ?, ?, ?, ?, ?)", MATRICES)
     conn.executemany("INSERT INTO gpkgext_relations VALUES (?, ?, ?, ?, ?, ?, ?)", RELATIONS)
-    head = (1, 1, "00000000-0000-0000-0000-000000000001", "", 0, 0, AT)
+    head = (1, 2, "00000000-0000-0000-0000-000000000001", "", 0, 0, AT)
     conn.execute("INSERT INTO sheet_package VALUES (?, ?, ?, ?, ?, ?, ?)", head)
     conn.execute("COMMIT")
 

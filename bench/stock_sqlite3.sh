@@ -1,5 +1,5 @@
 #!/usr/bin/env bash
-# Whether stock SQLite takes a package file: its own checks, and the fourteen tables against the list below.
+# Whether stock SQLite takes a package file: its own checks, and the fifteen tables against the list below.
 #
 # Usage: stock_sqlite3.sh PACKAGE-FILE
 #
@@ -74,6 +74,8 @@ gpkgext_relations relation_name TEXT not null
 gpkgext_relations mapping_table_name TEXT not null
 rows_media base_id INTEGER not null
 rows_media related_id INTEGER not null
+rows_tiles base_id INTEGER not null
+rows_tiles related_id INTEGER not null
 sheet_identity kind INTEGER key 1
 sheet_identity local_id INTEGER key 2
 sheet_identity uuid TEXT not null
@@ -123,6 +125,7 @@ cat >"$work/unique" <<'END'
 gpkg_contents identifier
 gpkgext_relations mapping_table_name
 rows_media base_id,related_id
+rows_tiles base_id,related_id
 sheet_identity uuid
 sheet_receipts request
 sheet_tiles zoom_level,tile_column,tile_row

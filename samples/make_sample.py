@@ -123,6 +123,7 @@ def write_links(requests):
     requests.link("link", "rows_media", mark_id("skarvholm"), media_id("photo-lighthouse"))
     for name in ("skarvholm", "aelvsund", "groenaas"):
         requests.link("link", "rows_media", mark_id(name), media_id("mark-book"))
+    requests.link("link", "rows_tiles", mark_id("skarvholm"), tile_id(4, 0, 0))
 
 
 def write_changes(requests):
@@ -167,6 +168,7 @@ def write_refused(requests, kept):
     requests.link("link", "tiles_media", sheet, new("nothing"))  # 7
     requests.link("link", "tiles_media", mark, legend)  # 8
     requests.link("link", "rows_media", mark, sheet)  # 8
+    requests.link("link", "rows_tiles", sheet, mark)  # 8
     requests.tile(new("no column"), 6, 8, 0, b"sheet")  # 9
     requests.tile(new("no zoom"), 7, 0, 0, b"sheet")  # 9
     requests.mark(new("east"), 540960000, 5910000000, 1, "")  # 10

@@ -20,7 +20,8 @@ csv.field_size_limit(1 << 30)
 
 HEADER = "request,at,command,package,identity,other,kind,zoom,column,row,last_column,last_row,x,y,code,ticket,text,data".split(",")
 MANIFEST_HEADER = "kind,identity,other,zoom,column,row,x,y,code,size,fingerprint,text"
-MAPPINGS = {"tiles_media": 4, "rows_media": 5}
+MAPPINGS = {"tiles_media": 4, "rows_media": 5, "rows_tiles": 6}
+ENDS = {"tiles_media": ("tile", "media"), "rows_media": ("row", "media"), "rows_tiles": ("row", "tile")}
 KINDS = {"tile": 1, "media": 2, "row": 3, **MAPPINGS}
 
 UUID = re.compile("[0-9a-fA-F]{8}(-[0-9a-fA-F]{4}){3}-[0-9a-fA-F]{12}")
@@ -231,8 +232,7 @@ def unknown_item(world, request):
 def wrong_kind(world, request):
     if request["command"] != "link":
         return False
-    base_kind = "tile" if request["kind"] == "tiles_media" else "row"
-    return world.items[request["identity"]]["kind"] != base_kind or world.items[request["other"]]["kind"] != "media"
+    return (world.items[request["identity"]]["kind"], world.items[request["other"]]["kind"]) != ENDS[request["kind"]]
 
 
 def bad_place(world, request):

@@ -1,5 +1,5 @@
 #!/usr/bin/env python3
-"""Lists the public functions of the crates: the clauses of each, the must-fail edits that change its body or a helper's in its file, and the tests that call it.
+"""Lists the public functions of the crates: the clauses of each, the edits (of must-fail/, then of attacks/) that change its body or a helper's in its file, and the tests that call it.
 
     tools/public_functions.py            a Markdown table for each crate, at most three edits and one test a function
     tools/public_functions.py --missing  the functions that lack a clause, an edit or a test; status 1 where there is one
@@ -73,8 +73,8 @@ def clauses(text, it):
 def edits_of(folder):
     """Of each edit, where its first change of code stands: the file and the place."""
     listed = []
-    room = os.path.join(folder, "must-fail")
-    for name in sorted(os.listdir(room)) if os.path.isdir(room) else []:
+    rooms = [os.path.join(folder, "must-fail"), os.path.join(ROOT, "attacks", os.path.basename(folder))]
+    for room, name in [(room, name) for room in rooms if os.path.isdir(room) for name in sorted(os.listdir(room))]:
         path = ""
         for line in read(os.path.join(room, name)).split("\n"):
             if line.startswith("file: "):
@@ -177,7 +177,7 @@ def main():
     for crate in dict.fromkeys([*tables, *laws]):
         print(f"\n### `{crate}`\n")
         if crate in tables:
-            print("| Public function | Clauses | Must-fail edits | Test |\n|---|---|---|---|")
+            print("| Public function | Clauses | Edits | Test |\n|---|---|---|---|")
             print("\n".join(tables[crate]))
         if crate in laws:
             print(f"{chr(10) if crate in tables else ''}{len(laws[crate])} laws and examples, each the contract of a function that does nothing.")

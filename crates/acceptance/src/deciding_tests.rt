@@ -98,21 +98,21 @@ fn delete(number: u8) -> Command {
     }
 }
 
-fn link(base: u8, media: u8) -> Command {
+fn link(base: u8, other: u8) -> Command {
     Command::Link {
         package: second_package(),
         mapping: Mapping::TilesMedia,
         base: item(base),
-        media: item(media),
+        other: item(other),
     }
 }
 
-fn unlink(base: u8, media: u8) -> Command {
+fn unlink(base: u8, other: u8) -> Command {
     Command::Unlink {
         package: second_package(),
         mapping: Mapping::TilesMedia,
         base: item(base),
-        media: item(media),
+        other: item(other),
     }
 }
 

@@ -386,6 +386,24 @@ fn ends_of_a_link(rt: HostRuntime) -> Result<(), Fail> {
     Ok(())
 }
 
+#[test]
+fn row_related_to_a_tile(rt: HostRuntime) -> Result<(), Fail> {
+    let steps = [
+        step_now(1, Asks::Row(1, 100, 4000), 1),
+        step_now(2, Asks::Tile(2, [1, 1, 1]), 2),
+        step_now(3, Asks::Link(Mapping::RowsTiles, 2, 1), -8),
+        step_now(3, Asks::Link(Mapping::RowsTiles, 1, 2), 3),
+        step_now(4, Asks::Link(Mapping::RowsTiles, 1, 2), -12),
+        step_now(4, Asks::Delete(2), -14),
+        step_now(4, Asks::Delete(1), -14),
+        step_now(4, Asks::Unlink(Mapping::RowsMedia, 1, 2), -13),
+        step_now(4, Asks::Unlink(Mapping::RowsTiles, 1, 2), 4),
+        step_now(5, Asks::Delete(2), 5),
+    ];
+    expect_told(&rt, rt.alloc(), &steps)?;
+    Ok(())
+}
+
 // A receipt, each reason that one of these commands can meet in a small world, in the order of the reasons, and repeats.
 fn each_reason() -> [Expected; 19] {
     [

@@ -15,16 +15,16 @@ abbrev pub NoDeletion : List (List ℕ) → Type 0
 NoDeletion fields = (source identity : List ℕ) → ¬ IsCommand fields (Delete source identity)
 
 abbrev pub NoLink : List (List ℕ) → Type 0
-NoLink fields = (target base media : List ℕ) (mapping : Mapping) → ¬ IsCommand fields (Link target mapping base media)
+NoLink fields = (target base other : List ℕ) (mapping : Mapping) → ¬ IsCommand fields (Link target mapping base other)
 
 abbrev pub NoUnlink : List (List ℕ) → Type 0
-NoUnlink fields = (source base media : List ℕ) (mapping : Mapping) → ¬ IsCommand fields (Unlink source mapping base media)
+NoUnlink fields = (source base other : List ℕ) (mapping : Mapping) → ¬ IsCommand fields (Unlink source mapping base other)
 
 pub no_command : (fields : List (List ℕ)) (word : List ℕ) → IsTextAt fields 2 word → (word ≡ codes "add" → NoAddition fields) → (word ≡ codes "delete" → NoDeletion fields)
     → (word ≡ codes "link" → NoLink fields) → (word ≡ codes "unlink" → NoUnlink fields) → (asked : Command) → IsServed asked → ¬ IsCommand fields asked
 no_command fields word there add delete link unlink (Add target identity content) served is = add (some_once _ _ _ there is.0) target identity content is
 no_command fields word there add delete link unlink (Delete source identity) served is = delete (some_once _ _ _ there is.0) source identity is
-no_command fields word there add delete link unlink (Link target mapping base media) served is = link (some_once _ _ _ there is.0) target base media mapping is
-no_command fields word there add delete link unlink (Unlink source mapping base media) served is = unlink (some_once _ _ _ there is.0) source base media mapping is
+no_command fields word there add delete link unlink (Link target mapping base other) served is = link (some_once _ _ _ there is.0) target base other mapping is
+no_command fields word there add delete link unlink (Unlink source mapping base other) served is = unlink (some_once _ _ _ there is.0) source base other mapping is
 no_command fields word there add delete link unlink (Split source child mode rect) served is = absurd served
 no_command fields word there add delete link unlink (Merge child into ticket) served is = absurd served

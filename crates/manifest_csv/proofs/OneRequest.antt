@@ -1,15 +1,16 @@
 -- A record is one request at most.
-use Rattle.std.proofs.Common.{◌≡◌, ℕ, ℤ, List, Result, Ok, Err, refl}
+use Rattle.std.proofs.Common.{◌≡◌, ℕ, ℤ, List, Result, Ok, Err, refl, sym, ap, ◌∙◌}
 use Rattle.std.proofs.lemmas.Fmt.{signed_decimal_injective}
 use Rattle.hex.specs.Hex.{decode_of}
-use Rattle.sheet_types.proofs.Basics.{some_once}
+use Rattle.sheet_types.proofs.Basics.{some_once, some_same}
+use Rattle.sheet_types.proofs.LineReading.{mapping_back}
+use Rattle.sheet_types.specs.Lines.{mapping_in}
 use Rattle.sheet_types.specs.Texts.{mapping_word}
 use Rattle.sheet_types.specs.declared.command.Content.{Content}
 use Rattle.sheet_types.specs.declared.command.Content.TheVariants.{Tile, Media, Row}
 use Rattle.sheet_types.specs.declared.command.Command.{Command}
 use Rattle.sheet_types.specs.declared.command.Command.TheVariants.{Add, Delete, Link, Unlink, Split, Merge}
 use Rattle.sheet_types.specs.declared.command.Mapping.{Mapping}
-use Rattle.sheet_types.specs.declared.command.Mapping.TheVariants.{TilesMedia, RowsMedia}
 use Rattle.sheet_types.specs.declared.command.Request.{Request}
 use Rattle.world.specs.Laws.{IsServed}
 use Rattle.manifest_csv.specs.Requests.{IsCommand, IsContent, IsHexAt, IsNumberAt, IsTextAt}
@@ -29,10 +30,7 @@ one_hex fields column x y one other =
     ok_once (decode_of one.text) x y one.digits (rw same other.digits)
 
 one_mapping : (fields : List (List ℕ)) (m n : Mapping) → IsTextAt fields 6 (mapping_word m) → IsTextAt fields 6 (mapping_word n) → m ≡ n
-one_mapping fields TilesMedia TilesMedia one other = refl
-one_mapping fields RowsMedia RowsMedia one other = refl
-one_mapping fields TilesMedia RowsMedia one other = absurd (clash _ _ _ one other refl)
-one_mapping fields RowsMedia TilesMedia one other = absurd (clash _ _ _ one other refl)
+one_mapping fields m n one other = some_same (sym (mapping_back m) ∙ ap mapping_in (some_once _ _ _ one other) ∙ mapping_back n)
 
 same_content : (fields : List (List ℕ)) (c d : Content) → IsContent fields c → IsContent fields d → c ≡ d
 same_content fields (Tile z c r x) (Tile z' c' r' x') one other =

@@ -33,7 +33,7 @@ item_fields item =
 
 -- a link has no place, the size 0, and neither fingerprint nor text
 abbrev pub link_fields : Relation → List (List ℕ)
-link_fields link = mapping_word link.mapping ∷ uuid_text link.base ∷ uuid_text link.media ∷ [] ∷ [] ∷ [] ∷ [] ∷ [] ∷ [] ∷ codes "0" ∷ [] ∷ [] ∷ []
+link_fields link = mapping_word link.mapping ∷ uuid_text link.base ∷ uuid_text link.other ∷ [] ∷ [] ∷ [] ∷ [] ∷ [] ∷ [] ∷ codes "0" ∷ [] ∷ [] ∷ []
 
 -- records, one after the other
 abbrev pub records_text : {X : Type 0} → (X → List (List ℕ)) → List X → List ℕ

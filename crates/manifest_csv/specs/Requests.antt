@@ -57,15 +57,15 @@ IsContent fields content = IsTextAt fields 6 (kind_word (kind_of content)) × Ha
 
 -- the fields of a link and of an unlink alike, and that those which they don't use are empty
 abbrev pub NamesLink : List (List ℕ) → List ℕ → Relation → Type 0
-NamesLink fields holder link = IsUuidAt fields 3 holder × IsTextAt fields 6 (mapping_word link.mapping) × IsUuidAt fields 4 link.base × IsUuidAt fields 5 link.media
+NamesLink fields holder link = IsUuidAt fields 3 holder × IsTextAt fields 6 (mapping_word link.mapping) × IsUuidAt fields 4 link.base × IsUuidAt fields 5 link.other
     × AreEmpty fields (7 ∷ 8 ∷ 9 ∷ 10 ∷ 11 ∷ 12 ∷ 13 ∷ 14 ∷ 15 ∷ 16 ∷ 17 ∷ [])
 
 -- the word of a command
 abbrev pub command_word : Command → List ℕ
 command_word (Add target identity content) = codes "add"
 command_word (Delete source identity) = codes "delete"
-command_word (Link target mapping base media) = codes "link"
-command_word (Unlink source mapping base media) = codes "unlink"
+command_word (Link target mapping base other) = codes "link"
+command_word (Unlink source mapping base other) = codes "unlink"
 command_word (Split source child mode rect) = codes "split"
 command_word (Merge child into ticket) = codes "merge"
 
@@ -75,8 +75,8 @@ HasCommand fields (Add target identity content) = IsUuidAt fields 3 target × Is
     × AreEmpty fields (5 ∷ 15 ∷ [])
 HasCommand fields (Delete source identity) = IsUuidAt fields 3 source × IsUuidAt fields 4 identity
     × AreEmpty fields (5 ∷ 6 ∷ 7 ∷ 8 ∷ 9 ∷ 10 ∷ 11 ∷ 12 ∷ 13 ∷ 14 ∷ 15 ∷ 16 ∷ 17 ∷ [])
-HasCommand fields (Link target mapping base media) = NamesLink fields target (relation mapping base media)
-HasCommand fields (Unlink source mapping base media) = NamesLink fields source (relation mapping base media)
+HasCommand fields (Link target mapping base other) = NamesLink fields target (relation mapping base other)
+HasCommand fields (Unlink source mapping base other) = NamesLink fields source (relation mapping base other)
 HasCommand fields (Split source child mode rect) = IsUuidAt fields 3 source × IsUuidAt fields 5 child × IsTextAt fields 6 (mode_word mode)
     × IsNumberAt fields 7 rect.zoom × IsNumberAt fields 8 rect.column × IsNumberAt fields 10 rect.last_column × IsNumberAt fields 9 rect.row × IsNumberAt fields 11 rect.last_row
     × AreEmpty fields (4 ∷ 12 ∷ 13 ∷ 14 ∷ 15 ∷ 16 ∷ 17 ∷ [])

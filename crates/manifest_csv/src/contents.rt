@@ -113,6 +113,6 @@ pub fn content_of(alloc: Global, row: &StringRecord) -> Result<Option<Content>, 
         MovedKind::TileItem => tile_of(alloc, row),
         MovedKind::MediaItem => media_of(alloc, row),
         MovedKind::RowItem => row_of(alloc, row),
-        MovedKind::TilesMediaLink | MovedKind::RowsMediaLink => Ok(None),
+        MovedKind::TilesMediaLink | MovedKind::RowsMediaLink | MovedKind::RowsTilesLink => Ok(None),
     }
 }

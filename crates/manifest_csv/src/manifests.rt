@@ -187,12 +187,12 @@ impl Record for Relation {
     fn write(&self, writer: &mut Writer<Vec<u8>>, alloc: Global) -> Result<(), OutOfMemory> {
         let kind = format!(in alloc; "{}", self.mapping)?;
         let base = format!(in alloc; "{}", self.base)?;
-        let media = format!(in alloc; "{}", self.media)?;
-        let (kind, base, media) = (kind.as_bytes(), base.as_bytes(), media.as_bytes());
+        let other = format!(in alloc; "{}", self.other)?;
+        let (kind, base, other) = (kind.as_bytes(), base.as_bytes(), other.as_bytes());
         write_record(
             writer,
             &[
-                kind, base, media, b"", b"", b"", b"", b"", b"", b"0", b"", b"",
+                kind, base, other, b"", b"", b"", b"", b"", b"", b"0", b"", b"",
             ],
         )
     }

@@ -58,17 +58,22 @@ fn row_medium_and_links(rt: HostRuntime) -> Result<(), Fail> {
         Relation {
             mapping: Mapping::TilesMedia,
             base: identity(2),
-            media: identity(3),
+            other: identity(3),
         },
         Relation {
             mapping: Mapping::RowsMedia,
             base: identity(1),
-            media: identity(3),
+            other: identity(3),
+        },
+        Relation {
+            mapping: Mapping::RowsTiles,
+            base: identity(1),
+            other: identity(2),
         },
     ];
     let written = manifest_text(alloc, &items, &links)?;
     let want =
-        "kind,identity,other,zoom,column,row,x,y,code,size,fingerprint,text\nmedia,00000000-0000-4000-8000-00000000a003,,,,,,,,2,0d293ef7b06e5c2cd296350b48694d0921c8acb7a72407aee7d2dbd3936d7da0,image/jpeg\nrow,00000000-0000-4000-8000-00000000a001,,,,,0,4096,7,4,e43e5d2489a3da72d168ede7401f6f60f459782a7e66f46822d8dcd10bb20517,gate\ntiles_media,00000000-0000-4000-8000-00000000a002,00000000-0000-4000-8000-00000000a003,,,,,,,0,,\nrows_media,00000000-0000-4000-8000-00000000a001,00000000-0000-4000-8000-00000000a003,,,,,,,0,,\n";
+        "kind,identity,other,zoom,column,row,x,y,code,size,fingerprint,text\nmedia,00000000-0000-4000-8000-00000000a003,,,,,,,,2,0d293ef7b06e5c2cd296350b48694d0921c8acb7a72407aee7d2dbd3936d7da0,image/jpeg\nrow,00000000-0000-4000-8000-00000000a001,,,,,0,4096,7,4,e43e5d2489a3da72d168ede7401f6f60f459782a7e66f46822d8dcd10bb20517,gate\ntiles_media,00000000-0000-4000-8000-00000000a002,00000000-0000-4000-8000-00000000a003,,,,,,,0,,\nrows_media,00000000-0000-4000-8000-00000000a001,00000000-0000-4000-8000-00000000a003,,,,,,,0,,\nrows_tiles,00000000-0000-4000-8000-00000000a001,00000000-0000-4000-8000-00000000a002,,,,,,,0,,\n";
     assert_eq!(rt; written.as_slice(), want.as_bytes());
     Ok(())
 }

@@ -36,8 +36,8 @@ fn named_link(row: &StringRecord) -> Option<(Uuid, Relation)>
     let package = uuid_at(row, PACKAGE)?;
     let mapping = mapping_at(row, KIND)?;
     let base = uuid_at(row, IDENTITY)?;
-    let media = uuid_at(row, OTHER)?;
-    Some((package, Relation::new(mapping, base, media)))
+    let other = uuid_at(row, OTHER)?;
+    Some((package, Relation::new(mapping, base, other)))
 }
 
 /// The link that a record with the word `link` asks for.
@@ -45,14 +45,14 @@ fn link_of(row: &StringRecord) -> Option<Command>
     requires word { IsTextAt (fields_of row.now) 2 (codes "link") }
     ensures some { IfSome result (λ found. IsCommand (fields_of row.now) found) }
     ensures served { IfSome result (λ found. IsServed found) }
-    ensures none { IfNone result ((target base media : List ℕ) (mapping : Mapping) → ¬ IsCommand (fields_of row.now) (command.Link target mapping base media)) }
+    ensures none { IfNone result ((target base other : List ℕ) (mapping : Mapping) → ¬ IsCommand (fields_of row.now) (command.Link target mapping base other)) }
 {
     let (package, link) = named_link(row)?;
     Some(Command::Link {
         package,
         mapping: link.mapping,
         base: link.base,
-        media: link.media,
+        other: link.other,
     })
 }
 
@@ -61,14 +61,14 @@ fn unlink_of(row: &StringRecord) -> Option<Command>
     requires word { IsTextAt (fields_of row.now) 2 (codes "unlink") }
     ensures some { IfSome result (λ found. IsCommand (fields_of row.now) found) }
     ensures served { IfSome result (λ found. IsServed found) }
-    ensures none { IfNone result ((source base media : List ℕ) (mapping : Mapping) → ¬ IsCommand (fields_of row.now) (command.Unlink source mapping base media)) }
+    ensures none { IfNone result ((source base other : List ℕ) (mapping : Mapping) → ¬ IsCommand (fields_of row.now) (command.Unlink source mapping base other)) }
 {
     let (package, link) = named_link(row)?;
     Some(Command::Unlink {
         package,
         mapping: link.mapping,
         base: link.base,
-        media: link.media,
+        other: link.other,
     })
 }
 

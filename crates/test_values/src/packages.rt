@@ -1,6 +1,7 @@
 //! New packages, with what the calls that make them ask for tested first.
 ghost use Rattle.std.specs.Prelude.{◌≤◌, IsTrue};
 ghost use Rattle.sheet_types.specs.Matrix.{is_good_frame};
+ghost use Rattle.sheet_types.specs.Refuse.{greatest_depth, greatest_receipts};
 
 use crate::changes::{Change, committed};
 use crate::values::FRAME;
@@ -14,6 +15,7 @@ use package_tables::media::insert_medium;
 use package_tables::package::Package;
 use package_tables::schema::create_schema;
 use package_tables::tiles::insert_tile;
+use sheet_types::checks::GREATEST_DEPTH;
 use sheet_types::command::Mapping;
 use sheet_types::frame::Frame;
 use sql_meaning::resting::is_at_rest;
@@ -34,10 +36,10 @@ pub fn is_good(frame: &Frame) -> bool
 /// Whether a package can be made of a frame and a head.
 pub fn can_be_made(frame: &Frame, info: &Info<'_>) -> bool
     ensures frame { IsTrue result → IsTrue (is_good_frame frame.now) }
-    ensures depth { IsTrue result → info.now.depth ≤ 1 }
-    ensures loan { IsTrue result → info.now.loan ≤ 1000000000 }
+    ensures depth { IsTrue result → info.now.depth ≤ greatest_depth }
+    ensures loan { IsTrue result → info.now.loan ≤ greatest_receipts }
 {
-    is_good(frame) && info.depth <= 1 && info.loan <= 1_000_000_000
+    is_good(frame) && info.depth <= GREATEST_DEPTH && info.loan <= 1_000_000_000
 }
 
 /// The tables of a new package.

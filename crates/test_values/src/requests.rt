@@ -81,17 +81,17 @@ fn command(alloc: Global, asks: Asks) -> Result<Command, Fault> {
             package,
             identity: item(number),
         }),
-        Asks::Link(mapping, base, media) => Ok(Command::Link {
+        Asks::Link(mapping, base, other) => Ok(Command::Link {
             package,
             mapping,
             base: item(base),
-            media: item(media),
+            other: item(other),
         }),
-        Asks::Unlink(mapping, base, media) => Ok(Command::Unlink {
+        Asks::Unlink(mapping, base, other) => Ok(Command::Unlink {
             package,
             mapping,
             base: item(base),
-            media: item(media),
+            other: item(other),
         }),
     }
 }

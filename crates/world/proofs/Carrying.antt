@@ -17,8 +17,8 @@ use Rattle.world.specs.Laws.{CarriedOutInOne}
 pub carried_out_in_one : CarriedOutInOne
 carried_out_in_one w r (Add uuid identity content) served = refl
 carried_out_in_one w r (Delete uuid identity) served = refl
-carried_out_in_one w r (Link uuid mapping base media) served = refl
-carried_out_in_one w r (Unlink uuid mapping base media) served = refl
+carried_out_in_one w r (Link uuid mapping base other) served = refl
+carried_out_in_one w r (Unlink uuid mapping base other) served = refl
 carried_out_in_one w r (Split uuid child mode rect) served = absurd served
 carried_out_in_one w r (Merge child into ticket) served = absurd served
 
@@ -32,8 +32,8 @@ change_steps command form {old} {new} {r} is steps = subst (λ c. Steps (λ _. B
 pub same_rest : (command : Command) (p : Package) → changed_by command p ≡ record p { items = (changed_by command p).items; links = (changed_by command p).links }
 same_rest (Add uuid identity content) p = refl
 same_rest (Delete uuid identity) p = refl
-same_rest (Link uuid mapping base media) p = refl
-same_rest (Unlink uuid mapping base media) p = refl
+same_rest (Link uuid mapping base other) p = refl
+same_rest (Unlink uuid mapping base other) p = refl
 same_rest (Split uuid child mode rect) p = refl
 same_rest (Merge child into ticket) p = refl
 

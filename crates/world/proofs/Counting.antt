@@ -17,7 +17,7 @@ use Rattle.sheet_types.specs.declared.command.Command.{Command}
 use Rattle.sheet_types.specs.declared.command.Command.TheVariants.{Add, Delete, Link, Unlink, Split, Merge}
 use Rattle.sheet_types.specs.declared.command.Content.{Content}
 use Rattle.sheet_types.specs.declared.command.Content.TheVariants.{Tile, Media, Row}
-use Rattle.sheet_types.specs.declared.command.Mapping.TheVariants.{TilesMedia, RowsMedia}
+use Rattle.sheet_types.specs.declared.command.Mapping.TheVariants.{TilesMedia, RowsMedia, RowsTiles}
 use Rattle.sheet_types.specs.declared.command.Item.{Item}
 use Rattle.sheet_types.specs.declared.command.Relation.{Relation}
 use Rattle.sheet_types.specs.declared.command.Request.{Request}
@@ -65,7 +65,7 @@ item_alone i =
     (alone (cond (is_tile i) 1 0)) (alone (cond (is_medium i) 1 0)) (alone (cond (is_row i) 1 0)) (ap (λ b. 0 + cond (not b) 1 0) (item_kind_of i.content)) (alone (size i.content))
 
 link_alone : (l : Relation) → sums_of_things (link_moved l ∷ []) ≡ sums_of_link
-link_alone l = elim l.mapping as (λ m. sums_of_things (link_moved (record { mapping = m; base = l.base; media = l.media }) ∷ []) ≡ sums_of_link) [ TilesMedia ↦ refl | RowsMedia ↦ refl ]
+link_alone l = elim l.mapping as (λ m. sums_of_things (link_moved (record { mapping = m; base = l.base; other = l.other }) ∷ []) ≡ sums_of_link) [ TilesMedia ↦ refl | RowsMedia ↦ refl | RowsTiles ↦ refl ]
 
 -- ---- one item or link more, and one less
 
@@ -154,14 +154,14 @@ module _ (w : World) (id at : List ℕ) (register : IsRegister w) where
       let k : IsKeptPackage w (holdings w p) = kept_at w p register live in
       taken_as (sums_of_things (option_map_or (λ i. item_moved i ∷ []) (item_of (holdings w p) identity) [])) (sums_of_item f.0) (holdings w p) (item_deleted identity (holdings w p)) moved
       (item_less identity f.0 (holdings w p) (distinct_counts (λ i. i.identity) identity (holdings w p).items k.identities) f.1)
-  counted (Link p mapping base media) live meets =
-      (tt, link_more (relation mapping base media) (holdings w p) ∙ ap (λ s. sums_more s (sums_held (holdings w p))) (sym (link_alone (relation mapping base media))))
-  counted (Unlink p mapping base media) live meets =
-      let l : Relation = relation mapping base media in
-      let f : (m : Relation) × (find (λ m. bytes_eq (link_key m) (link_key (relation mapping base media))) (holdings w p).links ≡ Some m) = found (λ m. bytes_eq (link_key m) (link_key (relation mapping base media))) (holdings w p).links meets.there in
+  counted (Link p mapping base other) live meets =
+      (tt, link_more (relation mapping base other) (holdings w p) ∙ ap (λ s. sums_more s (sums_held (holdings w p))) (sym (link_alone (relation mapping base other))))
+  counted (Unlink p mapping base other) live meets =
+      let l : Relation = relation mapping base other in
+      let f : (m : Relation) × (find (λ m. bytes_eq (link_key m) (link_key (relation mapping base other))) (holdings w p).links ≡ Some m) = found (λ m. bytes_eq (link_key m) (link_key (relation mapping base other))) (holdings w p).links meets.there in
       let k : IsKeptPackage w (holdings w p) = kept_at w p register live in
-      taken_as (sums_of_things (link_moved (relation mapping base media) ∷ [])) sums_of_link (holdings w p) (link_removed (relation mapping base media) (holdings w p)) (link_alone (relation mapping base media))
-      (link_less (relation mapping base media) f.0 (holdings w p) (counts_arranged link_key (link_key (relation mapping base media)) (holdings w p).links k.links) f.1)
+      taken_as (sums_of_things (link_moved (relation mapping base other) ∷ [])) sums_of_link (holdings w p) (link_removed (relation mapping base other) (holdings w p)) (link_alone (relation mapping base other))
+      (link_less (relation mapping base other) f.0 (holdings w p) (counts_arranged link_key (link_key (relation mapping base other)) (holdings w p).links k.links) f.1)
   counted (Split p child mode rect) live meets = absurd meets
   counted (Merge child into ticket) live meets = absurd meets
 

@@ -191,8 +191,8 @@ of_own_frame f count at q w placed = record { asked = record { frame = refl; cou
 added_by : (w : World) (command : Command) (thing : Moved) → moved w command ≡ thing ∷ [] → IsAddedBy command thing
 added_by w (Add p identity content) thing same = sym (ap (λ things. get_or things 0 thing) same)
 added_by w (Delete p identity) thing same = tt
-added_by w (Link p mapping base media) thing same = tt
-added_by w (Unlink p mapping base media) thing same = tt
+added_by w (Link p mapping base other) thing same = tt
+added_by w (Unlink p mapping base other) thing same = tt
 added_by w (Split p child mode rect) thing same = tt
 added_by w (Merge child into number) thing same = tt
 

@@ -79,7 +79,7 @@ delete_told p id found told = ap delete_reason told ∙ each (has_item p id) (li
 -- ---- a link that comes
 
 pub reason_is : (p : Package) (l : Relation) → reason_told (link_state p l) ≡ first_row (link_reasons p l)
-reason_is p l = each (has_item p l.base && has_item p l.media) (has_kind p (base_kind l.mapping) l.base && has_kind p (other_kind l.mapping) l.media) (has link_key (link_key l) p.links)
+reason_is p l = each (has_item p l.base && has_item p l.other) (has_kind p (base_kind l.mapping) l.base && has_kind p (other_kind l.mapping) l.other) (has link_key (link_key l) p.links)
   where
     each : (known right there : Bool) → reason_told (if not known then UnknownEnd else if not right then WrongKinds else if there then There else Absent) ≡ first_row ((not known, UnknownItem) ∷ (not right, WrongKind) ∷ (there, LinkThere) ∷ [])
     each true true true = refl

@@ -60,22 +60,22 @@ new_request w id p new =
 fit_ends : (command : Command) → IsServed command → HasTypes command → (is_fit_end (source_of (entry_of command)) ≡ true) × (is_fit_end (target_of (entry_of command)) ≡ true)
 fit_ends (Add p identity content) served types = (refl, (and_parts (is_uuid p) (is_uuid identity) types).0)
 fit_ends (Delete p identity) served types = ((and_parts (is_uuid p) (is_uuid identity) types).0, refl)
-fit_ends (Link p mapping base media) served types = (refl, (and_parts (is_uuid p) (is_uuid base) (and_parts (is_uuid p && is_uuid base) (is_uuid media) types).0).0)
-fit_ends (Unlink p mapping base media) served types = ((and_parts (is_uuid p) (is_uuid base) (and_parts (is_uuid p && is_uuid base) (is_uuid media) types).0).0, refl)
+fit_ends (Link p mapping base other) served types = (refl, (and_parts (is_uuid p) (is_uuid base) (and_parts (is_uuid p && is_uuid base) (is_uuid other) types).0).0)
+fit_ends (Unlink p mapping base other) served types = ((and_parts (is_uuid p) (is_uuid base) (and_parts (is_uuid p && is_uuid base) (is_uuid other) types).0).0, refl)
 fit_ends (Split p child mode rect) served types = absurd served
 fit_ends (Merge child into ticket) served types = absurd served
 
 -- the UUIDs of a link are such
-link_ends : (p base media : List ℕ) → (is_uuid p && is_uuid base && is_uuid media) ≡ true → (is_uuid base ≡ true) × (is_uuid media ≡ true)
-link_ends p base media types =
-    let parts : ((is_uuid p && is_uuid base) ≡ true) × (is_uuid media ≡ true) = and_parts (is_uuid p && is_uuid base) (is_uuid media) types in
+link_ends : (p base other : List ℕ) → (is_uuid p && is_uuid base && is_uuid other) ≡ true → (is_uuid base ≡ true) × (is_uuid other ≡ true)
+link_ends p base other types =
+    let parts : ((is_uuid p && is_uuid base) ≡ true) × (is_uuid other ≡ true) = and_parts (is_uuid p && is_uuid base) (is_uuid other) types in
     ((and_parts (is_uuid p) (is_uuid base) parts.0).1, parts.1)
 
 fit_item : (i : Item) → IsUuid i.identity → is_fit_moved (item_moved i) ≡ true
 fit_item i uuid = and_from (is_uuid i.identity && true) (is_bytes 32 (fingerprint i.content)) (and_from (is_uuid i.identity) true uuid refl) (digest_fits i.content)
 
-fit_link : (base media : List ℕ) → (is_uuid base ≡ true) × (is_uuid media ≡ true) → (is_uuid base && is_uuid media && true) ≡ true
-fit_link base media uuids = and_from (is_uuid base && is_uuid media) true (and_from (is_uuid base) (is_uuid media) uuids.0 uuids.1) refl
+fit_link : (base other : List ℕ) → (is_uuid base ≡ true) × (is_uuid other ≡ true) → (is_uuid base && is_uuid other && true) ≡ true
+fit_link base other uuids = and_from (is_uuid base && is_uuid other) true (and_from (is_uuid base) (is_uuid other) uuids.0 uuids.1) refl
 
 -- what it moves has UUIDs and digests
 fit_things : (w : World) (command : Command) → IsServed command → HasTypes command → AllByRecursion (λ i. IsUuid i.identity) (holdings w (package_of command)).items → AllByRecursion (λ m. is_fit_moved m ≡ true) (moved w command)
@@ -85,8 +85,8 @@ fit_things w (Delete p identity) served types uuids =
       | None ↦ λ _. tt
       | Some i ↦ λ is. (fit_item i (All-found (λ j. IsUuid j.identity) (λ j. bytes_eq j.identity identity) i (holdings w p).items is uuids).0, tt)
     ] refl
-fit_things w (Link p mapping base media) served types uuids = (fit_link base media (link_ends p base media types), tt)
-fit_things w (Unlink p mapping base media) served types uuids = (fit_link base media (link_ends p base media types), tt)
+fit_things w (Link p mapping base other) served types uuids = (fit_link base other (link_ends p base other types), tt)
+fit_things w (Unlink p mapping base other) served types uuids = (fit_link base other (link_ends p base other types), tt)
 fit_things w (Split p child mode rect) served types uuids = absurd served
 fit_things w (Merge child into ticket) served types uuids = absurd served
 
@@ -110,21 +110,21 @@ meets_command w (Add p identity content) register served types unused none = rec
 meets_command w (Delete p identity) register served types unused none =
     let fails : AllByRecursion (λ (row : Bool × Refusal). row.0 ≡ false) (delete_reasons (holdings w p) identity) = rows_fail (delete_reasons (holdings w p) identity) none in
     (not_false (has_item (holdings w p) identity) fails.0, fails.1.0)
-meets_command w (Link p mapping base media) register served types unused none =
-    let l : Relation = relation mapping base media in
+meets_command w (Link p mapping base other) register served types unused none =
+    let l : Relation = relation mapping base other in
     let x : Package = holdings w p in
-    let fails : AllByRecursion (λ (row : Bool × Refusal). row.0 ≡ false) (link_reasons (holdings w p) (relation mapping base media)) = rows_fail (link_reasons (holdings w p) (relation mapping base media)) none in
-    let uuids : (is_uuid base ≡ true) × (is_uuid media ≡ true) = link_ends p base media types in
+    let fails : AllByRecursion (λ (row : Bool × Refusal). row.0 ≡ false) (link_reasons (holdings w p) (relation mapping base other)) = rows_fail (link_reasons (holdings w p) (relation mapping base other)) none in
+    let uuids : (is_uuid base ≡ true) × (is_uuid other ≡ true) = link_ends p base other types in
     record {
       base = uuids.0;
-      media = uuids.1;
+      other = uuids.1;
       new = fails.1.1.0;
-      ends = and_parts (has_kind x (base_kind mapping) base) (has_kind x (other_kind mapping) media) (not_false (has_kind x (base_kind mapping) base && has_kind x (other_kind mapping) media) fails.1.0);
+      ends = and_parts (has_kind x (base_kind mapping) base) (has_kind x (other_kind mapping) other) (not_false (has_kind x (base_kind mapping) base && has_kind x (other_kind mapping) other) fails.1.0);
     }
-meets_command w (Unlink p mapping base media) register served types unused none =
-    let fails : AllByRecursion (λ (row : Bool × Refusal). row.0 ≡ false) (unlink_reasons (holdings w p) (relation mapping base media)) = rows_fail (unlink_reasons (holdings w p) (relation mapping base media)) none in
-    let uuids : (is_uuid base ≡ true) × (is_uuid media ≡ true) = link_ends p base media types in
-    record { base = uuids.0; media = uuids.1; there = not_false (has link_key (link_key (relation mapping base media)) (holdings w p).links) fails.0 }
+meets_command w (Unlink p mapping base other) register served types unused none =
+    let fails : AllByRecursion (λ (row : Bool × Refusal). row.0 ≡ false) (unlink_reasons (holdings w p) (relation mapping base other)) = rows_fail (unlink_reasons (holdings w p) (relation mapping base other)) none in
+    let uuids : (is_uuid base ≡ true) × (is_uuid other ≡ true) = link_ends p base other types in
+    record { base = uuids.0; other = uuids.1; there = not_false (has link_key (link_key (relation mapping base other)) (holdings w p).links) fails.0 }
 meets_command w (Split p child mode rect) register served types unused none = absurd served
 meets_command w (Merge child into ticket) register served types unused none = absurd served
 

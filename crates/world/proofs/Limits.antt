@@ -44,8 +44,8 @@ receipts_next w q register served live =
 meets_served : (command : Command) (p : Package) → Meets command p → IsServed command
 meets_served (Add uuid identity content) p meets = tt
 meets_served (Delete uuid identity) p meets = tt
-meets_served (Link uuid mapping base media) p meets = tt
-meets_served (Unlink uuid mapping base media) p meets = tt
+meets_served (Link uuid mapping base other) p meets = tt
+meets_served (Unlink uuid mapping base other) p meets = tt
 meets_served (Split uuid child mode rect) p meets = meets
 meets_served (Merge child into ticket) p meets = meets
 
@@ -116,8 +116,8 @@ ticket_below n p bound (r ∷ rs) h below =
 names_its_own : (w : World) (id at : List ℕ) (command : Command) (p : List ℕ) → IsServed command → names_package p (receipt_of w (record { id = id; at = at; command = command })) ≡ bytes_eq p (package_of command)
 names_its_own w id at (Add uuid identity content) p served = bytes_eq_swap uuid p
 names_its_own w id at (Delete uuid identity) p served = or-false (bytes_eq uuid p) ∙ bytes_eq_swap uuid p
-names_its_own w id at (Link uuid mapping base media) p served = bytes_eq_swap uuid p
-names_its_own w id at (Unlink uuid mapping base media) p served = or-false (bytes_eq uuid p) ∙ bytes_eq_swap uuid p
+names_its_own w id at (Link uuid mapping base other) p served = bytes_eq_swap uuid p
+names_its_own w id at (Unlink uuid mapping base other) p served = or-false (bytes_eq uuid p) ∙ bytes_eq_swap uuid p
 names_its_own w id at (Split uuid child mode rect) p served = absurd served
 names_its_own w id at (Merge child into ticket) p served = absurd served
 

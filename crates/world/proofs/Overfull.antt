@@ -110,10 +110,10 @@ module _ (w : World) (id at : List ℕ) (register : IsRegister w) where
       let small : size content ≤ 1048576 = size_within content good in
       more_is_counted (moved (Add p identity content)) (held (Add p identity content)) (omega (arith, bytes, small)) (bytes_within w p register live) within
   can_count (Delete p identity) live fits texts within = (sums_after_command w (asking (Delete p identity)) register live fits).0
-  can_count (Link p mapping base media) live fits texts within =
-      let bytes : (moved (Link p mapping base media)).bytes ≡ 0 = refl in
-      more_is_counted (moved (Link p mapping base media)) (held (Link p mapping base media)) (omega (arith, bytes)) (bytes_within w p register live) within
-  can_count (Unlink p mapping base media) live fits texts within = (sums_after_command w (asking (Unlink p mapping base media)) register live fits).0
+  can_count (Link p mapping base other) live fits texts within =
+      let bytes : (moved (Link p mapping base other)).bytes ≡ 0 = refl in
+      more_is_counted (moved (Link p mapping base other)) (held (Link p mapping base other)) (omega (arith, bytes)) (bytes_within w p register live) within
+  can_count (Unlink p mapping base other) live fits texts within = (sums_after_command w (asking (Unlink p mapping base other)) register live fits).0
   can_count (Split p child mode rect) live fits texts within = tt
   can_count (Merge child into ticket) live fits texts within = tt
 

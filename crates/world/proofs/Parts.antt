@@ -35,16 +35,16 @@ module _ (w next : World) (id at : List ℕ) where
   live_parts (Add uuid identity (Media content_type bytes)) served live = live_row (id_reused w (asking (Add uuid identity (Media content_type bytes))), IdReused) (is_live w uuid) (later (Add uuid identity (Media content_type bytes))) live
   live_parts (Add uuid identity (Row x y code label)) served live = live_row (id_reused w (asking (Add uuid identity (Row x y code label))), IdReused) (is_live w uuid) (later (Add uuid identity (Row x y code label))) live
   live_parts (Delete uuid identity) served live = live_row (id_reused w (asking (Delete uuid identity)), IdReused) (is_live w uuid) (later (Delete uuid identity)) live
-  live_parts (Link uuid mapping base media) served live = live_row (id_reused w (asking (Link uuid mapping base media)), IdReused) (is_live w uuid) (later (Link uuid mapping base media)) live
-  live_parts (Unlink uuid mapping base media) served live = live_row (id_reused w (asking (Unlink uuid mapping base media)), IdReused) (is_live w uuid) (later (Unlink uuid mapping base media)) live
+  live_parts (Link uuid mapping base other) served live = live_row (id_reused w (asking (Link uuid mapping base other)), IdReused) (is_live w uuid) (later (Link uuid mapping base other)) live
+  live_parts (Unlink uuid mapping base other) served live = live_row (id_reused w (asking (Unlink uuid mapping base other)), IdReused) (is_live w uuid) (later (Unlink uuid mapping base other)) live
   live_parts (Split uuid child mode rect) served live = absurd served
   live_parts (Merge child into ticket) served live = absurd served
 
   dead_parts : (command : Command) → IsServed command → is_live w (package_of command) ≡ false → refusal w next (asking command) ≡ first_row ((id_reused w (asking command), IdReused) ∷ (true, UnknownPackage) ∷ [])
   dead_parts (Add uuid identity content) served dead = dead_row (id_reused w (asking (Add uuid identity content)), IdReused) (is_live w uuid) (later (Add uuid identity content)) dead
   dead_parts (Delete uuid identity) served dead = dead_row (id_reused w (asking (Delete uuid identity)), IdReused) (is_live w uuid) (later (Delete uuid identity)) dead
-  dead_parts (Link uuid mapping base media) served dead = dead_row (id_reused w (asking (Link uuid mapping base media)), IdReused) (is_live w uuid) (later (Link uuid mapping base media)) dead
-  dead_parts (Unlink uuid mapping base media) served dead = dead_row (id_reused w (asking (Unlink uuid mapping base media)), IdReused) (is_live w uuid) (later (Unlink uuid mapping base media)) dead
+  dead_parts (Link uuid mapping base other) served dead = dead_row (id_reused w (asking (Link uuid mapping base other)), IdReused) (is_live w uuid) (later (Link uuid mapping base other)) dead
+  dead_parts (Unlink uuid mapping base other) served dead = dead_row (id_reused w (asking (Unlink uuid mapping base other)), IdReused) (is_live w uuid) (later (Unlink uuid mapping base other)) dead
   dead_parts (Split uuid child mode rect) served dead = absurd served
   dead_parts (Merge child into ticket) served dead = absurd served
 

@@ -15,8 +15,8 @@ use Rattle.custody.specs.Receipts.{IsNewReceipt}
 abbrev pub Meets : Command → Package → Type 0
 Meets (Add uuid identity content) p = IsNewItem identity p
 Meets (Delete uuid identity) p = IsLooseItem identity p
-Meets (Link uuid mapping base media) p = IsNewLink (relation mapping base media) p
-Meets (Unlink uuid mapping base media) p = IsLink (relation mapping base media) p
+Meets (Link uuid mapping base other) p = IsNewLink (relation mapping base other) p
+Meets (Unlink uuid mapping base other) p = IsLink (relation mapping base other) p
 Meets (Split uuid child mode rect) p = ⊥
 Meets (Merge child into ticket) p = ⊥
 
@@ -24,8 +24,8 @@ Meets (Merge child into ticket) p = ⊥
 abbrev pub changed_by : Command → Package → Package
 changed_by (Add uuid identity content) p = item_added (added_item identity content) p
 changed_by (Delete uuid identity) p = item_deleted identity p
-changed_by (Link uuid mapping base media) p = link_added (relation mapping base media) p
-changed_by (Unlink uuid mapping base media) p = link_removed (relation mapping base media) p
+changed_by (Link uuid mapping base other) p = link_added (relation mapping base other) p
+changed_by (Unlink uuid mapping base other) p = link_removed (relation mapping base other) p
 changed_by (Split uuid child mode rect) p = p
 changed_by (Merge child into ticket) p = p
 

@@ -18,8 +18,8 @@ use Rattle.world.specs.Carrying.{after_command}
 abbrev pub IsServed : Command → Type 0
 IsServed (Add uuid identity content) = Unit {0}
 IsServed (Delete uuid identity) = Unit {0}
-IsServed (Link uuid mapping base media) = Unit {0}
-IsServed (Unlink uuid mapping base media) = Unit {0}
+IsServed (Link uuid mapping base other) = Unit {0}
+IsServed (Unlink uuid mapping base other) = Unit {0}
 IsServed (Split uuid child mode rect) = ⊥
 IsServed (Merge child into ticket) = ⊥
 
@@ -31,8 +31,8 @@ AreServed requests = AllByRecursion (λ request. IsServed request.command) reque
 abbrev pub package_of : Command → List ℕ
 package_of (Add uuid identity content) = uuid
 package_of (Delete uuid identity) = uuid
-package_of (Link uuid mapping base media) = uuid
-package_of (Unlink uuid mapping base media) = uuid
+package_of (Link uuid mapping base other) = uuid
+package_of (Unlink uuid mapping base other) = uuid
 package_of (Split uuid child mode rect) = uuid
 package_of (Merge child into ticket) = into
 

@@ -40,8 +40,8 @@ delete_reasons p identity = (not (has_item p identity), UnknownItem) ∷ (list_a
 -- of a link that is to come in
 abbrev pub link_reasons : Package → Relation → List (Bool × Refusal)
 link_reasons p l =
-    (not (has_item p l.base && has_item p l.media), UnknownItem)
-    ∷ (not (has_kind p (base_kind l.mapping) l.base && has_kind p (other_kind l.mapping) l.media), WrongKind)
+    (not (has_item p l.base && has_item p l.other), UnknownItem)
+    ∷ (not (has_kind p (base_kind l.mapping) l.base && has_kind p (other_kind l.mapping) l.other), WrongKind)
     ∷ (has link_key (link_key l) p.links, LinkThere)
     ∷ []
 
@@ -60,7 +60,7 @@ unlink_reasons p l = (not (has link_key (link_key l) p.links), UnknownLink) ∷ 
 abbrev pub package_reasons : Frame → Package → Command → List (Bool × Refusal)
 package_reasons f p (Add uuid identity content) = content_reasons f p content
 package_reasons f p (Delete uuid identity) = delete_reasons p identity
-package_reasons f p (Link uuid mapping base media) = link_reasons p (record { mapping = mapping; base = base; media = media })
-package_reasons f p (Unlink uuid mapping base media) = unlink_reasons p (record { mapping = mapping; base = base; media = media })
+package_reasons f p (Link uuid mapping base other) = link_reasons p (record { mapping = mapping; base = base; other = other })
+package_reasons f p (Unlink uuid mapping base other) = unlink_reasons p (record { mapping = mapping; base = base; other = other })
 package_reasons f p (Split uuid child mode rect) = []
 package_reasons f p (Merge child into ticket) = []

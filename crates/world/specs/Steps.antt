@@ -30,8 +30,8 @@ use Rattle.world.specs.Reasons.{text_reasons, package_reasons}
 abbrev pub IsAddedBy : Command → Moved → Type 0
 IsAddedBy (Add p identity content) thing = thing ≡ item_moved (added_item identity content)
 IsAddedBy (Delete p identity) thing = ⊤
-IsAddedBy (Link p mapping base media) thing = ⊤
-IsAddedBy (Unlink p mapping base media) thing = ⊤
+IsAddedBy (Link p mapping base other) thing = ⊤
+IsAddedBy (Unlink p mapping base other) thing = ⊤
 IsAddedBy (Split p child mode rect) thing = ⊤
 IsAddedBy (Merge child into number) thing = ⊤
 
@@ -89,8 +89,8 @@ pub record IsWithin (some held : Sums) : Type 0 where
 abbrev pub sums_after : Command → Sums → Sums → Sums
 sums_after (Add uuid identity content) some held = sums_more some held
 sums_after (Delete uuid identity) some held = sums_less some held
-sums_after (Link uuid mapping base media) some held = sums_more some held
-sums_after (Unlink uuid mapping base media) some held = sums_less some held
+sums_after (Link uuid mapping base other) some held = sums_more some held
+sums_after (Unlink uuid mapping base other) some held = sums_less some held
 sums_after (Split uuid child mode rect) some held = held
 sums_after (Merge child into ticket) some held = held
 
@@ -98,8 +98,8 @@ sums_after (Merge child into ticket) some held = held
 abbrev pub HasWhatGoes : Command → Sums → Sums → Type 0
 HasWhatGoes (Add uuid identity content) some held = Unit {0}
 HasWhatGoes (Delete uuid identity) some held = IsWithin some held
-HasWhatGoes (Link uuid mapping base media) some held = Unit {0}
-HasWhatGoes (Unlink uuid mapping base media) some held = IsWithin some held
+HasWhatGoes (Link uuid mapping base other) some held = Unit {0}
+HasWhatGoes (Unlink uuid mapping base other) some held = IsWithin some held
 HasWhatGoes (Split uuid child mode rect) some held = Unit {0}
 HasWhatGoes (Merge child into ticket) some held = Unit {0}
 

@@ -17,7 +17,7 @@ pub record IsCounted (held : Sums) : Type 0 where
 abbrev pub CanCount : Command → Sums → Sums → Type 0
 CanCount (Add uuid identity content) some held = IsCounted (sums_more some held)
 CanCount (Delete uuid identity) some held = IsWithin some held
-CanCount (Link uuid mapping base media) some held = IsCounted (sums_more some held)
-CanCount (Unlink uuid mapping base media) some held = IsWithin some held
+CanCount (Link uuid mapping base other) some held = IsCounted (sums_more some held)
+CanCount (Unlink uuid mapping base other) some held = IsWithin some held
 CanCount (Split uuid child mode rect) some held = Unit {0}
 CanCount (Merge child into ticket) some held = Unit {0}

@@ -74,16 +74,16 @@ pub(crate) fn thing_moved<S: Alter + Drop>(
         Command::Link {
             mapping,
             base,
-            media,
+            other,
             ..
         }
         | Command::Unlink {
             mapping,
             base,
-            media,
+            other,
             ..
         } => {
-            let relation = Relation::new(*mapping, *base, *media);
+            let relation = Relation::new(*mapping, *base, *other);
             Ok(Some(Moved::of_link(&relation)))
         }
         Command::Split { .. } | Command::Merge { .. } => Ok(None),

@@ -112,7 +112,7 @@ fn unlinked() -> Command {
         package: package(),
         mapping: Mapping::TilesMedia,
         base: tile(),
-        media: medium(),
+        other: medium(),
     }
 }
 

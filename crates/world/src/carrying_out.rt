@@ -97,15 +97,15 @@ fn make_change<S: Alter>(tx: &mut Transaction<'_, S>, command: &Command) -> Resu
         Command::Link {
             mapping,
             base,
-            media,
+            other,
             ..
-        } => link(tx, Relation::new(*mapping, *base, *media)),
+        } => link(tx, Relation::new(*mapping, *base, *other)),
         Command::Unlink {
             mapping,
             base,
-            media,
+            other,
             ..
-        } => unlink(tx, Relation::new(*mapping, *base, *media)),
+        } => unlink(tx, Relation::new(*mapping, *base, *other)),
         Command::Split { .. } | Command::Merge { .. } => Err(Fault::StoreFault),
     }
 }

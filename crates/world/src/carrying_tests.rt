@@ -92,7 +92,7 @@ fn is_linked<S: Alter>(conn: &mut Connection<S>) -> Result<bool, Fault> {
     let relation = Relation {
         mapping: Mapping::TilesMedia,
         base: tile(),
-        media: medium(),
+        other: medium(),
     };
     has_link(conn, relation)
 }
@@ -123,7 +123,7 @@ fn link<S: Alter>(alloc: Global, conn: &mut Connection<S>, seq: u64) -> Result<(
         package: package(),
         mapping: Mapping::TilesMedia,
         base: tile(),
-        media: medium(),
+        other: medium(),
     };
     carried(conn, &command, &receipt_of_link(alloc, seq)?)
 }
@@ -133,7 +133,7 @@ fn unlink<S: Alter>(alloc: Global, conn: &mut Connection<S>, seq: u64) -> Result
         package: package(),
         mapping: Mapping::TilesMedia,
         base: tile(),
-        media: medium(),
+        other: medium(),
     };
     carried(conn, &command, &receipt_of_link(alloc, seq)?)
 }

@@ -126,18 +126,18 @@ fn has_types(command: &Command)
         Command::Link {
             package,
             base,
-            media,
+            other,
             ..
         }
         | Command::Unlink {
             package,
             base,
-            media,
+            other,
             ..
         } => {
             fits(*package);
             fits(*base);
-            fits(*media);
+            fits(*other);
         }
         Command::Split { .. } | Command::Merge { .. } => {}
     }

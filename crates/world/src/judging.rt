@@ -124,15 +124,15 @@ pub(crate) fn package_refusal<S: Alter>(
         Command::Link {
             mapping,
             base,
-            media,
+            other,
             ..
-        } => refusal_of_link(conn, Relation::new(*mapping, *base, *media)),
+        } => refusal_of_link(conn, Relation::new(*mapping, *base, *other)),
         Command::Unlink {
             mapping,
             base,
-            media,
+            other,
             ..
-        } => refusal_of_unlink(conn, Relation::new(*mapping, *base, *media)),
+        } => refusal_of_unlink(conn, Relation::new(*mapping, *base, *other)),
         Command::Split { .. } | Command::Merge { .. } => Ok(None),
     }
 }

@@ -71,16 +71,16 @@ fn linked(
         package: package(1),
         mapping: link.mapping,
         base: link.base,
-        media: link.media,
+        other: link.other,
     };
     applied(world, alloc, number, command)
 }
 
-fn link(mapping: Mapping, base: u64, media: u64) -> Relation {
+fn link(mapping: Mapping, base: u64, other: u64) -> Relation {
     Relation {
         mapping,
         base: item(base),
-        media: item(media),
+        other: item(other),
     }
 }
 

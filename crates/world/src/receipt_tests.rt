@@ -71,7 +71,7 @@ fn row_linked(rt: HostRuntime) -> Result<(), Fail> {
     let link = Relation {
         mapping: Mapping::RowsMedia,
         base: item(1),
-        media: item(3),
+        other: item(3),
     };
     let thing = Moved::of_link(&link);
     let request = asked(
@@ -80,7 +80,7 @@ fn row_linked(rt: HostRuntime) -> Result<(), Fail> {
             package: archive(),
             mapping: link.mapping,
             base: link.base,
-            media: link.media,
+            other: link.other,
         },
     )?;
     let receipt = receipt_over(alloc, 3, &request, thing)?;

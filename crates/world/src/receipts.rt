@@ -31,7 +31,9 @@ fn sums_of(thing: Moved) -> Sums
         MovedKind::TileItem => sums.tiles = 1,
         MovedKind::MediaItem => sums.media = 1,
         MovedKind::RowItem => sums.rows = 1,
-        MovedKind::TilesMediaLink | MovedKind::RowsMediaLink => sums.links = 1,
+        MovedKind::TilesMediaLink | MovedKind::RowsMediaLink | MovedKind::RowsTilesLink => {
+            sums.links = 1;
+        }
     }
     sums
 }

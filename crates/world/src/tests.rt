@@ -182,11 +182,14 @@ fn items_that_go(rt: HostRuntime) -> Result<(), Fail> {
 fn links(rt: HostRuntime) -> Result<(), Fail> {
     let mut conn = Connection::open_in_memory(rt.alloc())?;
     assert!(rt; fill_with_a_link(&mut conn)?);
-    for (mapping, base, media, coming, going) in [
+    for (mapping, base, other, coming, going) in [
         (Mapping::TilesMedia, 1u128, 2u128, 12u8, 0u8),
         (Mapping::RowsMedia, 3, 2, 0, 13),
         (Mapping::RowsMedia, 1, 2, 8, 13),
         (Mapping::TilesMedia, 3, 2, 8, 13),
+        (Mapping::RowsTiles, 3, 1, 0, 13),
+        (Mapping::RowsTiles, 1, 3, 8, 13),
+        (Mapping::RowsTiles, 3, 2, 8, 13),
         (Mapping::TilesMedia, 1, 3, 8, 13),
         (Mapping::TilesMedia, 2, 1, 8, 13),
         (Mapping::TilesMedia, 3, 9, 7, 13),
@@ -194,19 +197,19 @@ fn links(rt: HostRuntime) -> Result<(), Fail> {
         (Mapping::TilesMedia, 8, 9, 7, 13),
     ] {
         let base = Uuid::from_u128(base);
-        let media = Uuid::from_u128(media);
+        let other = Uuid::from_u128(other);
         let link = Command::Link {
             package: archive(),
             mapping,
             base,
-            media,
+            other,
         };
         assert_eq!(rt; judged(&mut conn, &FRAME, &link)?, coming);
         let unlink = Command::Unlink {
             package: archive(),
             mapping,
             base,
-            media,
+            other,
         };
         assert_eq!(rt; judged(&mut conn, &FRAME, &unlink)?, going);
     }

@@ -54,13 +54,13 @@ fn held_after_a_link_comes_and_goes(rt: HostRuntime) -> Result<(), Fail> {
         package: identity(1),
         mapping: Mapping::TilesMedia,
         base: identity(2),
-        media: identity(3),
+        other: identity(3),
     };
     let unlink = Command::Unlink {
         package: identity(1),
         mapping: Mapping::TilesMedia,
         base: identity(2),
-        media: identity(3),
+        other: identity(3),
     };
     let one = sums(0, 0, 0, 1, 0);
     assert!(rt; sums_after(&link, one, sums(5, 6, 7, 8, 90)) == Some(sums(5, 6, 7, 9, 90)));

@@ -13,13 +13,14 @@ use test_values::archive;
 use uuid::Uuid;
 use world::world::World;
 
-const TABLES: [&str; 15] = [
+const TABLES: [&str; 16] = [
     "SELECT * FROM gpkg_contents",
     "SELECT * FROM gpkg_spatial_ref_sys",
     "SELECT * FROM gpkg_tile_matrix",
     "SELECT * FROM gpkg_tile_matrix_set",
     "SELECT * FROM gpkgext_relations",
     "SELECT * FROM rows_media",
+    "SELECT * FROM rows_tiles",
     "SELECT * FROM sheet_identity",
     "SELECT * FROM sheet_items",
     "SELECT * FROM sheet_media",

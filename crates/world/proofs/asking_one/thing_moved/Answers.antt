@@ -25,9 +25,9 @@ alone : {x y : Moved} → x ≡ y → y ∷ [] ≡ x ∷ []
 alone same = ap (λ m. m ∷ []) (sym same)
 
 -- a link moves its relation, whether it comes or goes
-of_relation : (w : World) (command : Command) (mapping : Mapping) (base media : List ℕ) → ((parent : List ℕ) × (command ≡ Link parent mapping base media)) ⊎ ((parent : List ℕ) × (command ≡ Unlink parent mapping base media)) → moved w command ≡ link_moved (relation mapping base media) ∷ []
-of_relation w command mapping base media (inl link) = ap (moved w) link.1
-of_relation w command mapping base media (inr unlink) = ap (moved w) unlink.1
+of_relation : (w : World) (command : Command) (mapping : Mapping) (base other : List ℕ) → ((parent : List ℕ) × (command ≡ Link parent mapping base other)) ⊎ ((parent : List ℕ) × (command ≡ Unlink parent mapping base other)) → moved w command ≡ link_moved (relation mapping base other) ∷ []
+of_relation w command mapping base other (inl link) = ap (moved w) link.1
+of_relation w command mapping base other (inr unlink) = ap (moved w) unlink.1
 
 -- neither a split nor a merge is served
 no_split : (command : Command) → ((parent : List ℕ) × (child : List ℕ) × (mode : Mode) × (rect : Rect) × (command ≡ Split parent child mode rect)) → IsServed command → ⊥

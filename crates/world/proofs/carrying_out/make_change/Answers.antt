@@ -10,7 +10,7 @@ pub returns-in-Delete-clause-steps : goal.returns-in-Delete-clause-steps
 returns-in-Delete-clause-steps g c = change_steps c.args.command.now (Delete c.in-Delete.«package» c.in-Delete.identity) c.in-Delete.is c.delete.ensures.steps
 
 pub returns-in-Link-clause-steps : goal.returns-in-Link-clause-steps
-returns-in-Link-clause-steps g c = change_steps c.args.command.now (Link c.in-Link.«package» c.in-Link.mapping c.in-Link.base c.in-Link.media) c.in-Link.is (rw c.new.ensures at c.link.ensures.steps)
+returns-in-Link-clause-steps g c = change_steps c.args.command.now (Link c.in-Link.«package» c.in-Link.mapping c.in-Link.base c.in-Link.other) c.in-Link.is (rw c.new.ensures at c.link.ensures.steps)
 
 pub returns-in-Unlink-clause-steps : goal.returns-in-Unlink-clause-steps
-returns-in-Unlink-clause-steps g c = change_steps c.args.command.now (Unlink c.in-Unlink.«package» c.in-Unlink.mapping c.in-Unlink.base c.in-Unlink.media) c.in-Unlink.is (rw c.new-in-Unlink.ensures at c.unlink.ensures.steps)
+returns-in-Unlink-clause-steps g c = change_steps c.args.command.now (Unlink c.in-Unlink.«package» c.in-Unlink.mapping c.in-Unlink.base c.in-Unlink.other) c.in-Unlink.is (rw c.new-in-Unlink.ensures at c.unlink.ensures.steps)

@@ -15,10 +15,10 @@ returns-in-Delete g c =
 
 pub returns-in-Link : goal.returns-in-Link
 returns-in-Link g c =
-    judges_so (λ f p found. found ≡ first_row (link_reasons p (record { mapping = c.in-Link.mapping; base = c.in-Link.base; media = c.in-Link.media }))) c.refusal_of_link.result
+    judges_so (λ f p found. found ≡ first_row (link_reasons p (record { mapping = c.in-Link.mapping; base = c.in-Link.base; other = c.in-Link.other }))) c.refusal_of_link.result
     (λ x f p so same. so ∙ ap (λ y. first_row (package_reasons f p y)) (sym c.in-Link.is)) (rw c.new.ensures at c.refusal_of_link.ensures)
 
 pub returns-in-Unlink : goal.returns-in-Unlink
 returns-in-Unlink g c =
-    judges_so (λ f p found. found ≡ first_row (unlink_reasons p (record { mapping = c.in-Unlink.mapping; base = c.in-Unlink.base; media = c.in-Unlink.media }))) c.refusal_of_unlink.result
+    judges_so (λ f p found. found ≡ first_row (unlink_reasons p (record { mapping = c.in-Unlink.mapping; base = c.in-Unlink.base; other = c.in-Unlink.other }))) c.refusal_of_unlink.result
     (λ x f p so same. so ∙ ap (λ y. first_row (package_reasons f p y)) (sym c.in-Unlink.is)) (rw c.new-in-Unlink.ensures at c.refusal_of_unlink.ensures)
