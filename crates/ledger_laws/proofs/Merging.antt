@@ -129,35 +129,35 @@ module _ (w : World) (id moment child into : List ℕ) (ticket : ℤ) (types : H
           ] refl h
 
   -- the receipt is that of a merge
-  says : entry_from receipt.line ≡ Some (entry_of asked.command)
+  pub says : entry_from receipt.line ≡ Some (entry_of asked.command)
   says = entry_from-line (entry_of asked.command) types
 
-  merges : is_merge receipt ≡ true
+  pub merges : is_merge receipt ≡ true
   merges = by_entry is_merging receipt (entry_of asked.command) says
 
   no_split : is_split receipt ≡ false
   no_split = by_entry is_splitting receipt (entry_of asked.command) says
 
   module _ (k : Known) where
-    apart' : bytes_eq into child ≡ false
+    pub apart' : bytes_eq into child ≡ false
     apart' = bytes_eq_swap into child ∙ k.apart
 
     at_mid : (p : List ℕ) → holdings next p ≡ cond (bytes_eq p child) no_package (cond (bytes_eq p into) (take_all (holdings w into)) (holdings w p))
     at_mid p = holdings_closed child p (changed take_all into w) ∙ ap (λ x. cond (bytes_eq p child) no_package x) (holdings_changed take_all w into p (λ x. refl) k.into_live)
 
-    at_child : holdings next child ≡ no_package
+    pub at_child : holdings next child ≡ no_package
     at_child = at_mid child ∙ ap (λ b. cond b no_package (cond (bytes_eq child into) (take_all (holdings w into)) (holdings w child))) (bytes_eq_itself child)
 
-    at_into : holdings next into ≡ take_all (holdings w into)
+    pub at_into : holdings next into ≡ take_all (holdings w into)
     at_into = at_mid into ∙ ap (λ b. cond b no_package (cond (bytes_eq into into) (take_all (holdings w into)) (holdings w into))) apart' ∙ ap (λ b. cond b (take_all (holdings w into)) (holdings w into)) (bytes_eq_itself into)
 
-    at_other : (p : List ℕ) → bytes_eq p child ≡ false → bytes_eq p into ≡ false → holdings next p ≡ holdings w p
+    pub at_other : (p : List ℕ) → bytes_eq p child ≡ false → bytes_eq p into ≡ false → holdings next p ≡ holdings w p
     at_other p a b = at_mid p ∙ ap (λ v. cond v no_package (cond (bytes_eq p into) (take_all (holdings w into)) (holdings w p))) a ∙ ap (λ v. cond v (take_all (holdings w into)) (holdings w p)) b
 
-    distinct_next : IsArranged package_key next.packages
+    pub distinct_next : IsArranged package_key next.packages
     distinct_next = filter_arranged package_key _ (map (λ x. cond (bytes_eq x.uuid into) (take_all x) x) w.packages) (changed_arranged take_all into w.packages (λ x. refl) register.arranged)
 
-    shifts : (c : Moved → ℕ) (p : List ℕ) → weighed c (holdings next p) + cond (bytes_eq child p) (sum_by c receipt.items) 0 ≡ weighed c (holdings w p) + cond (bytes_eq into p) (sum_by c receipt.items) 0
+    pub shifts : (c : Moved → ℕ) (p : List ℕ) → weighed c (holdings next p) + cond (bytes_eq child p) (sum_by c receipt.items) 0 ≡ weighed c (holdings w p) + cond (bytes_eq into p) (sum_by c receipt.items) 0
     shifts c =
         let all : sum_by c receipt.items ≡ weighed c (holdings w child) = weigh_moved c (holdings w child).items (holdings w child).links in
         let n : ℕ = sum_by c receipt.items in
@@ -202,7 +202,7 @@ module _ (w : World) (id moment child into : List ℕ) (ticket : ℤ) (types : H
 
     -- ---- the receipts after it
 
-    may : MayFollow (archive_of w) (receipts_of w) receipt
+    pub may : MayFollow (archive_of w) (receipts_of w) receipt
     may =
         let kept : IsKeptPackage w (holdings w child) = kept_at w child register k.child_live in
         let items : List Item = (holdings w child).items in
@@ -249,7 +249,7 @@ module _ (w : World) (id moment child into : List ℕ) (ticket : ℤ) (types : H
         let f : Receipt → ℕ = λ s. cond (bytes_eq (receipt_key s) n) 1 0 in
         omega (arith, sums_after f, sum_by-arranged receipt_key f (flat_map (λ x. x.receipts) w.packages), sum_by-append f (receipts_of w) (receipt ∷ []), sum_by-cons f receipt [], counts_arranged receipt_key n (receipts_of w ++ receipt ∷ []) in_order_after))
 
-    receipts : receipts_of next ≡ receipts_of w ++ receipt ∷ []
+    pub receipts : receipts_of next ≡ receipts_of w ++ receipt ∷ []
     receipts =
         let after : List Receipt = receipts_of w ++ receipt ∷ [] in
         let flat : List Receipt = flat_map (λ x. x.receipts) next.packages in
@@ -275,7 +275,7 @@ module _ (w : World) (id moment child into : List ℕ) (ticket : ℤ) (types : H
         ps (each_found ps (changed_arranged take_all into w.packages (λ z. refl) register.arranged))))
         ∙ archive_stays take_all into w (λ x. refl) (λ x. refl)
 
-    shift : Shift w next receipt
+    pub shift : Shift w next receipt
     shift = record { receipts = receipts; archive = archive; may = may; shifts = λ c _. shifts c }
 
     -- ---- the split that made the child stands where the merge does
@@ -363,14 +363,14 @@ module _ (w : World) (id moment child into : List ℕ) (ticket : ℤ) (types : H
     abbrev merged : Package
     merged = take_all (holdings w into)
 
-    kept_child : IsKeptPackage w (holdings w child)
+    pub kept_child : IsKeptPackage w (holdings w child)
     kept_child = kept_at w child register k.child_live
 
-    kept_into : IsKeptPackage w (holdings w into)
+    pub kept_into : IsKeptPackage w (holdings w into)
     kept_into = kept_at w into register k.into_live
 
     -- no thing is in both
-    never_both : (thing : List ℕ) → holds (holdings w child) thing ≡ true → holds (holdings w into) thing ≡ true → ⊥
+    pub never_both : (thing : List ℕ) → holds (holdings w child) thing ≡ true → holds (holdings w into) thing ≡ true → ⊥
     never_both thing a b =
         let e : Some child ≡ Some into = sym ((register.balanced.custody_is child thing).0 a) ∙ (register.balanced.custody_is into thing).0 b in
         true≢false (sym ((bytes_eq-Decides child into).1 (ap (λ o. unwrap_or o child) e)) ∙ k.apart)
@@ -381,7 +381,7 @@ module _ (w : World) (id moment child into : List ℕ) (ticket : ℤ) (types : H
     abbrev has_link_key : List ℕ → Relation → Bool
     has_link_key n l = bytes_eq (link_key l) n
 
-    identities_apart : (n : List ℕ) → count_by (has_identity n) ((holdings w child).items ++ (holdings w into).items) ≤ 1
+    pub identities_apart : (n : List ℕ) → count_by (has_identity n) ((holdings w child).items ++ (holdings w into).items) ≤ 1
     identities_apart n = omega (
       arith,
       sum_by-append (λ i. cond (has_identity n i) 1 0) (holdings w child).items (holdings w into).items,
@@ -389,14 +389,14 @@ module _ (w : World) (id moment child into : List ℕ) (ticket : ℤ) (types : H
           (λ a b. never_both (0 ∷ n) (ap (λ v. v || has link_key (0 ∷ n) (holdings w child).links) a) (ap (λ v. v || has link_key (0 ∷ n) (holdings w into).links) b)),
     )
 
-    keys_apart : (n : List ℕ) → count_by (λ i. bytes_eq (item_key i) n) ((holdings w child).items ++ (holdings w into).items) ≤ 1
+    pub keys_apart : (n : List ℕ) → count_by (λ i. bytes_eq (item_key i) n) ((holdings w child).items ++ (holdings w into).items) ≤ 1
     keys_apart n = omega (
       arith,
       identities_apart (drop 1 n),
       count_le (λ i. bytes_eq (item_key i) n) (has_identity (drop 1 n)) (λ i e. (bytes_eq-Decides i.identity (drop 1 n)).1 (ap (drop 1) ((bytes_eq-Decides (item_key i) n).0 e))) ((holdings w child).items ++ (holdings w into).items),
     )
 
-    links_apart : (n : List ℕ) → count_by (has_link_key n) ((holdings w child).links ++ (holdings w into).links) ≤ 1
+    pub links_apart : (n : List ℕ) → count_by (has_link_key n) ((holdings w child).links ++ (holdings w into).links) ≤ 1
     links_apart n = omega (
       arith,
       sum_by-append (λ l. cond (has_link_key n l) 1 0) (holdings w child).links (holdings w into).links,
@@ -416,7 +416,7 @@ module _ (w : World) (id moment child into : List ℕ) (ticket : ℤ) (types : H
           (apart_places w (holdings w child) (holdings w into) n register.frame kept_child.fit kept_into.fit k.free),
     )
 
-    seqs_apart : IsArranged receipt_key (arranged receipt_key ((holdings w child).receipts ++ (holdings w into).receipts))
+    pub seqs_apart : IsArranged receipt_key (arranged receipt_key ((holdings w child).receipts ++ (holdings w into).receipts))
     seqs_apart = arranged_counts receipt_key ((holdings w child).receipts ++ (holdings w into).receipts) (λ n.
         let f : Receipt → ℕ = λ s. cond (bytes_eq (receipt_key s) n) 1 0 in
         omega (
@@ -428,13 +428,13 @@ module _ (w : World) (id moment child into : List ℕ) (ticket : ℤ) (types : H
           counts_arranged receipt_key n (receipts_of w) (ledger_arranged (archive_of w) [] (receipts_of w) register.balanced.ledger),
         ))
 
-    all_below : AllByRecursion (λ s. s.seq < receipt.seq) (receipts_of w)
+    pub all_below : AllByRecursion (λ s. s.seq < receipt.seq) (receipts_of w)
     all_below = numbers_below w receipt.seq register.balanced.ledger refl
 
-    stand_below : (p : List ℕ) → AllByRecursion (λ s. s.seq < receipt.seq) (holdings w p).receipts
+    pub stand_below : (p : List ℕ) → AllByRecursion (λ s. s.seq < receipt.seq) (holdings w p).receipts
     stand_below p = of_package (λ s. s.seq < receipt.seq) w p all_below
 
-    live_stays : (q : List ℕ) → bytes_eq q child ≡ false → is_live next q ≡ is_live w q
+    pub live_stays : (q : List ℕ) → bytes_eq q child ≡ false → is_live next q ≡ is_live w q
     live_stays q other = live_closed child q (map (λ x. cond (bytes_eq x.uuid into) (take_all x) x) w.packages) other ∙ live_changed take_all into q w.packages (λ x. refl)
 
     depth_stays : (q : List ℕ) → bytes_eq q child ≡ false → (holdings next q).depth ≡ (holdings w q).depth
@@ -451,7 +451,7 @@ module _ (w : World) (id moment child into : List ℕ) (ticket : ℤ) (types : H
     has_merged : (n : List ℕ) → has item_key n merged.items ≡ (has item_key n (holdings w child).items || has item_key n (holdings w into).items)
     has_merged n = list_any-arranged item_key (λ i. bytes_eq (item_key i) n) ((holdings w child).items ++ (holdings w into).items) ∙ list_any-append (λ i. bytes_eq (item_key i) n) (holdings w child).items (holdings w into).items
 
-    ends_child : (l : Relation) → HasEnds (holdings w child) l → HasEnds merged l
+    pub ends_child : (l : Relation) → HasEnds (holdings w child) l → HasEnds merged l
     ends_child = ends_kept (holdings w child) merged (λ n e. has_merged n ∙ ap (λ b. b || has item_key n (holdings w into).items) e)
 
     ends_into : (l : Relation) → HasEnds (holdings w into) l → HasEnds merged l
@@ -460,7 +460,7 @@ module _ (w : World) (id moment child into : List ℕ) (ticket : ℤ) (types : H
     both_items : (P : Item → Type 0) → AllByRecursion P (holdings w child).items → AllByRecursion P (holdings w into).items → AllByRecursion P merged.items
     both_items P a b = All-arranged item_key P ((holdings w child).items ++ (holdings w into).items) (All-append P (holdings w child).items (holdings w into).items a b)
 
-    kept_merged : IsKeptPackage next merged
+    pub kept_merged : IsKeptPackage next merged
     kept_merged = record {
       uuid = kept_into.uuid;
       items = arranged_counts item_key ((holdings w child).items ++ (holdings w into).items) keys_apart;

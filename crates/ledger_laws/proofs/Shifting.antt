@@ -139,39 +139,39 @@ sees_kind f a b e = ap (λ k. f (slice_index k 0)) e
 -- ---- the measures of the account
 
 -- tiles
-abbrev a_tile : Moved → ℕ
+abbrev pub a_tile : Moved → ℕ
 a_tile m = cond (kind_is TileItem m.kind) 1 0
 
 -- media
-abbrev a_medium : Moved → ℕ
+abbrev pub a_medium : Moved → ℕ
 a_medium m = cond (kind_is MediaItem m.kind) 1 0
 
 -- rows
-abbrev a_row : Moved → ℕ
+abbrev pub a_row : Moved → ℕ
 a_row m = cond (kind_is RowItem m.kind) 1 0
 
 -- links
-abbrev a_link : Moved → ℕ
+abbrev pub a_link : Moved → ℕ
 a_link m = cond (not (is_item_kind m.kind)) 1 0
 
 -- a link is no tile
-no_tile : (l : Relation) → a_tile (link_moved l) ≡ 0
+pub no_tile : (l : Relation) → a_tile (link_moved l) ≡ 0
 no_tile l = elim l.mapping as (λ m. cond (kind_is TileItem (link_kind m)) 1 0 ≡ 0) [ TilesMedia ↦ refl | RowsMedia ↦ refl | RowsTiles ↦ refl ]
 
 -- a link is no medium
-no_medium : (l : Relation) → a_medium (link_moved l) ≡ 0
+pub no_medium : (l : Relation) → a_medium (link_moved l) ≡ 0
 no_medium l = elim l.mapping as (λ m. cond (kind_is MediaItem (link_kind m)) 1 0 ≡ 0) [ TilesMedia ↦ refl | RowsMedia ↦ refl | RowsTiles ↦ refl ]
 
 -- a link is no row
-no_row : (l : Relation) → a_row (link_moved l) ≡ 0
+pub no_row : (l : Relation) → a_row (link_moved l) ≡ 0
 no_row l = elim l.mapping as (λ m. cond (kind_is RowItem (link_kind m)) 1 0 ≡ 0) [ TilesMedia ↦ refl | RowsMedia ↦ refl | RowsTiles ↦ refl ]
 
 -- a link is one link
-one_link : (l : Relation) → a_link (link_moved l) ≡ 1
+pub one_link : (l : Relation) → a_link (link_moved l) ≡ 1
 one_link l = elim l.mapping as (λ m. cond (not (is_item_kind (link_kind m))) 1 0 ≡ 1) [ TilesMedia ↦ refl | RowsMedia ↦ refl | RowsTiles ↦ refl ]
 
 -- an item is no link
-no_link : (content : Content) (identity : List ℕ) → a_link (item_moved (added_item identity content)) ≡ 0
+pub no_link : (content : Content) (identity : List ℕ) → a_link (item_moved (added_item identity content)) ≡ 0
 no_link (Tile zoom column row bytes) identity = refl
 no_link (Media content_type bytes) identity = refl
 no_link (Row x y code label) identity = refl

@@ -47,25 +47,25 @@ use Rattle.ledger_laws.proofs.CutEnds.{GoesWhole, strict_whole, follow_whole}
 use Rattle.ledger_laws.proofs.Keeping.{loan_stays_with, filtered_kept, live_changed, parent_moves, package_moves, receipts_kept, sum_by-changed, all_live_at, open_kept}
 
 -- a cut takes by a test of the items and a test of the links
-record ByTests (x : Package) (c : Cut) : Type 0 where
-  items : (t : Item → Bool) × (c.items ≡ filter t x.items)
-  links : (u : Relation → Bool) × (c.links ≡ filter u x.links)
+pub record ByTests (x : Package) (c : Cut) : Type 0 where
+  pub items : (t : Item → Bool) × (c.items ≡ filter t x.items)
+  pub links : (u : Relation → Bool) × (c.links ≡ filter u x.links)
 
 -- each cut does
-by_tests : (f : Frame) (x : Package) (mode : Mode) (rect : Rect) → ByTests x (cut f x mode rect)
+pub by_tests : (f : Frame) (x : Package) (mode : Mode) (rect : Rect) → ByTests x (cut f x mode rect)
 by_tests f x Strict rect = record { items = (_, refl); links = (_, refl) }
 by_tests f x Follow rect = record { items = (_, refl); links = (_, refl) }
 
 -- a cut that tears no link
-record WholeCut (x : Package) (c : Cut) : Type 0 where
-  s : List ℕ → Bool
-  u : Relation → Bool
-  items : c.items ≡ filter (λ i. s i.identity) x.items
-  links : c.links ≡ filter u x.links
-  whole : AllByRecursion (GoesWhole s u) x.links
+pub record WholeCut (x : Package) (c : Cut) : Type 0 where
+  pub s : List ℕ → Bool
+  pub u : Relation → Bool
+  pub items : c.items ≡ filter (λ i. s i.identity) x.items
+  pub links : c.links ≡ filter u x.links
+  pub whole : AllByRecursion (GoesWhole s u) x.links
 
 -- each accepted cut
-whole_cut : (w : World) (p child : List ℕ) (mode : Mode) (rect : Rect) → AllByRecursion (HasEnds (holdings w p)) (holdings w p).links → is_some (cut_link w (Split p child mode rect)) ≡ false → WholeCut (holdings w p) (cut w.frame (holdings w p) mode rect)
+pub whole_cut : (w : World) (p child : List ℕ) (mode : Mode) (rect : Rect) → AllByRecursion (HasEnds (holdings w p)) (holdings w p).links → is_some (cut_link w (Split p child mode rect)) ≡ false → WholeCut (holdings w p) (cut w.frame (holdings w p) mode rect)
 whole_cut w p child Strict rect ends none = record {
   s = strict_set (holdings w p) (identities (start w.frame rect (holdings w p)));
   u = touches (strict_set (holdings w p) (identities (start w.frame rect (holdings w p))));
@@ -82,7 +82,7 @@ whole_cut w p child Follow rect ends none = record {
 }
 
 -- what is taken and what is left
-taken_sum : {X : Type 0} (key : X → List ℕ) (f : X → ℕ) (xs taken : List X) (t : X → Bool) → taken ≡ filter t xs → IsArranged key xs → sum_by f (without key (map key taken) xs) + sum_by f taken ≡ sum_by f xs
+pub taken_sum : {X : Type 0} (key : X → List ℕ) (f : X → ℕ) (xs taken : List X) (t : X → Bool) → taken ≡ filter t xs → IsArranged key xs → sum_by f (without key (map key taken) xs) + sum_by f taken ≡ sum_by f xs
 taken_sum key f xs taken t e h = rw (e, rest_of key t xs h) (sum_by-parts f t xs)
 
 module _ (w : World) (id moment p child : List ℕ) (mode : Mode) (rect : Rect) (types : HasTypes (Split p child mode rect)) (register : IsRegister w) where
@@ -104,7 +104,7 @@ module _ (w : World) (id moment p child : List ℕ) (mode : Mode) (rect : Rect) 
   abbrev pub next : World
   next = accepted w asked
 
-  tests : ByTests (holdings w p) taken
+  pub tests : ByTests (holdings w p) taken
   tests = by_tests w.frame (holdings w p) mode rect
 
   pub record Known : Type 0 where
@@ -130,7 +130,7 @@ module _ (w : World) (id moment p child : List ℕ) (mode : Mode) (rect : Rect) 
       }
 
   -- the receipt is that of a split
-  says : entry_from receipt.line ≡ Some (entry_of asked.command)
+  pub says : entry_from receipt.line ≡ Some (entry_of asked.command)
   says = entry_from-line (entry_of asked.command) types
 
   splits : is_split receipt ≡ true
@@ -148,7 +148,7 @@ module _ (w : World) (id moment p child : List ℕ) (mode : Mode) (rect : Rect) 
         (All-weaker (λ s. lent_to child s ≡ false) (λ s. (is_split s && ends_at s.target child && (s.seq == n)) ≡ false) (λ s e. ap (λ b. b && (s.seq == n)) e) rs h)
 
     -- a package that no split made and that is no archive is not live
-    child_dead : is_live w child ≡ false
+    pub child_dead : is_live w child ≡ false
     child_dead = false_from_ne_true (is_live w child) (λ live.
         let f : (x : Package) × (find (at_uuid child) w.packages ≡ Some x) = found (at_uuid child) w.packages live in
         let a : ((is_archive f.0 && bytes_eq f.0.uuid child) ≡ false) × (at_uuid child f.0 ≡ true) = All-found (λ x. (is_archive x && bytes_eq x.uuid child) ≡ false) (at_uuid child) f.0 w.packages f.1 k.no_archive in
@@ -160,35 +160,35 @@ module _ (w : World) (id moment p child : List ℕ) (mode : Mode) (rect : Rect) 
           | Some parent ↦ λ _ h. true≢false (sym (subst (λ z. list_any (λ r. is_split r && ends_at r.target z && (r.seq == f.0.loan)) (holdings w parent).receipts ≡ true) u h.0) ∙ none_made f.0.loan (holdings w parent).receipts (never_lent_at parent))
         ] refl l.0)
 
-    none_child : AllByRecursion (λ x. bytes_eq x.uuid child ≡ false) w.packages
+    pub none_child : AllByRecursion (λ x. bytes_eq x.uuid child ≡ false) w.packages
     none_child = none_pass (at_uuid child) w.packages child_dead
 
-    apart : bytes_eq p child ≡ false
+    pub apart : bytes_eq p child ≡ false
     apart = false_from_ne_true (bytes_eq p child) (λ same. true≢false (sym k.live ∙ ap (is_live w) ((bytes_eq-Decides p child).0 same) ∙ child_dead))
 
-    uuid_p : (holdings w p).uuid ≡ p
+    pub uuid_p : (holdings w p).uuid ≡ p
     uuid_p = (at_all w (IsLoan w) p register.balanced.loans k.live).1
 
-    kept : IsKeptPackage w (holdings w p)
+    pub kept : IsKeptPackage w (holdings w p)
     kept = kept_at w p register k.live
 
     at_next : (q : List ℕ) → holdings next q ≡ cond (bytes_eq child q) loan (cond (bytes_eq q p) (give (holdings w p)) (holdings w q))
     at_next q = holdings_enlarged loan (changed give p w) q ∙ ap (λ x. cond (bytes_eq child q) loan x) (holdings_changed give w p q (λ x. refl) k.live)
 
-    at_child : holdings next child ≡ loan
+    pub at_child : holdings next child ≡ loan
     at_child = at_next child ∙ ap (λ b. cond b loan (cond (bytes_eq child p) (give (holdings w p)) (holdings w child))) (bytes_eq_itself child)
 
-    at_p : holdings next p ≡ give (holdings w p)
+    pub at_p : holdings next p ≡ give (holdings w p)
     at_p = at_next p ∙ ap (λ b. cond b loan (cond (bytes_eq p p) (give (holdings w p)) (holdings w p))) (bytes_eq_swap child p ∙ apart) ∙ ap (λ b. cond b (give (holdings w p)) (holdings w p)) (bytes_eq_itself p)
 
-    at_other : (q : List ℕ) → bytes_eq q child ≡ false → bytes_eq q p ≡ false → holdings next q ≡ holdings w q
+    pub at_other : (q : List ℕ) → bytes_eq q child ≡ false → bytes_eq q p ≡ false → holdings next q ≡ holdings w q
     at_other q a b = at_next q ∙ ap (λ v. cond v loan (cond (bytes_eq q p) (give (holdings w p)) (holdings w q))) (bytes_eq_swap child q ∙ a) ∙ ap (λ v. cond v (give (holdings w p)) (holdings w q)) b
 
-    distinct_next : IsArranged package_key next.packages
+    pub distinct_next : IsArranged package_key next.packages
     distinct_next = put_arranged package_key loan (map (λ x. cond (bytes_eq x.uuid p) (give x) x) w.packages) (changed_arranged give p w.packages (λ x. refl) register.arranged)
         (All-changed give p (λ x. bytes_eq x.uuid child ≡ false) (λ x. bytes_eq x.uuid child ≡ false) (λ x _ h. h) (λ x h. h) w.packages none_child)
 
-    shifts : (c : Moved → ℕ) (q : List ℕ) → weighed c (holdings next q) + cond (bytes_eq p q) (sum_by c receipt.items) 0 ≡ weighed c (holdings w q) + cond (bytes_eq child q) (sum_by c receipt.items) 0
+    pub shifts : (c : Moved → ℕ) (q : List ℕ) → weighed c (holdings next q) + cond (bytes_eq p q) (sum_by c receipt.items) 0 ≡ weighed c (holdings w q) + cond (bytes_eq child q) (sum_by c receipt.items) 0
     shifts c =
         let n : ℕ = sum_by c receipt.items in
         let all : n ≡ sum_by (λ i. c (item_moved i)) taken.items + sum_by (λ l. c (link_moved l)) taken.links = weigh_moved c taken.items taken.links in
@@ -210,10 +210,10 @@ module _ (w : World) (id moment p child : List ℕ) (mode : Mode) (rect : Rect) 
         (subst (λ x. AllByRecursion (Q p) x.receipts) (sym at_p) (All-put receipt_key (Q p) receipt (holdings w p).receipts g (stand_at Q w p h)))
         (λ q a b. subst (λ x. AllByRecursion (Q q) x.receipts) (sym (at_other q a b)) (stand_at Q w q h)))
 
-    below : AllByRecursion (λ s. s.seq < receipt.seq) (receipts_of w)
+    pub below : AllByRecursion (λ s. s.seq < receipt.seq) (receipts_of w)
     below = numbers_below w receipt.seq register.balanced.ledger refl
 
-    receipts : receipts_of next ≡ receipts_of w ++ receipt ∷ []
+    pub receipts : receipts_of next ≡ receipts_of w ++ receipt ∷ []
     receipts = ap (arranged receipt_key) (flat_put loan (map (λ x. cond (bytes_eq x.uuid p) (give x) x) w.packages) refl)
         ∙ receipts_gained give w p receipt (λ x. with_receipt_gains receipt x) below register.arranged k.live
 
@@ -232,7 +232,7 @@ module _ (w : World) (id moment p child : List ℕ) (mode : Mode) (rect : Rect) 
           | false ↦ λ none. absurd (omega (arith, register.archive, count_none is_archive w.packages (none_pass is_archive w.packages none)))
         ] refl
 
-    may : MayFollow (archive_of w) (receipts_of w) receipt
+    pub may : MayFollow (archive_of w) (receipts_of w) receipt
     may =
         let unaltered : AllByRecursion (IsUnaltered w) (holdings w p).items = (at_all w (λ x. AllByRecursion (IsUnaltered w) x.items) p (each_unaltered w register.unaltered) k.live).0 in
         let Held : Item → Type 0 = λ i. holds (holdings w p) (item_thing i) ≡ true in
@@ -250,7 +250,7 @@ module _ (w : World) (id moment p child : List ℕ) (mode : Mode) (rect : Rect) 
           new_loan = λ _. (k.never_lent, not_archive);
         })
 
-    shift : Shift w next receipt
+    pub shift : Shift w next receipt
     shift = record { receipts = receipts; archive = archive; may = may; shifts = λ c _. shifts c }
 
     -- ---- loans
@@ -293,7 +293,7 @@ module _ (w : World) (id moment p child : List ℕ) (mode : Mode) (rect : Rect) 
 
     -- ---- the rules of a register
 
-    c : WholeCut (holdings w p) taken
+    pub c : WholeCut (holdings w p) taken
     c = whole_cut w p child mode rect kept.ends k.untorn
 
     rest_items : (less taken (holdings w p)).items ≡ filter (λ i. not (c.s i.identity)) (holdings w p).items
@@ -302,7 +302,7 @@ module _ (w : World) (id moment p child : List ℕ) (mode : Mode) (rect : Rect) 
     rest_links : (less taken (holdings w p)).links ≡ filter (λ l. not (c.u l)) (holdings w p).links
     rest_links = ap (λ zs. without link_key (map link_key zs) (holdings w p).links) c.links ∙ rest_of link_key c.u (holdings w p).links kept.links
 
-    live_stays : (q : List ℕ) → bytes_eq child q ≡ false → is_live next q ≡ is_live w q
+    pub live_stays : (q : List ℕ) → bytes_eq child q ≡ false → is_live next q ≡ is_live w q
     live_stays q other = list_any-put package_key (at_uuid q) loan (map (λ x. cond (bytes_eq x.uuid p) (give x) x) w.packages) ∙ ap (λ b. b || list_any (at_uuid q) (map (λ x. cond (bytes_eq x.uuid p) (give x) x) w.packages)) other
         ∙ live_changed give p q w.packages (λ x. refl)
 
@@ -318,7 +318,7 @@ module _ (w : World) (id moment p child : List ℕ) (mode : Mode) (rect : Rect) 
     parent_stays : (x : Package) → HasParent w x → HasParent next x
     parent_stays x h = parent_moves w next x.parent x.depth x.loan (λ q _ live. (live_then q live, depth_stays q live)) h
 
-    kept_rest : IsKeptPackage next (give (holdings w p))
+    pub kept_rest : IsKeptPackage next (give (holdings w p))
     kept_rest = filtered_kept w next (holdings w p) (give (holdings w p)) (λ id. not (c.s id)) (λ l. not (c.u l)) refl rest_items rest_links kept.uuid
         (receipts_kept receipt (holdings w p).receipts kept.receipts (of_package (λ s. s.seq < receipt.seq) w p below))
         (parent_stays (holdings w p) kept.parent)
@@ -326,7 +326,7 @@ module _ (w : World) (id moment p child : List ℕ) (mode : Mode) (rect : Rect) 
         (λ l h left. let both : (c.s l.base ≡ false) × (c.s l.other ≡ false) = h.1 (not_true (c.u l) left) in (ap not both.0, ap not both.1)) (holdings w p).links c.whole)
         kept
 
-    kept_loan : IsKeptPackage next loan
+    pub kept_loan : IsKeptPackage next loan
     kept_loan = filtered_kept w next (holdings w p) loan c.s c.u refl c.items c.links (and_parts (is_uuid p) (is_uuid child) (and_parts (is_uuid p && is_uuid child) (is_rect rect) types).0).1 tt
         (live_then (holdings w p).uuid (ap (is_live w) uuid_p ∙ k.live), ap (λ n. n + 1) (sym (ap (λ u. (holdings next u).depth) uuid_p ∙ depth_stays p k.live)), shallow_loan)
         (All-weaker (GoesWhole c.s c.u) (λ l. c.u l ≡ true → (c.s l.base ≡ true) × (c.s l.other ≡ true)) (λ l h. h.0) (holdings w p).links c.whole) kept
