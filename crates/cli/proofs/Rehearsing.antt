@@ -10,11 +10,11 @@ use Rattle.sheet_types.specs.declared.frame.Frame.{Frame}
 use Rattle.world.specs.Members.{AllClean}
 use Rattle.world.specs.Worlds.{Seen, StandsFor}
 use Rattle.manifest_csv.specs.Imports.{Imports, IsImported}
-use Rattle.manifest_csv.specs.RequestLists.{IsList}
+use Rattle.request_csv.specs.RequestLists.{IsList}
 use Rattle.manifest_csv.specs.Sent.{WentOut}
 use Rattle.manifest_csv.specs.declared.importing.ImportFault.{ImportFault}
 use Rattle.manifest_csv.specs.declared.importing.ImportFault.TheVariants.{Unread, Stopped as Interrupted, Unwritten}
-use Rattle.manifest_csv.specs.declared.lists.ReadFault.TheVariants.{Header, Record, Read, Memory}
+use Rattle.request_csv.specs.declared.lists.ReadFault.TheVariants.{Header, Record, Read, Memory}
 use Rattle.manifest_csv.proofs.SentFacts.{went_out_past}
 use Rattle.cli.specs.Arguments.{Asks, IsFirstUnread}
 use Rattle.cli.specs.Endings.{import_outcome}

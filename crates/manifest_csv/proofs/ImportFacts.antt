@@ -16,7 +16,7 @@ use Rattle.world.specs.Worlds.{Seen, IsRun}
 use Rattle.world.proofs.Running.{IsApplied, run_none, run_more}
 use Rattle.manifest_csv.specs.Imports.{GoesOn, IsReported, IsImported, Imports, lines_before, report_before}
 use Rattle.manifest_csv.specs.Reports.{report_header, report_line, report_lines, report_of}
-use Rattle.manifest_csv.specs.RequestLists.{IsList}
+use Rattle.request_csv.specs.RequestLists.{IsList}
 use Rattle.manifest_csv.specs.Sent.{WentOut, WentOutPast}
 use Rattle.manifest_csv.specs.declared.importing.ImportFault.{ImportFault}
 use Rattle.manifest_csv.specs.declared.importing.ImportFault.TheVariants.{Unread, Stopped, Unwritten}

@@ -10,9 +10,9 @@ use Rattle.sheet_types.specs.declared.receipt.Receipt.{Receipt}
 use Rattle.sheet_types.specs.declared.refusal.Refusal.{Refusal}
 use Rattle.world.specs.Faults.{fault_refusal}
 use Rattle.world.specs.Worlds.{Seen, IsRun}
-use Rattle.manifest_csv.specs.RequestLists.{IsList, MeetsFirst}
-use Rattle.manifest_csv.specs.declared.lists.ReadFault.{ReadFault}
-use Rattle.manifest_csv.specs.declared.lists.ReadFault.TheVariants.{Read, Memory}
+use Rattle.request_csv.specs.RequestLists.{IsList, MeetsFirst}
+use Rattle.request_csv.specs.declared.lists.ReadFault.{ReadFault}
+use Rattle.request_csv.specs.declared.lists.ReadFault.TheVariants.{Read, Memory}
 use Rattle.manifest_csv.specs.Reports.{report_header, report_lines, report_of}
 use Rattle.manifest_csv.specs.Sent.{WentOutPast}
 use Rattle.manifest_csv.specs.declared.importing.ImportFault.{ImportFault}
