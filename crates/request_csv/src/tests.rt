@@ -32,6 +32,7 @@ fn a_tile_and_records_that_are_none(rt: HostRuntime) {
                     4000
                 },
                 Command::Delete { .. } => 1000,
+                Command::Merge { ticket, .. } => ticket,
                 _ => 2000,
             },
             Ok(None) => 0,
@@ -39,5 +40,5 @@ fn a_tile_and_records_that_are_none(rt: HostRuntime) {
         };
         kinds.push(kind).expect(&rt, "memory");
     }
-    assert!(rt; kinds.as_slice() == [233, 0, 1000, 0].as_slice());
+    assert!(rt; kinds.as_slice() == [233, 0, 1000, 3].as_slice());
 }
