@@ -36,7 +36,7 @@ use Rattle.world.specs.Sums.{CanCount}
 use Rattle.world.specs.TooMany.{leaves_too_many}
 use Rattle.world.specs.Turning.{IsDue, world_after}
 use Rattle.world.specs.declared.deciding.Change.{Change}
-use Rattle.world.specs.declared.deciding.Decision.TheVariants.{Answered, Due}
+use Rattle.world.specs.declared.deciding.Decision.TheVariants.{Answered, ChangeDue}
 use Rattle.world.specs.declared.members.Member.{Member}
 use Rattle.world.proofs.Due.{due_where_accepted}
 use Rattle.world.proofs.Fitting.{fits_where_accepted, refused_in_turn, refused_as_unknown}
@@ -92,7 +92,7 @@ not_refused f count at q w placed before few =
 
 -- then its change is due
 pub decides_due : (f : Frame) (count at : ℕ) (q : Request) (w : World) (due : Change) → IsRegister w → IsUuid q.id → HasTypes q.command → IsPlaced f count at q w → refusal_before w q ≡ None → too_many (accepted w q) ≡ false
-    → due.at ≡ at → due.receipt ≡ receipt_of w q → due.sums ≡ sums_after q.command (sums_moved (receipt_of w q)) (sums_held (holdings w (package_of q.command))) → Decides w q (Due due)
+    → due.at ≡ at → due.receipt ≡ receipt_of w q → due.sums ≡ sums_after q.command (sums_moved (receipt_of w q)) (sums_held (holdings w (package_of q.command))) → Decides w q (ChangeDue due)
 decides_due f count at q w due register uuid types placed before few here receipt sums =
     let none : refusal w (accepted w q) q ≡ None = not_refused f count at q w placed before few in
     let own = due_where_accepted w q at register uuid types placed.asked.served placed.new none placed.place in
@@ -175,7 +175,7 @@ module _ {S : Type 0} (g : Ghosts S) where
         decides_too_many w.frame count at q w placed before (sym (members_tell_too_many g members count at w q was are stands place own_fits) ∙ ap (λ s. leaves_too_many members at s count) (sym is) ∙ past)
 
     -- and else its change is due
-    pub limited_due : (sums : Sums) (receipt : Receipt) → sums ≡ sums_after q.command (sums_moved (receipt_of w q)) was.sums → leaves_too_many members at sums count ≡ false → receipt ≡ receipt_of w q → Decides w q (Due (record { at = at; receipt = receipt; sums = sums }))
+    pub limited_due : (sums : Sums) (receipt : Receipt) → sums ≡ sums_after q.command (sums_moved (receipt_of w q)) was.sums → leaves_too_many members at sums count ≡ false → receipt ≡ receipt_of w q → Decides w q (ChangeDue (record { at = at; receipt = receipt; sums = sums }))
     limited_due sums receipt is within made =
         let few : too_many (accepted w q) ≡ false = sym (members_tell_too_many g members count at w q was are stands place own_fits) ∙ ap (λ s. leaves_too_many members at s count) (sym is) ∙ within in
         let held : was.sums ≡ sums_held (holdings w (package_of q.command)) = member_holds g members count at w (package_of q.command) was are stands place in

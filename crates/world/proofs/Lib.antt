@@ -23,3 +23,12 @@ pub mod Beginning
 pub mod Running
 pub mod WorldsRead
 pub mod Sights
+mod WritingLoans
+mod FillingStores
+mod Turned
+mod Placing
+mod Lent
+mod Returned
+mod CarriedOut
+mod ServedAll
+mod Tickets

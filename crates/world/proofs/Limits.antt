@@ -100,10 +100,10 @@ too_many_by_sums w q register live fits = too_many_here w q register live fits
 -- ---- the tickets
 
 -- the greatest number of a receipt that names a package
-abbrev ticket_from : ℕ → List ℕ → List Receipt → ℕ
+abbrev pub ticket_from : ℕ → List ℕ → List Receipt → ℕ
 ticket_from n p rs = fold (λ m r. cond (names_package p r) (max m r.seq) m) n rs
 
-ticket_below : (n : ℕ) (p : List ℕ) (bound : ℕ) (rs : List Receipt) → n < bound → AllByRecursion (λ s. s.seq < bound) rs → ticket_from n p rs < bound
+pub ticket_below : (n : ℕ) (p : List ℕ) (bound : ℕ) (rs : List Receipt) → n < bound → AllByRecursion (λ s. s.seq < bound) rs → ticket_from n p rs < bound
 ticket_below n p bound [] h below = h
 ticket_below n p bound (r ∷ rs) h below =
     ticket_below (cond (names_package p r) (max n r.seq) n) p bound rs
@@ -121,7 +121,7 @@ names_its_own w id at (Unlink uuid mapping base other) p served = or-false (byte
 names_its_own w id at (Split uuid child mode rect) p served = absurd served
 names_its_own w id at (Merge child into ticket) p served = absurd served
 
-greatest : (a b : ℕ) → a < b → max a b ≡ b
+pub greatest : (a b : ℕ) → a < b → max a b ≡ b
 greatest a b h = omega arith
 
 pub ticket_after : TicketAfter

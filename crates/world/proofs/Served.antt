@@ -23,7 +23,7 @@ use Rattle.world.specs.declared.carrying_out.TurnFault.{TurnFault}
 use Rattle.world.specs.declared.carrying_out.TurnFault.TheVariants.{Before, Committing}
 use Rattle.world.specs.declared.deciding.Change.{Change}
 use Rattle.world.specs.declared.deciding.Decision.{Decision}
-use Rattle.world.specs.declared.deciding.Decision.TheVariants.{Answered, Due}
+use Rattle.world.specs.declared.deciding.Decision.TheVariants.{Answered, ChangeDue}
 use Rattle.world.specs.declared.members.Member.{Member}
 use Rattle.world.proofs.Changing.{read_leaves, stay_leaves}
 use Rattle.world.proofs.Standing.{members_stay, clean_before}
@@ -122,14 +122,14 @@ module _ {S : Type 0} (g : Ghosts S) where
         failed = λ fault is. absurd (let e = is in cc);
       }
 
-      module _ (change : Change) (is : r ≡ Ok (Due change)) (new : List (Member S)) (after : ℕ) where
+      module _ (change : Change) (is : r ≡ Ok (ChangeDue change)) (new : List (Member S)) (after : ℕ) where
         -- what a crash leaves of the change
         crashed : {made : Result Receipt TurnFault} → Changes g change q.command mid new before after made → (w : World) → f ≡ w.frame → AreMembers g old before w → AllOpen g old → LeavesEither g (λ m. m.conn) (LeftAs w.frame) new w.packages (outcome w q).1.packages
         crashed changes w same are opened clean dbs may =
-            let decided : Decides w q (Due change) = told_by (Due change) is (changes.clean clean) w same are in
+            let decided : Decides w q (ChangeDue change) = told_by (ChangeDue change) is (changes.clean clean) w same are in
             let made : (outcome w q).1 ≡ world_after change.receipt q.command w = ap (λ o. o.1) decided.1 in
             subst (λ v. AllZip (LeftAs w.frame) dbs w.packages ⊎ AllZip (LeftAs w.frame) dbs v.packages) (sym made)
-            (changes.crash w (members_stay g old mid before w it.stay are) decided.2 (decision_opens (Due change) is (changes.clean clean) opened) clean dbs may)
+            (changes.crash w (members_stay g old mid before w it.stay are) decided.2 (decision_opens (ChangeDue change) is (changes.clean clean) opened) clean dbs may)
 
         -- the change that was due failed
         pub serves_failed : {made : Result Receipt TurnFault} {e : TurnFault} → made ≡ Err e → Changes g change q.command mid new before after made → (reply : Result (Result Receipt Refusal) TurnFault) → reply ≡ Err e → Serves g f q old new before after reply
@@ -141,7 +141,7 @@ module _ {S : Type 0} (g : Ghosts S) where
           opens = λ clean. tt;
           told = λ clean answer is. absurd (let x = is in cc);
           refused = λ why is. absurd (let x = is in cc);
-          unharmed = λ unchanged clean w count are opened. changes.unharmed (subst IsUncommitted (sym failed) unchanged) clean w count (members_stay g old mid count w it.stay are) (decision_opens (Due change) is (changes.clean clean) opened);
+          unharmed = λ unchanged clean w count are opened. changes.unharmed (subst IsUncommitted (sym failed) unchanged) clean w count (members_stay g old mid count w it.stay are) (decision_opens (ChangeDue change) is (changes.clean clean) opened);
           failed = λ fault is w are. subst (λ n. AreMembers g new n w) (sym (changes.err e failed).0) ((changes.err e failed).1 w (members_stay g old mid before w it.stay are));
         })
 
@@ -155,10 +155,10 @@ module _ {S : Type 0} (g : Ghosts S) where
           counted = rw (changes.ok receipt went).1 next;
           clean = λ clean. clean_before g old mid it.stay (changes.clean clean);
           crash = crashed changes;
-          opens = λ clean opened. made_opens went clean changes (decision_opens (Due change) is (changes.clean clean) opened);
+          opens = λ clean opened. made_opens went clean changes (decision_opens (ChangeDue change) is (changes.clean clean) opened);
           told = λ clean reply same_reply w same are.
               let done = changes.ok receipt went in
-              let decided : Decides w q (Due change) = told_by (Due change) is (changes.clean clean) w same are in
+              let decided : Decides w q (ChangeDue change) = told_by (ChangeDue change) is (changes.clean clean) w same are in
               let replied : Ok receipt ≡ reply = cc in (
                 world_after change.receipt q.command w,
                 decided.1 ∙ ap (λ x. (Ok x, world_after change.receipt q.command w)) (sym done.0) ∙ ap (λ x. (x, world_after change.receipt q.command w)) replied,

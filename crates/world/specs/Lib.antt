@@ -15,3 +15,12 @@ pub mod Faults
 pub mod Worlds
 pub mod Creating
 pub mod Reading
+pub mod Selecting
+pub mod Lending
+pub mod Loans
+pub mod Leaving
+pub mod Turns
+pub mod ServeFaults
+pub mod Splits
+pub mod Merges
+pub mod Carries

@@ -8,15 +8,20 @@ pub mod asking_one;
 mod asking_one_tests;
 #[cfg(test)]
 mod asking_tests;
+mod awaited;
 pub mod carrying_out;
 #[cfg(test)]
 mod carrying_tests;
 pub mod crash_laws;
 pub mod creating;
 pub mod deciding;
+pub mod deciding_loans;
 pub mod judging;
 pub mod laws;
+pub mod lending;
+pub mod loans;
 pub mod members;
+pub mod merging;
 pub mod reading;
 #[cfg(test)]
 mod reading_tests;
@@ -25,10 +30,13 @@ mod receipt_tests;
 pub mod receipts;
 pub mod register_laws;
 mod reserving;
+pub mod returning;
 pub mod step_laws;
+pub mod splitting;
 pub mod sums;
 #[cfg(test)]
 mod tests;
+pub mod taking_turns;
 pub mod texts;
 pub mod too_many;
 #[cfg(test)]

@@ -159,9 +159,9 @@ impl<S: Alter + Drop> World<S> {
         kept_in_all(&mut self.members, alloc, id)
     }
 
-    /// The stores that the world holds, in the order of their packages. Takes no memory.
+    /// The stores that the world holds: the strays, and behind them those of its packages in their order. Takes no memory.
     pub fn into_stores(self) -> Vec<Connection<S>>
-        ensures { result.items ≡ map (λ m. m.conn) self.members }
+        ensures { result.items ≡ self.strays ++ map (λ m. m.conn) self.members }
     {
         stores_of(self.members, self.strays)
     }
