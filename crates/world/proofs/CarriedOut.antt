@@ -28,8 +28,8 @@ use Rattle.world.specs.ServeFaults.{IsLastingFault}
 use Rattle.world.specs.Serving.{IsUncommitted}
 use Rattle.world.specs.Splits.{Splits, KeepsLoan}
 use Rattle.world.specs.Turning.{LeftAs, LeavesAsBefore}
-use Rattle.world.specs.declared.carrying_out.TurnFault.{TurnFault}
-use Rattle.world.specs.declared.carrying_out.TurnFault.TheVariants.{Before, Committing}
+use Rattle.lending.specs.declared.turn_fault.TurnFault.{TurnFault}
+use Rattle.lending.specs.declared.turn_fault.TurnFault.TheVariants.{Before, Committing}
 use Rattle.world.specs.declared.loans.Lending.{Lending}
 use Rattle.world.specs.declared.loans.Returning.{Returning}
 use Rattle.world.specs.declared.loans.ServeFault.{ServeFault}
@@ -105,8 +105,12 @@ module _ {S : Type 0} (g : Ghosts S) where
             rests = it.rests;
             stray_rests = All-from_recursion (λ h. Rests (state g h)) strays (no_held (λ h. Rests (state g h)) strays done.1);
             clean = λ clean gone. clean_before g old mid stay (it.clean clean);
-            ok = λ x is. (let same : receipt ≡ x = cc in sym same ∙ done.0, counted, done.1,
-                λ w next clean gone are is_due. subst (λ n. AreMembers g new n next) (sym counted) (done.3 w next before clean (members_stay g old mid before w stay are) is_due.1 (keeps (it.clean clean) w next before is_due.0 are is_due.1)));
+            ok = λ x is. (
+              let same : receipt ≡ x = cc in sym same ∙ done.0,
+              counted,
+              done.1,
+              λ w next clean gone are is_due. subst (λ n. AreMembers g new n next) (sym counted) (done.3 w next before clean (members_stay g old mid before w stay are) is_due.1 (keeps (it.clean clean) w next before is_due.0 are is_due.1)),
+            );
             opens = λ clean gone was. it.opens clean (opened (it.clean clean) was) child_open;
             beside = λ x is w next are is_due was. All-from_recursion (λ h. HasCleanDisk (state g h) → (trees : Trees) → (state g h).may_leave trees → IsBeside w.frame next.packages trees) [] tt;
             kept = λ why is. absurd (let e = is in cc);
@@ -125,9 +129,9 @@ module _ {S : Type 0} (g : Ghosts S) where
         kept_or_dropped P dropped kept =
             elim why as (λ x. why ≡ x → P strays) [
               | Before x ↦ λ is. elim x as (λ y. why ≡ Before y → P strays) [
-                  | fault.OutOfMemory ↦ λ same. dropped (subst (λ t. IsUncommitted {X = Receipt} (Err t)) (sym same) tt) (it.dropped (ap Err same))
-                  | fault.StoreFault ↦ λ same. subst P (sym (it.kept why refl (λ e. let both : Before fault.StoreFault ≡ Before fault.OutOfMemory = sym same ∙ e in cc))) kept
-                ] is
+                | fault.OutOfMemory ↦ λ same. dropped (subst (λ t. IsUncommitted {X = Receipt} (Err t)) (sym same) tt) (it.dropped (ap Err same))
+                | fault.StoreFault ↦ λ same. subst P (sym (it.kept why refl (λ e. let both : Before fault.StoreFault ≡ Before fault.OutOfMemory = sym same ∙ e in cc))) kept
+              ] is
               | Committing x ↦ λ is. subst P (sym (it.kept why refl (λ e. let both : Committing x ≡ Before fault.OutOfMemory = sym is ∙ e in cc))) kept
             ] refl
 
@@ -135,9 +139,9 @@ module _ {S : Type 0} (g : Ghosts S) where
         not_lasting usable =
             elim why as (λ x. why ≡ x → strays ≡ []) [
               | Before x ↦ λ is. elim x as (λ y. why ≡ Before y → strays ≡ []) [
-                  | fault.OutOfMemory ↦ λ same. it.dropped (ap Err same)
-                  | fault.StoreFault ↦ λ same. absurd (usable (λ e. let both : Before fault.StoreFault ≡ Before fault.OutOfMemory = sym same ∙ e in cc))
-                ] is
+                | fault.OutOfMemory ↦ λ same. it.dropped (ap Err same)
+                | fault.StoreFault ↦ λ same. absurd (usable (λ e. let both : Before fault.StoreFault ≡ Before fault.OutOfMemory = sym same ∙ e in cc))
+              ] is
               | Committing x ↦ λ is. absurd (usable (λ e. let both : Committing x ≡ Before fault.OutOfMemory = sym is ∙ e in cc))
             ] refl
 
@@ -161,8 +165,8 @@ module _ {S : Type 0} (g : Ghosts S) where
               kept_or_dropped (λ ss. LeavesOneOf g w.frame (map (λ m. m.conn) new ++ ss) w.packages next.packages)
               (λ early none. leaves_before old new strays w before next.packages none (uncommitted_leaves early) are was)
               (λ clean contents may.
-                let disks : AllClean g mid = it.clean (held_clean new (child ∷ []) clean) in
-                it.crash why refl w next before (members_stay g old mid before w stay are) is_due.1 (keeps disks w next before is_due.0 are is_due.1) (opened disks was) clean contents may);
+              let disks : AllClean g mid = it.clean (held_clean new (child ∷ []) clean) in
+              it.crash why refl w next before (members_stay g old mid before w stay are) is_due.1 (keeps disks w next before is_due.0 are is_due.1) (opened disks was) clean contents may);
         }
 
     -- ---- a merge

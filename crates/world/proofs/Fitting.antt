@@ -42,14 +42,14 @@ use Rattle.world.proofs.Parts.{refused_by_parts, refused_unless_live, first_of_b
 
 -- ---- a new receipt among all
 
-new_number : (w : World) (p : List ℕ) → IsRegister w → has receipt_key ((length (receipts_of w) + 1) ∷ []) (holdings w p).receipts ≡ false
+pub new_number : (w : World) (p : List ℕ) → IsRegister w → has receipt_key ((length (receipts_of w) + 1) ∷ []) (holdings w p).receipts ≡ false
 new_number w p register =
     let n : ℕ = length (receipts_of w) + 1 in
     none_any (λ s. bytes_eq (receipt_key s) (n ∷ [])) (holdings w p).receipts
     (All-weaker (λ s. s.seq < n) (λ s. bytes_eq (receipt_key s) (n ∷ []) ≡ false) (λ s lt. before-differs (receipt_key s) (n ∷ []) (before_numbers s.seq n ∙ lt-ltb s.seq n lt))
     (holdings w p).receipts (of_package (λ s. s.seq < n) w p (numbers_below w n register.balanced.ledger refl)))
 
-new_request : (w : World) (id p : List ℕ) → kept w id ≡ None → has (λ r. r.request) id (holdings w p).receipts ≡ false
+pub new_request : (w : World) (id p : List ℕ) → kept w id ≡ None → has (λ r. r.request) id (holdings w p).receipts ≡ false
 new_request w id p new =
     none_any (λ r. bytes_eq r.request id) (holdings w p).receipts
     (of_package (λ r. bytes_eq r.request id ≡ false) w p (none_pass (λ r. bytes_eq r.request id) (receipts_of w) (none_found (λ r. bytes_eq r.request id) (receipts_of w) new)))
@@ -71,10 +71,10 @@ link_ends p base other types =
     let parts : ((is_uuid p && is_uuid base) ≡ true) × (is_uuid other ≡ true) = and_parts (is_uuid p && is_uuid base) (is_uuid other) types in
     ((and_parts (is_uuid p) (is_uuid base) parts.0).1, parts.1)
 
-fit_item : (i : Item) → IsUuid i.identity → is_fit_moved (item_moved i) ≡ true
+pub fit_item : (i : Item) → IsUuid i.identity → is_fit_moved (item_moved i) ≡ true
 fit_item i uuid = and_from (is_uuid i.identity && true) (is_bytes 32 (fingerprint i.content)) (and_from (is_uuid i.identity) true uuid refl) (digest_fits i.content)
 
-fit_link : (base other : List ℕ) → (is_uuid base ≡ true) × (is_uuid other ≡ true) → (is_uuid base && is_uuid other && true) ≡ true
+pub fit_link : (base other : List ℕ) → (is_uuid base ≡ true) × (is_uuid other ≡ true) → (is_uuid base && is_uuid other && true) ≡ true
 fit_link base other uuids = and_from (is_uuid base && is_uuid other) true (and_from (is_uuid base) (is_uuid other) uuids.0 uuids.1) refl
 
 -- what it moves has UUIDs and digests
@@ -172,7 +172,7 @@ nothing_against_accepted w next q served new none =
 -- ---- a new request
 
 -- a request that did not come before reuses no identity
-none_reused : (w : World) (q : Request) → kept w q.id ≡ None → id_reused w q ≡ false
+pub none_reused : (w : World) (q : Request) → kept w q.id ≡ None → id_reused w q ≡ false
 none_reused w q new = ap (λ k. option_map_or (λ r. not (bytes_eq r.line (line q.command))) k false) new
 
 pub refused_in_turn : RefusedInTurn

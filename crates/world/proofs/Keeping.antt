@@ -29,7 +29,7 @@ use Rattle.std.proofs.lemmas.List.Elements.{All-from_recursion, recursion_from_A
 use Rattle.sheet_types.proofs.Every.{All-left, All-right}
 use Rattle.std.specs.Prelude.{[], ◌++◌, IsErr}
 use Rattle.world.specs.Worlds.{Seen, StandsFor, IsHeld, IsStep, StandsStill, LeavesNoTrace, LeftAsItStands}
-use Rattle.world.specs.declared.carrying_out.TurnFault.TheVariants.{Before, Committing}
+use Rattle.lending.specs.declared.turn_fault.TurnFault.TheVariants.{Before, Committing}
 use Rattle.world.specs.declared.members.Member.{Member}
 
 -- a fault is told as a fault

@@ -25,16 +25,17 @@ use Rattle.identity_register.specs.Reads.{Reads}
 use Rattle.package_tables.specs.declared.fault.Fault.{Fault}
 use Rattle.package_tables.specs.declared.fault.Fault.TheVariants as fault
 use Rattle.world.specs.Leaving.{IsBeside, StandsAmong, AreClean, MayBeLeft, LeavesOneOf}
-use Rattle.world.specs.Lending.{Lends, lent}
+use Rattle.lending.specs.Lending.{Lends, lent}
 use Rattle.world.specs.Loans.{IsLent, loan}
 use Rattle.world.specs.Members.{AllRest, AllClean, AllOpen, IsMember, AreMembers}
-use Rattle.world.specs.Selecting.{IsSelectionOf, IsPart, MayCome, gained}
+use Rattle.lending.specs.Selecting.{IsSelectionOf, IsPart, MayCome}
+use Rattle.transfer.specs.Parcels.{with_cut}
 use Rattle.world.specs.Serving.{IsUncommitted}
 use Rattle.world.specs.Splits.{Splits, KeepsLoan, member_of_child}
 use Rattle.world.specs.Turning.{LeftAs, LeavesAsBefore}
 use Rattle.world.specs.Turns.{TakesTurn}
-use Rattle.world.specs.declared.carrying_out.TurnFault.{TurnFault}
-use Rattle.world.specs.declared.carrying_out.TurnFault.TheVariants.{Before, Committing}
+use Rattle.lending.specs.declared.turn_fault.TurnFault.{TurnFault}
+use Rattle.lending.specs.declared.turn_fault.TurnFault.TheVariants.{Before, Committing}
 use Rattle.world.specs.declared.loans.Lending.{Lending}
 use Rattle.world.specs.declared.members.Member.{Member}
 use Rattle.world.proofs.Changing.{each_leaves}
@@ -80,7 +81,7 @@ module _ {S : Type 0} (g : Ghosts S) where
 
   -- what was made of the parent that the member reads as is the loan
   pub loan_kept : (f : Frame) (w next : World) (count : ℕ) (due : Lending) (old : List (Member S)) (was : Member S) (child : Held S) → slice_get old due.at ≡ Some was → IsTrue (state g was.conn).is_open → f ≡ w.frame → AreMembers g old count w → (lent : IsLent w next due)
-      → ((c : Cut) (from : Package) → IsSelectionOf c due.selection → Reads f from (state g was.conn).now → IsPart c from → MayCome c (new_package due.child (Some due.parent) due.depth due.receipt.seq) → Keeps f (gained c (new_package due.child (Some due.parent) due.depth due.receipt.seq)) (state g child))
+      → ((c : Cut) (from : Package) → IsSelectionOf c due.selection → Reads f from (state g was.conn).now → IsPart c from → MayCome c (new_package due.child (Some due.parent) due.depth due.receipt.seq) → Keeps f (with_cut c (new_package due.child (Some due.parent) due.depth due.receipt.seq)) (state g child))
       → Keeps w.frame (loan due lent.taken) (state g child)
   loan_kept f w next count due old was child place opened same are lent made =
       let reads : Reads f lent.parent (state g was.conn).now = subst (λ v. Reads v lent.parent (state g was.conn).now) (sym same) (read_at w count old due.at was lent.parent place lent.place opened are) in
@@ -164,7 +165,7 @@ module _ {S : Type 0} (g : Ghosts S) (shuts : Shuts g) (settles : Settles g) (du
         let each : EachLeaves g (λ m. m.conn) (LeftAs w.frame) old w.packages = each_leaves g shuts settles old count w at_rest opened are in
         let left : LeftAs w.frame parts.1 (loan due is.taken) = child_left w next is keeps all.1 parts.1 parts.4 in
         elim (turn_leaves g {E = TurnFault} (Lends due.receipt due.selection) due.left due.receipt.seq old mid due.at (Err why) it w.frame w.packages is.parent (lent due.receipt is.taken is.parent) each
-            (λ db lends. reads_left w next is (state g it.was.conn).now db (member_reads w count are is opened) lends) (All-from_recursion (λ (m : Member S). HasCleanDisk (state g m.conn)) mid all.0) parts.0 parts.3) [
+        (λ db lends. reads_left w next is (state g it.was.conn).now db (member_reads w count are is opened) lends) (All-from_recursion (λ (m : Member S). HasCleanDisk (state g m.conn)) mid all.0) parts.0 parts.3) [
           | inl before ↦ inl (record {
             read = parts.0;
             rest = parts.1 ∷ [];
@@ -195,9 +196,9 @@ module _ {S : Type 0} (g : Ghosts S) (shuts : Shuts g) (settles : Settles g) (du
     no_more_than_one strays strays_after kept dropped =
         elim why as (λ x. why ≡ x → length strays_after ≤ length strays + 1) [
           | Before x ↦ λ is. elim x as (λ y. why ≡ Before y → length strays_after ≤ length strays + 1) [
-              | fault.OutOfMemory ↦ λ same. let e : length strays_after ≡ length strays = ap length (dropped same) in omega (arith, e)
-              | fault.StoreFault ↦ λ same. one_more_kept strays strays_after (kept (λ e. let both : Before fault.StoreFault ≡ Before fault.OutOfMemory = sym same ∙ e in cc))
-            ] is
+            | fault.OutOfMemory ↦ λ same. let e : length strays_after ≡ length strays = ap length (dropped same) in omega (arith, e)
+            | fault.StoreFault ↦ λ same. one_more_kept strays strays_after (kept (λ e. let both : Before fault.StoreFault ≡ Before fault.OutOfMemory = sym same ∙ e in cc))
+          ] is
           | Committing x ↦ λ is. one_more_kept strays strays_after (kept (λ e. let both : Committing x ≡ Before fault.OutOfMemory = sym is ∙ e in cc))
         ] refl
 
@@ -209,8 +210,10 @@ module _ {S : Type 0} (g : Ghosts S) (shuts : Shuts g) (settles : Settles g) (du
       clean = λ clean. turn_was_clean g {E = TurnFault} (Lends due.receipt due.selection) due.left due.receipt.seq old mid due.at (Err why) it clean;
       done = λ receipt is. absurd (let e = is in cc);
       opens = λ clean. tt;
-      failed = λ other is. (turn_length g {E = TurnFault} (Lends due.receipt due.selection) due.left due.receipt.seq old mid due.at (Err why) it,
-          λ w count are. record { each = turn_undone g (Lends due.receipt due.selection) due.left due.receipt.seq old mid due.at why it w w.packages are.each; counted = are.counted; register = are.register });
+      failed = λ other is. (
+        turn_length g {E = TurnFault} (Lends due.receipt due.selection) due.left due.receipt.seq old mid due.at (Err why) it,
+        λ w count are. record { each = turn_undone g (Lends due.receipt due.selection) due.left due.receipt.seq old mid due.at why it w w.packages are.each; counted = are.counted; register = are.register },
+      );
       kept = λ other is lasting. kept (λ same. lasting (let e : why ≡ other = cc in sym e ∙ same));
       dropped = λ is. dropped (let e : why ≡ Before fault.OutOfMemory = cc in e);
       few = no_more_than_one strays strays_after kept dropped;

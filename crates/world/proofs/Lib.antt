@@ -23,8 +23,6 @@ pub mod Beginning
 pub mod Running
 pub mod WorldsRead
 pub mod Sights
-mod WritingLoans
-mod FillingStores
 mod Turned
 mod Placing
 mod Lent
@@ -32,3 +30,8 @@ mod Returned
 mod CarriedOut
 mod ServedAll
 mod Tickets
+mod Listing
+mod DueSplits
+mod DueMerges
+mod SplitReasons
+mod MergeReasons

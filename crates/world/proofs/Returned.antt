@@ -23,16 +23,16 @@ use Rattle.sql_meaning.proofs.Transactions.{Shuts, Settles}
 use Rattle.identity_register.specs.Reads.{Reads}
 use Rattle.package_tables.specs.declared.fault.Fault.{Fault}
 use Rattle.world.specs.Leaving.{IsBeside, StandsAmong, AreClean, AreBeside, MayBeLeft, LeavesOneOf}
-use Rattle.world.specs.Lending.{TakesHome, returned}
+use Rattle.lending.specs.Lending.{TakesHome, returned}
 use Rattle.world.specs.Loans.{IsReturned, place_without}
 use Rattle.world.specs.Members.{AllRest, AllClean, AllOpen, IsMember, AreMembers, StaysMember}
 use Rattle.world.specs.Merges.{Merges}
-use Rattle.world.specs.Selecting.{FromClean}
+use Rattle.custody.specs.Homing.{FromClean}
 use Rattle.world.specs.Serving.{IsUncommitted}
 use Rattle.world.specs.Turning.{LeftAs, LeavesAsBefore}
 use Rattle.world.specs.Turns.{TakesTurn, LeavesNoMore}
-use Rattle.world.specs.declared.carrying_out.TurnFault.{TurnFault}
-use Rattle.world.specs.declared.carrying_out.TurnFault.TheVariants.{Before, Committing}
+use Rattle.lending.specs.declared.turn_fault.TurnFault.{TurnFault}
+use Rattle.lending.specs.declared.turn_fault.TurnFault.TheVariants.{Before, Committing}
 use Rattle.world.specs.declared.loans.Returning.{Returning}
 use Rattle.world.specs.declared.members.Member.{Member}
 use Rattle.world.proofs.Changing.{each_leaves}
@@ -215,11 +215,11 @@ module _ {S : Type 0} (g : Ghosts S) (shuts : Shuts g) (settles : Settles g) (du
         let mine : LeftAs w.frame parts.1 is.child = child_left w next count are is opened disks.1 parts.1 parts.4 in
         let was_there = still_there w.packages due.from due.into is.parent is.into two in
         let parent_reads : Reads w.frame is.parent (state g it.was.conn).now =
-            zip_removed (λ (m : Member S) (p : Package). IsTrue (state g m.conn).is_open → Reads w.frame p (state g m.conn).now) rest_of (remove w.packages due.from) into_at it.was is.parent it.place was_there
-            (zip_remove (λ (m : Member S) (p : Package). IsTrue (state g m.conn).is_open → Reads w.frame p (state g m.conn).now) old w.packages due.from (reads_all w old w.packages are.each))
-            (all-slice_get Open rest_of into_at it.was it.place (all_removed Open old due.from (recursion_from_All Open old opened))) in
+        zip_removed (λ (m : Member S) (p : Package). IsTrue (state g m.conn).is_open → Reads w.frame p (state g m.conn).now) rest_of (remove w.packages due.from) into_at it.was is.parent it.place was_there
+        (zip_remove (λ (m : Member S) (p : Package). IsTrue (state g m.conn).is_open → Reads w.frame p (state g m.conn).now) old w.packages due.from (reads_all w old w.packages are.each))
+        (all-slice_get Open rest_of into_at it.was it.place (all_removed Open old due.from (recursion_from_All Open old opened))) in
         elim (turn_leaves g {E = TurnFault} Change due.sums due.receipt.seq rest_of mid into_at (Err why) it w.frame (remove w.packages due.from) is.parent (returned due.receipt is.taken is.child is.parent) rest_each
-            (λ db change. reads_home w next count are is disks.1 child_open (state g it.was.conn).now db parent_reads change) disks.0 parts.0 parts.3) [
+        (λ db change. reads_home w next count are is disks.1 child_open (state g it.was.conn).now db parent_reads change) disks.0 parts.0 parts.3) [
           | inl before ↦ inl (record {
             read = insert parts.0 due.from parts.1;
             rest = [];
@@ -250,9 +250,9 @@ module _ {S : Type 0} (g : Ghosts S) (shuts : Shuts g) (settles : Settles g) (du
         let Left : Member S → Package → Type 0 = λ m p. (t : Trees) → (state g m.conn).may_leave t → LeftAs w.frame t p in
         subst (λ ps. AllZip (λ (m : Member S) (p : Package). (t : Trees) → (state g m.conn).may_leave t → LeftAs w.frame t p) again ps) (back_again w.packages due.from here.0 here.1)
         (zip_insert (λ (m : Member S) (p : Package). (t : Trees) → (state g m.conn).may_leave t → LeftAs w.frame t p) mid (remove w.packages due.from) due.from now_child here.0
-          (λ t may. elim (stays.survives.crash disks.1 t may) [ inl before ↦ zip_removed (λ (m : Member S) (p : Package). (u : Trees) → (state g m.conn).may_leave u → LeftAs w.frame u p) old w.packages due.from child here.0 place here.1 each t before | inr none ↦ absurd none ])
-          (zip_both (λ (m n : Member S). (t : Trees) → (state g n.conn).may_leave t → (state g m.conn).may_leave t) (λ (m : Member S) (p : Package). (t : Trees) → (state g m.conn).may_leave t → LeftAs w.frame t p) (λ (m : Member S) (p : Package). (t : Trees) → (state g m.conn).may_leave t → LeftAs w.frame t p)
-              (λ m n p fewer left t may. left t (fewer t may)) rest_of mid (remove w.packages due.from) (fewer disks.0) (zip_remove (λ (m : Member S) (p : Package). (t : Trees) → (state g m.conn).may_leave t → LeftAs w.frame t p) old w.packages due.from each)))
+        (λ t may. elim (stays.survives.crash disks.1 t may) [ inl before ↦ zip_removed (λ (m : Member S) (p : Package). (u : Trees) → (state g m.conn).may_leave u → LeftAs w.frame u p) old w.packages due.from child here.0 place here.1 each t before | inr none ↦ absurd none ])
+        (zip_both (λ (m n : Member S). (t : Trees) → (state g n.conn).may_leave t → (state g m.conn).may_leave t) (λ (m : Member S) (p : Package). (t : Trees) → (state g m.conn).may_leave t → LeftAs w.frame t p) (λ (m : Member S) (p : Package). (t : Trees) → (state g m.conn).may_leave t → LeftAs w.frame t p)
+        (λ m n p fewer left t may. left t (fewer t may)) rest_of mid (remove w.packages due.from) (fewer disks.0) (zip_remove (λ (m : Member S) (p : Package). (t : Trees) → (state g m.conn).may_leave t → LeftAs w.frame t p) old w.packages due.from each)))
 
     -- the parent is as it was, or may be, and the child stands where it stood
     pub merges_failed : ((x : Fault) → why ≡ Before x → LeavesNoMore g rest_of mid) → Merges g due old again (Err why)

@@ -19,8 +19,8 @@ use Rattle.world.specs.Members.{AllRest, AllClean, AllOpen, AreMembers}
 use Rattle.package_tables.specs.declared.fault.Fault.{Fault}
 use Rattle.world.specs.Serving.{Changes, Serves, IsUncommitted}
 use Rattle.world.specs.Turning.{IsDue, LeavesAsBefore, LeftAs, world_after}
-use Rattle.world.specs.declared.carrying_out.TurnFault.{TurnFault}
-use Rattle.world.specs.declared.carrying_out.TurnFault.TheVariants.{Before, Committing}
+use Rattle.lending.specs.declared.turn_fault.TurnFault.{TurnFault}
+use Rattle.lending.specs.declared.turn_fault.TurnFault.TheVariants.{Before, Committing}
 use Rattle.world.specs.declared.deciding.Change.{Change}
 use Rattle.world.specs.declared.deciding.Decision.{Decision}
 use Rattle.world.specs.declared.deciding.Decision.TheVariants.{Answered, ChangeDue}

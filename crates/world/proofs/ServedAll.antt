@@ -29,8 +29,8 @@ use Rattle.world.specs.Members.{AllRest, AllClean, AllOpen, AreMembers}
 use Rattle.world.specs.ServeFaults.{IsLastingFault, CountsShelf}
 use Rattle.world.specs.Serving.{Changes, IsUncommitted}
 use Rattle.world.specs.Turning.{IsDue, LeftAs, LeavesAsBefore, world_after}
-use Rattle.world.specs.declared.carrying_out.TurnFault.{TurnFault}
-use Rattle.world.specs.declared.carrying_out.TurnFault.TheVariants.{Before, Committing}
+use Rattle.lending.specs.declared.turn_fault.TurnFault.{TurnFault}
+use Rattle.lending.specs.declared.turn_fault.TurnFault.TheVariants.{Before, Committing}
 use Rattle.world.specs.declared.deciding.Change.{Change}
 use Rattle.world.specs.declared.deciding.Decision.{Decision}
 use Rattle.world.specs.declared.deciding.Decision.TheVariants.{Answered, ChangeDue, SplitDue, MergeDue}
@@ -59,8 +59,12 @@ module _ {S : Type 0} (g : Ghosts S) (shuts : Shuts g) (settles : Settles g) whe
           rests = it.rests;
           stray_rests = All-from_recursion (λ h. Rests (state g h)) [] tt;
           clean = λ clean gone. it.clean clean;
-          ok = λ x is. (let same : receipt ≡ x = cc in sym same ∙ done.0, done.1, refl,
-              λ w next clean gone are is_due. subst (AreMembers g new after) (sym is_due.0) (subst (λ n. AreMembers g new n (world_after change.receipt command w)) (sym done.1) (done.2 w are is_due.1)));
+          ok = λ x is. (
+            let same : receipt ≡ x = cc in sym same ∙ done.0,
+            done.1,
+            refl,
+            λ w next clean gone are is_due. subst (AreMembers g new after) (sym is_due.0) (subst (λ n. AreMembers g new n (world_after change.receipt command w)) (sym done.1) (done.2 w are is_due.1)),
+          );
           opens = λ clean gone. it.opens clean;
           beside = λ x is w next are is_due was. All-from_recursion (λ h. HasCleanDisk (state g h) → (trees : Trees) → (state g h).may_leave trees → IsBeside w.frame next.packages trees) [] tt;
           kept = λ why is. absurd (let e = is in cc);

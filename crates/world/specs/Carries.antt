@@ -13,7 +13,7 @@ use Rattle.world.specs.Leaving.{AreAtRest, AreClean, AreBeside, LeavesOneOf}
 use Rattle.world.specs.Members.{AllRest, AllClean, AllOpen, AreMembers}
 use Rattle.world.specs.ServeFaults.{IsLastingFault}
 use Rattle.world.specs.Turning.{LeavesAsBefore}
-use Rattle.world.specs.declared.carrying_out.TurnFault.TheVariants.{Before, Committing}
+use Rattle.lending.specs.declared.turn_fault.TurnFault.TheVariants.{Before, Committing}
 use Rattle.world.specs.declared.loans.ServeFault.{ServeFault}
 use Rattle.world.specs.declared.loans.ServeFault.TheVariants.{Unshelved, Turn}
 use Rattle.world.specs.declared.members.Member.{Member}

@@ -11,12 +11,9 @@ pub mod Asking
 pub mod TooMany
 pub mod Deciding
 pub mod Serving
-pub mod Faults
 pub mod Worlds
 pub mod Creating
 pub mod Reading
-pub mod Selecting
-pub mod Lending
 pub mod Loans
 pub mod Leaving
 pub mod Turns

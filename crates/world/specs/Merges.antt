@@ -9,7 +9,7 @@ use Rattle.world.specs.Loans.{IsReturned}
 use Rattle.world.specs.Members.{AllRest, AllClean, AllOpen, AreMembers}
 use Rattle.world.specs.Serving.{IsUncommitted}
 use Rattle.world.specs.Turning.{LeavesAsBefore}
-use Rattle.world.specs.declared.carrying_out.TurnFault.{TurnFault}
+use Rattle.lending.specs.declared.turn_fault.TurnFault.{TurnFault}
 use Rattle.world.specs.declared.loans.Returning.{Returning}
 use Rattle.world.specs.declared.members.Member.{Member}
 

@@ -6,8 +6,8 @@ use Rattle.package_tables.specs.declared.fault.Fault.{Fault}
 use Rattle.package_tables.specs.declared.fault.Fault.TheVariants as fault
 use Rattle.shelves.specs.declared.shelf.ShelfFault.{ShelfFault}
 use Rattle.shelves.specs.declared.shelf.ShelfFault.TheVariants as shelf
-use Rattle.world.specs.Faults.{fault_refusal, turn_refusal}
-use Rattle.world.specs.declared.carrying_out.TurnFault.TheVariants.{Before}
+use Rattle.lending.specs.Faults.{fault_refusal, turn_refusal}
+use Rattle.lending.specs.declared.turn_fault.TurnFault.TheVariants.{Before}
 use Rattle.world.specs.declared.loans.ServeFault.{ServeFault}
 use Rattle.world.specs.declared.loans.ServeFault.TheVariants.{Unshelved, Turn}
 

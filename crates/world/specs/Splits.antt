@@ -12,8 +12,8 @@ use Rattle.world.specs.Loans.{IsLent, loan}
 use Rattle.world.specs.Members.{AllRest, AllClean, AllOpen, AreMembers}
 use Rattle.world.specs.Serving.{IsUncommitted}
 use Rattle.world.specs.Turning.{LeavesAsBefore}
-use Rattle.world.specs.declared.carrying_out.TurnFault.{TurnFault}
-use Rattle.world.specs.declared.carrying_out.TurnFault.TheVariants.{Before}
+use Rattle.lending.specs.declared.turn_fault.TurnFault.{TurnFault}
+use Rattle.lending.specs.declared.turn_fault.TurnFault.TheVariants.{Before}
 use Rattle.world.specs.declared.loans.Lending.{Lending}
 use Rattle.world.specs.declared.members.Member.{Member}
 

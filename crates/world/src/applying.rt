@@ -12,19 +12,19 @@ ghost use Rattle.world.specs.ServeFaults.{CountsShelf};
 ghost use Rattle.world.specs.Serving.{Changes};
 ghost use Rattle.world.specs.declared.deciding.Decision.TheVariants.{ChangeDue};
 
-use crate::carrying_out::TurnFault;
+use lending::turn_fault::TurnFault;
+use crate::deciding::{Change, Decision, decide};
 use crate::loans::{Lending, Returning, ServeFault};
+use crate::members::Member;
 use crate::merging::merge_at;
 use crate::splitting::{child_store, lend_and_place};
-use package_tables::fault::Fault;
-use shelves::shelf::Shelf;
-use crate::deciding::{Change, Decision, decide};
-use crate::members::Member;
 use crate::turning::turn_at;
+use package_tables::fault::Fault;
 use sheet_types::command::{Command, Request};
 use sheet_types::frame::Frame;
 use sheet_types::receipt::Receipt;
 use sheet_types::refusal::Refusal;
+use shelves::shelf::Shelf;
 use sqlite::{Alter, Connection};
 use std::alloc::Global;
 

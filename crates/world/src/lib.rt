@@ -8,7 +8,6 @@ pub mod asking_one;
 mod asking_one_tests;
 #[cfg(test)]
 mod asking_tests;
-mod awaited;
 pub mod carrying_out;
 #[cfg(test)]
 mod carrying_tests;
@@ -18,7 +17,6 @@ pub mod deciding;
 pub mod deciding_loans;
 pub mod judging;
 pub mod laws;
-pub mod lending;
 pub mod loans;
 pub mod members;
 pub mod merging;
@@ -30,13 +28,12 @@ mod receipt_tests;
 pub mod receipts;
 pub mod register_laws;
 mod reserving;
-pub mod returning;
-pub mod step_laws;
 pub mod splitting;
+pub mod step_laws;
 pub mod sums;
+pub mod taking_turns;
 #[cfg(test)]
 mod tests;
-pub mod taking_turns;
 pub mod texts;
 pub mod too_many;
 #[cfg(test)]

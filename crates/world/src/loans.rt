@@ -1,13 +1,14 @@
 //! What is due after a decision: all that a split or a merge needs, made before anything is written.
 ghost use Rattle.std.specs.Prelude.{◌≡◌, ◌↔◌, IsTrue};
+ghost use Rattle.world.specs.Loans.{SplitRefusedInTurn, SplitRefusedAsUnknown, LentWhereAccepted, ReturnedWhereAccepted, MergeRefusedInTurn, MergeRefusedAsUnknown};
 ghost use Rattle.world.specs.ServeFaults.{IsLastingFault, told_refusal};
 
-use crate::awaited::Selection;
-use crate::carrying_out::TurnFault;
+use identity_register::selection::Selection;
+use lending::turn_fault::TurnFault;
 use package_tables::fault::Fault;
+use sheet_types::receipt::{Receipt, Sums};
 use sheet_types::refusal::Refusal;
 use shelves::shelf::ShelfFault;
-use sheet_types::receipt::{Receipt, Sums};
 use uuid::Uuid;
 
 /// A split that is due.
@@ -107,7 +108,7 @@ impl From<TurnFault> for ServeFault {
 }
 
 impl From<Fault> for ServeFault {
-    ghost use Rattle.world.specs.declared.carrying_out.TurnFault.TheVariants.{Before};
+    ghost use Rattle.lending.specs.declared.turn_fault.TurnFault.TheVariants.{Before};
     ghost use Rattle.world.specs.declared.loans.ServeFault.TheVariants.{Turn};
 
     ghost from_gives = { λ fault why. why ≡ Turn (Before fault) };
@@ -116,3 +117,33 @@ impl From<Fault> for ServeFault {
         ServeFault::Turn(TurnFault::Before(fault))
     }
 }
+
+/// A new split that is not refused is due, where what is due was made of it.
+pub fn lent_where_accepted()
+    ensures { LentWhereAccepted }
+{}
+
+/// A new merge that is not refused is due, where what is due was made of it.
+pub fn returned_where_accepted()
+    ensures { ReturnedWhereAccepted }
+{}
+
+/// A new merge of live packages is refused for the first reason that holds: its texts, a foreign parent, a stale ticket, an open loan, a taken place, or what would be too many.
+pub fn merge_refused_in_turn()
+    ensures { MergeRefusedInTurn }
+{}
+
+/// A new merge one of whose packages is not live is refused for that.
+pub fn merge_refused_as_unknown()
+    ensures { MergeRefusedAsUnknown }
+{}
+
+/// A new split of a live package is refused for the first reason that holds: a used UUID, its texts, its rectangle, the depth, nothing to lend, a torn link, or what would be too many.
+pub fn split_refused_in_turn()
+    ensures { SplitRefusedInTurn }
+{}
+
+/// A new split whose package is not live is refused for that.
+pub fn split_refused_as_unknown()
+    ensures { SplitRefusedAsUnknown }
+{}

@@ -4,7 +4,7 @@ ghost use Rattle.world.specs.Loans.{place_without};
 ghost use Rattle.world.specs.Members.{AllRest};
 ghost use Rattle.world.specs.Merges.{Merges};
 
-use crate::carrying_out::TurnFault;
+use lending::turn_fault::TurnFault;
 use crate::loans::Returning;
 use crate::members::Member;
 use crate::reserving::insert_reserved;

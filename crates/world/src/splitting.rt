@@ -15,15 +15,16 @@ ghost use Rattle.identity_register.specs.Reads.{Reads};
 ghost use Rattle.world.specs.Carries.{IsBeforeCommit};
 ghost use Rattle.world.specs.Loans.{IsLent, loan};
 ghost use Rattle.world.specs.Members.{AllRest, AllClean, AllOpen, AllStay, AreMembers};
-ghost use Rattle.world.specs.Selecting.{IsSelectionOf, IsPart, MayCome, gained};
+ghost use Rattle.lending.specs.Selecting.{IsSelectionOf, IsPart, MayCome};
+ghost use Rattle.transfer.specs.Parcels.{with_cut};
 ghost use Rattle.world.specs.ServeFaults.{CountsShelf};
 ghost use Rattle.package_tables.specs.declared.fault.Fault.TheVariants.{OutOfMemory};
-ghost use Rattle.world.specs.declared.carrying_out.TurnFault.TheVariants.{Before};
+ghost use Rattle.lending.specs.declared.turn_fault.TurnFault.TheVariants.{Before};
 ghost use Rattle.world.specs.Splits.{Splits, KeepsLoan, member_of_child};
 
-use crate::awaited::Selection;
-use crate::carrying_out::TurnFault;
-use crate::lending::fill;
+use identity_register::selection::Selection;
+use lending::turn_fault::TurnFault;
+use lending::lending::fill;
 use crate::loans::{Lending, ServeFault};
 use crate::members::Member;
 use crate::reserving::{insert_reserved, push_reserved};
@@ -31,9 +32,9 @@ use crate::taking_turns::lend_at;
 use identity_register::creation::create;
 use package_tables::create::Info;
 use package_tables::fault::Fault;
-use shelves::shelf::Shelf;
 use sheet_types::frame::Frame;
 use sheet_types::receipt::Receipt;
+use shelves::shelf::Shelf;
 use sql_meaning::resting::is_at_rest;
 use sqlite::{Alter, Connection};
 use std::alloc::Global;
@@ -58,7 +59,7 @@ fn filled_store<S: Alter + Drop>(
     ensures is_open { IfOk result (λ made. HasCleanDisk (state S.Store made) → IsTrue (state S.Store made).is_open) }
     ensures made { IfOk result (λ made. HasCleanDisk (state S.Store made) → HasCleanDisk (state S.Store source.new) → (c : Cut) (from : Package) → IsSelectionOf c selection.now → Reads frame.now from (state S.Store source.old).now → IsPart c from
         → MayCome c (new_package info.now.package info.now.parent info.now.depth info.now.loan)
-        → Keeps frame.now (gained c (new_package info.now.package info.now.parent info.now.depth info.now.loan)) (state S.Store made)) }
+        → Keeps frame.now (with_cut c (new_package info.now.package info.now.parent info.now.depth info.now.loan)) (state S.Store made)) }
 {
     if !is_at_rest(&blank) {
         return Err(Fault::StoreFault);

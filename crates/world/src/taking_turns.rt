@@ -5,18 +5,18 @@ ghost use Rattle.sqlite.specs.State.{HasCleanDisk};
 ghost use Rattle.sql_meaning.specs.Staying.{Stays};
 ghost use Rattle.sql_meaning.specs.Transactions.{Rests};
 ghost use Rattle.package_tables.specs.declared.fault.Fault.{Fault};
-ghost use Rattle.world.specs.Lending.{Lends, TakesHome};
+ghost use Rattle.lending.specs.Lending.{Lends, TakesHome};
 ghost use Rattle.world.specs.Members.{AllRest};
-ghost use Rattle.world.specs.Selecting.{FromClean};
+ghost use Rattle.custody.specs.Homing.{FromClean};
 ghost use Rattle.world.specs.Turning.{LeavesAsBefore};
 ghost use Rattle.world.specs.Turns.{TakesTurn, LeavesNoMore};
-ghost use Rattle.world.specs.declared.carrying_out.TurnFault.TheVariants.{Before};
+ghost use Rattle.lending.specs.declared.turn_fault.TurnFault.TheVariants.{Before};
 
-use crate::carrying_out::TurnFault;
-use crate::lending::lend;
+use lending::turn_fault::TurnFault;
+use lending::lending::lend;
 use crate::loans::{Lending, Returning};
 use crate::members::Member;
-use crate::returning::take_home;
+use lending::returning::take_home;
 use sqlite::{Alter, Connection};
 
 /// The package at the place of a split lends what is selected.

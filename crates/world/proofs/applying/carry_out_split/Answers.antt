@@ -5,7 +5,7 @@ use Rattle.world.specs.Carries.{Carries, IsBeforeCommit}
 use Rattle.world.specs.Loans.{IsLent}
 use Rattle.world.specs.Members.{AllRest, AllOpen, AllStay, AreMembers}
 use Rattle.world.specs.Splits.{Splits, KeepsLoan}
-use Rattle.world.specs.declared.carrying_out.TurnFault.TheVariants.{Before}
+use Rattle.lending.specs.declared.turn_fault.TurnFault.TheVariants.{Before}
 use Rattle.world.specs.declared.loans.ServeFault.TheVariants.{Turn}
 use Rattle.world.proofs.CarriedOut.{carries_unbegun, carries_lent, carries_unlent}
 use Rattle.world.proofs.Served.{turned_into}
@@ -16,8 +16,8 @@ pub returns-in_err-make_room-clause-carries : goal.returns-in_err-make_room-clau
 returns-in_err-make_room-clause-carries g c =
     subst (Carries g.S.Store (λ w next. (c.args.frame.now ≡ w.frame) × IsLent w next c.args.due) c.args.due.receipt c.args.members.now.items c.make_room.new.members.items c.make_room.new.strays.items c.args.count.now c.args.count.now) (sym (turned_into _ _ c.from_residual.ensures.1))
     (subst (λ ms. Carries g.S.Store (λ w next. (c.args.frame.now ≡ w.frame) × IsLent w next c.args.due) c.args.due.receipt c.args.members.now.items ms c.make_room.new.strays.items c.args.count.now c.args.count.now (Err (Turn (Before c.in_err-make_room.field-0.0)))) (sym c.make_room.ensures.members)
-      (carries_unbegun g.S.Store g.met.S.Store.shut_if_dirty g.met.S.Store.settled _ c.args.due.receipt c.args.members.now.items c.args.members.now.items c.make_room.new.strays.items c.args.count.now (Turn (Before c.in_err-make_room.field-0.0)) (c.make_room.ensures.strays ∙ c.requires.none) c.requires.rests c.requires.rests
-      (all_still g.S.Store g.met.S.Store.shut_if_dirty g.met.S.Store.settled c.args.members.now.items c.requires.rests) tt))
+    (carries_unbegun g.S.Store g.met.S.Store.shut_if_dirty g.met.S.Store.settled _ c.args.due.receipt c.args.members.now.items c.args.members.now.items c.make_room.new.strays.items c.args.count.now (Turn (Before c.in_err-make_room.field-0.0)) (c.make_room.ensures.strays ∙ c.requires.none) c.requires.rests c.requires.rests
+    (all_still g.S.Store g.met.S.Store.shut_if_dirty g.met.S.Store.settled c.args.members.now.items c.requires.rests) tt))
 
 pub returns-in_err-child-clause-carries : goal.returns-in_err-child-clause-carries
 returns-in_err-child-clause-carries g c =
@@ -45,9 +45,9 @@ returns-in_err-receipt-clause-carries g c =
     let stay : AllStay g.S.Store c.args.members.now.items c.child_store.new.members.items = subst (λ ms. AllStay g.S.Store ms c.child_store.new.members.items) c.make_room.ensures.members c.child_store.ensures.stay in
     subst (Carries g.S.Store (λ w next. (c.args.frame.now ≡ w.frame) × IsLent w next c.args.due) c.args.due.receipt c.args.members.now.items c.lend_and_place.new.members.items c.lend_and_place.new.strays.items c.args.count.now c.args.count.now) (sym (turned_into _ _ c.from_residual-in_err-receipt.ensures.1))
     (carries_unlent g.S.Store g.met.S.Store.shut_if_dirty g.met.S.Store.settled c.args.frame.now c.args.due c.in_ok-child.child c.args.members.now.items c.child_store.new.members.items c.lend_and_place.new.members.items c.lend_and_place.new.strays.items c.args.count.now c.requires.rests stay
-      (λ clean was. c.in_ok-child.ensures.opens clean (subst (AllOpen g.S.Store) (sym c.make_room.ensures.members) was)) c.in_ok-child.ensures.child c.in_ok-child.ensures.is_open
-      (λ clean w next count same are lent. c.in_ok-child.ensures.keeps clean w next count same (subst (λ ms. AreMembers g.S.Store ms count w) (sym c.make_room.ensures.members) are) lent) c.in_err-receipt.field-0.0
-      (subst (λ ss. Splits g.S.Store c.args.due c.in_ok-child.child c.child_store.new.members.items c.lend_and_place.new.members.items ss c.lend_and_place.new.strays.items (Err c.in_err-receipt.field-0.0)) (c.make_room.ensures.strays ∙ c.requires.none) c.in_err-receipt.ensures.splits))
+    (λ clean was. c.in_ok-child.ensures.opens clean (subst (AllOpen g.S.Store) (sym c.make_room.ensures.members) was)) c.in_ok-child.ensures.child c.in_ok-child.ensures.is_open
+    (λ clean w next count same are lent. c.in_ok-child.ensures.keeps clean w next count same (subst (λ ms. AreMembers g.S.Store ms count w) (sym c.make_room.ensures.members) are) lent) c.in_err-receipt.field-0.0
+    (subst (λ ss. Splits g.S.Store c.args.due c.in_ok-child.child c.child_store.new.members.items c.lend_and_place.new.members.items ss c.lend_and_place.new.strays.items (Err c.in_err-receipt.field-0.0)) (c.make_room.ensures.strays ∙ c.requires.none) c.in_err-receipt.ensures.splits))
 
 pub returns-clause-carries : goal.returns-clause-carries
 returns-clause-carries g c =

@@ -4,7 +4,7 @@ use Rattle.sheet_types.specs.declared.receipt.Receipt.{Receipt}
 use Rattle.sheet_types.specs.declared.refusal.Refusal.{Refusal}
 use Rattle.world.specs.Carries.{ServesAll}
 use Rattle.world.specs.Deciding.{HasPlace}
-use Rattle.world.specs.declared.carrying_out.TurnFault.TheVariants.{Before}
+use Rattle.lending.specs.declared.turn_fault.TurnFault.TheVariants.{Before}
 use Rattle.world.specs.declared.loans.ServeFault.TheVariants.{Turn}
 use Rattle.world.proofs.ServedAll.{all_undecided, all_answered, change_served, change_failed, split_served, split_failed, merge_served, merge_failed, counts_turn, counts_handed}
 use Rattle.world.proofs.Served.{turned_into}

@@ -2,7 +2,7 @@
 use Rattle.std.proofs.Common.{◌≡◌, subst, sym, ap, Ok, Err, Some, slice_get, refl}
 use Rattle.std.proofs.lemmas.Option.{slice_get_read}
 use Rattle.world.specs.Merges.{Merges}
-use Rattle.world.specs.declared.carrying_out.TurnFault.{TurnFault}
+use Rattle.lending.specs.declared.turn_fault.TurnFault.{TurnFault}
 use Rattle.world.proofs.Returned.{merges_done, merges_failed}
 use Rattle.world.proofs.merging.merge_at.Goals as goal
 

@@ -1,7 +1,7 @@
 -- The store is made, and then filled.
 use Rattle.sqlite.specs.Held.{state}
 use Rattle.identity_register.specs.Creation.{new_package}
-use Rattle.world.proofs.FillingStores.{filled_keeps}
+use Rattle.lending.proofs.FillingStores.{filled_keeps}
 use Rattle.world.proofs.Seeing.{stays_still}
 use Rattle.world.proofs.splitting.filled_store.Goals as goal
 

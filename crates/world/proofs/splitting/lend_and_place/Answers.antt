@@ -2,7 +2,7 @@
 use Rattle.std.proofs.Common.{subst, sym, ap, ◌∙◌, Ok, Err}
 use Rattle.std.specs.List.{insert}
 use Rattle.world.specs.Splits.{Splits}
-use Rattle.world.specs.declared.carrying_out.TurnFault.{TurnFault}
+use Rattle.lending.specs.declared.turn_fault.TurnFault.{TurnFault}
 use Rattle.world.proofs.Lent.{splits_done, splits_failed}
 use Rattle.world.proofs.splitting.lend_and_place.Goals as goal
 

@@ -1,10 +1,10 @@
 -- The store of the member at the place takes the turn.
 use Rattle.std.proofs.Common.{◌≡◌, Some, slice_get, refl, ap, Err}
 use Rattle.std.proofs.lemmas.Option.{slice_get_read}
-use Rattle.world.specs.Lending.{Lends}
+use Rattle.lending.specs.Lending.{Lends}
 use Rattle.world.proofs.Changing.{unharmed_at}
 use Rattle.world.proofs.Turned.{turn_failed}
-use Rattle.world.proofs.WritingLoans.{same_error}
+use Rattle.lending.proofs.WritingLoans.{same_error}
 use Rattle.world.proofs.taking_turns.lend_at.Goals as goal
 
 pub returns-in_err-lend-clause-turned : goal.returns-in_err-lend-clause-turned

@@ -2,10 +2,10 @@
 use Rattle.std.proofs.Common.{◌≡◌, Some, slice_get, refl, ap, Err}
 use Rattle.std.proofs.lemmas.Option.{slice_get_read}
 use Rattle.sqlite.specs.Held.{state}
-use Rattle.world.specs.Lending.{TakesHome}
-use Rattle.world.specs.Selecting.{FromClean}
+use Rattle.lending.specs.Lending.{TakesHome}
+use Rattle.custody.specs.Homing.{FromClean}
 use Rattle.world.proofs.Turned.{turn_failed, leaves_no_more}
-use Rattle.world.proofs.WritingLoans.{same_error}
+use Rattle.lending.proofs.WritingLoans.{same_error}
 use Rattle.world.proofs.taking_turns.take_home_at.Goals as goal
 
 pub returns-in_err-take_home-clause-turned : goal.returns-in_err-take_home-clause-turned
