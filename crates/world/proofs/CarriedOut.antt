@@ -25,7 +25,7 @@ use Rattle.world.specs.Loans.{IsLent, IsReturned}
 use Rattle.world.specs.Members.{AllRest, AllClean, AllOpen, AllStay, AreMembers}
 use Rattle.world.specs.Merges.{Merges}
 use Rattle.world.specs.ServeFaults.{IsLastingFault}
-use Rattle.world.specs.Serving.{IsUncommitted}
+use Rattle.world.specs.Changes.{IsUncommitted}
 use Rattle.world.specs.Splits.{Splits, KeepsLoan}
 use Rattle.world.specs.Turning.{LeftAs, LeavesAsBefore}
 use Rattle.lending.specs.declared.turn_fault.TurnFault.{TurnFault}

@@ -1,4 +1,4 @@
--- What a world keeps of what it stands for, when one request was served.
+-- What a world keeps of what it stands for, when one request was dealt with.
 use Rattle.std.proofs.Common.{◌≡◌, ◌≢◌, ◌↔◌, false, true, IsTrue, refl, sym, ap, subst, ◌∙◌, ℕ, ◌≤◌, Bool, List, length, Vec, Global, vec_capacity, Result, IfOk, Ok, Err, inl, inr}
 use Rattle.sqlite.specs.Store.{Ghosts}
 use Rattle.sheet_types.specs.Refuse.{greatest_receipts}
@@ -125,8 +125,8 @@ module _ {S : Type 0} (g : Ghosts S) where
       clean = were_clean;
       step = λ clean gone w stands.
           let both = stood w stands in
-          let served : IsServedAs g w q new after reply = it.told clean gone reply is w both.0 both.1 in
-          (served.0, inl (sym (ap (λ o. o.0) served.1), sym (ap (λ o. o.1) served.1)), record { frame = both.0 ∙ sym served.2; members = served.3 });
+          let as_model : IsServedAs g w q new after reply = it.told clean gone reply is w both.0 both.1 in
+          (as_model.0, inl (sym (ap (λ o. o.0) as_model.1), sym (ap (λ o. o.1) as_model.1)), record { frame = both.0 ∙ sym as_model.2; members = as_model.3 });
       opens = λ clean gone no_fault opened. (subst (λ (x : Result (Result Receipt Refusal) ServeFault). IfOk x (λ y. AllOpen g old → AllOpen g new)) is (it.opens clean gone)) (were_open opened);
       crash = λ fault usable w stands opened. leaves_before g old new strays w before (outcome w q).1.packages (it.none reply is) (it.unharmed (subst IsUntouched (sym is) (fault_is_err reply fault))) (stood w stands).1 (were_open opened);
       beside = λ clean gone no_fault w stands opened. it.beside clean gone reply is w (stood w stands).0 (stood w stands).1 (were_open opened);

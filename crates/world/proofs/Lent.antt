@@ -30,7 +30,7 @@ use Rattle.world.specs.Loans.{IsLent, loan}
 use Rattle.world.specs.Members.{AllRest, AllClean, AllOpen, IsMember, AreMembers}
 use Rattle.lending.specs.Selecting.{IsSelectionOf, IsPart, MayCome}
 use Rattle.transfer.specs.Parcels.{with_cut}
-use Rattle.world.specs.Serving.{IsUncommitted}
+use Rattle.world.specs.Changes.{IsUncommitted}
 use Rattle.world.specs.Splits.{Splits, KeepsLoan, member_of_child}
 use Rattle.world.specs.Turning.{LeftAs, LeavesAsBefore}
 use Rattle.world.specs.Turns.{TakesTurn}

@@ -27,7 +27,7 @@ use Rattle.world.specs.Deciding.{IsOf, Decides}
 use Rattle.world.specs.Leaving.{IsBeside, AreAtRest, AreClean, AreBeside, LeavesOneOf}
 use Rattle.world.specs.Members.{AllRest, AllClean, AllOpen, AreMembers}
 use Rattle.world.specs.ServeFaults.{IsLastingFault, CountsShelf}
-use Rattle.world.specs.Serving.{Changes, IsUncommitted}
+use Rattle.world.specs.Changes.{Changes, IsUncommitted}
 use Rattle.world.specs.Turning.{IsDue, LeftAs, LeavesAsBefore, world_after}
 use Rattle.lending.specs.declared.turn_fault.TurnFault.{TurnFault}
 use Rattle.lending.specs.declared.turn_fault.TurnFault.TheVariants.{Before, Committing}

@@ -51,7 +51,7 @@ module _ {S : Type 0} (g : Ghosts S) where
   abbrev pub IsServedAs : World → Request → List (Member S) → ℕ → Result Receipt Refusal → Type 0
   IsServedAs w q new after reply = (next : World) × (outcome w q ≡ (reply, next)) × (next.frame ≡ w.frame) × AreMembers g new after next
 
-  -- One request was served in a world that can be used. Where each disk has given back what was written, it was served as the model says; and unless the reply is a receipt the members stand for what they stood for.
+  -- One request was dealt with in a world that can be used. Where each disk has given back what was written, as the model says; and unless the reply is a receipt the members stand for what they stood for.
   pub record ServesAll (f : Frame) (q : Request) (old new : List (Member S)) (strays : List (Held S)) (before after : ℕ) (r : Result (Result Receipt Refusal) ServeFault) : Type 0 where
     -- the last states of the connections that were dropped
     pub gone : List (Held S)

@@ -10,7 +10,7 @@ use Rattle.package_tables.specs.declared.fault.Fault.TheVariants as fault
 use Rattle.world.specs.Leaving.{AreAtRest, LeavesOneOf}
 use Rattle.world.specs.Loans.{IsLent, loan}
 use Rattle.world.specs.Members.{AllRest, AllClean, AllOpen, AreMembers}
-use Rattle.world.specs.Serving.{IsUncommitted}
+use Rattle.world.specs.Changes.{IsUncommitted}
 use Rattle.world.specs.Turning.{LeavesAsBefore}
 use Rattle.lending.specs.declared.turn_fault.TurnFault.{TurnFault}
 use Rattle.lending.specs.declared.turn_fault.TurnFault.TheVariants.{Before}

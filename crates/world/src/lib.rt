@@ -1,4 +1,4 @@
-//! The world of live packages that requests change, each in a store of its own. So far for the four commands that change one package.
+//! The world of live packages that requests change, each in a store of its own.
 #![tactic(auto)]
 
 pub mod applying;

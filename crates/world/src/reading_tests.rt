@@ -1,5 +1,4 @@
 // What a world in memory tells after a few requests, and what two members tell. What is expected follows from what each request asks for: an item counts the bytes of its tile, medium or label.
-use crate::applying::is_served;
 use crate::asking::are_at_rest;
 use crate::members::Member;
 use crate::reading::{PackageSight, holdings_in, sights_of, sums_in};
@@ -38,9 +37,6 @@ fn applied(
         at: text(alloc, AT)?,
         command,
     };
-    if !is_served(&request.command) {
-        return Err(Fail::new("no command that is served"));
-    }
     match world.apply(alloc, &request, &mut MemoryShelf::new(alloc)) {
         Ok(receipt) => Ok(receipt.seq),
         Err(_) => Err(Fail::new("a refusal")),

@@ -8,7 +8,7 @@ use Rattle.world.specs.Splits.{Splits, KeepsLoan}
 use Rattle.lending.specs.declared.turn_fault.TurnFault.TheVariants.{Before}
 use Rattle.world.specs.declared.loans.ServeFault.TheVariants.{Turn}
 use Rattle.world.proofs.CarriedOut.{carries_unbegun, carries_lent, carries_unlent}
-use Rattle.world.proofs.Served.{turned_into}
+use Rattle.world.proofs.ChangesMade.{turned_into}
 use Rattle.world.proofs.Standing.{all_still, stay_length}
 use Rattle.world.proofs.applying.carry_out_split.Goals as goal
 
