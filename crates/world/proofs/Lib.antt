@@ -18,6 +18,7 @@ pub mod Questions
 pub mod AskedOne
 pub mod Overfull
 pub mod ChangesMade
+pub mod HeldStores
 pub mod Keeping
 pub mod Beginning
 pub mod Running
