@@ -17,6 +17,7 @@ pub mod deciding;
 pub mod deciding_loans;
 pub mod judging;
 pub mod laws;
+mod loan_receipts;
 pub mod loans;
 pub mod members;
 pub mod merging;
