@@ -20,7 +20,7 @@ use sqlite::Alter;
 use uuid::Uuid;
 
 /// Why the package of the member at a place and its frame do not take a command, if they do not.
-pub(crate) fn refusal_at<S: Alter + Drop>(
+pub fn refusal_at<S: Alter + Drop>(
     members: &mut Vec<Member<S>>,
     at: usize,
     frame: &Frame,
@@ -36,7 +36,7 @@ pub(crate) fn refusal_at<S: Alter + Drop>(
 }
 
 /// The item under an identity in the package of the member at a place.
-pub(crate) fn item_at<S: Alter + Drop>(
+pub fn item_at<S: Alter + Drop>(
     members: &mut Vec<Member<S>>,
     at: usize,
     identity: Uuid,
@@ -50,7 +50,7 @@ pub(crate) fn item_at<S: Alter + Drop>(
 }
 
 /// What a command that changes one package moves, which is one thing or, of a delete that finds no item, none. The member at the place is of the package that the command names.
-pub(crate) fn thing_moved<S: Alter + Drop>(
+pub fn thing_moved<S: Alter + Drop>(
     members: &mut Vec<Member<S>>,
     at: usize,
     command: &Command,
