@@ -142,22 +142,22 @@ module _ {S : Type 0} (g : Ghosts S) where
         early_of x is early = elim why as (λ t. IsBeforeCommit (Turn t) → IsUncommitted {X = Receipt} (Err t)) [ Before y ↦ λ e. tt | Committing y ↦ λ e. absurd e ] (subst IsBeforeCommit (sym is) early)
 
         -- the child is dropped where it is not kept
-        dropped : TurnFault → List (Held S)
-        dropped (Before fault.OutOfMemory) = child ∷ []
-        dropped (Before fault.StoreFault) = []
-        dropped (Committing x) = []
+        left_behind : TurnFault → List (Held S)
+        left_behind (Before fault.OutOfMemory) = child ∷ []
+        left_behind (Before fault.StoreFault) = []
+        left_behind (Committing x) = []
 
-        dropped_beside : (w next : World) (count : ℕ) → AreMembers g old count w → f ≡ w.frame → IsLent w next due → AllClean g mid → (x : TurnFault) → AreBeside g w.frame w.packages (dropped x)
+        dropped_beside : (w next : World) (count : ℕ) → AreMembers g old count w → f ≡ w.frame → IsLent w next due → AllClean g mid → (x : TurnFault) → AreBeside g w.frame w.packages (left_behind x)
         dropped_beside w next count are same is clean (Before fault.OutOfMemory) =
             All-from_recursion (λ h. HasCleanDisk (state g h) → (trees : Trees) → (state g h).may_leave trees → IsBeside w.frame w.packages trees) (child ∷ [])
-            (λ disk trees may. is_beside g w next due is trees (inr (child_left g shuts settles due child old mid strays at_rest child_rests w next is (keeps clean w next count same are is) disk trees may)), tt)
+            ((λ disk trees may. is_beside g w next due is trees (inr (child_left g shuts settles due child old mid strays at_rest child_rests w next is (keeps clean w next count same are is) disk trees may))), tt)
         dropped_beside w next count are same is clean (Before fault.StoreFault) = none_beside g w.frame w.packages
         dropped_beside w next count are same is clean (Committing x) = none_beside g w.frame w.packages
 
         pub carries_unlent : Carries g (λ w next. (f ≡ w.frame) × IsLent w next due) due.receipt old new strays before before (Err (Turn why))
         carries_unlent = record {
           gone = [];
-          left_over = dropped why;
+          left_over = left_behind why;
           beside_before = λ clean gone w next are is_due was. dropped_beside w next before are is_due.0 is_due.1 (it.clean clean) why;
           rests = it.rests;
           stray_rests = kept_or_dropped (AreAtRest g) (λ early none. All-from_recursion (λ h. Rests (state g h)) strays (no_held (λ h. Rests (state g h)) strays none)) (All-from_recursion (λ h. Rests (state g h)) (child ∷ []) (child_rests, tt));

@@ -122,7 +122,7 @@ module _ {S : Type 0} (g : Ghosts S) where
           → AllByRecursion (λ h. HasCleanDisk (state g h) → (trees : Trees) → (state g h).may_leave trees → IsBeside w.frame w.packages trees) hs
       each [] all = tt
       each (h ∷ hs) all = (
-        λ clean trees may. is_beside w next due is trees (subst (λ v. LeftAs v trees (new_package due.child (Some due.parent) due.depth due.receipt.seq) ⊎ LeftAs v trees (loan due is.taken)) same (all.0 clean_source is.taken is.parent is.selected reads is.part is.come clean trees may)),
+        (λ clean trees may. is_beside w next due is trees (subst (λ v. LeftAs v trees (new_package due.child (Some due.parent) due.depth due.receipt.seq) ⊎ LeftAs v trees (loan due is.taken)) same (all.0 clean_source is.taken is.parent is.selected reads is.part is.come clean trees may))),
         each hs all.1,
       )
 
