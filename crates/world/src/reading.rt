@@ -161,7 +161,7 @@ impl<S: Alter + Drop> World<S> {
 
     /// The stores that the world holds: the strays, and behind them those of its packages in their order. Takes no memory.
     pub fn into_stores(self) -> Vec<Connection<S>>
-        ensures { result.items ≡ held self }
+        ensures { result.items ≡ held S.Store self }
     {
         stores_of(self.members, self.strays)
     }
