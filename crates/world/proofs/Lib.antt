@@ -35,3 +35,4 @@ mod DueSplits
 mod DueMerges
 mod SplitReasons
 mod MergeReasons
+mod Things
