@@ -17,7 +17,8 @@ pub mod Placed
 pub mod Questions
 pub mod AskedOne
 pub mod Overfull
-pub mod Served
+pub mod ChangesMade
+pub mod HeldStores
 pub mod Keeping
 pub mod Beginning
 pub mod Running

@@ -28,7 +28,7 @@ use Rattle.world.specs.Loans.{IsReturned, place_without}
 use Rattle.world.specs.Members.{AllRest, AllClean, AllOpen, IsMember, AreMembers, StaysMember}
 use Rattle.world.specs.Merges.{Merges}
 use Rattle.custody.specs.Homing.{FromClean}
-use Rattle.world.specs.Serving.{IsUncommitted}
+use Rattle.world.specs.Changes.{IsUncommitted}
 use Rattle.world.specs.Turning.{LeftAs, LeavesAsBefore}
 use Rattle.world.specs.Turns.{TakesTurn, LeavesNoMore}
 use Rattle.lending.specs.declared.turn_fault.TurnFault.{TurnFault}

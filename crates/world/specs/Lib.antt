@@ -10,7 +10,7 @@ pub mod Steps
 pub mod Asking
 pub mod TooMany
 pub mod Deciding
-pub mod Serving
+pub mod Changes
 pub mod Worlds
 pub mod Creating
 pub mod Reading

@@ -11,10 +11,9 @@ ghost use Rattle.sheet_types.specs.World.{World, holdings};
 ghost use Rattle.sheet_types.specs.declared.refusal.Refusal.TheVariants.{IdReused};
 ghost use Rattle.world.specs.Asking.{AsksAll};
 ghost use Rattle.world.specs.Deciding.{IsOf, IsNewTo, IsAskedOf, IsPlaced, refusal_before, Decides, HasPlace};
-ghost use Rattle.world.specs.Laws.{IsServed, package_of};
+ghost use Rattle.world.specs.Laws.{ChangesOnePackage, package_of};
 ghost use Rattle.world.specs.Members.{AllRest, AreMembers};
 
-use crate::applying::is_served;
 use crate::asking::{is_named_in_all, kept_in_all, place_of};
 use crate::asking_one::{refusal_at, thing_moved};
 use crate::deciding_loans::decide_loan;
@@ -57,6 +56,20 @@ pub enum Decision {
     SplitDue(Lending),
     /// The merge that is.
     MergeDue(Returning),
+}
+
+/// Whether a command changes one package alone: an addition, a deletion, a link or an unlinking.
+fn changes_one_package(command: &Command) -> bool
+    ensures yes { IsTrue result → ChangesOnePackage command.now }
+    ensures no { ChangesOnePackage command.now → IsTrue result }
+{
+    match command {
+        Command::Add { .. }
+        | Command::Delete { .. }
+        | Command::Link { .. }
+        | Command::Unlink { .. } => true,
+        Command::Split { .. } | Command::Merge { .. } => false,
+    }
 }
 
 /// The package that a command changes.
@@ -116,9 +129,9 @@ fn is_used<S: Alter + Drop>(members: &mut Vec<Member<S>>, command: &Command) -> 
     }
 }
 
-// The values of a served command are those of their types.
+// The values of a command that changes one package are those of their types.
 fn has_types(command: &Command)
-    ensures { IsServed command.now → HasTypes command.now }
+    ensures { ChangesOnePackage command.now → HasTypes command.now }
 {
     match command {
         Command::Add {
@@ -274,7 +287,7 @@ fn decide_new<S: Alter + Drop>(
     ensures asks { AsksAll S.Store (λ w decision. IsNewTo frame.now count request.now w → Decides w request.now decision) members.old.items members.new.items result }
     ensures place { IfOk result (λ decision. HasPlace members.new.items count decision) }
 {
-    if is_served(&request.command) {
+    if changes_one_package(&request.command) {
         decide_change(members, frame, count, alloc, request)
     } else {
         decide_loan(members, frame, count, alloc, request)

@@ -1,9 +1,9 @@
 // Two packages in memory, of which the second takes turns. What is expected follows from what each command asks for.
 
-use crate::asking::are_at_rest;
-use crate::members::Member;
-use crate::sums::{sums_after, sums_moved};
-use crate::turning::turn_at;
+use world::asking::are_at_rest;
+use world::members::Member;
+use world::sums::{sums_after, sums_moved};
+use world::turning::turn_at;
 use crate::values::{MADE, add_medium, member_of, package};
 use identity_register::look_ups::find;
 use package_tables::fault::Fault;

@@ -1,6 +1,6 @@
 // Each command that changes one package, carried out with its receipt in a new package in memory. What is expected follows from what the command asks for.
 
-use crate::carrying_out::apply_to_package;
+use world::carrying_out::apply_to_package;
 use lending::turn_fault::TurnFault;
 use crate::values::{MADE, add_medium};
 use custody::names;

@@ -1,5 +1,5 @@
 // Receipts field by field, by the rules. The digest is that of `tile 2 3 3`, LF and `A` by another program's SHA-256.
-use crate::receipts::receipt_over;
+use world::receipts::receipt_over;
 use package_tables::fault::Fault;
 use sheet_types::command::{Command, Content, Mapping, Relation, Request};
 use sheet_types::fingerprints::spell;

@@ -1,7 +1,7 @@
 // What is asked of the second of two members, of whose packages the first is empty and the second has one tile. What is expected follows from the two packages.
-use crate::asking::are_at_rest;
-use crate::asking_one::{item_at, refusal_at, thing_moved};
-use crate::members::Member;
+use world::asking::are_at_rest;
+use world::asking_one::{item_at, refusal_at, thing_moved};
+use world::members::Member;
 use crate::values::member_of;
 use package_tables::fault::Fault;
 use package_tables::identities::insert_identity;

@@ -1,7 +1,7 @@
 // Two packages in memory, each with one medium and its receipt, and what they are asked. What is expected follows from what was entered.
 
-use crate::asking::{are_at_rest, is_named_in_all, kept_in_all, place_of};
-use crate::members::Member;
+use world::asking::{are_at_rest, is_named_in_all, kept_in_all, place_of};
+use world::members::Member;
 use crate::values::{item, member_with_a_medium, package, request};
 use package_tables::fault::Fault;
 use sqlite::{Alter, Connection};

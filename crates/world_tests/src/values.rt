@@ -1,7 +1,7 @@
 // What the tests of single parts share: the moment of a new package, identities, the addition of a medium, and members.
 
-use crate::carrying_out::apply_to_package;
-use crate::members::Member;
+use world::carrying_out::apply_to_package;
+use world::members::Member;
 use package_tables::fault::Fault;
 use sheet_types::command::Command;
 use sheet_types::receipt::Sums;
@@ -12,23 +12,23 @@ use test_values::{ONE_MEDIUM, empty_package, medium_content, moved_medium, recei
 use uuid::Uuid;
 
 // Before the first receipt.
-pub(crate) const MADE: &str = "2026-11-22T08:00:00.000Z";
+pub const MADE: &str = "2026-11-22T08:00:00.000Z";
 
-pub(crate) fn package(number: u64) -> Uuid {
+pub fn package(number: u64) -> Uuid {
     Uuid::from_u128(u128::from(number))
 }
 
 // An item of the package of that number, and the request that brought it.
-pub(crate) fn item(number: u64) -> Uuid {
+pub fn item(number: u64) -> Uuid {
     Uuid::from_u128(u128::from(number | 16))
 }
 
-pub(crate) fn request(number: u64) -> Uuid {
+pub fn request(number: u64) -> Uuid {
     Uuid::from_u128(u128::from(number | 32))
 }
 
 // The addition of a medium of three bytes.
-pub(crate) fn add_medium(alloc: Global, package: Uuid, identity: Uuid) -> Result<Command, Fault> {
+pub fn add_medium(alloc: Global, package: Uuid, identity: Uuid) -> Result<Command, Fault> {
     Ok(Command::Add {
         package,
         identity,
@@ -37,7 +37,7 @@ pub(crate) fn add_medium(alloc: Global, package: Uuid, identity: Uuid) -> Result
 }
 
 // A member without parent, of a store that holds so much.
-pub(crate) fn member_of<S: Alter + Drop>(
+pub fn member_of<S: Alter + Drop>(
     conn: Connection<S>,
     uuid: Uuid,
     sums: Sums,
@@ -55,7 +55,7 @@ pub(crate) fn member_of<S: Alter + Drop>(
 }
 
 // The package of a number with one medium, added with the receipt of this number.
-pub(crate) fn member_with_a_medium<S: Alter + Drop>(
+pub fn member_with_a_medium<S: Alter + Drop>(
     alloc: Global,
     conn: Connection<S>,
     number: u64,

@@ -1,10 +1,9 @@
 // What a world in memory tells after a few requests, and what two members tell. What is expected follows from what each request asks for: an item counts the bytes of its tile, medium or label.
-use crate::applying::is_served;
-use crate::asking::are_at_rest;
-use crate::members::Member;
-use crate::reading::{PackageSight, holdings_in, sights_of, sums_in};
+use world::asking::are_at_rest;
+use world::members::Member;
+use world::reading::{PackageSight, holdings_in, sights_of, sums_in};
 use crate::values::{item, member_with_a_medium, package, request};
-use crate::world::World;
+use world::world::World;
 use identity_register::whole::holdings;
 use package_tables::fault::Fault;
 use sheet_types::command::{Command, Content, Item, Mapping, Relation, Request};
@@ -38,9 +37,6 @@ fn applied(
         at: text(alloc, AT)?,
         command,
     };
-    if !is_served(&request.command) {
-        return Err(Fail::new("no command that is served"));
-    }
     match world.apply(alloc, &request, &mut MemoryShelf::new(alloc)) {
         Ok(receipt) => Ok(receipt.seq),
         Err(_) => Err(Fail::new("a refusal")),
