@@ -36,3 +36,4 @@ mod DueSplits
 mod DueMerges
 mod SplitReasons
 mod MergeReasons
+mod Things
