@@ -10,6 +10,7 @@ pub mod Steps
 pub mod Asking
 pub mod TooMany
 pub mod Deciding
+pub mod DecidingSplits
 pub mod Serving
 pub mod Worlds
 pub mod Creating
