@@ -34,4 +34,7 @@ mod Listing
 mod DueSplits
 mod DueMerges
 mod SplitReasons
+mod SplitDecided
+mod SplitLimits
+mod SplitAsked
 mod MergeReasons

@@ -109,12 +109,19 @@ fn was_ever_lent<S: Alter + Drop>(
     Ok(false)
 }
 
+/// Whether a member is the archive, and of this UUID.
+fn is_archive<S: Alter + Drop>(member: &Member<S>, id: Uuid) -> bool
+    ensures { result ≡ (is_none member.now.parent && bytes_eq member.now.uuid id) }
+{
+    member.parent.is_none() & (member.uuid == id)
+}
+
 /// Whether this is the UUID of the archive.
 fn is_of_archive<S: Alter + Drop>(members: &[Member<S>], id: Uuid) -> bool
     ensures { result ≡ list_any (λ m. is_none m.parent && bytes_eq m.uuid id) members.now }
 {
     for at in 0..members.len() {
-        if members[at].parent.is_none() && members[at].uuid == id {
+        if is_archive(&members[at], id) {
             return true;
         }
     }
@@ -219,7 +226,10 @@ fn is_too_many<S: Alter + Drop>(
 ) -> bool
     ensures { result ≡ leaves_too_many members.now at left lent count }
 {
-    if is_past_limits(lent) || any_past_limits(members, at, left) {
+    if is_past_limits(lent) {
+        return true;
+    }
+    if any_past_limits(members, at, left) {
         return true;
     }
     if members.len() >= 256 {
