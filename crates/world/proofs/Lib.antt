@@ -35,5 +35,8 @@ mod Listing
 mod DueSplits
 mod DueMerges
 mod SplitReasons
+mod SplitDecided
+mod SplitLimits
+mod SplitAsked
 mod MergeReasons
 mod Things

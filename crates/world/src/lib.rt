@@ -9,6 +9,7 @@ pub mod crash_laws;
 pub mod creating;
 pub mod deciding;
 pub mod deciding_loans;
+mod deciding_splits;
 pub mod judging;
 pub mod laws;
 mod loan_receipts;

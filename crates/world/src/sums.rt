@@ -32,7 +32,7 @@ fn more(some: Sums, held: Sums) -> Option<Sums>
     })
 }
 
-fn less(some: Sums, held: Sums) -> Option<Sums>
+pub(crate) fn less(some: Sums, held: Sums) -> Option<Sums>
     ensures { SomeIff result (IsWithin some held) (sums_less some held) }
 {
     Some(Sums {
