@@ -21,3 +21,4 @@ pub mod ServeFaults
 pub mod Splits
 pub mod Merges
 pub mod Carries
+pub mod DecidingMerges

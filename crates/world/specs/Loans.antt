@@ -161,7 +161,7 @@ merge_reasons w next q =
     (not (is_moment q.at) || bad_text q.command, BadText)
     ∷ (foreign w q.command, Foreign)
     ∷ (stale w q.command, Stale (ticket w (child_of q.command)))
-    ∷ (is_some (loan_open w q.command), LoanOpen)
+    ∷ carrying LoanOpen (loan_open w q.command)
     ∷ carrying Collides (collides w q.command)
     ∷ (too_many next, TooMany)
     ∷ []

@@ -15,6 +15,7 @@ pub mod crash_laws;
 pub mod creating;
 pub mod deciding;
 pub mod deciding_loans;
+mod deciding_merges;
 pub mod judging;
 pub mod laws;
 mod loan_receipts;
