@@ -35,3 +35,6 @@ mod DueSplits
 mod DueMerges
 mod SplitReasons
 mod MergeReasons
+pub mod FirstInOrder
+mod DecidedMerges
+mod MergeLimits

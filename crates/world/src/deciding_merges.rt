@@ -1,14 +1,15 @@
 //! What a merge comes to that did not come before. What is kept of the members is looked at first, then what the child holds, once, and of each of its tiles whether the place is taken in the parent.
-ghost use Rattle.std.specs.Prelude.{◌≡◌, ◌<◌, ◌≤◌, ◌+◌, ◌→◌, ℕ, pos, IsTrue, IfOk, IfNone, Some, None, length, slice_get};
+ghost use Rattle.std.specs.Prelude.{◌≡◌, ◌<◌, ◌≤◌, ◌+◌, ℕ, pos, IsTrue, IfOk, IfNone, Some, None, length, map, slice_get};
 ghost use Rattle.std.specs.Bool.{then_some};
 ghost use Rattle.std.specs.List.{list_any};
 ghost use Rattle.sheet_types.specs.Custody.{ends_at, kept};
-ghost use Rattle.sheet_types.specs.Cut.{moved_of};
+ghost use Rattle.sheet_types.specs.Cut.{moved_of, identities};
 ghost use Rattle.sheet_types.specs.Lines.{HasTypes};
 ghost use Rattle.sheet_types.specs.Matrix.{is_within};
+ghost use Rattle.sheet_types.specs.Ordered.{is_before};
 ghost use Rattle.sheet_types.specs.Refuse.{is_at, takes_place, greatest_receipts};
 ghost use Rattle.sheet_types.specs.Step.{receipt_of};
-ghost use Rattle.sheet_types.specs.World.{World, Package, is_live, holdings, receipts_of};
+ghost use Rattle.sheet_types.specs.World.{World, Package, is_live, holdings, receipts_of, item_moved, link_moved};
 ghost use Rattle.sheet_types.specs.declared.command.Command.TheVariants.{Merge};
 ghost use Rattle.sheet_types.specs.declared.command.Request.{Request as ModelRequest};
 ghost use Rattle.lending.specs.Selecting.{IsSelectionOf};
@@ -139,22 +140,36 @@ fn clash_at<S: Alter + Drop>(
             if !has_tile_in(members, at, *zoom, *column, *row)? {
                 return Ok(None);
             }
-            Ok(Some(Clash {
-                place: [zoom.unsigned_abs(), column.unsigned_abs(), row.unsigned_abs()],
-                identity: item.identity,
-            }))
+            let place = [zoom.unsigned_abs(), column.unsigned_abs(), row.unsigned_abs()];
+            let identity = item.identity;
+            Ok(Some(Clash { place, identity }))
         }
         Content::Media { .. } | Content::Row { .. } => Ok(None),
     }
 }
 
-/// The first of two by their places.
+/// Whether a tile comes before another, by zoom, column and row.
+fn comes_before(a: Clash, b: Clash) -> bool
+    ensures { result ≡ is_before a.place b.place }
+{
+    let place = a.place;
+    let other = b.place;
+    place.cmp(&other).is_lt()
+}
+
+/// The first of two, that which was there where they have one place.
 fn nearer(first: Option<Clash>, clash: Clash) -> Clash
     ensures { result ≡ nearer_clash first clash }
 {
     match first {
-        Some(first) if clash.place >= first.place => first,
-        _ => clash,
+        None => clash,
+        Some(first) => {
+            if comes_before(clash, first) {
+                clash
+            } else {
+                first
+            }
+        }
     }
 }
 
@@ -177,21 +192,42 @@ fn first_taken<S: Alter + Drop>(
     Ok(first)
 }
 
+/// Items as a receipt names them.
+fn items_moved(alloc: Global, items: &[Item]) -> Result<Vec<Moved>, Fault>
+    ensures { IfOk result (λ things. things.items ≡ map item_moved items.now) }
+{
+    Ok(items.iter().map(|item| Moved::of_item(item)).collect(alloc)?)
+}
+
+/// Links as a receipt names them.
+fn links_moved(alloc: Global, links: &[Relation]) -> Result<Vec<Moved>, Fault>
+    ensures { IfOk result (λ things. things.items ≡ map link_moved links.now) }
+{
+    Ok(links.iter().map(|link| Moved::of_link(link)).collect(alloc)?)
+}
+
 /// All of these items and links, as a receipt names them.
 fn things_of(alloc: Global, items: &[Item], links: &[Relation]) -> Result<MovedList, Fault>
     ensures { IfOk result (λ things. things ≡ moved_of items.now links.now) }
 {
-    let items = items.iter().map(|item| Moved::of_item(item));
-    let links = links.iter().map(|link| Moved::of_link(link));
-    let things = items.chain(links).collect(alloc)?;
+    let mut things = items_moved(alloc, items)?;
+    let others = links_moved(alloc, links)?;
+    things.extend_from_slice(&others)?;
     Ok(MovedList::from_vec(things))
+}
+
+/// The identities of items.
+fn identities_of(alloc: Global, items: &[Item]) -> Result<Vec<Uuid>, Fault>
+    ensures { IfOk result (λ found. found.items ≡ identities items.now) }
+{
+    Ok(items.iter().map(|item| item.identity).collect(alloc)?)
 }
 
 /// All of these items and links as what is selected.
 fn selection_of(alloc: Global, items: &[Item], links: Vec<Relation>) -> Result<Selection, Fault>
     ensures { IfOk result (λ selection. IsSelectionOf (record { items = items.now; links = links.items }) selection) }
 {
-    let identities = items.iter().map(|item| item.identity).collect(alloc)?;
+    let identities = identities_of(alloc, items)?;
     Ok(Selection { identities, links })
 }
 
