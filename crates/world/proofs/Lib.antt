@@ -40,3 +40,6 @@ mod SplitLimits
 mod SplitAsked
 mod MergeReasons
 mod Things
+pub mod FirstInOrder
+mod DecidedMerges
+mod MergeLimits

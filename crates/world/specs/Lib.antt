@@ -22,3 +22,4 @@ pub mod ServeFaults
 pub mod Splits
 pub mod Merges
 pub mod Carries
+pub mod DecidingMerges

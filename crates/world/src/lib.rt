@@ -8,7 +8,7 @@ pub mod carrying_out;
 pub mod crash_laws;
 pub mod creating;
 pub mod deciding;
-pub mod deciding_loans;
+mod deciding_merges;
 mod deciding_splits;
 pub mod judging;
 pub mod laws;
