@@ -12,6 +12,7 @@ import sys
 import uuid
 
 import reference
+from machine.lists import HEADER, spelled
 
 ARCHIVE = "6f0d3a52-9c1e-4b7a-8f24-1d5be07c9a10"
 CREATED = "2026-03-02T07:30:00.000Z"
@@ -80,11 +81,11 @@ class List:
     def add(self, command, request=None, at=None, package=ARCHIVE, **fields):
         number = len(self.records) + 1
         moment = f"2026-03-02T{8 + number // 120:02}:{number // 2 % 60:02}:{number % 2 * 30:02}.000Z"
-        values = {name: "" for name in reference.HEADER}
+        values = {name: "" for name in HEADER}
         values.update(fields, command=command, package=package)
         values["request"] = request or name_uuid("request", f"{number}")
         values["at"] = moment if at is None else at
-        self.records.append([str(values[name]) for name in reference.HEADER])
+        self.records.append([str(values[name]) for name in HEADER])
         return values["request"]
 
     def tile(self, identity, zoom, column, row, data, **other):
@@ -100,8 +101,8 @@ class List:
         return self.add(command, kind=mapping, identity=base, other=medium, **other)
 
     def text(self):
-        records = [reference.HEADER, *self.records]
-        return "".join(",".join(map(reference.spelled, record)) + "\n" for record in records)
+        records = [HEADER, *self.records]
+        return "".join(",".join(map(spelled, record)) + "\n" for record in records)
 
 
 def write_holdings(requests):
@@ -196,8 +197,8 @@ def sample_list():
 def files():
     """Each file's path and bytes."""
     sample = sample_list()
-    text, status, replies = reference.rehearse(ARCHIVE, FRAME, sample)
-    met = {refusal for _, refusal in replies}
+    text, status, _, replies, _ = reference.rehearse(ARCHIVE, FRAME, sample)
+    met = {reply.number if isinstance(reply, reference.Refusal) else 0 for reply in replies}
     assert status == 0 and met == {0, 1, 2, 4, 5, 6, 7, 8, 9, 10, 11, 12, 13, 14}, met
     words = ["rehearse", "--archive", ARCHIVE, "--at", CREATED, "--frame", FRAME]
     return {
