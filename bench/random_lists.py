@@ -17,7 +17,7 @@ MIXES = [
     {"tile": 16, "media": 10, "row": 12, "delete": 12, "link": 22, "unlink": 12, "split": 6, "merge": 6},
     {"tile": 16, "media": 4, "row": 10, "delete": 5, "link": 8, "unlink": 3, "split": 24, "merge": 18},
     {"tile": 18, "media": 8, "row": 12, "delete": 2, "link": 26, "unlink": 2, "split": 24, "merge": 8},
-    {"tile": 20, "media": 2, "row": 34, "delete": 2, "link": 2, "unlink": 2, "split": 36, "merge": 2},
+    {"tile": 46, "media": 2, "row": 4, "delete": 2, "link": 2, "unlink": 2, "split": 40, "merge": 2},
 ]
 
 
@@ -34,9 +34,11 @@ class Lists(Values):
     # Names of things, of which most are there.
 
     def package(self):
-        """A live package, a deep one as likely as the archive; or another UUID."""
+        """A live package, a deep one as likely as the archive, but where all is lent; or another UUID."""
         if self.chance(0.02):
             return self.random.choice([*self.spare, *self.world.lent])
+        if self.mix is MIXES[-1] and self.chance(0.85):
+            return ARCHIVE
         live = list(self.world.packages.values())
         depth = self.random.choice([package.depth for package in live])
         return self.random.choice([package.uuid for package in live if package.depth == depth])
