@@ -11,12 +11,14 @@ from machine.world import World, apply
 from random_values import BAD_MOMENTS, GOOD_MOMENTS, GREATEST, LEAST, Values
 
 ARCHIVE = "a0000000-0000-4000-8000-00000000000a"
-# How often each command comes, for lists that fill, that change, that lend and bring home, that lend what is linked, and that lend all.
+# How often each command comes, for lists that fill, that change, that lend and bring home, that lend what is linked, that link most
+# things with one another, and that lend all.
 MIXES = [
     {"tile": 20, "media": 12, "row": 15, "delete": 8, "link": 18, "unlink": 6, "split": 3, "merge": 3},
     {"tile": 16, "media": 10, "row": 12, "delete": 12, "link": 22, "unlink": 12, "split": 6, "merge": 6},
     {"tile": 16, "media": 4, "row": 10, "delete": 5, "link": 8, "unlink": 3, "split": 24, "merge": 18},
     {"tile": 18, "media": 8, "row": 12, "delete": 2, "link": 26, "unlink": 2, "split": 24, "merge": 8},
+    {"tile": 14, "media": 8, "row": 10, "delete": 2, "link": 54, "unlink": 2, "split": 5, "merge": 5},
     {"tile": 46, "media": 2, "row": 4, "delete": 2, "link": 2, "unlink": 2, "split": 40, "merge": 2},
 ]
 
