@@ -4,7 +4,7 @@ A list follows the world that it has come to so far (that of samples/reference.p
 come out is asked of the list's text afterwards.
 """
 
-from machine.contents import ENDS, link_of, place_of
+from machine.contents import ENDS, place_of
 from machine.frames import Frame
 from machine.lists import HEADER, MAPPINGS, MODES, read_request
 from machine.world import World, apply
@@ -139,13 +139,17 @@ class Lists(Values):
 
     def repeat(self, fields):
         """A request that was there, as it was or with another moment, or with something else of it changed."""
-        change = self.random.choices(["none", "at", "data", "package", "identity", "other", "ticket"], [50, 30, 8, 4, 4, 4, 4])[0]
+        change = self.random.choices(["none", "at", "data", "package", "identity", "other", "ticket", "cut"], [46, 28, 6, 4, 4, 4, 4, 8])[0]
         if change == "at":
             fields["at"] = self.random.choice(GOOD_MOMENTS + BAD_MOMENTS)
         elif change == "data" and fields["data"]:
             fields["data"] += "00"
         elif change == "ticket" and fields["command"] == "merge":
             fields["ticket"] = self.world.tickets.get(fields["package"], 0)
+        elif change == "cut" and fields["command"] == "split":
+            other = {"kind": self.random.choice(MODES), **{name: self.near(fields[name]) for name in ["zoom", "column", "last_column", "row", "last_row"]}}
+            name = self.random.choice(list(other))
+            fields[name] = other[name]
         elif change == "package" or change in ("identity", "other") and fields[change]:
             fields[change] = self.random.choice(self.spare)
         return fields

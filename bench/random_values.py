@@ -65,8 +65,13 @@ class Values:
         return zoom, self.random.randrange(columns), self.random.randrange(rows)
 
     def point(self, frame):
+        """Any point, one about the corners of the frame, or one about those of a tile, of the first zooms most of all."""
         if self.chance(0.2):
             return self.near(frame.min_x, frame.max_x), self.near(frame.min_y, frame.max_y)
+        if self.chance(0.4):
+            zoom = frame.first_zoom + self.random.randrange(min(frame.levels, 3))
+            ground = frame.ground(zoom, *map(self.random.randrange, frame.matrix(zoom)))
+            return self.near(ground.west, ground.east), self.near(ground.south, ground.north)
         return self.random.randrange(frame.min_x, frame.max_x), self.random.randrange(frame.min_y + 1, frame.max_y + 1)
 
     def code(self):
