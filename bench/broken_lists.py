@@ -9,10 +9,13 @@ UUID_COLUMNS = [HEADER.index(name) for name in ["request", "package", "identity"
 WORD_COLUMNS = [HEADER.index(name) for name in ["command", "kind"]]
 WORDS = "Add,add ,split,merge,tile,TILE,tiles_media,rows_media,rows_tiles,tiles_rows,strict,follow,Follow,row,delete,link".split(",") + [""]
 NO_DATA = ["0", "0g", "000", "0x00", " 00", "\u0661\u0661", "+1", "-1", ""]
+FIELDS = [(NUMBER_COLUMNS, NO_NUMBERS), (UUID_COLUMNS, NO_UUIDS), (WORD_COLUMNS, WORDS), ([HEADER.index("data")], NO_DATA), (range(18), ["x", "0", " "])]
 TORN = [b"\xff", b"\xc3", b"\xed\xa0\x80", b"\xf4\x90\x80\x80", b"\xc0\x80", b"\xef\xbb\xbf"]
 BEGINNINGS = [b"\xef\xbb\xbf", b"\xef\xbb\xbf\xef\xbb\xbf", b"\n\n", b"\r\n", b" ", b"\xef\xbb", b""]
 MARKS = [b'"', b",", b"\n", b"\r", b"\x00", b" ", b'""']
 ENDS = [("\n",), ("\r\n",), ("\r",), ("\n", "\r\n", "\r", "\n\n", "\r\n\r\n")]
+# Numbers about the limits of a frame.
+LIMITS = [0, 1, 20, 21, 22, 4096, 4097, 999_999, 1_000_000, BOUND, BOUND + 1, -BOUND, -BOUND - 1, 2 * BOUND, 2 * BOUND + 1, LEAST, GREATEST, 1 << 32, 1 << 62]
 
 
 class BrokenLists(Lists):
@@ -28,7 +31,7 @@ class BrokenLists(Lists):
 
     def other_field(self, records):
         draw = self.random
-        columns, texts = draw.choice([(NUMBER_COLUMNS, NO_NUMBERS), (UUID_COLUMNS, NO_UUIDS), ([HEADER.index("data")], NO_DATA), (range(18), ["x", "0", " "]), (WORD_COLUMNS, WORDS)])
+        columns, texts = draw.choice(FIELDS)
         draw.choice(records[1:])[draw.choice(columns)] = draw.choice(texts)
 
     def other_length(self, records):
@@ -60,10 +63,10 @@ class BrokenLists(Lists):
             numbers[place] = draw.choice([*self.near_number(numbers[place]), draw.choice(NO_NUMBERS)])
         frame = ",".join(numbers)
         if self.chance(0.05):
-            frame = draw.choice([frame + ",", frame + ",1", "," + frame, frame + " ", frame.replace(",", ";"), frame.replace(",", ", ", 1), "", frame[: len(frame) // 2]])
+            other = [frame + ",", frame + ",1", "," + frame, frame + " ", frame.replace(",", ";"), frame.replace(",", ", ", 1)]
+            frame = draw.choice([*other, "", frame[: len(frame) // 2]])
         return archive, at, frame
 
     def near_number(self, text):
         old = int(text) if text.lstrip("-").isascii() and text.lstrip("-").isdigit() else 0
-        limits = [0, 1, 20, 21, 22, 4096, 4097, 999_999, 1_000_000, BOUND, BOUND + 1, -BOUND, -BOUND - 1, 2 * BOUND, 2 * BOUND + 1, LEAST, GREATEST, 1 << 32, 1 << 62]
-        return map(str, [old + 1, old - 1, old * 2, old // 2, -old, *limits])
+        return map(str, [old + 1, old - 1, old * 2, old // 2, -old, *LIMITS])

@@ -94,8 +94,10 @@ def main():
         frame = FRAMES[number % len(FRAMES)]
         if len(comparison.compare(frame, made.long_list(frame, said.requests))) != said.requests:
             sys.exit(f"list {number} was no list")
-    short = collections.Counter("read" if comparison.compare(FRAMES[0], made.broken_list(FRAMES[0])) else "refused or empty" for _ in range(said.broken))
-    lines = collections.Counter(comparison.compare_words(*made.words()) for _ in range(said.broken))
+    short, lines = collections.Counter(), collections.Counter()
+    for _ in range(said.broken):
+        short["read" if comparison.compare(FRAMES[0], made.broken_list(FRAMES[0])) else "refused or empty"] += 1
+        lines[comparison.compare_words(*made.words())] += 1
     print(f"seed {said.seed}: {said.lists} lists and {sum(comparison.replies.values())} requests in all, no difference")
     print("by reply (0 accepted or repeated):", told(comparison.replies))
     print("by command:", told(comparison.commands))

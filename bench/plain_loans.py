@@ -1,4 +1,7 @@
-"""What a split takes, and how a cut is carried from one package into another, by statements over whole sets: the keys of what goes stand in the table `going`."""
+"""What a split takes, and how a cut is carried from one package into another, by statements over whole sets.
+
+The kinds and keys of what goes stand in the table `going` of the package that it leaves.
+"""
 
 from machine.contents import item_moved, link_moved
 from plain_store import END_KINDS, TABLES
@@ -21,10 +24,12 @@ def choose_start(store, frame, rect):
     inside = "INSERT INTO going SELECT 1, id FROM sheet_tiles WHERE zoom_level = ? AND tile_column BETWEEN ? AND ? AND tile_row BETWEEN ? AND ?"
     for zoom in range(frame.first_zoom, frame.first_zoom + frame.levels):
         store.conn.execute(inside, (zoom, *span(frame, rect, zoom)))
-    width, height = ((high - low) // count for low, high, count in zip((frame.min_x, frame.min_y), (frame.max_x, frame.max_y), frame.matrix(rect.zoom)))
+    columns, rows = frame.matrix(rect.zoom)
+    width, height = (frame.max_x - frame.min_x) // columns, (frame.max_y - frame.min_y) // rows
     west, east = frame.min_x + rect.column * width, frame.min_x + (rect.last_column + 1) * width
     north, south = frame.max_y - rect.row * height, frame.max_y - (rect.last_row + 1) * height
-    store.conn.execute("INSERT INTO going SELECT 3, id FROM sheet_rows WHERE x >= ? AND x < ? AND y > ? AND y <= ?", (west, east, south, north))
+    inside = "INSERT INTO going SELECT 3, id FROM sheet_rows WHERE x >= ? AND x < ? AND y > ? AND y <= ?"
+    store.conn.execute(inside, (west, east, south, north))
     return store.one("SELECT 1 FROM going") is not None
 
 
@@ -72,7 +77,8 @@ def carry(source, target):
     keys, names, moved = {}, {}, []
     for kind, table in TABLES.items():
         free = target.one(f"SELECT coalesce(max(id), 0) + 1 FROM {table}")[0]
-        rows = source.all(f"SELECT uuid, {table}.* FROM going JOIN {table} ON id = going.local_id JOIN sheet_identity ON sheet_identity.kind = {kind} AND sheet_identity.local_id = id WHERE going.kind = {kind}")
+        joins = f"JOIN {table} ON id = going.local_id JOIN sheet_identity n ON n.kind = {kind} AND n.local_id = id"
+        rows = source.all(f"SELECT uuid, {table}.* FROM going {joins} WHERE going.kind = {kind}")
         keys[kind] = {row[1]: free + number for number, row in enumerate(rows)}
         names[kind] = {row[1]: row[0] for row in rows}
         moved += [item_moved(row[0], source.as_item(kind, row[1:])) for row in rows]

@@ -49,8 +49,7 @@ class Register:
             return 4
         if command == "add" and too_large(self, request):
             return 5
-        judge = {"add": self.of_add, "delete": self.of_delete, "link": self.of_link, "unlink": self.of_unlink, "split": self.of_split, "merge": self.of_merge}
-        return judge[command](self.stores[request["package"]], request)
+        return getattr(self, f"of_{command}")(self.stores[request["package"]], request)
 
     def of_add(self, store, request):
         if self.any_store(Store.is_used, request["identity"]):
@@ -156,7 +155,8 @@ class Register:
 
 
 def manifest(store):
-    rows = [reference.item_fields(identity, store.item(kind, key)) for kind, key, identity in store.all("SELECT * FROM sheet_identity ORDER BY kind, uuid")]
+    identities = store.all("SELECT * FROM sheet_identity ORDER BY kind, uuid")
+    rows = [reference.item_fields(identity, store.item(kind, key)) for kind, key, identity in identities]
     rows += map(reference.link_fields, store.links())
     return f"package {store.uuid}\n{reference.MANIFEST_HEADER}\n" + "".join(map(spelled_record, rows))
 

@@ -8,7 +8,10 @@ KIND_NAMES = {1: "tile", 2: "media", 3: "row"}
 COLUMNS = {1: ["zoom", "column", "row", "data"], 2: ["data", "text"], 3: ["x", "y", "code", "text"]}
 # The kinds of the ends of a mapping, by number, and the mapping tables that an item of a kind may stand in.
 END_KINDS = {mapping: tuple(KINDS[kind] for kind in ends) for mapping, ends in ENDS.items()}
-MAPPED = {kind: [(mapping, column) for mapping, ends in END_KINDS.items() for end, column in zip(ends, ["base_id", "related_id"]) if end == kind] for kind in TABLES}
+MAPPED = {
+    kind: [(mapping, column) for mapping, ends in END_KINDS.items() for end, column in zip(ends, ["base_id", "related_id"]) if end == kind]
+    for kind in TABLES
+}
 
 
 class Store:
@@ -68,7 +71,8 @@ class Store:
     def links(self):
         """The links of the package in their order."""
         for mapping, (base, other) in END_KINDS.items():
-            for ends in self.all(f"SELECT a.uuid, b.uuid FROM {mapping} JOIN sheet_identity a ON a.kind = {base} AND a.local_id = base_id JOIN sheet_identity b ON b.kind = {other} AND b.local_id = related_id ORDER BY 1, 2"):
+            joins = f"JOIN sheet_identity a ON a.kind = {base} AND a.local_id = base_id JOIN sheet_identity b ON b.kind = {other} AND b.local_id = related_id"
+            for ends in self.all(f"SELECT a.uuid, b.uuid FROM {mapping} {joins} ORDER BY 1, 2"):
                 yield (mapping, *ends)
 
     # Changes, each inside a transaction, with what a receipt says of them.
@@ -99,8 +103,10 @@ class Store:
         """The receipt of a request, with what it moved in its order, and the date of the contents."""
         counts = [sum(thing.kind == kind for thing in moved) for kind in TABLES]
         sums = [*counts, len(moved) - sum(counts), sum(thing.size for thing in moved)]
-        self.conn.execute("INSERT INTO sheet_receipts VALUES (?, ?, ?, ?, ?, ?, ?, ?, ?, ?, ?)", (seq, request["request"], request["at"], line, *ends, *sums))
-        self.conn.executemany("INSERT INTO sheet_items VALUES (?, ?, ?, ?, ?, ?, ?)", [(seq, position, *thing) for position, thing in enumerate(moved)])
+        receipt = (seq, request["request"], request["at"], line, *ends, *sums)
+        self.conn.execute("INSERT INTO sheet_receipts VALUES (?, ?, ?, ?, ?, ?, ?, ?, ?, ?, ?)", receipt)
+        things = [(seq, position, *thing) for position, thing in enumerate(moved)]
+        self.conn.executemany("INSERT INTO sheet_items VALUES (?, ?, ?, ?, ?, ?, ?)", things)
         self.date(request["at"])
 
     def date(self, at):

@@ -147,9 +147,8 @@ class Lists(Values):
         elif change == "ticket" and fields["command"] == "merge":
             fields["ticket"] = self.world.tickets.get(fields["package"], 0)
         elif change == "cut" and fields["command"] == "split":
-            other = {"kind": self.random.choice(MODES), **{name: self.near(fields[name]) for name in ["zoom", "column", "last_column", "row", "last_row"]}}
-            name = self.random.choice(list(other))
-            fields[name] = other[name]
+            name = self.random.choice(["kind", "zoom", "column", "last_column", "row", "last_row"])
+            fields[name] = self.random.choice(MODES) if name == "kind" else self.near(fields[name])
         elif change == "package" or change in ("identity", "other") and fields[change]:
             fields[change] = self.random.choice(self.spare)
         return fields
