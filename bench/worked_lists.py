@@ -34,8 +34,8 @@ MOMENTS = {"T": "2024-05-01T08:00:00.000Z", "U": "2024-05-01T09:00:00.000Z"}
 FIRST_DIGITS = {"A": "a", "B": "b", "C": "c", "D": "d", "E": "e", "G": "f"}
 ABBREVIATION = re.compile(r"(?<![\w.-])(?:([A-EG])|([iq])([0-9]+)|([TU]))(?![\w.-])")
 
-# A list, the replies to its records, the manifests of all live packages in order, and the reason where it is none.
-Check = namedtuple("Check", "name frame records replies manifests fault last_end")
+# A list, the replies to its records, the desk's texts of some of them by the record's number, the manifests of all live packages in order, and the reason where it is none.
+Check = namedtuple("Check", "name frame records replies desk manifests fault last_end")
 
 
 def uuid_of(first_digit, number=0):
@@ -60,10 +60,15 @@ def fingerprint(found):
     return hashlib.sha256(f"tile {place.replace('/', ' ')}\n{data}".encode()).hexdigest()
 
 
+def filled(text):
+    """The text with each fingerprint in brackets written out."""
+    return re.sub("<([^>]+)>", fingerprint, text)
+
+
 def manifest_line(line):
     """A line of a manifest written out: abbreviations in its first three fields, fingerprints in brackets."""
     kind, identity, other, rest = line.split(",", 3)
-    return ",".join([kind, in_full(identity), in_full(other), re.sub("<([^>]+)>", fingerprint, rest)]) + "\n"
+    return ",".join([kind, in_full(identity), in_full(other), filled(rest)]) + "\n"
 
 
 def record_line(line):
@@ -74,21 +79,23 @@ def record_line(line):
 
 def checks_of(name, lines):
     """A check for each block of manifests or fault of an example."""
-    frame, records, replies, manifests, last_end = FRAME, [], [], "", True
+    frame, records, replies, desk, manifests, last_end = FRAME, [], [], {}, "", True
     for line, after in zip(lines, [*lines[1:], "-> "]):
         if line.startswith("frame "):
             frame = line[6:]
         elif line.startswith("no line end"):
             last_end = False
         elif line.startswith("refused "):
-            yield Check(name, frame, records, replies, "", line[8:], last_end)
+            yield Check(name, frame, records, replies, desk, "", line[8:], last_end)
+        elif line.startswith("desk "):
+            desk = {**desk, len(records): in_full(filled(line[5:]))}
         elif " -> " in line:
             record, reply = line.split(" -> ")
             records, replies, manifests = [*records, record_line(record)], [*replies, in_full(reply)], ""
         else:
             manifests += in_full(line) + "\n" + MANIFEST_HEADER if line.startswith("package ") else manifest_line(line)
             if "->" in after:
-                yield Check(name, frame, records, replies, manifests, None, last_end)
+                yield Check(name, frame, records, replies, desk, manifests, None, last_end)
 
 
 def written_out():
@@ -190,11 +197,13 @@ def must_be(check, found, wanted):
 
 
 def check_reference(check):
-    text, wanted = list_of(check), expected(check)
-    done = reference.rehearse(uuid_of("a"), check.frame, text)
-    must_be(check, fault_of(text), check.fault)
+    records, wanted = list_of(check), expected(check)
+    done = reference.rehearse(uuid_of("a"), check.frame, records)
+    must_be(check, fault_of(records), check.fault)
     for reply, told in zip(done.replies, check.replies):
         must_be(check, told if told in tellings(reply) else tellings(reply), told)
+    for number, text in check.desk.items():
+        must_be(check, reference.reply_text(done.replies[number - 1]), text)
     must_be(check, (done.text, done.status), wanted)
     audit(done.world)
 

@@ -1,11 +1,12 @@
 #!/usr/bin/env python3
 """A small second machine for request lists of all six commands: what `sheetdesk rehearse` has to print, by the rules alone.
 
-Usage: reference.py [--replies] ARCHIVE FRAME < list.csv
+Usage: reference.py [--replies|--packages] ARCHIVE FRAME < list.csv
 
 ARCHIVE is the UUID of the archive, FRAME its eleven numbers. The report and the manifest of each live package go to standard
-output, with status 0; with --replies come the replies in place of the report, a line of JSON each, with what a refusal carries
-and with the sums of a receipt. Where the text is no request list, it is the line `refused: list`, with status 1.
+output, with status 0; with --replies the reply to each request, a line of JSON each, with what a refusal carries and with the sums
+of a receipt; with --packages the list of the live packages as JSON, with their sums and tickets. Where the text is no request list,
+it is the line `refused: list`, with status 1.
 
 It shares nothing with the program: one world in plain Python sets and dictionaries, nothing stored and nothing proved. A request
 is judged by one function for each reason, in the order of their numbers. `audit` holds a world against its receipts.
@@ -19,7 +20,7 @@ from machine.contents import KINDS, fingerprint_of, is_moment, place_of, size_of
 from machine.frames import Frame
 from machine.lists import UUID, NoList, read_requests, read_uuid, spelled_record
 from machine.reasons import NAMES, Refusal
-from machine.world import Receipt, World, apply
+from machine.world import Receipt, World, apply, held, sums_of
 
 MANIFEST_HEADER = "kind,identity,other,zoom,column,row,x,y,code,size,fingerprint,text"
 REPORT_HEADER = "line,request,seq,refusal"
@@ -61,6 +62,18 @@ def reply_text(reply):
     return json.dumps(members, sort_keys=True, separators=(",", ":"), ensure_ascii=False)
 
 
+def sight_of(world, package):
+    """A live package as the desk lists it, with the number of its loans."""
+    sums = dict(zip(["tiles", "media", "rows", "links", "bytes"], sums_of(held(package))))
+    loans = sum(other.parent == package.uuid for other in world.packages.values())
+    return {"package": package.uuid, "parent": package.parent or "", "depth": package.depth, "loans": loans, "ticket": world.tickets[package.uuid], **sums}
+
+
+def sights_text(world):
+    sights = [sight_of(world, world.packages[uuid]) for uuid in sorted(world.packages)]
+    return json.dumps(sights, sort_keys=True, separators=(",", ":"))
+
+
 def packages_text(world):
     return "".join(f"package {uuid}\n{manifest(world.packages[uuid])}" for uuid in sorted(world.packages))
 
@@ -98,13 +111,15 @@ def rehearse(archive, frame, list_bytes):
 
 def main():
     words = sys.argv[1:]
-    with_replies = words[:1] == ["--replies"]
-    if len(words) != 2 + with_replies:
+    option = words.pop(0) if words[:1] in (["--replies"], ["--packages"]) else ""
+    if len(words) != 2:
         sys.exit(__doc__)
-    done = rehearse(*words[with_replies:], sys.stdin.buffer.read())
+    done = rehearse(*words, sys.stdin.buffer.read())
     text = done.text
-    if with_replies and done.status == 0:
-        text = "".join(reply_text(reply) + "\n" for reply in done.replies) + packages_text(done.world)
+    if option == "--replies" and done.status == 0:
+        text = "".join(reply_text(reply) + "\n" for reply in done.replies)
+    if option == "--packages" and done.status == 0:
+        text = sights_text(done.world) + "\n"
     sys.stdout.buffer.write(text.encode())
     sys.exit(done.status)
 

@@ -41,13 +41,15 @@ class World:
         self.tickets = {archive: 0}  # the number of the last receipt that names a package
 
 
-class Receipt(namedtuple("Receipt", "seq request at line source target moved")):
-    def count(self, *kinds):
-        return sum(thing.kind in kinds for thing in self.moved)
+def sums_of(things):
+    """Tiles, media, rows, links and bytes."""
+    counts = [sum(thing.kind in kinds for thing in things) for kinds in ({1}, {2}, {3}, {4, 5, 6})]
+    return *counts, sum(thing.size for thing in things)
 
+
+class Receipt(namedtuple("Receipt", "seq request at line source target moved")):
     def sums(self):
-        """Tiles, media, rows, links and bytes."""
-        return self.count(1), self.count(2), self.count(3), self.count(4, 5, 6), sum(thing.size for thing in self.moved)
+        return sums_of(self.moved)
 
 
 # What an accepted request does. Each answers the source, the target and the things that moved.
@@ -137,6 +139,6 @@ def audit(world):
     for uuid in {*world.packages, *sums} - {None}:
         here = held(world.packages[uuid]) if uuid in world.packages else set()
         assert here == {thing for thing, package in where.items() if package == uuid}, uuid
-        assert tuple(sums[uuid]) == Receipt(0, "", "", "", None, None, here).sums(), uuid
+        assert tuple(sums[uuid]) == sums_of(here), uuid
     for package in world.packages.values():
         assert all({base, other} <= package.items.keys() for _, base, other in package.links), package.uuid
