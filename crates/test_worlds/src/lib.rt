@@ -3,4 +3,4 @@
 
 mod worlds;
 
-pub use crate::worlds::{applied, blank_store, new_world};
+pub use crate::worlds::{blank_store, new_world};

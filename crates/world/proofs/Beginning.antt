@@ -1,5 +1,9 @@
 -- The world of an archive with nothing in it.
 use Rattle.std.proofs.Common.{◌≡◌, refl, ℕ, List, [], ◌∷◌, true, false, None, arith}
+use Rattle.std.proofs.Common.{sym, subst}
+use Rattle.std.specs.List.{AllByRecursion}
+use Rattle.std.proofs.lemmas.List.Elements.{All-from_recursion}
+use Rattle.sql_meaning.specs.Transactions.{Rests}
 use Rattle.sqlite.specs.Store.{Ghosts}
 use Rattle.sqlite.specs.Held.{Held, state}
 use Rattle.sheet_types.specs.Lines.{IsUuid}
@@ -25,8 +29,16 @@ module _ {S : Type 0} (g : Ghosts S) where
       is_member = record { uuid = refl; parent = refl; depth = refl; loan = refl; sums = refl; ticket = refl; reads = λ is_open. keeps.reads }
 
   -- so does a world of it
-  pub begins : (archive : List ℕ) (f : Frame) (members : List (Member S)) → (AllClean g members → AreMembers g members 0 (new_world archive f)) → AllClean g members → StandsFor g (record { frame = f; members = members; count = 0; has_failed = false }) (new_world archive f)
-  begins archive f members made clean = record { frame = refl; members = made clean }
+  pub begins : (archive : List ℕ) (f : Frame) (members : List (Member S)) (strays : List (Held S)) → (AllClean g members → AreMembers g members 0 (new_world archive f)) → AllClean g members → StandsFor g (record { frame = f; members = members; count = 0; has_failed = false; strays = strays }) (new_world archive f)
+  begins archive f members strays made clean = record { frame = refl; members = made clean }
 
-  pub held_first : (archive : List ℕ) (f : Frame) (members : List (Member S)) → AllRest g members → is_good_frame f ≡ true → (AllClean g members → AreMembers g members 0 (new_world archive f)) → IsHeld g (record { frame = f; members = members; count = 0; has_failed = false })
-  held_first archive f members rests good made = record { rests = rests; good = good; counted = omega arith; stands = λ clean. (new_world archive f, begins archive f members made clean) }
+  pub held_first : (archive : List ℕ) (f : Frame) (members : List (Member S)) (strays : List (Held S)) → strays ≡ [] → AllRest g members → is_good_frame f ≡ true → (AllClean g members → AreMembers g members 0 (new_world archive f)) → IsHeld g (record { frame = f; members = members; count = 0; has_failed = false; strays = strays })
+  held_first archive f members strays none rests good made = record {
+    gone = [];
+    rests = rests;
+    stray_rests = All-from_recursion (λ h. Rests (state g h)) strays (subst (AllByRecursion (λ h. Rests (state g h))) (sym none) tt);
+    none = λ usable. none;
+    good = good;
+    counted = omega arith;
+    stands = λ clean gone. (new_world archive f, begins archive f members strays made clean);
+  }

@@ -1,4 +1,4 @@
--- What a world keeps of what it stands for, when one request was served.
+-- What a world keeps of what it stands for, when one request was dealt with.
 use Rattle.std.proofs.Common.{◌≡◌, ◌≢◌, ◌↔◌, false, true, IsTrue, refl, sym, ap, subst, ◌∙◌, ℕ, ◌≤◌, Bool, List, length, Vec, Global, vec_capacity, Result, IfOk, Ok, Err, inl, inr}
 use Rattle.sqlite.specs.Store.{Ghosts}
 use Rattle.sheet_types.specs.Refuse.{greatest_receipts}
@@ -9,29 +9,47 @@ use Rattle.sheet_types.specs.declared.frame.Frame.{Frame}
 use Rattle.sheet_types.specs.declared.receipt.Receipt.{Receipt}
 use Rattle.sheet_types.specs.declared.refusal.Refusal.{Refusal}
 use Rattle.package_tables.specs.declared.fault.Fault.TheVariants as fault
-use Rattle.world.specs.Creating.{HasRoom}
-use Rattle.world.specs.Faults.{turn_refusal}
-use Rattle.sql_meaning.specs.Stores.{LeavesEither}
 use Rattle.sql_meaning.proofs.Transactions.{Shuts, Settles}
 use Rattle.sheet_types.specs.declared.refusal.Refusal.TheVariants.{StoreFault}
-use Rattle.world.proofs.Changing.{each_leaves, read_leaves}
-use Rattle.world.proofs.Standing.{all_still}
-use Rattle.world.specs.Turning.{LeftAs}
+use Rattle.world.proofs.Changing.{each_leaves}
 use Rattle.world.specs.Members.{AllRest, AllClean, AllOpen, AreMembers}
-use Rattle.world.specs.Serving.{Serves, IsServedBy, IsUncommitted, IsUnchanged}
-use Rattle.world.specs.Worlds.{Seen, StandsFor, IsHeld, IsStep, StandsStill, StaysOpen, LeavesNoTrace, LeftAsItStands}
-use Rattle.world.specs.declared.carrying_out.TurnFault.{TurnFault}
-use Rattle.world.specs.declared.carrying_out.TurnFault.TheVariants.{Before, Committing}
+use Rattle.world.specs.Creating.{HasRoomFor}
+use Rattle.world.specs.Carries.{ServesAll, IsServedAs, IsBeforeCommit, IsUntouched}
+use Rattle.world.specs.Leaving.{AreClean, AreAtRest}
+use Rattle.world.specs.ServeFaults.{IsLastingFault, told_refusal, CountsShelf}
+use Rattle.sqlite_disk.specs.Disk.{MoreFaults}
+use Rattle.std.specs.Prelude.{◌⊎◌}
+use Rattle.std.proofs.Common.{arith}
+use Rattle.world.specs.declared.loans.ServeFault.{ServeFault}
+use Rattle.world.specs.declared.loans.ServeFault.TheVariants.{Unshelved, Turn}
+use Rattle.world.proofs.CarriedOut.{leaves_before}
+use Rattle.world.proofs.HeldStores.{left_clean, right_clean}
+use Rattle.world.proofs.Lent.{none_beside}
+use Rattle.sqlite.specs.Held.{Held, state}
+use Rattle.sqlite.specs.State.{HasCleanDisk}
+use Rattle.std.proofs.lemmas.List.Elements.{All-from_recursion, recursion_from_All}
+use Rattle.sheet_types.proofs.Every.{All-left, All-right}
+use Rattle.std.specs.Prelude.{[], ◌++◌, IsErr}
+use Rattle.world.specs.Worlds.{Seen, StandsFor, IsHeld, IsStep, StandsStill, LeavesNoTrace, LeftAsItStands}
+use Rattle.lending.specs.declared.turn_fault.TurnFault.TheVariants.{Before, Committing}
 use Rattle.world.specs.declared.members.Member.{Member}
 
 -- a fault is told as a fault
-is_fault : (e : TurnFault) → IsFault (Err (turn_refusal e))
-is_fault (Before fault.OutOfMemory) = inl refl
-is_fault (Before fault.StoreFault) = inr refl
-is_fault (Committing fault.OutOfMemory) = inl refl
-is_fault (Committing fault.StoreFault) = inr refl
+is_fault : (e : ServeFault) → IsFault (Err (told_refusal e))
+is_fault (Turn (Before fault.OutOfMemory)) = inl refl
+is_fault (Turn (Before fault.StoreFault)) = inr refl
+is_fault (Turn (Committing fault.OutOfMemory)) = inl refl
+is_fault (Turn (Committing fault.StoreFault)) = inr refl
+is_fault (Unshelved fault.OutOfMemory) = inl refl
+is_fault (Unshelved fault.StoreFault) = inr refl
 
-pub told_as_fault : (e : TurnFault) (why : Refusal) → why ≡ turn_refusal e → IsFault (Err why)
+-- and is an error
+fault_is_err : (reply : Result Receipt Refusal) → IsFault reply → IsErr reply
+fault_is_err (Ok receipt) (inl e) = absurd (let f = e in cc)
+fault_is_err (Ok receipt) (inr e) = absurd (let f = e in cc)
+fault_is_err (Err why) fault = refl
+
+pub told_as_fault : (e : ServeFault) (why : Refusal) → why ≡ told_refusal e → IsFault (Err why)
 told_as_fault e why told = subst (λ x. IsFault (Err x)) (sym told) (is_fault e)
 
 -- a reply that is no fault is not told as one of the store
@@ -40,91 +58,123 @@ usable_after reply was_failed false usable told no_fault = sym usable
 usable_after reply was_failed true usable told no_fault = absurd (no_fault (inr (told.0 refl)))
 
 -- what leaves a world usable comes before a commit
-uncommitted : (e : TurnFault) (has_failed : Bool) → (IsTrue has_failed ↔ (e ≢ Before fault.OutOfMemory)) → has_failed ≡ false → IsUncommitted {X = Receipt} (Err e)
-uncommitted (Before x) has_failed lasting usable = tt
-uncommitted (Committing x) has_failed lasting usable = absurd (let failed : IsTrue has_failed = lasting.1 (λ same. cc) in cc)
+uncommitted : (e : ServeFault) (has_failed : Bool) → (IsTrue has_failed ↔ IsLastingFault e) → has_failed ≡ false → IsBeforeCommit e
+uncommitted (Unshelved x) has_failed lasting usable = tt
+uncommitted (Turn (Before x)) has_failed lasting usable = tt
+uncommitted (Turn (Committing x)) has_failed lasting usable = absurd (let failed : IsTrue has_failed = lasting.1 (λ same. cc) in cc)
 
 -- the room is enough for as many
-pub room_stays : {X Y : Type 0} (old new : List X) (room : Vec Y Global) → length new ≡ length old → HasRoom old room → HasRoom new room
-room_stays old new room long has = (has.0, subst (λ n. n ≤ vec_capacity room) (sym long) has.1)
+pub room_stays : {X Y : Type 0} (old new : List X) (room : Vec Y Global) → length new ≡ length old → HasRoomFor old room → HasRoomFor new room
+room_stays old new room long has = omega (arith, long, has)
 
 module _ {S : Type 0} (g : Ghosts S) where
   -- After a step there is a world that it stands for, if there was one before.
-  pub held_after : (q : Request) (old new : Seen S) (reply : Result Receipt Refusal) → IsHeld g old → new.frame ≡ old.frame → AllRest g new.members → new.count ≤ greatest_receipts → IsStep g q old reply new → IsHeld g new
-  held_after q old new reply held frame rests counted it = record {
+  pub held_after : (q : Request) (old new : Seen S) (reply : Result Receipt Refusal) → IsHeld g old → new.frame ≡ old.frame → AllRest g new.members → AreAtRest g new.strays → (new.has_failed ≡ false → new.strays ≡ []) → new.count ≤ greatest_receipts → IsStep g q old reply new → IsHeld g new
+  held_after q old new reply held frame rests stray_rests none counted it = record {
+    gone = held.gone ++ it.gone;
     rests = rests;
+    stray_rests = stray_rests;
+    none = none;
     good = rw frame held.good;
     counted = counted;
-    stands = λ clean.
-        let before : (w : World) × StandsFor g old w = held.stands (it.clean clean) in
-        let after = it.step clean before.0 before.1 in
+    stands = λ clean gone.
+        let mine : AreClean g it.gone = right_clean g held.gone it.gone gone in
+        let before : (w : World) × StandsFor g old w = held.stands (it.clean clean mine) (left_clean g held.gone it.gone gone) in
+        let after = it.step clean mine before.0 before.1 in
         (after.0, after.2);
   }
 
   -- A world that has failed answers without a look, and stays as it is.
-  pub step_unserved : Shuts g → Settles g → (q : Request) (seen : Seen S) → IsHeld g seen → IsStep g q seen (Err StoreFault) seen
-  step_unserved shuts settles q seen held = record {
-    clean = λ clean. clean;
-    step = λ clean w stands. (w, inr (inr refl, refl), stands);
-    crash = λ w stands opened. read_leaves g shuts settles seen.members seen.members seen.count w (outcome w q).1.packages held.rests (all_still g shuts settles seen.members held.rests) stands.members opened;
+  pub step_unserved : (q : Request) (seen : Seen S) → seen.has_failed ≡ true → IsStep g q seen (Err StoreFault) seen
+  step_unserved q seen failed = record {
+    gone = [];
+    left_over = [];
+    beside_before = λ clean gone w stands opened. none_beside g w.frame w.packages;
+    register = λ w stands. stands.members.register;
+    clean = λ clean gone. clean;
+    step = λ clean gone w stands. (w, inr (inr refl, refl), stands);
+    opens = λ clean gone no_fault. absurd (no_fault (inr refl));
+    crash = λ fault usable. absurd (let both : true ≡ false = sym failed ∙ usable in cc);
+    beside = λ clean gone no_fault. absurd (no_fault (inr refl));
   }
 
   -- Between two calls a crash leaves what the world stands for.
   pub left_as_it_stands : Shuts g → Settles g → LeftAsItStands g
   left_as_it_stands shuts settles seen w held stands opened = each_leaves g shuts settles seen.members seen.count w held.rests opened stands.members
 
-  module _ (f : Frame) (q : Request) (old new : List (Member S)) (before after : ℕ) (r : Result (Result Receipt Refusal) TurnFault) (it : Serves g f q old new before after r) (was_failed has_failed : Bool) (was : Seen S)
-      (seen : record { frame = f; members = old; count = before; has_failed = was_failed } ≡ was) where
+  module _ (f : Frame) (q : Request) (old new : List (Member S)) (strays : List (Held S)) (before after : ℕ) (r : Result (Result Receipt Refusal) ServeFault) (it : ServesAll g f q old new strays before after r) (was_failed has_failed : Bool) (strays_before : List (Held S)) (was : Seen S)
+      (seen : record { frame = f; members = old; count = before; has_failed = was_failed; strays = strays_before } ≡ was) where
+    abbrev now_seen : Seen S
+    now_seen = record { frame = f; members = new; count = after; has_failed = has_failed; strays = strays }
+
     stood : (w : World) → StandsFor g was w → (f ≡ w.frame) × AreMembers g old before w
     stood w stands = (ap (λ s. s.frame) seen ∙ stands.frame, subst (λ ms. AreMembers g ms before w) (sym (ap (λ s. s.members) seen)) (subst (λ n. AreMembers g was.members n w) (sym (ap (λ s. s.count) seen)) stands.members))
 
-    were_clean : AllClean g new → AllClean g was.members
-    were_clean clean = subst (AllClean g) (ap (λ s. s.members) seen) (it.clean clean)
+    were_clean : AllClean g new → AreClean g it.gone → AllClean g was.members
+    were_clean clean gone = subst (AllClean g) (ap (λ s. s.members) seen) (it.clean clean gone)
+
+    were_open : AllOpen g was.members → AllOpen g old
+    were_open opened = subst (AllOpen g) (sym (ap (λ s. s.members) seen)) opened
 
     -- a reply is a step
-    crashes : (w : World) → StandsFor g was w → AllOpen g was.members → LeavesEither g (λ m. m.conn) (LeftAs w.frame) new w.packages (outcome w q).1.packages
-    crashes w stands opened = it.crash w (stood w stands).0 (stood w stands).1 (subst (AllOpen g) (sym (ap (λ s. s.members) seen)) opened)
-
-    pub step_replied : (reply : Result Receipt Refusal) → r ≡ Ok reply → IsStep g q was reply (record { frame = f; members = new; count = after; has_failed = has_failed })
+    pub step_replied : (reply : Result Receipt Refusal) → r ≡ Ok reply → IsStep g q was reply now_seen
     step_replied reply is = record {
+      gone = it.gone;
+      left_over = it.left_over;
+      beside_before = λ clean gone w stands opened. it.beside_before clean gone w (stood w stands).0 (stood w stands).1 (were_open opened);
+      register = λ w stands. stands.members.register;
       clean = were_clean;
-      crash = crashes;
-      step = λ clean w stands.
+      step = λ clean gone w stands.
           let both = stood w stands in
-          let served : IsServedBy g w q new after reply = it.told clean reply is w both.0 both.1 in
-          (served.0, inl (sym (ap (λ o. o.0) served.1), sym (ap (λ o. o.1) served.1)), record { frame = both.0 ∙ sym served.2; members = served.3 });
+          let as_model : IsServedAs g w q new after reply = it.told clean gone reply is w both.0 both.1 in
+          (as_model.0, inl (sym (ap (λ o. o.0) as_model.1), sym (ap (λ o. o.1) as_model.1)), record { frame = both.0 ∙ sym as_model.2; members = as_model.3 });
+      opens = λ clean gone no_fault opened. (subst (λ (x : Result (Result Receipt Refusal) ServeFault). IfOk x (λ y. AllOpen g old → AllOpen g new)) is (it.opens clean gone)) (were_open opened);
+      crash = λ fault usable w stands opened. leaves_before g old new strays w before (outcome w q).1.packages (it.none reply is) (it.unharmed (subst IsUntouched (sym is) (fault_is_err reply fault))) (stood w stands).1 (were_open opened);
+      beside = λ clean gone no_fault w stands opened. it.beside clean gone reply is w (stood w stands).0 (stood w stands).1 (were_open opened);
     }
 
     -- and so is a fault
-    pub step_failed : (e : TurnFault) → r ≡ Err e → (why : Refusal) → why ≡ turn_refusal e → IsStep g q was (Err why) (record { frame = f; members = new; count = after; has_failed = has_failed })
+    pub step_failed : (e : ServeFault) → r ≡ Err e → (why : Refusal) → why ≡ told_refusal e → IsStep g q was (Err why) now_seen
     step_failed e is why told = record {
+      gone = it.gone;
+      left_over = it.left_over;
+      beside_before = λ clean gone w stands opened. it.beside_before clean gone w (stood w stands).0 (stood w stands).1 (were_open opened);
+      register = λ w stands. stands.members.register;
       clean = were_clean;
-      crash = crashes;
-      step = λ clean w stands. (w, inr (told_as_fault e why told, refl), record { frame = (stood w stands).0; members = it.failed e is w (stood w stands).1 });
+      step = λ clean gone w stands. (w, inr (told_as_fault e why told, refl), record { frame = (stood w stands).0; members = it.failed e is w (stood w stands).1 });
+      opens = λ clean gone no_fault. absurd (no_fault (told_as_fault e why told));
+      crash = λ fault usable w stands opened. it.crash e is w (stood w stands).0 (stood w stands).1 (were_open opened);
+      beside = λ clean gone no_fault. absurd (no_fault (told_as_fault e why told));
     }
 
-    -- open stores stay open where there is a receipt or a refusal
-    pub opens_replied : (reply : Result Receipt Refusal) → r ≡ Ok reply → StaysOpen g was reply (record { frame = f; members = new; count = after; has_failed = has_failed })
-    opens_replied reply is clean no_fault opened =
-        let opens : AllOpen g old → AllOpen g new = subst (λ (x : Result (Result Receipt Refusal) TurnFault). IfOk x (λ y. AllOpen g old → AllOpen g new)) is (it.opens clean) in
-        opens (subst (AllOpen g) (sym (ap (λ s. s.members) seen)) opened)
-
-    pub opens_failed : (e : TurnFault) → (why : Refusal) → why ≡ turn_refusal e → StaysOpen g was (Err why) (record { frame = f; members = new; count = after; has_failed = has_failed })
-    opens_failed e why told clean no_fault opened = absurd (no_fault (told_as_fault e why told))
-
     -- a crash shows nothing of what was refused, or failed before its commit
-    pub no_trace_replied : (reply : Result Receipt Refusal) → r ≡ Ok reply → LeavesNoTrace g was reply (record { frame = f; members = new; count = after; has_failed = has_failed })
-    no_trace_replied reply is refused usable clean w stands opened =
-        it.unharmed (subst IsUnchanged (sym is) refused) clean w before (stood w stands).1 (subst (AllOpen g) (sym (ap (λ s. s.members) seen)) opened)
+    pub no_trace_replied : (reply : Result Receipt Refusal) → r ≡ Ok reply → LeavesNoTrace g was reply now_seen
+    no_trace_replied reply is refused usable clean w stands opened = it.unharmed (subst IsUntouched (sym is) refused) clean w before (stood w stands).1 (were_open opened)
 
-    pub no_trace_failed : (e : TurnFault) → r ≡ Err e → (why : Refusal) → (IsTrue has_failed ↔ (e ≢ Before fault.OutOfMemory)) → LeavesNoTrace g was (Err why) (record { frame = f; members = new; count = after; has_failed = has_failed })
-    no_trace_failed e is why lasting refused usable clean w stands opened =
-        it.unharmed (subst IsUnchanged (sym is) (uncommitted e has_failed lasting usable)) clean w before (stood w stands).1 (subst (AllOpen g) (sym (ap (λ s. s.members) seen)) opened)
+    pub no_trace_failed : (e : ServeFault) → r ≡ Err e → (why : Refusal) → (IsTrue has_failed ↔ IsLastingFault e) → LeavesNoTrace g was (Err why) now_seen
+    no_trace_failed e is why lasting refused usable clean w stands opened = it.unharmed (subst IsUntouched (sym is) (uncommitted e has_failed lasting usable)) clean w before (stood w stands).1 (were_open opened)
 
     -- a refusal leaves it standing for what it stood for
-    pub still_replied : (reply : Result Receipt Refusal) → r ≡ Ok reply → StandsStill g was reply (record { frame = f; members = new; count = after; has_failed = has_failed })
+    pub still_replied : (reply : Result Receipt Refusal) → r ≡ Ok reply → StandsStill g was reply now_seen
     still_replied (Ok receipt) is refused w stands = absurd (let e = refused in cc)
     still_replied (Err why) is refused w stands = record { frame = (stood w stands).0; members = it.refused why is w (stood w stands).1 }
 
-    pub still_failed : (e : TurnFault) → r ≡ Err e → (why : Refusal) → StandsStill g was (Err why) (record { frame = f; members = new; count = after; has_failed = has_failed })
+    pub still_failed : (e : ServeFault) → r ≡ Err e → (why : Refusal) → StandsStill g was (Err why) now_seen
     still_failed e is why refused w stands = record { frame = (stood w stands).0; members = it.failed e is w (stood w stands).1 }
+
+    -- a world that can be used has no stray
+    pub none_failed : (e : ServeFault) → r ≡ Err e → (IsTrue has_failed ↔ IsLastingFault e) → has_failed ≡ false → strays ≡ []
+    none_failed e is lasting usable = it.usable e is (λ l. let t : IsTrue has_failed = lasting.1 l in cc)
+
+-- why a reply tells that a store failed: the world has failed, or the shelf had none
+pub cause_failed : (X : Type 0) (e : ServeFault) (has_failed : Bool) (before after : ℕ) (why : Refusal) → (IsTrue has_failed ↔ IsLastingFault e) → CountsShelf {X = X} (Err e) before after → why ≡ told_refusal e → why ≡ StoreFault → (has_failed ≡ true) ⊎ MoreFaults before after
+cause_failed X (Unshelved x) has_failed before after why lasting counts told is = inr counts.0
+cause_failed X (Turn (Before fault.OutOfMemory)) has_failed before after why lasting counts told is = absurd (let both : told_refusal (Turn (Before fault.OutOfMemory)) ≡ StoreFault = sym told ∙ is in cc)
+cause_failed X (Turn (Before fault.StoreFault)) has_failed before after why lasting counts told is = inl (lasting.1 (λ same. cc))
+cause_failed X (Turn (Committing x)) has_failed before after why lasting counts told is = inl (lasting.1 (λ same. cc))
+
+-- the count of the shelf never falls
+pub counts_grow : {X : Type 0} (r : Result X ServeFault) (before after : ℕ) → CountsShelf r before after → before ≤ after
+counts_grow (Ok x) before after counts = omega (arith, counts)
+counts_grow (Err (Unshelved x)) before after counts = counts.1
+counts_grow (Err (Turn x)) before after counts = omega (arith, counts)

@@ -17,9 +17,29 @@ pub mod Placed
 pub mod Questions
 pub mod AskedOne
 pub mod Overfull
-pub mod Served
+pub mod ChangesMade
+pub mod HeldStores
 pub mod Keeping
 pub mod Beginning
 pub mod Running
 pub mod WorldsRead
 pub mod Sights
+mod Turned
+mod Placing
+mod Lent
+mod Returned
+mod CarriedOut
+mod ServedAll
+mod Tickets
+mod Listing
+mod DueSplits
+mod DueMerges
+mod SplitReasons
+mod SplitDecided
+mod SplitLimits
+mod SplitAsked
+mod MergeReasons
+mod Things
+pub mod FirstInOrder
+mod DecidedMerges
+mod MergeLimits

@@ -70,7 +70,8 @@ module _ {S : Type 0} (g : Ghosts S) where
   pub all_stay_then : (a b c : List (Member S)) → AllStay g a b → AllStay g b c → AllStay g a c
   all_stay_then a b c first next = zip_then (StaysMember g) (StaysMember g) (StaysMember g) member_then a b c first next
 
-  member_stays : (w : World) (m n : Member S) (p : Package) → StaysMember g m n → IsMember g w m p → IsMember g w n p
+  -- a member that was only read is of the package that it was of
+  pub member_stays : (w : World) (m n : Member S) (p : Package) → StaysMember g m n → IsMember g w m p → IsMember g w n p
   member_stays w m n p it is = record {
     uuid = ap (λ (x : Member S). x.uuid) it.same ∙ is.uuid;
     parent = ap (λ (x : Member S). x.parent) it.same ∙ is.parent;

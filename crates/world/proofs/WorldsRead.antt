@@ -1,6 +1,7 @@
 -- A world whose stores were only read stands for what it stood for, and what its members told is told of it.
 use Rattle.std.proofs.Common.{◌≡◌, refl, subst, ℕ, Bool, List, Result, Ok, Err}
 use Rattle.sqlite.specs.Store.{Ghosts}
+use Rattle.sqlite.specs.Held.{Held}
 use Rattle.sheet_types.specs.World.{World}
 use Rattle.sheet_types.specs.declared.frame.Frame.{Frame}
 use Rattle.world.specs.Asking.{AsksAll}
@@ -10,12 +11,12 @@ use Rattle.world.specs.declared.members.Member.{Member}
 use Rattle.world.proofs.Standing.{members_stay, clean_before}
 
 module _ {S : Type 0} (g : Ghosts S) where
-  module _ (f : Frame) (old new : List (Member S)) (count : ℕ) (has_failed : Bool) where
+  module _ (f : Frame) (old new : List (Member S)) (count : ℕ) (has_failed : Bool) (strays : List (Held S)) where
     abbrev before : Seen S
-    before = record { frame = f; members = old; count = count; has_failed = has_failed }
+    before = record { frame = f; members = old; count = count; has_failed = has_failed; strays = strays }
 
     abbrev after : Seen S
-    after = record { frame = f; members = new; count = count; has_failed = has_failed }
+    after = record { frame = f; members = new; count = count; has_failed = has_failed; strays = strays }
 
     stands_after : AllStay g old new → (w : World) → StandsFor g before w → StandsFor g after w
     stands_after stay w stands = record { frame = stands.frame; members = members_stay g old new count w stay stands.members }
@@ -39,10 +40,13 @@ module _ {S : Type 0} (g : Ghosts S) where
       -- and keeps what each world keeps
       pub world_is_held : IsHeld g before → IsHeld g after
       world_is_held held = record {
+        gone = held.gone;
         rests = it.rests;
+        stray_rests = held.stray_rests;
+        none = held.none;
         good = held.good;
         counted = held.counted;
-        stands = λ clean.
-            let one : (w : World) × StandsFor g before w = held.stands (clean_before g old new it.stay clean) in
+        stands = λ clean gone.
+            let one : (w : World) × StandsFor g before w = held.stands (clean_before g old new it.stay clean) gone in
             (one.0, stands_after it.stay one.0 one.1);
       }

@@ -1,5 +1,5 @@
 -- When no world is made. Profile.
-use Rattle.std.specs.Prelude.{◌≡◌, ◌≤◌, ℕ, not, List, [], length, Vec, vec_capacity, Option, Result, Err, IfErr, MatchOption}
+use Rattle.std.specs.Prelude.{◌≡◌, ◌≤◌, ◌+◌, ℕ, not, List, [], length, Vec, vec_capacity, Option, Result, Err, IfErr, MatchOption}
 use Rattle.std.specs.Bool.{then_some}
 use Rattle.std.specs.Option.{option_or, option_map}
 use Rattle.std.specs.declared.alloc.Global.{Global}
@@ -21,3 +21,7 @@ IsCreatedOrRefused f at r = MatchOption (create_refusal f at) (IfErr r (λ why. 
 -- an empty list has room for one of each of these
 abbrev pub HasRoom : {X Y : Type 0} → List X → Vec Y Global → Type 0
 HasRoom xs room = (room.items ≡ []) × (length xs ≤ vec_capacity room)
+
+-- a list has room for one of each of these beside what it has
+abbrev pub HasRoomFor : {X Y : Type 0} → List X → Vec Y Global → Type 0
+HasRoomFor xs room = length xs + length room.items ≤ vec_capacity room

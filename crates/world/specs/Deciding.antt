@@ -11,18 +11,29 @@ use Rattle.sheet_types.specs.declared.command.Request.{Request}
 use Rattle.sheet_types.specs.declared.frame.Frame.{Frame}
 use Rattle.sheet_types.specs.declared.refusal.Refusal.{Refusal}
 use Rattle.sheet_types.specs.declared.refusal.Refusal.TheVariants.{IdentityUsed}
-use Rattle.world.specs.Laws.{IsServed, package_of}
+use Rattle.world.specs.Laws.{ChangesOnePackage, package_of}
+use Rattle.world.specs.Loans.{IsLent, IsReturned, HasLendingPlace, HasReturnPlace}
 use Rattle.world.specs.Reasons.{text_reasons, package_reasons}
 use Rattle.world.specs.Turning.{IsDue, world_after}
 use Rattle.world.specs.declared.deciding.Decision.{Decision}
-use Rattle.world.specs.declared.deciding.Decision.TheVariants.{Answered, Due}
+use Rattle.world.specs.declared.deciding.Decision.TheVariants.{Answered, ChangeDue, SplitDue, MergeDue}
 use Rattle.world.specs.declared.members.Member.{Member}
 
--- The frame and the number of receipts are those of the world, and the request is one that is served.
+-- the frame and the number of receipts are those of the world
+pub record IsOf (f : Frame) (count : ℕ) (w : World) : Type 0 where
+  pub frame : f ≡ w.frame
+  pub counted : count ≡ length (receipts_of w)
+
+-- and the request did not come before
+pub record IsNewTo (f : Frame) (count : ℕ) (q : Request) (w : World) : Type 0 where
+  pub of_world : IsOf f count w
+  pub new : kept w q.id ≡ None
+
+-- The frame and the number of receipts are those of the world, and the request is to change one package.
 pub record IsAskedOf (f : Frame) (count : ℕ) (q : Request) (w : World) : Type 0 where
   pub frame : f ≡ w.frame
   pub counted : count ≡ length (receipts_of w)
-  pub served : IsServed q.command
+  pub one : ChangesOnePackage q.command
 
 -- a new request, whose package stands at this place
 pub record IsPlaced (f : Frame) (count at : ℕ) (q : Request) (w : World) : Type 0 where
@@ -35,12 +46,16 @@ pub record IsPlaced (f : Frame) (count at : ℕ) (q : Request) (w : World) : Typ
 abbrev pub refusal_before : World → Request → Option Refusal
 refusal_before w q = option_or (first_row (text_reasons q)) (option_or (then_some (identity_used w q.command) IdentityUsed) (first_row (package_reasons w.frame (holdings w (package_of q.command)) q.command)))
 
--- Either the reply is that of the world, which stays, or the command is due where its package stands, with the receipt that is the reply.
+-- Either the reply is that of the world, which stays, or the command is due where its package stands, or a split or a merge is, with the receipt that is the reply.
 abbrev pub Decides : World → Request → Decision → Type 0
 Decides w q (Answered reply) = outcome w q ≡ (reply, w)
-Decides w q (Due due) = (due.receipt ≡ receipt_of w q) × (outcome w q ≡ (Ok due.receipt, world_after due.receipt q.command w)) × IsDue w due.at due.receipt q.command due.sums
+Decides w q (SplitDue due) = (next : World) × (outcome w q ≡ (Ok due.receipt, next)) × IsLent w next due
+Decides w q (MergeDue due) = (next : World) × (outcome w q ≡ (Ok due.receipt, next)) × IsReturned w next due
+Decides w q (ChangeDue due) = (due.receipt ≡ receipt_of w q) × (outcome w q ≡ (Ok due.receipt, world_after due.receipt q.command w)) × IsDue w due.at due.receipt q.command due.sums
 
 -- A change that is due has its place among the members, and its receipt the next number, which is not too great.
 abbrev pub HasPlace : {S : Type 0} → List (Member S) → ℕ → Decision → Type 0
 HasPlace members count (Answered reply) = Unit {0}
-HasPlace members count (Due due) = (due.at < length members) × (due.receipt.seq ≡ count + 1) × (count + 1 ≤ greatest_receipts)
+HasPlace members count (SplitDue due) = HasLendingPlace due (length members) count
+HasPlace members count (MergeDue due) = HasReturnPlace due (length members) count
+HasPlace members count (ChangeDue due) = (due.at < length members) × (due.receipt.seq ≡ count + 1) × (count + 1 ≤ greatest_receipts)

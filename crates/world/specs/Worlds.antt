@@ -1,11 +1,12 @@
 -- What a clause sees of a value of `World`, and the world of the model that it stands for. Profile.
-use Rattle.std.specs.Prelude.{◌≡◌, ◌≤◌, ℕ, ℤ, Bool, false, List, Option, Result, Err, IsTrue, IfOk, IsErr, refl}
+use Rattle.std.specs.Prelude.{◌≡◌, ◌⊎◌, ◌≤◌, ℕ, ℤ, Bool, false, List, [], ◌∷◌, ◌++◌, map, Option, Result, Err, IsTrue, IfOk, IsErr, refl}
 use Rattle.std.specs.List.{AllByRecursion}
 use Rattle.std.specs.Coded.{Coded, code_by, coded×, coded_bool, coded_list, coded_option, coded_ℕ, coded_ℤ}
 use Rattle.sqlite.specs.Store.{Ghosts}
 use Rattle.sqlite.specs.Held.{Held, held_code}
 use Rattle.sheet_types.specs.Matrix.{is_good_frame}
 use Rattle.sheet_types.specs.Refuse.{greatest_receipts}
+use Rattle.sheet_types.specs.Register.{IsRegister}
 use Rattle.sheet_types.specs.Step.{Step, Run, IsFault, outcome}
 use Rattle.sheet_types.specs.World.{World}
 use Rattle.sheet_types.specs.declared.command.Request.{Request}
@@ -14,17 +15,20 @@ use Rattle.sheet_types.specs.declared.receipt.Receipt.{Receipt}
 use Rattle.sheet_types.specs.declared.receipt.Sums.{Sums}
 use Rattle.sheet_types.specs.declared.refusal.Refusal.{Refusal}
 use Rattle.sheet_types.specs.declared.refusal.Refusal.TheVariants.{StoreFault}
-use Rattle.sql_meaning.specs.Stores.{EachLeaves, LeavesEither}
+use Rattle.sqlite_disk.specs.Disk.{MoreFaults}
+use Rattle.sql_meaning.specs.Stores.{EachLeaves}
+use Rattle.world.specs.Leaving.{AreClean, AreAtRest, AreBeside, LeavesOneOf}
 use Rattle.world.specs.Turning.{LeftAs}
 use Rattle.world.specs.Members.{AllOpen, AllRest, AllClean, AllStay, AreMembers}
 use Rattle.world.specs.declared.members.Member.{Member}
 
--- the frame, the members in the order of their UUIDs, the number of all receipts, and whether the world has failed
+-- the frame, the members in the order of their UUIDs, the number of all receipts, whether the world has failed, and the stores of children that a split which failed left
 pub record Seen (S : Type 0) : Type 0 where
   pub frame : Frame
   pub members : List (Member S)
   pub count : ℕ
   pub has_failed : Bool
+  pub strays : List (Held S)
 
 -- ---- as values that a model may have
 
@@ -46,10 +50,17 @@ member_code {S} store = code_by (Held S × (List ℕ × (Option (List ℕ) × (�
     (λ m. (m.conn, (m.uuid, (m.parent, (m.depth, (m.loan, (m.sums, m.ticket))))))) (λ p. record { conn = p.0; uuid = p.1.0; parent = p.1.1.0; depth = p.1.1.1.0; loan = p.1.1.1.1.0; sums = p.1.1.1.1.1.0; ticket = p.1.1.1.1.1.1 }) (λ _. refl)
 
 abbrev pub seen_code : {S : Type 0} → Coded S → Coded (Seen S)
-seen_code {S} store = code_by (Frame × (List (Member S) × (ℕ × Bool))) (coded× frame_code (coded× (coded_list (member_code store)) (coded× coded_ℕ coded_bool)))
-    (λ w. (w.frame, (w.members, (w.count, w.has_failed)))) (λ p. record { frame = p.0; members = p.1.0; count = p.1.1.0; has_failed = p.1.1.1 }) (λ _. refl)
+seen_code {S} store = code_by (Frame × (List (Member S) × (ℕ × (Bool × List (Held S))))) (coded× frame_code (coded× (coded_list (member_code store)) (coded× coded_ℕ (coded× coded_bool (coded_list (held_code store))))))
+    (λ w. (w.frame, (w.members, (w.count, (w.has_failed, w.strays))))) (λ p. record { frame = p.0; members = p.1.0; count = p.1.1.0; has_failed = p.1.1.1.0; strays = p.1.1.1.1 }) (λ _. refl)
 
 -- ---- what it stands for
+
+-- A run in which each world is a register: the one before the first request, and the one after each.
+abbrev pub RunsOverRegisters : World → List Request → List (Result Receipt Refusal) → World → Type 0
+RunsOverRegisters w [] [] next = (next ≡ w) × IsRegister w
+RunsOverRegisters w (q ∷ qs) (reply ∷ replies) next = IsRegister w × ((mid : World) × Step w q reply mid × RunsOverRegisters mid qs replies next)
+RunsOverRegisters w [] (reply ∷ replies) next = ⊥
+RunsOverRegisters w (q ∷ qs) [] next = ⊥
 
 module _ {S : Type 0} (g : Ghosts S) where
   -- Its frame is that of the world, and its members are the world's packages.
@@ -57,23 +68,40 @@ module _ {S : Type 0} (g : Ghosts S) where
     pub frame : seen.frame ≡ w.frame
     pub members : AreMembers g seen.members seen.count w
 
-  -- What each value of `World` keeps. Where each disk has given back what was written, there is a world that it stands for, and so a register.
+  -- What each value of `World` keeps. Where each disk has given back what was written, those of dropped connections too, there is a world that it stands for, and so a register.
   pub record IsHeld (seen : Seen S) : Type 0 where
+    -- the last states of the connections that were dropped so far, as those of merged children
+    pub gone : List (Held S)
     pub rests : AllRest g seen.members
+    pub stray_rests : AreAtRest g seen.strays
+    -- a world that can be used has no stray
+    pub none : seen.has_failed ≡ false → seen.strays ≡ []
     pub good : IsTrue (is_good_frame seen.frame)
     pub counted : seen.count ≤ greatest_receipts
-    pub stands : AllClean g seen.members → (w : World) × StandsFor seen w
+    pub stands : AllClean g seen.members → AreClean g gone → (w : World) × StandsFor seen w
 
-  -- The reply and the world afterwards are a step of each world that it stood for, where each disk has given back what was written.
+  -- the stores that it holds: the strays, and behind them those of its members
+  abbrev pub held : Seen S → List (Held S)
+  held seen = seen.strays ++ map (λ m. m.conn) seen.members
+
+  -- The reply and the world afterwards are a step of each world that it stood for, where each disk has given back what was written, those of the connections that were dropped too.
   pub record IsStep (q : Request) (old : Seen S) (reply : Result Receipt Refusal) (new : Seen S) : Type 0 where
-    pub clean : AllClean g new.members → AllClean g old.members
-    pub step : AllClean g new.members → (w : World) → StandsFor old w → (next : World) × Step w q reply next × StandsFor new next
-    -- Whatever a crash leaves of stores that were open reads as the world before or as the one that the request is to make, whole.
-    pub crash : (w : World) → StandsFor old w → AllOpen g old.members → LeavesEither g (λ m. m.conn) (LeftAs w.frame) new.members w.packages (outcome w q).1.packages
-
-  -- Open stores are still open after a receipt or a refusal, where each disk has given back what was written.
-  abbrev pub StaysOpen : Seen S → Result Receipt Refusal → Seen S → Type 0
-  StaysOpen old reply new = AllClean g new.members → ¬ IsFault reply → AllOpen g old.members → AllOpen g new.members
+    -- the last states of the connections that were dropped, as those of merged children
+    pub gone : List (Held S)
+    -- those of children that a split dropped before they were of the world; a store in which no child came to be made is not among them
+    pub left_over : List (Held S)
+    pub clean : AllClean g new.members → AreClean g gone → AllClean g old.members
+    pub step : AllClean g new.members → AreClean g gone → (w : World) → StandsFor old w → (next : World) × Step w q reply next × StandsFor new next
+    -- Open stores are still open after a receipt or a refusal.
+    pub opens : AllClean g new.members → AreClean g gone → ¬ IsFault reply → AllOpen g old.members → AllOpen g new.members
+    -- After a fault of a world that could be used, whatever a crash leaves of stores that were open reads as the world before or as the one that the request is to make, whole, and what else is held is beside it.
+    pub crash : IsFault reply → old.has_failed ≡ false → (w : World) → StandsFor old w → AllOpen g old.members → LeavesOneOf g w.frame (held new) w.packages (outcome w q).1.packages
+    -- What a crash leaves of what was dropped is beside the world that the request made.
+    pub beside : AllClean g new.members → AreClean g gone → ¬ IsFault reply → (w : World) → StandsFor old w → AllOpen g old.members → AreBeside g w.frame (outcome w q).1.packages gone
+    -- What it leaves of a child that was dropped is beside the world that it was to be of.
+    pub beside_before : AllClean g new.members → AreClean g gone → (w : World) → StandsFor old w → AllOpen g old.members → AreBeside g w.frame w.packages left_over
+    -- What it stands for afterwards is a register, balanced.
+    pub register : (w : World) → StandsFor new w → IsRegister w
 
   -- After a refusal or a fault that leaves the world usable, whatever a crash leaves of stores that were open reads as the world before. So a world of which a commit may have gone through has failed.
   abbrev pub LeavesNoTrace : Seen S → Result Receipt Refusal → Seen S → Type 0
@@ -83,15 +111,20 @@ module _ {S : Type 0} (g : Ghosts S) where
   abbrev pub LeftAsItStands : Type 0
   LeftAsItStands = (seen : Seen S) (w : World) → IsHeld seen → StandsFor seen w → AllOpen g seen.members → EachLeaves g (λ m. m.conn) (LeftAs w.frame) seen.members w.packages
 
-  -- The replies and the world afterwards are a run of the whole list.
-  pub record IsRun (qs : List Request) (old : Seen S) (replies : List (Result Receipt Refusal)) (new : Seen S) : Type 0 where
-    pub clean : AllClean g new.members → AllClean g old.members
-    pub run : AllClean g new.members → (w : World) → StandsFor old w → (next : World) × Run w qs replies next × StandsFor new next
+  -- The replies and the world afterwards are a run of the whole list, with a shelf that had failed so often before and after.
+  pub record IsRun (qs : List Request) (old : Seen S) (replies : List (Result Receipt Refusal)) (new : Seen S) (before after : ℕ) : Type 0 where
+    -- the last states of the connections that were dropped
+    pub gone : List (Held S)
+    pub clean : AllClean g new.members → AreClean g gone → AllClean g old.members
+    pub run : AllClean g new.members → AreClean g gone → (w : World) → StandsFor old w → (next : World) × Run w qs replies next × StandsFor new next
+    -- The world is a register, balanced, before the first request and after each one.
+    pub registers : AllClean g new.members → AreClean g gone → (w : World) → StandsFor old w → (next : World) × RunsOverRegisters w qs replies next × StandsFor new next
     -- Open stores are still open where no reply tells a fault, so that a crash leaves what the world stands for then.
-    pub opens : AllClean g new.members → AllByRecursion (λ reply. ¬ IsFault reply) replies → AllOpen g old.members → AllOpen g new.members
-    -- A world that can still be used told no request that a store failed, and where no reply tells a fault it is as usable as before.
-    pub told : new.has_failed ≡ false → AllByRecursion (λ reply. ¬ (reply ≡ Err StoreFault)) replies
+    pub opens : AllClean g new.members → AreClean g gone → AllByRecursion (λ reply. ¬ IsFault reply) replies → AllOpen g old.members → AllOpen g new.members
+    -- A world that can still be used told no request that a store failed, unless the shelf's count rose.
+    pub told : new.has_failed ≡ false → ¬ MoreFaults before after → AllByRecursion (λ reply. ¬ (reply ≡ Err StoreFault)) replies
     pub usable : AllByRecursion (λ reply. ¬ IsFault reply) replies → new.has_failed ≡ old.has_failed
+    pub shelf : before ≤ after
 
   -- After a refusal it stands for each world that it stood for, whatever the disks do.
   abbrev pub StandsStill : Seen S → Result Receipt Refusal → Seen S → Type 0

@@ -1,43 +1,90 @@
 //! One request over the members of a world: what it comes to is decided, and where a change is due it is carried out.
-ghost use Rattle.std.specs.Prelude.{◌≡◌, ◌≤◌, ◌↔◌, IsTrue, length};
+ghost use Rattle.std.specs.Prelude.{◌≡◌, ℕ, ◌≤◌, ◌<◌, ◌+◌, [], IsTrue, OnOk, length, vec_len, vec_capacity};
 ghost use Rattle.sheet_types.specs.Matrix.{is_good_frame};
 ghost use Rattle.sheet_types.specs.Refuse.{greatest_receipts};
 ghost use Rattle.world.specs.Deciding.{HasPlace};
-ghost use Rattle.world.specs.Laws.{IsServed, AreServed};
 ghost use Rattle.world.specs.Members.{AllRest};
-ghost use Rattle.world.specs.Serving.{Changes, Serves};
-ghost use Rattle.world.specs.declared.deciding.Decision.TheVariants.{Due};
+ghost use Rattle.world.specs.Carries.{Carries, ServesAll};
+ghost use Rattle.world.specs.Creating.{HasRoomFor};
+ghost use Rattle.world.specs.Loans.{HasLendingPlace, HasReturnPlace, IsLent, IsReturned};
+ghost use Rattle.world.specs.ServeFaults.{CountsShelf};
+ghost use Rattle.world.specs.Changes.{Changes};
+ghost use Rattle.world.specs.declared.deciding.Decision.TheVariants.{ChangeDue};
 
-use crate::carrying_out::TurnFault;
+use lending::turn_fault::TurnFault;
 use crate::deciding::{Change, Decision, decide};
+use crate::loans::{Lending, Returning, ServeFault};
 use crate::members::Member;
+use crate::merging::merge_at;
+use crate::splitting::{child_store, lend_and_place};
 use crate::turning::turn_at;
+use package_tables::fault::Fault;
 use sheet_types::command::{Command, Request};
 use sheet_types::frame::Frame;
 use sheet_types::receipt::Receipt;
 use sheet_types::refusal::Refusal;
-use sqlite::Alter;
+use shelves::shelf::Shelf;
+use sqlite::{Alter, Connection};
 use std::alloc::Global;
 
-/// Whether `World::apply` serves a command: an addition, a deletion, a link or an unlinking.
-pub fn is_served(command: &Command) -> bool
-    ensures yes { IsTrue result → IsServed command.now }
-    ensures no { IsServed command.now → IsTrue result }
+/// Makes room for one more member and its store.
+fn make_room<S: Alter + Drop>(
+    members: &mut Vec<Member<S>>,
+    strays: &mut Vec<Connection<S>>,
+) -> Result<(), Fault>
+    requires { HasRoomFor members.old.items strays.old }
+    ensures members { members.new.items ≡ members.old.items }
+    ensures strays { strays.new.items ≡ strays.old.items }
+    ensures still { HasRoomFor members.new.items strays.new }
+    ensures member { OnOk result (vec_len members.new < vec_capacity members.new) }
+    ensures stray { OnOk result (vec_len members.new + vec_len strays.new + 1 ≤ vec_capacity strays.new) }
 {
-    match command {
-        Command::Add { .. }
-        | Command::Delete { .. }
-        | Command::Link { .. }
-        | Command::Unlink { .. } => true,
-        Command::Split { .. } | Command::Merge { .. } => false,
-    }
+    members.reserve(1)?;
+    strays.reserve(members.len() + 1)?;
+    Ok(())
 }
 
-/// Whether `World::run` serves a list: whether it serves the command of each request.
-pub fn are_served(requests: &[Request]) -> bool
-    ensures { IsTrue result ↔ AreServed requests.now }
+/// Carries out a split that is due, with the room for the child made before anything is written. The count of receipts goes on by the one that is entered.
+fn carry_out_split<S: Alter + Drop, H: Shelf<S>>(
+    members: &mut Vec<Member<S>>,
+    strays: &mut Vec<Connection<S>>,
+    frame: &Frame,
+    count: &mut u64,
+    alloc: Global,
+    shelf: &mut H,
+    due: Lending,
+) -> Result<Receipt, ServeFault>
+    requires rests { AllRest S.Store members.old.items }
+    requires good { IsTrue (is_good_frame frame.now) }
+    requires place { HasLendingPlace due (length members.old.items) count.old }
+    requires none { strays.old.items ≡ [] }
+    requires room { HasRoomFor members.old.items strays.old }
+    ensures carries { Carries S.Store (λ w next. (frame.now ≡ w.frame) × IsLent w next due) due.receipt members.old.items members.new.items strays.new.items count.old count.new result }
+    ensures room { HasRoomFor members.new.items strays.new }
+    ensures shelf { CountsShelf result (H.failures_of shelf.old) (H.failures_of shelf.new) }
 {
-    requests.iter().all(|request| is_served(&request.command))
+    make_room(members, strays)?;
+    let child = child_store(members, shelf, alloc, frame, &due)?;
+    let receipt = lend_and_place(members, strays, due, child)?;
+    *count = receipt.seq;
+    Ok(receipt)
+}
+
+/// Carries out a merge that is due. The count of receipts goes on by the one that is entered.
+fn carry_out_merge<S: Alter + Drop>(
+    members: &mut Vec<Member<S>>,
+    count: &mut u64,
+    due: Returning,
+) -> Result<Receipt, ServeFault>
+    requires rests { AllRest S.Store members.old.items }
+    requires place { HasReturnPlace due (length members.old.items) count.old }
+    ensures carries { Carries S.Store (λ w next. IsReturned w next due) due.receipt members.old.items members.new.items [] count.old count.new result }
+    ensures shorter { length members.new.items ≤ length members.old.items }
+    ensures shelf { (failures : ℕ) → CountsShelf result failures failures }
+{
+    let receipt = merge_at(members, due)?;
+    *count = receipt.seq;
+    Ok(receipt)
 }
 
 /// Carries out a change that is due. The count of receipts goes on by the one that is entered with it.
@@ -48,7 +95,7 @@ fn carry_out_change<S: Alter + Drop>(
     change: Change,
 ) -> Result<Receipt, TurnFault>
     requires rests { AllRest S.Store members.old.items }
-    requires place { HasPlace members.old.items count.old (Due change) }
+    requires place { HasPlace members.old.items count.old (ChangeDue change) }
     ensures changes { Changes S.Store change command.now members.old.items members.new.items count.old count.new result }
     ensures long { length members.new.items ≡ length members.old.items }
 {
@@ -57,25 +104,37 @@ fn carry_out_change<S: Alter + Drop>(
     Ok(change.receipt)
 }
 
-/// Serves one request of the commands that change one package. The count is that of all receipts. A refusal is a reply; what is an error here is a want of memory or a store that failed.
-pub(crate) fn serve<S: Alter + Drop>(
+/// Answers one request, or carries it out. The count is that of all receipts. A refusal is a reply; what is an error here is a want of memory, a store that failed, or a shelf that had none.
+pub(crate) fn serve<S: Alter + Drop, H: Shelf<S>>(
     members: &mut Vec<Member<S>>,
+    strays: &mut Vec<Connection<S>>,
     frame: &Frame,
     count: &mut u64,
     alloc: Global,
     request: &Request,
-) -> Result<Result<Receipt, Refusal>, TurnFault>
-    requires served { IsServed request.now.command }
+    shelf: &mut H,
+) -> Result<Result<Receipt, Refusal>, ServeFault>
     requires rests { AllRest S.Store members.old.items }
     requires good { IsTrue (is_good_frame frame.now) }
     requires counted { count.old ≤ greatest_receipts }
-    ensures serves { Serves S.Store frame.now request.now members.old.items members.new.items count.old count.new result }
-    ensures long { length members.new.items ≡ length members.old.items }
+    requires none { strays.old.items ≡ [] }
+    requires room { HasRoomFor members.old.items strays.old }
+    ensures serves { ServesAll S.Store frame.now request.now members.old.items members.new.items strays.new.items count.old count.new result }
+    ensures room { HasRoomFor members.new.items strays.new }
+    ensures shelf { CountsShelf result (H.failures_of shelf.old) (H.failures_of shelf.new) }
 {
     match decide(members, frame, *count, alloc, request)? {
         Decision::Answered(reply) => Ok(reply),
-        Decision::Due(change) => {
+        Decision::ChangeDue(change) => {
             let receipt = carry_out_change(members, count, &request.command, change)?;
+            Ok(Ok(receipt))
+        }
+        Decision::SplitDue(due) => {
+            let receipt = carry_out_split(members, strays, frame, count, alloc, shelf, due)?;
+            Ok(Ok(receipt))
+        }
+        Decision::MergeDue(due) => {
+            let receipt = carry_out_merge(members, count, due)?;
             Ok(Ok(receipt))
         }
     }

@@ -1,86 +1,22 @@
 //! The change of one package that a command asks for, with its receipt, in one transaction of the package's store.
-ghost use Rattle.std.specs.Prelude.{◌≡◌, ◌≢◌, ◌↔◌, Err, IsTrue};
+ghost use Rattle.std.specs.Prelude.{◌≡◌, Err, IsTrue};
 ghost use Rattle.sqlite.specs.Held.{state};
 ghost use Rattle.sqlite.specs.State.{Survives};
 ghost use Rattle.sql_meaning.specs.Transactions.{Rests, Steps, Turns};
 ghost use Rattle.identity_register.specs.Calls.{Becomes};
-ghost use Rattle.package_tables.specs.Faults.{fault_of};
 ghost use Rattle.package_tables.specs.declared.fault.Fault.{Fault};
-ghost use Rattle.package_tables.specs.declared.fault.Fault.TheVariants.{OutOfMemory};
-ghost use Rattle.world.specs.Faults.{fault_in, turn_refusal};
-ghost use Rattle.world.specs.declared.carrying_out.TurnFault.TheVariants.{Before, Committing};
+ghost use Rattle.lending.specs.declared.turn_fault.TurnFault.TheVariants.{Before};
 ghost use Rattle.world.specs.Carrying.{Meets, changed_by, Fits, after_command, SaysMoment};
 
 use custody::enter;
 use identity_register::additions::add;
 use identity_register::changes::{delete, link, unlink};
 use identity_register::dating::date_contents;
+use lending::turn_fault::TurnFault;
 use package_tables::fault::Fault;
 use sheet_types::command::{Command, Relation};
 use sheet_types::receipt::Receipt;
-use sheet_types::refusal::Refusal;
-use sqlite::{Alter, Connection, Error, Transaction};
-
-/// Where the change of a package failed, and why.
-#[derive(Clone, Copy, PartialEq, Eq, Debug, thiserror::Error)]
-pub enum TurnFault {
-    /// Before its commit: nothing was changed.
-    #[error("{0}")]
-    Before(Fault),
-    /// When it was committed: the store may have the change or not.
-    #[error("{0}")]
-    Committing(Fault),
-}
-
-impl TurnFault {
-    /// Whether the world is not to be used any more: its store failed, or may have a change or not.
-    pub(crate) fn is_lasting(&self) -> bool
-        ensures { IsTrue result ↔ (self.now ≢ Before OutOfMemory) }
-    {
-        match self {
-            TurnFault::Before(fault) => *fault == Fault::StoreFault,
-            TurnFault::Committing(_) => true,
-        }
-    }
-
-    /// How it is told in a reply.
-    pub(crate) fn refusal(&self) -> Refusal
-        ensures { result ≡ turn_refusal self.now }
-    {
-        match self {
-            TurnFault::Before(fault) | TurnFault::Committing(fault) => match fault {
-                Fault::OutOfMemory => Refusal::OutOfMemory,
-                Fault::StoreFault => Refusal::StoreFault,
-            },
-        }
-    }
-}
-
-impl From<TurnFault> for Fault {
-    ghost from_gives = { λ turn fault. fault ≡ fault_in turn };
-
-    fn from(turn: TurnFault) -> Fault {
-        match turn {
-            TurnFault::Before(fault) | TurnFault::Committing(fault) => fault,
-        }
-    }
-}
-
-impl From<Fault> for TurnFault {
-    ghost from_gives = { λ fault turn. turn ≡ Before fault };
-
-    fn from(fault: Fault) -> TurnFault {
-        TurnFault::Before(fault)
-    }
-}
-
-impl From<Error> for TurnFault {
-    ghost from_gives = { λ error turn. turn ≡ Committing (fault_of error) };
-
-    fn from(error: Error) -> TurnFault {
-        TurnFault::Committing(Fault::from(error))
-    }
-}
+use sqlite::{Alter, Connection, Transaction};
 
 /// Makes the change that a command asks for, without its receipt. A split and a merge are not one change of one package, and are a fault here.
 fn make_change<S: Alter>(tx: &mut Transaction<'_, S>, command: &Command) -> Result<(), Fault>
@@ -130,7 +66,7 @@ pub(crate) fn carry_out<S: Alter>(
 /// # Errors
 ///
 /// Want of memory, or a store that failed. The package is as it was, unless the commit itself failed and shut the store: then a crash may leave either. A split or a merge is a fault of the store.
-pub(crate) fn apply_to_package<S: Alter>(
+pub fn apply_to_package<S: Alter>(
     conn: &mut Connection<S>,
     command: &Command,
     receipt: &Receipt,

@@ -10,12 +10,15 @@ ghost use Rattle.sheet_types.specs.Texts.{line};
 ghost use Rattle.sheet_types.specs.World.{World, holdings};
 ghost use Rattle.sheet_types.specs.declared.refusal.Refusal.TheVariants.{IdReused};
 ghost use Rattle.world.specs.Asking.{AsksAll};
-ghost use Rattle.world.specs.Deciding.{IsAskedOf, IsPlaced, refusal_before, Decides, HasPlace};
-ghost use Rattle.world.specs.Laws.{IsServed, package_of};
+ghost use Rattle.world.specs.Deciding.{IsOf, IsNewTo, IsAskedOf, IsPlaced, refusal_before, Decides, HasPlace};
+ghost use Rattle.world.specs.Laws.{ChangesOnePackage, package_of};
 ghost use Rattle.world.specs.Members.{AllRest, AreMembers};
 
 use crate::asking::{is_named_in_all, kept_in_all, place_of};
 use crate::asking_one::{refusal_at, thing_moved};
+use crate::deciding_merges::decide_merge;
+use crate::deciding_splits::{Asked, decide_split};
+use crate::loans::{Lending, Returning};
 use crate::members::Member;
 use crate::receipts::receipt_over;
 use crate::sums::{sums_after, sums_moved};
@@ -48,8 +51,12 @@ pub struct Change {
 pub enum Decision {
     /// The reply: a kept receipt, or a refusal.
     Answered(Result<Receipt, Refusal>),
-    /// The change that is to be carried out.
-    Due(Change),
+    /// The change of one package that is to be carried out.
+    ChangeDue(Change),
+    /// The split that is.
+    SplitDue(Lending),
+    /// The merge that is.
+    MergeDue(Returning),
 }
 
 /// The package that a command changes.
@@ -109,9 +116,9 @@ fn is_used<S: Alter + Drop>(members: &mut Vec<Member<S>>, command: &Command) -> 
     }
 }
 
-// The values of a served command are those of their types.
+// The values of a command that changes one package are those of their types.
 fn has_types(command: &Command)
-    ensures { IsServed command.now → HasTypes command.now }
+    ensures { ChangesOnePackage command.now → HasTypes command.now }
 {
     match command {
         Command::Add {
@@ -184,7 +191,7 @@ fn limited<S: Alter + Drop>(
         Some(sums) if is_too_many(members, at, sums, count) => {
             Decision::Answered(Err(Refusal::TooMany))
         }
-        Some(sums) => Decision::Due(Change { at, receipt, sums }),
+        Some(sums) => Decision::ChangeDue(Change { at, receipt, sums }),
     }
 }
 
@@ -233,8 +240,8 @@ fn decide_at<S: Alter + Drop>(
     prepared(members, at, count, alloc, request)
 }
 
-/// What a request comes to that did not come before.
-fn decide_new<S: Alter + Drop>(
+/// What a request of the commands that change one package comes to that did not come before.
+fn decide_change<S: Alter + Drop>(
     members: &mut Vec<Member<S>>,
     frame: &Frame,
     count: u64,
@@ -253,7 +260,48 @@ fn decide_new<S: Alter + Drop>(
     }
 }
 
-/// What a request of the commands that change one package comes to. The count is that of the receipts so far, and the frame that of the world.
+/// What a request comes to that did not come before.
+fn decide_new<S: Alter + Drop>(
+    members: &mut Vec<Member<S>>,
+    frame: &Frame,
+    count: u64,
+    alloc: Global,
+    request: &Request,
+) -> Result<Decision, Fault>
+    requires rests { AllRest S.Store members.old.items }
+    requires good { IsTrue (is_good_frame frame.now) }
+    requires small { count ≤ greatest_receipts }
+    ensures asks { AsksAll S.Store (λ w decision. IsNewTo frame.now count request.now w → Decides w request.now decision) members.old.items members.new.items result }
+    ensures place { IfOk result (λ decision. HasPlace members.new.items count decision) }
+{
+    match &request.command {
+        Command::Split {
+            package,
+            child,
+            mode,
+            rect,
+        } => {
+            let asked = Asked {
+                package: *package,
+                child: *child,
+                mode: *mode,
+                rect: *rect,
+            };
+            decide_split(members, frame, count, alloc, request, &asked)
+        }
+        Command::Merge {
+            child,
+            into,
+            ticket,
+        } => decide_merge(members, count, alloc, request, *child, *into, *ticket),
+        Command::Add { .. }
+        | Command::Delete { .. }
+        | Command::Link { .. }
+        | Command::Unlink { .. } => decide_change(members, frame, count, alloc, request),
+    }
+}
+
+/// What a request comes to. The count is that of the receipts so far, and the frame that of the world.
 ///
 /// # Errors
 ///
@@ -268,7 +316,7 @@ pub fn decide<S: Alter + Drop>(
     requires rests { AllRest S.Store members.old.items }
     requires good { IsTrue (is_good_frame frame.now) }
     requires small { count ≤ greatest_receipts }
-    ensures asks { AsksAll S.Store (λ w decision. IsAskedOf frame.now count request.now w → Decides w request.now decision) members.old.items members.new.items result }
+    ensures asks { AsksAll S.Store (λ w decision. IsOf frame.now count w → Decides w request.now decision) members.old.items members.new.items result }
     ensures place { IfOk result (λ decision. HasPlace members.new.items count decision) }
 {
     if let Some(receipt) = kept_in_all(members, alloc, request.id)? {

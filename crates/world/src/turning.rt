@@ -5,9 +5,10 @@ ghost use Rattle.sql_meaning.specs.Stores.{LeavesEither};
 ghost use Rattle.world.specs.Members.{AllRest, AllClean, AllOpen, AreMembers};
 ghost use Rattle.world.specs.Turning.{CarriesOutAt, IsDue, DueWhereAccepted, LeavesAsBefore, LeftAs, world_after};
 ghost use Rattle.package_tables.specs.declared.fault.Fault.{Fault};
-ghost use Rattle.world.specs.declared.carrying_out.TurnFault.TheVariants.{Before};
+ghost use Rattle.lending.specs.declared.turn_fault.TurnFault.TheVariants.{Before};
 
-use crate::carrying_out::{TurnFault, apply_to_package};
+use crate::carrying_out::apply_to_package;
+use lending::turn_fault::TurnFault;
 use crate::members::Member;
 use sheet_types::command::Command;
 use sheet_types::receipt::{Receipt, Sums};
@@ -45,7 +46,7 @@ pub fn turn_at<S: Alter + Drop>(
     Ok(())
 }
 
-/// A served request that is new and not refused is due where its package stands, which is what `turn_at` asks of it.
+/// A request to change one package that is new and not refused is due where its package stands, which is what `turn_at` asks of it.
 pub fn due_where_accepted()
     ensures { DueWhereAccepted }
 {}

@@ -1,5 +1,5 @@
 //! An archive and its loans, and what requests make of them.
-ghost use Rattle.std.specs.Prelude.{◌≡◌, ◌↔◌, true, false, Err, IfOk, OnErr, IsTrue};
+ghost use Rattle.std.specs.Prelude.{◌≡◌, ◌⊎◌, ◌≤◌, ◌↔◌, true, false, Err, IfOk, OnErr, IsTrue};
 ghost use Rattle.sqlite.specs.Held.{state};
 ghost use Rattle.sqlite.specs.State.{HasCleanDisk};
 ghost use Rattle.sheet_types.specs.Step.{IsFault};
@@ -8,8 +8,8 @@ ghost use Rattle.sql_meaning.specs.Blank.{IsBlank, no_schema};
 ghost use Rattle.world.specs.Creating.{IsCreatedOrRefused};
 ghost use Rattle.world.specs.Members.{AllClean, AllMadeAt};
 ghost use Rattle.sheet_types.specs.declared.refusal.Refusal.TheVariants.{StoreFault};
-ghost use Rattle.world.specs.Laws.{IsServed, AreServed};
-ghost use Rattle.world.specs.Worlds.{StandsFor, IsStep, IsRun, StandsStill, StaysOpen, LeavesNoTrace};
+ghost use Rattle.sqlite_disk.specs.Disk.{MoreFaults};
+ghost use Rattle.world.specs.Worlds.{StandsFor, IsStep, IsRun, StandsStill, LeavesNoTrace};
 
 use crate::applying::serve;
 use crate::creating::{CreateFault, archive_alone};
@@ -35,21 +35,21 @@ pub struct World<S: Alter + Drop> {
     pub(crate) members: Vec<Member<S>>,
     pub(crate) count: u64,
     pub(crate) has_failed: bool,
-    // Stores that are no packages of the world, such as a split that fails leaves. No command that is served so far leaves one, so there is none. The list has room for the stores of all members too, so that all can be handed out without memory.
+    // The stores of children that a split which failed left; a world that can be used has none. The list has room for the stores of all members too, so that all can be handed out without memory.
     pub(crate) strays: Vec<Connection<S>>,
 }
 
 impl<S: Alter + Drop> Model for World<S> {
     ghost use Rattle.world.specs.Worlds.{Seen, seen_code, IsHeld};
-    ghost use Rattle.world.specs.Creating.{HasRoom};
+    ghost use Rattle.world.specs.Creating.{HasRoomFor};
 
     ghost Value = { Seen S };
 
     ghost coded = { seen_code S.code };
 
-    ghost view = { λ w. record { frame = w.frame; members = w.members.items; count = w.count; has_failed = w.has_failed } };
+    ghost view = { λ w. record { frame = w.frame; members = w.members.items; count = w.count; has_failed = w.has_failed; strays = w.strays.items } };
 
-    ghost invariant = { λ w. IsHeld S.Store (record { frame = w.frame; members = w.members.items; count = w.count; has_failed = w.has_failed }) × HasRoom w.members.items w.strays };
+    ghost invariant = { λ w. IsHeld S.Store (record { frame = w.frame; members = w.members.items; count = w.count; has_failed = w.has_failed; strays = w.strays.items }) × HasRoomFor w.members.items w.strays };
 }
 
 impl<S: Alter + Drop> World<S> {
@@ -106,36 +106,36 @@ impl<S: Alter + Drop> World<S> {
 
     /// Carries one request out, or tells why not. A request that comes again, with its line, gets the receipt that it got, and nothing is changed.
     ///
-    /// So far it serves the commands that change one package: add, delete, link and unlink. The shelf gives the store of a package that a command makes, and none of these makes one, so it is not asked.
+    /// The shelf gives the store of the package that a split makes.
     ///
     /// # Errors
     ///
-    /// The first reason that holds, or, in place of any reply, want of memory or a store that failed. Nothing is changed then. The world has failed after any `StoreFault`, and after a commit that answered any error; after a receipt or a refusal it is as usable as before.
+    /// The first reason that holds, or, in place of any reply, want of memory, a store that failed, or a shelf that had none. Nothing is changed then. The world has failed after any `StoreFault` but one of the shelf, and after a commit of a receipt that answered any error; after a receipt or a refusal it is as usable as before.
     pub fn apply<H: Shelf<S>>(
         &mut self,
         alloc: Global,
         request: &Request,
-        _shelf: &mut H,
+        shelf: &mut H,
     ) -> Result<Receipt, Refusal>
-        requires served { IsServed request.now.command }
         ensures step { IsStep S.Store request.now self.old result self.new }
-        ensures opens { StaysOpen S.Store self.old result self.new }
         ensures still { StandsStill S.Store self.old result self.new }
         ensures unharmed { LeavesNoTrace S.Store self.old result self.new }
-        ensures failed { self.old.has_failed ≡ true → (result ≡ Err StoreFault) × (self.new ≡ self.old) }
-        ensures cause { result ≡ Err StoreFault → self.new.has_failed ≡ true }
+        ensures failed { self.old.has_failed ≡ true → (result ≡ Err StoreFault) × (self.new ≡ self.old) × (H.failures_of shelf.new ≡ H.failures_of shelf.old) }
+        ensures cause { result ≡ Err StoreFault → (self.new.has_failed ≡ true) ⊎ MoreFaults (H.failures_of shelf.old) (H.failures_of shelf.new) }
         ensures usable { ¬ IsFault result → self.new.has_failed ≡ self.old.has_failed }
-        ensures shelf { _shelf.new ≡ _shelf.old }
+        ensures shelf { H.failures_of shelf.old ≤ H.failures_of shelf.new }
     {
         if self.has_failed {
             return Err(Refusal::StoreFault);
         }
         match serve(
             &mut self.members,
+            &mut self.strays,
             &self.frame,
             &mut self.count,
             alloc,
             request,
+            shelf,
         ) {
             Ok(reply) => {
                 self.has_failed = is_store_fault(&reply);
@@ -159,9 +159,8 @@ impl<S: Alter + Drop> World<S> {
         requests: &[Request],
         shelf: &mut H,
     ) -> Result<Vec<Result<Receipt, Refusal>>, OutOfMemory>
-        requires served { AreServed requests.now }
-        ensures ran { IfOk result (λ replies. IsRun S.Store requests.now self.old replies.items self.new) }
-        ensures refused { OnErr result (self.new ≡ self.old) }
+        ensures ran { IfOk result (λ replies. IsRun S.Store requests.now self.old replies.items self.new (H.failures_of shelf.old) (H.failures_of shelf.new)) }
+        ensures refused { OnErr result ((self.new ≡ self.old) × (H.failures_of shelf.new ≡ H.failures_of shelf.old)) }
     {
         let mut replies = Vec::with_capacity(alloc, requests.len())?;
         for request in requests {

@@ -1,8 +1,8 @@
 -- The three exits of a transaction.
 use Rattle.std.proofs.Common.{◌≡◌, Result, Ok, Err, IsErrAnd, rules}
 use Rattle.package_tables.specs.declared.fault.Fault.{Fault}
-use Rattle.world.specs.declared.carrying_out.TurnFault.{TurnFault}
-use Rattle.world.specs.declared.carrying_out.TurnFault.TheVariants.{Before, Committing}
+use Rattle.lending.specs.declared.turn_fault.TurnFault.{TurnFault}
+use Rattle.lending.specs.declared.turn_fault.TurnFault.TheVariants.{Before, Committing}
 use Rattle.sql_meaning.proofs.Transactions.{turn_dropped, turn_uncommitted, turn_committed}
 use Rattle.world.proofs.StayingOpen.{open_if_dropped, open_if_uncommitted, open_if_committed, survives_undone}
 use Rattle.world.proofs.carrying_out.apply_to_package.Goals as goal

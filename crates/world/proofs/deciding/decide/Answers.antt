@@ -13,5 +13,5 @@ returns-in-Some-clause-asks g c =
 
 pub returns-clause-asks : goal.returns-clause-asks
 returns-clause-asks g c =
-    asks_weaker g.S.Store _ (λ decision w count are told asked. told.1 asked (sym told.0))
+    asks_weaker g.S.Store _ (λ decision w count are told asked. told.1 (record { of_world = asked; new = sym told.0 }))
     (asks_then g.S.Store {x = None} _ (c.in_ok-receipt.was ∙ ap Ok c.in_default.is) c.kept_in_all.ensures c.decide_new.ensures.asks)

@@ -1,8 +1,8 @@
 -- The store of one member takes a turn, and the lemmas say what all members stand for.
 use Rattle.std.proofs.Common.{◌≡◌, Some, Result, Ok, Err, IsErrAnd, slice_get, refl, ap}
 use Rattle.package_tables.specs.declared.fault.Fault.{Fault}
-use Rattle.world.specs.declared.carrying_out.TurnFault.{TurnFault}
-use Rattle.world.specs.declared.carrying_out.TurnFault.TheVariants.{Before}
+use Rattle.lending.specs.declared.turn_fault.TurnFault.{TurnFault}
+use Rattle.lending.specs.declared.turn_fault.TurnFault.TheVariants.{Before}
 use Rattle.std.proofs.lemmas.Option.{slice_get_read}
 use Rattle.world.proofs.Changing.{failed_at, undone_so, done_members, clean_turn, turned_open, crash_members, unharmed_at}
 use Rattle.world.proofs.turning.turn_at.Goals as goal

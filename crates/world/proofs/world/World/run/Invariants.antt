@@ -4,6 +4,6 @@ use Rattle.world.proofs.world.World.run.Given as goal
 
 abbrev pub invariant-loop-request : goal.invariant-loop-request
 invariant-loop-request g l = record {
-  ran : IsRun g.S.Store (take l.request-index l.requests) l.fn.self l.replies.items l.self;
+  ran : IsRun g.S.Store (take l.request-index l.requests) l.fn.self l.replies.items l.self (g.H.Shelf.failures_of l.fn.shelf) (g.H.Shelf.failures_of l.shelf);
   room : length l.requests + vec_len l.replies ≤ vec_capacity l.replies + l.request-index;
 }

@@ -1,0 +1,74 @@
+-- Room is made, the child's store is filled, and then the parent lends.
+use Rattle.std.proofs.Common.{◌≡◌, ◌<◌, ◌≤◌, ◌+◌, refl, subst, sym, ap, ◌∙◌, arith, [], length, vec_len, vec_capacity, Result, Ok, Err}
+use Rattle.sheet_types.specs.declared.receipt.Receipt.{Receipt}
+use Rattle.world.specs.Carries.{Carries, IsBeforeCommit}
+use Rattle.world.specs.Loans.{IsLent}
+use Rattle.world.specs.Members.{AllRest, AllOpen, AllStay, AreMembers}
+use Rattle.world.specs.Splits.{Splits, KeepsLoan}
+use Rattle.lending.specs.declared.turn_fault.TurnFault.TheVariants.{Before}
+use Rattle.world.specs.declared.loans.ServeFault.TheVariants.{Turn}
+use Rattle.world.proofs.CarriedOut.{carries_unbegun, carries_lent, carries_unlent}
+use Rattle.world.proofs.ChangesMade.{turned_into}
+use Rattle.world.proofs.Lent.{none_beside}
+use Rattle.world.proofs.Standing.{all_still, stay_length}
+use Rattle.world.proofs.applying.carry_out_split.Goals as goal
+
+pub returns-in_err-make_room-clause-carries : goal.returns-in_err-make_room-clause-carries
+returns-in_err-make_room-clause-carries g c =
+    subst (Carries g.S.Store (λ w next. (c.args.frame.now ≡ w.frame) × IsLent w next c.args.due) c.args.due.receipt c.args.members.now.items c.make_room.new.members.items c.make_room.new.strays.items c.args.count.now c.args.count.now) (sym (turned_into _ _ c.from_residual.ensures.1))
+    (subst (λ ms. Carries g.S.Store (λ w next. (c.args.frame.now ≡ w.frame) × IsLent w next c.args.due) c.args.due.receipt c.args.members.now.items ms c.make_room.new.strays.items c.args.count.now c.args.count.now (Err (Turn (Before c.in_err-make_room.field-0.0)))) (sym c.make_room.ensures.members)
+    (carries_unbegun g.S.Store g.met.S.Store.shut_if_dirty g.met.S.Store.settled _ c.args.due.receipt c.args.members.now.items c.args.members.now.items c.make_room.new.strays.items c.args.count.now (Turn (Before c.in_err-make_room.field-0.0)) (c.make_room.ensures.strays ∙ c.requires.none) c.requires.rests c.requires.rests
+    (all_still g.S.Store g.met.S.Store.shut_if_dirty g.met.S.Store.settled c.args.members.now.items c.requires.rests) tt [] (λ clean w next are is_due was. none_beside g.S.Store w.frame w.packages)))
+
+pub returns-in_err-child-clause-carries : goal.returns-in_err-child-clause-carries
+returns-in_err-child-clause-carries g c =
+    let stay : AllStay g.S.Store c.args.members.now.items c.child_store.new.members.items = subst (λ ms. AllStay g.S.Store ms c.child_store.new.members.items) c.make_room.ensures.members c.child_store.ensures.stay in
+    subst (Carries g.S.Store (λ w next. (c.args.frame.now ≡ w.frame) × IsLent w next c.args.due) c.args.due.receipt c.args.members.now.items c.child_store.new.members.items c.make_room.new.strays.items c.args.count.now c.args.count.now) (sym (turned_into _ _ c.from_residual-in_err-child.ensures.1))
+    (carries_unbegun g.S.Store g.met.S.Store.shut_if_dirty g.met.S.Store.settled _ c.args.due.receipt c.args.members.now.items c.child_store.new.members.items c.make_room.new.strays.items c.args.count.now _ (c.make_room.ensures.strays ∙ c.requires.none) c.requires.rests c.child_store.ensures.rests stay c.in_err-child.ensures.early
+    c.in_err-child.ensures.dropped.left_over (λ clean w next are is_due was. c.in_err-child.ensures.dropped.beside clean w next c.args.count.now is_due.0 (subst (λ ms. AreMembers g.S.Store ms c.args.count.now w) (sym c.make_room.ensures.members) are) is_due.1 (subst (AllOpen g.S.Store) (sym c.make_room.ensures.members) was)))
+
+pub returns-in_err-child-clause-room : goal.returns-in_err-child-clause-room
+returns-in_err-child-clause-room g c = omega (arith, c.make_room.ensures.still, stay_length g.S.Store _ _ c.child_store.ensures.stay)
+
+pub lend_and_place-requires-clause-at : goal.lend_and_place-requires-clause-at
+lend_and_place-requires-clause-at g c = omega (arith, c.requires.place.at, ap length c.make_room.ensures.members, stay_length g.S.Store _ _ c.child_store.ensures.stay)
+
+pub lend_and_place-requires-clause-child_at : goal.lend_and_place-requires-clause-child_at
+lend_and_place-requires-clause-child_at g c = omega (arith, c.requires.place.child_at, ap length c.make_room.ensures.members, stay_length g.S.Store _ _ c.child_store.ensures.stay)
+
+pub lend_and_place-requires-clause-room : goal.lend_and_place-requires-clause-room
+lend_and_place-requires-clause-room g c =
+    let long : length c.make_room.new.members.items ≡ vec_len c.make_room.new.members = omega (arith, c.make_room.new.members.ok.0) in
+    let same : length c.child_store.new.members.items ≡ vec_len c.child_store.new.members = omega (arith, c.child_store.new.members.ok.0) in
+    omega (arith, long, same, c.in_ok-make_room.ensures.member, c.child_store.ensures.capacity, stay_length g.S.Store _ _ c.child_store.ensures.stay)
+
+pub returns-in_err-receipt-clause-carries : goal.returns-in_err-receipt-clause-carries
+returns-in_err-receipt-clause-carries g c =
+    let stay : AllStay g.S.Store c.args.members.now.items c.child_store.new.members.items = subst (λ ms. AllStay g.S.Store ms c.child_store.new.members.items) c.make_room.ensures.members c.child_store.ensures.stay in
+    subst (Carries g.S.Store (λ w next. (c.args.frame.now ≡ w.frame) × IsLent w next c.args.due) c.args.due.receipt c.args.members.now.items c.lend_and_place.new.members.items c.lend_and_place.new.strays.items c.args.count.now c.args.count.now) (sym (turned_into _ _ c.from_residual-in_err-receipt.ensures.1))
+    (carries_unlent g.S.Store g.met.S.Store.shut_if_dirty g.met.S.Store.settled c.args.frame.now c.args.due c.in_ok-child.child c.args.members.now.items c.child_store.new.members.items c.lend_and_place.new.members.items c.lend_and_place.new.strays.items c.args.count.now c.requires.rests stay
+    (λ clean was. c.in_ok-child.ensures.opens clean (subst (AllOpen g.S.Store) (sym c.make_room.ensures.members) was)) c.in_ok-child.ensures.child c.in_ok-child.ensures.is_open
+    (λ clean w next count same are lent. c.in_ok-child.ensures.keeps clean w next count same (subst (λ ms. AreMembers g.S.Store ms count w) (sym c.make_room.ensures.members) are) lent) c.in_err-receipt.field-0.0
+    (subst (λ ss. Splits g.S.Store c.args.due c.in_ok-child.child c.child_store.new.members.items c.lend_and_place.new.members.items ss c.lend_and_place.new.strays.items (Err c.in_err-receipt.field-0.0)) (c.make_room.ensures.strays ∙ c.requires.none) c.in_err-receipt.ensures.splits))
+
+pub returns-clause-carries : goal.returns-clause-carries
+returns-clause-carries g c =
+    let stay : AllStay g.S.Store c.args.members.now.items c.child_store.new.members.items = subst (λ ms. AllStay g.S.Store ms c.child_store.new.members.items) c.make_room.ensures.members c.child_store.ensures.stay in
+    carries_lent g.S.Store g.met.S.Store.shut_if_dirty g.met.S.Store.settled c.args.frame.now c.args.due c.in_ok-child.child c.args.members.now.items c.child_store.new.members.items c.lend_and_place.new.members.items c.lend_and_place.new.strays.items c.args.count.now c.requires.rests stay
+    (λ clean was. c.in_ok-child.ensures.opens clean (subst (AllOpen g.S.Store) (sym c.make_room.ensures.members) was)) c.in_ok-child.ensures.child c.in_ok-child.ensures.is_open
+    (λ clean w next count same are lent. c.in_ok-child.ensures.keeps clean w next count same (subst (λ ms. AreMembers g.S.Store ms count w) (sym c.make_room.ensures.members) are) lent) _ c.in_ok-receipt.receipt
+    (ap (λ (r : Receipt). r.seq) (c.in_ok-receipt.ensures.splits.done c.in_ok-receipt.receipt refl).0 ∙ c.requires.place.number)
+    (subst (λ ss. Splits g.S.Store c.args.due c.in_ok-child.child c.child_store.new.members.items c.lend_and_place.new.members.items ss c.lend_and_place.new.strays.items (Ok c.in_ok-receipt.receipt)) (c.make_room.ensures.strays ∙ c.requires.none) c.in_ok-receipt.ensures.splits)
+
+pub returns-in_err-receipt-clause-room : goal.returns-in_err-receipt-clause-room
+returns-in_err-receipt-clause-room g c =
+    let long : length c.make_room.new.members.items ≡ vec_len c.make_room.new.members = omega (arith, c.make_room.new.members.ok.0) in
+    let strays : length c.make_room.new.strays.items ≡ vec_len c.make_room.new.strays = omega (arith, c.make_room.new.strays.ok.0) in
+    omega (arith, long, strays, c.in_ok-make_room.ensures.stray, c.lend_and_place.ensures.stray_capacity, stay_length g.S.Store _ _ c.child_store.ensures.stay, (c.in_err-receipt.ensures.splits.failed _ refl).0, c.in_err-receipt.ensures.splits.few)
+
+pub returns-clause-room : goal.returns-clause-room
+returns-clause-room g c =
+    let long : length c.make_room.new.members.items ≡ vec_len c.make_room.new.members = omega (arith, c.make_room.new.members.ok.0) in
+    let strays : length c.make_room.new.strays.items ≡ vec_len c.make_room.new.strays = omega (arith, c.make_room.new.strays.ok.0) in
+    let none : length c.lend_and_place.new.strays.items ≡ length c.make_room.new.strays.items = ap length (c.in_ok-receipt.ensures.splits.done c.in_ok-receipt.receipt refl).1 in
+    omega (arith, long, strays, none, c.in_ok-make_room.ensures.stray, c.lend_and_place.ensures.stray_capacity, stay_length g.S.Store _ _ c.child_store.ensures.stay, (c.in_ok-receipt.ensures.splits.done c.in_ok-receipt.receipt refl).2)
