@@ -1,3 +1,4 @@
 pub mod FrameTexts
 pub mod Pieces
 pub mod Rehearsing
+mod Telling
