@@ -14,7 +14,7 @@ ghost use Rattle.custody.specs.Receipts.{was_lent};
 ghost use Rattle.lending.specs.Selecting.{IsSelectionOf};
 ghost use Rattle.world.specs.Asking.{AsksAll};
 ghost use Rattle.world.specs.Deciding.{IsOf, IsNewTo, Decides, HasPlace};
-ghost use Rattle.world.specs.DecidingSplits.{command_of, IsNewSplit, IsLender, ever_lent, uuid_used, reasons_before_cut, value_reasons, IsCutOut, IsGranted, leaves_too_many, IsMadeOf};
+ghost use Rattle.world.specs.DecidingSplits.{command_of, IsNewSplit, IsLender, ever_lent, uuid_used, reasons_before_cut, place_reasons, value_reasons, IsCutOut, IsGranted, leaves_too_many, IsMadeOf};
 ghost use Rattle.world.specs.Members.{AllRest, AreMembers, TurnsAt};
 ghost use Rattle.world.specs.declared.deciding_splits.Asked.{Asked};
 
@@ -139,6 +139,22 @@ fn is_used<S: Alter + Drop>(members: &mut Vec<Member<S>>, id: Uuid) -> Result<bo
     was_ever_lent(members, id)
 }
 
+/// Why a split is refused for its rectangle or the depth of its package, if it is.
+fn refused_by_place(frame: &Frame, rect: &Rect, depth: u64) -> Option<Refusal>
+    requires { IsTrue (is_good_frame frame.now) }
+    ensures why { result ≡ first_row (place_reasons frame.now rect.now depth) }
+    ensures rect { result ≡ None → IsTrue (is_good_rect frame.now rect.now) }
+    ensures shallow { result ≡ None → depth < greatest_depth }
+{
+    if !is_good(frame, rect) {
+        return Some(Refusal::BadRectangle);
+    }
+    if depth >= 4 {
+        return Some(Refusal::TooDeep);
+    }
+    None
+}
+
 /// Why a split is refused for its texts, its rectangle or the depth of its package, if it is.
 fn refused_by_values(
     frame: &Frame,
@@ -154,13 +170,7 @@ fn refused_by_values(
     if let Some(why) = text_refusal(request) {
         return Some(why);
     }
-    if !is_good(frame, rect) {
-        return Some(Refusal::BadRectangle);
-    }
-    if depth >= 4 {
-        return Some(Refusal::TooDeep);
-    }
-    None
+    refused_by_place(frame, rect, depth)
 }
 
 /// Why a split is refused before it is looked at what it would take, if it is.
@@ -248,10 +258,9 @@ fn limited<S: Alter + Drop>(members: &[Member<S>], count: u64, due: Lending) -> 
     ensures place { HasPlace members.now count result }
 {
     if is_too_many(members, due.at, due.left, due.lent, count) {
-        Decision::Answered(Err(Refusal::TooMany))
-    } else {
-        Decision::SplitDue(due)
+        return Decision::Answered(Err(Refusal::TooMany));
     }
+    Decision::SplitDue(due)
 }
 
 /// What a split comes to whose cut is selected. A store that has less than it is to lend has failed.
