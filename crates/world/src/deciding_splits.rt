@@ -217,13 +217,10 @@ fn place_for<S: Alter + Drop>(members: &[Member<S>], uuid: Uuid) -> usize
     ensures place { result ≡ count_by (λ m. is_before m.uuid uuid) members.now }
     ensures within { result ≤ length members.now }
 {
-    let mut place = 0;
-    for at in 0..members.len() {
-        if uuid_is_before(members[at].uuid, uuid) {
-            place += 1;
-        }
-    }
-    place
+    members
+        .iter()
+        .filter(|member| uuid_is_before(member.uuid, uuid))
+        .count()
 }
 
 /// Whether a split would leave too many, with the sums that it leaves of the member at a place, those of the loan, and the number of receipts so far.
