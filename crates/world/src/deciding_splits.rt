@@ -120,12 +120,7 @@ fn is_archive<S: Alter + Drop>(member: &Member<S>, id: Uuid) -> bool
 fn is_of_archive<S: Alter + Drop>(members: &[Member<S>], id: Uuid) -> bool
     ensures { result ≡ list_any (λ m. is_none m.parent && bytes_eq m.uuid id) members.now }
 {
-    for at in 0..members.len() {
-        if is_archive(&members[at], id) {
-            return true;
-        }
-    }
-    false
+    members.iter().any(|member| is_archive(member, id))
 }
 
 /// Whether this is the UUID of the archive, or was ever that of a loan.
