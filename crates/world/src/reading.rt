@@ -34,7 +34,7 @@ pub struct PackageSight {
 }
 
 /// The items of the package of the member at a place, by kind and identity, and its links, by mapping, base and medium.
-fn holdings_at<S: Alter + Drop>(
+pub(crate) fn holdings_at<S: Alter + Drop>(
     members: &mut Vec<Member<S>>,
     at: usize,
     alloc: Global,
