@@ -1,5 +1,5 @@
 -- The item that was found is named as a receipt names it.
-use Rattle.std.proofs.Common.{◌≡◌, ◌∙◌, sym, ap, Ok, Some, None}
+use Rattle.std.proofs.Common.{◌∙◌, ap, Ok, Some, None}
 use Rattle.std.specs.Prelude.{option_map}
 use Rattle.sheet_types.specs.World.{item_moved}
 use Rattle.world.proofs.Questions.{asks_answer}

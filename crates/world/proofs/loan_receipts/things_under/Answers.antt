@@ -1,6 +1,7 @@
 -- Each identity is asked in turn, and its thing stands behind those so far.
-use Rattle.std.proofs.Common.{◌≡◌, ◌<◌, ◌∙◌, refl, sym, ap, subst, map, Ok, Some}
+use Rattle.std.proofs.Common.{◌<◌, ◌∙◌, refl, sym, ap, subst, map, Ok, Err, Some}
 use Rattle.std.proofs.lemmas.List.{take_all}
+use Rattle.package_tables.specs.declared.fault.Fault.TheVariants.{StoreFault}
 use Rattle.world.proofs.Questions.{asks_still, asks_answer, asks_then, asks_failed}
 use Rattle.world.proofs.Standing.{stay_length}
 use Rattle.world.proofs.Things.{told_of, one_more}
@@ -18,7 +19,7 @@ pub returns-in_err-thing : goal.returns-in_err-thing
 returns-in_err-thing g c = asks_failed g.S.Store _ c.from_residual.ensures.0 (asks_then g.S.Store {x = c.loop-identity.things.items} _ refl c.loop-identity.invariant.asked c.thing_at.ensures)
 
 pub returns-in_default : goal.returns-in_default
-returns-in_default g c = asks_failed g.S.Store _ tt (asks_then g.S.Store {x = c.loop-identity.things.items} _ refl c.loop-identity.invariant.asked c.thing_at.ensures)
+returns-in_default g c = asks_failed g.S.Store (Err StoreFault) refl (asks_then g.S.Store {x = c.loop-identity.things.items} _ refl c.loop-identity.invariant.asked c.thing_at.ensures)
 
 pub returns-in_err-push : goal.returns-in_err-push
 returns-in_err-push g c = asks_failed g.S.Store _ c.from_residual-in_err-push.ensures.0 (asks_then g.S.Store {x = c.loop-identity.things.items} _ refl c.loop-identity.invariant.asked c.thing_at.ensures)
