@@ -38,3 +38,5 @@ mod MergeReasons
 pub mod FirstInOrder
 mod DecidedMerges
 mod MergeLimits
+mod Clashing
+mod KeptMerges

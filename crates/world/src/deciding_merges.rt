@@ -1,5 +1,5 @@
 //! What a merge comes to that did not come before. What is kept of the members is looked at first, then what the child holds, once, and of each of its tiles whether the place is taken in the parent.
-ghost use Rattle.std.specs.Prelude.{◌≡◌, ◌<◌, ◌≤◌, ◌+◌, ℕ, pos, IsTrue, IfOk, IfNone, Some, None, length, map, slice_get};
+ghost use Rattle.std.specs.Prelude.{◌≡◌, ◌<◌, ◌≤◌, ◌+◌, ◌||◌, ℕ, pos, not, bytes_eq, IfOk, IfNone, Some, None, length, map, slice_get};
 ghost use Rattle.std.specs.Bool.{then_some};
 ghost use Rattle.std.specs.List.{list_any};
 ghost use Rattle.sheet_types.specs.Custody.{ends_at, kept};
@@ -58,6 +58,13 @@ fn is_lent_from(parent: Option<Uuid>, lender: Uuid) -> bool
     }
 }
 
+/// Whether a package may not go home to this one: it is lent from another, or is the same, and no package is lent from itself.
+fn is_foreign(parent: Option<Uuid>, child: Uuid, into: Uuid) -> bool
+    ensures { result ≡ (bytes_eq child into || not (ends_at parent into)) }
+{
+    child == into || !is_lent_from(parent, into)
+}
+
 /// Whether a ticket is this number.
 fn is_ticket(number: u64, ticket: i64) -> bool
     ensures { result ≡ is_within ticket ticket (pos number) }
@@ -77,7 +84,7 @@ fn loan_of<S: Alter + Drop>(members: &[Member<S>], child: Uuid) -> Option<Uuid>
     None
 }
 
-/// Why a merge is refused by its texts and by what is kept of the members. A package is no loan of itself.
+/// Why a merge is refused by its texts and by what is kept of the members.
 fn kept_refusal<S: Alter + Drop>(
     members: &[Member<S>],
     from: usize,
@@ -94,7 +101,7 @@ fn kept_refusal<S: Alter + Drop>(
         return Some(why);
     }
     let member = &members[from];
-    if child == into || !is_lent_from(member.parent, into) {
+    if is_foreign(member.parent, child, into) {
         return Some(Refusal::Foreign);
     }
     if !is_ticket(member.ticket, ticket) {
