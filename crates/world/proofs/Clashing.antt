@@ -1,5 +1,5 @@
 -- The first tile of some items whose place is taken, when one item more is looked at.
-use Rattle.std.proofs.Common.{◌≡◌, refl, sym, ap, subst, ◌∙◌, ℕ, ℤ, zero, suc, ◌+◌, List, [], ◌∷◌, ◌++◌, Bool, true, false, cond, take, Option, Some, None}
+use Rattle.std.proofs.Common.{◌≡◌, refl, sym, ap, subst, ◌∙◌, ℕ, ℤ, zero, suc, ◌+◌, List, [], ◌∷◌, ◌++◌, Bool, true, false, cond, take, Option, Some, None, arith}
 use Rattle.std.specs.Prelude.{find, option_map, unsigned_abs, slice_get}
 use Rattle.std.specs.Bool.{then_some}
 use Rattle.std.specs.List.{list_any}
@@ -40,7 +40,7 @@ clash_more p xs x =
 one_more : {X : Type 0} (xs : List X) (n : ℕ) (x : X) → slice_get xs n ≡ Some x → take (n + 1) xs ≡ take n xs ++ x ∷ []
 one_more [] n x there = absurd (let e = there in cc)
 one_more (y ∷ ys) zero x there = let same : y ≡ x = cc in ap (λ z. z ∷ []) same
-one_more (y ∷ ys) (suc n) x there = ap (λ zs. y ∷ zs) (one_more ys n x there)
+one_more (y ∷ ys) (suc n) x there = let on : suc n + 1 ≡ suc (n + 1) = omega arith in ap (λ k. take k (y ∷ ys)) on ∙ ap (λ zs. y ∷ zs) (one_more ys n x there)
 
 -- one that does not clash
 pub clash_passed : (p : Package) (items : List Item) (n : ℕ) (x : Item) (first : Option Clash) → slice_get items n ≡ Some x → None ≡ then_some (takes_place p x.content) (clash_of x) → first ≡ first_clash p (take n items) → first ≡ first_clash p (take (n + 1) items)

@@ -1,8 +1,9 @@
 -- Why a merge is refused by its texts and by what is kept of the members.
-use Rattle.std.proofs.Common.{◌≡◌, refl, sym, ap, subst, ◌∙◌, ℕ, ℤ, pos, List, [], ◌∷◌, Bool, true, false, cond, slice_get, Option, Some, None, bytes_eq, map}
+use Rattle.std.proofs.Common.{◌≡◌, refl, sym, ap, subst, ◌∙◌, ℕ, zero, suc, ℤ, pos, List, [], ◌∷◌, Bool, true, false, cond, take, slice_get, Option, Some, None, bytes_eq, map}
 use Rattle.std.specs.Prelude.{not, ◌||◌, is_some, unwrap_or, option_map, filter, find}
 use Rattle.std.specs.List.{list_any, AllByRecursion, AllZip}
 use Rattle.std.specs.Option.{option_or}
+use Rattle.std.proofs.lemmas.Bool.{or_parts}
 use Rattle.std.proofs.lemmas.Slice.Eq.{bytes_eq-Decides}
 use Rattle.sqlite.specs.Store.{Ghosts}
 use Rattle.sheet_types.specs.Custody.{ticket, ends_at}
@@ -120,3 +121,12 @@ module _ {S : Type 0} (g : Ghosts S) (members : List (Member S)) (w : World) (co
           ap (option_map LoanOpen) is_loan
           ∙ ap (λ b. cond (not b) (Some (Stale was.ticket)) (option_map LoanOpen (first_loan members child))) (sym fresh)
           ∙ ap (λ b. cond b (Some Foreign) (cond (not is_it) (Some (Stale was.ticket)) (option_map LoanOpen (first_loan members child)))) (sym own) ∙ rows_told ∙ after_text none
+
+-- ---- the first that passes
+
+pub none_before : {X : Type 0} (p : X → Bool) (xs : List X) (n : ℕ) (x : X) → list_any p (take n xs) ≡ false → slice_get xs n ≡ Some x → p x ≡ true → find p xs ≡ Some x
+none_before p [] n x none there passes = absurd (let e = there in cc)
+none_before p (y ∷ ys) zero x none there passes = let same : y ≡ x = cc in ap (λ b. cond b (Some y) (find p ys)) (ap p same ∙ passes) ∙ ap Some same
+none_before p (y ∷ ys) (suc n) x none there passes =
+    let parts = or_parts (p y) (list_any p (take n ys)) none in
+    ap (λ b. cond b (Some y) (find p ys)) parts.0 ∙ none_before p ys n x parts.1 there passes

@@ -1,5 +1,5 @@
 //! What a merge comes to that did not come before. What is kept of the members is looked at first, then what the child holds, once, and of each of its tiles whether the place is taken in the parent.
-ghost use Rattle.std.specs.Prelude.{◌≡◌, ◌<◌, ◌≤◌, ◌+◌, ◌||◌, ℕ, pos, not, bytes_eq, IfOk, IfNone, Some, None, length, map, slice_get};
+ghost use Rattle.std.specs.Prelude.{◌≡◌, ◌<◌, ◌≤◌, ◌+◌, ◌||◌, ℕ, pos, true, not, bytes_eq, IfOk, IfNone, Some, None, length, map, slice_get};
 ghost use Rattle.std.specs.Bool.{then_some};
 ghost use Rattle.std.specs.List.{list_any};
 ghost use Rattle.sheet_types.specs.Custody.{ends_at, kept};
@@ -77,8 +77,9 @@ fn loan_of<S: Alter + Drop>(members: &[Member<S>], child: Uuid) -> Option<Uuid>
     ensures { result ≡ first_loan members.now child }
 {
     for at in 0..members.len() {
-        if is_lent_from(members[at].parent, child) {
-            return Some(members[at].uuid);
+        let member = &members[at];
+        if is_lent_from(member.parent, child) {
+            return Some(member.uuid);
         }
     }
     None
@@ -144,24 +145,20 @@ fn clash_at<S: Alter + Drop>(
             row,
             ..
         } => {
-            if !has_tile_in(members, at, *zoom, *column, *row)? {
-                return Ok(None);
-            }
+            let taken = has_tile_in(members, at, *zoom, *column, *row)?;
             let place = [zoom.unsigned_abs(), column.unsigned_abs(), row.unsigned_abs()];
             let identity = item.identity;
-            Ok(Some(Clash { place, identity }))
+            Ok(taken.then_some(Clash { place, identity }))
         }
         Content::Media { .. } | Content::Row { .. } => Ok(None),
     }
 }
 
 /// Whether a tile comes before another, by zoom, column and row.
-fn comes_before(a: Clash, b: Clash) -> bool
-    ensures { result ≡ is_before a.place b.place }
+fn comes_before(a: &Clash, b: &Clash) -> bool
+    ensures { result ≡ is_before a.now.place b.now.place }
 {
-    let place = a.place;
-    let other = b.place;
-    place.cmp(&other).is_lt()
+    a.place.cmp(&b.place).is_lt()
 }
 
 /// The first of two, that which was there where they have one place.
@@ -171,7 +168,7 @@ fn nearer(first: Option<Clash>, clash: Clash) -> Clash
     match first {
         None => clash,
         Some(first) => {
-            if comes_before(clash, first) {
+            if comes_before(&clash, &first) {
                 clash
             } else {
                 first
