@@ -15,9 +15,9 @@ use Rattle.world.proofs.FirstInOrder.{nearer, first_of_more}
 
 -- what was looked up of a tile
 pub clash_told : (item : Item) (p : Package) (zoom column row : ℤ) (bytes : List ℕ) (taken : Bool) → item.content ≡ Tile zoom column row bytes → taken ≡ list_any (λ i. is_at zoom column row i.content) p.items
-    → then_some taken (record { place = unsigned_abs zoom ∷ unsigned_abs column ∷ unsigned_abs row ∷ []; identity = item.identity }) ≡ then_some (takes_place p item.content) (clash_of item)
+    → then_some {T = Clash} taken (record { place = unsigned_abs zoom ∷ unsigned_abs column ∷ unsigned_abs row ∷ []; identity = item.identity }) ≡ then_some (takes_place p item.content) (clash_of item)
 clash_told item p zoom column row bytes taken is told =
-    let Clashes : Content → Type 0 = λ c. then_some taken (record { place = unsigned_abs zoom ∷ unsigned_abs column ∷ unsigned_abs row ∷ []; identity = item.identity }) ≡ then_some (takes_place p c) (record { place = place_of c; identity = item.identity }) in
+    let Clashes : Content → Type 0 = λ c. then_some {T = Clash} taken (record { place = unsigned_abs zoom ∷ unsigned_abs column ∷ unsigned_abs row ∷ []; identity = item.identity }) ≡ then_some {T = Clash} (takes_place p c) (record { place = place_of c; identity = item.identity }) in
     subst Clashes (sym is) (ap (λ b. then_some b (clash_of (record { identity = item.identity; content = Tile zoom column row bytes }))) told)
 
 -- the first of two is so in other words

@@ -3,7 +3,7 @@ use Rattle.std.proofs.Common.{◌≡◌, refl, sym, ap, subst, ◌∙◌, ℕ, z
 use Rattle.std.specs.Prelude.{not, ◌||◌, is_some, unwrap_or, option_map, filter, find}
 use Rattle.std.specs.List.{list_any, AllByRecursion, AllZip}
 use Rattle.std.specs.Option.{option_or}
-use Rattle.std.proofs.lemmas.Bool.{or_parts}
+use Rattle.std.proofs.lemmas.Bool.{true≢false, or_parts}
 use Rattle.std.proofs.lemmas.Slice.Eq.{bytes_eq-Decides}
 use Rattle.sqlite.specs.Store.{Ghosts}
 use Rattle.sheet_types.specs.Custody.{ticket, ends_at}
@@ -31,7 +31,7 @@ use Rattle.world.proofs.Standing.{zip_at}
 -- the keys of a list in their order
 keys_arranged : {X : Type 0} (key : X → List ℕ) (xs : List X) → IsArranged key xs → IsArranged (λ k. k) (map key xs)
 keys_arranged key [] h = tt
-keys_arranged key (x ∷ xs) h = (each xs h.0, keys_arranged key xs h.1)
+keys_arranged {X} key (x ∷ xs) h = (each xs h.0, keys_arranged key xs h.1)
   where
     each : (ys : List X) → AllByRecursion (λ y. is_before (key x) (key y) ≡ true) ys → AllByRecursion (λ k. is_before (key x) k ≡ true) (map key ys)
     each [] all = tt
@@ -53,11 +53,20 @@ find_zip R p q f h so [] (y ∷ ys) zip = absurd zip
 find_zip R p q f h so (x ∷ xs) [] zip = absurd zip
 find_zip R p q f h so (x ∷ xs) (y ∷ ys) zip =
     let same = so x y zip.0 in
-    ap (λ b. option_map f (cond b (Some x) (find p xs))) same.0 ∙ each (q y) same.1
+    ap (λ b. option_map f (cond b (Some x) (find p xs))) same.0 ∙ each (q y) same.1 (find_zip R p q f h so xs ys zip.1)
   where
-    each : (b : Bool) → f x ≡ h y → option_map f (cond b (Some x) (find p xs)) ≡ option_map h (cond b (Some y) (find q ys))
-    each true e = ap Some e
-    each false e = find_zip R p q f h so xs ys zip.1
+    each : (b : Bool) → f x ≡ h y → option_map f (find p xs) ≡ option_map h (find q ys) → option_map f (cond b (Some x) (find p xs)) ≡ option_map h (cond b (Some y) (find q ys))
+    each true e rest = ap Some e
+    each false e rest = rest
+
+-- ---- by its texts
+
+pub kept_by_text : (w : World) (q : Request) (texts : Option Refusal) (why : Refusal) → texts ≡ first_row (text_reasons q) → texts ≡ Some why → Some why ≡ refusal_by_kept w q
+kept_by_text w q texts why told some = ap (λ o. option_or o (first_row (kept_reasons w q.command))) (sym some ∙ told)
+
+-- a package that is not its own parent's
+pub not_same : (child into : List ℕ) (other : Bool) → (bytes_eq child into || other) ≡ false → child ≡ into → ⊥
+not_same child into other none same = true≢false (sym ((bytes_eq-Decides child into).1 same) ∙ (or_parts (bytes_eq child into) other none).0)
 
 -- ---- what the members tell
 
@@ -102,9 +111,6 @@ module _ {S : Type 0} (g : Ghosts S) (members : List (Member S)) (w : World) (co
         last (Some x) = refl
 
     module _ (texts : Option Refusal) (told : texts ≡ first_row (text_reasons q)) where
-      pub kept_by_text : (why : Refusal) → texts ≡ Some why → Some why ≡ refusal_by_kept w q
-      kept_by_text why some = ap (λ o. option_or o (first_row (kept_reasons w q.command))) (sym some ∙ told)
-
       after_text : texts ≡ None → first_row (kept_reasons w q.command) ≡ refusal_by_kept w q
       after_text none = ap (λ o. option_or o (first_row (kept_reasons w q.command))) (sym none ∙ told)
 

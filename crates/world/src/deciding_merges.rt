@@ -108,8 +108,10 @@ fn kept_refusal<S: Alter + Drop>(
     if !is_ticket(member.ticket, ticket) {
         return Some(Refusal::Stale(member.ticket));
     }
-    let loan = loan_of(members, child)?;
-    Some(Refusal::LoanOpen(loan))
+    match loan_of(members, child) {
+        Some(loan) => Some(Refusal::LoanOpen(loan)),
+        None => None,
+    }
 }
 
 /// Whether the package of the member at a place has a tile there.
@@ -150,7 +152,8 @@ fn clash_at<S: Alter + Drop>(
             let identity = item.identity;
             Ok(taken.then_some(Clash { place, identity }))
         }
-        Content::Media { .. } | Content::Row { .. } => Ok(None),
+        Content::Media { .. } => Ok(None),
+        Content::Row { .. } => Ok(None),
     }
 }
 
