@@ -142,7 +142,7 @@ module _ {S : Type 0} (g : Ghosts S) where
         early_of x is early = elim why as (λ t. IsBeforeCommit (Turn t) → IsUncommitted {X = Receipt} (Err t)) [ Before y ↦ λ e. tt | Committing y ↦ λ e. absurd e ] (subst IsBeforeCommit (sym is) early)
 
         -- the child is dropped where it is not kept
-        left_behind : TurnFault → List (Held S)
+        abbrev left_behind : TurnFault → List (Held S)
         left_behind (Before fault.OutOfMemory) = child ∷ []
         left_behind (Before fault.StoreFault) = []
         left_behind (Committing x) = []

@@ -1,5 +1,5 @@
 -- What carrying out the change of one package says in each of the ways in which it ends.
-use Rattle.std.proofs.Common.{◌≡◌, refl, sym, ap, subst, ℕ, ◌+◌, List, Result, Ok, Err, IsErrAnd}
+use Rattle.std.proofs.Common.{◌≡◌, refl, sym, ap, subst, ℕ, ◌+◌, List, Result, Ok, Err, IfErr, IsErrAnd}
 use Rattle.sqlite.specs.Store.{Ghosts}
 use Rattle.sheet_types.specs.World.{World}
 use Rattle.sheet_types.specs.declared.command.Command.{Command}
@@ -18,6 +18,11 @@ use Rattle.world.specs.declared.members.Member.{Member}
 pub turned_into : {X E : Type 0} (r : Result X E) (e : E) → IsErrAnd r (λ why. why ≡ e) → r ≡ Err e
 turned_into (Ok x) e told = absurd told
 turned_into (Err y) e told = ap Err told
+
+-- what holds after any error
+pub if_err : {X E : Type 0} (P : Type 0) (r : Result X E) → P → IfErr r (λ why. P)
+if_err P (Ok x) p = tt
+if_err P (Err e) p = p
 
 module _ {S : Type 0} (g : Ghosts S) where
   -- what a crash leaves of a change that is due

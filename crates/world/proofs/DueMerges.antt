@@ -177,7 +177,7 @@ module _ (w : World) (id moment child into : List ℕ) (ticket' : ℤ) (types : 
   may : MayReturn receipt taken (holdings w child) (holdings w into)
   may = record { part = whole_part (holdings w child) kept_child.items kept_child.links; come = come; apart = are_apart; receipt = new }
 
-  one_more : receipts_of next ≡ receipts_of w ++ receipt ∷ []
+  pub one_more : receipts_of next ≡ receipts_of w ++ receipt ∷ []
   one_more = merge.receipts w id moment child into ticket' types register k
 
   is_next : IsNext w next
@@ -196,7 +196,7 @@ module _ (w : World) (id moment child into : List ℕ) (ticket' : ℤ) (types : 
       (All-without package_key child (λ x. bytes_eq x.uuid child ≡ false) all_changed (All-each (λ x. bytes_eq x.uuid child ≡ false → bytes_eq x.uuid child ≡ false) (λ x h. h) all_changed))
 
   module _ (from at : ℕ) (child_there : slice_get w.packages from ≡ Some (holdings w child)) (into_there : slice_get w.packages at ≡ Some (holdings w into)) where
-    two : ¬ (from ≡ at)
+    pub two : ¬ (from ≡ at)
     two same =
         let one : Some (holdings w child) ≡ Some (holdings w into) = sym child_there ∙ ap (slice_get w.packages) same ∙ into_there in
         let named : child ≡ into = sym uuid_child ∙ ap (λ o. (unwrap_or o no_package).uuid) one ∙ uuid_into in
@@ -205,7 +205,7 @@ module _ (w : World) (id moment child into : List ℕ) (ticket' : ℤ) (types : 
     is_set : all_changed ≡ slice_set w.packages at (take_all (holdings w into))
     is_set = changed_set into take_all w.packages at (holdings w into) register.arranged into_there uuid_into
 
-    packages_after : next.packages ≡ slice_set (remove w.packages from) (place_without from at) (take_all (holdings w into))
+    pub packages_after : next.packages ≡ slice_set (remove w.packages from) (place_without from at) (take_all (holdings w into))
     packages_after =
         without_at package_key child all_changed from (holdings w child) (changed_arranged take_all into w.packages (λ x. refl) register.arranged)
         (ap (λ zs. slice_get zs from) is_set ∙ set_elsewhere w.packages at from (take_all (holdings w into)) two ∙ child_there) uuid_child

@@ -35,5 +35,11 @@ mod Listing
 mod DueSplits
 mod DueMerges
 mod SplitReasons
+mod SplitDecided
+mod SplitLimits
+mod SplitAsked
 mod MergeReasons
 mod Things
+pub mod FirstInOrder
+mod DecidedMerges
+mod MergeLimits

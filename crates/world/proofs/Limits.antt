@@ -50,7 +50,7 @@ meets_one (Split uuid child mode rect) p meets = meets
 meets_one (Merge child into ticket) p meets = meets
 
 -- the packages that are overfull, by their sums
-overfull_by : (f : Package → Package) (g : Package → Sums) (ps : List Package) → AllByRecursion (λ x. sums_held (f x) ≡ g x) ps → list_any is_overfull (map f ps) ≡ list_any is_past_limits (map g ps)
+pub overfull_by : (f : Package → Package) (g : Package → Sums) (ps : List Package) → AllByRecursion (λ x. sums_held (f x) ≡ g x) ps → list_any is_overfull (map f ps) ≡ list_any is_past_limits (map g ps)
 overfull_by f g [] h = refl
 overfull_by f g (x ∷ ps) h = ap (λ s. is_past_limits s || list_any is_overfull (map f ps)) h.0 ∙ ap (λ b. is_past_limits (g x) || b) (overfull_by f g ps h.1)
 

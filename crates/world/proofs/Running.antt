@@ -19,10 +19,10 @@ use Rattle.world.specs.Worlds.{Seen, IsStep, IsRun, RunsOverRegisters}
 
 -- a run over registers goes on by a step that leaves one
 pub one_step_more : (w mid next : World) (qs : List Request) (replies : List (Result Receipt Refusal)) (q : Request) (reply : Result Receipt Refusal) → RunsOverRegisters w qs replies mid → Step mid q reply next → IsRegister next → RunsOverRegisters w (qs ++ q ∷ []) (replies ++ reply ∷ []) next
-one_step_more w mid next [] [] q reply ran step register = (ran.1, next, subst (λ v. Step v q reply next) ran.0 step, (refl, register))
+one_step_more w mid next [] [] q reply ran step register = (ran.1, (next, subst (λ v. Step v q reply next) ran.0 step, (refl, register)))
 one_step_more w mid next [] (r ∷ replies) q reply ran step register = absurd ran
 one_step_more w mid next (p ∷ qs) [] q reply ran step register = absurd ran
-one_step_more w mid next (p ∷ qs) (r ∷ replies) q reply ran step register = (ran.0, ran.1.0, ran.1.1, one_step_more ran.1.0 mid next qs replies q reply ran.1.2 step register)
+one_step_more w mid next (p ∷ qs) (r ∷ replies) q reply ran step register = (ran.0, (ran.1.0, ran.1.1, one_step_more ran.1.0 mid next qs replies q reply ran.1.2 step register))
 
 module _ {S : Type 0} (g : Ghosts S) where
   -- what the contract of `apply` says of one request

@@ -11,6 +11,7 @@ pub mod Asking
 pub mod TooMany
 pub mod Deciding
 pub mod Changes
+pub mod DecidingSplits
 pub mod Worlds
 pub mod Creating
 pub mod Reading
@@ -21,3 +22,4 @@ pub mod ServeFaults
 pub mod Splits
 pub mod Merges
 pub mod Carries
+pub mod DecidingMerges

@@ -16,7 +16,8 @@ ghost use Rattle.world.specs.Members.{AllRest, AreMembers};
 
 use crate::asking::{is_named_in_all, kept_in_all, place_of};
 use crate::asking_one::{refusal_at, thing_moved};
-use crate::deciding_loans::decide_loan;
+use crate::deciding_merges::decide_merge;
+use crate::deciding_splits::{Asked, decide_split};
 use crate::loans::{Lending, Returning};
 use crate::members::Member;
 use crate::receipts::receipt_over;
@@ -56,20 +57,6 @@ pub enum Decision {
     SplitDue(Lending),
     /// The merge that is.
     MergeDue(Returning),
-}
-
-/// Whether a command changes one package alone: an addition, a deletion, a link or an unlinking.
-fn changes_one_package(command: &Command) -> bool
-    ensures yes { IsTrue result → ChangesOnePackage command.now }
-    ensures no { ChangesOnePackage command.now → IsTrue result }
-{
-    match command {
-        Command::Add { .. }
-        | Command::Delete { .. }
-        | Command::Link { .. }
-        | Command::Unlink { .. } => true,
-        Command::Split { .. } | Command::Merge { .. } => false,
-    }
 }
 
 /// The package that a command changes.
@@ -287,10 +274,30 @@ fn decide_new<S: Alter + Drop>(
     ensures asks { AsksAll S.Store (λ w decision. IsNewTo frame.now count request.now w → Decides w request.now decision) members.old.items members.new.items result }
     ensures place { IfOk result (λ decision. HasPlace members.new.items count decision) }
 {
-    if changes_one_package(&request.command) {
-        decide_change(members, frame, count, alloc, request)
-    } else {
-        decide_loan(members, frame, count, alloc, request)
+    match &request.command {
+        Command::Split {
+            package,
+            child,
+            mode,
+            rect,
+        } => {
+            let asked = Asked {
+                package: *package,
+                child: *child,
+                mode: *mode,
+                rect: *rect,
+            };
+            decide_split(members, frame, count, alloc, request, &asked)
+        }
+        Command::Merge {
+            child,
+            into,
+            ticket,
+        } => decide_merge(members, count, alloc, request, *child, *into, *ticket),
+        Command::Add { .. }
+        | Command::Delete { .. }
+        | Command::Link { .. }
+        | Command::Unlink { .. } => decide_change(members, frame, count, alloc, request),
     }
 }
 

@@ -20,7 +20,7 @@ pub fn sums_moved(receipt: &Receipt) -> Sums
     }
 }
 
-fn more(some: Sums, held: Sums) -> Option<Sums>
+pub(crate) fn more(some: Sums, held: Sums) -> Option<Sums>
     ensures { SomeIff result (IsCounted (sums_more some held)) (sums_more some held) }
 {
     Some(Sums {
@@ -32,7 +32,7 @@ fn more(some: Sums, held: Sums) -> Option<Sums>
     })
 }
 
-fn less(some: Sums, held: Sums) -> Option<Sums>
+pub(crate) fn less(some: Sums, held: Sums) -> Option<Sums>
     ensures { SomeIff result (IsWithin some held) (sums_less some held) }
 {
     Some(Sums {

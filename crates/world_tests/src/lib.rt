@@ -10,6 +10,8 @@ mod carrying_tests;
 #[cfg(test)]
 mod judging_tests;
 #[cfg(test)]
+mod loan_tests;
+#[cfg(test)]
 mod reading_tests;
 #[cfg(test)]
 mod receipt_tests;
