@@ -12,6 +12,7 @@ use Rattle.sheet_types.specs.declared.receipt.Moved.{Moved}
 use Rattle.sheet_types.specs.declared.receipt.MovedKind.{MovedKind}
 use Rattle.sheet_types.specs.declared.receipt.MovedKind.TheVariants.{TileItem, MediaItem, RowItem}
 use Rattle.ledger.specs.Flows.{flow_by}
+use Rattle.ledger.specs.Parts.{HoldsWhatIsKept, SumsAddUp, AreLoans, AreAtHome, AreTogether}
 use Rattle.ledger.specs.declared.flows.Flow.{Flow}
 use Rattle.balance.specs.declared.sights.Sight.{Sight}
 
@@ -41,6 +42,14 @@ pub record IsSeen (sights : List Sight) (w : World) : Type 0 where
 pub record IsSeenWith (ledger : List Receipt) (sights : List Sight) (w : World) : Type 0 where
   pub seen : IsSeen sights w
   pub whole : ledger ≡ receipts_of w
+
+-- the ledger accounts for what is held, and each receipt stands where it ought to
+pub record IsAccounted (w : World) : Type 0 where
+  pub custody_is : HoldsWhatIsKept w
+  pub sums : SumsAddUp w
+  pub loans : AreLoans w
+  pub homes : AreAtHome w
+  pub together : AreTogether w
 
 -- ---- what sights say by themselves
 

@@ -1,0 +1,7 @@
+-- The source of a merge comes home where its target does; what is no merge brings nothing home.
+use Rattle.std.proofs.Common.{◌∙◌, sym}
+use Rattle.balance.proofs.Coming.{stays, stays_unnamed, has_target, comes_home}
+use Rattle.balance.proofs.homes.note_merge.Goals as goal
+
+pub returns : goal.returns
+returns c = λ entered. comes_home c.args.merged.now c.insert.new.self c.args.receipt.now c.in-Some.source c.in-Some-2.target c.home_of-home.result (sym c.is_merge.ensures ∙ c.if-not-is_merge.false) c.in-Some.is c.in-Some-2.is c.home_of-home.ensures c.in_ok-insert.ensures.updates
