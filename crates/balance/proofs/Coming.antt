@@ -8,7 +8,7 @@ use Rattle.std.specs.Cmp.Lexicographic.{slice_cmp}
 use Rattle.std.specs.BTreeMap.{BTreeMap, get, Updates}
 use Rattle.std.proofs.lemmas.Bool.{false≢true}
 use Rattle.std.proofs.lemmas.Bool.Decides.{nat_tests}
-use Rattle.std.proofs.lemmas.Slice.Eq.{bytes_eq-Decides}
+use Rattle.std.proofs.Math.Seq.{drop-cons}
 use Rattle.sheet_types.specs.Balance.{IsLedger, IsReceiptOf, IsHome, archive_of, home_after, stands_in}
 use Rattle.sheet_types.specs.Custody.{is_merge, ends_at, after}
 use Rattle.sheet_types.specs.Lines.{entry_from, is_merging}
@@ -84,6 +84,25 @@ homes_more homes new merged r rs turn came step h = (
 
 pub merged_more : (merged new : BTreeMap (List ℕ) (List ℕ)) (r : Receipt) (rs : List Receipt) → ((p : List ℕ) → home_in new p ≡ home_in merged (cond (is_merge r && ends_at r.source p) (unwrap_or r.target []) p)) → ((p : List ℕ) → home_in merged p ≡ home_after rs p) → (p : List ℕ) → home_in new p ≡ home_after (r ∷ rs) p
 merged_more merged new r rs step came p = step p ∙ came (cond (is_merge r && ends_at r.source p) (unwrap_or r.target []) p)
+
+-- ---- one step of the walk
+
+-- the receipt and those behind it
+pub in_front : (rs : List Receipt) (i : ℕ) (r : Receipt) → i < length rs → r ≡ get_or rs i r → drop i rs ≡ r ∷ drop (suc i) rs
+in_front rs i r lt is = drop-cons rs i r lt ∙ ap (λ z. z ∷ drop (suc i) rs) (sym is)
+
+pub homes_step : (homes new : BTreeMap ℕ (List ℕ)) (merged : BTreeMap (List ℕ) (List ℕ)) (r : Receipt) (rs more : List Receipt) → more ≡ r ∷ rs → (AreInTurn rs → (p : List ℕ) → home_in merged p ≡ home_after rs p)
+    → ((e : Entry) → entry_from r.line ≡ Some e → (k : ℕ) → get nat_cmp new k ≡ cond (r.seq == k) (Some (home_in merged (stands_in e))) (get nat_cmp homes k))
+    → (AreInTurn rs → AllByRecursion (HasHome homes rs) rs) → AreInTurn more → AllByRecursion (HasHome new more) more
+homes_step homes new merged r rs more is came step had turn =
+    let now : AreInTurn (r ∷ rs) = subst AreInTurn is turn in
+    subst (λ zs. AllByRecursion (HasHome new zs) zs) (sym is) (homes_more homes new merged r rs now (came (in_turn_rest r rs now)) step (had (in_turn_rest r rs now)))
+
+pub merged_step : (merged new : BTreeMap (List ℕ) (List ℕ)) (r : Receipt) (rs more : List Receipt) → more ≡ r ∷ rs → (IsEntered r → (p : List ℕ) → home_in new p ≡ home_in merged (cond (is_merge r && ends_at r.source p) (unwrap_or r.target []) p))
+    → (AreInTurn rs → (p : List ℕ) → home_in merged p ≡ home_after rs p) → AreInTurn more → (p : List ℕ) → home_in new p ≡ home_after more p
+merged_step merged new r rs more is step came turn p =
+    let now : AreInTurn (r ∷ rs) = subst AreInTurn is turn in
+    merged_more merged new r rs (step now.entered.0) (came (in_turn_rest r rs now)) p ∙ ap (λ zs. home_after zs p) (sym is)
 
 -- ---- one merge
 
