@@ -1,5 +1,5 @@
 -- Loans, by the last merges and the splits that are seen.
-use Rattle.std.specs.Prelude.{◌≡◌, ◌↔◌, ◌&&◌, ◌||◌, ◌==◌, ⊤, ℕ, Bool, true, false, cond, IsTrue, List, Vec, [], ◌∷◌, ◌++◌, Option, Some, None, bytes_eq, find, nat_lt, refl}
+use Rattle.std.specs.Prelude.{◌≡◌, ◌↔◌, ◌&&◌, ◌||◌, ◌==◌, ⊤, ℕ, Bool, true, false, cond, not, IsTrue, List, Vec, [], ◌∷◌, ◌++◌, Option, Some, None, bytes_eq, find, nat_lt, refl}
 use Rattle.std.proofs.Common.{sym, subst, ap, ◌∙◌}
 use Rattle.std.specs.declared.alloc.Global.{Global}
 use Rattle.std.specs.List.{list_any, AllByRecursion}
@@ -7,13 +7,14 @@ use Rattle.std.specs.Option.{MatchOption, option_map_or}
 use Rattle.std.specs.Ordering.{nat_cmp}
 use Rattle.std.specs.Cmp.Lexicographic.{slice_cmp}
 use Rattle.std.specs.BTreeMap.{BTreeMap, get}
+use Rattle.std.proofs.lemmas.Bool.{and_parts}
 use Rattle.std.proofs.lemmas.List.Folds.{list_any-append}
 use Rattle.std.proofs.lemmas.Slice.Eq.{bytes_eq-Decides}
 use Rattle.sheet_types.specs.Custody.{is_split, is_merge, ends_at, after}
 use Rattle.sheet_types.specs.Ordered.{is_before, IsArranged}
 use Rattle.sheet_types.specs.World.{World, Package, package_key}
 use Rattle.sheet_types.specs.declared.receipt.Receipt.{Receipt}
-use Rattle.sheet_types.proofs.Basics.{or-false, before-differs, bytes_eq_swap}
+use Rattle.sheet_types.proofs.Basics.{or-false, not_true, before-differs, bytes_eq_swap}
 use Rattle.sheet_types.proofs.Every.{All-weaker}
 use Rattle.ledger.specs.Parts.{AreLoans}
 use Rattle.balance.specs.declared.sights.Sight.{Sight}
@@ -85,6 +86,24 @@ seen_in_order (s ∷ ss) (p ∷ ps) h order = (
   subst (λ u. AllByRecursion (λ x. is_before u x.uuid ≡ true) ss) (sym h.0.uuid) (uuids_seen p.uuid ss ps h.1 order.0),
   seen_in_order ss ps h.1 order.1,
 )
+
+-- ---- one package with a parent
+
+pub loan_by : (merges : BTreeMap (List ℕ) ℕ) (splits : Splits) (s : Sight) (parent : List ℕ) (lents : List Lent) (a b : Bool) → s.parent ≡ Some parent → lents ≡ lents_in splits s.uuid
+    → a ≡ list_any (is_lent parent s.loan) lents → b ≡ not (option_map_or (nat_lt s.loan) (get (slice_cmp nat_cmp) merges s.uuid) false) → IsTrue (a && b) ↔ IsLoanBy merges splits s
+loan_by merges splits s parent lents a b is same first second =
+    subst (λ o. IsTrue (a && b) ↔ MatchOption o ⊤ (λ q. (list_any (is_lent q s.loan) (lents_in splits s.uuid) ≡ true) × (option_map_or (nat_lt s.loan) (get (slice_cmp nat_cmp) merges s.uuid) false ≡ false))) (sym is) (there, back)
+  where
+    said : a ≡ list_any (is_lent parent s.loan) (lents_in splits s.uuid)
+    said = first ∙ ap (list_any (is_lent parent s.loan)) same
+
+    there : (a && b) ≡ true → (list_any (is_lent parent s.loan) (lents_in splits s.uuid) ≡ true) × (option_map_or (nat_lt s.loan) (get (slice_cmp nat_cmp) merges s.uuid) false ≡ false)
+    there e =
+        let parts : (a ≡ true) × (b ≡ true) = and_parts a b e in
+        (sym said ∙ parts.0, not_true (option_map_or (nat_lt s.loan) (get (slice_cmp nat_cmp) merges s.uuid) false) (sym second ∙ parts.1))
+
+    back : (list_any (is_lent parent s.loan) (lents_in splits s.uuid) ≡ true) × (option_map_or (nat_lt s.loan) (get (slice_cmp nat_cmp) merges s.uuid) false ≡ false) → (a && b) ≡ true
+    back x = ap (λ v. v && b) (said ∙ x.0) ∙ second ∙ ap not x.1
 
 -- ---- the answer
 
