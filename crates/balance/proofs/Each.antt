@@ -8,7 +8,7 @@ use Rattle.balance.specs.Sights.{IsSightOf, AreSightsOf}
 
 -- a fact of each element of each part is one of each element
 pub all_flat : {X Y : Type 0} (P : Y → Type 0) (f : X → List Y) (xs : List X) → AllByRecursion P (flat_map f xs) ↔ AllByRecursion (λ x. AllByRecursion P (f x)) xs
-all_flat P f xs = (apart xs, All-flat_map P f xs)
+all_flat {X = X} P f xs = (apart xs, All-flat_map P f xs)
   where
     apart : (zs : List X) → AllByRecursion P (flat_map f zs) → AllByRecursion (λ x. AllByRecursion P (f x)) zs
     apart [] h = tt

@@ -1,5 +1,5 @@
 -- A world is balanced where each part answers yes.
-use Rattle.std.specs.Prelude.{◌≡◌, ◌↔◌, ◌&&◌, ℕ, Bool, true, false, IsTrue, List, [], Option, Some, None, refl}
+use Rattle.std.specs.Prelude.{◌≡◌, ◌↔◌, ◌&&◌, ℕ, Bool, true, false, IsTrue, List, [], Option, Some, None, Result, Ok, Err, IfOk, refl}
 use Rattle.std.proofs.Common.{sym, subst, ap, ◌∙◌}
 use Rattle.std.proofs.lemmas.Bool.{and_parts, false≢true}
 use Rattle.sheet_types.specs.Balance.{Balanced, IsLedger, archive_of}
@@ -35,15 +35,19 @@ seen_one archive o w is seen = some_same (sym is ∙ seen)
 pub none_seen : (o : Option (List ℕ)) (w : World) → o ≡ None → o ≡ Some (archive_of w) → ⊥
 none_seen o w is seen = None≢Some (sym is ∙ seen)
 
+-- the ledger that is seen, and a slice of it
+pub seen_with : (ledger slice : List Receipt) (ss : List Sight) (w : World) → IsSeen ss w → ledger ≡ receipts_of w → slice ≡ ledger → IsSeenWith slice ss w
+seen_with ledger slice ss w seen whole same = record { seen = seen; whole = same ∙ whole }
+
 -- the ledger of a balanced world is sound
 pub not_sound : (w : World) (archive : List ℕ) (ledger : List Receipt) (ss : List Sight) (sound : Bool) → archive ≡ archive_of w → IsSeenWith ledger ss w → IsTrue sound ↔ IsLedger archive [] ledger → sound ≡ false → Balanced w → ⊥
-not_sound w archive ledger ss sound is seen f no b =
-    false≢true (sym no ∙ f.1 (subst (λ rs. IsLedger archive [] rs) (sym seen.whole) (subst (λ p. IsLedger p [] (receipts_of w)) (sym is) b.ledger)))
+not_sound w archive ledger ss sound is seen f denies b =
+    false≢true (sym denies ∙ f.1 (subst (λ rs. IsLedger archive [] rs) (sym seen.whole) (subst (λ p. IsLedger p [] (receipts_of w)) (sym is) b.ledger)))
 
 -- a sound ledger that accounts for what is held balances the world
 pub judged : (w : World) (archive : List ℕ) (ledger : List Receipt) (ss : List Sight) (sound accounted : Bool) → archive ≡ archive_of w → IsSeenWith ledger ss w → IsTrue sound ↔ IsLedger archive [] ledger → sound ≡ true
     → (IsLedger (archive_of w) [] ledger → IsTrue accounted ↔ IsAccounted w) → IsTrue accounted ↔ Balanced w
-judged w archive ledger ss sound accounted is seen f yes answer = (
+judged w archive ledger ss sound accounted is seen f holds answer = (
   (λ e. let k : IsAccounted w = (answer of_world).0 e in
       (balanced_is_its_parts w).1 (record { ledger = (sound_is_its_parts (archive_of w) (receipts_of w)).0 (subst (λ rs. IsLedger (archive_of w) [] rs) seen.whole of_world); custody_is = k.custody_is; sums = k.sums; loans = k.loans; homes = k.homes; together = k.together })),
   (λ b. let h : HasParts w = (balanced_is_its_parts w).0 b in
@@ -51,4 +55,9 @@ judged w archive ledger ss sound accounted is seen f yes answer = (
 )
   where
     of_world : IsLedger (archive_of w) [] ledger
-    of_world = subst (λ p. IsLedger p [] ledger) is (f.0 yes)
+    of_world = subst (λ p. IsLedger p [] ledger) is (f.0 holds)
+
+-- a fact of an answer says another
+pub if_ok : {X E : Type 0} (r : Result X E) (P Q : X → Type 0) → ((x : X) → P x → Q x) → IfOk r P → IfOk r Q
+if_ok (Ok x) P Q f h = f x h
+if_ok (Err e) P Q f h = h

@@ -20,7 +20,7 @@ use Rattle.ledger.specs.Parts.{AreLoans}
 use Rattle.balance.specs.declared.sights.Sight.{Sight}
 use Rattle.balance.specs.declared.splits.Lent.{Lent}
 use Rattle.balance.specs.Sights.{AreSightsOf, IsSeenWith, IsLoanSeen, has_split, receipts_in, is_merged_after}
-use Rattle.balance.specs.Splits.{lents_in, lents_by, lents_among, lents_seen, IsLoanBy}
+use Rattle.balance.specs.Splits.{lents_in, lent_of, lents_by, lents_among, lents_seen, IsLoanBy}
 use Rattle.balance.proofs.Each.{all_same}
 use Rattle.balance.proofs.Seen.{seen_loans, same_answer}
 use Rattle.balance.proofs.Splitting.{Splits}
@@ -46,7 +46,7 @@ lent_among parent home target seq [] = elim (bytes_eq home parent) as (λ b. fal
 lent_among parent home target seq (r ∷ rs) =
     list_any-append (is_lent parent seq) (lents_by home target r) (lents_among home target rs)
     ∙ ap (λ b. list_any (is_lent parent seq) (lents_by home target r) || b) (lent_among parent home target seq rs)
-    ∙ tests (is_split r) (ends_at r.target target) (r.seq == seq) (bytes_eq home parent) (has_split rs target seq) (record { seq = r.seq; home = home }) (is_lent parent seq) refl
+    ∙ tests (is_split r) (ends_at r.target target) (r.seq == seq) (bytes_eq home parent) (has_split rs target seq) (lent_of home r) (is_lent parent seq) refl
 
 -- no package that is seen is this one, so none of the splits stands there
 none_lent : (parent target : List ℕ) (seq : ℕ) (ss : List Sight) → AllByRecursion (λ s. bytes_eq s.uuid parent ≡ false) ss → list_any (is_lent parent seq) (lents_seen target ss) ≡ false

@@ -12,7 +12,7 @@ use Rattle.sheet_types.specs.Custody.{is_split, ends_at}
 use Rattle.sheet_types.specs.declared.receipt.Receipt.{Receipt}
 use Rattle.ledger.proofs.Maps.{at_key}
 use Rattle.balance.specs.declared.splits.Lent.{Lent}
-use Rattle.balance.specs.Splits.{lents_in, lents_by, lents_among}
+use Rattle.balance.specs.Splits.{lents_in, lent_of, lents_by, lents_among}
 
 abbrev pub Splits : Type 0
 Splits = BTreeMap (List ℕ) (Vec Lent Global)
@@ -33,16 +33,16 @@ one_lent old mid new target lent v taken put is p =
 -- a receipt without target, and one that is no split
 pub no_target : (home p : List ℕ) (r : Receipt) → r.target ≡ None → lents_by home p r ≡ []
 no_target home p r e =
-    ap (λ o. cond (is_split r && ends_at o p) (record { seq = r.seq; home = home } ∷ []) []) e
-    ∙ elim (is_split r) as (λ b. cond (b && false) (record { seq = r.seq; home = home } ∷ []) [] ≡ []) [ true ↦ refl | false ↦ refl ]
+    ap (λ o. cond (is_split r && ends_at o p) (lent_of home r ∷ []) []) e
+    ∙ elim (is_split r) as (λ b. cond (b && false) (lent_of home r ∷ []) [] ≡ []) [ true ↦ refl | false ↦ refl ]
 
 pub no_split : (home p : List ℕ) (r : Receipt) → is_split r ≡ false → lents_by home p r ≡ []
-no_split home p r e = ap (λ b. cond (b && ends_at r.target p) (record { seq = r.seq; home = home } ∷ []) []) e
+no_split home p r e = ap (λ b. cond (b && ends_at r.target p) (lent_of home r ∷ []) []) e
 
-pub a_split : (home p target : List ℕ) (r : Receipt) (lent : Lent) → is_split r ≡ true → r.target ≡ Some target → lent ≡ record { seq = r.seq; home = home } → cond (bytes_eq target p) (lent ∷ []) [] ≡ lents_by home p r
+pub a_split : (home p target : List ℕ) (r : Receipt) (lent : Lent) → is_split r ≡ true → r.target ≡ Some target → lent ≡ lent_of home r → cond (bytes_eq target p) (lent ∷ []) [] ≡ lents_by home p r
 a_split home p target r lent e is same =
     ap (λ l. cond (bytes_eq target p) (l ∷ []) []) same
-    ∙ sym (ap (λ b. cond (b && ends_at r.target p) (record { seq = r.seq; home = home } ∷ []) []) e ∙ ap (λ o. cond (ends_at o p) (record { seq = r.seq; home = home } ∷ []) []) is)
+    ∙ sym (ap (λ b. cond (b && ends_at r.target p) (lent_of home r ∷ []) []) e ∙ ap (λ o. cond (ends_at o p) (lent_of home r ∷ []) []) is)
 
 -- what adds nothing
 pub adds_none : (xs ys : List Lent) → ys ≡ [] → xs ≡ xs ++ ys

@@ -10,7 +10,7 @@ use Rattle.sheet_types.specs.declared.receipt.Receipt.{Receipt}
 use Rattle.ledger.specs.Parts.{AreTogether}
 use Rattle.balance.specs.declared.sights.Sight.{Sight}
 use Rattle.balance.specs.Sights.{IsSightOf, IsSeen}
-use Rattle.balance.specs.Splits.{lents_in, lents_by, lents_among, lents_seen, StandsBefore, UndoesBy}
+use Rattle.balance.specs.Splits.{lents_in, lent_of, lents_by, lents_among, lents_seen, StandsBefore, UndoesBy}
 use Rattle.balance.proofs.Each.{all_flat, all_same}
 use Rattle.balance.proofs.Seen.{all_seen, same_answer}
 use Rattle.balance.proofs.Splitting.{Splits}
@@ -26,14 +26,14 @@ module _ (home target : List ℕ) (seq : ℕ) where
     where
       there : AllByRecursion (StandsBefore home seq) (lents_by uuid target r) → Undone home target seq uuid r
       there h e =
-          let parts : (is_split r ≡ true) × ((nat_lt r.seq seq && ends_at r.target target) ≡ true) = and_parts (is_split r) (nat_lt r.seq seq && ends_at r.target target) e in
-          let late : (nat_lt r.seq seq ≡ true) × (ends_at r.target target ≡ true) = and_parts (nat_lt r.seq seq) (ends_at r.target target) parts.1 in
-          let is : (is_split r && ends_at r.target target) ≡ true = ap (λ b. b && ends_at r.target target) parts.0 ∙ late.1 in
-          let all : AllByRecursion (StandsBefore home seq) (record { seq = r.seq; home = uuid } ∷ []) = subst (λ b. AllByRecursion (StandsBefore home seq) (cond b (record { seq = r.seq; home = uuid } ∷ []) [])) is h in
-          all.0 late.0
+          let parts : ((is_split r && nat_lt r.seq seq) ≡ true) × (ends_at r.target target ≡ true) = and_parts (is_split r && nat_lt r.seq seq) (ends_at r.target target) e in
+          let early : (is_split r ≡ true) × (nat_lt r.seq seq ≡ true) = and_parts (is_split r) (nat_lt r.seq seq) parts.0 in
+          let is : (is_split r && ends_at r.target target) ≡ true = ap (λ b. b && ends_at r.target target) early.0 ∙ parts.1 in
+          let all : AllByRecursion (StandsBefore home seq) (lent_of uuid r ∷ []) = subst (λ b. AllByRecursion (StandsBefore home seq) (cond b (lent_of uuid r ∷ []) [])) is h in
+          all.0 early.1
 
       back : Undone home target seq uuid r → AllByRecursion (StandsBefore home seq) (lents_by uuid target r)
-      back f = elim (is_split r && ends_at r.target target) as (λ b. (is_split r && ends_at r.target target) ≡ b → AllByRecursion (StandsBefore home seq) (cond b (record { seq = r.seq; home = uuid } ∷ []) [])) [
+      back f = elim (is_split r && ends_at r.target target) as (λ b. (is_split r && ends_at r.target target) ≡ b → AllByRecursion (StandsBefore home seq) (cond b (lent_of uuid r ∷ []) [])) [
         | true ↦ λ e.
             let parts : (is_split r ≡ true) × (ends_at r.target target ≡ true) = and_parts (is_split r) (ends_at r.target target) e in
             ((λ lt. f (ap (λ b. b && nat_lt r.seq seq && ends_at r.target target) parts.0 ∙ ap (λ b. b && ends_at r.target target) lt ∙ parts.1)), tt)

@@ -15,9 +15,13 @@ use Rattle.balance.specs.declared.splits.Lent.{Lent}
 abbrev pub lents_in : BTreeMap (List ℕ) (Vec Lent Global) → List ℕ → List Lent
 lents_in splits p = option_map_or (λ v. v.items) (get (slice_cmp nat_cmp) splits p) []
 
--- the split with its number and where it stands, if it is one and has this target
+-- a split by its number and the package in which it stands
+abbrev pub lent_of : List ℕ → Receipt → Lent
+lent_of home r = record { seq = r.seq; home = home }
+
+-- the split, if the receipt is one and has this target
 abbrev pub lents_by : List ℕ → List ℕ → Receipt → List Lent
-lents_by home p r = if is_split r && ends_at r.target p then record { seq = r.seq; home = home } ∷ [] else []
+lents_by home p r = if is_split r && ends_at r.target p then lent_of home r ∷ [] else []
 
 abbrev pub lents_among : List ℕ → List ℕ → List Receipt → List Lent
 lents_among home p rs = flat_map (lents_by home p) rs
