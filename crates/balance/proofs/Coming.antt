@@ -68,9 +68,12 @@ pub homes_more : (homes new : BTreeMap ℕ (List ℕ)) (merged : BTreeMap (List 
     → ((e : Entry) → entry_from r.line ≡ Some e → (k : ℕ) → get nat_cmp new k ≡ cond (r.seq == k) (Some (home_in merged (stands_in e))) (get nat_cmp homes k))
     → AllByRecursion (HasHome homes rs) rs → AllByRecursion (HasHome new (r ∷ rs)) (r ∷ rs)
 homes_more homes new merged r rs turn came step h = (
-  (line.0, line.1.says,
+  (
+    line.0,
+    line.1.says,
     step line.0 line.1.says r.seq ∙ ap (λ b. cond b (Some (home_in merged (stands_in line.0))) (get nat_cmp homes r.seq)) (same_number r.seq)
-    ∙ ap (λ p. Some p) (came (stands_in line.0)) ∙ ap (λ zs. Some (home_after zs (stands_in line.0))) (sym (after_first r rs turn.rise))),
+        ∙ ap (λ p. Some p) (came (stands_in line.0)) ∙ ap (λ zs. Some (home_after zs (stands_in line.0))) (sym (after_first r rs turn.rise)),
+  ),
   All-both (λ s. nat_lt r.seq s.seq ≡ true) (HasHome homes rs) (HasHome new (r ∷ rs)) one rs (later r rs turn.rise) h,
 )
   where
@@ -78,9 +81,12 @@ homes_more homes new merged r rs turn came step h = (
     line = turn.entered.0
 
     one : (s : Receipt) → nat_lt r.seq s.seq ≡ true → HasHome homes rs s → HasHome new (r ∷ rs) s
-    one s lt has = (has.0, has.1,
-        step line.0 line.1.says s.seq ∙ ap (λ b. cond b (Some (home_in merged (stands_in line.0))) (get nat_cmp homes s.seq)) (lt_differs r.seq s.seq lt)
-        ∙ has.2 ∙ ap (λ zs. Some (home_after zs (stands_in has.0))) (sym (after_other r s rs lt)))
+    one s lt has = (
+      has.0,
+      has.1,
+      step line.0 line.1.says s.seq ∙ ap (λ b. cond b (Some (home_in merged (stands_in line.0))) (get nat_cmp homes s.seq)) (lt_differs r.seq s.seq lt)
+          ∙ has.2 ∙ ap (λ zs. Some (home_after zs (stands_in has.0))) (sym (after_other r s rs lt)),
+    )
 
 pub merged_more : (merged new : BTreeMap (List ℕ) (List ℕ)) (r : Receipt) (rs : List Receipt) → ((p : List ℕ) → home_in new p ≡ home_in merged (cond (is_merge r && ends_at r.source p) (unwrap_or r.target []) p)) → ((p : List ℕ) → home_in merged p ≡ home_after rs p) → (p : List ℕ) → home_in new p ≡ home_after (r ∷ rs) p
 merged_more merged new r rs step came p = step p ∙ came (cond (is_merge r && ends_at r.source p) (unwrap_or r.target []) p)

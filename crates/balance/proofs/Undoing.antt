@@ -46,7 +46,7 @@ module _ (home target : List ℕ) (seq : ℕ) where
       let each : AllByRecursion (StandsBefore home seq) (lents_among s.uuid target s.receipts.items) ↔ AllByRecursion (Undone home target seq s.uuid) s.receipts.items =
       same_answer (all_flat (StandsBefore home seq) (lents_by s.uuid target) s.receipts.items) (all_same (λ r. AllByRecursion (StandsBefore home seq) (lents_by s.uuid target r)) (Undone home target seq s.uuid) (one_undone s.uuid) s.receipts.items) in
       subst (λ rs. AllByRecursion (StandsBefore home seq) (lents_among s.uuid target s.receipts.items) ↔ AllByRecursion (Undone home target seq p.uuid) rs) k.receipts
-          (subst (λ u. AllByRecursion (StandsBefore home seq) (lents_among s.uuid target s.receipts.items) ↔ AllByRecursion (Undone home target seq u) s.receipts.items) k.uuid each)
+      (subst (λ u. AllByRecursion (StandsBefore home seq) (lents_among s.uuid target s.receipts.items) ↔ AllByRecursion (Undone home target seq u) s.receipts.items) k.uuid each)
 
   -- of all packages
   all_undone : (ss : List Sight) (w : World) → IsSeen ss w → AllByRecursion (StandsBefore home seq) (lents_seen target ss) ↔ AllByRecursion (λ x. AllByRecursion (Undone home target seq x.uuid) x.receipts) w.packages
@@ -64,7 +64,7 @@ together_answer splits ss a lents f w h =
     one s p k m =
         let seen : AllByRecursion (StandsBefore s.uuid m.seq) (lents_in splits (unwrap_or m.source [])) ↔ AllByRecursion (λ x. AllByRecursion (Undone p.uuid (unwrap_or m.source []) m.seq x.uuid) x.receipts) w.packages =
         subst (λ u. AllByRecursion (StandsBefore u m.seq) (lents_in splits (unwrap_or m.source [])) ↔ AllByRecursion (λ x. AllByRecursion (Undone p.uuid (unwrap_or m.source []) m.seq x.uuid) x.receipts) w.packages) (sym k.uuid)
-            (subst (λ ls. AllByRecursion (StandsBefore p.uuid m.seq) ls ↔ AllByRecursion (λ x. AllByRecursion (Undone p.uuid (unwrap_or m.source []) m.seq x.uuid) x.receipts) w.packages) (sym (lents (unwrap_or m.source []))) (all_undone p.uuid (unwrap_or m.source []) m.seq ss w h)) in
+        (subst (λ ls. AllByRecursion (StandsBefore p.uuid m.seq) ls ↔ AllByRecursion (λ x. AllByRecursion (Undone p.uuid (unwrap_or m.source []) m.seq x.uuid) x.receipts) w.packages) (sym (lents (unwrap_or m.source []))) (all_undone p.uuid (unwrap_or m.source []) m.seq ss w h)) in
         ((λ g e. seen.0 (g e)), (λ g e. seen.1 (g e)))
 
     of_package : (s : Sight) (p : Package) → IsSightOf s p → AllByRecursion (UndoesBy splits s.uuid) s.receipts.items ↔ AllByRecursion (UndoesHere w p) p.receipts

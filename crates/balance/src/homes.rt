@@ -26,11 +26,7 @@ use uuid::Uuid;
 /// # Errors
 ///
 /// Want of memory.
-pub fn are_at_home(
-    alloc: Global,
-    ledger: &[Receipt],
-    sights: &[Sight],
-) -> Result<bool, OutOfMemory>
+pub fn are_at_home(alloc: Global, ledger: &[Receipt], sights: &[Sight]) -> Result<bool, OutOfMemory>
     ensures { IfOk result (λ home. (w : World) → IsSeenWith ledger.now sights.now w → IsLedger (archive_of w) [] ledger.now → IsTrue home ↔ AreAtHome w) }
 {
     let homes = homes_of(alloc, ledger)?;

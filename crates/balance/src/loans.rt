@@ -45,11 +45,7 @@ fn are_loans_seen(
 }
 
 // Whether a package has no parent, or is the loan of a split that stands in its parent and that no later merge undoes.
-fn is_loan(
-    merges: &BTreeMap<Uuid, u64>,
-    splits: &BTreeMap<Uuid, Vec<Lent>>,
-    sight: &Sight,
-) -> bool
+fn is_loan(merges: &BTreeMap<Uuid, u64>, splits: &BTreeMap<Uuid, Vec<Lent>>, sight: &Sight) -> bool
     ensures { IsTrue result ↔ IsLoanBy merges.now splits.now sight.now }
 {
     let Some(parent) = sight.parent else {
@@ -63,5 +59,7 @@ fn is_loan(
 fn stands_in(lents: &[Lent], home: Uuid, seq: u64) -> bool
     ensures { result ≡ list_any (λ l. bytes_eq l.home home && (l.seq == seq)) lents.now }
 {
-    lents.iter().any(|lent| (lent.home == home) & (lent.seq == seq))
+    lents
+        .iter()
+        .any(|lent| (lent.home == home) & (lent.seq == seq))
 }

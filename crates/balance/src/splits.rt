@@ -25,10 +25,7 @@ pub struct Lent {
 /// # Errors
 ///
 /// Want of memory.
-pub fn splits_of(
-    alloc: Global,
-    sights: &[Sight],
-) -> Result<BTreeMap<Uuid, Vec<Lent>>, AllocError>
+pub fn splits_of(alloc: Global, sights: &[Sight]) -> Result<BTreeMap<Uuid, Vec<Lent>>, AllocError>
     ensures has { IfOk result (λ splits. (p : List ℕ) → lents_in splits p ≡ lents_seen p sights.now) }
     ensures whole { IfOk result (λ splits. lents_in splits [] ≡ []) }
 {
@@ -97,11 +94,7 @@ fn note_split(
 }
 
 // Takes out the splits that have this package as target.
-fn take_lents(
-    splits: &mut BTreeMap<Uuid, Vec<Lent>>,
-    alloc: Global,
-    target: Uuid,
-) -> Vec<Lent>
+fn take_lents(splits: &mut BTreeMap<Uuid, Vec<Lent>>, alloc: Global, target: Uuid) -> Vec<Lent>
     ensures lents { result.items ≡ lents_in splits.old target }
     ensures taken { Updates (slice_cmp nat_cmp) splits.old splits.new target None }
 {

@@ -195,10 +195,23 @@ fn a_tile_brought_back_through_two_loans(rt: HostRuntime) -> Result<(), Fail> {
     receipts.push(lent_on(alloc)?)?;
     receipts.push(receipt(alloc, 4, BACK_TO_LOAN, Some(second_loan()), Some(loan()))?)?;
     receipts.push(receipt(alloc, 5, BACK_TO_ARCHIVE, Some(loan()), Some(archive()))?)?;
-    let home = sight(alloc, archive(), None, 0, vec![in alloc; tile(1, 1)]?, receipts);
+    let home = sight(
+        alloc,
+        archive(),
+        None,
+        0,
+        vec![in alloc; tile(1, 1)]?,
+        receipts,
+    );
     let mut sights = Vec::new(alloc);
     sights.push(home)?;
-    assert!(rt; are(alloc, sights.as_slice(), &[true, true, true, true, true, true, true]));
+    assert!(rt;
+        are(
+            alloc,
+            sights.as_slice(),
+            &[true, true, true, true, true, true, true]
+        )
+    );
     Ok(())
 }
 
@@ -210,7 +223,13 @@ fn one_request_twice(rt: HostRuntime) -> Result<(), Fail> {
     let mut receipts = vec_of(alloc, added(alloc)?)?;
     receipts.push(again)?;
     let sights = archive_and_loan(alloc, receipts, 2, tile(1, 1))?;
-    assert!(rt; are(alloc, sights.as_slice(), &[false, true, true, true, true, true, false]));
+    assert!(rt;
+        are(
+            alloc,
+            sights.as_slice(),
+            &[false, true, true, true, true, true, false]
+        )
+    );
     Ok(())
 }
 
@@ -218,7 +237,13 @@ fn one_request_twice(rt: HostRuntime) -> Result<(), Fail> {
 fn another_tile_is_held(rt: HostRuntime) -> Result<(), Fail> {
     let alloc = rt.alloc();
     let sights = story(alloc, 2, tile(2, 1))?;
-    assert!(rt; are(alloc, sights.as_slice(), &[true, false, true, true, true, true, false]));
+    assert!(rt;
+        are(
+            alloc,
+            sights.as_slice(),
+            &[true, false, true, true, true, true, false]
+        )
+    );
     Ok(())
 }
 
@@ -226,7 +251,13 @@ fn another_tile_is_held(rt: HostRuntime) -> Result<(), Fail> {
 fn more_bytes_are_held(rt: HostRuntime) -> Result<(), Fail> {
     let alloc = rt.alloc();
     let sights = story(alloc, 2, tile(1, 2))?;
-    assert!(rt; are(alloc, sights.as_slice(), &[true, true, false, true, true, true, false]));
+    assert!(rt;
+        are(
+            alloc,
+            sights.as_slice(),
+            &[true, true, false, true, true, true, false]
+        )
+    );
     Ok(())
 }
 
@@ -234,7 +265,13 @@ fn more_bytes_are_held(rt: HostRuntime) -> Result<(), Fail> {
 fn a_loan_of_another_number(rt: HostRuntime) -> Result<(), Fail> {
     let alloc = rt.alloc();
     let sights = story(alloc, 1, tile(1, 1))?;
-    assert!(rt; are(alloc, sights.as_slice(), &[true, true, true, false, true, true, false]));
+    assert!(rt;
+        are(
+            alloc,
+            sights.as_slice(),
+            &[true, true, true, false, true, true, false]
+        )
+    );
     Ok(())
 }
 
@@ -244,13 +281,39 @@ fn a_loan_that_was_brought_back(rt: HostRuntime) -> Result<(), Fail> {
     let mut receipts = vec_of(alloc, added(alloc)?)?;
     receipts.push(lent(alloc)?)?;
     receipts.push(receipt(alloc, 3, BACK_TO_ARCHIVE, Some(loan()), Some(archive()))?)?;
-    let home = sight(alloc, archive(), None, 0, vec![in alloc; tile(1, 1)]?, receipts);
-    let away = sight(alloc, loan(), Some(archive()), 2, Vec::new(alloc), Vec::new(alloc));
+    let home = sight(
+        alloc,
+        archive(),
+        None,
+        0,
+        vec![in alloc; tile(1, 1)]?,
+        receipts,
+    );
+    let away = sight(
+        alloc,
+        loan(),
+        Some(archive()),
+        2,
+        Vec::new(alloc),
+        Vec::new(alloc),
+    );
     let mut sights = Vec::new(alloc);
     sights.push(home)?;
-    assert!(rt; are(alloc, sights.as_slice(), &[true, true, true, true, true, true, true]));
+    assert!(rt;
+        are(
+            alloc,
+            sights.as_slice(),
+            &[true, true, true, true, true, true, true]
+        )
+    );
     sights.push(away)?;
-    assert!(rt; are(alloc, sights.as_slice(), &[true, true, true, false, true, true, false]));
+    assert!(rt;
+        are(
+            alloc,
+            sights.as_slice(),
+            &[true, true, true, false, true, true, false]
+        )
+    );
     Ok(())
 }
 
@@ -275,7 +338,13 @@ fn a_receipt_away_from_home(rt: HostRuntime) -> Result<(), Fail> {
         assert!(rt; ledger.len() == 2);
         assert!(rt; (ledger[0].seq == 1) & (ledger[1].seq == 2));
     }
-    assert!(rt; are(alloc, sights.as_slice(), &[true, true, true, true, false, true, false]));
+    assert!(rt;
+        are(
+            alloc,
+            sights.as_slice(),
+            &[true, true, true, true, false, true, false]
+        )
+    );
     Ok(())
 }
 
@@ -284,14 +353,33 @@ fn a_merge_past_the_loan(rt: HostRuntime) -> Result<(), Fail> {
     let alloc = rt.alloc();
     let mut receipts = vec_of(alloc, added(alloc)?)?;
     receipts.push(lent(alloc)?)?;
-    receipts.push(receipt(alloc, 4, PAST_THE_LOAN, Some(second_loan()), Some(archive()))?)?;
-    let home = sight(alloc, archive(), None, 0, vec![in alloc; tile(1, 1)]?, receipts);
+    receipts.push(receipt(
+        alloc,
+        4,
+        PAST_THE_LOAN,
+        Some(second_loan()),
+        Some(archive()),
+    )?)?;
+    let home = sight(
+        alloc,
+        archive(),
+        None,
+        0,
+        vec![in alloc; tile(1, 1)]?,
+        receipts,
+    );
     let between = vec_of(alloc, lent_on(alloc)?)?;
     let away = sight(alloc, loan(), Some(archive()), 2, Vec::new(alloc), between);
     let mut sights = Vec::new(alloc);
     sights.push(home)?;
     sights.push(away)?;
-    assert!(rt; are(alloc, sights.as_slice(), &[true, true, true, true, true, false, false]));
+    assert!(rt;
+        are(
+            alloc,
+            sights.as_slice(),
+            &[true, true, true, true, true, false, false]
+        )
+    );
     Ok(())
 }
 

@@ -19,6 +19,6 @@ returns c =
     if_ok c.is_accounted.result _ _
     (λ accounted said w seen.
     judged w c.in-Some.archive c.as_slice-2.result.now c.args.sights.now c.in_ok-is_sound.field-0 accounted (seen_one c.in-Some.archive c.archive_of.result w c.in-Some.is (c.archive_of.ensures w seen))
-        (seen_with c.in_ok-ledger.ledger.items c.as_slice-2.result.now c.args.sights.now w seen (c.in_ok-ledger.ensures w seen) c.as_slice-2.ensures.value)
-        (subst (λ rs. IsTrue c.in_ok-is_sound.field-0 ↔ IsLedger c.in-Some.archive [] rs) same c.in_ok-is_sound.ensures) c.if-not-branch.false (said w (seen_with c.in_ok-ledger.ledger.items c.as_slice-2.result.now c.args.sights.now w seen (c.in_ok-ledger.ensures w seen) c.as_slice-2.ensures.value)))
+    (seen_with c.in_ok-ledger.ledger.items c.as_slice-2.result.now c.args.sights.now w seen (c.in_ok-ledger.ensures w seen) c.as_slice-2.ensures.value)
+    (subst (λ rs. IsTrue c.in_ok-is_sound.field-0 ↔ IsLedger c.in-Some.archive [] rs) same c.in_ok-is_sound.ensures) c.if-not-branch.false (said w (seen_with c.in_ok-ledger.ledger.items c.as_slice-2.result.now c.args.sights.now w seen (c.in_ok-ledger.ensures w seen) c.as_slice-2.ensures.value)))
     c.is_accounted.ensures
