@@ -1,9 +1,8 @@
 -- Where receipts come home, by a ledger that is walked from its last receipt to its first.
-use Rattle.std.specs.Prelude.{◌≡◌, ◌↔◌, ◌&&◌, ◌==◌, ◌+◌, ◌<◌, ◌≤◌, ℕ, suc, Bool, true, false, cond, IsTrue, List, [], ◌∷◌, length, filter, Option, Some, None, bytes_eq, nat_lt, unwrap_or, flat_map, refl}
+use Rattle.std.specs.Prelude.{◌≡◌, ◌↔◌, ◌&&◌, ◌==◌, ◌<◌, ℕ, suc, Bool, true, false, cond, IsTrue, List, [], ◌∷◌, length, Option, Some, None, bytes_eq, nat_lt, unwrap_or, flat_map, refl}
 use Rattle.std.proofs.Common.{sym, subst, ap, ◌∙◌, arith, drop, get_or}
 use Rattle.std.specs.List.{AllByRecursion}
-use Rattle.std.specs.Option.{option_map_or}
-use Rattle.std.specs.Ordering.{nat_cmp, is_eq}
+use Rattle.std.specs.Ordering.{nat_cmp}
 use Rattle.std.specs.Cmp.Lexicographic.{slice_cmp}
 use Rattle.std.specs.BTreeMap.{BTreeMap, get, Updates}
 use Rattle.std.proofs.lemmas.Bool.{false≢true}

@@ -1,5 +1,5 @@
 -- What holds of each element, in both directions.
-use Rattle.std.specs.Prelude.{◌≡◌, ◌↔◌, Bool, true, false, List, [], ◌∷◌, ◌++◌, flat_map}
+use Rattle.std.specs.Prelude.{◌↔◌, List, [], ◌∷◌, flat_map}
 use Rattle.std.specs.List.{AllByRecursion}
 use Rattle.sheet_types.specs.World.{Package}
 use Rattle.sheet_types.proofs.Every.{All-left, All-right, All-flat_map}

@@ -1,8 +1,8 @@
 -- A register is a balanced world that is fit.
-use Rattle.std.specs.Prelude.{◌≡◌, ◌↔◌, ◌&&◌, ◌==◌, ◌+◌, ◌≤◌, ⊤, ℕ, Bool, true, false, List, [], Option, Some, None, MatchOption, refl}
+use Rattle.std.specs.Prelude.{◌≡◌, ◌↔◌, ◌&&◌, ◌==◌, ◌+◌, ◌≤◌, ⊤, ℕ, true, false, List, Option, Some, None, MatchOption, refl}
 use Rattle.std.proofs.Common.{sym, ap, ◌∙◌}
 use Rattle.std.proofs.lemmas.Bool.{false≢true}
-use Rattle.std.specs.List.{list_any, AllByRecursion}
+use Rattle.std.specs.List.{list_any}
 use Rattle.sheet_types.specs.Balance.{Balanced, IsLoan}
 use Rattle.sheet_types.specs.Custody.{is_split, is_merge, ends_at, after}
 use Rattle.sheet_types.specs.Refuse.{greatest_depth}

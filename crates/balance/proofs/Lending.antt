@@ -1,7 +1,6 @@
 -- Loans, by the last merges and the splits that are seen.
-use Rattle.std.specs.Prelude.{◌≡◌, ◌↔◌, ◌&&◌, ◌||◌, ◌==◌, ⊤, ℕ, Bool, true, false, cond, not, IsTrue, List, Vec, [], ◌∷◌, ◌++◌, Option, Some, None, bytes_eq, find, nat_lt, refl}
+use Rattle.std.specs.Prelude.{◌≡◌, ◌↔◌, ◌&&◌, ◌||◌, ◌==◌, ⊤, ℕ, Bool, true, false, cond, not, IsTrue, List, [], ◌∷◌, Option, Some, None, bytes_eq, find, nat_lt, refl}
 use Rattle.std.proofs.Common.{sym, subst, ap, ◌∙◌}
-use Rattle.std.specs.declared.alloc.Global.{Global}
 use Rattle.std.specs.List.{list_any, AllByRecursion}
 use Rattle.std.specs.Option.{MatchOption, option_map_or}
 use Rattle.std.specs.Ordering.{nat_cmp}

@@ -1,5 +1,5 @@
 -- The splits that are seen, one by one.
-use Rattle.std.specs.Prelude.{◌≡◌, ℕ, Bool, true, false, cond, ◌&&◌, List, Vec, [], ◌∷◌, ◌++◌, Option, Some, None, flat_map, bytes_eq, refl}
+use Rattle.std.specs.Prelude.{◌≡◌, ℕ, true, false, cond, ◌&&◌, List, Vec, [], ◌∷◌, ◌++◌, Option, Some, None, flat_map, bytes_eq, refl}
 use Rattle.std.proofs.Common.{sym, ap, ◌∙◌}
 use Rattle.std.proofs.lemmas.List.{append-nil, flat_map_more}
 use Rattle.std.proofs.lemmas.Slice.Eq.{bytes_eq-Decides}
@@ -12,7 +12,7 @@ use Rattle.sheet_types.specs.Custody.{is_split, ends_at}
 use Rattle.sheet_types.specs.declared.receipt.Receipt.{Receipt}
 use Rattle.ledger.proofs.Maps.{at_key}
 use Rattle.balance.specs.declared.splits.Lent.{Lent}
-use Rattle.balance.specs.Splits.{lents_in, lent_of, lents_by, lents_among}
+use Rattle.balance.specs.Splits.{lents_in, lent_of, lents_by}
 
 abbrev pub Splits : Type 0
 Splits = BTreeMap (List ℕ) (Vec Lent Global)

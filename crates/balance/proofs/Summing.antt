@@ -1,5 +1,5 @@
 -- The sums of what is seen are those of what is held.
-use Rattle.std.specs.Prelude.{◌≡◌, ◌↔◌, ◌+◌, ◌||◌, ◌&&◌, IsTrue, ℕ, suc, Bool, true, false, cond, List, [], ◌∷◌, length, map, find, Option, Some, None, bytes_eq, refl, unwrap_or, filter, sum_by, count_by}
+use Rattle.std.specs.Prelude.{◌≡◌, ◌↔◌, ◌+◌, ◌||◌, ◌&&◌, IsTrue, ℕ, suc, Bool, true, false, cond, List, [], ◌∷◌, length, map, Some, None, bytes_eq, refl, unwrap_or, filter, sum_by, count_by}
 use Rattle.std.proofs.Common.{sym, ap, subst, ◌∙◌, arith}
 use Rattle.std.proofs.lemmas.Bool.{true≢false}
 use Rattle.std.proofs.lemmas.Slice.Eq.{bytes_eq-Decides}

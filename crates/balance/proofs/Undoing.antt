@@ -1,10 +1,10 @@
 -- Merges, and the splits that they undo.
-use Rattle.std.specs.Prelude.{◌≡◌, ◌↔◌, ◌&&◌, ℕ, Bool, true, false, cond, IsTrue, List, [], ◌∷◌, bytes_eq, flat_map, nat_lt, unwrap_or, refl}
+use Rattle.std.specs.Prelude.{◌≡◌, ◌↔◌, ◌&&◌, ℕ, Bool, true, false, cond, IsTrue, List, [], ◌∷◌, nat_lt, unwrap_or, refl}
 use Rattle.std.proofs.Common.{sym, subst, ap, ◌∙◌}
 use Rattle.std.proofs.lemmas.Bool.{and_parts}
 use Rattle.std.specs.List.{AllByRecursion}
 use Rattle.sheet_types.specs.Balance.{UndoesHere}
-use Rattle.sheet_types.specs.Custody.{is_split, is_merge, ends_at}
+use Rattle.sheet_types.specs.Custody.{is_split, ends_at}
 use Rattle.sheet_types.specs.World.{World, Package}
 use Rattle.sheet_types.specs.declared.receipt.Receipt.{Receipt}
 use Rattle.ledger.specs.Parts.{AreTogether}

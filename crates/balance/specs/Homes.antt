@@ -12,7 +12,6 @@ use Rattle.sheet_types.specs.Texts.{Entry}
 use Rattle.sheet_types.specs.World.{receipt_key}
 use Rattle.sheet_types.specs.declared.receipt.Receipt.{Receipt}
 use Rattle.ledger.specs.Parts.{IsEntered}
-use Rattle.balance.specs.declared.sights.Sight.{Sight}
 
 -- each fits its line, and their numbers rise
 pub record AreInTurn (rs : List Receipt) : Type 0 where

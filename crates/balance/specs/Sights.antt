@@ -1,15 +1,14 @@
 -- What the judge sees of a world. Profile.
-use Rattle.std.specs.Prelude.{◌≡◌, ◌+◌, length, count_by, sum_by, ⊤, ℕ, Bool, List, [], ◌∷◌, map, flat_map, true, false, ◌&&◌, ◌||◌, ◌==◌, bytes_eq, find, Option, Some, is_none}
+use Rattle.std.specs.Prelude.{◌≡◌, ◌+◌, length, sum_by, ⊤, ℕ, Bool, List, [], ◌∷◌, map, true, false, ◌&&◌, ◌||◌, ◌==◌, bytes_eq, find, Option, Some, is_none}
 use Rattle.std.specs.Option.{MatchOption, option_map, option_map_or}
 use Rattle.std.specs.List.{list_any, AllByRecursion}
 use Rattle.sheet_types.specs.Custody.{is_split, is_merge, ends_at, after}
 use Rattle.sheet_types.specs.Ordered.{has, IsArranged}
 use Rattle.sheet_types.specs.Refuse.{is_archive}
 use Rattle.sheet_types.specs.Step.{count_of}
-use Rattle.sheet_types.specs.World.{World, Package, kind_number, item_moved, link_moved, moved_thing, package_key, receipts_of}
+use Rattle.sheet_types.specs.World.{World, Package, item_moved, link_moved, moved_thing, package_key, receipts_of}
 use Rattle.sheet_types.specs.declared.receipt.Receipt.{Receipt}
 use Rattle.sheet_types.specs.declared.receipt.Moved.{Moved}
-use Rattle.sheet_types.specs.declared.receipt.MovedKind.{MovedKind}
 use Rattle.sheet_types.specs.declared.receipt.MovedKind.TheVariants.{TileItem, MediaItem, RowItem}
 use Rattle.ledger.specs.Flows.{flow_by}
 use Rattle.ledger.specs.Parts.{HoldsWhatIsKept, SumsAddUp, AreLoans, AreAtHome, AreTogether}

@@ -1,9 +1,6 @@
 -- What has no target, or is no split, adds nothing; a split is put behind the others of its target.
-use Rattle.std.proofs.Common.{◌≡◌, ◌∙◌, ◌++◌, sym, ap, refl, true, false, [], ◌∷◌, cond}
-use Rattle.std.proofs.lemmas.List.{append-nil}
-use Rattle.sheet_types.specs.Custody.{is_split}
 use Rattle.balance.specs.Splits.{lents_in, lents_by}
-use Rattle.balance.proofs.Splitting.{adds_none, no_target, no_split, a_split}
+use Rattle.balance.proofs.Splitting.{adds_none, no_target}
 use Rattle.balance.proofs.splits.note_receipt.Goals as goal
 
 pub returns-in_default-clause-noted : goal.returns-in_default-clause-noted
