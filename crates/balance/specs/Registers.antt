@@ -15,14 +15,13 @@ use Rattle.sheet_types.specs.Register.{IsFit, HasEnds, IsRegister}
 abbrev pub HasDepth : World → Package → Type 0
 HasDepth w p = MatchOption p.parent ((p.depth ≡ 0) × (p.loan ≡ 0)) (λ parent. (p.depth ≡ (holdings w parent).depth + 1) × (p.depth ≤ greatest_depth))
 
--- a package as requests leave it, but for what its receipts say
+-- a package as requests leave it, but for what receipts say. That its identities are UUIDs is left out: of what is unaltered under a sound ledger it follows
 pub record IsFitPackage (w : World) (p : Package) : Type 0 where
   pub uuid : IsUuid p.uuid
   pub items : IsArranged item_key p.items
   pub links : IsArranged link_key p.links
   pub receipts : IsArranged receipt_key p.receipts
   pub identities : IsDistinct bytes_eq (identities p.items)
-  pub uuids : AllByRecursion (λ i. IsUuid i.identity) p.items
   pub fit : AllByRecursion (IsFit w p) p.items
   pub places : IsDistinct bytes_eq (map (λ i. place_of i.content) (filter is_tile p.items))
   pub ends : AllByRecursion (HasEnds p) p.links
