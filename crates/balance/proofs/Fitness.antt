@@ -99,5 +99,5 @@ register_parts w = (there, back)
     back : Balanced w × IsFitWorld w → IsRegister w
     back h =
         let told : AllByRecursion (Told w) w.packages = All-both (IsLoan w) (λ p. AllByRecursion (IsUnaltered w) p.items) (Told w)
-            (λ p loan items. record { loan = loan; uuids = All-weaker (IsUnaltered w) (λ i. IsUuid i.identity) (uuid_unaltered w h.0.ledger) p.items items }) w.packages h.0.loans (each_unaltered w h.1.unaltered) in
+        (λ p loan items. record { loan = loan; uuids = All-weaker (IsUnaltered w) (λ i. IsUuid i.identity) (uuid_unaltered w h.0.ledger) p.items items }) w.packages h.0.loans (each_unaltered w h.1.unaltered) in
         record { frame = h.1.frame; arranged = h.1.arranged; archive = h.1.archive; packages = All-both (IsFitPackage w) (Told w) (IsKeptPackage w) (kept w) w.packages h.1.packages told; open_loans = h.1.open_loans; balanced = h.0; unaltered = h.1.unaltered }
