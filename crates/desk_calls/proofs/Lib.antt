@@ -1,0 +1,4 @@
+mod BodyFacts
+mod CallFacts
+mod HeadFacts
+mod LengthFacts
