@@ -1,4 +1,6 @@
 //! What a connection asks of the desk.
+ghost use Rattle.std.specs.Prelude.{◌≡◌};
+
 use sheet_types::command::Request;
 use sheet_types::error::OutOfMemory;
 use thiserror::Error;
