@@ -2,3 +2,4 @@ mod BodyFacts
 mod CallFacts
 mod HeadFacts
 mod LengthFacts
+pub mod OneCall

@@ -128,3 +128,9 @@ WholeAsks xs call = (h : RequestHead) × (rest : List ℕ) × HeadIs xs h rest �
 -- what all the bytes of a connection ask, where there is one
 abbrev pub IsCall : List ℕ → Call → Type 0
 IsCall xs call = ((xs ≢ []) × HasNoHead xs × (call ≡ Refused BadRequest)) ⊎ WholeAsks xs call
+
+-- ---- a law
+
+-- the bytes of a connection ask one call at most
+abbrev pub IsOneCall : Type 0
+IsOneCall = (xs : List ℕ) (one other : Call) → IsCall xs one → IsCall xs other → one ≡ other

@@ -2,6 +2,7 @@
 #![tactic(auto)]
 
 mod bodies;
+pub mod call_laws;
 pub mod calls;
 mod heads;
 mod judging;
