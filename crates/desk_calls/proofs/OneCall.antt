@@ -44,7 +44,7 @@ one_asked : (h : RequestHead) (a b : Asked) → HeadAsks h a → HeadAsks h b �
 one_asked h a b x y = by_path (route_of (path_of h.target)) h a b x y
 
 one_of_body : (body : List ℕ) (a b : Call) → BodyAsks body a → BodyAsks body b → a ≡ b
-one_of_body body (Refused flaw) (Refused other) (is, none) (also, no) = ap Refused (is ∙ sym also)
+one_of_body body (Refused flaw) (Refused other) (is, none) (also, nor) = ap Refused (is ∙ sym also)
 one_of_body body (Refused flaw) (Apply request) (is, none) y = absurd (none request y)
 one_of_body body (Apply request) (Refused flaw) x (is, none) = absurd (none request x)
 one_of_body body (Apply request) (Apply other) x y = ap Apply (one_request body request other x y)
@@ -66,9 +66,9 @@ one_of_rest (Body size) rest a b (inr (enough, asks)) (inl (short, is)) = absurd
 one_of_rest (Body size) rest a b (inr (enough, asks)) (inr (again, also)) = one_of_body (take size rest) a b asks also
 
 pub one_call : (xs : List ℕ) (a b : Call) → IsCall xs a → IsCall xs b → a ≡ b
-one_call xs a b (inl (some, none, is)) (inl (more, no, also)) = is ∙ sym also
-one_call xs a b (inl (some, none, is)) (inr (h, rest, head, asks)) = absurd (none h rest head)
-one_call xs a b (inr (h, rest, head, asks)) (inl (some, none, is)) = absurd (none h rest head)
+one_call xs a b (inl (some, none, is)) (inl (more, nor, also)) = is ∙ sym also
+one_call xs a b (inl (some, none, is)) (inr (h, rest, head, asked, asks, tail)) = absurd (none h rest head)
+one_call xs a b (inr (h, rest, head, asked, asks, tail)) (inl (some, none, is)) = absurd (none h rest head)
 one_call xs a b (inr (h, rest, head, asked, asks, more)) (inr (k, tail, front, other, also, then_)) =
     let same = request_unique xs h k rest tail head.reads front.reads in
     let one : asked ≡ other = one_asked k asked other (rw same.0 at asks) also in
