@@ -1,7 +1,7 @@
 -- What an input that has grown says of the bytes after a head.
-use Rattle.std.proofs.Common.{◌≡◌, ◌≤◌, ◌<◌, ◌+◌, ◌-◌, ◌∙◌, ◌⊎◌, ℕ, List, [], ◌++◌, Option, Some, None, IfSome, length, take, drop, slice_range, refl, sym, ap, arith, append-nil, inl, inr}
+use Rattle.std.proofs.Common.{◌≡◌, ◌≤◌, ◌<◌, ◌+◌, ◌-◌, ℕ, List, ◌++◌, Option, Some, None, IfSome, length, drop, slice_range, refl, sym, ap, arith, inl, inr}
 use Rattle.std.proofs.lemmas.List.{append_assoc, drop-append-le, take-append-le, length-append, length-drop}
-use Rattle.std.specs.Io.KnownBytes.{Consumes, IsAtEnd}
+use Rattle.std.specs.Io.KnownBytes.{IsAtEnd}
 use Rattle.desk_calls.specs.Bodies.{Grows}
 use Rattle.desk_calls.specs.Calls.{BodyAsks, RestAsks}
 use Rattle.desk_calls.specs.declared.calls.Call.{Call}

@@ -1,5 +1,5 @@
 -- What a head that was found says of all the bytes.
-use Rattle.std.proofs.Common.{◌≡◌, ◌≢◌, ◌∙◌, ◌⊎◌, ℕ, List, [], ◌++◌, Option, Some, None, IfSome, drop, refl, sym, ap, inl, inr}
+use Rattle.std.proofs.Common.{◌≡◌, ◌∙◌, ℕ, List, ◌++◌, Option, Some, None, IfSome, drop, sym, ap, inr}
 use Rattle.std.proofs.lemmas.List.{append_assoc, append_cancel_left, append_cancel_right}
 use Rattle.std.specs.Io.KnownBytes.{Consumes}
 use Rattle.uuid.specs.Text.{parsed_hyphenated}

@@ -5,11 +5,11 @@ use Rattle.std.proofs.lemmas.List.{length-map, length-append, length-take}
 use Rattle.std.proofs.Math.Seq.{take-append_seam, take-append-add}
 use Rattle.std.specs.Io.KnownBytes.{Consumes, IsAtEnd}
 use Rattle.httparse.proofs.GrammarLemmas.{ReadsRequest-append}
-use Rattle.httparse.specs.Grammar.{RequestHead, ReadsRequest, HasNoRequest, print_request}
+use Rattle.httparse.specs.Grammar.{HasNoRequest, print_request}
 use Rattle.httparse.specs.Spans.{IsRequestOf, RequestOverflows}
 use Rattle.httparse.specs.declared.spans.HeaderSpan.{HeaderSpan}
 use Rattle.httparse.specs.declared.spans.RequestSpans.{RequestSpans}
-use Rattle.desk_calls.specs.Heads.{Gathers, HeadIs, HasNoHead}
+use Rattle.desk_calls.specs.Heads.{Gathers}
 use Rattle.desk_calls.specs.declared.heads.Gathered.TheVariants.{Nothing, Bad, Head}
 
 front_nil : (a b : List ℕ) → a ++ b ≡ [] → a ≡ []

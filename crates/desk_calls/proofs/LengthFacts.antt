@@ -1,5 +1,5 @@
 -- Fields one after the other, and the digits of a length.
-use Rattle.std.proofs.Common.{◌≡◌, ◌≤◌, ◌<◌, ◌+◌, ◌*◌, ◌∙◌, ℕ, Bool, true, false, List, [], ◌∷◌, ◌++◌, length, map, take, get_or, refl, sym, ap, arith, append-nil, IsTrue, nat_lt, nat_le}
+use Rattle.std.proofs.Common.{◌≡◌, ◌≤◌, ◌<◌, ◌+◌, ◌*◌, ◌∙◌, ℕ, Bool, true, false, List, [], ◌∷◌, ◌++◌, length, map, take, get_or, refl, ap, arith, nat_lt, nat_le}
 use Rattle.std.specs.List.{list_all}
 use Rattle.std.specs.Char.{digit_value, is_ascii_digit}
 use Rattle.std.specs.Str.Parse.{digits_value, digits_value_after}
@@ -13,7 +13,7 @@ use Rattle.desk_calls.specs.declared.calls.Asked.TheVariants.{Now}
 use Rattle.desk_calls.specs.declared.calls.Call.TheVariants.{Refused}
 use Rattle.desk_calls.specs.declared.calls.Flaw.TheVariants.{TooLarge}
 use Rattle.desk_calls.specs.declared.lengths.Values.{Values}
-use Rattle.desk_calls.specs.declared.lengths.Values.TheVariants.{One, More}
+use Rattle.desk_calls.specs.declared.lengths.Values.TheVariants.{More}
 
 -- a second value
 pub second : (before : List (List ℕ)) (one value : List ℕ) → before ≡ one ∷ [] → AreValues (before ++ value ∷ []) More

@@ -5,14 +5,13 @@ use Rattle.std.specs.Char.{is_ascii_digit}
 use Rattle.std.specs.Str.{str_eq_ignore_ascii_case}
 use Rattle.std.specs.Str.Parse.{digits_value}
 use Rattle.uuid.specs.Text.{parsed_hyphenated}
-use Rattle.httparse.specs.Grammar.{Field, RequestHead}
+use Rattle.httparse.specs.Grammar.{RequestHead}
 use Rattle.httparse.specs.Spans.{name_and_value}
 use Rattle.sheet_types.specs.declared.command.Request.{Request}
 use Rattle.request_json.specs.Requests.{IsRequestText}
 use Rattle.desk_calls.specs.Heads.{HeadIs, HasNoHead, path_of, route_of}
 use Rattle.desk_calls.specs.declared.routes.Route.{Route}
 use Rattle.desk_calls.specs.declared.routes.Route.TheVariants as route
-use Rattle.desk_calls.specs.declared.calls.Flaw.{Flaw}
 use Rattle.desk_calls.specs.declared.calls.Flaw.TheVariants.{BadRequest, NoSuchPath, BadMethod, NoLength, TooLarge}
 use Rattle.desk_calls.specs.declared.calls.Call.{Call}
 use Rattle.desk_calls.specs.declared.calls.Call.TheVariants.{Refused, Apply, Packages, Manifest, Receipt}

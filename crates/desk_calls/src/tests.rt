@@ -34,7 +34,8 @@ fn asks_for<R: Source>(alloc: Global, source: &mut R, wanted: &str) -> bool {
     match read_call(alloc, source) {
         Ok(Some(Call::Apply(request))) => match line(alloc, &request.command) {
             Ok(told) => {
-                told.as_str() == wanted && read_uuid("90000000-0000-4000-8000-000000000001") == Some(request.id)
+                told.as_str() == wanted
+                    && read_uuid("90000000-0000-4000-8000-000000000001") == Some(request.id)
             }
             Err(_) => false,
         },
@@ -99,12 +100,18 @@ fn paths_and_methods(rt: HostRuntime) {
         ("POST /packages HTTP/1.1\r\n\r\n", Flaw::BadMethod),
         ("post /requests HTTP/1.1\r\n\r\n", Flaw::BadMethod),
         // a wrong method is seen before a wrong length
-        ("PUT /requests HTTP/1.1\r\nContent-Length: x\r\n\r\n", Flaw::BadMethod),
+        (
+            "PUT /requests HTTP/1.1\r\nContent-Length: x\r\n\r\n",
+            Flaw::BadMethod,
+        ),
         // an unknown path before a wrong method
         ("PUT /request HTTP/1.1\r\n\r\n", Flaw::NoSuchPath),
         ("GET /packages/ HTTP/1.1\r\n\r\n", Flaw::NoSuchPath),
         ("GET /packages//manifest HTTP/1.1\r\n\r\n", Flaw::NoSuchPath),
-        ("GET /packages/x/manifest/ HTTP/1.1\r\n\r\n", Flaw::NoSuchPath),
+        (
+            "GET /packages/x/manifest/ HTTP/1.1\r\n\r\n",
+            Flaw::NoSuchPath,
+        ),
         ("GET /receipts/ HTTP/1.1\r\n\r\n", Flaw::NoSuchPath),
         ("GET /receipts/x/y HTTP/1.1\r\n\r\n", Flaw::NoSuchPath),
         ("GET /Packages HTTP/1.1\r\n\r\n", Flaw::NoSuchPath),
@@ -119,16 +126,26 @@ fn identities_in_paths(rt: HostRuntime) {
     let manifest =
         b"GET /packages/A0000000-0000-4000-8000-00000000000a/manifest?x HTTP/1.1\r\n\r\n";
     let wanted = read_uuid("a0000000-0000-4000-8000-00000000000a");
-    assert!(rt; matches!(asked(alloc, manifest), Ok(Some(Call::Manifest(Some(id)))) if wanted == Some(id)));
+    assert!(rt;
+        matches!(asked(alloc, manifest), Ok(Some(Call::Manifest(Some(id)))) if wanted == Some(id))
+    );
     let receipt = b"GET /receipts/90000000-0000-4000-8000-000000000001 HTTP/1.0\r\n\r\n";
     let wanted = read_uuid("90000000-0000-4000-8000-000000000001");
-    assert!(rt; matches!(asked(alloc, receipt), Ok(Some(Call::Receipt(Some(id)))) if wanted == Some(id)));
+    assert!(rt;
+        matches!(asked(alloc, receipt), Ok(Some(Call::Receipt(Some(id)))) if wanted == Some(id))
+    );
     for text in [
         "GET /packages/x/manifest HTTP/1.1\r\n\r\n",
         "GET /packages/a000000000004000800000000000000a/manifest HTTP/1.1\r\n\r\n",
         "GET /packages/%610000000-0000-4000-8000-00000000000a/manifest HTTP/1.1\r\n\r\n",
     ] {
-        assert!(rt; matches!(asked(alloc, text.as_bytes()), Ok(Some(Call::Manifest(None)))), "{text}");
+        assert!(rt;
+            matches!(
+                asked(alloc, text.as_bytes()),
+                Ok(Some(Call::Manifest(None)))
+            ),
+            "{text}"
+        );
     }
     let braced = b"GET /receipts/{90000000-0000-4000-8000-000000000001} HTTP/1.1\r\n\r\n";
     assert!(rt; matches!(asked(alloc, braced), Ok(Some(Call::Receipt(None)))));
@@ -145,9 +162,15 @@ fn lengths(rt: HostRuntime) -> Result<(), Fail> {
         ("Content-Length: +1\r\n", Flaw::BadRequest),
         ("Content-Length: 1 1\r\n", Flaw::BadRequest),
         ("Content-Length:\r\n", Flaw::BadRequest),
-        ("Content-Length: 5\r\nContent-Length: 5\r\n", Flaw::BadRequest),
+        (
+            "Content-Length: 5\r\nContent-Length: 5\r\n",
+            Flaw::BadRequest,
+        ),
         ("", Flaw::NoLength),
-        ("Content-Length: 2200001\r\nTransfer-Encoding: chunked\r\n", Flaw::BadRequest),
+        (
+            "Content-Length: 2200001\r\nTransfer-Encoding: chunked\r\n",
+            Flaw::BadRequest,
+        ),
         ("transfer-encoding:\r\n", Flaw::BadRequest),
         ("Content-Length: 2\r\n", Flaw::BadRequest),
     ] {
@@ -164,7 +187,9 @@ fn the_body_of_a_request(rt: HostRuntime) -> Result<(), Fail> {
     assert!(rt; asks_for(alloc, &mut Memory(text.as_bytes()), LINE));
     // nine digits, and what follows the body is not looked at
     let size = ADD.len();
-    let text = format!(in alloc; "POST /requests HTTP/1.0\r\ncontent-length:  000000{size} \r\n\r\n{ADD}}}")?;
+    let text = format!(in alloc;
+        "POST /requests HTTP/1.0\r\ncontent-length:  000000{size} \r\n\r\n{ADD}}}"
+    )?;
     assert!(rt; asks_for(alloc, &mut Memory(text.as_bytes()), LINE));
     // one byte shorter than it says
     let more = size + 1;
@@ -176,7 +201,10 @@ fn the_body_of_a_request(rt: HostRuntime) -> Result<(), Fail> {
     assert!(rt; is_refused(alloc, text.as_bytes(), Flaw::BadRequest));
     for body in ["", "{}", "[]", "nothing"] {
         let text = whole_post(alloc, body)?;
-        assert!(rt; is_refused(alloc, text.as_bytes(), Flaw::BadRequest), "{body}");
+        assert!(rt;
+            is_refused(alloc, text.as_bytes(), Flaw::BadRequest),
+            "{body}"
+        );
     }
     Ok(())
 }
@@ -191,10 +219,10 @@ fn with_fields(alloc: Global, count: usize) -> Result<String, Fail> {
     Ok(text)
 }
 
-/// A request whose head has so many bytes, and more than 28.
+/// A request whose head has so many bytes, and more than 29.
 fn of_size(alloc: Global, size: usize) -> Result<String, Fail> {
     let mut text = String::from_str(alloc, "GET /nothing HTTP/1.1\r\na:")?;
-    while text.len() + 4 < size {
+    for _ in 29..size {
         text.push_str("b")?;
     }
     text.push_str("\r\n\r\n")?;
@@ -204,17 +232,11 @@ fn of_size(alloc: Global, size: usize) -> Result<String, Fail> {
 #[test]
 fn limits_of_heads(rt: HostRuntime) -> Result<(), Fail> {
     let alloc = rt.alloc();
-    for (count, wanted) in [
-        (64usize, Flaw::NoSuchPath),
-        (65, Flaw::BadRequest),
-    ] {
+    for (count, wanted) in [(64usize, Flaw::NoSuchPath), (65, Flaw::BadRequest)] {
         let text = with_fields(alloc, count)?;
         assert!(rt; is_refused(alloc, text.as_bytes(), wanted));
     }
-    for (size, wanted) in [
-        (16_384usize, Flaw::NoSuchPath),
-        (16_385, Flaw::BadRequest),
-    ] {
+    for (size, wanted) in [(16_384usize, Flaw::NoSuchPath), (16_385, Flaw::BadRequest)] {
         let text = of_size(alloc, size)?;
         assert_eq!(rt; text.len(), size);
         assert!(rt; is_refused(alloc, text.as_bytes(), wanted));
@@ -250,8 +272,9 @@ fn a_reader_that_fails(rt: HostRuntime) -> Result<(), Fail> {
     let alloc = rt.alloc();
     let text = whole_post(alloc, ADD)?;
     for cut in [0usize, 1, 30, 60, 200] {
+        let end = text.len().min(cut);
         let mut source = Outer(Failing {
-            text: &text.as_bytes()[..cut],
+            text: &text.as_bytes()[..end],
             is_ready: true,
         });
         assert!(rt; matches!(read_call(alloc, &mut source), Err(CallFault::Failed)));
@@ -267,6 +290,11 @@ fn a_reader_that_fails(rt: HostRuntime) -> Result<(), Fail> {
         text: b"POST /packages HTTP/1.1\r\nContent-Length: 5\r\n\r\n".as_slice(),
         is_ready: true,
     });
-    assert!(rt; matches!(read_call(alloc, &mut source), Ok(Some(Call::Refused(Flaw::BadMethod)))));
+    assert!(rt;
+        matches!(
+            read_call(alloc, &mut source),
+            Ok(Some(Call::Refused(Flaw::BadMethod)))
+        )
+    );
     Ok(())
 }

@@ -1,5 +1,5 @@
 use Rattle.std.proofs.Common.{rules}
-use Rattle.desk_calls.proofs.BodyFacts.{enough_asks, short_asks}
+use Rattle.desk_calls.proofs.BodyFacts.{enough_asks}
 use Rattle.desk_calls.proofs.bodies.read_body.Goals as goal
 
 pub returns-clause-asks : goal.returns-clause-asks

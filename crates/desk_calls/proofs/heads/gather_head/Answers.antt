@@ -1,10 +1,8 @@
 -- What was read so far says what the whole says.
-use Rattle.std.proofs.Common.{◌≡◌, ◌≢◌, ◌≤◌, ◌<◌, ◌⊎◌, ℕ, List, [], ◌++◌, length, Option, Some, None, MatchOption, arith, rules, inl, inr, sym, ◌∙◌}
+use Rattle.std.proofs.Common.{[], arith, rules, inr, sym, ◌∙◌}
 use Rattle.std.proofs.lemmas.Bool.{false≢true}
-use Rattle.std.specs.Io.KnownBytes.{Consumes, IsAtEnd, Keeps}
 use Rattle.std.proofs.KnownBytes.{Consumes-kept}
-use Rattle.httparse.specs.Grammar.{HasNoRequest}
-use Rattle.desk_calls.proofs.HeadFacts.{whole_gathers, never_gathers, full_gathers, ended_gathers, nothing_gathers, grown, grown_some, long_some, none_of, not_empty, nothing_read, one_more, room_within}
+use Rattle.desk_calls.proofs.HeadFacts.{whole_gathers, never_gathers, full_gathers, ended_gathers, grown, grown_some, long_some, none_of, not_empty, nothing_read, one_more, room_within}
 use Rattle.desk_calls.proofs.heads.gather_head.Goals as goal
 use Rattle.desk_calls.proofs.heads.gather_head.Goals.{in-None, in-Some+in-Part}
 

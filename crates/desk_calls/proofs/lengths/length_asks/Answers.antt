@@ -1,4 +1,4 @@
-use Rattle.std.proofs.Common.{◌≡◌, ◌<◌, ◌≤◌, ◌∙◌, length, rules}
+use Rattle.std.proofs.Common.{◌<◌, ◌≤◌, ◌∙◌, length, rules}
 use Rattle.httparse.specs.Grammar.{AllPass}
 use Rattle.std.specs.Char.{is_ascii_digit}
 use Rattle.desk_calls.proofs.LengthFacts.{length_is}

@@ -1,4 +1,3 @@
-use Rattle.desk_calls.specs.Calls.{AreValues}
 use Rattle.desk_calls.proofs.LengthFacts.{second, yet_more}
 use Rattle.desk_calls.proofs.lengths.with_one_more.Goals as goal
 

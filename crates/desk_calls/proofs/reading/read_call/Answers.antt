@@ -1,5 +1,4 @@
-use Rattle.std.proofs.Common.{◌≤◌, length, arith, rules}
-use Rattle.httparse.specs.Spans.{IsRequestWithin}
+use Rattle.std.proofs.Common.{arith}
 use Rattle.desk_calls.proofs.CallFacts.{whole_call}
 use Rattle.desk_calls.proofs.reading.read_call.Goals as goal
 
