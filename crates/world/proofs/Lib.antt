@@ -17,7 +17,8 @@ pub mod Placed
 pub mod Questions
 pub mod AskedOne
 pub mod Overfull
-pub mod Served
+pub mod ChangesMade
+pub mod HeldStores
 pub mod Keeping
 pub mod Beginning
 pub mod Running
@@ -38,3 +39,9 @@ mod SplitDecided
 mod SplitLimits
 mod SplitAsked
 mod MergeReasons
+mod Things
+pub mod FirstInOrder
+mod DecidedMerges
+mod MergeLimits
+mod Clashing
+mod KeptMerges

@@ -10,8 +10,8 @@ pub mod Steps
 pub mod Asking
 pub mod TooMany
 pub mod Deciding
+pub mod Changes
 pub mod DecidingSplits
-pub mod Serving
 pub mod Worlds
 pub mod Creating
 pub mod Reading
@@ -22,3 +22,4 @@ pub mod ServeFaults
 pub mod Splits
 pub mod Merges
 pub mod Carries
+pub mod DecidingMerges
