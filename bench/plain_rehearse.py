@@ -1,164 +1,192 @@
 #!/usr/bin/env python3
 """Rehearses a request list over stock SQLite in memory: the same tables, indexes and transactions as the program, and no contracts.
 
-Usage: plain_rehearse.py ARCHIVE AT FRAME < list.csv
+Usage: plain_rehearse.py rehearse --archive ARCHIVE --at AT --frame FRAME < list.csv
 
-The tables are those of plain_sqlite.py, reading and texts those of samples/reference.py. Each request is judged by queries and
-carried out with its receipt in one transaction of its own; report and manifest are printed as the program prints them.
+A store a package (plain_store.py). Reading, texts and the rules of single values are those of samples/machine; each other reason is
+judged by queries. A request is carried out with its receipt in one transaction; a split fills and commits the child's store first,
+then the parent's; a merge commits the target's. Report and manifests are printed as the program prints them. Of the limits that no
+request goes past, that of live packages alone is judged.
 """
 
+import argparse
 import os
 import sys
 
 sys.path.insert(0, os.path.join(os.path.dirname(os.path.abspath(__file__)), "..", "samples"))
 sys.dont_write_bytecode = True
 
-import plain_sqlite
+import plain_loans
 import reference
+from machine.contents import ENDS, line_of, place_of, rect_of
+from machine.frames import Frame
+from machine.lists import NoList, read_requests, read_uuid, spelled_record
+from machine.reasons import GREATEST_DEPTH, MOST_PACKAGES, bad_text, too_large
+from plain_store import KIND_NAMES, Store
 
-TABLES = {1: "sheet_tiles", 2: "sheet_media", 3: "sheet_rows"}
-KIND_NAMES = {1: "tile", 2: "media", 3: "row"}
 
-
-class Package:
+class Register:
     def __init__(self, archive, at, frame):
         self.archive = archive
-        self.frame = reference.Frame(frame)
-        self.conn = plain_sqlite.connect(":memory:")
-        plain_sqlite.create(self.conn)
-        self.conn.execute("UPDATE sheet_package SET package = ?, created = ?", (archive, at))
+        self.frame = frame
+        self.stores = {archive: Store(archive, "", 0, 0, at)}
+        self.receipts = 0
 
-    def one(self, query, *values):
-        return self.conn.execute(query, values).fetchone()
+    def any_store(self, question, *values):
+        """The first answer of a live package that is one."""
+        return next((answer for store in self.stores.values() if (answer := question(store, *values))), None)
 
-    def key_of(self, identity):
-        """Kind and local key of an identity, or two that nothing has."""
-        return self.one("SELECT kind, local_id FROM sheet_identity WHERE uuid = ?", identity) or (0, 0)
-
-    def has_link(self, request):
-        base, other = self.key_of(request["identity"]), self.key_of(request["other"])
-        return self.one(f"SELECT 1 FROM {request['kind']} WHERE base_id = ? AND related_id = ?", base[1], other[1]) is not None
-
-    def is_linked(self, identity):
-        kind, key = self.key_of(identity)
-        asked = {1: [("tiles_media", "base_id"), ("rows_tiles", "related_id")], 2: [("tiles_media", "related_id"), ("rows_media", "related_id")], 3: [("rows_media", "base_id"), ("rows_tiles", "base_id")]}
-        return any(self.one(f"SELECT 1 FROM {table} WHERE {column} = ?", key) for table, column in asked[kind])
-
-    def is_used(self, identity):
-        found = self.conn.execute("SELECT sheet_receipts.line FROM sheet_items JOIN sheet_receipts USING (seq) WHERE base = ?", (identity,))
-        return any(line.startswith("add ") for (line,) in found)
+    # Why a request is refused, by the number of the reason; 0 where it is not.
 
     def refusal(self, request):
-        command, identity = request["command"], request["identity"]
-        if request["package"] != self.archive:
+        command = request["command"]
+        named = [request["package"], request["other"]] if command == "merge" else [request["package"]]
+        if any(package not in self.stores for package in named):
             return 2
-        if reference.bad_text(self, request):
+        if command == "split" and (request["other"] == self.archive or self.any_store(Store.was_lent, request["other"])):
+            return 3
+        if bad_text(self, request):
             return 4
-        if reference.too_large(self, request):
+        if command == "add" and too_large(self, request):
             return 5
-        if command == "add":
-            return self.refusal_of_add(request)
-        if command == "delete":
-            return 7 if self.key_of(identity) == (0, 0) else 14 if self.is_linked(identity) else 0
-        if command == "unlink":
-            return 0 if self.has_link(request) else 13
-        base, medium = self.key_of(identity), self.key_of(request["other"])
-        if (0, 0) in (base, other):
-            return 7
-        if (KIND_NAMES[base[0]], KIND_NAMES[other[0]]) != reference.ENDS[request["kind"]]:
-            return 8
-        return 12 if self.has_link(request) else 0
+        return getattr(self, f"of_{command}")(self.stores[request["package"]], request)
 
-    def refusal_of_add(self, request):
-        if self.is_used(request["identity"]):
+    def of_add(self, store, request):
+        if self.any_store(Store.is_used, request["identity"]):
             return 6
         if request["kind"] == "row":
             return 0 if self.frame.has_point(request["x"], request["y"]) else 10
         if request["kind"] == "media":
             return 0
-        place = reference.place_of(request)
-        if not self.frame.has_place(*place):
+        if not self.frame.has_place(*place_of(request)):
             return 9
-        taken = "SELECT 1 FROM sheet_tiles WHERE zoom_level = ? AND tile_column = ? AND tile_row = ?"
-        return 11 if self.one(taken, *place) else 0
+        return 11 if store.is_taken(place_of(request)) else 0
 
-    def insert(self, request):
-        if request["kind"] == "tile":
-            table, values = 1, (*reference.place_of(request), request["data"])
-        elif request["kind"] == "media":
-            table, values = 2, (request["data"], request["text"])
+    def of_delete(self, store, request):
+        if store.key_of(request["identity"]) == (0, 0):
+            return 7
+        return 14 if store.is_linked(request["identity"]) else 0
+
+    def of_link(self, store, request):
+        ends = store.key_of(request["identity"]), store.key_of(request["other"])
+        if (0, 0) in ends:
+            return 7
+        if tuple(KIND_NAMES[kind] for kind, _ in ends) != ENDS[request["kind"]]:
+            return 8
+        return 12 if store.has_link(request) else 0
+
+    def of_unlink(self, store, request):
+        return 0 if store.has_link(request) else 13
+
+    def of_split(self, store, request):
+        rect = rect_of(request)
+        if not self.frame.has_rect(rect):
+            return 15
+        if store.depth >= GREATEST_DEPTH:
+            return 16
+        if not plain_loans.choose_start(store, self.frame, rect):
+            return 17
+        if request["kind"] == "follow":
+            plain_loans.follow(store)
         else:
-            table, values = 3, (request["x"], request["y"], request["code"], request["text"])
-        marks = ", ?" * len(values)
-        key = self.conn.execute(f"INSERT INTO {TABLES[table]} VALUES (NULL{marks})", values).lastrowid
-        self.conn.execute("INSERT INTO sheet_identity VALUES (?, ?, ?)", (table, key, request["identity"]))
-        return table, reference.size_of(request), reference.fingerprint_of(request)
+            plain_loans.add_media(store)
+            if plain_loans.is_torn(store):
+                return 18
+        return 23 if len(self.stores) >= MOST_PACKAGES else 0
 
-    def delete(self, request):
-        kind, key = self.key_of(request["identity"])
-        known = "SELECT size, fingerprint FROM sheet_items WHERE base = ? AND kind = ? ORDER BY seq LIMIT 1"
-        size, fingerprint = self.one(known, request["identity"], kind)
-        self.conn.execute(f"DELETE FROM {TABLES[kind]} WHERE id = ?", (key,))
-        self.conn.execute("DELETE FROM sheet_identity WHERE kind = ? AND local_id = ?", (kind, key))
-        return kind, size, fingerprint
+    def of_merge(self, child, request):
+        into = self.stores[request["other"]]
+        if child.parent != into.uuid:
+            return 19
+        if child.ticket != request["ticket"]:
+            return 20
+        if any(store.parent == child.uuid for store in self.stores.values()):
+            return 21
+        return 22 if any(into.is_taken(place) for place in child.places()) else 0
 
-    def change_link(self, request):
-        keys = self.key_of(request["identity"])[1], self.key_of(request["other"])[1]
-        if request["command"] == "link":
-            self.conn.execute(f"INSERT INTO {request['kind']} VALUES (?, ?)", keys)
-        else:
-            self.conn.execute(f"DELETE FROM {request['kind']} WHERE base_id = ? AND related_id = ?", keys)
-        return reference.KINDS[request["kind"]], 0, ""
+    # What an accepted request does.
 
-    def carry_out(self, request, line):
-        command = request["command"]
-        self.conn.execute("BEGIN")
-        seq = self.one("SELECT coalesce(max(seq), 0) + 1 FROM sheet_receipts")[0]
-        change = self.insert if command == "add" else self.delete if command == "delete" else self.change_link
-        kind, size, fingerprint = change(request)
-        ends = ("", self.archive) if command in ("add", "link") else (self.archive, "")
-        counts = [int(kind == 1), int(kind == 2), int(kind == 3), int(kind > 3), size]
-        self.conn.execute("INSERT INTO sheet_receipts VALUES (?, ?, ?, ?, ?, ?, ?, ?, ?, ?, ?)", (seq, request["request"], request["at"], line, *ends, *counts))
-        moved = (seq, 0, kind, request["identity"], request.get("other", ""), size, fingerprint)
-        self.conn.execute("INSERT INTO sheet_items VALUES (?, ?, ?, ?, ?, ?, ?)", moved)
-        self.conn.execute("UPDATE gpkg_contents SET last_change = ?", (request["at"],))
-        self.conn.execute("COMMIT")
-        return seq
+    def change(self, request, line):
+        store, command = self.stores[request["package"]], request["command"]
+        store.conn.execute("BEGIN")
+        moved = {"add": store.insert, "delete": store.delete}.get(command, store.change_link)(request)
+        ends = ("", store.uuid) if command in ("add", "link") else (store.uuid, "")
+        store.enter(self.receipts, request, line, ends, [moved])
+        store.conn.execute("COMMIT")
+        store.ticket = self.receipts
+
+    def split(self, request, line):
+        parent = self.stores[request["package"]]
+        child = Store(request["other"], parent.uuid, parent.depth + 1, self.receipts, request["at"])
+        child.conn.execute("BEGIN")
+        moved = plain_loans.carry(parent, child)
+        child.date(request["at"])
+        child.conn.execute("COMMIT")
+        parent.conn.execute("BEGIN")
+        plain_loans.take(parent)
+        parent.enter(self.receipts, request, line, (parent.uuid, child.uuid), moved)
+        parent.conn.execute("COMMIT")
+        parent.ticket = child.ticket = self.receipts
+        self.stores[child.uuid] = child
+
+    def merge(self, request, line):
+        child, into = self.stores.pop(request["package"]), self.stores[request["other"]]
+        plain_loans.choose_all(child)
+        into.conn.execute("BEGIN")
+        moved = plain_loans.carry(child, into)
+        plain_loans.bring_receipts(child, into)
+        into.enter(self.receipts, request, line, (child.uuid, into.uuid), moved)
+        into.conn.execute("COMMIT")
+        child.conn.close()
+        into.ticket = self.receipts
 
     def apply(self, request):
-        line = reference.line_of(request)
-        kept = self.one("SELECT line, seq FROM sheet_receipts WHERE request = ?", request["request"])
+        """The number of the receipt, or 0, and that of the refusal, or 0."""
+        line = line_of(request)
+        kept = self.any_store(Store.kept, request["request"])
         if kept is not None:
             return (kept[1], 0) if kept[0] == line else (0, 1)
         refusal = self.refusal(request)
-        return (0, refusal) if refusal else (self.carry_out(request, line), 0)
+        if refusal:
+            return 0, refusal
+        self.receipts += 1
+        {"split": self.split, "merge": self.merge}.get(request["command"], self.change)(request, line)
+        return self.receipts, 0
 
-    def item(self, kind, key):
-        found = self.one(f"SELECT * FROM {TABLES[kind]} WHERE id = ?", key)[1:]
-        names = {1: ["zoom", "column", "row", "data"], 2: ["data", "text"], 3: ["x", "y", "code", "text"]}[kind]
-        return {"kind": KIND_NAMES[kind], **dict(zip(names, found))}
 
-    def manifest(self):
-        rows = [reference.item_fields(identity, self.item(kind, key)) for kind, key, identity in self.conn.execute("SELECT * FROM sheet_identity ORDER BY kind, uuid").fetchall()]
-        for table, (base_kind, other_kind) in reference.ENDS.items():
-            base, other = reference.KINDS[base_kind], reference.KINDS[other_kind]
-            ends = f"SELECT a.uuid, b.uuid FROM {table} JOIN sheet_identity a ON a.kind = {base} AND a.local_id = base_id JOIN sheet_identity b ON b.kind = {other} AND b.local_id = related_id ORDER BY 1, 2"
-            rows += [[table, *pair, "", "", "", "", "", "", 0, "", ""] for pair in self.conn.execute(ends)]
-        return [reference.MANIFEST_HEADER + "\n"] + [",".join(map(reference.spelled, fields)) + "\n" for fields in rows]
+def manifest(store):
+    identities = store.all("SELECT * FROM sheet_identity ORDER BY kind, uuid")
+    rows = [reference.item_fields(identity, store.item(kind, key)) for kind, key, identity in identities]
+    rows += map(reference.link_fields, store.links())
+    return f"package {store.uuid}\n{reference.MANIFEST_HEADER}\n" + "".join(map(spelled_record, rows))
+
+
+def rehearse(archive, at, frame, list_bytes):
+    """What is printed, and the exit status."""
+    refused = reference.refused_word(archive, at, frame)
+    try:
+        requests = [] if refused else read_requests(list_bytes)
+    except NoList:
+        refused = "list"
+    if refused:
+        return f"refused: {refused}\n", 1
+    register = Register(read_uuid(archive), at, Frame.read(frame))
+    lines = [reference.REPORT_HEADER + "\n"]
+    for number, request in enumerate(requests, 1):
+        seq, refusal = register.apply(request)
+        lines.append(f"{number},{request['request']},{seq},{refusal}\n")
+    return "".join(lines) + "".join(manifest(register.stores[uuid]) for uuid in sorted(register.stores)), 0
 
 
 def main():
-    if len(sys.argv) != 4:
-        sys.exit(__doc__)
-    archive, at, frame = sys.argv[1:]
-    requests = reference.read_requests(sys.stdin.buffer.read())
-    package = Package(archive, at, frame)
-    lines = ["line,request,seq,refusal\n"]
-    for number, request in enumerate(requests, 1):
-        seq, refusal = package.apply(request)
-        lines.append(f"{number},{request['request']},{seq},{refusal}\n")
-    lines.append(f"package {archive}\n")
-    sys.stdout.buffer.write("".join(lines + package.manifest()).encode())
+    words = argparse.ArgumentParser(description=__doc__, formatter_class=argparse.RawDescriptionHelpFormatter)
+    words.add_argument("command", choices=["rehearse"])
+    for name in ("--archive", "--at", "--frame"):
+        words.add_argument(name, required=True)
+    said = words.parse_args()
+    text, status = rehearse(said.archive, said.at, said.frame, sys.stdin.buffer.read())
+    sys.stdout.buffer.write(text.encode())
+    sys.exit(status)
 
 
 if __name__ == "__main__":

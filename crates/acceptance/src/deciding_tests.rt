@@ -138,7 +138,7 @@ fn refused<S: Alter + Drop>(
     let decision = decided(members, count, alloc, request)?;
     match &decision {
         Decision::Answered(Err(why)) => Ok(Some(*why)),
-        Decision::Answered(Ok(_)) | Decision::Due(_) => Ok(None),
+        Decision::Answered(Ok(_)) | Decision::ChangeDue(_) | Decision::SplitDue(_) | Decision::MergeDue(_) => Ok(None),
     }
 }
 
@@ -151,7 +151,7 @@ fn repeated<S: Alter + Drop>(
 ) -> Result<Option<Receipt>, Fault> {
     match decided(members, count, alloc, request)? {
         Decision::Answered(Ok(receipt)) => Ok(Some(receipt)),
-        Decision::Answered(Err(_)) | Decision::Due(_) => Ok(None),
+        Decision::Answered(Err(_)) | Decision::ChangeDue(_) | Decision::SplitDue(_) | Decision::MergeDue(_) => Ok(None),
     }
 }
 
@@ -162,7 +162,7 @@ fn turned<S: Alter + Drop>(
     alloc: Global,
     request: &Request,
 ) -> Result<(usize, u64), Fault> {
-    let Decision::Due(change) = decided(members, count, alloc, request)? else {
+    let Decision::ChangeDue(change) = decided(members, count, alloc, request)? else {
         return Err(Fault::StoreFault);
     };
     if change.at >= members.len() || !are_at_rest(members.as_slice()) {
@@ -206,7 +206,7 @@ fn the_first_tile_is_due(rt: HostRuntime) -> Result<(), Fail> {
     let alloc = rt.alloc();
     let mut members = two(alloc)?;
     let request = asked(alloc, 1, AT, tile(alloc, second_package(), 1, 1, b"ab")?)?;
-    let Decision::Due(change) = decided(&mut members, 0, alloc, &request)? else {
+    let Decision::ChangeDue(change) = decided(&mut members, 0, alloc, &request)? else {
         return Err(Fail::new("the tile is taken"));
     };
     assert_eq!(rt; change.at, 1);

@@ -13,9 +13,8 @@ use std::test::Fail;
 use test_values::{
     Asks, BEGUN, FRAME, Step, archive, counts, item, question, sums, text, tile_content, told,
 };
-use test_worlds::{applied, blank_store, new_world};
+use test_worlds::{blank_store, new_world};
 use uuid::Uuid;
-use world::applying::are_served;
 use world::creating::CreateFault;
 use world::world::World;
 
@@ -67,7 +66,7 @@ fn reply_to(
     step: &Step,
 ) -> Result<Result<Receipt, Refusal>, Fault> {
     let request = step.request(alloc)?;
-    applied(world, alloc, &request, &mut MemoryShelf::new(alloc))
+    Ok(world.apply(alloc, &request, &mut MemoryShelf::new(alloc)))
 }
 
 // One after the other, in a world that begins with nothing.
@@ -91,9 +90,6 @@ fn requests(alloc: Global, steps: &[Expected]) -> Result<Vec<Request>, Fault> {
 
 // What is told of each request of a list.
 fn ran(world: &mut World<MemStore>, alloc: Global, list: &Vec<Request>) -> Result<Vec<i64>, Fault> {
-    if !are_served(list.as_slice()) {
-        return Err(Fault::StoreFault);
-    }
     let Ok(replies) = world.run(alloc, list.as_slice(), &mut MemoryShelf::new(alloc)) else {
         return Err(Fault::OutOfMemory);
     };
@@ -474,7 +470,7 @@ fn told_of_size(alloc: Global, length: usize) -> Result<(i64, u64), Fault> {
             content: tile_content(alloc, [2, 3, 3], bytes.as_bytes())?,
         },
     };
-    let reply = applied(&mut world, alloc, &request, &mut MemoryShelf::new(alloc))?;
+    let reply = world.apply(alloc, &request, &mut MemoryShelf::new(alloc));
     let number = told(&reply);
     match reply {
         Ok(receipt) => Ok((number, receipt.bytes)),

@@ -1,20 +1,23 @@
 -- A rehearsal, by what its import and its packages come to.
-use Rattle.std.proofs.Common.{◌≡◌, ◌∙◌, refl, sym, subst, ℕ, List, Option, IfSome, Result, Ok, Err, MatchResult, inl, inr, take, length}
+use Rattle.std.proofs.Common.{◌≡◌, ◌∙◌, refl, sym, subst, ℕ, List, Option, IfSome, Result, Ok, Err, MatchResult, inl, inr, take, length, slice_index_or}
 use Rattle.std.specs.Io.KnownBytes.{Appends}
 use Rattle.std.proofs.KnownBytes.{Appends-trans}
+use Rattle.sqlite.specs.Held.{Held, state}
+use Rattle.sqlite.specs.State.{HasCleanDisk}
 use Rattle.sqlite.specs.Store.{Ghosts}
 use Rattle.sheet_types.specs.Step.{Run}
 use Rattle.sheet_types.specs.World.{World}
 use Rattle.sheet_types.specs.declared.command.Request.{Request}
 use Rattle.sheet_types.specs.declared.frame.Frame.{Frame}
+use Rattle.world.specs.Leaving.{AreClean}
 use Rattle.world.specs.Members.{AllClean}
 use Rattle.world.specs.Worlds.{Seen, StandsFor}
 use Rattle.manifest_csv.specs.Imports.{Imports, IsImported}
-use Rattle.manifest_csv.specs.RequestLists.{IsList}
+use Rattle.request_csv.specs.RequestLists.{IsList}
 use Rattle.manifest_csv.specs.Sent.{WentOut}
 use Rattle.manifest_csv.specs.declared.importing.ImportFault.{ImportFault}
 use Rattle.manifest_csv.specs.declared.importing.ImportFault.TheVariants.{Unread, Stopped as Interrupted, Unwritten}
-use Rattle.manifest_csv.specs.declared.lists.ReadFault.TheVariants.{Header, Record, Read, Memory}
+use Rattle.request_csv.specs.declared.lists.ReadFault.TheVariants.{Header, Record, Read, Memory}
 use Rattle.manifest_csv.proofs.SentFacts.{went_out_past}
 use Rattle.cli.specs.Arguments.{Asks, IsFirstUnread}
 use Rattle.cli.specs.Endings.{import_outcome}
@@ -25,39 +28,45 @@ use Rattle.cli.specs.declared.statuses.Failure.{Failure}
 use Rattle.cli.specs.declared.statuses.Outcome.TheVariants.{Done, Stopped}
 use Rattle.cli.proofs.FrameTexts.{frame_once, in_range}
 
-module _ {S W : Type 0} (g : Ghosts S) (clean : (seen : Seen S) → AllClean g seen.members) (contents : W → Option (List ℕ)) (w : World) (text : Option (List ℕ)) (old new : Seen S) (stands : StandsFor g old w) where
+module _ {S W : Type 0} (g : Ghosts S) (clean : (h : Held S) → HasCleanDisk (state g h)) (contents : W → Option (List ℕ)) (w : World) (text : Option (List ℕ)) (old new : Seen S) (stands : StandsFor g old w) where
+  all_clean : (seen : Seen S) → AllClean g seen.members
+  all_clean seen = λ k d within. clean (slice_index_or seen.members k d).conn
+
+  are_clean : (stores : List (Held S)) → AreClean g stores
+  are_clean stores = λ k d within. clean (slice_index_or stores k d)
+
   -- what an import carried out, of the world that it began with
-  module _ (before after : Option (List ℕ)) (r : Result (Unit {0}) ImportFault) (requests : List Request) (list : IfSome text (λ t. IsList t requests)) (it : IsImported g requests old new before after r) where
+  module _ (failed fails : ℕ) (before after : Option (List ℕ)) (r : Result (Unit {0}) ImportFault) (requests : List Request) (list : IfSome text (λ t. IsList t requests)) (it : IsImported g requests old new failed fails before after r) where
     abbrev ran_next : (next : World) × Run w (take (length it.replies) requests) it.replies next × StandsFor g new next
-    ran_next = it.ran.run (clean new) w stands
+    ran_next = it.ran.run (all_clean new) (are_clean it.ran.gone) w stands
 
     abbrev ran : Ran w text
     ran = record { requests = requests; list = list; replies = it.replies; next = ran_next.0; some = it.some; run = ran_next.1 }
 
   -- an import that did not go through
-  pub import_ended : (writer writer' : W) (fault : ImportFault) → Imports g text old new writer writer' (contents writer) (contents writer') (Err fault) → Rehearses w text writer writer' (contents writer) (contents writer') (import_outcome fault)
-  import_ended writer writer' (Unread Memory) it = inl it.2
-  import_ended writer writer' (Unread Header) it = (refl, it.2, (Header, (λ h. let e = h in cc), it.0))
-  import_ended writer writer' (Unread (Record n)) it = (refl, it.2, (Record n, (λ h. let e = h in cc), it.0))
-  import_ended writer writer' (Unread Read) it = (refl, it.2, (Read, (λ h. let e = h in cc), it.0))
-  import_ended writer writer' (Interrupted n fault) it = inr (inl (ran (contents writer) (contents writer') (Err (Interrupted n fault)) it.0 it.1 it.2, fault, it.2.written.1, refl, it.2.written.2))
-  import_ended writer writer' Unwritten it = inr (inr (inl (ran (contents writer) (contents writer') (Err Unwritten) it.0 it.1 it.2, refl, it.2.written)))
+  pub import_ended : (failed fails : ℕ) (writer writer' : W) (fault : ImportFault) → Imports g text old new failed fails writer writer' (contents writer) (contents writer') (Err fault) → Rehearses w text writer writer' (contents writer) (contents writer') (import_outcome fault)
+  import_ended failed fails writer writer' (Unread Memory) it = inl it.3
+  import_ended failed fails writer writer' (Unread Header) it = (refl, it.3, (Header, (λ h. let e = h in cc), it.0))
+  import_ended failed fails writer writer' (Unread (Record n)) it = (refl, it.3, (Record n, (λ h. let e = h in cc), it.0))
+  import_ended failed fails writer writer' (Unread Read) it = (refl, it.3, (Read, (λ h. let e = h in cc), it.0))
+  import_ended failed fails writer writer' (Interrupted n fault) it = inr (inl (ran failed fails (contents writer) (contents writer') (Err (Interrupted n fault)) it.0 it.1 it.2, fault, it.2.written.1, refl, it.2.written.2))
+  import_ended failed fails writer writer' Unwritten it = inr (inr (inl (ran failed fails (contents writer) (contents writer') (Err Unwritten) it.0 it.1 it.2, refl, it.2.written)))
 
   -- an import that went through, and the packages after it
-  module _ {V : Type 0} (first end : V) (before mid after : Option (List ℕ)) (writer writer' : W) (x : Unit {0}) (it : Imports g text old new writer writer' before mid (Ok x)) (last : Seen S) where
+  module _ {V : Type 0} (first end : V) (failed fails : ℕ) (before mid after : Option (List ℕ)) (writer writer' : W) (x : Unit {0}) (it : Imports g text old new failed fails writer writer' before mid (Ok x)) (last : Seen S) where
     abbrev carried : Ran w text
-    carried = ran before mid (Ok x) it.0 it.1 it.2
+    carried = ran failed fails before mid (Ok x) it.0 it.1 it.2
 
     left : StandsFor g new carried.next
-    left = (ran_next before mid (Ok x) it.0 it.1 it.2).2
+    left = (ran_next failed fails before mid (Ok x) it.0 it.1 it.2).2
 
     pub all_done : (y : Unit {0}) → Writes g live_text new last mid after (Ok y) → Rehearses w text first end before after Done
     all_done y packages =
-        (carried, (it.2.written.0, it.2.written.1), Appends-trans before mid after (report carried) (live_text carried.next) it.2.written.2 (packages (clean last) carried.next left))
+        (carried, (it.2.written.0, it.2.written.1), Appends-trans before mid after (report carried) (live_text carried.next) it.2.written.2 (packages (all_clean last) carried.next left))
 
     pub packages_failed : (failure : Failure) → Writes g live_text new last mid after (Err failure) → Rehearses w text first end before after (Stopped failure)
     packages_failed failure packages =
-        inr (inr (inr (carried, (it.2.written.0, it.2.written.1), went_out_past before mid after (report carried) (live_text carried.next) it.2.written.2 (packages (clean last) carried.next left))))
+        inr (inr (inr (carried, (it.2.written.0, it.2.written.1), went_out_past before mid after (report carried) (live_text carried.next) it.2.written.2 (packages (all_clean last) carried.next left))))
 
 -- ---- what is due, in other words
 

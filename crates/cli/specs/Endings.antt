@@ -2,7 +2,7 @@
 use Rattle.std.specs.Prelude.{ℕ, List, [], ◌∷◌, ◌++◌, codes}
 use Rattle.manifest_csv.specs.declared.importing.ImportFault.{ImportFault}
 use Rattle.manifest_csv.specs.declared.importing.ImportFault.TheVariants.{Unread, Stopped as Interrupted, Unwritten}
-use Rattle.manifest_csv.specs.declared.lists.ReadFault.TheVariants.{Header, Record, Read, Memory}
+use Rattle.request_csv.specs.declared.lists.ReadFault.TheVariants.{Header, Record, Read, Memory}
 use Rattle.cli.specs.Failures.{of_fault}
 use Rattle.cli.specs.declared.statuses.What.{What}
 use Rattle.cli.specs.declared.statuses.What.TheVariants.{BadUuid, BadMoment, BadFrame, BadList}

@@ -15,10 +15,10 @@ use Rattle.world.specs.Worlds.{Seen, StandsFor}
 use Rattle.manifest_csv.specs.Imports.{AreStopped, GoesOn, IsWhyUnread, report_before}
 use Rattle.manifest_csv.specs.PackageManifests.{manifest}
 use Rattle.manifest_csv.specs.Reports.{report_of}
-use Rattle.manifest_csv.specs.RequestLists.{IsList}
+use Rattle.request_csv.specs.RequestLists.{IsList}
 use Rattle.manifest_csv.specs.Sent.{WentOut, WentOutPast}
-use Rattle.manifest_csv.specs.declared.lists.ReadFault.{ReadFault}
-use Rattle.manifest_csv.specs.declared.lists.ReadFault.TheVariants.{Memory}
+use Rattle.request_csv.specs.declared.lists.ReadFault.{ReadFault}
+use Rattle.request_csv.specs.declared.lists.ReadFault.TheVariants.{Memory}
 use Rattle.cli.specs.Failures.{of_fault}
 use Rattle.cli.specs.declared.statuses.What.TheVariants.{BadList}
 use Rattle.cli.specs.declared.statuses.Failure.{Failure}

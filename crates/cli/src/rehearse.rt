@@ -13,10 +13,11 @@ ghost use Rattle.cli.specs.declared.statuses.Outcome.TheVariants.{Refused};
 use crate::arguments::{Rehearsal, Words, read_rehearsal};
 use crate::statuses::{Failure, Outcome, What};
 use manifest_csv::importing::{ImportFault, import};
-use manifest_csv::lists::ReadFault;
 use manifest_csv::package_manifests::write_manifest;
+use manifest_csv::progress::Teller;
 use manifest_csv::sending::send;
 use memory_files::MemoryFile;
+use request_csv::lists::ReadFault;
 use shelves::file_memory::MemoryFileShelf;
 use shelves::shelf::Shelf;
 use sqlite::{Alter, FileStore};
@@ -27,19 +28,20 @@ use world::reading::PackageSight;
 use world::world::World;
 
 /// Makes the archive that the words ask for in memory, imports the request list of the reader into it, and writes the report of the import and then, for each live package by its UUID, a line that names it and its manifest.
-/// The words are read first: where one of them cannot be, nothing is read and nothing is written.
-pub fn rehearse<R: Read + Drop, W: Write>(
+/// The words are read first: where one of them cannot be, nothing is read and nothing is written. The teller is told how many of how many requests are done; what is written does not depend on it.
+pub fn rehearse<R: Read + Drop, W: Write, T: Teller>(
     alloc: Global,
     words: &Words<'_>,
     reader: R,
     writer: &mut W,
+    teller: &mut T,
 ) -> Outcome
     ensures refused { (what : What) → IsFirstUnread words.now.archive.now words.now.at.now words.now.frame.now what → result ≡ Refused what }
     ensures unwritten { (what : What) → IsFirstUnread words.now.archive.now words.now.at.now words.now.frame.now what → writer.new ≡ writer.old }
     ensures carried { (uuid moment : List ℕ) (frame : Frame) → Asks words.now.archive.now words.now.at.now words.now.frame.now uuid moment frame → Rehearses (new_world uuid frame) (R.remaining reader) writer.old writer.new (W.contents writer.old) (W.contents writer.new) result }
 {
     match read_rehearsal(words) {
-        Ok(rehearsal) => carried_out(alloc, &rehearsal, reader, writer),
+        Ok(rehearsal) => carried_out(alloc, &rehearsal, reader, writer, teller),
         Err(what) => Outcome::Refused(what),
     }
 }
@@ -125,11 +127,12 @@ fn write_packages<S: Alter + Drop, W: Write>(
 }
 
 // The world, the import and the manifests.
-fn carried_out<R: Read + Drop, W: Write>(
+fn carried_out<R: Read + Drop, W: Write, T: Teller>(
     alloc: Global,
     rehearsal: &Rehearsal<'_>,
     reader: R,
     writer: &mut W,
+    teller: &mut T,
 ) -> Outcome
     ensures { Rehearses (new_world rehearsal.now.archive rehearsal.now.frame) (R.remaining reader) writer.old writer.new (W.contents writer.old) (W.contents writer.new) result }
 {
@@ -141,7 +144,7 @@ fn carried_out<R: Read + Drop, W: Write>(
         Ok(world) => world,
         Err(failure) => return Outcome::Stopped(failure),
     };
-    if let Err(fault) = import(alloc, &mut world, &mut shelf, reader, writer) {
+    if let Err(fault) = import(alloc, &mut world, &mut shelf, reader, writer, teller) {
         return end_of_import(fault);
     }
     match write_packages(alloc, &mut world, writer) {

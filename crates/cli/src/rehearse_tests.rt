@@ -5,7 +5,8 @@ use crate::statuses::{Failure, Outcome, What, status_of};
 use std::alloc::Global;
 use std::process::Abort;
 use std::test::Fail;
-use test_values::{FIRST_TILE, Narrow, list};
+use manifest_csv::progress::Silent;
+use test_lists::{FIRST_TILE, Narrow, list};
 
 const GOOD: Words<'static> = Words {
     archive: "a0000000-0000-4000-8000-000000000000",
@@ -25,7 +26,7 @@ const OF_FIRST_TILE: &str =
 /// Expects that the rehearsal of a list ends so and writes this.
 fn expect_rehearsal(rt: &impl Abort, alloc: Global, text: &[u8], outcome: Outcome, wanted: &str) {
     let mut written: Vec<u8> = Vec::new(alloc);
-    let got = rehearse(alloc, &GOOD, text, &mut written);
+    let got = rehearse(alloc, &GOOD, text, &mut written, &mut Silent);
     assert_eq!(rt; written.as_slice(), wanted.as_bytes());
     assert_eq!(rt; got, outcome);
 }
@@ -39,7 +40,7 @@ fn a_refused_rehearsal_writes_nothing(rt: HostRuntime) {
     };
     let mut written: Vec<u8> = Vec::new(rt.alloc());
     let list = b"a list that is not looked at";
-    let outcome = rehearse(rt.alloc(), &words, list.as_slice(), &mut written);
+    let outcome = rehearse(rt.alloc(), &words, list.as_slice(), &mut written, &mut Silent);
     assert!(rt; outcome == Outcome::Refused(What::BadFrame));
     assert!(rt; written.is_empty());
 }
@@ -189,7 +190,7 @@ fn writers_that_fail(rt: HostRuntime) -> Result<(), Fail> {
     let wanted = OF_FIRST_TILE.as_bytes();
     for room in 0..wanted.len() {
         let mut out = Narrow::new(alloc, room);
-        let outcome = rehearse(alloc, &GOOD, text.as_bytes(), &mut out);
+        let outcome = rehearse(alloc, &GOOD, text.as_bytes(), &mut out, &mut Silent);
         assert_eq!(rt; outcome, Outcome::Stopped(Failure::StoreFault));
         assert_eq!(rt; out.taken.as_slice(), &wanted[..room]);
     }

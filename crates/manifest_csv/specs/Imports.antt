@@ -10,9 +10,9 @@ use Rattle.sheet_types.specs.declared.receipt.Receipt.{Receipt}
 use Rattle.sheet_types.specs.declared.refusal.Refusal.{Refusal}
 use Rattle.world.specs.Faults.{fault_refusal}
 use Rattle.world.specs.Worlds.{Seen, IsRun}
-use Rattle.manifest_csv.specs.RequestLists.{IsList, MeetsFirst}
-use Rattle.manifest_csv.specs.declared.lists.ReadFault.{ReadFault}
-use Rattle.manifest_csv.specs.declared.lists.ReadFault.TheVariants.{Read, Memory}
+use Rattle.request_csv.specs.RequestLists.{IsList, MeetsFirst}
+use Rattle.request_csv.specs.declared.lists.ReadFault.{ReadFault}
+use Rattle.request_csv.specs.declared.lists.ReadFault.TheVariants.{Read, Memory}
 use Rattle.manifest_csv.specs.Reports.{report_header, report_lines, report_of}
 use Rattle.manifest_csv.specs.Sent.{WentOutPast}
 use Rattle.manifest_csv.specs.declared.importing.ImportFault.{ImportFault}
@@ -52,23 +52,23 @@ abbrev pub IsWhyUnread : Option (List ℕ) → ReadFault → Type 0
 IsWhyUnread text fault = (fault ≡ Read) ⊎ (fault ≡ Memory) ⊎ IfSome text (λ t. MeetsFirst t fault)
 
 module _ {S : Type 0} (g : Ghosts S) where
-  -- The first of the requests were carried out, one after the other, and their lines were written.
-  pub record IsReported (requests : List Request) (old new : Seen S) (before after : Option (List ℕ)) (r : Result (Unit {0}) ImportFault) : Type 0 where
+  -- The first of the requests were carried out, one after the other, with a shelf that had failed so often before and after, and their lines were written.
+  pub record IsReported (requests : List Request) (old new : Seen S) (failed fails : ℕ) (before after : Option (List ℕ)) (r : Result (Unit {0}) ImportFault) : Type 0 where
     pub replies : List (Result Receipt Refusal)
     pub some : length replies ≤ length requests
-    pub ran : IsRun g (take (length replies) requests) old replies new
+    pub ran : IsRun g (take (length replies) requests) old replies new failed fails
     pub written : IsWritten requests replies (lines_before requests replies) (report_lines 1 requests replies) before after r
 
   -- The same with the header line before. Where that could not be written, there are no replies.
-  pub record IsImported (requests : List Request) (old new : Seen S) (before after : Option (List ℕ)) (r : Result (Unit {0}) ImportFault) : Type 0 where
+  pub record IsImported (requests : List Request) (old new : Seen S) (failed fails : ℕ) (before after : Option (List ℕ)) (r : Result (Unit {0}) ImportFault) : Type 0 where
     pub replies : List (Result Receipt Refusal)
     pub some : length replies ≤ length requests
-    pub ran : IsRun g (take (length replies) requests) old replies new
+    pub ran : IsRun g (take (length replies) requests) old replies new failed fails
     pub written : IsWritten requests replies (report_before requests replies) (report_of requests replies) before after r
 
   -- An import of a text: of a list that is read, its requests are carried out and reported. Of one that is not, nothing is carried out and nothing is written.
-  abbrev pub Imports : {W : Type 0} → Option (List ℕ) → Seen S → Seen S → W → W → Option (List ℕ) → Option (List ℕ) → Result (Unit {0}) ImportFault → Type 0
-  Imports text old new writer writer' before after (Err (Unread fault)) = IsWhyUnread text fault × (new ≡ old) × (writer' ≡ writer)
-  Imports text old new writer writer' before after (Err (Stopped n fault)) = (requests : List Request) × IfSome text (λ t. IsList t requests) × IsImported requests old new before after (Err (Stopped n fault))
-  Imports text old new writer writer' before after (Err Unwritten) = (requests : List Request) × IfSome text (λ t. IsList t requests) × IsImported requests old new before after (Err Unwritten)
-  Imports text old new writer writer' before after (Ok x) = (requests : List Request) × IfSome text (λ t. IsList t requests) × IsImported requests old new before after (Ok x)
+  abbrev pub Imports : {W : Type 0} → Option (List ℕ) → Seen S → Seen S → ℕ → ℕ → W → W → Option (List ℕ) → Option (List ℕ) → Result (Unit {0}) ImportFault → Type 0
+  Imports text old new failed fails writer writer' before after (Err (Unread fault)) = IsWhyUnread text fault × (new ≡ old) × (fails ≡ failed) × (writer' ≡ writer)
+  Imports text old new failed fails writer writer' before after (Err (Stopped n fault)) = (requests : List Request) × IfSome text (λ t. IsList t requests) × IsImported requests old new failed fails before after (Err (Stopped n fault))
+  Imports text old new failed fails writer writer' before after (Err Unwritten) = (requests : List Request) × IfSome text (λ t. IsList t requests) × IsImported requests old new failed fails before after (Err Unwritten)
+  Imports text old new failed fails writer writer' before after (Ok x) = (requests : List Request) × IfSome text (λ t. IsList t requests) × IsImported requests old new failed fails before after (Ok x)

@@ -1,13 +1,14 @@
 //! A request list, carried out by a world, and the report of it.
-ghost use Rattle.std.specs.Prelude.{◌≡◌, ◌≤◌};
+ghost use Rattle.std.specs.Prelude.{◌≡◌, ◌≤◌, length};
 ghost use Rattle.std.specs.String.{string_capacity};
-ghost use Rattle.world.specs.Laws.{AreServed};
 ghost use Rattle.manifest_csv.specs.Imports.{IsEndOf, IsReported, Imports};
+ghost use Rattle.manifest_csv.specs.Progress.{AreTold, IsTold};
 
-use crate::lists::{ReadFault, read_requests};
+use crate::progress::Teller;
 use crate::reports::{header_line, line_buffer, put_line};
 use crate::sending::{WriteFault, send};
 use package_tables::fault::Fault;
+use request_csv::lists::{ReadFault, read_requests};
 use sheet_types::command::Request;
 use sheet_types::error::OutOfMemory;
 use sheet_types::receipt::Receipt;
@@ -60,24 +61,28 @@ fn end_of(reply: &Result<Receipt, Refusal>) -> Option<Fault>
     }
 }
 
-/// Carries the requests out in their order, and writes the line of each before the next is carried out.
-fn report_each<S: Alter + Drop, H: Shelf<S>, W: Write>(
+/// Carries the requests out in their order, and writes the line of each before the next is carried out. The teller is told of each whose line was written.
+fn report_each<S: Alter + Drop, H: Shelf<S>, W: Write, T: Teller>(
     alloc: Global,
     world: &mut World<S>,
     requests: &[Request],
     shelf: &mut H,
     buffer: &mut String,
     writer: &mut W,
+    teller: &mut T,
 ) -> Result<(), ImportFault>
-    requires served { AreServed requests.now }
     requires room { 128 ≤ string_capacity buffer.old }
-    ensures { IsReported S.Store requests.now world.old world.new (W.contents writer.old) (W.contents writer.new) result }
+    ensures reported { IsReported S.Store requests.now world.old world.new
+        (H.failures_of shelf.old) (H.failures_of shelf.new)
+        (W.contents writer.old) (W.contents writer.new) result }
+    ensures told { AreTold (length requests.now) (T.told teller.old) (T.told teller.new) result }
 {
     for at in 0..requests.len() {
         let request = &requests[at];
         let reply = world.apply(alloc, request, shelf);
         put_line(buffer, at as u64 + 1, request.id, &reply);
         send(writer, buffer.as_bytes())?;
+        teller.tell(at as u64 + 1, requests.len() as u64);
         if let Some(fault) = end_of(&reply) {
             return Err(ImportFault::Stopped(at as u64 + 1, fault));
         }
@@ -85,19 +90,23 @@ fn report_each<S: Alter + Drop, H: Shelf<S>, W: Write>(
     Ok(())
 }
 
-/// Carries out the request list of a reader and writes the report of it. The shelf gives the stores of the packages that a request makes. The whole list is read before anything is carried out, and room for the longest line is there before the first is written. A refusal is reported, and the import goes on.
+/// Carries out the request list of a reader and writes the report of it. The shelf gives the stores of the packages that a request makes. The whole list is read before anything is carried out, and room for the longest line is there before the first is written. A refusal is reported, and the import goes on. The teller is told of each request whose line was written.
 ///
 /// # Errors
 ///
 /// A list that is not read, a request that want of memory or a store stopped, or a writer that failed.
-pub fn import<S: Alter + Drop, H: Shelf<S>, R: Read + Drop, W: Write>(
+pub fn import<S: Alter + Drop, H: Shelf<S>, R: Read + Drop, W: Write, T: Teller>(
     alloc: Global,
     world: &mut World<S>,
     shelf: &mut H,
     reader: R,
     writer: &mut W,
+    teller: &mut T,
 ) -> Result<(), ImportFault>
-    ensures { Imports S.Store (R.remaining reader) world.old world.new writer.old writer.new (W.contents writer.old) (W.contents writer.new) result }
+    ensures imported { Imports S.Store (R.remaining reader) world.old world.new
+        (H.failures_of shelf.old) (H.failures_of shelf.new)
+        writer.old writer.new (W.contents writer.old) (W.contents writer.new) result }
+    ensures told { IsTold (R.remaining reader) (T.told teller.old) (T.told teller.new) result }
 {
     let requests = read_requests(alloc, reader)?;
     let Ok(mut buffer) = line_buffer(alloc) else {
@@ -111,5 +120,6 @@ pub fn import<S: Alter + Drop, H: Shelf<S>, R: Read + Drop, W: Write>(
         shelf,
         &mut buffer,
         writer,
+        teller,
     )
 }

@@ -1,13 +1,21 @@
 //! The command line of `sheetdesk`: which words there are. What they ask for is done in `cli`.
 #![tactic(auto)]
 
+mod help;
+#[cfg(test)]
+mod help_tests;
+
+use crate::help::{ABOUT, REHEARSE_ABOUT, REHEARSE_WORDS, WORDS};
 use clap::error::ErrorKind;
 use clap::{Arg, ArgAction, ArgMatches, Command, Error};
 use cli::arguments::Words;
+use cli::progress::Progress;
 use cli::rehearse::rehearse;
 use cli::statuses::{Failure, Outcome, error_of, output_of, status_of};
 use std::alloc::{AllocError, Global};
+use manifest_csv::progress::Silent;
 use std::io;
+use std::io::IsTerminal;
 use std::process::ExitCode;
 
 /// An option that has to be given, whose text is judged later.
@@ -23,24 +31,34 @@ fn option<'a>(alloc: Global, id: &'a str, value: &'a str, help: &'a str) -> Arg<
 /// A command that makes an archive.
 fn making<'a>(alloc: Global, name: &'a str) -> Result<Command<'a>, AllocError> {
     Command::new(alloc, name)
-        .arg(option(alloc, "archive", "UUID", "Identity of the archive"))?
+        .arg(option(
+            alloc,
+            "archive",
+            "UUID",
+            "Identity of the archive, as a0000000-0000-4000-8000-000000000000",
+        ))?
         .arg(option(
             alloc,
             "at",
             "AT",
-            "Moment at which it is made, YYYY-MM-DDTHH:MM:SS.sssZ",
+            "Moment at which it is made, as 2024-05-01T08:00:00.000Z",
         ))?
         .arg(option(
             alloc,
             "frame",
             "FRAME",
-            "Its frame, eleven numbers with commas between",
+            "Its frame, as 25832,0,0,4096,4096,256,256,0,3,1,1",
         ))
 }
 
-fn sheetdesk<'a>(alloc: Global) -> Result<Command<'a>, AllocError> {
-    let rehearse = making(alloc, "rehearse")?;
+/// The command line of the program.
+pub fn sheetdesk<'a>(alloc: Global) -> Result<Command<'a>, AllocError> {
+    let rehearse = making(alloc, "rehearse")?
+        .about(REHEARSE_ABOUT)
+        .after_help(REHEARSE_WORDS);
     Command::new(alloc, "sheetdesk")
+        .about(ABOUT)
+        .after_help(WORDS)
         .subcommand_required(true)
         .subcommand(rehearse)
 }
@@ -70,14 +88,21 @@ fn answered(rt: &HostRuntime, error: &Error) -> u8 {
     }
 }
 
-/// What `rehearse` comes to, over standard input and output.
+/// What `rehearse` comes to, over standard input and output. How far it is, standard error is told where it is a terminal.
 fn rehearsed(rt: &HostRuntime, given: &ArgMatches<'_>) -> Outcome {
     let words = Words {
         archive: given.get_str("archive").unwrap_or(""),
         at: given.get_str("at").unwrap_or(""),
         frame: given.get_str("frame").unwrap_or(""),
     };
-    rehearse(rt.alloc(), &words, rt.reader(), &mut io::writer(rt))
+    let (reader, mut writer) = (rt.reader(), io::writer(rt));
+    let terminal = rt.stderr();
+    if terminal.is_terminal() {
+        let mut progress = Progress { writer: terminal };
+        rehearse(rt.alloc(), &words, reader, &mut writer, &mut progress)
+    } else {
+        rehearse(rt.alloc(), &words, reader, &mut writer, &mut Silent)
+    }
 }
 
 /// Carries out the command line of these words, and answers the exit status. There is one subcommand, which is required.

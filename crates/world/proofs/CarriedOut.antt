@@ -1,9 +1,9 @@
 -- What is due is carried out among the members of a world that can be used.
-use Rattle.std.specs.Prelude.{◌≡◌, ◌≢◌, ℕ, ◌+◌, List, [], ◌∷◌, ◌++◌, map, refl, Result, Ok, Err, IsTrue}
-use Rattle.std.proofs.Common.{sym, ap, subst, ◌∙◌, inl, inr, length}
-use Rattle.std.specs.List.{AllByRecursion, AllZip}
+use Rattle.std.specs.Prelude.{◌≡◌, ℕ, ◌+◌, List, [], ◌∷◌, ◌++◌, map, refl, Ok, Err, IsTrue}
+use Rattle.std.proofs.Common.{sym, ap, subst, ◌∙◌, inl, inr}
+use Rattle.std.specs.List.{AllByRecursion}
 use Rattle.std.proofs.lemmas.List.{append-nil}
-use Rattle.std.proofs.lemmas.List.Elements.{All-from_recursion, recursion_from_All}
+use Rattle.std.proofs.lemmas.List.Elements.{All-from_recursion}
 use Rattle.std.proofs.lemmas.List.Sorted.{IsPermutation-refl}
 use Rattle.std.specs.List.Sorted.{IsPermutation}
 use Rattle.sqlite.specs.Tree.{Trees}
@@ -14,18 +14,16 @@ use Rattle.sheet_types.specs.World.{World, Package}
 use Rattle.sheet_types.specs.declared.frame.Frame.{Frame}
 use Rattle.sheet_types.specs.declared.receipt.Receipt.{Receipt}
 use Rattle.sql_meaning.specs.Transactions.{Rests}
-use Rattle.sql_meaning.specs.Stores.{MayLeave, EachLeaves}
 use Rattle.sql_meaning.proofs.Transactions.{Shuts, Settles}
 use Rattle.sql_meaning.proofs.StoreLemmas.{same_world}
-use Rattle.package_tables.specs.declared.fault.Fault.{Fault}
 use Rattle.package_tables.specs.declared.fault.Fault.TheVariants as fault
 use Rattle.world.specs.Carries.{Carries, IsBeforeCommit}
-use Rattle.world.specs.Leaving.{IsBeside, StandsAmong, AreClean, AreAtRest, AreBeside, MayBeLeft, LeavesOneOf}
+use Rattle.world.specs.Leaving.{IsBeside, AreAtRest, AreBeside, LeavesOneOf}
 use Rattle.world.specs.Loans.{IsLent, IsReturned}
 use Rattle.world.specs.Members.{AllRest, AllClean, AllOpen, AllStay, AreMembers}
 use Rattle.world.specs.Merges.{Merges}
 use Rattle.world.specs.ServeFaults.{IsLastingFault}
-use Rattle.world.specs.Serving.{IsUncommitted}
+use Rattle.world.specs.Changes.{IsUncommitted}
 use Rattle.world.specs.Splits.{Splits, KeepsLoan}
 use Rattle.world.specs.Turning.{LeftAs, LeavesAsBefore}
 use Rattle.lending.specs.declared.turn_fault.TurnFault.{TurnFault}
@@ -33,49 +31,40 @@ use Rattle.lending.specs.declared.turn_fault.TurnFault.TheVariants.{Before, Comm
 use Rattle.world.specs.declared.loans.Lending.{Lending}
 use Rattle.world.specs.declared.loans.Returning.{Returning}
 use Rattle.world.specs.declared.loans.ServeFault.{ServeFault}
-use Rattle.world.specs.declared.loans.ServeFault.TheVariants.{Unshelved, Turn}
+use Rattle.world.specs.declared.loans.ServeFault.TheVariants.{Turn}
 use Rattle.world.specs.declared.members.Member.{Member}
 use Rattle.world.proofs.Changing.{stay_leaves}
+use Rattle.world.proofs.HeldStores.{held_clean, members_left}
+use Rattle.world.proofs.Lent.{child_left, is_beside, none_beside}
 use Rattle.world.proofs.Standing.{members_stay, clean_before}
 
 module _ {S : Type 0} (g : Ghosts S) where
   -- ---- the stores that are held
 
-  members_clean : (ms : List (Member S)) (strays : List (Held S)) → AllByRecursion (λ h. HasCleanDisk (state g h)) (map (λ (m : Member S). m.conn) ms ++ strays) → AllByRecursion (λ (m : Member S). HasCleanDisk (state g m.conn)) ms
-  members_clean [] strays all = tt
-  members_clean (m ∷ ms) strays all = (all.0, members_clean ms strays all.1)
-
-  -- clean stores of members are clean members
-  pub held_clean : (ms : List (Member S)) (strays : List (Held S)) → AreClean g (map (λ m. m.conn) ms ++ strays) → AllClean g ms
-  held_clean ms strays clean = All-from_recursion (λ (m : Member S). HasCleanDisk (state g m.conn)) ms (members_clean ms strays (recursion_from_All (λ h. HasCleanDisk (state g h)) (map (λ (m : Member S). m.conn) ms ++ strays) clean))
-
-  pub members_left : (ms : List (Member S)) (contents : List Trees) → MayBeLeft g (map (λ m. m.conn) ms ++ []) contents → MayLeave g (λ m. m.conn) ms contents
-  members_left [] [] may = tt
-  members_left [] (t ∷ ts) may = absurd may
-  members_left (m ∷ ms) [] may = absurd may
-  members_left (m ∷ ms) (t ∷ ts) may = (may.0, members_left ms ts may.1)
-
   no_held : (P : Held S → Type 0) → (strays : List (Held S)) → strays ≡ [] → AllByRecursion P strays
   no_held P strays none = subst (AllByRecursion P) (sym none) tt
 
   -- members that leave what they left before stand for the world before
-  pub leaves_before : (old new : List (Member S)) (strays : List (Held S)) (w : World) (count : ℕ) (after : List Package) → strays ≡ [] → LeavesAsBefore g old new → AreMembers g old count w → AllOpen g old → LeavesOneOf g w.frame (map (λ m. m.conn) new ++ strays) w.packages after
+  pub leaves_before : (old new : List (Member S)) (strays : List (Held S)) (w : World) (count : ℕ) (after : List Package) → strays ≡ [] → LeavesAsBefore g old new → AreMembers g old count w → AllOpen g old → LeavesOneOf g w.frame (strays ++ map (λ m. m.conn) new) w.packages after
   leaves_before old new strays w count after none as_before are opened =
-      subst (λ ss. LeavesOneOf g w.frame (map (λ m. m.conn) new ++ ss) w.packages after) (sym none)
+      subst (λ ss. LeavesOneOf g w.frame (ss ++ map (λ m. m.conn) new) w.packages after) (sym none)
       (λ clean contents may. inl (record {
         read = contents;
         rest = [];
         all = subst (IsPermutation contents) (sym (append-nil contents)) (IsPermutation-refl contents);
-        each = same_world g (λ (m : Member S). m.conn) (LeftAs w.frame) new w.packages contents (as_before (held_clean new [] clean) w count are opened) (members_left new contents may);
+        each = same_world g (λ (m : Member S). m.conn) (LeftAs w.frame) new w.packages contents (as_before (held_clean g [] new clean) w count are opened) (members_left g new contents may);
         beside = tt;
       }))
 
   module _ (shuts : Shuts g) (settles : Settles g) where
     -- ---- nothing was begun
 
-    pub carries_unbegun : (Due : World → World → Type 0) (due : Receipt) (old mid : List (Member S)) (strays : List (Held S)) (count : ℕ) (why : ServeFault) → strays ≡ [] → AllRest g old → AllRest g mid → AllStay g old mid → IsBeforeCommit why → Carries g Due due old mid strays count count (Err why)
-    carries_unbegun Due due old mid strays count why none at_rest rests stay early = record {
+    pub carries_unbegun : (Due : World → World → Type 0) (due : Receipt) (old mid : List (Member S)) (strays : List (Held S)) (count : ℕ) (why : ServeFault) → strays ≡ [] → AllRest g old → AllRest g mid → AllStay g old mid → IsBeforeCommit why → (left_over : List (Held S)) → (AllClean g mid → (w next : World) → AreMembers g old count w → Due w next → AllOpen g old → AreBeside g w.frame w.packages left_over)
+        → Carries g Due due old mid strays count count (Err why)
+    carries_unbegun Due due old mid strays count why none at_rest rests stay early left_over beside = record {
       gone = [];
+      left_over = left_over;
+      beside_before = λ clean gone w next are is_due was. beside clean w next are is_due was;
       rests = rests;
       stray_rests = All-from_recursion (λ h. Rests (state g h)) strays (no_held (λ h. Rests (state g h)) strays none);
       clean = λ clean gone. clean_before g old mid stay clean;
@@ -102,6 +91,8 @@ module _ {S : Type 0} (g : Ghosts S) where
           let done = it.done receipt refl in
           record {
             gone = [];
+            left_over = [];
+            beside_before = λ clean gone w next are is_due was. none_beside g w.frame w.packages;
             rests = it.rests;
             stray_rests = All-from_recursion (λ h. Rests (state g h)) strays (no_held (λ h. Rests (state g h)) strays done.1);
             clean = λ clean gone. clean_before g old mid stay (it.clean clean);
@@ -112,7 +103,7 @@ module _ {S : Type 0} (g : Ghosts S) where
               λ w next clean gone are is_due. subst (λ n. AreMembers g new n next) (sym counted) (done.3 w next before clean (members_stay g old mid before w stay are) is_due.1 (keeps (it.clean clean) w next before is_due.0 are is_due.1)),
             );
             opens = λ clean gone was. it.opens clean (opened (it.clean clean) was) child_open;
-            beside = λ x is w next are is_due was. All-from_recursion (λ h. HasCleanDisk (state g h) → (trees : Trees) → (state g h).may_leave trees → IsBeside w.frame next.packages trees) [] tt;
+            beside = λ x is w next are is_due was. none_beside g w.frame next.packages;
             kept = λ why is. absurd (let e = is in cc);
             err = λ why is. absurd (let e = is in cc);
             usable = λ why is. absurd (let e = is in cc);
@@ -148,9 +139,24 @@ module _ {S : Type 0} (g : Ghosts S) where
         early_of : (x : ServeFault) → Turn why ≡ x → IsBeforeCommit x → IsUncommitted {X = Receipt} (Err why)
         early_of x is early = elim why as (λ t. IsBeforeCommit (Turn t) → IsUncommitted {X = Receipt} (Err t)) [ Before y ↦ λ e. tt | Committing y ↦ λ e. absurd e ] (subst IsBeforeCommit (sym is) early)
 
+        -- the child is dropped where it is not kept
+        abbrev left_behind : TurnFault → List (Held S)
+        left_behind (Before fault.OutOfMemory) = child ∷ []
+        left_behind (Before fault.StoreFault) = []
+        left_behind (Committing x) = []
+
+        dropped_beside : (w next : World) (count : ℕ) → AreMembers g old count w → f ≡ w.frame → IsLent w next due → AllClean g mid → (x : TurnFault) → AreBeside g w.frame w.packages (left_behind x)
+        dropped_beside w next count are same is clean (Before fault.OutOfMemory) =
+            All-from_recursion (λ h. HasCleanDisk (state g h) → (trees : Trees) → (state g h).may_leave trees → IsBeside w.frame w.packages trees) (child ∷ [])
+            ((λ disk trees may. is_beside g w next due is trees (inr (child_left g shuts settles due child old mid strays at_rest child_rests w next is (keeps clean w next count same are is) disk trees may))), tt)
+        dropped_beside w next count are same is clean (Before fault.StoreFault) = none_beside g w.frame w.packages
+        dropped_beside w next count are same is clean (Committing x) = none_beside g w.frame w.packages
+
         pub carries_unlent : Carries g (λ w next. (f ≡ w.frame) × IsLent w next due) due.receipt old new strays before before (Err (Turn why))
         carries_unlent = record {
           gone = [];
+          left_over = left_behind why;
+          beside_before = λ clean gone w next are is_due was. dropped_beside w next before are is_due.0 is_due.1 (it.clean clean) why;
           rests = it.rests;
           stray_rests = kept_or_dropped (AreAtRest g) (λ early none. All-from_recursion (λ h. Rests (state g h)) strays (no_held (λ h. Rests (state g h)) strays none)) (All-from_recursion (λ h. Rests (state g h)) (child ∷ []) (child_rests, tt));
           clean = λ clean gone. clean_before g old mid stay (it.clean clean);
@@ -162,10 +168,10 @@ module _ {S : Type 0} (g : Ghosts S) where
           usable = λ other is usable. not_lasting (λ lasting. let same : Turn why ≡ other = cc in usable (subst IsLastingFault same lasting));
           unharmed = λ other is early. uncommitted_leaves (early_of other (let same : Turn why ≡ other = cc in same) early);
           crash = λ other is w next are is_due was.
-              kept_or_dropped (λ ss. LeavesOneOf g w.frame (map (λ m. m.conn) new ++ ss) w.packages next.packages)
+              kept_or_dropped (λ ss. LeavesOneOf g w.frame (ss ++ map (λ m. m.conn) new) w.packages next.packages)
               (λ early none. leaves_before old new strays w before next.packages none (uncommitted_leaves early) are was)
               (λ clean contents may.
-              let disks : AllClean g mid = it.clean (held_clean new (child ∷ []) clean) in
+              let disks : AllClean g mid = it.clean (held_clean g (child ∷ []) new clean) in
               it.crash why refl w next before (members_stay g old mid before w stay are) is_due.1 (keeps disks w next before is_due.0 are is_due.1) (opened disks was) clean contents may);
         }
 
@@ -177,6 +183,8 @@ module _ {S : Type 0} (g : Ghosts S) where
           let done = it.done receipt refl in
           record {
             gone = it.gone;
+            left_over = [];
+            beside_before = λ clean gone w next are is_due was. none_beside g w.frame w.packages;
             rests = it.rests;
             stray_rests = All-from_recursion (λ h. Rests (state g h)) [] tt;
             clean = it.clean;
@@ -193,6 +201,8 @@ module _ {S : Type 0} (g : Ghosts S) where
       pub carries_unreturned : (why : TurnFault) → Merges g due old new (Err why) → Carries g (λ w next. IsReturned w next due) due.receipt old new [] before before (Err (Turn why))
       carries_unreturned why it = record {
         gone = it.gone;
+        left_over = [];
+        beside_before = λ clean gone w next are is_due was. none_beside g w.frame w.packages;
         rests = it.rests;
         stray_rests = All-from_recursion (λ h. Rests (state g h)) [] tt;
         clean = it.clean;
@@ -203,5 +213,5 @@ module _ {S : Type 0} (g : Ghosts S) where
         err = λ other is. (refl, λ w are. (it.failed why refl).1 w before are);
         usable = λ other is usable. refl;
         unharmed = λ other is early. it.unharmed (elim why as (λ t. IsBeforeCommit (Turn t) → IsUncommitted {X = Receipt} (Err t)) [ Before y ↦ λ e. tt | Committing y ↦ λ e. absurd e ] (subst IsBeforeCommit (let same : other ≡ Turn why = cc in same) early));
-        crash = λ other is w next are is_due was. subst (λ hs. LeavesOneOf g w.frame hs w.packages next.packages) (sym (append-nil (map (λ (m : Member S). m.conn) new))) (it.crash why refl w next before are is_due was);
+        crash = λ other is w next are is_due was. it.crash why refl w next before are is_due was;
       }

@@ -15,12 +15,12 @@ use Rattle.world.specs.Laws.{CarriedOutInOne}
 -- ---- the model
 
 pub carried_out_in_one : CarriedOutInOne
-carried_out_in_one w r (Add uuid identity content) served = refl
-carried_out_in_one w r (Delete uuid identity) served = refl
-carried_out_in_one w r (Link uuid mapping base other) served = refl
-carried_out_in_one w r (Unlink uuid mapping base other) served = refl
-carried_out_in_one w r (Split uuid child mode rect) served = absurd served
-carried_out_in_one w r (Merge child into ticket) served = absurd served
+carried_out_in_one w r (Add uuid identity content) one = refl
+carried_out_in_one w r (Delete uuid identity) one = refl
+carried_out_in_one w r (Link uuid mapping base other) one = refl
+carried_out_in_one w r (Unlink uuid mapping base other) one = refl
+carried_out_in_one w r (Split uuid child mode rect) one = absurd one
+carried_out_in_one w r (Merge child into ticket) one = absurd one
 
 -- ---- the change
 

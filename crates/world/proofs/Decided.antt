@@ -59,7 +59,7 @@ decides_repeated w q r is =
 
 -- its package is not known
 pub decides_unknown : (f : Frame) (count : ℕ) (q : Request) (w : World) → IsAskedOf f count q w → kept w q.id ≡ None → is_live w (package_of q.command) ≡ false → Decides w q (Answered (Err UnknownPackage))
-decides_unknown f count q w asked new dead = refused_outcome w q UnknownPackage new (refused_as_unknown w (accepted w q) q asked.served new dead)
+decides_unknown f count q w asked new dead = refused_outcome w q UnknownPackage new (refused_as_unknown w (accepted w q) q asked.one new dead)
 
 -- the first of four, in two parts
 or_last : {X : Type 0} (a b c d : Option X) → option_or a (option_or b (option_or c d)) ≡ option_or (option_or a (option_or b c)) d
@@ -71,7 +71,7 @@ or_last None None None d = refl
 -- where it is refused, it is so before or for what it would leave
 refused_so : (f : Frame) (count at : ℕ) (q : Request) (w : World) → IsPlaced f count at q w → refusal w (accepted w q) q ≡ option_or (refusal_before w q) (then_some (too_many (accepted w q)) TooMany)
 refused_so f count at q w placed =
-    refused_in_turn w (accepted w q) q placed.asked.served placed.new placed.live
+    refused_in_turn w (accepted w q) q placed.asked.one placed.new placed.live
     ∙ or_last (first_row (text_reasons q)) (then_some (identity_used w q.command) IdentityUsed) (first_row (package_reasons w.frame (holdings w (package_of q.command)) q.command)) (then_some (too_many (accepted w q)) TooMany)
 
 -- it is refused before
@@ -95,9 +95,9 @@ pub decides_due : (f : Frame) (count at : ℕ) (q : Request) (w : World) (due : 
     → due.at ≡ at → due.receipt ≡ receipt_of w q → due.sums ≡ sums_after q.command (sums_moved (receipt_of w q)) (sums_held (holdings w (package_of q.command))) → Decides w q (ChangeDue due)
 decides_due f count at q w due register uuid types placed before few here receipt sums =
     let none : refusal w (accepted w q) q ≡ None = not_refused f count at q w placed before few in
-    let own = due_where_accepted w q at register uuid types placed.asked.served placed.new none placed.place in
+    let own = due_where_accepted w q at register uuid types placed.asked.one placed.new none placed.place in
     let moved : IsDue w due.at (receipt_of w q) q.command due.sums = rw (here, sums) own in
-    (receipt, subst (λ r. outcome w q ≡ (Ok r, world_after r q.command w)) (sym receipt) (accepted_outcome w q placed.asked.served placed.new none), subst (λ r. IsDue w due.at r q.command due.sums) (sym receipt) moved)
+    (receipt, subst (λ r. outcome w q ≡ (Ok r, world_after r q.command w)) (sym receipt) (accepted_outcome w q placed.asked.one placed.new none), subst (λ r. IsDue w due.at r q.command due.sums) (sym receipt) moved)
 
 -- ---- what it is refused for before
 
@@ -144,7 +144,7 @@ nothing_against f count at q w placed before =
 
 -- so it fits its package
 fits_there : (f : Frame) (count at : ℕ) (q : Request) (w : World) → IsRegister w → IsUuid q.id → HasTypes q.command → IsPlaced f count at q w → refusal_before w q ≡ None → Fits (receipt_of w q) q.command (holdings w (package_of q.command))
-fits_there f count at q w register uuid types placed before = fits_where_accepted w q register uuid types placed.asked.served (nothing_against f count at q w placed before)
+fits_there f count at q w register uuid types placed before = fits_where_accepted w q register uuid types placed.asked.one (nothing_against f count at q w placed before)
 
 -- ---- its place
 
@@ -185,7 +185,7 @@ module _ {S : Type 0} (g : Ghosts S) where
 
 -- a placed request, of the frame of its world
 pub of_own_frame : (f : Frame) (count at : ℕ) (q : Request) (w : World) → IsPlaced f count at q w → IsPlaced w.frame count at q w
-of_own_frame f count at q w placed = record { asked = record { frame = refl; counted = placed.asked.counted; served = placed.asked.served }; new = placed.new; live = placed.live; place = placed.place }
+of_own_frame f count at q w placed = record { asked = record { frame = refl; counted = placed.asked.counted; one = placed.asked.one }; new = placed.new; live = placed.live; place = placed.place }
 
 -- what an addition moves is told of its item
 added_by : (w : World) (command : Command) (thing : Moved) → moved w command ≡ thing ∷ [] → IsAddedBy command thing

@@ -21,7 +21,7 @@ use Rattle.identity_register.proofs.Answering.{any_flat_map}
 use Rattle.world.specs.Register.{UsedIsNamed, NoneIsKept, KeptIsThere, NumberIsCount}
 
 -- a test of all receipts is one of each package's
-in_packages : (p : Receipt → Bool) (w : World) → list_any p (receipts_of w) ≡ list_any (λ x. list_any p x.receipts) w.packages
+pub in_packages : (p : Receipt → Bool) (w : World) → list_any p (receipts_of w) ≡ list_any (λ x. list_any p x.receipts) w.packages
 in_packages p w = list_any-arranged receipt_key p (flat_map (λ x. x.receipts) w.packages) ∙ any_flat_map (λ x. x.receipts) p (λ x. list_any p x.receipts) w.packages (All-each _ (λ x. refl) w.packages)
 
 -- a receipt of a package is among all of them

@@ -34,7 +34,7 @@ use Rattle.ledger_laws.proofs.Ledger.{never_named, custody_none, thing_of, thing
 use Rattle.ledger_laws.proofs.Shifting.{of_package, numbers_below}
 use Rattle.identity_register.specs.Reads.{is_fit_end, is_fit_moved}
 use Rattle.world.specs.Carrying.{Meets}
-use Rattle.world.specs.Laws.{IsServed, package_of, live_reasons}
+use Rattle.world.specs.Laws.{ChangesOnePackage, package_of, live_reasons}
 use Rattle.world.specs.Reasons.{text_reasons, package_reasons, delete_reasons, link_reasons, unlink_reasons}
 use Rattle.world.specs.Steps.{NothingAgainst, FitsWhereAccepted, NothingAgainstAccepted, RefusedInTurn, RefusedAsUnknown}
 use Rattle.world.proofs.FirstRows.{passes, last}
@@ -57,13 +57,13 @@ new_request w id p new =
 -- ---- the receipt of a command
 
 -- its ends are UUIDs
-fit_ends : (command : Command) → IsServed command → HasTypes command → (is_fit_end (source_of (entry_of command)) ≡ true) × (is_fit_end (target_of (entry_of command)) ≡ true)
-fit_ends (Add p identity content) served types = (refl, (and_parts (is_uuid p) (is_uuid identity) types).0)
-fit_ends (Delete p identity) served types = ((and_parts (is_uuid p) (is_uuid identity) types).0, refl)
-fit_ends (Link p mapping base other) served types = (refl, (and_parts (is_uuid p) (is_uuid base) (and_parts (is_uuid p && is_uuid base) (is_uuid other) types).0).0)
-fit_ends (Unlink p mapping base other) served types = ((and_parts (is_uuid p) (is_uuid base) (and_parts (is_uuid p && is_uuid base) (is_uuid other) types).0).0, refl)
-fit_ends (Split p child mode rect) served types = absurd served
-fit_ends (Merge child into ticket) served types = absurd served
+fit_ends : (command : Command) → ChangesOnePackage command → HasTypes command → (is_fit_end (source_of (entry_of command)) ≡ true) × (is_fit_end (target_of (entry_of command)) ≡ true)
+fit_ends (Add p identity content) one types = (refl, (and_parts (is_uuid p) (is_uuid identity) types).0)
+fit_ends (Delete p identity) one types = ((and_parts (is_uuid p) (is_uuid identity) types).0, refl)
+fit_ends (Link p mapping base other) one types = (refl, (and_parts (is_uuid p) (is_uuid base) (and_parts (is_uuid p && is_uuid base) (is_uuid other) types).0).0)
+fit_ends (Unlink p mapping base other) one types = ((and_parts (is_uuid p) (is_uuid base) (and_parts (is_uuid p && is_uuid base) (is_uuid other) types).0).0, refl)
+fit_ends (Split p child mode rect) one types = absurd one
+fit_ends (Merge child into ticket) one types = absurd one
 
 -- the UUIDs of a link are such
 link_ends : (p base other : List ℕ) → (is_uuid p && is_uuid base && is_uuid other) ≡ true → (is_uuid base ≡ true) × (is_uuid other ≡ true)
@@ -78,17 +78,17 @@ pub fit_link : (base other : List ℕ) → (is_uuid base ≡ true) × (is_uuid o
 fit_link base other uuids = and_from (is_uuid base && is_uuid other) true (and_from (is_uuid base) (is_uuid other) uuids.0 uuids.1) refl
 
 -- what it moves has UUIDs and digests
-fit_things : (w : World) (command : Command) → IsServed command → HasTypes command → AllByRecursion (λ i. IsUuid i.identity) (holdings w (package_of command)).items → AllByRecursion (λ m. is_fit_moved m ≡ true) (moved w command)
-fit_things w (Add p identity content) served types uuids = (fit_item (added_item identity content) (and_parts (is_uuid p) (is_uuid identity) types).1, tt)
-fit_things w (Delete p identity) served types uuids =
+fit_things : (w : World) (command : Command) → ChangesOnePackage command → HasTypes command → AllByRecursion (λ i. IsUuid i.identity) (holdings w (package_of command)).items → AllByRecursion (λ m. is_fit_moved m ≡ true) (moved w command)
+fit_things w (Add p identity content) one types uuids = (fit_item (added_item identity content) (and_parts (is_uuid p) (is_uuid identity) types).1, tt)
+fit_things w (Delete p identity) one types uuids =
     elim (item_of (holdings w p) identity) as (λ o. item_of (holdings w p) identity ≡ o → AllByRecursion (λ m. is_fit_moved m ≡ true) (option_map_or (λ i. item_moved i ∷ []) o [])) [
       | None ↦ λ _. tt
       | Some i ↦ λ is. (fit_item i (All-found (λ j. IsUuid j.identity) (λ j. bytes_eq j.identity identity) i (holdings w p).items is uuids).0, tt)
     ] refl
-fit_things w (Link p mapping base other) served types uuids = (fit_link base other (link_ends p base other types), tt)
-fit_things w (Unlink p mapping base other) served types uuids = (fit_link base other (link_ends p base other types), tt)
-fit_things w (Split p child mode rect) served types uuids = absurd served
-fit_things w (Merge child into ticket) served types uuids = absurd served
+fit_things w (Link p mapping base other) one types uuids = (fit_link base other (link_ends p base other types), tt)
+fit_things w (Unlink p mapping base other) one types uuids = (fit_link base other (link_ends p base other types), tt)
+fit_things w (Split p child mode rect) one types uuids = absurd one
+fit_things w (Merge child into ticket) one types uuids = absurd one
 
 -- ---- the package
 
@@ -104,13 +104,13 @@ not_held w p identity content register unused =
     (or_parts (has item_thing (item_thing i) (holdings w p).items) (has link_key (item_thing i) (holdings w p).links) none).0
 
 -- the package is as the command needs it
-meets_command : (w : World) (command : Command) → IsRegister w → IsServed command → HasTypes command → identity_used w command ≡ false
+meets_command : (w : World) (command : Command) → IsRegister w → ChangesOnePackage command → HasTypes command → identity_used w command ≡ false
     → first_row (package_reasons w.frame (holdings w (package_of command)) command) ≡ None → Meets command (holdings w (package_of command))
-meets_command w (Add p identity content) register served types unused none = record { uuid = (and_parts (is_uuid p) (is_uuid identity) types).1; new = not_held w p identity content register unused }
-meets_command w (Delete p identity) register served types unused none =
+meets_command w (Add p identity content) register one types unused none = record { uuid = (and_parts (is_uuid p) (is_uuid identity) types).1; new = not_held w p identity content register unused }
+meets_command w (Delete p identity) register one types unused none =
     let fails : AllByRecursion (λ (row : Bool × Refusal). row.0 ≡ false) (delete_reasons (holdings w p) identity) = rows_fail (delete_reasons (holdings w p) identity) none in
     (not_false (has_item (holdings w p) identity) fails.0, fails.1.0)
-meets_command w (Link p mapping base other) register served types unused none =
+meets_command w (Link p mapping base other) register one types unused none =
     let l : Relation = relation mapping base other in
     let x : Package = holdings w p in
     let fails : AllByRecursion (λ (row : Bool × Refusal). row.0 ≡ false) (link_reasons (holdings w p) (relation mapping base other)) = rows_fail (link_reasons (holdings w p) (relation mapping base other)) none in
@@ -121,18 +121,18 @@ meets_command w (Link p mapping base other) register served types unused none =
       new = fails.1.1.0;
       ends = and_parts (has_kind x (base_kind mapping) base) (has_kind x (other_kind mapping) other) (not_false (has_kind x (base_kind mapping) base && has_kind x (other_kind mapping) other) fails.1.0);
     }
-meets_command w (Unlink p mapping base other) register served types unused none =
+meets_command w (Unlink p mapping base other) register one types unused none =
     let fails : AllByRecursion (λ (row : Bool × Refusal). row.0 ≡ false) (unlink_reasons (holdings w p) (relation mapping base other)) = rows_fail (unlink_reasons (holdings w p) (relation mapping base other)) none in
     let uuids : (is_uuid base ≡ true) × (is_uuid other ≡ true) = link_ends p base other types in
     record { base = uuids.0; other = uuids.1; there = not_false (has link_key (link_key (relation mapping base other)) (holdings w p).links) fails.0 }
-meets_command w (Split p child mode rect) register served types unused none = absurd served
-meets_command w (Merge child into ticket) register served types unused none = absurd served
+meets_command w (Split p child mode rect) register one types unused none = absurd one
+meets_command w (Merge child into ticket) register one types unused none = absurd one
 
 pub fits_where_accepted : FitsWhereAccepted
-fits_where_accepted w q register uuid types served open' =
-    let ends : (is_fit_end (source_of (entry_of q.command)) ≡ true) × (is_fit_end (target_of (entry_of q.command)) ≡ true) = fit_ends q.command served types in
+fits_where_accepted w q register uuid types one open' =
+    let ends : (is_fit_end (source_of (entry_of q.command)) ≡ true) × (is_fit_end (target_of (entry_of q.command)) ≡ true) = fit_ends q.command one types in
     record {
-      meets = meets_command w q.command register served types open'.unused open'.no_reason;
+      meets = meets_command w q.command register one types open'.unused open'.no_reason;
       receipt = record {
         number = new_number w (package_of q.command) register;
         request = new_request w q.id (package_of q.command) open'.new;
@@ -140,7 +140,7 @@ fits_where_accepted w q register uuid types served open' =
           request = uuid;
           source = ends.0;
           target = ends.1;
-          items = fit_things w q.command served types (kept_at w (package_of q.command) register open'.live).uuids;
+          items = fit_things w q.command one types (kept_at w (package_of q.command) register open'.live).uuids;
         };
       };
     }
@@ -153,11 +153,11 @@ rows_none [] h = refl
 rows_none (row ∷ rows) h = rw h.0 (rows_none rows h.1)
 
 pub nothing_against_accepted : NothingAgainstAccepted
-nothing_against_accepted w next q served new none =
+nothing_against_accepted w next q one new none =
     elim (is_live w (package_of q.command)) as (λ v. is_live w (package_of q.command) ≡ v → NothingAgainst w q) [
       | true ↦ λ live.
           let x : Package = holdings w (package_of q.command) in
-          let fails : AllByRecursion (λ (row : Bool × Refusal). row.0 ≡ false) (live_reasons w next x q) = rows_fail (live_reasons w next x q) (sym (refused_by_parts w next x q served live refl) ∙ none) in
+          let fails : AllByRecursion (λ (row : Bool × Refusal). row.0 ≡ false) (live_reasons w next x q) = rows_fail (live_reasons w next x q) (sym (refused_by_parts w next x q one live refl) ∙ none) in
           record {
             live = live;
             new = new;
@@ -165,7 +165,7 @@ nothing_against_accepted w next q served new none =
             no_reason = rows_none (package_reasons w.frame x q.command) (All-left (λ (row : Bool × Refusal). row.0 ≡ false) (package_reasons w.frame x q.command) ((too_many next, TooMany) ∷ []) fails.1.1.1.1);
           }
       | false ↦ λ dead.
-          let fails : AllByRecursion (λ (row : Bool × Refusal). row.0 ≡ false) ((id_reused w q, IdReused) ∷ (true, UnknownPackage) ∷ []) = rows_fail ((id_reused w q, IdReused) ∷ (true, UnknownPackage) ∷ []) (sym (refused_unless_live w next q served dead) ∙ none) in
+          let fails : AllByRecursion (λ (row : Bool × Refusal). row.0 ≡ false) ((id_reused w q, IdReused) ∷ (true, UnknownPackage) ∷ []) = rows_fail ((id_reused w q, IdReused) ∷ (true, UnknownPackage) ∷ []) (sym (refused_unless_live w next q one dead) ∙ none) in
           absurd (false≢true (sym fails.1.0))
     ] refl
 
@@ -176,14 +176,14 @@ pub none_reused : (w : World) (q : Request) → kept w q.id ≡ None → id_reus
 none_reused w q new = ap (λ k. option_map_or (λ r. not (bytes_eq r.line (line q.command))) k false) new
 
 pub refused_in_turn : RefusedInTurn
-refused_in_turn w next q served new live =
+refused_in_turn w next q one new live =
     let x : Package = holdings w (package_of q.command) in
     let last_rows : List (Bool × Refusal) = (too_many next, TooMany) ∷ [] in
     let package_rows : List (Bool × Refusal) = package_reasons w.frame x q.command ++ last_rows in
     let texts : Option Refusal = first_row (text_reasons q) in
     let identity_row : List (Bool × Refusal) = (identity_used w q.command, IdentityUsed) ∷ [] in
     let identity : Option Refusal = then_some (identity_used w q.command) IdentityUsed in
-    refused_by_parts w next x q served live refl
+    refused_by_parts w next x q one live refl
     ∙ passes (id_reused w q) IdReused (text_reasons q ++ identity_row ++ package_rows) (none_reused w q new)
     ∙ first_of_both (text_reasons q) (identity_row ++ package_rows)
     ∙ ap (option_or texts) (first_of_both identity_row package_rows ∙ ap (λ o. option_or o (first_row package_rows)) (sym (last (identity_used w q.command) IdentityUsed)))
@@ -191,4 +191,4 @@ refused_in_turn w next q served new live =
     ∙ ap (λ o. option_or texts (option_or identity (option_or (first_row (package_reasons w.frame x q.command)) o))) (sym (last (too_many next) TooMany))
 
 pub refused_as_unknown : RefusedAsUnknown
-refused_as_unknown w next q served new dead = refused_unless_live w next q served dead ∙ passes (id_reused w q) IdReused ((true, UnknownPackage) ∷ []) (none_reused w q new)
+refused_as_unknown w next q one new dead = refused_unless_live w next q one dead ∙ passes (id_reused w q) IdReused ((true, UnknownPackage) ∷ []) (none_reused w q new)

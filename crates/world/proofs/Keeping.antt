@@ -1,5 +1,5 @@
--- What a world keeps of what it stands for, when one request was served.
-use Rattle.std.proofs.Common.{◌≡◌, ◌≢◌, ◌↔◌, false, true, IsTrue, refl, sym, ap, subst, ◌∙◌, ℕ, ◌≤◌, Bool, List, length, Vec, Global, vec_capacity, Result, IfOk, Ok, Err, inl, inr}
+-- What a world keeps of what it stands for, when one request was dealt with.
+use Rattle.std.proofs.Common.{◌≡◌, ◌↔◌, false, true, IsTrue, refl, sym, ap, subst, ◌∙◌, ℕ, ◌≤◌, Bool, List, length, Vec, Global, Result, IfOk, Ok, Err, inl, inr}
 use Rattle.sqlite.specs.Store.{Ghosts}
 use Rattle.sheet_types.specs.Refuse.{greatest_receipts}
 use Rattle.sheet_types.specs.Step.{IsFault, outcome}
@@ -23,10 +23,9 @@ use Rattle.std.proofs.Common.{arith}
 use Rattle.world.specs.declared.loans.ServeFault.{ServeFault}
 use Rattle.world.specs.declared.loans.ServeFault.TheVariants.{Unshelved, Turn}
 use Rattle.world.proofs.CarriedOut.{leaves_before}
-use Rattle.sqlite.specs.Held.{Held, state}
-use Rattle.sqlite.specs.State.{HasCleanDisk}
-use Rattle.std.proofs.lemmas.List.Elements.{All-from_recursion, recursion_from_All}
-use Rattle.sheet_types.proofs.Every.{All-left, All-right}
+use Rattle.world.proofs.HeldStores.{left_clean, right_clean}
+use Rattle.world.proofs.Lent.{none_beside}
+use Rattle.sqlite.specs.Held.{Held}
 use Rattle.std.specs.Prelude.{[], ◌++◌, IsErr}
 use Rattle.world.specs.Worlds.{Seen, StandsFor, IsHeld, IsStep, StandsStill, LeavesNoTrace, LeftAsItStands}
 use Rattle.lending.specs.declared.turn_fault.TurnFault.TheVariants.{Before, Committing}
@@ -65,13 +64,6 @@ uncommitted (Turn (Committing x)) has_failed lasting usable = absurd (let failed
 pub room_stays : {X Y : Type 0} (old new : List X) (room : Vec Y Global) → length new ≡ length old → HasRoomFor old room → HasRoomFor new room
 room_stays old new room long has = omega (arith, long, has)
 
--- the parts of a list
-pub left_clean : {S : Type 0} (g : Ghosts S) (xs ys : List (Held S)) → AreClean g (xs ++ ys) → AreClean g xs
-left_clean g xs ys clean = All-from_recursion (λ h. HasCleanDisk (state g h)) xs (All-left (λ h. HasCleanDisk (state g h)) xs ys (recursion_from_All (λ h. HasCleanDisk (state g h)) (xs ++ ys) clean))
-
-pub right_clean : {S : Type 0} (g : Ghosts S) (xs ys : List (Held S)) → AreClean g (xs ++ ys) → AreClean g ys
-right_clean g xs ys clean = All-from_recursion (λ h. HasCleanDisk (state g h)) ys (All-right (λ h. HasCleanDisk (state g h)) xs ys (recursion_from_All (λ h. HasCleanDisk (state g h)) (xs ++ ys) clean))
-
 module _ {S : Type 0} (g : Ghosts S) where
   -- After a step there is a world that it stands for, if there was one before.
   pub held_after : (q : Request) (old new : Seen S) (reply : Result Receipt Refusal) → IsHeld g old → new.frame ≡ old.frame → AllRest g new.members → AreAtRest g new.strays → (new.has_failed ≡ false → new.strays ≡ []) → new.count ≤ greatest_receipts → IsStep g q old reply new → IsHeld g new
@@ -93,6 +85,9 @@ module _ {S : Type 0} (g : Ghosts S) where
   pub step_unserved : (q : Request) (seen : Seen S) → seen.has_failed ≡ true → IsStep g q seen (Err StoreFault) seen
   step_unserved q seen failed = record {
     gone = [];
+    left_over = [];
+    beside_before = λ clean gone w stands opened. none_beside g w.frame w.packages;
+    register = λ w stands. stands.members.register;
     clean = λ clean gone. clean;
     step = λ clean gone w stands. (w, inr (inr refl, refl), stands);
     opens = λ clean gone no_fault. absurd (no_fault (inr refl));
@@ -122,11 +117,14 @@ module _ {S : Type 0} (g : Ghosts S) where
     pub step_replied : (reply : Result Receipt Refusal) → r ≡ Ok reply → IsStep g q was reply now_seen
     step_replied reply is = record {
       gone = it.gone;
+      left_over = it.left_over;
+      beside_before = λ clean gone w stands opened. it.beside_before clean gone w (stood w stands).0 (stood w stands).1 (were_open opened);
+      register = λ w stands. stands.members.register;
       clean = were_clean;
       step = λ clean gone w stands.
           let both = stood w stands in
-          let served : IsServedAs g w q new after reply = it.told clean gone reply is w both.0 both.1 in
-          (served.0, inl (sym (ap (λ o. o.0) served.1), sym (ap (λ o. o.1) served.1)), record { frame = both.0 ∙ sym served.2; members = served.3 });
+          let as_model : IsServedAs g w q new after reply = it.told clean gone reply is w both.0 both.1 in
+          (as_model.0, inl (sym (ap (λ o. o.0) as_model.1), sym (ap (λ o. o.1) as_model.1)), record { frame = both.0 ∙ sym as_model.2; members = as_model.3 });
       opens = λ clean gone no_fault opened. (subst (λ (x : Result (Result Receipt Refusal) ServeFault). IfOk x (λ y. AllOpen g old → AllOpen g new)) is (it.opens clean gone)) (were_open opened);
       crash = λ fault usable w stands opened. leaves_before g old new strays w before (outcome w q).1.packages (it.none reply is) (it.unharmed (subst IsUntouched (sym is) (fault_is_err reply fault))) (stood w stands).1 (were_open opened);
       beside = λ clean gone no_fault w stands opened. it.beside clean gone reply is w (stood w stands).0 (stood w stands).1 (were_open opened);
@@ -136,6 +134,9 @@ module _ {S : Type 0} (g : Ghosts S) where
     pub step_failed : (e : ServeFault) → r ≡ Err e → (why : Refusal) → why ≡ told_refusal e → IsStep g q was (Err why) now_seen
     step_failed e is why told = record {
       gone = it.gone;
+      left_over = it.left_over;
+      beside_before = λ clean gone w stands opened. it.beside_before clean gone w (stood w stands).0 (stood w stands).1 (were_open opened);
+      register = λ w stands. stands.members.register;
       clean = were_clean;
       step = λ clean gone w stands. (w, inr (told_as_fault e why told, refl), record { frame = (stood w stands).0; members = it.failed e is w (stood w stands).1 });
       opens = λ clean gone no_fault. absurd (no_fault (told_as_fault e why told));

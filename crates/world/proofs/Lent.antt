@@ -1,37 +1,39 @@
 -- A split among the members of a world.
-use Rattle.std.specs.Prelude.{◌≡◌, ◌≢◌, ◌⊎◌, ◌≤◌, ℕ, zero, suc, ◌+◌, List, [], ◌∷◌, ◌++◌, map, Some, slice_get, slice_set, refl, Result, Ok, Err, IsTrue, true, false, bytes_eq}
+use Rattle.std.specs.Prelude.{◌≡◌, ◌≢◌, ◌⊎◌, ◌≤◌, ℕ, zero, suc, ◌+◌, List, [], ◌∷◌, ◌++◌, map, Some, slice_get, slice_set, refl, Result, Ok, Err, IsTrue}
 use Rattle.std.proofs.Common.{sym, ap, subst, ◌∙◌, inl, inr, arith, length, length-append}
 use Rattle.std.specs.List.{AllByRecursion, AllZip, insert}
 use Rattle.std.specs.List.Sorted.{IsPermutation}
 use Rattle.std.proofs.lemmas.List.{append-nil}
 use Rattle.sqlite_trees.proofs.ListLemmas.{all-slice_get}
 use Rattle.std.proofs.lemmas.List.Elements.{All-from_recursion, recursion_from_All}
-use Rattle.std.proofs.lemmas.List.Sorted.{IsPermutation-refl, IsPermutation-to_front, IsPermutation-insert, IsPermutation-trans}
+use Rattle.std.proofs.lemmas.List.Sorted.{IsPermutation-to_front, IsPermutation-insert, IsPermutation-sym}
 use Rattle.sqlite.specs.Effect.{Database}
 use Rattle.sqlite.specs.Tree.{Trees}
 use Rattle.sqlite.specs.Store.{Ghosts}
 use Rattle.sqlite.specs.Held.{Held, state}
-use Rattle.sqlite.specs.State.{HasCleanDisk}
+use Rattle.sqlite.specs.State.{State, HasCleanDisk}
 use Rattle.sqlite.proofs.StateLemmas.{clean_if_open}
 use Rattle.sheet_types.specs.Cut.{Cut}
-use Rattle.sheet_types.specs.World.{World, Package, receipts_of}
+use Rattle.sheet_types.specs.World.{World, Package}
 use Rattle.sheet_types.specs.declared.frame.Frame.{Frame}
 use Rattle.sheet_types.specs.declared.receipt.Receipt.{Receipt}
-use Rattle.sql_meaning.specs.Transactions.{Rests}
-use Rattle.sql_meaning.specs.Stores.{MayLeave, EachLeaves}
+use Rattle.sql_meaning.specs.Transactions.{Rests, Turns}
+use Rattle.sql_meaning.specs.Stores.{EachLeaves}
 use Rattle.sql_meaning.proofs.Transactions.{Shuts, Settles}
 use Rattle.identity_register.specs.Creation.{Keeps, new_package}
 use Rattle.identity_register.specs.Reads.{Reads}
 use Rattle.package_tables.specs.declared.fault.Fault.{Fault}
 use Rattle.package_tables.specs.declared.fault.Fault.TheVariants as fault
-use Rattle.world.specs.Leaving.{IsBeside, StandsAmong, AreClean, MayBeLeft, LeavesOneOf}
-use Rattle.lending.specs.Lending.{Lends, lent}
+use Rattle.world.specs.Leaving.{IsBeside, StandsAmong, AreClean, AreBeside, MayBeLeft}
+use Rattle.custody.specs.Homing.{FromClean}
+use Rattle.lending.specs.Lending.{Fills, Lends, lent}
 use Rattle.world.specs.Loans.{IsLent, loan}
 use Rattle.world.specs.Members.{AllRest, AllClean, AllOpen, IsMember, AreMembers}
 use Rattle.lending.specs.Selecting.{IsSelectionOf, IsPart, MayCome}
 use Rattle.transfer.specs.Parcels.{with_cut}
-use Rattle.world.specs.Serving.{IsUncommitted}
-use Rattle.world.specs.Splits.{Splits, KeepsLoan, member_of_child}
+use Rattle.world.specs.Changes.{IsUncommitted}
+use Rattle.world.specs.Splits.{Splits, KeepsLoan, LeavesChild, DropsUnfilled, member_of_child}
+use Rattle.identity_register.specs.declared.selection.Selection.{Selection}
 use Rattle.world.specs.Turning.{LeftAs, LeavesAsBefore}
 use Rattle.world.specs.Turns.{TakesTurn}
 use Rattle.lending.specs.declared.turn_fault.TurnFault.{TurnFault}
@@ -39,9 +41,10 @@ use Rattle.lending.specs.declared.turn_fault.TurnFault.TheVariants.{Before, Comm
 use Rattle.world.specs.declared.loans.Lending.{Lending}
 use Rattle.world.specs.declared.members.Member.{Member}
 use Rattle.world.proofs.Changing.{each_leaves}
+use Rattle.world.proofs.HeldStores.{held_clean, members_left}
 use Rattle.world.proofs.Placing.{zip_insert}
 use Rattle.world.proofs.Standing.{zip_at}
-use Rattle.world.proofs.Turned.{SameHead, turn_length, turn_was_clean, turn_at_rest, turn_leaves, turn_undone, turn_open_after, turn_done}
+use Rattle.world.proofs.Turned.{turn_length, turn_was_clean, turn_at_rest, turn_leaves, turn_undone, turn_open_after, turn_done}
 
 -- ---- one more among others
 
@@ -87,6 +90,42 @@ module _ {S : Type 0} (g : Ghosts S) where
       let reads : Reads f lent.parent (state g was.conn).now = subst (λ v. Reads v lent.parent (state g was.conn).now) (sym same) (read_at w count old due.at was lent.parent place lent.place opened are) in
       subst (λ v. Keeps v (loan due lent.taken) (state g child)) same (made lent.taken lent.parent lent.selected reads lent.part lent.come)
 
+  -- what reads as a child that is not of the world is beside it
+  pub is_beside : (w next : World) (due : Lending) (is : IsLent w next due) (trees : Trees) → LeftAs w.frame trees (new_package due.child (Some due.parent) due.depth due.receipt.seq) ⊎ LeftAs w.frame trees (loan due is.taken) → IsBeside w.frame w.packages trees
+  is_beside w next due is trees (inl empty) = record { other = new_package due.child (Some due.parent) due.depth due.receipt.seq; reads = empty; lent = refl; apart = is.apart }
+  is_beside w next due is trees (inr filled) = record { other = loan due is.taken; reads = filled; lent = refl; apart = is.apart }
+
+  pub none_beside : (f : Frame) (packages : List Package) → AreBeside g f packages []
+  none_beside f packages = All-from_recursion (λ h. HasCleanDisk (state g h) → (trees : Trees) → (state g h).may_leave trees → IsBeside f packages trees) [] tt
+
+  -- of a child that was made and not filled it leaves one of two
+  pub unfilled_leaves : {E : Type 0} {r : Result (Unit {0}) E} (f : Frame) (empty : Package) (s : Selection) (at : List ℕ) (db : Database) (source made : State) (child : Held S) → (HasCleanDisk made → Keeps f empty made)
+      → Turns {X = Unit {0}} {E = E} (λ _. FromClean source (Fills s at db)) made (state g child) r → LeavesChild g f empty s db source child
+  unfilled_leaves f empty s at db source made child keeps turns clean_source c from selected reads part come clean trees may =
+      let it : Keeps f empty made = keeps (omega (arith, turns.survives.clean, clean)) in
+      elim (turns.left clean it.holds.is_open trees may) [
+        | inl before ↦ inl (made.now, before, it.reads)
+        | inr after ↦ inr (after.1, after.3, (after.2 clean_source c f from empty selected reads part it.reads come).0)
+      ]
+
+  -- so what was dropped is beside the world
+  pub dropped_beside : (f : Frame) (w next : World) (count : ℕ) (due : Lending) (old : List (Member S)) (was : Member S) (source : State) → slice_get old due.at ≡ Some was → AllOpen g old → f ≡ w.frame → AreMembers g old count w → IsLent w next due → HasCleanDisk source
+      → (it : DropsUnfilled g f (new_package due.child (Some due.parent) due.depth due.receipt.seq) due.selection (state g was.conn).now source) → AreBeside g w.frame w.packages it.left_over
+  dropped_beside f w next count due old was source place opened same are is clean_source it =
+      All-from_recursion (λ h. HasCleanDisk (state g h) → (trees : Trees) → (state g h).may_leave trees → IsBeside w.frame w.packages trees) it.left_over (each it.left_over it.leaves)
+    where
+      reads : Reads f is.parent (state g was.conn).now
+      reads = subst (λ v. Reads v is.parent (state g was.conn).now) (sym same)
+          (read_at w count old due.at was is.parent place is.place (all-slice_get (λ (m : Member S). IsTrue (state g m.conn).is_open) old due.at was place (recursion_from_All (λ (m : Member S). IsTrue (state g m.conn).is_open) old opened)) are)
+
+      each : (hs : List (Held S)) → AllByRecursion (LeavesChild g f (new_package due.child (Some due.parent) due.depth due.receipt.seq) due.selection (state g was.conn).now source) hs
+          → AllByRecursion (λ h. HasCleanDisk (state g h) → (trees : Trees) → (state g h).may_leave trees → IsBeside w.frame w.packages trees) hs
+      each [] all = tt
+      each (h ∷ hs) all = (
+        (λ clean trees may. is_beside w next due is trees (subst (λ v. LeftAs v trees (new_package due.child (Some due.parent) due.depth due.receipt.seq) ⊎ LeftAs v trees (loan due is.taken)) same (all.0 clean_source is.taken is.parent is.selected reads is.part is.come clean trees may))),
+        each hs all.1,
+      )
+
 -- ---- the members
 
 module _ {S : Type 0} (g : Ghosts S) (shuts : Shuts g) (settles : Settles g) (due : Lending) (child : Held S) (old mid : List (Member S)) (strays : List (Held S)) (at_rest : AllRest g old) (child_rests : Rests (state g child)) where
@@ -95,6 +134,10 @@ module _ {S : Type 0} (g : Ghosts S) (shuts : Shuts g) (settles : Settles g) (du
 
   abbrev placed : List (Member S)
   placed = insert mid due.child_at own
+
+  -- what a crash leaves of the child is the loan
+  pub child_left : (w next : World) (is : IsLent w next due) → KeepsLoan g w next due is child → HasCleanDisk (state g child) → (trees : Trees) → (state g child).may_leave trees → LeftAs w.frame trees (loan due is.taken)
+  child_left w next is keeps clean trees may = (record { schema = (state g child).now.schema; trees = trees }, refl, (keeps clean).left trees may)
 
   -- a change that reads of the parent what is left of it
   reads_left : (w next : World) (is : IsLent w next due) (db db' : Database) → Reads w.frame is.parent db → Lends due.receipt due.selection db db' → Reads w.frame (lent due.receipt is.taken is.parent) db'
@@ -142,52 +185,34 @@ module _ {S : Type 0} (g : Ghosts S) (shuts : Shuts g) (settles : Settles g) (du
     }
 
   module _ (why : TurnFault) (it : TakesTurn g {E = TurnFault} (Lends due.receipt due.selection) due.left due.receipt.seq old mid due.at (Err why)) where
-    -- what a crash leaves of the child is the loan
-    child_left : (w next : World) (is : IsLent w next due) → KeepsLoan g w next due is child → HasCleanDisk (state g child) → (trees : Trees) → (state g child).may_leave trees → LeftAs w.frame trees (loan due is.taken)
-    child_left w next is keeps clean trees may = (record { schema = (state g child).now.schema; trees = trees }, refl, (keeps clean).left trees may)
-
-    -- one content for each of the members, and one for the child
-    parted : (ms : List (Member S)) (contents : List Trees) → MayBeLeft g (map (λ m. m.conn) ms ++ child ∷ []) contents → (dbs : List Trees) × (last : Trees) × (contents ≡ dbs ++ last ∷ []) × MayLeave g (λ m. m.conn) ms dbs × (state g child).may_leave last
-    parted [] [] may = absurd may
-    parted [] (t ∷ []) may = ([], t, refl, tt, may.0)
-    parted [] (t ∷ u ∷ rest) may = absurd may.1
-    parted (m ∷ ms) [] may = absurd may
-    parted (m ∷ ms) (t ∷ rest) may = let more = parted ms rest may.1 in (t ∷ more.0, more.1, ap (λ ts. t ∷ ts) more.2, (may.0, more.3), more.4)
-
-    clean_members : (ms : List (Member S)) → AllByRecursion (λ h. HasCleanDisk (state g h)) (map (λ (m : Member S). m.conn) ms ++ child ∷ []) → AllByRecursion (λ (m : Member S). HasCleanDisk (state g m.conn)) ms × HasCleanDisk (state g child)
-    clean_members [] all = (tt, all.0)
-    clean_members (m ∷ ms) all = let more = clean_members ms all.1 in ((all.0, more.0), more.1)
-
-    crashed : (w next : World) (count : ℕ) → AreMembers g old count w → (is : IsLent w next due) → KeepsLoan g w next due is child → AllOpen g old → LeavesOneOf g w.frame (map (λ m. m.conn) mid ++ child ∷ []) w.packages next.packages
-    crashed w next count are is keeps opened clean contents may =
-        let all = clean_members mid (recursion_from_All (λ h. HasCleanDisk (state g h)) (map (λ (m : Member S). m.conn) mid ++ child ∷ []) clean) in
-        let parts = parted mid contents may in
+    crashed : (w next : World) (count : ℕ) → AreMembers g old count w → (is : IsLent w next due) → KeepsLoan g w next due is child → AllOpen g old
+        → AreClean g (child ∷ map (λ m. m.conn) mid) → (contents : List Trees) → MayBeLeft g (child ∷ map (λ m. m.conn) mid) contents → StandsAmong w.frame w.packages contents ⊎ StandsAmong w.frame next.packages contents
+    crashed w next count are is keeps opened clean [] may = absurd may
+    crashed w next count are is keeps opened clean (last ∷ dbs) may =
+        let all = recursion_from_All (λ h. HasCleanDisk (state g h)) (child ∷ map (λ (m : Member S). m.conn) mid) clean in
         let each : EachLeaves g (λ m. m.conn) (LeftAs w.frame) old w.packages = each_leaves g shuts settles old count w at_rest opened are in
-        let left : LeftAs w.frame parts.1 (loan due is.taken) = child_left w next is keeps all.1 parts.1 parts.4 in
+        let left : LeftAs w.frame last (loan due is.taken) = child_left w next is keeps all.0 last may.0 in
         elim (turn_leaves g {E = TurnFault} (Lends due.receipt due.selection) due.left due.receipt.seq old mid due.at (Err why) it w.frame w.packages is.parent (lent due.receipt is.taken is.parent) each
-        (λ db lends. reads_left w next is (state g it.was.conn).now db (member_reads w count are is opened) lends) (All-from_recursion (λ (m : Member S). HasCleanDisk (state g m.conn)) mid all.0) parts.0 parts.3) [
+        (λ db lends. reads_left w next is (state g it.was.conn).now db (member_reads w count are is opened) lends) (held_clean g (child ∷ []) mid clean) dbs (members_left g mid dbs may.1)) [
           | inl before ↦ inl (record {
-            read = parts.0;
-            rest = parts.1 ∷ [];
-            all = subst (λ ts. IsPermutation ts (parts.0 ++ parts.1 ∷ [])) (sym parts.2) (IsPermutation-refl (parts.0 ++ parts.1 ∷ []));
+            read = dbs;
+            rest = last ∷ [];
+            all = IsPermutation-sym _ _ (IsPermutation-to_front dbs last);
             each = before;
             beside = (record { other = loan due is.taken; reads = left; lent = refl; apart = is.apart }, tt);
           })
           | inr after ↦ inr (record {
-            read = insert parts.0 due.child_at parts.1;
+            read = insert dbs due.child_at last;
             rest = [];
-            all = subst (λ ts. IsPermutation ts (insert parts.0 due.child_at parts.1 ++ [])) (sym parts.2) (moved parts.0 parts.1);
-            each = subst (λ ps. AllZip (LeftAs w.frame) (insert parts.0 due.child_at parts.1) ps) (sym is.packages)
-                (zip_insert (LeftAs w.frame) parts.0 (slice_set w.packages due.at (lent due.receipt is.taken is.parent)) due.child_at parts.1 (loan due is.taken) left after);
+            all = subst (IsPermutation (last ∷ dbs)) (sym (append-nil (insert dbs due.child_at last))) (IsPermutation-insert dbs due.child_at last);
+            each = subst (λ ps. AllZip (LeftAs w.frame) (insert dbs due.child_at last) ps) (sym is.packages)
+                (zip_insert (LeftAs w.frame) dbs (slice_set w.packages due.at (lent due.receipt is.taken is.parent)) due.child_at last (loan due is.taken) left after);
             beside = tt;
           })
         ]
       where
         member_reads : (w : World) (count : ℕ) → AreMembers g old count w → (is : IsLent w next due) → AllOpen g old → Reads w.frame is.parent (state g it.was.conn).now
         member_reads v n members is' open' = read_at g v n old due.at it.was is'.parent it.place is'.place (all-slice_get (λ (m : Member S). IsTrue (state g m.conn).is_open) old due.at it.was it.place (recursion_from_All (λ (m : Member S). IsTrue (state g m.conn).is_open) old open')) members
-
-        moved : (dbs : List Trees) (last : Trees) → IsPermutation (dbs ++ last ∷ []) (insert dbs due.child_at last ++ [])
-        moved dbs last = IsPermutation-trans _ _ _ (IsPermutation-to_front dbs last) (subst (IsPermutation (last ∷ dbs)) (sym (append-nil (insert dbs due.child_at last))) (IsPermutation-insert dbs due.child_at last))
 
     one_more_kept : (strays strays_after : List (Held S)) → strays_after ≡ strays ++ child ∷ [] → length strays_after ≤ length strays + 1
     one_more_kept strays strays_after is = let e : length strays_after ≡ length strays + 1 = ap length is ∙ length-append strays (child ∷ []) in omega (arith, e)

@@ -17,7 +17,8 @@ pub mod Placed
 pub mod Questions
 pub mod AskedOne
 pub mod Overfull
-pub mod Served
+pub mod ChangesMade
+pub mod HeldStores
 pub mod Keeping
 pub mod Beginning
 pub mod Running
@@ -34,7 +35,11 @@ mod Listing
 mod DueSplits
 mod DueMerges
 mod SplitReasons
+mod SplitDecided
+mod SplitLimits
+mod SplitAsked
 mod MergeReasons
+mod Things
 pub mod FirstInOrder
 mod DecidedMerges
 mod MergeLimits

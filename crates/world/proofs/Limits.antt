@@ -21,7 +21,7 @@ use Rattle.sheet_types.proofs.Basics.{or-false, bytes_eq_swap}
 use Rattle.sheet_types.proofs.Every.{All-weaker}
 use Rattle.ledger_laws.proofs.Packages.{at_uuid, each_found, receipts_gained, with_receipt_gains}
 use Rattle.world.specs.Carrying.{Meets, Fits, after_command}
-use Rattle.world.specs.Laws.{IsServed, package_of}
+use Rattle.world.specs.Laws.{ChangesOnePackage, package_of}
 use Rattle.world.specs.Steps.{TooManyBySums, TicketAfter, sums_moved, sums_after, sums_next, is_past_limits}
 use Rattle.world.proofs.Carrying.{carried_out_in_one, same_rest}
 use Rattle.world.proofs.Counting.{sums_after_command}
@@ -29,28 +29,28 @@ use Rattle.ledger_laws.proofs.Shifting.{numbers_below}
 
 -- ---- the receipts
 
--- the receipt of a served command is the last
-pub receipts_next : (w : World) (q : Request) → IsRegister w → IsServed q.command → is_live w (package_of q.command) ≡ true → receipts_of (accepted w q) ≡ receipts_of w ++ receipt_of w q ∷ []
-receipts_next w q register served live =
+-- the receipt of a command that changes one package is the last
+pub receipts_next : (w : World) (q : Request) → IsRegister w → ChangesOnePackage q.command → is_live w (package_of q.command) ≡ true → receipts_of (accepted w q) ≡ receipts_of w ++ receipt_of w q ∷ []
+receipts_next w q register one live =
     let r : Receipt = receipt_of w q in
-    ap receipts_of (carried_out_in_one w (receipt_of w q) q.command served)
+    ap receipts_of (carried_out_in_one w (receipt_of w q) q.command one)
     ∙ receipts_gained (after_command (receipt_of w q) q.command) w (package_of q.command) (receipt_of w q)
     (λ x below. ap (λ (y : Package). put receipt_key (receipt_of w q) y.receipts) (same_rest q.command x) ∙ with_receipt_gains (receipt_of w q) x below)
     (numbers_below w (length (receipts_of w) + 1) register.balanced.ledger refl) register.arranged live
 
 -- ---- the limits
 
--- a command that a package meets is served
-meets_served : (command : Command) (p : Package) → Meets command p → IsServed command
-meets_served (Add uuid identity content) p meets = tt
-meets_served (Delete uuid identity) p meets = tt
-meets_served (Link uuid mapping base other) p meets = tt
-meets_served (Unlink uuid mapping base other) p meets = tt
-meets_served (Split uuid child mode rect) p meets = meets
-meets_served (Merge child into ticket) p meets = meets
+-- a command that a package meets changes one package
+meets_one : (command : Command) (p : Package) → Meets command p → ChangesOnePackage command
+meets_one (Add uuid identity content) p meets = tt
+meets_one (Delete uuid identity) p meets = tt
+meets_one (Link uuid mapping base other) p meets = tt
+meets_one (Unlink uuid mapping base other) p meets = tt
+meets_one (Split uuid child mode rect) p meets = meets
+meets_one (Merge child into ticket) p meets = meets
 
 -- the packages that are overfull, by their sums
-overfull_by : (f : Package → Package) (g : Package → Sums) (ps : List Package) → AllByRecursion (λ x. sums_held (f x) ≡ g x) ps → list_any is_overfull (map f ps) ≡ list_any is_past_limits (map g ps)
+pub overfull_by : (f : Package → Package) (g : Package → Sums) (ps : List Package) → AllByRecursion (λ x. sums_held (f x) ≡ g x) ps → list_any is_overfull (map f ps) ≡ list_any is_past_limits (map g ps)
 overfull_by f g [] h = refl
 overfull_by f g (x ∷ ps) h = ap (λ s. is_past_limits s || list_any is_overfull (map f ps)) h.0 ∙ ap (λ b. is_past_limits (g x) || b) (overfull_by f g ps h.1)
 
@@ -75,7 +75,7 @@ module _ (w : World) (q : Request) (register : IsRegister w) (live : is_live w (
       ] refl
 
   number : length (receipts_of (accepted w q)) ≡ length (receipts_of w) + 1
-  number = ap length (receipts_next w q register (meets_served q.command (holdings w p) fits.meets) live) ∙ length-append (receipts_of w) (receipt_of w q ∷ [])
+  number = ap length (receipts_next w q register (meets_one q.command (holdings w p) fits.meets) live) ∙ length-append (receipts_of w) (receipt_of w q ∷ [])
 
   overfull : list_any is_overfull (changed after p w).packages ≡ list_any is_past_limits (sums_next w q)
   overfull = overfull_by (λ x. cond (bytes_eq x.uuid p) (after x) x) (λ x. cond (bytes_eq x.uuid p) (sums (sums_held x)) (sums_held x)) w.packages
@@ -85,7 +85,7 @@ module _ (w : World) (q : Request) (register : IsRegister w) (live : is_live w (
   count = length-map w.packages (λ x. cond (bytes_eq x.uuid p) (after x) x)
 
   is_carried : accepted w q ≡ changed after p w
-  is_carried = carried_out_in_one w (receipt_of w q) q.command (meets_served q.command (holdings w p) fits.meets)
+  is_carried = carried_out_in_one w (receipt_of w q) q.command (meets_one q.command (holdings w p) fits.meets)
 
   too_many_here : too_many (accepted w q) ≡ (list_any is_past_limits (sums_next w q) || nat_lt greatest_packages (length w.packages) || nat_lt greatest_receipts (length (receipts_of w) + 1))
   too_many_here =
@@ -112,22 +112,22 @@ ticket_below n p bound (r ∷ rs) h below =
     greater : (a b c : ℕ) → a < c → b < c → max a b < c
     greater a b c x y = omega arith
 
--- the receipt of a served command names its package alone
-names_its_own : (w : World) (id at : List ℕ) (command : Command) (p : List ℕ) → IsServed command → names_package p (receipt_of w (record { id = id; at = at; command = command })) ≡ bytes_eq p (package_of command)
-names_its_own w id at (Add uuid identity content) p served = bytes_eq_swap uuid p
-names_its_own w id at (Delete uuid identity) p served = or-false (bytes_eq uuid p) ∙ bytes_eq_swap uuid p
-names_its_own w id at (Link uuid mapping base other) p served = bytes_eq_swap uuid p
-names_its_own w id at (Unlink uuid mapping base other) p served = or-false (bytes_eq uuid p) ∙ bytes_eq_swap uuid p
-names_its_own w id at (Split uuid child mode rect) p served = absurd served
-names_its_own w id at (Merge child into ticket) p served = absurd served
+-- the receipt of a command that changes one package names its package alone
+names_its_own : (w : World) (id at : List ℕ) (command : Command) (p : List ℕ) → ChangesOnePackage command → names_package p (receipt_of w (record { id = id; at = at; command = command })) ≡ bytes_eq p (package_of command)
+names_its_own w id at (Add uuid identity content) p one = bytes_eq_swap uuid p
+names_its_own w id at (Delete uuid identity) p one = or-false (bytes_eq uuid p) ∙ bytes_eq_swap uuid p
+names_its_own w id at (Link uuid mapping base other) p one = bytes_eq_swap uuid p
+names_its_own w id at (Unlink uuid mapping base other) p one = or-false (bytes_eq uuid p) ∙ bytes_eq_swap uuid p
+names_its_own w id at (Split uuid child mode rect) p one = absurd one
+names_its_own w id at (Merge child into ticket) p one = absurd one
 
 pub greatest : (a b : ℕ) → a < b → max a b ≡ b
 greatest a b h = omega arith
 
 pub ticket_after : TicketAfter
-ticket_after w q id register served live =
+ticket_after w q id register one live =
     let n : ℕ = length (receipts_of w) + 1 in
-    ap (ticket_from 0 id) (receipts_next w q register served live)
+    ap (ticket_from 0 id) (receipts_next w q register one live)
     ∙ fold-append (λ m r. cond (names_package id r) (max m r.seq) m) 0 (receipts_of w) (receipt_of w q ∷ [])
-    ∙ ap (λ b. cond b (max (ticket w id) (length (receipts_of w) + 1)) (ticket w id)) (names_its_own w q.id q.at q.command id served)
+    ∙ ap (λ b. cond b (max (ticket w id) (length (receipts_of w) + 1)) (ticket w id)) (names_its_own w q.id q.at q.command id one)
     ∙ ap (λ m. cond (bytes_eq id (package_of q.command)) m (ticket w id)) (greatest (ticket w id) (length (receipts_of w) + 1) (ticket_below 0 id (length (receipts_of w) + 1) (receipts_of w) (omega arith) (numbers_below w (length (receipts_of w) + 1) register.balanced.ledger refl)))

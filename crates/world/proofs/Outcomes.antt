@@ -32,6 +32,6 @@ pub refused_outcome : RefusedOutcome
 refused_outcome w q why is refused = ap (λ k. outcome_by w q k (refuses w q)) (reply_of w q None is) ∙ ap (outcome_by w q None) refused
 
 pub accepted_outcome : AcceptedOutcome
-accepted_outcome w q served is none =
+accepted_outcome w q one is none =
     ap (λ k. outcome_by w q k (refuses w q)) (reply_of w q None is) ∙ ap (outcome_by w q None) none
-    ∙ ap (λ v. (Ok (receipt_of w q), v)) (carried_out_in_one w (receipt_of w q) q.command served)
+    ∙ ap (λ v. (Ok (receipt_of w q), v)) (carried_out_in_one w (receipt_of w q) q.command one)

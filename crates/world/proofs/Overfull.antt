@@ -143,7 +143,7 @@ too_many_uncounted w q register live fits texts cannot = uncounted w q.id q.at r
 
 module _ {S : Type 0} (g : Ghosts S) where
   -- the member at the place of a package is it
-  stands_for : (members : List (Member S)) (count at : ℕ) (w : World) (uuid : List ℕ) (was : Member S) → AreMembers g members count w → StandsAt g members uuid at → slice_get members at ≡ Some was → IsMember g w was (holdings w uuid)
+  pub stands_for : (members : List (Member S)) (count at : ℕ) (w : World) (uuid : List ℕ) (was : Member S) → AreMembers g members count w → StandsAt g members uuid at → slice_get members at ≡ Some was → IsMember g w was (holdings w uuid)
   stands_for members count at w uuid was are stands place =
       let here = zip_at (IsMember g w) members w.packages at was are.each place in
       let same : here.0 ≡ holdings w uuid = ap (λ o. unwrap_or o no_package) (sym here.1 ∙ stands.holds w count are) in

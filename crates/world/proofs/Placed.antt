@@ -19,7 +19,7 @@ use Rattle.world.proofs.Standing.{zip_at, zip_map}
 use Rattle.world.proofs.Asked.{take_one_more}
 
 -- tests that agree place by place
-any_zip : {X Y : Type 0} (R : X → Y → Type 0) (p : X → Bool) (q : Y → Bool) → ((x : X) (y : Y) → R x y → p x ≡ q y) → (xs : List X) (ys : List Y) → AllZip R xs ys → list_any p xs ≡ list_any q ys
+pub any_zip : {X Y : Type 0} (R : X → Y → Type 0) (p : X → Bool) (q : Y → Bool) → ((x : X) (y : Y) → R x y → p x ≡ q y) → (xs : List X) (ys : List Y) → AllZip R xs ys → list_any p xs ≡ list_any q ys
 any_zip R p q f xs ys zip = sym (any_map p (λ b. b) xs) ∙ ap (list_any (λ b. b)) (zip_map R p q f xs ys zip) ∙ any_map q (λ b. b) ys
 
 -- the first elements and one more

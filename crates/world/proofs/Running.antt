@@ -1,19 +1,28 @@
 -- A list of requests, carried out one after the other.
 use Rattle.std.specs.Prelude.{◌⊎◌, ◌≤◌, ℕ}
-use Rattle.std.proofs.Common.{inl, inr, arith, sym}
+use Rattle.std.proofs.Common.{inl, inr, arith, sym, subst}
 use Rattle.sqlite_disk.specs.Disk.{MoreFaults}
 use Rattle.world.specs.Leaving.{AreClean}
-use Rattle.world.proofs.Keeping.{left_clean, right_clean}
+use Rattle.world.proofs.HeldStores.{left_clean, right_clean}
 use Rattle.std.proofs.Common.{◌≡◌, ◌∙◌, refl, true, false, List, [], ◌∷◌, ◌++◌, Result, Err}
 use Rattle.sqlite.specs.Store.{Ghosts}
-use Rattle.sheet_types.specs.Step.{IsFault}
+use Rattle.sheet_types.specs.Register.{IsRegister}
+use Rattle.sheet_types.specs.Step.{IsFault, Step}
+use Rattle.sheet_types.specs.World.{World}
 use Rattle.sheet_types.specs.declared.command.Request.{Request}
 use Rattle.sheet_types.specs.declared.receipt.Receipt.{Receipt}
 use Rattle.sheet_types.specs.declared.refusal.Refusal.{Refusal}
 use Rattle.sheet_types.specs.declared.refusal.Refusal.TheVariants.{StoreFault}
 use Rattle.sheet_types.proofs.Every.{All-left, All-right, All-snoc}
 use Rattle.ledger_laws.proofs.Running.{run_of_both}
-use Rattle.world.specs.Worlds.{Seen, IsStep, IsRun}
+use Rattle.world.specs.Worlds.{Seen, IsStep, IsRun, RunsOverRegisters}
+
+-- a run over registers goes on by a step that leaves one
+pub one_step_more : (w mid next : World) (qs : List Request) (replies : List (Result Receipt Refusal)) (q : Request) (reply : Result Receipt Refusal) → RunsOverRegisters w qs replies mid → Step mid q reply next → IsRegister next → RunsOverRegisters w (qs ++ q ∷ []) (replies ++ reply ∷ []) next
+one_step_more w mid next [] [] q reply ran step register = (ran.1, (next, subst (λ v. Step v q reply next) ran.0 step, (refl, register)))
+one_step_more w mid next [] (r ∷ replies) q reply ran step register = absurd ran
+one_step_more w mid next (p ∷ qs) [] q reply ran step register = absurd ran
+one_step_more w mid next (p ∷ qs) (r ∷ replies) q reply ran step register = (ran.0, (ran.1.0, ran.1.1, one_step_more ran.1.0 mid next qs replies q reply ran.1.2 step register))
 
 module _ {S : Type 0} (g : Ghosts S) where
   -- what the contract of `apply` says of one request
@@ -26,7 +35,7 @@ module _ {S : Type 0} (g : Ghosts S) where
 
   -- no request yet
   pub run_none : (seen : Seen S) (n : ℕ) → IsRun g [] seen [] seen n n
-  run_none seen n = record { gone = []; clean = λ clean gone. clean; run = λ clean gone w stands. (w, refl, stands); opens = λ clean gone sound opened. opened; told = λ usable none. tt; usable = λ sound. refl; shelf = omega arith }
+  run_none seen n = record { gone = []; clean = λ clean gone. clean; run = λ clean gone w stands. (w, refl, stands); registers = λ clean gone w stands. (w, (refl, stands.members.register), stands); opens = λ clean gone sound opened. opened; told = λ usable none. tt; usable = λ sound. refl; shelf = omega arith }
 
   -- a world that can be used could be used before
   was_usable : (q : Request) (old new : Seen S) (reply : Result Receipt Refusal) (before after : ℕ) → IsApplied q old reply new before after → new.has_failed ≡ false → old.has_failed ≡ false
@@ -43,6 +52,10 @@ module _ {S : Type 0} (g : Ghosts S) where
         let was = first.run (next.step.clean clean (mine gone)) (theirs gone) w stands in
         let is = next.step.step clean (mine gone) was.0 was.2 in
         (is.0, (run_of_both w qs (q ∷ []) (replies ++ reply ∷ []) is.0).1 (was.0, replies, reply ∷ [], refl, was.1, (is.0, is.1, refl)), is.2);
+    registers = λ clean gone w stands.
+        let was = first.registers (next.step.clean clean (mine gone)) (theirs gone) w stands in
+        let is = next.step.step clean (mine gone) was.0 was.2 in
+        (is.0, one_step_more w was.0 is.0 qs replies q reply was.1 is.1 (next.step.register is.0 is.2), is.2);
     opens = λ clean gone sound opened.
         next.step.opens clean (mine gone) (All-right (λ r. ¬ IsFault r) replies (reply ∷ []) sound).0 (first.opens (next.step.clean clean (mine gone)) (theirs gone) (All-left (λ r. ¬ IsFault r) replies (reply ∷ []) sound) opened);
     told = λ usable none.

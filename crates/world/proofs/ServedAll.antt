@@ -1,12 +1,11 @@
 -- What serving a request says in each of the ways in which it ends, for all commands.
-use Rattle.std.specs.Prelude.{◌≡◌, ◌⊎◌, ◌≤◌, ℕ, ◌+◌, List, [], ◌∷◌, ◌++◌, map, refl, Result, Ok, Err, IsErr, IfOk}
+use Rattle.std.specs.Prelude.{◌≡◌, ◌≤◌, ℕ, ◌+◌, List, [], ◌++◌, map, refl, Result, Ok, Err}
 use Rattle.std.proofs.Common.{sym, ap, subst, ◌∙◌, inl, inr}
-use Rattle.std.specs.List.{AllByRecursion, AllZip}
+use Rattle.std.specs.List.{AllByRecursion}
 use Rattle.std.proofs.lemmas.List.{append-nil}
 use Rattle.std.proofs.lemmas.List.Elements.{All-from_recursion}
 use Rattle.std.proofs.lemmas.List.Sorted.{IsPermutation-refl}
 use Rattle.std.specs.List.Sorted.{IsPermutation}
-use Rattle.sqlite.specs.Tree.{Trees}
 use Rattle.sqlite.specs.Store.{Ghosts}
 use Rattle.sqlite.specs.Held.{Held, state}
 use Rattle.sqlite.specs.State.{HasCleanDisk}
@@ -22,13 +21,13 @@ use Rattle.sql_meaning.specs.Transactions.{Rests}
 use Rattle.sql_meaning.specs.Stores.{LeavesEither}
 use Rattle.sql_meaning.proofs.Transactions.{Shuts, Settles}
 use Rattle.world.specs.Asking.{AsksAll}
-use Rattle.world.specs.Carries.{Carries, ServesAll, IsServedAs, IsBeforeCommit, IsUntouched}
+use Rattle.world.specs.Carries.{Carries, ServesAll, IsBeforeCommit}
 use Rattle.world.specs.Deciding.{IsOf, Decides}
-use Rattle.world.specs.Leaving.{IsBeside, AreAtRest, AreClean, AreBeside, LeavesOneOf}
+use Rattle.world.specs.Leaving.{AreAtRest, AreClean, AreBeside, LeavesOneOf}
 use Rattle.world.specs.Members.{AllRest, AllClean, AllOpen, AreMembers}
 use Rattle.world.specs.ServeFaults.{IsLastingFault, CountsShelf}
-use Rattle.world.specs.Serving.{Changes, IsUncommitted}
-use Rattle.world.specs.Turning.{IsDue, LeftAs, LeavesAsBefore, world_after}
+use Rattle.world.specs.Changes.{Changes, IsUncommitted}
+use Rattle.world.specs.Turning.{IsDue, LeftAs, world_after}
 use Rattle.lending.specs.declared.turn_fault.TurnFault.{TurnFault}
 use Rattle.lending.specs.declared.turn_fault.TurnFault.TheVariants.{Before, Committing}
 use Rattle.world.specs.declared.deciding.Change.{Change}
@@ -40,7 +39,9 @@ use Rattle.world.specs.Loans.{IsLent, IsReturned}
 use Rattle.world.specs.declared.loans.ServeFault.{ServeFault}
 use Rattle.world.specs.declared.loans.ServeFault.TheVariants.{Unshelved, Turn}
 use Rattle.world.specs.declared.members.Member.{Member}
-use Rattle.world.proofs.CarriedOut.{held_clean, members_left, leaves_before}
+use Rattle.world.proofs.CarriedOut.{leaves_before}
+use Rattle.world.proofs.HeldStores.{held_clean, members_left}
+use Rattle.world.proofs.Lent.{none_beside}
 use Rattle.world.proofs.Changing.{stay_leaves}
 use Rattle.world.proofs.Standing.{members_stay, clean_before}
 
@@ -56,6 +57,8 @@ module _ {S : Type 0} (g : Ghosts S) (shuts : Shuts g) (settles : Settles g) whe
         let done = it.ok receipt refl in
         record {
           gone = [];
+          left_over = [];
+          beside_before = λ clean gone w next are is_due was. none_beside g w.frame w.packages;
           rests = it.rests;
           stray_rests = All-from_recursion (λ h. Rests (state g h)) [] tt;
           clean = λ clean gone. it.clean clean;
@@ -66,7 +69,7 @@ module _ {S : Type 0} (g : Ghosts S) (shuts : Shuts g) (settles : Settles g) whe
             λ w next clean gone are is_due. subst (AreMembers g new after) (sym is_due.0) (subst (λ n. AreMembers g new n (world_after change.receipt command w)) (sym done.1) (done.2 w are is_due.1)),
           );
           opens = λ clean gone. it.opens clean;
-          beside = λ x is w next are is_due was. All-from_recursion (λ h. HasCleanDisk (state g h) → (trees : Trees) → (state g h).may_leave trees → IsBeside w.frame next.packages trees) [] tt;
+          beside = λ x is w next are is_due was. none_beside g w.frame next.packages;
           kept = λ why is. absurd (let e = is in cc);
           err = λ why is. absurd (let e = is in cc);
           usable = λ why is. absurd (let e = is in cc);
@@ -75,9 +78,9 @@ module _ {S : Type 0} (g : Ghosts S) (shuts : Shuts g) (settles : Settles g) whe
         }
 
     -- one of two worlds, of the members alone
-    either : (w : World) (after : List Package) → LeavesEither g (λ m. m.conn) (LeftAs w.frame) new w.packages after → LeavesOneOf g w.frame (map (λ m. m.conn) new ++ []) w.packages after
+    either : (w : World) (after : List Package) → LeavesEither g (λ m. m.conn) (LeftAs w.frame) new w.packages after → LeavesOneOf g w.frame (map (λ m. m.conn) new) w.packages after
     either w after leaves clean contents may =
-        elim (leaves (held_clean g new [] clean) contents (members_left g new contents may)) [
+        elim (leaves (held_clean g [] new clean) contents (members_left g new contents may)) [
           | inl each ↦ inl (record { read = contents; rest = []; all = subst (IsPermutation contents) (sym (append-nil contents)) (IsPermutation-refl contents); each = each; beside = tt })
           | inr each ↦ inr (record { read = contents; rest = []; all = subst (IsPermutation contents) (sym (append-nil contents)) (IsPermutation-refl contents); each = each; beside = tt })
         ]
@@ -87,6 +90,8 @@ module _ {S : Type 0} (g : Ghosts S) (shuts : Shuts g) (settles : Settles g) whe
         let failed = it.err why refl in
         record {
           gone = [];
+          left_over = [];
+          beside_before = λ clean gone w next are is_due was. none_beside g w.frame w.packages;
           rests = it.rests;
           stray_rests = All-from_recursion (λ h. Rests (state g h)) [] tt;
           clean = λ clean gone. it.clean clean;
@@ -97,7 +102,7 @@ module _ {S : Type 0} (g : Ghosts S) (shuts : Shuts g) (settles : Settles g) whe
           err = λ other is. failed;
           usable = λ other is usable. refl;
           unharmed = λ other is early. it.unharmed (elim why as (λ t. IsBeforeCommit (Turn t) → IsUncommitted {X = Receipt} (Err t)) [ Before y ↦ λ e. tt | Committing y ↦ λ e. absurd e ] (subst IsBeforeCommit (let same : other ≡ Turn why = cc in same) early));
-          crash = λ other is w next are is_due was. subst (λ v. LeavesOneOf g w.frame (map (λ m. m.conn) new ++ []) w.packages v.packages) (sym is_due.0) (either w (world_after change.receipt command w).packages (it.crash w are is_due.1 was));
+          crash = λ other is w next are is_due was. subst (λ v. LeavesOneOf g w.frame (map (λ m. m.conn) new) w.packages v.packages) (sym is_due.0) (either w (world_after change.receipt command w).packages (it.crash w are is_due.1 was));
         }
 
   none_rest : (strays : List (Held S)) → strays ≡ [] → AreAtRest g strays
@@ -121,6 +126,8 @@ module _ {S : Type 0} (g : Ghosts S) (shuts : Shuts g) (settles : Settles g) whe
     pub all_undecided : (strays : List (Held S)) (why : ServeFault) → strays ≡ [] → IsBeforeCommit why → ServesAll g f q old mid strays before before (Err why)
     all_undecided strays why none early = record {
       gone = [];
+      left_over = [];
+      beside_before = λ clean gone w same are was. none_beside g w.frame w.packages;
       rests = it.rests;
       stray_rests = none_rest strays none;
       counted = low;
@@ -140,6 +147,8 @@ module _ {S : Type 0} (g : Ghosts S) (shuts : Shuts g) (settles : Settles g) whe
     pub all_answered : (strays : List (Held S)) (answer : Result Receipt Refusal) → strays ≡ [] → r ≡ Ok (Answered answer) → ServesAll g f q old mid strays before before (Ok answer)
     all_answered strays answer none is = record {
       gone = [];
+      left_over = [];
+      beside_before = λ clean gone w same are was. none_beside g w.frame w.packages;
       rests = it.rests;
       stray_rests = none_rest strays none;
       counted = low;
@@ -148,7 +157,7 @@ module _ {S : Type 0} (g : Ghosts S) (shuts : Shuts g) (settles : Settles g) whe
           let answered : answer ≡ reply = cc in
           (w, decided (Answered answer) is clean w same are ∙ ap (λ x. (x, w)) answered, refl, members_stay g old mid before w it.stay are);
       opens = λ clean gone. decided_opens (Answered answer) is clean;
-      beside = λ clean gone reply is' w same are was. All-from_recursion (λ h. HasCleanDisk (state g h) → (trees : Trees) → (state g h).may_leave trees → IsBeside w.frame (outcome w q).1.packages trees) [] tt;
+      beside = λ clean gone reply is' w same are was. none_beside g w.frame (outcome w q).1.packages;
       refused = λ why is' w are. members_stay g old mid before w it.stay are;
       failed = λ why is'. absurd (let e = is' in cc);
       none = λ reply is'. none;
@@ -165,6 +174,10 @@ module _ {S : Type 0} (g : Ghosts S) (shuts : Shuts g) (settles : Settles g) whe
           let done = made.ok receipt refl in
           record {
             gone = made.gone;
+            left_over = made.left_over;
+            beside_before = λ clean gone w same are was.
+                let x = so (made.clean clean gone) w same are in
+                made.beside_before clean gone w x.0 (members_stay g old mid before w it.stay are) x.3 (decided_opens decision is (made.clean clean gone) was);
             rests = made.rests;
             stray_rests = made.stray_rests;
             counted = rw done.1 bounded;
@@ -189,6 +202,10 @@ module _ {S : Type 0} (g : Ghosts S) (shuts : Shuts g) (settles : Settles g) whe
       pub all_failed : (why : ServeFault) → Carries g Due due mid new strays before after (Err why) → ServesAll g f q old new strays before after (Err why)
       all_failed why made = record {
         gone = made.gone;
+        left_over = made.left_over;
+        beside_before = λ clean gone w same are was.
+            let x = so (made.clean clean gone) w same are in
+            made.beside_before clean gone w x.0 (members_stay g old mid before w it.stay are) x.3 (decided_opens decision is (made.clean clean gone) was);
         rests = made.rests;
         stray_rests = made.stray_rests;
         counted = rw (made.err why refl).0 low;
@@ -202,9 +219,9 @@ module _ {S : Type 0} (g : Ghosts S) (shuts : Shuts g) (settles : Settles g) whe
         usable = λ other is' usable. made.usable why refl (λ lasting. usable (subst IsLastingFault (let same : why ≡ other = cc in same) lasting));
         unharmed = λ untouched clean w count are was. made.unharmed why refl untouched clean w count (members_stay g old mid count w it.stay are) (decided_opens decision is (was_clean clean) was);
         crash = λ other is' w same are was clean contents may.
-            let disks : AllClean g mid = was_clean (held_clean g new strays clean) in
+            let disks : AllClean g mid = was_clean (held_clean g strays new clean) in
             let x = so disks w same are in
-            subst (λ v. LeavesOneOf g w.frame (map (λ m. m.conn) new ++ strays) w.packages v.packages) (sym (ap (λ o. o.1) x.1)) (made.crash why refl w x.0 (members_stay g old mid before w it.stay are) x.3 (decided_opens decision is disks was)) clean contents may;
+            subst (λ v. LeavesOneOf g w.frame (strays ++ map (λ m. m.conn) new) w.packages v.packages) (sym (ap (λ o. o.1) x.1)) (made.crash why refl w x.0 (members_stay g old mid before w it.stay are) x.3 (decided_opens decision is disks was)) clean contents may;
       }
         where
           was_clean : AllClean g new → AllClean g mid

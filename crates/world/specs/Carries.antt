@@ -1,5 +1,5 @@
 -- What carrying out what is due makes of the members of a world that can be used, and what serving a request does. Profile.
-use Rattle.std.specs.Prelude.{◌≡◌, ◌≤◌, ℕ, ◌+◌, List, [], ◌++◌, map, length, Result, Ok, Err, IfOk, IsErr}
+use Rattle.std.specs.Prelude.{◌≡◌, ◌≤◌, ℕ, ◌+◌, List, [], ◌++◌, map, Result, Ok, Err, IfOk, IsErr}
 use Rattle.sqlite.specs.Held.{Held}
 use Rattle.sqlite.specs.Store.{Ghosts}
 use Rattle.sheet_types.specs.Refuse.{greatest_receipts}
@@ -34,6 +34,8 @@ module _ {S : Type 0} (g : Ghosts S) where
   pub record Carries (Due : World → World → Type 0) (due : Receipt) (old new : List (Member S)) (strays : List (Held S)) (before after : ℕ) (r : Result Receipt ServeFault) : Type 0 where
     -- the last states of the connections that were dropped
     pub gone : List (Held S)
+    -- those of children that were dropped before they were of the world; a store in which no child came to be made is not among them
+    pub left_over : List (Held S)
     pub rests : AllRest g new
     pub stray_rests : AreAtRest g strays
     pub clean : AllClean g new → AreClean g gone → AllClean g old
@@ -41,20 +43,23 @@ module _ {S : Type 0} (g : Ghosts S) where
         × ((w next : World) → AllClean g new → AreClean g gone → AreMembers g old before w → Due w next → AreMembers g new after next)
     pub opens : AllClean g new → AreClean g gone → IfOk r (λ receipt. AllOpen g old → AllOpen g new)
     pub beside : (receipt : Receipt) → r ≡ Ok receipt → (w next : World) → AreMembers g old before w → Due w next → AllOpen g old → AreBeside g w.frame next.packages gone
+    pub beside_before : AllClean g new → AreClean g gone → (w next : World) → AreMembers g old before w → Due w next → AllOpen g old → AreBeside g w.frame w.packages left_over
     pub kept : (why : ServeFault) → r ≡ Err why → gone ≡ []
     pub err : (why : ServeFault) → r ≡ Err why → (after ≡ before) × ((w : World) → AreMembers g old before w → AreMembers g new before w)
     pub usable : (why : ServeFault) → r ≡ Err why → ¬ IsLastingFault why → strays ≡ []
     pub unharmed : (why : ServeFault) → r ≡ Err why → IsBeforeCommit why → LeavesAsBefore g old new
-    pub crash : (why : ServeFault) → r ≡ Err why → (w next : World) → AreMembers g old before w → Due w next → AllOpen g old → LeavesOneOf g w.frame (map (λ m. m.conn) new ++ strays) w.packages next.packages
+    pub crash : (why : ServeFault) → r ≡ Err why → (w next : World) → AreMembers g old before w → Due w next → AllOpen g old → LeavesOneOf g w.frame (strays ++ map (λ m. m.conn) new) w.packages next.packages
 
   -- The reply, and what the members stand for afterwards, are those of the model.
   abbrev pub IsServedAs : World → Request → List (Member S) → ℕ → Result Receipt Refusal → Type 0
   IsServedAs w q new after reply = (next : World) × (outcome w q ≡ (reply, next)) × (next.frame ≡ w.frame) × AreMembers g new after next
 
-  -- One request was served in a world that can be used. Where each disk has given back what was written, it was served as the model says; and unless the reply is a receipt the members stand for what they stood for.
+  -- One request was dealt with in a world that can be used. Where each disk has given back what was written, as the model says; and unless the reply is a receipt the members stand for what they stood for.
   pub record ServesAll (f : Frame) (q : Request) (old new : List (Member S)) (strays : List (Held S)) (before after : ℕ) (r : Result (Result Receipt Refusal) ServeFault) : Type 0 where
     -- the last states of the connections that were dropped
     pub gone : List (Held S)
+    -- those of children that were dropped before they were of the world
+    pub left_over : List (Held S)
     pub rests : AllRest g new
     pub stray_rests : AreAtRest g strays
     pub counted : after ≤ greatest_receipts
@@ -63,10 +68,12 @@ module _ {S : Type 0} (g : Ghosts S) where
     pub opens : AllClean g new → AreClean g gone → IfOk r (λ reply. AllOpen g old → AllOpen g new)
     -- what a crash leaves of a merged child is beside the world after
     pub beside : AllClean g new → AreClean g gone → (reply : Result Receipt Refusal) → r ≡ Ok reply → (w : World) → f ≡ w.frame → AreMembers g old before w → AllOpen g old → AreBeside g w.frame (outcome w q).1.packages gone
+    -- and that of a child that was dropped is beside the world before
+    pub beside_before : AllClean g new → AreClean g gone → (w : World) → f ≡ w.frame → AreMembers g old before w → AllOpen g old → AreBeside g w.frame w.packages left_over
     pub refused : (why : Refusal) → r ≡ Ok (Err why) → (w : World) → AreMembers g old before w → AreMembers g new after w
     pub failed : (why : ServeFault) → r ≡ Err why → (w : World) → AreMembers g old before w → AreMembers g new after w
     pub none : (reply : Result Receipt Refusal) → r ≡ Ok reply → strays ≡ []
     pub usable : (why : ServeFault) → r ≡ Err why → ¬ IsLastingFault why → strays ≡ []
     pub unharmed : IsUntouched r → LeavesAsBefore g old new
     -- After a fault, whatever a crash leaves of stores that were open reads as the world before or as the one that the request is to make, whole, and what else is held is beside it.
-    pub crash : (why : ServeFault) → r ≡ Err why → (w : World) → f ≡ w.frame → AreMembers g old before w → AllOpen g old → LeavesOneOf g w.frame (map (λ m. m.conn) new ++ strays) w.packages (outcome w q).1.packages
+    pub crash : (why : ServeFault) → r ≡ Err why → (w : World) → f ≡ w.frame → AreMembers g old before w → AllOpen g old → LeavesOneOf g w.frame (strays ++ map (λ m. m.conn) new) w.packages (outcome w q).1.packages

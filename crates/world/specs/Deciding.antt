@@ -11,7 +11,7 @@ use Rattle.sheet_types.specs.declared.command.Request.{Request}
 use Rattle.sheet_types.specs.declared.frame.Frame.{Frame}
 use Rattle.sheet_types.specs.declared.refusal.Refusal.{Refusal}
 use Rattle.sheet_types.specs.declared.refusal.Refusal.TheVariants.{IdentityUsed}
-use Rattle.world.specs.Laws.{IsServed, package_of}
+use Rattle.world.specs.Laws.{ChangesOnePackage, package_of}
 use Rattle.world.specs.Loans.{IsLent, IsReturned, HasLendingPlace, HasReturnPlace}
 use Rattle.world.specs.Reasons.{text_reasons, package_reasons}
 use Rattle.world.specs.Turning.{IsDue, world_after}
@@ -29,11 +29,11 @@ pub record IsNewTo (f : Frame) (count : ℕ) (q : Request) (w : World) : Type 0 
   pub of_world : IsOf f count w
   pub new : kept w q.id ≡ None
 
--- The frame and the number of receipts are those of the world, and the request is one that is served.
+-- The frame and the number of receipts are those of the world, and the request is to change one package.
 pub record IsAskedOf (f : Frame) (count : ℕ) (q : Request) (w : World) : Type 0 where
   pub frame : f ≡ w.frame
   pub counted : count ≡ length (receipts_of w)
-  pub served : IsServed q.command
+  pub one : ChangesOnePackage q.command
 
 -- a new request, whose package stands at this place
 pub record IsPlaced (f : Frame) (count at : ℕ) (q : Request) (w : World) : Type 0 where

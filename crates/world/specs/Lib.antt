@@ -10,7 +10,8 @@ pub mod Steps
 pub mod Asking
 pub mod TooMany
 pub mod Deciding
-pub mod Serving
+pub mod Changes
+pub mod DecidingSplits
 pub mod Worlds
 pub mod Creating
 pub mod Reading

@@ -7,7 +7,7 @@ use Rattle.sheet_types.specs.declared.receipt.Receipt.{Receipt}
 use Rattle.world.specs.Leaving.{AreClean, AreBeside, LeavesOneOf}
 use Rattle.world.specs.Loans.{IsReturned}
 use Rattle.world.specs.Members.{AllRest, AllClean, AllOpen, AreMembers}
-use Rattle.world.specs.Serving.{IsUncommitted}
+use Rattle.world.specs.Changes.{IsUncommitted}
 use Rattle.world.specs.Turning.{LeavesAsBefore}
 use Rattle.lending.specs.declared.turn_fault.TurnFault.{TurnFault}
 use Rattle.world.specs.declared.loans.Returning.{Returning}

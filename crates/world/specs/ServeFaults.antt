@@ -1,4 +1,4 @@
--- How a request ends that was not served, and what is asked of a shelf. Profile.
+-- How a request ends that was neither answered nor carried out, and what is asked of a shelf. Profile.
 use Rattle.std.specs.Prelude.{◌≡◌, ◌≢◌, ◌≤◌, ℕ, Result, Ok, Err}
 use Rattle.sqlite_disk.specs.Disk.{MoreFaults}
 use Rattle.sheet_types.specs.declared.refusal.Refusal.{Refusal}

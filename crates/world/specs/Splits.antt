@@ -1,17 +1,26 @@
 -- What a split makes of the members of a world, once the store of the child is there. Profile.
-use Rattle.std.specs.Prelude.{◌≡◌, ◌≤◌, ℕ, ◌+◌, List, [], ◌∷◌, ◌++◌, map, length, Some, Result, Ok, Err, IfOk, IsTrue, ◌≢◌}
+use Rattle.std.specs.Prelude.{◌≡◌, ◌⊎◌, ◌≤◌, ℕ, ◌+◌, List, [], ◌∷◌, ◌++◌, map, length, Some, Result, Ok, Err, IfOk, IsTrue, ◌≢◌}
 use Rattle.sqlite.specs.Held.{Held, state}
-use Rattle.sqlite.specs.State.{HasCleanDisk}
+use Rattle.std.specs.List.{AllByRecursion}
+use Rattle.sqlite.specs.Effect.{Database}
+use Rattle.sqlite.specs.State.{State, HasCleanDisk}
+use Rattle.sqlite.specs.Tree.{Trees}
 use Rattle.sqlite.specs.Store.{Ghosts}
-use Rattle.sheet_types.specs.World.{World}
+use Rattle.sheet_types.specs.Cut.{Cut}
+use Rattle.sheet_types.specs.World.{World, Package}
+use Rattle.sheet_types.specs.declared.frame.Frame.{Frame}
 use Rattle.sheet_types.specs.declared.receipt.Receipt.{Receipt}
 use Rattle.identity_register.specs.Creation.{Keeps}
+use Rattle.identity_register.specs.Reads.{Reads}
+use Rattle.identity_register.specs.declared.selection.Selection.{Selection}
+use Rattle.lending.specs.Selecting.{IsSelectionOf, IsPart, MayCome}
+use Rattle.transfer.specs.Parcels.{with_cut}
 use Rattle.package_tables.specs.declared.fault.Fault.TheVariants as fault
-use Rattle.world.specs.Leaving.{AreAtRest, LeavesOneOf}
+use Rattle.world.specs.Leaving.{AreBeside, LeavesOneOf}
 use Rattle.world.specs.Loans.{IsLent, loan}
 use Rattle.world.specs.Members.{AllRest, AllClean, AllOpen, AreMembers}
-use Rattle.world.specs.Serving.{IsUncommitted}
-use Rattle.world.specs.Turning.{LeavesAsBefore}
+use Rattle.world.specs.Changes.{IsUncommitted}
+use Rattle.world.specs.Turning.{LeftAs, LeavesAsBefore}
 use Rattle.lending.specs.declared.turn_fault.TurnFault.{TurnFault}
 use Rattle.lending.specs.declared.turn_fault.TurnFault.TheVariants.{Before}
 use Rattle.world.specs.declared.loans.Lending.{Lending}
@@ -25,6 +34,21 @@ module _ {S : Type 0} (g : Ghosts S) where
   -- the store of the child keeps the loan, where its disk has given back what was written
   abbrev pub KeepsLoan : (w next : World) (due : Lending) → IsLent w next due → Held S → Type 0
   KeepsLoan w next due lent child = HasCleanDisk (state g child) → Keeps w.frame (loan due lent.taken) (state g child)
+
+  -- What a crash leaves of the store in which the child was made is the child with nothing in it, or with what was selected of its parent.
+  abbrev pub LeavesChild : Frame → Package → Selection → Database → State → Held S → Type 0
+  LeavesChild f empty s source read child = HasCleanDisk read → (c : Cut) (from : Package) → IsSelectionOf c s → Reads f from source → IsPart c from → MayCome c empty
+      → HasCleanDisk (state g child) → (trees : Trees) → (state g child).may_leave trees → LeftAs f trees empty ⊎ LeftAs f trees (with_cut c empty)
+
+  -- The store in which the child was made was dropped, if one was made. The parent read as what this database holds.
+  pub record DropsUnfilled (f : Frame) (empty : Package) (s : Selection) (source : Database) (read : State) : Type 0 where
+    pub left_over : List (Held S)
+    pub leaves : AllByRecursion (LeavesChild f empty s source read) left_over
+
+  -- So what a crash leaves of it is beside the world, which the split has not changed.
+  pub record DropsChild (f : Frame) (due : Lending) (old new : List (Member S)) : Type 0 where
+    pub left_over : List (Held S)
+    pub beside : AllClean g new → (w next : World) (count : ℕ) → f ≡ w.frame → AreMembers g old count w → IsLent w next due → AllOpen g old → AreBeside g w.frame w.packages left_over
 
   -- The parent lent and the child stands at its place; or the parent is as it was, and where that may not be told or its store failed the child's store is kept among the strays.
   pub record Splits (due : Lending) (child : Held S) (old new : List (Member S)) (strays_before strays_after : List (Held S)) (r : Result Receipt TurnFault) : Type 0 where
@@ -40,4 +64,4 @@ module _ {S : Type 0} (g : Ghosts S) where
     pub unharmed : IsUncommitted r → LeavesAsBefore g old new
     -- After an error, whatever a crash leaves of the members and the child reads as the world before, with the child beside it, or as the one after.
     pub crash : (why : TurnFault) → r ≡ Err why → (w next : World) (count : ℕ) → AreMembers g old count w → (lent : IsLent w next due) → KeepsLoan w next due lent child → AllOpen g old
-        → LeavesOneOf g w.frame (map (λ m. m.conn) new ++ child ∷ []) w.packages next.packages
+        → LeavesOneOf g w.frame (child ∷ map (λ m. m.conn) new) w.packages next.packages

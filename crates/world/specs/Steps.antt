@@ -21,7 +21,7 @@ use Rattle.sheet_types.specs.declared.receipt.Sums.{Sums}
 use Rattle.sheet_types.specs.declared.refusal.Refusal.{Refusal}
 use Rattle.sheet_types.specs.declared.refusal.Refusal.TheVariants.{IdReused, UnknownPackage, IdentityUsed, TooMany}
 use Rattle.world.specs.Carrying.{Fits, after_command}
-use Rattle.world.specs.Laws.{IsServed, package_of}
+use Rattle.world.specs.Laws.{ChangesOnePackage, package_of}
 use Rattle.world.specs.Reasons.{text_reasons, package_reasons}
 
 -- ---- what an addition moves
@@ -46,23 +46,23 @@ pub record NothingAgainst (w : World) (q : Request) : Type 0 where
 
 -- The receipt of such a request is new to its package, which is as the command's change needs it. The identity of the request and the values of its command are those of their types.
 abbrev pub FitsWhereAccepted : Type 0
-FitsWhereAccepted = (w : World) (q : Request) → IsRegister w → IsUuid q.id → HasTypes q.command → IsServed q.command → NothingAgainst w q → Fits (receipt_of w q) q.command (holdings w (package_of q.command))
+FitsWhereAccepted = (w : World) (q : Request) → IsRegister w → IsUuid q.id → HasTypes q.command → ChangesOnePackage q.command → NothingAgainst w q → Fits (receipt_of w q) q.command (holdings w (package_of q.command))
 
--- A served request that is new and not refused is such a request.
+-- A request to change one package that is new and not refused is such a request.
 abbrev pub NothingAgainstAccepted : Type 0
-NothingAgainstAccepted = (w next : World) (q : Request) → IsServed q.command → kept w q.id ≡ None → refusal w next q ≡ None → NothingAgainst w q
+NothingAgainstAccepted = (w next : World) (q : Request) → ChangesOnePackage q.command → kept w q.id ≡ None → refusal w next q ≡ None → NothingAgainst w q
 
 -- ---- why it is not
 
--- A new served request whose package is live is refused for its text, else for a used identity, else by its package, else for what would be too many.
+-- A new request to change one package that package is live is refused for its text, else for a used identity, else by its package, else for what would be too many.
 abbrev pub RefusedInTurn : Type 0
-RefusedInTurn = (w next : World) (q : Request) → IsServed q.command → kept w q.id ≡ None → is_live w (package_of q.command) ≡ true →
+RefusedInTurn = (w next : World) (q : Request) → ChangesOnePackage q.command → kept w q.id ≡ None → is_live w (package_of q.command) ≡ true →
     refusal w next q ≡ option_or (first_row (text_reasons q)) (option_or (then_some (identity_used w q.command) IdentityUsed)
     (option_or (first_row (package_reasons w.frame (holdings w (package_of q.command)) q.command)) (then_some (too_many next) TooMany)))
 
 -- One whose package is not live is refused for that.
 abbrev pub RefusedAsUnknown : Type 0
-RefusedAsUnknown = (w next : World) (q : Request) → IsServed q.command → kept w q.id ≡ None → is_live w (package_of q.command) ≡ false → refusal w next q ≡ Some UnknownPackage
+RefusedAsUnknown = (w next : World) (q : Request) → ChangesOnePackage q.command → kept w q.id ≡ None → is_live w (package_of q.command) ≡ false → refusal w next q ≡ Some UnknownPackage
 
 -- ---- what a package holds
 
@@ -130,9 +130,9 @@ TooManyBySums = (w : World) (q : Request) → IsRegister w → is_live w (packag
 
 -- ---- the tickets
 
--- The ticket of the package that a served command names is the new number, and that of every other is as it was.
+-- The ticket of the package that such a command names is the new number, and that of every other is as it was.
 abbrev pub TicketAfter : Type 0
-TicketAfter = (w : World) (q : Request) (id : List ℕ) → IsRegister w → IsServed q.command → is_live w (package_of q.command) ≡ true →
+TicketAfter = (w : World) (q : Request) (id : List ℕ) → IsRegister w → ChangesOnePackage q.command → is_live w (package_of q.command) ≡ true →
     ticket (accepted w q) id ≡ (if bytes_eq id (package_of q.command) then length (receipts_of w) + 1 else ticket w id)
 
 -- ---- the outcome
@@ -149,7 +149,7 @@ ReusedOutcome = (w : World) (q : Request) (r : Receipt) → kept w q.id ≡ Some
 abbrev pub RefusedOutcome : Type 0
 RefusedOutcome = (w : World) (q : Request) (why : Refusal) → kept w q.id ≡ None → refusal w (accepted w q) q ≡ Some why → outcome w q ≡ (Err why, w)
 
--- One that is served and not refused gets its receipt, and the one package that it names is changed, with the receipt in it.
+-- One to change one package that is not refused gets its receipt, and the one package that it names is changed, with the receipt in it.
 abbrev pub AcceptedOutcome : Type 0
-AcceptedOutcome = (w : World) (q : Request) → IsServed q.command → kept w q.id ≡ None → refusal w (accepted w q) q ≡ None →
+AcceptedOutcome = (w : World) (q : Request) → ChangesOnePackage q.command → kept w q.id ≡ None → refusal w (accepted w q) q ≡ None →
     outcome w q ≡ (Ok (receipt_of w q), changed (after_command (receipt_of w q) q.command) (package_of q.command) w)

@@ -22,7 +22,7 @@ use Rattle.sql_meaning.specs.Transactions.{Turns}
 use Rattle.identity_register.specs.Calls.{Becomes}
 use Rattle.identity_register.specs.Reads.{Reads}
 use Rattle.world.specs.Carrying.{Fits, after_command}
-use Rattle.world.specs.Laws.{IsServed, package_of}
+use Rattle.world.specs.Laws.{ChangesOnePackage, package_of}
 use Rattle.world.specs.Members.{AllClean, AllOpen, AreMembers}
 use Rattle.world.specs.Steps.{sums_moved, sums_after}
 use Rattle.world.specs.declared.members.Member.{Member}
@@ -44,9 +44,9 @@ pub record IsDue (w : World) (at : ℕ) (r : Receipt) (command : Command) (held 
   pub counted : length (receipts_of (world_after r command w)) ≡ length (receipts_of w) + 1
   pub register : IsRegister (world_after r command w)
 
--- A served request that is new and not refused is due where its package stands, with the sums of the package and what its receipt moved. The identity of the request and the values of its command are those of their types.
+-- A request to change one package that is new and not refused is due where its package stands, with the sums of the package and what its receipt moved. The identity of the request and the values of its command are those of their types.
 abbrev pub DueWhereAccepted : Type 0
-DueWhereAccepted = (w : World) (q : Request) (at : ℕ) → IsRegister w → IsUuid q.id → HasTypes q.command → IsServed q.command → kept w q.id ≡ None → refusal w (accepted w q) q ≡ None →
+DueWhereAccepted = (w : World) (q : Request) (at : ℕ) → IsRegister w → IsUuid q.id → HasTypes q.command → ChangesOnePackage q.command → kept w q.id ≡ None → refusal w (accepted w q) q ≡ None →
     slice_get w.packages at ≡ Some (holdings w (package_of q.command)) →
     IsDue w at (receipt_of w q) q.command (sums_after q.command (sums_moved (receipt_of w q)) (sums_held (holdings w (package_of q.command))))
 

@@ -1,11 +1,12 @@
 -- What a clause sees of a value of `World`, and the world of the model that it stands for. Profile.
-use Rattle.std.specs.Prelude.{◌≡◌, ◌⊎◌, ◌≤◌, ℕ, ℤ, Bool, false, List, [], ◌++◌, map, Option, Result, Err, IsTrue, IfOk, IsErr, refl}
+use Rattle.std.specs.Prelude.{◌≡◌, ◌≤◌, ℕ, ℤ, Bool, false, List, [], ◌∷◌, ◌++◌, map, Option, Result, Err, IsTrue, IfOk, IsErr, refl}
 use Rattle.std.specs.List.{AllByRecursion}
 use Rattle.std.specs.Coded.{Coded, code_by, coded×, coded_bool, coded_list, coded_option, coded_ℕ, coded_ℤ}
 use Rattle.sqlite.specs.Store.{Ghosts}
 use Rattle.sqlite.specs.Held.{Held, held_code}
 use Rattle.sheet_types.specs.Matrix.{is_good_frame}
 use Rattle.sheet_types.specs.Refuse.{greatest_receipts}
+use Rattle.sheet_types.specs.Register.{IsRegister}
 use Rattle.sheet_types.specs.Step.{Step, Run, IsFault, outcome}
 use Rattle.sheet_types.specs.World.{World}
 use Rattle.sheet_types.specs.declared.command.Request.{Request}
@@ -54,6 +55,13 @@ seen_code {S} store = code_by (Frame × (List (Member S) × (ℕ × (Bool × Lis
 
 -- ---- what it stands for
 
+-- A run in which each world is a register: the one before the first request, and the one after each.
+abbrev pub RunsOverRegisters : World → List Request → List (Result Receipt Refusal) → World → Type 0
+RunsOverRegisters w [] [] next = (next ≡ w) × IsRegister w
+RunsOverRegisters w (q ∷ qs) (reply ∷ replies) next = IsRegister w × ((mid : World) × Step w q reply mid × RunsOverRegisters mid qs replies next)
+RunsOverRegisters w [] (reply ∷ replies) next = ⊥
+RunsOverRegisters w (q ∷ qs) [] next = ⊥
+
 module _ {S : Type 0} (g : Ghosts S) where
   -- Its frame is that of the world, and its members are the world's packages.
   pub record StandsFor (seen : Seen S) (w : World) : Type 0 where
@@ -72,14 +80,16 @@ module _ {S : Type 0} (g : Ghosts S) where
     pub counted : seen.count ≤ greatest_receipts
     pub stands : AllClean g seen.members → AreClean g gone → (w : World) × StandsFor seen w
 
-  -- the stores that it holds: those of its members, and the strays
+  -- the stores that it holds: the strays, and behind them those of its members
   abbrev pub held : Seen S → List (Held S)
-  held seen = map (λ m. m.conn) seen.members ++ seen.strays
+  held seen = seen.strays ++ map (λ m. m.conn) seen.members
 
   -- The reply and the world afterwards are a step of each world that it stood for, where each disk has given back what was written, those of the connections that were dropped too.
   pub record IsStep (q : Request) (old : Seen S) (reply : Result Receipt Refusal) (new : Seen S) : Type 0 where
-    -- the last states of the connections that were dropped
+    -- the last states of the connections that were dropped, as those of merged children
     pub gone : List (Held S)
+    -- those of children that a split dropped before they were of the world; a store in which no child came to be made is not among them
+    pub left_over : List (Held S)
     pub clean : AllClean g new.members → AreClean g gone → AllClean g old.members
     pub step : AllClean g new.members → AreClean g gone → (w : World) → StandsFor old w → (next : World) × Step w q reply next × StandsFor new next
     -- Open stores are still open after a receipt or a refusal.
@@ -88,6 +98,10 @@ module _ {S : Type 0} (g : Ghosts S) where
     pub crash : IsFault reply → old.has_failed ≡ false → (w : World) → StandsFor old w → AllOpen g old.members → LeavesOneOf g w.frame (held new) w.packages (outcome w q).1.packages
     -- What a crash leaves of what was dropped is beside the world that the request made.
     pub beside : AllClean g new.members → AreClean g gone → ¬ IsFault reply → (w : World) → StandsFor old w → AllOpen g old.members → AreBeside g w.frame (outcome w q).1.packages gone
+    -- What it leaves of a child that was dropped is beside the world that it was to be of.
+    pub beside_before : AllClean g new.members → AreClean g gone → (w : World) → StandsFor old w → AllOpen g old.members → AreBeside g w.frame w.packages left_over
+    -- What it stands for afterwards is a register, balanced.
+    pub register : (w : World) → StandsFor new w → IsRegister w
 
   -- After a refusal or a fault that leaves the world usable, whatever a crash leaves of stores that were open reads as the world before. So a world of which a commit may have gone through has failed.
   abbrev pub LeavesNoTrace : Seen S → Result Receipt Refusal → Seen S → Type 0
@@ -103,6 +117,8 @@ module _ {S : Type 0} (g : Ghosts S) where
     pub gone : List (Held S)
     pub clean : AllClean g new.members → AreClean g gone → AllClean g old.members
     pub run : AllClean g new.members → AreClean g gone → (w : World) → StandsFor old w → (next : World) × Run w qs replies next × StandsFor new next
+    -- The world is a register, balanced, before the first request and after each one.
+    pub registers : AllClean g new.members → AreClean g gone → (w : World) → StandsFor old w → (next : World) × RunsOverRegisters w qs replies next × StandsFor new next
     -- Open stores are still open where no reply tells a fault, so that a crash leaves what the world stands for then.
     pub opens : AllClean g new.members → AreClean g gone → AllByRecursion (λ reply. ¬ IsFault reply) replies → AllOpen g old.members → AllOpen g new.members
     -- A world that can still be used told no request that a store failed, unless the shelf's count rose.

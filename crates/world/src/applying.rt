@@ -1,15 +1,14 @@
 //! One request over the members of a world: what it comes to is decided, and where a change is due it is carried out.
-ghost use Rattle.std.specs.Prelude.{◌≡◌, ℕ, ◌≤◌, ◌<◌, ◌+◌, ◌↔◌, [], IsTrue, OnOk, length, vec_len, vec_capacity};
+ghost use Rattle.std.specs.Prelude.{◌≡◌, ℕ, ◌≤◌, ◌<◌, ◌+◌, [], IsTrue, OnOk, length, vec_len, vec_capacity};
 ghost use Rattle.sheet_types.specs.Matrix.{is_good_frame};
 ghost use Rattle.sheet_types.specs.Refuse.{greatest_receipts};
 ghost use Rattle.world.specs.Deciding.{HasPlace};
-ghost use Rattle.world.specs.Laws.{IsServed, AreServed};
 ghost use Rattle.world.specs.Members.{AllRest};
 ghost use Rattle.world.specs.Carries.{Carries, ServesAll};
 ghost use Rattle.world.specs.Creating.{HasRoomFor};
 ghost use Rattle.world.specs.Loans.{HasLendingPlace, HasReturnPlace, IsLent, IsReturned};
 ghost use Rattle.world.specs.ServeFaults.{CountsShelf};
-ghost use Rattle.world.specs.Serving.{Changes};
+ghost use Rattle.world.specs.Changes.{Changes};
 ghost use Rattle.world.specs.declared.deciding.Decision.TheVariants.{ChangeDue};
 
 use lending::turn_fault::TurnFault;
@@ -27,27 +26,6 @@ use sheet_types::refusal::Refusal;
 use shelves::shelf::Shelf;
 use sqlite::{Alter, Connection};
 use std::alloc::Global;
-
-/// Whether `World::apply` serves a command: an addition, a deletion, a link or an unlinking.
-pub fn is_served(command: &Command) -> bool
-    ensures yes { IsTrue result → IsServed command.now }
-    ensures no { IsServed command.now → IsTrue result }
-{
-    match command {
-        Command::Add { .. }
-        | Command::Delete { .. }
-        | Command::Link { .. }
-        | Command::Unlink { .. } => true,
-        Command::Split { .. } | Command::Merge { .. } => false,
-    }
-}
-
-/// Whether `World::run` serves a list: whether it serves the command of each request.
-pub fn are_served(requests: &[Request]) -> bool
-    ensures { IsTrue result ↔ AreServed requests.now }
-{
-    requests.iter().all(|request| is_served(&request.command))
-}
 
 /// Makes room for one more member and its store.
 fn make_room<S: Alter + Drop>(
@@ -126,7 +104,7 @@ fn carry_out_change<S: Alter + Drop>(
     Ok(change.receipt)
 }
 
-/// Serves one request. The count is that of all receipts. A refusal is a reply; what is an error here is a want of memory, a store that failed, or a shelf that had none.
+/// Answers one request, or carries it out. The count is that of all receipts. A refusal is a reply; what is an error here is a want of memory, a store that failed, or a shelf that had none.
 pub(crate) fn serve<S: Alter + Drop, H: Shelf<S>>(
     members: &mut Vec<Member<S>>,
     strays: &mut Vec<Connection<S>>,

@@ -45,7 +45,7 @@ fn kept_by<S: Alter + Drop>(
 }
 
 /// The receipt that is kept for a request, if it came before.
-pub(crate) fn kept_in_all<S: Alter + Drop>(
+pub fn kept_in_all<S: Alter + Drop>(
     members: &mut Vec<Member<S>>,
     alloc: Global,
     id: Uuid,
@@ -77,7 +77,7 @@ fn named_by<S: Alter + Drop>(
 }
 
 /// Whether an identity was ever used.
-pub(crate) fn is_named_in_all<S: Alter + Drop>(
+pub fn is_named_in_all<S: Alter + Drop>(
     members: &mut Vec<Member<S>>,
     identity: Uuid,
 ) -> Result<bool, Fault>
@@ -93,7 +93,7 @@ pub(crate) fn is_named_in_all<S: Alter + Drop>(
 }
 
 /// Where the member of a package stands.
-pub(crate) fn place_of<S: Alter + Drop>(members: &[Member<S>], uuid: Uuid) -> Option<usize>
+pub fn place_of<S: Alter + Drop>(members: &[Member<S>], uuid: Uuid) -> Option<usize>
     ensures { IsPlaceOf S.Store members.now uuid result }
 {
     for at in 0..members.len() {

@@ -5,7 +5,7 @@ ghost use Rattle.sheet_types.specs.World.{Package, item_of, holdings};
 ghost use Rattle.sheet_types.specs.Step.{moved};
 ghost use Rattle.world.specs.Members.{AllRest};
 ghost use Rattle.world.specs.Asking.{AsksAll};
-ghost use Rattle.world.specs.Laws.{IsServed, package_of};
+ghost use Rattle.world.specs.Laws.{ChangesOnePackage, package_of};
 ghost use Rattle.world.specs.Reasons.{package_reasons};
 
 use crate::judging::package_refusal;
@@ -20,7 +20,7 @@ use sqlite::Alter;
 use uuid::Uuid;
 
 /// Why the package of the member at a place and its frame do not take a command, if they do not.
-pub(crate) fn refusal_at<S: Alter + Drop>(
+pub fn refusal_at<S: Alter + Drop>(
     members: &mut Vec<Member<S>>,
     at: usize,
     frame: &Frame,
@@ -36,7 +36,7 @@ pub(crate) fn refusal_at<S: Alter + Drop>(
 }
 
 /// The item under an identity in the package of the member at a place.
-pub(crate) fn item_at<S: Alter + Drop>(
+pub fn item_at<S: Alter + Drop>(
     members: &mut Vec<Member<S>>,
     at: usize,
     identity: Uuid,
@@ -49,15 +49,15 @@ pub(crate) fn item_at<S: Alter + Drop>(
     find(&mut member.conn, identity)
 }
 
-/// What a served command moves, which is one thing or, of a delete that finds no item, none. The member at the place is of the package that the command names.
-pub(crate) fn thing_moved<S: Alter + Drop>(
+/// What a command that changes one package moves, which is one thing or, of a delete that finds no item, none. The member at the place is of the package that the command names.
+pub fn thing_moved<S: Alter + Drop>(
     members: &mut Vec<Member<S>>,
     at: usize,
     command: &Command,
 ) -> Result<Option<Moved>, Fault>
     requires within { at < length members.old.items }
     requires rests { AllRest S.Store members.old.items }
-    ensures { AsksAll S.Store (λ w found. IsServed command.now → slice_get w.packages at ≡ Some (holdings w (package_of command.now)) → MatchOption found (moved w command.now ≡ []) (λ m. moved w command.now ≡ m ∷ [])) members.old.items members.new.items result }
+    ensures { AsksAll S.Store (λ w found. ChangesOnePackage command.now → slice_get w.packages at ≡ Some (holdings w (package_of command.now)) → MatchOption found (moved w command.now ≡ []) (λ m. moved w command.now ≡ m ∷ [])) members.old.items members.new.items result }
 {
     match command {
         Command::Add {

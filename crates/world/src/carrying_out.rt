@@ -66,7 +66,7 @@ pub(crate) fn carry_out<S: Alter>(
 /// # Errors
 ///
 /// Want of memory, or a store that failed. The package is as it was, unless the commit itself failed and shut the store: then a crash may leave either. A split or a merge is a fault of the store.
-pub(crate) fn apply_to_package<S: Alter>(
+pub fn apply_to_package<S: Alter>(
     conn: &mut Connection<S>,
     command: &Command,
     receipt: &Receipt,

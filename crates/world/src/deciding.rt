@@ -11,13 +11,13 @@ ghost use Rattle.sheet_types.specs.World.{World, holdings};
 ghost use Rattle.sheet_types.specs.declared.refusal.Refusal.TheVariants.{IdReused};
 ghost use Rattle.world.specs.Asking.{AsksAll};
 ghost use Rattle.world.specs.Deciding.{IsOf, IsNewTo, IsAskedOf, IsPlaced, refusal_before, Decides, HasPlace};
-ghost use Rattle.world.specs.Laws.{IsServed, package_of};
+ghost use Rattle.world.specs.Laws.{ChangesOnePackage, package_of};
 ghost use Rattle.world.specs.Members.{AllRest, AreMembers};
 
-use crate::applying::is_served;
 use crate::asking::{is_named_in_all, kept_in_all, place_of};
 use crate::asking_one::{refusal_at, thing_moved};
-use crate::deciding_loans::decide_loan;
+use crate::deciding_merges::decide_merge;
+use crate::deciding_splits::{Asked, decide_split};
 use crate::loans::{Lending, Returning};
 use crate::members::Member;
 use crate::receipts::receipt_over;
@@ -116,9 +116,9 @@ fn is_used<S: Alter + Drop>(members: &mut Vec<Member<S>>, command: &Command) -> 
     }
 }
 
-// The values of a served command are those of their types.
+// The values of a command that changes one package are those of their types.
 fn has_types(command: &Command)
-    ensures { IsServed command.now → HasTypes command.now }
+    ensures { ChangesOnePackage command.now → HasTypes command.now }
 {
     match command {
         Command::Add {
@@ -274,10 +274,30 @@ fn decide_new<S: Alter + Drop>(
     ensures asks { AsksAll S.Store (λ w decision. IsNewTo frame.now count request.now w → Decides w request.now decision) members.old.items members.new.items result }
     ensures place { IfOk result (λ decision. HasPlace members.new.items count decision) }
 {
-    if is_served(&request.command) {
-        decide_change(members, frame, count, alloc, request)
-    } else {
-        decide_loan(members, frame, count, alloc, request)
+    match &request.command {
+        Command::Split {
+            package,
+            child,
+            mode,
+            rect,
+        } => {
+            let asked = Asked {
+                package: *package,
+                child: *child,
+                mode: *mode,
+                rect: *rect,
+            };
+            decide_split(members, frame, count, alloc, request, &asked)
+        }
+        Command::Merge {
+            child,
+            into,
+            ticket,
+        } => decide_merge(members, count, alloc, request, *child, *into, *ticket),
+        Command::Add { .. }
+        | Command::Delete { .. }
+        | Command::Link { .. }
+        | Command::Unlink { .. } => decide_change(members, frame, count, alloc, request),
     }
 }
 

@@ -109,7 +109,7 @@ fn refusal_of_unlink<S: Alter>(
 }
 
 /// Why the package of a store and its frame do not take a command, if they do not. Of a split and a merge it tells nothing: none of these reasons is theirs.
-pub(crate) fn package_refusal<S: Alter>(
+pub fn package_refusal<S: Alter>(
     conn: &mut Connection<S>,
     frame: &Frame,
     command: &Command,

@@ -49,7 +49,7 @@ pub struct Returning {
     pub sums: Sums,
 }
 
-/// Why a request was not served.
+/// Why a request was neither answered nor carried out.
 #[derive(Clone, Copy, PartialEq, Eq, Debug)]
 pub enum ServeFault {
     /// The shelf had no store for a new package: nothing was changed, and no store of the world has failed.

@@ -6,7 +6,7 @@ ghost use Rattle.sheet_types.specs.World.{World as ModelWorld, Package};
 ghost use Rattle.world.specs.Asking.{AsksAll};
 ghost use Rattle.world.specs.Members.{AllRest, AreMembers};
 ghost use Rattle.world.specs.Reading.{sight_of, member_sight};
-ghost use Rattle.world.specs.Worlds.{StandsFor, IsRead, TellsOf};
+ghost use Rattle.world.specs.Worlds.{StandsFor, IsRead, TellsOf, held};
 
 use crate::asking::{kept_in_all, place_of};
 use crate::members::Member;
@@ -161,7 +161,7 @@ impl<S: Alter + Drop> World<S> {
 
     /// The stores that the world holds: the strays, and behind them those of its packages in their order. Takes no memory.
     pub fn into_stores(self) -> Vec<Connection<S>>
-        ensures { result.items ≡ self.strays ++ map (λ m. m.conn) self.members }
+        ensures { result.items ≡ held S.Store self }
     {
         stores_of(self.members, self.strays)
     }

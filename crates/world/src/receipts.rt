@@ -53,7 +53,7 @@ fn line_over(alloc: Global, command: &Command, thing: &Moved) -> Result<String, 
 }
 
 /// The receipt of this number for a request that moves one thing.
-pub(crate) fn receipt_over(
+pub fn receipt_over(
     alloc: Global,
     seq: u64,
     request: &Request,

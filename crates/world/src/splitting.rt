@@ -20,7 +20,7 @@ ghost use Rattle.transfer.specs.Parcels.{with_cut};
 ghost use Rattle.world.specs.ServeFaults.{CountsShelf};
 ghost use Rattle.package_tables.specs.declared.fault.Fault.TheVariants.{OutOfMemory};
 ghost use Rattle.lending.specs.declared.turn_fault.TurnFault.TheVariants.{Before};
-ghost use Rattle.world.specs.Splits.{Splits, KeepsLoan, member_of_child};
+ghost use Rattle.world.specs.Splits.{Splits, KeepsLoan, DropsUnfilled, DropsChild, member_of_child};
 
 use identity_register::selection::Selection;
 use lending::turn_fault::TurnFault;
@@ -60,6 +60,7 @@ fn filled_store<S: Alter + Drop>(
     ensures made { IfOk result (λ made. HasCleanDisk (state S.Store made) → HasCleanDisk (state S.Store source.new) → (c : Cut) (from : Package) → IsSelectionOf c selection.now → Reads frame.now from (state S.Store source.old).now → IsPart c from
         → MayCome c (new_package info.now.package info.now.parent info.now.depth info.now.loan)
         → Keeps frame.now (with_cut c (new_package info.now.package info.now.parent info.now.depth info.now.loan)) (state S.Store made)) }
+    ensures dropped { IfErr result (λ why. DropsUnfilled S.Store frame.now (new_package info.now.package info.now.parent info.now.depth info.now.loan) selection.now (state S.Store source.old).now (state S.Store source.new)) }
 {
     if !is_at_rest(&blank) {
         return Err(Fault::StoreFault);
@@ -101,6 +102,7 @@ pub(crate) fn child_store<S: Alter + Drop, H: Shelf<S>>(
     ensures child { IfOk result (λ child. Rests (state S.Store child)) }
     ensures is_open { IfOk result (λ child. HasCleanDisk (state S.Store child) → IsTrue (state S.Store child).is_open) }
     ensures keeps { IfOk result (λ child. AllClean S.Store members.new.items → (w next : World) (count : ℕ) → frame.now ≡ w.frame → AreMembers S.Store members.old.items count w → (lent : IsLent w next due.now) → KeepsLoan S.Store w next due.now lent child) }
+    ensures dropped { IfErr result (λ why. DropsChild S.Store frame.now due.now members.old.items members.new.items) }
     ensures early { IfErr result IsBeforeCommit }
     ensures shelf { CountsShelf result (H.failures_of shelf.old) (H.failures_of shelf.new) }
 {

@@ -1,22 +1,22 @@
 //! What a request makes of a world, by what is kept of it, so that a request is carried out without looking over the whole world. Each law is the contract of a function that does nothing.
 ghost use Rattle.world.specs.Steps.{FitsWhereAccepted, NothingAgainstAccepted, RefusedInTurn, RefusedAsUnknown, BytesWithin, SumsAfter, TooManyBySums, TicketAfter, KeptOutcome, ReusedOutcome, RefusedOutcome, AcceptedOutcome};
 
-/// The receipt of a served request that nothing speaks against is new to its package, which is as the command's change needs it.
+/// The receipt of a request to change one package that nothing speaks against is new to its package, which is as the command's change needs it.
 pub fn fits_where_accepted()
     ensures { FitsWhereAccepted }
 {}
 
-/// Nothing speaks against a served request that is new and not refused.
+/// Nothing speaks against a request to change one package that is new and not refused.
 pub fn nothing_against_accepted()
     ensures { NothingAgainstAccepted }
 {}
 
-/// A new served request whose package is live is refused for its text, else for a used identity, else by its package, else for what would be too many.
+/// A new request to change one package that is live is refused for its text, else for a used identity, else by its package, else for what would be too many.
 pub fn refused_in_turn()
     ensures { RefusedInTurn }
 {}
 
-/// A new served request whose package is not live is refused for that.
+/// A new request to change one package that is not live is refused for that.
 pub fn refused_as_unknown()
     ensures { RefusedAsUnknown }
 {}
@@ -36,7 +36,7 @@ pub fn too_many_by_sums()
     ensures { TooManyBySums }
 {}
 
-/// The ticket of the package that a served command names is its receipt's number, and every other stays.
+/// The ticket of the package that such a command names is its receipt's number, and every other stays.
 pub fn ticket_after()
     ensures { TicketAfter }
 {}
@@ -56,7 +56,7 @@ pub fn refused_outcome()
     ensures { RefusedOutcome }
 {}
 
-/// A served request that is new and not refused gets its receipt, and changes the one package that it names.
+/// A request to change one package that is new and not refused gets its receipt, and changes the one package that it names.
 pub fn accepted_outcome()
     ensures { AcceptedOutcome }
 {}

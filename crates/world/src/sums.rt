@@ -8,7 +8,7 @@ use sheet_types::command::Command;
 use sheet_types::receipt::{Receipt, Sums};
 
 /// How much a receipt moved.
-pub(crate) fn sums_moved(receipt: &Receipt) -> Sums
+pub fn sums_moved(receipt: &Receipt) -> Sums
     ensures { result ≡ sums_moved receipt.now }
 {
     Sums {
@@ -32,7 +32,7 @@ pub(crate) fn more(some: Sums, held: Sums) -> Option<Sums>
     })
 }
 
-fn less(some: Sums, held: Sums) -> Option<Sums>
+pub(crate) fn less(some: Sums, held: Sums) -> Option<Sums>
     ensures { SomeIff result (IsWithin some held) (sums_less some held) }
 {
     Some(Sums {
@@ -45,7 +45,7 @@ fn less(some: Sums, held: Sums) -> Option<Sums>
 }
 
 /// What a package holds after a command that moved so much. There is no answer where a sum would have more than 64 bits, or where what goes out was not there.
-pub(crate) fn sums_after(command: &Command, some: Sums, held: Sums) -> Option<Sums>
+pub fn sums_after(command: &Command, some: Sums, held: Sums) -> Option<Sums>
     ensures { SomeIff result (CanCount command.now some held) (sums_after command.now some held) }
 {
     match command {

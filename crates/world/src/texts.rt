@@ -9,7 +9,7 @@ use sheet_types::moments::is_moment;
 use sheet_types::refusal::Refusal;
 
 /// Why a request is refused for its moment, its texts or its sizes, if it is.
-pub(crate) fn text_refusal(request: &Request) -> Option<Refusal>
+pub fn text_refusal(request: &Request) -> Option<Refusal>
     ensures { result ≡ first_row (text_reasons request.now) }
 {
     if !is_moment(request.at.as_str()) || has_bad_text(&request.command) {

@@ -9,7 +9,7 @@ use sheet_types::receipt::Sums;
 use sqlite::Alter;
 
 /// Whether so much is past a limit of a package.
-pub(crate) fn is_past_limits(held: Sums) -> bool
+pub fn is_past_limits(held: Sums) -> bool
     ensures { result ≡ is_past_limits held }
 {
     held.tiles > 1_000_000
@@ -30,7 +30,7 @@ fn sums_at<S: Alter + Drop>(members: &[Member<S>], at: usize, sums: Sums, place:
 }
 
 /// Whether a member is past the limits, with these sums for the one whose package changes.
-pub(crate) fn any_past_limits<S: Alter + Drop>(members: &[Member<S>], at: usize, sums: Sums) -> bool
+pub fn any_past_limits<S: Alter + Drop>(members: &[Member<S>], at: usize, sums: Sums) -> bool
     ensures { result ≡ list_any is_past_limits (sums_with members.now at sums) }
 {
     for place in 0..members.len() {
@@ -42,7 +42,7 @@ pub(crate) fn any_past_limits<S: Alter + Drop>(members: &[Member<S>], at: usize,
 }
 
 /// Whether a request would leave too many, with the sums that it leaves of the member whose package it changes, and the number of receipts so far.
-pub(crate) fn is_too_many<S: Alter + Drop>(
+pub fn is_too_many<S: Alter + Drop>(
     members: &[Member<S>],
     at: usize,
     sums: Sums,

@@ -46,7 +46,7 @@ pub fn turn_at<S: Alter + Drop>(
     Ok(())
 }
 
-/// A served request that is new and not refused is due where its package stands, which is what `turn_at` asks of it.
+/// A request to change one package that is new and not refused is due where its package stands, which is what `turn_at` asks of it.
 pub fn due_where_accepted()
     ensures { DueWhereAccepted }
 {}

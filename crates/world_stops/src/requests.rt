@@ -8,7 +8,6 @@ use shelves::shelf::{Shelf, ShelfFault};
 use sqlite::{Alter, Connection};
 use std::alloc::Global;
 use test_values::{Asks, Step};
-use test_worlds::applied;
 use uuid::Uuid;
 use world::world::World;
 
@@ -58,5 +57,5 @@ pub fn reply_to<S: Alter + Drop>(
     alloc: Global,
     request: &Request,
 ) -> Result<Result<Receipt, Refusal>, Fault> {
-    applied(world, alloc, request, &mut EmptyShelf { failures: 0 })
+    Ok(world.apply(alloc, request, &mut EmptyShelf { failures: 0 }))
 }

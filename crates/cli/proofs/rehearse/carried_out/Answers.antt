@@ -9,15 +9,15 @@ use Rattle.cli.proofs.rehearse.carried_out.Goals as goal
 pub returns-in-Err-import : goal.returns-in-Err-import
 returns-in-Err-import g c =
     subst (Rehearses (new_world c.args.rehearsal.now.archive c.args.rehearsal.now.frame) (g.R.Read.remaining c.args.reader) c.args.writer.now c.import.new.writer (g.W.Write.contents c.args.writer.now) (g.W.Write.contents c.import.new.writer)) (sym c.end_of_import.ensures)
-    (import_ended _ (λ seen k d within. always_clean (λ _. refl) (slice_index_or seen.members k d).conn) g.W.Write.contents (new_world c.args.rehearsal.now.archive c.args.rehearsal.now.frame) (g.R.Read.remaining c.args.reader) c.in-Ok.world c.import.new.world
-    (c.in-Ok.ensures (λ k d within. always_clean (λ _. refl) (slice_index_or c.in-Ok.world.members k d).conn)) c.args.writer.now c.import.new.writer c.in-Err-import.fault c.in-Err-import.ensures)
+    (import_ended _ (λ h. always_clean (λ _. refl) h) g.W.Write.contents (new_world c.args.rehearsal.now.archive c.args.rehearsal.now.frame) (g.R.Read.remaining c.args.reader) c.in-Ok.world c.import.new.world
+    (c.in-Ok.ensures (λ k d within. always_clean (λ _. refl) (slice_index_or c.in-Ok.world.members k d).conn)) _ _ c.args.writer.now c.import.new.writer c.in-Err-import.fault c.in-Err-import.ensures.imported)
 
 pub returns-in-Ok-write_packages : goal.returns-in-Ok-write_packages
 returns-in-Ok-write_packages g c =
-    all_done _ (λ seen k d within. always_clean (λ _. refl) (slice_index_or seen.members k d).conn) g.W.Write.contents (new_world c.args.rehearsal.now.archive c.args.rehearsal.now.frame) (g.R.Read.remaining c.args.reader) c.in-Ok.world c.import.new.world
-    (c.in-Ok.ensures (λ k d within. always_clean (λ _. refl) (slice_index_or c.in-Ok.world.members k d).conn)) c.args.writer.now c.write_packages.new.writer (g.W.Write.contents c.args.writer.now) (g.W.Write.contents c.import.new.writer) (g.W.Write.contents c.write_packages.new.writer) c.args.writer.now c.import.new.writer c.in_default.field-0 c.in_default.ensures c.write_packages.new.world c.in-Ok-write_packages.field-0 c.in-Ok-write_packages.ensures
+    all_done _ (λ h. always_clean (λ _. refl) h) g.W.Write.contents (new_world c.args.rehearsal.now.archive c.args.rehearsal.now.frame) (g.R.Read.remaining c.args.reader) c.in-Ok.world c.import.new.world
+    (c.in-Ok.ensures (λ k d within. always_clean (λ _. refl) (slice_index_or c.in-Ok.world.members k d).conn)) c.args.writer.now c.write_packages.new.writer _ _ (g.W.Write.contents c.args.writer.now) (g.W.Write.contents c.import.new.writer) (g.W.Write.contents c.write_packages.new.writer) c.args.writer.now c.import.new.writer c.in_default.field-0 c.in_default.ensures.imported c.write_packages.new.world c.in-Ok-write_packages.field-0 c.in-Ok-write_packages.ensures
 
 pub returns : goal.returns
 returns g c =
-    packages_failed _ (λ seen k d within. always_clean (λ _. refl) (slice_index_or seen.members k d).conn) g.W.Write.contents (new_world c.args.rehearsal.now.archive c.args.rehearsal.now.frame) (g.R.Read.remaining c.args.reader) c.in-Ok.world c.import.new.world
-    (c.in-Ok.ensures (λ k d within. always_clean (λ _. refl) (slice_index_or c.in-Ok.world.members k d).conn)) c.args.writer.now c.write_packages.new.writer (g.W.Write.contents c.args.writer.now) (g.W.Write.contents c.import.new.writer) (g.W.Write.contents c.write_packages.new.writer) c.args.writer.now c.import.new.writer c.in_default.field-0 c.in_default.ensures c.write_packages.new.world c.in-Err-write_packages.failure c.in-Err-write_packages.ensures
+    packages_failed _ (λ h. always_clean (λ _. refl) h) g.W.Write.contents (new_world c.args.rehearsal.now.archive c.args.rehearsal.now.frame) (g.R.Read.remaining c.args.reader) c.in-Ok.world c.import.new.world
+    (c.in-Ok.ensures (λ k d within. always_clean (λ _. refl) (slice_index_or c.in-Ok.world.members k d).conn)) c.args.writer.now c.write_packages.new.writer _ _ (g.W.Write.contents c.args.writer.now) (g.W.Write.contents c.import.new.writer) (g.W.Write.contents c.write_packages.new.writer) c.args.writer.now c.import.new.writer c.in_default.field-0 c.in_default.ensures.imported c.write_packages.new.world c.in-Err-write_packages.failure c.in-Err-write_packages.ensures

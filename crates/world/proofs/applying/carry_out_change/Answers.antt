@@ -1,7 +1,7 @@
 -- The turn says it all.
 use Rattle.std.proofs.Common.{◌∙◌, ap, length, Err}
 use Rattle.std.proofs.lemmas.List.{length-set}
-use Rattle.world.proofs.Served.{turned_into, changes_failed, changes_done}
+use Rattle.world.proofs.ChangesMade.{turned_into, changes_failed, changes_done}
 use Rattle.world.proofs.applying.carry_out_change.Goals as goal
 
 pub returns-in_err-turn_at-clause-changes : goal.returns-in_err-turn_at-clause-changes

@@ -18,14 +18,14 @@ pub returns-in-None-clause-decides : goal.returns-in-None-clause-decides
 returns-in-None-clause-decides g c = λ w are placed before made.
     let place : slice_get c.args.members.now c.args.at ≡ Some c.index-members-at.result = slice_get_read _ _ _ _ refl c.requires.within c.index-members-at.is in
     let some : c.sums_moved.result ≡ sums_moved (receipt_of w c.args.request.now) = c.sums_moved.ensures ∙ ap sums_moved made in
-    limited_uncounted g.S.Store c.args.members.now c.args.count c.args.at c.args.request.now w c.index-members-at.result are placed place c.fits.ensures (c.has_types.ensures placed.asked.served) before
+    limited_uncounted g.S.Store c.args.members.now c.args.count c.args.at c.args.request.now w c.index-members-at.result are placed place c.fits.ensures (c.has_types.ensures placed.asked.one) before
     (λ can. c.in-None.ensures (subst (λ (m : Member g.row.S.Denot). CanCount c.args.request.now.command c.sums_moved.result m.sums) c.index-members-at.is (subst (λ s. CanCount c.args.request.now.command s c.index-members-at.result.sums) (sym some) can)))
 
 pub returns-in-Some-clause-decides : goal.returns-in-Some-clause-decides
 returns-in-Some-clause-decides g c = λ w are placed before made.
     let place : slice_get c.args.members.now c.args.at ≡ Some c.index-members-at.result = slice_get_read _ _ _ _ refl c.requires.within c.index-members-at.is in
     let some : c.sums_moved.result ≡ sums_moved (receipt_of w c.args.request.now) = c.sums_moved.ensures ∙ ap sums_moved made in
-    limited_past g.S.Store c.args.members.now c.args.count c.args.at c.args.request.now w c.index-members-at.result are placed place c.fits.ensures (c.has_types.ensures placed.asked.served) before c.in-Some.sums
+    limited_past g.S.Store c.args.members.now c.args.count c.args.at c.args.request.now w c.index-members-at.result are placed place c.fits.ensures (c.has_types.ensures placed.asked.one) before c.in-Some.sums
     (c.in-Some.ensures.1 ∙ ap (λ (m : Member g.row.S.Denot). sums_after c.args.request.now.command c.sums_moved.result m.sums) (sym c.index-members-at.is)
     ∙ ap (λ (s : Sums). sums_after c.args.request.now.command s c.index-members-at.result.sums) some) (sym c.is_too_many.ensures ∙ c.if-is_too_many.true)
 
@@ -33,7 +33,7 @@ pub returns-in-Some-2-clause-decides : goal.returns-in-Some-2-clause-decides
 returns-in-Some-2-clause-decides g c = λ w are placed before made.
     let place : slice_get c.args.members.now c.args.at ≡ Some c.index-members-at.result = slice_get_read _ _ _ _ refl c.requires.within c.index-members-at.is in
     let some : c.sums_moved.result ≡ sums_moved (receipt_of w c.args.request.now) = c.sums_moved.ensures ∙ ap sums_moved made in
-    limited_due g.S.Store c.args.members.now c.args.count c.args.at c.args.request.now w c.index-members-at.result are placed place c.fits.ensures (c.has_types.ensures placed.asked.served) before c.in-Some.sums c.args.receipt
+    limited_due g.S.Store c.args.members.now c.args.count c.args.at c.args.request.now w c.index-members-at.result are placed place c.fits.ensures (c.has_types.ensures placed.asked.one) before c.in-Some.sums c.args.receipt
     (c.in-Some.ensures.1 ∙ ap (λ (m : Member g.row.S.Denot). sums_after c.args.request.now.command c.sums_moved.result m.sums) (sym c.index-members-at.is)
     ∙ ap (λ (s : Sums). sums_after c.args.request.now.command s c.index-members-at.result.sums) some) (sym c.is_too_many.ensures ∙ c.if-is_too_many.false) made
 

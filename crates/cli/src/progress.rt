@@ -1,0 +1,51 @@
+//! How far an import is, told on a writer: a line for each thousand requests.
+ghost use Rattle.std.specs.Prelude.{◌≡◌, ℕ, List, ◌∷◌, [], None, OnOk, OnErr, IsTrue, ◌↔◌};
+ghost use Rattle.std.specs.Io.KnownBytes.{Appends};
+ghost use Rattle.manifest_csv.specs.Progress.{Tells};
+ghost use Rattle.manifest_csv.specs.Sent.{WentOut};
+ghost use Rattle.cli.specs.Progress.{IsDue, progress_text};
+
+use itoa::Buffer;
+use manifest_csv::progress::Teller;
+use manifest_csv::sending::{WriteFault, send};
+use std::io::Write;
+
+/// Whether a count is told: of each thousandth request.
+pub fn is_due(done: u64) -> bool
+    ensures { IsTrue result ↔ IsDue done }
+{
+    done % 1000 == 0
+}
+
+/// Writes that of `all` requests so many are done, as one line.
+///
+/// # Errors
+///
+/// A writer that failed. A beginning of the line went out, and not all of it.
+pub fn write_progress<W: Write>(writer: &mut W, done: u64, all: u64) -> Result<(), WriteFault>
+    ensures ok { OnOk result (Appends (W.contents writer.old) (W.contents writer.new) (progress_text done all)) }
+{
+    let mut digits = Buffer::new();
+    send(writer, digits.format(done).as_bytes())?;
+    send(writer, b" of ")?;
+    send(writer, digits.format(all).as_bytes())?;
+    send(writer, b" requests are done\n")
+}
+
+/// Writes a line for each thousand requests that are done. Where the writer fails, nothing more comes of it.
+#[derive(Drop)]
+pub struct Progress<W: Write + Drop> {
+    /// Where the lines go.
+    pub writer: W,
+}
+
+impl<W: Write + Drop> Teller for Progress<W> {
+    ghost told = { λ _. None };
+
+    fn tell(&mut self, done: u64, all: u64) {
+        if is_due(done) {
+            // An import goes on where nobody can be told how far it is.
+            let _untold = write_progress(&mut self.writer, done, all);
+        }
+    }
+}

@@ -1,6 +1,0 @@
-use Rattle.manifest_csv.proofs.contents.media_of.Goals as goal
-
-pub returns-in_default-2-clause-none : goal.returns-in_default-2-clause-none
-returns-in_default-2-clause-none c =
-    let none = rw c.in_default-2.is at c.in_ok-data.ensures.none in
-    λ content_type bytes medium. none bytes medium.1.1

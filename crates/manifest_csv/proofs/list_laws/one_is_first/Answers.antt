@@ -1,5 +1,0 @@
-use Rattle.manifest_csv.proofs.list_laws.one_is_first.Goals as goal
-use Rattle.manifest_csv.proofs.OneReading.{one_is_first}
-
-pub returns : goal.returns
-returns c = one_is_first

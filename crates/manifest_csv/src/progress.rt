@@ -1,0 +1,26 @@
+//! Who is told how far an import is.
+ghost use Rattle.std.specs.Prelude.{◌≡◌, ℕ, List, ◌∷◌, [], Option, None};
+ghost use Rattle.manifest_csv.specs.Progress.{Tells};
+
+/// Is told how many of how many requests of an import are done.
+pub trait Teller {
+    /// What it was told so far, of how many done and of how many, where that is known.
+    ghost told: { Self → Option (List (ℕ × ℕ)) };
+
+    /// Of `all` requests so many are done: carried out, and their lines written.
+    fn tell(&mut self, done: u64, all: u64)
+        ensures { Tells (told self.old) (told self.new) ((done, all) ∷ []) };
+}
+
+/// Tells nobody.
+#[derive(Clone, Copy, PartialEq, Eq)]
+pub struct Silent;
+
+impl Teller for Silent {
+    ghost told = { λ _. None };
+
+    fn tell(&mut self, _done: u64, _all: u64)
+        ensures told { Tells None None ((_done, _all) ∷ []) }
+        ensures same { self.new ≡ self.old }
+    {}
+}

@@ -1,0 +1,15 @@
+//! Request lists as CSV (RFC 4180, as the crate `csv` reads it): which text is a list of which requests.
+#![tactic(auto)]
+
+mod columns;
+mod contents;
+mod fields;
+pub mod list_laws;
+pub mod lists;
+#[cfg(test)]
+mod lists_tests;
+mod loans;
+mod records;
+mod requests;
+#[cfg(test)]
+mod tests;

@@ -1,0 +1,50 @@
+// Two packages in memory, each with one medium and its receipt, and what they are asked. What is expected follows from what was entered.
+
+use world::asking::{are_at_rest, is_named_in_all, kept_in_all, place_of};
+use world::members::Member;
+use crate::values::{item, member_with_a_medium, package, request};
+use package_tables::fault::Fault;
+use sqlite::{Alter, Connection};
+use std::alloc::Global;
+use std::test::Fail;
+use uuid::Uuid;
+
+// The number of the receipt that is kept for a request, 0 where there is none.
+fn kept_number<S: Alter + Drop>(
+    members: &mut Vec<Member<S>>,
+    alloc: Global,
+    id: Uuid,
+) -> Result<u64, Fault> {
+    if !are_at_rest(members.as_slice()) {
+        return Err(Fault::StoreFault);
+    }
+    match kept_in_all(members, alloc, id)? {
+        Some(receipt) => Ok(receipt.seq),
+        None => Ok(0),
+    }
+}
+
+fn is_named<S: Alter + Drop>(members: &mut Vec<Member<S>>, identity: Uuid) -> Result<bool, Fault> {
+    if !are_at_rest(members.as_slice()) {
+        return Err(Fault::StoreFault);
+    }
+    is_named_in_all(members, identity)
+}
+
+#[test]
+fn each_member_is_asked(rt: HostRuntime) -> Result<(), Fail> {
+    let alloc = rt.alloc();
+    let mut members = Vec::new(alloc);
+    members.push(member_with_a_medium(alloc, Connection::open_in_memory(alloc)?, 2, 4)?)?;
+    members.push(member_with_a_medium(alloc, Connection::open_in_memory(alloc)?, 3, 5)?)?;
+    assert_eq!(rt; kept_number(&mut members, alloc, request(2))?, 4);
+    assert_eq!(rt; kept_number(&mut members, alloc, request(3))?, 5);
+    assert_eq!(rt; kept_number(&mut members, alloc, package(2))?, 0);
+    assert!(rt; is_named(&mut members, item(2))?);
+    assert!(rt; is_named(&mut members, item(3))?);
+    assert!(rt; !is_named(&mut members, package(2))?);
+    assert_eq!(rt; place_of(members.as_slice(), package(2)), Some(0));
+    assert_eq!(rt; place_of(members.as_slice(), package(3)), Some(1));
+    assert_eq!(rt; place_of(members.as_slice(), item(2)), None);
+    Ok(())
+}

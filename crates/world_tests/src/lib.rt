@@ -1,0 +1,23 @@
+//! Tests of the parts of `world` over stores in memory. There is nothing here but tests.
+#![tactic(auto)]
+
+#[cfg(test)]
+mod asking_one_tests;
+#[cfg(test)]
+mod asking_tests;
+#[cfg(test)]
+mod carrying_tests;
+#[cfg(test)]
+mod judging_tests;
+#[cfg(test)]
+mod loan_tests;
+#[cfg(test)]
+mod reading_tests;
+#[cfg(test)]
+mod receipt_tests;
+#[cfg(test)]
+mod too_many_tests;
+#[cfg(test)]
+mod turning_tests;
+#[cfg(test)]
+mod values;

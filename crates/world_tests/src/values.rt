@@ -1,0 +1,74 @@
+// What the tests of single parts share: the moment of a new package, identities, the addition of a medium, and members.
+
+use world::carrying_out::apply_to_package;
+use world::members::Member;
+use package_tables::fault::Fault;
+use sheet_types::command::Command;
+use sheet_types::receipt::Sums;
+use sql_meaning::resting::is_at_rest;
+use sqlite::{Alter, Connection};
+use std::alloc::Global;
+use test_values::{ONE_MEDIUM, empty_package, medium_content, moved_medium, receipt_of};
+use uuid::Uuid;
+
+// Before the first receipt.
+pub const MADE: &str = "2026-11-22T08:00:00.000Z";
+
+pub fn package(number: u64) -> Uuid {
+    Uuid::from_u128(u128::from(number))
+}
+
+// An item of the package of that number, and the request that brought it.
+pub fn item(number: u64) -> Uuid {
+    Uuid::from_u128(u128::from(number | 16))
+}
+
+pub fn request(number: u64) -> Uuid {
+    Uuid::from_u128(u128::from(number | 32))
+}
+
+// The addition of a medium of three bytes.
+pub fn add_medium(alloc: Global, package: Uuid, identity: Uuid) -> Result<Command, Fault> {
+    Ok(Command::Add {
+        package,
+        identity,
+        content: medium_content(alloc, "image/png", b"png")?,
+    })
+}
+
+// A member without parent, of a store that holds so much.
+pub fn member_of<S: Alter + Drop>(
+    conn: Connection<S>,
+    uuid: Uuid,
+    sums: Sums,
+    ticket: u64,
+) -> Member<S> {
+    Member {
+        conn,
+        uuid,
+        parent: None,
+        depth: 0,
+        loan: 0,
+        sums,
+        ticket,
+    }
+}
+
+// The package of a number with one medium, added with the receipt of this number.
+pub fn member_with_a_medium<S: Alter + Drop>(
+    alloc: Global,
+    conn: Connection<S>,
+    number: u64,
+    seq: u64,
+) -> Result<Member<S>, Fault> {
+    let (uuid, medium) = (package(number), item(number));
+    let mut conn = empty_package(alloc, conn, uuid, MADE)?;
+    let command = add_medium(alloc, uuid, medium)?;
+    let thing = moved_medium(medium);
+    let receipt = receipt_of(alloc, seq, request(number), uuid, thing, ONE_MEDIUM)?;
+    if !is_at_rest(&conn) {
+        return Err(Fault::StoreFault);
+    }
+    apply_to_package(&mut conn, &command, &receipt)?;
+    Ok(member_of(conn, uuid, ONE_MEDIUM, seq))
+}
