@@ -94,10 +94,7 @@ fn lent_by<S: Alter + Drop>(
 }
 
 /// Whether a split ever made a package of this UUID.
-fn was_ever_lent<S: Alter + Drop>(
-    members: &mut Vec<Member<S>>,
-    id: Uuid,
-) -> Result<bool, Fault>
+fn was_ever_lent<S: Alter + Drop>(members: &mut Vec<Member<S>>, id: Uuid) -> Result<bool, Fault>
     requires { AllRest S.Store members.old.items }
     ensures { AsksAll S.Store (λ w found. found ≡ ever_lent w id) members.old.items members.new.items result }
 {
@@ -151,12 +148,7 @@ fn refused_by_place(frame: &Frame, rect: &Rect, depth: u64) -> Option<Refusal>
 }
 
 /// Why a split is refused for its texts, its rectangle or the depth of its package, if it is.
-fn refused_by_values(
-    frame: &Frame,
-    request: &Request,
-    rect: &Rect,
-    depth: u64,
-) -> Option<Refusal>
+fn refused_by_values(frame: &Frame, request: &Request, rect: &Rect, depth: u64) -> Option<Refusal>
     requires { IsTrue (is_good_frame frame.now) }
     ensures why { result ≡ first_row (value_reasons frame.now request.now rect.now depth) }
     ensures rect { result ≡ None → IsTrue (is_good_rect frame.now rect.now) }
