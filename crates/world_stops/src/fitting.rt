@@ -77,7 +77,7 @@ pub fn is_after(found: &LoanOutcome, both: &BothLoans) -> bool {
     are_left(&found.left, &both.after.left)
 }
 
-/// The reply is that of the request, or a fault; the stores that a crash leaves, and the world itself where it can be read, are those of before or after. A shelf that had no store leaves a world that goes on.
+/// The reply is that of the request, or a fault; the stores that a crash leaves, and the world itself where it can be read, are those of before or after. A shelf that had no store leaves a world that goes on; a world that failed answers `StoreFault` to what it answered before.
 pub fn expect_loan_fits(rt: &impl Abort, found: &LoanOutcome, both: &BothLoans) {
     let is_before = are_left(&found.left, &both.before.left);
     let is_after = is_after(found, both);
@@ -91,6 +91,11 @@ pub fn expect_loan_fits(rt: &impl Abort, found: &LoanOutcome, both: &BothLoans) 
     }
     if found.number < 0 && !found.has_failed {
         assert!(rt; is_before);
+    }
+    if found.has_failed {
+        assert_eq!(rt; found.again, STORE_FAULT);
+    } else {
+        assert!(rt; found.again == 1 || found.again <= OUT_OF_MEMORY);
     }
     let stands_for = if found.number > 0 {
         both.after.live.as_ref()

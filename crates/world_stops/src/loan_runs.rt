@@ -94,7 +94,7 @@ fn prepared<S: Alter + Drop, H: Shelf<S>>(
     Ok(Some(world))
 }
 
-/// What came of a request: its reply as a number and as a text, whether world and shelf failed, what the world read as then, where it could be read, and what the stores read as that were left and could be read.
+/// What came of a request: its reply as a number and as a text, whether world and shelf failed, what the world read as then, where it could be read, what the first request of the chain was told when it came again after that, and what the stores read as that were left and could be read.
 #[derive(Drop)]
 pub struct LoanOutcome {
     pub number: i64,
@@ -102,6 +102,7 @@ pub struct LoanOutcome {
     pub has_failed: bool,
     pub was_unshelved: bool,
     pub live: Option<String>,
+    pub again: i64,
     pub left: Vec<String>,
 }
 
@@ -112,6 +113,7 @@ struct Reply {
     text: String,
     has_failed: bool,
     live: Option<String>,
+    again: i64,
 }
 
 fn replied<S: Alter + Drop, H: Shelf<S>>(
@@ -124,11 +126,14 @@ fn replied<S: Alter + Drop, H: Shelf<S>>(
     let reply = world.apply(alloc, &request, shelf);
     let has_failed = world.has_failed();
     let live = seen_in_all(alloc, world, request.id).ok();
+    let first = chain()[0].request(alloc)?;
+    let again = told(&world.apply(alloc, &first, shelf));
     Ok(Reply {
         number: told(&reply),
         text: reply_text(alloc, &reply)?,
         has_failed,
         live,
+        again,
     })
 }
 
@@ -180,6 +185,7 @@ fn outcome(reply: Reply, was_unshelved: bool, left: Vec<String>) -> LoanOutcome 
         has_failed: reply.has_failed,
         was_unshelved,
         live: reply.live,
+        again: reply.again,
         left,
     }
 }
