@@ -4,4 +4,12 @@
 #[cfg(test)]
 mod deciding_tests;
 #[cfg(test)]
+mod loan_tests;
+#[cfg(test)]
+mod loan_values;
+#[cfg(test)]
+mod many_tests;
+#[cfg(test)]
+mod shelf_tests;
+#[cfg(test)]
 mod world_tests;

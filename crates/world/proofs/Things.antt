@@ -1,5 +1,5 @@
 -- The things of a selection, each looked up by its identity and all sorted, are those of the cut that it names.
-use Rattle.std.specs.Prelude.{◌≡◌, ◌<◌, ◌+◌, ℕ, List, [], ◌∷◌, ◌++◌, map, length, Option, Some, refl, bytes_eq, option_map, IsPermutation, Contains}
+use Rattle.std.specs.Prelude.{◌≡◌, ◌<◌, ◌+◌, ℕ, List, [], ◌∷◌, ◌++◌, map, length, Option, Some, bytes_eq, option_map, IsPermutation, Contains}
 use Rattle.std.proofs.Common.{sym, ap, subst, ◌∙◌, take, get_or}
 use Rattle.std.specs.List.{IsDistinct}
 use Rattle.std.proofs.lemmas.List.{append-nil, map_more, map_push}

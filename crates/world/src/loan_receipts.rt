@@ -21,23 +21,23 @@ use sqlite::Alter;
 use std::alloc::Global;
 use uuid::Uuid;
 
-/// What a receipt says of the item under an identity in the package of the member at a place, which has it.
+/// What a receipt says of the item under an identity in the package of the member at a place, if there is one.
 fn thing_at<S: Alter + Drop>(
     members: &mut Vec<Member<S>>,
     at: usize,
     identity: Uuid,
-) -> Result<Moved, Fault>
+) -> Result<Option<Moved>, Fault>
     requires within { at < length members.old.items }
     requires rests { AllRest S.Store members.old.items }
-    ensures { AsksAll S.Store (λ w thing. (p : Package) → slice_get w.packages at ≡ Some p → option_map item_moved (item_of p identity) ≡ Some thing) members.old.items members.new.items result }
+    ensures { AsksAll S.Store (λ w thing. (p : Package) → slice_get w.packages at ≡ Some p → thing ≡ option_map item_moved (item_of p identity)) members.old.items members.new.items result }
 {
-    let Some(item) = item_at(members, at, identity)? else {
-        return Err(Fault::StoreFault);
-    };
-    Ok(Moved::of_item(&item))
+    match item_at(members, at, identity)? {
+        Some(item) => Ok(Some(Moved::of_item(&item))),
+        None => Ok(None),
+    }
 }
 
-/// The same of each of these identities.
+/// The same of each of these identities; a fault where there is none under one of them, which no selection names.
 fn things_under<S: Alter + Drop>(
     members: &mut Vec<Member<S>>,
     at: usize,
@@ -50,7 +50,9 @@ fn things_under<S: Alter + Drop>(
 {
     let mut things = Vec::new(alloc);
     for identity in identities {
-        let thing = thing_at(members, at, *identity)?;
+        let Some(thing) = thing_at(members, at, *identity)? else {
+            return Err(Fault::StoreFault);
+        };
         things.push(thing)?;
     }
     Ok(things)
@@ -70,13 +72,11 @@ fn in_order(mut things: Vec<Moved>) -> Result<Vec<Moved>, Fault>
 }
 
 /// Things, and behind them what a receipt says of these links.
-fn with_links(mut things: Vec<Moved>, links: &[Relation]) -> Result<Vec<Moved>, Fault>
+fn with_links(alloc: Global, things: Vec<Moved>, links: &[Relation]) -> Result<Vec<Moved>, Fault>
     ensures { IfOk result (λ all. all.items ≡ things.items ++ map link_moved links.now) }
 {
-    for link in links {
-        things.push(Moved::of_link(link))?;
-    }
-    Ok(things)
+    let linked = links.iter().map(|link| Moved::of_link(link));
+    Ok(things.into_iter().chain(linked).collect(alloc)?)
 }
 
 /// What is selected of the package of the member at a place, as a receipt names it: items by kind and identity, then links.
@@ -96,7 +96,7 @@ pub(crate) fn things_at<S: Alter + Drop>(
 {
     let items = things_under(members, at, alloc, &selection.identities)?;
     let sorted = in_order(items)?;
-    let things = with_links(sorted, &selection.links)?;
+    let things = with_links(alloc, sorted, &selection.links)?;
     Ok(MovedList::from_vec(things))
 }
 
