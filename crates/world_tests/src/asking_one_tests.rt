@@ -1,7 +1,4 @@
 // What is asked of the second of two members, of whose packages the first is empty and the second has one tile. What is expected follows from the two packages.
-use world::asking::are_at_rest;
-use world::asking_one::{item_at, refusal_at, thing_moved};
-use world::members::Member;
 use crate::values::member_of;
 use package_tables::fault::Fault;
 use package_tables::identities::insert_identity;
@@ -16,6 +13,9 @@ use std::alloc::Global;
 use std::test::Fail;
 use test_values::{FRAME, NOTHING, is_good, tile_content};
 use uuid::Uuid;
+use world::asking::are_at_rest;
+use world::asking_one::{item_at, refusal_at, thing_moved};
+use world::members::Member;
 
 fn package() -> Uuid {
     Uuid::from_u128(9)

@@ -1,13 +1,13 @@
 // Two packages in memory, each with one medium and its receipt, and what they are asked. What is expected follows from what was entered.
 
-use world::asking::{are_at_rest, is_named_in_all, kept_in_all, place_of};
-use world::members::Member;
 use crate::values::{item, member_with_a_medium, package, request};
 use package_tables::fault::Fault;
 use sqlite::{Alter, Connection};
 use std::alloc::Global;
 use std::test::Fail;
 use uuid::Uuid;
+use world::asking::{are_at_rest, is_named_in_all, kept_in_all, place_of};
+use world::members::Member;
 
 // The number of the receipt that is kept for a request, 0 where there is none.
 fn kept_number<S: Alter + Drop>(

@@ -1,10 +1,9 @@
 // Each command that changes one package, carried out with its receipt in a new package in memory. What is expected follows from what the command asks for.
 
-use world::carrying_out::apply_to_package;
-use lending::turn_fault::TurnFault;
 use crate::values::{MADE, add_medium};
 use custody::names;
 use identity_register::look_ups::{find, has_link};
+use lending::turn_fault::TurnFault;
 use package_tables::fault::Fault;
 use package_tables::fixed::all_contents;
 use sheet_types::command::{Command, Content, Mapping, Relation};
@@ -16,6 +15,7 @@ use std::alloc::Global;
 use std::test::Fail;
 use test_values::{NOTHING, empty_package, receipt_of, tile_content};
 use uuid::Uuid;
+use world::carrying_out::apply_to_package;
 
 fn package() -> Uuid {
     Uuid::from_u128(1)

@@ -1,6 +1,4 @@
 // Requests and the numbers of the reasons for which they are refused, by the rules: 4 a text, 5 a size, 7 no such item, 8 a kind, 9 no such place, 10 outside the frame, 11 a taken place, 12 a link that is there, 13 one that is not, 14 an item that is linked; 0 where none holds.
-use world::judging::package_refusal;
-use world::texts::text_refusal;
 use package_tables::fault::Fault;
 use sheet_types::command::{Command, Content, Mapping, Mode, Request};
 use sheet_types::frame::{Frame, Rect};
@@ -13,6 +11,8 @@ use test_values::{
     AT, FRAME, archive, fill_with_a_link, is_good, medium_content, row_content, text, tile_content,
 };
 use uuid::Uuid;
+use world::judging::package_refusal;
+use world::texts::text_refusal;
 
 fn number(refusal: Option<Refusal>) -> u8 {
     match refusal {

@@ -136,7 +136,13 @@ fn linked(mapping: Mapping, base: u64, other: u64) -> Command {
 // A tile inside with a medium that it is linked to, and a tile and a row outside: requests 1 to 5.
 fn filled(world: &mut InFiles, alloc: Global) -> Result<u64, Fail> {
     added(world, alloc, 1, 1, tile_content(alloc, [2, 1, 1], b"ab")?)?;
-    added(world, alloc, 1, 2, medium_content(alloc, "image/png", b"png")?)?;
+    added(
+        world,
+        alloc,
+        1,
+        2,
+        medium_content(alloc, "image/png", b"png")?,
+    )?;
     added(world, alloc, 1, 3, row_content(alloc, [5, 6], 7, "mark")?)?;
     added(world, alloc, 1, 4, tile_content(alloc, [2, 2, 0], b"cde")?)?;
     Ok(accepted(world, alloc, 5, linked(Mapping::TilesMedia, 1, 2))?.seq)
@@ -200,11 +206,25 @@ fn a_loan_goes_and_comes_home(rt: HostRuntime) -> Result<(), Fail> {
         (MovedKind::TilesMediaLink, 1),
     ];
     assert!(rt; moved(&lent, &things));
-    assert!(rt; are(world.packages(alloc)?.as_slice(), &[(1, None, 0, 6), (9, Some(1), 1, 6)]));
+    assert!(rt;
+        are(
+            world.packages(alloc)?.as_slice(),
+            &[(1, None, 0, 6), (9, Some(1), 1, 6)]
+        )
+    );
     assert!(rt; holds(&world, 1, sums(1, 0, 1, 0, 7)) && holds(&world, 9, sums(1, 1, 0, 1, 5)));
     let again = accepted(&mut world, alloc, 6, split(1, 9, Mode::Follow, quarter()))?;
     assert_eq!(rt; again.seq, 6);
-    assert_eq!(rt; added(&mut world, alloc, 9, 7, medium_content(alloc, "image/png", b"c")?)?, 7);
+    assert_eq!(rt;
+        added(
+            &mut world,
+            alloc,
+            9,
+            7,
+            medium_content(alloc, "image/png", b"c")?
+        )?,
+        7
+    );
     assert!(rt; refused(&mut world, alloc, 8, merge(9, 1, 6))? == Refusal::Stale(7));
     assert!(rt; refused(&mut world, alloc, 8, merge(1, 9, 6))? == Refusal::Foreign);
     let home = accepted(&mut world, alloc, 8, merge(9, 1, 7))?;
@@ -252,7 +272,9 @@ fn a_split_that_is_refused(rt: HostRuntime) -> Result<(), Fail> {
         last_column: 2,
         ..quarter()
     };
-    assert!(rt; refused(&mut world, alloc, 6, split(1, 9, Mode::Strict, bad))? == Refusal::BadRectangle);
+    assert!(rt;
+        refused(&mut world, alloc, 6, split(1, 9, Mode::Strict, bad))? == Refusal::BadRectangle
+    );
     assert!(rt; are(world.packages(alloc)?.as_slice(), &[(1, None, 0, 6)]));
     Ok(())
 }
@@ -265,7 +287,10 @@ fn loans_of_loans(rt: HostRuntime) -> Result<(), Fail> {
     filled(&mut world, alloc)?;
     for depth in 1..5_u64 {
         let lent = split(depth, depth + 1, Mode::Follow, whole());
-        assert_eq!(rt; accepted(&mut world, alloc, 5 + depth, lent)?.seq, 5 + depth);
+        assert_eq!(rt;
+            accepted(&mut world, alloc, 5 + depth, lent)?.seq,
+            5 + depth
+        );
     }
     let deep = refused(&mut world, alloc, 10, split(5, 6, Mode::Follow, whole()))?;
     assert!(rt; deep == Refusal::TooDeep);
@@ -273,7 +298,10 @@ fn loans_of_loans(rt: HostRuntime) -> Result<(), Fail> {
     assert!(rt; open == Refusal::LoanOpen(package(5)));
     for number in 0..4_u64 {
         let home = merge(5 - number, 4 - number, 9 + number as i64);
-        assert_eq!(rt; accepted(&mut world, alloc, 10 + number, home)?.seq, 10 + number);
+        assert_eq!(rt;
+            accepted(&mut world, alloc, 10 + number, home)?.seq,
+            10 + number
+        );
     }
     assert!(rt; are(world.packages(alloc)?.as_slice(), &[(1, None, 0, 13)]));
     assert!(rt; holds(&world, 1, sums(2, 1, 1, 1, 12)));

@@ -1,9 +1,5 @@
 // What a world in memory tells after a few requests, and what two members tell. What is expected follows from what each request asks for: an item counts the bytes of its tile, medium or label.
-use world::asking::are_at_rest;
-use world::members::Member;
-use world::reading::{PackageSight, holdings_in, sights_of, sums_in};
 use crate::values::{item, member_with_a_medium, package, request};
-use world::world::World;
 use identity_register::whole::holdings;
 use package_tables::fault::Fault;
 use sheet_types::command::{Command, Content, Item, Mapping, Relation, Request};
@@ -15,6 +11,10 @@ use std::alloc::Global;
 use std::test::Fail;
 use test_values::{AT, FRAME, NOTHING, medium_content, row_content, sums, text, tile_content};
 use uuid::Uuid;
+use world::asking::are_at_rest;
+use world::members::Member;
+use world::reading::{PackageSight, holdings_in, sights_of, sums_in};
+use world::world::World;
 
 // An archive in memory, of package 1.
 fn archive(alloc: Global) -> Result<World<MemStore>, Fail> {

@@ -1,9 +1,5 @@
 // Two packages in memory, of which the second takes turns. What is expected follows from what each command asks for.
 
-use world::asking::are_at_rest;
-use world::members::Member;
-use world::sums::{sums_after, sums_moved};
-use world::turning::turn_at;
 use crate::values::{MADE, add_medium, member_of, package};
 use identity_register::look_ups::find;
 use package_tables::fault::Fault;
@@ -16,6 +12,10 @@ use std::alloc::Global;
 use std::test::Fail;
 use test_values::{NOTHING, ONE_MEDIUM, empty_package, moved_medium, receipt_of, sums};
 use uuid::Uuid;
+use world::asking::are_at_rest;
+use world::members::Member;
+use world::sums::{sums_after, sums_moved};
+use world::turning::turn_at;
 
 fn medium() -> Uuid {
     Uuid::from_u128(16)
