@@ -1,5 +1,5 @@
 -- What is held is what custody says, of sights and of the packages that are seen so.
-use Rattle.std.specs.Prelude.{◌≡◌, ◌↔◌, ◌&&◌, ◌||◌, ℕ, Bool, true, false, cond, IsTrue, List, [], ◌∷◌, map, Option, Some, None, is_some, unwrap_or, bytes_eq, find, refl}
+use Rattle.std.specs.Prelude.{◌≡◌, ◌↔◌, ◌&&◌, ◌||◌, ℕ, Bool, true, false, cond, IsTrue, List, [], ◌∷◌, map, Option, Some, None, is_some, unwrap_or, bytes_eq, refl}
 use Rattle.std.proofs.Common.{sym, ap, subst, ◌∙◌}
 use Rattle.std.specs.List.{list_any, AllByRecursion}
 use Rattle.std.specs.Option.{option_and_then}
@@ -12,12 +12,11 @@ use Rattle.std.proofs.lemmas.Bool.{true≢false, false≢true}
 use Rattle.std.proofs.lemmas.Map.Text.{is_eq-slice_cmp}
 use Rattle.std.proofs.lemmas.Slice.Eq.{bytes_eq-Decides}
 use Rattle.sheet_types.specs.Ordered.{has, entry}
-use Rattle.sheet_types.specs.World.{World, Package, holdings, no_package, receipts_of, package_key, moved_thing, item_moved, link_moved, item_thing, link_key}
+use Rattle.sheet_types.specs.World.{World, Package, no_package, receipts_of, package_key, moved_thing, item_moved, link_moved, item_thing, link_key}
 use Rattle.sheet_types.specs.Custody.{custody}
 use Rattle.sheet_types.specs.Balance.{holds}
 use Rattle.sheet_types.specs.declared.receipt.Receipt.{Receipt}
 use Rattle.sheet_types.specs.declared.receipt.Moved.{Moved}
-use Rattle.sheet_types.proofs.Basics.{bytes_eq_itself}
 use Rattle.sheet_types.proofs.Every.{All-map, All-weaker}
 use Rattle.ledger_laws.proofs.Facts.{items_held, links_held}
 use Rattle.ledger_laws.proofs.Packages.{each_found}

@@ -3,3 +3,10 @@ pub mod Sorting
 pub mod Summing
 pub mod Leaving
 pub mod Kept
+pub mod Each
+pub mod Splitting
+pub mod Lending
+pub mod Undoing
+pub mod Coming
+pub mod Judged
+pub mod Fitness

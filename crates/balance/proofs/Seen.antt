@@ -1,7 +1,7 @@
 -- What is seen of a world's packages is what they are.
-use Rattle.std.specs.Prelude.{◌≡◌, ◌↔◌, ◌||◌, ◌+◌, ◌<◌, ◌≤◌, ⊤, ℕ, suc, Bool, true, false, cond, List, [], ◌∷◌, ◌++◌, length, take, map, flat_map, refl, find, Option, Some, None, bytes_eq, is_none, unwrap_or}
+use Rattle.std.specs.Prelude.{◌≡◌, ◌↔◌, ◌||◌, ◌<◌, ⊤, ℕ, suc, Bool, true, false, cond, List, [], ◌∷◌, ◌++◌, length, take, flat_map, refl, find, Option, Some, None, bytes_eq, is_none, unwrap_or}
 use Rattle.std.specs.Option.{MatchOption, option_map, option_map_or}
-use Rattle.std.proofs.Common.{sym, subst, ap, ◌∙◌, drop, get_or, arith}
+use Rattle.std.proofs.Common.{sym, subst, ap, ◌∙◌, drop, get_or}
 use Rattle.std.proofs.lemmas.Bool.{true≢false}
 use Rattle.std.specs.List.{list_any, AllByRecursion}
 use Rattle.sheet_types.specs.Ordered.{entry}

@@ -1,5 +1,5 @@
 -- The sums of what is seen are those of what is held.
-use Rattle.std.specs.Prelude.{◌≡◌, ◌↔◌, ◌+◌, ◌||◌, ◌&&◌, IsTrue, ℕ, suc, Bool, true, false, cond, List, [], ◌∷◌, length, map, find, Option, Some, None, bytes_eq, refl, unwrap_or, filter, sum_by, count_by}
+use Rattle.std.specs.Prelude.{◌≡◌, ◌↔◌, ◌+◌, ◌||◌, ◌&&◌, IsTrue, ℕ, suc, Bool, true, false, cond, List, [], ◌∷◌, length, map, Some, None, bytes_eq, refl, unwrap_or, filter, sum_by, count_by}
 use Rattle.std.proofs.Common.{sym, ap, subst, ◌∙◌, arith}
 use Rattle.std.proofs.lemmas.Bool.{true≢false}
 use Rattle.std.proofs.lemmas.Slice.Eq.{bytes_eq-Decides}
@@ -16,6 +16,9 @@ use Rattle.sheet_types.specs.declared.receipt.MovedKind.{MovedKind}
 use Rattle.sheet_types.specs.declared.receipt.MovedKind.TheVariants.{TileItem, MediaItem, RowItem}
 use Rattle.sheet_types.proofs.Every.{All-weaker}
 use Rattle.std.specs.BTreeMap.{BTreeMap}
+use Rattle.std.specs.BTreeSet.{BTreeSet, contains}
+use Rattle.std.specs.Ordering.{nat_cmp}
+use Rattle.std.specs.Cmp.Lexicographic.{slice_cmp}
 use Rattle.ledger.specs.Flows.{flow_by, flow_in, HasFlows}
 use Rattle.ledger.specs.declared.flows.Flow.{Flow}
 use Rattle.ledger.specs.Parts.{SumsAddUp}
@@ -160,12 +163,12 @@ and_parts true true e = (refl, refl)
 and_parts true false e = absurd (true≢false (sym e))
 and_parts false b e = absurd (true≢false (sym e))
 
-pub sums_answer : (flows : BTreeMap (List ℕ) Flow) (ledger : List Receipt) (ss : List Sight) (a b : Bool) → HasFlows flows ledger → IsTrue a ↔ AllByRecursion (ComesUpIn ledger) ss
-    → IsTrue b ↔ ((p : List ℕ) → is_seen ss p ≡ false → (flow_in flows p).came ≡ (flow_in flows p).left) → (w : World) → IsSeenWith ledger ss w → IsTrue (a && b) ↔ SumsAddUp w
-sums_answer flows ledger ss a b has f g w h = (
+pub sums_answer : (flows : BTreeMap (List ℕ) Flow) (uuids : BTreeSet (List ℕ)) (ledger : List Receipt) (ss : List Sight) (a b : Bool) → HasFlows flows ledger → ((p : List ℕ) → contains (slice_cmp nat_cmp) uuids p ≡ is_seen ss p) → IsTrue a ↔ AllByRecursion (ComesUpIn ledger) ss
+    → IsTrue b ↔ ((p : List ℕ) → contains (slice_cmp nat_cmp) uuids p ≡ false → (flow_in flows p).came ≡ (flow_in flows p).left) → (w : World) → IsSeenWith ledger ss w → IsTrue (a && b) ↔ SumsAddUp w
+sums_answer flows uuids ledger ss a b has known f g w h = (
   (λ e. let parts : (a ≡ true) × (b ≡ true) = and_parts a b e in
-      (seen_sums ledger ss w h).0 (record { held = f.0 parts.0; others = λ p no. ap (λ x. x.came) (sym (has.flow p)) ∙ g.0 parts.1 p no ∙ ap (λ x. x.left) (has.flow p) })),
+      (seen_sums ledger ss w h).0 (record { held = f.0 parts.0; others = λ p no. ap (λ x. x.came) (sym (has.flow p)) ∙ g.0 parts.1 p (known p ∙ no) ∙ ap (λ x. x.left) (has.flow p) })),
   (λ s. let back : SumsSeen ledger ss = (seen_sums ledger ss w h).1 s in
       let first : a ≡ true = f.1 back.held in
-      ap (λ x. x && b) first ∙ g.1 (λ p no. ap (λ x. x.came) (has.flow p) ∙ back.others p no ∙ ap (λ x. x.left) (sym (has.flow p)))),
+      ap (λ x. x && b) first ∙ g.1 (λ p no. ap (λ x. x.came) (has.flow p) ∙ back.others p (sym (known p) ∙ no) ∙ ap (λ x. x.left) (sym (has.flow p)))),
 )

@@ -1,1 +1,4 @@
 pub mod Sights
+pub mod Splits
+pub mod Homes
+pub mod Registers

@@ -1,17 +1,17 @@
 -- What the judge sees of a world. Profile.
-use Rattle.std.specs.Prelude.{◌≡◌, ◌+◌, length, count_by, sum_by, ⊤, ℕ, Bool, List, [], ◌∷◌, map, flat_map, true, false, ◌&&◌, ◌||◌, ◌==◌, bytes_eq, find, Option, Some, is_none}
+use Rattle.std.specs.Prelude.{◌≡◌, ◌+◌, length, sum_by, ⊤, ℕ, Bool, List, [], ◌∷◌, map, true, false, ◌&&◌, ◌||◌, ◌==◌, bytes_eq, find, Option, Some, is_none}
 use Rattle.std.specs.Option.{MatchOption, option_map, option_map_or}
 use Rattle.std.specs.List.{list_any, AllByRecursion}
 use Rattle.sheet_types.specs.Custody.{is_split, is_merge, ends_at, after}
 use Rattle.sheet_types.specs.Ordered.{has, IsArranged}
 use Rattle.sheet_types.specs.Refuse.{is_archive}
 use Rattle.sheet_types.specs.Step.{count_of}
-use Rattle.sheet_types.specs.World.{World, Package, kind_number, item_moved, link_moved, moved_thing, package_key, receipts_of}
+use Rattle.sheet_types.specs.World.{World, Package, item_moved, link_moved, moved_thing, package_key, receipts_of}
 use Rattle.sheet_types.specs.declared.receipt.Receipt.{Receipt}
 use Rattle.sheet_types.specs.declared.receipt.Moved.{Moved}
-use Rattle.sheet_types.specs.declared.receipt.MovedKind.{MovedKind}
 use Rattle.sheet_types.specs.declared.receipt.MovedKind.TheVariants.{TileItem, MediaItem, RowItem}
 use Rattle.ledger.specs.Flows.{flow_by}
+use Rattle.ledger.specs.Parts.{HoldsWhatIsKept, SumsAddUp, AreLoans, AreAtHome, AreTogether}
 use Rattle.ledger.specs.declared.flows.Flow.{Flow}
 use Rattle.balance.specs.declared.sights.Sight.{Sight}
 
@@ -41,6 +41,14 @@ pub record IsSeen (sights : List Sight) (w : World) : Type 0 where
 pub record IsSeenWith (ledger : List Receipt) (sights : List Sight) (w : World) : Type 0 where
   pub seen : IsSeen sights w
   pub whole : ledger ≡ receipts_of w
+
+-- the ledger accounts for what is held, and each receipt stands where it ought to
+pub record IsAccounted (w : World) : Type 0 where
+  pub custody_is : HoldsWhatIsKept w
+  pub sums : SumsAddUp w
+  pub loans : AreLoans w
+  pub homes : AreAtHome w
+  pub together : AreTogether w
 
 -- ---- what sights say by themselves
 

@@ -1,9 +1,14 @@
-//! Whether the custody, the sums and the loans that receipts tell are those of what is held, judged over what is seen of the packages of a world. It stands on values alone and knows no store.
+//! The judge of balanced worlds: whether the ledger of a world is sound, and the custody, the sums, the loans and the places that its receipts tell are those of what is held, judged over what is seen of its packages. It stands on values alone and knows no store.
 #![tactic(auto)]
 
 pub mod holding;
+pub mod homes;
+pub mod judging;
+pub mod laws;
 pub mod loans;
+pub mod merges;
 pub mod sights;
+pub mod splits;
 pub mod sums;
 #[cfg(test)]
 mod tests;

@@ -1,29 +1,43 @@
 //! Whether each loan has the number of its split, which stands in its parent and is not undone.
-ghost use Rattle.std.specs.Prelude.{◌≡◌, ◌↔◌, IsTrue};
-ghost use Rattle.std.specs.List.{AllByRecursion};
-ghost use Rattle.sheet_types.specs.Custody.{ends_at};
+ghost use Rattle.std.specs.Prelude.{◌≡◌, ◌↔◌, ◌&&◌, ◌==◌, bytes_eq, IsTrue, IfOk};
+ghost use Rattle.std.specs.List.{list_any, AllByRecursion};
 ghost use Rattle.sheet_types.specs.World.{World};
 ghost use Rattle.ledger.specs.Parts.{AreLoans};
-ghost use Rattle.balance.specs.Sights.{IsSeenWith, IsLoanSeen, receipts_in, has_split, is_merged_after};
+ghost use Rattle.balance.specs.Sights.{IsSeenWith};
+ghost use Rattle.balance.specs.Splits.{IsLoanBy};
 
 use crate::sights::Sight;
-use ledger::loans::{is_merge, is_split};
+use crate::splits::{Lent, lents_of, splits_of};
+use ledger::loans::{is_open, last_merges};
+use sheet_types::error::OutOfMemory;
 use sheet_types::receipt::Receipt;
+use std::alloc::Global;
+use std::collections::BTreeMap;
 use uuid::Uuid;
 
 /// Whether each package with a parent is the loan of a split that stands in its parent and has its number, and that no merge of a greater number undoes.
-pub fn are_loans(ledger: &[Receipt], sights: &[Sight]) -> bool
-    ensures { (w : World) → IsSeenWith ledger.now sights.now w → IsTrue result ↔ AreLoans w }
+///
+/// # Errors
+///
+/// Want of memory.
+pub fn are_loans(alloc: Global, ledger: &[Receipt], sights: &[Sight]) -> Result<bool, OutOfMemory>
+    ensures { IfOk result (λ loans. (w : World) → IsSeenWith ledger.now sights.now w → IsTrue loans ↔ AreLoans w) }
 {
-    are_loans_seen(ledger, sights)
+    let merges = last_merges(alloc, ledger)?;
+    let splits = splits_of(alloc, sights)?;
+    Ok(are_loans_seen(&merges, &splits, sights))
 }
 
-// The same of the sights alone.
-fn are_loans_seen(ledger: &[Receipt], sights: &[Sight]) -> bool
-    ensures { IsTrue result ↔ AllByRecursion (IsLoanSeen ledger.now sights.now) sights.now }
+// The same by the last merges and the splits.
+fn are_loans_seen(
+    merges: &BTreeMap<Uuid, u64>,
+    splits: &BTreeMap<Uuid, Vec<Lent>>,
+    sights: &[Sight],
+) -> bool
+    ensures { IsTrue result ↔ AllByRecursion (IsLoanBy merges.now splits.now) sights.now }
 {
     for sight in sights {
-        if !is_loan(ledger, sights, sight) {
+        if !is_loan(merges, splits, sight) {
             return false;
         }
     }
@@ -31,51 +45,21 @@ fn are_loans_seen(ledger: &[Receipt], sights: &[Sight]) -> bool
 }
 
 // Whether a package has no parent, or is the loan of a split that stands in its parent and that no later merge undoes.
-fn is_loan(ledger: &[Receipt], sights: &[Sight], sight: &Sight) -> bool
-    ensures { IsTrue result ↔ IsLoanSeen ledger.now sights.now sight.now }
+fn is_loan(merges: &BTreeMap<Uuid, u64>, splits: &BTreeMap<Uuid, Vec<Lent>>, sight: &Sight) -> bool
+    ensures { IsTrue result ↔ IsLoanBy merges.now splits.now sight.now }
 {
     let Some(parent) = sight.parent else {
         return true;
     };
-    split_stands_in(sights, parent, sight.uuid, sight.loan)
-        & !is_merged_after(ledger, sight.uuid, sight.loan)
+    stands_in(lents_of(splits, sight.uuid), parent, sight.loan)
+        & is_open(merges, sight.uuid, sight.loan)
 }
 
-// Whether the split of this target and number is among the receipts of the package.
-fn split_stands_in(sights: &[Sight], package: Uuid, target: Uuid, seq: u64) -> bool
-    ensures { result ≡ has_split (receipts_in sights.now «package») target seq }
+// Whether the split of this number that stands in this package is among these.
+fn stands_in(lents: &[Lent], home: Uuid, seq: u64) -> bool
+    ensures { result ≡ list_any (λ l. bytes_eq l.home home && (l.seq == seq)) lents.now }
 {
-    for sight in sights {
-        if sight.uuid == package {
-            return has_split(sight.receipts.as_slice(), target, seq);
-        }
-    }
-    false
-}
-
-// Whether the split of this target and number is among these.
-fn has_split(receipts: &[Receipt], target: Uuid, seq: u64) -> bool
-    ensures { result ≡ has_split receipts.now target seq }
-{
-    receipts.iter().any(|receipt| is_split(receipt)
-        & ends_at(&receipt.target, target)
-        & (receipt.seq == seq))
-}
-
-// Whether a merge of a greater number has the package as source.
-fn is_merged_after(ledger: &[Receipt], package: Uuid, seq: u64) -> bool
-    ensures { result ≡ is_merged_after ledger.now «package» seq }
-{
-    ledger.iter().filter(|receipt| seq < receipt.seq).any(|receipt| is_merge(receipt)
-        & ends_at(&receipt.source, package))
-}
-
-// Whether the end is this package.
-fn ends_at(end: &Option<Uuid>, package: Uuid) -> bool
-    ensures { result ≡ ends_at end.now «package» }
-{
-    match end {
-        Some(id) => *id == package,
-        None => false,
-    }
+    lents
+        .iter()
+        .any(|lent| (lent.home == home) & (lent.seq == seq))
 }

@@ -1,6 +1,10 @@
 //! Whether what came to each package is what left it and what it holds.
-ghost use Rattle.std.specs.Prelude.{◌≡◌, ◌↔◌, ◌+◌, ℕ, List, false, bytes_eq, sum_by, IsTrue, IfOk};
-ghost use Rattle.std.specs.List.{list_any, AllByRecursion};
+ghost use Rattle.std.specs.Prelude.{◌≡◌, ◌↔◌, ◌+◌, ℕ, List, false, sum_by, IsTrue, IfOk};
+ghost use Rattle.std.specs.List.{AllByRecursion};
+ghost use Rattle.std.specs.Ordering.{nat_cmp};
+ghost use Rattle.std.specs.Cmp.Lexicographic.{slice_cmp};
+ghost use Rattle.std.specs.BTreeSet.{contains};
+ghost use Rattle.sheet_types.specs.Ordered.{has};
 ghost use Rattle.sheet_types.specs.World.{World};
 ghost use Rattle.ledger.specs.Parts.{SumsAddUp};
 ghost use Rattle.sheet_types.specs.Step.{count_of};
@@ -11,8 +15,8 @@ use crate::sights::Sight;
 use ledger::flows::{Flow, flow_of, flows};
 use sheet_types::error::OutOfMemory;
 use sheet_types::receipt::{Moved, MovedKind, Receipt};
-use std::alloc::Global;
-use std::collections::BTreeMap;
+use std::alloc::{AllocError, Global};
+use std::collections::{BTreeMap, BTreeSet};
 use uuid::Uuid;
 
 /// Whether for each of the five measures, and for every UUID, what came is what left and what is held.
@@ -25,7 +29,8 @@ pub fn sums_add_up(alloc: Global, ledger: &[Receipt], sights: &[Sight]) -> Resul
 {
     let flows = flows(alloc, ledger)?;
     let seen = are_sums_of(&flows, ledger, sights);
-    let unseen = all_left(&flows, sights);
+    let uuids = uuids_of(alloc, sights)?;
+    let unseen = all_left(&flows, &uuids);
     Ok(seen & unseen)
 }
 
@@ -43,30 +48,34 @@ fn are_sums_of(flows: &BTreeMap<Uuid, Flow>, ledger: &[Receipt], sights: &[Sight
     true
 }
 
-// Whether all that came to a package that is not seen left it.
-fn all_left(flows: &BTreeMap<Uuid, Flow>, sights: &[Sight]) -> bool
-    ensures { IsTrue result ↔ ((p : List ℕ) → list_any (λ s. bytes_eq s.uuid p) sights.now ≡ false → (flow_in flows.now p).came ≡ (flow_in flows.now p).left) }
+// The UUIDs of the packages that are seen.
+fn uuids_of(alloc: Global, sights: &[Sight]) -> Result<BTreeSet<Uuid>, AllocError>
+    ensures { IfOk result (λ uuids. (p : List ℕ) → contains (slice_cmp nat_cmp) uuids p ≡ has (λ s. s.uuid) p sights.now) }
+{
+    let mut uuids = BTreeSet::new(alloc);
+    for sight in sights {
+        uuids.insert(sight.uuid)?;
+    }
+    Ok(uuids)
+}
+
+// Whether all that came to packages that are none of these left them.
+fn all_left(flows: &BTreeMap<Uuid, Flow>, uuids: &BTreeSet<Uuid>) -> bool
+    ensures { IsTrue result ↔ ((p : List ℕ) → contains (slice_cmp nat_cmp) uuids.now p ≡ false → (flow_in flows.now p).came ≡ (flow_in flows.now p).left) }
 {
     for (package, flow) in flows.iter() {
-        if !has_left(sights, *package, flow) {
+        if !has_left(uuids, package, flow) {
             return false;
         }
     }
     true
 }
 
-// Whether a package is seen, or all that came to it left it.
-fn has_left(sights: &[Sight], package: Uuid, flow: &Flow) -> bool
-    ensures { IsTrue result ↔ (list_any (λ s. bytes_eq s.uuid «package») sights.now ≡ false → flow.now.came ≡ flow.now.left) }
+// Whether a package is one of these, or all that came to it left it.
+fn has_left(uuids: &BTreeSet<Uuid>, package: &Uuid, flow: &Flow) -> bool
+    ensures { IsTrue result ↔ (contains (slice_cmp nat_cmp) uuids.now «package».now ≡ false → flow.now.came ≡ flow.now.left) }
 {
-    is_seen(sights, package) || (flow.came == flow.left)
-}
-
-// Whether a package of this UUID is seen.
-fn is_seen(sights: &[Sight], package: Uuid) -> bool
-    ensures { result ≡ list_any (λ s. bytes_eq s.uuid «package») sights.now }
-{
-    sights.iter().any(|sight| sight.uuid == package)
+    uuids.contains(package) || (flow.came == flow.left)
 }
 
 // Whether what came is what left and what is held.

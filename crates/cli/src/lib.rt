@@ -4,6 +4,7 @@
 pub mod arguments;
 #[cfg(test)]
 mod arguments_tests;
+pub mod progress;
 pub mod rehearse;
 #[cfg(test)]
 mod rehearse_tests;

@@ -45,8 +45,12 @@ pub fn is_merge(receipt: &Receipt) -> bool
     )
 }
 
-// For each package that a merge among the receipts has as source the greatest number of one.
-fn last_merges(alloc: Global, receipts: &[Receipt]) -> Result<BTreeMap<Uuid, u64>, AllocError>
+/// For each package that a merge among the receipts has as source the greatest number of one.
+///
+/// # Errors
+///
+/// Want of memory.
+pub fn last_merges(alloc: Global, receipts: &[Receipt]) -> Result<BTreeMap<Uuid, u64>, AllocError>
     ensures { IfOk result (λ m. (p : List ℕ) (n : ℕ) → option_map_or (nat_lt n) (get (slice_cmp nat_cmp) m p) false ≡ list_any (λ r. is_merge r && ends_at r.source p) (after n receipts.now)) }
 {
     let mut merges = BTreeMap::new(alloc);
@@ -79,8 +83,8 @@ fn note_merge(merges: &mut BTreeMap<Uuid, u64>, source: Uuid, seq: u64) -> Resul
     Ok(())
 }
 
-// Whether the split of this target and number is open, by the last merges.
-fn is_open(merges: &BTreeMap<Uuid, u64>, target: Uuid, seq: u64) -> bool
+/// Whether the split of this target and number is open, by the last merges: no merge of a greater number has the target as source.
+pub fn is_open(merges: &BTreeMap<Uuid, u64>, target: Uuid, seq: u64) -> bool
     ensures { result ≡ not (option_map_or (nat_lt seq) (get (slice_cmp nat_cmp) merges.now target) false) }
 {
     match merges.get(&target) {

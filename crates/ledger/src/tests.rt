@@ -7,7 +7,7 @@ use crate::fitting::{fits, fits_digest};
 use crate::flows::{flow_of, flows};
 use crate::forms::{are_counted, are_in_order, have_things};
 use crate::laws::{balanced_is_its_parts, sound_is_its_parts};
-use crate::loans::{is_add, is_merge, is_split, open_loans};
+use crate::loans::{is_add, is_merge, is_open, is_split, last_merges, open_loans};
 use crate::moving::start_where_they_ended;
 use crate::newness::{add_what_is_new, lend_new_packages};
 use crate::numbering::{are_numbered, have_new_requests};
@@ -216,6 +216,9 @@ fn places_and_loans_of_the_story(rt: HostRuntime) -> Result<(), Fail> {
     if let Ok(loans) = open_loans(alloc, receipts.as_slice()) {
         assert!(rt; loans.is_empty());
     }
+    let merges = last_merges(alloc, receipts.as_slice())?;
+    assert!(rt; !is_open(&merges, loan(), 2) & is_open(&merges, loan(), 3));
+    assert!(rt; is_open(&merges, archive(), 0));
     if let Some(returned) = receipts.pop() {
         assert!(rt; is_merge(&returned) & !is_split(&returned) & !is_add(&returned));
         assert!(rt; is_entered(&returned));

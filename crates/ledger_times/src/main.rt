@@ -1,7 +1,9 @@
-//! How long a ledger takes to be judged sound, by the number of its receipts. The times go to standard error, a line a ledger; nothing
-//! goes to standard output. Each argument is a number of receipts; with none a small ledger is judged.
+//! How long a ledger takes to be judged sound, and a world to be judged balanced, by the number of receipts. The times go to standard
+//! error, a line a ledger; nothing goes to standard output. Each argument is a number of receipts; with none a small ledger is judged.
 #![tactic(auto)]
 
+use balance::judging::judge;
+use balance::sights::Sight;
 use ledger::accounting::account;
 use ledger::soundness::is_sound;
 use sheet_types::collections::{MovedList, Text};
@@ -60,53 +62,130 @@ fn moving(
     })
 }
 
-// Three receipts: a tile is added to the archive, lent under a new package, and brought back.
-fn push_three(receipts: &mut Vec<Receipt>, alloc: Global, number: u64) -> Result<(), OutOfMemory> {
-    let seq = number.wrapping_mul(3);
+// What packages hold: the archive's receipts and tiles, and the loans that are open.
+#[derive(Drop)]
+struct Archive {
+    receipts: Vec<Receipt>,
+    tiles: Vec<Moved>,
+    loans: Vec<Sight>,
+}
+
+// A tile is added to the archive and lent under a new package. Nine of ten are brought back.
+fn push_tile(into: &mut Archive, alloc: Global, number: u64) -> Result<(), OutOfMemory> {
     let home = archive();
     let loan = Uuid::from_u64_pair(
-        seq.wrapping_mul(0x9e37_79b9_7f4a_7c15),
-        0xb000_0000_0000_0000 | seq,
+        number.wrapping_mul(0x9e37_79b9_7f4a_7c15),
+        0xb000_0000_0000_0000 | number,
     );
+    let seq = into.receipts.len() as u64;
     let ticket = seq.wrapping_add(2);
     let added = add_line(alloc, home, &tile(number))?;
     let lent = format!(in alloc; "split {home} {loan} strict 1 0 0 0 0")?;
+    let add = moving(alloc, seq.wrapping_add(1), number, added, None, Some(home))?;
+    into.receipts.push(add)?;
+    let split = moving(alloc, ticket, number, lent, Some(home), Some(loan))?;
+    into.receipts.push(split)?;
+    if number % 10 == 0 {
+        return push_loan(into, alloc, loan, ticket, number);
+    }
     let returned = format!(in alloc; "merge {loan} {home} {ticket}")?;
-    receipts.push(moving(alloc, seq.wrapping_add(1), number, added, None, Some(home))?)?;
-    receipts.push(moving(alloc, ticket, number, lent, Some(home), Some(loan))?)?;
-    receipts.push(moving(
+    let merge = moving(
         alloc,
         seq.wrapping_add(3),
         number,
         returned,
         Some(loan),
         Some(home),
-    )?)?;
+    )?;
+    into.receipts.push(merge)?;
+    into.tiles.push(tile(number))?;
     Ok(())
 }
 
-// Judges a ledger of this many receipts, the least of some rounds, and takes its account.
+// A loan that is open, with its tile.
+fn push_loan(
+    into: &mut Archive,
+    alloc: Global,
+    loan: Uuid,
+    seq: u64,
+    number: u64,
+) -> Result<(), OutOfMemory> {
+    into.loans.push(Sight {
+        uuid: loan,
+        parent: Some(archive()),
+        loan: seq,
+        items: MovedList::from_vec(vec![in alloc; tile(number)]?),
+        links: MovedList::from_vec(Vec::new(alloc)),
+        receipts: Vec::new(alloc),
+    })?;
+    Ok(())
+}
+
+// The archive and its loans, in the order of their UUIDs.
+fn seen(alloc: Global, of: Archive) -> Result<Vec<Sight>, AllocError> {
+    let mut sights = of.loans;
+    sights.push(Sight {
+        uuid: archive(),
+        parent: None,
+        loan: 0,
+        items: MovedList::from_vec(of.tiles),
+        links: MovedList::from_vec(Vec::new(alloc)),
+        receipts: of.receipts,
+    })?;
+    sights.sort_by_key(|sight: &Sight| sight.uuid)?;
+    Ok(sights)
+}
+
+// A ledger of so many receipts, or a few more, and what the packages hold by it.
+fn build(alloc: Global, size: u64) -> Result<Archive, OutOfMemory> {
+    let mut archive = Archive {
+        receipts: Vec::new(alloc),
+        tiles: Vec::new(alloc),
+        loans: Vec::new(alloc),
+    };
+    for number in 0..size {
+        if archive.receipts.len() as u64 >= size {
+            return Ok(archive);
+        }
+        push_tile(&mut archive, alloc, number)?;
+    }
+    Ok(archive)
+}
+
+// Judges a ledger and takes its account, then judges the world. Each time is the least of some rounds.
 fn measure(rt: &HostRuntime, size: u64) -> Result<(), anyhow::Error> {
     let alloc = rt.alloc();
-    let mut receipts = Vec::new(alloc);
-    for number in 0..size / 3 {
-        push_three(&mut receipts, alloc, number)?;
-    }
-    let mut judged = u128::MAX;
+    let built = build(alloc, size)?;
+    let count = built.receipts.len();
+    let mut sound = u128::MAX;
     let mut told = u128::MAX;
     for _ in 0..ROUNDS {
         let start = Instant::now(rt)?;
-        if !is_sound(alloc, archive(), receipts.as_slice())? {
+        if !is_sound(alloc, archive(), built.receipts.as_slice())? {
             return Err(OutOfMemory.into());
         }
-        judged = judged.min(start.elapsed(rt)?.as_micros());
+        sound = sound.min(start.elapsed(rt)?.as_micros());
         let start = Instant::now(rt)?;
-        let _account = account(alloc, receipts.as_slice())?;
+        let _account = account(alloc, built.receipts.as_slice())?;
         told = told.min(start.elapsed(rt)?.as_micros());
     }
-    let count = receipts.len();
-    eprintln!(rt; "{count} receipts: judged {judged} us, account {told} us")?;
+    let balanced = measure_judge(rt, seen(alloc, built)?.as_slice())?;
+    eprintln!(rt; "{count} receipts: sound {sound} us, account {told} us, balanced {balanced} us")?;
     Ok(())
+}
+
+// How long the judge takes.
+fn measure_judge(rt: &HostRuntime, sights: &[Sight]) -> Result<u128, anyhow::Error> {
+    let alloc = rt.alloc();
+    let mut balanced = u128::MAX;
+    for _ in 0..ROUNDS {
+        let start = Instant::now(rt)?;
+        if !judge(alloc, sights)? {
+            return Err(OutOfMemory.into());
+        }
+        balanced = balanced.min(start.elapsed(rt)?.as_micros());
+    }
+    Ok(balanced)
 }
 
 fn main(rt: HostRuntime) -> Result<(), anyhow::Error> {

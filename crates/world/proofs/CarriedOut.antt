@@ -1,9 +1,9 @@
 -- What is due is carried out among the members of a world that can be used.
-use Rattle.std.specs.Prelude.{◌≡◌, ◌≢◌, ℕ, ◌+◌, List, [], ◌∷◌, ◌++◌, map, refl, Result, Ok, Err, IsTrue}
-use Rattle.std.proofs.Common.{sym, ap, subst, ◌∙◌, inl, inr, length}
-use Rattle.std.specs.List.{AllByRecursion, AllZip}
+use Rattle.std.specs.Prelude.{◌≡◌, ℕ, ◌+◌, List, [], ◌∷◌, ◌++◌, map, refl, Ok, Err, IsTrue}
+use Rattle.std.proofs.Common.{sym, ap, subst, ◌∙◌, inl, inr}
+use Rattle.std.specs.List.{AllByRecursion}
 use Rattle.std.proofs.lemmas.List.{append-nil}
-use Rattle.std.proofs.lemmas.List.Elements.{All-from_recursion, recursion_from_All}
+use Rattle.std.proofs.lemmas.List.Elements.{All-from_recursion}
 use Rattle.std.proofs.lemmas.List.Sorted.{IsPermutation-refl}
 use Rattle.std.specs.List.Sorted.{IsPermutation}
 use Rattle.sqlite.specs.Tree.{Trees}
@@ -14,13 +14,11 @@ use Rattle.sheet_types.specs.World.{World, Package}
 use Rattle.sheet_types.specs.declared.frame.Frame.{Frame}
 use Rattle.sheet_types.specs.declared.receipt.Receipt.{Receipt}
 use Rattle.sql_meaning.specs.Transactions.{Rests}
-use Rattle.sql_meaning.specs.Stores.{MayLeave, EachLeaves}
 use Rattle.sql_meaning.proofs.Transactions.{Shuts, Settles}
 use Rattle.sql_meaning.proofs.StoreLemmas.{same_world}
-use Rattle.package_tables.specs.declared.fault.Fault.{Fault}
 use Rattle.package_tables.specs.declared.fault.Fault.TheVariants as fault
 use Rattle.world.specs.Carries.{Carries, IsBeforeCommit}
-use Rattle.world.specs.Leaving.{IsBeside, StandsAmong, AreClean, AreAtRest, AreBeside, MayBeLeft, LeavesOneOf}
+use Rattle.world.specs.Leaving.{IsBeside, AreAtRest, AreBeside, LeavesOneOf}
 use Rattle.world.specs.Loans.{IsLent, IsReturned}
 use Rattle.world.specs.Members.{AllRest, AllClean, AllOpen, AllStay, AreMembers}
 use Rattle.world.specs.Merges.{Merges}
@@ -33,7 +31,7 @@ use Rattle.lending.specs.declared.turn_fault.TurnFault.TheVariants.{Before, Comm
 use Rattle.world.specs.declared.loans.Lending.{Lending}
 use Rattle.world.specs.declared.loans.Returning.{Returning}
 use Rattle.world.specs.declared.loans.ServeFault.{ServeFault}
-use Rattle.world.specs.declared.loans.ServeFault.TheVariants.{Unshelved, Turn}
+use Rattle.world.specs.declared.loans.ServeFault.TheVariants.{Turn}
 use Rattle.world.specs.declared.members.Member.{Member}
 use Rattle.world.proofs.Changing.{stay_leaves}
 use Rattle.world.proofs.HeldStores.{held_clean, members_left}

@@ -10,7 +10,7 @@ use Rattle.sheet_types.specs.Cut.{moved_of}
 use Rattle.sheet_types.specs.Lines.{IsUuid, HasTypes}
 use Rattle.sheet_types.specs.Matrix.{first_row}
 use Rattle.sheet_types.specs.Ordered.{arranged, least, IsArranged}
-use Rattle.sheet_types.specs.Refuse.{refusal, bad_text, foreign, stale, loan_open, collides, too_many}
+use Rattle.sheet_types.specs.Refuse.{refusal, bad_text, foreign, stale, loan_open, collides, too_many, takes_place, place_key}
 use Rattle.sheet_types.specs.Register.{IsRegister}
 use Rattle.sheet_types.specs.Step.{accepted, outcome, outcome_by, refuses, receipt_of, receipt_over, moved}
 use Rattle.sheet_types.specs.Texts.{line, is_moment}
@@ -28,7 +28,8 @@ use Rattle.ledger_laws.specs.Laws.{merge_request}
 use Rattle.lending.specs.Selecting.{IsSelectionOf}
 use Rattle.identity_register.specs.declared.selection.Selection.{Selection}
 use Rattle.world.specs.Deciding.{Decides}
-use Rattle.world.specs.DecidingMerges.{IsMergeAt, kept_reasons, refusal_by_kept, refusal_by_held, leaves_too_many, all_of}
+use Rattle.world.specs.DecidingMerges.{IsMergeAt, kept_reasons, refusal_by_kept, refusal_by_held, leaves_too_many, all_of, clash_of, first_clash}
+use Rattle.world.specs.declared.deciding_merges.Clash.{Clash}
 use Rattle.world.specs.Members.{AreMembers}
 use Rattle.world.specs.Reasons.{text_reasons}
 use Rattle.world.specs.Steps.{sums_moved, sums_more}
@@ -146,3 +147,15 @@ pub receipt_made : (count from at : ℕ) (q : Request) (w : World) (is : IsMerge
 receipt_made count from at q w is items links things receipt items_are links_are are made =
     made ∙ ap (λ n. receipt_over (n + 1) q things) is.counted
     ∙ ap (receipt_over (length (receipts_of w) + 1) q) (are ∙ ap (λ xs. moved_of xs links) items_are ∙ ap (moved_of (holdings w is.child).items) links_are ∙ sym (ap (moved w) is.merges))
+
+-- what collides, by what was looked up
+pub held_told : (count from at : ℕ) (q : Request) (w : World) (is : IsMergeAt count from at q w) (items : List Item) (found : Option Clash) → items ≡ (holdings w is.child).items → found ≡ first_clash (holdings w is.into) items → refusal_by_kept w q ≡ None
+    → refusal_by_held w q ≡ option_map Collides (option_map (λ c. c.identity) found)
+held_told count from at q w is items found items_are found_is before =
+    ap (λ o. option_or o (option_map Collides (collides w q.command))) before
+    ∙ ap (λ c. option_map Collides (collides w c)) is.merges
+    ∙ ap (option_map Collides) (sym (ap (option_map (λ c. c.identity)) (found_is ∙ ap (first_clash (holdings w is.into)) items_are) ∙ same (find (λ i. takes_place (holdings w is.into) i.content) (arranged place_key (holdings w is.child).items))))
+  where
+    same : (o : Option Item) → option_map (λ c. c.identity) (option_map clash_of o) ≡ option_map (λ i. i.identity) o
+    same None = refl
+    same (Some i) = refl

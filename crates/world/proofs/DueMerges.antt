@@ -1,7 +1,7 @@
 -- A merge that is accepted is due, by what is kept of the world.
-use Rattle.std.specs.Prelude.{◌≡◌, ℕ, ℤ, ◌+◌, ◌≤◌, Bool, true, false, cond, ◌&&◌, ◌||◌, List, [], ◌∷◌, ◌++◌, map, length, refl, bytes_eq, Some, None, is_some, unwrap_or, sum_by, count_by, flat_map, slice_get, slice_set, Contains}
+use Rattle.std.specs.Prelude.{◌≡◌, ℕ, ℤ, ◌+◌, ◌≤◌, Bool, true, false, cond, ◌||◌, List, [], ◌∷◌, ◌++◌, map, length, refl, bytes_eq, Some, is_some, unwrap_or, sum_by, count_by, flat_map, slice_get, slice_set, Contains}
 use Rattle.std.proofs.Common.{sym, ap, subst, ◌∙◌, arith, length-append}
-use Rattle.std.proofs.lemmas.Bool.{true≢false, false_from_ne_true, and_parts}
+use Rattle.std.proofs.lemmas.Bool.{true≢false, false_from_ne_true}
 use Rattle.std.proofs.lemmas.Slice.Eq.{bytes_eq-Decides}
 use Rattle.std.proofs.lemmas.List.Elements.{All-contains_itself, recursion_from_All}
 use Rattle.std.proofs.lemmas.List.Folds.{list_any-append}
@@ -21,13 +21,10 @@ use Rattle.sheet_types.specs.Texts.{line, size}
 use Rattle.sheet_types.specs.World.{World, Package, package_key, receipt_key, item_key, item_thing, link_key, receipts_of, holdings, no_package, is_live, with_receipt, has_item, is_tile, is_medium, is_row}
 use Rattle.sheet_types.specs.declared.command.Command.TheVariants.{Merge}
 use Rattle.sheet_types.specs.declared.command.Item.{Item}
-use Rattle.sheet_types.specs.declared.command.Relation.{Relation}
 use Rattle.sheet_types.specs.declared.receipt.Receipt.{Receipt}
-use Rattle.sheet_types.specs.declared.receipt.Sums.{Sums}
 use Rattle.sheet_types.proofs.Basics.{bytes_eq_itself, bytes_eq_swap, or-true}
 use Rattle.sheet_types.proofs.Every.{All-weaker, All-each, none_pass, none_any}
 use Rattle.sheet_types.proofs.Order.{list_any-arranged, sum_by-arranged, counts_arranged, filter_arranged}
-use Rattle.sheet_types.proofs.Same.{In-all, any_in}
 use Rattle.sheet_types.proofs.Sums.{any_some, none_counted, sum_by-flat_map, length_sum}
 use Rattle.sheet_types.proofs.Without.{All-without}
 use Rattle.ledger_laws.specs.Laws.{merge_request}
@@ -35,7 +32,7 @@ use Rattle.ledger_laws.proofs.Facts.{ledger_arranged, items_held, links_held, se
 use Rattle.ledger_laws.proofs.Merging as merge
 use Rattle.ledger_laws.proofs.Merging.{Known}
 use Rattle.ledger_laws.proofs.Packages.{at_all, changed_arranged, two_places}
-use Rattle.ledger_laws.proofs.Requests.{of_request, one_receipt}
+use Rattle.ledger_laws.proofs.Requests.{of_request}
 use Rattle.ledger_laws.proofs.Shifting.{of_package}
 use Rattle.custody.specs.Receipts.{IsNewReceipt}
 use Rattle.lending.specs.Lending.{returned, MayReturn}
@@ -43,7 +40,7 @@ use Rattle.world.specs.Loans.{IsReturned, IsNext, IsMerge, OthersStay, ReturnedW
 use Rattle.lending.specs.Selecting.{IsSelectionOf, IsPart, MayCome}
 use Rattle.custody.specs.Homing.{AreApart, with_receipts_of}
 use Rattle.transfer.specs.Parcels.{with_cut}
-use Rattle.world.specs.Steps.{sums_moved, sums_more}
+use Rattle.world.specs.Steps.{sums_more}
 use Rattle.identity_register.specs.declared.selection.Selection.{Selection}
 use Rattle.world.specs.declared.loans.Returning.{Returning}
 use Rattle.world.proofs.Changing.{changed_set}
@@ -149,8 +146,8 @@ module _ (w : World) (id moment child into : List ℕ) (ticket' : ℤ) (types : 
   are_apart : AreApart (holdings w child) (with_cut taken (holdings w into))
   are_apart =
       All-weaker (λ r. has receipt_key (receipt_key r) (holdings w child).receipts ≡ true) (λ r. has receipt_key (receipt_key r) (holdings w into).receipts ≡ false)
-        (λ r there. only_in_child (λ s. bytes_eq (receipt_key s) (receipt_key r)) (counts_arranged receipt_key (receipt_key r) (receipts_of w) (ledger_arranged (archive_of w) [] (receipts_of w) register.balanced.ledger)) there)
-        (holdings w child).receipts (self_has receipt_key (holdings w child).receipts)
+      (λ r there. only_in_child (λ s. bytes_eq (receipt_key s) (receipt_key r)) (counts_arranged receipt_key (receipt_key r) (receipts_of w) (ledger_arranged (archive_of w) [] (receipts_of w) register.balanced.ledger)) there)
+      (holdings w child).receipts (self_has receipt_key (holdings w child).receipts)
 
   -- what no receipt of either meets
   in_neither : (t : Receipt → Bool) → list_any t (holdings w child).receipts ≡ false → list_any t (holdings w into).receipts ≡ false → list_any t (arranged receipt_key ((holdings w child).receipts ++ (holdings w into).receipts)) ≡ false

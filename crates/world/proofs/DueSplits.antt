@@ -1,36 +1,34 @@
 -- A split that is accepted is due, by what is kept of the world.
-use Rattle.std.specs.Prelude.{◌≡◌, ℕ, ◌+◌, ◌-◌, Bool, true, false, cond, ◌&&◌, ◌||◌, List, [], ◌∷◌, ◌++◌, map, filter, find, length, refl, Option, bytes_eq, Some, None, sum_by, count_by, slice_get, slice_set, Contains}
-use Rattle.std.proofs.Common.{sym, ap, subst, ◌∙◌, arith, drop, inl, inr, length-append}
-use Rattle.std.proofs.lemmas.Bool.{true≢false, false≢true, and_parts, and_from}
+use Rattle.std.specs.Prelude.{◌≡◌, ℕ, ◌+◌, ◌-◌, Bool, true, false, cond, ◌&&◌, ◌||◌, List, [], ◌∷◌, ◌++◌, map, filter, find, length, refl, Option, bytes_eq, Some, sum_by, count_by, slice_get, slice_set, Contains}
+use Rattle.std.proofs.Common.{sym, ap, subst, ◌∙◌, arith, drop, length-append}
+use Rattle.std.proofs.lemmas.Bool.{and_parts}
 use Rattle.std.proofs.lemmas.Slice.Eq.{bytes_eq-Decides}
 use Rattle.std.proofs.lemmas.List.{append-nil}
 use Rattle.std.proofs.lemmas.List.Elements.{All-contains_itself, recursion_from_All}
-use Rattle.std.specs.List.{list_any, AllByRecursion, insert}
+use Rattle.std.specs.List.{AllByRecursion, insert}
 use Rattle.std.specs.Bool.{then_some}
 use Rattle.std.specs.Option.{option_and_then}
 use Rattle.sheet_types.specs.Answers.{sums_held}
-use Rattle.sheet_types.specs.Custody.{ticket, names_package}
+use Rattle.sheet_types.specs.Custody.{ticket}
 use Rattle.sheet_types.specs.Cut.{Cut, has_end, moved_of}
 use Rattle.sheet_types.specs.Lines.{HasTypes, IsUuid, is_uuid, is_rect}
-use Rattle.sheet_types.specs.Ordered.{put, arranged, has, IsArranged, is_before}
+use Rattle.sheet_types.specs.Ordered.{arranged, has, IsArranged, is_before}
 use Rattle.sheet_types.specs.Register.{IsRegister, IsKeptPackage, HasEnds}
 use Rattle.sheet_types.specs.Step.{accepted, less, loan_of, cut_of, receipt_of, receipt_over, count_of, links_of}
 use Rattle.sheet_types.specs.Texts.{line, size}
-use Rattle.sheet_types.specs.World.{World, Package, package_key, receipt_key, item_key, link_key, receipts_of, holdings, is_live, with_receipt, item_moved, link_moved, has_item, kind_number, base_kind, other_kind, is_tile, is_medium, is_row}
+use Rattle.sheet_types.specs.World.{World, Package, package_key, item_key, link_key, receipts_of, holdings, with_receipt, item_moved, link_moved, has_item, kind_number, base_kind, other_kind, is_tile, is_medium, is_row}
 use Rattle.sheet_types.specs.declared.command.Command.TheVariants.{Split}
 use Rattle.sheet_types.specs.declared.command.Item.{Item}
 use Rattle.sheet_types.specs.declared.command.Mode.{Mode}
 use Rattle.sheet_types.specs.declared.command.Relation.{Relation}
 use Rattle.sheet_types.specs.declared.command.Request.{Request}
 use Rattle.sheet_types.specs.declared.frame.Rect.{Rect}
-use Rattle.sheet_types.specs.declared.receipt.Moved.{Moved}
 use Rattle.sheet_types.specs.declared.receipt.MovedKind.TheVariants.{TileItem, MediaItem, RowItem}
 use Rattle.sheet_types.specs.declared.receipt.Receipt.{Receipt}
-use Rattle.sheet_types.specs.declared.receipt.Sums.{Sums}
-use Rattle.sheet_types.proofs.Basics.{bytes_eq_itself, bytes_eq_swap, not_false, or-true, before-differs}
+use Rattle.sheet_types.proofs.Basics.{bytes_eq_itself, bytes_eq_swap, or-true}
 use Rattle.sheet_types.proofs.Every.{All-weaker, All-each, All-filter, All-append, All-both, All-map, none_pass, none_any}
 use Rattle.sheet_types.proofs.Found.{found, All-found, filter_passes}
-use Rattle.sheet_types.proofs.Order.{filter_arranged, All-arranged}
+use Rattle.sheet_types.proofs.Order.{filter_arranged}
 use Rattle.sheet_types.proofs.Same.{In, In-all, In-filter, any_in}
 use Rattle.sheet_types.proofs.Sums.{sum_by-map, sum_by-same, sum_by-zero, length_sum}
 use Rattle.ledger_laws.specs.Laws.{split_request}
@@ -42,8 +40,7 @@ use Rattle.ledger_laws.proofs.Splitting.{Known, WholeCut, ByTests, taken_sum}
 use Rattle.ledger_laws.proofs.Merging.{weigh_moved}
 use Rattle.custody.specs.Receipts.{IsNewReceipt}
 use Rattle.identity_register.specs.Creation.{new_package}
-use Rattle.identity_register.specs.Reads.{is_fit_moved, IsFitReceipt}
-use Rattle.lending.specs.Lending.{lent}
+use Rattle.identity_register.specs.Reads.{is_fit_moved}
 use Rattle.world.specs.Loans.{IsLent, IsNext, OthersStay, IsSplit, LentWhereAccepted, place_for}
 use Rattle.lending.specs.Selecting.{IsSelectionOf, IsPart, MayCome}
 use Rattle.transfer.specs.Parcels.{with_cut}

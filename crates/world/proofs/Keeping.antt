@@ -1,5 +1,5 @@
 -- What a world keeps of what it stands for, when one request was dealt with.
-use Rattle.std.proofs.Common.{◌≡◌, ◌≢◌, ◌↔◌, false, true, IsTrue, refl, sym, ap, subst, ◌∙◌, ℕ, ◌≤◌, Bool, List, length, Vec, Global, vec_capacity, Result, IfOk, Ok, Err, inl, inr}
+use Rattle.std.proofs.Common.{◌≡◌, ◌↔◌, false, true, IsTrue, refl, sym, ap, subst, ◌∙◌, ℕ, ◌≤◌, Bool, List, length, Vec, Global, Result, IfOk, Ok, Err, inl, inr}
 use Rattle.sqlite.specs.Store.{Ghosts}
 use Rattle.sheet_types.specs.Refuse.{greatest_receipts}
 use Rattle.sheet_types.specs.Step.{IsFault, outcome}
@@ -25,10 +25,7 @@ use Rattle.world.specs.declared.loans.ServeFault.TheVariants.{Unshelved, Turn}
 use Rattle.world.proofs.CarriedOut.{leaves_before}
 use Rattle.world.proofs.HeldStores.{left_clean, right_clean}
 use Rattle.world.proofs.Lent.{none_beside}
-use Rattle.sqlite.specs.Held.{Held, state}
-use Rattle.sqlite.specs.State.{HasCleanDisk}
-use Rattle.std.proofs.lemmas.List.Elements.{All-from_recursion, recursion_from_All}
-use Rattle.sheet_types.proofs.Every.{All-left, All-right}
+use Rattle.sqlite.specs.Held.{Held}
 use Rattle.std.specs.Prelude.{[], ◌++◌, IsErr}
 use Rattle.world.specs.Worlds.{Seen, StandsFor, IsHeld, IsStep, StandsStill, LeavesNoTrace, LeftAsItStands}
 use Rattle.lending.specs.declared.turn_fault.TurnFault.TheVariants.{Before, Committing}

@@ -1,5 +1,5 @@
 -- A split among the members of a world.
-use Rattle.std.specs.Prelude.{◌≡◌, ◌≢◌, ◌⊎◌, ◌≤◌, ℕ, zero, suc, ◌+◌, List, [], ◌∷◌, ◌++◌, map, Some, slice_get, slice_set, refl, Result, Ok, Err, IsTrue, true, false, bytes_eq}
+use Rattle.std.specs.Prelude.{◌≡◌, ◌≢◌, ◌⊎◌, ◌≤◌, ℕ, zero, suc, ◌+◌, List, [], ◌∷◌, ◌++◌, map, Some, slice_get, slice_set, refl, Result, Ok, Err, IsTrue}
 use Rattle.std.proofs.Common.{sym, ap, subst, ◌∙◌, inl, inr, arith, length, length-append}
 use Rattle.std.specs.List.{AllByRecursion, AllZip, insert}
 use Rattle.std.specs.List.Sorted.{IsPermutation}
@@ -14,7 +14,7 @@ use Rattle.sqlite.specs.Held.{Held, state}
 use Rattle.sqlite.specs.State.{State, HasCleanDisk}
 use Rattle.sqlite.proofs.StateLemmas.{clean_if_open}
 use Rattle.sheet_types.specs.Cut.{Cut}
-use Rattle.sheet_types.specs.World.{World, Package, receipts_of}
+use Rattle.sheet_types.specs.World.{World, Package}
 use Rattle.sheet_types.specs.declared.frame.Frame.{Frame}
 use Rattle.sheet_types.specs.declared.receipt.Receipt.{Receipt}
 use Rattle.sql_meaning.specs.Transactions.{Rests, Turns}
@@ -44,7 +44,7 @@ use Rattle.world.proofs.Changing.{each_leaves}
 use Rattle.world.proofs.HeldStores.{held_clean, members_left}
 use Rattle.world.proofs.Placing.{zip_insert}
 use Rattle.world.proofs.Standing.{zip_at}
-use Rattle.world.proofs.Turned.{SameHead, turn_length, turn_was_clean, turn_at_rest, turn_leaves, turn_undone, turn_open_after, turn_done}
+use Rattle.world.proofs.Turned.{turn_length, turn_was_clean, turn_at_rest, turn_leaves, turn_undone, turn_open_after, turn_done}
 
 -- ---- one more among others
 

@@ -43,3 +43,5 @@ mod Things
 pub mod FirstInOrder
 mod DecidedMerges
 mod MergeLimits
+mod Clashing
+mod KeptMerges

@@ -1,5 +1,5 @@
 -- Lists in the order of a key, place by place: what comes, changes and goes under a key does so at one place.
-use Rattle.std.specs.Prelude.{◌≡◌, ◌<◌, ◌≤◌, ◌-◌, ℕ, zero, suc, ◌+◌, true, false, cond, List, [], ◌∷◌, ◌||◌, not, count_by, Some, slice_get, slice_set, refl, bytes_eq, nat_lt, Bool}
+use Rattle.std.specs.Prelude.{◌≡◌, ◌<◌, ◌≤◌, ◌-◌, ℕ, zero, suc, true, false, cond, List, [], ◌∷◌, ◌||◌, not, count_by, Some, slice_get, slice_set, refl, bytes_eq, nat_lt, Bool}
 use Rattle.std.proofs.Common.{sym, ap, subst, ◌∙◌, inl, inr, arith}
 use Rattle.std.proofs.Math.Nat.{eq-or-lt_of_le}
 use Rattle.std.proofs.lemmas.Bool.{true≢false, false_from_ne_true, ltb-true, ltb-false}

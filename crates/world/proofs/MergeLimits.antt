@@ -1,5 +1,5 @@
 -- Whether a merge would leave too many, by sums and numbers that are kept.
-use Rattle.std.specs.Prelude.{◌≡◌, ◌≤◌, ◌<◌, ℕ, ℤ, ◌+◌, ◌-◌, ◌*◌, ◌^◌, Bool, true, false, cond, ◌||◌, not, nat_lt, List, [], ◌∷◌, ◌++◌, map, find, length, refl, bytes_eq, Option, Some, None, is_some, option_map, unwrap_or, slice_get, slice_set, MatchOption}
+use Rattle.std.specs.Prelude.{◌≡◌, ◌≤◌, ◌<◌, ℕ, zero, suc, ℤ, ◌+◌, ◌-◌, ◌*◌, ◌^◌, Bool, true, false, cond, ◌||◌, not, nat_lt, List, [], ◌∷◌, ◌++◌, map, find, length, refl, bytes_eq, Option, Some, None, is_some, option_map, unwrap_or, slice_get, slice_set, MatchOption}
 use Rattle.std.proofs.Common.{sym, ap, subst, ◌∙◌, arith, length-append}
 use Rattle.std.proofs.lemmas.Bool.{true≢false, or_parts, ltb-false, le-ltb}
 use Rattle.std.proofs.lemmas.List.{length-map, length-set, map-set}

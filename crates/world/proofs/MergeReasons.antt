@@ -1,16 +1,14 @@
 -- Why a new merge is refused, in turn.
-use Rattle.std.specs.Prelude.{◌≡◌, ℕ, ℤ, Bool, true, false, cond, not, ◌||◌, ◌&&◌, List, [], ◌∷◌, Option, Some, refl}
-use Rattle.std.proofs.Common.{sym, ap, ◌∙◌}
+use Rattle.std.specs.Prelude.{◌≡◌, Bool, true, false, cond, not, ◌&&◌, List, ◌∷◌, Option, Some, refl}
+use Rattle.std.proofs.Common.{ap, ◌∙◌}
 use Rattle.std.proofs.lemmas.Bool.{and_from}
 use Rattle.sheet_types.specs.Matrix.{first_row}
-use Rattle.sheet_types.specs.Refuse.{id_reused, reasons}
-use Rattle.sheet_types.specs.World.{World, is_live}
+use Rattle.sheet_types.specs.World.{is_live}
 use Rattle.sheet_types.specs.declared.command.Request.{Request}
 use Rattle.sheet_types.specs.declared.refusal.Refusal.{Refusal}
 use Rattle.sheet_types.specs.declared.refusal.Refusal.TheVariants.{IdReused, UnknownPackage}
 use Rattle.ledger_laws.specs.Laws.{merge_request}
 use Rattle.world.specs.Loans.{merge_reasons, MergeRefusedInTurn, MergeRefusedAsUnknown}
-use Rattle.world.proofs.FirstRows.{passes}
 use Rattle.world.proofs.Fitting.{none_reused}
 
 -- both packages are live, or not

@@ -1,6 +1,6 @@
 -- Two lists, place by place: one element changes, comes or goes in both.
-use Rattle.std.specs.Prelude.{◌≡◌, ℕ, zero, suc, ◌+◌, List, [], ◌∷◌, Some, slice_get, slice_set, refl}
-use Rattle.std.proofs.Common.{sym, subst}
+use Rattle.std.specs.Prelude.{◌≡◌, ℕ, zero, suc, List, [], ◌∷◌, Some, slice_get, slice_set, refl}
+use Rattle.std.proofs.Common.{subst}
 use Rattle.std.specs.List.{AllZip, insert, remove}
 
 -- the place of one more

@@ -1,5 +1,5 @@
 -- A merge among the members of a world.
-use Rattle.std.specs.Prelude.{◌≡◌, ◌⊎◌, ℕ, zero, suc, ◌+◌, ◌-◌, ◌<◌, ◌≤◌, nat_lt, cond, List, [], ◌∷◌, ◌++◌, map, Some, slice_get, slice_set, refl, Result, Ok, Err, IsTrue, true, false, bytes_eq}
+use Rattle.std.specs.Prelude.{◌≡◌, ℕ, zero, suc, ◌+◌, ◌-◌, ◌<◌, ◌≤◌, nat_lt, cond, List, [], ◌∷◌, ◌++◌, map, Some, slice_get, refl, Ok, Err, IsTrue, true, false}
 use Rattle.std.proofs.Common.{sym, ap, subst, ◌∙◌, inl, inr, arith, length}
 use Rattle.std.specs.List.{AllByRecursion, AllZip, insert, remove}
 use Rattle.std.specs.List.Sorted.{IsPermutation}
@@ -14,7 +14,7 @@ use Rattle.sqlite.specs.Store.{Ghosts}
 use Rattle.sqlite.specs.Held.{Held, state}
 use Rattle.sqlite.specs.State.{HasCleanDisk}
 use Rattle.sqlite_trees.proofs.ListLemmas.{all-slice_get}
-use Rattle.sheet_types.specs.World.{World, Package, receipts_of}
+use Rattle.sheet_types.specs.World.{World, Package}
 use Rattle.sheet_types.specs.declared.receipt.Receipt.{Receipt}
 use Rattle.sql_meaning.specs.Staying.{Stays}
 use Rattle.sql_meaning.specs.Transactions.{Rests}
@@ -22,10 +22,10 @@ use Rattle.sql_meaning.specs.Stores.{MayLeave, EachLeaves}
 use Rattle.sql_meaning.proofs.Transactions.{Shuts, Settles}
 use Rattle.identity_register.specs.Reads.{Reads}
 use Rattle.package_tables.specs.declared.fault.Fault.{Fault}
-use Rattle.world.specs.Leaving.{IsBeside, StandsAmong, AreClean, AreBeside, MayBeLeft, LeavesOneOf}
+use Rattle.world.specs.Leaving.{IsBeside, AreClean, MayBeLeft, LeavesOneOf}
 use Rattle.lending.specs.Lending.{TakesHome, returned}
 use Rattle.world.specs.Loans.{IsReturned, place_without}
-use Rattle.world.specs.Members.{AllRest, AllClean, AllOpen, IsMember, AreMembers, StaysMember}
+use Rattle.world.specs.Members.{AllRest, AllClean, AllOpen, IsMember, AreMembers}
 use Rattle.world.specs.Merges.{Merges}
 use Rattle.custody.specs.Homing.{FromClean}
 use Rattle.world.specs.Changes.{IsUncommitted}
@@ -39,7 +39,7 @@ use Rattle.world.proofs.Changing.{each_leaves}
 use Rattle.world.proofs.Lent.{all_insert, all_but_inserted, inserted_has, length_insert}
 use Rattle.world.proofs.Placing.{zip_insert, zip_remove, zip_removed}
 use Rattle.world.proofs.Standing.{member_stays, zip_at, zip_both}
-use Rattle.world.proofs.Turned.{SameHead, turn_length, turn_was_clean, turn_at_rest, turn_leaves, turn_undone, turn_open_after, turn_done}
+use Rattle.world.proofs.Turned.{turn_length, turn_was_clean, turn_at_rest, turn_leaves, turn_undone, turn_open_after, turn_done}
 
 -- ---- one less among others, and back
 

@@ -1,12 +1,11 @@
 -- What serving a request says in each of the ways in which it ends, for all commands.
-use Rattle.std.specs.Prelude.{◌≡◌, ◌⊎◌, ◌≤◌, ℕ, ◌+◌, List, [], ◌∷◌, ◌++◌, map, refl, Result, Ok, Err, IsErr, IfOk}
+use Rattle.std.specs.Prelude.{◌≡◌, ◌≤◌, ℕ, ◌+◌, List, [], ◌++◌, map, refl, Result, Ok, Err}
 use Rattle.std.proofs.Common.{sym, ap, subst, ◌∙◌, inl, inr}
-use Rattle.std.specs.List.{AllByRecursion, AllZip}
+use Rattle.std.specs.List.{AllByRecursion}
 use Rattle.std.proofs.lemmas.List.{append-nil}
 use Rattle.std.proofs.lemmas.List.Elements.{All-from_recursion}
 use Rattle.std.proofs.lemmas.List.Sorted.{IsPermutation-refl}
 use Rattle.std.specs.List.Sorted.{IsPermutation}
-use Rattle.sqlite.specs.Tree.{Trees}
 use Rattle.sqlite.specs.Store.{Ghosts}
 use Rattle.sqlite.specs.Held.{Held, state}
 use Rattle.sqlite.specs.State.{HasCleanDisk}
@@ -22,13 +21,13 @@ use Rattle.sql_meaning.specs.Transactions.{Rests}
 use Rattle.sql_meaning.specs.Stores.{LeavesEither}
 use Rattle.sql_meaning.proofs.Transactions.{Shuts, Settles}
 use Rattle.world.specs.Asking.{AsksAll}
-use Rattle.world.specs.Carries.{Carries, ServesAll, IsServedAs, IsBeforeCommit, IsUntouched}
+use Rattle.world.specs.Carries.{Carries, ServesAll, IsBeforeCommit}
 use Rattle.world.specs.Deciding.{IsOf, Decides}
-use Rattle.world.specs.Leaving.{IsBeside, AreAtRest, AreClean, AreBeside, LeavesOneOf}
+use Rattle.world.specs.Leaving.{AreAtRest, AreClean, AreBeside, LeavesOneOf}
 use Rattle.world.specs.Members.{AllRest, AllClean, AllOpen, AreMembers}
 use Rattle.world.specs.ServeFaults.{IsLastingFault, CountsShelf}
 use Rattle.world.specs.Changes.{Changes, IsUncommitted}
-use Rattle.world.specs.Turning.{IsDue, LeftAs, LeavesAsBefore, world_after}
+use Rattle.world.specs.Turning.{IsDue, LeftAs, world_after}
 use Rattle.lending.specs.declared.turn_fault.TurnFault.{TurnFault}
 use Rattle.lending.specs.declared.turn_fault.TurnFault.TheVariants.{Before, Committing}
 use Rattle.world.specs.declared.deciding.Change.{Change}

@@ -2,6 +2,7 @@
 use Rattle.std.proofs.Common.{◌≡◌, refl, sym, ap, subst, ◌∙◌, ℕ, ◌+◌, ◌≤◌, List, [], ◌∷◌, Bool, true, false, cond, length, slice_get, Option, Some, None, Ok, Err, bytes_eq, Result, not, ◌||◌, ◌&&◌}
 use Rattle.std.specs.Prelude.{is_none, drop}
 use Rattle.std.specs.List.{list_any, IsDistinct}
+use Rattle.std.specs.Option.{option_or}
 use Rattle.sqlite_trees.proofs.ListLemmas.{all-slice_get}
 use Rattle.sqlite.specs.Store.{Ghosts}
 use Rattle.sheet_types.specs.Answers.{sums_held}
@@ -25,13 +26,14 @@ use Rattle.cut.proofs.Kept.{kept_in_order}
 use Rattle.custody.specs.Receipts.{was_lent}
 use Rattle.ledger_laws.proofs.Splitting.{by_tests}
 use Rattle.lending.proofs.Selected.{sorted_selection}
-use Rattle.world.specs.DecidingSplits.{command_of, ever_lent, uuid_used, reasons_before_cut, value_reasons, IsCutOut, IsLender}
+use Rattle.world.specs.DecidingSplits.{command_of, ever_lent, uuid_used, reasons_before_cut, place_reasons, value_reasons, IsCutOut, IsLender}
 use Rattle.world.specs.Members.{IsMember, AreMembers}
+use Rattle.world.specs.Reasons.{text_reasons}
 use Rattle.world.specs.declared.deciding_splits.Asked.{Asked}
 use Rattle.world.specs.declared.deciding_splits.Lender.{Lender}
 use Rattle.world.specs.declared.members.Member.{Member}
 use Rattle.world.proofs.EachPackage.{in_packages}
-use Rattle.world.proofs.FirstRows.{holds, passes}
+use Rattle.world.proofs.Parts.{first_of_both}
 use Rattle.world.proofs.Placed.{any_zip}
 use Rattle.world.proofs.SplitDecided.{as_asked, asking}
 use Rattle.world.proofs.Standing.{zip_at}
@@ -49,7 +51,25 @@ archive_told {S} g members count w id are =
     any_zip (IsMember g w) (λ (m : Member S). is_none m.parent && bytes_eq m.uuid id) (λ x. is_archive x && bytes_eq x.uuid id)
     (λ m p is. ap (λ o. is_none o && bytes_eq m.uuid id) is.parent ∙ ap (λ u. is_archive p && bytes_eq u id) is.uuid) members w.packages are.each
 
+-- so they tell whether it was used
+module _ {S : Type 0} (g : Ghosts S) (members : List (Member S)) (count : ℕ) (w : World) (id : List ℕ) (are : AreMembers g members count w) where
+  abbrev of_archive : Bool
+  of_archive = list_any (λ (m : Member S). is_none m.parent && bytes_eq m.uuid id) members
+
+  pub used_by_archive : of_archive ≡ true → true ≡ uuid_used w id
+  used_by_archive found = sym (ap (λ b. b || ever_lent w id) (sym (archive_told g members count w id are) ∙ found))
+
+  pub used_by_loan : (lent : Bool) → of_archive ≡ false → lent ≡ ever_lent w id → lent ≡ uuid_used w id
+  used_by_loan lent none told = told ∙ sym (ap (λ b. b || ever_lent w id) (sym (archive_told g members count w id are) ∙ none))
+
 -- ---- the reasons before the cut
+
+-- the texts, and else the place
+pub value_by_text : (f : Frame) (q : Request) (rect : Rect) (depth : ℕ) (found : Option Refusal) (why : Refusal) → found ≡ first_row (text_reasons q) → found ≡ Some why → Some why ≡ first_row (value_reasons f q rect depth)
+value_by_text f q rect depth found why texts is = ap (λ o. option_or o (first_row (place_reasons f rect depth))) (sym is ∙ texts) ∙ sym (first_of_both (text_reasons q) (place_reasons f rect depth))
+
+pub value_by_place : (f : Frame) (q : Request) (rect : Rect) (depth : ℕ) (found why : Option Refusal) → found ≡ first_row (text_reasons q) → found ≡ None → why ≡ first_row (place_reasons f rect depth) → why ≡ first_row (value_reasons f q rect depth)
+value_by_place f q rect depth found why texts none is = is ∙ ap (λ o. option_or o (first_row (place_reasons f rect depth))) (sym none ∙ texts) ∙ sym (first_of_both (text_reasons q) (place_reasons f rect depth))
 
 module _ (w : World) (f : Frame) (q : Request) (s : Asked) (depth : ℕ) (asked : q.command ≡ command_of s) where
   -- the UUID of the child was used

@@ -1,5 +1,5 @@
 -- What a split comes to, by what the members, the request and the cut tell.
-use Rattle.std.proofs.Common.{◌≡◌, refl, sym, ap, subst, ◌∙◌, ℕ, ◌+◌, List, [], ◌∷◌, ◌++◌, Bool, true, false, cond, length, slice_get, Option, Some, None, Ok, Err, bytes_eq}
+use Rattle.std.proofs.Common.{◌≡◌, refl, sym, ap, subst, ◌∙◌, ℕ, ◌+◌, ◌&&◌, List, [], ◌∷◌, ◌++◌, Bool, true, false, cond, length, slice_get, Option, Some, None, Ok, Err, bytes_eq}
 use Rattle.std.specs.Prelude.{is_some, count_by, sum_by}
 use Rattle.std.proofs.lemmas.Bool.{or_parts}
 use Rattle.std.specs.Bool.{then_some}
@@ -8,12 +8,11 @@ use Rattle.std.specs.Option.{option_or, option_and_then}
 use Rattle.sqlite.specs.Store.{Ghosts}
 use Rattle.sheet_types.specs.Answers.{sums_held}
 use Rattle.sheet_types.specs.Custody.{kept, is_split, ends_at}
-use Rattle.sheet_types.specs.Cut.{cut}
-use Rattle.sheet_types.specs.Lines.{HasTypes}
+use Rattle.sheet_types.specs.Cut.{moved_of}
 use Rattle.sheet_types.specs.Matrix.{first_row}
 use Rattle.sheet_types.specs.Ordered.{is_before}
 use Rattle.sheet_types.specs.Refuse.{refusal, is_archive, nothing_to_lend, cut_link, carrying, too_many}
-use Rattle.sheet_types.specs.Register.{IsRegister}
+use Rattle.sheet_types.specs.Register.{IsRegister, IsKeptPackage}
 use Rattle.sheet_types.specs.Step.{accepted, outcome, outcome_by, kept_reply, refuses, receipt_of, receipt_over, cut_of}
 use Rattle.sheet_types.specs.Texts.{line}
 use Rattle.sheet_types.specs.World.{World, Package, is_live, holdings, receipts_of}
@@ -23,6 +22,7 @@ use Rattle.sheet_types.specs.declared.command.Mode.{Mode}
 use Rattle.sheet_types.specs.declared.command.Mode.TheVariants.{Strict, Follow}
 use Rattle.sheet_types.specs.declared.command.Request.{Request}
 use Rattle.sheet_types.specs.declared.frame.Rect.{Rect}
+use Rattle.sheet_types.specs.declared.receipt.Moved.{Moved}
 use Rattle.sheet_types.specs.declared.receipt.Receipt.{Receipt}
 use Rattle.sheet_types.specs.declared.refusal.Refusal.{Refusal}
 use Rattle.sheet_types.specs.declared.refusal.Refusal.TheVariants.{UnknownPackage, NothingToLend, CutLink, TooMany}
@@ -31,18 +31,21 @@ use Rattle.sheet_types.proofs.Found.{none_found}
 use Rattle.sheet_types.proofs.Sums.{sum_by-map}
 use Rattle.ledger_laws.specs.Laws.{split_request}
 use Rattle.ledger_laws.proofs.Accepting.{rows_fail}
-use Rattle.ledger_laws.proofs.Splitting.{Known}
+use Rattle.ledger_laws.proofs.Facts.{kept_at}
+use Rattle.ledger_laws.proofs.Splitting.{Known, whole_cut}
+use Rattle.lending.specs.Selecting.{IsSelectionOf, IsPart}
 use Rattle.cut.specs.Taken.{refused, torn}
 use Rattle.world.specs.Deciding.{Decides}
-use Rattle.world.specs.DecidingSplits.{command_of, IsNewSplit, IsGranted, IsMadeOf, reasons_before_cut, leaves_too_many}
+use Rattle.world.specs.DecidingSplits.{command_of, IsNewSplit, IsLender, IsGranted, IsMadeOf, reasons_before_cut, leaves_too_many}
 use Rattle.world.specs.Loans.{IsLent, place_for}
 use Rattle.world.specs.Members.{IsMember, AreMembers}
-use Rattle.world.specs.Steps.{sums_less}
+use Rattle.world.specs.Steps.{sums_moved, sums_less}
 use Rattle.world.specs.declared.deciding.Decision.TheVariants.{Answered, SplitDue}
 use Rattle.world.specs.declared.deciding_splits.Asked.{Asked}
+use Rattle.world.specs.declared.deciding_splits.Lender.{Lender}
 use Rattle.world.specs.declared.loans.Lending.{Lending}
 use Rattle.world.specs.declared.members.Member.{Member}
-use Rattle.world.proofs.DueSplits.{lent_where_accepted}
+use Rattle.world.proofs.DueSplits.{part_of, lent_where_accepted}
 use Rattle.world.proofs.FirstRows.{last}
 use Rattle.world.proofs.Outcomes.{refused_outcome}
 use Rattle.world.proofs.Parts.{first_of_both}
@@ -170,3 +173,38 @@ members_before {S} g members count w child are =
     sym (sum_by-map (λ u. cond (is_before u child) 1 0) (λ (m : Member S). m.uuid) members)
     ∙ ap (sum_by (λ u. cond (is_before u child) 1 0)) (zip_map (IsMember g w) (λ (m : Member S). m.uuid) (λ p. p.uuid) (λ m y is. is.uuid) members w.packages are.each)
     ∙ sum_by-map (λ u. cond (is_before u child) 1 0) (λ p. p.uuid) w.packages
+
+-- ---- what would be due
+
+-- what is cut out is a part of the package
+pub split_part : (w : World) (q : Request) (s : Asked) → IsRegister w → IsNewSplit w q s → IsGranted w q s → IsPart (cut_of w s.package s.mode s.rect) (holdings w s.package)
+split_part w q s register new granted =
+    let kept : IsKeptPackage w (holdings w s.package) = kept_at w s.package register new.live in
+    part_of (holdings w s.package) (cut_of w s.package s.mode s.rect) (whole_cut w s.package s.child s.mode s.rect kept.ends (known_of w q s register new granted).untorn) kept.items kept.links
+
+-- all that would be due is made of it
+module _ (w : World) (q : Request) (s : Asked) (l : Lender) (count : ℕ) (new : IsNewSplit w q s) (lends : IsLender w (holdings w s.package) l) (counted : count ≡ length (receipts_of w)) where
+  receipt_told : (things : List Moved) (receipt : Receipt) → things ≡ moved_of (cut_of w s.package s.mode s.rect).items (cut_of w s.package s.mode s.rect).links → receipt ≡ receipt_over (count + 1) q things → receipt ≡ receipt_of w (asking q s)
+  receipt_told things receipt moved is =
+      is ∙ ap (λ n. receipt_over (n + 1) q things) counted ∙ ap (receipt_over (length (receipts_of w) + 1) q) moved
+      ∙ ap (λ x. receipt_over (length (receipts_of w) + 1) x (moved_of (cut_of w s.package s.mode s.rect).items (cut_of w s.package s.mode s.rect).links)) (sym (as_asked q s new.asked))
+
+  pub split_made : (due : Lending) (things : List Moved) → IsGranted w q s → IsSelectionOf (cut_of w s.package s.mode s.rect) due.selection → due.at ≡ l.at → due.child_at ≡ place_for s.child w.packages → due.child ≡ s.child → due.parent ≡ s.package → due.depth ≡ l.depth + 1
+      → things ≡ moved_of (cut_of w s.package s.mode s.rect).items (cut_of w s.package s.mode s.rect).links → due.receipt ≡ receipt_over (count + 1) q things → due.lent ≡ sums_moved due.receipt → due.left ≡ sums_less due.lent l.held → IsMadeOf w q s due
+  split_made due things granted selected at child_at child above depth moved receipt lent left =
+      let own : due.receipt ≡ receipt_of w (asking q s) = receipt_told things due.receipt moved receipt in
+      record {
+        split = new;
+        granted = granted;
+        made = record {
+          at = ap (slice_get w.packages) at ∙ lends.place;
+          child_at = child_at;
+          child_uuid = child;
+          above = above;
+          depth = depth ∙ ap (λ d. d + 1) lends.depth;
+          selected = selected;
+          receipt = own;
+          left = left ∙ ap (sums_less due.lent) lends.held;
+          held = lent ∙ ap sums_moved own;
+        };
+      }

@@ -1,9 +1,8 @@
 -- Why a new split is refused, in turn.
-use Rattle.std.specs.Prelude.{◌≡◌, ℕ, Bool, true, cond, not, ◌&&◌, List, ◌∷◌, Option, Some}
+use Rattle.std.specs.Prelude.{Bool, true, cond, not, ◌&&◌, List, ◌∷◌, Option, Some}
 use Rattle.std.proofs.Common.{ap, ◌∙◌}
 use Rattle.sheet_types.specs.Matrix.{first_row}
-use Rattle.sheet_types.specs.World.{World, is_live}
-use Rattle.sheet_types.specs.declared.command.Mode.TheVariants.{Strict, Follow}
+use Rattle.sheet_types.specs.World.{is_live}
 use Rattle.sheet_types.specs.declared.command.Request.{Request}
 use Rattle.sheet_types.specs.declared.refusal.Refusal.{Refusal}
 use Rattle.sheet_types.specs.declared.refusal.Refusal.TheVariants.{IdReused, UnknownPackage}

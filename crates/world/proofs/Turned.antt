@@ -1,5 +1,5 @@
 -- A member whose store took a turn, and what all members stand for then.
-use Rattle.std.specs.Prelude.{◌≡◌, ◌⊎◌, ℕ, zero, suc, ◌+◌, List, [], ◌∷◌, Some, slice_get, slice_set, refl, Result, Ok, Err, IsErr, IsTrue, OnOk}
+use Rattle.std.specs.Prelude.{◌≡◌, ◌⊎◌, ℕ, zero, suc, List, [], ◌∷◌, Some, slice_get, slice_set, refl, Result, Ok, Err, IsErr, IsTrue}
 use Rattle.std.proofs.Common.{sym, ap, subst, ◌∙◌, inl, inr, arith, length}
 use Rattle.std.specs.List.{AllByRecursion, AllZip}
 use Rattle.std.proofs.lemmas.List.{length-set}
@@ -9,7 +9,7 @@ use Rattle.sqlite.specs.Effect.{Database}
 use Rattle.sqlite.specs.Tree.{Trees}
 use Rattle.sqlite.specs.Store.{Ghosts}
 use Rattle.sqlite.specs.Held.{Held, state}
-use Rattle.sqlite.specs.State.{State, HasCleanDisk, Survives}
+use Rattle.sqlite.specs.State.{HasCleanDisk, Survives}
 use Rattle.sqlite.proofs.StateLemmas.{clean_if_open}
 use Rattle.sheet_types.specs.Answers.{sums_held}
 use Rattle.sheet_types.specs.Custody.{ticket}
@@ -18,7 +18,7 @@ use Rattle.sheet_types.specs.declared.frame.Frame.{Frame}
 use Rattle.sheet_types.specs.declared.receipt.Sums.{Sums}
 use Rattle.sql_meaning.specs.Transactions.{Rests, Turns}
 use Rattle.sql_meaning.specs.Stores.{MayLeave, EachLeaves}
-use Rattle.sql_meaning.proofs.Transactions.{Shuts, Settles}
+use Rattle.sql_meaning.proofs.Transactions.{Shuts}
 use Rattle.sql_meaning.proofs.StoreLemmas.{at_set, one_turned}
 use Rattle.identity_register.specs.Reads.{Reads}
 use Rattle.world.specs.Members.{AllRest, AllClean, AllOpen, IsMember}

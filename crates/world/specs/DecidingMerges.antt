@@ -1,5 +1,5 @@
 -- What a merge comes to before anything is written: why it is refused, by what is kept of the members and by what its two packages hold. Profile.
-use Rattle.std.specs.Prelude.{◌≡◌, ℕ, ℤ, ◌+◌, ◌-◌, Bool, ◌||◌, nat_lt, List, [], ◌∷◌, length, find, Option, Some, None, option_map, slice_get, if◌then◌else◌}
+use Rattle.std.specs.Prelude.{◌≡◌, ℕ, ℤ, ◌+◌, ◌-◌, Bool, true, ◌||◌, nat_lt, List, [], ◌∷◌, length, find, Option, Some, None, option_map, slice_get, if◌then◌else◌}
 use Rattle.std.specs.List.{list_any}
 use Rattle.std.specs.Option.{option_or}
 use Rattle.sheet_types.specs.Custody.{ends_at, kept, ticket}

@@ -1,12 +1,12 @@
 -- What a split comes to before anything is written, one step after the other. Profile.
-use Rattle.std.specs.Prelude.{◌≡◌, ℕ, Bool, not, ◌||◌, ◌&&◌, ◌+◌, nat_lt, nat_le, true, List, [], ◌∷◌, length, None, Some, Result, Ok, Err, bytes_eq, slice_get}
+use Rattle.std.specs.Prelude.{◌≡◌, ℕ, Bool, not, ◌||◌, ◌&&◌, ◌+◌, nat_lt, nat_le, true, List, [], ◌∷◌, ◌++◌, length, None, Some, Result, Ok, Err, bytes_eq, slice_get}
 use Rattle.std.specs.List.{list_any}
 use Rattle.sheet_types.specs.Answers.{sums_held}
 use Rattle.sheet_types.specs.Custody.{kept, is_split, ends_at}
 use Rattle.sheet_types.specs.Cut.{cut}
 use Rattle.sheet_types.specs.Lines.{HasTypes, IsUuid}
 use Rattle.sheet_types.specs.Matrix.{first_row, is_good_rect}
-use Rattle.sheet_types.specs.Refuse.{is_archive, package_used, bad_rectangle, too_deep, bad_text, too_large, greatest_depth, greatest_packages, greatest_receipts}
+use Rattle.sheet_types.specs.Refuse.{is_archive, package_used, bad_rectangle, too_deep, bad_text, greatest_depth, greatest_packages, greatest_receipts}
 use Rattle.sheet_types.specs.Texts.{is_moment}
 use Rattle.sheet_types.specs.World.{World, Package, receipts_of, holdings, is_live}
 use Rattle.sheet_types.specs.declared.command.Command.{Command}
@@ -17,11 +17,12 @@ use Rattle.sheet_types.specs.declared.frame.Frame.{Frame}
 use Rattle.sheet_types.specs.declared.frame.Rect.{Rect}
 use Rattle.sheet_types.specs.declared.receipt.Sums.{Sums}
 use Rattle.sheet_types.specs.declared.refusal.Refusal.{Refusal}
-use Rattle.sheet_types.specs.declared.refusal.Refusal.TheVariants.{PackageUsed, BadText, TooLarge, BadRectangle, TooDeep}
+use Rattle.sheet_types.specs.declared.refusal.Refusal.TheVariants.{PackageUsed, BadText, BadRectangle, TooDeep}
 use Rattle.identity_register.specs.declared.selection.Selection.{Selection}
 use Rattle.cut.specs.Taken.{refused}
 use Rattle.lending.specs.Selecting.{IsSelectionOf}
 use Rattle.world.specs.Loans.{IsSplit}
+use Rattle.world.specs.Reasons.{text_reasons}
 use Rattle.world.specs.Steps.{is_past_limits}
 use Rattle.world.specs.TooMany.{sums_with}
 use Rattle.world.specs.declared.deciding_splits.Asked.{Asked}
@@ -68,14 +69,13 @@ reasons_before_cut w q =
     ∷ (too_deep w q.command, TooDeep)
     ∷ []
 
--- those of them that ask no more of the world than the depth of the package, beside one that no split meets
+-- those of the rectangle and of the depth of the package
+abbrev pub place_reasons : Frame → Rect → ℕ → List (Bool × Refusal)
+place_reasons f rect depth = (not (is_good_rect f rect), BadRectangle) ∷ (nat_le greatest_depth depth, TooDeep) ∷ []
+
+-- with those of the request alone, of which no split meets that of a size
 abbrev pub value_reasons : Frame → Request → Rect → ℕ → List (Bool × Refusal)
-value_reasons f q rect depth =
-    (not (is_moment q.at) || bad_text q.command, BadText)
-    ∷ (too_large q.command, TooLarge)
-    ∷ (not (is_good_rect f rect), BadRectangle)
-    ∷ (nat_le greatest_depth depth, TooDeep)
-    ∷ []
+value_reasons f q rect depth = text_reasons q ++ place_reasons f rect depth
 
 -- the cut of the package, or why there is none
 abbrev pub IsCutOut : World → Package → Mode → Rect → Result Selection Refusal → Type 0

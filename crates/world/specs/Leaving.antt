@@ -1,16 +1,15 @@
 -- What a crash may leave of the stores that a world holds, where a split or a merge was to be. Profile.
-use Rattle.std.specs.Prelude.{◌≡◌, ◌⊎◌, ℕ, false, List, [], ◌++◌, All, bytes_eq, is_some, true}
+use Rattle.std.specs.Prelude.{◌≡◌, ◌⊎◌, false, List, ◌++◌, All, bytes_eq, is_some, true}
 use Rattle.std.specs.List.{AllByRecursion, AllZip}
 use Rattle.std.specs.List.Sorted.{IsPermutation}
 use Rattle.sqlite.specs.Held.{Held, state}
 use Rattle.sqlite.specs.State.{HasCleanDisk}
 use Rattle.sqlite.specs.Store.{Ghosts}
 use Rattle.sqlite.specs.Tree.{Trees}
-use Rattle.sheet_types.specs.World.{World, Package}
+use Rattle.sheet_types.specs.World.{Package}
 use Rattle.sheet_types.specs.declared.frame.Frame.{Frame}
 use Rattle.sql_meaning.specs.Transactions.{Rests}
 use Rattle.world.specs.Turning.{LeftAs}
-use Rattle.world.specs.declared.members.Member.{Member}
 
 -- The content reads as a loan, and no package of the world has its UUID: so no open split of the world means it, and it is left alone when the world is opened.
 pub record IsBeside (f : Frame) (packages : List Package) (trees : Trees) : Type 0 where

@@ -16,7 +16,6 @@ use Rattle.sheet_types.specs.declared.command.Command.TheVariants.{Split, Merge}
 use Rattle.sheet_types.specs.declared.command.Mode.{Mode}
 use Rattle.sheet_types.specs.declared.frame.Rect.{Rect}
 use Rattle.sheet_types.specs.declared.command.Request.{Request}
-use Rattle.sheet_types.specs.declared.receipt.Receipt.{Receipt}
 use Rattle.sheet_types.specs.declared.refusal.Refusal.{Refusal}
 use Rattle.sheet_types.specs.declared.refusal.Refusal.TheVariants.{PackageUsed, BadRectangle, TooDeep, NothingToLend, CutLink, BadText, Foreign, Stale, LoanOpen, Collides, TooMany, UnknownPackage}
 use Rattle.ledger_laws.specs.Laws.{split_request, merge_request}

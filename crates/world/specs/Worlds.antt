@@ -1,5 +1,5 @@
 -- What a clause sees of a value of `World`, and the world of the model that it stands for. Profile.
-use Rattle.std.specs.Prelude.{◌≡◌, ◌⊎◌, ◌≤◌, ℕ, ℤ, Bool, false, List, [], ◌∷◌, ◌++◌, map, Option, Result, Err, IsTrue, IfOk, IsErr, refl}
+use Rattle.std.specs.Prelude.{◌≡◌, ◌≤◌, ℕ, ℤ, Bool, false, List, [], ◌∷◌, ◌++◌, map, Option, Result, Err, IsTrue, IfOk, IsErr, refl}
 use Rattle.std.specs.List.{AllByRecursion}
 use Rattle.std.specs.Coded.{Coded, code_by, coded×, coded_bool, coded_list, coded_option, coded_ℕ, coded_ℤ}
 use Rattle.sqlite.specs.Store.{Ghosts}

@@ -1,5 +1,5 @@
 //! What a merge comes to that did not come before. What is kept of the members is looked at first, then what the child holds, once, and of each of its tiles whether the place is taken in the parent.
-ghost use Rattle.std.specs.Prelude.{◌≡◌, ◌<◌, ◌≤◌, ◌+◌, ℕ, pos, IsTrue, IfOk, IfNone, Some, None, length, map, slice_get};
+ghost use Rattle.std.specs.Prelude.{◌≡◌, ◌<◌, ◌≤◌, ◌+◌, ◌||◌, ℕ, pos, true, not, bytes_eq, IfOk, IfNone, Some, None, length, map, slice_get};
 ghost use Rattle.std.specs.Bool.{then_some};
 ghost use Rattle.std.specs.List.{list_any};
 ghost use Rattle.sheet_types.specs.Custody.{ends_at, kept};
@@ -58,6 +58,13 @@ fn is_lent_from(parent: Option<Uuid>, lender: Uuid) -> bool
     }
 }
 
+/// Whether a package may not go home to this one: it is lent from another, or is the same, and no package is lent from itself.
+fn is_foreign(parent: Option<Uuid>, child: Uuid, into: Uuid) -> bool
+    ensures { result ≡ (bytes_eq child into || not (ends_at parent into)) }
+{
+    child == into || !is_lent_from(parent, into)
+}
+
 /// Whether a ticket is this number.
 fn is_ticket(number: u64, ticket: i64) -> bool
     ensures { result ≡ is_within ticket ticket (pos number) }
@@ -70,14 +77,15 @@ fn loan_of<S: Alter + Drop>(members: &[Member<S>], child: Uuid) -> Option<Uuid>
     ensures { result ≡ first_loan members.now child }
 {
     for at in 0..members.len() {
-        if is_lent_from(members[at].parent, child) {
-            return Some(members[at].uuid);
+        let member = &members[at];
+        if is_lent_from(member.parent, child) {
+            return Some(member.uuid);
         }
     }
     None
 }
 
-/// Why a merge is refused by its texts and by what is kept of the members. A package is no loan of itself.
+/// Why a merge is refused by its texts and by what is kept of the members.
 fn kept_refusal<S: Alter + Drop>(
     members: &[Member<S>],
     from: usize,
@@ -94,14 +102,16 @@ fn kept_refusal<S: Alter + Drop>(
         return Some(why);
     }
     let member = &members[from];
-    if child == into || !is_lent_from(member.parent, into) {
+    if is_foreign(member.parent, child, into) {
         return Some(Refusal::Foreign);
     }
     if !is_ticket(member.ticket, ticket) {
         return Some(Refusal::Stale(member.ticket));
     }
-    let loan = loan_of(members, child)?;
-    Some(Refusal::LoanOpen(loan))
+    match loan_of(members, child) {
+        Some(loan) => Some(Refusal::LoanOpen(loan)),
+        None => None,
+    }
 }
 
 /// Whether the package of the member at a place has a tile there.
@@ -137,24 +147,25 @@ fn clash_at<S: Alter + Drop>(
             row,
             ..
         } => {
-            if !has_tile_in(members, at, *zoom, *column, *row)? {
-                return Ok(None);
-            }
-            let place = [zoom.unsigned_abs(), column.unsigned_abs(), row.unsigned_abs()];
+            let taken = has_tile_in(members, at, *zoom, *column, *row)?;
+            let place = [
+                zoom.unsigned_abs(),
+                column.unsigned_abs(),
+                row.unsigned_abs(),
+            ];
             let identity = item.identity;
-            Ok(Some(Clash { place, identity }))
+            Ok(taken.then_some(Clash { place, identity }))
         }
-        Content::Media { .. } | Content::Row { .. } => Ok(None),
+        Content::Media { .. } => Ok(None),
+        Content::Row { .. } => Ok(None),
     }
 }
 
 /// Whether a tile comes before another, by zoom, column and row.
-fn comes_before(a: Clash, b: Clash) -> bool
-    ensures { result ≡ is_before a.place b.place }
+fn comes_before(a: &Clash, b: &Clash) -> bool
+    ensures { result ≡ is_before a.now.place b.now.place }
 {
-    let place = a.place;
-    let other = b.place;
-    place.cmp(&other).is_lt()
+    a.place.cmp(&b.place).is_lt()
 }
 
 /// The first of two, that which was there where they have one place.
@@ -164,7 +175,7 @@ fn nearer(first: Option<Clash>, clash: Clash) -> Clash
     match first {
         None => clash,
         Some(first) => {
-            if comes_before(clash, first) {
+            if comes_before(&clash, &first) {
                 clash
             } else {
                 first
@@ -196,14 +207,24 @@ fn first_taken<S: Alter + Drop>(
 fn items_moved(alloc: Global, items: &[Item]) -> Result<Vec<Moved>, Fault>
     ensures { IfOk result (λ things. things.items ≡ map item_moved items.now) }
 {
-    Ok(items.iter().map(|item| Moved::of_item(item)).collect(alloc)?)
+    Ok(
+        items
+            .iter()
+            .map(|item| Moved::of_item(item))
+            .collect(alloc)?,
+    )
 }
 
 /// Links as a receipt names them.
 fn links_moved(alloc: Global, links: &[Relation]) -> Result<Vec<Moved>, Fault>
     ensures { IfOk result (λ things. things.items ≡ map link_moved links.now) }
 {
-    Ok(links.iter().map(|link| Moved::of_link(link)).collect(alloc)?)
+    Ok(
+        links
+            .iter()
+            .map(|link| Moved::of_link(link))
+            .collect(alloc)?,
+    )
 }
 
 /// All of these items and links, as a receipt names them.

@@ -14,7 +14,7 @@ ghost use Rattle.custody.specs.Receipts.{was_lent};
 ghost use Rattle.lending.specs.Selecting.{IsSelectionOf};
 ghost use Rattle.world.specs.Asking.{AsksAll};
 ghost use Rattle.world.specs.Deciding.{IsOf, IsNewTo, Decides, HasPlace};
-ghost use Rattle.world.specs.DecidingSplits.{command_of, IsNewSplit, IsLender, ever_lent, uuid_used, reasons_before_cut, value_reasons, IsCutOut, IsGranted, leaves_too_many, IsMadeOf};
+ghost use Rattle.world.specs.DecidingSplits.{command_of, IsNewSplit, IsLender, ever_lent, uuid_used, reasons_before_cut, place_reasons, value_reasons, IsCutOut, IsGranted, leaves_too_many, IsMadeOf};
 ghost use Rattle.world.specs.Members.{AllRest, AreMembers, TurnsAt};
 ghost use Rattle.world.specs.declared.deciding_splits.Asked.{Asked};
 
@@ -94,10 +94,7 @@ fn lent_by<S: Alter + Drop>(
 }
 
 /// Whether a split ever made a package of this UUID.
-fn was_ever_lent<S: Alter + Drop>(
-    members: &mut Vec<Member<S>>,
-    id: Uuid,
-) -> Result<bool, Fault>
+fn was_ever_lent<S: Alter + Drop>(members: &mut Vec<Member<S>>, id: Uuid) -> Result<bool, Fault>
     requires { AllRest S.Store members.old.items }
     ensures { AsksAll S.Store (λ w found. found ≡ ever_lent w id) members.old.items members.new.items result }
 {
@@ -120,12 +117,7 @@ fn is_archive<S: Alter + Drop>(member: &Member<S>, id: Uuid) -> bool
 fn is_of_archive<S: Alter + Drop>(members: &[Member<S>], id: Uuid) -> bool
     ensures { result ≡ list_any (λ m. is_none m.parent && bytes_eq m.uuid id) members.now }
 {
-    for at in 0..members.len() {
-        if is_archive(&members[at], id) {
-            return true;
-        }
-    }
-    false
+    members.iter().any(|member| is_archive(member, id))
 }
 
 /// Whether this is the UUID of the archive, or was ever that of a loan.
@@ -139,13 +131,24 @@ fn is_used<S: Alter + Drop>(members: &mut Vec<Member<S>>, id: Uuid) -> Result<bo
     was_ever_lent(members, id)
 }
 
+/// Why a split is refused for its rectangle or the depth of its package, if it is.
+fn refused_by_place(frame: &Frame, rect: &Rect, depth: u64) -> Option<Refusal>
+    requires { IsTrue (is_good_frame frame.now) }
+    ensures why { result ≡ first_row (place_reasons frame.now rect.now depth) }
+    ensures rect { result ≡ None → IsTrue (is_good_rect frame.now rect.now) }
+    ensures shallow { result ≡ None → depth < greatest_depth }
+{
+    if !is_good(frame, rect) {
+        return Some(Refusal::BadRectangle);
+    }
+    if depth >= 4 {
+        return Some(Refusal::TooDeep);
+    }
+    None
+}
+
 /// Why a split is refused for its texts, its rectangle or the depth of its package, if it is.
-fn refused_by_values(
-    frame: &Frame,
-    request: &Request,
-    rect: &Rect,
-    depth: u64,
-) -> Option<Refusal>
+fn refused_by_values(frame: &Frame, request: &Request, rect: &Rect, depth: u64) -> Option<Refusal>
     requires { IsTrue (is_good_frame frame.now) }
     ensures why { result ≡ first_row (value_reasons frame.now request.now rect.now depth) }
     ensures rect { result ≡ None → IsTrue (is_good_rect frame.now rect.now) }
@@ -154,13 +157,7 @@ fn refused_by_values(
     if let Some(why) = text_refusal(request) {
         return Some(why);
     }
-    if !is_good(frame, rect) {
-        return Some(Refusal::BadRectangle);
-    }
-    if depth >= 4 {
-        return Some(Refusal::TooDeep);
-    }
-    None
+    refused_by_place(frame, rect, depth)
 }
 
 /// Why a split is refused before it is looked at what it would take, if it is.
@@ -207,13 +204,10 @@ fn place_for<S: Alter + Drop>(members: &[Member<S>], uuid: Uuid) -> usize
     ensures place { result ≡ count_by (λ m. is_before m.uuid uuid) members.now }
     ensures within { result ≤ length members.now }
 {
-    let mut place = 0;
-    for at in 0..members.len() {
-        if uuid_is_before(members[at].uuid, uuid) {
-            place += 1;
-        }
-    }
-    place
+    members
+        .iter()
+        .filter(|member| uuid_is_before(member.uuid, uuid))
+        .count()
 }
 
 /// Whether a split would leave too many, with the sums that it leaves of the member at a place, those of the loan, and the number of receipts so far.
@@ -248,10 +242,9 @@ fn limited<S: Alter + Drop>(members: &[Member<S>], count: u64, due: Lending) -> 
     ensures place { HasPlace members.now count result }
 {
     if is_too_many(members, due.at, due.left, due.lent, count) {
-        Decision::Answered(Err(Refusal::TooMany))
-    } else {
-        Decision::SplitDue(due)
+        return Decision::Answered(Err(Refusal::TooMany));
     }
+    Decision::SplitDue(due)
 }
 
 /// What a split comes to whose cut is selected. A store that has less than it is to lend has failed.

@@ -1,5 +1,5 @@
 -- None before it is without parent.
-use Rattle.std.proofs.Common.{◌≡◌, ◌∙◌, sym, ap, true, false, arith, rules}
+use Rattle.std.proofs.Common.{◌≡◌, sym, ap, true, false, arith, rules}
 use Rattle.std.specs.Prelude.{is_none}
 use Rattle.std.specs.Option.{option_map}
 use Rattle.ledger.proofs.Walking.{all_done}

@@ -17,4 +17,4 @@ returns-then-not-has_left c =
 pub returns : goal.returns
 returns c =
     let nothing : c.loop-package.package-iterator ≡ [] = rest_all deref_pair c.loop-package.package-iterator c.next.new.self c.next.result c.in-None.is c.next.ensures.steps in
-    says_yes (found_left c.args.sights.now c.args.flows.now.entries (c.loop-package.invariant.2 (subst (AllByRecursion (HasLeft c.args.sights.now)) (sym nothing) tt)))
+    says_yes (found_left c.args.uuids.now c.args.flows.now.entries (c.loop-package.invariant.2 (subst (AllByRecursion (HasLeft c.args.uuids.now)) (sym nothing) tt)))

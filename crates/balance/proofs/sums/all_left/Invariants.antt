@@ -7,4 +7,4 @@ abbrev pub invariant-loop-package : goal.invariant-loop-package
 invariant-loop-package l =
     (goal.iterator-loop-package).can_next l.package-iterator ×
     (goal.iterator-loop-package).is_finite l.package-iterator ×
-    (AllByRecursion (HasLeft l.sights) l.package-iterator → AllByRecursion (HasLeft l.sights) l.flows.entries)
+    (AllByRecursion (HasLeft l.uuids) l.package-iterator → AllByRecursion (HasLeft l.uuids) l.flows.entries)

@@ -1,10 +1,10 @@
 -- Room is made, the child's store is filled, and then the parent lends.
-use Rattle.std.proofs.Common.{◌≡◌, ◌<◌, ◌≤◌, ◌+◌, refl, subst, sym, ap, ◌∙◌, arith, [], length, vec_len, vec_capacity, Result, Ok, Err}
+use Rattle.std.proofs.Common.{◌≡◌, refl, subst, sym, ap, ◌∙◌, arith, [], length, vec_len, Ok, Err}
 use Rattle.sheet_types.specs.declared.receipt.Receipt.{Receipt}
-use Rattle.world.specs.Carries.{Carries, IsBeforeCommit}
+use Rattle.world.specs.Carries.{Carries}
 use Rattle.world.specs.Loans.{IsLent}
-use Rattle.world.specs.Members.{AllRest, AllOpen, AllStay, AreMembers}
-use Rattle.world.specs.Splits.{Splits, KeepsLoan}
+use Rattle.world.specs.Members.{AllOpen, AllStay, AreMembers}
+use Rattle.world.specs.Splits.{Splits}
 use Rattle.lending.specs.declared.turn_fault.TurnFault.TheVariants.{Before}
 use Rattle.world.specs.declared.loans.ServeFault.TheVariants.{Turn}
 use Rattle.world.proofs.CarriedOut.{carries_unbegun, carries_lent, carries_unlent}

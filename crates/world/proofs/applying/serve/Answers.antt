@@ -1,5 +1,5 @@
 -- What was decided, and where something was due what became of it.
-use Rattle.std.proofs.Common.{◌≡◌, ◌∙◌, sym, ap, subst, arith, Result, Ok, Err}
+use Rattle.std.proofs.Common.{◌∙◌, sym, ap, subst, arith, Result, Ok}
 use Rattle.sheet_types.specs.declared.receipt.Receipt.{Receipt}
 use Rattle.sheet_types.specs.declared.refusal.Refusal.{Refusal}
 use Rattle.world.specs.Carries.{ServesAll}

@@ -1,5 +1,5 @@
 -- The parent took home or not.
-use Rattle.std.proofs.Common.{◌≡◌, subst, sym, ap, Ok, Err, Some, slice_get, refl}
+use Rattle.std.proofs.Common.{◌≡◌, subst, sym, ap, Err, Some, slice_get, refl}
 use Rattle.std.proofs.lemmas.Option.{slice_get_read}
 use Rattle.world.specs.Merges.{Merges}
 use Rattle.lending.specs.declared.turn_fault.TurnFault.{TurnFault}

@@ -1,5 +1,5 @@
 -- The member at the place is only read, and the child keeps what was selected of it.
-use Rattle.std.proofs.Common.{◌≡◌, [], Some, slice_get, slice_set, refl}
+use Rattle.std.proofs.Common.{◌≡◌, [], Some, slice_get, refl}
 use Rattle.std.proofs.lemmas.Option.{slice_get_read}
 use Rattle.sqlite.specs.Held.{state}
 use Rattle.sql_meaning.specs.Staying.{Stays}

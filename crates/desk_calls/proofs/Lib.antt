@@ -1,0 +1,5 @@
+mod BodyFacts
+mod CallFacts
+mod HeadFacts
+mod LengthFacts
+pub mod OneCall

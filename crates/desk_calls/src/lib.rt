@@ -1,0 +1,14 @@
+//! What the bytes of a connection ask of the desk: one request of HTTP/1.0 or 1.1 (RFC 9112), by the checks in their order. No world, no store.
+#![tactic(auto)]
+
+mod bodies;
+pub mod call_laws;
+pub mod calls;
+mod heads;
+mod judging;
+mod lengths;
+pub mod reading;
+mod routes;
+pub mod source;
+#[cfg(test)]
+mod tests;

@@ -1,0 +1,3 @@
+mod FixedTexts
+mod ListFacts
+mod ReplyFacts

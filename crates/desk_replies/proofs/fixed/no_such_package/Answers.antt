@@ -1,0 +1,5 @@
+use Rattle.desk_replies.proofs.FixedTexts.{no_such_package_is}
+use Rattle.desk_replies.proofs.fixed.no_such_package.Goals as goal
+
+pub returns : goal.returns
+returns c = no_such_package_is
