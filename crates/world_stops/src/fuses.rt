@@ -4,7 +4,7 @@ ghost use Rattle.std.specs.Prelude.{◌≡◌, [], IsTrue};
 use crate::runs::{Leaves, Left, options};
 use memory_files::open_blank;
 use shelves::shelf::{Shelf, ShelfFault};
-use sqlite::{Connection, FileStore, Files};
+use sqlite::{Connection, FileStore, Files, Options};
 use sqlite_disk::{Disk, Fuse, Memory};
 use std::alloc::Global;
 use uuid::Uuid;
@@ -66,6 +66,16 @@ pub struct Fusing {
     pub calls: u64,
 }
 
+// A store that does not stop keeps more pages, and is faster.
+fn roomy() -> Options {
+    Options {
+        cache_pages: 64,
+        spill_pages: 64,
+        checkpoint_frames: 100,
+        seed: 7,
+    }
+}
+
 /// Gives each package two empty files, of which one may stop.
 #[derive(Drop)]
 pub struct FusedShelf {
@@ -94,13 +104,13 @@ impl Shelf<FileStore<Fuse<Memory>>> for FusedShelf {
     ghost failures_of = { λ shelf. shelf.failures };
 
     fn blank(&mut self, package: Uuid) -> Result<Connection<FileStore<Fuse<Memory>>>, ShelfFault> {
-        let calls = if package == self.fusing.package {
-            self.fusing.calls
+        let (calls, options) = if package == self.fusing.package {
+            (self.fusing.calls, options())
         } else {
-            u64::MAX
+            (u64::MAX, roomy())
         };
         let files = fused(self.alloc, self.fusing.stops, calls);
-        match open_blank(self.alloc, files, options()) {
+        match open_blank(self.alloc, files, options) {
             Ok(conn) => Ok(conn),
             Err(_) => {
                 self.failures = self.failures.saturating_add(1);
