@@ -6,7 +6,7 @@ use Rattle.manifest_csv.specs.Progress.{AreTold, IsTold}
 use Rattle.manifest_csv.specs.Reports.{report_header}
 use Rattle.manifest_csv.specs.Sent.{WentOut}
 use Rattle.manifest_csv.specs.declared.importing.ImportFault.TheVariants.{Unwritten}
-use Rattle.world.proofs.Served.{turned_into}
+use Rattle.world.proofs.ChangesMade.{turned_into}
 use Rattle.manifest_csv.proofs.ImportFacts.{after_header, header_unwritten, imported}
 use Rattle.manifest_csv.proofs.ProgressFacts.{nothing_told, told_of}
 use Rattle.manifest_csv.proofs.importing.import.Goals as goal

@@ -6,7 +6,7 @@ use Rattle.manifest_csv.specs.Progress.{AreTold}
 use Rattle.manifest_csv.specs.Reports.{report_line}
 use Rattle.manifest_csv.specs.Sent.{WentOut}
 use Rattle.manifest_csv.specs.declared.importing.ImportFault.TheVariants.{Unwritten}
-use Rattle.world.proofs.Served.{turned_into}
+use Rattle.world.proofs.ChangesMade.{turned_into}
 use Rattle.manifest_csv.proofs.ImportFacts.{one_more, stopped, unwritten, none_yet}
 use Rattle.manifest_csv.proofs.ProgressFacts.{nothing_told, one_told}
 use Rattle.manifest_csv.proofs.importing.report_each.Goals as goal
