@@ -6,7 +6,13 @@ use test_lists::Narrow;
 
 #[test]
 fn each_thousandth_request_is_told(rt: HostRuntime) -> Result<(), Fail> {
-    for (done, due) in [(1, false), (999, false), (1000, true), (1001, false), (25000, true)] {
+    for (done, due) in [
+        (1, false),
+        (999, false),
+        (1000, true),
+        (1001, false),
+        (25000, true),
+    ] {
         assert_eq!(rt; is_due(done), due);
     }
     let writer: Vec<u8> = Vec::new(rt.alloc());

@@ -2,10 +2,10 @@
 use crate::arguments::Words;
 use crate::rehearse::rehearse;
 use crate::statuses::{Failure, Outcome, What, status_of};
+use manifest_csv::progress::Silent;
 use std::alloc::Global;
 use std::process::Abort;
 use std::test::Fail;
-use manifest_csv::progress::Silent;
 use test_lists::{FIRST_TILE, Narrow, list};
 
 const GOOD: Words<'static> = Words {
@@ -37,7 +37,13 @@ fn a_refused_rehearsal_writes_nothing(rt: HostRuntime) {
     };
     let mut written: Vec<u8> = Vec::new(rt.alloc());
     let list = b"a list that is not looked at";
-    let outcome = rehearse(rt.alloc(), &words, list.as_slice(), &mut written, &mut Silent);
+    let outcome = rehearse(
+        rt.alloc(),
+        &words,
+        list.as_slice(),
+        &mut written,
+        &mut Silent,
+    );
     assert!(rt; outcome == Outcome::Refused(What::BadFrame));
     assert!(rt; written.is_empty());
 }

@@ -8,9 +8,7 @@ use sqlite::MemStore;
 use std::alloc::Global;
 use std::process::Abort;
 use std::test::Fail;
-use test_lists::{
-    FIRST_TILE, Failing, MANIFEST_OF_THE_FIRST, NO_REQUEST, Narrow, SEVENTEEN, list,
-};
+use test_lists::{FIRST_TILE, Failing, MANIFEST_OF_THE_FIRST, NO_REQUEST, Narrow, SEVENTEEN, list};
 use test_values::{archive, question, sums};
 use test_worlds::new_world;
 use world::world::World;

@@ -5,8 +5,7 @@ pub const ABOUT: &str =
     "Lends sheets of a map archive and brings them home, each request with a receipt";
 
 /// After the commands of the program.
-pub const WORDS: &str =
-    "Words:
+pub const WORDS: &str = "Words:
   package  tiles, survey rows and media of a map, and the links between them
   archive  the package that all others are lent from
   loan     a package that a split took out of another, and that a merge brings home

@@ -1,10 +1,10 @@
 // What `--help` says, and that its example does what it says.
 use crate::sheetdesk;
+use clap::Error;
 use cli::arguments::Words;
 use cli::progress::Silent;
 use cli::rehearse::rehearse;
 use cli::statuses::Outcome;
-use clap::Error;
 use std::alloc::Global;
 use std::test::Fail;
 use test_lists::{FIRST_TILE, HEADER, list};
@@ -68,7 +68,13 @@ fn the_example(rt: HostRuntime) -> Result<(), Fail> {
     };
     let text = list(rt.alloc(), &[FIRST_TILE])?;
     let mut written: Vec<u8> = Vec::new(rt.alloc());
-    let outcome = rehearse(rt.alloc(), &words, text.as_bytes(), &mut written, &mut Silent);
+    let outcome = rehearse(
+        rt.alloc(),
+        &words,
+        text.as_bytes(),
+        &mut written,
+        &mut Silent,
+    );
     assert!(rt; outcome == Outcome::Done);
     assert!(rt;
         written.as_slice().starts_with(
