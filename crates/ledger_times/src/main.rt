@@ -62,16 +62,16 @@ fn moving(
     })
 }
 
-// What packages hold: the archive's receipts and tiles, and the loans that are open.
+// What packages hold: the receipts and the tiles of the archive, and the loans that are open.
 #[derive(Drop)]
-struct Archive {
+struct Story {
     receipts: Vec<Receipt>,
     tiles: Vec<Moved>,
     loans: Vec<Sight>,
 }
 
 // A tile is added to the archive and lent under a new package. Nine of ten are brought back.
-fn push_tile(into: &mut Archive, alloc: Global, number: u64) -> Result<(), OutOfMemory> {
+fn push_tile(into: &mut Story, alloc: Global, number: u64) -> Result<(), OutOfMemory> {
     let home = archive();
     let loan = Uuid::from_u64_pair(
         number.wrapping_mul(0x9e37_79b9_7f4a_7c15),
@@ -104,7 +104,7 @@ fn push_tile(into: &mut Archive, alloc: Global, number: u64) -> Result<(), OutOf
 
 // A loan that is open, with its tile.
 fn push_loan(
-    into: &mut Archive,
+    into: &mut Story,
     alloc: Global,
     loan: Uuid,
     seq: u64,
@@ -122,7 +122,7 @@ fn push_loan(
 }
 
 // The archive and its loans, in the order of their UUIDs.
-fn seen(alloc: Global, of: Archive) -> Result<Vec<Sight>, AllocError> {
+fn seen(alloc: Global, of: Story) -> Result<Vec<Sight>, AllocError> {
     let mut sights = of.loans;
     sights.push(Sight {
         uuid: archive(),
@@ -137,19 +137,19 @@ fn seen(alloc: Global, of: Archive) -> Result<Vec<Sight>, AllocError> {
 }
 
 // A ledger of so many receipts, or a few more, and what the packages hold by it.
-fn build(alloc: Global, size: u64) -> Result<Archive, OutOfMemory> {
-    let mut archive = Archive {
+fn build(alloc: Global, size: u64) -> Result<Story, OutOfMemory> {
+    let mut story = Story {
         receipts: Vec::new(alloc),
         tiles: Vec::new(alloc),
         loans: Vec::new(alloc),
     };
     for number in 0..size {
-        if archive.receipts.len() as u64 >= size {
-            return Ok(archive);
+        if story.receipts.len() as u64 >= size {
+            return Ok(story);
         }
-        push_tile(&mut archive, alloc, number)?;
+        push_tile(&mut story, alloc, number)?;
     }
-    Ok(archive)
+    Ok(story)
 }
 
 // Judges a ledger and takes its account, then judges the world. Each time is the least of some rounds.
