@@ -34,11 +34,11 @@ unfolding digits
 too_large_is = refl
 
 pub store_fault_is : codes "HTTP/1.1 500 Internal Server Error\r\ncontent-type: application/json\r\ncontent-length: 34\r\nconnection: close\r\n\r\n{\"name\":\"StoreFault\",\"refusal\":25}" ≡ fixed_response StoreFault
-unfolding digits, serde_json_on_literals
+unfolding digits serde_json_on_literals
 store_fault_is = refl
 
 pub out_of_memory_is : codes "HTTP/1.1 507 Insufficient Storage\r\ncontent-type: application/json\r\ncontent-length: 35\r\nconnection: close\r\n\r\n{\"name\":\"OutOfMemory\",\"refusal\":24}" ≡ fixed_response OutOfMemory
-unfolding digits, serde_json_on_literals
+unfolding digits serde_json_on_literals
 out_of_memory_is = refl
 
 pub ask_again_is : codes "HTTP/1.1 507 Insufficient Storage\r\ncontent-type: application/json\r\ncontent-length: 21\r\nconnection: close\r\n\r\n{\"fault\":\"ask again\"}" ≡ fixed_response AskAgain

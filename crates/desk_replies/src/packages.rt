@@ -121,5 +121,6 @@ pub fn list_response(alloc: Global, packages: &[Listed]) -> Result<Vec<u8>, OutO
     ensures told { IfOk result (λ bytes. (w : World) → packages.now ≡ all_listed w → bytes.items ≡ packages_response w) }
 {
     let body = list_body(alloc, packages)?;
-    good_response(alloc, body.as_slice())
+    let bytes = good_response(alloc, body.as_slice())?;
+    Ok(bytes)
 }
