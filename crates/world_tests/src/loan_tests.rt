@@ -86,9 +86,10 @@ fn refused(
     number: u64,
     command: Command,
 ) -> Result<Refusal, Fail> {
-    match asked(world, alloc, number, command)? {
+    let reply = asked(world, alloc, number, command)?;
+    match &reply {
         Ok(_) => Err(Fail::new("a receipt")),
-        Err(why) => Ok(why),
+        Err(why) => Ok(*why),
     }
 }
 
