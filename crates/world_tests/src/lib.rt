@@ -16,8 +16,6 @@ mod reading_tests;
 #[cfg(test)]
 mod receipt_tests;
 #[cfg(test)]
-mod splits_tests;
-#[cfg(test)]
 mod too_many_tests;
 #[cfg(test)]
 mod turning_tests;
