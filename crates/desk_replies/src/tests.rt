@@ -94,7 +94,11 @@ fn quotes_and_a_source_in_a_receipt(rt: HostRuntime) -> Result<(), Fail> {
     receipt.source = receipt.target;
     receipt.target = None;
     let body = receipt_body(alloc, &receipt)?;
-    assert!(rt; body.as_str().starts_with("{\"at\":\"\\\"\\n\\u0001é\",\"bytes\":1,\"from\":\"a0000000-0000-4000-8000-000000000000\",\"items\":1,"));
+    assert!(rt;
+        body.as_str().starts_with(
+            "{\"at\":\"\\\"\\n\\u0001é\",\"bytes\":1,\"from\":\"a0000000-0000-4000-8000-000000000000\",\"items\":1,"
+        )
+    );
     assert!(rt; body.as_str().ends_with(",\"tiles\":1,\"to\":\"\"}"));
     Ok(())
 }
@@ -105,12 +109,27 @@ fn refusals(rt: HostRuntime) -> Result<(), Fail> {
     let item = id("00000000-0000-4000-8000-000000000003")?;
     for (why, wanted) in [
         (Refusal::IdReused, "{\"name\":\"IdReused\",\"refusal\":1}"),
-        (Refusal::PlaceTaken, "{\"name\":\"PlaceTaken\",\"refusal\":11}"),
-        (Refusal::CutLink(item), "{\"detail\":\"00000000-0000-4000-8000-000000000003\",\"name\":\"CutLink\",\"refusal\":18}"),
+        (
+            Refusal::PlaceTaken,
+            "{\"name\":\"PlaceTaken\",\"refusal\":11}",
+        ),
+        (
+            Refusal::CutLink(item),
+            "{\"detail\":\"00000000-0000-4000-8000-000000000003\",\"name\":\"CutLink\",\"refusal\":18}",
+        ),
         (Refusal::Foreign, "{\"name\":\"Foreign\",\"refusal\":19}"),
-        (Refusal::Stale(5), "{\"detail\":\"5\",\"name\":\"Stale\",\"refusal\":20}"),
-        (Refusal::LoanOpen(item), "{\"detail\":\"00000000-0000-4000-8000-000000000003\",\"name\":\"LoanOpen\",\"refusal\":21}"),
-        (Refusal::Collides(item), "{\"detail\":\"00000000-0000-4000-8000-000000000003\",\"name\":\"Collides\",\"refusal\":22}"),
+        (
+            Refusal::Stale(5),
+            "{\"detail\":\"5\",\"name\":\"Stale\",\"refusal\":20}",
+        ),
+        (
+            Refusal::LoanOpen(item),
+            "{\"detail\":\"00000000-0000-4000-8000-000000000003\",\"name\":\"LoanOpen\",\"refusal\":21}",
+        ),
+        (
+            Refusal::Collides(item),
+            "{\"detail\":\"00000000-0000-4000-8000-000000000003\",\"name\":\"Collides\",\"refusal\":22}",
+        ),
         (Refusal::TooMany, "{\"name\":\"TooMany\",\"refusal\":23}"),
     ] {
         let body = refusal_body(alloc, &why)?;
@@ -121,36 +140,105 @@ fn refusals(rt: HostRuntime) -> Result<(), Fail> {
     let sent = refusal_outgoing(alloc, &Refusal::PlaceTaken);
     assert_eq!(rt; sent.as_slice(), TAKEN.as_bytes());
     let sent = reply_outgoing(alloc, &Err(Refusal::StoreFault));
-    assert!(rt; is_both(sent.as_slice(), "HTTP/1.1 500 Internal Server Error\r\ncontent-type: application/json\r\ncontent-length: 34\r\nconnection: close\r\n\r\n", "{\"name\":\"StoreFault\",\"refusal\":25}"));
+    assert!(rt;
+        is_both(
+            sent.as_slice(),
+            "HTTP/1.1 500 Internal Server Error\r\ncontent-type: application/json\r\ncontent-length: 34\r\nconnection: close\r\n\r\n",
+            "{\"name\":\"StoreFault\",\"refusal\":25}"
+        )
+    );
     let sent = reply_outgoing(alloc, &Err(Refusal::OutOfMemory));
-    assert!(rt; is_both(sent.as_slice(), "HTTP/1.1 507 Insufficient Storage\r\ncontent-type: application/json\r\ncontent-length: 35\r\nconnection: close\r\n\r\n", "{\"name\":\"OutOfMemory\",\"refusal\":24}"));
+    assert!(rt;
+        is_both(
+            sent.as_slice(),
+            "HTTP/1.1 507 Insufficient Storage\r\ncontent-type: application/json\r\ncontent-length: 35\r\nconnection: close\r\n\r\n",
+            "{\"name\":\"OutOfMemory\",\"refusal\":24}"
+        )
+    );
     Ok(())
 }
 
 #[test]
 fn responses_that_are_the_same_each_time(rt: HostRuntime) {
     for (fixed, status, length, body) in [
-        (Fixed::BadRequest, "400 Bad Request", "23", "{\"fault\":\"bad request\"}"),
-        (Fixed::NoSuchPath, "404 Not Found", "24", "{\"fault\":\"no such path\"}"),
-        (Fixed::NoSuchPackage, "404 Not Found", "27", "{\"fault\":\"no such package\"}"),
-        (Fixed::NoSuchReceipt, "404 Not Found", "27", "{\"fault\":\"no such receipt\"}"),
-        (Fixed::BadMethod, "405 Method Not Allowed", "22", "{\"fault\":\"bad method\"}"),
-        (Fixed::NoLength, "411 Length Required", "21", "{\"fault\":\"no length\"}"),
-        (Fixed::TooLarge, "413 Payload Too Large", "21", "{\"fault\":\"too large\"}"),
-        (Fixed::AskAgain, "507 Insufficient Storage", "21", "{\"fault\":\"ask again\"}"),
+        (
+            Fixed::BadRequest,
+            "400 Bad Request",
+            "23",
+            "{\"fault\":\"bad request\"}",
+        ),
+        (
+            Fixed::NoSuchPath,
+            "404 Not Found",
+            "24",
+            "{\"fault\":\"no such path\"}",
+        ),
+        (
+            Fixed::NoSuchPackage,
+            "404 Not Found",
+            "27",
+            "{\"fault\":\"no such package\"}",
+        ),
+        (
+            Fixed::NoSuchReceipt,
+            "404 Not Found",
+            "27",
+            "{\"fault\":\"no such receipt\"}",
+        ),
+        (
+            Fixed::BadMethod,
+            "405 Method Not Allowed",
+            "22",
+            "{\"fault\":\"bad method\"}",
+        ),
+        (
+            Fixed::NoLength,
+            "411 Length Required",
+            "21",
+            "{\"fault\":\"no length\"}",
+        ),
+        (
+            Fixed::TooLarge,
+            "413 Payload Too Large",
+            "21",
+            "{\"fault\":\"too large\"}",
+        ),
+        (
+            Fixed::AskAgain,
+            "507 Insufficient Storage",
+            "21",
+            "{\"fault\":\"ask again\"}",
+        ),
     ] {
         let alloc = rt.alloc();
-        let head = format!(in alloc; "HTTP/1.1 {status}\r\ncontent-type: application/json\r\ncontent-length: {length}\r\nconnection: close\r\n\r\n").expect(&rt, "memory");
-        assert!(rt; is_both(fixed_response(fixed), head.as_str(), body), "{body}");
+        let head = format!(in alloc;
+            "HTTP/1.1 {status}\r\ncontent-type: application/json\r\ncontent-length: {length}\r\nconnection: close\r\n\r\n"
+        ).expect(&rt, "memory");
+        assert!(rt;
+            is_both(fixed_response(fixed), head.as_str(), body),
+            "{body}"
+        );
     }
 }
 
 #[test]
 fn a_manifest(rt: HostRuntime) -> Result<(), Fail> {
     let bytes = manifest_response(rt.alloc(), b"kind,identity\n")?;
-    assert!(rt; is_both(bytes.as_slice(), "HTTP/1.1 200 OK\r\ncontent-type: text/csv\r\ncontent-length: 14\r\nconnection: close\r\n\r\n", "kind,identity\n"));
+    assert!(rt;
+        is_both(
+            bytes.as_slice(),
+            "HTTP/1.1 200 OK\r\ncontent-type: text/csv\r\ncontent-length: 14\r\nconnection: close\r\n\r\n",
+            "kind,identity\n"
+        )
+    );
     let bytes = good_response(rt.alloc(), b"{}")?;
-    assert!(rt; is_both(bytes.as_slice(), "HTTP/1.1 200 OK\r\ncontent-type: application/json\r\ncontent-length: 2\r\nconnection: close\r\n\r\n", "{}"));
+    assert!(rt;
+        is_both(
+            bytes.as_slice(),
+            "HTTP/1.1 200 OK\r\ncontent-type: application/json\r\ncontent-length: 2\r\nconnection: close\r\n\r\n",
+            "{}"
+        )
+    );
     Ok(())
 }
 
@@ -197,6 +285,12 @@ fn packages(rt: HostRuntime) -> Result<(), Fail> {
     assert_eq!(rt; body.as_slice(), wanted.as_bytes());
     let none: [Listed; 0] = [];
     let bytes = list_response(alloc, &none)?;
-    assert!(rt; is_both(bytes.as_slice(), "HTTP/1.1 200 OK\r\ncontent-type: application/json\r\ncontent-length: 2\r\nconnection: close\r\n\r\n", "[]"));
+    assert!(rt;
+        is_both(
+            bytes.as_slice(),
+            "HTTP/1.1 200 OK\r\ncontent-type: application/json\r\ncontent-length: 2\r\nconnection: close\r\n\r\n",
+            "[]"
+        )
+    );
     Ok(())
 }
