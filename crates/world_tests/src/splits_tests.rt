@@ -180,7 +180,13 @@ fn the_limits_come_last(rt: HostRuntime) -> Result<(), Fail> {
     let mut members = two(alloc, 3)?;
     let nothing = refused(&mut members, alloc, GREATEST_COUNT, AT, split(8, 6, EMPTY))?;
     assert!(rt; nothing == Refusal::NothingToLend);
-    let many = refused(&mut members, alloc, GREATEST_COUNT, AT, split(8, 6, QUARTER))?;
+    let many = refused(
+        &mut members,
+        alloc,
+        GREATEST_COUNT,
+        AT,
+        split(8, 6, QUARTER),
+    )?;
     assert!(rt; many == Refusal::TooMany);
     assert_eq!(rt; due(&mut members, alloc, 6)?.depth, 4);
     Ok(())
