@@ -1,5 +1,5 @@
 -- What the members and the stores tell of a split.
-use Rattle.std.proofs.Common.{◌≡◌, refl, sym, ap, subst, ◌∙◌, ℕ, ◌+◌, ◌≤◌, List, [], ◌∷◌, Bool, true, false, cond, length, slice_get, Option, Some, None, Ok, Err, bytes_eq, Result, not, ◌||◌, ◌&&◌}
+use Rattle.std.proofs.Common.{◌≡◌, sym, ap, subst, ◌∙◌, ℕ, List, Bool, true, false, cond, slice_get, Option, Some, None, Ok, Err, bytes_eq, Result, ◌||◌, ◌&&◌}
 use Rattle.std.specs.Prelude.{is_none, drop}
 use Rattle.std.specs.List.{list_any, IsDistinct}
 use Rattle.std.specs.Option.{option_or}
@@ -8,11 +8,10 @@ use Rattle.sqlite.specs.Store.{Ghosts}
 use Rattle.sheet_types.specs.Answers.{sums_held}
 use Rattle.sheet_types.specs.Custody.{is_split, ends_at}
 use Rattle.sheet_types.specs.Cut.{cut, identities}
-use Rattle.sheet_types.specs.Matrix.{first_row, is_good_rect}
-use Rattle.sheet_types.specs.Refuse.{is_archive, package_used, bad_text, greatest_depth}
-use Rattle.sheet_types.specs.Register.{IsRegister, IsKeptPackage}
-use Rattle.sheet_types.specs.Texts.{is_moment}
-use Rattle.sheet_types.specs.World.{World, Package, holdings, receipts_of}
+use Rattle.sheet_types.specs.Matrix.{first_row}
+use Rattle.sheet_types.specs.Refuse.{is_archive}
+use Rattle.sheet_types.specs.Register.{IsKeptPackage}
+use Rattle.sheet_types.specs.World.{World, Package, holdings}
 use Rattle.sheet_types.specs.declared.command.Mode.{Mode}
 use Rattle.sheet_types.specs.declared.command.Request.{Request}
 use Rattle.sheet_types.specs.declared.frame.Frame.{Frame}
@@ -30,7 +29,6 @@ use Rattle.world.specs.DecidingSplits.{command_of, ever_lent, uuid_used, reasons
 use Rattle.world.specs.Members.{IsMember, AreMembers}
 use Rattle.world.specs.Reasons.{text_reasons}
 use Rattle.world.specs.declared.deciding_splits.Asked.{Asked}
-use Rattle.world.specs.declared.deciding_splits.Lender.{Lender}
 use Rattle.world.specs.declared.members.Member.{Member}
 use Rattle.world.proofs.EachPackage.{in_packages}
 use Rattle.world.proofs.Parts.{first_of_both}

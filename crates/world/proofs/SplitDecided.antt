@@ -1,6 +1,6 @@
 -- What a split comes to, by what the members, the request and the cut tell.
-use Rattle.std.proofs.Common.{◌≡◌, refl, sym, ap, subst, ◌∙◌, ℕ, ◌+◌, ◌&&◌, List, [], ◌∷◌, ◌++◌, Bool, true, false, cond, length, slice_get, Option, Some, None, Ok, Err, bytes_eq}
-use Rattle.std.specs.Prelude.{is_some, count_by, sum_by}
+use Rattle.std.proofs.Common.{◌≡◌, refl, sym, ap, subst, ◌∙◌, ℕ, ◌+◌, ◌&&◌, List, [], ◌∷◌, ◌++◌, Bool, true, false, cond, length, slice_get, Some, None, Ok, Err, bytes_eq}
+use Rattle.std.specs.Prelude.{count_by, sum_by}
 use Rattle.std.proofs.lemmas.Bool.{or_parts}
 use Rattle.std.specs.Bool.{then_some}
 use Rattle.std.specs.List.{list_any, AllByRecursion}
@@ -13,9 +13,9 @@ use Rattle.sheet_types.specs.Matrix.{first_row}
 use Rattle.sheet_types.specs.Ordered.{is_before}
 use Rattle.sheet_types.specs.Refuse.{refusal, is_archive, nothing_to_lend, cut_link, carrying, too_many}
 use Rattle.sheet_types.specs.Register.{IsRegister, IsKeptPackage}
-use Rattle.sheet_types.specs.Step.{accepted, outcome, outcome_by, kept_reply, refuses, receipt_of, receipt_over, cut_of}
+use Rattle.sheet_types.specs.Step.{accepted, outcome, outcome_by, refuses, receipt_of, receipt_over, cut_of}
 use Rattle.sheet_types.specs.Texts.{line}
-use Rattle.sheet_types.specs.World.{World, Package, is_live, holdings, receipts_of}
+use Rattle.sheet_types.specs.World.{World, is_live, holdings, receipts_of}
 use Rattle.sheet_types.specs.declared.command.Command.{Command}
 use Rattle.sheet_types.specs.declared.command.Command.TheVariants.{Split}
 use Rattle.sheet_types.specs.declared.command.Mode.{Mode}

@@ -15,7 +15,6 @@ use Rattle.sheet_types.specs.Step.{accepted, less, loan_of, cut_of, receipt_of}
 use Rattle.sheet_types.specs.World.{World, Package, package_key, holdings, receipts_of, with_receipt}
 use Rattle.sheet_types.specs.declared.command.Command.TheVariants.{Split}
 use Rattle.sheet_types.specs.declared.command.Mode.{Mode}
-use Rattle.sheet_types.specs.declared.command.Request.{Request}
 use Rattle.sheet_types.specs.declared.frame.Rect.{Rect}
 use Rattle.sheet_types.specs.declared.receipt.Receipt.{Receipt}
 use Rattle.sheet_types.specs.declared.receipt.Sums.{Sums}

@@ -170,7 +170,8 @@ fn refused_before_cut<S: Alter + Drop>(
 ) -> Result<Option<Refusal>, Fault>
     requires rests { AllRest S.Store members.old.items }
     requires good { IsTrue (is_good_frame frame.now) }
-    ensures asks { AsksAll S.Store (λ w found. frame.now ≡ w.frame → request.now.command ≡ command_of asked.now → depth ≡ (holdings w asked.now.package).depth → found ≡ first_row (reasons_before_cut w request.now)) members.old.items members.new.items result }
+    ensures asks { AsksAll S.Store (λ w found. frame.now ≡ w.frame → request.now.command ≡ command_of asked.now
+        → depth ≡ (holdings w asked.now.package).depth → found ≡ first_row (reasons_before_cut w request.now)) members.old.items members.new.items result }
     ensures rect { IfOk result (λ found. found ≡ None → IsTrue (is_good_rect frame.now asked.now.rect)) }
     ensures shallow { IfOk result (λ found. found ≡ None → depth < greatest_depth) }
 {
@@ -193,7 +194,8 @@ fn cut_at<S: Alter + Drop>(
     requires rests { AllRest S.Store members.old.items }
     requires frame { IsTrue (is_good_frame frame.now) }
     requires rect { IsTrue (is_good_rect frame.now rect.now) }
-    ensures { AsksAll S.Store (λ w answer. frame.now ≡ w.frame → (p : Package) → slice_get w.packages at ≡ Some p → IsCutOut w p mode rect.now answer) members.old.items members.new.items result }
+    ensures { AsksAll S.Store (λ w answer. frame.now ≡ w.frame → (p : Package) → slice_get w.packages at ≡ Some p
+        → IsCutOut w p mode rect.now answer) members.old.items members.new.items result }
 {
     let member = &mut members[at];
     select(&mut member.conn, alloc, frame, rect, mode)
@@ -261,8 +263,10 @@ fn prepared<S: Alter + Drop>(
     requires rests { AllRest S.Store members.old.items }
     requires small { count ≤ greatest_receipts }
     requires shallow { lender.depth < greatest_depth }
-    ensures asks { AsksAll S.Store (λ w decision. count ≡ length (receipts_of w) → IsNewSplit w request.now asked.now → IsLender w (holdings w asked.now.package) lender → IsGranted w request.now asked.now
-        → IsSelectionOf (cut_of w asked.now.package asked.now.mode asked.now.rect) selection → Decides w request.now decision) members.old.items members.new.items result }
+    ensures asks { AsksAll S.Store (λ w decision. count ≡ length (receipts_of w) → IsNewSplit w request.now asked.now
+        → IsLender w (holdings w asked.now.package) lender → IsGranted w request.now asked.now
+        → IsSelectionOf (cut_of w asked.now.package asked.now.mode asked.now.rect) selection
+        → Decides w request.now decision) members.old.items members.new.items result }
     ensures place { IfOk result (λ decision. HasPlace members.new.items count decision) }
 {
     let things = things_at(members, lender.at, alloc, &selection)?;
@@ -313,7 +317,9 @@ fn decide_at<S: Alter + Drop>(
     requires rests { AllRest S.Store members.old.items }
     requires good { IsTrue (is_good_frame frame.now) }
     requires small { count ≤ greatest_receipts }
-    ensures asks { AsksAll S.Store (λ w decision. IsOf frame.now count w → IsNewSplit w request.now asked.now → slice_get w.packages at ≡ Some (holdings w asked.now.package) → Decides w request.now decision) members.old.items members.new.items result }
+    ensures asks { AsksAll S.Store (λ w decision. IsOf frame.now count w → IsNewSplit w request.now asked.now
+        → slice_get w.packages at ≡ Some (holdings w asked.now.package)
+        → Decides w request.now decision) members.old.items members.new.items result }
     ensures place { IfOk result (λ decision. HasPlace members.new.items count decision) }
 {
     let lender = lender_at(members.as_slice(), at);

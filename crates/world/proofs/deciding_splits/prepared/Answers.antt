@@ -1,5 +1,5 @@
 -- The member tells what is moved, and all that would be due is made of it.
-use Rattle.std.proofs.Common.{◌<◌, ◌≤◌, ◌∙◌, refl, sym, ap, subst, Ok, Some, length}
+use Rattle.std.proofs.Common.{◌<◌, ◌≤◌, ◌∙◌, refl, sym, subst, length}
 use Rattle.sheet_types.specs.World.{holdings}
 use Rattle.sheet_types.specs.Step.{cut_of}
 use Rattle.world.specs.Members.{AreMembers}
