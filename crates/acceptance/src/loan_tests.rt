@@ -5,6 +5,8 @@ use crate::loan_values::{
 };
 use sheet_types::command::{Mapping, Mode, Relation};
 use sheet_types::refusal::Refusal;
+use std::alloc::Global;
+use std::process::Abort;
 use std::test::Fail;
 use test_values::{Asks, BEGUN, item, sums};
 use test_worlds::{A, B, C, CORNER, D, E, F, LoanStep, QUARTER, Wish, new_world, package};
@@ -243,8 +245,7 @@ fn a_column_there_and_back(rt: HostRuntime) -> Result<(), Fail> {
 }
 
 // A tile came to the place that a lent one has.
-fn expect_collision(rt: &HostRuntime, ends: [i64; 5]) -> Result<(), Fail> {
-    let alloc = rt.alloc();
+fn expect_collision(rt: &impl Abort, alloc: Global, ends: [i64; 5]) -> Result<(), Fail> {
     let mut world = new_world(alloc)?;
     let before = [
         first_tile(),
@@ -271,12 +272,12 @@ fn expect_collision(rt: &HostRuntime, ends: [i64; 5]) -> Result<(), Fail> {
 
 #[test]
 fn a_collision_on_return(rt: HostRuntime) -> Result<(), Fail> {
-    expect_collision(&rt, QUARTER)
+    expect_collision(&rt, rt.alloc(), QUARTER)
 }
 
 #[test]
 fn a_collision_in_a_column(rt: HostRuntime) -> Result<(), Fail> {
-    expect_collision(&rt, BOTH_WESTERN)
+    expect_collision(&rt, rt.alloc(), BOTH_WESTERN)
 }
 
 // The receipt is the first, with its moment.

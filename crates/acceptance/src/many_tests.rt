@@ -131,15 +131,14 @@ fn expect_bytes(rt: &impl Abort, items: &[Item], count: u32) {
     for (number, item) in (0..count).zip(items) {
         assert!(rt; item.identity == thing(number));
         match &item.content {
-            Content::Tile { bytes, .. } => assert!(rt; bytes.as_slice() == [byte_of(number)]),
+            Content::Tile { bytes, .. } => assert!(rt; bytes.as_slice() == [byte_of(number)].as_slice()),
             Content::Media { .. } | Content::Row { .. } => assert!(rt; false),
         }
     }
 }
 
 // So many tiles are lent, and come home.
-fn expect_there_and_back(rt: &HostRuntime, count: u32) -> Result<(), Fail> {
-    let alloc = rt.alloc();
+fn expect_there_and_back(rt: &impl Abort, alloc: Global, count: u32) -> Result<(), Fail> {
     let mut world = wide_world(alloc)?;
     for number in 0..count {
         accepted(rt, &mut world, alloc, number.saturating_add(1), tile(alloc, number)?)?;
@@ -168,25 +167,25 @@ fn expect_there_and_back(rt: &HostRuntime, count: u32) -> Result<(), Fail> {
 
 #[test]
 fn one_tile(rt: HostRuntime) -> Result<(), Fail> {
-    expect_there_and_back(&rt, 1)
+    expect_there_and_back(&rt, rt.alloc(), 1)
 }
 
 #[test]
 fn a_page_less_one(rt: HostRuntime) -> Result<(), Fail> {
-    expect_there_and_back(&rt, 255)
+    expect_there_and_back(&rt, rt.alloc(), 255)
 }
 
 #[test]
 fn a_page(rt: HostRuntime) -> Result<(), Fail> {
-    expect_there_and_back(&rt, 256)
+    expect_there_and_back(&rt, rt.alloc(), 256)
 }
 
 #[test]
 fn a_page_and_one(rt: HostRuntime) -> Result<(), Fail> {
-    expect_there_and_back(&rt, 257)
+    expect_there_and_back(&rt, rt.alloc(), 257)
 }
 
 #[test]
 fn two_pages_and_one(rt: HostRuntime) -> Result<(), Fail> {
-    expect_there_and_back(&rt, 513)
+    expect_there_and_back(&rt, rt.alloc(), 513)
 }

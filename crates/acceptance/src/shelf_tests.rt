@@ -3,6 +3,8 @@ use crate::loan_values::{accepted, expect_items, expect_live, expect_steps, move
 use shelves::shelf::{Shelf, ShelfFault};
 use sheet_types::refusal::Refusal;
 use sqlite::{Alter, Connection};
+use std::alloc::Global;
+use std::process::Abort;
 use std::test::Fail;
 use test_values::{Asks, sums};
 use sheet_types::command::Mode;
@@ -29,8 +31,7 @@ impl<S: Alter> Shelf<S> for BareShelf {
     }
 }
 
-fn expect_unshelved(rt: &HostRuntime, why: ShelfFault, told: Refusal) -> Result<(), Fail> {
-    let alloc = rt.alloc();
+fn expect_unshelved(rt: &impl Abort, alloc: Global, why: ShelfFault, told: Refusal) -> Result<(), Fail> {
     let mut world = new_world(alloc)?;
     let tile = [accepted(1, Wish::Of(A, Asks::Tile(1, [1, 0, 0])), 1)];
     expect_steps(rt, alloc, &mut world, &tile)?;
@@ -53,12 +54,12 @@ fn expect_unshelved(rt: &HostRuntime, why: ShelfFault, told: Refusal) -> Result<
 
 #[test]
 fn a_shelf_that_faults(rt: HostRuntime) -> Result<(), Fail> {
-    expect_unshelved(&rt, ShelfFault::StoreFault, Refusal::StoreFault)
+    expect_unshelved(&rt, rt.alloc(), ShelfFault::StoreFault, Refusal::StoreFault)
 }
 
 #[test]
 fn a_shelf_without_memory(rt: HostRuntime) -> Result<(), Fail> {
-    expect_unshelved(&rt, ShelfFault::OutOfMemory, Refusal::OutOfMemory)
+    expect_unshelved(&rt, rt.alloc(), ShelfFault::OutOfMemory, Refusal::OutOfMemory)
 }
 
 // It is not asked for a split that is refused, nor for one that came before.

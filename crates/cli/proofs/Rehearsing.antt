@@ -62,7 +62,7 @@ module _ {S W : Type 0} (g : Ghosts S) (clean : (h : Held S) → HasCleanDisk (s
 
     pub all_done : (y : Unit {0}) → Writes g live_text new last mid after (Ok y) → Rehearses w text first end before after Done
     all_done y packages =
-        (carried, (it.2.written.0, it.2.written.1), Appends-trans before mid after (report carried) (live_text carried.next) it.2.written.2 (packages (all_clean last) carried.next left))
+        (carried, (it.2.written.0, it.2.written.1), left.members.register.arranged, Appends-trans before mid after (report carried) (live_text carried.next) it.2.written.2 (packages (all_clean last) carried.next left))
 
     pub packages_failed : (failure : Failure) → Writes g live_text new last mid after (Err failure) → Rehearses w text first end before after (Stopped failure)
     packages_failed failure packages =

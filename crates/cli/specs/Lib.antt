@@ -1,4 +1,5 @@
 pub mod Arguments
 pub mod Endings
-pub mod Rehearsals
 pub mod Failures
+pub mod Progress
+pub mod Rehearsals

@@ -4,9 +4,10 @@ use Rattle.std.specs.List.{AllByRecursion}
 use Rattle.std.specs.Io.KnownBytes.{Appends}
 use Rattle.sqlite.specs.Store.{Ghosts}
 use Rattle.package_tables.specs.declared.fault.Fault.{Fault}
+use Rattle.sheet_types.specs.Ordered.{IsArranged}
 use Rattle.sheet_types.specs.Step.{Run}
 use Rattle.sheet_types.specs.Texts.{uuid_text}
-use Rattle.sheet_types.specs.World.{World}
+use Rattle.sheet_types.specs.World.{World, package_key}
 use Rattle.sheet_types.specs.declared.command.Request.{Request}
 use Rattle.sheet_types.specs.declared.receipt.Receipt.{Receipt}
 use Rattle.sheet_types.specs.declared.refusal.Refusal.{Refusal}
@@ -38,7 +39,11 @@ package_text w uuid = package_line uuid ++ manifest w uuid
 abbrev pub packages_text : World → List (List ℕ) → List ℕ
 packages_text w uuids = flat_map (package_text w) uuids
 
--- all live packages of a world, by UUID
+-- a world's packages are in the order of their UUIDs, each once
+abbrev pub AreInOrder : World → Type 0
+AreInOrder w = IsArranged package_key w.packages
+
+-- all live packages of a world, in its order
 abbrev pub live_text : World → List ℕ
 live_text w = packages_text w (map (λ p. p.uuid) w.packages)
 
@@ -79,8 +84,8 @@ Stops w text writer writer' before after failure =
     ⊎ ((ran : Ran w text) × (failure ≡ StoreFault) × WentOutPast (report_before ran.requests ran.replies) before after (report ran))
     ⊎ ((ran : Ran w text) × IsComplete ran × WentOutPast (report ran) before after (printed ran))
 
--- A rehearsal over a new world w, of the text that a reader tells, with what a writer held before and holds after. Where it is done, the list was carried out whole, and the report and all live packages were written. Where the list is refused, nothing is written, and it is told why it was not read.
+-- A rehearsal over a new world w, of the text that a reader tells, with what a writer held before and holds after. Where it is done, the list was carried out whole, and the report and all live packages, in the order of their UUIDs, were written. Where the list is refused, nothing is written, and it is told why it was not read.
 abbrev pub Rehearses : {W : Type 0} → World → Option (List ℕ) → W → W → Option (List ℕ) → Option (List ℕ) → Outcome → Type 0
-Rehearses w text writer writer' before after Done = (ran : Ran w text) × IsComplete ran × Appends before after (printed ran)
+Rehearses w text writer writer' before after Done = (ran : Ran w text) × IsComplete ran × AreInOrder ran.next × Appends before after (printed ran)
 Rehearses w text writer writer' before after (Refused what) = (what ≡ BadList) × (writer' ≡ writer) × ((fault : ReadFault) × (fault ≢ Memory) × IsWhyUnread text fault)
 Rehearses w text writer writer' before after (Stopped failure) = Stops w text writer writer' before after failure

@@ -5,6 +5,8 @@ pub mod arguments;
 #[cfg(test)]
 mod arguments_tests;
 pub mod progress;
+#[cfg(test)]
+mod progress_tests;
 pub mod rehearse;
 #[cfg(test)]
 mod rehearse_tests;

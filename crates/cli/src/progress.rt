@@ -1,11 +1,10 @@
 //! How far an import is, told on a writer: a line for each thousand requests.
-ghost use Rattle.std.specs.Prelude.{◌≡◌, ℕ, List, ◌∷◌, [], None, OnOk, OnErr, IsTrue, ◌↔◌};
+ghost use Rattle.std.specs.Prelude.{◌↔◌, None, OnOk, IsTrue};
 ghost use Rattle.std.specs.Io.KnownBytes.{Appends};
-ghost use Rattle.manifest_csv.specs.Progress.{Tells};
-ghost use Rattle.manifest_csv.specs.Sent.{WentOut};
 ghost use Rattle.cli.specs.Progress.{IsDue, progress_text};
 
 use itoa::Buffer;
+pub use manifest_csv::progress::Silent;
 use manifest_csv::progress::Teller;
 use manifest_csv::sending::{WriteFault, send};
 use std::io::Write;

@@ -17,9 +17,6 @@ const GOOD: Words<'static> = Words {
 const SECOND_TILE: &str =
     "90000000-0000-4000-8000-000000000002,2024-05-01T08:00:00.000Z,add,a0000000-0000-4000-8000-000000000000,00000000-0000-4000-8000-000000000002,,tile,2,4,3,,,,,,,,42";
 
-const SPLIT: &str =
-    "90000000-0000-4000-8000-000000000002,2024-05-01T08:00:00.000Z,split,a0000000-0000-4000-8000-000000000000,,b0000000-0000-4000-8000-000000000000,strict,1,0,0,0,0,,,,,,";
-
 const OF_FIRST_TILE: &str =
     "line,request,seq,refusal\n1,90000000-0000-4000-8000-000000000001,1,0\npackage a0000000-0000-4000-8000-000000000000\nkind,identity,other,zoom,column,row,x,y,code,size,fingerprint,text\ntile,00000000-0000-4000-8000-000000000001,,2,3,3,,,,1,b363ee0ecc9cf61b12ecdafd75dca2779729b4fcc5f1bd718c33aad2c94af4f8,\n";
 
@@ -140,17 +137,42 @@ fn a_list_that_is_none_is_refused(rt: HostRuntime) -> Result<(), Fail> {
     Ok(())
 }
 
-// Nothing of a list is carried out where a record of it is no request that is served.
+const LENT: [&str; 4] = [
+    "90000000-0000-4000-8000-000000000001,2024-05-01T08:00:00.000Z,add,a0000000-0000-4000-8000-000000000000,00000000-0000-4000-8000-000000000001,,tile,1,0,0,,,,,,,,41",
+    "90000000-0000-4000-8000-000000000002,2024-05-01T08:00:00.000Z,add,a0000000-0000-4000-8000-000000000000,00000000-0000-4000-8000-000000000002,,tile,1,1,0,,,,,,,,42",
+    "90000000-0000-4000-8000-000000000003,2024-05-01T08:00:00.000Z,split,a0000000-0000-4000-8000-000000000000,,c0000000-0000-4000-8000-000000000000,strict,1,0,0,0,0,,,,,,",
+    "90000000-0000-4000-8000-000000000004,2024-05-01T08:00:00.000Z,split,a0000000-0000-4000-8000-000000000000,,10000000-0000-4000-8000-000000000000,follow,1,1,0,1,0,,,,,,",
+];
+
+const HOME: &str =
+    "90000000-0000-4000-8000-000000000005,2024-05-01T08:00:00.000Z,merge,c0000000-0000-4000-8000-000000000000,,a0000000-0000-4000-8000-000000000000,,,,,,,,,,3,,";
+
+// The loan that was made last stands first.
 #[test]
-fn a_split_is_not_served(rt: HostRuntime) -> Result<(), Fail> {
+fn packages_in_the_order_of_their_uuids(rt: HostRuntime) -> Result<(), Fail> {
     let alloc = rt.alloc();
-    let text = list(alloc, &[FIRST_TILE, SPLIT])?;
+    let text = list(alloc, &LENT)?;
     expect_rehearsal(
         &rt,
         alloc,
         text.as_bytes(),
-        Outcome::Refused(What::BadList),
-        "",
+        Outcome::Done,
+        "line,request,seq,refusal\n1,90000000-0000-4000-8000-000000000001,1,0\n2,90000000-0000-4000-8000-000000000002,2,0\n3,90000000-0000-4000-8000-000000000003,3,0\n4,90000000-0000-4000-8000-000000000004,4,0\npackage 10000000-0000-4000-8000-000000000000\nkind,identity,other,zoom,column,row,x,y,code,size,fingerprint,text\ntile,00000000-0000-4000-8000-000000000002,,1,1,0,,,,1,8fb41bcfca82ed2dafb5c418f2b706238a0fb7dac1fe9855d202696463ae5d2e,\npackage a0000000-0000-4000-8000-000000000000\nkind,identity,other,zoom,column,row,x,y,code,size,fingerprint,text\npackage c0000000-0000-4000-8000-000000000000\nkind,identity,other,zoom,column,row,x,y,code,size,fingerprint,text\ntile,00000000-0000-4000-8000-000000000001,,1,0,0,,,,1,c20eb71e63f0260834960dcfbffbdf9e96eadc0b8946db35a34b9382dc301848,\n",
+    );
+    Ok(())
+}
+
+// The other loan stays.
+#[test]
+fn a_loan_that_comes_home(rt: HostRuntime) -> Result<(), Fail> {
+    let alloc = rt.alloc();
+    let text = list(alloc, &[LENT[0], LENT[1], LENT[2], LENT[3], HOME])?;
+    expect_rehearsal(
+        &rt,
+        alloc,
+        text.as_bytes(),
+        Outcome::Done,
+        "line,request,seq,refusal\n1,90000000-0000-4000-8000-000000000001,1,0\n2,90000000-0000-4000-8000-000000000002,2,0\n3,90000000-0000-4000-8000-000000000003,3,0\n4,90000000-0000-4000-8000-000000000004,4,0\n5,90000000-0000-4000-8000-000000000005,5,0\npackage 10000000-0000-4000-8000-000000000000\nkind,identity,other,zoom,column,row,x,y,code,size,fingerprint,text\ntile,00000000-0000-4000-8000-000000000002,,1,1,0,,,,1,8fb41bcfca82ed2dafb5c418f2b706238a0fb7dac1fe9855d202696463ae5d2e,\npackage a0000000-0000-4000-8000-000000000000\nkind,identity,other,zoom,column,row,x,y,code,size,fingerprint,text\ntile,00000000-0000-4000-8000-000000000001,,1,0,0,,,,1,c20eb71e63f0260834960dcfbffbdf9e96eadc0b8946db35a34b9382dc301848,\n",
     );
     Ok(())
 }

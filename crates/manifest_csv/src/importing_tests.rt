@@ -1,16 +1,17 @@
 // Imports whose reports were written out by hand; the digests are Python's `hashlib`.
 use crate::importing::{ImportFault, import};
-use crate::lists::ReadFault;
 use crate::package_manifests::write_manifest;
+use crate::progress::Silent;
+use request_csv::lists::ReadFault;
 use shelves::memory::MemoryShelf;
 use sqlite::MemStore;
 use std::alloc::Global;
 use std::process::Abort;
 use std::test::Fail;
-use test_values::{
-    FIRST_TILE, Failing, MANIFEST_OF_THE_FIRST, NO_REQUEST, Narrow, SEVENTEEN, archive, list,
-    question, sums,
+use test_lists::{
+    FIRST_TILE, Failing, MANIFEST_OF_THE_FIRST, NO_REQUEST, Narrow, SEVENTEEN, list,
 };
+use test_values::{archive, question, sums};
 use test_worlds::new_world;
 use world::world::World;
 
@@ -37,7 +38,14 @@ fn expect_import(
     report: &str,
 ) {
     let mut out: Vec<u8> = Vec::new(alloc);
-    let got = import(alloc, world, &mut MemoryShelf::new(alloc), text, &mut out);
+    let got = import(
+        alloc,
+        world,
+        &mut MemoryShelf::new(alloc),
+        text,
+        &mut out,
+        &mut Silent,
+    );
     assert_eq!(rt; out.as_slice(), report.as_bytes());
     assert!(rt; got == ended);
 }
@@ -248,6 +256,7 @@ fn a_reader_that_fails_after_a_good_list(rt: HostRuntime) -> Result<(), Fail> {
         &mut MemoryShelf::new(alloc),
         reader,
         &mut out,
+        &mut Silent,
     );
     assert!(rt; ended == Err(ImportFault::Unread(ReadFault::Read)));
     assert!(rt; out.is_empty());
@@ -384,6 +393,7 @@ fn writers_that_fail(rt: HostRuntime) -> Result<(), Fail> {
             &mut MemoryShelf::new(alloc),
             text.as_bytes(),
             &mut out,
+            &mut Silent,
         );
         assert!(rt; ended == Err(ImportFault::Unwritten));
         assert_eq!(rt; out.taken.as_slice(), &report[..room]);
@@ -405,6 +415,7 @@ fn a_list_again_after_a_writer_that_failed(rt: HostRuntime) -> Result<(), Fail> 
         &mut MemoryShelf::new(alloc),
         text.as_bytes(),
         &mut out,
+        &mut Silent,
     );
     assert!(rt; ended == Err(ImportFault::Unwritten));
     expect_sums(&rt, &world, [1, 0, 0, 0, 1]);
@@ -415,7 +426,8 @@ fn a_list_again_after_a_writer_that_failed(rt: HostRuntime) -> Result<(), Fail> 
             &mut world,
             &mut MemoryShelf::new(alloc),
             text.as_bytes(),
-            &mut whole
+            &mut whole,
+            &mut Silent
         ) == Ok(())
     );
     assert_eq!(rt; whole.taken.as_slice(), REPORT_OF_TWO.as_bytes());

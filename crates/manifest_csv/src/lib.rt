@@ -4,6 +4,8 @@
 pub mod importing;
 #[cfg(test)]
 mod importing_tests;
+#[cfg(test)]
+mod lending_tests;
 pub mod manifests;
 #[cfg(test)]
 mod manifests_tests;

@@ -1,11 +1,13 @@
 // Manifests of packages that are live, and of one that is not. The bytes were written out by hand; the digest is Python's `hashlib`.
 use crate::importing::import;
 use crate::package_manifests::{ManifestFault, write_manifest};
+use crate::progress::Silent;
 use shelves::memory::MemoryShelf;
 use sqlite::MemStore;
 use std::alloc::Global;
 use std::test::Fail;
-use test_values::{FIRST_TILE, MANIFEST_OF_THE_FIRST, Narrow, archive, list};
+use test_lists::{FIRST_TILE, MANIFEST_OF_THE_FIRST, Narrow, list};
+use test_values::archive;
 use test_worlds::new_world;
 use uuid::Uuid;
 use world::world::World;
@@ -21,6 +23,7 @@ fn world_of_one_tile(alloc: Global) -> Result<World<MemStore>, Fail> {
         &mut MemoryShelf::new(alloc),
         text.as_bytes(),
         &mut report,
+        &mut Silent,
     ) {
         Ok(()) => Ok(world),
         Err(_) => Err(Fail::new("an import")),

@@ -146,8 +146,8 @@ module _ (w : World) (id moment child into : List ℕ) (ticket' : ℤ) (types : 
   are_apart : AreApart (holdings w child) (with_cut taken (holdings w into))
   are_apart =
       All-weaker (λ r. has receipt_key (receipt_key r) (holdings w child).receipts ≡ true) (λ r. has receipt_key (receipt_key r) (holdings w into).receipts ≡ false)
-        (λ r there. only_in_child (λ s. bytes_eq (receipt_key s) (receipt_key r)) (counts_arranged receipt_key (receipt_key r) (receipts_of w) (ledger_arranged (archive_of w) [] (receipts_of w) register.balanced.ledger)) there)
-        (holdings w child).receipts (self_has receipt_key (holdings w child).receipts)
+      (λ r there. only_in_child (λ s. bytes_eq (receipt_key s) (receipt_key r)) (counts_arranged receipt_key (receipt_key r) (receipts_of w) (ledger_arranged (archive_of w) [] (receipts_of w) register.balanced.ledger)) there)
+      (holdings w child).receipts (self_has receipt_key (holdings w child).receipts)
 
   -- what no receipt of either meets
   in_neither : (t : Receipt → Bool) → list_any t (holdings w child).receipts ≡ false → list_any t (holdings w into).receipts ≡ false → list_any t (arranged receipt_key ((holdings w child).receipts ++ (holdings w into).receipts)) ≡ false

@@ -11,13 +11,13 @@ ghost use Rattle.world.specs.ServeFaults.{CountsShelf};
 ghost use Rattle.world.specs.Changes.{Changes};
 ghost use Rattle.world.specs.declared.deciding.Decision.TheVariants.{ChangeDue};
 
-use lending::turn_fault::TurnFault;
 use crate::deciding::{Change, Decision, decide};
 use crate::loans::{Lending, Returning, ServeFault};
 use crate::members::Member;
 use crate::merging::merge_at;
 use crate::splitting::{child_store, lend_and_place};
 use crate::turning::turn_at;
+use lending::turn_fault::TurnFault;
 use package_tables::fault::Fault;
 use sheet_types::command::{Command, Request};
 use sheet_types::frame::Frame;

@@ -148,7 +148,11 @@ fn clash_at<S: Alter + Drop>(
             ..
         } => {
             let taken = has_tile_in(members, at, *zoom, *column, *row)?;
-            let place = [zoom.unsigned_abs(), column.unsigned_abs(), row.unsigned_abs()];
+            let place = [
+                zoom.unsigned_abs(),
+                column.unsigned_abs(),
+                row.unsigned_abs(),
+            ];
             let identity = item.identity;
             Ok(taken.then_some(Clash { place, identity }))
         }
@@ -203,14 +207,24 @@ fn first_taken<S: Alter + Drop>(
 fn items_moved(alloc: Global, items: &[Item]) -> Result<Vec<Moved>, Fault>
     ensures { IfOk result (λ things. things.items ≡ map item_moved items.now) }
 {
-    Ok(items.iter().map(|item| Moved::of_item(item)).collect(alloc)?)
+    Ok(
+        items
+            .iter()
+            .map(|item| Moved::of_item(item))
+            .collect(alloc)?,
+    )
 }
 
 /// Links as a receipt names them.
 fn links_moved(alloc: Global, links: &[Relation]) -> Result<Vec<Moved>, Fault>
     ensures { IfOk result (λ things. things.items ≡ map link_moved links.now) }
 {
-    Ok(links.iter().map(|link| Moved::of_link(link)).collect(alloc)?)
+    Ok(
+        links
+            .iter()
+            .map(|link| Moved::of_link(link))
+            .collect(alloc)?,
+    )
 }
 
 /// All of these items and links, as a receipt names them.

@@ -4,11 +4,11 @@ ghost use Rattle.world.specs.Loans.{place_without};
 ghost use Rattle.world.specs.Members.{AllRest};
 ghost use Rattle.world.specs.Merges.{Merges};
 
-use lending::turn_fault::TurnFault;
 use crate::loans::Returning;
 use crate::members::Member;
 use crate::reserving::insert_reserved;
 use crate::taking_turns::take_home_at;
+use lending::turn_fault::TurnFault;
 use sheet_types::receipt::Receipt;
 use sqlite::Alter;
 

@@ -22,14 +22,14 @@ ghost use Rattle.package_tables.specs.declared.fault.Fault.TheVariants.{OutOfMem
 ghost use Rattle.lending.specs.declared.turn_fault.TurnFault.TheVariants.{Before};
 ghost use Rattle.world.specs.Splits.{Splits, KeepsLoan, DropsUnfilled, DropsChild, member_of_child};
 
-use identity_register::selection::Selection;
-use lending::turn_fault::TurnFault;
-use lending::lending::fill;
 use crate::loans::{Lending, ServeFault};
 use crate::members::Member;
 use crate::reserving::{insert_reserved, push_reserved};
 use crate::taking_turns::lend_at;
 use identity_register::creation::create;
+use identity_register::selection::Selection;
+use lending::lending::fill;
+use lending::turn_fault::TurnFault;
 use package_tables::create::Info;
 use package_tables::fault::Fault;
 use sheet_types::frame::Frame;

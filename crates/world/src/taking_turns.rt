@@ -12,11 +12,11 @@ ghost use Rattle.world.specs.Turning.{LeavesAsBefore};
 ghost use Rattle.world.specs.Turns.{TakesTurn, LeavesNoMore};
 ghost use Rattle.lending.specs.declared.turn_fault.TurnFault.TheVariants.{Before};
 
-use lending::turn_fault::TurnFault;
-use lending::lending::lend;
 use crate::loans::{Lending, Returning};
 use crate::members::Member;
+use lending::lending::lend;
 use lending::returning::take_home;
+use lending::turn_fault::TurnFault;
 use sqlite::{Alter, Connection};
 
 /// The package at the place of a split lends what is selected.

@@ -8,8 +8,8 @@ ghost use Rattle.package_tables.specs.declared.fault.Fault.{Fault};
 ghost use Rattle.lending.specs.declared.turn_fault.TurnFault.TheVariants.{Before};
 
 use crate::carrying_out::apply_to_package;
-use lending::turn_fault::TurnFault;
 use crate::members::Member;
+use lending::turn_fault::TurnFault;
 use sheet_types::command::Command;
 use sheet_types::receipt::{Receipt, Sums};
 use sqlite::Alter;

@@ -1,5 +1,7 @@
-// One request of each kind in a world in memory. Run by `bench/failing_allocations.sh`, which refuses each allocation in turn: the world is that before the request or the one after it, and the reply fits.
-use crate::fitting::{Both, OUT_OF_MEMORY, expect_fits};
+// One request of each kind in a world in memory, a split and a merge among them. Run by `bench/failing_allocations.sh`, which refuses each allocation in turn: the world is that before the request or the one after it, and the reply fits.
+use crate::fitting::{Both, BothLoans, OUT_OF_MEMORY, expect_fits, expect_loan_fits};
+use crate::loan_runs::{Scene, lending, returning, too_deep};
+use crate::loan_runs::{run_in_memory as run_loan, untouched_in_memory as untouched_loan};
 use crate::requests::later;
 use crate::runs::{run_in_memory, untouched_in_memory};
 use package_tables::fault::Fault;
@@ -81,5 +83,52 @@ fn a_request_comes_again_or_not(rt: HostRuntime) -> Result<(), Fail> {
 #[test]
 fn a_deletion_is_refused_or_not(rt: HostRuntime) -> Result<(), Fail> {
     expect_whole(&rt, rt.alloc(), &later(9, Asks::Delete(2)), -14)?;
+    Ok(())
+}
+
+// The same of a split or a merge.
+fn expect_whole_loan(rt: &impl Abort, alloc: Global, scene: &Scene) -> Result<(), Fault> {
+    let before = untouched_loan(alloc, scene)?;
+    let after = run_loan(alloc, scene)?;
+    let found = run_loan(alloc, scene)?;
+    let (Some(before), Some(after), Some(found)) = (before, after, found) else {
+        return Err(Fault::OutOfMemory);
+    };
+    if after.number == OUT_OF_MEMORY || after.live.is_none() {
+        return Err(Fault::OutOfMemory);
+    }
+    assert_eq!(rt; after.number, scene.told);
+    let both = BothLoans { before, after };
+    expect_loan_fits(rt, &found, &both);
+    Ok(())
+}
+
+#[test]
+fn a_cut_is_lent_or_not(rt: HostRuntime) -> Result<(), Fail> {
+    expect_whole_loan(&rt, rt.alloc(), &lending(1))?;
+    Ok(())
+}
+
+#[test]
+fn a_cut_of_a_loan_is_lent_or_not(rt: HostRuntime) -> Result<(), Fail> {
+    expect_whole_loan(&rt, rt.alloc(), &lending(4))?;
+    Ok(())
+}
+
+#[test]
+fn a_loan_comes_home_or_not(rt: HostRuntime) -> Result<(), Fail> {
+    expect_whole_loan(&rt, rt.alloc(), &returning(1))?;
+    Ok(())
+}
+
+#[test]
+fn a_loan_comes_home_to_a_loan_or_not(rt: HostRuntime) -> Result<(), Fail> {
+    expect_whole_loan(&rt, rt.alloc(), &returning(4))?;
+    Ok(())
+}
+
+#[test]
+fn a_split_is_refused_or_not(rt: HostRuntime) -> Result<(), Fail> {
+    expect_whole_loan(&rt, rt.alloc(), &too_deep())?;
     Ok(())
 }

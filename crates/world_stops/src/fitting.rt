@@ -1,4 +1,5 @@
 // What a request may come to, where something fails in it.
+use crate::loan_runs::{LoanOutcome, Untouched};
 use crate::pictures::Picture;
 use crate::runs::Outcome;
 use std::process::Abort;
@@ -52,4 +53,67 @@ pub fn expect_fits(rt: &impl Abort, found: &Outcome, both: &Both) {
 /// Whether nothing failed up to the end, the reading of the world with it.
 pub fn went_through(found: &Outcome, both: &Both) -> bool {
     found.number == both.after.number && same(&found.live, both.after.left.held.as_str())
+}
+
+/// The worlds before and after a split or a merge, where nothing fails.
+#[derive(Drop)]
+pub struct BothLoans {
+    pub before: Untouched,
+    pub after: LoanOutcome,
+}
+
+// Whether each of these stores is among those that are left.
+fn are_left(left: &[String], wanted: &[String]) -> bool {
+    for one in wanted {
+        if !left.iter().any(|text| text.as_str() == one.as_str()) {
+            return false;
+        }
+    }
+    true
+}
+
+/// Whether the stores of the world after are left.
+pub fn is_after(found: &LoanOutcome, both: &BothLoans) -> bool {
+    are_left(&found.left, &both.after.left)
+}
+
+/// The reply is that of the request, or a fault; the stores that a crash leaves, and the world itself where it can be read, are those of before or after. A shelf that had no store leaves a world that goes on; a world that failed answers `StoreFault` to what it answered before.
+pub fn expect_loan_fits(rt: &impl Abort, found: &LoanOutcome, both: &BothLoans) {
+    let is_before = are_left(&found.left, &both.before.left);
+    let is_after = is_after(found, both);
+    assert!(rt; is_before || is_after);
+    if found.number == STORE_FAULT {
+        assert!(rt; found.has_failed || found.was_unshelved);
+    } else if found.number != OUT_OF_MEMORY {
+        assert!(rt; found.reply.as_str() == both.after.reply.as_str());
+        assert!(rt; is_after);
+        assert!(rt; !found.has_failed);
+    }
+    if found.number < 0 && !found.has_failed {
+        assert!(rt; is_before);
+    }
+    if found.has_failed {
+        assert_eq!(rt; found.again, STORE_FAULT);
+    } else {
+        assert!(rt; found.again == 1 || found.again <= OUT_OF_MEMORY);
+    }
+    let stands_for = if found.number > 0 {
+        both.after.live.as_ref()
+    } else {
+        Some(&both.before.live)
+    };
+    if found.live.is_some() && !found.has_failed {
+        match stands_for {
+            Some(wanted) => assert!(rt; same(&found.live, wanted.as_str())),
+            None => assert!(rt; false),
+        }
+    }
+}
+
+/// Whether nothing failed up to the end, the reading of the world with it.
+pub fn loan_went_through(found: &LoanOutcome, both: &BothLoans) -> bool {
+    match &both.after.live {
+        Some(live) => found.number == both.after.number && same(&found.live, live.as_str()),
+        None => false,
+    }
 }

@@ -212,3 +212,36 @@ pub fn seen<S: Alter + Drop>(
     let receipt = world.receipt(alloc, id)?;
     held_text(alloc, &items, &links, &receipt)
 }
+
+/// What a store reads as, for the receipt of a request, in one text.
+pub fn store_text<S: Alter>(
+    alloc: Global,
+    conn: &mut Connection<S>,
+    id: Uuid,
+) -> Result<String, Fault> {
+    let Picture {
+        mut held, tables, ..
+    } = read_picture(alloc, conn, id)?;
+    held.push_str(&tables)?;
+    Ok(held)
+}
+
+/// What a world with loans itself reads as: each live package with its parent and its ticket, what it holds, and the receipt of a request.
+pub fn seen_in_all<S: Alter + Drop>(
+    alloc: Global,
+    world: &mut World<S>,
+    id: Uuid,
+) -> Result<String, Fault> {
+    let mut text = String::new(alloc);
+    for sight in world.packages(alloc)?.as_slice() {
+        write_identity(&mut text, Some(sight.uuid))?;
+        write_identity(&mut text, sight.parent)?;
+        write_number(&mut text, alloc, sight.ticket)?;
+        let Some((items, links)) = world.holdings(alloc, sight.uuid)? else {
+            return Err(Fault::StoreFault);
+        };
+        let receipt = world.receipt(alloc, id)?;
+        text.push_str(&held_text(alloc, &items, &links, &receipt)?)?;
+    }
+    Ok(text)
+}

@@ -17,8 +17,8 @@ use test_worlds::blank_store;
 use uuid::Uuid;
 use world::world::World;
 
-// So few pages are kept that a request reads both files, writes the log before its commit, and copies it into the database file after that.
-fn options() -> Options {
+/// So few pages are kept that a request reads both files, writes the log before its commit, and copies it into the database file after that.
+pub fn options() -> Options {
     Options {
         cache_pages: 2,
         spill_pages: 2,
@@ -119,7 +119,24 @@ impl Revive for Fuse<Memory> {
     }
 }
 
-/// The files come back, and are opened again.
+/// The files of a store come back, and are opened again.
+pub fn reopened<D: Revive + Drop>(
+    alloc: Global,
+    conn: Connection<FileStore<D>>,
+    left: Left,
+) -> Result<Connection<FileStore<D>>, Fault> {
+    let Files { log, db } = conn.into_store().close();
+    let files = Files {
+        log: log.revive(alloc, left.log)?,
+        db: db.revive(alloc, left.db)?,
+    };
+    match Connection::open_files(alloc, files, Options::new(7)) {
+        Ok(again) => Ok(again),
+        Err((error, _)) => Err(Fault::from(error)),
+    }
+}
+
+/// What a crash leaves of the one store of a world.
 pub fn left_by<D: Revive + Drop>(
     alloc: Global,
     world: World<FileStore<D>>,
@@ -129,15 +146,7 @@ pub fn left_by<D: Revive + Drop>(
     let Some(conn) = world.into_stores().pop() else {
         return Err(Fault::StoreFault);
     };
-    let Files { log, db } = conn.into_store().close();
-    let files = Files {
-        log: log.revive(alloc, left.log)?,
-        db: db.revive(alloc, left.db)?,
-    };
-    match Connection::open_files(alloc, files, Options::new(7)) {
-        Ok(mut again) => read_picture(alloc, &mut again, id),
-        Err((error, _)) => Err(Fault::from(error)),
-    }
+    read_picture(alloc, &mut reopened(alloc, conn, left)?, id)
 }
 
 /// What came of a request: its reply as a number and as a text, what the world read as then, where it could be read, and what a crash left.

@@ -1,12 +1,14 @@
 -- The list is read, the header goes out, and then the lines.
-use Rattle.std.proofs.Common.{◌∙◌, sym, subst}
+use Rattle.std.proofs.Common.{◌∙◌, arith, length, sym, subst}
 use Rattle.std.specs.Io.KnownBytes.{Appends}
 use Rattle.manifest_csv.specs.Imports.{Imports, IsReported}
+use Rattle.manifest_csv.specs.Progress.{AreTold, IsTold}
 use Rattle.manifest_csv.specs.Reports.{report_header}
 use Rattle.manifest_csv.specs.Sent.{WentOut}
 use Rattle.manifest_csv.specs.declared.importing.ImportFault.TheVariants.{Unwritten}
 use Rattle.world.proofs.Served.{turned_into}
 use Rattle.manifest_csv.proofs.ImportFacts.{after_header, header_unwritten, imported}
+use Rattle.manifest_csv.proofs.ProgressFacts.{nothing_told, told_of}
 use Rattle.manifest_csv.proofs.importing.import.Goals as goal
 
 pub returns-in_err-send-clause-imported : goal.returns-in_err-send-clause-imported
@@ -27,7 +29,7 @@ returns-clause-imported g c =
 pub returns-in_err-send-clause-told : goal.returns-in_err-send-clause-told
 returns-in_err-send-clause-told g c =
     subst (IsTold (g.R.Read.remaining c.args.reader) (g.T.Teller.told c.args.teller.now) (g.T.Teller.told c.args.teller.now)) (sym (turned_into c.from_residual-in_err-send.result Unwritten c.from_residual-in_err-send.ensures.1))
-    (c.in_ok-requests.requests.items, c.in_ok-requests.ensures.list, (0, zero_below _, nothing_told (length c.in_ok-requests.requests.items) (g.T.Teller.told c.args.teller.now)))
+    (c.in_ok-requests.requests.items, c.in_ok-requests.ensures.list, (0, omega arith, nothing_told (length c.in_ok-requests.requests.items) (g.T.Teller.told c.args.teller.now)))
 
 pub returns-clause-told : goal.returns-clause-told
 returns-clause-told g c =
