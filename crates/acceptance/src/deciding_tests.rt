@@ -138,7 +138,10 @@ fn refused<S: Alter + Drop>(
     let decision = decided(members, count, alloc, request)?;
     match &decision {
         Decision::Answered(Err(why)) => Ok(Some(*why)),
-        Decision::Answered(Ok(_)) | Decision::ChangeDue(_) | Decision::SplitDue(_) | Decision::MergeDue(_) => Ok(None),
+        Decision::Answered(Ok(_))
+        | Decision::ChangeDue(_)
+        | Decision::SplitDue(_)
+        | Decision::MergeDue(_) => Ok(None),
     }
 }
 
@@ -151,7 +154,10 @@ fn repeated<S: Alter + Drop>(
 ) -> Result<Option<Receipt>, Fault> {
     match decided(members, count, alloc, request)? {
         Decision::Answered(Ok(receipt)) => Ok(Some(receipt)),
-        Decision::Answered(Err(_)) | Decision::ChangeDue(_) | Decision::SplitDue(_) | Decision::MergeDue(_) => Ok(None),
+        Decision::Answered(Err(_))
+        | Decision::ChangeDue(_)
+        | Decision::SplitDue(_)
+        | Decision::MergeDue(_) => Ok(None),
     }
 }
 

@@ -403,7 +403,12 @@ fn an_emptied_loan_with_a_loan(rt: HostRuntime) -> Result<(), Fail> {
         &rt,
         alloc,
         &world,
-        &[(A, None, 4), (B, Some(A), 6), (C, Some(A), 4), (D, Some(B), 6)],
+        &[
+            (A, None, 4),
+            (B, Some(A), 6),
+            (C, Some(A), 4),
+            (D, Some(B), 6),
+        ],
     )?;
     Ok(())
 }
@@ -447,11 +452,7 @@ fn loans_of_loans(rt: HostRuntime) -> Result<(), Fail> {
         moved(3, Wish::Split(B, C, Mode::Strict, CORNER), 3, one),
         moved(4, Wish::Split(C, D, Mode::Strict, CORNER), 4, one),
         moved(5, Wish::Split(D, E, Mode::Strict, CORNER), 5, one),
-        refused(
-            6,
-            Wish::Split(E, F, Mode::Strict, CORNER),
-            Refusal::TooDeep,
-        ),
+        refused(6, Wish::Split(E, F, Mode::Strict, CORNER), Refusal::TooDeep),
         refused(6, Wish::Merge(B, A, 3), Refusal::LoanOpen(package(C))),
         refused(6, Wish::Merge(C, A, 4), Refusal::Foreign),
         moved(6, Wish::Merge(E, D, 5), 6, one),

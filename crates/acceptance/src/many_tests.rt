@@ -131,7 +131,9 @@ fn expect_bytes(rt: &impl Abort, items: &[Item], count: u32) {
     for (number, item) in (0..count).zip(items) {
         assert!(rt; item.identity == thing(number));
         match &item.content {
-            Content::Tile { bytes, .. } => assert!(rt; bytes.as_slice() == [byte_of(number)].as_slice()),
+            Content::Tile { bytes, .. } => assert!(rt;
+                bytes.as_slice() == [byte_of(number)].as_slice()
+            ),
             Content::Media { .. } | Content::Row { .. } => assert!(rt; false),
         }
     }
@@ -141,7 +143,13 @@ fn expect_bytes(rt: &impl Abort, items: &[Item], count: u32) {
 fn expect_there_and_back(rt: &impl Abort, alloc: Global, count: u32) -> Result<(), Fail> {
     let mut world = wide_world(alloc)?;
     for number in 0..count {
-        accepted(rt, &mut world, alloc, number.saturating_add(1), tile(alloc, number)?)?;
+        accepted(
+            rt,
+            &mut world,
+            alloc,
+            number.saturating_add(1),
+            tile(alloc, number)?,
+        )?;
     }
     let command = split(package(B), [0, 0, 255, 0, 255]);
     let Ok(lent) = replied(&mut world, alloc, count.saturating_add(1), command)? else {

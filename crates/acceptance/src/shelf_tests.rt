@@ -1,13 +1,13 @@
 // A shelf that has no store: a split is answered by a fault and nothing else happens.
 use crate::loan_values::{accepted, expect_items, expect_live, expect_steps, moved};
-use shelves::shelf::{Shelf, ShelfFault};
+use sheet_types::command::Mode;
 use sheet_types::refusal::Refusal;
+use shelves::shelf::{Shelf, ShelfFault};
 use sqlite::{Alter, Connection};
 use std::alloc::Global;
 use std::process::Abort;
 use std::test::Fail;
 use test_values::{Asks, sums};
-use sheet_types::command::Mode;
 use test_worlds::{A, B, LoanStep, QUARTER, Wish, new_world};
 use uuid::Uuid;
 
@@ -31,7 +31,12 @@ impl<S: Alter> Shelf<S> for BareShelf {
     }
 }
 
-fn expect_unshelved(rt: &impl Abort, alloc: Global, why: ShelfFault, told: Refusal) -> Result<(), Fail> {
+fn expect_unshelved(
+    rt: &impl Abort,
+    alloc: Global,
+    why: ShelfFault,
+    told: Refusal,
+) -> Result<(), Fail> {
     let mut world = new_world(alloc)?;
     let tile = [accepted(1, Wish::Of(A, Asks::Tile(1, [1, 0, 0])), 1)];
     expect_steps(rt, alloc, &mut world, &tile)?;
@@ -59,7 +64,12 @@ fn a_shelf_that_faults(rt: HostRuntime) -> Result<(), Fail> {
 
 #[test]
 fn a_shelf_without_memory(rt: HostRuntime) -> Result<(), Fail> {
-    expect_unshelved(&rt, rt.alloc(), ShelfFault::OutOfMemory, Refusal::OutOfMemory)
+    expect_unshelved(
+        &rt,
+        rt.alloc(),
+        ShelfFault::OutOfMemory,
+        Refusal::OutOfMemory,
+    )
 }
 
 // It is not asked for a split that is refused, nor for one that came before.

@@ -11,9 +11,13 @@ use uuid::Uuid;
 pub const A: u8 = 0xa;
 /// Packages that may be lent.
 pub const B: u8 = 0xb;
+
 pub const C: u8 = 0xc;
+
 pub const D: u8 = 0xd;
+
 pub const E: u8 = 0xe;
+
 pub const F: u8 = 0xf;
 
 /// The UUID of a package by its first digit.

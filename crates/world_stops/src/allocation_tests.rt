@@ -1,7 +1,9 @@
 // One request of each kind in a world in memory, a split and a merge among them. Run by `bench/failing_allocations.sh`, which refuses each allocation in turn: the world is that before the request or the one after it, and the reply fits.
 use crate::fitting::{Both, BothLoans, OUT_OF_MEMORY, expect_fits, expect_loan_fits};
-use crate::loan_runs::{Scene, lending, returning, too_deep};
-use crate::loan_runs::{run_in_memory as run_loan, untouched_in_memory as untouched_loan};
+use crate::loan_runs::{
+    Scene, lending, returning, run_in_memory as run_loan, too_deep,
+    untouched_in_memory as untouched_loan,
+};
 use crate::requests::later;
 use crate::runs::{run_in_memory, untouched_in_memory};
 use package_tables::fault::Fault;

@@ -147,12 +147,7 @@ fn readable(text: Result<String, Fault>) -> Result<Option<String>, Fault> {
 }
 
 // What a crash leaves of the stores of a world.
-fn texts_left(
-    alloc: Global,
-    world: InFiles,
-    left: Left,
-    id: Uuid,
-) -> Result<Vec<String>, Fault> {
+fn texts_left(alloc: Global, world: InFiles, left: Left, id: Uuid) -> Result<Vec<String>, Fault> {
     let mut texts = Vec::new(alloc);
     for conn in world.into_stores() {
         let mut again = reopened(alloc, conn, left)?;

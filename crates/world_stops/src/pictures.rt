@@ -220,7 +220,9 @@ pub fn store_text<S: Alter>(
     id: Uuid,
 ) -> Result<String, Fault> {
     let Picture {
-        mut held, tables, ..
+        mut held,
+        tables,
+        ..
     } = read_picture(alloc, conn, id)?;
     held.push_str(&tables)?;
     Ok(held)

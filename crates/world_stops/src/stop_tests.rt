@@ -1,7 +1,7 @@
 // One request of each kind, once for each call of a disk that stops in it. A crash leaves the world before the request or the one after it, and the reply fits.
 use crate::fitting::{Both, STORE_FAULT, expect_fits, same, went_through};
-use crate::requests::later;
 use crate::fuses::{SYNCED, Stops, WAYS, fused};
+use crate::requests::later;
 use crate::runs::{Left, Outcome, prepared, run, untouched};
 use package_tables::fault::Fault;
 use sheet_types::command::Mapping;
