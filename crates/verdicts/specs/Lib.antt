@@ -1,0 +1,5 @@
+pub mod Parts
+pub mod Views
+pub mod Checks
+pub mod Accounts
+pub mod Tallies
