@@ -1,0 +1,12 @@
+pub mod Rows
+pub mod Forming
+pub mod Plain
+pub mod Seeing
+pub mod Asking
+pub mod Both
+pub mod Filling
+pub mod Whole
+pub mod Heading
+pub mod Ascending
+pub mod Claiming
+mod Dating

@@ -1,0 +1,22 @@
+use Rattle.std.proofs.Common.{◌≡◌, rules, true, IsTrue}
+use Rattle.std.specs.Prelude.{◌↔◌, map}
+use Rattle.std.specs.Ordering.{on, int_cmp}
+use Rattle.sqlite.specs.Effect.{IsDatabase}
+use Rattle.sql_meaning.specs.Writing.{AreKeyed}
+use Rattle.package_tables.specs.Calls.{AreAll}
+use Rattle.package_tables.specs.Damaged.{ReadsClaims}
+use Rattle.package_tables.specs.Form.{IsPlaced}
+use Rattle.package_tables.specs.Shape.{rows_of, IsFormed}
+use Rattle.package_tables.specs.Shapes.{receipt_shape}
+use Rattle.package_tables.specs.Tables.{sheet_receipts}
+use Rattle.store_forms.specs.Heads.{claim_said}
+use Rattle.store_forms.proofs.Claiming.{claims_read}
+use Rattle.store_forms.proofs.Seeing.{seen, seen_then, sees}
+use Rattle.store_forms.proofs.claims.claims.Goals as goal
+
+pub returns : goal.returns
+returns g c =
+    let there : c.in_ok-is_placed.field-0 ≡ true = search rules in
+    sees (λ db found. AreKeyed db → ReadsClaims db (map claim_said found.items))
+    (seen_then (λ db found. IsFormed receipt_shape db → AreAll (on (λ x. x.seq) int_cmp) (rows_of receipt_shape db) found.items) (seen (λ db found. IsDatabase db × (IsTrue found ↔ IsPlaced db.schema sheet_receipts)) c.in_ok-is_placed.was c.is_placed.ensures) c.in_ok-rows.was c.receipt_rows.ensures)
+    (λ db told keyed. claims_read db told.0.0 keyed (told.0.1.0 there) c.in_ok-rows.rows.items told.1 c.in_ok-claims.claims.items c.in_ok-in_order.field-0.items c.in_ok-claims.ensures c.in_ok-in_order.ensures)

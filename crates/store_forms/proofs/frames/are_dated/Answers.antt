@@ -1,0 +1,15 @@
+-- The rows that were read are all.
+use Rattle.std.proofs.Common.{◌≡◌, true, sym, subst, IsTrue}
+use Rattle.std.specs.Prelude.{◌↔◌, IsPermutation}
+use Rattle.std.specs.List.{AllByRecursion}
+use Rattle.package_tables.specs.Calls.{AreThose}
+use Rattle.package_tables.specs.Package.{tables_of, AreFormed}
+use Rattle.store_forms.specs.Frames.{AreDated, HasMoment}
+use Rattle.store_forms.proofs.Dating.{dated_moved}
+use Rattle.store_forms.proofs.Seeing.{seen, sees}
+use Rattle.store_forms.proofs.frames.are_dated.Goals as goal
+
+pub returns : goal.returns
+returns g c =
+    sees (λ db dated. AreFormed db → IsTrue dated ↔ AreDated (tables_of db)) (seen (λ db found. AreFormed db → AreThose (λ _. true) (tables_of db).contents found.items) c.in_ok-rows.was c.all_contents.ensures)
+    (λ db told formed. dated_moved (tables_of db).contents c.deref.result.now c.have_moments.result (subst (AreThose (λ _. true) (tables_of db).contents) (sym c.deref.ensures.value) (told formed)) c.have_moments.ensures)

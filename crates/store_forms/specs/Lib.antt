@@ -1,0 +1,5 @@
+pub mod Looking
+pub mod Rows
+pub mod Placing
+pub mod Heads
+pub mod Frames

@@ -1,0 +1,79 @@
+//! What the receipts of a store claim.
+ghost use Rattle.std.specs.Prelude.{◌≡◌, map, unsigned_abs, IfOk};
+ghost use Rattle.std.specs.Ordering.{on, int_cmp};
+ghost use Rattle.sqlite.specs.Held.{state};
+ghost use Rattle.sql_meaning.specs.Transactions.{Rests, Looks};
+ghost use Rattle.sheet_types.specs.Ordered.{arranged};
+ghost use Rattle.package_tables.specs.Calls.{AreAll};
+ghost use Rattle.package_tables.specs.Damaged.{ReadsClaims, claim_of_row};
+ghost use Rattle.package_tables.specs.Shape.{rows_of, IsFormed};
+ghost use Rattle.package_tables.specs.Shapes.{number_key, receipt_shape};
+ghost use Rattle.store_forms.specs.Looking.{Sees, LooksAt};
+ghost use Rattle.store_forms.specs.Heads.{claim_said, store_claim};
+
+use crate::from_row::all_of;
+use crate::own_forms::RECEIPTS;
+use crate::placing::is_placed;
+use package_tables::fault::Fault;
+use package_tables::rows::ReceiptRow;
+use sheet_types::collections::Text;
+use sqlite::{Alter, Connection};
+use std::alloc::{AllocError, Global};
+
+/// What a row of a receipts table of its form claims, in its ranges or not (profile).
+#[derive(Drop)]
+pub struct StoreClaim {
+    pub seq: i64,
+    pub line: Text,
+    pub source: Text,
+    pub target: Text,
+}
+
+/// The rows of the table of receipts, by their numbers.
+fn receipt_rows<S: Alter>(conn: &mut Connection<S>, alloc: Global) -> Result<Vec<ReceiptRow>, Fault>
+    requires { Rests (state S.Store conn.old) }
+    ensures { Looks (Sees (λ db found. IsFormed receipt_shape db → AreAll (on (λ x. x.seq) int_cmp) (rows_of receipt_shape db) found.items)) (state S.Store conn.old) (state S.Store conn.new) result }
+{
+    all_of(
+        alloc,
+        conn.query_all("SELECT * FROM sheet_receipts ORDER BY seq", &[]),
+    )
+}
+
+fn claims_of(rows: Vec<ReceiptRow>, alloc: Global) -> Result<Vec<StoreClaim>, Fault>
+    ensures { IfOk result (λ claims. claims.items ≡ map store_claim rows.items) }
+{
+    let claims = rows.into_iter().map(|row| StoreClaim {
+        seq: row.seq,
+        line: row.line,
+        source: row.source,
+        target: row.target,
+    });
+    Ok(claims.collect(alloc)?)
+}
+
+/// The claims in the order in which tables of receipts are read: by how far their numbers are from 0.
+fn in_order(claims: Vec<StoreClaim>) -> Result<Vec<StoreClaim>, AllocError>
+    ensures { IfOk result (λ sorted. sorted.items ≡ arranged (λ c. number_key c.seq) claims.items) }
+{
+    let mut sorted = claims;
+    sorted.sort_by_key(|claim: &StoreClaim| claim.seq.unsigned_abs())?;
+    Ok(sorted)
+}
+
+/// What the receipts of the store claim, in their ranges or not, where their table has its form; nothing in every other store.
+///
+/// # Errors
+///
+/// `OutOfMemory` where a growth was refused, and `StoreFault` where the store failed or a text is no UTF-8.
+pub fn claims<S: Alter>(conn: &mut Connection<S>, alloc: Global) -> Result<Vec<StoreClaim>, Fault>
+    requires { Rests (state S.Store conn.old) }
+    ensures { LooksAt (λ db found. ReadsClaims db (map claim_said found.items)) (state S.Store conn.old) (state S.Store conn.new) result }
+{
+    if !is_placed(conn, &RECEIPTS)? {
+        return Ok(Vec::new(alloc));
+    }
+    let rows = receipt_rows(conn, alloc)?;
+    let claims = claims_of(rows, alloc)?;
+    Ok(in_order(claims)?)
+}

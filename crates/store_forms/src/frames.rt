@@ -1,0 +1,43 @@
+//! Whether the fixed rows of a store are those of a package, as far as they are looked at.
+ghost use Rattle.std.specs.Prelude.{◌≡◌, ◌↔◌, IsTrue};
+ghost use Rattle.std.specs.List.{AllByRecursion};
+ghost use Rattle.sqlite.specs.Held.{state};
+ghost use Rattle.sheet_types.specs.Texts.{is_moment};
+ghost use Rattle.sql_meaning.specs.Transactions.{Rests};
+ghost use Rattle.package_tables.specs.Calls.{LooksUp};
+ghost use Rattle.store_forms.specs.Frames.{AreDated, HasMoment};
+
+use package_tables::fault::Fault;
+use package_tables::fixed::all_contents;
+use package_tables::rows::ContentsRow;
+use sheet_types::moments::is_moment;
+use sqlite::{Alter, Connection};
+use std::alloc::Global;
+
+/// Whether the last change of a table has a moment.
+#[tactic(auto, unfolding(crate::specs::Frames::HasMoment))]
+fn has_moment(row: &ContentsRow) -> bool
+    ensures { IsTrue result ↔ HasMoment row.now }
+{
+    is_moment(row.last_change.as_str())
+}
+
+/// Whether the last change of each of these tables has one.
+fn have_moments(rows: &[ContentsRow]) -> bool
+    ensures { IsTrue result ↔ AllByRecursion HasMoment rows.now }
+{
+    rows.iter().all(has_moment)
+}
+
+/// Whether the last change of each table has a moment (`last_change`, OGC GeoPackage 1.3, 1.1.3), in a store whose tables have their form.
+///
+/// # Errors
+///
+/// `OutOfMemory` where a growth was refused, and `StoreFault` where the store failed or a text is no UTF-8.
+pub fn are_dated<S: Alter>(conn: &mut Connection<S>, alloc: Global) -> Result<bool, Fault>
+    requires { Rests (state S.Store conn.old) }
+    ensures { LooksUp (λ t dated. IsTrue dated ↔ AreDated t) (state S.Store conn.old) (state S.Store conn.new) result }
+{
+    let rows = all_contents(conn, alloc)?;
+    Ok(have_moments(&rows))
+}

@@ -1,0 +1,93 @@
+//! From the rows that a SELECT answers to values.
+ghost use Rattle.std.specs.Prelude.{◌≡◌, map, IfOk, IsOkAnd};
+ghost use Rattle.sqlite.specs.Order.{column};
+ghost use Rattle.sqlite.specs.declared.types.Value.TheVariants.{Int, Text as StoredText};
+
+use package_tables::fault::Fault;
+use package_tables::rows::{HeadRow, ReceiptRow};
+use sheet_types::collections::Text;
+use sqlite::{Error, Row};
+use std::alloc::Global;
+
+/// A value that a row of a table stands for, a field a column.
+pub(crate) trait FromRow: Drop {
+    ghost use Rattle.sqlite.specs.Order.{Row as Shown};
+
+    ghost shown: { Self → Shown };
+
+    fn from_row(row: &Row) -> Result<Self, Fault>
+        ensures { IfOk result (λ value. row.now ≡ shown value) };
+}
+
+fn number_at(row: &Row, at: usize) -> Result<i64, Fault>
+    ensures { IfOk result (λ number. column row.now at ≡ Int number) }
+{
+    Ok(row.get(at)?)
+}
+
+fn text_at(row: &Row, at: usize) -> Result<Text, Fault>
+    ensures { IfOk result (λ text. column row.now at ≡ StoredText text) }
+{
+    Ok(Text::from_string(row.get(at)?))
+}
+
+impl FromRow for HeadRow {
+    ghost use Rattle.package_tables.specs.Shown.{head_shown};
+
+    ghost shown = { head_shown };
+
+    fn from_row(row: &Row) -> Result<HeadRow, Fault> {
+        if row.column_count() != 7 {
+            return Err(Fault::StoreFault);
+        }
+        Ok(HeadRow {
+            id: number_at(row, 0)?,
+            version: number_at(row, 1)?,
+            package: text_at(row, 2)?,
+            parent: text_at(row, 3)?,
+            depth: number_at(row, 4)?,
+            loan: number_at(row, 5)?,
+            created: text_at(row, 6)?,
+        })
+    }
+}
+
+impl FromRow for ReceiptRow {
+    ghost use Rattle.package_tables.specs.Shown.{receipt_shown};
+
+    ghost shown = { receipt_shown };
+
+    fn from_row(row: &Row) -> Result<ReceiptRow, Fault> {
+        if row.column_count() != 11 {
+            return Err(Fault::StoreFault);
+        }
+        Ok(ReceiptRow {
+            seq: number_at(row, 0)?,
+            request: text_at(row, 1)?,
+            at: text_at(row, 2)?,
+            line: text_at(row, 3)?,
+            source: text_at(row, 4)?,
+            target: text_at(row, 5)?,
+            n_tiles: number_at(row, 6)?,
+            n_media: number_at(row, 7)?,
+            n_rows: number_at(row, 8)?,
+            n_links: number_at(row, 9)?,
+            n_bytes: number_at(row, 10)?,
+        })
+    }
+}
+
+/// All rows of an answer as values.
+pub(crate) fn all_of<T: FromRow>(
+    alloc: Global,
+    answer: Result<Vec<Row>, Error>,
+) -> Result<Vec<T>, Fault>
+    ensures { IfOk result (λ values. IsOkAnd answer (λ rows. rows.items ≡ map T.shown values.items)) }
+{
+    let rows = answer?;
+    let mut values = Vec::new(alloc);
+    for row in &rows {
+        values.push(T::from_row(row)?)?;
+    }
+    Ok(values)
+}

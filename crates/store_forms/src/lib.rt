@@ -1,0 +1,13 @@
+//! What a store that may be any database says of itself, before anything of it is trusted. It is only read.
+#![tactic(auto)]
+
+pub mod claims;
+pub mod form;
+pub mod frames;
+mod from_row;
+pub mod heads;
+mod named_forms;
+mod own_forms;
+mod placing;
+#[cfg(test)]
+mod tests;

@@ -1,0 +1,98 @@
+//! Which tables the schema of a store has.
+ghost use Rattle.std.specs.Prelude.{◌↔◌, ⊤, IsTrue};
+ghost use Rattle.sqlite.specs.Effect.{IsDatabase};
+ghost use Rattle.sqlite.specs.Held.{state};
+ghost use Rattle.sql_meaning.specs.Forms.{table_of};
+ghost use Rattle.sql_meaning.specs.Transactions.{Rests, Looks};
+ghost use Rattle.package_tables.specs.Form.{IsPlaced};
+ghost use Rattle.store_forms.specs.Looking.{Sees};
+ghost use Rattle.store_forms.specs.Placing.{AreNamedPlaced, AreUsersPlaced, AreOwnPlaced, AreAllPlaced};
+
+use crate::named_forms::{
+    CONTENTS, RELATIONS, SPATIAL_REFERENCE_SYSTEMS, TILE_MATRICES, TILE_MATRIX_SETS,
+};
+use crate::own_forms::{
+    HEADS, IDENTITIES, MEDIA, MOVED, RECEIPTS, ROWS, ROWS_MEDIA, ROWS_TILES, TILES, TILES_MEDIA,
+};
+use package_tables::fault::Fault;
+use sql_meaning::forms::{TableForm, find_table, is_quiet};
+use sqlite::{Alter, Connection};
+use sqlite_schema::schema::Schema;
+
+/// Whether the schema has the table of the form, whatever else it has.
+fn has_table(schema: &Schema, form: &TableForm<'_>) -> bool
+    ensures { IsTrue result ↔ IsPlaced schema.now (table_of form.now) }
+{
+    find_table(schema, form).is_some()
+}
+
+fn are_named_placed(schema: &Schema) -> bool
+    ensures { IsTrue result ↔ AreNamedPlaced schema.now }
+{
+    has_table(schema, &SPATIAL_REFERENCE_SYSTEMS)
+        && has_table(schema, &CONTENTS)
+        && has_table(schema, &TILE_MATRIX_SETS)
+        && has_table(schema, &TILE_MATRICES)
+        && has_table(schema, &RELATIONS)
+}
+
+fn are_users_placed(schema: &Schema) -> bool
+    ensures { IsTrue result ↔ AreUsersPlaced schema.now }
+{
+    has_table(schema, &TILES)
+        && has_table(schema, &MEDIA)
+        && has_table(schema, &ROWS)
+        && has_table(schema, &TILES_MEDIA)
+        && has_table(schema, &ROWS_MEDIA)
+        && has_table(schema, &ROWS_TILES)
+}
+
+fn are_own_placed(schema: &Schema) -> bool
+    ensures { IsTrue result ↔ AreOwnPlaced schema.now }
+{
+    has_table(schema, &HEADS)
+        && has_table(schema, &IDENTITIES)
+        && has_table(schema, &RECEIPTS)
+        && has_table(schema, &MOVED)
+}
+
+/// Whether the schema has all fifteen tables, and no foreign key that acts.
+fn has_all_tables(schema: &Schema) -> bool
+    ensures { IsTrue result ↔ AreAllPlaced schema.now }
+{
+    let quiet = is_quiet(schema);
+    let named = are_named_placed(schema);
+    let users = are_users_placed(schema);
+    let own = are_own_placed(schema);
+    quiet & named & users & own
+}
+
+/// Asks nothing of the tables: a connection that answers is open.
+fn answer_nothing<S: Alter>(conn: &mut Connection<S>) -> Result<(), Fault>
+    requires { Rests (state S.Store conn.old) }
+    ensures { Looks (Sees (λ _ _. ⊤)) (state S.Store conn.old) (state S.Store conn.new) result }
+{
+    conn.query_all("SELECT 1", &[])?;
+    Ok(())
+}
+
+/// Whether the store has the table of the form, whatever else it has.
+pub(crate) fn is_placed<S: Alter>(
+    conn: &mut Connection<S>,
+    form: &TableForm<'_>,
+) -> Result<bool, Fault>
+    requires { Rests (state S.Store conn.old) }
+    ensures { Looks (Sees (λ db found. IsDatabase db × (IsTrue found ↔ IsPlaced db.schema (table_of form.now)))) (state S.Store conn.old) (state S.Store conn.new) result }
+{
+    answer_nothing(conn)?;
+    Ok(has_table(conn.schema(), form))
+}
+
+/// Whether the store has all fifteen tables, and no foreign key that acts.
+pub(crate) fn are_placed<S: Alter>(conn: &mut Connection<S>) -> Result<bool, Fault>
+    requires { Rests (state S.Store conn.old) }
+    ensures { Looks (Sees (λ db found. IsDatabase db × (IsTrue found ↔ AreAllPlaced db.schema))) (state S.Store conn.old) (state S.Store conn.new) result }
+{
+    answer_nothing(conn)?;
+    Ok(has_all_tables(conn.schema()))
+}

@@ -1,0 +1,13 @@
+pub mod Apart
+pub mod Numbers
+pub mod Items
+pub mod Keys
+pub mod Links
+pub mod Places
+pub mod Holding
+pub mod NextStatements
+pub mod Walking
+pub mod Deciding
+pub mod Ranging
+pub mod Tying
+pub mod Seen

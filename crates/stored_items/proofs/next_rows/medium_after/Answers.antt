@@ -1,0 +1,12 @@
+-- The first row of those after a number.
+use Rattle.std.proofs.Common.{refl, to_z-of_z}
+use Rattle.package_tables.proofs.Next.{looks_next}
+use Rattle.package_tables.proofs.MediumStatements.{known}
+use Rattle.stored_items.proofs.NextStatements.{medium_after}
+use Rattle.stored_items.proofs.next_rows.medium_after.Goals as goal
+
+pub returns : goal.returns
+returns g c =
+    let e = c.query_all.ensures in
+    looks_next known (medium_after c.args.id) (λ rows. rows.items) _ (rw (c.params-to_sql.ensures) (simp (to_z-of_z, c.ranges.id) refl)) g.S.Store g.met.S.Store.shut_if_dirty g.met.S.Store.settled
+    c.args.conn.now c.query_all.new.self c.requires c.query_all.result e.ok e.err e.mode e.survives c.first_of.result c.first_of.ensures

@@ -1,0 +1,17 @@
+-- The rows that were read are all.
+use Rattle.std.proofs.Common.{sym, subst}
+use Rattle.std.specs.Prelude.{IsPermutation}
+use Rattle.std.specs.List.{AllByRecursion}
+use Rattle.std.specs.Ordering.{int_cmp, on, then_cmp}
+use Rattle.package_tables.specs.Calls.{AreAll}
+use Rattle.identity_register.proofs.Looking.{looked, tells}
+use Rattle.stored_items.specs.Answers.{Decides}
+use Rattle.stored_items.specs.Ranges.{IsIdentityInRange}
+use Rattle.stored_items.proofs.Deciding.{decides_moved}
+use Rattle.stored_items.proofs.ranges.identities_in_range.Goals as goal
+
+pub returns : goal.returns
+returns g c =
+    let found = c.deref.result.now in
+    tells (λ t. Decides (AllByRecursion IsIdentityInRange t.identities)) (looked (λ t x. AreAll (then_cmp (on (λ x. x.kind) int_cmp) (on (λ x. x.local_id) int_cmp)) t.identities x.items) c.in_ok-rows.was c.all_identities.ensures)
+    (λ t h. decides_moved IsIdentityInRange t.identities found c.are_identities_in_range.result (subst (IsPermutation t.identities) (sym c.deref.ensures.value) h.0) c.are_identities_in_range.ensures)

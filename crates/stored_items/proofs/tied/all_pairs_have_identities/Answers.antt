@@ -1,0 +1,18 @@
+-- Yes where each part says yes; no where one says no.
+use Rattle.std.proofs.Common.{◌∙◌, Ok, ap}
+use Rattle.package_tables.specs.Package.{Tables}
+use Rattle.identity_register.proofs.Looking.{looked, looked_then}
+use Rattle.stored_items.specs.Answers.{Decides}
+use Rattle.stored_items.proofs.Deciding.{says_no, says_no_then, says_last}
+use Rattle.sheet_types.specs.declared.command.Mapping.TheVariants.{TilesMedia, RowsMedia, RowsTiles}
+use Rattle.stored_items.specs.Ties.{PairsHaveIdentities, AllPairsHaveIdentities}
+use Rattle.stored_items.proofs.tied.all_pairs_have_identities.Goals as goal
+
+pub returns-then-not-branch : goal.returns-then-not-branch
+returns-then-not-branch g c = says_no {P = λ (t : Tables). PairsHaveIdentities TilesMedia t} {Q = λ (t : Tables). AllPairsHaveIdentities t} (c.in_ok-pairs_have_identities.was ∙ ap Ok c.if-not-branch.true) c.pairs_have_identities.ensures (λ t q. q.tiles_media)
+
+pub returns-then-not-branch-2 : goal.returns-then-not-branch-2
+returns-then-not-branch-2 g c = says_no_then {P = λ (t : Tables). PairsHaveIdentities RowsMedia t} {Q = λ (t : Tables). AllPairsHaveIdentities t} (looked (λ t. Decides (PairsHaveIdentities TilesMedia t)) (c.in_ok-pairs_have_identities.was ∙ ap Ok c.if-not-branch.false) c.pairs_have_identities.ensures) (c.in_ok-pairs_have_identities-2.was ∙ ap Ok c.if-not-branch-2.true) c.pairs_have_identities-2.ensures (λ t q. q.rows_media)
+
+pub returns : goal.returns
+returns g c = says_last {P = λ (t : Tables). PairsHaveIdentities RowsTiles t} {Q = λ (t : Tables). AllPairsHaveIdentities t} c.pairs_have_identities-3.result (looked_then (λ t. Decides (PairsHaveIdentities RowsMedia t)) (looked (λ t. Decides (PairsHaveIdentities TilesMedia t)) (c.in_ok-pairs_have_identities.was ∙ ap Ok c.if-not-branch.false) c.pairs_have_identities.ensures) (c.in_ok-pairs_have_identities-2.was ∙ ap Ok c.if-not-branch-2.false) c.pairs_have_identities-2.ensures) c.pairs_have_identities-3.ensures (λ t h p. record { tiles_media = h.0; rows_media = h.1; rows_tiles = p }) (λ t q. q.rows_tiles)

@@ -1,0 +1,18 @@
+-- The rows that were read say what the tables say.
+use Rattle.std.proofs.Common.{subst, IfOk, IfSome, IfNone}
+use Rattle.std.specs.Prelude.{MatchOption}
+use Rattle.std.specs.Ordering.{int_cmp, on}
+use Rattle.package_tables.specs.Calls.{AreAll}
+use Rattle.identity_register.proofs.Looking.{looked, looked_then}
+use Rattle.stored_receipts.specs.Ranges.{AreReceiptsInRange}
+use Rattle.stored_receipts.specs.Read.{AreReadAs, AreSaid}
+use Rattle.stored_receipts.proofs.Saying.{tells_of, answered}
+use Rattle.stored_receipts.proofs.receipts.Goals as goal
+
+pub returns : goal.returns
+returns g c =
+    let rows = c.in_ok-rows.rows.items in
+    let things = c.in_ok-moved.moved.items in
+    tells_of (λ t found. MatchOption found (AreReceiptsInRange t.receipts t.moved → ⊥) (λ entered. AreSaid t entered.items)) c.receipts_in.result
+    (looked_then (λ t found. AreAll (on (λ x. x.seq) int_cmp) t.moved found.items) (looked (λ t found. AreAll (on (λ x. x.seq) int_cmp) t.receipts found.items) c.in_ok-rows.was c.all_receipts.ensures) c.in_ok-moved.was c.all_moved.ensures)
+    (λ found e db h. answered db rows things (λ v. v.items) found h.0.0 h.1.0 (subst (λ r. IfOk r (λ f. IfSome f (λ v. AreReadAs rows things v.items))) e c.receipts_in.ensures.some) (subst (λ r. IfOk r (λ f. IfNone f (AreReceiptsInRange rows things → ⊥))) e c.receipts_in.ensures.none))
