@@ -1,0 +1,12 @@
+//! Packages in a folder of the file system, a file each: their names, a shelf that makes their stores, and the opening of all of them.
+#![tactic(auto)]
+
+pub mod fault;
+pub mod listing;
+pub mod names;
+pub mod opening;
+pub mod removing;
+pub mod shelf;
+pub mod start;
+#[cfg(test)]
+mod tests;

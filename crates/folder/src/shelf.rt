@@ -1,0 +1,88 @@
+//! A shelf of stores in the files of a folder.
+ghost use Rattle.std.specs.Prelude.{◌≡◌, IfOk};
+ghost use Rattle.sqlite_disk.specs.Disk.{CountsFault};
+ghost use Rattle.sqlite.specs.Files.{file_state};
+ghost use Rattle.sqlite.specs.State.{HasCleanDisk};
+ghost use Rattle.sql_meaning.specs.Blank.{IsBlank, no_schema};
+
+use crate::fault::{FolderFault, fault_of};
+use crate::names::{file_name, path_of};
+use crate::removing::remove_store;
+use crate::start::{Empty, FolderStore};
+use shelves::shelf::{Shelf, ShelfFault};
+use sqlite::Connection;
+use uuid::Uuid;
+
+/// Makes each store in the file of its package, in place of whatever stood there under its name. The folder is there already.
+#[derive(Drop)]
+pub struct FolderShelf<'f> {
+    rt: &'f HostRuntime,
+    folder: &'f str,
+    failures: u64,
+}
+
+impl<'f> FolderShelf<'f> {
+    /// A shelf over this folder that has not failed.
+    pub fn new(rt: &'f HostRuntime, folder: &'f str) -> FolderShelf<'f>
+        ensures { ⟦<FolderShelf<'f> as Shelf<FolderStore>>⟧.failures_of result ≡ 0 }
+    {
+        FolderShelf {
+            rt,
+            folder,
+            failures: 0,
+        }
+    }
+}
+
+impl<'f> Shelf<FolderStore> for FolderShelf<'f> {
+    ghost failures_of = { λ shelf. shelf.failures };
+
+    fn blank(&mut self, package: Uuid) -> Result<Connection<FolderStore>, ShelfFault>
+        ensures blank { IfOk result (λ conn. HasCleanDisk (file_state conn) → IsBlank no_schema (file_state conn).now) }
+        ensures counts { CountsFault result self.old.failures self.new.failures }
+    {
+        let made = blank_in_folder(self.rt, self.folder, package);
+        counted(made, &mut self.failures)
+    }
+
+    fn failures(&self) -> u64 {
+        self.failures
+    }
+}
+
+/// What was made, or the fault, which is counted.
+fn counted<T>(made: Result<T, FolderFault>, failures: &mut u64) -> Result<T, ShelfFault>
+where
+    T: Drop,
+    ensures made { IfOk result (λ store. made ≡ Ok store) }
+    ensures counts { CountsFault result failures.old failures.new }
+{
+    match made {
+        Ok(store) => Ok(store),
+        Err(fault) => {
+            *failures = failures.saturating_add(1);
+            Err(fault.into())
+        }
+    }
+}
+
+/// An empty store in the file of a package, in place of whatever stood there. That it is empty is known under the premise of `Empty`, since its files were removed before.
+///
+/// # Errors
+///
+/// What `remove_store` and the opening of a new file answer.
+pub fn blank_in_folder(
+    rt: &HostRuntime,
+    folder: &str,
+    package: Uuid,
+) -> Result<Connection<FolderStore>, FolderFault>
+    ensures { IfOk result (λ conn. HasCleanDisk (file_state conn) → IsBlank no_schema (file_state conn).now) }
+{
+    remove_store(rt, folder, package)?;
+    let name = file_name(rt.alloc(), package)?;
+    let path = path_of(rt.alloc(), folder, name.as_str())?;
+    match Connection::open_from(rt, path.as_str(), false, Empty) {
+        Ok(conn) => Ok(conn),
+        Err((error, _)) => Err(fault_of(package, error)),
+    }
+}
