@@ -2,18 +2,32 @@
 # Whether stock SQLite takes a package file: its own checks, and the fifteen tables against the list below.
 #
 # Usage: stock_sqlite3.sh PACKAGE-FILE
+#        stock_sqlite3.sh --init PROGRAM [WORD..]    of an archive that `PROGRAM WORD.. init` makes in a new folder
 #
 # Works on a copy, and runs `sqlite3` (3.37 or later, for STRICT tables), or Python's sqlite3 where there is none.
 # Further tables and further indexes are no fault. Status 0: all as expected; 1: not; 2: the check could not be run.
 set -euo pipefail
 
-if [ $# -ne 1 ] || [ ! -f "$1" ]; then
-  echo 'usage: stock_sqlite3.sh PACKAGE-FILE' >&2
-  exit 2
-fi
-
 work=$(mktemp -d)
 trap 'rm -rf "$work"' EXIT
+
+if [ "${1-}" = --init ] && [ $# -ge 2 ]; then
+  shift
+  uuid=6f0d3a52-9c1e-4b7a-8f24-1d5be07c9a10
+  mkdir "$work/folder"
+  if ! told=$("$@" init --archive $uuid --at 2026-03-02T07:30:00.000Z \
+    --frame 25832,500000000,5900000000,540960000,5961440000,256,256,4,3,2,3 "$work/folder") || [ "$told" != "archive $uuid" ]; then
+    echo "init: failed, or did not print \`archive $uuid\`: $told" >&2
+    exit 1
+  fi
+  set -- "$work/folder/$uuid.gpkg"
+fi
+
+if [ $# -ne 1 ] || [ ! -f "$1" ]; then
+  echo 'usage: stock_sqlite3.sh PACKAGE-FILE' >&2
+  echo '       stock_sqlite3.sh --init PROGRAM [WORD..]' >&2
+  exit 2
+fi
 cp "$1" "$work/package"
 if [ -f "$1-wal" ]; then
   cp "$1-wal" "$work/package-wal"

@@ -1,0 +1,3 @@
+mod AnswerFacts
+mod DueFacts
+mod ListingFacts
