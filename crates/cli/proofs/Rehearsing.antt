@@ -1,5 +1,5 @@
 -- A rehearsal, by what its import and its packages come to.
-use Rattle.std.proofs.Common.{◌≡◌, ◌∙◌, refl, sym, subst, ℕ, List, Option, IfSome, Result, Ok, Err, MatchResult, inl, inr, take, length, slice_index_or}
+use Rattle.std.proofs.Common.{◌≡◌, ◌≢◌, ◌∙◌, refl, sym, subst, ℕ, List, Option, IfSome, Result, Ok, Err, MatchResult, inl, inr, take, length, slice_index_or}
 use Rattle.std.specs.Io.KnownBytes.{Appends}
 use Rattle.std.proofs.KnownBytes.{Appends-trans}
 use Rattle.sqlite.specs.Held.{Held, state}
@@ -21,12 +21,22 @@ use Rattle.request_csv.specs.declared.lists.ReadFault.TheVariants.{Header, Recor
 use Rattle.manifest_csv.proofs.SentFacts.{went_out_past}
 use Rattle.cli.specs.Arguments.{Asks, IsFirstUnread}
 use Rattle.cli.specs.Endings.{import_outcome}
-use Rattle.cli.specs.Rehearsals.{Ran, report, live_text, Writes, Rehearses}
+use Rattle.cli.specs.Rehearsals.{Ran, report, live_text, StandsOn, Writes, Rehearses}
+use Rattle.cli.specs.Servings.{HandsOn}
 use Rattle.cli.specs.declared.statuses.What.{What}
-use Rattle.cli.specs.declared.statuses.What.TheVariants.{BadUuid, BadMoment, BadFrame, BadList}
+use Rattle.cli.specs.declared.statuses.What.TheVariants.{BadUuid, BadMoment, BadFrame, BadNumber, BadList}
 use Rattle.cli.specs.declared.statuses.Failure.{Failure}
 use Rattle.cli.specs.declared.statuses.Outcome.TheVariants.{Done, Stopped}
 use Rattle.cli.proofs.FrameTexts.{frame_once, in_range}
+
+-- an import that did not go through is not done
+pub never_done : (fault : ImportFault) → import_outcome fault ≢ Done
+never_done (Unread Memory) = λ h. let e = h in cc
+never_done (Unread Header) = λ h. let e = h in cc
+never_done (Unread (Record n)) = λ h. let e = h in cc
+never_done (Unread Read) = λ h. let e = h in cc
+never_done (Interrupted n fault) = λ h. let e = h in cc
+never_done Unwritten = λ h. let e = h in cc
 
 module _ {S W : Type 0} (g : Ghosts S) (clean : (h : Held S) → HasCleanDisk (state g h)) (contents : W → Option (List ℕ)) (w : World) (text : Option (List ℕ)) (old new : Seen S) (stands : StandsFor g old w) where
   all_clean : (seen : Seen S) → AllClean g seen.members
@@ -60,9 +70,12 @@ module _ {S W : Type 0} (g : Ghosts S) (clean : (h : Held S) → HasCleanDisk (s
     left : StandsFor g new carried.next
     left = (ran_next failed fails before mid (Ok x) it.0 it.1 it.2).2
 
-    pub all_done : (y : Unit {0}) → Writes g live_text new last mid after (Ok y) → Rehearses w text first end before after Done
-    all_done y packages =
-        (carried, (it.2.written.0, it.2.written.1), left.members.register.arranged, Appends-trans before mid after (report carried) (live_text carried.next) it.2.written.2 (packages (all_clean last) carried.next left))
+    -- it is done, and the value stands for the world that the list led to
+    pub all_handed : (y : Unit {0}) → StandsOn g new last → Writes g live_text new last mid after (Ok y) → HandsOn g w text first end before after (Ok last)
+    all_handed y on packages = (
+      (carried, (it.2.written.0, it.2.written.1), left.members.register.arranged, Appends-trans before mid after (report carried) (live_text carried.next) it.2.written.2 (packages (all_clean last) carried.next left)),
+      on.1 carried.next left,
+    )
 
     pub packages_failed : (failure : Failure) → Writes g live_text new last mid after (Err failure) → Rehearses w text first end before after (Stopped failure)
     packages_failed failure packages =
@@ -81,6 +94,7 @@ module _ (archive at frame uuid moment : List ℕ) (asked : Frame) (asks : Asks 
   asks_read BadUuid unread = let none = unread in let named = asks.named in cc
   asks_read BadMoment unread = let none = unread.1 in let timed = asks.timed in cc
   asks_read BadFrame unread = unread.2 asked asks.framed
+  asks_read BadNumber unread = absurd unread
   asks_read BadList unread = absurd unread
 
   -- and words ask for one archive

@@ -5,7 +5,7 @@ use Rattle.manifest_csv.specs.declared.importing.ImportFault.TheVariants.{Unread
 use Rattle.request_csv.specs.declared.lists.ReadFault.TheVariants.{Header, Record, Read, Memory}
 use Rattle.cli.specs.Failures.{of_fault}
 use Rattle.cli.specs.declared.statuses.What.{What}
-use Rattle.cli.specs.declared.statuses.What.TheVariants.{BadUuid, BadMoment, BadFrame, BadList}
+use Rattle.cli.specs.declared.statuses.What.TheVariants.{BadUuid, BadMoment, BadFrame, BadNumber, BadList}
 use Rattle.cli.specs.declared.statuses.Failure.{Failure}
 use Rattle.cli.specs.declared.statuses.Failure.TheVariants.{OutOfMemory, StoreFault}
 use Rattle.cli.specs.declared.statuses.Outcome.{Outcome}
@@ -20,6 +20,7 @@ abbrev pub what_word : What → List ℕ
 what_word BadUuid = codes "uuid"
 what_word BadMoment = codes "at"
 what_word BadFrame = codes "frame"
+what_word BadNumber = codes "number"
 what_word BadList = codes "list"
 
 abbrev pub failure_word : Failure → List ℕ

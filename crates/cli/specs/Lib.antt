@@ -3,3 +3,4 @@ pub mod Endings
 pub mod Failures
 pub mod Progress
 pub mod Rehearsals
+pub mod Servings

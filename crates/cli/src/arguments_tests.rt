@@ -1,5 +1,8 @@
 // Words that were judged by hand.
-use crate::arguments::{Words, read_frame, read_rehearsal};
+use crate::arguments::{
+    Desk, DeskWords, Words, read_count, read_desk, read_frame, read_port, read_rehearsal,
+    read_serving,
+};
 use crate::statuses::What;
 use sheet_types::frame::Frame;
 use uuid::Uuid;
@@ -185,4 +188,61 @@ fn of_several_the_first_is_named(rt: HostRuntime) {
     assert!(rt; refused(ARCHIVE, "x", "x") == Some(What::BadMoment));
     assert!(rt; refused(ARCHIVE, AT, "x") == Some(What::BadFrame));
     assert!(rt; refused(ARCHIVE, AT, FRAME) == None);
+}
+
+#[test]
+fn ports_and_counts(rt: HostRuntime) {
+    assert!(rt; read_port("1") == Some(1));
+    assert!(rt; read_port("8080") == Some(8080));
+    assert!(rt; read_port("65535") == Some(65535));
+    assert!(rt; read_count("1") == Some(1));
+    assert!(rt; read_count("65536") == Some(65536));
+    assert!(rt; read_count("1000000") == Some(1000000));
+    for text in [
+        "",
+        "0",
+        "-1",
+        "+1",
+        "01",
+        " 1",
+        "1 ",
+        "1.0",
+        "1e3",
+        "0x1",
+        "x",
+        "1,000",
+        "1_000",
+        "4294967297",
+        "9223372036854775808",
+    ] {
+        assert!(rt; read_port(text).is_none(), "{text}");
+        assert!(rt; read_count(text).is_none(), "{text}");
+    }
+    assert!(rt; read_port("65536").is_none());
+    assert!(rt; read_count("1000001").is_none());
+}
+
+#[test]
+fn words_of_a_desk_are_read(rt: HostRuntime) {
+    let desk = DeskWords {
+        port: "8080",
+        count: "25",
+    };
+    let wanted = Desk {
+        port: 8080,
+        count: 25,
+    };
+    assert!(rt; read_desk(&desk) == Some(wanted));
+    let words = Words {
+        archive: ARCHIVE,
+        at: AT,
+        frame: FRAME,
+    };
+    match read_serving(&words, &desk) {
+        Ok((rehearsal, read)) => {
+            assert!(rt; rehearsal.at == AT);
+            assert!(rt; read == wanted);
+        }
+        Err(_) => assert!(rt; false, "the words are good"),
+    }
 }

@@ -10,6 +10,9 @@ mod progress_tests;
 pub mod rehearse;
 #[cfg(test)]
 mod rehearse_tests;
+pub mod serving;
+#[cfg(test)]
+mod serving_tests;
 pub mod statuses;
 #[cfg(test)]
 mod statuses_tests;

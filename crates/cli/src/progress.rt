@@ -4,8 +4,7 @@ ghost use Rattle.std.specs.Io.KnownBytes.{Appends};
 ghost use Rattle.cli.specs.Progress.{IsDue, progress_text};
 
 use itoa::Buffer;
-pub use manifest_csv::progress::Silent;
-use manifest_csv::progress::Teller;
+pub use manifest_csv::progress::{Silent, Teller};
 use manifest_csv::sending::{WriteFault, send};
 use std::io::Write;
 

@@ -7,6 +7,7 @@ ghost use Rattle.world.specs.Worlds.{StandsFor};
 ghost use Rattle.cli.specs.Arguments.{Asks, IsFirstUnread};
 ghost use Rattle.cli.specs.Endings.{import_outcome};
 ghost use Rattle.cli.specs.Rehearsals.{package_line, package_text, packages_text, live_text, StandsOn, Writes, Rehearses};
+ghost use Rattle.cli.specs.Servings.{HandsOn};
 ghost use Rattle.cli.specs.declared.statuses.What.{What};
 ghost use Rattle.cli.specs.declared.statuses.Outcome.TheVariants.{Refused};
 
@@ -21,6 +22,7 @@ use request_csv::lists::ReadFault;
 use shelves::file_memory::MemoryFileShelf;
 use shelves::shelf::Shelf;
 use sqlite::{Alter, FileStore};
+use sqlite_trees::store::Store;
 use std::alloc::{AllocError, Global};
 use std::io::{Read, Write};
 use uuid::Uuid;
@@ -106,7 +108,8 @@ fn write_each<S: Alter + Drop, W: Write>(
     sights: &[PackageSight],
     writer: &mut W,
 ) -> Result<(), Failure>
-    ensures { Writes S.Store (λ w. packages_text w (map (λ s. s.uuid) sights.now)) world.old world.new (W.contents writer.old) (W.contents writer.new) result }
+    ensures stands { StandsOn S.Store world.old world.new }
+    ensures written { Writes S.Store (λ w. packages_text w (map (λ s. s.uuid) sights.now)) world.old world.new (W.contents writer.old) (W.contents writer.new) result }
 {
     for sight in sights {
         write_package(alloc, world, sight.uuid, writer)?;
@@ -120,7 +123,8 @@ fn write_packages<S: Alter + Drop, W: Write>(
     world: &mut World<S>,
     writer: &mut W,
 ) -> Result<(), Failure>
-    ensures { Writes S.Store live_text world.old world.new (W.contents writer.old) (W.contents writer.new) result }
+    ensures stands { StandsOn S.Store world.old world.new }
+    ensures written { Writes S.Store live_text world.old world.new (W.contents writer.old) (W.contents writer.new) result }
 {
     let sights = world.packages(alloc)?;
     write_each(alloc, world, sights.as_slice(), writer)
@@ -137,18 +141,33 @@ fn carried_out<R: Read + Drop, W: Write, T: Teller>(
     ensures { Rehearses (new_world rehearsal.now.archive rehearsal.now.frame) (R.remaining reader) writer.old writer.new (W.contents writer.old) (W.contents writer.new) result }
 {
     let mut shelf = MemoryFileShelf::new(alloc);
-    let made: Result<World<FileStore<MemoryFile>>, Failure> = new_world(
-        alloc, rehearsal, &mut shelf,
-    );
+    match handed_on(alloc, rehearsal, &mut shelf, reader, writer, teller) {
+        Ok(_) => Outcome::Done,
+        Err(outcome) => outcome,
+    }
+}
+
+/// The world that a rehearsal comes to, once its report and its packages are written; or how it ended before.
+pub(crate) fn handed_on<R: Read + Drop, W: Write, T: Teller>(
+    alloc: Global,
+    rehearsal: &Rehearsal<'_>,
+    shelf: &mut MemoryFileShelf,
+    reader: R,
+    writer: &mut W,
+    teller: &mut T,
+) -> Result<World<FileStore<MemoryFile>>, Outcome>
+    ensures { HandsOn ⟦<FileStore<MemoryFile> as Store>⟧ (new_world rehearsal.now.archive rehearsal.now.frame) (R.remaining reader) writer.old writer.new (W.contents writer.old) (W.contents writer.new) result }
+{
+    let made: Result<World<FileStore<MemoryFile>>, Failure> = new_world(alloc, rehearsal, shelf);
     let mut world = match made {
         Ok(world) => world,
-        Err(failure) => return Outcome::Stopped(failure),
+        Err(failure) => return Err(Outcome::Stopped(failure)),
     };
-    if let Err(fault) = import(alloc, &mut world, &mut shelf, reader, writer, teller) {
-        return end_of_import(fault);
+    if let Err(fault) = import(alloc, &mut world, shelf, reader, writer, teller) {
+        return Err(end_of_import(fault));
     }
     match write_packages(alloc, &mut world, writer) {
-        Ok(()) => Outcome::Done,
-        Err(failure) => Outcome::Stopped(failure),
+        Ok(()) => Ok(world),
+        Err(failure) => Err(Outcome::Stopped(failure)),
     }
 }

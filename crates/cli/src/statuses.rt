@@ -22,6 +22,9 @@ pub enum What {
     /// The frame is not eleven numbers, or it breaks a rule of frames.
     #[error("frame")]
     BadFrame,
+    /// A port or a count is no number, or out of its range.
+    #[error("number")]
+    BadNumber,
     /// The request list has another header, a record that is no request, or could not be read to its end.
     #[error("list")]
     BadList,
@@ -140,6 +143,7 @@ pub fn output_of(outcome: Outcome) -> &'static str
         Outcome::Refused(What::BadUuid) => "refused: uuid\n",
         Outcome::Refused(What::BadMoment) => "refused: at\n",
         Outcome::Refused(What::BadFrame) => "refused: frame\n",
+        Outcome::Refused(What::BadNumber) => "refused: number\n",
         Outcome::Refused(What::BadList) => "refused: list\n",
         Outcome::Done | Outcome::Stopped(_) => "",
     }

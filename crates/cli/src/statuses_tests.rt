@@ -8,6 +8,12 @@ fn each_outcome_has_its_status_and_its_line(rt: HostRuntime) {
         (Outcome::Refused(What::BadUuid), 1, "refused: uuid\n", ""),
         (Outcome::Refused(What::BadMoment), 1, "refused: at\n", ""),
         (Outcome::Refused(What::BadFrame), 1, "refused: frame\n", ""),
+        (
+            Outcome::Refused(What::BadNumber),
+            1,
+            "refused: number\n",
+            "",
+        ),
         (Outcome::Refused(What::BadList), 1, "refused: list\n", ""),
         (
             Outcome::Stopped(Failure::OutOfMemory),

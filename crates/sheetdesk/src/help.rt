@@ -16,12 +16,13 @@ pub const WORDS: &str = "Words:
 Example:
   sheetdesk rehearse --archive a0000000-0000-4000-8000-000000000000 --at 2024-05-01T08:00:00.000Z \\
     --frame 25832,0,0,4096,4096,256,256,0,3,1,1 < list.csv
+With --serve 8080 --count 100 the same, and then a desk at http://127.0.0.1:8080 for 100 connections.
 
 Exit status:
   0  done; of a list too of which requests were refused
   1  an option or the list was refused; standard output has the line `refused: ` and what
   2  the command line is no use of the program
-  3  memory, a store, a reader or a writer gave out; standard error has the line `store: ` and what
+  3  memory, a store, a port, a reader or a writer gave out; standard error has the line `store: ` and what
 
 `sheetdesk rehearse --help` has the options and the form of a list.";
 
@@ -62,9 +63,25 @@ where list.csv has two lines, the first record above and this one, which adds a 
 The report then has the line
   1,90000000-0000-4000-8000-000000000001,1,0
 
+With --serve and --count the world that the list led to is then served, as JSON over HTTP: COUNT
+connections of 127.0.0.1 at PORT, one after the other. Then the program ends, and nothing is kept.
+The port is taken before the list is read, so a client may connect at once, and waits.
+  POST /requests                 a request, an object with the fields above that its command uses;
+                                 answered by its receipt, or by its refusal
+  GET  /packages                 the live packages, with what each holds
+  GET  /packages/UUID/manifest   the manifest of one, as CSV
+  GET  /receipts/UUID            the receipt of the request with this UUID
+
+Example of a desk, for two connections, and of its clients in another terminal:
+  sheetdesk rehearse --serve 8080 --count 2 --archive a0000000-0000-4000-8000-000000000000 \\
+    --at 2024-05-01T08:00:00.000Z --frame 25832,0,0,4096,4096,256,256,0,3,1,1 < list.csv
+  curl http://127.0.0.1:8080/packages
+  curl http://127.0.0.1:8080/receipts/90000000-0000-4000-8000-000000000001
+
 Exit status:
   0  the list was carried out, whatever its report says
-  1  an option or the list was refused: `refused: uuid`, `at`, `frame` or `list`; nothing was done
+  1  an option or the list was refused: `refused: uuid`, `at`, `frame`, `number`
+     or `list`; nothing was done
   2  the command line is no use of the program
-  3  memory, a store, a reader or a writer gave out: `store: OutOfMemory` or `store: StoreFault`
+  3  memory, a store, the port, a reader or a writer gave out: `store: OutOfMemory` or `store: StoreFault`
      on standard error; what was printed before stands";

@@ -48,11 +48,14 @@ fn the_help_of_a_rehearsal(rt: HostRuntime) -> Result<(), Fail> {
     };
     assert_eq!(rt; status, 0);
     for wanted in [
-        "Usage: sheetdesk rehearse --archive <UUID> --at <AT> --frame <FRAME>",
+        "Usage: sheetdesk rehearse [OPTIONS] --archive <UUID> --at <AT> --frame <FRAME>",
         HEADER,
         FIRST_TILE,
         "1,90000000-0000-4000-8000-000000000001,1,0",
-        "1  an option or the list was refused: `refused: uuid`, `at`, `frame` or `list`; nothing was done",
+        "1  an option or the list was refused: `refused: uuid`, `at`, `frame`, `number`",
+        "POST /requests                 a request, an object with the fields above that its command uses;",
+        "sheetdesk rehearse --serve 8080 --count 2 --archive a0000000-0000-4000-8000-000000000000 \\",
+        "curl http://127.0.0.1:8080/packages",
     ] {
         assert!(rt; has_line(text.as_str(), wanted), "{wanted}");
     }
@@ -81,6 +84,44 @@ fn the_example(rt: HostRuntime) -> Result<(), Fail> {
             b"line,request,seq,refusal\n1,90000000-0000-4000-8000-000000000001,1,0\npackage a0000000-0000-4000-8000-000000000000\n".as_slice()
         )
     );
+    Ok(())
+}
+
+/// The status of a rehearsal of the example with these words behind it, 1 where they are taken.
+fn status_with(alloc: Global, more: &[&str]) -> Result<i32, Error> {
+    let mut words = Vec::from_slice(
+        alloc,
+        &[
+            "sheetdesk",
+            "rehearse",
+            "--archive",
+            "a0000000-0000-4000-8000-000000000000",
+            "--at",
+            "2024-05-01T08:00:00.000Z",
+            "--frame",
+            "25832,0,0,4096,4096,256,256,0,3,1,1",
+        ],
+    )?;
+    words.extend_from_slice(more)?;
+    let (_, status) = answer(alloc, words.as_slice())?;
+    Ok(status)
+}
+
+// A desk has a port and a count; what they say is judged later.
+#[test]
+fn words_of_a_desk(rt: HostRuntime) -> Result<(), Fail> {
+    let cases: [(&[&str], i32); 4] = [
+        (&[], 1),
+        (&["--serve", "8080", "--count", "x"], 1),
+        (&["--serve", "8080"], 2),
+        (&["--count", "25"], 2),
+    ];
+    for (more, wanted) in cases {
+        let Ok(status) = status_with(rt.alloc(), more) else {
+            return Err(Fail::new("an answer"));
+        };
+        assert_eq!(rt; status, wanted);
+    }
     Ok(())
 }
 

@@ -8,9 +8,10 @@ mod help_tests;
 use crate::help::{ABOUT, REHEARSE_ABOUT, REHEARSE_WORDS, WORDS};
 use clap::error::ErrorKind;
 use clap::{Arg, ArgAction, ArgMatches, Command, Error};
-use cli::arguments::Words;
-use cli::progress::{Progress, Silent};
+use cli::arguments::{DeskWords, Words};
+use cli::progress::{Progress, Silent, Teller};
 use cli::rehearse::rehearse;
+use cli::serving::rehearse_and_serve;
 use cli::statuses::{Failure, Outcome, error_of, output_of, status_of};
 use std::alloc::{AllocError, Global};
 use std::io;
@@ -50,9 +51,28 @@ fn making<'a>(alloc: Global, name: &'a str) -> Result<Command<'a>, AllocError> {
         ))
 }
 
+/// A command with the two options that open a desk, each of which wants the other.
+fn serving<'a>(alloc: Global, command: Command<'a>) -> Result<Command<'a>, AllocError> {
+    let serve = option(
+        alloc,
+        "serve",
+        "PORT",
+        "Then serve its world on 127.0.0.1 at this port, as 8080",
+    );
+    let count = option(
+        alloc,
+        "count",
+        "COUNT",
+        "How many connections are served before the program ends, as 100",
+    );
+    command
+        .arg(serve.required(false).requires_arg("count")?)?
+        .arg(count.required(false).requires_arg("serve")?)
+}
+
 /// The command line of the program.
 pub fn sheetdesk<'a>(alloc: Global) -> Result<Command<'a>, AllocError> {
-    let rehearse = making(alloc, "rehearse")?
+    let rehearse = serving(alloc, making(alloc, "rehearse")?)?
         .about(REHEARSE_ABOUT)
         .after_help(REHEARSE_WORDS);
     Command::new(alloc, "sheetdesk")
@@ -87,20 +107,34 @@ fn answered(rt: &HostRuntime, error: &Error) -> u8 {
     }
 }
 
-/// What `rehearse` comes to, over standard input and output. How far it is, standard error is told where it is a terminal.
-fn rehearsed(rt: &HostRuntime, given: &ArgMatches<'_>) -> Outcome {
+/// What `rehearse` comes to, over standard input and output. Where a port is given, the world of the list is served.
+fn carried_out<T: Teller>(rt: &HostRuntime, given: &ArgMatches<'_>, teller: &mut T) -> Outcome {
     let words = Words {
         archive: given.get_str("archive").unwrap_or(""),
         at: given.get_str("at").unwrap_or(""),
         frame: given.get_str("frame").unwrap_or(""),
     };
     let (reader, mut writer) = (rt.reader(), io::writer(rt));
+    let Some(port) = given.get_str("serve") else {
+        return rehearse(rt.alloc(), &words, reader, &mut writer, teller);
+    };
+    let desk = DeskWords {
+        port,
+        count: given.get_str("count").unwrap_or(""),
+    };
+    match rehearse_and_serve(rt, rt.alloc(), &words, &desk, reader, &mut writer, teller) {
+        Ok(_) => Outcome::Done,
+        Err(outcome) => outcome,
+    }
+}
+
+/// Carries `rehearse` out. How far the list is, standard error is told where it is a terminal.
+fn rehearsed(rt: &HostRuntime, given: &ArgMatches<'_>) -> Outcome {
     let terminal = rt.stderr();
     if terminal.is_terminal() {
-        let mut progress = Progress { writer: terminal };
-        rehearse(rt.alloc(), &words, reader, &mut writer, &mut progress)
+        carried_out(rt, given, &mut Progress { writer: terminal })
     } else {
-        rehearse(rt.alloc(), &words, reader, &mut writer, &mut Silent)
+        carried_out(rt, given, &mut Silent)
     }
 }
 

@@ -6,8 +6,11 @@ use Rattle.cli.proofs.rehearse.write_each.Goals as goal
 pub loop-sight-init : goal.loop-sight-init
 loop-sight-init g c = record { stands = ((λ clean. clean), (λ w stands. stands)); written = λ clean w stands. Appends-nil (g.W.Write.contents c.args.writer.now) }
 
-pub returns-in_err-write_package : goal.returns-in_err-write_package
-returns-in_err-write_package g c = λ clean w stands.
+pub returns-in_err-write_package-clause-stands : goal.returns-in_err-write_package-clause-stands
+returns-in_err-write_package-clause-stands g c = ((λ clean. c.loop-sight.invariant.stands.0 (c.in_err-write_package.ensures.stands.0 clean)), (λ w stands. c.in_err-write_package.ensures.stands.1 w (c.loop-sight.invariant.stands.1 w stands)))
+
+pub returns-in_err-write_package-clause-written : goal.returns-in_err-write_package-clause-written
+returns-in_err-write_package-clause-written g c = λ clean w stands.
     let before = c.in_err-write_package.ensures.stands.0 clean in
     let now = c.loop-sight.invariant.stands.1 w stands in
     failed _ _ c.from_residual.result c.from_residual.ensures.0

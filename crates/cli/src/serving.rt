@@ -1,0 +1,86 @@
+//! A rehearsal whose world is then served to connections of this machine.
+ghost use Rattle.std.specs.Prelude.{◌≡◌, ℕ, List, Err};
+ghost use Rattle.sheet_types.specs.World.{new_world};
+ghost use Rattle.sheet_types.specs.declared.frame.Frame.{Frame};
+ghost use Rattle.cli.specs.Arguments.{Asks, AsksDesk, IsFirstUnserved};
+ghost use Rattle.cli.specs.Servings.{RehearsesAndServes};
+ghost use Rattle.cli.specs.declared.statuses.What.{What};
+ghost use Rattle.cli.specs.declared.statuses.Outcome.TheVariants.{Refused};
+
+use crate::arguments::{DeskWords, Rehearsal, Words, read_serving};
+use crate::rehearse::handed_on;
+use crate::statuses::{Failure, Outcome};
+use desk_serving::connections::serve_each;
+use desk_serving::listening::listen;
+use manifest_csv::progress::Teller;
+use memory_files::MemoryFile;
+use shelves::file_memory::MemoryFileShelf;
+use sqlite::FileStore;
+use sqlite_trees::store::Store;
+use std::alloc::Global;
+use std::io::{Read, Write};
+use std::net::{Net, TcpListener, TcpStream};
+use world::world::World;
+
+/// Does what `rehearse` does with the first words, and then serves the world that the list led to: so many connections of 127.0.0.1 at the port, one after the other. The world as they left it comes back.
+/// The words are read first, and then the port is taken, so that a client may connect while the list is carried out. Where a word cannot be read or the port cannot be had, nothing is read and nothing is written.
+///
+/// # Errors
+///
+/// How the program ended where nothing was served: a word or the list that was refused, or what gave out.
+pub fn rehearse_and_serve<
+    N: Net<Listener = TcpListener, Stream = TcpStream>,
+    R: Read + Drop,
+    W: Write,
+    T: Teller,
+>(
+    net: &N,
+    alloc: Global,
+    words: &Words<'_>,
+    desk: &DeskWords<'_>,
+    reader: R,
+    writer: &mut W,
+    teller: &mut T,
+) -> Result<World<FileStore<MemoryFile>>, Outcome>
+    ensures refused { (what : What) → IsFirstUnserved words.now.archive.now words.now.at.now words.now.frame.now desk.now.port.now desk.now.count.now what → result ≡ Err (Refused what) }
+    ensures unwritten { (what : What) → IsFirstUnserved words.now.archive.now words.now.at.now words.now.frame.now desk.now.port.now desk.now.count.now what → writer.new ≡ writer.old }
+    ensures served { (uuid moment : List ℕ) (frame : Frame) (port count : ℕ) → Asks words.now.archive.now words.now.at.now words.now.frame.now uuid moment frame → AsksDesk desk.now.port.now desk.now.count.now port count → RehearsesAndServes ⟦<FileStore<MemoryFile> as Store>⟧ (new_world uuid frame) count (R.remaining reader) writer.old writer.new (W.contents writer.old) (W.contents writer.new) result }
+{
+    let (rehearsal, desk) = match read_serving(words, desk) {
+        Ok(asked) => asked,
+        Err(what) => return Err(Outcome::Refused(what)),
+    };
+    let listener = match listen(net, desk.port) {
+        Ok(listener) => listener,
+        Err(_) => return Err(Outcome::Stopped(Failure::StoreFault)),
+    };
+    served(
+        alloc, &rehearsal, &listener, desk.count, reader, writer, teller,
+    )
+}
+
+/// Carries a list out in the world of a new archive, writes its report and its packages, and then serves so many connections of the listener over that world. The world as they left it comes back.
+///
+/// # Errors
+///
+/// How the rehearsal ended where it was not done. Nothing was served.
+pub fn served<R: Read + Drop, W: Write, T: Teller>(
+    alloc: Global,
+    rehearsal: &Rehearsal<'_>,
+    listener: &TcpListener,
+    count: u32,
+    reader: R,
+    writer: &mut W,
+    teller: &mut T,
+) -> Result<World<FileStore<MemoryFile>>, Outcome>
+    ensures { RehearsesAndServes ⟦<FileStore<MemoryFile> as Store>⟧ (new_world rehearsal.now.archive rehearsal.now.frame) count (R.remaining reader) writer.old writer.new (W.contents writer.old) (W.contents writer.new) result }
+{
+    let mut shelf = MemoryFileShelf::new(alloc);
+    match handed_on(alloc, rehearsal, &mut shelf, reader, writer, teller) {
+        Ok(mut world) => {
+            serve_each(alloc, &mut world, &mut shelf, listener, count);
+            Ok(world)
+        }
+        Err(outcome) => Err(outcome),
+    }
+}
