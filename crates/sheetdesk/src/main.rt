@@ -122,10 +122,9 @@ fn carried_out<T: Teller>(rt: &HostRuntime, given: &ArgMatches<'_>, teller: &mut
         port,
         count: given.get_str("count").unwrap_or(""),
     };
-    match rehearse_and_serve(rt, rt.alloc(), &words, &desk, reader, &mut writer, teller) {
-        Ok(_) => Outcome::Done,
-        Err(outcome) => outcome,
-    }
+    rehearse_and_serve(rt, rt.alloc(), &words, &desk, reader, &mut writer, teller)
+        .err()
+        .unwrap_or(Outcome::Done)
 }
 
 /// Carries `rehearse` out. How far the list is, standard error is told where it is a terminal.

@@ -184,10 +184,7 @@ fn stray(alloc: Global) -> StoreSeen {
 
 // Whether the stores come to this fault.
 fn comes_to(alloc: Global, seen: Vec<StoreSeen>, wanted: RecoverFault) -> bool {
-    match judge_all(alloc, seen) {
-        Ok(_) => false,
-        Err(fault) => fault == wanted,
-    }
+    judge_all(alloc, seen).err() == Some(wanted)
 }
 
 #[test]
