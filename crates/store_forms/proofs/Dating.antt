@@ -9,7 +9,7 @@ use Rattle.package_tables.specs.declared.rows.ContentsRow.{ContentsRow}
 use Rattle.store_forms.specs.Frames.{HasMoment}
 
 -- all rows pass
-all_pass : {X : Type 0} (xs : List X) → filter (λ x. true) xs ≡ xs
+pub all_pass : {X : Type 0} (xs : List X) → filter (λ x. true) xs ≡ xs
 all_pass [] = refl
 all_pass (x ∷ xs) = ap (λ l. x ∷ l) (all_pass xs)
 

@@ -9,4 +9,9 @@ pub mod Whole
 pub mod Heading
 pub mod Ascending
 pub mod Claiming
-mod Dating
+pub mod Dating
+mod Having
+mod Agreeing
+mod Framing
+mod Levelling
+mod Fixing

@@ -2,7 +2,9 @@
 #![tactic(auto)]
 
 pub mod claims;
+mod fixed_rows;
 pub mod form;
+mod frame_rows;
 pub mod frames;
 mod from_row;
 pub mod heads;

@@ -1,7 +1,7 @@
 // What stores in memory say of themselves. The expected values follow from the rows that each test puts in.
 use crate::claims::claims;
 use crate::form::has_form;
-use crate::frames::are_dated;
+use crate::frames::{are_dated, read_frame};
 use crate::heads::{StoreHead, head};
 use matrix_rules::check::FrameRules;
 use package_tables::create::{Info, create};
@@ -28,9 +28,28 @@ const FRAME: Frame = Frame {
     matrix_height: 1,
 };
 
+// The same ground in tiles of 512 by 128 pixels, zooms 5 and 6, under one of the three reference systems that each package has.
+const STANDARD: Frame = Frame {
+    srs_id: 4326,
+    min_x: -2048,
+    min_y: -2048,
+    max_x: 2048,
+    max_y: 2048,
+    tile_width: 512,
+    tile_height: 128,
+    first_zoom: 5,
+    levels: 2,
+    matrix_width: 2,
+    matrix_height: 4,
+};
+
 fn made(alloc: Global) -> Result<Connection<MemStore>, Fault> {
+    made_with(alloc, &FRAME)
+}
+
+fn made_with(alloc: Global, frame: &Frame) -> Result<Connection<MemStore>, Fault> {
     let conn = Connection::open_in_memory(alloc)?;
-    if !is_at_rest(&conn) || FRAME.check().is_err() {
+    if !is_at_rest(&conn) || frame.check().is_err() {
         return Err(Fault::StoreFault);
     }
     let info = Info {
@@ -40,7 +59,7 @@ fn made(alloc: Global) -> Result<Connection<MemStore>, Fault> {
         loan: 7,
         created: "2026-11-22T09:00:00.000Z",
     };
-    Ok(create(alloc, conn, &FRAME, &info)?.into_connection())
+    Ok(create(alloc, conn, frame, &info)?.into_connection())
 }
 
 fn form_of<S: Alter>(conn: &mut Connection<S>) -> Result<bool, Fault> {
@@ -62,6 +81,21 @@ fn is_dated<S: Alter>(alloc: Global, conn: &mut Connection<S>) -> Result<bool, F
         return Err(Fault::StoreFault);
     }
     are_dated(conn, alloc)
+}
+
+fn frame_of<S: Alter>(alloc: Global, conn: &mut Connection<S>) -> Result<Option<Frame>, Fault> {
+    if !is_at_rest(conn) {
+        return Err(Fault::StoreFault);
+    }
+    read_frame(conn, alloc)
+}
+
+// Whether a new package still has a frame after these statements.
+fn has_frame_after(alloc: Global, statements: &str) -> Result<bool, Fault> {
+    let mut conn = made(alloc)?;
+    conn.execute_batch(statements)?;
+    let found = frame_of(alloc, &mut conn)?;
+    Ok(found.is_some())
 }
 
 // Whether it has one.
@@ -170,5 +204,56 @@ fn claims_in_order(rt: HostRuntime) -> Result<(), Fail> {
         claimed(rt.alloc(), &mut conn)?.as_str(),
         "1 one S T|3 three  T|-5 five S |"
     );
+    Ok(())
+}
+
+#[test]
+fn frames_of_new_packages(rt: HostRuntime) -> Result<(), Fail> {
+    let mut own = made(rt.alloc())?;
+    assert!(rt; frame_of(rt.alloc(), &mut own)? == Some(FRAME));
+    let mut standard = made_with(rt.alloc(), &STANDARD)?;
+    assert!(rt; frame_of(rt.alloc(), &mut standard)? == Some(STANDARD));
+    own.execute_batch("UPDATE gpkg_contents SET last_change = ''")?;
+    assert!(rt; frame_of(rt.alloc(), &mut own)? == Some(FRAME));
+    Ok(())
+}
+
+#[test]
+fn no_frame(rt: HostRuntime) -> Result<(), Fail> {
+    for statements in [
+        "UPDATE gpkg_spatial_ref_sys SET description = 'x' WHERE srs_id = 0",
+        "INSERT INTO gpkg_spatial_ref_sys VALUES ('srs 7', 7, 'EPSG', 7, 'profile', '')",
+        "UPDATE gpkg_contents SET data_type = 'tiles' WHERE table_name = 'sheet_rows'",
+        "UPDATE gpkg_tile_matrix_set SET min_x = -4096",
+        "DELETE FROM gpkg_tile_matrix_set",
+        "UPDATE gpkg_tile_matrix SET pixel_x_size = 5 WHERE zoom_level = 1",
+        "DELETE FROM gpkg_tile_matrix WHERE zoom_level = 1",
+        "DELETE FROM gpkg_tile_matrix",
+        "UPDATE gpkgext_relations SET relation_name = 'media' WHERE id = 3",
+    ] {
+        assert!(rt; !has_frame_after(rt.alloc(), statements)?);
+    }
+    Ok(())
+}
+
+// At 4097 by 4096 each size of a pixel is still the whole part, but 4097 is no multiple of 1024 pixels.
+#[test]
+fn no_frame_of_uneven_pixels(rt: HostRuntime) -> Result<(), Fail> {
+    assert!(rt;
+        !has_frame_after(
+            rt.alloc(),
+            "UPDATE gpkg_contents SET max_x = 4097; UPDATE gpkg_tile_matrix_set SET max_x = 4097"
+        )?
+    );
+    Ok(())
+}
+
+// One level fewer, the last one, makes another good frame.
+#[test]
+fn frame_of_fewer_levels(rt: HostRuntime) -> Result<(), Fail> {
+    let mut conn = made(rt.alloc())?;
+    conn.execute_batch("DELETE FROM gpkg_tile_matrix WHERE zoom_level = 2")?;
+    let shorter = Frame { levels: 2, ..FRAME };
+    assert!(rt; frame_of(rt.alloc(), &mut conn)? == Some(shorter));
     Ok(())
 }
