@@ -1,0 +1,4 @@
+pub mod Views
+pub mod Laws
+pub mod Looks
+pub mod Surveying

@@ -1,0 +1,9 @@
+//! A store that may be damaged, looked at once: what the opening of a world sees of it.
+#![tactic(auto)]
+
+mod forms;
+mod held;
+pub mod laws;
+mod said;
+pub mod survey;
+mod ties;
