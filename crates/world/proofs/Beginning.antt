@@ -1,5 +1,5 @@
 -- The world of an archive with nothing in it.
-use Rattle.std.proofs.Common.{◌≡◌, refl, ℕ, List, [], ◌∷◌, true, false, None, arith}
+use Rattle.std.proofs.Common.{◌≡◌, ◌≤◌, refl, ℕ, List, [], ◌∷◌, true, false, None, arith}
 use Rattle.std.proofs.Common.{sym, subst}
 use Rattle.std.specs.List.{AllByRecursion}
 use Rattle.std.proofs.lemmas.List.Elements.{All-from_recursion}
@@ -8,12 +8,13 @@ use Rattle.sqlite.specs.Store.{Ghosts}
 use Rattle.sqlite.specs.Held.{Held, state}
 use Rattle.sheet_types.specs.Lines.{IsUuid}
 use Rattle.sheet_types.specs.Matrix.{is_good_frame}
+use Rattle.sheet_types.specs.Refuse.{greatest_receipts}
 use Rattle.sheet_types.specs.World.{new_world, no_package}
 use Rattle.sheet_types.specs.declared.frame.Frame.{Frame}
 use Rattle.ledger_laws.proofs.First.{new_world_is_register}
 use Rattle.identity_register.specs.Creation.{new_package, Keeps}
 use Rattle.world.specs.Members.{AllRest, AllClean, IsMember, AreMembers}
-use Rattle.world.specs.Worlds.{StandsFor, IsHeld}
+use Rattle.world.specs.Worlds.{StandsFor, StandsBeside, IsHeld, seen_of}
 use Rattle.world.specs.declared.members.Member.{Member}
 
 module _ {S : Type 0} (g : Ghosts S) where
@@ -41,4 +42,17 @@ module _ {S : Type 0} (g : Ghosts S) where
     good = good;
     counted = omega arith;
     stands = λ clean gone. (new_world archive f, begins archive f members strays made clean);
+  }
+
+  -- so are members that stand for some world
+  pub held_gathered : (f : Frame) (members : List (Member S)) (count : ℕ) (strays : List (Held S)) → strays ≡ [] → AllRest g members → is_good_frame f ≡ true → count ≤ greatest_receipts
+      → StandsBeside g (seen_of f members count) → IsHeld g (record { frame = f; members = members; count = count; has_failed = false; strays = strays })
+  held_gathered f members count strays none rests good low beside = record {
+    gone = beside.others;
+    rests = rests;
+    stray_rests = All-from_recursion (λ h. Rests (state g h)) strays (subst (AllByRecursion (λ h. Rests (state g h))) (sym none) tt);
+    none = λ usable. none;
+    good = good;
+    counted = low;
+    stands = λ clean others. let some = beside.stands clean others in (some.0, record { frame = some.1.frame; members = some.1.members });
   }

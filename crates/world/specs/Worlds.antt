@@ -30,6 +30,10 @@ pub record Seen (S : Type 0) : Type 0 where
   pub has_failed : Bool
   pub strays : List (Held S)
 
+-- a world that can be used, of these members
+abbrev pub seen_of : {S : Type 0} → Frame → List (Member S) → ℕ → Seen S
+seen_of f members count = record { frame = f; members = members; count = count; has_failed = false; strays = [] }
+
 -- ---- as values that a model may have
 
 abbrev Eleven : Type 0
@@ -67,6 +71,11 @@ module _ {S : Type 0} (g : Ghosts S) where
   pub record StandsFor (seen : Seen S) (w : World) : Type 0 where
     pub frame : seen.frame ≡ w.frame
     pub members : AreMembers g seen.members seen.count w
+
+  -- There is a world that it stands for, where each disk has given back what was written, those of other stores too.
+  pub record StandsBeside (seen : Seen S) : Type 0 where
+    pub others : List (Held S)
+    pub stands : AllClean g seen.members → AreClean g others → (w : World) × StandsFor seen w
 
   -- What each value of `World` keeps. Where each disk has given back what was written, those of dropped connections too, there is a world that it stands for, and so a register.
   pub record IsHeld (seen : Seen S) : Type 0 where

@@ -19,7 +19,7 @@ pub mod merging;
 pub mod reading;
 pub mod receipts;
 pub mod register_laws;
-mod reserving;
+pub mod reserving;
 pub mod splitting;
 pub mod step_laws;
 pub mod sums;

@@ -5,8 +5,8 @@ ghost use Rattle.std.specs.Prelude.{◌≡◌, ◌<◌, ◌≤◌, ◌+◌, [], 
 use package_tables::fault::Fault;
 use std::alloc::Global;
 
-/// Takes no memory.
-pub(crate) fn push_reserved<T: Drop>(items: &mut Vec<T>, item: T)
+/// Puts an item behind the others. Room for it is there, so this takes no memory.
+pub fn push_reserved<T: Drop>(items: &mut Vec<T>, item: T)
     requires { vec_len items.old < vec_capacity items.old }
     ensures items { items.new.items ≡ items.old.items ++ item ∷ [] }
     ensures len { vec_len items.new ≡ vec_len items.old + 1 }
@@ -22,8 +22,8 @@ pub(crate) fn room_for_one<T: Drop>(alloc: Global) -> Result<Vec<T>, Fault>
     Ok(Vec::with_capacity(alloc, 1)?)
 }
 
-/// Takes no memory.
-pub(crate) fn insert_reserved<T: Drop>(items: &mut Vec<T>, at: usize, item: T)
+/// Puts an item at a place, before those that stand there and behind it. Room for it is there, so this takes no memory.
+pub fn insert_reserved<T: Drop>(items: &mut Vec<T>, at: usize, item: T)
     requires place { at ≤ vec_len items.old }
     requires room { vec_len items.old < vec_capacity items.old }
     ensures items { items.new.items ≡ insert items.old.items at item }

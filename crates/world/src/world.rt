@@ -3,13 +3,15 @@ ghost use Rattle.std.specs.Prelude.{◌≡◌, ◌⊎◌, ◌≤◌, ◌↔◌, 
 ghost use Rattle.sqlite.specs.Held.{state};
 ghost use Rattle.sqlite.specs.State.{HasCleanDisk};
 ghost use Rattle.sheet_types.specs.Step.{IsFault};
+ghost use Rattle.sheet_types.specs.Matrix.{is_good_frame};
+ghost use Rattle.sheet_types.specs.Refuse.{greatest_receipts};
 ghost use Rattle.sheet_types.specs.World.{new_world};
 ghost use Rattle.sql_meaning.specs.Blank.{IsBlank, no_schema};
-ghost use Rattle.world.specs.Creating.{IsCreatedOrRefused};
-ghost use Rattle.world.specs.Members.{AllClean, AllMadeAt};
+ghost use Rattle.world.specs.Creating.{IsCreatedOrRefused, HasRoom};
+ghost use Rattle.world.specs.Members.{AllRest, AllClean, AllMadeAt};
 ghost use Rattle.sheet_types.specs.declared.refusal.Refusal.TheVariants.{StoreFault};
 ghost use Rattle.sqlite_disk.specs.Disk.{MoreFaults};
-ghost use Rattle.world.specs.Worlds.{StandsFor, IsStep, IsRun, StandsStill, LeavesNoTrace};
+ghost use Rattle.world.specs.Worlds.{StandsFor, StandsBeside, seen_of, IsStep, IsRun, StandsStill, LeavesNoTrace};
 
 use crate::applying::serve;
 use crate::creating::{CreateFault, archive_alone};
@@ -88,6 +90,29 @@ impl<S: Alter + Drop> World<S> {
             has_failed: false,
             strays: room,
         })
+    }
+
+    /// The world that members stand for, in the order of their UUIDs, with so many receipts; each member's store is at rest. That they stand for it may rest on the disks of other stores too. The list that is handed in has room for the stores of all members, so this takes no memory.
+    pub fn gathered(
+        frame: Frame,
+        members: Vec<Member<S>>,
+        count: u64,
+        room: Vec<Connection<S>>,
+    ) -> World<S>
+        requires rests { AllRest S.Store members.items }
+        requires good { IsTrue (is_good_frame frame) }
+        requires counted { count ≤ greatest_receipts }
+        requires room { HasRoom members.items room }
+        requires stands { StandsBeside S.Store (seen_of frame members.items count) }
+        ensures { result ≡ seen_of frame members.items count }
+    {
+        World {
+            frame,
+            members,
+            count,
+            has_failed: false,
+            strays: room,
+        }
     }
 
     /// The frame of all packages.
