@@ -1,0 +1,4 @@
+mod Frames
+pub mod LookedAt
+pub mod Making
+pub mod SharedOut

@@ -1,0 +1,283 @@
+-- Stores that are judged make a world: their views are right, each member is its package, and nothing is lost.
+use Rattle.std.specs.Prelude.{◌≡◌, ◌⊎◌, ◌≤◌, ℕ, zero, suc, ◌==◌, Bool, true, false, cond, List, [], ◌∷◌, ◌++◌, map, filter, find, length, refl, Option, Some, None, MatchOption, option_map, IsPermutation, IsTrue, slice_get, Result, Ok, Err, IfOk, IfErr}
+use Rattle.std.specs.List.{AllZip, AllByRecursion}
+use Rattle.std.specs.Option.{option_map_or}
+use Rattle.std.proofs.Common.{sym, ap, subst, ◌∙◌, take, arith, inl, inr}
+use Rattle.std.proofs.lemmas.List.Elements.{All-from_recursion, recursion_from_All}
+use Rattle.std.proofs.lemmas.List.Sorted.{IsPermutation-refl, IsPermutation-trans, IsPermutation-sym, IsPermutation-cons, IsPermutation-to_front, IsPermutation-map, IsPermutation-append_left}
+use Rattle.sqlite.specs.Store.{Ghosts}
+use Rattle.sqlite.specs.Held.{Held, state}
+use Rattle.sql_meaning.specs.Transactions.{Rests}
+use Rattle.sheet_types.specs.Opening.{is_root}
+use Rattle.sheet_types.specs.Ordered.{put, arranged, is_before}
+use Rattle.sheet_types.specs.World.{World, package_key}
+use Rattle.sheet_types.specs.declared.frame.Frame.{Frame}
+use Rattle.sheet_types.proofs.Order.{All-arranged}
+use Rattle.identity_register.specs.Reads.{Reads}
+use Rattle.ledger_laws.specs.Laws.{StoreSight, StoresStandFor}
+use Rattle.opening.specs.Sights.{head_said}
+use Rattle.opening.specs.declared.faults.RecoverFault.{RecoverFault}
+use Rattle.package_tables.proofs.Reading.{arranged_permutation}
+use Rattle.surveys.specs.Views.{IsViewOf}
+use Rattle.verdicts.specs.Views.{AreSeenAs, IsSeenAs, IsKept, IsFaultOf, IsKeptOf, IsVerdictOf, is_live_view, live_views}
+use Rattle.verdicts.specs.declared.seen.StoreSeen.{StoreSeen}
+use Rattle.verdicts.specs.declared.verdict.Kept.{Kept}
+use Rattle.verdicts.specs.declared.verdict.Verdict.{Verdict}
+use Rattle.world.specs.Leaving.{AreAtRest}
+use Rattle.world.specs.Members.{AllRest, IsMember}
+use Rattle.world.specs.Worlds.{StandsFor, seen_of}
+use Rattle.world.specs.declared.members.Member.{Member}
+use Rattle.recovery.specs.Recovered.{archive_seen, said_root, AreJudged, AreViewsOf, IsFaultAt, IsJudgedOf, IsWant}
+use Rattle.recovery.specs.Sharing.{member_key, member_of, members_of, strays_of}
+use Rattle.recovery.specs.Stores.{IsSurveyed}
+use Rattle.recovery.proofs.Frames.{live_frames}
+
+-- ---- the frame of the archive
+
+mapped_or : {X Y : Type 0} (f : X → Y) (g : Y → Bool) (o : Option X) → option_map_or g (option_map f o) false ≡ option_map_or (λ x. g (f x)) o false
+mapped_or f g None = refl
+mapped_or f g (Some x) = refl
+
+-- the first that passes
+pub found_first : {X : Type 0} (p : X → Bool) (xs : List X) (n : ℕ) (x : X) → AllByRecursion (λ y. p y ≡ false) (take n xs) → slice_get xs n ≡ Some x → p x ≡ true → find p xs ≡ Some x
+found_first p [] n x each place is = absurd (let e = place in cc)
+found_first p (y ∷ ys) zero x each place is = let same : y ≡ x = cc in rw (ap p same ∙ is) (ap Some same)
+found_first p (y ∷ ys) (suc n) x each place is = rw each.0 (found_first p ys n x each.1 place is)
+
+pub none_found : {X : Type 0} (p : X → Bool) (xs : List X) → AllByRecursion (λ y. p y ≡ false) xs → find p xs ≡ None
+none_found p [] each = refl
+none_found p (x ∷ xs) each = rw each.0 (none_found p xs each.1)
+
+-- what is found at the same place of two lists
+found_zip : {X Y Z : Type 0} (R : X → Y → Type 0) (p : X → Bool) (q : Y → Bool) (f : X → Z) (g : Y → Z) → ((x : X) (y : Y) → R x y → p x ≡ q y) → ((x : X) (y : Y) → R x y → f x ≡ g y)
+    → (xs : List X) (ys : List Y) → AllZip R xs ys → option_map f (find p xs) ≡ option_map g (find q ys)
+found_zip R p q f g tests same [] [] zip = refl
+found_zip R p q f g tests same [] (y ∷ ys) zip = absurd zip
+found_zip R p q f g tests same (x ∷ xs) [] zip = absurd zip
+found_zip {X} {Y} {Z} R p q f g tests same (x ∷ xs) (y ∷ ys) zip = one (q y) (tests x y zip.0) refl (found_zip R p q f g tests same xs ys zip.1)
+  where
+    one : (b : Bool) → p x ≡ b → q y ≡ b → option_map f (find p xs) ≡ option_map g (find q ys) → option_map f (cond (p x) (Some x) (find p xs)) ≡ option_map g (cond (q y) (Some y) (find q ys))
+    one true e e' rest = rw (e, e') (ap Some (same x y zip.0))
+    one false e e' rest = rw (e, e') rest
+
+abbrev root_view : StoreSight → Bool
+root_view = is_root StoreSight (λ v. v.head) (λ v. v.claims) (λ v. v.is_formed ≡ true) (λ v. v.is_tied ≡ true) (λ v. v.frame) (λ v. v.reads_as)
+
+same_root : (s : StoreSeen) (v : StoreSight) → IsSeenAs s v → said_root s ≡ root_view v
+same_root s v is = sym (mapped_or head_said (λ h. h.depth == 0) s.sight.head) ∙ ap (λ o. option_map_or (λ h. h.depth == 0) o false) is.head
+
+some_frame : (a b : Frame) → Some a ≡ Some b → a ≡ b
+some_frame a b e = cc
+
+-- the frame that was seen of the archive is that of its world
+pub frame_seen_is : (seen : List StoreSeen) (views : List StoreSight) (verdict : Verdict) (frame : Frame) → archive_seen seen ≡ Some frame → AreSeenAs seen views → (is : IsVerdictOf verdict views) → frame ≡ is.world.frame
+frame_seen_is seen views verdict frame found seen_as is =
+    let root = is.stands.read_as in
+    let there : option_map (λ v. v.frame) (find root_view views) ≡ Some root.0.frame = ap (option_map (λ (v : StoreSight). v.frame)) root.1 in
+    some_frame frame root.0.frame (sym found ∙ found_zip IsSeenAs said_root root_view (λ s. s.sight.frame) (λ v. v.frame) same_root (λ s v e. e.frame) seen views seen_as ∙ there)
+    ∙ sym (ap (λ w. w.frame) root.2)
+
+-- what is so of an answer, and of a fault
+pub ok_so : {X E : Type 0} (P Q : X → Type 0) (r : Result X E) → ((x : X) → P x → Q x) → IfOk r P → IfOk r Q
+ok_so P Q (Ok x) so is = so x is
+ok_so P Q (Err e) so is = tt
+
+pub err_so : {X E : Type 0} (P Q : E → Type 0) (r : Result X E) → ((e : E) → P e → Q e) → IfErr r P → IfErr r Q
+err_so P Q (Ok x) so is = tt
+err_so P Q (Err e) so is = so e is
+
+-- ---- views of what was surveyed
+
+module _ {S : Type 0} (g : Ghosts S) where
+  pub record HaveViews (stores : List (Held S)) (seen : List StoreSeen) : Type 0 where
+    pub views : List StoreSight
+    pub right : AreViewsOf g stores views
+    pub seen_as : AreSeenAs seen views
+
+  pub views_of : (stores : List (Held S)) (seen : List StoreSeen) → AllZip (IsSurveyed g) stores seen → HaveViews stores seen
+  views_of [] [] zip = record { views = []; right = tt; seen_as = tt }
+  views_of [] (s ∷ ss) zip = absurd zip
+  views_of (h ∷ hs) [] zip = absurd zip
+  views_of (h ∷ hs) (s ∷ ss) zip =
+      let more = views_of hs ss zip.1 in
+      record { views = zip.0.right.0 ∷ more.views; right = ((zip.0.is_open, zip.0.right.1), more.right); seen_as = (zip.0.right.2, more.seen_as) }
+
+  pub judged : (stores : List (Held S)) (seen : List StoreSeen) (frame : Frame) (verdict : Verdict) → AllZip (IsSurveyed g) stores seen → IsJudgedOf seen frame verdict → AreJudged g stores frame verdict
+  judged stores seen frame verdict surveyed is =
+      let have = views_of stores seen surveyed in
+      let told = is have.views have.seen_as in
+      record { views = have.views; right = have.right; is = told.0; frame_is = told.1 }
+
+  pub fault_at : (stores : List (Held S)) (seen : List StoreSeen) (fault : RecoverFault) → AllZip (IsSurveyed g) stores seen → IsWant fault ⊎ ((views : List StoreSight) → AreSeenAs seen views → IsFaultOf views fault) → IsFaultAt g stores fault
+  fault_at stores seen fault surveyed (inl want) = inl want
+  fault_at stores seen fault surveyed (inr so) = let have = views_of stores seen surveyed in inr (have.views, have.right, so have.views have.seen_as)
+
+  -- ---- each member is its package
+
+  -- two lists that go together do so in the order of their keys
+  zip_put : {X Y : Type 0} (R : X → Y → Type 0) (key : X → List ℕ) (other : Y → List ℕ) → ((x : X) (y : Y) → R x y → key x ≡ other y) → (x : X) (y : Y) (xs : List X) (ys : List Y) → R x y → AllZip R xs ys → AllZip R (put key x xs) (put other y ys)
+  zip_put R key other same x y [] [] here zip = (here, tt)
+  zip_put R key other same x y [] (b ∷ ys) here zip = absurd zip
+  zip_put R key other same x y (a ∷ xs) [] here zip = absurd zip
+  zip_put R key other same x y (a ∷ xs) (b ∷ ys) here zip = one (is_before (other b) (other y)) (ap (λ k. is_before k (key x)) (same a b zip.0) ∙ ap (is_before (other b)) (same x y here)) refl (zip_put R key other same x y xs ys here zip.1)
+    where
+      one : (v : Bool) → is_before (key a) (key x) ≡ v → is_before (other b) (other y) ≡ v → AllZip R (put key x xs) (put other y ys) → AllZip R (cond (is_before (key a) (key x)) (a ∷ put key x xs) (x ∷ a ∷ xs)) (cond (is_before (other b) (other y)) (b ∷ put other y ys) (y ∷ b ∷ ys))
+      one true e e' rest = rw (e, e') (zip.0, rest)
+      one false e e' rest = rw (e, e') (here, zip)
+
+  zip_arranged : {X Y : Type 0} (R : X → Y → Type 0) (key : X → List ℕ) (other : Y → List ℕ) → ((x : X) (y : Y) → R x y → key x ≡ other y) → (xs : List X) (ys : List Y) → AllZip R xs ys → AllZip R (arranged key xs) (arranged other ys)
+  zip_arranged R key other same [] [] zip = tt
+  zip_arranged R key other same [] (y ∷ ys) zip = absurd zip
+  zip_arranged R key other same (x ∷ xs) [] zip = absurd zip
+  zip_arranged R key other same (x ∷ xs) (y ∷ ys) zip = zip_put R key other same x y (arranged key xs) (arranged other ys) zip.0 (zip_arranged R key other same xs ys zip.1)
+
+  module _ (views : List StoreSight) (w : World) where
+    -- what is asked of a live view
+    abbrev Sound : StoreSight → Type 0
+    Sound v = (v.is_formed ≡ true) × (v.is_tied ≡ true) × (v.frame ≡ w.frame)
+
+    abbrev Viewed : Held S → StoreSight → Type 0
+    Viewed h v = IsTrue (state g h).is_open × IsViewOf (state g h).now v
+
+    member_is : (h : Held S) (k : Kept) (v : StoreSight) → Viewed h v → IsKept views w k v → Sound v → IsMember g w (member_of h k) v.reads_as
+    member_is h k v view kept sound = record {
+      uuid = ap (λ x. x.uuid) kept.head;
+      parent = ap (λ x. x.parent) kept.head;
+      depth = ap (λ x. x.depth) kept.head;
+      loan = ap (λ x. x.loan) kept.head;
+      sums = kept.sums;
+      ticket = kept.ticket_is;
+      reads = λ is_open. subst (λ f. Reads f v.reads_as (state g h).now) sound.2 (view.1.reads sound.0 sound.1);
+    }
+
+    members_are : (live : StoreSight → Bool) → ((k : Option Kept) (v : StoreSight) → IsKeptOf views w k v → MatchOption k (live v ≡ false) (λ x. (live v ≡ true) × IsKept views w x v))
+        → (stores : List (Held S)) (kept : List (Option Kept)) (vs : List StoreSight) → AllZip Viewed stores vs → AllZip (IsKeptOf views w) kept vs → AllByRecursion Sound (filter live vs)
+        → AllZip (IsMember g w) (members_of stores kept) (map (λ v. v.reads_as) (filter live vs))
+    members_are live lives [] kept [] view keep sound = tt
+    members_are live lives [] kept (v ∷ vs) view keep sound = absurd view
+    members_are live lives (h ∷ hs) kept [] view keep sound = absurd view
+    members_are live lives (h ∷ hs) [] (v ∷ vs) view keep sound = absurd keep
+    members_are live lives (h ∷ hs) (Some k ∷ ks) (v ∷ vs) view keep sound = one (lives (Some k) v keep.0) (λ more. members_are live lives hs ks vs view.1 keep.1 more)
+      where
+        one : (live v ≡ true) × IsKept views w k v → (AllByRecursion Sound (filter live vs) → AllZip (IsMember g w) (members_of hs ks) (map (λ x. x.reads_as) (filter live vs))) → AllZip (IsMember g w) (member_of h k ∷ members_of hs ks) (map (λ x. x.reads_as) (cond (live v) (v ∷ filter live vs) (filter live vs)))
+        one is rest =
+            let all : AllByRecursion Sound (v ∷ filter live vs) = subst (λ b. AllByRecursion Sound (cond b (v ∷ filter live vs) (filter live vs))) is.0 sound in
+            rw is.0 (member_is h k v view.0 is.1 all.0, rest all.1)
+    members_are live lives (h ∷ hs) (None ∷ ks) (v ∷ vs) view keep sound = one (lives None v keep.0) (λ more. members_are live lives hs ks vs view.1 keep.1 more)
+      where
+        one : live v ≡ false → (AllByRecursion Sound (filter live vs) → AllZip (IsMember g w) (members_of hs ks) (map (λ x. x.reads_as) (filter live vs))) → AllZip (IsMember g w) (members_of hs ks) (map (λ x. x.reads_as) (cond (live v) (v ∷ filter live vs) (filter live vs)))
+        one is rest =
+            let all : AllByRecursion Sound (filter live vs) = subst (λ b. AllByRecursion Sound (cond b (v ∷ filter live vs) (filter live vs))) is sound in
+            rw is (rest all)
+
+  kept_lives : (views : List StoreSight) (w : World) (k : Option Kept) (v : StoreSight) → IsKeptOf views w k v → MatchOption k (is_live_view views v ≡ false) (λ x. (is_live_view views v ≡ true) × IsKept views w x v)
+  kept_lives views w (Some k) v is = (is.live, is)
+  kept_lives views w None v is = is
+
+  all_three : {X : Type 0} (P Q R : X → Type 0) (xs : List X) → AllByRecursion P xs → AllByRecursion Q xs → AllByRecursion R xs → AllByRecursion (λ x. P x × Q x × R x) xs
+  all_three P Q R [] one two three = tt
+  all_three P Q R (x ∷ xs) one two three = ((one.0, two.0, three.0), all_three P Q R xs one.1 two.1 three.1)
+
+  frames_so : (views : List StoreSight) (w : World) (stands : StoresStandFor views w) → AllByRecursion (λ v. v.frame ≡ w.frame) (live_views views)
+  frames_so views w stands =
+      subst (λ f. AllByRecursion (λ v. v.frame ≡ f) (live_views views)) (sym (ap (λ x. x.frame) stands.read_as.2))
+      (live_frames StoreSight (λ v. v.head) (λ v. v.claims) (λ v. v.is_formed ≡ true) (λ v. v.is_tied ≡ true) (λ v. v.frame) (λ v. v.reads_as) views stands.in_order stands.read_as.0 stands.read_as.1)
+
+  -- the members in the order of their UUIDs stand for the world
+  pub stands_so : (stores : List (Held S)) (frame : Frame) (verdict : Verdict) (it : AreJudged g stores frame verdict) (members : List (Member S)) → members ≡ arranged member_key (members_of stores verdict.kept.items) → StandsFor g (seen_of frame members verdict.count) it.is.world
+  stands_so stores frame verdict it members are =
+      let w = it.is.world in
+      let stands : StoresStandFor it.views w = it.is.stands in
+      let sound : AllByRecursion (λ v. (v.is_formed ≡ true) × (v.is_tied ≡ true) × (v.frame ≡ w.frame)) (live_views it.views) =
+      all_three (λ v. v.is_formed ≡ true) (λ v. v.is_tied ≡ true) (λ v. v.frame ≡ w.frame) (live_views it.views) stands.in_order.formed stands.in_order.tied (frames_so it.views w stands) in
+      let each : AllZip (IsMember g w) (members_of stores verdict.kept.items) (map (λ v. v.reads_as) (live_views it.views)) =
+      members_are it.views w (is_live_view it.views) (kept_lives it.views w) stores verdict.kept.items it.views it.right it.is.kept sound in
+      let order : AllZip (IsMember g w) (arranged member_key (members_of stores verdict.kept.items)) (arranged package_key (map (λ v. v.reads_as) (live_views it.views))) =
+      zip_arranged (IsMember g w) member_key package_key (λ m p is. is.uuid) (members_of stores verdict.kept.items) (map (λ v. v.reads_as) (live_views it.views)) each in
+      record {
+        frame = it.frame_is;
+        members = record {
+          each = subst (λ ms. AllZip (IsMember g w) ms w.packages) (sym are) (subst (AllZip (IsMember g w) (arranged member_key (members_of stores verdict.kept.items))) (sym (ap (λ x. x.packages) stands.read_as.2)) order);
+          counted = it.is.counted;
+          register = it.is.register;
+        };
+      }
+
+  -- ---- nothing is lost
+
+  assoc : {X : Type 0} (xs ys zs : List X) → (xs ++ ys) ++ zs ≡ xs ++ (ys ++ zs)
+  assoc [] ys zs = refl
+  assoc (x ∷ xs) ys zs = ap (λ l. x ∷ l) (assoc xs ys zs)
+
+  abbrev stores_in : List (Member S) → List (Held S)
+  stores_in members = map (λ m. m.conn) members
+
+  shared_all : (stores : List (Held S)) (kept : List (Option Kept)) → length kept ≡ length stores → IsPermutation stores (stores_in (members_of stores kept) ++ strays_of stores kept)
+  shared_all [] [] long = IsPermutation-refl []
+  shared_all [] (k ∷ ks) long = absurd (omega (arith, long))
+  shared_all (h ∷ hs) [] long = absurd (omega (arith, long))
+  shared_all (h ∷ hs) (Some k ∷ ks) long = IsPermutation-cons h hs (stores_in (members_of hs ks) ++ strays_of hs ks) (shared_all hs ks (omega (arith, long)))
+  shared_all (h ∷ hs) (None ∷ ks) long =
+      let rest = stores_in (members_of hs ks) ++ strays_of hs ks in
+      let front : IsPermutation (h ∷ hs) (h ∷ rest) = IsPermutation-cons h hs rest (shared_all hs ks (omega (arith, long))) in
+      subst (IsPermutation (h ∷ hs)) (assoc (stores_in (members_of hs ks)) (strays_of hs ks) (h ∷ []))
+      (IsPermutation-trans (h ∷ hs) (h ∷ rest) (rest ++ h ∷ []) front (IsPermutation-sym (rest ++ h ∷ []) (h ∷ rest) (IsPermutation-to_front rest h)))
+
+  pub nothing_lost : (stores : List (Held S)) (kept : List (Option Kept)) (members : List (Member S)) (strays : List (Held S)) → length kept ≡ length stores → members ≡ arranged member_key (members_of stores kept) → strays ≡ strays_of stores kept
+      → IsPermutation stores (stores_in members ++ strays)
+  nothing_lost stores kept members strays long are strays_are =
+      let some = members_of stores kept in
+      let ordered : IsPermutation (stores_in some) (stores_in (arranged member_key some)) = IsPermutation-map (λ (m : Member S). m.conn) some (arranged member_key some) (arranged_permutation member_key some) in
+      let all : IsPermutation stores (stores_in (arranged member_key some) ++ strays_of stores kept) =
+      IsPermutation-trans stores (stores_in some ++ strays_of stores kept) (stores_in (arranged member_key some) ++ strays_of stores kept) (shared_all stores kept long) (IsPermutation-append_left (strays_of stores kept) (stores_in some) (stores_in (arranged member_key some)) ordered) in
+      subst (λ ms. IsPermutation stores (stores_in ms ++ strays)) (sym are) (subst (λ hs. IsPermutation stores (stores_in (arranged member_key some) ++ hs)) (sym strays_are) all)
+
+  -- ---- what is true of each store is true of each member and each stray
+
+  members_have : (P : Held S → Type 0) (stores : List (Held S)) (kept : List (Option Kept)) → AllByRecursion P stores → AllByRecursion (λ (m : Member S). P m.conn) (members_of stores kept)
+  members_have P [] kept each = tt
+  members_have P (h ∷ hs) [] each = tt
+  members_have P (h ∷ hs) (Some k ∷ ks) each = (each.0, members_have P hs ks each.1)
+  members_have P (h ∷ hs) (None ∷ ks) each = members_have P hs ks each.1
+
+  last_has : (P : Held S → Type 0) (hs : List (Held S)) (h : Held S) → AllByRecursion P hs → P h → AllByRecursion P (hs ++ h ∷ [])
+  last_has P [] h each here = (here, tt)
+  last_has P (x ∷ xs) h each here = (each.0, last_has P xs h each.1 here)
+
+  strays_have : (P : Held S → Type 0) (stores : List (Held S)) (kept : List (Option Kept)) → AllByRecursion P stores → AllByRecursion P (strays_of stores kept)
+  strays_have P [] kept each = tt
+  strays_have P (h ∷ hs) [] each = tt
+  strays_have P (h ∷ hs) (Some k ∷ ks) each = strays_have P hs ks each.1
+  strays_have P (h ∷ hs) (None ∷ ks) each = last_has P (strays_of hs ks) h (strays_have P hs ks each.1) each.0
+
+  pub members_rest : (stores : List (Held S)) (kept : List (Option Kept)) (members : List (Member S)) → members ≡ arranged member_key (members_of stores kept) → AreAtRest g stores → AllRest g members
+  members_rest stores kept members are rests =
+      let P : Held S → Type 0 = λ h. Rests (state g h) in
+      let Q : Member S → Type 0 = λ m. P m.conn in
+      All-from_recursion Q members (subst (AllByRecursion Q) (sym are) (All-arranged member_key Q (members_of stores kept) (members_have P stores kept (recursion_from_All P stores rests))))
+
+  pub strays_rest : (stores : List (Held S)) (kept : List (Option Kept)) (strays : List (Held S)) → strays ≡ strays_of stores kept → AreAtRest g stores → AreAtRest g strays
+  strays_rest stores kept strays are rests =
+      let P : Held S → Type 0 = λ h. Rests (state g h) in
+      All-from_recursion P strays (subst (AllByRecursion P) (sym are) (strays_have P stores kept (recursion_from_All P stores rests)))
+
+  put_long : {X : Type 0} (key : X → List ℕ) (x : X) (xs : List X) → length (put key x xs) ≡ suc (length xs)
+  put_long key x [] = refl
+  put_long key x (y ∷ ys) = elim (is_before (key y) (key x)) as (λ v. length (cond v (y ∷ put key x ys) (x ∷ y ∷ ys)) ≡ suc (suc (length ys))) [
+    | true ↦ ap suc (put_long key x ys)
+    | false ↦ refl
+  ]
+
+  arranged_long : {X : Type 0} (key : X → List ℕ) (xs : List X) → length (arranged key xs) ≡ length xs
+  arranged_long key [] = refl
+  arranged_long key (x ∷ xs) = put_long key x (arranged key xs) ∙ ap suc (arranged_long key xs)
+
+  -- no more members than stores
+  few_members : (stores : List (Held S)) (kept : List (Option Kept)) → length (members_of stores kept) ≤ length stores
+  few_members [] kept = omega arith
+  few_members (h ∷ hs) [] = omega arith
+  few_members (h ∷ hs) (Some k ∷ ks) = omega (arith, few_members hs ks)
+  few_members (h ∷ hs) (None ∷ ks) = omega (arith, few_members hs ks)
+
+  pub few : (stores : List (Held S)) (kept : List (Option Kept)) (members : List (Member S)) → members ≡ arranged member_key (members_of stores kept) → length members ≤ length stores
+  few stores kept members are = omega (arith, ap length are, arranged_long member_key (members_of stores kept), few_members stores kept)

@@ -1,0 +1,3 @@
+pub mod Stores
+pub mod Sharing
+pub mod Recovered

@@ -1,0 +1,73 @@
+-- What stores that are handed in come to: a world, or a fault. Profile.
+use Rattle.std.specs.Prelude.{◌≡◌, ◌⊎◌, ◌==◌, Bool, false, List, ◌++◌, map, find, Option, option_map, IsPermutation, IsTrue}
+use Rattle.std.specs.List.{AllZip}
+use Rattle.std.specs.Option.{option_map_or}
+use Rattle.sqlite.specs.Held.{Held, state}
+use Rattle.sqlite.specs.Store.{Ghosts}
+use Rattle.sheet_types.specs.World.{World}
+use Rattle.sheet_types.specs.declared.frame.Frame.{Frame}
+use Rattle.ledger_laws.specs.Laws.{StoreSight, StoresStandFor}
+use Rattle.opening.specs.declared.faults.RecoverFault.{RecoverFault}
+use Rattle.opening.specs.declared.faults.RecoverFault.TheVariants.{OutOfMemory, StoreFault}
+use Rattle.surveys.specs.Views.{IsViewOf}
+use Rattle.verdicts.specs.Views.{AreSeenAs, IsFaultOf, IsVerdictOf}
+use Rattle.verdicts.specs.declared.seen.StoreSeen.{StoreSeen}
+use Rattle.verdicts.specs.declared.verdict.Verdict.{Verdict}
+use Rattle.world.specs.Leaving.{AreClean, AreAtRest}
+use Rattle.world.specs.Worlds.{StandsFor}
+use Rattle.recovery.specs.Stores.{AreOnlyRead}
+use Rattle.recovery.specs.declared.recovering.Recovered.{Recovered}
+use Rattle.recovery.specs.declared.recovering.Unopened.{Unopened}
+
+-- the store says that it is an archive's
+abbrev pub said_root : StoreSeen → Bool
+said_root s = option_map_or (λ h. h.depth == 0) s.sight.head false
+
+-- the frame that was seen of the first store that says so
+abbrev pub archive_seen : List StoreSeen → Option Frame
+archive_seen seen = option_map (λ s. s.sight.frame) (find said_root seen)
+
+-- why there is no answer of the nine
+abbrev pub IsWant : RecoverFault → Type 0
+IsWant fault = (fault ≡ OutOfMemory) ⊎ (fault ≡ StoreFault)
+
+-- What was seen comes to this verdict, and the frame is that of its world.
+abbrev pub IsJudgedOf : List StoreSeen → Frame → Verdict → Type 0
+IsJudgedOf seen frame verdict = (views : List StoreSight) → AreSeenAs seen views → (is : IsVerdictOf verdict views) × (frame ≡ is.world.frame)
+
+module _ {S : Type 0} (g : Ghosts S) where
+  -- right views of what the stores hold, in turn
+  abbrev pub AreViewsOf : List (Held S) → List StoreSight → Type 0
+  AreViewsOf stores views = AllZip (λ h v. IsTrue (state g h).is_open × IsViewOf (state g h).now v) stores views
+
+  -- The stores come to these values: some right views of them do.
+  pub record AreJudged (stores : List (Held S)) (frame : Frame) (verdict : Verdict) : Type 0 where
+    pub views : List StoreSight
+    pub right : AreViewsOf stores views
+    pub is : IsVerdictOf verdict views
+    pub frame_is : frame ≡ is.world.frame
+
+  -- The fault is the first of the nine that holds of right views of the stores; or memory or a store gave out.
+  abbrev pub IsFaultAt : List (Held S) → RecoverFault → Type 0
+  IsFaultAt stores fault = IsWant fault ⊎ ((views : List StoreSight) × AreViewsOf stores views × IsFaultOf views fault)
+
+  -- The stores stand for a world, and so does what was opened.
+  pub record IsOpened (stores : List (Held S)) (found : Recovered S) : Type 0 where
+    pub views : List StoreSight
+    pub right : AreViewsOf stores views
+    pub world : World
+    pub stand : StoresStandFor views world
+    pub is : StandsFor g found.world world
+
+  -- The stores were only read; each is that of a member, or a stray.
+  pub record IsRecovered (stores : List (Held S)) (found : Recovered S) : Type 0 where
+    pub read : List (Held S)
+    pub only_read : AreOnlyRead g stores read
+    pub kept : IsPermutation read (map (λ m. m.conn) found.world.members ++ found.strays.items)
+    pub stray_rests : AreAtRest g found.strays.items
+    pub opened : AreClean g read → IsOpened read found
+
+  -- All stores are handed back in their order; they were only read, if at all.
+  pub record IsUnopened (stores : List (Held S)) (refused : Unopened S) : Type 0 where
+    pub only_read : (refused.stores.items ≡ stores) ⊎ AreOnlyRead g stores refused.stores.items
+    pub fault : AreClean g refused.stores.items → IsFaultAt refused.stores.items refused.fault
