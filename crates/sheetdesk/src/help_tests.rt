@@ -87,53 +87,41 @@ fn the_example(rt: HostRuntime) -> Result<(), Fail> {
     Ok(())
 }
 
-const ARCHIVE: &str = "a0000000-0000-4000-8000-000000000000";
-
-const AT: &str = "2024-05-01T08:00:00.000Z";
-
-const FRAME: &str = "25832,0,0,4096,4096,256,256,0,3,1,1";
+/// The status of a rehearsal of the example with these words behind it, 1 where they are taken.
+fn status_with(alloc: Global, more: &[&str]) -> Result<i32, Error> {
+    let mut words = Vec::from_slice(
+        alloc,
+        &[
+            "sheetdesk",
+            "rehearse",
+            "--archive",
+            "a0000000-0000-4000-8000-000000000000",
+            "--at",
+            "2024-05-01T08:00:00.000Z",
+            "--frame",
+            "25832,0,0,4096,4096,256,256,0,3,1,1",
+        ],
+    )?;
+    words.extend_from_slice(more)?;
+    let (_, status) = answer(alloc, words.as_slice())?;
+    Ok(status)
+}
 
 // A desk has a port and a count; what they say is judged later.
 #[test]
 fn words_of_a_desk(rt: HostRuntime) -> Result<(), Fail> {
-    let Ok((_, status)) = answer(
-        rt.alloc(),
-        &[
-            "sheetdesk",
-            "rehearse",
-            "--archive",
-            ARCHIVE,
-            "--at",
-            AT,
-            "--frame",
-            FRAME,
-            "--serve",
-            "8080",
-            "--count",
-            "x",
-        ],
-    ) else {
-        return Err(Fail::new("an answer"));
-    };
-    assert_eq!(rt; status, 1);
-    let Ok((_, status)) = answer(
-        rt.alloc(),
-        &[
-            "sheetdesk",
-            "rehearse",
-            "--archive",
-            ARCHIVE,
-            "--at",
-            AT,
-            "--frame",
-            FRAME,
-            "--serve",
-            "8080",
-        ],
-    ) else {
-        return Err(Fail::new("an answer"));
-    };
-    assert_eq!(rt; status, 2);
+    let cases: [(&[&str], i32); 4] = [
+        (&[], 1),
+        (&["--serve", "8080", "--count", "x"], 1),
+        (&["--serve", "8080"], 2),
+        (&["--count", "25"], 2),
+    ];
+    for (more, wanted) in cases {
+        let Ok(status) = status_with(rt.alloc(), more) else {
+            return Err(Fail::new("an answer"));
+        };
+        assert_eq!(rt; status, wanted);
+    }
     Ok(())
 }
 
@@ -143,5 +131,27 @@ fn words_that_are_no_use(rt: HostRuntime) -> Result<(), Fail> {
         return Err(Fail::new("an answer"));
     };
     assert_eq!(rt; status, 2);
+    Ok(())
+}
+
+// Each command over a folder has its words, and no others.
+#[test]
+fn words_of_a_folder(rt: HostRuntime) -> Result<(), Fail> {
+    let cases: [(&[&str], i32); 8] = [
+        (&["sheetdesk", "apply", "maps"], 1),
+        (&["sheetdesk", "audit", "maps"], 1),
+        (&["sheetdesk", "import", "maps", "list.csv"], 1),
+        (&["sheetdesk", "manifest", "maps", "x"], 1),
+        (&["sheetdesk", "serve", "maps", "x", "x"], 1),
+        (&["sheetdesk", "serve", "maps", "8080"], 2),
+        (&["sheetdesk", "audit"], 2),
+        (&["sheetdesk", "init", "maps"], 2),
+    ];
+    for (words, wanted) in cases {
+        let Ok((_, status)) = answer(rt.alloc(), words) else {
+            return Err(Fail::new("an answer"));
+        };
+        assert_eq!(rt; status, wanted);
+    }
     Ok(())
 }
