@@ -19,6 +19,19 @@ pub struct Listing {
     pub holds_packages: bool,
 }
 
+/// Takes all names of an open folder. A read gives whole names alone, and fails where the next one has no room, so each is offered more than the longest name of a file wants.
+fn take_names<D: Read>(dir: &mut D, bytes: &mut Vec<u8>) -> io::Result<()> {
+    let mut piece = [0u8; 4096];
+    for _ in 0..u64::MAX {
+        let taken = dir.read(&mut piece)?;
+        if taken == 0 {
+            break;
+        }
+        bytes.extend_from_slice(&piece[..taken])?;
+    }
+    Ok(())
+}
+
 /// The bytes of an open folder: its names, each ended by a NUL.
 pub fn folder_bytes<R: Files + AllocGlobal>(rt: &R, folder: &str) -> io::Result<Vec<u8>> {
     if folder.is_empty() {
@@ -27,7 +40,8 @@ pub fn folder_bytes<R: Files + AllocGlobal>(rt: &R, folder: &str) -> io::Result<
     // The slash follows a link to a folder.
     let path = format!(in rt.alloc(); "{folder}/")?;
     let mut bytes = Vec::new(rt.alloc());
-    rt.open_dir(path.as_str())?.read_to_end(&mut bytes)?;
+    let mut dir = rt.open_dir(path.as_str())?;
+    take_names(&mut dir, &mut bytes)?;
     Ok(bytes)
 }
 
