@@ -45,11 +45,11 @@ at_seam : {X : Type 0} (xs : List X) (y : X) (ys : List X) → slice_get (xs ++ 
 at_seam [] y ys = refl
 at_seam (x ∷ xs) y ys = at_seam xs y ys
 
-joined : {X : Type 0} (xs : List X) (x : X) (ys : List X) → (xs ++ x ∷ []) ++ ys ≡ xs ++ x ∷ ys
+pub joined : {X : Type 0} (xs : List X) (x : X) (ys : List X) → (xs ++ x ∷ []) ++ ys ≡ xs ++ x ∷ ys
 joined [] x ys = refl
 joined (z ∷ xs) x ys = ap (λ zs. z ∷ zs) (joined xs x ys)
 
-long_snoc : {X : Type 0} (xs : List X) (y : X) → length (xs ++ y ∷ []) ≡ suc (length xs)
+pub long_snoc : {X : Type 0} (xs : List X) (y : X) → length (xs ++ y ∷ []) ≡ suc (length xs)
 long_snoc [] y = refl
 long_snoc (z ∷ xs) y = ap suc (long_snoc xs y)
 

@@ -2,25 +2,14 @@
 use Rattle.std.specs.Prelude.{◌≡◌, ℕ, suc, ◌+◌, ◌<◌, List, [], ◌∷◌, ◌++◌, length, refl, Option, Some, None}
 use Rattle.std.proofs.Common.{sym, ap, subst, ◌∙◌, arith, drop}
 use Rattle.std.proofs.Math.Seq.{drop-length, drop-append_seam}
-use Rattle.std.proofs.lemmas.List.{length-append}
+use Rattle.std.proofs.lemmas.List.{append-nil, length-append}
 use Rattle.sqlite.specs.Held.{Held}
 use Rattle.sheet_types.specs.Ordered.{arranged}
 use Rattle.sheet_types.proofs.Arranging.{IsInOrder, arranged_in_order}
 use Rattle.verdicts.specs.declared.verdict.Kept.{Kept}
 use Rattle.recovery.specs.Sharing.{member_key, members_of, strays_of, with_member, with_stray, HasRoomOf, AreShared}
 use Rattle.recovery.specs.declared.sharing.Shares.{Shares}
-
-append_none : {X : Type 0} (xs : List X) → xs ++ [] ≡ xs
-append_none [] = refl
-append_none (x ∷ xs) = ap (λ ys. x ∷ ys) (append_none xs)
-
-long_snoc : {X : Type 0} (xs : List X) (y : X) → length (xs ++ y ∷ []) ≡ suc (length xs)
-long_snoc [] y = refl
-long_snoc (z ∷ xs) y = ap suc (long_snoc xs y)
-
-joined : {X : Type 0} (xs : List X) (x : X) (ys : List X) → (xs ++ x ∷ []) ++ ys ≡ xs ++ x ∷ ys
-joined [] x ys = refl
-joined (z ∷ xs) x ys = ap (λ zs. z ∷ zs) (joined xs x ys)
+use Rattle.recovery.proofs.LookedAt.{joined, long_snoc}
 
 module _ {S : Type 0} where
   -- one store more, with what is kept of it
@@ -37,7 +26,7 @@ module _ {S : Type 0} where
 
   pub begins : (all : List (Held S)) (kept : List (Option Kept)) (shares : Shares S) → shares.members.items ≡ [] → shares.strays.items ≡ [] → HasRoomOf shares (length all) → IsSharing all kept all shares
   begins all kept shares no_members no_strays room = record {
-    front = sym (append_none all) ∙ ap (λ zs. all ++ zs) (sym (drop-length all));
+    front = sym (append-nil all) ∙ ap (λ zs. all ++ zs) (sym (drop-length all));
     members = no_members ∙ ap (λ zs. arranged member_key (members_of zs (drop (length all) kept))) (sym (drop-length all));
     strays = no_strays ∙ ap (λ zs. strays_of zs (drop (length all) kept)) (sym (drop-length all));
     room = room;

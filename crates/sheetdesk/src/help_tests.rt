@@ -137,6 +137,46 @@ fn words_of_a_desk(rt: HostRuntime) -> Result<(), Fail> {
     Ok(())
 }
 
+// A count without a port is no use; without both the words are those of a rehearsal alone.
+#[test]
+fn words_of_no_desk(rt: HostRuntime) -> Result<(), Fail> {
+    let Ok((_, status)) = answer(
+        rt.alloc(),
+        &[
+            "sheetdesk",
+            "rehearse",
+            "--archive",
+            ARCHIVE,
+            "--at",
+            AT,
+            "--frame",
+            FRAME,
+            "--count",
+            "25",
+        ],
+    ) else {
+        return Err(Fail::new("an answer"));
+    };
+    assert_eq!(rt; status, 2);
+    let Ok((_, status)) = answer(
+        rt.alloc(),
+        &[
+            "sheetdesk",
+            "rehearse",
+            "--archive",
+            ARCHIVE,
+            "--at",
+            AT,
+            "--frame",
+            FRAME,
+        ],
+    ) else {
+        return Err(Fail::new("an answer"));
+    };
+    assert_eq!(rt; status, 1);
+    Ok(())
+}
+
 #[test]
 fn words_that_are_no_use(rt: HostRuntime) -> Result<(), Fail> {
     let Ok((_, status)) = answer(rt.alloc(), &["sheetdesk", "rehearse"]) else {
