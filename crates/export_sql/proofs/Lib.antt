@@ -1,0 +1,4 @@
+mod Doubles
+mod Noting
+mod Texts
+mod Written

@@ -1,0 +1,7 @@
+pub mod Statements
+pub mod Points
+pub mod Schema
+pub mod FixedRows
+pub mod Numbers
+pub mod Exports
+pub mod Laws

@@ -1,0 +1,5 @@
+pub mod Bounds
+pub mod Finest
+pub mod Texts
+pub mod Drawing
+pub mod Counting

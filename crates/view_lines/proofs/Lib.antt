@@ -1,0 +1,2 @@
+pub mod LastNamed
+pub mod Standing

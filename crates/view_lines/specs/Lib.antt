@@ -1,0 +1,4 @@
+pub mod Laws
+pub mod Columns
+pub mod Packages
+pub mod Ways

@@ -1,0 +1,11 @@
+//! The lines that are printed for people who look: a table of packages, and the way of one item.
+#![tactic(auto)]
+
+mod columns;
+pub mod laws;
+pub mod packages;
+#[cfg(test)]
+mod packages_tests;
+pub mod ways;
+#[cfg(test)]
+mod ways_tests;
