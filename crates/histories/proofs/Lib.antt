@@ -1,0 +1,4 @@
+pub mod Asked
+pub mod Dates
+pub mod OwnHeads
+pub mod WholeLedgers

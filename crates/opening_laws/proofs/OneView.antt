@@ -1,0 +1,54 @@
+-- A right view of a store that reads as a package of a register is the view of that package, and one of a stray is a stray's.
+use Rattle.std.specs.Prelude.{◌≡◌, Bool, true, false, refl, Option, Some, None, MatchOption, ⊤}
+use Rattle.std.proofs.Common.{ap, ◌∙◌}
+use Rattle.sqlite.specs.Effect.{Database}
+use Rattle.sheet_types.specs.Opening.{Head, head_of}
+use Rattle.sheet_types.specs.Register.{IsRegister, IsKeptPackage}
+use Rattle.sheet_types.specs.World.{World, Package}
+use Rattle.sheet_types.specs.declared.frame.Frame.{Frame}
+use Rattle.identity_register.specs.Reads.{Reads}
+use Rattle.identity_register.proofs.OnePackage.{reads_alone}
+use Rattle.ledger_laws.specs.Laws.{StoreSight}
+use Rattle.store_forms.specs.Heads.{IsHead, ReadsHead}
+use Rattle.stored_items.specs.Answers.{Decides}
+use Rattle.surveys.specs.Views.{IsViewOf, IsWhole}
+use Rattle.register_views.specs.Beside.{IsViewOfPackage, IsStrayView, IsUnknown}
+use Rattle.register_views.specs.Timely.{IsInBounds}
+use Rattle.register_views.proofs.Bounds.{unknown_is_stray}
+use Rattle.kept_stores.specs.Kept.{IsKeptStore, IsWholeAs}
+use Rattle.kept_stores.proofs.Headed.{head_is_known}
+use Rattle.kept_stores.proofs.Whole.{kept_store_is_whole}
+
+-- what holds is decided so
+decided : (Holds : Type 0) (b : Bool) → Decides Holds b → Holds → b ≡ true
+decided Holds true d h = refl
+decided Holds false d h = absurd (d h)
+
+-- the head that is read is the one that the store says
+head_read : (f : Frame) (p : Package) (db : Database) (o : Option Head) → Reads f p db → IsHead db (head_of p) → ReadsHead db o → o ≡ Some (head_of p)
+head_read f p db None reads headed none = absurd (none (head_of p) headed)
+head_read f p db (Some h) reads headed said = ap Some (head_is_known f p db h reads said)
+
+pub view_of_kept : (w : World) (p : Package) (db : Database) (v : StoreSight) → IsKeptPackage w p → IsInBounds p → IsKeptStore w.frame p db → IsViewOf db v → IsViewOfPackage w v p
+view_of_kept w p db v kept bounds store view =
+    let whole : IsWholeAs w.frame p db = kept_store_is_whole w p db kept bounds store in
+    let is : IsWhole w.frame db = record { formed = whole.formed; head = head_of p; headed = whole.headed; frame = whole.frame; dated = whole.dated; items = whole.items; receipts = whole.receipts } in
+    let formed : v.is_formed ≡ true = decided _ v.is_formed view.formed (w.frame, is) in
+    let tied : v.is_tied ≡ true = decided _ v.is_tied (view.tied formed) whole.tied in
+    let alone : (v.frame ≡ w.frame) × (v.reads_as ≡ p) = reads_alone v.frame w.frame v.reads_as p db (view.reads formed tied) store.reads in
+    record {
+      head = head_read w.frame p db v.head store.reads whole.headed view.head;
+      claims = view.claims.0 whole.formed.receipts ∙ whole.claimed;
+      formed = formed;
+      tied = tied;
+      frame = alone.0;
+      reads = alone.1;
+    }
+
+-- a stray, by the heads that it may say
+stray_head : (w : World) (db : Database) (o : Option Head) → ((h : Head) → IsHead db h → IsUnknown w h) → ReadsHead db o → MatchOption o ⊤ (IsUnknown w)
+stray_head w db None unknown said = tt
+stray_head w db (Some h) unknown said = unknown h said
+
+pub view_of_stray : (w : World) (db : Database) (v : StoreSight) → IsRegister w → ((h : Head) → IsHead db h → IsUnknown w h) → IsViewOf db v → IsStrayView w v
+view_of_stray w db v register unknown view = unknown_is_stray w v register (stray_head w db v.head unknown view.head)

@@ -1,0 +1,110 @@
+-- Laws of the opening of a register's stores. Profile.
+use Rattle.std.specs.Prelude.{◌≡◌, ◌⊎◌, false, List, map, Result}
+use Rattle.std.specs.List.{AllByRecursion}
+use Rattle.sqlite.specs.Held.{Held, state}
+use Rattle.sqlite.specs.State.{IsLive}
+use Rattle.sqlite.specs.Store.{Ghosts}
+use Rattle.sqlite.specs.Tree.{Trees}
+use Rattle.sheet_types.specs.Lines.{HasTypes}
+use Rattle.sheet_types.specs.Register.{IsRegister}
+use Rattle.sheet_types.specs.Step.{IsFault, outcome}
+use Rattle.sheet_types.specs.World.{World}
+use Rattle.sheet_types.specs.declared.command.Request.{Request}
+use Rattle.sheet_types.specs.declared.receipt.Receipt.{Receipt}
+use Rattle.sheet_types.specs.declared.refusal.Refusal.{Refusal}
+use Rattle.ledger_laws.specs.Laws.{StoreSight}
+use Rattle.register_views.specs.Beside.{AreViewsOfWorld}
+use Rattle.register_views.specs.Timely.{IsTimely}
+use Rattle.world.specs.Leaving.{AreClean, MayBeLeft}
+use Rattle.world.specs.Members.{AllOpen}
+use Rattle.world.specs.Worlds.{Seen, StandsFor, IsHeld, IsStep, held}
+use Rattle.recovery.specs.Recovered.{AreViewsOf, IsRecovered, IsUnopened, IsWant}
+use Rattle.recovery.specs.declared.recovering.Recovered.{Recovered}
+use Rattle.recovery.specs.declared.recovering.Unopened.{Unopened}
+use Rattle.opening_laws.specs.Stores.{AreStoresOf, IsStrayStore, ReadsAsNone, SayMoments, AreReopened, StandsSoundlyAmong, KeepsSchemas}
+
+-- a world whose stores are opened: a register, each receipt of it with a moment
+abbrev pub IsKeptWorld : World → Type 0
+IsKeptWorld w = IsRegister w × IsTimely w
+
+module _ {S : Type 0} (g : Ghosts S) where
+  -- ---- any stores
+
+  -- Right views of a register's stores are views of its packages and of strays.
+  abbrev pub ViewsOfStores : Type 0
+  ViewsOfStores = (w : World) (stores : List (Held S)) (views : List StoreSight) → IsKeptWorld w →
+      AreStoresOf g stores w → AreViewsOf g stores views → AreViewsOfWorld views w
+
+  -- The world that they are opened as stands for the register.
+  abbrev pub OpensAgain : Type 0
+  OpensAgain = (w : World) (stores : List (Held S)) (found : Recovered S) → IsKeptWorld w → AreStoresOf g stores w →
+      (is : IsRecovered g stores found) → AreClean g is.read → StandsFor g found.world w
+
+  -- Where they are not opened, it is for none of the nine faults.
+  abbrev pub MeetsNoFault : Type 0
+  MeetsNoFault = (w : World) (stores : List (Held S)) (refused : Unopened S) → IsKeptWorld w → AreStoresOf g stores w →
+      IsUnopened g stores refused → AreClean g refused.stores.items → IsWant refused.fault
+
+  -- the stores are those of the world, and no stray reads as a package of it
+  abbrev pub AreApart : List (Held S) → World → Type 0
+  AreApart stores w = (of : AreStoresOf g stores w) × AllByRecursion (ReadsAsNone g w) of.others
+
+  -- The strays are handed out beside it, and no store of a package is, where no stray reads as a package of the register.
+  abbrev pub StraysAreTold : Type 0
+  StraysAreTold = (w : World) (stores : List (Held S)) (found : Recovered S) → IsKeptWorld w → AreApart stores w →
+      (is : IsRecovered g stores found) → AreClean g is.read → AllByRecursion (IsStrayStore g w) found.strays.items
+
+  -- The stores of the world that was opened say moments, so that it can be opened again.
+  abbrev pub OpenedSaysMoments : Type 0
+  OpenedSaysMoments = (w : World) (stores : List (Held S)) (found : Recovered S) → IsKeptWorld w → AreApart stores w →
+      (is : IsRecovered g stores found) → AreClean g is.read → SayMoments g (map (λ m. m.conn) found.world.members)
+
+  -- ---- a world at rest
+
+  -- A usable world holds the stores of each register that it stands for.
+  abbrev pub RestIsStores : Type 0
+  RestIsStores = (seen : Seen S) (w : World) → IsHeld g seen → seen.has_failed ≡ false → StandsFor g seen w →
+      SayMoments g (held g seen) → AreApart (held g seen) w
+
+  -- So it is opened again as that register, or memory or a store gave out.
+  abbrev pub RestIsOpened : Type 0
+  RestIsOpened = (seen : Seen S) (w : World) → IsHeld g seen → seen.has_failed ≡ false → StandsFor g seen w →
+      IsTimely w → SayMoments g (held g seen) →
+      ((found : Recovered S) (is : IsRecovered g (held g seen) found) → AreClean g is.read → StandsFor g found.world w)
+      × ((refused : Unopened S) → IsUnopened g (held g seen) refused → AreClean g refused.stores.items → IsWant refused.fault)
+
+  -- Stores that are opened from whatever a crash left of a world at rest are its stores. Each connection that stands is live (`Connection::schema` says so of it).
+  abbrev pub RestSurvives : Type 0
+  RestSurvives = (seen : Seen S) (w : World) (contents : List Trees) (again : List (Held S)) → IsHeld g seen →
+      seen.has_failed ≡ false → StandsFor g seen w →
+      AllOpen g seen.members → AllByRecursion (λ m. IsLive (state g m.conn)) seen.members → SayMoments g (held g seen) →
+      MayBeLeft g (held g seen) contents → AreReopened g again contents → AreApart again w
+
+  -- ---- a crash of a request
+
+  -- Stores that are opened from contents that are those of a world's packages, with others beside them, are stores of that world.
+  abbrev pub LeftIsStores : Type 0
+  LeftIsStores = (w : World) (contents : List Trees) (again : List (Held S)) →
+      StandsSoundlyAmong w.frame w.packages contents →
+      AreReopened g again contents → SayMoments g again → AreApart again w
+
+  -- what is opened stands for the world before, or for the world that the request makes
+  abbrev pub StandsForOneOf : World → Request → Seen S → Type 0
+  StandsForOneOf w q seen = StandsFor g seen w ⊎ StandsFor g seen (outcome w q).1
+
+  -- After a fault of a request to a usable world, stores that are opened from whatever a crash left come to the world before, or to the one that the request was to make; or memory or a store gave out.
+  abbrev pub CrashIsOpened : Type 0
+  CrashIsOpened = (q : Request) (old : Seen S) (reply : Result Receipt Refusal) (new : Seen S) (w : World) (contents : List Trees) (again : List (Held S)) →
+      IsStep g q old reply new → IsFault reply → old.has_failed ≡ false → StandsFor g old w →
+      AllOpen g old.members → HasTypes q.command → IsTimely w →
+      KeepsSchemas g w.frame (held g new) w.packages (outcome w q).1.packages →
+      AreClean g (held g new) → MayBeLeft g (held g new) contents → AreReopened g again contents → SayMoments g again →
+      ((found : Recovered S) (is : IsRecovered g again found) → AreClean g is.read → StandsForOneOf w q found.world)
+      × ((refused : Unopened S) → IsUnopened g again refused → AreClean g refused.stores.items → IsWant refused.fault)
+
+  -- ---- one world
+
+  -- Stores of which some views are right are those of one register.
+  abbrev pub OneRegisterOfStores : Type 0
+  OneRegisterOfStores = (v w : World) (stores : List (Held S)) (views : List StoreSight) → IsKeptWorld v →
+      IsKeptWorld w → AreStoresOf g stores v → AreStoresOf g stores w → AreViewsOf g stores views → v ≡ w

@@ -1,0 +1,3 @@
+pub mod HeldStores
+pub mod Rows
+pub mod Answers

@@ -1,0 +1,3 @@
+pub mod Kept
+pub mod Looks
+pub mod Told
