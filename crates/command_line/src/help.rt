@@ -20,11 +20,14 @@ With --serve 8080 --count 100 the same, and then a desk at http://127.0.0.1:8080
 
 Exit status:
   0  done; of a list too of which requests were refused
-  1  an option or the list was refused; standard output has the line `refused: ` and what
+  1  a word, a list or a request was refused; standard output has the line `refused: ` and what,
+     or the refusal
   2  the command line is no use of the program
-  3  memory, a store, a port, a reader or a writer gave out; standard error has the line `store: ` and what
+  3  memory, a store, a port, a reader or a writer gave out, or the packages of a folder are not in order;
+     standard error has the line `store: ` and what
 
-`sheetdesk rehearse --help` has the options and the form of a list.";
+`sheetdesk rehearse --help` has the options and the form of a list, `sheetdesk init --help` a first session
+with a folder of packages.";
 
 /// What `rehearse` is for.
 pub const REHEARSE_ABOUT: &str =
@@ -85,3 +88,75 @@ Exit status:
   2  the command line is no use of the program
   3  memory, a store, the port, a reader or a writer gave out: `store: OutOfMemory` or `store: StoreFault`
      on standard error; what was printed before stands";
+
+/// What `init` is for.
+pub const INIT_ABOUT: &str = "Makes a new archive in a folder that holds no packages";
+
+/// What `apply` is for.
+pub const APPLY_ABOUT: &str = "Carries out one request, as JSON on standard input";
+
+/// What `import` is for.
+pub const IMPORT_ABOUT: &str = "Carries out a list of requests and prints its report";
+
+/// What `manifest` is for.
+pub const MANIFEST_ABOUT: &str = "Prints what a package holds, a record for each item and link";
+
+/// What `audit` is for.
+pub const AUDIT_ABOUT: &str = "Says whether all packages and receipts agree";
+
+/// What `serve` is for.
+pub const SERVE_ABOUT: &str = "Serves the packages as JSON over HTTP, on this machine alone";
+
+/// What `status` is for.
+pub const STATUS_ABOUT: &str = "Prints a table of the packages that live";
+
+/// What `explain` is for.
+pub const EXPLAIN_ABOUT: &str = "Prints the whole way of an item, from receipt to receipt";
+
+/// What `receipt` is for.
+pub const RECEIPT_ABOUT: &str = "Prints the receipt of a request, as JSON";
+
+/// What `export` is for.
+pub const EXPORT_ABOUT: &str = "Prints a package as SQL that makes a GeoPackage with true units";
+
+/// After the words of a command over a folder.
+pub const FOLDER_WORDS: &str =
+    "A folder holds its packages as SQLite databases, each the file UUID.gpkg. It is one register: one
+archive, and the loans that live. Files of loans that came home may stay there and count for nothing.
+While the program runs, no other program can open them.
+
+A first session, from the archive on:
+  mkdir maps
+  sheetdesk init --archive a0000000-0000-4000-8000-000000000000 --at 2024-05-01T08:00:00.000Z \\
+    --frame 25832,0,0,4096,4096,256,256,0,3,1,1 maps
+  sheetdesk import maps list.csv
+  sheetdesk apply maps < request.json
+  sheetdesk status maps
+  sheetdesk explain maps 00000000-0000-4000-8000-000000000001
+  sheetdesk receipt maps 90000000-0000-4000-8000-000000000001
+  sheetdesk manifest maps a0000000-0000-4000-8000-000000000000
+  sheetdesk export maps a0000000-0000-4000-8000-000000000000 | sqlite3 true.gpkg
+  sheetdesk audit maps
+  sheetdesk serve maps 8080 100
+The form of list.csv is told by `sheetdesk rehearse --help`; request.json is an object with the same
+fields, of which its command uses.
+
+Standard output:
+  init      archive UUID
+  apply     the receipt of the request, or its refusal, as JSON on a line
+  import    the report, a line for each request
+  status    a line of headings, and a line for each package
+  explain   a line for each receipt that names the item, as an item or as an end of a link; and where it is
+  receipt   the receipt, as JSON on a line
+  manifest  the records of the package
+  export    SQL; `sqlite3 NEW.gpkg` makes a file of it that GDAL and QGIS open
+  audit     good and the number of receipts; or the name of what is wrong, as OutOfAccount
+  serve     nothing
+
+Exit status:
+  0  done; of a list whatever its report says
+  1  refused: by the desk, or `refused: ` and what: uuid, at, frame, number, body, list,
+     folder holds packages, no such package, no such request, no such identity
+  2  the command line is no use of the program
+  3  memory, a file, a port or a stream gave out, or the packages are not in order: standard error has
+     the line `store: ` and the name of the fault; of an audit standard output has the name";

@@ -1,5 +1,5 @@
 // What `--help` says, and that its example does what it says.
-use crate::sheetdesk;
+use crate::words::sheetdesk;
 use clap::Error;
 use cli::arguments::Words;
 use cli::progress::Silent;
@@ -180,6 +180,38 @@ fn words_of_no_desk(rt: HostRuntime) -> Result<(), Fail> {
 #[test]
 fn words_that_are_no_use(rt: HostRuntime) -> Result<(), Fail> {
     let Ok((_, status)) = answer(rt.alloc(), &["sheetdesk", "rehearse"]) else {
+        return Err(Fail::new("an answer"));
+    };
+    assert_eq!(rt; status, 2);
+    Ok(())
+}
+
+// A command that looks at a folder has its words; what they say is judged later.
+#[test]
+fn words_of_a_look(rt: HostRuntime) -> Result<(), Fail> {
+    let Ok((_, status)) = answer(rt.alloc(), &["sheetdesk", "explain", "maps", "x"]) else {
+        return Err(Fail::new("an answer"));
+    };
+    assert_eq!(rt; status, 1);
+    let Ok((_, status)) = answer(rt.alloc(), &["sheetdesk", "explain", "maps"]) else {
+        return Err(Fail::new("an answer"));
+    };
+    assert_eq!(rt; status, 2);
+    let Ok((_, status)) = answer(rt.alloc(), &["sheetdesk", "status", "maps"]) else {
+        return Err(Fail::new("an answer"));
+    };
+    assert_eq!(rt; status, 1);
+    Ok(())
+}
+
+// So has one that changes it.
+#[test]
+fn words_of_a_change(rt: HostRuntime) -> Result<(), Fail> {
+    let Ok((_, status)) = answer(rt.alloc(), &["sheetdesk", "import", "maps", "list.csv"]) else {
+        return Err(Fail::new("an answer"));
+    };
+    assert_eq!(rt; status, 1);
+    let Ok((_, status)) = answer(rt.alloc(), &["sheetdesk", "init", "maps"]) else {
         return Err(Fail::new("an answer"));
     };
     assert_eq!(rt; status, 2);

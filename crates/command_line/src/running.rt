@@ -1,0 +1,256 @@
+//! A command line, carried out: what it asks for is done in `cli` and `commands`.
+use crate::words::sheetdesk;
+use clap::error::ErrorKind;
+use clap::{ArgMatches, Error};
+use cli::arguments::{DeskWords, Words};
+use cli::progress::{Progress, Silent, Teller};
+use cli::rehearse::rehearse;
+use cli::serving::rehearse_and_serve;
+use cli::statuses::Outcome;
+use commands::applying::apply;
+use commands::auditing::audit;
+use commands::endings::{Ending, FAILED, NO_MEMORY, busy_package, error_of, output_of, status_of};
+use commands::importing::import;
+use commands::init::init;
+use commands::manifest::manifest;
+use commands::serving::serve;
+use exporting::exporting::export;
+use std::convert::AsStr;
+use std::io;
+use std::io::{IsTerminal, Read};
+use uuid::Uuid;
+use views::endings as seen;
+use views::explaining::explain;
+use views::receipts::receipt;
+use views::status::status;
+
+/// Prints a text on standard error. Where that fails too, the status alone says how the program ended.
+fn print_error(rt: &HostRuntime, text: &str) {
+    let _printed = eprint!(rt; "{text}");
+}
+
+/// Says that another process may hold a package, where that is why the program ended.
+fn print_busy(rt: &HostRuntime, busy: Option<Uuid>) {
+    if let Some(package) = busy {
+        let _printed = eprintln!(rt; "another process may hold the package {package}");
+    }
+}
+
+/// Prints a text on standard output, and answers whether it went out.
+fn is_printed(rt: &HostRuntime, text: &str) -> bool {
+    print!(rt; "{text}").is_ok()
+}
+
+/// Says that standard output failed, and answers the exit status.
+fn output_failed(rt: &HostRuntime) -> u8 {
+    print_error(rt, error_of(FAILED));
+    status_of(FAILED)
+}
+
+/// Prints the two lines of an ending, and answers its status. Where standard output fails, that is the ending.
+fn told(rt: &HostRuntime, output: &str, error: &str, busy: Option<Uuid>, status: u8) -> u8 {
+    if !is_printed(rt, output) {
+        return output_failed(rt);
+    }
+    print_error(rt, error);
+    print_busy(rt, busy);
+    status
+}
+
+/// Tells the ending of a command.
+fn ended(rt: &HostRuntime, ending: &Ending) -> u8 {
+    told(
+        rt,
+        output_of(*ending),
+        error_of(*ending),
+        busy_package(*ending),
+        status_of(*ending),
+    )
+}
+
+/// Tells the ending of a command that looks at a folder.
+fn looked(rt: &HostRuntime, ending: &seen::Ending) -> u8 {
+    told(
+        rt,
+        seen::output_of(*ending),
+        seen::error_of(*ending),
+        seen::busy_package(*ending),
+        seen::status_of(*ending),
+    )
+}
+
+/// Prints what the command line is answered with where it names nothing to be done: a usage fault, or help.
+fn answered(rt: &HostRuntime, error: &Error) -> u8 {
+    if error.kind() == ErrorKind::OutOfMemory {
+        return out_of_memory(rt);
+    }
+    match error.print(rt) {
+        Ok(()) => error.exit_code() as u8,
+        Err(_) => output_failed(rt),
+    }
+}
+
+/// The text of an option or a word that has to be given.
+fn text_of<'m>(given: &ArgMatches<'m>, id: &str) -> &'m str {
+    given.get_str(id).unwrap_or("")
+}
+
+/// The words for a new archive.
+fn archive_words<'m>(given: &ArgMatches<'m>) -> Words<'m> {
+    Words {
+        archive: text_of(given, "archive"),
+        at: text_of(given, "at"),
+        frame: text_of(given, "frame"),
+    }
+}
+
+/// What `rehearse` comes to, over a reader and standard output. Where a port is given, the world of the list is served.
+fn rehearsed<R: Read + Drop, T: Teller>(
+    rt: &HostRuntime,
+    given: &ArgMatches<'_>,
+    reader: R,
+    teller: &mut T,
+) -> Outcome {
+    let words = archive_words(given);
+    let mut writer = io::writer(rt);
+    let Some(port) = given.get_str("serve") else {
+        return rehearse(rt.alloc(), &words, reader, &mut writer, teller);
+    };
+    let desk = DeskWords {
+        port,
+        count: text_of(given, "count"),
+    };
+    rehearse_and_serve(rt, rt.alloc(), &words, &desk, reader, &mut writer, teller)
+        .err()
+        .unwrap_or(Outcome::Done)
+}
+
+/// What a command comes to that carries out a list.
+fn listed<R: Read + Drop, T: Teller>(
+    rt: &HostRuntime,
+    name: &str,
+    given: &ArgMatches<'_>,
+    reader: R,
+    teller: &mut T,
+) -> Ending {
+    match name {
+        "import" => import(
+            rt,
+            text_of(given, "folder"),
+            text_of(given, "file"),
+            &mut io::writer(rt),
+            teller,
+        ),
+        _ => Ending::Usual(rehearsed(rt, given, reader, teller)),
+    }
+}
+
+/// The same. How far the list is, standard error is told where it is a terminal.
+fn listed_and_told<R: Read + Drop>(
+    rt: &HostRuntime,
+    name: &str,
+    given: &ArgMatches<'_>,
+    reader: R,
+) -> Ending {
+    let terminal = rt.stderr();
+    if terminal.is_terminal() {
+        let mut progress = Progress { writer: terminal };
+        listed(rt, name, given, reader, &mut progress)
+    } else {
+        listed(rt, name, given, reader, &mut Silent)
+    }
+}
+
+/// A desk over a folder.
+fn served(rt: &HostRuntime, given: &ArgMatches<'_>) -> Ending {
+    let desk = DeskWords {
+        port: text_of(given, "port"),
+        count: text_of(given, "count"),
+    };
+    serve(rt, text_of(given, "folder"), &desk)
+}
+
+/// Tells standard error, where it is a terminal, that a folder is being opened, which takes as long as there is to read.
+fn tell_of_opening(rt: &HostRuntime) {
+    let terminal = rt.stderr();
+    if terminal.is_terminal() {
+        print_error(rt, "reading the packages of the folder\n");
+    }
+}
+
+/// Carries out a command that may change what is in a folder, or has none.
+fn changed<R: Read + Drop>(
+    rt: &HostRuntime,
+    name: &str,
+    given: &ArgMatches<'_>,
+    reader: R,
+) -> Ending {
+    let folder = text_of(given, "folder");
+    let mut writer = io::writer(rt);
+    match name {
+        "init" => init(rt, &archive_words(given), folder, &mut writer),
+        "apply" => apply(rt, folder, reader, &mut writer),
+        "serve" => served(rt, given),
+        _ => listed_and_told(rt, name, given, reader),
+    }
+}
+
+/// Carries out the command of this name over a folder, if it has one, and answers the exit status.
+fn carried_out<R: Read + Drop>(
+    rt: &HostRuntime,
+    name: &str,
+    given: &ArgMatches<'_>,
+    reader: R,
+) -> u8 {
+    let folder = given.get_str("folder").unwrap_or("");
+    let mut writer = io::writer(rt);
+    match name {
+        "status" => looked(rt, &status(rt, folder, &mut writer)),
+        "explain" => looked(
+            rt,
+            &explain(rt, folder, text_of(given, "identity"), &mut writer),
+        ),
+        "receipt" => looked(
+            rt,
+            &receipt(rt, folder, text_of(given, "request"), &mut writer),
+        ),
+        "manifest" => ended(
+            rt,
+            &manifest(rt, folder, text_of(given, "package"), &mut writer),
+        ),
+        "export" => ended(
+            rt,
+            &export(rt, folder, text_of(given, "package"), &mut writer),
+        ),
+        "audit" => ended(rt, &audit(rt, folder, &mut writer)),
+        _ => ended(rt, &changed(rt, name, given, reader)),
+    }
+}
+
+/// What these words ask for; an error where they are no use of the program, or ask for help.
+fn matched<'a, W: AsStr>(rt: &HostRuntime, words: &'a [W]) -> Result<ArgMatches<'a>, Error> {
+    sheetdesk(rt.alloc())?.try_get_matches_from(words)
+}
+
+/// Carries out a command line, the program's name first, over a reader in place of standard input, and answers the exit status.
+/// What it prints goes to standard output and standard error. A subcommand is required.
+pub fn run<W: AsStr, R: Read + Drop>(rt: &HostRuntime, words: &[W], reader: R) -> u8 {
+    let matches = match matched(rt, words) {
+        Ok(matches) => matches,
+        Err(error) => return answered(rt, &error),
+    };
+    match matches.subcommand() {
+        Some((name, given)) => {
+            if name != "init" && name != "rehearse" {
+                tell_of_opening(rt);
+            }
+            carried_out(rt, name, given, reader)
+        }
+        None => 2,
+    }
+}
+
+/// Says that memory gave out, and answers the exit status.
+pub fn out_of_memory(rt: &HostRuntime) -> u8 {
+    ended(rt, &NO_MEMORY)
+}

@@ -1,0 +1,184 @@
+//! Which words the command line has.
+use crate::help::{
+    ABOUT, APPLY_ABOUT, AUDIT_ABOUT, EXPLAIN_ABOUT, EXPORT_ABOUT, FOLDER_WORDS, IMPORT_ABOUT,
+    INIT_ABOUT, MANIFEST_ABOUT, RECEIPT_ABOUT, REHEARSE_ABOUT, REHEARSE_WORDS, SERVE_ABOUT,
+    STATUS_ABOUT, WORDS,
+};
+use clap::{Arg, ArgAction, Command};
+use std::alloc::{AllocError, Global};
+
+/// An option that has to be given, whose text is judged later.
+fn option<'a>(alloc: Global, id: &'a str, value: &'a str, help: &'a str) -> Arg<'a> {
+    Arg::new(alloc, id)
+        .long(id)
+        .value_name(value)
+        .help(help)
+        .required(true)
+        .action(ArgAction::Set)
+}
+
+/// A command that makes an archive.
+fn making<'a>(alloc: Global, name: &'a str) -> Result<Command<'a>, AllocError> {
+    Command::new(alloc, name)
+        .arg(option(
+            alloc,
+            "archive",
+            "UUID",
+            "Identity of the archive, as a0000000-0000-4000-8000-000000000000",
+        ))?
+        .arg(option(
+            alloc,
+            "at",
+            "AT",
+            "Moment at which it is made, as 2024-05-01T08:00:00.000Z",
+        ))?
+        .arg(option(
+            alloc,
+            "frame",
+            "FRAME",
+            "Its frame, as 25832,0,0,4096,4096,256,256,0,3,1,1",
+        ))
+}
+
+/// A command with the two options that open a desk, each of which wants the other.
+fn serving<'a>(alloc: Global, command: Command<'a>) -> Result<Command<'a>, AllocError> {
+    let serve = option(
+        alloc,
+        "serve",
+        "PORT",
+        "Then serve its world on 127.0.0.1 at this port, as 8080",
+    );
+    let count = option(
+        alloc,
+        "count",
+        "COUNT",
+        "How many connections are served before the program ends, as 100",
+    );
+    command
+        .arg(serve.required(false).requires_arg("count")?)?
+        .arg(count.required(false).requires_arg("serve")?)
+}
+
+/// A word that has to be given, by its place, whose text is judged later.
+fn word<'a>(alloc: Global, id: &'a str, value: &'a str, help: &'a str) -> Arg<'a> {
+    Arg::new(alloc, id)
+        .value_name(value)
+        .help(help)
+        .required(true)
+        .action(ArgAction::Set)
+}
+
+/// A command over a folder of packages.
+fn over_folder<'a>(
+    alloc: Global,
+    command: Command<'a>,
+    about: &'static str,
+) -> Result<Command<'a>, AllocError> {
+    command.about(about).after_help(FOLDER_WORDS).arg(word(
+        alloc,
+        "folder",
+        "FOLDER",
+        "Where the packages are, as maps",
+    ))
+}
+
+/// Makes an archive in a folder.
+fn init_command<'a>(alloc: Global) -> Result<Command<'a>, AllocError> {
+    over_folder(alloc, making(alloc, "init")?, INIT_ABOUT)
+}
+
+/// Carries one request out.
+fn apply_command<'a>(alloc: Global) -> Result<Command<'a>, AllocError> {
+    over_folder(alloc, Command::new(alloc, "apply"), APPLY_ABOUT)
+}
+
+/// Carries a list out.
+fn import_command<'a>(alloc: Global) -> Result<Command<'a>, AllocError> {
+    over_folder(alloc, Command::new(alloc, "import"), IMPORT_ABOUT)?.arg(word(
+        alloc,
+        "file",
+        "FILE",
+        "The list of requests, as list.csv",
+    ))
+}
+
+/// A command over a folder and one package of it.
+fn over_package<'a>(
+    alloc: Global,
+    name: &'a str,
+    about: &'static str,
+) -> Result<Command<'a>, AllocError> {
+    over_folder(alloc, Command::new(alloc, name), about)?.arg(word(
+        alloc,
+        "package",
+        "PACKAGE",
+        "Identity of the package, as a0000000-0000-4000-8000-000000000000",
+    ))
+}
+
+/// Says what lives.
+fn status_command<'a>(alloc: Global) -> Result<Command<'a>, AllocError> {
+    over_folder(alloc, Command::new(alloc, "status"), STATUS_ABOUT)
+}
+
+/// Tells the way of an item.
+fn explain_command<'a>(alloc: Global) -> Result<Command<'a>, AllocError> {
+    over_folder(alloc, Command::new(alloc, "explain"), EXPLAIN_ABOUT)?.arg(word(
+        alloc,
+        "identity",
+        "IDENTITY",
+        "Identity of the item, as 00000000-0000-4000-8000-000000000001",
+    ))
+}
+
+/// Shows a receipt.
+fn receipt_command<'a>(alloc: Global) -> Result<Command<'a>, AllocError> {
+    over_folder(alloc, Command::new(alloc, "receipt"), RECEIPT_ABOUT)?.arg(word(
+        alloc,
+        "request",
+        "REQUEST",
+        "Identity of the request, as 90000000-0000-4000-8000-000000000001",
+    ))
+}
+
+/// Says whether the packages of a folder are in order.
+fn audit_command<'a>(alloc: Global) -> Result<Command<'a>, AllocError> {
+    over_folder(alloc, Command::new(alloc, "audit"), AUDIT_ABOUT)
+}
+
+/// Opens a desk.
+fn serve_command<'a>(alloc: Global) -> Result<Command<'a>, AllocError> {
+    over_folder(alloc, Command::new(alloc, "serve"), SERVE_ABOUT)?
+        .arg(word(alloc, "port", "PORT", "Where, on 127.0.0.1, as 8080"))?
+        .arg(word(
+            alloc,
+            "count",
+            "COUNT",
+            "How many connections are served before the program ends, as 100",
+        ))
+}
+
+/// The command that shows what a list would come to.
+fn rehearse_command<'a>(alloc: Global) -> Result<Command<'a>, AllocError> {
+    let rehearse = serving(alloc, making(alloc, "rehearse")?)?;
+    Ok(rehearse.about(REHEARSE_ABOUT).after_help(REHEARSE_WORDS))
+}
+
+/// The command line of the program.
+pub fn sheetdesk<'a>(alloc: Global) -> Result<Command<'a>, AllocError> {
+    Command::new(alloc, "sheetdesk")
+        .about(ABOUT)
+        .after_help(WORDS)
+        .subcommand_required(true)
+        .subcommand(init_command(alloc)?)?
+        .subcommand(apply_command(alloc)?)?
+        .subcommand(import_command(alloc)?)?
+        .subcommand(status_command(alloc)?)?
+        .subcommand(explain_command(alloc)?)?
+        .subcommand(receipt_command(alloc)?)?
+        .subcommand(over_package(alloc, "manifest", MANIFEST_ABOUT)?)?
+        .subcommand(over_package(alloc, "export", EXPORT_ABOUT)?)?
+        .subcommand(audit_command(alloc)?)?
+        .subcommand(serve_command(alloc)?)?
+        .subcommand(rehearse_command(alloc)?)
+}

@@ -1,0 +1,85 @@
+-- How a call of the program on a folder ends: its exit status, and the lines that it prints before (profile).
+use Rattle.std.specs.Prelude.{ℕ, List, [], ◌∷◌, ◌++◌, codes, Option, Some, None}
+use Rattle.cli.specs.Endings.{outcome_status, line_of, output_text as outcome_output, error_text as outcome_error}
+use Rattle.folder.specs.declared.fault.FolderFault.{FolderFault}
+use Rattle.folder.specs.declared.fault.FolderFault.TheVariants as folder
+use Rattle.opening.specs.declared.faults.RecoverFault.{RecoverFault}
+use Rattle.opening.specs.declared.faults.RecoverFault.TheVariants.{NoArchive, TwoArchives, NotAPackage, TwoCopies, MissingPackage, ForeignFrame, Dangling, OutOfAccount, Altered, OutOfMemory, StoreFault}
+use Rattle.commands.specs.declared.endings.OpenFault.{OpenFault}
+use Rattle.commands.specs.declared.endings.OpenFault.TheVariants.{Busy, Fault}
+use Rattle.commands.specs.declared.endings.Ending.{Ending}
+use Rattle.commands.specs.declared.endings.Ending.TheVariants.{Usual, BadBody, HoldsPackages, NoSuchPackage, Declined, Unopened, Faulted}
+
+-- of a folder that could not be read, or of a file in it
+abbrev pub of_folder : FolderFault → OpenFault
+of_folder folder.OutOfMemory = Fault OutOfMemory
+of_folder (folder.Busy uuid) = Busy uuid
+of_folder folder.StoreFault = Fault StoreFault
+
+abbrev pub ending_status : Ending → ℕ
+ending_status (Usual outcome) = outcome_status outcome
+ending_status BadBody = 1
+ending_status HoldsPackages = 1
+ending_status NoSuchPackage = 1
+ending_status Declined = 1
+ending_status (Unopened fault) = 3
+ending_status (Faulted fault) = 3
+
+abbrev pub fault_word : RecoverFault → List ℕ
+fault_word NoArchive = codes "NoArchive"
+fault_word TwoArchives = codes "TwoArchives"
+fault_word (NotAPackage uuid) = codes "NotAPackage"
+fault_word (TwoCopies uuid) = codes "TwoCopies"
+fault_word (MissingPackage uuid) = codes "MissingPackage"
+fault_word (ForeignFrame uuid) = codes "ForeignFrame"
+fault_word (Dangling uuid) = codes "Dangling"
+fault_word OutOfAccount = codes "OutOfAccount"
+fault_word (Altered uuid) = codes "Altered"
+fault_word OutOfMemory = codes "OutOfMemory"
+fault_word StoreFault = codes "StoreFault"
+
+-- the fault by which a folder that is not opened is told: a busy file is one that failed
+abbrev pub told_as : OpenFault → RecoverFault
+told_as (Busy uuid) = StoreFault
+told_as (Fault fault) = fault
+
+-- the name of a fault alone, and behind a word
+abbrev pub fault_line : RecoverFault → List ℕ
+fault_line fault = fault_word fault ++ (10 ∷ [])
+
+abbrev pub store_line : RecoverFault → List ℕ
+store_line fault = line_of (codes "store") (fault_word fault)
+
+-- on standard output, behind what was printed before
+abbrev pub output_text : Ending → List ℕ
+output_text (Usual outcome) = outcome_output outcome
+output_text BadBody = line_of (codes "refused") (codes "body")
+output_text HoldsPackages = line_of (codes "refused") (codes "folder holds packages")
+output_text NoSuchPackage = line_of (codes "refused") (codes "no such package")
+output_text Declined = []
+output_text (Unopened fault) = []
+output_text (Faulted fault) = fault_line (told_as fault)
+
+-- on standard error
+abbrev pub error_text : Ending → List ℕ
+error_text (Usual outcome) = outcome_error outcome
+error_text BadBody = []
+error_text HoldsPackages = []
+error_text NoSuchPackage = []
+error_text Declined = []
+error_text (Unopened fault) = store_line (told_as fault)
+error_text (Faulted fault) = []
+
+-- the package whose file is busy, where that is why a folder was not opened
+abbrev pub busy_file : OpenFault → Option (List ℕ)
+busy_file (Busy uuid) = Some uuid
+busy_file (Fault fault) = None
+
+abbrev pub busy_package : Ending → Option (List ℕ)
+busy_package (Usual outcome) = None
+busy_package BadBody = None
+busy_package HoldsPackages = None
+busy_package NoSuchPackage = None
+busy_package Declined = None
+busy_package (Unopened fault) = busy_file fault
+busy_package (Faulted fault) = busy_file fault

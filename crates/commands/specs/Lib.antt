@@ -1,0 +1,4 @@
+pub mod Endings
+pub mod Folders
+pub mod Printing
+pub mod Subcommands

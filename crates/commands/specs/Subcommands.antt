@@ -1,0 +1,120 @@
+-- What the subcommands make of a world, what they print, and how they end. Profile.
+use Rattle.std.specs.Prelude.{◌≡◌, ◌⊎◌, ◌<◌, ℕ, List, length, Option, Result, Ok, Err, IfSome}
+use Rattle.sqlite.specs.Store.{Ghosts}
+use Rattle.sheet_types.specs.World.{World}
+use Rattle.sheet_types.specs.declared.command.Request.{Request}
+use Rattle.sheet_types.specs.declared.receipt.Receipt.{Receipt}
+use Rattle.sheet_types.specs.declared.refusal.Refusal.{Refusal}
+use Rattle.opening.specs.declared.faults.RecoverFault.TheVariants as fault
+use Rattle.request_json.specs.Requests.{IsRequestText}
+use Rattle.world.specs.Worlds.{IsRead, IsStep, LeavesNoTrace, Seen, StandsFor, StandsStill}
+use Rattle.manifest_csv.specs.Imports.{Imports}
+use Rattle.manifest_csv.specs.PackageManifests.{IsManifest, WritesNothing}
+use Rattle.manifest_csv.specs.declared.importing.ImportFault.{ImportFault}
+use Rattle.manifest_csv.specs.declared.package_manifests.ManifestFault.{ManifestFault}
+use Rattle.manifest_csv.specs.declared.package_manifests.ManifestFault.TheVariants as manifest
+use Rattle.desk_serving.specs.Connections.{IsServedBy}
+use Rattle.cli.specs.Endings.{import_outcome}
+use Rattle.cli.specs.Failures.{of_fault}
+use Rattle.cli.specs.declared.statuses.Failure.{Failure}
+use Rattle.cli.specs.declared.statuses.Outcome.TheVariants.{Refused, Stopped}
+use Rattle.cli.specs.declared.statuses.What.TheVariants.{BadList}
+use Rattle.commands.specs.Folders.{IsFolderWorld}
+use Rattle.commands.specs.Printing.{done, failed, no_memory, Prints, PrintsReply, archive_line, good_line, last_receipt}
+use Rattle.commands.specs.declared.endings.Ending.{Ending}
+use Rattle.commands.specs.declared.endings.Ending.TheVariants.{Usual, BadBody, HoldsPackages, NoSuchPackage, Unopened, Faulted}
+use Rattle.commands.specs.declared.endings.OpenFault.{OpenFault}
+use Rattle.commands.specs.declared.endings.OpenFault.TheVariants.{Fault}
+
+-- ---- init
+
+-- why no archive was made
+abbrev pub IsUnmade : Ending → Type 0
+IsUnmade ending =
+    (ending ≡ HoldsPackages)
+    ⊎ ((fault : OpenFault) × (ending ≡ Unopened fault))
+    ⊎ ((failure : Failure) × (ending ≡ Usual (Stopped failure)))
+
+-- The line that names the archive is printed; or it was not made, and nothing was written.
+abbrev pub Inits : {W : Type 0} → List ℕ → W → W → Option (List ℕ) → Option (List ℕ) → Ending → Type 0
+Inits uuid writer writer' before after ending =
+    Prints (archive_line uuid) done before after ending ⊎ (IsUnmade ending × (writer' ≡ writer))
+
+-- ---- apply
+
+-- why a body is no request, or is not known to be one
+abbrev pub IsWhyUnasked : List ℕ → Ending → Type 0
+IsWhyUnasked text ending = (ending ≡ no_memory) ⊎ ((ending ≡ BadBody) × ((q : Request) → ¬ IsRequestText text q))
+
+-- The same of a reader, which may fail, or give more bytes than a body may have.
+abbrev pub IsUnread : Ending → Type 0
+IsUnread ending = (ending ≡ no_memory) ⊎ (ending ≡ BadBody)
+
+-- ---- import and manifest
+
+abbrev pub import_ending : Result (Unit {0}) ImportFault → Ending
+import_ending (Ok x) = done
+import_ending (Err fault) = Usual (import_outcome fault)
+
+-- why there is no list
+abbrev pub IsUnlisted : Ending → Type 0
+IsUnlisted ending = (ending ≡ no_memory) ⊎ (ending ≡ Usual (Refused BadList))
+
+abbrev pub manifest_ending : Result (Unit {0}) ManifestFault → Ending
+manifest_ending (Ok x) = done
+manifest_ending (Err manifest.Unknown) = NoSuchPackage
+manifest_ending (Err (manifest.Failed fault)) = Usual (Stopped (of_fault fault))
+manifest_ending (Err manifest.Unwritten) = failed
+
+-- ---- audit
+
+-- what gave out before the line was written
+abbrev pub IsUntold : Ending → Type 0
+IsUntold ending = (ending ≡ Faulted (Fault fault.OutOfMemory)) ⊎ (ending ≡ Faulted (Fault fault.StoreFault))
+
+module _ {S : Type 0} (g : Ghosts S) where
+  -- A request that was carried out, and its reply as a line.
+  pub record IsApplied (q : Request) (old new : Seen S) (before after : Option (List ℕ)) (ending : Ending) : Type 0 where
+    pub reply : Result Receipt Refusal
+    pub step : IsStep g q old reply new
+    pub still : StandsStill g old reply new
+    pub unharmed : LeavesNoTrace g old reply new
+    pub printed : PrintsReply reply before after ending
+
+  -- One request was read and carried out; or none was read, and nothing was done or written.
+  abbrev pub Applies : {W : Type 0} → Option (List ℕ) → Seen S → Seen S → W → W → Option (List ℕ) → Option (List ℕ) → Ending → Type 0
+  Applies text old new writer writer' before after ending =
+      (IsUnread ending × (new ≡ old) × (writer' ≡ writer))
+      ⊎ ((q : Request) × IfSome text (λ t. IsRequestText t q) × IsApplied q old new before after ending)
+
+  -- what an import makes of a world and writes, and how the program ends then
+  abbrev pub EndsImport : {W : Type 0} → Option (List ℕ) → Seen S → Seen S → ℕ → ℕ → W → W → Option (List ℕ) → Option (List ℕ) → Ending → Type 0
+  EndsImport text old new faults more writer writer' before after ending =
+      (r : Result (Unit {0}) ImportFault) × (ending ≡ import_ending r) × Imports g text old new faults more writer writer' before after r
+
+  -- The same of a file, of some text; or the file could not be opened, and nothing was done or written.
+  abbrev pub ImportsFile : {W : Type 0} → Seen S → Seen S → W → W → Option (List ℕ) → Option (List ℕ) → Ending → Type 0
+  ImportsFile old new writer writer' before after ending =
+      (IsUnlisted ending × (new ≡ old) × (writer' ≡ writer))
+      ⊎ ((text : Option (List ℕ)) × (faults more : ℕ) × EndsImport text old new faults more writer writer' before after ending)
+
+  -- what is written of a package, and how the program ends then
+  abbrev pub EndsManifest : {W : Type 0} → List ℕ → Seen S → Seen S → W → W → Option (List ℕ) → Option (List ℕ) → Ending → Type 0
+  EndsManifest p old new writer writer' before after ending =
+      (r : Result (Unit {0}) ManifestFault) × (ending ≡ manifest_ending r) × IsRead g old new × IsManifest g p old new before after r × WritesNothing writer writer' r
+
+  -- the line of a world whose packages are good
+  abbrev pub Audits : {W : Type 0} → Seen S → W → W → Option (List ℕ) → Option (List ℕ) → Ending → Type 0
+  Audits seen writer writer' before after ending =
+      ((w : World) → StandsFor g seen w → Prints (good_line (last_receipt w)) done before after ending)
+      ⊎ (IsUntold ending × (writer' ≡ writer))
+
+  -- So many connections were served; or the port could not be had, and nothing was.
+  abbrev pub ServesOn : ℕ → Seen S → Seen S → Ending → Type 0
+  ServesOn count old new ending = ((ending ≡ done) × IsServedBy g count old new) ⊎ ((ending ≡ failed) × (new ≡ old))
+
+  -- The same over the world of a folder; or that was not opened.
+  abbrev pub ServesAt : ℕ → Ending → Type 0
+  ServesAt count ending =
+      ((fault : OpenFault) × (ending ≡ Unopened fault))
+      ⊎ ((old new : Seen S) × IsFolderWorld g old × ServesOn count old new ending)

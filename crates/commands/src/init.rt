@@ -1,0 +1,126 @@
+//! A new archive in a folder that holds no packages.
+ghost use Rattle.std.specs.Prelude.{◌≡◌, ℕ, List, IfOk, IfErr, string_bytes};
+ghost use Rattle.sqlite.specs.Held.{state};
+ghost use Rattle.sqlite.specs.State.{HasCleanDisk};
+ghost use Rattle.sheet_types.specs.World.{new_world};
+ghost use Rattle.sheet_types.specs.declared.frame.Frame.{Frame};
+ghost use Rattle.sql_meaning.specs.Blank.{IsBlank, no_schema};
+ghost use Rattle.world.specs.Members.{AllClean};
+ghost use Rattle.world.specs.Worlds.{StandsFor};
+ghost use Rattle.cli.specs.Arguments.{Asks, IsFirstUnread};
+ghost use Rattle.cli.specs.declared.statuses.What.{What};
+ghost use Rattle.cli.specs.declared.statuses.Outcome.TheVariants.{Refused};
+ghost use Rattle.commands.specs.Printing.{archive_line};
+ghost use Rattle.commands.specs.Subcommands.{Inits, IsUnmade};
+ghost use Rattle.commands.specs.declared.endings.Ending.TheVariants.{Usual};
+
+use crate::endings::{DONE, Ending, FAILED, NO_MEMORY, OpenFault};
+use cli::arguments::{Rehearsal, Words, read_rehearsal};
+use cli::statuses::{Failure, Outcome};
+use folder::fault::FolderFault;
+use folder::listing::list;
+use folder::opening::close_stores;
+use folder::removing::remove_store;
+use folder::shelf::blank_in_folder;
+use folder::start::FolderStore;
+use manifest_csv::sending::send;
+use sqlite::{Alter, Connection};
+use std::alloc::{AllocError, Global};
+use std::io::Write;
+use uuid::Uuid;
+use world::world::World;
+
+/// The world of a new archive, in a store that is blank.
+fn new_world<S: Alter + Drop>(
+    alloc: Global,
+    rehearsal: &Rehearsal<'_>,
+    conn: Connection<S>,
+) -> Result<World<S>, Failure>
+    requires { HasCleanDisk (state S.Store conn) → IsBlank no_schema (state S.Store conn).now }
+    ensures { IfOk result (λ world. AllClean S.Store world.members → StandsFor S.Store world (new_world rehearsal.now.archive rehearsal.now.frame)) }
+{
+    let made = World::create(
+        alloc,
+        conn,
+        rehearsal.archive,
+        rehearsal.at,
+        &rehearsal.frame,
+    );
+    Ok(made?)
+}
+
+/// The line that names an archive.
+fn archive_line(alloc: Global, archive: Uuid) -> Result<String, AllocError>
+    ensures { IfOk result (λ line. string_bytes line ≡ archive_line archive) }
+{
+    format!(in alloc; "archive {archive}\n")
+}
+
+/// Makes the file of a new archive in a folder. Where it cannot be made whole, what was made of it is removed.
+fn make(rt: &HostRuntime, rehearsal: &Rehearsal<'_>, folder: &str) -> Result<(), Ending>
+    ensures { IfErr result IsUnmade }
+{
+    let conn = match blank_in_folder(rt, folder, rehearsal.archive) {
+        Ok(conn) => conn,
+        Err(fault) => return Err(unopened(fault)),
+    };
+    let made: Result<World<FolderStore>, Failure> = new_world(rt.alloc(), rehearsal, conn);
+    match made {
+        Ok(world) => {
+            close_stores(world.into_stores());
+            Ok(())
+        }
+        Err(failure) => {
+            // The fault is told, whatever becomes of the file.
+            let _removed = remove_store(rt, folder, rehearsal.archive);
+            Err(Ending::Usual(Outcome::Stopped(failure)))
+        }
+    }
+}
+
+/// How a folder that fails ends the program.
+fn unopened(fault: FolderFault) -> Ending
+    ensures { IsUnmade result }
+{
+    Ending::Unopened(OpenFault::from(fault))
+}
+
+/// Makes the archive that good words ask for in a folder that holds no packages, and writes the line that names it.
+fn made<W: Write>(
+    rt: &HostRuntime,
+    rehearsal: &Rehearsal<'_>,
+    folder: &str,
+    writer: &mut W,
+) -> Ending
+    ensures { Inits rehearsal.now.archive writer.old writer.new (W.contents writer.old) (W.contents writer.new) result }
+{
+    let line = match archive_line(rt.alloc(), rehearsal.archive) {
+        Ok(line) => line,
+        Err(_) => return NO_MEMORY,
+    };
+    match list(rt, folder) {
+        Ok(listing) if listing.holds_packages => return Ending::HoldsPackages,
+        Ok(_) => {}
+        Err(fault) => return unopened(fault),
+    }
+    if let Err(ending) = make(rt, rehearsal, folder) {
+        return ending;
+    }
+    match send(writer, line.as_bytes()) {
+        Ok(()) => DONE,
+        Err(_) => FAILED,
+    }
+}
+
+/// Makes the archive that the words ask for, as `<uuid>.gpkg` in a folder that is there and holds no packages, and writes the line that names it.
+/// The words are read first: where one of them cannot be, nothing is made and nothing is written.
+pub fn init<W: Write>(rt: &HostRuntime, words: &Words<'_>, folder: &str, writer: &mut W) -> Ending
+    ensures refused { (what : What) → IsFirstUnread words.now.archive.now words.now.at.now words.now.frame.now what → result ≡ Usual (Refused what) }
+    ensures unwritten { (what : What) → IsFirstUnread words.now.archive.now words.now.at.now words.now.frame.now what → writer.new ≡ writer.old }
+    ensures made { (uuid moment : List ℕ) (frame : Frame) → Asks words.now.archive.now words.now.at.now words.now.frame.now uuid moment frame → Inits uuid writer.old writer.new (W.contents writer.old) (W.contents writer.new) result }
+{
+    match read_rehearsal(words) {
+        Ok(rehearsal) => made(rt, &rehearsal, folder, writer),
+        Err(what) => Ending::Usual(Outcome::Refused(what)),
+    }
+}

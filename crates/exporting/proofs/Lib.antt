@@ -1,0 +1,4 @@
+mod Beginnings
+mod Exported
+mod Rows
+mod Systems
