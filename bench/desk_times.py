@@ -1,20 +1,26 @@
 #!/usr/bin/env python3
 """Times additions over loopback: the desk of `sheetdesk`, and Python's http.server over stock SQLite (plain_desk.py), in one run.
 
-Usage: desk_times.py [ROUNDS [COUNT]]      (3 rounds of 3000 additions)
+Usage: desk_times.py [--files FOLDER] [--program PROGRAM] [ROUNDS [COUNT]]      (3 rounds of 3000 additions)
 
 One client sends COUNT additions, a third each tiles, media and rows, one a connection, each when the one before is answered. Both
-sides get the same bytes, and must answer the same bodies. Told are additions a second by the clock, with the client's own work in
-them, and the microseconds of processor that the server took for each, less those of a server that was asked nothing: the median of
-the rounds, with the least and the greatest.
+sides get the same bytes, and must answer the same bodies. The packages are in memory (`rehearse --serve`, plain_desk.py), or with
+--files in files of a new folder in FOLDER, where each addition is committed by itself and waits for the disk (`serve`, and
+`plain_folder.py serve`). Told are additions a second by the clock, with the client's own work in them, and the microseconds of
+processor that the server took for each, less those of a server that was asked one thing: the median of the rounds, with the
+least and the greatest. What a client alone costs is told too: the same exchanges with a server that answers at once, whatever comes.
 """
 
+import argparse
 import os
 import resource
+import shutil
 import socket
 import statistics
 import subprocess
 import sys
+import tempfile
+import threading
 import time
 
 HERE = os.path.dirname(os.path.abspath(__file__))
@@ -28,10 +34,17 @@ from timed_lists import ARCHIVE, AT, FRAME, HEADER, additions
 PROGRAM = os.path.join(HERE, "..", "crates", "sheetdesk", "out", "sheetdesk")
 
 
-def words_of(side, port, count):
+PLAIN_FOLDER = [sys.executable, os.path.join(HERE, "plain_folder.py")]
+MAKE = ["--archive", ARCHIVE, "--at", AT, "--frame", FRAME]
+
+
+def words_of(side, port, count, folder):
+    """A server over packages in memory, or over the files of a folder."""
+    if folder:
+        return [*([PROGRAM] if side == "sheetdesk" else PLAIN_FOLDER), "serve", folder, str(port), str(count)]
     if side == "Python":
         return [sys.executable, os.path.join(HERE, "plain_desk.py"), str(port), str(count), ARCHIVE, AT, FRAME]
-    return [PROGRAM, "rehearse", "--archive", ARCHIVE, "--at", AT, "--frame", FRAME, "--serve", str(port), "--count", str(count)]
+    return [PROGRAM, "rehearse", *MAKE, "--serve", str(port), "--count", str(count)]
 
 
 def posts(count):
@@ -70,19 +83,50 @@ def processor_seconds():
     return used.ru_utime + used.ru_stime
 
 
-def run(side, texts):
-    """The seconds by the clock, those of the server's processor, and the answers."""
-    port, before = free_port(), processor_seconds()
-    server = subprocess.Popen(words_of(side, port, len(texts)), stdin=subprocess.PIPE, stdout=subprocess.DEVNULL)
-    server.stdin.write(HEADER.encode())
-    server.stdin.close()
-    listening(port)
+def new_folder(side, files):
+    """A folder with a new archive, or none where the packages are in memory."""
+    if not files:
+        return None
+    folder = tempfile.mkdtemp(dir=files)
+    subprocess.run([*([PROGRAM] if side == "sheetdesk" else PLAIN_FOLDER), "init", *MAKE, folder], stdout=subprocess.DEVNULL, check=True)
+    return folder
+
+
+def exchanged(port, texts):
+    """The seconds by the clock, and the answers."""
     start = time.perf_counter()
     answers = [exchange(port, text) for text in texts]
-    took = time.perf_counter() - start
+    return time.perf_counter() - start, answers
+
+
+def run(side, texts, files):
+    """The seconds by the clock, those of the server's processor, and the answers."""
+    folder, port = new_folder(side, files), free_port()
+    before = processor_seconds()
+    server = subprocess.Popen(words_of(side, port, len(texts), folder), stdin=subprocess.PIPE, stdout=subprocess.DEVNULL)
+    if not folder:
+        server.stdin.write(HEADER.encode())
+    server.stdin.close()
+    listening(port)
+    took, answers = exchanged(port, texts)
     if server.wait() != 0:
         sys.exit(f"{side} ended with {server.returncode}")
+    if folder:
+        shutil.rmtree(folder)
     return took, processor_seconds() - before, [answer.split(b"\r\n\r\n", 1)[1] for answer in answers]
+
+
+def client_alone(texts):
+    """The exchanges a second where the answer costs nothing."""
+    def answer(server):
+        for _ in texts:
+            with server.accept()[0] as client:
+                client.recv(65536)
+                client.sendall(b"HTTP/1.1 200 OK\r\n\r\n" + b"." * 400)
+
+    with socket.create_server(("127.0.0.1", 0)) as server:
+        threading.Thread(target=answer, args=[server], daemon=True).start()
+        return len(texts) / exchanged(server.getsockname()[1], texts)[0]
 
 
 def spelled(values, digits):
@@ -90,23 +134,29 @@ def spelled(values, digits):
 
 
 def main():
-    rounds, count = [*map(int, sys.argv[1:]), *[3, 3000][len(sys.argv) - 1:]]
-    texts = list(posts(count))
+    global PROGRAM
+    words = argparse.ArgumentParser(description=__doc__, formatter_class=argparse.RawDescriptionHelpFormatter)
+    words.add_argument("--files", metavar="FOLDER")
+    words.add_argument("--program", default=PROGRAM)
+    words.add_argument("rounds", type=int, nargs="?", default=3)
+    words.add_argument("count", type=int, nargs="?", default=3000)
+    said = words.parse_args()
+    PROGRAM, texts = said.program, list(posts(said.count))
     measured = {"sheetdesk": [], "Python": []}
-    print(f"load {os.getloadavg()[0]:.1f} at the start, {rounds} rounds of {count} additions")
-    for _ in range(rounds):
+    print(f"load {os.getloadavg()[0]:.1f} at the start, {said.rounds} rounds of {said.count} additions, packages in {said.files or 'memory'}")
+    for _ in range(said.rounds):
         bodies = []
         for side, runs in measured.items():
-            idle = run(side, [b"GET /nothing HTTP/1.1\r\n\r\n"] if side == "sheetdesk" else texts[:1])[1]
-            took, used, answers = run(side, texts)
-            runs.append((count / took, 1e6 * (used - idle) / count))
+            idle = run(side, [b"GET /nothing HTTP/1.1\r\n\r\n"] if side == "sheetdesk" else texts[:1], said.files)[1]
+            took, used, answers = run(side, texts, said.files)
+            runs.append((said.count / took, 1e6 * (used - idle) / said.count))
             bodies.append(answers)
         if bodies[0] != bodies[1] or not all(b'"seq":' in body for body in bodies[0]):
             sys.exit("they do not answer the same, or an addition was refused")
     for side, runs in measured.items():
         print(f"{side:9} {spelled([each for each, _ in runs], 0)} additions a second, {spelled([cost for _, cost in runs], 1)} us of processor an addition")
-    ratio = statistics.median(each for each, _ in measured["sheetdesk"]) / statistics.median(each for each, _ in measured["Python"])
-    print(f"sheetdesk serves {ratio:.1f} times as many; load {os.getloadavg()[0]:.1f} at the end")
+    ratios = [ours[0] / theirs[0] for ours, theirs in zip(measured["sheetdesk"], measured["Python"])]
+    print(f"sheetdesk serves {spelled(ratios, 1)} times as many; the client alone makes {client_alone(texts):.0f} exchanges a second; load {os.getloadavg()[0]:.1f} at the end")
 
 
 if __name__ == "__main__":

@@ -3,7 +3,7 @@
 
 Usage: plain_desk.py PORT COUNT ARCHIVE AT FRAME
 
-COUNT requests, one a connection, on 127.0.0.1. `POST /requests` alone, whose body is JSON as the desk takes it; each value is read by
+COUNT requests, one a connection, on 127.0.0.1; the packages are in memory (`plain_folder.py serve` has them in files). `POST /requests` alone, whose body is JSON as the desk takes it; each value is read by
 the rules of samples/machine. The answer is the receipt as the desk spells it, or the number of the refusal.
 """
 
@@ -58,12 +58,17 @@ class Desk(http.server.BaseHTTPRequestHandler):
         self.wfile.write(text)
 
 
+def serve(register, port, count):
+    server = http.server.HTTPServer(("127.0.0.1", port), Desk)
+    server.register = register
+    for _ in range(count):
+        server.handle_request()
+    server.server_close()
+
+
 def main():
     port, count, archive, at, frame = sys.argv[1:]
-    server = http.server.HTTPServer(("127.0.0.1", int(port)), Desk)
-    server.register = Register(archive, at, Frame.read(frame))
-    for _ in range(int(count)):
-        server.handle_request()
+    serve(Register(archive, at, Frame.read(frame)), int(port), int(count))
 
 
 if __name__ == "__main__":

@@ -29,8 +29,12 @@ class Register:
     def __init__(self, archive, at, frame):
         self.archive = archive
         self.frame = frame
-        self.stores = {archive: Store(archive, "", 0, 0, at)}
+        self.stores = {archive: self.make((archive, "", 0, 0), at)}
         self.receipts = 0
+
+    def make(self, head, at):
+        """A new package."""
+        return Store.make(":memory:", self.frame, head, at)
 
     def any_store(self, question, *values):
         """The first answer of a live package that is one."""
@@ -117,7 +121,7 @@ class Register:
 
     def split(self, request, line):
         parent = self.stores[request["package"]]
-        child = Store(request["other"], parent.uuid, parent.depth + 1, self.receipts, request["at"])
+        child = self.make((request["other"], parent.uuid, parent.depth + 1, self.receipts), request["at"])
         child.conn.execute("BEGIN")
         moved = plain_loans.carry(parent, child)
         child.date(request["at"])

@@ -43,18 +43,13 @@ CREATE INDEX by_rows_tiles ON rows_tiles (related_id)
 CREATE INDEX by_xy ON sheet_rows (x, y)
 """.strip().splitlines()
 
-BOUNDS = (0, 0, 4096, 4096)
+# srs, bounds, tile sizes, first zoom, levels, matrix sizes of the first zoom.
+FRAME = (25832, 0, 0, 4096, 4096, 256, 256, 0, 3, 1, 1)
 SYSTEMS = [
     ("WGS 84", 4326, "EPSG", 4326, "profile", ""),
     ("undefined cartesian", -1, "NONE", -1, "undefined", ""),
     ("undefined geographic", 0, "NONE", 0, "undefined", ""),
-    ("srs 25832", 25832, "EPSG", 25832, "profile", ""),
 ]
-CONTENTS = [
-    (name, kind, name, "", AT, *BOUNDS, 25832)
-    for name, kind in [("sheet_tiles", "tiles"), ("sheet_media", "attributes"), ("sheet_rows", "attributes")]
-]
-MATRICES = [("sheet_tiles", z, 1 << z, 1 << z, 256, 256, 16 >> z, 16 >> z) for z in range(3)]
 RELATIONS = [
     (1, "sheet_tiles", "id", "sheet_media", "id", "media", "tiles_media"),
     (2, "sheet_rows", "id", "sheet_media", "id", "media", "rows_media"),
@@ -66,22 +61,41 @@ def connect(path):
     conn = sqlite3.connect(path, isolation_level=None)
     conn.execute("PRAGMA foreign_keys = ON")
     if path != ":memory:":
+        # As the program has a file: by itself, which spares the file of shared memory too.
+        conn.execute("PRAGMA locking_mode = EXCLUSIVE")
         conn.execute("PRAGMA journal_mode = WAL")
         conn.execute("PRAGMA synchronous = FULL")
     return conn
 
 
-def create(conn):
+def fixed_rows(frame, at):
+    """What each package of a frame has from its start, by the table."""
+    srs, min_x, min_y, max_x, max_y, tile_width, tile_height, first_zoom, levels, matrix_width, matrix_height = frame
+    bounds = min_x, min_y, max_x, max_y
+    own = [(f"srs {srs}", srs, "EPSG", srs, "profile", "")]
+    tables = [("sheet_tiles", "tiles"), ("sheet_media", "attributes"), ("sheet_rows", "attributes")]
+    matrices = [(level, matrix_width << level, matrix_height << level) for level in range(levels)]
+    return {
+        "gpkg_spatial_ref_sys": SYSTEMS + own * (srs not in (4326, -1, 0)),
+        "gpkg_contents": [(name, kind, name, "", at, *bounds, srs) for name, kind in tables],
+        "gpkg_tile_matrix_set": [("sheet_tiles", srs, *bounds)],
+        "gpkg_tile_matrix": [
+            ("sheet_tiles", first_zoom + level, columns, rows, tile_width, tile_height,
+             (max_x - min_x) // (columns * tile_width), (max_y - min_y) // (rows * tile_height))
+            for level, columns, rows in matrices
+        ],
+        "gpkgext_relations": RELATIONS,
+    }
+
+
+def create(conn, frame=FRAME, head=("00000000-0000-0000-0000-000000000001", "", 0, 0), at=AT):
+    """A new package. The head is its UUID, its parent's, its depth and the number of its loan."""
     conn.execute("BEGIN")
     for statement in SCHEMA:
         conn.execute(statement)
-    conn.executemany("INSERT INTO gpkg_spatial_ref_sys VALUES (?, ?, ?, ?, ?, ?)", SYSTEMS)
-    conn.executemany("INSERT INTO gpkg_contents VALUES (?, ?, ?, ?, ?, ?, ?, ?, ?, ?)", CONTENTS)
-    conn.execute("INSERT INTO gpkg_tile_matrix_set VALUES (?, ?, ?, ?, ?, ?)", ("sheet_tiles", 25832, *BOUNDS))
-    conn.executemany("INSERT INTO gpkg_tile_matrix VALUES (?, ?, ?, ?, ?, ?, ?, ?)", MATRICES)
-    conn.executemany("INSERT INTO gpkgext_relations VALUES (?, ?, ?, ?, ?, ?, ?)", RELATIONS)
-    head = (1, 2, "00000000-0000-0000-0000-000000000001", "", 0, 0, AT)
-    conn.execute("INSERT INTO sheet_package VALUES (?, ?, ?, ?, ?, ?, ?)", head)
+    for table, rows in fixed_rows(frame, at).items():
+        conn.executemany(f"INSERT INTO {table} VALUES (?{', ?' * (len(rows[0]) - 1)})", rows)
+    conn.execute("INSERT INTO sheet_package VALUES (?, ?, ?, ?, ?, ?, ?)", (1, 2, *head, at))
     conn.execute("COMMIT")
 
 

@@ -1,4 +1,4 @@
-"""One package over stock SQLite in memory: the tables and indexes of plain_sqlite.py, asked and changed by statements, and no contracts."""
+"""One package over stock SQLite, in memory or in a file: the tables and indexes of plain_sqlite.py, asked and changed by statements, and no contracts."""
 
 import plain_sqlite
 from machine.contents import ENDS, KINDS, item_moved, link_moved, place_of
@@ -15,13 +15,19 @@ MAPPED = {
 
 
 class Store:
-    def __init__(self, uuid, parent, depth, loan, at):
-        self.uuid, self.parent, self.depth = uuid, parent, depth
+    """A package over a connection in which it stands."""
+
+    def __init__(self, conn, head):
+        self.conn = conn
+        self.uuid, self.parent, self.depth, self.loan = head
         self.ticket = 0
-        self.conn = plain_sqlite.connect(":memory:")
-        plain_sqlite.create(self.conn)
-        self.conn.execute("UPDATE sheet_package SET package = ?, parent = ?, depth = ?, loan = ?, created = ?", (uuid, parent, depth, loan, at))
         self.conn.execute("CREATE TEMP TABLE going (kind INTEGER, local_id INTEGER, PRIMARY KEY (kind, local_id))")
+
+    @classmethod
+    def make(cls, path, frame, head, at):
+        conn = plain_sqlite.connect(path)
+        plain_sqlite.create(conn, frame, head, at)
+        return cls(conn, head)
 
     def all(self, query, *values):
         return self.conn.execute(query, values).fetchall()
