@@ -10,5 +10,3 @@ pub mod merges;
 pub mod sights;
 pub mod splits;
 pub mod sums;
-#[cfg(test)]
-mod tests;

@@ -2,17 +2,7 @@
 #![tactic(auto)]
 
 pub mod arguments;
-#[cfg(test)]
-mod arguments_tests;
 pub mod progress;
-#[cfg(test)]
-mod progress_tests;
 pub mod rehearse;
-#[cfg(test)]
-mod rehearse_tests;
 pub mod serving;
-#[cfg(test)]
-mod serving_tests;
 pub mod statuses;
-#[cfg(test)]
-mod statuses_tests;

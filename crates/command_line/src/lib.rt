@@ -2,7 +2,5 @@
 #![tactic(auto)]
 
 pub mod help;
-#[cfg(test)]
-mod help_tests;
 pub mod running;
 pub mod words;

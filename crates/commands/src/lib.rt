@@ -2,14 +2,8 @@
 #![tactic(auto)]
 
 pub mod applying;
-#[cfg(test)]
-mod applying_tests;
 pub mod auditing;
 pub mod endings;
-#[cfg(test)]
-mod endings_tests;
-#[cfg(test)]
-mod folder_tests;
 pub mod folders;
 pub mod importing;
 pub mod init;

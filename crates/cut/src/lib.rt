@@ -4,9 +4,5 @@
 mod gathering;
 mod group;
 pub mod laws;
-#[cfg(test)]
-mod noted;
 pub mod select;
 mod starting;
-#[cfg(test)]
-mod tests;

@@ -10,5 +10,3 @@ mod lengths;
 pub mod reading;
 mod routes;
 pub mod source;
-#[cfg(test)]
-mod tests;

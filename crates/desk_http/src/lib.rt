@@ -5,5 +5,3 @@ mod answering;
 mod packages;
 pub mod serving;
 pub mod serving_laws;
-#[cfg(test)]
-mod tests;

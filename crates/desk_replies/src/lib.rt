@@ -6,5 +6,3 @@ pub mod fixed;
 pub mod packages;
 pub mod replies;
 pub mod responses;
-#[cfg(test)]
-mod tests;

@@ -3,5 +3,3 @@
 
 pub mod connections;
 pub mod listening;
-#[cfg(test)]
-mod tests;

@@ -10,5 +10,3 @@ pub mod numbers;
 pub mod opening;
 pub mod points;
 pub mod schema;
-#[cfg(test)]
-mod tests;

@@ -2,6 +2,4 @@
 #![tactic(auto)]
 
 pub mod exporting;
-#[cfg(test)]
-mod exporting_tests;
 pub mod writing;

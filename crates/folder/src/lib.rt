@@ -8,5 +8,3 @@ pub mod opening;
 pub mod removing;
 pub mod shelf;
 pub mod start;
-#[cfg(test)]
-mod tests;

@@ -17,6 +17,4 @@ pub mod numbering;
 pub mod places;
 mod same;
 pub mod soundness;
-#[cfg(test)]
-mod tests;
 pub mod things;

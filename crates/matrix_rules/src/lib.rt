@@ -7,5 +7,3 @@ pub mod ground;
 pub mod levels;
 pub mod reach;
 pub mod spans;
-#[cfg(test)]
-mod tests;

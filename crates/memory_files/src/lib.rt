@@ -4,8 +4,6 @@
 mod blank;
 mod disk;
 mod opening;
-#[cfg(test)]
-mod tests;
 
 pub use blank::open_blank;
 pub use disk::MemoryFile;

@@ -16,6 +16,4 @@ pub mod reaching;
 pub mod sights;
 pub mod splits;
 pub mod standing;
-#[cfg(test)]
-mod tests;
 pub mod unfit;

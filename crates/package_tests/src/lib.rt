@@ -1,10 +1,17 @@
-//! Tests of the crates that hold one package: `package_tables`, `identity_register` and `custody`. There is nothing here but tests.
+//! Tests of the crates that hold one package, and of what looks at one store: `package_tables`, `identity_register`, `custody`, `cut`, `store_forms`
+//! and `stored_receipts`. There is nothing here but tests.
 #![tactic(auto)]
 
 #[cfg(test)]
 mod change_tests;
 #[cfg(test)]
+mod cut_tests;
+#[cfg(test)]
 mod dating_tests;
+#[cfg(test)]
+mod fillings;
+#[cfg(test)]
+mod form_tests;
 #[cfg(test)]
 mod holdings_tests;
 #[cfg(test)]
@@ -14,11 +21,25 @@ mod new_package_tests;
 #[cfg(test)]
 mod new_tables_tests;
 #[cfg(test)]
+mod noted;
+#[cfg(test)]
+mod range_tests;
+#[cfg(test)]
+mod reach_tests;
+#[cfg(test)]
 mod receipt_tests;
 #[cfg(test)]
 mod schema_tests;
 #[cfg(test)]
+mod select_tests;
+#[cfg(test)]
+mod span_tests;
+#[cfg(test)]
 mod steps;
+#[cfg(test)]
+mod stored_receipt_tests;
+#[cfg(test)]
+mod stored_values;
 #[cfg(test)]
 mod tables;
 #[cfg(test)]

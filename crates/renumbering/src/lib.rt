@@ -4,5 +4,3 @@
 
 pub mod free;
 pub mod renumber;
-#[cfg(test)]
-mod tests;

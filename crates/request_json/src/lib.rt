@@ -5,5 +5,3 @@ mod contents;
 mod members;
 pub mod request_laws;
 pub mod requests;
-#[cfg(test)]
-mod tests;

@@ -10,6 +10,4 @@ pub mod maps;
 pub mod pieces;
 pub mod places;
 pub mod sheets;
-#[cfg(test)]
-mod tests;
 pub mod zooms;

@@ -13,6 +13,4 @@ pub mod reading;
 pub mod receipt;
 pub mod refusal;
 pub mod sorting;
-#[cfg(test)]
-mod tests;
 pub mod words;

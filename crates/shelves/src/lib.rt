@@ -4,5 +4,3 @@
 pub mod file_memory;
 pub mod memory;
 pub mod shelf;
-#[cfg(test)]
-mod tests;

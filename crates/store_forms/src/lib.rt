@@ -11,5 +11,3 @@ pub mod heads;
 mod named_forms;
 mod own_forms;
 mod placing;
-#[cfg(test)]
-mod tests;

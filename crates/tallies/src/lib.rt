@@ -2,6 +2,4 @@
 #![tactic(auto)]
 
 pub mod holdings;
-#[cfg(test)]
-mod tests;
 pub mod tickets;

@@ -7,6 +7,4 @@ pub mod checking;
 pub mod judging;
 pub mod seen;
 pub mod tallying;
-#[cfg(test)]
-mod tests;
 pub mod verdict;

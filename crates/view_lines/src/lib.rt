@@ -4,8 +4,4 @@
 mod columns;
 pub mod laws;
 pub mod packages;
-#[cfg(test)]
-mod packages_tests;
 pub mod ways;
-#[cfg(test)]
-mod ways_tests;

@@ -1,8 +1,6 @@
 //! What a world tells people who look: a table of its packages, the way of one item, and a kept receipt. It is only read.
 #![tactic(auto)]
 
-#[cfg(test)]
-mod looking_tests;
 pub mod packages;
 pub mod receipts;
 pub mod usable;

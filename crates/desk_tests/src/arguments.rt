@@ -1,0 +1,248 @@
+// Words that were judged by hand.
+use cli::arguments::{
+    Desk, DeskWords, Words, read_count, read_desk, read_frame, read_port, read_rehearsal,
+    read_serving,
+};
+use cli::statuses::What;
+use sheet_types::frame::Frame;
+use uuid::Uuid;
+
+const ARCHIVE: &str = "a0000000-0000-4000-8000-000000000000";
+
+const AT: &str = "2024-05-01T08:00:00.000Z";
+
+const FRAME: &str = "25832,0,0,4096,4096,256,256,0,3,1,1";
+
+fn refused(archive: &str, at: &str, frame: &str) -> Option<What> {
+    match read_rehearsal(&Words { archive, at, frame }) {
+        Ok(_) => None,
+        Err(what) => Some(what),
+    }
+}
+
+#[test]
+fn a_good_frame_is_read(rt: HostRuntime) {
+    let square = Frame {
+        srs_id: 25832,
+        min_x: 0,
+        min_y: 0,
+        max_x: 4096,
+        max_y: 4096,
+        tile_width: 256,
+        tile_height: 256,
+        first_zoom: 0,
+        levels: 3,
+        matrix_width: 1,
+        matrix_height: 1,
+    };
+    assert!(rt; read_frame(FRAME) == Some(square));
+    // Each number but the signs differs: 6001 thousandths are 353 tiles of 17, and 1200 are 6 tiles of 5 pixels of 40.
+    let oblong = Frame {
+        srs_id: -1,
+        min_x: -3000,
+        min_y: -700,
+        max_x: 3001,
+        max_y: 500,
+        tile_width: 17,
+        tile_height: 5,
+        first_zoom: 4,
+        levels: 1,
+        matrix_width: 353,
+        matrix_height: 6,
+    };
+    assert!(rt; read_frame("-1,-3000,-700,3001,500,17,5,4,1,353,6") == Some(oblong));
+}
+
+#[test]
+fn other_texts_are_no_frames(rt: HostRuntime) {
+    let texts = [
+        "",
+        "25832,0,0,4096,4096,256,256,0,3,1",
+        "25832,0,0,4096,4096,256,256,0,3,1,1,1",
+        "+25832,0,0,4096,4096,256,256,0,3,1,1",
+        "25832,0,0,4096,4096,256,256,0,03,1,1",
+        "25832,0,0,4096,4096,256,256,0,3,01,1",
+        "25832,-0,0,4096,4096,256,256,0,3,1,1",
+        "25832,0,0,4096,4096,256,256,0,3,1, 1",
+        " 25832,0,0,4096,4096,256,256,0,3,1,1",
+        "25832,0,0,4096,4096,256,256,0,3,1,1\n",
+        "25832,0,,4096,4096,256,256,0,3,1,1",
+        "25832,0,0,4096,4096,256,256,0,3,1,",
+        "25832,0,0,4096,4096,256,256,0,3,1,1,",
+        ",25832,0,0,4096,4096,256,256,0,3,1,1",
+        "25832,0,0,4096,4096,256,256,0,3,,1,1",
+        "25832;0;0;4096;4096;256;256;0;3;1;1",
+        "25832,0,0,4096.0,4096,256,256,0,3,1,1",
+        "25832,0,0,0x1000,4096,256,256,0,3,1,1",
+        "9223372036854775808,0,0,4096,4096,256,256,0,3,1,1",
+    ];
+    for text in texts {
+        assert!(rt; read_frame(text).is_none(), "{text}");
+        assert!(rt;
+            refused(ARCHIVE, AT, text) == Some(What::BadFrame),
+            "{text}"
+        );
+    }
+}
+
+#[test]
+fn a_frame_that_breaks_a_rule_is_refused(rt: HostRuntime) {
+    let texts = [
+        // The reference system is not -1, 0 or up to 999999.
+        "1000000,0,0,4096,4096,256,256,0,3,1,1",
+        "-2,0,0,4096,4096,256,256,0,3,1,1",
+        // A bound is too far out, or a minimum is not below its maximum.
+        "25832,0,0,1000000000001,4096,256,256,0,3,1,1",
+        "25832,0,4096,4096,4096,256,256,0,3,1,1",
+        // A tile has no pixels, or more than 4096.
+        "25832,0,0,4096,4096,0,256,0,3,1,1",
+        "25832,0,0,4096,4096,256,4097,0,3,1,1",
+        // The zooms begin below 0, are none, or end past 20.
+        "25832,0,0,4096,4096,256,256,-1,3,1,1",
+        "25832,0,0,4096,4096,256,256,0,0,1,1",
+        "25832,0,0,4096,4096,256,256,19,3,1,1",
+        // The matrix has no tiles, or too many.
+        "25832,0,0,4096,4096,256,256,0,3,0,1",
+        "25832,0,0,4096,4096,256,256,0,3,1,2000000000001",
+        // 5 levels need a multiple of 4096 and have it; 6 need one of 8192.
+        "25832,0,0,4096,4096,256,256,0,6,1,1",
+        "25832,0,0,4097,4096,256,256,0,3,1,1",
+        "25832,0,0,4096,4097,256,256,0,3,1,1",
+    ];
+    for text in texts {
+        assert!(rt; read_frame(text).is_none(), "{text}");
+        assert!(rt;
+            refused(ARCHIVE, AT, text) == Some(What::BadFrame),
+            "{text}"
+        );
+    }
+    assert!(rt; read_frame("25832,0,0,4096,4096,256,256,0,5,1,1").is_some());
+    assert!(rt; read_frame("999999,0,0,4096,4096,256,256,0,3,1,1").is_some());
+}
+
+#[test]
+fn words_of_an_archive_are_read(rt: HostRuntime) {
+    let words = Words {
+        archive: "A0000000-0000-4000-8000-00000000BeEf",
+        at: AT,
+        frame: "0,0,0,4096,8192,256,512,0,3,1,1",
+    };
+    let Ok(rehearsal) = read_rehearsal(&words) else {
+        assert!(rt; false, "the words are good");
+        return;
+    };
+    let archive = Uuid::from_u128(0xa0000000_0000_4000_8000_00000000beef);
+    assert!(rt; rehearsal.archive == archive);
+    assert!(rt; rehearsal.at == AT);
+    assert_eq!(rt; rehearsal.frame.srs_id, 0);
+    assert_eq!(rt; rehearsal.frame.max_y, 8192);
+    assert_eq!(rt; rehearsal.frame.tile_height, 512);
+}
+
+#[test]
+fn other_texts_are_no_uuids(rt: HostRuntime) {
+    let texts = [
+        "",
+        "a0000000-0000-4000-8000-00000000000",
+        "a0000000-0000-4000-8000-0000000000000",
+        "{a0000000-0000-4000-8000-000000000000}",
+        "a0000000000040008000000000000000",
+        "urn:uuid:a0000000-0000-4000-8000-000000000000",
+        "g0000000-0000-4000-8000-000000000000",
+        "a0000000-0000-4000-80000-00000000000",
+        " 0000000-0000-4000-8000-000000000000",
+    ];
+    for text in texts {
+        assert!(rt; refused(text, AT, FRAME) == Some(What::BadUuid), "{text}");
+    }
+}
+
+#[test]
+fn other_texts_are_no_moments(rt: HostRuntime) {
+    let texts = [
+        "",
+        "2024-13-01T08:00:00.000Z",
+        "2024-00-01T08:00:00.000Z",
+        "2024-05-32T08:00:00.000Z",
+        "2024-05-01T24:00:00.000Z",
+        "2024-05-01T08:60:00.000Z",
+        "2024-05-01T08:00:60.000Z",
+        "2024-05-01T08:00:00.000",
+        "2024-05-01T08:00:00.000z",
+        "2024-05-01 08:00:00.000Z",
+        "2024-05-01T08:00:00Z",
+    ];
+    for text in texts {
+        assert!(rt;
+            refused(ARCHIVE, text, FRAME) == Some(What::BadMoment),
+            "{text}"
+        );
+    }
+}
+
+#[test]
+fn of_several_the_first_is_named(rt: HostRuntime) {
+    assert!(rt; refused("x", "x", "x") == Some(What::BadUuid));
+    assert!(rt; refused("x", AT, "x") == Some(What::BadUuid));
+    assert!(rt; refused("x", "x", FRAME) == Some(What::BadUuid));
+    assert!(rt; refused(ARCHIVE, "x", "x") == Some(What::BadMoment));
+    assert!(rt; refused(ARCHIVE, AT, "x") == Some(What::BadFrame));
+    assert!(rt; refused(ARCHIVE, AT, FRAME) == None);
+}
+
+#[test]
+fn ports_and_counts(rt: HostRuntime) {
+    assert!(rt; read_port("1") == Some(1));
+    assert!(rt; read_port("8080") == Some(8080));
+    assert!(rt; read_port("65535") == Some(65535));
+    assert!(rt; read_count("1") == Some(1));
+    assert!(rt; read_count("65536") == Some(65536));
+    assert!(rt; read_count("1000000") == Some(1000000));
+    for text in [
+        "",
+        "0",
+        "-1",
+        "+1",
+        "01",
+        " 1",
+        "1 ",
+        "1.0",
+        "1e3",
+        "0x1",
+        "x",
+        "1,000",
+        "1_000",
+        "4294967297",
+        "9223372036854775808",
+    ] {
+        assert!(rt; read_port(text).is_none(), "{text}");
+        assert!(rt; read_count(text).is_none(), "{text}");
+    }
+    assert!(rt; read_port("65536").is_none());
+    assert!(rt; read_count("1000001").is_none());
+}
+
+#[test]
+fn words_of_a_desk_are_read(rt: HostRuntime) {
+    let desk = DeskWords {
+        port: "8080",
+        count: "25",
+    };
+    let wanted = Desk {
+        port: 8080,
+        count: 25,
+    };
+    assert!(rt; read_desk(&desk) == Some(wanted));
+    let words = Words {
+        archive: ARCHIVE,
+        at: AT,
+        frame: FRAME,
+    };
+    match read_serving(&words, &desk) {
+        Ok((rehearsal, read)) => {
+            assert!(rt; rehearsal.at == AT);
+            assert!(rt; read == wanted);
+        }
+        Err(_) => assert!(rt; false, "the words are good"),
+    }
+}

@@ -1,0 +1,21 @@
+//! Tests of the program over a folder: `commands`, `views`, `world_views`, `exporting` and `command_line`. There is nothing here but tests.
+#![tactic(auto)]
+
+#[cfg(test)]
+mod applying;
+#[cfg(test)]
+mod commands_over_a_folder;
+#[cfg(test)]
+mod endings_of_commands;
+#[cfg(test)]
+mod endings_of_views;
+#[cfg(test)]
+mod exports;
+#[cfg(test)]
+mod help;
+#[cfg(test)]
+mod looking;
+#[cfg(test)]
+mod showing;
+#[cfg(test)]
+mod views_over_a_folder;
