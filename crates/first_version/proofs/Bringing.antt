@@ -6,10 +6,13 @@ use Rattle.sqlite.specs.State.{State}
 use Rattle.sheet_types.specs.Ordered.{put, has}
 use Rattle.sheet_types.specs.World.{Package}
 use Rattle.sheet_types.specs.declared.frame.Frame.{Frame}
-use Rattle.sql_meaning.specs.Transactions.{WouldLeave}
+use Rattle.sql_meaning.specs.Transactions.{WouldLeave, Steps}
+use Rattle.sql_meaning.proofs.Transactions.{steps_then, steps_weaker}
 use Rattle.sql_meaning.specs.Writing.{Chained}
 use Rattle.package_tables.specs.Package.{Tables, tables_of, AreFormed}
 use Rattle.package_tables.specs.Calls.{OnTables}
+use Rattle.package_tables.specs.declared.fault.Fault.{Fault}
+use Rattle.package_tables.proofs.InTurn.{Done, done}
 use Rattle.package_tables.specs.Changes.{Adds}
 use Rattle.package_tables.specs.Fixed.{mapping_relations}
 use Rattle.package_tables.specs.Listed.{relations}
@@ -59,3 +62,7 @@ left_at_either old sound f p reads trees (inl same) =
 left_at_either old sound f p reads trees (inr (x, new, brings, same)) =
     let it = brings f p reads in
     subst (ReadsAtEither f p) (sym same) (new.schema, it.sound, inr it.reads)
+
+pub brings_steps : {old a b c new : State} {r : Done} → Steps {X = Unit {0}} {E = Fault} (λ _. MakesThird) old a done → Steps {X = Unit {0}} {E = Fault} (λ _. IndexesThird) a b done
+    → Steps {X = Unit {0}} {E = Fault} (λ _. OnTables (Adds relations third_relation)) b c done → Steps {X = Unit {0}} {E = Fault} (λ _. SetsVersion (pos 2)) c new r → Steps {X = Unit {0}} {E = Fault} (λ _. Brings) old new r
+brings_steps {old} {a} {b} {c} {new} one two three four = steps_weaker (λ _. Brings) (λ _ it. brings old.now new.now it) (steps_then one (steps_then two (steps_then three four)))

@@ -5,3 +5,7 @@ pub mod Texts
 pub mod Third
 pub mod Versions
 pub mod Bringing
+pub mod Filtered
+pub mod Dropping
+pub mod Reversing
+pub mod Alone

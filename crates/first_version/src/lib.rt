@@ -5,5 +5,6 @@ pub mod laws;
 pub mod migration;
 pub mod names;
 mod statements;
+pub mod taking_back;
 #[cfg(test)]
 mod tests;

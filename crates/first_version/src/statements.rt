@@ -9,6 +9,7 @@ ghost use Rattle.package_tables.specs.Faults.{fault_of};
 ghost use Rattle.package_tables.specs.Listed.{relations};
 ghost use Rattle.first_version.specs.FirstVersion.{third_relation};
 ghost use Rattle.first_version.specs.Migrating.{MakesThird, IndexesThird, SetsVersion};
+ghost use Rattle.first_version.specs.TakingBack.{DropsThirdRelation, DropsThird};
 
 use package_tables::fault::Fault;
 use sqlite::{Alter, Error, Transaction, params};
@@ -81,4 +82,20 @@ pub(crate) fn set_version<S: Alter>(
     ensures steps { Steps (λ _. SetsVersion version) (state S.Store tx.old.conn.now) (state S.Store tx.new.conn.now) result }
 {
     settled(tx.execute("UPDATE sheet_package SET version = ?1", params![version]))
+}
+
+/// Takes the third mapping out of the relations.
+pub(crate) fn delete_third_relation<S: Alter>(tx: &mut Transaction<'_, S>) -> Result<(), Fault>
+    ensures same_reference { tx.new.conn.ghost_name ≡ tx.old.conn.ghost_name }
+    ensures steps { Steps (λ _. OnTables DropsThirdRelation) (state S.Store tx.old.conn.now) (state S.Store tx.new.conn.now) result }
+{
+    settled(tx.execute("DELETE FROM gpkgext_relations WHERE id = ?1", params![3i64]))
+}
+
+/// Drops the table of the third mapping, and its indexes with it.
+pub(crate) fn drop_third_table<S: Alter>(tx: &mut Transaction<'_, S>) -> Result<(), Fault>
+    ensures same_reference { tx.new.conn.ghost_name ≡ tx.old.conn.ghost_name }
+    ensures steps { Steps (λ _. DropsThird) (state S.Store tx.old.conn.now) (state S.Store tx.new.conn.now) result }
+{
+    settled(tx.execute("DROP TABLE rows_tiles", &[]))
 }

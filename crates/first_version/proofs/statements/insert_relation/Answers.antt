@@ -1,0 +1,23 @@
+use Rattle.std.proofs.Common.{pos, refl, to_z-of_z}
+use Rattle.sqlite.specs.Held.{state}
+use Rattle.sqlite.specs.declared.types.Value.TheVariants.{Int}
+use Rattle.package_tables.specs.Changes.{Adds}
+use Rattle.package_tables.specs.Listed.{relations}
+use Rattle.package_tables.specs.declared.rows.RelationRow.{RelationRow}
+use Rattle.package_tables.proofs.Making.{enters}
+use Rattle.package_tables.proofs.FixedStatements.{relation_insert_text, relation_insert_row}
+use Rattle.package_tables.proofs.Stepping.{makes_steps}
+use Rattle.package_tables.proofs.Written.{relations_listed}
+use Rattle.first_version.proofs.statements.insert_relation.Goals as goal
+
+pub returns-clause-steps : goal.returns-clause-steps
+returns-clause-steps g c =
+    let a = c.args in
+    let old = state g.S.Store a.tx.now.conn.now in
+    let new = state g.S.Store c.execute.new.self.conn.now in
+    let row : RelationRow = record { id = a.id; base_table_name = a.base.now; base_primary_column = a.base_column.now; related_table_name = a.related.now; related_primary_column = a.related_column.now; relation_name = a.name.now; mapping_table_name = a.mapping.now } in
+    makes_steps (Adds relations row)
+    (λ clean begun. enters relations_listed row relation_insert_text (relation_insert_row row) (λ there. (Int (pos 0), refl, refl)) old new c.execute.result _ c.settled.ensures
+    (simp (to_z-of_z, c.ranges.id)
+    at (rw (c.params-to_sql.ensures, c.params-to_sql-2.ensures, c.params-to_sql-3.ensures, c.params-to_sql-4.ensures, c.params-to_sql-5.ensures, c.params-to_sql-6.ensures, c.params-to_sql-7.ensures) at (c.execute.ensures.runs clean begun))))
+    c.execute.ensures.survives
