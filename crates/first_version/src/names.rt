@@ -7,44 +7,43 @@ ghost use Rattle.first_version.specs.FirstVersion.{AreFree};
 use sqlite_schema::names::same_name;
 use sqlite_schema::schema::Schema;
 
-fn has_no_table(schema: &Schema, name: &[u8]) -> bool
-    ensures { IsTrue result ↔ (table_named schema.now name.now ≡ None) }
+fn table_place(schema: &Schema, name: &[u8]) -> Option<usize>
+    ensures { result ≡ table_named schema.now name.now }
 {
-    let found = schema
+    schema
         .tables
         .as_slice()
         .iter()
-        .position(|table| same_name(table.name.as_slice(), name));
-    found.is_none()
+        .position(|table| same_name(table.name.as_slice(), name))
 }
 
-fn has_no_view(schema: &Schema, name: &[u8]) -> bool
-    ensures { IsTrue result ↔ (view_named schema.now name.now ≡ None) }
+fn view_place(schema: &Schema, name: &[u8]) -> Option<usize>
+    ensures { result ≡ view_named schema.now name.now }
 {
-    let found = schema
+    schema
         .views
         .as_slice()
         .iter()
-        .position(|view| same_name(view.name.as_slice(), name));
-    found.is_none()
+        .position(|view| same_name(view.name.as_slice(), name))
 }
 
-fn has_no_index(schema: &Schema, name: &[u8]) -> bool
-    ensures { IsTrue result ↔ (index_named schema.now name.now ≡ None) }
+fn index_place(schema: &Schema, name: &[u8]) -> Option<usize>
+    ensures { result ≡ index_named schema.now name.now }
 {
-    let found = schema
+    schema
         .indexes
         .as_slice()
         .iter()
-        .position(|index| same_name(index.name.as_slice(), name));
-    found.is_none()
+        .position(|index| same_name(index.name.as_slice(), name))
 }
 
 /// Whether no table, view or index of the schema has the name.
 fn is_free(schema: &Schema, name: &[u8]) -> bool
     ensures { IsTrue result ↔ IsFree schema.now name.now }
 {
-    has_no_table(schema, name) && has_no_view(schema, name) && has_no_index(schema, name)
+    table_place(schema, name).is_none()
+        && view_place(schema, name).is_none()
+        && index_place(schema, name).is_none()
 }
 
 /// Whether the names that a migration makes are free: that of the third mapping table, and that of its index.
