@@ -37,7 +37,7 @@ abbrev pub InTurn : Database → Database → Type 0
 InTurn = Chained MakesThird (Chained IndexesThird (Chained (OnTables (Adds relations third_relation)) (SetsVersion (pos 2))))
 
 pub brings : (old new : Database) → InTurn old new → Brings old new
-brings old new (one, made, two, indexed, three, added, set) f p reads =
+brings old new (one, made, (two, indexed, (three, added, set))) f p reads =
     let third = made reads.formed reads.free in
     let index = indexed third.formed third.free in
     let said : tables_of two ≡ first_tables_of old = index.1 ∙ third.says in

@@ -28,8 +28,7 @@ carried shape laws stays old new it passes formed =
     let p = formed.placed in
     let named : stays (shape.table p.tree).name ≡ true = ap stays (laws.named p.tree) ∙ passes in
     let has = it.has p.at (shape.table p.tree) named p.has in
-    let rows : stored_rows shape new ≡ stored_rows shape old = rows_placed shape laws new has.0 p.tree has.1 ∙ it.rows p.at (shape.table p.tree) named p.has ∙ sym (rows_placed shape laws old p.at p.tree p.has) in
-    (
+    let rows : stored_rows shape new ≡ stored_rows shape old = rows_placed shape laws new has.0 p.tree has.1 ∙ it.rows p.at (shape.table p.tree) named p.has ∙ sym (rows_placed shape laws old p.at p.tree p.has) in (
       record { placed = record { at = has.0; tree = p.tree; has = has.1 }; keyed = subst IsKeyed (sym rows) formed.keyed; stored = subst (AllByRecursion (IsStored shape)) (sym rows) formed.stored },
       ap (λ l. arranged shape.key (map shape.typed l)) rows,
     )
@@ -161,8 +160,7 @@ first_of db f = record {
 
 pub fifteen_carried : (old new : Database) → Carries (λ name. true) old new → AreFormed old → AreFormed new × (tables_of new ≡ tables_of old)
 fifteen_carried old new it f =
-    let last = carried rows_tiles_shape (pairs_listed RowsTiles).laws (λ name. true) old new it refl f.rows_tiles in
-    (
+    let last = carried rows_tiles_shape (pairs_listed RowsTiles).laws (λ name. true) old new it refl f.rows_tiles in (
       with_last new (still_formed (λ name. true) old new it (λ name other. refl) (first_of old f)) last.0,
       still_said (λ name. true) old new it (λ name other. refl) (first_of old f) (tables_of new).rows_tiles ∙ ap (λ l. record (tables_of old) { rows_tiles = l }) last.1,
     )

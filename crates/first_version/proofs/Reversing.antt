@@ -92,13 +92,13 @@ two_left : filter (λ (x : RelationRow). not (int_eq x.id (pos 3))) mapping_rela
 two_left = refl
 
 pub takes : (old new : Database) → Reversed old new → TakesBack old new
-takes old new (one, set, two, deleted, dropped) f p reads none free =
+takes old new (one, set, (two, deleted, gone)) f p reads none free =
     let says = reads.says in
     let head = says.head in
     let mine = head_row p says.created in
     let first = set reads.formed mine head in
     let second = deleted first.0 in
-    let third = dropped second.0 in
+    let third = gone second.0 in
     let keeps = λ (x : RelationRow). not (int_eq x.id (pos 3)) in
     let said : tables_of two ≡ record (tables_of old) { heads = with_version (pos 1) mine ∷ []; relations = first_relations } =
     second.1 ∙ ap (λ (t : Tables). record t { relations = filter keeps t.relations }) first.1

@@ -47,8 +47,7 @@ third_formed : (old new : Database) → Created (rows_tiles 0) old new → IsDat
 third_formed old new made sound free =
     let listed = subst (λ (s : Schema). HasTable s (length old.schema.tables) (rows_tiles (next_tree old.schema))) (sym made.schema)
     (third_there old.schema new.trees (subst (λ (s : Schema). IsDatabase (record { schema = s; trees = new.trees })) made.schema sound) free.table) in
-    let none : stored_rows rows_tiles_shape new ≡ [] = rows_placed rows_tiles_shape (pairs_listed RowsTiles).laws new (length old.schema.tables) (next_tree old.schema) listed ∙ made.empty in
-    (
+    let none : stored_rows rows_tiles_shape new ≡ [] = rows_placed rows_tiles_shape (pairs_listed RowsTiles).laws new (length old.schema.tables) (next_tree old.schema) listed ∙ made.empty in (
       record {
         placed = record { at = length old.schema.tables; tree = next_tree old.schema; has = listed };
         keyed = subst IsKeyed (sym none) (record { ints = refl; rises = tt });

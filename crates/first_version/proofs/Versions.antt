@@ -65,7 +65,7 @@ versions version old new updates formed head is =
     let next = head_shape.stored (rowid alone.0) (with_version version head) in
     let rows : stored_rows head_shape new ≡ next ∷ [] = table.after
     ∙ did.rows (subst IsKeyed (sym table.before) here.keyed) (subst (λ l. length (filter (λ r. true) l) ≤ 1) (sym there) (omega arith))
-      (subst (AllByRecursion (λ r. has_kinds (sheet_package p.tree) (change version r) ≡ true)) (sym there) (of_kinds p.tree (rowid alone.0) (with_version version head), tt))
+    (subst (AllByRecursion (λ r. has_kinds (sheet_package p.tree) (change version r) ≡ true)) (sym there) (of_kinds p.tree (rowid alone.0) (with_version version head), tt))
     ∙ ap (map (change version)) there in
     let formed_new : IsFormed head_shape new = record {
       placed = table.placed;

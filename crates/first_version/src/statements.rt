@@ -40,10 +40,7 @@ pub(crate) fn make_third_index<S: Alter>(tx: &mut Transaction<'_, S>) -> Result<
     ensures same_reference { tx.new.conn.ghost_name ≡ tx.old.conn.ghost_name }
     ensures steps { Steps (λ _. IndexesThird) (state S.Store tx.old.conn.now) (state S.Store tx.new.conn.now) result }
 {
-    settled(tx.execute(
-        "CREATE INDEX by_rows_tiles ON rows_tiles (related_id)",
-        &[],
-    ))
+    settled(tx.execute("CREATE INDEX by_rows_tiles ON rows_tiles (related_id)", &[]))
 }
 
 fn insert_relation<S: Alter>(
@@ -61,7 +58,15 @@ fn insert_relation<S: Alter>(
 {
     settled(tx.execute(
         "INSERT INTO gpkgext_relations VALUES (?1, ?2, ?3, ?4, ?5, ?6, ?7)",
-        params![id, base, base_column, related, related_column, name, mapping],
+        params![
+            id,
+            base,
+            base_column,
+            related,
+            related_column,
+            name,
+            mapping
+        ],
     ))
 }
 
@@ -70,14 +75,20 @@ pub(crate) fn insert_third_relation<S: Alter>(tx: &mut Transaction<'_, S>) -> Re
     ensures same_reference { tx.new.conn.ghost_name ≡ tx.old.conn.ghost_name }
     ensures steps { Steps (λ _. OnTables (Adds relations third_relation)) (state S.Store tx.old.conn.now) (state S.Store tx.new.conn.now) result }
 {
-    insert_relation(tx, 3, "sheet_rows", "id", "sheet_tiles", "id", "tiles", "rows_tiles")
+    insert_relation(
+        tx,
+        3,
+        "sheet_rows",
+        "id",
+        "sheet_tiles",
+        "id",
+        "tiles",
+        "rows_tiles",
+    )
 }
 
 /// Says the version of the package in its head.
-pub(crate) fn set_version<S: Alter>(
-    tx: &mut Transaction<'_, S>,
-    version: i64,
-) -> Result<(), Fault>
+pub(crate) fn set_version<S: Alter>(tx: &mut Transaction<'_, S>, version: i64) -> Result<(), Fault>
     ensures same_reference { tx.new.conn.ghost_name ≡ tx.old.conn.ghost_name }
     ensures steps { Steps (λ _. SetsVersion version) (state S.Store tx.old.conn.now) (state S.Store tx.new.conn.now) result }
 {
