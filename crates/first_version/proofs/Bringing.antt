@@ -20,8 +20,8 @@ use Rattle.package_tables.specs.Shapes.{relation_shape}
 use Rattle.package_tables.specs.declared.rows.HeadRow.{HeadRow}
 use Rattle.package_tables.specs.declared.rows.RelationRow.{RelationRow}
 use Rattle.identity_register.specs.Reads.{Says, Reads}
-use Rattle.first_version.specs.FirstVersion.{first_relations, third_relation, first_tables_of, with_version, brought, ReadsAtVersionOne, ReadsAtEither}
-use Rattle.first_version.specs.Migrating.{MakesThird, IndexesThird, SetsVersion, Brings, IsBrought}
+use Rattle.first_version.specs.FirstVersion.{HasThirdIndex, first_relations, third_relation, first_tables_of, with_version, brought, ReadsAtVersionOne, ReadsAtEither}
+use Rattle.first_version.specs.Migrating.{MakesThird, IndexesThird, AddsRelation, SetsVersion, Brings, IsBrought}
 
 -- one version is that of one head
 one_head : (heads : List HeadRow) (v : ℤ) → map (λ (h : HeadRow). h.version) heads ≡ v ∷ [] → (head : HeadRow) × (heads ≡ head ∷ [])
@@ -34,7 +34,7 @@ third_comes : (b a : Tables) → b.relations ≡ first_relations → Adds relati
 third_comes b a is adds = adds (ap (has relation_shape.key (relation_shape.key third_relation)) is) ∙ ap (λ l. record b { relations = put relation_shape.key third_relation l }) is
 
 abbrev pub InTurn : Database → Database → Type 0
-InTurn = Chained MakesThird (Chained IndexesThird (Chained (OnTables (Adds relations third_relation)) (SetsVersion (pos 2))))
+InTurn = Chained MakesThird (Chained IndexesThird (Chained (AddsRelation third_relation) (SetsVersion (pos 2))))
 
 pub brings : (old new : Database) → InTurn old new → Brings old new
 brings old new (one, made, (two, indexed, (three, added, set))) f p reads =
@@ -52,7 +52,8 @@ brings old new (one, made, (two, indexed, (three, added, set))) f p reads =
     record {
       reads = record { formed = last.0; says = subst (Says f p) (sym tables) reads.says.says };
       tables = tables;
-      sound = last.2;
+      indexed = subst HasThirdIndex (sym (last.2 ∙ relation.2)) index.2;
+      sound = last.3;
     }
 
 -- what a crash leaves of the transaction
@@ -64,5 +65,5 @@ left_at_either old sound f p reads trees (inr (x, new, brings, same)) =
     subst (ReadsAtEither f p) (sym same) (new.schema, it.sound, inr it.reads)
 
 pub brings_steps : {old a b c new : State} {r : Done} → Steps {X = Unit {0}} {E = Fault} (λ _. MakesThird) old a done → Steps {X = Unit {0}} {E = Fault} (λ _. IndexesThird) a b done
-    → Steps {X = Unit {0}} {E = Fault} (λ _. OnTables (Adds relations third_relation)) b c done → Steps {X = Unit {0}} {E = Fault} (λ _. SetsVersion (pos 2)) c new r → Steps {X = Unit {0}} {E = Fault} (λ _. Brings) old new r
+    → Steps {X = Unit {0}} {E = Fault} (λ _. AddsRelation third_relation) b c done → Steps {X = Unit {0}} {E = Fault} (λ _. SetsVersion (pos 2)) c new r → Steps {X = Unit {0}} {E = Fault} (λ _. Brings) old new r
 brings_steps {old} {a} {b} {c} {new} one two three four = steps_weaker (λ _. Brings) (λ _ it. brings old.now new.now it) (steps_then one (steps_then two (steps_then three four)))

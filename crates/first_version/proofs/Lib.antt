@@ -4,6 +4,7 @@ pub mod Carrying
 pub mod Texts
 pub mod Third
 pub mod Versions
+pub mod Relating
 pub mod Bringing
 pub mod Filtered
 pub mod Dropping

@@ -1,5 +1,5 @@
 -- The table of the third mapping comes, and then its index.
-use Rattle.std.proofs.Common.{◌≡◌, ℕ, pos, List, [], ◌∷◌, map, length, true, Result, Ok, Err, codes, refl, sym, ap, subst, ◌∙◌}
+use Rattle.std.proofs.Common.{◌≡◌, ℕ, pos, List, [], ◌∷◌, ◌++◌, map, length, true, Result, Ok, Err, codes, refl, sym, ap, subst, ◌∙◌}
 use Rattle.std.specs.List.{AllByRecursion}
 use Rattle.sqlite.specs.Table.{Table}
 use Rattle.sqlite.specs.Schema.{Schema}
@@ -9,7 +9,8 @@ use Rattle.sqlite.specs.Change.{created, indexed, next_tree}
 use Rattle.sqlite.specs.Does.{lacks_sequence}
 use Rattle.sqlite.specs.State.{State, Executes}
 use Rattle.sqlite.proofs.Callers.{IsPlain, command_of, runs_as}
-use Rattle.sqlite_rules.proofs.ListLemmas.{all_has}
+use Rattle.sqlite_rules.proofs.ListLemmas.{all_has, has_got}
+use Rattle.sqlite_rules.specs.Lists.{Has}
 use Rattle.sheet_types.specs.Ordered.{arranged}
 use Rattle.sheet_types.specs.declared.command.Mapping.TheVariants.{RowsTiles}
 use Rattle.sql_meaning.specs.Known.{HasTable, IsQuiet}
@@ -30,6 +31,7 @@ use Rattle.package_tables.proofs.Shapes.{rows_placed}
 use Rattle.package_tables.proofs.Written.{pairs_listed}
 use Rattle.first_version.specs.FirstVersion.{AreFree, first_tables_of}
 use Rattle.first_version.specs.Migrating.{HasThird, MakesThird, IndexesThird}
+use Rattle.first_version.proofs.Positions.{slice_last}
 use Rattle.first_version.proofs.Growing.{with_third, still_there, still_quiet, has_sequence, third_there, index_still_free, still_indexed, quiet_indexed}
 use Rattle.first_version.proofs.Carrying.{Carries, still_formed, still_said, with_last, fifteen_carried}
 use Rattle.first_version.proofs.Texts.{table_text, table_made, index_text, index_made}
@@ -88,4 +90,17 @@ third_indexed old new count h formed free =
     let p = formed.rows_tiles.placed in
     let it = index_made p.tree in
     let made = makes_index old new index_text it.0 it.1 p.at (rows_tiles p.tree) (by_rows_tiles p.tree 0) count it.2 p.has free h in
-    fifteen_carried old.now new.now (index_carries (rows_tiles p.tree) old.now new.now made) formed
+    let carries = index_carries (rows_tiles p.tree) old.now new.now made in
+    let both = fifteen_carried old.now new.now carries formed in
+    let has = carries.has p.at (rows_tiles p.tree) refl p.has in
+    let last = by_rows_tiles p.tree (next_tree old.now.schema) in (
+      both.0,
+      both.1,
+      record {
+        at = has.0;
+        tree = p.tree;
+        has = has.1;
+        index = next_tree old.now.schema;
+        indexed = subst (λ (s : Schema). Has s.indexes last) (sym made.schema) (has_got (old.now.schema.indexes ++ last ∷ []) (length old.now.schema.indexes) last (slice_last old.now.schema.indexes last));
+      },
+    )

@@ -52,7 +52,7 @@ still_keyed : (v : Value) (head : HeadRow) → IsKeyed (head_shape.stored v head
 still_keyed v head = record { ints = refl; rises = (tt, tt) }
 
 versions : (version : ℤ) (old new : Database) → Updates sheet_package (λ r. true) (change version) old new → AreFormed old → (head : HeadRow) → (tables_of old).heads ≡ head ∷ []
-    → AreFormed new × (tables_of new ≡ record (tables_of old) { heads = with_version version head ∷ [] })
+    → AreFormed new × (tables_of new ≡ record (tables_of old) { heads = with_version version head ∷ [] }) × (new.schema ≡ old.schema)
 versions version old new updates formed head is =
     let here = formed.heads in
     let p = here.placed in
@@ -73,7 +73,7 @@ versions version old new updates formed head is =
       stored = subst (AllByRecursion (IsStored head_shape)) (sym rows) (refl, tt);
     } in
     let both = heads_listed.written p.tree old new did.spares formed formed_new in
-    (both.0, both.1 ∙ ap (λ l. record (tables_of old) { heads = arranged head_shape.key (map head_shape.typed l) }) rows)
+    (both.0, both.1 ∙ ap (λ l. record (tables_of old) { heads = arranged head_shape.key (map head_shape.typed l) }) rows, did.spares.schema)
 
 pub version_set : (version : ℤ) (old new : State) (count : ℕ) → Executes text (Int version ∷ []) old new (Ok count) → SetsVersion version old.now new.now
 version_set version old new count h formed head is =
@@ -82,4 +82,4 @@ version_set version old new count h formed head is =
     let both = versions version old.now new.now updates formed head is in
     let known = (understood_is old.now.schema text _ (update_is old.now.schema text p.at (sheet_package p.tree) always 0 version_terms (version_text p.tree) p.has (version_plan p.tree))).0 in
     let sound : IsDatabase new.now = (runs_as text (Int version ∷ []) old new old.now.schema refl (Update p.at (change_program (sheet_package p.tree) always version_terms)) (ap command_of known) (subst IsPlain (sym known) (refl, refl)) count h).sound in
-    (both.0, both.1, sound)
+    (both.0, both.1, both.2, sound)

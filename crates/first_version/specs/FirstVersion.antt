@@ -1,15 +1,19 @@
 -- When a store reads as a package at the first version, which had no table of the third mapping. OGC GeoPackage 1.3 and OGC 18-000 for the tables; head and versions are profile.
-use Rattle.std.specs.Prelude.{◌≡◌, ◌⊎◌, ℤ, pos, List, [], ◌∷◌, map, codes}
+use Rattle.std.specs.Prelude.{◌≡◌, ◌⊎◌, ℕ, ℤ, pos, List, [], ◌∷◌, map, codes}
 use Rattle.sqlite.specs.Tree.{Trees}
 use Rattle.sqlite.specs.Effect.{Database}
 use Rattle.sqlite.specs.Schema.{Schema}
 use Rattle.sqlite_catalog.specs.Listing.{IsSound}
+use Rattle.sqlite_rules.specs.Lists.{Has}
 use Rattle.sheet_types.specs.World.{Package}
 use Rattle.sheet_types.specs.declared.frame.Frame.{Frame}
 use Rattle.sql_meaning.specs.Blank.{IsFree}
+use Rattle.sql_meaning.specs.Known.{HasTable}
 use Rattle.package_tables.specs.Damaged.{AreFormedAt}
 use Rattle.package_tables.specs.Package.{Tables, tables_of}
 use Rattle.package_tables.specs.Fixed.{relation, mapping_relations}
+use Rattle.package_tables.specs.SchemaMade.{by_rows_tiles}
+use Rattle.package_tables.specs.Tables.{rows_tiles}
 use Rattle.package_tables.specs.declared.rows.HeadRow.{HeadRow}
 use Rattle.package_tables.specs.declared.rows.RelationRow.{RelationRow}
 use Rattle.identity_register.specs.Reads.{Says, Reads}
@@ -29,6 +33,14 @@ first_relations =
 -- the one that the second version has besides
 abbrev pub third_relation : RelationRow
 third_relation = relation (pos 3) (codes "sheet_rows") (codes "sheet_tiles") (codes "tiles") (codes "rows_tiles")
+
+-- The table of the third mapping is there, with an index that finds its rows by their other end.
+pub record HasThirdIndex (schema : Schema) : Type 0 where
+  pub at : ℕ
+  pub tree : ℕ
+  pub has : HasTable schema at (rows_tiles tree)
+  pub index : ℕ
+  pub indexed : Has schema.indexes (by_rows_tiles tree index)
 
 -- what a database of the first version says in its fourteen tables: it has no rows of the third mapping
 abbrev pub first_tables_of : Database → Tables

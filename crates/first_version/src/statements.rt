@@ -1,14 +1,11 @@
 //! The statements of a migration, each a step of its transaction.
 ghost use Rattle.std.specs.Prelude.{◌≡◌, IsOk, MatchResult};
-ghost use Rattle.sqlite.specs.State.{Survives};
 ghost use Rattle.sqlite.specs.Held.{state};
 ghost use Rattle.sql_meaning.specs.Transactions.{Steps};
 ghost use Rattle.package_tables.specs.Calls.{OnTables};
-ghost use Rattle.package_tables.specs.Changes.{Adds};
 ghost use Rattle.package_tables.specs.Faults.{fault_of};
-ghost use Rattle.package_tables.specs.Listed.{relations};
 ghost use Rattle.first_version.specs.FirstVersion.{third_relation};
-ghost use Rattle.first_version.specs.Migrating.{MakesThird, IndexesThird, SetsVersion};
+ghost use Rattle.first_version.specs.Migrating.{MakesThird, IndexesThird, AddsRelation, SetsVersion};
 ghost use Rattle.first_version.specs.TakingBack.{DropsThirdRelation, DropsThird};
 
 use package_tables::fault::Fault;
@@ -54,7 +51,7 @@ fn insert_relation<S: Alter>(
     mapping: &str,
 ) -> Result<(), Fault>
     ensures same_reference { tx.new.conn.ghost_name ≡ tx.old.conn.ghost_name }
-    ensures steps { Steps (λ _. OnTables (Adds relations (record { id = id; base_table_name = base.now; base_primary_column = base_column.now; related_table_name = related.now; related_primary_column = related_column.now; relation_name = name.now; mapping_table_name = mapping.now }))) (state S.Store tx.old.conn.now) (state S.Store tx.new.conn.now) result }
+    ensures steps { Steps (λ _. AddsRelation (record { id = id; base_table_name = base.now; base_primary_column = base_column.now; related_table_name = related.now; related_primary_column = related_column.now; relation_name = name.now; mapping_table_name = mapping.now })) (state S.Store tx.old.conn.now) (state S.Store tx.new.conn.now) result }
 {
     settled(tx.execute(
         "INSERT INTO gpkgext_relations VALUES (?1, ?2, ?3, ?4, ?5, ?6, ?7)",
@@ -73,7 +70,7 @@ fn insert_relation<S: Alter>(
 /// Enters the third mapping into the relations (OGC 18-000, extended relations).
 pub(crate) fn insert_third_relation<S: Alter>(tx: &mut Transaction<'_, S>) -> Result<(), Fault>
     ensures same_reference { tx.new.conn.ghost_name ≡ tx.old.conn.ghost_name }
-    ensures steps { Steps (λ _. OnTables (Adds relations third_relation)) (state S.Store tx.old.conn.now) (state S.Store tx.new.conn.now) result }
+    ensures steps { Steps (λ _. AddsRelation third_relation) (state S.Store tx.old.conn.now) (state S.Store tx.new.conn.now) result }
 {
     insert_relation(
         tx,

@@ -1,13 +1,11 @@
-use Rattle.std.proofs.Common.{pos, refl, to_z-of_z}
+use Rattle.std.proofs.Common.{to_z-of_z}
 use Rattle.sqlite.specs.Held.{state}
-use Rattle.sqlite.specs.declared.types.Value.TheVariants.{Int}
-use Rattle.package_tables.specs.Changes.{Adds}
-use Rattle.package_tables.specs.Listed.{relations}
+use Rattle.sql_meaning.proofs.Transactions.{write_steps}
+use Rattle.sql_meaning.proofs.Writes.{writes_inside}
 use Rattle.package_tables.specs.declared.rows.RelationRow.{RelationRow}
-use Rattle.package_tables.proofs.Making.{enters}
-use Rattle.package_tables.proofs.FixedStatements.{relation_insert_text, relation_insert_row}
-use Rattle.package_tables.proofs.Stepping.{makes_steps}
-use Rattle.package_tables.proofs.Written.{relations_listed}
+use Rattle.package_tables.proofs.Stepping.{settled_steps}
+use Rattle.first_version.specs.Migrating.{AddsRelation}
+use Rattle.first_version.proofs.Relating.{insert_text, params_of, relation_added}
 use Rattle.first_version.proofs.statements.insert_relation.Goals as goal
 
 pub returns-clause-steps : goal.returns-clause-steps
@@ -16,8 +14,9 @@ returns-clause-steps g c =
     let old = state g.S.Store a.tx.now.conn.now in
     let new = state g.S.Store c.execute.new.self.conn.now in
     let row : RelationRow = record { id = a.id; base_table_name = a.base.now; base_primary_column = a.base_column.now; related_table_name = a.related.now; related_primary_column = a.related_column.now; relation_name = a.name.now; mapping_table_name = a.mapping.now } in
-    makes_steps (Adds relations row)
-    (λ clean begun. enters relations_listed row relation_insert_text (relation_insert_row row) (λ there. (Int (pos 0), refl, refl)) old new c.execute.result _ c.settled.ensures
+    settled_steps _ c.settled.ensures
+    (write_steps (AddsRelation row) old new c.execute.result
+    (λ clean begun. writes_inside (AddsRelation row) insert_text (params_of row) old new (relation_added row old new) c.execute.result
     (simp (to_z-of_z, c.ranges.id)
     at (rw (c.params-to_sql.ensures, c.params-to_sql-2.ensures, c.params-to_sql-3.ensures, c.params-to_sql-4.ensures, c.params-to_sql-5.ensures, c.params-to_sql-6.ensures, c.params-to_sql-7.ensures) at (c.execute.ensures.runs clean begun))))
-    c.execute.ensures.survives
+    c.execute.ensures.survives)
