@@ -1,5 +1,5 @@
 -- A store of the first version reads as one package, and not at the second too.
-use Rattle.std.proofs.Common.{◌≡◌, ℤ, pos, List, [], ◌∷◌, map, sym, ap, ◌∙◌}
+use Rattle.std.proofs.Common.{◌≡◌, pos, [], ◌∷◌, map, sym, ap, ◌∙◌}
 use Rattle.package_tables.specs.declared.rows.HeadRow.{HeadRow}
 use Rattle.identity_register.proofs.OnePackage.{one_package}
 use Rattle.first_version.specs.FirstVersion.{first_tables_of, brought}

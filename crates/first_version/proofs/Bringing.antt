@@ -1,5 +1,5 @@
 -- The four steps as one: a store of the first version reads as the same package at the second.
-use Rattle.std.proofs.Common.{◌≡◌, ◌⊎◌, inl, inr, ℤ, pos, List, [], ◌∷◌, map, false, Result, Ok, Err, IsTrue, refl, sym, ap, subst, ◌∙◌}
+use Rattle.std.proofs.Common.{◌≡◌, ◌⊎◌, inl, inr, ℤ, pos, List, [], ◌∷◌, map, refl, sym, ap, subst, ◌∙◌}
 use Rattle.sqlite.specs.Tree.{Trees}
 use Rattle.sqlite.specs.Effect.{Database, IsDatabase}
 use Rattle.sqlite.specs.State.{State}
@@ -9,8 +9,7 @@ use Rattle.sheet_types.specs.declared.frame.Frame.{Frame}
 use Rattle.sql_meaning.specs.Transactions.{WouldLeave, Steps}
 use Rattle.sql_meaning.proofs.Transactions.{steps_then, steps_weaker}
 use Rattle.sql_meaning.specs.Writing.{Chained}
-use Rattle.package_tables.specs.Package.{Tables, tables_of, AreFormed}
-use Rattle.package_tables.specs.Calls.{OnTables}
+use Rattle.package_tables.specs.Package.{Tables, tables_of}
 use Rattle.package_tables.specs.declared.fault.Fault.{Fault}
 use Rattle.package_tables.proofs.InTurn.{Done, done}
 use Rattle.package_tables.specs.Changes.{Adds}
@@ -18,10 +17,9 @@ use Rattle.package_tables.specs.Fixed.{mapping_relations}
 use Rattle.package_tables.specs.Listed.{relations}
 use Rattle.package_tables.specs.Shapes.{relation_shape}
 use Rattle.package_tables.specs.declared.rows.HeadRow.{HeadRow}
-use Rattle.package_tables.specs.declared.rows.RelationRow.{RelationRow}
-use Rattle.identity_register.specs.Reads.{Says, Reads}
+use Rattle.identity_register.specs.Reads.{Says}
 use Rattle.first_version.specs.FirstVersion.{HasThirdIndex, first_relations, third_relation, first_tables_of, with_version, brought, ReadsAtVersionOne, ReadsAtEither}
-use Rattle.first_version.specs.Migrating.{MakesThird, IndexesThird, AddsRelation, SetsVersion, Brings, IsBrought}
+use Rattle.first_version.specs.Migrating.{MakesThird, IndexesThird, AddsRelation, SetsVersion, Brings}
 
 -- one version is that of one head
 one_head : (heads : List HeadRow) (v : ℤ) → map (λ (h : HeadRow). h.version) heads ≡ v ∷ [] → (head : HeadRow) × (heads ≡ head ∷ [])

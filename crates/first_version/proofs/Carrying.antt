@@ -1,5 +1,5 @@
 -- A database that has all known tables of another, with their rows.
-use Rattle.std.proofs.Common.{◌≡◌, ℕ, pos, List, [], map, Bool, true, codes, refl, sym, ap, subst, ◌∙◌}
+use Rattle.std.proofs.Common.{◌≡◌, ℕ, pos, List, map, Bool, true, codes, refl, sym, ap, subst, ◌∙◌}
 use Rattle.std.specs.List.{AllByRecursion}
 use Rattle.sqlite.specs.Table.{Table}
 use Rattle.sqlite.specs.Effect.{Database}

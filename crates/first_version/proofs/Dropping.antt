@@ -1,6 +1,6 @@
 -- What `DROP TABLE rows_tiles` makes of a database.
-use Rattle.std.proofs.Common.{◌≡◌, ◌≢◌, ℕ, ◌==◌, List, [], ◌∷◌, Bool, true, false, Option, Some, None, Result, Ok, Err, codes, refl, sym, ap, subst, ◌∙◌, arith, MatchBool}
-use Rattle.std.specs.Prelude.{not, filter, find, is_some, ◌&&◌}
+use Rattle.std.proofs.Common.{◌≡◌, ◌≢◌, ℕ, ◌==◌, List, [], ◌∷◌, Bool, true, false, Option, Some, None, Ok, Err, codes, refl, sym, ap, subst, ◌∙◌, arith, MatchBool}
+use Rattle.std.specs.Prelude.{not, is_some, ◌&&◌}
 use Rattle.std.specs.List.{AllByRecursion, list_any}
 use Rattle.std.proofs.Math.Bool.{and-false}
 use Rattle.sqlite_ast.specs.declared.Statement.TheVariants as written
@@ -14,7 +14,6 @@ use Rattle.sqlite_schema.specs.declared.schema.Reference.{Reference}
 use Rattle.sqlite_schema.specs.declared.schema.Action.TheVariants.{NoAction}
 use Rattle.sqlite_schema.specs.Names.{same_name, table_named, view_named}
 use Rattle.sqlite_rules.specs.Action.{deed_for}
-use Rattle.sqlite_rules.proofs.ListLemmas.{all_has, has_got}
 use Rattle.sqlite_catalog.specs.Change.{without_table, KeepsRows}
 use Rattle.sqlite_resolve.specs.Compile.{first, compiled, planned, meaning, timed, returning, command, drop_table, with_command, is_reserved}
 use Rattle.sqlite_resolve.specs.declared.error.CompileError.TheVariants.{Misuse}
@@ -26,9 +25,9 @@ use Rattle.sqlite.specs.Rows.{Task}
 use Rattle.sqlite.specs.State.{State, Executes, ExecutesIn, mode_of}
 use Rattle.sqlite.proofs.Callers.{IsPlain, command_of, runs_as}
 use Rattle.sheet_types.proofs.Every.{none_any}
-use Rattle.sql_meaning.specs.Known.{HasTable, IsInert, IsQuiet}
+use Rattle.sql_meaning.specs.Known.{HasTable, IsInert}
 use Rattle.sql_meaning.proofs.Resolve.{understood_is}
-use Rattle.sql_meaning.proofs.Writes.{went, same_value, is_in}
+use Rattle.sql_meaning.proofs.Writes.{went, same_value}
 use Rattle.first_version.proofs.Filtered.{first_kept, find_kept}
 
 abbrev pub drop_text : List ℕ

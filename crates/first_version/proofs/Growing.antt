@@ -1,7 +1,7 @@
 -- A schema to which the table of the third mapping, or its index, comes.
-use Rattle.std.proofs.Common.{◌≡◌, ℕ, zero, suc, ◌+◌, ◌<◌, ◌^◌, nat_le, ◌==◌, List, [], ◌∷◌, ◌++◌, length, Bool, true, false, Option, Some, None, refl, sym, ap, subst, ◌∙◌, arith, codes, inl, inr}
-use Rattle.std.specs.Prelude.{not, find, ◌&&◌}
-use Rattle.std.specs.List.{AllByRecursion, AllZip, list_any}
+use Rattle.std.proofs.Common.{◌≡◌, ℕ, ◌+◌, ◌<◌, ◌^◌, nat_le, ◌==◌, List, [], ◌∷◌, length, false, Some, None, refl, sym, ap, subst, ◌∙◌, arith, codes, inl, inr}
+use Rattle.std.specs.Prelude.{find}
+use Rattle.std.specs.List.{AllZip, list_any}
 use Rattle.std.proofs.Math.Bool.{and-false}
 use Rattle.std.proofs.lemmas.Bool.{false_from_ne_true, leb-true}
 use Rattle.std.proofs.lemmas.List.Folds.{find-append}
@@ -12,17 +12,16 @@ use Rattle.sqlite.specs.Schema.{Schema}
 use Rattle.sqlite.specs.Tree.{Trees}
 use Rattle.sqlite.specs.Change.{created, indexed, next_tree}
 use Rattle.sqlite.specs.Does.{lacks_sequence}
-use Rattle.sqlite_schema.specs.Names.{same_name, table_named, index_named, view_named}
+use Rattle.sqlite_schema.specs.Names.{same_name, table_named}
 use Rattle.sqlite_schema.specs.declared.schema.Index.{Index}
 use Rattle.sqlite_catalog.specs.Listing.{IsSound, IsTableRow, automatic}
 use Rattle.sqlite_catalog.proofs.StepLemmas.{table_below, same_itself}
 use Rattle.sqlite_rules.specs.Lists.{Has}
 use Rattle.sqlite_rules.proofs.ListLemmas.{all_from, has_got}
 use Rattle.sqlite_trees.proofs.ListLemmas.{all-append}
-use Rattle.sql_meaning.specs.Known.{HasTable, IsInert, IsQuiet, counters}
+use Rattle.sql_meaning.specs.Known.{HasTable, IsQuiet, counters}
 use Rattle.sql_meaning.specs.Blank.{IsFree}
 use Rattle.package_tables.specs.Tables.{rows_tiles}
-use Rattle.first_version.specs.FirstVersion.{AreFree}
 use Rattle.first_version.proofs.Positions.{position_left, position_last, position_none, find_none, slice_left, slice_last}
 
 -- ---- the number of a tree is small, where the trees list the schema

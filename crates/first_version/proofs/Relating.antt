@@ -1,5 +1,5 @@
 -- A relation comes in.
-use Rattle.std.proofs.Common.{◌≡◌, ℕ, pos, List, [], ◌∷◌, codes, Result, Ok, refl, ap, ◌∙◌}
+use Rattle.std.proofs.Common.{ℕ, pos, List, [], ◌∷◌, codes, Ok, refl, ap, ◌∙◌}
 use Rattle.sqlite.specs.Order.{Row}
 use Rattle.sqlite.specs.Effect.{Database}
 use Rattle.sqlite.specs.State.{State, Executes}

@@ -1,21 +1,16 @@
 -- What is taken back of a store, step by step and whole.
-use Rattle.std.proofs.Common.{◌≡◌, ◌≢◌, ℕ, ℤ, pos, ◌==◌, List, [], ◌∷◌, map, Bool, true, false, Result, Ok, Err, codes, refl, sym, ap, subst, ◌∙◌}
+use Rattle.std.proofs.Common.{◌≡◌, ℕ, pos, ◌==◌, List, [], ◌∷◌, map, Bool, true, Ok, codes, refl, sym, ap, subst, ◌∙◌}
 use Rattle.std.specs.Prelude.{not, filter}
 use Rattle.std.specs.Ordering.{int_eq}
-use Rattle.std.specs.List.{AllByRecursion}
 use Rattle.sqlite.specs.Table.{Table}
 use Rattle.sqlite.specs.Schema.{Schema}
 use Rattle.sqlite.specs.Effect.{Database}
 use Rattle.sqlite.specs.State.{State, Executes}
-use Rattle.sqlite.specs.declared.types.Value.TheVariants.{Int}
-use Rattle.sqlite.specs.Order.{column}
 use Rattle.sqlite_tied.specs.Compute.{everything}
 use Rattle.sqlite_catalog.specs.Change.{without_table}
-use Rattle.sqlite_rules.proofs.ListLemmas.{all_has, has_got}
+use Rattle.sqlite_rules.proofs.ListLemmas.{all_has}
 use Rattle.sqlite_trees.proofs.ListLemmas.{all-filter}
-use Rattle.sheet_types.specs.World.{Package}
-use Rattle.sheet_types.specs.declared.frame.Frame.{Frame}
-use Rattle.sql_meaning.specs.Known.{HasTable, IsInert, IsQuiet, counters, is_other}
+use Rattle.sql_meaning.specs.Known.{HasTable, IsQuiet, counters, is_other}
 use Rattle.sql_meaning.specs.Reading.{equals}
 use Rattle.sql_meaning.specs.Resolving.{resolving}
 use Rattle.sql_meaning.specs.Transactions.{Steps}
@@ -23,8 +18,7 @@ use Rattle.sql_meaning.specs.Writing.{Chained}
 use Rattle.sql_meaning.proofs.Transactions.{steps_then, steps_weaker}
 use Rattle.sql_meaning.proofs.Delete.{IsDelete, IsPlannedDelete}
 use Rattle.sql_meaning.proofs.Writes.{apart_in, is_in}
-use Rattle.package_tables.specs.Damaged.{AreFormedAt}
-use Rattle.package_tables.specs.Package.{Tables, tables_of, AreFormed}
+use Rattle.package_tables.specs.Package.{Tables, tables_of}
 use Rattle.package_tables.specs.Calls.{OnTables}
 use Rattle.package_tables.specs.declared.fault.Fault.{Fault}
 use Rattle.package_tables.proofs.InTurn.{Done, done}
@@ -32,9 +26,8 @@ use Rattle.package_tables.specs.Fixed.{mapping_relations}
 use Rattle.package_tables.specs.Tables.{rows_tiles, gpkgext_relations}
 use Rattle.package_tables.specs.declared.rows.HeadRow.{HeadRow}
 use Rattle.package_tables.specs.declared.rows.RelationRow.{RelationRow}
-use Rattle.package_tables.specs.declared.rows.MappingRow.{MappingRow}
-use Rattle.identity_register.specs.Reads.{Says, Reads, head_row}
-use Rattle.first_version.specs.FirstVersion.{AreFree, first_relations, first_tables_of, with_version, brought, ReadsAtVersionOne}
+use Rattle.identity_register.specs.Reads.{Says, head_row}
+use Rattle.first_version.specs.FirstVersion.{first_relations, first_tables_of, with_version, brought}
 use Rattle.first_version.specs.Migrating.{SetsVersion}
 use Rattle.first_version.specs.TakingBack.{DropsThirdRelation, DropsThird, TakesBack}
 use Rattle.first_version.proofs.Carrying.{Carries, first_of, still_formed, still_said}

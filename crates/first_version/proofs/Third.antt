@@ -1,11 +1,11 @@
 -- The table of the third mapping comes, and then its index.
-use Rattle.std.proofs.Common.{◌≡◌, ℕ, pos, List, [], ◌∷◌, ◌++◌, map, length, true, Result, Ok, Err, codes, refl, sym, ap, subst, ◌∙◌}
+use Rattle.std.proofs.Common.{◌≡◌, ℕ, pos, [], ◌∷◌, ◌++◌, map, length, true, Ok, codes, refl, sym, ap, subst, ◌∙◌}
 use Rattle.std.specs.List.{AllByRecursion}
 use Rattle.sqlite.specs.Table.{Table}
 use Rattle.sqlite.specs.Schema.{Schema}
 use Rattle.sqlite.specs.Command.TheVariants.{CreateTable}
 use Rattle.sqlite.specs.Effect.{Database, IsDatabase}
-use Rattle.sqlite.specs.Change.{created, indexed, next_tree}
+use Rattle.sqlite.specs.Change.{next_tree}
 use Rattle.sqlite.specs.Does.{lacks_sequence}
 use Rattle.sqlite.specs.State.{State, Executes}
 use Rattle.sqlite.proofs.Callers.{IsPlain, command_of, runs_as}
@@ -22,17 +22,17 @@ use Rattle.sql_meaning.proofs.Create.{makes, creates_in, plain_of}
 use Rattle.sql_meaning.proofs.Indexes.{makes_index}
 use Rattle.sql_meaning.proofs.Writes.{is_in}
 use Rattle.package_tables.specs.Damaged.{AreFormedAt}
-use Rattle.package_tables.specs.Package.{tables_of, AreFormed}
+use Rattle.package_tables.specs.Package.{tables_of}
 use Rattle.package_tables.specs.Shape.{IsFormed, IsStored, stored_rows, rows_of}
 use Rattle.package_tables.specs.Shapes.{rows_tiles_shape}
 use Rattle.package_tables.specs.SchemaMade.{by_rows_tiles}
 use Rattle.package_tables.specs.Tables.{rows_tiles}
 use Rattle.package_tables.proofs.Shapes.{rows_placed}
 use Rattle.package_tables.proofs.Written.{pairs_listed}
-use Rattle.first_version.specs.FirstVersion.{AreFree, first_tables_of}
+use Rattle.first_version.specs.FirstVersion.{AreFree}
 use Rattle.first_version.specs.Migrating.{HasThird, MakesThird, IndexesThird}
 use Rattle.first_version.proofs.Positions.{slice_last}
-use Rattle.first_version.proofs.Growing.{with_third, still_there, still_quiet, has_sequence, third_there, index_still_free, still_indexed, quiet_indexed}
+use Rattle.first_version.proofs.Growing.{still_there, still_quiet, has_sequence, third_there, index_still_free, still_indexed, quiet_indexed}
 use Rattle.first_version.proofs.Carrying.{Carries, still_formed, still_said, with_last, fifteen_carried}
 use Rattle.first_version.proofs.Texts.{table_text, table_made, index_text, index_made}
 

@@ -1,5 +1,5 @@
 -- The one head gets a version.
-use Rattle.std.proofs.Common.{◌≡◌, ℕ, ℤ, ◌≤◌, List, [], ◌∷◌, map, length, Bool, true, cond, Result, Ok, codes, refl, sym, ap, subst, ◌∙◌, arith}
+use Rattle.std.proofs.Common.{◌≡◌, ℕ, ℤ, ◌≤◌, List, [], ◌∷◌, map, length, true, Ok, codes, refl, sym, ap, subst, ◌∙◌, arith}
 use Rattle.std.specs.Prelude.{filter}
 use Rattle.std.specs.List.{AllByRecursion}
 use Rattle.sqlite.specs.Order.{Row}
@@ -12,13 +12,12 @@ use Rattle.sqlite.specs.declared.types.Value.TheVariants.{Int}
 use Rattle.sqlite.proofs.Callers.{IsPlain, command_of, runs_as}
 use Rattle.sheet_types.specs.Ordered.{arranged}
 use Rattle.sql_meaning.specs.Kinds.{has_kinds}
-use Rattle.sql_meaning.specs.Known.{HasTable}
 use Rattle.sql_meaning.specs.Reading.{always}
 use Rattle.sql_meaning.specs.Writing.{Updates, IsKeyed}
 use Rattle.sql_meaning.proofs.Resolve.{understood_is}
 use Rattle.sql_meaning.proofs.Update.{changed, change_by, change_program, update_is}
 use Rattle.package_tables.specs.Package.{tables_of, AreFormed}
-use Rattle.package_tables.specs.Shape.{IsFormed, IsStored, stored_rows, rows_of}
+use Rattle.package_tables.specs.Shape.{IsFormed, IsStored, stored_rows}
 use Rattle.package_tables.specs.Shapes.{head_shape}
 use Rattle.package_tables.specs.Tables.{sheet_package}
 use Rattle.package_tables.specs.declared.rows.HeadRow.{HeadRow}

@@ -1,5 +1,5 @@
 -- What is taken back of a store, so that it is one of the first version: tests ask for it, and no call of the product.
-use Rattle.std.specs.Prelude.{◌≡◌, pos, Bool, []}
+use Rattle.std.specs.Prelude.{◌≡◌, pos, []}
 use Rattle.std.specs.Ordering.{int_eq}
 use Rattle.sqlite.specs.Effect.{Database}
 use Rattle.sheet_types.specs.World.{Package}
