@@ -1,5 +1,5 @@
-//! Tests of the crates that hold one package, and of what looks at one store: `package_tables`, `identity_register`, `custody`, `cut`, `store_forms`
-//! and `stored_receipts`. There is nothing here but tests.
+//! Tests of the crates that hold one package, and of what looks at one store: `package_tables`, `identity_register`, `custody`, `cut`, `store_forms`,
+//! `stored_receipts` and `first_version`. There is nothing here but tests.
 #![tactic(auto)]
 
 #[cfg(test)]
@@ -46,3 +46,7 @@ mod tables;
 mod user_rows_tests;
 #[cfg(test)]
 mod values;
+#[cfg(test)]
+mod version_tests;
+#[cfg(test)]
+mod versions;

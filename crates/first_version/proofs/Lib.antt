@@ -1,0 +1,12 @@
+pub mod Positions
+pub mod Growing
+pub mod Carrying
+pub mod Texts
+pub mod Third
+pub mod Versions
+pub mod Relating
+pub mod Bringing
+pub mod Filtered
+pub mod Dropping
+pub mod Reversing
+pub mod Alone

@@ -1,0 +1,16 @@
+use Rattle.std.proofs.Common.{[]}
+use Rattle.sqlite.specs.Held.{state}
+use Rattle.sql_meaning.proofs.Transactions.{write_steps}
+use Rattle.sql_meaning.proofs.Writes.{writes_inside}
+use Rattle.package_tables.proofs.Stepping.{settled_steps}
+use Rattle.first_version.specs.TakingBack.{DropsThird}
+use Rattle.first_version.proofs.Dropping.{drop_text}
+use Rattle.first_version.proofs.Reversing.{third_dropped}
+use Rattle.first_version.proofs.statements.drop_third_table.Goals as goal
+
+pub returns-clause-steps : goal.returns-clause-steps
+returns-clause-steps g c =
+    let old = state g.S.Store c.args.tx.now.conn.now in
+    let new = state g.S.Store c.execute.new.self.conn.now in
+    settled_steps _ c.settled.ensures
+    (write_steps DropsThird old new c.execute.result (λ clean begun. writes_inside DropsThird drop_text [] old new (third_dropped old new) c.execute.result (c.execute.ensures.runs clean begun)) c.execute.ensures.survives)

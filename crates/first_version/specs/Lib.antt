@@ -1,0 +1,4 @@
+pub mod FirstVersion
+pub mod Migrating
+pub mod TakingBack
+pub mod Laws
