@@ -1,0 +1,4 @@
+pub mod Printed
+pub mod Words
+pub mod Endings
+pub mod Folders

@@ -1,0 +1,42 @@
+//! Which zoom a map is asked of.
+ghost use Rattle.std.specs.Prelude.{◌≡◌, ℤ, false, IfNone, IfSome, IsTrue, Option, option_map};
+ghost use Rattle.sheet_types.specs.Matrix.{has_level, is_good_frame};
+ghost use Rattle.drawing.specs.Words.{AsksZoom};
+ghost use Rattle.drawing.specs.Printed.{drawn_zoom};
+
+use sheet_maps::zooms::{default_zoom, has_level};
+use sheet_types::frame::Frame;
+use sheet_types::reading::read_number;
+
+/// The zoom that a word asks for, in plain decimal within 64 bits: none in particular where no word was given. `None` where the word is no number.
+pub fn asked_zoom(word: Option<&str>) -> Option<Option<i64>>
+    ensures some { IfSome result (λ asked. AsksZoom (option_map (λ text. text.now) word) asked) }
+    ensures none { IfNone result ((asked : Option ℤ) → ¬ AsksZoom (option_map (λ text. text.now) word) asked) }
+{
+    match word {
+        Some(text) => match read_number(text) {
+            Some(zoom) => Some(Some(zoom)),
+            None => None,
+        },
+        None => Some(None),
+    }
+}
+
+/// The zoom that is drawn where this one is asked for, or none in particular; `None` where the frame does not have it.
+pub(crate) fn zoom_of(frame: &Frame, asked: Option<i64>) -> Option<i64>
+    requires { IsTrue (is_good_frame frame.now) }
+    ensures some { IfSome result (λ zoom. zoom ≡ drawn_zoom frame.now asked) }
+    ensures level { IfSome result (λ zoom. IsTrue (has_level frame.now zoom)) }
+    ensures none { IfNone result (has_level frame.now (drawn_zoom frame.now asked) ≡ false) }
+{
+    match asked {
+        Some(zoom) => {
+            if has_level(frame, zoom) {
+                Some(zoom)
+            } else {
+                None
+            }
+        }
+        None => Some(default_zoom(frame)),
+    }
+}
