@@ -1,7 +1,7 @@
 // Statuses and lines, judged by hand.
-use crate::endings::{MapEnding, busy_package, error_of, output_of, status_of};
 use cli::statuses::{Outcome, What};
 use commands::endings::{DONE, Ending, FAILED, OpenFault};
+use drawing::endings::{MapEnding, busy_package, error_of, output_of, status_of};
 use uuid::Uuid;
 
 fn busy() -> MapEnding {

@@ -1,9 +1,9 @@
 // The map of an archive that lent a sheet and took a new one at its place; the text was worked out by hand.
-use crate::endings::MapEnding;
-use crate::maps::{map, map_in};
-use crate::zooms::asked_zoom;
 use cli::statuses::{Outcome, What};
 use commands::endings::{DONE, Ending, FAILED, OpenFault};
+use drawing::endings::MapEnding;
+use drawing::maps::{map, map_in};
+use drawing::zooms::asked_zoom;
 use opening::faults::RecoverFault;
 use package_tables::fault::Fault;
 use sheet_types::command::Mode;
