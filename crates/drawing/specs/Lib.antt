@@ -1,4 +1,4 @@
+pub mod Zooms
 pub mod Printed
-pub mod Words
 pub mod Endings
 pub mod Folders

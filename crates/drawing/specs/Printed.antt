@@ -4,21 +4,15 @@ use Rattle.std.specs.Io.KnownBytes.{Appends}
 use Rattle.sqlite.specs.Store.{Ghosts}
 use Rattle.sheet_types.specs.Matrix.{has_level}
 use Rattle.sheet_types.specs.World.{World}
-use Rattle.sheet_types.specs.declared.frame.Frame.{Frame}
 use Rattle.sheet_maps.specs.Worlds.{IsWorldMap}
-use Rattle.sheet_maps.specs.Zooms.{default_zoom}
 use Rattle.world.specs.Members.{AllClean}
 use Rattle.world.specs.Worlds.{IsRead, Seen, StandsFor}
 use Rattle.manifest_csv.specs.Sent.{WentOut}
+use Rattle.drawing.specs.Zooms.{drawn_zoom}
 use Rattle.drawing.specs.declared.printing.MapFault.{MapFault}
 use Rattle.drawing.specs.declared.printing.MapFault.TheVariants.{NoSuchZoom, Failed, Unwritten}
 
--- the zoom that is drawn: the one that is asked for, or that of a frame where none is
-abbrev pub drawn_zoom : Frame → Option ℤ → ℤ
-drawn_zoom f None = default_zoom f
-drawn_zoom f (Some zoom) = zoom
-
--- whether the frame has it
+-- whether the frame has the zoom that is drawn
 abbrev pub HasZoom : World → Option ℤ → Type 0
 HasZoom w asked = has_level w.frame (drawn_zoom w.frame asked) ≡ true
 

@@ -4,7 +4,7 @@ ghost use Rattle.cli.specs.declared.statuses.Outcome.TheVariants.{Refused};
 ghost use Rattle.cli.specs.declared.statuses.What.TheVariants.{BadNumber};
 ghost use Rattle.commands.specs.declared.endings.Ending.TheVariants as usual;
 ghost use Rattle.drawing.specs.Folders.{EndsMap, OpensThen, map_ending};
-ghost use Rattle.drawing.specs.Words.{AsksZoom};
+ghost use Rattle.drawing.specs.Zooms.{AsksZoom};
 ghost use Rattle.drawing.specs.declared.endings.MapEnding.TheVariants.{Usual};
 
 use crate::endings::MapEnding;

@@ -7,7 +7,7 @@ ghost use Rattle.drawing.specs.Printed.{IsPrinted, IsUntouched, LeavesRefused};
 
 use crate::gathering::holders_of;
 use crate::zooms::zoom_of;
-use manifest_csv::sending::{WriteFault, send};
+use manifest_csv::sending::send;
 use matrix_rules::check::FrameRules;
 use package_tables::fault::Fault;
 use sheet_maps::maps::map_text;
@@ -26,26 +26,6 @@ pub enum MapFault {
     Failed(Fault),
     /// The writer failed. A beginning of the map went out, and not all of it.
     Unwritten,
-}
-
-impl From<Fault> for MapFault {
-    ghost use Rattle.drawing.specs.declared.printing.MapFault.TheVariants.{Failed};
-
-    ghost from_gives = { λ fault why. why ≡ Failed fault };
-
-    fn from(fault: Fault) -> MapFault {
-        MapFault::Failed(fault)
-    }
-}
-
-impl From<WriteFault> for MapFault {
-    ghost use Rattle.drawing.specs.declared.printing.MapFault.TheVariants.{Unwritten};
-
-    ghost from_gives = { λ fault why. why ≡ Unwritten };
-
-    fn from(_fault: WriteFault) -> MapFault {
-        MapFault::Unwritten
-    }
 }
 
 /// Whether a frame is good.
@@ -98,7 +78,12 @@ pub fn print_map<S: Alter + Drop, W: Write>(
     let Some(zoom) = zoom_of(&frame, asked) else {
         return Err(MapFault::NoSuchZoom);
     };
-    let text = world_map(alloc, world, &frame, zoom)?;
-    send(writer, text.as_bytes())?;
-    Ok(())
+    let text = match world_map(alloc, world, &frame, zoom) {
+        Ok(text) => text,
+        Err(fault) => return Err(MapFault::Failed(fault)),
+    };
+    match send(writer, text.as_bytes()) {
+        Ok(()) => Ok(()),
+        Err(_) => Err(MapFault::Unwritten),
+    }
 }
