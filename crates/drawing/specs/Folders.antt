@@ -8,7 +8,7 @@ use Rattle.commands.specs.Folders.{IsFolderWorld}
 use Rattle.commands.specs.Printing.{done, failed}
 use Rattle.commands.specs.declared.endings.Ending.TheVariants as usual
 use Rattle.commands.specs.declared.endings.OpenFault.{OpenFault}
-use Rattle.drawing.specs.Printed.{IsPrinted, IsUntouched, LeavesRefused}
+use Rattle.drawing.specs.Printed.{IsPrinted, IsUntouched, LeavesUnprinted}
 use Rattle.drawing.specs.declared.endings.MapEnding.{MapEnding}
 use Rattle.drawing.specs.declared.endings.MapEnding.TheVariants as ending
 use Rattle.drawing.specs.declared.printing.MapFault.{MapFault}
@@ -28,7 +28,7 @@ module _ {S : Type 0} (g : Ghosts S) where
     pub ends : is ≡ map_ending outcome
     pub read : IsUntouched g old new
     pub printed : IsPrinted g asked old new before after outcome
-    pub refused : LeavesRefused writer writer' outcome
+    pub unprinted : LeavesUnprinted writer writer' outcome
 
   -- The folder was not opened, and nothing was printed; or its world was, and this was made of it.
   abbrev pub OpensThen : {W : Type 0} → (Seen S → Seen S → Type 0) → W → W → MapEnding → Type 0

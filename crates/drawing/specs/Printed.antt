@@ -29,11 +29,11 @@ PrintsMap w asked before after (Err Unwritten) =
     HasZoom w asked × ((text : List ℕ) × IsMap w asked text × WentOut before after text)
 
 -- Nothing is written where there was no map to write.
-abbrev pub LeavesRefused : {W : Type 0} → W → W → Result (Unit {0}) MapFault → Type 0
-LeavesRefused old new (Ok x) = Unit {0}
-LeavesRefused old new (Err NoSuchZoom) = new ≡ old
-LeavesRefused old new (Err (Failed fault)) = new ≡ old
-LeavesRefused old new (Err Unwritten) = Unit {0}
+abbrev pub LeavesUnprinted : {W : Type 0} → W → W → Result (Unit {0}) MapFault → Type 0
+LeavesUnprinted old new (Ok x) = Unit {0}
+LeavesUnprinted old new (Err NoSuchZoom) = new ≡ old
+LeavesUnprinted old new (Err (Failed fault)) = new ≡ old
+LeavesUnprinted old new (Err Unwritten) = Unit {0}
 
 module _ {S : Type 0} (g : Ghosts S) where
   -- The world is as it was, or it was only read.

@@ -3,7 +3,7 @@ ghost use Rattle.std.specs.Prelude.{◌≡◌, IsTrue, string_bytes};
 ghost use Rattle.sheet_types.specs.Matrix.{has_level, is_good_frame};
 ghost use Rattle.sheet_maps.specs.Worlds.{IsWorldMap};
 ghost use Rattle.world.specs.Worlds.{TellsOf};
-ghost use Rattle.drawing.specs.Printed.{IsPrinted, IsUntouched, LeavesRefused};
+ghost use Rattle.drawing.specs.Printed.{IsPrinted, IsUntouched, LeavesUnprinted};
 
 use crate::gathering::holders_of;
 use crate::zooms::zoom_of;
@@ -68,7 +68,7 @@ pub fn print_map<S: Alter + Drop, W: Write>(
 ) -> Result<(), MapFault>
     ensures read { IsUntouched S.Store world.old world.new }
     ensures printed { IsPrinted S.Store asked world.old world.new (W.contents writer.old) (W.contents writer.new) result }
-    ensures refused { LeavesRefused writer.old writer.new result }
+    ensures unprinted { LeavesUnprinted writer.old writer.new result }
 {
     let frame = world.frame();
     // The frame of a world is good, and is asked for that here since no call says so.
