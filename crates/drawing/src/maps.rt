@@ -72,9 +72,9 @@ pub fn map<W: Write>(
     zoom: Option<&str>,
     writer: &mut W,
 ) -> MapEnding
-    ensures refused { ((asked : Option ℤ) → ¬ AsksZoom (option_map (λ text. text.now) zoom) asked) → result ≡ Usual (usual.Usual (Refused BadNumber)) }
-    ensures unwritten { ((asked : Option ℤ) → ¬ AsksZoom (option_map (λ text. text.now) zoom) asked) → writer.new ≡ writer.old }
-    ensures told { (asked : Option ℤ) → AsksZoom (option_map (λ text. text.now) zoom) asked → OpensThen ⟦<FolderStore as Store>⟧
+    ensures refused { ((asked : Option ℤ) → ¬ AsksZoom (option_map (λ text. text.now) zoom.entry) asked) → result ≡ Usual (usual.Usual (Refused BadNumber)) }
+    ensures unwritten { ((asked : Option ℤ) → ¬ AsksZoom (option_map (λ text. text.now) zoom.entry) asked) → writer.new ≡ writer.old }
+    ensures told { (asked : Option ℤ) → AsksZoom (option_map (λ text. text.now) zoom.entry) asked → OpensThen ⟦<FolderStore as Store>⟧
         (λ old new. EndsMap ⟦<FolderStore as Store>⟧ asked old new writer.old writer.new (W.contents writer.old) (W.contents writer.new) result)
         writer.old writer.new result }
 {
