@@ -19,15 +19,15 @@ use Rattle.manifest_csv.specs.declared.importing.ImportFault.{ImportFault}
 use Rattle.manifest_csv.specs.declared.importing.ImportFault.TheVariants.{Unread, Stopped as Interrupted, Unwritten}
 use Rattle.request_csv.specs.declared.lists.ReadFault.TheVariants.{Header, Record, Read, Memory}
 use Rattle.manifest_csv.proofs.SentFacts.{went_out_past}
-use Rattle.cli.specs.Arguments.{Asks, IsFirstUnread}
-use Rattle.cli.specs.Endings.{import_outcome}
+use Rattle.command_words.specs.Arguments.{Asks, IsFirstUnread}
+use Rattle.command_words.specs.Endings.{import_outcome}
 use Rattle.cli.specs.Rehearsals.{Ran, report, live_text, StandsOn, Writes, Rehearses}
 use Rattle.cli.specs.Servings.{HandsOn}
-use Rattle.cli.specs.declared.statuses.What.{What}
-use Rattle.cli.specs.declared.statuses.What.TheVariants.{BadUuid, BadMoment, BadFrame, BadNumber, BadList}
-use Rattle.cli.specs.declared.statuses.Failure.{Failure}
-use Rattle.cli.specs.declared.statuses.Outcome.TheVariants.{Done, Stopped}
-use Rattle.cli.proofs.FrameTexts.{frame_once, in_range}
+use Rattle.command_words.specs.declared.statuses.What.{What}
+use Rattle.command_words.specs.declared.statuses.What.TheVariants.{BadUuid, BadMoment, BadFrame, BadNumber, BadList}
+use Rattle.command_words.specs.declared.statuses.Failure.{Failure}
+use Rattle.command_words.specs.declared.statuses.Outcome.TheVariants.{Done, Stopped}
+use Rattle.command_words.proofs.FrameTexts.{frame_once, in_range}
 
 -- an import that did not go through is not done
 pub never_done : (fault : ImportFault) → import_outcome fault ≢ Done

@@ -8,11 +8,11 @@ use Rattle.sheet_types.specs.World.{World, new_world}
 use Rattle.sheet_types.specs.declared.frame.Frame.{Frame}
 use Rattle.world.specs.Worlds.{Seen}
 use Rattle.desk_serving.specs.Connections.{IsServedBy}
-use Rattle.cli.specs.Arguments.{Asks, AsksDesk, IsNumber, IsFirstUnserved}
+use Rattle.command_words.specs.Arguments.{Asks, AsksDesk, IsNumber, IsFirstUnserved}
 use Rattle.cli.specs.Servings.{HandsOn, RehearsesAndServes}
-use Rattle.cli.specs.declared.statuses.Outcome.{Outcome}
-use Rattle.cli.specs.declared.statuses.What.{What}
-use Rattle.cli.specs.declared.statuses.What.TheVariants.{BadUuid, BadMoment, BadFrame, BadNumber, BadList}
+use Rattle.command_words.specs.declared.statuses.Outcome.{Outcome}
+use Rattle.command_words.specs.declared.statuses.What.{What}
+use Rattle.command_words.specs.declared.statuses.What.TheVariants.{BadUuid, BadMoment, BadFrame, BadNumber, BadList}
 use Rattle.cli.proofs.Rehearsing.{asks_read}
 
 module _ {S W : Type 0} (g : Ghosts S) (clean : (h : Held S) → HasCleanDisk (state g h)) (w : World) (text : Option (List ℕ)) (writer writer' : W) (before after : Option (List ℕ)) (seen last : Seen S) (most : ℕ) where

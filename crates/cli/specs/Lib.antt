@@ -1,6 +1,2 @@
-pub mod Arguments
-pub mod Endings
-pub mod Failures
-pub mod Progress
 pub mod Rehearsals
 pub mod Servings

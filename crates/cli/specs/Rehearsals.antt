@@ -20,12 +20,12 @@ use Rattle.request_csv.specs.RequestLists.{IsList}
 use Rattle.manifest_csv.specs.Sent.{WentOut, WentOutPast}
 use Rattle.request_csv.specs.declared.lists.ReadFault.{ReadFault}
 use Rattle.request_csv.specs.declared.lists.ReadFault.TheVariants.{Memory}
-use Rattle.cli.specs.Failures.{of_fault}
-use Rattle.cli.specs.declared.statuses.What.TheVariants.{BadList}
-use Rattle.cli.specs.declared.statuses.Failure.{Failure}
-use Rattle.cli.specs.declared.statuses.Failure.TheVariants.{StoreFault}
-use Rattle.cli.specs.declared.statuses.Outcome.{Outcome}
-use Rattle.cli.specs.declared.statuses.Outcome.TheVariants.{Done, Refused, Stopped}
+use Rattle.command_words.specs.Failures.{of_fault}
+use Rattle.command_words.specs.declared.statuses.What.TheVariants.{BadList}
+use Rattle.command_words.specs.declared.statuses.Failure.{Failure}
+use Rattle.command_words.specs.declared.statuses.Failure.TheVariants.{StoreFault}
+use Rattle.command_words.specs.declared.statuses.Outcome.{Outcome}
+use Rattle.command_words.specs.declared.statuses.Outcome.TheVariants.{Done, Refused, Stopped}
 
 -- the line that names a package, before its manifest
 abbrev pub package_line : List ℕ → List ℕ

@@ -7,8 +7,8 @@ use Rattle.sheet_types.specs.declared.receipt.Receipt.{Receipt}
 use Rattle.sheet_types.specs.declared.refusal.Refusal.{Refusal}
 use Rattle.world.specs.Worlds.{RunsOverRegisters, Seen, StandsFor}
 use Rattle.cli.specs.Rehearsals.{Rehearses}
-use Rattle.cli.specs.declared.statuses.Outcome.{Outcome}
-use Rattle.cli.specs.declared.statuses.Outcome.TheVariants.{Done}
+use Rattle.command_words.specs.declared.statuses.Outcome.{Outcome}
+use Rattle.command_words.specs.declared.statuses.Outcome.TheVariants.{Done}
 
 module _ {S : Type 0} (g : Ghosts S) where
   -- A rehearsal that hands on its world: it was done, and the value stands for the world that its list led to; or it ended otherwise.

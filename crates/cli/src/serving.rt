@@ -2,14 +2,14 @@
 ghost use Rattle.std.specs.Prelude.{◌≡◌, ℕ, List, Err};
 ghost use Rattle.sheet_types.specs.World.{new_world};
 ghost use Rattle.sheet_types.specs.declared.frame.Frame.{Frame};
-ghost use Rattle.cli.specs.Arguments.{Asks, AsksDesk, IsFirstUnserved};
+ghost use Rattle.command_words.specs.Arguments.{Asks, AsksDesk, IsFirstUnserved};
 ghost use Rattle.cli.specs.Servings.{RehearsesAndServes};
-ghost use Rattle.cli.specs.declared.statuses.What.{What};
-ghost use Rattle.cli.specs.declared.statuses.Outcome.TheVariants.{Refused};
+ghost use Rattle.command_words.specs.declared.statuses.What.{What};
+ghost use Rattle.command_words.specs.declared.statuses.Outcome.TheVariants.{Refused};
 
-use crate::arguments::{DeskWords, Rehearsal, Words, read_serving};
 use crate::rehearse::handed_on;
-use crate::statuses::{Failure, Outcome};
+use command_words::arguments::{DeskWords, Rehearsal, Words, read_serving};
+use command_words::statuses::{Failure, Outcome};
 use desk_serving::connections::serve_each;
 use desk_serving::listening::listen;
 use manifest_csv::progress::Teller;

@@ -2,11 +2,11 @@
 use crate::words::sheetdesk;
 use clap::error::ErrorKind;
 use clap::{ArgMatches, Error};
-use cli::arguments::{DeskWords, Words};
-use cli::progress::{Progress, Silent, Teller};
 use cli::rehearse::rehearse;
 use cli::serving::rehearse_and_serve;
-use cli::statuses::Outcome;
+use command_words::arguments::{DeskWords, Words};
+use command_words::progress::{Progress, Silent, Teller};
+use command_words::statuses::Outcome;
 use commands::applying::apply;
 use commands::auditing::audit;
 use commands::endings::{Ending, FAILED, NO_MEMORY, busy_package, error_of, output_of, status_of};

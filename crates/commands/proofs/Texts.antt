@@ -5,7 +5,7 @@ use Rattle.std.proofs.lemmas.Fmt.{decimal_injective}
 use Rattle.serde_json.proofs.OnLiterals.{serde_json_on_literals}
 use Rattle.sheet_types.specs.declared.refusal.Refusal.TheVariants as refusal
 use Rattle.desk_replies.specs.Bodies.{refusal_text}
-use Rattle.cli.specs.Arguments.{IsCount}
+use Rattle.command_words.specs.Arguments.{IsCount}
 
 pub no_memory_is : codes "{\"name\":\"OutOfMemory\",\"refusal\":24}" ≡ refusal_text refusal.OutOfMemory
 unfolding digits serde_json_on_literals

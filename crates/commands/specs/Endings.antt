@@ -1,6 +1,6 @@
 -- How a call of the program on a folder ends: its exit status, and the lines that it prints before (profile).
 use Rattle.std.specs.Prelude.{ℕ, List, [], ◌∷◌, ◌++◌, codes, Option, Some, None}
-use Rattle.cli.specs.Endings.{outcome_status, line_of, output_text as outcome_output, error_text as outcome_error}
+use Rattle.command_words.specs.Endings.{outcome_status, line_of, output_text as outcome_output, error_text as outcome_error}
 use Rattle.folder.specs.declared.fault.FolderFault.{FolderFault}
 use Rattle.folder.specs.declared.fault.FolderFault.TheVariants as folder
 use Rattle.opening.specs.declared.faults.RecoverFault.{RecoverFault}

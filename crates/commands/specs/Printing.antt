@@ -9,8 +9,8 @@ use Rattle.sheet_types.specs.declared.refusal.Refusal.{Refusal}
 use Rattle.sheet_types.specs.declared.refusal.Refusal.TheVariants as refusal
 use Rattle.manifest_csv.specs.Sent.{WentOut}
 use Rattle.desk_replies.specs.Bodies.{receipt_text, refusal_text}
-use Rattle.cli.specs.declared.statuses.Failure.TheVariants.{OutOfMemory, StoreFault}
-use Rattle.cli.specs.declared.statuses.Outcome.TheVariants.{Done, Stopped}
+use Rattle.command_words.specs.declared.statuses.Failure.TheVariants.{OutOfMemory, StoreFault}
+use Rattle.command_words.specs.declared.statuses.Outcome.TheVariants.{Done, Stopped}
 use Rattle.commands.specs.declared.endings.Ending.{Ending}
 use Rattle.commands.specs.declared.endings.Ending.TheVariants.{Usual, Declined}
 

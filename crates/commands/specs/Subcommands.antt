@@ -14,11 +14,11 @@ use Rattle.manifest_csv.specs.declared.importing.ImportFault.{ImportFault}
 use Rattle.manifest_csv.specs.declared.package_manifests.ManifestFault.{ManifestFault}
 use Rattle.manifest_csv.specs.declared.package_manifests.ManifestFault.TheVariants as manifest
 use Rattle.desk_serving.specs.Connections.{IsServedBy}
-use Rattle.cli.specs.Endings.{import_outcome}
-use Rattle.cli.specs.Failures.{of_fault}
-use Rattle.cli.specs.declared.statuses.Failure.{Failure}
-use Rattle.cli.specs.declared.statuses.Outcome.TheVariants.{Refused, Stopped}
-use Rattle.cli.specs.declared.statuses.What.TheVariants.{BadList}
+use Rattle.command_words.specs.Endings.{import_outcome}
+use Rattle.command_words.specs.Failures.{of_fault}
+use Rattle.command_words.specs.declared.statuses.Failure.{Failure}
+use Rattle.command_words.specs.declared.statuses.Outcome.TheVariants.{Refused, Stopped}
+use Rattle.command_words.specs.declared.statuses.What.TheVariants.{BadList}
 use Rattle.commands.specs.Folders.{IsFolderWorld}
 use Rattle.commands.specs.Printing.{done, failed, no_memory, Prints, PrintsReply, archive_line, good_line, last_receipt}
 use Rattle.commands.specs.declared.endings.Ending.{Ending}

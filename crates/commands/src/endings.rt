@@ -2,7 +2,7 @@
 ghost use Rattle.std.specs.Prelude.{◌≡◌};
 ghost use Rattle.commands.specs.Endings.{busy_file, busy_package, ending_status, error_text, fault_line, of_folder, output_text, store_line};
 
-use cli::statuses::{
+use command_words::statuses::{
     Failure, Outcome, error_of as outcome_error, output_of as outcome_output,
     status_of as outcome_status,
 };

@@ -1,13 +1,13 @@
 //! A request list, carried out over a folder of packages.
 ghost use Rattle.std.specs.Prelude.{◌≡◌, IfErr};
-ghost use Rattle.cli.specs.Endings.{import_outcome};
+ghost use Rattle.command_words.specs.Endings.{import_outcome};
 ghost use Rattle.commands.specs.Folders.{OpensThen};
 ghost use Rattle.commands.specs.Subcommands.{EndsImport, ImportsFile, IsUnlisted};
 ghost use Rattle.commands.specs.declared.endings.Ending.TheVariants.{Unopened};
 
 use crate::endings::{DONE, Ending, NO_MEMORY};
 use crate::folders::open_folder;
-use cli::statuses::{Failure, Outcome, What};
+use command_words::statuses::{Failure, Outcome, What};
 use folder::opening::close_stores;
 use folder::shelf::FolderShelf;
 use folder::start::FolderStore;

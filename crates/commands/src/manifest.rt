@@ -1,15 +1,15 @@
 //! The manifest of a package of a folder.
 ghost use Rattle.std.specs.Prelude.{◌≡◌, ℕ, List, Some, None, Err};
 ghost use Rattle.uuid.specs.Text.{parsed_hyphenated};
-ghost use Rattle.cli.specs.declared.statuses.Outcome.TheVariants.{Refused};
-ghost use Rattle.cli.specs.declared.statuses.What.TheVariants.{BadUuid};
+ghost use Rattle.command_words.specs.declared.statuses.Outcome.TheVariants.{Refused};
+ghost use Rattle.command_words.specs.declared.statuses.What.TheVariants.{BadUuid};
 ghost use Rattle.commands.specs.Folders.{OpensThen};
 ghost use Rattle.commands.specs.Subcommands.{EndsManifest, manifest_ending};
 ghost use Rattle.commands.specs.declared.endings.Ending.TheVariants.{Unopened, Usual};
 
 use crate::endings::{DONE, Ending};
 use crate::folders::open_folder;
-use cli::statuses::{Failure, Outcome, What};
+use command_words::statuses::{Failure, Outcome, What};
 use folder::opening::close_stores;
 use folder::start::FolderStore;
 use manifest_csv::package_manifests::{ManifestFault, write_manifest};

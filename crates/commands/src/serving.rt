@@ -1,15 +1,15 @@
 //! A folder of packages, served to connections of this machine.
 ghost use Rattle.std.specs.Prelude.{◌≡◌, ℕ};
-ghost use Rattle.cli.specs.Arguments.{AsksDesk};
-ghost use Rattle.cli.specs.declared.statuses.Outcome.TheVariants.{Refused};
-ghost use Rattle.cli.specs.declared.statuses.What.TheVariants.{BadNumber};
+ghost use Rattle.command_words.specs.Arguments.{AsksDesk};
+ghost use Rattle.command_words.specs.declared.statuses.Outcome.TheVariants.{Refused};
+ghost use Rattle.command_words.specs.declared.statuses.What.TheVariants.{BadNumber};
 ghost use Rattle.commands.specs.Subcommands.{ServesAt, ServesOn};
 ghost use Rattle.commands.specs.declared.endings.Ending.TheVariants.{Usual};
 
 use crate::endings::{DONE, Ending, FAILED};
 use crate::folders::open_folder;
-use cli::arguments::{Desk, DeskWords, read_desk};
-use cli::statuses::{Outcome, What};
+use command_words::arguments::{Desk, DeskWords, read_desk};
+use command_words::statuses::{Outcome, What};
 use desk_serving::connections::serve_each;
 use desk_serving::listening::listen;
 use folder::opening::close_stores;

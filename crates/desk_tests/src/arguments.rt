@@ -1,9 +1,9 @@
 // Words that were judged by hand.
-use cli::arguments::{
+use command_words::arguments::{
     Desk, DeskWords, Words, read_count, read_desk, read_frame, read_port, read_rehearsal,
     read_serving,
 };
-use cli::statuses::What;
+use command_words::statuses::What;
 use sheet_types::frame::Frame;
 use uuid::Uuid;
 

@@ -1,5 +1,5 @@
 // What is told of an import, written out by hand.
-use cli::progress::{Progress, is_due, write_progress};
+use command_words::progress::{Progress, is_due, write_progress};
 use manifest_csv::progress::Teller;
 use std::test::Fail;
 use test_lists::Narrow;

@@ -1,7 +1,7 @@
 // Rehearsals whose output was written out by hand; the digest is Python's `hashlib`.
-use cli::arguments::Words;
 use cli::rehearse::rehearse;
-use cli::statuses::{Failure, Outcome, What, status_of};
+use command_words::arguments::Words;
+use command_words::statuses::{Failure, Outcome, What, status_of};
 use manifest_csv::progress::Silent;
 use std::alloc::Global;
 use std::process::Abort;

@@ -1,7 +1,7 @@
 // Rehearsals whose world is served over the loopback address in one process; what goes out was written out by hand, and the digests are Python's `hashlib`.
-use cli::arguments::{DeskWords, Words, read_rehearsal};
 use cli::serving::{rehearse_and_serve, served};
-use cli::statuses::{Failure, Outcome, What};
+use command_words::arguments::{DeskWords, Words, read_rehearsal};
+use command_words::statuses::{Failure, Outcome, What};
 use desk_serving::listening::listen;
 use manifest_csv::progress::Silent;
 use memory_files::MemoryFile;

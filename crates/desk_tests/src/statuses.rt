@@ -1,5 +1,5 @@
 // Statuses and lines as they were agreed on.
-use cli::statuses::{Failure, Outcome, What, error_of, output_of, status_of};
+use command_words::statuses::{Failure, Outcome, What, error_of, output_of, status_of};
 
 #[test]
 fn each_outcome_has_its_status_and_its_line(rt: HostRuntime) {

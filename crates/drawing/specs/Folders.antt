@@ -2,8 +2,8 @@
 use Rattle.std.specs.Prelude.{◌≡◌, ◌⊎◌, ℕ, ℤ, List, Option, Result, Ok, Err}
 use Rattle.sqlite.specs.Store.{Ghosts}
 use Rattle.world.specs.Worlds.{Seen}
-use Rattle.cli.specs.Failures.{of_fault}
-use Rattle.cli.specs.declared.statuses.Outcome.TheVariants.{Stopped}
+use Rattle.command_words.specs.Failures.{of_fault}
+use Rattle.command_words.specs.declared.statuses.Outcome.TheVariants.{Stopped}
 use Rattle.commands.specs.Folders.{IsFolderWorld}
 use Rattle.commands.specs.Printing.{done, failed}
 use Rattle.commands.specs.declared.endings.Ending.TheVariants as usual

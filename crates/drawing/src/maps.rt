@@ -1,7 +1,7 @@
 //! The map of a folder of packages.
 ghost use Rattle.std.specs.Prelude.{◌≡◌, ℤ, Err, Option, option_map};
-ghost use Rattle.cli.specs.declared.statuses.Outcome.TheVariants.{Refused};
-ghost use Rattle.cli.specs.declared.statuses.What.TheVariants.{BadNumber};
+ghost use Rattle.command_words.specs.declared.statuses.Outcome.TheVariants.{Refused};
+ghost use Rattle.command_words.specs.declared.statuses.What.TheVariants.{BadNumber};
 ghost use Rattle.commands.specs.declared.endings.Ending.TheVariants as usual;
 ghost use Rattle.drawing.specs.Folders.{EndsMap, OpensThen, map_ending};
 ghost use Rattle.drawing.specs.Zooms.{AsksZoom};
@@ -10,7 +10,7 @@ ghost use Rattle.drawing.specs.declared.endings.MapEnding.TheVariants.{Usual};
 use crate::endings::MapEnding;
 use crate::printing::{MapFault, print_map};
 use crate::zooms::asked_zoom;
-use cli::statuses::{Failure, Outcome, What};
+use command_words::statuses::{Failure, Outcome, What};
 use commands::endings::{DONE, Ending as CommandEnding, FAILED};
 use commands::folders::open_folder;
 use folder::opening::close_stores;

@@ -1,6 +1,6 @@
 // A session over a folder of the file system that the test makes and removes.
-use cli::arguments::{DeskWords, Words};
-use cli::statuses::{Outcome, What};
+use command_words::arguments::{DeskWords, Words};
+use command_words::statuses::{Outcome, What};
 use commands::applying::apply;
 use commands::auditing::audit;
 use commands::endings::{DONE, Ending, OpenFault};

@@ -1,5 +1,5 @@
 // Statuses and lines, judged by hand.
-use cli::statuses::{Outcome, What};
+use command_words::statuses::{Outcome, What};
 use commands::endings::{DONE, Ending, FAILED, OpenFault};
 use drawing::endings::{MapEnding, busy_package, error_of, output_of, status_of};
 use uuid::Uuid;

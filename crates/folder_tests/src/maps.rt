@@ -1,5 +1,5 @@
 // The map of an archive that lent a sheet and took a new one at its place; the text was worked out by hand.
-use cli::statuses::{Outcome, What};
+use command_words::statuses::{Outcome, What};
 use commands::endings::{DONE, Ending, FAILED, OpenFault};
 use drawing::endings::MapEnding;
 use drawing::maps::{map, map_in};

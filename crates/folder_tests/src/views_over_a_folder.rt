@@ -1,6 +1,6 @@
 // A folder of the file system that the test makes and removes.
-use cli::arguments::Words;
-use cli::statuses::{Outcome, What};
+use command_words::arguments::Words;
+use command_words::statuses::{Outcome, What};
 use commands::endings::{DONE, Ending as CommandEnding, OpenFault};
 use commands::init::init;
 use opening::faults::RecoverFault;

@@ -3,8 +3,8 @@ use Rattle.std.specs.Prelude.{◌≡◌, ◌⊎◌, ℕ, List, Option, Some, Non
 use Rattle.std.specs.Io.KnownBytes.{Appends}
 use Rattle.manifest_csv.specs.Sent.{WentOut}
 use Rattle.package_tables.specs.declared.fault.Fault.{Fault}
-use Rattle.cli.specs.Failures.{of_fault}
-use Rattle.cli.specs.declared.statuses.Outcome.TheVariants.{Stopped}
+use Rattle.command_words.specs.Failures.{of_fault}
+use Rattle.command_words.specs.declared.statuses.Outcome.TheVariants.{Stopped}
 use Rattle.commands.specs.Printing.{done, failed}
 use Rattle.commands.specs.declared.endings.Ending.TheVariants as usual
 use Rattle.views.specs.declared.endings.Ending.{Ending}

@@ -1,8 +1,8 @@
 //! A kept receipt of a folder.
 ghost use Rattle.std.specs.Prelude.{◌≡◌, ℕ, List, Some, None};
 ghost use Rattle.uuid.specs.Text.{parsed_hyphenated};
-ghost use Rattle.cli.specs.declared.statuses.Outcome.TheVariants.{Refused};
-ghost use Rattle.cli.specs.declared.statuses.What.TheVariants.{BadUuid};
+ghost use Rattle.command_words.specs.declared.statuses.Outcome.TheVariants.{Refused};
+ghost use Rattle.command_words.specs.declared.statuses.What.TheVariants.{BadUuid};
 ghost use Rattle.world.specs.Worlds.{Seen};
 ghost use Rattle.commands.specs.declared.endings.Ending.TheVariants as usual;
 ghost use Rattle.views.specs.declared.endings.Ending.TheVariants.{Usual};
@@ -10,7 +10,7 @@ ghost use Rattle.views.specs.Views.{OpensThen, ShowsReceipt};
 
 use crate::endings::Ending;
 use crate::showing::show_found;
-use cli::statuses::{Outcome, What};
+use command_words::statuses::{Outcome, What};
 use commands::endings::Ending as CommandEnding;
 use commands::folders::open_folder;
 use folder::opening::close_stores;

@@ -3,7 +3,7 @@ ghost use Rattle.std.specs.Prelude.{◌≡◌, string_bytes};
 ghost use Rattle.views.specs.Showing.{PrintsAll, Shows, ShowsText, stopped, told, told_if};
 
 use crate::endings::Ending;
-use cli::statuses::{Failure, Outcome};
+use command_words::statuses::{Failure, Outcome};
 use commands::endings::{DONE, Ending as CommandEnding, FAILED};
 use manifest_csv::sending::send;
 use package_tables::fault::Fault;

@@ -1,7 +1,7 @@
 //! What the words of a command line ask for.
 ghost use Rattle.std.specs.Prelude.{◌≡◌, ℕ, IfSome, IfNone, IfOk, IfErr, MatchResult};
 ghost use Rattle.sheet_types.specs.declared.frame.Frame.{Frame};
-ghost use Rattle.cli.specs.Arguments.{IsFrame, IsFirstUnread, Asks, IsPort, IsCount, AsksDesk, IsFirstUnserved};
+ghost use Rattle.command_words.specs.Arguments.{IsFrame, IsFirstUnread, Asks, IsPort, IsCount, AsksDesk, IsFirstUnserved};
 
 use crate::statuses::What;
 use matrix_rules::check::FrameRules;

@@ -1,8 +1,8 @@
 -- A text is that of one frame at most.
 use Rattle.std.proofs.Common.{rules}
 use Rattle.sheet_types.specs.Reading.{IsInRange}
-use Rattle.cli.proofs.FrameTexts.{no_good_frame, other_frame}
-use Rattle.cli.proofs.arguments.read_frame.Goals as goal
+use Rattle.command_words.proofs.FrameTexts.{no_good_frame, other_frame}
+use Rattle.command_words.proofs.arguments.read_frame.Goals as goal
 
 pub returns-in_err-frame-clause-none : goal.returns-in_err-frame-clause-none
 returns-in_err-frame-clause-none c = no_good_frame c.from_residual.result c.args.text.now c.in_err-frame.ensures.none

@@ -1,6 +1,6 @@
 //! How the program ends: its exit status, and the line that it prints before.
 ghost use Rattle.std.specs.Prelude.{◌≡◌};
-ghost use Rattle.cli.specs.Endings.{outcome_status, output_text, error_text};
+ghost use Rattle.command_words.specs.Endings.{outcome_status, output_text, error_text};
 
 use manifest_csv::package_manifests::ManifestFault;
 use manifest_csv::sending::WriteFault;
@@ -42,7 +42,7 @@ pub enum Failure {
 }
 
 impl From<AllocError> for Failure {
-    ghost use Rattle.cli.specs.declared.statuses.Failure.TheVariants.{OutOfMemory};
+    ghost use Rattle.command_words.specs.declared.statuses.Failure.TheVariants.{OutOfMemory};
 
     ghost from_gives = { λ want failure. failure ≡ OutOfMemory };
 
@@ -52,7 +52,7 @@ impl From<AllocError> for Failure {
 }
 
 impl From<Fault> for Failure {
-    ghost use Rattle.cli.specs.Failures.{of_fault};
+    ghost use Rattle.command_words.specs.Failures.{of_fault};
 
     ghost from_gives = { λ fault failure. failure ≡ of_fault fault };
 
@@ -65,7 +65,7 @@ impl From<Fault> for Failure {
 }
 
 impl From<ShelfFault> for Failure {
-    ghost use Rattle.cli.specs.Failures.{of_shelf};
+    ghost use Rattle.command_words.specs.Failures.{of_shelf};
 
     ghost from_gives = { λ fault failure. failure ≡ of_shelf fault };
 
@@ -78,7 +78,7 @@ impl From<ShelfFault> for Failure {
 }
 
 impl From<CreateFault> for Failure {
-    ghost use Rattle.cli.specs.Failures.{of_creation};
+    ghost use Rattle.command_words.specs.Failures.{of_creation};
 
     ghost from_gives = { λ fault failure. failure ≡ of_creation fault };
 
@@ -91,7 +91,7 @@ impl From<CreateFault> for Failure {
 }
 
 impl From<WriteFault> for Failure {
-    ghost use Rattle.cli.specs.declared.statuses.Failure.TheVariants.{StoreFault};
+    ghost use Rattle.command_words.specs.declared.statuses.Failure.TheVariants.{StoreFault};
 
     ghost from_gives = { λ fault failure. failure ≡ StoreFault };
 
@@ -101,7 +101,7 @@ impl From<WriteFault> for Failure {
 }
 
 impl From<ManifestFault> for Failure {
-    ghost use Rattle.cli.specs.Failures.{of_manifest};
+    ghost use Rattle.command_words.specs.Failures.{of_manifest};
 
     ghost from_gives = { λ fault failure. failure ≡ of_manifest fault };
 

@@ -7,8 +7,8 @@ use Rattle.shelves.specs.declared.shelf.ShelfFault.{ShelfFault}
 use Rattle.shelves.specs.declared.shelf.ShelfFault.TheVariants as shelf
 use Rattle.world.specs.declared.creating.CreateFault.{CreateFault}
 use Rattle.world.specs.declared.creating.CreateFault.TheVariants as create
-use Rattle.cli.specs.declared.statuses.Failure.{Failure}
-use Rattle.cli.specs.declared.statuses.Failure.TheVariants.{OutOfMemory, StoreFault}
+use Rattle.command_words.specs.declared.statuses.Failure.{Failure}
+use Rattle.command_words.specs.declared.statuses.Failure.TheVariants.{OutOfMemory, StoreFault}
 
 -- of a store
 abbrev pub of_fault : Fault → Failure

@@ -3,7 +3,7 @@ use Rattle.std.proofs.Common.{◌≡◌, ◌≢◌, ◌≤◌, ◌⊎◌, ◌∙
 use Rattle.std.specs.Fmt.{signed_decimal}
 use Rattle.std.proofs.lemmas.Fmt.{signed_decimal_injective}
 use Rattle.std.proofs.lemmas.Int.{ints}
-use Rattle.cli.specs.Arguments.{IsNumber}
+use Rattle.command_words.specs.Arguments.{IsNumber}
 
 fits : (n : ℕ) → n ≤ 1000000 → FitsSigned w64 (pos n)
 fits n most = search rules

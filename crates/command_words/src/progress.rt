@@ -1,7 +1,7 @@
 //! How far an import is, told on a writer: a line for each thousand requests.
 ghost use Rattle.std.specs.Prelude.{◌↔◌, None, OnOk, IsTrue};
 ghost use Rattle.std.specs.Io.KnownBytes.{Appends};
-ghost use Rattle.cli.specs.Progress.{IsDue, progress_text};
+ghost use Rattle.command_words.specs.Progress.{IsDue, progress_text};
 
 use itoa::Buffer;
 pub use manifest_csv::progress::{Silent, Teller};

@@ -8,7 +8,7 @@ use Rattle.sheet_types.specs.declared.frame.Frame.{Frame}
 use Rattle.sheet_types.proofs.Commas.{cut_once, signed_lacks}
 use Rattle.std.proofs.lemmas.Bool.{and_parts}
 use Rattle.std.proofs.lemmas.Int.{ints}
-use Rattle.cli.specs.Arguments.{IsFrame}
+use Rattle.command_words.specs.Arguments.{IsFrame}
 use Rattle.sheet_types.specs.declared.frame.FrameFault.{FrameFault}
 use Rattle.sheet_types.specs.declared.frame.FrameFault.TheVariants.{BadSrs, BadBounds, BadTile, BadZoom, BadMatrix, Uneven}
 use Rattle.sheet_types.specs.Matrix.{is_within, first_row, is_good_bound, ten_to_12, divides, width_at, height_at, last_level, frame_fault}

@@ -1,8 +1,8 @@
 -- The pieces in turn.
 use Rattle.std.proofs.Common.{◌∙◌, codes, decimal, subst}
 use Rattle.std.specs.Io.KnownBytes.{Appends}
-use Rattle.cli.proofs.Telling.{four_sent}
-use Rattle.cli.proofs.progress.write_progress.Goals as goal
+use Rattle.command_words.proofs.Telling.{four_sent}
+use Rattle.command_words.proofs.progress.write_progress.Goals as goal
 
 pub returns : goal.returns
 returns g c = record {

@@ -5,8 +5,8 @@ use Rattle.sheet_types.specs.Texts.{is_moment}
 use Rattle.sheet_types.specs.Matrix.{frame_fault}
 use Rattle.sheet_types.specs.Reading.{frame_text}
 use Rattle.sheet_types.specs.declared.frame.Frame.{Frame}
-use Rattle.cli.specs.declared.statuses.What.{What}
-use Rattle.cli.specs.declared.statuses.What.TheVariants.{BadUuid, BadMoment, BadFrame, BadNumber, BadList}
+use Rattle.command_words.specs.declared.statuses.What.{What}
+use Rattle.command_words.specs.declared.statuses.What.TheVariants.{BadUuid, BadMoment, BadFrame, BadNumber, BadList}
 
 -- The text is that of this frame, which is good. Its numbers then fit 64 bits, so that no text is that of two.
 pub record IsFrame (text : List ℕ) (frame : Frame) : Type 0 where

@@ -3,13 +3,13 @@ use Rattle.std.specs.Prelude.{ℕ, List, [], ◌∷◌, ◌++◌, codes}
 use Rattle.manifest_csv.specs.declared.importing.ImportFault.{ImportFault}
 use Rattle.manifest_csv.specs.declared.importing.ImportFault.TheVariants.{Unread, Stopped as Interrupted, Unwritten}
 use Rattle.request_csv.specs.declared.lists.ReadFault.TheVariants.{Header, Record, Read, Memory}
-use Rattle.cli.specs.Failures.{of_fault}
-use Rattle.cli.specs.declared.statuses.What.{What}
-use Rattle.cli.specs.declared.statuses.What.TheVariants.{BadUuid, BadMoment, BadFrame, BadNumber, BadList}
-use Rattle.cli.specs.declared.statuses.Failure.{Failure}
-use Rattle.cli.specs.declared.statuses.Failure.TheVariants.{OutOfMemory, StoreFault}
-use Rattle.cli.specs.declared.statuses.Outcome.{Outcome}
-use Rattle.cli.specs.declared.statuses.Outcome.TheVariants.{Done, Refused, Stopped}
+use Rattle.command_words.specs.Failures.{of_fault}
+use Rattle.command_words.specs.declared.statuses.What.{What}
+use Rattle.command_words.specs.declared.statuses.What.TheVariants.{BadUuid, BadMoment, BadFrame, BadNumber, BadList}
+use Rattle.command_words.specs.declared.statuses.Failure.{Failure}
+use Rattle.command_words.specs.declared.statuses.Failure.TheVariants.{OutOfMemory, StoreFault}
+use Rattle.command_words.specs.declared.statuses.Outcome.{Outcome}
+use Rattle.command_words.specs.declared.statuses.Outcome.TheVariants.{Done, Refused, Stopped}
 
 abbrev pub outcome_status : Outcome → ℕ
 outcome_status Done = 0

@@ -1,0 +1,3 @@
+pub mod FrameTexts
+mod NumberTexts
+mod Telling

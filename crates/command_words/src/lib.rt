@@ -1,0 +1,6 @@
+//! What the words of a command line say, and how a command ends.
+#![tactic(auto)]
+
+pub mod arguments;
+pub mod progress;
+pub mod statuses;
