@@ -8,8 +8,7 @@ pub returns-in-Ok-send-clause-printed : goal.returns-in-Ok-send-clause-printed
 returns-in-Ok-send-clause-printed g c = λ clean w stands.
     let fits : FitsSigned w64 c.in-Some.zoom = search rules in
     let frame = c.frame-frame.ensures ∙ stands.frame in
-    let made = simp (to_z-of_z, fits) at c.in-Ok.ensures.told clean w stands in
-    (
+    let made = simp (to_z-of_z, fits) at c.in-Ok.ensures.told clean w stands in (
       has_zoom w c.frame-frame.result c.args.asked c.in-Some.zoom frame c.in-Some.ensures.some c.in-Some.ensures.level,
       (
         c.as_bytes.result.now,
@@ -22,8 +21,7 @@ pub returns-clause-printed : goal.returns-clause-printed
 returns-clause-printed g c = λ clean w stands.
     let fits : FitsSigned w64 c.in-Some.zoom = search rules in
     let frame = c.frame-frame.ensures ∙ stands.frame in
-    let made = simp (to_z-of_z, fits) at c.in-Ok.ensures.told clean w stands in
-    (
+    let made = simp (to_z-of_z, fits) at c.in-Ok.ensures.told clean w stands in (
       has_zoom w c.frame-frame.result c.args.asked c.in-Some.zoom frame c.in-Some.ensures.some c.in-Some.ensures.level,
       (
         c.as_bytes.result.now,
