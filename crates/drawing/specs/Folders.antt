@@ -23,7 +23,8 @@ map_ending (Err Unwritten) = ending.Usual failed
 
 module _ {S : Type 0} (g : Ghosts S) where
   -- The map of a world was printed, which was only read, if at all; and the program ends so.
-  pub record EndsMap {W : Type 0} (asked : Option ℤ) (old new : Seen S) (writer writer' : W) (before after : Option (List ℕ)) (is : MapEnding) : Type 0 where
+  pub record EndsMap {W : Type 0} (asked : Option ℤ) (old new : Seen S) (writer writer' : W)
+      (before after : Option (List ℕ)) (is : MapEnding) : Type 0 where
     pub outcome : Result (Unit {0}) MapFault
     pub ends : is ≡ map_ending outcome
     pub read : IsUntouched g old new

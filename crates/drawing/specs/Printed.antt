@@ -20,9 +20,10 @@ HasZoom w asked = has_level w.frame (drawn_zoom w.frame asked) ≡ true
 abbrev pub IsMap : World → Option ℤ → List ℕ → Type 0
 IsMap w asked text = IsWorldMap w (drawn_zoom w.frame asked) text
 
--- The map is written whole, or a beginning of it where the writer failed; of a zoom that the frame does not have nothing is.
+-- The map is written whole, or a beginning of it where the writer failed; none of a zoom that the frame does not have.
 abbrev pub PrintsMap : World → Option ℤ → Option (List ℕ) → Option (List ℕ) → Result (Unit {0}) MapFault → Type 0
-PrintsMap w asked before after (Ok x) = HasZoom w asked × ((text : List ℕ) × IsMap w asked text × Appends before after text)
+PrintsMap w asked before after (Ok x) =
+    HasZoom w asked × ((text : List ℕ) × IsMap w asked text × Appends before after text)
 PrintsMap w asked before after (Err NoSuchZoom) = has_level w.frame (drawn_zoom w.frame asked) ≡ false
 PrintsMap w asked before after (Err (Failed fault)) = Unit {0}
 PrintsMap w asked before after (Err Unwritten) =
@@ -41,6 +42,7 @@ module _ {S : Type 0} (g : Ghosts S) where
   IsUntouched old new = (new ≡ old) ⊎ IsRead g old new
 
   -- Of each world that a value stood for its map was printed, where each disk has given back what was written.
-  abbrev pub IsPrinted : Option ℤ → Seen S → Seen S → Option (List ℕ) → Option (List ℕ) → Result (Unit {0}) MapFault → Type 0
+  abbrev pub IsPrinted : Option ℤ → Seen S → Seen S → Option (List ℕ) → Option (List ℕ)
+      → Result (Unit {0}) MapFault → Type 0
   IsPrinted asked old new before after r =
       AllClean g new.members → (w : World) → StandsFor g old w → PrintsMap w asked before after r

@@ -5,7 +5,8 @@ use Rattle.std.specs.Int.{w64}
 use Rattle.sheet_types.specs.declared.frame.Frame.{Frame}
 use Rattle.sheet_maps.specs.Zooms.{default_zoom}
 
--- Which zoom a word asks for: where there is no word, none in particular; else the word is the plain decimal of the zoom, which fits 64 bits.
+-- Which zoom a word asks for: where there is no word, none in particular; else the word is its plain decimal, and it
+-- fits 64 bits.
 abbrev pub AsksZoom : Option (List ℕ) → Option ℤ → Type 0
 AsksZoom None asked = asked ≡ None
 AsksZoom (Some text) None = ⊥
