@@ -3,6 +3,7 @@ use command_words::statuses::{Outcome, What};
 use commands::endings::{DONE, Ending, FAILED, OpenFault};
 use drawing::endings::MapEnding;
 use drawing::maps::{map, map_in};
+use drawing::printing::{MapFault, print_map};
 use drawing::zooms::asked_zoom;
 use opening::faults::RecoverFault;
 use package_tables::fault::Fault;
@@ -61,6 +62,8 @@ fn a_zoom_that_the_frame_lacks(rt: HostRuntime) -> Result<(), Fail> {
     for zoom in [3, -1] {
         let ending = map_in(alloc, &mut world, Some(zoom), &mut out);
         assert!(rt; ending == MapEnding::NoSuchZoom);
+        let printed = print_map(alloc, &mut world, Some(zoom), &mut out);
+        assert!(rt; printed == Err(MapFault::NoSuchZoom));
     }
     assert!(rt; out.is_empty());
     Ok(())
