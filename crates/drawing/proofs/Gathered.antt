@@ -1,16 +1,18 @@
 -- What is drawn of packages, one after the other.
-use Rattle.std.proofs.Common.{◌≡◌, ◌∙◌, ◌<◌, ◌+◌, ◌++◌, ◌∷◌, [], ℕ, ℤ, List, Some, unwrap_or, Bool, true, false, ap, subst, sym, length, take, get_or, map}
+use Rattle.std.proofs.Common.{◌≡◌, ◌∙◌, ◌<◌, ◌+◌, ◌++◌, ◌∷◌, [], ℕ, ℤ, List, Some, unwrap_or, Result, Ok, Err, IfOk, Bool, true, false, ap, subst, sym, length, take, get_or, map}
 use Rattle.std.specs.Bool.{then_some}
 use Rattle.std.specs.List.{AllZip}
 use Rattle.std.proofs.lemmas.List.{take_more}
-use Rattle.sheet_types.specs.Answers.{holdings_answer}
+use Rattle.sheet_types.specs.Answers.{holdings_answer, package_sights}
 use Rattle.sheet_types.specs.World.{World, holdings, is_live}
 use Rattle.sheet_types.specs.declared.command.Item.{Item}
 use Rattle.sheet_types.specs.declared.command.Relation.{Relation}
-use Rattle.sheet_maps.specs.Worlds.{IsHolder, places_of}
+use Rattle.sheet_maps.specs.Worlds.{AreHolders, IsHolder, places_of}
 use Rattle.sheet_maps.specs.declared.holders.Holder.{Holder}
 use Rattle.sheet_maps.specs.declared.holders.Place.{Place}
+use Rattle.sqlite.specs.Store.{Ghosts}
 use Rattle.world.specs.Reading.{sight_of}
+use Rattle.world.specs.Worlds.{Seen, StandsFor}
 use Rattle.world.specs.declared.reading.PackageSight.{PackageSight}
 
 items_held : (b : Bool) (held : List Item × List Relation) (items : List Item) (links : List Relation) → Some (items, links) ≡ then_some b held → items ≡ held.0
@@ -46,3 +48,11 @@ all_drawn w zoom [] [] each = tt
 all_drawn w zoom [] (h ∷ hs) each = absurd each
 all_drawn w zoom (s ∷ sights) [] each = absurd each
 all_drawn w zoom (s ∷ sights) (h ∷ hs) each = (each.0, all_drawn w zoom sights hs each.1)
+
+-- so of the packages of a world, where they are those that were listed
+pub of_world : {S X E : Type 0} (g : Ghosts S) (items : X → List Holder) (zoom : ℤ) (seen : Seen S) (sights : List PackageSight) (r : Result X E)
+    → ((w : World) → StandsFor g seen w → map sight_of sights ≡ package_sights w)
+    → IfOk r (λ x. (w : World) → StandsFor g seen w → AllZip (IsHolder w zoom) (map sight_of sights) (items x))
+    → IfOk r (λ x. (w : World) → StandsFor g seen w → AreHolders w zoom (items x))
+of_world g items zoom seen sights (Ok x) are told = λ w stands. subst (λ l. AllZip (IsHolder w zoom) l (items x)) (are w stands) (told w stands)
+of_world g items zoom seen sights (Err e) are told = tt

@@ -1,18 +1,14 @@
 -- The text that is made is the map of the world.
-use Rattle.std.proofs.Common.{◌≡◌, ◌∙◌, ℕ, ℤ, List, Option, Result, Ok, Err, ap, sym, subst}
-use Rattle.std.specs.Prelude.{true, false}
-use Rattle.std.specs.Io.KnownBytes.{Appends}
+use Rattle.std.proofs.Common.{◌≡◌, ◌∙◌, ℕ, ℤ, List, Option, ap, subst}
+use Rattle.std.specs.Prelude.{true}
 use Rattle.sheet_types.specs.Matrix.{has_level}
 use Rattle.sheet_types.specs.World.{World}
 use Rattle.sheet_types.specs.declared.frame.Frame.{Frame}
 use Rattle.sheet_maps.specs.Maps.{map_text}
 use Rattle.sheet_maps.specs.Worlds.{AreHolders, IsWorldMap}
 use Rattle.sheet_maps.specs.declared.holders.Holder.{Holder}
-use Rattle.manifest_csv.specs.Sent.{WentOut}
-use Rattle.drawing.specs.Printed.{HasZoom, IsMap, PrintsMap}
+use Rattle.drawing.specs.Printed.{HasZoom, IsMap}
 use Rattle.drawing.specs.Zooms.{drawn_zoom}
-use Rattle.drawing.specs.declared.printing.MapFault.{MapFault}
-use Rattle.drawing.specs.declared.printing.MapFault.TheVariants.{NoSuchZoom, Failed, Unwritten}
 
 pub made_of : (w : World) (f : Frame) (zoom : ℤ) (hs : List Holder) (text : List ℕ) → f ≡ w.frame → AreHolders w zoom hs → text ≡ map_text f zoom hs → IsWorldMap w zoom text
 made_of w f zoom hs text frame are is = (hs, are, is ∙ ap (λ x. map_text x zoom hs) frame)

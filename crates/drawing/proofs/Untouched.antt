@@ -1,8 +1,7 @@
 -- One read of a world after another.
-use Rattle.std.proofs.Common.{◌≡◌, ◌∙◌, ap, sym, subst, inl, inr, refl}
+use Rattle.std.proofs.Common.{◌∙◌, ap, sym, subst, inl, inr}
 use Rattle.sqlite.specs.Store.{Ghosts}
 use Rattle.sheet_types.specs.World.{World}
-use Rattle.world.specs.Members.{AllClean}
 use Rattle.world.specs.Worlds.{IsRead, Seen, StandsFor}
 use Rattle.world.proofs.Standing.{all_stay_then}
 use Rattle.drawing.specs.Printed.{IsUntouched}
