@@ -119,6 +119,9 @@ pub const RECEIPT_ABOUT: &str = "Prints the receipt of a request, as JSON";
 /// What `export` is for.
 pub const EXPORT_ABOUT: &str = "Prints a package as SQL that makes a GeoPackage with true units";
 
+/// What `map` is for.
+pub const MAP_ABOUT: &str = "Prints a drawing of who holds which sheets, as SVG";
+
 /// After the words of a command over a folder.
 pub const FOLDER_WORDS: &str =
     "A folder holds its packages as SQLite databases, each the file UUID.gpkg. It is one register: one
@@ -136,6 +139,7 @@ A first session, from the archive on:
   sheetdesk receipt maps 90000000-0000-4000-8000-000000000001
   sheetdesk manifest maps a0000000-0000-4000-8000-000000000000
   sheetdesk export maps a0000000-0000-4000-8000-000000000000 | sqlite3 true.gpkg
+  sheetdesk map maps > maps.svg
   sheetdesk audit maps
   sheetdesk serve maps 8080 100
 The form of list.csv is told by `sheetdesk rehearse --help`; request.json is an object with the same
@@ -150,12 +154,13 @@ Standard output:
   receipt   the receipt, as JSON on a line
   manifest  the records of the package
   export    SQL; `sqlite3 NEW.gpkg` makes a file of it that GDAL and QGIS open
+  map       SVG; who holds which sheets of one zoom, each package in its colour
   audit     good and the number of receipts; or the name of what is wrong, as OutOfAccount
   serve     nothing
 
 Exit status:
   0  done; of a list whatever its report says
-  1  refused: by the desk, or `refused: ` and what: uuid, at, frame, number, body, list,
+  1  refused: by the desk, or `refused: ` and what: uuid, at, frame, number, zoom, body, list,
      folder holds packages, no such package, no such request, no such identity
   2  the command line is no use of the program
   3  memory, a file, a port or a stream gave out, or the packages are not in order: standard error has

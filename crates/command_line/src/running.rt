@@ -14,6 +14,8 @@ use commands::importing::import;
 use commands::init::init;
 use commands::manifest::manifest;
 use commands::serving::serve;
+use drawing::endings as drawn;
+use drawing::maps::map;
 use exporting::exporting::export;
 use std::convert::AsStr;
 use std::io;
@@ -76,6 +78,17 @@ fn looked(rt: &HostRuntime, ending: &seen::Ending) -> u8 {
         seen::error_of(*ending),
         seen::busy_package(*ending),
         seen::status_of(*ending),
+    )
+}
+
+/// Tells the ending of a command that prints a map.
+fn mapped(rt: &HostRuntime, ending: &drawn::MapEnding) -> u8 {
+    told(
+        rt,
+        drawn::output_of(*ending),
+        drawn::error_of(*ending),
+        drawn::busy_package(*ending),
+        drawn::status_of(*ending),
     )
 }
 
@@ -222,6 +235,7 @@ fn carried_out<R: Read + Drop>(
             rt,
             &export(rt, folder, text_of(given, "package"), &mut writer),
         ),
+        "map" => mapped(rt, &map(rt, folder, given.get_str("zoom"), &mut writer)),
         "audit" => ended(rt, &audit(rt, folder, &mut writer)),
         _ => ended(rt, &changed(rt, name, given, reader)),
     }

@@ -1,8 +1,8 @@
 //! Which words the command line has.
 use crate::help::{
     ABOUT, APPLY_ABOUT, AUDIT_ABOUT, EXPLAIN_ABOUT, EXPORT_ABOUT, FOLDER_WORDS, IMPORT_ABOUT,
-    INIT_ABOUT, MANIFEST_ABOUT, RECEIPT_ABOUT, REHEARSE_ABOUT, REHEARSE_WORDS, SERVE_ABOUT,
-    STATUS_ABOUT, WORDS,
+    INIT_ABOUT, MANIFEST_ABOUT, MAP_ABOUT, RECEIPT_ABOUT, REHEARSE_ABOUT, REHEARSE_WORDS,
+    SERVE_ABOUT, STATUS_ABOUT, WORDS,
 };
 use clap::{Arg, ArgAction, Command};
 use std::alloc::{AllocError, Global};
@@ -141,6 +141,17 @@ fn receipt_command<'a>(alloc: Global) -> Result<Command<'a>, AllocError> {
     ))
 }
 
+/// Draws who holds which sheets.
+fn map_command<'a>(alloc: Global) -> Result<Command<'a>, AllocError> {
+    let zoom = option(
+        alloc,
+        "zoom",
+        "ZOOM",
+        "Which zoom is drawn, as 2; else the finest with at most 10,000 places",
+    );
+    over_folder(alloc, Command::new(alloc, "map"), MAP_ABOUT)?.arg(zoom.required(false))
+}
+
 /// Says whether the packages of a folder are in order.
 fn audit_command<'a>(alloc: Global) -> Result<Command<'a>, AllocError> {
     over_folder(alloc, Command::new(alloc, "audit"), AUDIT_ABOUT)
@@ -178,6 +189,7 @@ pub fn sheetdesk<'a>(alloc: Global) -> Result<Command<'a>, AllocError> {
         .subcommand(receipt_command(alloc)?)?
         .subcommand(over_package(alloc, "manifest", MANIFEST_ABOUT)?)?
         .subcommand(over_package(alloc, "export", EXPORT_ABOUT)?)?
+        .subcommand(map_command(alloc)?)?
         .subcommand(audit_command(alloc)?)?
         .subcommand(serve_command(alloc)?)?
         .subcommand(rehearse_command(alloc)?)

@@ -217,3 +217,21 @@ fn words_of_a_change(rt: HostRuntime) -> Result<(), Fail> {
     assert_eq!(rt; status, 2);
     Ok(())
 }
+
+// A map has a zoom, or none; what the word says is judged later.
+#[test]
+fn words_of_a_map(rt: HostRuntime) -> Result<(), Fail> {
+    let Ok((_, status)) = answer(rt.alloc(), &["sheetdesk", "map", "maps", "--zoom", "x"]) else {
+        return Err(Fail::new("an answer"));
+    };
+    assert_eq!(rt; status, 1);
+    let Ok((_, status)) = answer(rt.alloc(), &["sheetdesk", "map", "maps"]) else {
+        return Err(Fail::new("an answer"));
+    };
+    assert_eq!(rt; status, 1);
+    let Ok((_, status)) = answer(rt.alloc(), &["sheetdesk", "map"]) else {
+        return Err(Fail::new("an answer"));
+    };
+    assert_eq!(rt; status, 2);
+    Ok(())
+}

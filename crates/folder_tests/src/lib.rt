@@ -1,4 +1,4 @@
-//! Tests of the program over a folder: `commands`, `views`, `world_views`, `exporting` and `command_line`. There is nothing here but tests.
+//! Tests of the program over a folder: `commands`, `views`, `world_views`, `exporting`, `drawing` and `command_line`. There is nothing here but tests.
 #![tactic(auto)]
 
 #[cfg(test)]
@@ -8,6 +8,8 @@ mod commands_over_a_folder;
 #[cfg(test)]
 mod endings_of_commands;
 #[cfg(test)]
+mod endings_of_maps;
+#[cfg(test)]
 mod endings_of_views;
 #[cfg(test)]
 mod exports;
@@ -15,6 +17,8 @@ mod exports;
 mod help;
 #[cfg(test)]
 mod looking;
+#[cfg(test)]
+mod maps;
 #[cfg(test)]
 mod showing;
 #[cfg(test)]

@@ -1,0 +1,4 @@
+mod Untouched
+mod Gathered
+mod Printed
+mod ZoomWords

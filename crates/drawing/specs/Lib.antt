@@ -1,0 +1,4 @@
+pub mod Zooms
+pub mod Printed
+pub mod Endings
+pub mod Folders
