@@ -3,6 +3,7 @@
 #
 #     bench/export_files.sh                    a folder made of the sample, by the proved program
 #     bench/export_files.sh --unproved         the same by the code, interpreted
+#     SHEETDESK=PROGRAM bench/export_files.sh  the same by another program
 #     SQL=FILE bench/export_files.sh           a text of SQL that was printed before
 #
 # It compares the rows of each table with the statements of the text, asks GDAL for features, a coordinate, corners and pixel sizes, and
@@ -21,7 +22,7 @@ fail() {
 }
 sql=${SQL-}
 if [ -z "$sql" ]; then
-  program=("$top/sheetdesk" "$@")
+  program=("${SHEETDESK:-$top/sheetdesk}" "$@")
   sql=$work/export.sql
   mkdir "$work/folder"
   "${program[@]}" init --archive "$archive" --at 2026-03-02T07:30:00.000Z \
