@@ -1,0 +1,84 @@
+// A transfer, what is taken out, and a homecoming, once for each call of a file of either package that stops in it. The transaction
+// is dropped, and a crash leaves both packages as they were when it began.
+use crate::stops::{BothBytes, Calls, Moves, Outcome, prepared, read_both, run};
+use package_tables::fault::Fault;
+use sqlite_disk::{Fuse, Memory};
+use std::alloc::Global;
+use std::process::Abort;
+use std::test::Fail;
+
+type File = Fuse<Memory>;
+
+// The file of this number stops: the log and the file of the source are 0 and 1, those of the target 2 and 3.
+fn stopped_at(file: usize, log: usize, calls: u64) -> Calls {
+    Calls {
+        log: if file == log { calls } else { u64::MAX },
+        db: if file == log.saturating_add(1) {
+            calls
+        } else {
+            u64::MAX
+        },
+    }
+}
+
+// Both packages are left as they were, and what did not move met a store that failed.
+fn expect_left(rt: &impl Abort, found: &Outcome, before: &str) {
+    for left in found.left.as_slice() {
+        assert!(rt; left.as_str() == before);
+    }
+    if let Err(fault) = found.told {
+        assert!(rt; fault == Fault::StoreFault);
+    }
+}
+
+// With one call more each time, up to the run that goes through. How many runs did not.
+fn count_stops(
+    rt: &impl Abort,
+    a: Global,
+    files: &BothBytes,
+    file: usize,
+    moves: Moves,
+) -> Result<u64, Fault> {
+    let before = read_both::<File>(a, files)?;
+    let mut stopped = 0u64;
+    for calls in 0..5_000u64 {
+        let source = stopped_at(file, 0, calls);
+        let target = stopped_at(file, 2, calls);
+        if let Some(found) = run::<File>(a, files, source, target, moves)? {
+            expect_left(rt, &found, &before);
+            if found.told.is_ok() {
+                return Ok(stopped);
+            }
+            stopped = stopped.saturating_add(1);
+        }
+    }
+    Err(Fault::StoreFault)
+}
+
+// Whether each of the four files is used as something moves, and so stops some of the runs.
+fn expect_stops(rt: &impl Abort, a: Global, used: [bool; 4], moves: Moves) -> Result<(), Fault> {
+    let files = prepared::<File>(a)?;
+    for file in 0..4usize {
+        let stopped = count_stops(rt, a, &files, file, moves)?;
+        assert_eq!(rt; stopped > 0, used[file]);
+    }
+    Ok(())
+}
+
+#[test]
+fn a_transfer_stops(rt: HostRuntime) -> Result<(), Fail> {
+    expect_stops(&rt, rt.alloc(), [true, true, true, true], Moves::Over)?;
+    Ok(())
+}
+
+#[test]
+fn what_is_taken_out_stops(rt: HostRuntime) -> Result<(), Fail> {
+    expect_stops(&rt, rt.alloc(), [true, true, false, false], Moves::Out)?;
+    Ok(())
+}
+
+#[test]
+fn a_homecoming_stops(rt: HostRuntime) -> Result<(), Fail> {
+    expect_stops(&rt, rt.alloc(), [true, true, true, true], Moves::Home)?;
+    Ok(())
+}
