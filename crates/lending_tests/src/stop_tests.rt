@@ -1,6 +1,6 @@
 // A transfer, what is taken out, and a homecoming, once for each call of a file of either package that stops in it. The transaction
 // is dropped, and a crash leaves both packages as they were when it began.
-use crate::stops::{BothBytes, Calls, Moves, Outcome, prepared, read_both, run};
+use crate::stops::{BothBytes, Calls, Moves, Outcome, can_open, prepared, read_both, run};
 use package_tables::fault::Fault;
 use sqlite_disk::{Fuse, Memory};
 use std::alloc::Global;
@@ -19,6 +19,25 @@ fn stopped_at(file: usize, log: usize, calls: u64) -> Calls {
             u64::MAX
         },
     }
+}
+
+// With so few calls, and no fewer, the file stops after the packages were opened.
+fn calls_before(a: Global, files: &BothBytes, file: usize) -> u64 {
+    let mut low = 0u64;
+    let mut high = 65_536u64;
+    for _ in 0..17 {
+        let calls = low.saturating_add(high) / 2;
+        let source = stopped_at(file, 0, calls);
+        let target = stopped_at(file, 2, calls);
+        if low < high {
+            if can_open::<File>(a, files, source, target) {
+                high = calls;
+            } else {
+                low = calls.saturating_add(1);
+            }
+        }
+    }
+    high
 }
 
 // Both packages are left as they were, and what did not move met a store that failed.
@@ -40,16 +59,15 @@ fn count_stops(
     moves: Moves,
 ) -> Result<u64, Fault> {
     let before = read_both::<File>(a, files)?;
-    let mut stopped = 0u64;
-    for calls in 0..5_000u64 {
+    let first = calls_before(a, files, file);
+    for more in 0..5_000u64 {
+        let calls = first.saturating_add(more);
         let source = stopped_at(file, 0, calls);
         let target = stopped_at(file, 2, calls);
-        if let Some(found) = run::<File>(a, files, source, target, moves)? {
-            expect_left(rt, &found, &before);
-            if found.told.is_ok() {
-                return Ok(stopped);
-            }
-            stopped = stopped.saturating_add(1);
+        let found = run::<File>(a, files, source, target, moves)?;
+        expect_left(rt, &found, &before);
+        if found.told.is_ok() {
+            return Ok(more);
         }
     }
     Err(Fault::StoreFault)

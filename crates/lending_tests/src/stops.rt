@@ -88,7 +88,21 @@ const NEVER: Calls = Calls {
     db: u64::MAX,
 };
 
-// With so few pages in memory both files are read, and the log is written before a commit.
+// So few pages of a store that stops are kept that both files are read, and the log is written before a commit. One that does not keeps more, and is faster.
+fn options(calls: Calls) -> Options {
+    let pages = if calls.log == u64::MAX && calls.db == u64::MAX {
+        64
+    } else {
+        2
+    };
+    Options {
+        cache_pages: pages,
+        spill_pages: pages,
+        checkpoint_frames: 100,
+        seed: 7,
+    }
+}
+
 fn opened<D: Revive + Drop>(
     a: Global,
     bytes: &Bytes,
@@ -98,13 +112,7 @@ fn opened<D: Revive + Drop>(
         log: D::holding(a, &bytes.log, calls.log)?,
         db: D::holding(a, &bytes.db, calls.db)?,
     };
-    let options = Options {
-        cache_pages: 2,
-        spill_pages: 2,
-        checkpoint_frames: 100,
-        seed: 7,
-    };
-    match Connection::open_files(a, files, options) {
+    match Connection::open_files(a, files, options(calls)) {
         Ok(conn) => Ok(conn),
         Err((error, _)) => Err(Fault::from(error)),
     }
@@ -277,25 +285,41 @@ pub(crate) struct Outcome {
     pub left: [String; 2],
 }
 
-/// What comes of a move, or `None` where a file stopped as the packages were opened.
+fn pair_of<D: Revive + Drop>(
+    a: Global,
+    before: &BothBytes,
+    source: Calls,
+    target: Calls,
+) -> Result<Pair<FileStore<D>>, Fault> {
+    Ok(Pair {
+        source: opened(a, &before.source, source)?,
+        target: opened(a, &before.target, target)?,
+    })
+}
+
+/// Whether the packages can be opened before a file stops.
+pub(crate) fn can_open<D: Revive + Drop>(
+    a: Global,
+    before: &BothBytes,
+    source: Calls,
+    target: Calls,
+) -> bool {
+    pair_of::<D>(a, before, source, target).err().is_none()
+}
+
+/// What comes of a move, or a fault where a file stopped as the packages were opened.
 pub(crate) fn run<D: Revive + Drop>(
     a: Global,
     before: &BothBytes,
     source: Calls,
     target: Calls,
     moves: Moves,
-) -> Result<Option<Outcome>, Fault> {
-    let Ok(source) = opened::<D>(a, &before.source, source) else {
-        return Ok(None);
-    };
-    let Ok(target) = opened::<D>(a, &before.target, target) else {
-        return Ok(None);
-    };
-    let mut pair = Pair { source, target };
+) -> Result<Outcome, Fault> {
+    let mut pair = pair_of::<D>(a, before, source, target)?;
     let told = moved(a, &mut pair, moves);
     let (written, synced) = left_by(a, pair)?;
-    Ok(Some(Outcome {
+    Ok(Outcome {
         told,
         left: [read_both::<D>(a, &written)?, read_both::<D>(a, &synced)?],
-    }))
+    })
 }

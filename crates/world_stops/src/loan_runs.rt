@@ -1,5 +1,5 @@
 // One split or merge in a world with loans, over files of which one may stop, with what a crash leaves then, or in memory.
-use crate::fuses::{Revive, FusedShelf, Fusing, Remains, WAYS};
+use crate::fuses::{FusedShelf, Fusing, Remains, Revive, WAYS};
 use crate::pictures::{StorePicture, read_store, reply_text, seen_in_all};
 use crate::requests::{LATER, loans};
 use package_tables::fault::Fault;

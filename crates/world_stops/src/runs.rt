@@ -4,7 +4,7 @@ ghost use Rattle.sqlite.specs.Held.{state};
 ghost use Rattle.sqlite.specs.State.{HasCleanDisk};
 ghost use Rattle.sql_meaning.specs.Blank.{IsBlank, no_schema};
 
-use crate::fuses::{Revive, Left, Remains, options};
+use crate::fuses::{Left, Remains, Revive, options};
 use crate::pictures::{Picture, read_picture, reply_text, seen};
 use crate::requests::{preparation, reply_to};
 use memory_files::open_blank;
