@@ -104,7 +104,7 @@ pub fn is_world(left: &[StorePicture], world: &[StorePicture], other: &[StorePic
     }
     for store in left {
         let stands = match compared(store, world) {
-            Some(same) => same,
+            Some(is_same) => is_same,
             None => compared(store, other) == Some(true),
         };
         if !stands {
