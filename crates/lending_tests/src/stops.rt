@@ -98,7 +98,7 @@ fn options(calls: Calls) -> Options {
     Options {
         cache_pages: pages,
         spill_pages: pages,
-        checkpoint_frames: 100,
+        checkpoint_frames: 8,
         seed: 7,
     }
 }
