@@ -4,4 +4,8 @@
 #[cfg(test)]
 mod both_ways;
 #[cfg(test)]
+mod stop_tests;
+#[cfg(test)]
+mod stops;
+#[cfg(test)]
 mod stores;
