@@ -1,7 +1,10 @@
 #!/usr/bin/env python3
 """Lets each allocation, each read of standard input and each write to standard output of a whole rehearsal of the sample fail in turn, alone and with all after it, and looks at what comes out.
 
-    bench/failing_calls.py [PROGRAM]     the program is crates/sheetdesk/out/sheetdesk where none is named; status 0 where all is as it must be
+    bench/failing_calls.py [--step N] [--jobs N] [PROGRAM]
+
+The program is crates/sheetdesk/out/sheetdesk where none is named; status 0 where all is as it must be. With a step each Nth allocation alone is
+refused (each read and each write still is): all of them are 140,000 runs. So many runs at once as --jobs says (1).
 
 It needs gcc, which makes a library that is loaded before the C library. What must come out:
 - a read that fails: nothing but `refused: list`, status 1;
@@ -10,10 +13,13 @@ It needs gcc, which makes a library that is loaded before the C library. What mu
   nothing but what a word or list that could not be read is answered with. Then the status is 3 and standard error names the fault.
 No other line may differ: an answer never changes in place of the error.
 """
+import argparse
 import os
 import subprocess
 import sys
 import tempfile
+from collections import Counter
+from concurrent.futures import ThreadPoolExecutor
 
 ROOT = os.path.dirname(os.path.dirname(os.path.abspath(__file__)))
 WORDS = "rehearse --archive 6f0d3a52-9c1e-4b7a-8f24-1d5be07c9a10 --at 2026-03-02T07:30:00.000Z --frame 25832,500000000,5900000000,540960000,5961440000,256,256,4,3,2,3".split()
@@ -115,7 +121,12 @@ def is_right(kind, seen, whole):
 
 
 def main():
-    program = sys.argv[1] if len(sys.argv) > 1 else os.path.join(ROOT, "crates/sheetdesk/out/sheetdesk")
+    words = argparse.ArgumentParser(description=__doc__, formatter_class=argparse.RawDescriptionHelpFormatter)
+    words.add_argument("--step", type=int, default=1)
+    words.add_argument("--jobs", type=int, default=1)
+    words.add_argument("program", nargs="?", default=os.path.join(ROOT, "crates/sheetdesk/out/sheetdesk"))
+    said = words.parse_args()
+    program = said.program
     with open(os.path.join(ROOT, "samples/archive.csv"), "rb") as it:
         listed = it.read()
     with open(os.path.join(ROOT, "samples/archive.expected.txt"), "rb") as it:
@@ -126,15 +137,15 @@ def main():
         subprocess.run(["gcc", "-shared", "-fPIC", "-O1", "-x", "c", "-", "-o", library, "-ldl"], input=LIBRARY.encode(), check=True)
         assert run(program, library, listed, {}) == (whole, b"", 0), "the undisturbed run"
         for kind, count in zip(("FAIL_MEMORY", "FAIL_READ", "FAIL_WRITE"), counted(program, library, listed)):
-            ends = {}
-            for n in range(1, count + 1):
-                for extra in (str(n), f"{n}+"):
-                    seen = run(program, library, listed, {kind: extra})
-                    ends[seen[2]] = ends.get(seen[2], 0) + 1
+            ends, step = Counter(), said.step if kind == "FAIL_MEMORY" else 1
+            tries = [extra for n in range(1, count + 1, step) for extra in (str(n), f"{n}+")]
+            with ThreadPoolExecutor(said.jobs) as pool:
+                for extra, seen in zip(tries, pool.map(lambda extra: run(program, library, listed, {kind: extra}), tries)):
+                    ends[seen[2]] += 1
                     if not is_right(kind, seen, whole):
                         wrong += 1
                         print(f"{kind} {extra}: status {seen[2]}, {seen[0][-200:]!r}, {seen[1][-200:]!r}")
-            print(f"{kind[5:].lower()}: {count} calls, each refused alone and with all after it; runs by status: {dict(sorted(ends.items()))}")
+            print(f"{kind[5:].lower()}: {count} calls, of which {len(tries) // 2} were refused, alone and with all after them; runs by status: {dict(sorted(ends.items()))}")
     print(f"{wrong} wrong")
     return 1 if wrong else 0
 
