@@ -1,17 +1,63 @@
 // One request of each kind, once for each call of a disk that stops in it. A crash leaves the world before the request or the one after it, and the reply fits.
+ghost use Rattle.std.specs.Prelude.{◌≡◌, [], IsTrue};
+
 use crate::fitting::{Both, STORE_FAULT, expect_fits, same, went_through};
-use crate::fuses::{Left, SYNCED, Stops, WAYS, fused};
 use crate::requests::later;
-use crate::runs::{Outcome, prepared, run, untouched};
+use crate::runs::{Leaves, Left, Outcome, prepared, run, untouched};
 use package_tables::fault::Fault;
 use sheet_types::command::Mapping;
-use sqlite_disk::{Fuse, Memory};
+use sqlite::Files;
+use sqlite_disk::{Disk, Fuse, Memory};
 use std::alloc::Global;
 use std::process::Abort;
 use std::test::Fail;
 use test_values::{Asks, Step};
 
-type File = Fuse<Memory>;
+const SYNCED: Left = Left {
+    log: Leaves::Synced,
+    db: Leaves::Synced,
+};
+
+const WRITTEN: Left = Left {
+    log: Leaves::Written,
+    db: Leaves::Written,
+};
+
+// A machine that stops, or a process; or one file has all that was written, and the other not.
+const WAYS: [Left; 4] = [
+    SYNCED,
+    WRITTEN,
+    Left {
+        log: Leaves::Synced,
+        db: Leaves::Written,
+    },
+    Left {
+        log: Leaves::Written,
+        db: Leaves::Synced,
+    },
+];
+
+#[derive(Clone, Copy)]
+enum Stops {
+    Log,
+    Db,
+}
+
+// Empty files, of which one stops after so many calls.
+fn fused(alloc: Global, stops: Stops, calls: u64) -> Files<Fuse<Memory>>
+    ensures log { IsTrue (⟦<Fuse<Memory> as Disk>⟧.is_usable result.log) }
+    ensures db { IsTrue (⟦<Fuse<Memory> as Disk>⟧.is_usable result.db) }
+    ensures empty { ⟦<Fuse<Memory> as Disk>⟧.seen result.db ≡ [] }
+{
+    let (log_calls, db_calls) = match stops {
+        Stops::Log => (calls, u64::MAX),
+        Stops::Db => (u64::MAX, calls),
+    };
+    Files {
+        log: Fuse::new(Memory::new(alloc), log_calls),
+        db: Fuse::new(Memory::new(alloc), db_calls),
+    }
+}
 
 fn run_with(
     alloc: Global,
@@ -20,11 +66,11 @@ fn run_with(
     step: &Step,
     left: Left,
 ) -> Result<Option<Outcome>, Fault> {
-    run(alloc, fused::<File>(alloc, stops, calls), step, left)
+    run(alloc, fused(alloc, stops, calls), step, left)
 }
 
 fn is_prepared(alloc: Global, stops: Stops, calls: u64) -> Result<bool, Fault> {
-    Ok(prepared(alloc, fused::<File>(alloc, stops, calls))?.is_some())
+    Ok(prepared(alloc, fused(alloc, stops, calls))?.is_some())
 }
 
 // With so few calls, and no fewer, the disk stops after the world was prepared.
@@ -46,7 +92,7 @@ fn calls_before(alloc: Global, stops: Stops) -> Result<u64, Fault> {
 
 fn both_worlds(alloc: Global, step: &Step) -> Result<Both, Fault> {
     let never = u64::MAX;
-    let before = untouched(alloc, fused::<File>(alloc, Stops::Log, never), step, SYNCED)?;
+    let before = untouched(alloc, fused(alloc, Stops::Log, never), step, SYNCED)?;
     let after = run_with(alloc, Stops::Log, never, step, SYNCED)?;
     match (before, after) {
         (Some(before), Some(after)) => Ok(Both { before, after }),
