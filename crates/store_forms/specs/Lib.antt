@@ -1,5 +1,2 @@
-pub mod Looking
-pub mod Rows
-pub mod Placing
-pub mod Heads
-pub mod Frames
+
+pub mod Forms

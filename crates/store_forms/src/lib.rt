@@ -11,3 +11,4 @@ pub mod heads;
 mod named_forms;
 mod own_forms;
 mod placing;
+pub mod versions;
