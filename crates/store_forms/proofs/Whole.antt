@@ -70,25 +70,27 @@ last_tells db placed filled full tried there has last keyed = (
 -- ---- the first version
 
 pub first_formed : (db : Database) → IsDatabase db → AreKeyed db → AreFirstPlaced db.schema → HasValues spatial_ref_sys_shape db → HasValues contents_shape db → HasFirstForm db
-first_formed db sound keyed placed systems contents = (record {
-  quiet = placed.0.0;
-  spatial_ref_sys = formed_filled spatial_ref_sys_shape systems_plain db sound keyed placed.0.1.0 systems;
-  contents = formed_filled contents_shape contents_plain db sound keyed placed.0.1.1 contents;
-  tile_matrix_set = formed_needed tile_matrix_set_shape matrix_sets_plain db sound keyed placed.0.1.2 refl;
-  tile_matrix = formed_needed tile_matrix_shape matrices_plain db sound keyed placed.0.1.3 refl;
-  relations = formed_needed relation_shape relations_plain db sound keyed placed.0.1.4 refl;
-  tiles = formed_needed tile_shape tiles_plain db sound keyed placed.0.2.0 refl;
-  media = formed_needed medium_shape media_plain db sound keyed placed.0.2.1 refl;
-  rows = formed_needed attribute_shape attributes_plain db sound keyed placed.0.2.2 refl;
-  tiles_media = formed_needed tiles_media_shape tiles_media_plain db sound keyed placed.0.2.3 refl;
-  rows_media = formed_needed rows_media_shape rows_media_plain db sound keyed placed.0.2.4 refl;
-  rows_tiles = λ two. absurd (let e = two in cc);
-  heads = formed_needed head_shape heads_plain db sound keyed placed.0.3.0 refl;
-  identities = formed_needed identity_shape identities_plain db sound keyed placed.0.3.1 refl;
-  receipts = formed_needed receipt_shape receipts_plain db sound keyed placed.0.3.2 refl;
-  moved = formed_needed moved_shape moved_plain db sound keyed placed.0.3.3 refl;
-}, placed.1)
-
+first_formed db sound keyed placed systems contents = (
+  record {
+    quiet = placed.0.0;
+    spatial_ref_sys = formed_filled spatial_ref_sys_shape systems_plain db sound keyed placed.0.1.0 systems;
+    contents = formed_filled contents_shape contents_plain db sound keyed placed.0.1.1 contents;
+    tile_matrix_set = formed_needed tile_matrix_set_shape matrix_sets_plain db sound keyed placed.0.1.2 refl;
+    tile_matrix = formed_needed tile_matrix_shape matrices_plain db sound keyed placed.0.1.3 refl;
+    relations = formed_needed relation_shape relations_plain db sound keyed placed.0.1.4 refl;
+    tiles = formed_needed tile_shape tiles_plain db sound keyed placed.0.2.0 refl;
+    media = formed_needed medium_shape media_plain db sound keyed placed.0.2.1 refl;
+    rows = formed_needed attribute_shape attributes_plain db sound keyed placed.0.2.2 refl;
+    tiles_media = formed_needed tiles_media_shape tiles_media_plain db sound keyed placed.0.2.3 refl;
+    rows_media = formed_needed rows_media_shape rows_media_plain db sound keyed placed.0.2.4 refl;
+    rows_tiles = λ two. absurd (let e = two in cc);
+    heads = formed_needed head_shape heads_plain db sound keyed placed.0.3.0 refl;
+    identities = formed_needed identity_shape identities_plain db sound keyed placed.0.3.1 refl;
+    receipts = formed_needed receipt_shape receipts_plain db sound keyed placed.0.3.2 refl;
+    moved = formed_needed moved_shape moved_plain db sound keyed placed.0.3.3 refl;
+  },
+  placed.1,
+)
 
 pub first_placed : (db : Database) → HasFirstForm db → AreFirstPlaced db.schema
 first_placed db (f, free) = (

@@ -2,6 +2,7 @@
 #![tactic(auto)]
 
 pub mod claims;
+pub mod first_frames;
 mod fixed_rows;
 pub mod form;
 mod frame_rows;
