@@ -7,12 +7,11 @@ ghost use Rattle.sqlite.specs.Order.{column};
 ghost use Rattle.sql_meaning.specs.Transactions.{Rests};
 ghost use Rattle.package_tables.specs.Package.{AreFormed};
 ghost use Rattle.package_tables.specs.Shapes.{contents_shape, spatial_ref_sys_shape};
-ghost use Rattle.store_forms.specs.Forms.{HasFirstForm, HasFormAt};
+ghost use Rattle.store_forms.specs.Forms.{HasFirstForm};
 ghost use Rattle.store_forms.specs.Looking.{LooksAt};
 ghost use Rattle.store_forms.specs.Rows.{IsFull, AreFilled};
 
 use crate::placing::{are_first_placed, are_placed};
-use crate::versions::Version;
 use package_tables::fault::Fault;
 use sqlite::types::ValueRef;
 use sqlite::{Alter, Connection, Row};
@@ -80,8 +79,12 @@ pub fn has_form<S: Alter>(conn: &mut Connection<S>) -> Result<bool, Fault>
     are_contents_filled(conn)
 }
 
-/// Whether the store has the fourteen tables of the first version in their form, and no object has a name that the second needs.
-fn has_first_form<S: Alter>(conn: &mut Connection<S>) -> Result<bool, Fault>
+/// Whether the store has the fourteen tables of the first version in their form, and no object has a name that the second needs. No store has the form of both.
+///
+/// # Errors
+///
+/// Those of `has_form`.
+pub fn has_first_form<S: Alter>(conn: &mut Connection<S>) -> Result<bool, Fault>
     requires { Rests (state S.Store conn.old) }
     ensures { LooksAt (λ db formed. IsTrue formed ↔ HasFirstForm db) (state S.Store conn.old) (state S.Store conn.new) result }
 {
@@ -92,19 +95,4 @@ fn has_first_form<S: Alter>(conn: &mut Connection<S>) -> Result<bool, Fault>
         return Ok(false);
     }
     are_contents_filled(conn)
-}
-
-/// Whether the store has the tables of a package of this version in their form, whatever else it has. No store has the form of both.
-///
-/// # Errors
-///
-/// Those of `has_form`.
-pub fn has_form_at<S: Alter>(conn: &mut Connection<S>, version: Version) -> Result<bool, Fault>
-    requires { Rests (state S.Store conn.old) }
-    ensures { LooksAt (λ db formed. IsTrue formed ↔ HasFormAt version db) (state S.Store conn.old) (state S.Store conn.new) result }
-{
-    match version {
-        Version::First => has_first_form(conn),
-        Version::Second => has_form(conn),
-    }
 }

@@ -45,11 +45,11 @@ fn is(number: i64, wanted: i64) -> bool
 }
 
 /// Whether the row is the first, of this version, with a moment.
-fn is_marked(row: &HeadRow, version: i64) -> bool
-    ensures { IsTrue result ↔ IsMarked version row.now }
+fn is_marked(row: &HeadRow, version: Version) -> bool
+    ensures { IsTrue result ↔ IsMarked (version_number version) row.now }
 {
     let first = is(row.id, 1);
-    let second = is(row.version, version);
+    let second = is(row.version, version.number());
     let moment = is_moment(row.created.as_str());
     first & second & moment
 }
@@ -109,9 +109,9 @@ fn read_number(number: i64, greatest: u64) -> Option<u64>
     if read <= greatest { Some(read) } else { None }
 }
 
-fn read_row(row: &HeadRow, version: i64) -> Option<StoreHead>
-    ensures some { IfSome result (λ head. IsHeadRowAt version row.now (head_said head)) }
-    ensures none { IfNone result ((head : Head) → IsHeadRowAt version row.now head → ⊥) }
+fn read_row(row: &HeadRow, version: Version) -> Option<StoreHead>
+    ensures some { IfSome result (λ head. IsHeadRowAt (version_number version) row.now (head_said head)) }
+    ensures none { IfNone result ((head : Head) → IsHeadRowAt (version_number version) row.now head → ⊥) }
 {
     if !is_marked(row, version) {
         return None;
@@ -131,9 +131,9 @@ fn read_row(row: &HeadRow, version: i64) -> Option<StoreHead>
     })
 }
 
-fn read_rows(rows: &[HeadRow], version: i64) -> Option<StoreHead>
-    ensures some { IfSome result (λ head. IsHeadOfAt version rows.now (head_said head)) }
-    ensures none { IfNone result ((head : Head) → IsHeadOfAt version rows.now head → ⊥) }
+fn read_rows(rows: &[HeadRow], version: Version) -> Option<StoreHead>
+    ensures some { IfSome result (λ head. IsHeadOfAt (version_number version) rows.now (head_said head)) }
+    ensures none { IfNone result ((head : Head) → IsHeadOfAt (version_number version) rows.now head → ⊥) }
 {
     if rows.len() != 1 {
         return None;
@@ -169,7 +169,7 @@ pub fn head_at<S: Alter>(
         return Ok(None);
     }
     let rows = head_rows(conn, alloc)?;
-    Ok(read_rows(&rows, version.number()))
+    Ok(read_rows(&rows, version))
 }
 
 /// Whose the store says that it is at the second version, which is that of every store that lives.
