@@ -1,12 +1,12 @@
 -- From the clauses of `query_all` to what a look at a store shows: of no table, and of the rows of one.
 use Rattle.std.proofs.Common.{◌≡◌, Ordering, ℕ, List, [], codes, Bool, true, false, Result, Ok, Err, IsTrue, refl, subst}
-use Rattle.std.specs.Prelude.{IfOk, IfErr, IsPermutation, filter, ⊤}
+use Rattle.std.specs.Prelude.{IfOk, IfErr, IsPermutation, ⊤}
 use Rattle.sqlite.specs.Order.{Row}
 use Rattle.sqlite.specs.Store.{Ghosts}
 use Rattle.sqlite.specs.Effect.{Database}
 use Rattle.sqlite.specs.Held.{Held, state}
 use Rattle.sqlite.specs.declared.error.Error.{Error}
-use Rattle.sqlite.specs.State.{State, HasCleanDisk, Survives, Shown, FailsToQuery, CommitsShowing}
+use Rattle.sqlite.specs.State.{HasCleanDisk, Survives, Shown, FailsToQuery, CommitsShowing}
 use Rattle.sqlite_ast.specs.declared.Select.{Select as Written}
 use Rattle.sqlite_ast.specs.declared.Statement.TheVariants as written
 use Rattle.sqlite_syntax.specs.declared.statement.Parsed.{Parsed}

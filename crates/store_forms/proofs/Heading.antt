@@ -1,6 +1,6 @@
 -- Whose a store says that it is, from the rows of its table of heads.
-use Rattle.std.proofs.Common.{◌≡◌, ℕ, ℤ, List, [], ◌∷◌, length, Option, Some, None, Ordering, refl, sym, ap, subst, IsTrue, arith}
-use Rattle.std.specs.Prelude.{◌↔◌, IfSome, IfNone, IsPermutation, false, true}
+use Rattle.std.proofs.Common.{◌≡◌, ℤ, List, [], ◌∷◌, length, Option, Some, None, Ordering, refl, sym, ap, subst, IsTrue, arith}
+use Rattle.std.specs.Prelude.{◌↔◌, IfSome, IfNone, IsPermutation, false}
 use Rattle.std.specs.List.{AllByRecursion}
 use Rattle.std.specs.Option.{option_map}
 use Rattle.std.proofs.lemmas.Bool.{false≢true}

@@ -6,7 +6,7 @@ use Rattle.std.specs.List.{AllByRecursion}
 use Rattle.sqlite.specs.Effect.{Database, IsDatabase}
 use Rattle.sql_meaning.specs.Writing.{AreKeyed}
 use Rattle.package_tables.specs.Package.{AreFormed}
-use Rattle.package_tables.specs.Shape.{Shape, IsFormed, stored_rows}
+use Rattle.package_tables.specs.Shape.{Shape, stored_rows}
 use Rattle.package_tables.specs.Shapes.{spatial_ref_sys_shape, contents_shape, tile_matrix_set_shape, tile_matrix_shape, relation_shape, tile_shape, medium_shape, attribute_shape, tiles_media_shape, rows_media_shape, rows_tiles_shape, head_shape, identity_shape, receipt_shape, moved_shape}
 use Rattle.store_forms.specs.Forms.{HasFirstForm}
 use Rattle.store_forms.specs.Placing.{AreAllPlaced, AreFirstPlaced}
