@@ -5,7 +5,7 @@ ghost use Rattle.sqlite.specs.declared.types.Value.TheVariants.{Int, Text as Sto
 
 use package_tables::fault::Fault;
 use package_tables::rows::{
-    ContentsRow, HeadRow, ReceiptRow, RelationRow, SpatialRefSysRow, TileMatrixRow,
+    ContentsRow, HeadRow, MovedRow, ReceiptRow, RelationRow, SpatialRefSysRow, TileMatrixRow,
     TileMatrixSetRow,
 };
 use sheet_types::collections::Text;
@@ -183,6 +183,27 @@ impl FromRow for RelationRow {
             related_primary_column: text_at(row, 4)?,
             relation_name: text_at(row, 5)?,
             mapping_table_name: text_at(row, 6)?,
+        })
+    }
+}
+
+impl FromRow for MovedRow {
+    ghost use Rattle.package_tables.specs.Shown.{moved_shown};
+
+    ghost shown = { moved_shown };
+
+    fn from_row(row: &Row) -> Result<MovedRow, Fault> {
+        if row.column_count() != 7 {
+            return Err(Fault::StoreFault);
+        }
+        Ok(MovedRow {
+            seq: number_at(row, 0)?,
+            position: number_at(row, 1)?,
+            kind: number_at(row, 2)?,
+            base: text_at(row, 3)?,
+            other: text_at(row, 4)?,
+            size: number_at(row, 5)?,
+            fingerprint: text_at(row, 6)?,
         })
     }
 }

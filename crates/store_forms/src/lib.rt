@@ -12,4 +12,5 @@ pub mod heads;
 mod named_forms;
 mod own_forms;
 mod placing;
+pub mod rows_alone;
 pub mod versions;

@@ -2,3 +2,4 @@ pub mod Ranges
 pub mod Lists
 pub mod Walking
 pub mod Saying
+pub mod Looked

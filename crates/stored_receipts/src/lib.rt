@@ -1,6 +1,7 @@
 //! The receipts of a store that may be damaged: whether its rows of receipts, and of what they moved, are in their ranges, and the receipts that they then say.
 #![tactic(auto)]
 
+pub mod first_receipts;
 pub mod laws;
 mod rows;
 mod walk;
