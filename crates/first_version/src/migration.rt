@@ -25,16 +25,21 @@ fn bring<S: Alter>(tx: &mut Transaction<'_, S>) -> Result<(), Fault>
     set_version(tx, 2)
 }
 
-/// Brings a store of the first version to the second, in one transaction: the table of the third mapping, its index, its row in the relations, and the version in the head. The store reads as the package that it was.
+/// Brings a store of the first version to the second, in one transaction: the table of the third
+/// mapping, its index, its row in the relations, and the version in the head. The store reads as the
+/// package that it was.
 ///
 /// # Errors
 ///
-/// Want of memory, or a store that failed. The store holds what it held while it is open; only where the commit itself failed and shut it may a crash leave either version.
+/// Want of memory, or a store that failed. The store holds what it held while it is open; only where
+/// the commit itself failed and shut it may a crash leave either version.
 pub fn migrate<S: Alter>(conn: &mut Connection<S>) -> Result<(), Fault>
     requires { Rests (state S.Store conn.old) }
     ensures turns { Turns (λ _. Brings) (state S.Store conn.old) (state S.Store conn.new) result }
-    ensures left { HasCleanDisk (state S.Store conn.new) → IsTrue (state S.Store conn.old).is_open → IsDatabase (state S.Store conn.old).now
-        → (f : Frame) (p : Package) → ReadsAtVersionOne f p (state S.Store conn.old).now → (trees : Trees) → (state S.Store conn.new).may_leave trees → ReadsAtEither f p trees }
+    ensures left { HasCleanDisk (state S.Store conn.new)
+        → IsTrue (state S.Store conn.old).is_open → IsDatabase (state S.Store conn.old).now
+        → (f : Frame) (p : Package) → ReadsAtVersionOne f p (state S.Store conn.old).now
+        → (trees : Trees) → (state S.Store conn.new).may_leave trees → ReadsAtEither f p trees }
 {
     let mut tx = conn.transaction();
     bring(&mut tx)?;
