@@ -11,7 +11,7 @@ use Rattle.package_tables.specs.Listed.{relations}
 use Rattle.package_tables.specs.declared.rows.HeadRow.{HeadRow}
 use Rattle.package_tables.specs.declared.rows.RelationRow.{RelationRow}
 use Rattle.identity_register.specs.Reads.{Reads}
-use Rattle.first_version.specs.FirstVersion.{AreFree, HasThirdIndex, first_tables_of, with_version, brought, ReadsAtVersionOne}
+use Rattle.first_version.specs.FirstVersion.{AreFree, HasThirdIndex, first_tables_of, with_version, brought, ReadsAtVersionOne, ReadsAtOne}
 
 -- ---- the steps
 
@@ -56,3 +56,9 @@ pub record IsBrought (f : Frame) (p : Package) (old new : Database) : Type 0 whe
 -- A store that reads as a package at the first version reads as the same one at the second.
 abbrev pub Brings : Database → Database → Type 0
 Brings old new = (f : Frame) (p : Package) → ReadsAtVersionOne f p old → IsBrought f p old new
+
+-- A store that reads as a package at either version reads as the same one at the second, and its trees still list its
+-- schema.
+abbrev pub BringsIfFirst : Database → Database → Type 0
+BringsIfFirst old new =
+    (f : Frame) (p : Package) → ReadsAtOne f p old → Reads f p new × (IsDatabase old → IsDatabase new)

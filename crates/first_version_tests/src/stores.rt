@@ -1,6 +1,6 @@
 // Stores of both versions in memory, and what they say of themselves.
 
-use first_version::migration::migrate;
+use first_version::migration::{migrate, migrate_if_first};
 use first_version::taking_back::take_back;
 use identity_register::whole::holdings;
 use package_tables::attributes::insert_attribute;
@@ -104,6 +104,11 @@ pub(crate) fn back<S: Alter>(conn: &mut Connection<S>) -> Result<(), Fault> {
 pub(crate) fn brought<S: Alter>(conn: &mut Connection<S>) -> Result<(), Fault> {
     at_rest(conn)?;
     migrate(conn)
+}
+
+pub(crate) fn brought_if_first<S: Alter>(conn: &mut Connection<S>) -> Result<(), Fault> {
+    at_rest(conn)?;
+    migrate_if_first(conn)
 }
 
 pub(crate) fn held<S: Alter>(

@@ -1,8 +1,8 @@
 // A store of the first version is brought to the second, or left as it was.
 
 use crate::stores::{
-    Linked, back, brought, full_store, head, held, receipts, relations, row_medium, row_tile,
-    tile_medium,
+    Linked, back, brought, brought_if_first, full_store, head, held, receipts, relations,
+    row_medium, row_tile, tile_medium,
 };
 use first_version::names::are_free;
 use package_tables::fault::Fault;
@@ -86,7 +86,10 @@ fn a_store_that_cannot_be_brought_stays(rt: HostRuntime) -> Result<(), Fail> {
     assert!(rt; is_at(a, conn, 1, 2)?);
     conn.execute("DROP TABLE by_rows_tiles", &[])?;
     assert!(rt; are_free(conn.schema()));
-    brought(conn)?;
+    brought_if_first(conn)?;
+    assert!(rt; is_at(a, conn, 2, 3)?);
+    // one of the second version stays
+    brought_if_first(conn)?;
     assert!(rt; is_at(a, conn, 2, 3)?);
     Ok(())
 }
