@@ -164,14 +164,19 @@ def list_of(check):
     return text.encode() if check.last_end else text.encode()[:-1]
 
 
+def report_of(records, replies):
+    """The report of a list of these records."""
+    lines = []
+    for number, (record, reply) in enumerate(zip(records, replies), 1):
+        word, value = re.match("(seq|refusal) ([0-9]+)", reply).groups()
+        lines.append(f"{number},{record[:36]},{value if word == 'seq' else 0},{value if word == 'refusal' else 0}\n")
+    return REPORT_HEADER + "".join(lines)
+
+
 def expected(check):
     if check.fault:
         return "refused: list\n", 1
-    lines = []
-    for number, (record, reply) in enumerate(zip(check.records, check.replies), 1):
-        word, value = re.match("(seq|refusal) ([0-9]+)", reply).groups()
-        lines.append(f"{number},{record[:36]},{value if word == 'seq' else 0},{value if word == 'refusal' else 0}\n")
-    return REPORT_HEADER + "".join(lines) + check.manifests, 0
+    return report_of(check.records, check.replies) + check.manifests, 0
 
 
 def tellings(reply):

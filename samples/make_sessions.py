@@ -1,0 +1,346 @@
+#!/usr/bin/env python3
+"""Writes the sessions that the gate carries out: their lines, the files that these name, and what each line prints.
+
+Usage: make_sessions.py           writes first.csv, first_session.txt, and the run that the gate makes of crates/workbench
+       make_sessions.py --check   writes nothing; status 1 where a file is not what would be written, or the README does not show the first session
+
+First comes the session of the README: an archive is made in a folder, takes in three sheets, a survey mark and a photograph, lends a sheet
+to a crew, which adds a mark of its own; then it is looked at. What its lines print is worked out by the second machine of reference.py.
+
+Then the worked examples of bench/worked_lists.txt, which has what they must print, written out by hand. Each list is rehearsed. Where an
+example tells more of a reply than its number, or has manifests in between, it is carried out in a folder too: requests of which more
+is told go in one by one, as JSON, and the others as lists. Such a reply's whole text, and the table of the packages, are the second
+machine's, once that agrees with all that the example tells (bench/worked_lists.py).
+
+Last the sessions of refusals.txt, written out by hand as they stand there. Nothing here runs the program.
+"""
+
+import os
+import re
+import sys
+
+import nordmark
+import reference
+from machine.lists import read_requests
+from machine.world import Receipt
+from make_sample import List
+
+HERE = os.path.dirname(os.path.abspath(__file__))
+CRATE = os.path.join(HERE, "..", "crates", "workbench")
+DATA = os.path.join(CRATE, "data")
+README = os.path.join(HERE, "..", "README.md")
+REFUSALS = os.path.join(HERE, "refusals.txt")
+
+sys.path.insert(0, os.path.join(HERE, "..", "bench"))
+sys.dont_write_bytecode = True
+
+import worked_lists
+from desk_requests import body_of
+
+CREW = nordmark.HARBOUR
+
+
+def told():
+    """The list of the session, and the request of its split."""
+    requests = List()
+    town, mole, moor = (6, 0, 0), (6, 1, 0), (5, 0, 2)
+    for place in (town, mole, moor):
+        requests.tile(nordmark.sheet(*place), place, b"\x89PNG\r\n\x1a\n" + nordmark.SHEETS[place].encode())
+    requests.mark(nordmark.mark("light"), *nordmark.MARKS["light"])
+    requests.medium(nordmark.medium("photo-lighthouse"), *nordmark.MEDIA["photo-lighthouse"])
+    requests.link("rows_media", nordmark.mark("light"), nordmark.medium("photo-lighthouse"))
+    requests.link("rows_tiles", nordmark.mark("light"), nordmark.sheet(*town))
+    lent = requests.split(CREW, "strict", (5, 0, 0, 0, 0))
+    requests.mark(nordmark.mark("buoy"), 503000000, 5959000000, 220, "buoy, red", package=CREW)
+    requests.delete(nordmark.sheet(*mole), refused=7)
+    return requests, lent
+
+
+def rehearsed(text):
+    done = reference.rehearse(nordmark.ARCHIVE, nordmark.FRAME, text)
+    assert done.status == 0, done.text
+    return done
+
+
+def report_of(done):
+    return done.text.split("package ", 1)[0]
+
+
+def manifest_of(done, package):
+    for part in done.text.split("package ")[1:]:
+        name, manifest = part.split("\n", 1)
+        if name == package:
+            return manifest
+    raise LookupError(package)
+
+
+def left(width, text):
+    return text.ljust(width) + "  "
+
+
+def right(width, text):
+    return str(text).rjust(width) + "  "
+
+
+def status_of(world):
+    """A line of headings, and a line for each package, in columns of fixed widths."""
+    counted = [("tiles", 7), ("media", 7), ("rows", 7), ("links", 7), ("bytes", 13)]
+    heads = left(36, "package") + left(36, "parent") + right(5, "depth") + right(10, "loan")
+    lines = [heads + "".join(right(width, name) for name, width in counted) + "last change\n"]
+    for uuid in sorted(world.packages):
+        package, sight, ticket = world.packages[uuid], reference.sight_of(world, world.packages[uuid]), world.tickets[uuid]
+        ends = left(36, uuid) + left(36, package.parent or "-") + right(5, package.depth) + right(10, package.loan)
+        counts = "".join(right(width, sight[name]) for name, width in counted)
+        lines.append(ends + counts + (world.receipts[ticket - 1].at if ticket else "-") + "\n")
+    return "".join(lines)
+
+
+def way_of(world, identity):
+    """A line for each receipt that names the identity, and where its item is now."""
+    lines, place = [], None
+    for receipt in world.receipts:
+        as_item = any(thing.kind < 4 and thing.base == identity for thing in receipt.moved)
+        as_end = any(thing.kind > 3 and identity in (thing.base, thing.other) for thing in receipt.moved)
+        if as_item:
+            place = receipt.target
+        if as_item or as_end:
+            naming = "both" if as_item and as_end else "item" if as_item else "link"
+            front = right(10, receipt.seq) + left(24, receipt.at) + left(36, receipt.request) + left(6, receipt.line.split(" ")[0])
+            lines.append(front + left(4, naming) + left(36, receipt.source or "-") + (receipt.target or "-") + "\n")
+    return "".join(lines) + ("now in " + place if place else "now nowhere") + "\n"
+
+
+class Session:
+    """Lines as they are typed and what comes of them, and the files that they name."""
+
+    def __init__(self):
+        self.typed = []
+        self.printed = []
+        self.files = {}
+
+    def show(self, line, text=""):
+        self.typed.append(line + "\n")
+        self.printed.append(line + "\n" + text)
+
+    def type(self, line, text, status=0):
+        self.typed.append(line + "\n")
+        self.printed.append(f"$ {line}\n{text}" + (f"status {status}\n" if status else ""))
+
+    def run(self, words, text, status=0):
+        self.type(f"./sheetdesk {words}", text, status)
+
+    def name(self, path, content):
+        """A file that a line names, by its path."""
+        self.files[path] = content
+        return path
+
+
+def first_session():
+    requests, lent = told()
+    done = rehearsed(requests.text().encode())
+    light = nordmark.mark("light")
+    receipt = next(reply for reply in done.replies if isinstance(reply, Receipt) and reply.request == lent)
+    session = Session()
+    session.type("mkdir maps", "")
+    session.run(f"init --archive {nordmark.ARCHIVE} --at {nordmark.CREATED} --frame {nordmark.FRAME} maps", f"archive {nordmark.ARCHIVE}\n")
+    session.run("import maps " + session.name("samples/first.csv", requests.text().encode()), report_of(done))
+    session.run("status maps", status_of(done.world))
+    session.run(f"explain maps {light}", way_of(done.world, light))
+    session.run(f"receipt maps {lent}", reference.reply_text(receipt) + "\n")
+    session.run(f"manifest maps {CREW}", manifest_of(done, CREW))
+    session.run("audit maps", f"good {len(done.world.receipts)}\n")
+    return session
+
+
+def making(check):
+    return f"--archive {worked_lists.uuid_of('a')} --at {worked_lists.MOMENTS['T']} --frame {check.frame}"
+
+
+def short(name):
+    return re.sub("[^a-z0-9]+", "_", name.lower())
+
+
+def rehearse(session, check, file):
+    text, status = worked_lists.expected(check)
+    path = session.name(f"lists/{file}.csv", worked_lists.list_of(check))
+    session.run(f"rehearse {making(check)} < {path}", text, status)
+
+
+def tells_more(check, at):
+    """Whether an example tells more of a reply than its number."""
+    reply = check.replies[at]
+    return at + 1 in check.desk or "," in reply or len(reply.split(" ")) > 2
+
+
+class InFolder:
+    """An example carried out in a folder, to the end of one of its checks after the other."""
+
+    def __init__(self, session, check):
+        self.session = session
+        self.folder = short(check.name)
+        self.at = 0
+        self.files = 0
+        session.type(f"mkdir {self.folder}", "")
+        session.run(f"init {making(check)} {self.folder}", f"archive {worked_lists.uuid_of('a')}\n")
+
+    def file(self, kind):
+        self.files += 1
+        return f"{kind}/{self.folder}_{self.files}"
+
+    def import_to(self, check, end):
+        """The records up to this one, as a list."""
+        records, replies = check.records[self.at : end], check.replies[self.at : end]
+        text = worked_lists.LIST_HEADER + "".join(records)
+        path = self.session.name(self.file("lists") + ".csv", text.encode())
+        self.session.run(f"import {self.folder} {path}", worked_lists.report_of(records, replies))
+        self.at = end
+
+    def apply_one(self, request, reply):
+        path = self.session.name(self.file("requests") + ".json", body_of(request).encode())
+        refused = isinstance(reply, reference.Refusal)
+        self.session.run(f"apply {self.folder} < {path}", reference.reply_text(reply) + "\n", 1 if refused else 0)
+        self.at += 1
+
+    def go_on(self, check, done):
+        """Carries out what comes before the manifests of this check, and looks at the packages."""
+        while self.at < len(check.records):
+            if tells_more(check, self.at):
+                self.apply_one(done.requests[self.at], done.replies[self.at])
+            else:
+                told = (at for at in range(self.at, len(check.records)) if tells_more(check, at))
+                self.import_to(check, next(told, len(check.records)))
+        self.session.run(f"status {self.folder}", status_of(done.world))
+        for part in check.manifests.split("package ")[1:]:
+            uuid, manifest = part.split("\n", 1)
+            self.session.run(f"manifest {self.folder} {uuid}", manifest)
+
+    def end(self, done):
+        self.session.run(f"audit {self.folder}", f"good {len(done.world.receipts)}\n")
+
+
+def carry_out(session, checks):
+    example, done = InFolder(session, checks[0]), None
+    for check in checks:
+        done = reference.rehearse(worked_lists.uuid_of("a"), check.frame, worked_lists.list_of(check))
+        example.go_on(check, done)
+    example.end(done)
+
+
+def worked(session, name, checks):
+    """A worked example whose list is short."""
+    session.show("")
+    session.show(f"# {name}")
+    for check in checks:
+        worked_lists.check_reference(check)
+    last = checks[-1]
+    rehearse(session, last, short(name))
+    more = any(tells_more(last, at) for at in range(len(last.records)))
+    if not last.fault and (len(checks) > 1 or more):
+        carry_out(session, checks)
+
+
+def long_one(session, name, checks):
+    """One whose list is long: a rehearsal for each of its manifests."""
+    session.show("")
+    session.show(f"# {name}")
+    for number, check in enumerate(checks, 1):
+        worked_lists.check_reference(check)
+        rehearse(session, check, f"{short(name)}_{number}" if len(checks) > 1 else short(name))
+
+
+def by_name(checks):
+    """Lists of checks, each of one example."""
+    names = dict.fromkeys(check.name for check in checks)
+    checks = list(checks)
+    return {name: [check for check in checks if check.name == name] for name in names}
+
+
+def worked_sessions(session):
+    for name, checks in by_name(list(worked_lists.written_out())).items():
+        worked(session, name, checks)
+    for name, checks in by_name(list(worked_lists.made())).items():
+        if len(worked_lists.list_of(checks[-1])) < 100_000:
+            long_one(session, name, checks)
+
+
+def sessions_by_hand(session):
+    """Those of refusals.txt: lines that begin with `$ ` are typed, those with `# ` are comments, the others are printed."""
+    with open(REFUSALS, encoding="utf-8") as found:
+        lines = found.read().splitlines(keepends=True)
+    session.printed += lines
+    session.typed += [line.removeprefix("$ ") for line in lines if line.startswith(("$ ", "# ")) or line == "\n"]
+
+
+def all_sessions():
+    """The first session as the README shows it, and all of them."""
+    first, every = first_session(), Session()
+    every.show("# The first session of the README.")
+    every.typed += first.typed
+    every.printed += first.printed
+    every.files = first.files
+    worked_sessions(every)
+    sessions_by_hand(every)
+    return first, every
+
+
+def files():
+    """Each file's path and bytes."""
+    first, every = all_sessions()
+    made = {os.path.join(DATA, *path.split("/")): content for path, content in every.files.items()}
+    return {
+        os.path.join(HERE, "first.csv"): first.files["samples/first.csv"],
+        os.path.join(HERE, "first_session.txt"): "".join(first.printed).encode(),
+        os.path.join(DATA, "sessions.txt"): "".join(every.typed).encode(),
+        os.path.join(CRATE, "stdout"): "".join(every.printed).encode(),
+        **made,
+    }
+
+
+def strays():
+    """Files of the sessions that none of them names."""
+    wanted = {os.path.normpath(path) for path in files()}
+    found = {os.path.normpath(os.path.join(folder, name)) for folder, _, names in os.walk(DATA) for name in names}
+    return sorted(found - wanted)
+
+
+def is_as_wanted(path, wanted):
+    if not os.path.exists(path):
+        return False
+    with open(path, "rb") as found:
+        return found.read() == wanted
+
+
+def missing_lines():
+    """The lines of the first session that the README does not show."""
+    with open(README, encoding="utf-8") as found:
+        lines = {line.strip() for line in found}
+    return [line.strip() for line in first_session().typed if line.strip() not in lines]
+
+
+def check():
+    """What is not as it should be, a line each."""
+    other = [f"not as made: {os.path.relpath(path)}" for path, wanted in files().items() if not is_as_wanted(path, wanted)]
+    other += [f"named by no session: {os.path.relpath(path)}" for path in strays()]
+    return other + [f"not in the README: {line}" for line in missing_lines()]
+
+
+def write():
+    for path in strays():
+        os.remove(path)
+    for path, wanted in files().items():
+        os.makedirs(os.path.dirname(path), exist_ok=True)
+        with open(path, "wb") as out:
+            out.write(wanted)
+
+
+def main():
+    if sys.argv[1:] == ["--check"]:
+        other = check()
+        sys.exit("\n".join(other) if other else 0)
+    if sys.argv[1:]:
+        sys.exit(__doc__)
+    write()
+
+
+if __name__ == "__main__":
+    main()
