@@ -3,7 +3,6 @@ use command_words::arguments::{
     Desk, DeskWords, Words, read_count, read_desk, read_frame, read_port, read_rehearsal,
     read_serving,
 };
-use command_words::statuses::What;
 use sheet_types::frame::Frame;
 use uuid::Uuid;
 
@@ -12,13 +11,6 @@ const ARCHIVE: &str = "a0000000-0000-4000-8000-000000000000";
 const AT: &str = "2024-05-01T08:00:00.000Z";
 
 const FRAME: &str = "25832,0,0,4096,4096,256,256,0,3,1,1";
-
-fn refused(archive: &str, at: &str, frame: &str) -> Option<What> {
-    match read_rehearsal(&Words { archive, at, frame }) {
-        Ok(_) => None,
-        Err(what) => Some(what),
-    }
-}
 
 #[test]
 fn a_good_frame_is_read(rt: HostRuntime) {
@@ -54,73 +46,6 @@ fn a_good_frame_is_read(rt: HostRuntime) {
 }
 
 #[test]
-fn other_texts_are_no_frames(rt: HostRuntime) {
-    let texts = [
-        "",
-        "25832,0,0,4096,4096,256,256,0,3,1",
-        "25832,0,0,4096,4096,256,256,0,3,1,1,1",
-        "+25832,0,0,4096,4096,256,256,0,3,1,1",
-        "25832,0,0,4096,4096,256,256,0,03,1,1",
-        "25832,0,0,4096,4096,256,256,0,3,01,1",
-        "25832,-0,0,4096,4096,256,256,0,3,1,1",
-        "25832,0,0,4096,4096,256,256,0,3,1, 1",
-        " 25832,0,0,4096,4096,256,256,0,3,1,1",
-        "25832,0,0,4096,4096,256,256,0,3,1,1\n",
-        "25832,0,,4096,4096,256,256,0,3,1,1",
-        "25832,0,0,4096,4096,256,256,0,3,1,",
-        "25832,0,0,4096,4096,256,256,0,3,1,1,",
-        ",25832,0,0,4096,4096,256,256,0,3,1,1",
-        "25832,0,0,4096,4096,256,256,0,3,,1,1",
-        "25832;0;0;4096;4096;256;256;0;3;1;1",
-        "25832,0,0,4096.0,4096,256,256,0,3,1,1",
-        "25832,0,0,0x1000,4096,256,256,0,3,1,1",
-        "9223372036854775808,0,0,4096,4096,256,256,0,3,1,1",
-    ];
-    for text in texts {
-        assert!(rt; read_frame(text).is_none(), "{text}");
-        assert!(rt;
-            refused(ARCHIVE, AT, text) == Some(What::BadFrame),
-            "{text}"
-        );
-    }
-}
-
-#[test]
-fn a_frame_that_breaks_a_rule_is_refused(rt: HostRuntime) {
-    let texts = [
-        // The reference system is not -1, 0 or up to 999999.
-        "1000000,0,0,4096,4096,256,256,0,3,1,1",
-        "-2,0,0,4096,4096,256,256,0,3,1,1",
-        // A bound is too far out, or a minimum is not below its maximum.
-        "25832,0,0,1000000000001,4096,256,256,0,3,1,1",
-        "25832,0,4096,4096,4096,256,256,0,3,1,1",
-        // A tile has no pixels, or more than 4096.
-        "25832,0,0,4096,4096,0,256,0,3,1,1",
-        "25832,0,0,4096,4096,256,4097,0,3,1,1",
-        // The zooms begin below 0, are none, or end past 20.
-        "25832,0,0,4096,4096,256,256,-1,3,1,1",
-        "25832,0,0,4096,4096,256,256,0,0,1,1",
-        "25832,0,0,4096,4096,256,256,19,3,1,1",
-        // The matrix has no tiles, or too many.
-        "25832,0,0,4096,4096,256,256,0,3,0,1",
-        "25832,0,0,4096,4096,256,256,0,3,1,2000000000001",
-        // 5 levels need a multiple of 4096 and have it; 6 need one of 8192.
-        "25832,0,0,4096,4096,256,256,0,6,1,1",
-        "25832,0,0,4097,4096,256,256,0,3,1,1",
-        "25832,0,0,4096,4097,256,256,0,3,1,1",
-    ];
-    for text in texts {
-        assert!(rt; read_frame(text).is_none(), "{text}");
-        assert!(rt;
-            refused(ARCHIVE, AT, text) == Some(What::BadFrame),
-            "{text}"
-        );
-    }
-    assert!(rt; read_frame("25832,0,0,4096,4096,256,256,0,5,1,1").is_some());
-    assert!(rt; read_frame("999999,0,0,4096,4096,256,256,0,3,1,1").is_some());
-}
-
-#[test]
 fn words_of_an_archive_are_read(rt: HostRuntime) {
     let words = Words {
         archive: "A0000000-0000-4000-8000-00000000BeEf",
@@ -137,57 +62,6 @@ fn words_of_an_archive_are_read(rt: HostRuntime) {
     assert_eq!(rt; rehearsal.frame.srs_id, 0);
     assert_eq!(rt; rehearsal.frame.max_y, 8192);
     assert_eq!(rt; rehearsal.frame.tile_height, 512);
-}
-
-#[test]
-fn other_texts_are_no_uuids(rt: HostRuntime) {
-    let texts = [
-        "",
-        "a0000000-0000-4000-8000-00000000000",
-        "a0000000-0000-4000-8000-0000000000000",
-        "{a0000000-0000-4000-8000-000000000000}",
-        "a0000000000040008000000000000000",
-        "urn:uuid:a0000000-0000-4000-8000-000000000000",
-        "g0000000-0000-4000-8000-000000000000",
-        "a0000000-0000-4000-80000-00000000000",
-        " 0000000-0000-4000-8000-000000000000",
-    ];
-    for text in texts {
-        assert!(rt; refused(text, AT, FRAME) == Some(What::BadUuid), "{text}");
-    }
-}
-
-#[test]
-fn other_texts_are_no_moments(rt: HostRuntime) {
-    let texts = [
-        "",
-        "2024-13-01T08:00:00.000Z",
-        "2024-00-01T08:00:00.000Z",
-        "2024-05-32T08:00:00.000Z",
-        "2024-05-01T24:00:00.000Z",
-        "2024-05-01T08:60:00.000Z",
-        "2024-05-01T08:00:60.000Z",
-        "2024-05-01T08:00:00.000",
-        "2024-05-01T08:00:00.000z",
-        "2024-05-01 08:00:00.000Z",
-        "2024-05-01T08:00:00Z",
-    ];
-    for text in texts {
-        assert!(rt;
-            refused(ARCHIVE, text, FRAME) == Some(What::BadMoment),
-            "{text}"
-        );
-    }
-}
-
-#[test]
-fn of_several_the_first_is_named(rt: HostRuntime) {
-    assert!(rt; refused("x", "x", "x") == Some(What::BadUuid));
-    assert!(rt; refused("x", AT, "x") == Some(What::BadUuid));
-    assert!(rt; refused("x", "x", FRAME) == Some(What::BadUuid));
-    assert!(rt; refused(ARCHIVE, "x", "x") == Some(What::BadMoment));
-    assert!(rt; refused(ARCHIVE, AT, "x") == Some(What::BadFrame));
-    assert!(rt; refused(ARCHIVE, AT, FRAME) == None);
 }
 
 #[test]

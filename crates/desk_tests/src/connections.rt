@@ -16,9 +16,6 @@ const ADD: &str =
 const RECEIPT: &str =
     "{\"at\":\"2024-05-01T08:00:00.000Z\",\"bytes\":1,\"from\":\"\",\"items\":1,\"line\":\"add a0000000-0000-4000-8000-000000000000 00000000-0000-4000-8000-000000000001 tile 1 b363ee0ecc9cf61b12ecdafd75dca2779729b4fcc5f1bd718c33aad2c94af4f8\",\"links\":0,\"media\":0,\"request\":\"90000000-0000-4000-8000-000000000001\",\"rows\":0,\"seq\":1,\"tiles\":1,\"to\":\"a0000000-0000-4000-8000-000000000000\"}";
 
-const NO_PATH: &str =
-    "HTTP/1.1 404 Not Found\r\ncontent-type: application/json\r\ncontent-length: 24\r\nconnection: close\r\n\r\n{\"fault\":\"no such path\"}";
-
 /// What goes out for these bytes.
 fn served(alloc: Global, world: &mut World<MemStore>, text: &[u8]) -> Result<Vec<u8>, Fail> {
     let mut out: Vec<u8> = Vec::new(alloc);
@@ -47,25 +44,6 @@ fn begins(out: &[u8], front: &str) -> bool {
 
 fn ends(out: &[u8], back: &str) -> bool {
     out.ends_with(back.as_bytes())
-}
-
-#[test]
-fn each_beginning_of_a_request(rt: HostRuntime) -> Result<(), Fail> {
-    let alloc = rt.alloc();
-    let mut world = new_world(alloc)?;
-    let text = b"GET /nothing HTTP/1.1\r\n\r\n";
-    for n in 0..26usize {
-        let out = served(alloc, &mut world, &text[..n])?;
-        if n == 0 {
-            assert!(rt; out.is_empty());
-        } else if n < 25 {
-            assert!(rt; begins(out.as_slice(), "HTTP/1.1 400 Bad Request\r\n"));
-            assert!(rt; ends(out.as_slice(), "\r\n\r\n{\"fault\":\"bad request\"}"));
-        } else {
-            assert_eq!(rt; out.as_slice(), NO_PATH.as_bytes());
-        }
-    }
-    Ok(())
 }
 
 #[test]
@@ -130,84 +108,6 @@ fn an_addition_and_what_is_read_of_it(rt: HostRuntime) -> Result<(), Fail> {
             "\r\ncontent-length: 34\r\nconnection: close\r\n\r\n{\"name\":\"PlaceTaken\",\"refusal\":11}"
         )
     );
-    Ok(())
-}
-
-#[test]
-fn paths_methods_and_lengths(rt: HostRuntime) -> Result<(), Fail> {
-    let alloc = rt.alloc();
-    let mut world = new_world(alloc)?;
-    for (text, wanted) in [
-        (
-            "GET /requests HTTP/1.1\r\n\r\n",
-            "{\"fault\":\"bad method\"}",
-        ),
-        (
-            "POST /packages HTTP/1.1\r\n\r\n",
-            "{\"fault\":\"bad method\"}",
-        ),
-        (
-            "GET /packages//manifest HTTP/1.1\r\n\r\n",
-            "{\"fault\":\"no such path\"}",
-        ),
-        (
-            "GET /packages/x/manifest HTTP/1.1\r\n\r\n",
-            "{\"fault\":\"no such package\"}",
-        ),
-        (
-            "GET /packages/b0000000-0000-4000-8000-000000000000/manifest HTTP/1.1\r\n\r\n",
-            "{\"fault\":\"no such package\"}",
-        ),
-        (
-            "GET /receipts/x HTTP/1.1\r\n\r\n",
-            "{\"fault\":\"no such receipt\"}",
-        ),
-        (
-            "POST /requests HTTP/1.1\r\n\r\n",
-            "{\"fault\":\"no length\"}",
-        ),
-        (
-            "POST /requests HTTP/1.1\r\nContent-Length: 2200001\r\n\r\n",
-            "{\"fault\":\"too large\"}",
-        ),
-        (
-            "POST /requests HTTP/1.1\r\nContent-Length: 1\r\nContent-Length: 1\r\n\r\n1",
-            "{\"fault\":\"bad request\"}",
-        ),
-        (
-            "GET /receipts/90000000-0000-4000-8000-000000000001 HTTP/1.1\r\n\r\n",
-            "{\"fault\":\"no such receipt\"}",
-        ),
-    ] {
-        let out = served(alloc, &mut world, text.as_bytes())?;
-        assert!(rt; ends(out.as_slice(), wanted), "{text}");
-    }
-    Ok(())
-}
-
-/// A request whose head has so many bytes, and more than 29.
-fn of_size(alloc: Global, size: usize) -> Result<String, Fail> {
-    let mut text = String::from_str(alloc, "GET /nothing HTTP/1.1\r\na:")?;
-    for _ in 29..size {
-        text.push_str("b")?;
-    }
-    text.push_str("\r\n\r\n")?;
-    Ok(text)
-}
-
-#[test]
-fn heads_at_their_limits(rt: HostRuntime) -> Result<(), Fail> {
-    let alloc = rt.alloc();
-    let mut world = new_world(alloc)?;
-    for (size, wanted) in [
-        (16384usize, "{\"fault\":\"no such path\"}"),
-        (16385, "{\"fault\":\"bad request\"}"),
-    ] {
-        let text = of_size(alloc, size)?;
-        assert_eq!(rt; text.len(), size);
-        let out = served(alloc, &mut world, text.as_bytes())?;
-        assert!(rt; ends(out.as_slice(), wanted));
-    }
     Ok(())
 }
 
@@ -338,23 +238,5 @@ fn a_writer_that_fails(rt: HostRuntime) -> Result<(), Fail> {
         assert!(rt; again.as_slice().starts_with(writer.taken.as_slice()));
         assert!(rt; ends(again.as_slice(), RECEIPT));
     }
-    Ok(())
-}
-
-#[test]
-fn bodies_that_are_no_requests(rt: HostRuntime) -> Result<(), Fail> {
-    let alloc = rt.alloc();
-    let mut world = new_world(alloc)?;
-    for body in ["", "{}", "[]", "nothing"] {
-        let text = whole_post(alloc, body)?;
-        let out = served(alloc, &mut world, text.as_bytes())?;
-        assert!(rt; ends(out.as_slice(), "{\"fault\":\"bad request\"}"));
-    }
-    let empty =
-        "{\"at\":\"2024-05-01T08:00:00.000Z\",\"command\":\"add\",\"data\":\"\",\"identity\":\"00000000-0000-4000-8000-000000000001\",\"kind\":\"tile\",\"package\":\"a0000000-0000-4000-8000-000000000000\",\"request\":\"90000000-0000-4000-8000-000000000001\",\"column\":3,\"row\":3,\"zoom\":2}";
-    let text = whole_post(alloc, empty)?;
-    let out = served(alloc, &mut world, text.as_bytes())?;
-    assert!(rt; begins(out.as_slice(), "HTTP/1.1 409 Conflict\r\n"));
-    assert!(rt; ends(out.as_slice(), "{\"name\":\"TooLarge\",\"refusal\":5}"));
     Ok(())
 }

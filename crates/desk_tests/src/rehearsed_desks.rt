@@ -8,7 +8,7 @@ use memory_files::MemoryFile;
 use sheet_types::reading::read_uuid;
 use sqlite::FileStore;
 use std::alloc::Global;
-use std::io::{Error, ErrorKind, Read, Result as IoResult, Write};
+use std::io::{Read, Result as IoResult, Write};
 use std::net::{Ipv4Addr, Net, Shutdown, TcpListener, TcpStream};
 use std::test::Fail;
 use test_lists::{FIRST_TILE, MANIFEST_OF_THE_FIRST, list};
@@ -205,33 +205,6 @@ fn a_client_that_comes_while_the_list_is_read(rt: HostRuntime) -> Result<(), Fai
         )?
     );
     Ok(())
-}
-
-#[test]
-fn words_that_are_no_numbers_of_a_desk(rt: HostRuntime) {
-    let numbers = [
-        ("0", "1"),
-        ("65536", "1"),
-        ("08080", "1"),
-        ("+1", "1"),
-        ("-1", "1"),
-        ("", "1"),
-        ("80 ", "1"),
-        ("8080", "0"),
-        ("8080", "1000001"),
-        ("8080", "01"),
-        ("8080", "x"),
-        ("8080", ""),
-        ("8080", "18446744073709551617"),
-    ];
-    for (port, count) in numbers {
-        assert!(rt;
-            refused(&rt, GOOD.frame, port, count) == Some(Outcome::Refused(What::BadNumber)),
-            "{port} {count}"
-        );
-    }
-    // the frame is named first
-    assert!(rt; refused(&rt, "x", "x", "x") == Some(Outcome::Refused(What::BadFrame)));
 }
 
 #[test]

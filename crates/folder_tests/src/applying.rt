@@ -2,7 +2,6 @@
 use commands::applying::apply_in;
 use commands::endings::{DONE, Ending, FAILED};
 use shelves::memory::MemoryShelf;
-use std::alloc::Global;
 use std::test::Fail;
 use test_lists::{Failing, Narrow};
 use test_worlds::new_world;
@@ -12,35 +11,6 @@ const ADD: &str =
 
 const RECEIPT: &str =
     "{\"at\":\"2024-05-01T08:00:00.000Z\",\"bytes\":1,\"from\":\"\",\"items\":1,\"line\":\"add a0000000-0000-4000-8000-000000000000 00000000-0000-4000-8000-000000000001 tile 1 b363ee0ecc9cf61b12ecdafd75dca2779729b4fcc5f1bd718c33aad2c94af4f8\",\"links\":0,\"media\":0,\"request\":\"90000000-0000-4000-8000-000000000001\",\"rows\":0,\"seq\":1,\"tiles\":1,\"to\":\"a0000000-0000-4000-8000-000000000000\"}\n";
-
-/// The same place by another request and another identity.
-const TAKEN: &str =
-    "{\"at\":\"2024-05-01T08:00:00.000Z\",\"command\":\"add\",\"data\":\"41\",\"identity\":\"00000000-0000-4000-8000-000000000002\",\"kind\":\"tile\",\"package\":\"a0000000-0000-4000-8000-000000000000\",\"request\":\"90000000-0000-4000-8000-000000000002\",\"column\":3,\"row\":3,\"zoom\":2}";
-
-#[test]
-fn requests_one_after_the_other(rt: HostRuntime) -> Result<(), Fail> {
-    let alloc = rt.alloc();
-    let mut world = new_world(alloc)?;
-    let mut shelf = MemoryShelf::new(alloc);
-    for (body, ending, wanted) in [
-        (ADD, DONE, RECEIPT),
-        // again: the receipt that is kept
-        (ADD, DONE, RECEIPT),
-        (
-            TAKEN,
-            Ending::Declined,
-            "{\"name\":\"PlaceTaken\",\"refusal\":11}\n",
-        ),
-        ("{}", Ending::BadBody, ""),
-        ("", Ending::BadBody, ""),
-    ] {
-        let mut out: Vec<u8> = Vec::new(alloc);
-        let got = apply_in(alloc, &mut world, &mut shelf, body.as_bytes(), &mut out);
-        assert!(rt; got == ending);
-        assert_eq!(rt; out.as_slice(), wanted.as_bytes());
-    }
-    Ok(())
-}
 
 #[test]
 fn streams_that_fail(rt: HostRuntime) -> Result<(), Fail> {

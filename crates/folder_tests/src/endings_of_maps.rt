@@ -13,16 +13,12 @@ fn no_number() -> MapEnding {
 }
 
 #[test]
-fn each_ending_has_a_status(rt: HostRuntime) {
+fn each_ending_has_a_status_and_its_lines(rt: HostRuntime) {
     assert_eq!(rt; status_of(MapEnding::Usual(DONE)), 0);
     assert_eq!(rt; status_of(MapEnding::NoSuchZoom), 1);
     assert_eq!(rt; status_of(no_number()), 1);
     assert_eq!(rt; status_of(MapEnding::Usual(FAILED)), 3);
     assert_eq!(rt; status_of(busy()), 3);
-}
-
-#[test]
-fn each_ending_has_its_lines(rt: HostRuntime) {
     assert_eq!(rt; output_of(MapEnding::Usual(DONE)), "");
     assert_eq!(rt; output_of(MapEnding::NoSuchZoom), "refused: zoom\n");
     assert_eq!(rt; output_of(no_number()), "refused: number\n");

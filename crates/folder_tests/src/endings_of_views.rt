@@ -13,16 +13,12 @@ fn without_archive() -> Ending {
 }
 
 #[test]
-fn each_ending_has_a_status(rt: HostRuntime) {
+fn each_ending_has_a_status_and_its_lines(rt: HostRuntime) {
     assert_eq!(rt; status_of(Ending::Usual(DONE)), 0);
     assert_eq!(rt; status_of(Ending::NoSuchRequest), 1);
     assert_eq!(rt; status_of(Ending::NoSuchIdentity), 1);
     assert_eq!(rt; status_of(without_archive()), 3);
     assert_eq!(rt; status_of(busy()), 3);
-}
-
-#[test]
-fn each_ending_has_its_lines(rt: HostRuntime) {
     assert_eq!(rt; output_of(Ending::Usual(DONE)), "");
     assert_eq!(rt;
         output_of(Ending::NoSuchRequest),

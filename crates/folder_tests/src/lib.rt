@@ -4,8 +4,6 @@
 #[cfg(test)]
 mod applying;
 #[cfg(test)]
-mod commands_over_a_folder;
-#[cfg(test)]
 mod endings_of_commands;
 #[cfg(test)]
 mod endings_of_maps;
@@ -16,10 +14,6 @@ mod exports;
 #[cfg(test)]
 mod help;
 #[cfg(test)]
-mod looking;
-#[cfg(test)]
 mod maps;
 #[cfg(test)]
 mod showing;
-#[cfg(test)]
-mod views_over_a_folder;

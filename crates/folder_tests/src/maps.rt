@@ -1,11 +1,7 @@
 // The map of an archive that lent a sheet and took a new one at its place; the text was worked out by hand.
-use command_words::statuses::{Outcome, What};
-use commands::endings::{DONE, Ending, FAILED, OpenFault};
+use commands::endings::{DONE, FAILED};
 use drawing::endings::MapEnding;
-use drawing::maps::{map, map_in};
-use drawing::printing::{MapFault, print_map};
-use drawing::zooms::asked_zoom;
-use opening::faults::RecoverFault;
+use drawing::maps::map_in;
 use package_tables::fault::Fault;
 use sheet_types::command::Mode;
 use shelves::memory::MemoryShelf;
@@ -52,40 +48,4 @@ fn an_archive_and_its_loan(rt: HostRuntime) -> Result<(), Fail> {
     assert!(rt; map_in(alloc, &mut world, None, &mut narrow) == MapEnding::Usual(FAILED));
     assert!(rt; LENT.as_bytes().starts_with(narrow.taken.as_slice()));
     Ok(())
-}
-
-#[test]
-fn a_zoom_that_the_frame_lacks(rt: HostRuntime) -> Result<(), Fail> {
-    let alloc = rt.alloc();
-    let mut world = new_world(alloc)?;
-    let mut out: Vec<u8> = Vec::new(alloc);
-    for zoom in [3, -1] {
-        let ending = map_in(alloc, &mut world, Some(zoom), &mut out);
-        assert!(rt; ending == MapEnding::NoSuchZoom);
-        let printed = print_map(alloc, &mut world, Some(zoom), &mut out);
-        assert!(rt; printed == Err(MapFault::NoSuchZoom));
-    }
-    assert!(rt; out.is_empty());
-    Ok(())
-}
-
-#[test]
-fn words_of_a_zoom(rt: HostRuntime) {
-    assert!(rt; asked_zoom(None) == Some(None));
-    assert!(rt; asked_zoom(Some("12")) == Some(Some(12)));
-    for word in ["", "x", "+1", "01", "9223372036854775808"] {
-        assert!(rt; asked_zoom(Some(word)).is_none());
-    }
-}
-
-#[test]
-fn a_word_that_is_no_number_opens_no_folder(rt: HostRuntime) {
-    let nowhere = "drawing_test_nowhere";
-    let mut out: Vec<u8> = Vec::new(rt.alloc());
-    let no_number = MapEnding::Usual(Ending::Usual(Outcome::Refused(What::BadNumber)));
-    assert!(rt; map(&rt, nowhere, Some("x"), &mut out) == no_number);
-    let fault = OpenFault::Fault(RecoverFault::StoreFault);
-    let unopened = MapEnding::Usual(Ending::Unopened(fault));
-    assert!(rt; map(&rt, nowhere, None, &mut out) == unopened);
-    assert!(rt; out.is_empty());
 }

@@ -8,20 +8,13 @@ use sqlite::MemStore;
 use std::alloc::Global;
 use std::process::Abort;
 use std::test::Fail;
-use test_lists::{FIRST_TILE, Failing, MANIFEST_OF_THE_FIRST, NO_REQUEST, Narrow, SEVENTEEN, list};
+use test_lists::{FIRST_TILE, Failing, NO_REQUEST, Narrow, SEVENTEEN, list};
 use test_values::{archive, question, sums};
 use test_worlds::new_world;
 use world::world::World;
 
-/// Another identity at the place of the first tile.
-const SECOND_AT_ITS_PLACE: &str =
-    "90000000-0000-4000-8000-000000000002,2024-05-01T08:00:00.000Z,add,a0000000-0000-4000-8000-000000000000,00000000-0000-4000-8000-000000000002,,tile,2,3,3,,,,,,,,41";
-
 const SECOND_BESIDE: &str =
     "90000000-0000-4000-8000-000000000002,2024-05-01T08:00:00.000Z,add,a0000000-0000-4000-8000-000000000000,00000000-0000-4000-8000-000000000002,,tile,2,2,3,,,,,,,,42";
-
-const DELETION_OF_THE_FIRST: &str =
-    "90000000-0000-4000-8000-000000000003,2024-05-01T08:00:00.000Z,delete,a0000000-0000-4000-8000-000000000000,00000000-0000-4000-8000-000000000001,,,,,,,,,,,,,";
 
 const REPORT_OF_THE_FIRST: &str =
     "line,request,seq,refusal\n1,90000000-0000-4000-8000-000000000001,1,0\n";
@@ -74,106 +67,6 @@ fn expect_manifest(rt: &impl Abort, alloc: Global, world: &mut World<MemStore>, 
     assert_eq!(rt; out.as_slice(), wanted.as_bytes());
 }
 
-#[test]
-fn the_empty_list(rt: HostRuntime) -> Result<(), Fail> {
-    let alloc = rt.alloc();
-    let text = list(alloc, &[])?;
-    imported(
-        &rt,
-        alloc,
-        text.as_str(),
-        "line,request,seq,refusal\n",
-        [0, 0, 0, 0, 0],
-    )?;
-    Ok(())
-}
-
-#[test]
-fn the_first_tile(rt: HostRuntime) -> Result<(), Fail> {
-    let alloc = rt.alloc();
-    let text = list(alloc, &[FIRST_TILE])?;
-    let mut world = imported(
-        &rt,
-        alloc,
-        text.as_str(),
-        REPORT_OF_THE_FIRST,
-        [1, 0, 0, 0, 1],
-    )?;
-    expect_manifest(&rt, alloc, &mut world, MANIFEST_OF_THE_FIRST);
-    let Some(receipt) = world.receipt(alloc, question(1))? else {
-        return Err(Fail::new("a receipt"));
-    };
-    assert_eq!(rt; receipt.seq, 1);
-    assert_eq!(rt; receipt.at.as_str(), "2024-05-01T08:00:00.000Z");
-    assert!(rt; receipt.source.is_none());
-    assert!(rt; receipt.target == Some(archive()));
-    assert_eq!(rt; (receipt.tiles, receipt.bytes), (1, 1));
-    Ok(())
-}
-
-// Zoom 2 has the columns 0 to 3.
-#[test]
-fn no_such_place(rt: HostRuntime) -> Result<(), Fail> {
-    let alloc = rt.alloc();
-    let text = list(
-        alloc,
-        &[
-            "90000000-0000-4000-8000-000000000001,2024-05-01T08:00:00.000Z,add,a0000000-0000-4000-8000-000000000000,00000000-0000-4000-8000-000000000001,,tile,2,4,3,,,,,,,,41",
-        ],
-    )?;
-    imported(
-        &rt,
-        alloc,
-        text.as_str(),
-        "line,request,seq,refusal\n1,90000000-0000-4000-8000-000000000001,0,9\n",
-        [0, 0, 0, 0, 0],
-    )?;
-    Ok(())
-}
-
-#[test]
-fn a_list_that_comes_twice(rt: HostRuntime) -> Result<(), Fail> {
-    let alloc = rt.alloc();
-    let mut world = new_world(alloc)?;
-    let text = list(alloc, &[FIRST_TILE])?;
-    for _ in 0..2 {
-        expect_import(
-            &rt,
-            alloc,
-            &mut world,
-            text.as_bytes(),
-            Ok(()),
-            REPORT_OF_THE_FIRST,
-        );
-        expect_sums(&rt, &world, [1, 0, 0, 0, 1]);
-    }
-    Ok(())
-}
-
-// A refusal is reported, and what comes after it is carried out. The last asks for something else under the first's identity.
-#[test]
-fn refusals_in_the_middle(rt: HostRuntime) -> Result<(), Fail> {
-    let alloc = rt.alloc();
-    let text = list(
-        alloc,
-        &[
-            FIRST_TILE,
-            SECOND_AT_ITS_PLACE,
-            DELETION_OF_THE_FIRST,
-            SECOND_AT_ITS_PLACE,
-            "90000000-0000-4000-8000-000000000001,2024-05-01T08:00:00.000Z,delete,a0000000-0000-4000-8000-000000000000,00000000-0000-4000-8000-000000000001,,,,,,,,,,,,,",
-        ],
-    )?;
-    imported(
-        &rt,
-        alloc,
-        text.as_str(),
-        "line,request,seq,refusal\n1,90000000-0000-4000-8000-000000000001,1,0\n2,90000000-0000-4000-8000-000000000002,0,11\n3,90000000-0000-4000-8000-000000000003,2,0\n4,90000000-0000-4000-8000-000000000002,3,0\n5,90000000-0000-4000-8000-000000000001,0,1\n",
-        [1, 0, 0, 0, 1],
-    )?;
-    Ok(())
-}
-
 /// Expects that a list is not read, and that its first record, which would be accepted, was not carried out.
 fn expect_unread(
     rt: &impl Abort,
@@ -206,41 +99,6 @@ fn lists_that_are_not_read(rt: HostRuntime) -> Result<(), Fail> {
     expect_unread(&rt, alloc, FIRST_TILE.as_bytes(), ReadFault::Header)
 }
 
-// One digit of the data's two is none; without any the tile has no bytes; without the last comma there are seventeen fields.
-#[test]
-fn a_list_that_is_cut_short(rt: HostRuntime) -> Result<(), Fail> {
-    let alloc = rt.alloc();
-    let whole = list(alloc, &[FIRST_TILE])?;
-    let bytes = whole.as_bytes();
-    let end = bytes.len();
-    let mut world = new_world(alloc)?;
-    expect_import(
-        &rt,
-        alloc,
-        &mut world,
-        &bytes[..end.saturating_sub(1)],
-        Ok(()),
-        REPORT_OF_THE_FIRST,
-    );
-    expect_unread(
-        &rt,
-        alloc,
-        &bytes[..end.saturating_sub(2)],
-        ReadFault::Record(1),
-    )?;
-    let mut empty = new_world(alloc)?;
-    expect_import(
-        &rt,
-        alloc,
-        &mut empty,
-        &bytes[..end.saturating_sub(3)],
-        Ok(()),
-        "line,request,seq,refusal\n1,90000000-0000-4000-8000-000000000001,0,5\n",
-    );
-    expect_sums(&rt, &empty, [0, 0, 0, 0, 0]);
-    expect_unread(&rt, alloc, &bytes[..end.saturating_sub(4)], ReadFault::Read)
-}
-
 #[test]
 fn a_reader_that_fails_after_a_good_list(rt: HostRuntime) -> Result<(), Fail> {
     let alloc = rt.alloc();
@@ -259,58 +117,6 @@ fn a_reader_that_fails_after_a_good_list(rt: HostRuntime) -> Result<(), Fail> {
     assert!(rt; ended == Err(ImportFault::Unread(ReadFault::Read)));
     assert!(rt; out.is_empty());
     expect_sums(&rt, &world, [0, 0, 0, 0, 0]);
-    Ok(())
-}
-
-#[test]
-fn a_label_in_quotes(rt: HostRuntime) -> Result<(), Fail> {
-    let alloc = rt.alloc();
-    let text = list(
-        alloc,
-        &[
-            "90000000-0000-4000-8000-000000000001,2024-05-01T08:00:00.000Z,add,a0000000-0000-4000-8000-000000000000,00000000-0000-4000-8000-000000000001,,row,,,,,,0,4096,0,,\"a,\"\"b\",",
-        ],
-    )?;
-    let mut world = imported(
-        &rt,
-        alloc,
-        text.as_str(),
-        REPORT_OF_THE_FIRST,
-        [0, 0, 1, 0, 4],
-    )?;
-    expect_manifest(
-        &rt,
-        alloc,
-        &mut world,
-        "kind,identity,other,zoom,column,row,x,y,code,size,fingerprint,text\nrow,00000000-0000-4000-8000-000000000001,,,,,0,4096,0,4,b498bace67e08fe8a6614f91955996863d6cc706e7fd371f4cc774ddcca8e5fe,\"a,\"\"b\"\n",
-    );
-    Ok(())
-}
-
-#[test]
-fn row_medium_and_link(rt: HostRuntime) -> Result<(), Fail> {
-    let alloc = rt.alloc();
-    let text = list(
-        alloc,
-        &[
-            "90000000-0000-4000-8000-000000000001,2024-05-01T08:00:00.000Z,add,a0000000-0000-4000-8000-000000000000,00000000-0000-4000-8000-000000000001,,row,,,,,,0,4096,7,,gate,",
-            "90000000-0000-4000-8000-000000000002,2024-05-01T08:00:00.000Z,add,a0000000-0000-4000-8000-000000000000,00000000-0000-4000-8000-000000000003,,media,,,,,,,,,,image/jpeg,4a50",
-            "90000000-0000-4000-8000-000000000003,2024-05-01T08:00:00.000Z,link,a0000000-0000-4000-8000-000000000000,00000000-0000-4000-8000-000000000001,00000000-0000-4000-8000-000000000003,rows_media,,,,,,,,,,,",
-        ],
-    )?;
-    let mut world = imported(
-        &rt,
-        alloc,
-        text.as_str(),
-        "line,request,seq,refusal\n1,90000000-0000-4000-8000-000000000001,1,0\n2,90000000-0000-4000-8000-000000000002,2,0\n3,90000000-0000-4000-8000-000000000003,3,0\n",
-        [0, 1, 1, 1, 6],
-    )?;
-    expect_manifest(
-        &rt,
-        alloc,
-        &mut world,
-        "kind,identity,other,zoom,column,row,x,y,code,size,fingerprint,text\nmedia,00000000-0000-4000-8000-000000000003,,,,,,,,2,0d293ef7b06e5c2cd296350b48694d0921c8acb7a72407aee7d2dbd3936d7da0,image/jpeg\nrow,00000000-0000-4000-8000-000000000001,,,,,0,4096,7,4,e43e5d2489a3da72d168ede7401f6f60f459782a7e66f46822d8dcd10bb20517,gate\nrows_media,00000000-0000-4000-8000-000000000001,00000000-0000-4000-8000-000000000003,,,,,,,0,,\n",
-    );
     Ok(())
 }
 
@@ -341,20 +147,6 @@ fn a_tile_of_the_greatest_size(rt: HostRuntime) -> Result<(), Fail> {
         &mut world,
         "kind,identity,other,zoom,column,row,x,y,code,size,fingerprint,text\ntile,00000000-0000-4000-8000-000000000001,,2,3,3,,,,1048576,bfa5590c5ef51b89416f3d888ef6ade3742a1c9f64b293a4d11a6a88afdebced,\n",
     );
-    Ok(())
-}
-
-#[test]
-fn a_tile_past_the_greatest_size(rt: HostRuntime) -> Result<(), Fail> {
-    let alloc = rt.alloc();
-    let text = list_of_a_tile(alloc, 1_048_577)?;
-    imported(
-        &rt,
-        alloc,
-        text.as_str(),
-        "line,request,seq,refusal\n1,90000000-0000-4000-8000-000000000001,0,5\n",
-        [0, 0, 0, 0, 0],
-    )?;
     Ok(())
 }
 

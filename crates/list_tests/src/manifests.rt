@@ -33,24 +33,6 @@ fn row(alloc: Global, point: [i64; 2], code: i64, label: &str) -> Result<Item, F
 }
 
 #[test]
-fn an_empty_package(rt: HostRuntime) -> Result<(), Fail> {
-    let written = manifest_text(rt.alloc(), &[], &[])?;
-    let want = "kind,identity,other,zoom,column,row,x,y,code,size,fingerprint,text\n";
-    assert_eq!(rt; written.as_slice(), want.as_bytes());
-    Ok(())
-}
-
-#[test]
-fn the_first_tile(rt: HostRuntime) -> Result<(), Fail> {
-    let alloc = rt.alloc();
-    let written = manifest_text(alloc, &[tile(alloc)?], &[])?;
-    let want =
-        "kind,identity,other,zoom,column,row,x,y,code,size,fingerprint,text\ntile,00000000-0000-4000-8000-00000000a001,,2,3,3,,,,1,b363ee0ecc9cf61b12ecdafd75dca2779729b4fcc5f1bd718c33aad2c94af4f8,\n";
-    assert_eq!(rt; written.as_slice(), want.as_bytes());
-    Ok(())
-}
-
-#[test]
 fn row_medium_and_links(rt: HostRuntime) -> Result<(), Fail> {
     let alloc = rt.alloc();
     let items = [medium(alloc)?, row(alloc, [0, 4096], 7, "gate")?];
@@ -74,20 +56,6 @@ fn row_medium_and_links(rt: HostRuntime) -> Result<(), Fail> {
     let written = manifest_text(alloc, &items, &links)?;
     let want =
         "kind,identity,other,zoom,column,row,x,y,code,size,fingerprint,text\nmedia,00000000-0000-4000-8000-00000000a003,,,,,,,,2,0d293ef7b06e5c2cd296350b48694d0921c8acb7a72407aee7d2dbd3936d7da0,image/jpeg\nrow,00000000-0000-4000-8000-00000000a001,,,,,0,4096,7,4,e43e5d2489a3da72d168ede7401f6f60f459782a7e66f46822d8dcd10bb20517,gate\ntiles_media,00000000-0000-4000-8000-00000000a002,00000000-0000-4000-8000-00000000a003,,,,,,,0,,\nrows_media,00000000-0000-4000-8000-00000000a001,00000000-0000-4000-8000-00000000a003,,,,,,,0,,\nrows_tiles,00000000-0000-4000-8000-00000000a001,00000000-0000-4000-8000-00000000a002,,,,,,,0,,\n";
-    assert_eq!(rt; written.as_slice(), want.as_bytes());
-    Ok(())
-}
-
-#[test]
-fn quoted_and_negative(rt: HostRuntime) -> Result<(), Fail> {
-    let alloc = rt.alloc();
-    let items = [
-        row(alloc, [0, 4096], 0, "a,\"b")?,
-        row(alloc, [-5, -4096], 0, "line")?,
-    ];
-    let written = manifest_text(alloc, &items, &[])?;
-    let want =
-        "kind,identity,other,zoom,column,row,x,y,code,size,fingerprint,text\nrow,00000000-0000-4000-8000-00000000a001,,,,,0,4096,0,4,b498bace67e08fe8a6614f91955996863d6cc706e7fd371f4cc774ddcca8e5fe,\"a,\"\"b\"\nrow,00000000-0000-4000-8000-00000000a001,,,,,-5,-4096,0,4,adc1e3a0950178c1ac14c3ab6f27366aae9cb5ec85f6227589899b957b2ab1c5,line\n";
     assert_eq!(rt; written.as_slice(), want.as_bytes());
     Ok(())
 }

@@ -9,7 +9,6 @@ use std::test::Fail;
 use test_lists::{FIRST_TILE, MANIFEST_OF_THE_FIRST, Narrow, list};
 use test_values::archive;
 use test_worlds::new_world;
-use uuid::Uuid;
 use world::world::World;
 
 /// An archive with one tile.
@@ -28,31 +27,6 @@ fn world_of_one_tile(alloc: Global) -> Result<World<MemStore>, Fail> {
         Ok(()) => Ok(world),
         Err(_) => Err(Fail::new("an import")),
     }
-}
-
-#[test]
-fn a_package_that_is_not_live(rt: HostRuntime) -> Result<(), Fail> {
-    let alloc = rt.alloc();
-    let mut world = world_of_one_tile(alloc)?;
-    // the same digits, but for the first
-    let other = Uuid::from_u128(0xb0000000_0000_4000_8000_000000000000);
-    let mut out: Vec<u8> = Vec::new(alloc);
-    assert!(rt; write_manifest(alloc, &mut world, other, &mut out) == Err(ManifestFault::Unknown));
-    assert!(rt; out.is_empty());
-    Ok(())
-}
-
-#[test]
-fn a_package_with_nothing_in_it(rt: HostRuntime) -> Result<(), Fail> {
-    let alloc = rt.alloc();
-    let mut world = new_world(alloc)?;
-    let mut out: Vec<u8> = Vec::new(alloc);
-    assert!(rt; write_manifest(alloc, &mut world, archive(), &mut out) == Ok(()));
-    assert_eq!(rt;
-        out.as_slice(),
-        b"kind,identity,other,zoom,column,row,x,y,code,size,fingerprint,text\n".as_slice()
-    );
-    Ok(())
 }
 
 // It comes after what was written before, and a second time it is the same.

@@ -5,6 +5,6 @@ mod loans;
 mod worlds;
 
 pub use crate::loans::{
-    A, B, C, CORNER, D, E, F, LoanStep, QUARTER, Wish, asked, chain, package, rect,
+    A, B, C, CORNER, D, E, LoanStep, QUARTER, Wish, asked, chain, package, rect,
 };
 pub use crate::worlds::{blank_store, new_world};

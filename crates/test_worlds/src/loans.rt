@@ -4,7 +4,7 @@ use package_tables::fault::Fault;
 use sheet_types::command::{Command, Mapping, Mode, Request};
 use sheet_types::frame::Rect;
 use std::alloc::Global;
-use test_values::{Asks, BEGUN, Step, item, row_content, text, tile_content};
+use test_values::{Asks, BEGUN, Step, text};
 use uuid::Uuid;
 
 /// The archive.
@@ -17,8 +17,6 @@ pub const C: u8 = 0xc;
 pub const D: u8 = 0xd;
 
 pub const E: u8 = 0xe;
-
-pub const F: u8 = 0xf;
 
 /// The UUID of a package by its first digit.
 pub fn package(digit: u8) -> Uuid {
@@ -50,10 +48,6 @@ pub fn rect(ends: [i64; 5]) -> Rect {
 pub enum Wish {
     /// What `Asks` asks of the archive, of this package.
     Of(u8, Asks),
-    /// The addition to the archive of a tile with these bytes.
-    Bytes(u8, [i64; 3], &'static str),
-    /// The addition to the archive of a row at a point, with the code 0 and no label.
-    Point(u8, [i64; 2]),
     /// A split: the package, its child, and the rectangle as `rect` has it.
     Split(u8, u8, Mode, [i64; 5]),
     /// A merge: the child, the package into which it goes, and the ticket.
@@ -105,16 +99,6 @@ fn command(alloc: Global, wish: Wish) -> Result<Command, Fault> {
             let Request { command, .. } = Step::now(0, asks).request(alloc)?;
             Ok(moved_to(command, package(of)))
         }
-        Wish::Bytes(number, place, bytes) => Ok(Command::Add {
-            package: package(A),
-            identity: item(number),
-            content: tile_content(alloc, place, bytes.as_bytes())?,
-        }),
-        Wish::Point(number, point) => Ok(Command::Add {
-            package: package(A),
-            identity: item(number),
-            content: row_content(alloc, point, 0, "")?,
-        }),
         Wish::Split(from, child, mode, ends) => Ok(Command::Split {
             package: package(from),
             child: package(child),

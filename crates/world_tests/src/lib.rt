@@ -8,6 +8,8 @@ mod asking_tests;
 #[cfg(test)]
 mod carrying_tests;
 #[cfg(test)]
+mod deciding_tests;
+#[cfg(test)]
 mod judging_tests;
 #[cfg(test)]
 mod loan_tests;
@@ -16,8 +18,12 @@ mod reading_tests;
 #[cfg(test)]
 mod receipt_tests;
 #[cfg(test)]
+mod shelf_tests;
+#[cfg(test)]
 mod too_many_tests;
 #[cfg(test)]
 mod turning_tests;
 #[cfg(test)]
 mod values;
+#[cfg(test)]
+mod world_tests;

@@ -1,6 +1,6 @@
 // What a package holds after each command, and what is too many, by the rules: a package holds up to 1 000 000 items of a kind and 4 000 000 links, there are up to 256 packages and 1 000 000 000 receipts.
 use crate::values::member_of;
-use sheet_types::command::{Command, Mapping};
+use sheet_types::command::Command;
 use sqlite::Connection;
 use std::test::Fail;
 use test_values::{moved_medium, receipt_of, sums, tile_content};
@@ -49,26 +49,6 @@ fn held_after_an_addition_and_a_deletion(rt: HostRuntime) -> Result<(), Fail> {
 }
 
 #[test]
-fn held_after_a_link_comes_and_goes(rt: HostRuntime) -> Result<(), Fail> {
-    let link = Command::Link {
-        package: identity(1),
-        mapping: Mapping::TilesMedia,
-        base: identity(2),
-        other: identity(3),
-    };
-    let unlink = Command::Unlink {
-        package: identity(1),
-        mapping: Mapping::TilesMedia,
-        base: identity(2),
-        other: identity(3),
-    };
-    let one = sums(0, 0, 0, 1, 0);
-    assert!(rt; sums_after(&link, one, sums(5, 6, 7, 8, 90)) == Some(sums(5, 6, 7, 9, 90)));
-    assert!(rt; sums_after(&unlink, one, sums(5, 6, 7, 9, 90)) == Some(sums(5, 6, 7, 8, 90)));
-    Ok(())
-}
-
-#[test]
 fn limits_of_a_package(rt: HostRuntime) -> Result<(), Fail> {
     assert!(rt; !is_past_limits(sums(1_000_000, 1_000_000, 1_000_000, 4_000_000, u64::MAX)));
     assert!(rt; is_past_limits(sums(1_000_001, 0, 0, 0, 0)));
@@ -93,24 +73,5 @@ fn limits_of_the_members(rt: HostRuntime) -> Result<(), Fail> {
     assert!(rt; !is_too_many(members.as_slice(), 1, most, 1));
     assert!(rt; !is_too_many(members.as_slice(), 1, most, 999_999_999));
     assert!(rt; is_too_many(members.as_slice(), 1, most, 1_000_000_000));
-    Ok(())
-}
-
-#[test]
-fn limit_of_packages(rt: HostRuntime) -> Result<(), Fail> {
-    let alloc = rt.alloc();
-    let none = sums(0, 0, 0, 0, 0);
-    let mut members = Vec::new(alloc);
-    for number in 0..256u64 {
-        members.push(member_of(
-            Connection::open_in_memory(alloc)?,
-            identity(u128::from(number)),
-            none,
-            0,
-        ))?;
-    }
-    assert!(rt; !is_too_many(members.as_slice(), 0, none, 1));
-    members.push(member_of(Connection::open_in_memory(alloc)?, identity(256), none, 0))?;
-    assert!(rt; is_too_many(members.as_slice(), 0, none, 1));
     Ok(())
 }

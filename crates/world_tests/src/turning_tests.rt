@@ -1,6 +1,6 @@
 // Two packages in memory, of which the second takes turns. What is expected follows from what each command asks for.
 
-use crate::values::{MADE, add_medium, member_of, package};
+use crate::values::{add_medium, empty_member, package};
 use identity_register::look_ups::find;
 use package_tables::fault::Fault;
 use sheet_types::command::{Command, Mode};
@@ -10,7 +10,7 @@ use sql_meaning::resting::is_at_rest;
 use sqlite::{Alter, Connection};
 use std::alloc::Global;
 use std::test::Fail;
-use test_values::{NOTHING, ONE_MEDIUM, empty_package, moved_medium, receipt_of, sums};
+use test_values::{ONE_MEDIUM, moved_medium, receipt_of, sums};
 use uuid::Uuid;
 use world::asking::are_at_rest;
 use world::members::Member;
@@ -23,16 +23,6 @@ fn medium() -> Uuid {
 
 fn of_media(media: u64, bytes: u64) -> Sums {
     sums(0, media, 0, 0, bytes)
-}
-
-// An empty package.
-fn member<S: Alter + Drop>(
-    alloc: Global,
-    conn: Connection<S>,
-    number: u64,
-) -> Result<Member<S>, Fault> {
-    let conn = empty_package(alloc, conn, package(number), MADE)?;
-    Ok(member_of(conn, package(number), NOTHING, 0))
 }
 
 // The receipt of this number for the medium, of 3 bytes.
@@ -114,8 +104,8 @@ fn keeps<S: Alter + Drop>(members: &[Member<S>], at: usize, held: Sums, ticket: 
 fn one_member_turns(rt: HostRuntime) -> Result<(), Fail> {
     let alloc = rt.alloc();
     let mut members = Vec::new(alloc);
-    members.push(member(alloc, Connection::open_in_memory(alloc)?, 1)?)?;
-    members.push(member(alloc, Connection::open_in_memory(alloc)?, 2)?)?;
+    members.push(empty_member(alloc, Connection::open_in_memory(alloc)?, 1)?)?;
+    members.push(empty_member(alloc, Connection::open_in_memory(alloc)?, 2)?)?;
     turned(&mut members, &adding(alloc)?, &receipt(alloc, 7)?)?;
     assert!(rt; holds(&mut members, 1)?);
     assert!(rt; !holds(&mut members, 0)?);
@@ -127,19 +117,5 @@ fn one_member_turns(rt: HostRuntime) -> Result<(), Fail> {
     turned(&mut members, &deleting(), &receipt(alloc, 8)?)?;
     assert!(rt; !holds(&mut members, 1)?);
     assert!(rt; keeps(members.as_slice(), 1, of_media(0, 0), 8));
-    Ok(())
-}
-
-#[test]
-fn sums_that_cannot_be_counted(rt: HostRuntime) -> Result<(), Fail> {
-    let alloc = rt.alloc();
-    let add = adding(alloc)?;
-    assert!(rt;
-        sums_after(&add, of_media(1, 3), of_media(4, u64::MAX - 3)) == Some(of_media(5, u64::MAX))
-    );
-    assert!(rt; sums_after(&add, of_media(1, 3), of_media(4, u64::MAX - 2)).is_none());
-    assert!(rt; sums_after(&deleting(), of_media(1, 3), of_media(4, 3)) == Some(of_media(3, 0)));
-    assert!(rt; sums_after(&deleting(), of_media(1, 3), of_media(4, 2)).is_none());
-    assert!(rt; sums_after(&splitting(), of_media(1, 3), of_media(4, 2)) == Some(of_media(4, 2)));
     Ok(())
 }

@@ -6,7 +6,7 @@ use sheet_types::receipt::Sums;
 use sql_meaning::resting::is_at_rest;
 use sqlite::{Alter, Connection};
 use std::alloc::Global;
-use test_values::{ONE_MEDIUM, empty_package, medium_content, moved_medium, receipt_of};
+use test_values::{NOTHING, ONE_MEDIUM, empty_package, medium_content, moved_medium, receipt_of};
 use uuid::Uuid;
 use world::carrying_out::apply_to_package;
 use world::members::Member;
@@ -52,6 +52,16 @@ pub fn member_of<S: Alter + Drop>(
         sums,
         ticket,
     }
+}
+
+// An empty package of that number, without parent.
+pub fn empty_member<S: Alter + Drop>(
+    alloc: Global,
+    conn: Connection<S>,
+    number: u64,
+) -> Result<Member<S>, Fault> {
+    let conn = empty_package(alloc, conn, package(number), MADE)?;
+    Ok(member_of(conn, package(number), NOTHING, 0))
 }
 
 // The package of a number with one medium, added with the receipt of this number.
