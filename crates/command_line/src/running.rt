@@ -183,14 +183,6 @@ fn served(rt: &HostRuntime, given: &ArgMatches<'_>) -> Ending {
     serve(rt, text_of(given, "folder"), &desk)
 }
 
-/// Tells standard error, where it is a terminal, that a folder is being opened, which takes as long as there is to read.
-fn tell_of_opening(rt: &HostRuntime) {
-    let terminal = rt.stderr();
-    if terminal.is_terminal() {
-        print_error(rt, "reading the packages of the folder\n");
-    }
-}
-
 /// Carries out a command that may change what is in a folder, or has none.
 fn changed<R: Read + Drop>(
     rt: &HostRuntime,
@@ -254,12 +246,7 @@ pub fn run<W: AsStr, R: Read + Drop>(rt: &HostRuntime, words: &[W], reader: R) -
         Err(error) => return answered(rt, &error),
     };
     match matches.subcommand() {
-        Some((name, given)) => {
-            if name != "init" && name != "rehearse" {
-                tell_of_opening(rt);
-            }
-            carried_out(rt, name, given, reader)
-        }
+        Some((name, given)) => carried_out(rt, name, given, reader),
         None => 2,
     }
 }

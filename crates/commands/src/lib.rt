@@ -9,3 +9,4 @@ pub mod importing;
 pub mod init;
 pub mod manifest;
 pub mod serving;
+pub mod watching;
