@@ -9,7 +9,6 @@ use command_words::progress::{Progress, Silent, Teller};
 use command_words::statuses::Outcome;
 use commands::applying::apply;
 use commands::auditing::audit;
-use commands::endings::{Ending, FAILED, NO_MEMORY, busy_package, error_of, output_of, status_of};
 use commands::importing::import;
 use commands::init::init;
 use commands::manifest::manifest;
@@ -17,6 +16,9 @@ use commands::serving::serve;
 use drawing::endings as drawn;
 use drawing::maps::map;
 use exporting::exporting::export;
+use folder_worlds::endings::{
+    Ending, FAILED, NO_MEMORY, busy_package, error_of, output_of, status_of,
+};
 use std::convert::AsStr;
 use std::io;
 use std::io::{IsTerminal, Read};

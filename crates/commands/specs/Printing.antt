@@ -9,20 +9,9 @@ use Rattle.sheet_types.specs.declared.refusal.Refusal.{Refusal}
 use Rattle.sheet_types.specs.declared.refusal.Refusal.TheVariants as refusal
 use Rattle.manifest_csv.specs.Sent.{WentOut}
 use Rattle.desk_replies.specs.Bodies.{receipt_text, refusal_text}
-use Rattle.command_words.specs.declared.statuses.Failure.TheVariants.{OutOfMemory, StoreFault}
-use Rattle.command_words.specs.declared.statuses.Outcome.TheVariants.{Done, Stopped}
-use Rattle.commands.specs.declared.endings.Ending.{Ending}
-use Rattle.commands.specs.declared.endings.Ending.TheVariants.{Usual, Declined}
-
--- all was done; a file or a stream gave out; a growth was refused
-abbrev pub done : Ending
-done = Usual Done
-
-abbrev pub failed : Ending
-failed = Usual (Stopped StoreFault)
-
-abbrev pub no_memory : Ending
-no_memory = Usual (Stopped OutOfMemory)
+use Rattle.folder_worlds.specs.Endings.{done, failed, no_memory}
+use Rattle.folder_worlds.specs.declared.endings.Ending.{Ending}
+use Rattle.folder_worlds.specs.declared.endings.Ending.TheVariants.{Declined}
 
 -- A text went out whole, and the program ends as is due; or the writer failed, and a beginning of the text went out.
 abbrev pub Prints : List ℕ → Ending → Option (List ℕ) → Option (List ℕ) → Ending → Type 0

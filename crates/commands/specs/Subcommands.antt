@@ -12,19 +12,18 @@ use Rattle.manifest_csv.specs.Imports.{Imports}
 use Rattle.manifest_csv.specs.PackageManifests.{IsManifest, WritesNothing}
 use Rattle.manifest_csv.specs.declared.importing.ImportFault.{ImportFault}
 use Rattle.manifest_csv.specs.declared.package_manifests.ManifestFault.{ManifestFault}
-use Rattle.manifest_csv.specs.declared.package_manifests.ManifestFault.TheVariants as manifest
 use Rattle.desk_serving.specs.Connections.{IsServedBy}
 use Rattle.command_words.specs.Endings.{import_outcome}
-use Rattle.command_words.specs.Failures.{of_fault}
 use Rattle.command_words.specs.declared.statuses.Failure.{Failure}
 use Rattle.command_words.specs.declared.statuses.Outcome.TheVariants.{Refused, Stopped}
 use Rattle.command_words.specs.declared.statuses.What.TheVariants.{BadList}
-use Rattle.commands.specs.Folders.{IsFolderWorld}
-use Rattle.commands.specs.Printing.{done, failed, no_memory, Prints, PrintsReply, archive_line, good_line, last_receipt}
-use Rattle.commands.specs.declared.endings.Ending.{Ending}
-use Rattle.commands.specs.declared.endings.Ending.TheVariants.{Usual, BadBody, HoldsPackages, NoSuchPackage, Unopened, Faulted}
-use Rattle.commands.specs.declared.endings.OpenFault.{OpenFault}
-use Rattle.commands.specs.declared.endings.OpenFault.TheVariants.{Fault}
+use Rattle.folder_worlds.specs.Folders.{IsFolderWorld}
+use Rattle.folder_worlds.specs.Endings.{done, failed, no_memory, manifest_ending}
+use Rattle.commands.specs.Printing.{Prints, PrintsReply, archive_line, good_line, last_receipt}
+use Rattle.folder_worlds.specs.declared.endings.Ending.{Ending}
+use Rattle.folder_worlds.specs.declared.endings.Ending.TheVariants.{Usual, BadBody, HoldsPackages, Unopened, Faulted}
+use Rattle.folder_worlds.specs.declared.endings.OpenFault.{OpenFault}
+use Rattle.folder_worlds.specs.declared.endings.OpenFault.TheVariants.{Fault}
 
 -- ---- init
 
@@ -59,12 +58,6 @@ import_ending (Err fault) = Usual (import_outcome fault)
 -- why there is no list
 abbrev pub IsUnlisted : Ending → Type 0
 IsUnlisted ending = (ending ≡ no_memory) ⊎ (ending ≡ Usual (Refused BadList))
-
-abbrev pub manifest_ending : Result (Unit {0}) ManifestFault → Ending
-manifest_ending (Ok x) = done
-manifest_ending (Err manifest.Unknown) = NoSuchPackage
-manifest_ending (Err (manifest.Failed fault)) = Usual (Stopped (of_fault fault))
-manifest_ending (Err manifest.Unwritten) = failed
 
 -- ---- audit
 

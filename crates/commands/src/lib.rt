@@ -3,10 +3,7 @@
 
 pub mod applying;
 pub mod auditing;
-pub mod endings;
-pub mod folders;
 pub mod importing;
 pub mod init;
 pub mod manifest;
 pub mod serving;
-pub mod watching;

@@ -1,6 +1,6 @@
 //! A folder of packages, opened as the world that its stores stand for.
 ghost use Rattle.std.specs.Prelude.{IfOk, IfErr};
-ghost use Rattle.commands.specs.Folders.{AreJustOpened, IsFolderWorld};
+ghost use Rattle.folder_worlds.specs.Folders.{AreJustOpened, IsFolderWorld};
 
 use crate::endings::OpenFault;
 use crate::watching::opening_line;
