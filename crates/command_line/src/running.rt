@@ -1,5 +1,4 @@
 //! A command line, carried out: what it asks for is done in `cli` and `commands`.
-use crate::words::sheetdesk;
 use clap::error::ErrorKind;
 use clap::{ArgMatches, Error};
 use cli::rehearse::rehearse;
@@ -8,10 +7,8 @@ use command_words::arguments::{DeskWords, Words};
 use command_words::progress::{Progress, Silent, Teller};
 use command_words::statuses::Outcome;
 use commands::applying::apply;
-use commands::auditing::audit;
 use commands::importing::import;
 use commands::init::init;
-use commands::manifest::manifest;
 use commands::serving::serve;
 use drawing::endings as drawn;
 use drawing::maps::map;
@@ -19,6 +16,9 @@ use exporting::exporting::export;
 use folder_worlds::endings::{
     Ending, FAILED, NO_MEMORY, busy_package, error_of, output_of, status_of,
 };
+use program_words::words::sheetdesk;
+use reporting::auditing::audit;
+use reporting::manifest::manifest;
 use std::convert::AsStr;
 use std::io;
 use std::io::{IsTerminal, Read};

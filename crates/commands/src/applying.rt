@@ -6,7 +6,8 @@ ghost use Rattle.request_json.specs.Requests.{IsRequestText};
 ghost use Rattle.sheet_types.specs.declared.refusal.Refusal.TheVariants as refusal;
 ghost use Rattle.desk_replies.specs.Bodies.{refusal_text};
 ghost use Rattle.folder_worlds.specs.Folders.{OpensThen};
-ghost use Rattle.commands.specs.Printing.{Prints, PrintsReply, ask_again, refusal_ending, with_end};
+ghost use Rattle.folder_worlds.specs.Printing.{Prints};
+ghost use Rattle.commands.specs.Printing.{PrintsReply, ask_again, refusal_ending, with_end};
 ghost use Rattle.commands.specs.Subcommands.{Applies, IsUnread, IsWhyUnasked};
 ghost use Rattle.folder_worlds.specs.declared.endings.Ending.TheVariants.{Unopened};
 

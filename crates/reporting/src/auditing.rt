@@ -3,8 +3,8 @@ ghost use Rattle.std.specs.Prelude.{◌≡◌, IfOk, fold, max, string_bytes};
 ghost use Rattle.sheet_types.specs.World.{World as ModelWorld};
 ghost use Rattle.world.specs.Worlds.{StandsFor};
 ghost use Rattle.folder_worlds.specs.Folders.{OpensThen};
-ghost use Rattle.commands.specs.Printing.{good_line, last_receipt};
-ghost use Rattle.commands.specs.Subcommands.{Audits};
+ghost use Rattle.reporting.specs.Reports.{good_line, last_receipt};
+ghost use Rattle.reporting.specs.Reports.{Audits};
 ghost use Rattle.folder_worlds.specs.declared.endings.Ending.TheVariants.{Faulted};
 ghost use Rattle.folder_worlds.specs.declared.endings.OpenFault.TheVariants as unopened;
 

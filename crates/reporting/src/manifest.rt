@@ -4,7 +4,8 @@ ghost use Rattle.uuid.specs.Text.{parsed_hyphenated};
 ghost use Rattle.command_words.specs.declared.statuses.Outcome.TheVariants.{Refused};
 ghost use Rattle.command_words.specs.declared.statuses.What.TheVariants.{BadUuid};
 ghost use Rattle.folder_worlds.specs.Folders.{OpensThen};
-ghost use Rattle.commands.specs.Subcommands.{EndsManifest, manifest_ending};
+ghost use Rattle.folder_worlds.specs.Endings.{manifest_ending};
+ghost use Rattle.reporting.specs.Reports.{EndsManifest};
 ghost use Rattle.folder_worlds.specs.declared.endings.Ending.TheVariants.{Unopened, Usual};
 
 use command_words::statuses::{Failure, Outcome, What};
