@@ -2,14 +2,14 @@
 use command_words::arguments::{DeskWords, Words};
 use command_words::statuses::{Outcome, What};
 use commands::applying::apply;
-use commands::auditing::audit;
-use commands::endings::{DONE, Ending, OpenFault};
 use commands::importing::import;
 use commands::init::init;
-use commands::manifest::manifest;
 use commands::serving::serve;
+use folder_worlds::endings::{DONE, Ending, OpenFault};
 use manifest_csv::progress::Silent;
 use opening::faults::RecoverFault;
+use reporting::auditing::audit;
+use reporting::manifest::manifest;
 use std::fs;
 use std::test::Fail;
 use test_lists::{FIRST_TILE, MANIFEST_OF_THE_FIRST, list};

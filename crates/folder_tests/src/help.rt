@@ -1,10 +1,10 @@
 // What `--help` says, and that its example does what it says.
 use clap::Error;
 use cli::rehearse::rehearse;
-use command_line::words::sheetdesk;
 use command_words::arguments::Words;
 use command_words::progress::Silent;
 use command_words::statuses::Outcome;
+use program_words::words::sheetdesk;
 use std::alloc::Global;
 use std::test::Fail;
 use test_lists::{FIRST_TILE, HEADER, list};

@@ -1,10 +1,10 @@
 // The map of an archive that lent a sheet and took a new one at its place; the text was worked out by hand.
 use command_words::statuses::{Outcome, What};
-use commands::endings::{DONE, Ending, FAILED, OpenFault};
 use drawing::endings::MapEnding;
 use drawing::maps::{map, map_in};
 use drawing::printing::{MapFault, print_map};
 use drawing::zooms::asked_zoom;
+use folder_worlds::endings::{DONE, Ending, FAILED, OpenFault};
 use opening::faults::RecoverFault;
 use package_tables::fault::Fault;
 use sheet_types::command::Mode;

@@ -1,8 +1,8 @@
 // A folder of the file system that the test makes and removes.
 use command_words::arguments::Words;
 use command_words::statuses::{Outcome, What};
-use commands::endings::{DONE, Ending as CommandEnding, OpenFault};
 use commands::init::init;
+use folder_worlds::endings::{DONE, Ending as CommandEnding, OpenFault};
 use opening::faults::RecoverFault;
 use std::fs;
 use std::test::Fail;
