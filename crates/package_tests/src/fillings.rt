@@ -155,7 +155,7 @@ pub(crate) fn refuses<S: Alter>(
 }
 
 // The three indexes beside the keys that ranges and ends are found by.
-pub(crate) fn without_indexes<S: Alter>(conn: &mut Connection<S>) -> Result<(), sqlite::Error> {
+pub(crate) fn without_indexes<S: Alter>(conn: &mut Connection<S>) -> Result<(), Fault> {
     altered(conn, "DROP INDEX by_xy")?;
     altered(conn, "DROP INDEX by_tiles_media")?;
     altered(conn, "DROP INDEX by_rows_media")?;
