@@ -6,7 +6,7 @@ use recovery::watching::Unwatched;
 use sheet_types::command::Command;
 use std::alloc::Global;
 use std::test::Fail;
-use test_values::sums;
+use test_values::{altered, sums};
 
 // What stores come to.
 fn opened(alloc: Global, stores: Vec<InFile>) -> Result<(InFiles, usize), Fail> {
@@ -34,8 +34,8 @@ fn comes_to_after(
     wanted: RecoverFault,
 ) -> Result<bool, Fail> {
     let (mut archive, mut loan) = lent(alloc)?;
-    archive.execute_batch(on_archive)?;
-    loan.execute_batch(on_loan)?;
+    altered(&mut archive, on_archive)?;
+    altered(&mut loan, on_loan)?;
     comes_to(alloc, vec![in alloc; loan, archive]?, wanted)
 }
 
