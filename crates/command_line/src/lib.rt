@@ -1,6 +1,4 @@
-//! The command line of `sheetdesk`: which words there are, what `--help` says of them, and what is done with them.
+//! The command line of `sheetdesk`: what is done with its words.
 #![tactic(auto)]
 
-pub mod help;
 pub mod running;
-pub mod words;

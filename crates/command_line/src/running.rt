@@ -1,5 +1,4 @@
 //! A command line, carried out: what it asks for is done in `cli` and `commands`.
-use crate::words::sheetdesk;
 use clap::error::ErrorKind;
 use clap::{ArgMatches, Error};
 use cli::rehearse::rehearse;
@@ -8,15 +7,18 @@ use command_words::arguments::{DeskWords, Words};
 use command_words::progress::{Progress, Silent, Teller};
 use command_words::statuses::Outcome;
 use commands::applying::apply;
-use commands::auditing::audit;
-use commands::endings::{Ending, FAILED, NO_MEMORY, busy_package, error_of, output_of, status_of};
 use commands::importing::import;
 use commands::init::init;
-use commands::manifest::manifest;
 use commands::serving::serve;
 use drawing::endings as drawn;
 use drawing::maps::map;
 use exporting::exporting::export;
+use folder_worlds::endings::{
+    Ending, FAILED, NO_MEMORY, busy_package, error_of, output_of, status_of,
+};
+use program_words::words::sheetdesk;
+use reporting::auditing::audit;
+use reporting::manifest::manifest;
 use std::convert::AsStr;
 use std::io;
 use std::io::{IsTerminal, Read};
@@ -183,14 +185,6 @@ fn served(rt: &HostRuntime, given: &ArgMatches<'_>) -> Ending {
     serve(rt, text_of(given, "folder"), &desk)
 }
 
-/// Tells standard error, where it is a terminal, that a folder is being opened, which takes as long as there is to read.
-fn tell_of_opening(rt: &HostRuntime) {
-    let terminal = rt.stderr();
-    if terminal.is_terminal() {
-        print_error(rt, "reading the packages of the folder\n");
-    }
-}
-
 /// Carries out a command that may change what is in a folder, or has none.
 fn changed<R: Read + Drop>(
     rt: &HostRuntime,
@@ -254,12 +248,7 @@ pub fn run<W: AsStr, R: Read + Drop>(rt: &HostRuntime, words: &[W], reader: R) -
         Err(error) => return answered(rt, &error),
     };
     match matches.subcommand() {
-        Some((name, given)) => {
-            if name != "init" && name != "rehearse" {
-                tell_of_opening(rt);
-            }
-            carried_out(rt, name, given, reader)
-        }
+        Some((name, given)) => carried_out(rt, name, given, reader),
         None => 2,
     }
 }

@@ -1,7 +1,7 @@
-//! How far an import is, told on a writer: a line for each thousand requests.
-ghost use Rattle.std.specs.Prelude.{◌↔◌, None, OnOk, IsTrue};
+//! How far an import or an opening is, told on a writer: a line for each thousand requests, and one that counts packages.
+ghost use Rattle.std.specs.Prelude.{◌≡◌, ◌↔◌, None, OnOk, IsTrue};
 ghost use Rattle.std.specs.Io.KnownBytes.{Appends};
-ghost use Rattle.command_words.specs.Progress.{IsDue, progress_text};
+ghost use Rattle.command_words.specs.Progress.{IsDue, are_read, counted_text, opening_text, progress_text};
 
 use itoa::Buffer;
 pub use manifest_csv::progress::{Silent, Teller};
@@ -15,6 +15,22 @@ pub fn is_due(done: u64) -> bool
     done % 1000 == 0
 }
 
+/// Writes two counts, and what is said of them.
+fn write_counts<W: Write>(
+    writer: &mut W,
+    done: u64,
+    all: u64,
+    what: &[u8],
+) -> Result<(), WriteFault>
+    ensures ok { OnOk result (Appends (W.contents writer.old) (W.contents writer.new) (counted_text done all what.now)) }
+{
+    let mut digits = Buffer::new();
+    send(writer, digits.format(done).as_bytes())?;
+    send(writer, b" of ")?;
+    send(writer, digits.format(all).as_bytes())?;
+    send(writer, what)
+}
+
 /// Writes that of `all` requests so many are done, as one line.
 ///
 /// # Errors
@@ -23,11 +39,29 @@ pub fn is_due(done: u64) -> bool
 pub fn write_progress<W: Write>(writer: &mut W, done: u64, all: u64) -> Result<(), WriteFault>
     ensures ok { OnOk result (Appends (W.contents writer.old) (W.contents writer.new) (progress_text done all)) }
 {
-    let mut digits = Buffer::new();
-    send(writer, digits.format(done).as_bytes())?;
-    send(writer, b" of ")?;
-    send(writer, digits.format(all).as_bytes())?;
-    send(writer, b" requests are done\n")
+    write_counts(writer, done, all, b" requests are done\n")
+}
+
+/// What is said of packages: the line is written over until all are read.
+fn are_read(done: u64, all: u64) -> &'static [u8]
+    ensures { result.now ≡ are_read done all }
+{
+    if done < all {
+        b" packages are read\r"
+    } else {
+        b" packages are read\n"
+    }
+}
+
+/// Writes that of `all` packages so many are read. The next such text is written over this one, until all are read.
+///
+/// # Errors
+///
+/// A writer that failed. A beginning of the text went out, and not all of it.
+pub fn write_opening<W: Write>(writer: &mut W, done: u64, all: u64) -> Result<(), WriteFault>
+    ensures ok { OnOk result (Appends (W.contents writer.old) (W.contents writer.new) (opening_text done all)) }
+{
+    write_counts(writer, done, all, are_read(done, all))
 }
 
 /// Writes a line for each thousand requests that are done. Where the writer fails, nothing more comes of it.

@@ -1,4 +1,2 @@
-pub mod Endings
-pub mod Folders
 pub mod Printing
 pub mod Subcommands

@@ -1,51 +1,20 @@
--- What a subcommand prints of a text, and the lines of an archive and of an audit. Profile.
-use Rattle.std.specs.Prelude.{◌≡◌, ◌⊎◌, ◌++◌, ◌∷◌, [], ℕ, List, codes, decimal, fold, max, Option, Result, Ok, Err}
-use Rattle.std.specs.Io.KnownBytes.{Appends}
-use Rattle.sheet_types.specs.Answers.{PackageSight, package_sights}
+-- The line of an archive, and the reply to a request as a line. Profile.
+use Rattle.std.specs.Prelude.{◌≡◌, ◌⊎◌, ◌++◌, ◌∷◌, [], ℕ, List, codes, Option, Result, Ok, Err}
 use Rattle.sheet_types.specs.Texts.{uuid_text}
-use Rattle.sheet_types.specs.World.{World}
 use Rattle.sheet_types.specs.declared.receipt.Receipt.{Receipt}
 use Rattle.sheet_types.specs.declared.refusal.Refusal.{Refusal}
 use Rattle.sheet_types.specs.declared.refusal.Refusal.TheVariants as refusal
-use Rattle.manifest_csv.specs.Sent.{WentOut}
 use Rattle.desk_replies.specs.Bodies.{receipt_text, refusal_text}
-use Rattle.command_words.specs.declared.statuses.Failure.TheVariants.{OutOfMemory, StoreFault}
-use Rattle.command_words.specs.declared.statuses.Outcome.TheVariants.{Done, Stopped}
-use Rattle.commands.specs.declared.endings.Ending.{Ending}
-use Rattle.commands.specs.declared.endings.Ending.TheVariants.{Usual, Declined}
-
--- all was done; a file or a stream gave out; a growth was refused
-abbrev pub done : Ending
-done = Usual Done
-
-abbrev pub failed : Ending
-failed = Usual (Stopped StoreFault)
-
-abbrev pub no_memory : Ending
-no_memory = Usual (Stopped OutOfMemory)
-
--- A text went out whole, and the program ends as is due; or the writer failed, and a beginning of the text went out.
-abbrev pub Prints : List ℕ → Ending → Option (List ℕ) → Option (List ℕ) → Ending → Type 0
-Prints text due before after ending = ((ending ≡ due) × Appends before after text) ⊎ ((ending ≡ failed) × WentOut before after text)
+use Rattle.folder_worlds.specs.Endings.{done, failed, no_memory}
+use Rattle.folder_worlds.specs.Printing.{Prints}
+use Rattle.folder_worlds.specs.declared.endings.Ending.{Ending}
+use Rattle.folder_worlds.specs.declared.endings.Ending.TheVariants.{Declined}
 
 abbrev pub with_end : List ℕ → List ℕ
 with_end text = text ++ (10 ∷ [])
 
--- ---- the lines
-
 abbrev pub archive_line : List ℕ → List ℕ
 archive_line uuid = codes "archive " ++ (uuid_text uuid ++ codes "\n")
-
-abbrev pub good_line : ℕ → List ℕ
-good_line receipts = codes "good " ++ (decimal receipts ++ codes "\n")
-
--- the greatest of the numbers of the last receipts of packages
-abbrev pub last_ticket : List PackageSight → ℕ
-last_ticket sights = fold (λ n s. max n s.ticket) 0 sights
-
--- the number of the last receipt that names a live package, which is that of all receipts
-abbrev pub last_receipt : World → ℕ
-last_receipt w = last_ticket (package_sights w)
 
 -- ---- replies
 

@@ -1,30 +1,25 @@
--- What the subcommands make of a world, what they print, and how they end. Profile.
-use Rattle.std.specs.Prelude.{◌≡◌, ◌⊎◌, ◌<◌, ℕ, List, length, Option, Result, Ok, Err, IfSome}
+-- What the subcommands that change a world make of it, what they print, and how they end. Profile.
+use Rattle.std.specs.Prelude.{◌≡◌, ◌⊎◌, ℕ, List, Option, Result, Ok, Err, IfSome}
 use Rattle.sqlite.specs.Store.{Ghosts}
-use Rattle.sheet_types.specs.World.{World}
 use Rattle.sheet_types.specs.declared.command.Request.{Request}
 use Rattle.sheet_types.specs.declared.receipt.Receipt.{Receipt}
 use Rattle.sheet_types.specs.declared.refusal.Refusal.{Refusal}
-use Rattle.opening.specs.declared.faults.RecoverFault.TheVariants as fault
 use Rattle.request_json.specs.Requests.{IsRequestText}
-use Rattle.world.specs.Worlds.{IsRead, IsStep, LeavesNoTrace, Seen, StandsFor, StandsStill}
+use Rattle.world.specs.Worlds.{IsStep, LeavesNoTrace, Seen, StandsStill}
 use Rattle.manifest_csv.specs.Imports.{Imports}
-use Rattle.manifest_csv.specs.PackageManifests.{IsManifest, WritesNothing}
 use Rattle.manifest_csv.specs.declared.importing.ImportFault.{ImportFault}
-use Rattle.manifest_csv.specs.declared.package_manifests.ManifestFault.{ManifestFault}
-use Rattle.manifest_csv.specs.declared.package_manifests.ManifestFault.TheVariants as manifest
 use Rattle.desk_serving.specs.Connections.{IsServedBy}
 use Rattle.command_words.specs.Endings.{import_outcome}
-use Rattle.command_words.specs.Failures.{of_fault}
 use Rattle.command_words.specs.declared.statuses.Failure.{Failure}
 use Rattle.command_words.specs.declared.statuses.Outcome.TheVariants.{Refused, Stopped}
 use Rattle.command_words.specs.declared.statuses.What.TheVariants.{BadList}
-use Rattle.commands.specs.Folders.{IsFolderWorld}
-use Rattle.commands.specs.Printing.{done, failed, no_memory, Prints, PrintsReply, archive_line, good_line, last_receipt}
-use Rattle.commands.specs.declared.endings.Ending.{Ending}
-use Rattle.commands.specs.declared.endings.Ending.TheVariants.{Usual, BadBody, HoldsPackages, NoSuchPackage, Unopened, Faulted}
-use Rattle.commands.specs.declared.endings.OpenFault.{OpenFault}
-use Rattle.commands.specs.declared.endings.OpenFault.TheVariants.{Fault}
+use Rattle.folder_worlds.specs.Folders.{IsFolderWorld}
+use Rattle.folder_worlds.specs.Endings.{done, failed, no_memory}
+use Rattle.folder_worlds.specs.Printing.{Prints}
+use Rattle.commands.specs.Printing.{PrintsReply, archive_line}
+use Rattle.folder_worlds.specs.declared.endings.Ending.{Ending}
+use Rattle.folder_worlds.specs.declared.endings.Ending.TheVariants.{Usual, BadBody, HoldsPackages, Unopened}
+use Rattle.folder_worlds.specs.declared.endings.OpenFault.{OpenFault}
 
 -- ---- init
 
@@ -50,7 +45,7 @@ IsWhyUnasked text ending = (ending ≡ no_memory) ⊎ ((ending ≡ BadBody) × (
 abbrev pub IsUnread : Ending → Type 0
 IsUnread ending = (ending ≡ no_memory) ⊎ (ending ≡ BadBody)
 
--- ---- import and manifest
+-- ---- import
 
 abbrev pub import_ending : Result (Unit {0}) ImportFault → Ending
 import_ending (Ok x) = done
@@ -59,18 +54,6 @@ import_ending (Err fault) = Usual (import_outcome fault)
 -- why there is no list
 abbrev pub IsUnlisted : Ending → Type 0
 IsUnlisted ending = (ending ≡ no_memory) ⊎ (ending ≡ Usual (Refused BadList))
-
-abbrev pub manifest_ending : Result (Unit {0}) ManifestFault → Ending
-manifest_ending (Ok x) = done
-manifest_ending (Err manifest.Unknown) = NoSuchPackage
-manifest_ending (Err (manifest.Failed fault)) = Usual (Stopped (of_fault fault))
-manifest_ending (Err manifest.Unwritten) = failed
-
--- ---- audit
-
--- what gave out before the line was written
-abbrev pub IsUntold : Ending → Type 0
-IsUntold ending = (ending ≡ Faulted (Fault fault.OutOfMemory)) ⊎ (ending ≡ Faulted (Fault fault.StoreFault))
 
 module _ {S : Type 0} (g : Ghosts S) where
   -- A request that was carried out, and its reply as a line.
@@ -97,17 +80,6 @@ module _ {S : Type 0} (g : Ghosts S) where
   ImportsFile old new writer writer' before after ending =
       (IsUnlisted ending × (new ≡ old) × (writer' ≡ writer))
       ⊎ ((text : Option (List ℕ)) × (faults more : ℕ) × EndsImport text old new faults more writer writer' before after ending)
-
-  -- what is written of a package, and how the program ends then
-  abbrev pub EndsManifest : {W : Type 0} → List ℕ → Seen S → Seen S → W → W → Option (List ℕ) → Option (List ℕ) → Ending → Type 0
-  EndsManifest p old new writer writer' before after ending =
-      (r : Result (Unit {0}) ManifestFault) × (ending ≡ manifest_ending r) × IsRead g old new × IsManifest g p old new before after r × WritesNothing writer writer' r
-
-  -- the line of a world whose packages are good
-  abbrev pub Audits : {W : Type 0} → Seen S → W → W → Option (List ℕ) → Option (List ℕ) → Ending → Type 0
-  Audits seen writer writer' before after ending =
-      ((w : World) → StandsFor g seen w → Prints (good_line (last_receipt w)) done before after ending)
-      ⊎ (IsUntold ending × (writer' ≡ writer))
 
   -- So many connections were served; or the port could not be had, and nothing was.
   abbrev pub ServesOn : ℕ → Seen S → Seen S → Ending → Type 0

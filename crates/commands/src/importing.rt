@@ -1,16 +1,16 @@
 //! A request list, carried out over a folder of packages.
 ghost use Rattle.std.specs.Prelude.{◌≡◌, IfErr};
 ghost use Rattle.command_words.specs.Endings.{import_outcome};
-ghost use Rattle.commands.specs.Folders.{OpensThen};
+ghost use Rattle.folder_worlds.specs.Folders.{OpensThen};
 ghost use Rattle.commands.specs.Subcommands.{EndsImport, ImportsFile, IsUnlisted};
-ghost use Rattle.commands.specs.declared.endings.Ending.TheVariants.{Unopened};
+ghost use Rattle.folder_worlds.specs.declared.endings.Ending.TheVariants.{Unopened};
 
-use crate::endings::{DONE, Ending, NO_MEMORY};
-use crate::folders::open_folder;
 use command_words::statuses::{Failure, Outcome, What};
 use folder::opening::close_stores;
 use folder::shelf::FolderShelf;
 use folder::start::FolderStore;
+use folder_worlds::endings::{DONE, Ending, NO_MEMORY};
+use folder_worlds::folders::open_folder;
 use manifest_csv::importing::{ImportFault, import as import_list};
 use manifest_csv::progress::Teller;
 use request_csv::lists::ReadFault;

@@ -12,9 +12,8 @@ ghost use Rattle.command_words.specs.declared.statuses.What.{What};
 ghost use Rattle.command_words.specs.declared.statuses.Outcome.TheVariants.{Refused};
 ghost use Rattle.commands.specs.Printing.{archive_line};
 ghost use Rattle.commands.specs.Subcommands.{Inits, IsUnmade};
-ghost use Rattle.commands.specs.declared.endings.Ending.TheVariants.{Usual};
+ghost use Rattle.folder_worlds.specs.declared.endings.Ending.TheVariants.{Usual};
 
-use crate::endings::{DONE, Ending, FAILED, NO_MEMORY, OpenFault};
 use command_words::arguments::{Rehearsal, Words, read_rehearsal};
 use command_words::statuses::{Failure, Outcome};
 use folder::fault::FolderFault;
@@ -23,6 +22,7 @@ use folder::opening::close_stores;
 use folder::removing::remove_store;
 use folder::shelf::blank_in_folder;
 use folder::start::FolderStore;
+use folder_worlds::endings::{DONE, Ending, FAILED, NO_MEMORY, OpenFault};
 use manifest_csv::sending::send;
 use sqlite::{Alter, Connection};
 use std::alloc::{AllocError, Global};

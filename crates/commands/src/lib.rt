@@ -1,11 +1,7 @@
-//! What the program `sheetdesk` does with a folder of packages: each subcommand over its words, the folder, a reader and a writer.
+//! What the program `sheetdesk` does with a folder of packages: the subcommands that may change it, each over its words, the folder, a reader and a writer.
 #![tactic(auto)]
 
 pub mod applying;
-pub mod auditing;
-pub mod endings;
-pub mod folders;
 pub mod importing;
 pub mod init;
-pub mod manifest;
 pub mod serving;

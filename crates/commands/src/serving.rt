@@ -4,10 +4,8 @@ ghost use Rattle.command_words.specs.Arguments.{AsksDesk};
 ghost use Rattle.command_words.specs.declared.statuses.Outcome.TheVariants.{Refused};
 ghost use Rattle.command_words.specs.declared.statuses.What.TheVariants.{BadNumber};
 ghost use Rattle.commands.specs.Subcommands.{ServesAt, ServesOn};
-ghost use Rattle.commands.specs.declared.endings.Ending.TheVariants.{Usual};
+ghost use Rattle.folder_worlds.specs.declared.endings.Ending.TheVariants.{Usual};
 
-use crate::endings::{DONE, Ending, FAILED};
-use crate::folders::open_folder;
 use command_words::arguments::{Desk, DeskWords, read_desk};
 use command_words::statuses::{Outcome, What};
 use desk_serving::connections::serve_each;
@@ -15,6 +13,8 @@ use desk_serving::listening::listen;
 use folder::opening::close_stores;
 use folder::shelf::FolderShelf;
 use folder::start::FolderStore;
+use folder_worlds::endings::{DONE, Ending, FAILED};
+use folder_worlds::folders::open_folder;
 use sqlite_trees::store::Store;
 use world::world::World;
 

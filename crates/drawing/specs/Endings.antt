@@ -1,7 +1,7 @@
 -- How a call that prints a map ends: its exit status, and the lines that it prints before (profile).
 use Rattle.std.specs.Prelude.{ℕ, List, [], codes, Option, None}
 use Rattle.command_words.specs.Endings.{line_of}
-use Rattle.commands.specs.Endings as usual
+use Rattle.folder_worlds.specs.Endings as usual
 use Rattle.drawing.specs.declared.endings.MapEnding.{MapEnding}
 use Rattle.drawing.specs.declared.endings.MapEnding.TheVariants.{Usual, NoSuchZoom}
 

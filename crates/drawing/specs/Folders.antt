@@ -4,10 +4,10 @@ use Rattle.sqlite.specs.Store.{Ghosts}
 use Rattle.world.specs.Worlds.{Seen}
 use Rattle.command_words.specs.Failures.{of_fault}
 use Rattle.command_words.specs.declared.statuses.Outcome.TheVariants.{Stopped}
-use Rattle.commands.specs.Folders.{IsFolderWorld}
-use Rattle.commands.specs.Printing.{done, failed}
-use Rattle.commands.specs.declared.endings.Ending.TheVariants as usual
-use Rattle.commands.specs.declared.endings.OpenFault.{OpenFault}
+use Rattle.folder_worlds.specs.Folders.{IsFolderWorld}
+use Rattle.folder_worlds.specs.Endings.{done, failed}
+use Rattle.folder_worlds.specs.declared.endings.Ending.TheVariants as usual
+use Rattle.folder_worlds.specs.declared.endings.OpenFault.{OpenFault}
 use Rattle.drawing.specs.Printed.{IsPrinted, IsUntouched, LeavesUnprinted}
 use Rattle.drawing.specs.declared.endings.MapEnding.{MapEnding}
 use Rattle.drawing.specs.declared.endings.MapEnding.TheVariants as ending

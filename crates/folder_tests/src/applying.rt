@@ -1,6 +1,6 @@
 // Requests over a world in memory; the digest is Python's `hashlib`.
 use commands::applying::apply_in;
-use commands::endings::{DONE, Ending, FAILED};
+use folder_worlds::endings::{DONE, Ending, FAILED};
 use shelves::memory::MemoryShelf;
 use std::test::Fail;
 use test_lists::{Failing, Narrow};

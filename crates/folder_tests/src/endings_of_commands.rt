@@ -1,9 +1,9 @@
 // Statuses and lines, judged by hand.
 use command_words::statuses::{Outcome, What};
-use commands::endings::{
+use folder::fault::FolderFault;
+use folder_worlds::endings::{
     DONE, Ending, FAILED, NO_MEMORY, OpenFault, busy_package, error_of, output_of, status_of,
 };
-use folder::fault::FolderFault;
 use opening::faults::RecoverFault;
 use uuid::Uuid;
 

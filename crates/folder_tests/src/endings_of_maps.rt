@@ -1,7 +1,7 @@
 // Statuses and lines, judged by hand.
 use command_words::statuses::{Outcome, What};
-use commands::endings::{DONE, Ending, FAILED, OpenFault};
 use drawing::endings::{MapEnding, busy_package, error_of, output_of, status_of};
+use folder_worlds::endings::{DONE, Ending, FAILED, OpenFault};
 use uuid::Uuid;
 
 fn busy() -> MapEnding {

@@ -1,5 +1,5 @@
 // Statuses and lines, judged by hand.
-use commands::endings::{DONE, Ending as CommandEnding, OpenFault};
+use folder_worlds::endings::{DONE, Ending as CommandEnding, OpenFault};
 use opening::faults::RecoverFault;
 use uuid::Uuid;
 use views::endings::{Ending, busy_package, error_of, output_of, status_of};

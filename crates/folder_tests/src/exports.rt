@@ -1,6 +1,6 @@
 // An export of a world in memory: a tile under its number, to the byte, between what the package is and its end.
-use commands::endings::{DONE, Ending, FAILED};
 use exporting::exporting::export_in;
+use folder_worlds::endings::{DONE, Ending, FAILED};
 use manifest_csv::importing::import;
 use manifest_csv::progress::Silent;
 use shelves::memory::MemoryShelf;

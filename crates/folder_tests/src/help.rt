@@ -1,10 +1,9 @@
 // What `--help` says.
 use clap::Error;
-use cli::rehearse::rehearse;
-use command_line::words::sheetdesk;
+use program_words::words::sheetdesk;
 use std::alloc::Global;
 use std::test::Fail;
-use test_lists::{FIRST_TILE, HEADER, list};
+use test_lists::{FIRST_TILE, HEADER};
 
 /// What the program answers these words with, and the status.
 fn answer(alloc: Global, words: &[&str]) -> Result<(String, i32), Error> {

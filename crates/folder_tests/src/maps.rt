@@ -1,7 +1,7 @@
 // The map of an archive that lent a sheet and took a new one at its place; the text was worked out by hand.
-use commands::endings::{DONE, FAILED};
 use drawing::endings::MapEnding;
 use drawing::maps::map_in;
+use folder_worlds::endings::{DONE, FAILED};
 use package_tables::fault::Fault;
 use sheet_types::command::Mode;
 use shelves::memory::MemoryShelf;

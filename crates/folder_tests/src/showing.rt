@@ -1,5 +1,5 @@
 // Looks at an archive in memory with one tile; the lines were laid out by Python's `ljust` and `rjust`, the digest is its `hashlib`'s.
-use commands::endings::{DONE, FAILED};
+use folder_worlds::endings::{DONE, FAILED};
 use package_tables::fault::Fault;
 use shelves::memory::MemoryShelf;
 use sqlite::MemStore;

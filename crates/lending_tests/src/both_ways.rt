@@ -10,7 +10,7 @@ use sheet_types::command::{Item, Mapping, Relation};
 use sqlite::{Connection, MemStore};
 use std::alloc::Global;
 use std::test::Fail;
-use test_values::{AT, FRAME, committed, new_package};
+use test_values::{AT, FRAME, committed, in_memory, new_package};
 
 const LATER: &str = "2027-01-02T03:04:05.006Z";
 
@@ -22,7 +22,7 @@ fn package(a: Global, number: u128) -> Result<Connection<MemStore>, Fault> {
         loan: 0,
         created: AT,
     };
-    new_package(a, Connection::open_in_memory(a)?, &FRAME, &info)
+    new_package(a, in_memory(a)?, &FRAME, &info)
 }
 
 fn has_links(links: &[Relation]) -> bool {

@@ -2,6 +2,8 @@
 #![tactic(auto)]
 
 #[cfg(test)]
+mod allocation_tests;
+#[cfg(test)]
 mod both_ways;
 #[cfg(test)]
 mod stop_tests;

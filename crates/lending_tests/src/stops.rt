@@ -83,7 +83,8 @@ pub(crate) struct Calls {
     pub db: u64,
 }
 
-const NEVER: Calls = Calls {
+/// A store whose files go on.
+pub(crate) const NEVER: Calls = Calls {
     log: u64::MAX,
     db: u64::MAX,
 };

@@ -16,7 +16,7 @@ use sheet_types::command::{Content, Mapping, Relation};
 use sqlite::{Alter, Connection, Transaction};
 use std::alloc::Global;
 use std::test::Fail;
-use test_values::{Change, at_rest, committed, text};
+use test_values::{Change, at_rest, committed, in_memory, text};
 use uuid::Uuid;
 
 const FIRST_TILE: &str = "00000000-0000-4000-8000-000000000001";
@@ -118,15 +118,6 @@ fn a_medium(alloc: Global) -> Result<Content, Fault> {
     })
 }
 
-fn a_row(alloc: Global) -> Result<Content, Fault> {
-    Ok(Content::Row {
-        x: 5,
-        y: -6,
-        code: 7,
-        label: text(alloc, "spring")?,
-    })
-}
-
 // The bytes of a medium; nothing where it is none.
 fn medium_bytes<S: Alter>(
     alloc: Global,
@@ -148,7 +139,7 @@ fn medium_bytes<S: Alter>(
 #[test]
 fn a_link_comes_and_goes(rt: HostRuntime) -> Result<(), Fail> {
     let a = rt.alloc();
-    let mut conn = Connection::open_in_memory(a)?;
+    let mut conn = in_memory(a)?;
     let conn = &mut conn;
     assert!(rt; committed(conn, &Filled)?);
     assert!(rt; committed(conn, &Linked(tile_to_medium()))?);
@@ -172,7 +163,7 @@ fn a_link_comes_and_goes(rt: HostRuntime) -> Result<(), Fail> {
 #[test]
 fn an_item_of_each_kind_is_deleted(rt: HostRuntime) -> Result<(), Fail> {
     let a = rt.alloc();
-    let mut conn = Connection::open_in_memory(a)?;
+    let mut conn = in_memory(a)?;
     let conn = &mut conn;
     assert!(rt; committed(conn, &Filled)?);
     assert!(rt; committed(conn, &Linked(tile_to_medium()))?);
@@ -201,34 +192,9 @@ fn an_item_of_each_kind_is_deleted(rt: HostRuntime) -> Result<(), Fail> {
 }
 
 #[test]
-fn an_item_of_each_kind_is_added(rt: HostRuntime) -> Result<(), Fail> {
-    let a = rt.alloc();
-    let mut conn = Connection::open_in_memory(a)?;
-    let conn = &mut conn;
-    assert!(rt; committed(conn, &Filled)?);
-    assert!(rt; committed(conn, &Added(Uuid::from_u128(6), &a_tile(a)?))?);
-    assert_eq!(rt; tiles(a, conn)?.as_str(), "7 2 3 1 2;9 2 0 0 1;10 2 1 3 4;");
-    assert!(rt; committed(conn, &Added(Uuid::from_u128(7), &a_medium(a)?))?);
-    assert_eq!(rt;
-        media(a, conn)?.as_str(),
-        "4 3 image/png;7 0 image/jpeg;8 3 image/png;"
-    );
-    assert!(rt; committed(conn, &Added(Uuid::from_u128(8), &a_row(a)?))?);
-    assert_eq!(rt;
-        attributes(a, conn)?.as_str(),
-        "3 100 -7 31 well;4 5 -6 7 spring;"
-    );
-    assert_eq!(rt;
-        identities(a, conn)?.as_str(),
-        "1 7 00000000-0000-4000-8000-000000000001;1 9 00000000-0000-4000-8000-000000000002;1 10 00000000-0000-0000-0000-000000000006;2 4 00000000-0000-4000-8000-000000000003;2 7 00000000-0000-4000-8000-000000000004;2 8 00000000-0000-0000-0000-000000000007;3 3 00000000-0000-4000-8000-000000000005;3 4 00000000-0000-0000-0000-000000000008;"
-    );
-    Ok(())
-}
-
-#[test]
 fn numbers_are_found_below_the_last_that_may_be(rt: HostRuntime) -> Result<(), Fail> {
     let a = rt.alloc();
-    let mut conn = Connection::open_in_memory(a)?;
+    let mut conn = in_memory(a)?;
     let conn = &mut conn;
     assert!(rt; committed(conn, &FilledToTheLast)?);
     assert!(rt; committed(conn, &Added(Uuid::from_u128(6), &a_medium(a)?))?);

@@ -9,7 +9,7 @@ use sheet_types::frame::Frame;
 use sqlite::{Alter, Connection, Transaction};
 use std::alloc::Global;
 use std::test::Fail;
-use test_values::{Change, FRAME, committed, new_package};
+use test_values::{Change, FRAME, committed, in_memory, new_package};
 
 const CHANGED: &str = "2027-01-02T03:04:05.006Z";
 
@@ -45,7 +45,7 @@ const AFTER: &str =
 #[test]
 fn a_change_dates_each_table_and_no_more(rt: HostRuntime) -> Result<(), Fail> {
     let alloc = rt.alloc();
-    let mut conn = made(alloc, Connection::open_in_memory(alloc)?)?;
+    let mut conn = made(alloc, in_memory(alloc)?)?;
     assert_eq!(rt; contents(alloc, &mut conn)?.as_str(), BEFORE);
     assert_eq!(rt; heads(alloc, &mut conn)?.as_str(), HEAD);
     assert!(rt; committed(&mut conn, &Dated)?);

@@ -15,7 +15,8 @@ use sheet_types::refusal::Refusal;
 use sqlite::{Alter, Connection, Transaction};
 use std::alloc::Global;
 use test_values::{
-    AT, Change, FRAME, at_rest, committed, medium_content, new_package, row_content, tile_content,
+    AT, Change, FRAME, altered, at_rest, committed, medium_content, new_package, row_content,
+    tile_content,
 };
 use uuid::Uuid;
 
@@ -154,9 +155,9 @@ pub(crate) fn refuses<S: Alter>(
 }
 
 // The three indexes beside the keys that ranges and ends are found by.
-pub(crate) fn without_indexes<S: Alter>(conn: &mut Connection<S>) -> Result<(), sqlite::Error> {
-    conn.execute("DROP INDEX by_xy", &[])?;
-    conn.execute("DROP INDEX by_tiles_media", &[])?;
-    conn.execute("DROP INDEX by_rows_media", &[])?;
+pub(crate) fn without_indexes<S: Alter>(conn: &mut Connection<S>) -> Result<(), Fault> {
+    altered(conn, "DROP INDEX by_xy")?;
+    altered(conn, "DROP INDEX by_tiles_media")?;
+    altered(conn, "DROP INDEX by_rows_media")?;
     Ok(())
 }

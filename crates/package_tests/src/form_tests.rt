@@ -11,6 +11,7 @@ use store_forms::claims::claims;
 use store_forms::form::has_form;
 use store_forms::frames::{are_dated, read_frame};
 use store_forms::heads::{StoreHead, head};
+use test_values::{altered, in_memory};
 use uuid::Uuid;
 
 // 4096 by 4096, zooms 0 to 2 with 1, 2 and 4 columns and rows of tiles of 256 pixels.
@@ -48,7 +49,7 @@ fn made(alloc: Global) -> Result<Connection<MemStore>, Fault> {
 }
 
 fn made_with(alloc: Global, frame: &Frame) -> Result<Connection<MemStore>, Fault> {
-    let conn = Connection::open_in_memory(alloc)?;
+    let conn = in_memory(alloc)?;
     if !is_at_rest(&conn) || frame.check().is_err() {
         return Err(Fault::StoreFault);
     }
@@ -93,7 +94,7 @@ fn frame_of<S: Alter>(alloc: Global, conn: &mut Connection<S>) -> Result<Option<
 // Whether a new package still has a frame after these statements.
 fn has_frame_after(alloc: Global, statements: &str) -> Result<bool, Fault> {
     let mut conn = made(alloc)?;
-    conn.execute_batch(statements)?;
+    altered(&mut conn, statements)?;
     let found = frame_of(alloc, &mut conn)?;
     Ok(found.is_some())
 }
@@ -138,15 +139,16 @@ fn new_package(rt: HostRuntime) -> Result<(), Fail> {
 #[test]
 fn no_form(rt: HostRuntime) -> Result<(), Fail> {
     let mut conn = made(rt.alloc())?;
-    conn.execute_batch("UPDATE gpkg_contents SET srs_id = NULL")?;
+    altered(&mut conn, "UPDATE gpkg_contents SET srs_id = NULL")?;
     assert!(rt; !form_of(&mut conn)?);
     let mut lacking = made(rt.alloc())?;
-    lacking.execute_batch(
+    altered(
+        &mut lacking,
         "DROP TABLE rows_tiles; CREATE TABLE rows_tiles (base_id INTEGER NOT NULL) STRICT",
     )?;
     assert!(rt; !form_of(&mut lacking)?);
     assert!(rt; has_head(rt.alloc(), &mut lacking)?);
-    let mut blank = Connection::open_in_memory(rt.alloc())?;
+    let mut blank = in_memory(rt.alloc())?;
     assert!(rt; !form_of(&mut blank)?);
     assert!(rt; !has_head(rt.alloc(), &mut blank)?);
     assert_eq!(rt; claimed(rt.alloc(), &mut blank)?.as_str(), "");
@@ -156,10 +158,11 @@ fn no_form(rt: HostRuntime) -> Result<(), Fail> {
 #[test]
 fn no_head(rt: HostRuntime) -> Result<(), Fail> {
     let mut conn = made(rt.alloc())?;
-    conn.execute_batch("UPDATE sheet_package SET version = 3")?;
+    altered(&mut conn, "UPDATE sheet_package SET version = 3")?;
     assert!(rt; !has_head(rt.alloc(), &mut conn)?);
     let mut doubled = made(rt.alloc())?;
-    doubled.execute_batch(
+    altered(
+        &mut doubled,
         "INSERT INTO sheet_package SELECT 2, version, package, parent, depth, loan, created FROM sheet_package",
     )?;
     assert!(rt; !has_head(rt.alloc(), &mut doubled)?);
@@ -167,27 +170,11 @@ fn no_head(rt: HostRuntime) -> Result<(), Fail> {
 }
 
 #[test]
-fn heads_of_no_level(rt: HostRuntime) -> Result<(), Fail> {
-    let mut orphan = made(rt.alloc())?;
-    orphan.execute_batch("UPDATE sheet_package SET parent = ''")?;
-    assert!(rt; !has_head(rt.alloc(), &mut orphan)?);
-    let mut risen = made(rt.alloc())?;
-    risen.execute_batch("UPDATE sheet_package SET depth = 0, loan = 0")?;
-    assert!(rt; !has_head(rt.alloc(), &mut risen)?);
-    let mut unlent = made(rt.alloc())?;
-    unlent.execute_batch("UPDATE sheet_package SET loan = 0")?;
-    assert!(rt; !has_head(rt.alloc(), &mut unlent)?);
-    let mut archive = made(rt.alloc())?;
-    archive.execute_batch("UPDATE sheet_package SET parent = '', depth = 0, loan = 0")?;
-    assert!(rt; has_head(rt.alloc(), &mut archive)?);
-    Ok(())
-}
-
-#[test]
 fn moments(rt: HostRuntime) -> Result<(), Fail> {
     let mut conn = made(rt.alloc())?;
     assert!(rt; is_dated(rt.alloc(), &mut conn)?);
-    conn.execute_batch(
+    altered(
+        &mut conn,
         "UPDATE gpkg_contents SET last_change = '2026-11-22T24:00:00.000Z' WHERE table_name = 'sheet_rows'",
     )?;
     assert!(rt; !is_dated(rt.alloc(), &mut conn)?);
@@ -197,7 +184,8 @@ fn moments(rt: HostRuntime) -> Result<(), Fail> {
 #[test]
 fn claims_in_order(rt: HostRuntime) -> Result<(), Fail> {
     let mut conn = made(rt.alloc())?;
-    conn.execute_batch(
+    altered(
+        &mut conn,
         "INSERT INTO sheet_receipts VALUES (3, 'c', 'x', 'three', '', 'T', 0, 0, 0, 0, 0); INSERT INTO sheet_receipts VALUES (-5, 'e', '', 'five', 'S', '', 0, 0, 0, 0, 0); INSERT INTO sheet_receipts VALUES (1, 'a', '', 'one', 'S', 'T', -1, 0, 0, 0, 0)",
     )?;
     assert_eq!(rt;
@@ -213,7 +201,7 @@ fn frames_of_new_packages(rt: HostRuntime) -> Result<(), Fail> {
     assert!(rt; frame_of(rt.alloc(), &mut own)? == Some(FRAME));
     let mut standard = made_with(rt.alloc(), &STANDARD)?;
     assert!(rt; frame_of(rt.alloc(), &mut standard)? == Some(STANDARD));
-    own.execute_batch("UPDATE gpkg_contents SET last_change = ''")?;
+    altered(&mut own, "UPDATE gpkg_contents SET last_change = ''")?;
     assert!(rt; frame_of(rt.alloc(), &mut own)? == Some(FRAME));
     Ok(())
 }
@@ -233,27 +221,5 @@ fn no_frame(rt: HostRuntime) -> Result<(), Fail> {
     ] {
         assert!(rt; !has_frame_after(rt.alloc(), statements)?);
     }
-    Ok(())
-}
-
-// At 4097 by 4096 each size of a pixel is still the whole part, but 4097 is no multiple of 1024 pixels.
-#[test]
-fn no_frame_of_uneven_pixels(rt: HostRuntime) -> Result<(), Fail> {
-    assert!(rt;
-        !has_frame_after(
-            rt.alloc(),
-            "UPDATE gpkg_contents SET max_x = 4097; UPDATE gpkg_tile_matrix_set SET max_x = 4097"
-        )?
-    );
-    Ok(())
-}
-
-// One level fewer, the last one, makes another good frame.
-#[test]
-fn frame_of_fewer_levels(rt: HostRuntime) -> Result<(), Fail> {
-    let mut conn = made(rt.alloc())?;
-    conn.execute_batch("DELETE FROM gpkg_tile_matrix WHERE zoom_level = 2")?;
-    let shorter = Frame { levels: 2, ..FRAME };
-    assert!(rt; frame_of(rt.alloc(), &mut conn)? == Some(shorter));
     Ok(())
 }

@@ -1,7 +1,6 @@
 // Whole packages in memory, read back. What is expected follows from what was put in: items by kind and UUID, links by
 // mapping, base and medium, however the local numbers stand.
 
-use crate::steps::{Linked, Unlinked};
 use identity_register::whole::holdings;
 use package_tables::attributes::insert_attribute;
 use package_tables::fault::Fault;
@@ -13,7 +12,7 @@ use sheet_types::command::{Content, Item, Mapping, Relation};
 use sqlite::{Alter, Connection, Transaction};
 use std::alloc::Global;
 use std::test::Fail;
-use test_values::{Change, at_rest, committed};
+use test_values::{Change, at_rest, committed, in_memory};
 use uuid::Uuid;
 
 fn held<S: Alter>(
@@ -22,14 +21,6 @@ fn held<S: Alter>(
 ) -> Result<(Vec<Item>, Vec<Relation>), Fault> {
     at_rest(conn)?;
     holdings(conn, alloc)
-}
-
-fn all_links<S: Alter>(alloc: Global, conn: &mut Connection<S>) -> Result<Vec<Relation>, Fault> {
-    let (items, links) = held(alloc, conn)?;
-    if items.len() != 5 {
-        return Err(Fault::StoreFault);
-    }
-    Ok(links)
 }
 
 fn name<S: Alter>(
@@ -161,16 +152,8 @@ fn second_medium() -> Uuid {
     Uuid::from_u128(0x12)
 }
 
-fn of_tile(base: Uuid, other: Uuid) -> Relation {
-    Relation::new(Mapping::TilesMedia, base, other)
-}
-
 fn of_row(base: Uuid, other: Uuid) -> Relation {
     Relation::new(Mapping::RowsMedia, base, other)
-}
-
-fn tile_of(base: Uuid, other: Uuid) -> Relation {
-    Relation::new(Mapping::RowsTiles, base, other)
 }
 
 // The numbers stand the other way round than the UUIDs.
@@ -197,7 +180,7 @@ impl<S: Alter> Change<S> for WithEnds {
 #[test]
 fn many_items_are_read_back(rt: HostRuntime) -> Result<(), Fail> {
     let a = rt.alloc();
-    let mut conn = Connection::open_in_memory(a)?;
+    let mut conn = in_memory(a)?;
     let conn = &mut conn;
     assert!(rt; committed(conn, &Filled)?);
     let (found, links) = held(a, conn)?;
@@ -206,38 +189,5 @@ fn many_items_are_read_back(rt: HostRuntime) -> Result<(), Fail> {
     assert!(rt; are_those(&found, 300, 2));
     assert!(rt; are_those(&found, 600, 3));
     assert!(rt; links.is_empty());
-    Ok(())
-}
-
-#[test]
-fn links_across_are_read_back(rt: HostRuntime) -> Result<(), Fail> {
-    let a = rt.alloc();
-    let mut conn = Connection::open_in_memory(a)?;
-    let conn = &mut conn;
-    assert!(rt; committed(conn, &WithEnds)?);
-    assert!(rt; all_links(a, conn)?.is_empty());
-    assert!(rt; committed(conn, &Linked(of_row(third(), first_medium())))?);
-    assert!(rt; committed(conn, &Linked(of_tile(second(), first_medium())))?);
-    assert!(rt; committed(conn, &Linked(of_tile(first(), second_medium())))?);
-    let kept = [
-        of_tile(second(), first_medium()),
-        of_row(third(), first_medium()),
-    ];
-    let expected = [of_tile(first(), second_medium()), kept[0], kept[1]];
-    assert!(rt; all_links(a, conn)?.as_slice() == expected.as_slice());
-    assert!(rt; committed(conn, &Unlinked(of_tile(first(), second_medium())))?);
-    assert!(rt; all_links(a, conn)?.as_slice() == kept.as_slice());
-    assert!(rt; committed(conn, &Linked(of_tile(first(), second_medium())))?);
-    assert!(rt; all_links(a, conn)?.as_slice() == expected.as_slice());
-    assert!(rt; committed(conn, &Linked(tile_of(third(), first())))?);
-    let all = [
-        expected[0],
-        expected[1],
-        expected[2],
-        tile_of(third(), first()),
-    ];
-    assert!(rt; all_links(a, conn)?.as_slice() == all.as_slice());
-    assert!(rt; committed(conn, &Unlinked(tile_of(third(), first())))?);
-    assert!(rt; all_links(a, conn)?.as_slice() == expected.as_slice());
     Ok(())
 }

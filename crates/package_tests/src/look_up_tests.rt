@@ -16,7 +16,7 @@ use sheet_types::command::{Content, Mapping, Relation};
 use sheet_types::receipt::MovedKind;
 use sqlite::{Alter, Connection, Transaction};
 use std::test::Fail;
-use test_values::{Change, at_rest, committed, fill_with_a_link};
+use test_values::{Change, at_rest, committed, fill_with_a_link, in_memory};
 use uuid::Uuid;
 
 // Each but the last has the local number 4 of its kind.
@@ -84,7 +84,7 @@ fn code<S: Alter>(conn: &mut Connection<S>, id: u128) -> Result<i64, Fault> {
 
 #[test]
 fn look_ups_answer_of_the_package(rt: HostRuntime) -> Result<(), Fail> {
-    let mut conn = Connection::open_in_memory(rt.alloc())?;
+    let mut conn = in_memory(rt.alloc())?;
     assert!(rt; fill_with_a_link(&mut conn)?);
     assert!(rt; kind(&mut conn, 1)? == Some(MovedKind::TileItem));
     assert!(rt; kind(&mut conn, 3)? == Some(MovedKind::RowItem));
@@ -102,49 +102,10 @@ fn look_ups_answer_of_the_package(rt: HostRuntime) -> Result<(), Fail> {
     Ok(())
 }
 
-#[test]
-fn look_ups_tell_links_of_rows_from_those_of_tiles(rt: HostRuntime) -> Result<(), Fail> {
-    let mut conn = Connection::open_in_memory(rt.alloc())?;
-    assert!(rt; committed(&mut conn, &FilledWithRows)?);
-    assert!(rt; kind(&mut conn, 2)? == Some(MovedKind::MediaItem));
-    assert!(rt; related(&mut conn, Mapping::RowsMedia, 3, 2)?);
-    assert!(rt; !related(&mut conn, Mapping::RowsMedia, 4, 2)?);
-    assert!(rt; !related(&mut conn, Mapping::RowsMedia, 1, 2)?);
-    assert!(rt; !related(&mut conn, Mapping::TilesMedia, 1, 2)?);
-    assert!(rt; is_named_by_a_link(&mut conn, 3)? == Some(true));
-    assert!(rt; is_named_by_a_link(&mut conn, 2)? == Some(true));
-    assert!(rt; is_named_by_a_link(&mut conn, 4)? == Some(false));
-    assert!(rt; is_named_by_a_link(&mut conn, 1)? == Some(false));
-    assert!(rt; code(&mut conn, 4)? == 32);
-    Ok(())
-}
-
-#[test]
-fn look_ups_tell_links_of_rows_to_tiles(rt: HostRuntime) -> Result<(), Fail> {
-    let mut conn = Connection::open_in_memory(rt.alloc())?;
-    assert!(rt; committed(&mut conn, &FilledWithTilesOfRows)?);
-    assert!(rt; related(&mut conn, Mapping::RowsTiles, 4, 1)?);
-    assert!(rt; !related(&mut conn, Mapping::RowsTiles, 3, 1)?);
-    assert!(rt; !related(&mut conn, Mapping::RowsTiles, 1, 4)?);
-    assert!(rt; !related(&mut conn, Mapping::RowsMedia, 4, 2)?);
-    for id in [1u128, 2, 3, 4] {
-        assert!(rt; is_named_by_a_link(&mut conn, id)? == Some(true));
-    }
-    let turned = relation_state(&mut conn, Mapping::RowsTiles, 1, 4)?;
-    assert!(rt; turned == LinkState::WrongKinds);
-    let to_a_medium = relation_state(&mut conn, Mapping::RowsTiles, 4, 2)?;
-    assert!(rt; to_a_medium == LinkState::WrongKinds);
-    let of_another_row = relation_state(&mut conn, Mapping::RowsTiles, 3, 1)?;
-    assert!(rt; of_another_row == LinkState::Absent);
-    let there = relation_state(&mut conn, Mapping::RowsTiles, 4, 1)?;
-    assert!(rt; there == LinkState::There);
-    Ok(())
-}
-
 // Both ends are to be known before their kinds are judged.
 #[test]
 fn a_link_that_is_to_come_in_has_a_state(rt: HostRuntime) -> Result<(), Fail> {
-    let mut conn = Connection::open_in_memory(rt.alloc())?;
+    let mut conn = in_memory(rt.alloc())?;
     assert!(rt; committed(&mut conn, &FilledWithRows)?);
     let unknown_base = relation_state(&mut conn, Mapping::RowsMedia, 9, 2)?;
     assert!(rt; unknown_base == LinkState::UnknownEnd);

@@ -10,7 +10,7 @@ use sheet_types::receipt::MovedKind;
 use sqlite::{Alter, Connection};
 use std::alloc::Global;
 use std::test::Fail;
-use test_values::{AT, FRAME, at_rest, committed, new_package};
+use test_values::{AT, FRAME, at_rest, committed, in_memory, new_package};
 use uuid::Uuid;
 
 // A loan of the package 1.
@@ -48,7 +48,7 @@ fn is_found<S: Alter>(conn: &mut Connection<S>) -> Result<bool, Fault> {
 #[test]
 fn a_new_package_holds_what_is_put_into_it_alone(rt: HostRuntime) -> Result<(), Fail> {
     let alloc = rt.alloc();
-    let mut conn = made(alloc, Connection::open_in_memory(alloc)?)?;
+    let mut conn = made(alloc, in_memory(alloc)?)?;
     assert!(rt; !is_found(&mut conn)?);
     assert!(rt; kind(&mut conn, 9)? == None);
     assert!(rt; is_named_by_a_link(&mut conn, 9)? == None);

@@ -2,7 +2,6 @@
 
 use crate::tables::{contents, found, heads, listed, moved, receipt};
 use crate::values::{HEAD, archive, close, open};
-use package_tables::create::Info;
 use package_tables::fault::Fault;
 use package_tables::fixed::{
     all_relations, all_spatial_ref_sys, all_tile_matrices, all_tile_matrix_sets, set_last_change,
@@ -10,13 +9,11 @@ use package_tables::fixed::{
 use package_tables::moved::{all_moved, insert_moved, moved_of_kind};
 use package_tables::package::Package;
 use package_tables::receipts::{all_receipts, insert_receipt};
-use sheet_types::frame::Frame;
-use sqlite::{Alter, Connection, Error, Transaction};
+use sqlite::{Alter, Connection, Transaction};
 use sqlite_disk::Memory;
 use std::alloc::Global;
 use std::test::Fail;
-use test_values::{AT, Change, FRAME, at_rest, committed, new_tables};
-use uuid::Uuid;
+use test_values::{AT, Change, FRAME, at_rest, committed, in_memory, new_tables};
 
 const LATER: &str = "2026-11-23T09:00:00.000Z";
 
@@ -31,37 +28,6 @@ const RELATIONS: &str =
 
 fn made<S: Alter + Drop>(alloc: Global, conn: Connection<S>) -> Result<Package<S>, Fault> {
     new_tables(alloc, conn, &FRAME, &archive())
-}
-
-// A package of another frame: a reference system that each package has, two levels that begin at zoom 3, tiles and matrices that
-// are not square, ground below zero; with a parent, and at the greatest depth and loan.
-fn made_below<S: Alter + Drop>(alloc: Global, conn: Connection<S>) -> Result<Package<S>, Fault> {
-    let frame = Frame {
-        srs_id: 4326,
-        min_x: -7000,
-        min_y: -60,
-        max_x: 680,
-        max_y: 2500,
-        tile_width: 256,
-        tile_height: 128,
-        first_zoom: 3,
-        levels: 2,
-        matrix_width: 5,
-        matrix_height: 2,
-    };
-    let info = Info {
-        package: Uuid::from_u128(2),
-        parent: Some(Uuid::from_u128(1)),
-        depth: 4,
-        loan: 1000000000,
-        created: LATER,
-    };
-    new_tables(alloc, conn, &frame, &info)
-}
-
-// The number of tables and indexes.
-fn object_count<S: Alter>(conn: &mut Connection<S>) -> Result<usize, Error> {
-    Ok(conn.query_all("SELECT name FROM sqlite_schema", &[])?.len())
 }
 
 fn systems<S: Alter>(alloc: Global, conn: &mut Connection<S>) -> Result<String, Fault> {
@@ -144,7 +110,7 @@ fn of_kind<S: Alter>(
 #[test]
 fn a_new_package_has_its_fixed_rows(rt: HostRuntime) -> Result<(), Fail> {
     let alloc = rt.alloc();
-    let mut package = made(alloc, Connection::open_in_memory(alloc)?)?;
+    let mut package = made(alloc, in_memory(alloc)?)?;
     assert_eq!(rt; systems(alloc, &mut package.conn)?.as_str(), SYSTEMS);
     assert_eq!(rt;
         contents(alloc, &mut package.conn)?.as_str(),
@@ -161,37 +127,9 @@ fn a_new_package_has_its_fixed_rows(rt: HostRuntime) -> Result<(), Fail> {
 }
 
 #[test]
-fn a_package_of_another_frame_has_its_rows(rt: HostRuntime) -> Result<(), Fail> {
-    let alloc = rt.alloc();
-    let mut package = made_below(alloc, Connection::open_in_memory(alloc)?)?;
-    assert_eq!(rt;
-        systems(alloc, &mut package.conn)?.as_str(),
-        "-1 undefined cartesian NONE -1 undefined |0 undefined geographic NONE 0 undefined |4326 WGS 84 EPSG 4326 profile |"
-    );
-    assert_eq!(rt;
-        contents(alloc, &mut package.conn)?.as_str(),
-        "sheet_media attributes sheet_media  2026-11-23T09:00:00.000Z -7000 -60 680 2500 4326|sheet_rows attributes sheet_rows  2026-11-23T09:00:00.000Z -7000 -60 680 2500 4326|sheet_tiles tiles sheet_tiles  2026-11-23T09:00:00.000Z -7000 -60 680 2500 4326|"
-    );
-    assert_eq!(rt;
-        matrix_sets(alloc, &mut package.conn)?.as_str(),
-        "sheet_tiles 4326 -7000 -60 680 2500|"
-    );
-    assert_eq!(rt;
-        matrices(alloc, &mut package.conn)?.as_str(),
-        "sheet_tiles 3 5 2 256 128 6 10|sheet_tiles 4 10 4 256 128 3 5|"
-    );
-    assert_eq!(rt;
-        heads(alloc, &mut package.conn)?.as_str(),
-        "1 2 00000000-0000-0000-0000-000000000002 00000000-0000-0000-0000-000000000001 4 1000000000 2026-11-23T09:00:00.000Z|"
-    );
-    assert_eq!(rt; object_count(&mut package.conn)?, 35);
-    Ok(())
-}
-
-#[test]
 fn the_least_and_the_greatest_are_entered(rt: HostRuntime) -> Result<(), Fail> {
     let alloc = rt.alloc();
-    let mut conn = made(alloc, Connection::open_in_memory(alloc)?)?.into_connection();
+    let mut conn = made(alloc, in_memory(alloc)?)?.into_connection();
     assert_eq!(rt; receipt_count(alloc, &mut conn)?, 0);
     assert_eq!(rt; moved_count(alloc, &mut conn)?, 0);
     assert_eq!(rt; moved(alloc, &mut conn, 0)?.as_str(), "");
@@ -223,7 +161,7 @@ fn the_least_and_the_greatest_are_entered(rt: HostRuntime) -> Result<(), Fail> {
 #[test]
 fn receipts_and_what_they_moved_are_found(rt: HostRuntime) -> Result<(), Fail> {
     let alloc = rt.alloc();
-    let mut conn = made(alloc, Connection::open_in_memory(alloc)?)?.into_connection();
+    let mut conn = made(alloc, in_memory(alloc)?)?.into_connection();
     assert!(rt; committed(&mut conn, &Entered)?);
     assert_eq!(rt;
         receipt(alloc, &mut conn, "q2")?.as_str(),
@@ -267,7 +205,7 @@ fn receipts_and_what_they_moved_are_found(rt: HostRuntime) -> Result<(), Fail> {
 #[test]
 fn a_receipt_comes_whole_or_not_at_all(rt: HostRuntime) -> Result<(), Fail> {
     let alloc = rt.alloc();
-    let mut conn = made(alloc, Connection::open_in_memory(alloc)?)?.into_connection();
+    let mut conn = made(alloc, in_memory(alloc)?)?.into_connection();
     assert!(rt; committed(&mut conn, &Entered)?);
     if let Err(fault) = committed(&mut conn, &EnteredOnceMore) {
         assert!(rt; fault == Fault::OutOfMemory);

@@ -10,7 +10,7 @@ use sheet_types::command::Mapping;
 use sqlite::{Alter, Connection, Transaction};
 use std::alloc::Global;
 use std::test::Fail;
-use test_values::{Change, at_rest, committed};
+use test_values::{Change, at_rest, committed, in_memory};
 
 struct Filled;
 
@@ -84,7 +84,7 @@ fn is_named<S: Alter>(conn: &mut Connection<S>, kind: i64, number: i64) -> Resul
 #[test]
 fn rows_of_ranges(rt: HostRuntime) -> Result<(), Fail> {
     let alloc = rt.alloc();
-    let mut conn = Connection::open_in_memory(alloc)?;
+    let mut conn = in_memory(alloc)?;
     assert!(rt; committed(&mut conn, &Filled)?);
     assert!(rt; tiles(alloc, &mut conn, 2)? == 3);
     assert!(rt; tiles(alloc, &mut conn, 1)? == 0);
@@ -95,7 +95,7 @@ fn rows_of_ranges(rt: HostRuntime) -> Result<(), Fail> {
 #[test]
 fn rows_of_ends_and_keys(rt: HostRuntime) -> Result<(), Fail> {
     let alloc = rt.alloc();
-    let mut conn = Connection::open_in_memory(alloc)?;
+    let mut conn = in_memory(alloc)?;
     assert!(rt; committed(&mut conn, &Filled)?);
     assert!(rt; of_base(alloc, &mut conn, 1)? == 6);
     assert!(rt; of_related(alloc, &mut conn, 4)? == 3);

@@ -9,7 +9,7 @@ use sheet_types::frame::Ground;
 use sqlite::{Alter, Connection};
 use std::alloc::Global;
 use std::test::Fail;
-use test_values::at_rest;
+use test_values::{at_rest, in_memory};
 use uuid::Uuid;
 
 fn fill<S: Alter>(alloc: Global, conn: &mut Connection<S>) -> Result<(), Fault> {
@@ -61,7 +61,7 @@ fn links<S: Alter>(
 #[test]
 fn tiles_of_a_block(rt: HostRuntime) -> Result<(), Fail> {
     let alloc = rt.alloc();
-    let mut conn = package(alloc, Connection::open_in_memory(alloc)?)?;
+    let mut conn = package(alloc, in_memory(alloc)?)?;
     fill(alloc, &mut conn)?;
     let block = Span {
         column: 1,
@@ -79,7 +79,7 @@ fn tiles_of_a_block(rt: HostRuntime) -> Result<(), Fail> {
 #[test]
 fn rows_on_a_ground(rt: HostRuntime) -> Result<(), Fail> {
     let alloc = rt.alloc();
-    let mut conn = package(alloc, Connection::open_in_memory(alloc)?)?;
+    let mut conn = package(alloc, in_memory(alloc)?)?;
     fill(alloc, &mut conn)?;
     let ground = Ground {
         west: 100,
@@ -94,7 +94,7 @@ fn rows_on_a_ground(rt: HostRuntime) -> Result<(), Fail> {
 #[test]
 fn links_at_either_end(rt: HostRuntime) -> Result<(), Fail> {
     let alloc = rt.alloc();
-    let mut conn = package(alloc, Connection::open_in_memory(alloc)?)?;
+    let mut conn = package(alloc, in_memory(alloc)?)?;
     fill(alloc, &mut conn)?;
     let first = relation(Mapping::TilesMedia, 4, 10);
     let second = relation(Mapping::TilesMedia, 5, 10);

@@ -13,7 +13,7 @@ use sheet_types::receipt::{Moved, MovedKind, Receipt};
 use sqlite::{Alter, Connection, Transaction};
 use std::alloc::Global;
 use std::test::Fail;
-use test_values::{AT, Change, FRAME, at_rest, committed, new_package, text};
+use test_values::{AT, Change, FRAME, at_rest, committed, in_memory, new_package, text};
 use uuid::Uuid;
 
 // The loan of a medium, with its link to a tile.
@@ -92,12 +92,7 @@ fn is_named<S: Alter>(conn: &mut Connection<S>, identity: u128) -> Result<bool, 
 #[test]
 fn a_receipt_is_entered_and_names_its_items(rt: HostRuntime) -> Result<(), Fail> {
     let alloc = rt.alloc();
-    let mut conn = new_package(
-        alloc,
-        Connection::open_in_memory(alloc)?,
-        &FRAME,
-        &archive(),
-    )?;
+    let mut conn = new_package(alloc, in_memory(alloc)?, &FRAME, &archive())?;
     assert!(rt; !is_named(&mut conn, 2)?);
     assert!(rt; committed(&mut conn, &Entered(&loan(alloc)?))?);
     assert_eq!(rt;
@@ -147,12 +142,7 @@ fn has_kept<S: Alter>(
 #[test]
 fn a_receipt_is_kept_for_its_request(rt: HostRuntime) -> Result<(), Fail> {
     let alloc = rt.alloc();
-    let mut conn = new_package(
-        alloc,
-        Connection::open_in_memory(alloc)?,
-        &FRAME,
-        &archive(),
-    )?;
+    let mut conn = new_package(alloc, in_memory(alloc)?, &FRAME, &archive())?;
     let lent = loan(alloc)?;
     let back = give_back(alloc)?;
     assert!(rt; !has_kept(alloc, &mut conn, 9)?);
@@ -191,18 +181,8 @@ fn empty(alloc: Global, seq: u64, request: u128) -> Result<Receipt, Fault> {
 #[test]
 fn all_receipts_come_home(rt: HostRuntime) -> Result<(), Fail> {
     let alloc = rt.alloc();
-    let mut child = new_package(
-        alloc,
-        Connection::open_in_memory(alloc)?,
-        &FRAME,
-        &archive(),
-    )?;
-    let mut conn = new_package(
-        alloc,
-        Connection::open_in_memory(alloc)?,
-        &FRAME,
-        &archive(),
-    )?;
+    let mut child = new_package(alloc, in_memory(alloc)?, &FRAME, &archive())?;
+    let mut conn = new_package(alloc, in_memory(alloc)?, &FRAME, &archive())?;
     let own = give_back(alloc)?;
     let lent = loan(alloc)?;
     let first = empty(alloc, 0, 20)?;
@@ -251,12 +231,7 @@ fn is_lent<S: Alter>(conn: &mut Connection<S>, package: u128) -> Result<bool, Fa
 #[test]
 fn a_split_alone_lends(rt: HostRuntime) -> Result<(), Fail> {
     let alloc = rt.alloc();
-    let mut conn = new_package(
-        alloc,
-        Connection::open_in_memory(alloc)?,
-        &FRAME,
-        &archive(),
-    )?;
+    let mut conn = new_package(alloc, in_memory(alloc)?, &FRAME, &archive())?;
     let merge = of_line(
         alloc,
         2,

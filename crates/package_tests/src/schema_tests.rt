@@ -62,14 +62,6 @@ fn objects<S: Alter>(alloc: Global, conn: &mut Connection<S>) -> Result<String, 
 }
 
 #[test]
-fn a_schema_in_memory(rt: HostRuntime) -> Result<(), Fail> {
-    let mut conn = Connection::open_in_memory(rt.alloc())?;
-    assert!(rt; committed(&mut conn, &Tables)?);
-    assert_eq!(rt; objects(rt.alloc(), &mut conn)?.as_str(), OBJECTS);
-    Ok(())
-}
-
-#[test]
 fn a_schema_on_a_disk_is_there_when_it_is_opened_again(rt: HostRuntime) -> Result<(), Fail> {
     let alloc = rt.alloc();
     let mut conn = open(alloc, Memory::new(alloc))?;

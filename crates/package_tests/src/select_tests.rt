@@ -2,16 +2,15 @@
 // y from 2048 to 4096.
 
 use crate::fillings::{
-    CORNER, cut, id, package, put_link, put_medium, put_row, put_tile, refuses, relation, takes,
-    without_indexes,
+    id, package, put_link, put_medium, put_row, put_tile, refuses, relation, takes, without_indexes,
 };
 use package_tables::fault::Fault;
 use sheet_types::command::{Mapping, Mode};
-use sheet_types::frame::Rect;
 use sheet_types::refusal::Refusal;
 use sqlite::{Alter, Connection};
 use std::alloc::Global;
 use std::test::Fail;
+use test_values::in_memory;
 
 fn fill_zooms<S: Alter>(alloc: Global, conn: &mut Connection<S>) -> Result<(), Fault> {
     put_tile(alloc, conn, 1, [0, 0, 0])?;
@@ -66,7 +65,7 @@ fn fill_row_of_tile<S: Alter>(alloc: Global, conn: &mut Connection<S>) -> Result
 #[test]
 fn cut_over_zooms(rt: HostRuntime) -> Result<(), Fail> {
     let alloc = rt.alloc();
-    let mut conn = package(alloc, Connection::open_in_memory(alloc)?)?;
+    let mut conn = package(alloc, in_memory(alloc)?)?;
     fill_zooms(alloc, &mut conn)?;
     let inside = [id(2), id(3), id(4), id(5), id(6)];
     assert!(rt; takes(alloc, &mut conn, Mode::Strict, &inside, &[])?);
@@ -78,38 +77,16 @@ fn cut_over_zooms(rt: HostRuntime) -> Result<(), Fail> {
 #[test]
 fn points_on_edges(rt: HostRuntime) -> Result<(), Fail> {
     let alloc = rt.alloc();
-    let mut conn = package(alloc, Connection::open_in_memory(alloc)?)?;
+    let mut conn = package(alloc, in_memory(alloc)?)?;
     fill_points(alloc, &mut conn)?;
     assert!(rt; takes(alloc, &mut conn, Mode::Strict, &[id(1), id(2)], &[])?);
     Ok(())
 }
 
 #[test]
-fn nothing_to_lend_and_bad_rectangles(rt: HostRuntime) -> Result<(), Fail> {
-    let alloc = rt.alloc();
-    let mut conn = package(alloc, Connection::open_in_memory(alloc)?)?;
-    put_tile(alloc, &mut conn, 1, [1, 1, 1])?;
-    assert!(rt; refuses(alloc, &mut conn, Mode::Strict, Refusal::NothingToLend)?);
-    assert!(rt; refuses(alloc, &mut conn, Mode::Follow, Refusal::NothingToLend)?);
-    let beside = Rect {
-        column: 2,
-        last_column: 2,
-        ..CORNER
-    };
-    assert!(rt; cut(alloc, &mut conn, &beside, Mode::Strict)?.is_none());
-    let turned = Rect {
-        column: 1,
-        last_column: 0,
-        ..CORNER
-    };
-    assert!(rt; cut(alloc, &mut conn, &turned, Mode::Strict)?.is_none());
-    Ok(())
-}
-
-#[test]
 fn shared_medium(rt: HostRuntime) -> Result<(), Fail> {
     let alloc = rt.alloc();
-    let mut conn = package(alloc, Connection::open_in_memory(alloc)?)?;
+    let mut conn = package(alloc, in_memory(alloc)?)?;
     fill_shared_medium(alloc, &mut conn)?;
     let items = [id(1), id(2), id(3)];
     let links = [
@@ -127,7 +104,7 @@ fn shared_medium(rt: HostRuntime) -> Result<(), Fail> {
 #[test]
 fn follow_two_rounds(rt: HostRuntime) -> Result<(), Fail> {
     let alloc = rt.alloc();
-    let mut conn = package(alloc, Connection::open_in_memory(alloc)?)?;
+    let mut conn = package(alloc, in_memory(alloc)?)?;
     fill_two_rounds(alloc, &mut conn)?;
     let items = [id(1), id(2), id(3), id(4)];
     let links = [
@@ -144,7 +121,7 @@ fn follow_two_rounds(rt: HostRuntime) -> Result<(), Fail> {
 #[test]
 fn row_related_to_a_tile(rt: HostRuntime) -> Result<(), Fail> {
     let alloc = rt.alloc();
-    let mut conn = package(alloc, Connection::open_in_memory(alloc)?)?;
+    let mut conn = package(alloc, in_memory(alloc)?)?;
     fill_row_of_tile(alloc, &mut conn)?;
     let links = [relation(Mapping::RowsTiles, 1, 2)];
     assert!(rt; refuses(alloc, &mut conn, Mode::Strict, Refusal::CutLink(id(1)))?);

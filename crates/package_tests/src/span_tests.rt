@@ -8,6 +8,7 @@ use sheet_types::frame::Rect;
 use sqlite::{Alter, Connection};
 use std::alloc::Global;
 use std::test::Fail;
+use test_values::in_memory;
 use uuid::Uuid;
 
 // A tile at each place of a zoom, by columns, numbered from the first.
@@ -67,7 +68,7 @@ fn takes_tiles<S: Alter>(
 #[test]
 fn spans_of_a_full_matrix(rt: HostRuntime) -> Result<(), Fail> {
     let alloc = rt.alloc();
-    let mut conn = package(alloc, Connection::open_in_memory(alloc)?)?;
+    let mut conn = package(alloc, in_memory(alloc)?)?;
     fill_matrix(alloc, &mut conn)?;
     assert!(rt; takes_tiles(alloc, &mut conn, &CORNER, &[2, 6, 7, 10, 11])?);
     let east = [4, 5, 10, 11, 12, 13, 14, 15, 16, 17, 18, 19, 20, 21];

@@ -5,11 +5,11 @@ use package_tables::fault::Fault;
 use package_tables::moved::insert_moved;
 use package_tables::receipts::insert_receipt;
 use sheet_types::receipt::{Moved, MovedKind, Receipt};
-use sqlite::{Alter, Connection, Transaction};
+use sqlite::{Alter, Transaction};
 use std::alloc::Global;
 use std::test::Fail;
 use stored_receipts::{are_in_range, receipts};
-use test_values::{AT, Change, FRAME, at_rest, committed, new_package};
+use test_values::{AT, Change, FRAME, at_rest, committed, in_memory, new_package};
 use uuid::Uuid;
 
 const TILE: &str = "00000000-0000-0000-0000-000000000006";
@@ -74,7 +74,7 @@ const GOOD: OneThing = OneThing {
 };
 
 fn is_in_range(alloc: Global, rows: OneThing) -> Result<bool, Fault> {
-    let conn = Connection::open_in_memory(alloc)?;
+    let conn = in_memory(alloc)?;
     let mut conn = new_package(alloc, conn, &FRAME, &archive())?;
     committed(&mut conn, &rows)?;
     at_rest(&conn)?;
@@ -82,7 +82,7 @@ fn is_in_range(alloc: Global, rows: OneThing) -> Result<bool, Fault> {
 }
 
 fn stored(alloc: Global) -> Result<Option<Vec<Receipt>>, Fault> {
-    let conn = Connection::open_in_memory(alloc)?;
+    let conn = in_memory(alloc)?;
     let mut conn = new_package(alloc, conn, &FRAME, &archive())?;
     committed(&mut conn, &TwoReceipts)?;
     at_rest(&conn)?;

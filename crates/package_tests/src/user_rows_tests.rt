@@ -1,7 +1,6 @@
 // What the statements on the user tables, the mapping tables and the identities do to a package in memory. The expected
 // rows are what stock SQLite 3.40.1 answers after the same statements.
 
-use crate::steps::Tables;
 use crate::tables::{attributes, found, identities, media, pairs, tiles};
 use package_tables::attributes::{
     attribute_by_id, delete_attribute, greatest_attribute_id, insert_attribute,
@@ -11,9 +10,7 @@ use package_tables::identities::{
     delete_identity, identity_by_key_inside, identity_by_uuid, identity_by_uuid_inside,
     insert_identity,
 };
-use package_tables::mappings::{
-    delete_pair, insert_pair, pair_of_base, pair_of_ends, pair_of_related,
-};
+use package_tables::mappings::{delete_pair, insert_pair, pair_of_base, pair_of_ends};
 use package_tables::media::{delete_medium, greatest_medium_id, insert_medium, medium_by_id};
 use package_tables::schema::create_schema;
 use package_tables::tiles::{delete_tile, greatest_tile_id, insert_tile, tile_at, tile_by_id};
@@ -21,7 +18,7 @@ use sheet_types::command::Mapping;
 use sqlite::{Alter, Connection, Transaction};
 use std::alloc::Global;
 use std::test::Fail;
-use test_values::{Change, at_rest, committed};
+use test_values::{Change, at_rest, committed, in_memory};
 
 const OF_TILES: Mapping = Mapping::TilesMedia;
 
@@ -201,16 +198,6 @@ fn told_pair_of_base<S: Alter>(
     found(alloc, &pair_of_base(conn, mapping, base_id)?)
 }
 
-fn told_pair_of_related<S: Alter>(
-    alloc: Global,
-    conn: &mut Connection<S>,
-    mapping: Mapping,
-    related_id: i64,
-) -> Result<String, Fault> {
-    at_rest(conn)?;
-    found(alloc, &pair_of_related(conn, mapping, related_id)?)
-}
-
 fn told_identity_by_uuid<S: Alter>(
     alloc: Global,
     conn: &mut Connection<S>,
@@ -275,7 +262,7 @@ fn told_identities_inside<S: Alter>(
 #[test]
 fn user_rows_are_found(rt: HostRuntime) -> Result<(), Fail> {
     let a = rt.alloc();
-    let mut conn = Connection::open_in_memory(a)?;
+    let mut conn = in_memory(a)?;
     let conn = &mut conn;
     assert!(rt; committed(conn, &Filled)?);
     assert_eq!(rt; told_tile_by_id(a, conn, 7)?.as_str(), "7 2 3 1 2");
@@ -298,31 +285,9 @@ fn user_rows_are_found(rt: HostRuntime) -> Result<(), Fail> {
 }
 
 #[test]
-fn relations_are_found(rt: HostRuntime) -> Result<(), Fail> {
-    let a = rt.alloc();
-    let mut conn = Connection::open_in_memory(a)?;
-    let conn = &mut conn;
-    assert!(rt; committed(conn, &Filled)?);
-    assert_eq!(rt; told_pair_of_ends(a, conn, OF_TILES, 7, 4)?.as_str(), "7 4");
-    assert_eq!(rt; told_pair_of_ends(a, conn, OF_TILES, 7, 5)?.as_str(), "-");
-    assert_eq!(rt; told_pair_of_ends(a, conn, OF_TILES, 4, 7)?.as_str(), "-");
-    assert_eq!(rt; told_pair_of_base(a, conn, OF_TILES, 9)?.as_str(), "9 5");
-    assert_eq!(rt; told_pair_of_related(a, conn, OF_TILES, 4)?.as_str(), "7 4");
-    assert_eq!(rt; told_pair_of_related(a, conn, OF_TILES, 5)?.as_str(), "9 5");
-    assert_eq!(rt; told_pair_of_related(a, conn, OF_TILES, 9)?.as_str(), "-");
-    assert_eq!(rt; pairs(a, conn, OF_TILES)?.as_str(), "7 4;9 5;");
-    assert_eq!(rt; told_pair_of_ends(a, conn, OF_ROWS, 2, 5)?.as_str(), "2 5");
-    assert_eq!(rt; told_pair_of_ends(a, conn, OF_ROWS, 5, 2)?.as_str(), "-");
-    assert_eq!(rt; told_pair_of_base(a, conn, OF_ROWS, 3)?.as_str(), "3 4");
-    assert_eq!(rt; told_pair_of_related(a, conn, OF_ROWS, 5)?.as_str(), "2 5");
-    assert_eq!(rt; pairs(a, conn, OF_ROWS)?.as_str(), "2 5;3 4;");
-    Ok(())
-}
-
-#[test]
 fn identities_are_found(rt: HostRuntime) -> Result<(), Fail> {
     let a = rt.alloc();
-    let mut conn = Connection::open_in_memory(a)?;
+    let mut conn = in_memory(a)?;
     let conn = &mut conn;
     assert!(rt; committed(conn, &Filled)?);
     let first = "1 7 00000000-0000-4000-8000-000000000001";
@@ -345,7 +310,7 @@ fn identities_are_found(rt: HostRuntime) -> Result<(), Fail> {
 #[test]
 fn one_row_of_each_table_goes(rt: HostRuntime) -> Result<(), Fail> {
     let a = rt.alloc();
-    let mut conn = Connection::open_in_memory(a)?;
+    let mut conn = in_memory(a)?;
     let conn = &mut conn;
     assert!(rt; committed(conn, &Filled)?);
     assert_eq!(rt; told_numbers(a, conn)?.as_str(), "9 5 3");
@@ -366,7 +331,7 @@ fn one_row_of_each_table_goes(rt: HostRuntime) -> Result<(), Fail> {
 #[test]
 fn the_least_and_the_greatest_rows_are_found(rt: HostRuntime) -> Result<(), Fail> {
     let a = rt.alloc();
-    let mut conn = Connection::open_in_memory(a)?;
+    let mut conn = in_memory(a)?;
     let conn = &mut conn;
     assert!(rt; committed(conn, &FilledToTheEnds)?);
     assert_eq!(rt; told_tile_by_id(a, conn, -1)?.as_str(), "-");
@@ -402,25 +367,5 @@ fn the_least_and_the_greatest_rows_are_found(rt: HostRuntime) -> Result<(), Fail
         told_numbers(a, conn)?.as_str(),
         "9223372036854775807 0 9223372036854775807"
     );
-    Ok(())
-}
-
-#[test]
-fn tables_without_rows_are_read(rt: HostRuntime) -> Result<(), Fail> {
-    let a = rt.alloc();
-    let mut conn = Connection::open_in_memory(a)?;
-    let conn = &mut conn;
-    assert!(rt; committed(conn, &Tables)?);
-    assert_eq!(rt; tiles(a, conn)?.as_str(), "");
-    assert_eq!(rt; media(a, conn)?.as_str(), "");
-    assert_eq!(rt; attributes(a, conn)?.as_str(), "");
-    assert_eq!(rt; pairs(a, conn, OF_TILES)?.as_str(), "");
-    assert_eq!(rt; pairs(a, conn, OF_ROWS)?.as_str(), "");
-    assert_eq!(rt; identities(a, conn)?.as_str(), "");
-    assert_eq!(rt; told_tile_by_id(a, conn, 7)?.as_str(), "-");
-    assert_eq!(rt; told_tile_at(a, conn, 2, 3, 1)?.as_str(), "-");
-    assert_eq!(rt; told_medium_by_id(a, conn, 5)?.as_str(), "-");
-    assert_eq!(rt; told_attribute_by_id(a, conn, 3)?.as_str(), "-");
-    assert_eq!(rt; told_numbers(a, conn)?.as_str(), "-1 -1 -1");
     Ok(())
 }

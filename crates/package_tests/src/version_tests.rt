@@ -10,7 +10,7 @@ use package_tables::rows::RelationRow;
 use sqlite::{Alter, Connection};
 use std::alloc::Global;
 use std::test::Fail;
-use test_values::{AT, committed};
+use test_values::{AT, altered, committed};
 use uuid::Uuid;
 
 fn is_third(row: Option<&RelationRow>) -> bool {
@@ -80,11 +80,11 @@ fn a_store_that_cannot_be_brought_stays(rt: HostRuntime) -> Result<(), Fail> {
     assert!(rt; is_at(a, conn, 2, 3)?);
     // the name of the index is taken, and the table that was made before goes again
     back(conn)?;
-    conn.execute("CREATE TABLE by_rows_tiles (x INTEGER) STRICT", &[])?;
+    altered(conn, "CREATE TABLE by_rows_tiles (x INTEGER) STRICT")?;
     assert!(rt; !are_free(conn.schema()));
     assert!(rt; brought(conn) == Err(Fault::StoreFault));
     assert!(rt; is_at(a, conn, 1, 2)?);
-    conn.execute("DROP TABLE by_rows_tiles", &[])?;
+    altered(conn, "DROP TABLE by_rows_tiles")?;
     assert!(rt; are_free(conn.schema()));
     brought(conn)?;
     assert!(rt; is_at(a, conn, 2, 3)?);

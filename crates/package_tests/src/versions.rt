@@ -17,7 +17,7 @@ use package_tables::tiles::insert_tile;
 use sheet_types::command::{Item, Mapping, Relation};
 use sqlite::{Alter, Connection, MemStore, Transaction};
 use std::alloc::Global;
-use test_values::{AT, Change, at_rest, committed, empty_package};
+use test_values::{AT, Change, at_rest, committed, empty_package, in_memory};
 use uuid::Uuid;
 
 const TILE: &str = "00000000-0000-0000-0000-000000000001";
@@ -87,7 +87,7 @@ impl<S: Alter> Change<S> for Linked {
 
 /// A package of the second version with a tile, a medium, a row, two links and a receipt.
 pub(crate) fn full_store(alloc: Global) -> Result<Connection<MemStore>, Fault> {
-    let conn = Connection::open_in_memory(alloc)?;
+    let conn = in_memory(alloc)?;
     let mut conn = empty_package(alloc, conn, Uuid::from_u128(99), AT)?;
     if committed(&mut conn, &Filled)? && committed(&mut conn, &Received)? {
         Ok(conn)

@@ -4,3 +4,4 @@
 pub mod recovering;
 mod sharing;
 mod surveying;
+pub mod watching;

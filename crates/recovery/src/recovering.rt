@@ -12,6 +12,7 @@ ghost use Rattle.recovery.specs.Recovered.{archive_seen, AreJudged, IsFaultAt, I
 
 use crate::sharing::{Shares, room_for, share_out};
 use crate::surveying::{are_at_rest, survey_all};
+use crate::watching::Watcher;
 use matrix_rules::check::FrameRules;
 use opening::faults::RecoverFault;
 use package_tables::fault::Fault;
@@ -111,9 +112,10 @@ fn judge_seen(alloc: Global, seen: Vec<StoreSeen>) -> Result<Judged, RecoverFaul
 }
 
 // All stores looked at, and judged. They are only read.
-fn judge_stores<S: Alter + Drop>(
+fn judge_stores<S: Alter + Drop, W: Watcher>(
     alloc: Global,
     stores: &mut Vec<Connection<S>>,
+    watcher: &mut W,
 ) -> Result<Judged, RecoverFault>
     requires rests { AreAtRest S.Store stores.old.items }
     requires keyed { AreAllKeyed S.Store stores.old.items }
@@ -124,7 +126,7 @@ fn judge_stores<S: Alter + Drop>(
     ensures low { IfOk result (λ judged. judged.verdict.count ≤ greatest_receipts) }
     ensures fault { IfErr result (λ fault. AreClean S.Store stores.new.items → IsFaultAt S.Store stores.new.items fault) }
 {
-    match survey_all(stores, alloc) {
+    match survey_all(stores, alloc, watcher) {
         Ok(seen) => judge_seen(alloc, seen),
         Err(fault) => Err(fault_of(fault)),
     }
@@ -179,14 +181,15 @@ fn opened<S: Alter + Drop>(
     Recovered { world, strays }
 }
 
-/// Opens the world that stores stand for, whatever they are and in whatever order: the live ones become its members, the others are handed out beside it. Each was just opened, so that its tables are in the order of their rowids.
+/// Opens the world that stores stand for, whatever they are and in whatever order: the live ones become its members, the others are handed out beside it. Each was just opened, so that its tables are in the order of their rowids. The watcher is told how many of them were looked at.
 ///
 /// # Errors
 ///
 /// The first of the nine faults whose condition holds, with its least package or identity; or want of memory, or a store that failed. All stores are handed back, only read.
-pub fn recover<S: Alter + Drop>(
+pub fn recover<S: Alter + Drop, W: Watcher>(
     alloc: Global,
     stores: Vec<Connection<S>>,
+    watcher: &mut W,
 ) -> Result<Recovered<S>, Unopened<S>>
     requires keyed { AreAllKeyed S.Store stores.items }
     ensures stands { IfOk result (IsRecovered S.Store stores.items) }
@@ -197,7 +200,7 @@ pub fn recover<S: Alter + Drop>(
         let fault = RecoverFault::StoreFault;
         return Err(Unopened { fault, stores });
     }
-    let judged = match judge_stores(alloc, &mut stores) {
+    let judged = match judge_stores(alloc, &mut stores, watcher) {
         Ok(judged) => judged,
         Err(fault) => return Err(Unopened { fault, stores }),
     };

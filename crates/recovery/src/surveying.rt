@@ -3,6 +3,7 @@ ghost use Rattle.std.specs.Prelude.{◌<◌, ◌↔◌, length, IfOk, IsTrue};
 ghost use Rattle.world.specs.Leaving.{AreAtRest};
 ghost use Rattle.recovery.specs.Stores.{AreOnlyRead, AreSurveyed, LooksAtOne};
 
+use crate::watching::Watcher;
 use package_tables::fault::Fault;
 use sql_meaning::resting::is_at_rest;
 use sqlite::{Alter, Connection};
@@ -41,19 +42,23 @@ fn survey_at<S: Alter + Drop>(
 /// # Errors
 ///
 /// Want of memory, or a store that failed.
-pub(crate) fn survey_all<S: Alter + Drop>(
+pub(crate) fn survey_all<S: Alter + Drop, W: Watcher>(
     stores: &mut Vec<Connection<S>>,
     alloc: Global,
+    watcher: &mut W,
 ) -> Result<Vec<StoreSeen>, Fault>
     requires { AreAtRest S.Store stores.old.items }
     ensures read { AreOnlyRead S.Store stores.old.items stores.new.items }
     ensures rests { AreAtRest S.Store stores.new.items }
     ensures seen { IfOk result (λ seen. AreSurveyed S.Store stores.old.items stores.new.items seen.items) }
 {
+    let count = stores.len();
     let mut all = Vec::new(alloc);
-    for at in 0..stores.len() {
+    for at in 0..count {
+        watcher.looked_at(at, count);
         let seen = survey_at(stores, at, alloc)?;
         all.push(seen)?;
     }
+    watcher.looked_at(count, count);
     Ok(all)
 }

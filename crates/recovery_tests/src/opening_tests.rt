@@ -2,14 +2,15 @@
 use crate::stores::{InFile, InFiles, accepted, blank, item, lend, lent, package, reopened};
 use opening::faults::RecoverFault;
 use recovery::recovering::recover;
+use recovery::watching::Unwatched;
 use sheet_types::command::Command;
 use std::alloc::Global;
 use std::test::Fail;
-use test_values::sums;
+use test_values::{altered, sums};
 
 // What stores come to.
 fn opened(alloc: Global, stores: Vec<InFile>) -> Result<(InFiles, usize), Fail> {
-    let Ok(found) = recover(alloc, reopened(alloc, stores)?) else {
+    let Ok(found) = recover(alloc, reopened(alloc, stores)?, &mut Unwatched) else {
         return Err(Fail::new("a fault"));
     };
     let strays = found.strays.len();
@@ -19,7 +20,7 @@ fn opened(alloc: Global, stores: Vec<InFile>) -> Result<(InFiles, usize), Fail> 
 // Whether they come to this fault, all handed back.
 fn comes_to(alloc: Global, stores: Vec<InFile>, wanted: RecoverFault) -> Result<bool, Fail> {
     let count = stores.len();
-    let Err(refused) = recover(alloc, reopened(alloc, stores)?) else {
+    let Err(refused) = recover(alloc, reopened(alloc, stores)?, &mut Unwatched) else {
         return Ok(false);
     };
     Ok(refused.fault == wanted && refused.stores.len() == count)
@@ -33,8 +34,8 @@ fn comes_to_after(
     wanted: RecoverFault,
 ) -> Result<bool, Fail> {
     let (mut archive, mut loan) = lent(alloc)?;
-    archive.execute_batch(on_archive)?;
-    loan.execute_batch(on_loan)?;
+    altered(&mut archive, on_archive)?;
+    altered(&mut loan, on_loan)?;
     comes_to(alloc, vec![in alloc; loan, archive]?, wanted)
 }
 

@@ -6,7 +6,8 @@ ghost use Rattle.sql_meaning.specs.Transactions.{Rests};
 use package_tables::fault::Fault;
 use package_tables::package::begin;
 use sql_meaning::resting::is_at_rest;
-use sqlite::{Alter, Connection, Transaction};
+use sqlite::{Alter, Connection, MemStore, Transaction};
+use std::alloc::Global;
 
 /// A change of a package, inside a transaction.
 pub trait Change<S: Alter> {
@@ -36,4 +37,15 @@ pub fn at_rest<S: Alter>(conn: &Connection<S>) -> Result<(), Fault>
     } else {
         Err(Fault::StoreFault)
     }
+}
+
+/// A store in memory with nothing in it. It has no clause, and neither has `altered`, so that the proof of a test does not carry what the engine promises of each call.
+pub fn in_memory(alloc: Global) -> Result<Connection<MemStore>, Fault> {
+    Ok(Connection::open_in_memory(alloc)?)
+}
+
+/// Carries statements out.
+pub fn altered<S: Alter>(conn: &mut Connection<S>, statements: &str) -> Result<(), Fault> {
+    conn.execute_batch(statements)?;
+    Ok(())
 }

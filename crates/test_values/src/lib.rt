@@ -10,7 +10,7 @@ mod requests;
 mod streams;
 mod values;
 
-pub use crate::changes::{Change, at_rest, committed};
+pub use crate::changes::{Change, altered, at_rest, committed, in_memory};
 pub use crate::contents::{medium_content, row_content, tile_content};
 pub use crate::lists::{
     FIRST_TILE, HEADER, MANIFEST_OF_THE_FIRST, NO_REQUEST, SEVENTEEN, list, list_ended,

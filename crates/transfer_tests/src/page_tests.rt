@@ -6,7 +6,7 @@ use package_tables::fault::Fault;
 use sqlite::{Alter, Connection};
 use std::alloc::Global;
 use std::test::Fail;
-use test_values::committed;
+use test_values::{committed, in_memory};
 use uuid::Uuid;
 
 fn tiles_up_to(alloc: Global, count: u16) -> Result<Selection, Fault> {
@@ -31,8 +31,8 @@ fn count<S: Alter>(alloc: Global, conn: &mut Connection<S>) -> Result<usize, Fau
 
 // Where the first page of so many tiles ends.
 fn first_page(alloc: Global, tiles: u16) -> Result<(usize, usize), Fault> {
-    let mut source = Connection::open_in_memory(alloc)?;
-    let mut target = Connection::open_in_memory(alloc)?;
+    let mut source = in_memory(alloc)?;
+    let mut target = in_memory(alloc)?;
     if !committed(&mut source, &Tables)? || !committed(&mut target, &Tables)? {
         return Err(Fault::StoreFault);
     }
@@ -57,8 +57,8 @@ fn a_page_is_256_things_or_all_that_are_left(rt: HostRuntime) -> Result<(), Fail
 #[test]
 fn the_second_page_has_one_tile(rt: HostRuntime) -> Result<(), Fail> {
     let a = rt.alloc();
-    let mut source = Connection::open_in_memory(a)?;
-    let mut target = Connection::open_in_memory(a)?;
+    let mut source = in_memory(a)?;
+    let mut target = in_memory(a)?;
     assert!(rt; committed(&mut source, &Tables)? && committed(&mut target, &Tables)?);
     assert!(rt; committed(&mut source, &Tiles(a, 257))?);
     let selection = tiles_up_to(a, 257)?;
@@ -75,8 +75,8 @@ fn the_second_page_has_one_tile(rt: HostRuntime) -> Result<(), Fail> {
 #[test]
 fn pages_make_a_whole(rt: HostRuntime) -> Result<(), Fail> {
     let a = rt.alloc();
-    let mut source = Connection::open_in_memory(a)?;
-    let mut target = Connection::open_in_memory(a)?;
+    let mut source = in_memory(a)?;
+    let mut target = in_memory(a)?;
     assert!(rt; committed(&mut source, &Tables)? && committed(&mut target, &Tables)?);
     assert!(rt; committed(&mut source, &Tiles(a, 513))?);
     let selection = tiles_up_to(a, 513)?;

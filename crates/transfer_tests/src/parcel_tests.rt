@@ -6,10 +6,9 @@ use crate::moves::{
 use identity_register::selection::Selection;
 use package_tables::fault::Fault;
 use sheet_types::command::{Item, Mapping, Relation};
-use sqlite::Connection;
 use std::alloc::Global;
 use std::test::Fail;
-use test_values::{committed, medium_content, row_content, tile_content};
+use test_values::{committed, in_memory, medium_content, row_content, tile_content};
 use uuid::Uuid;
 
 fn id(number: u128) -> Uuid {
@@ -95,8 +94,8 @@ fn are_of_all_kinds(links: &[Relation]) -> bool {
 #[test]
 fn all_comes_there_and_back(rt: HostRuntime) -> Result<(), Fail> {
     let a = rt.alloc();
-    let mut home = Connection::open_in_memory(a)?;
-    let mut away = Connection::open_in_memory(a)?;
+    let mut home = in_memory(a)?;
+    let mut away = in_memory(a)?;
     assert!(rt; committed(&mut home, &Tables)? && committed(&mut away, &Tables)?);
     let items = items_of_all_kinds(a)?;
     assert!(rt; committed(&mut away, &Tiles(a, 3))?);
@@ -131,8 +130,8 @@ fn all_comes_there_and_back(rt: HostRuntime) -> Result<(), Fail> {
 #[test]
 fn the_last_number_is_taken(rt: HostRuntime) -> Result<(), Fail> {
     let a = rt.alloc();
-    let mut source = Connection::open_in_memory(a)?;
-    let mut target = Connection::open_in_memory(a)?;
+    let mut source = in_memory(a)?;
+    let mut target = in_memory(a)?;
     assert!(rt; committed(&mut source, &Tables)? && committed(&mut target, &Tables)?);
     assert!(rt; committed(&mut target, &LastNumber)?);
     assert!(rt;
@@ -150,9 +149,9 @@ fn the_last_number_is_taken(rt: HostRuntime) -> Result<(), Fail> {
 #[test]
 fn both_ways_put_the_same(rt: HostRuntime) -> Result<(), Fail> {
     let a = rt.alloc();
-    let mut source = Connection::open_in_memory(a)?;
-    let mut one = Connection::open_in_memory(a)?;
-    let mut other = Connection::open_in_memory(a)?;
+    let mut source = in_memory(a)?;
+    let mut one = in_memory(a)?;
+    let mut other = in_memory(a)?;
     assert!(rt;
         committed(&mut source, &Tables)?
             && committed(&mut one, &Tables)?
@@ -179,7 +178,7 @@ fn both_ways_put_the_same(rt: HostRuntime) -> Result<(), Fail> {
 #[test]
 fn what_is_not_taken_stays(rt: HostRuntime) -> Result<(), Fail> {
     let a = rt.alloc();
-    let mut conn = Connection::open_in_memory(a)?;
+    let mut conn = in_memory(a)?;
     assert!(rt; committed(&mut conn, &Tables)? && committed(&mut conn, &Tiles(a, 3))?);
     assert!(rt;
         committed(&mut conn, &Items(&items(a)?))? && committed(&mut conn, &Links(&crosswise()))?

@@ -1,7 +1,7 @@
 -- How a call that looks at a folder ends: its exit status, and the lines that it prints before (profile).
 use Rattle.std.specs.Prelude.{ℕ, List, [], codes, Option, None}
 use Rattle.command_words.specs.Endings.{line_of}
-use Rattle.commands.specs.Endings.{ending_status as usual_status, output_text as usual_output, error_text as usual_error, busy_package as usual_package}
+use Rattle.folder_worlds.specs.Endings.{ending_status as usual_status, output_text as usual_output, error_text as usual_error, busy_package as usual_package}
 use Rattle.views.specs.declared.endings.Ending.{Ending}
 use Rattle.views.specs.declared.endings.Ending.TheVariants.{Usual, NoSuchRequest, NoSuchIdentity}
 

@@ -6,9 +6,9 @@ use Rattle.package_tables.specs.declared.fault.Fault.{Fault}
 use Rattle.world.specs.Worlds.{IsRead, Seen, TellsOf}
 use Rattle.world_views.specs.Looks.{LooksInto}
 use Rattle.world_views.specs.Told.{receipt_line, status_text, way_answer}
-use Rattle.commands.specs.Folders.{IsFolderWorld}
-use Rattle.commands.specs.declared.endings.Ending.TheVariants.{Unopened}
-use Rattle.commands.specs.declared.endings.OpenFault.{OpenFault}
+use Rattle.folder_worlds.specs.Folders.{IsFolderWorld}
+use Rattle.folder_worlds.specs.declared.endings.Ending.TheVariants.{Unopened}
+use Rattle.folder_worlds.specs.declared.endings.OpenFault.{OpenFault}
 use Rattle.views.specs.Showing.{Shows, ShowsText}
 use Rattle.views.specs.declared.endings.Ending.{Ending}
 use Rattle.views.specs.declared.endings.Ending.TheVariants.{Usual, NoSuchRequest, NoSuchIdentity}

@@ -2,7 +2,7 @@
 ghost use Rattle.std.specs.Prelude.{◌≡◌};
 ghost use Rattle.views.specs.Endings.{busy_package, ending_status, error_text, output_text};
 
-use commands::endings::{
+use folder_worlds::endings::{
     Ending as CommandEnding, busy_package as usual_package, error_of as usual_error,
     output_of as usual_output, status_of as usual_status,
 };

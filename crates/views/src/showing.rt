@@ -4,7 +4,7 @@ ghost use Rattle.views.specs.Showing.{PrintsAll, Shows, ShowsText, stopped, told
 
 use crate::endings::Ending;
 use command_words::statuses::{Failure, Outcome};
-use commands::endings::{DONE, Ending as CommandEnding, FAILED};
+use folder_worlds::endings::{DONE, Ending as CommandEnding, FAILED};
 use manifest_csv::sending::send;
 use package_tables::fault::Fault;
 use std::io::Write;

@@ -5,10 +5,10 @@ ghost use Rattle.views.specs.Views.{OpensThen, ShowsStatus};
 
 use crate::endings::Ending;
 use crate::showing::show;
-use commands::endings::Ending as CommandEnding;
-use commands::folders::open_folder;
 use folder::opening::close_stores;
 use folder::start::FolderStore;
+use folder_worlds::endings::Ending as CommandEnding;
+use folder_worlds::folders::open_folder;
 use sqlite::{Alter, Connection};
 use sqlite_trees::store::Store;
 use std::alloc::Global;

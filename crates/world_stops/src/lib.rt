@@ -6,6 +6,12 @@ mod allocation_tests;
 #[cfg(test)]
 mod fitting;
 #[cfg(test)]
+mod fuses;
+#[cfg(test)]
+mod loan_runs;
+#[cfg(test)]
+mod loan_stop_tests;
+#[cfg(test)]
 mod pictures;
 #[cfg(test)]
 mod requests;

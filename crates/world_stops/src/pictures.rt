@@ -2,6 +2,7 @@
 use custody::keeping::kept;
 use identity_register::whole::holdings;
 use package_tables::fault::Fault;
+use package_tables::head::all_heads;
 use sheet_types::command::{Item, Relation};
 use sheet_types::fingerprints::spell;
 use sheet_types::receipt::{Moved, Receipt};
@@ -9,7 +10,7 @@ use sheet_types::refusal::Refusal;
 use sqlite::types::ValueRef;
 use sqlite::{Alter, Connection, Row};
 use std::alloc::Global;
-use test_values::archive;
+use test_values::{archive, at_rest};
 use uuid::Uuid;
 use world::world::World;
 
@@ -211,4 +212,59 @@ pub fn seen<S: Alter + Drop>(
     };
     let receipt = world.receipt(alloc, id)?;
     held_text(alloc, &items, &links, &receipt)
+}
+
+/// A store of a world with loans: its package, the items in it, and what it reads as, for the receipt of a request.
+#[derive(Drop)]
+pub struct StorePicture {
+    pub package: String,
+    pub items: Vec<Uuid>,
+    pub text: String,
+}
+
+/// What a store of a world with loans reads as.
+pub fn read_store<S: Alter>(
+    alloc: Global,
+    conn: &mut Connection<S>,
+    id: Uuid,
+) -> Result<StorePicture, Fault> {
+    at_rest(conn)?;
+    let mut package = String::new(alloc);
+    for head in &all_heads(conn, alloc)? {
+        package.push_str(head.package.as_str())?;
+    }
+    at_rest(conn)?;
+    let (items, links) = holdings(conn, alloc)?;
+    let receipt = kept(conn, alloc, id)?;
+    let mut text = held_text(alloc, &items, &links, &receipt)?;
+    text.push_str(&table_text(alloc, conn)?)?;
+    let mut identities = Vec::new(alloc);
+    for item in &items {
+        identities.push(item.identity)?;
+    }
+    Ok(StorePicture {
+        package,
+        items: identities,
+        text,
+    })
+}
+
+/// What a world with loans itself reads as: each live package with its parent and its ticket, what it holds, and the receipt of a request.
+pub fn seen_in_all<S: Alter + Drop>(
+    alloc: Global,
+    world: &mut World<S>,
+    id: Uuid,
+) -> Result<String, Fault> {
+    let mut text = String::new(alloc);
+    let receipt = world.receipt(alloc, id)?;
+    for sight in world.packages(alloc)?.as_slice() {
+        write_identity(&mut text, Some(sight.uuid))?;
+        write_identity(&mut text, sight.parent)?;
+        write_number(&mut text, alloc, sight.ticket)?;
+        let Some((items, links)) = world.holdings(alloc, sight.uuid)? else {
+            return Err(Fault::StoreFault);
+        };
+        text.push_str(&held_text(alloc, &items, &links, &receipt)?)?;
+    }
+    Ok(text)
 }

@@ -1,31 +1,22 @@
 // One request in a world, over two files of which one may stop, with what a crash leaves then, or in memory.
-ghost use Rattle.std.specs.Prelude.{◌≡◌, [], IsTrue, IfOk};
+ghost use Rattle.std.specs.Prelude.{◌≡◌, [], IsTrue};
 ghost use Rattle.sqlite.specs.Held.{state};
 ghost use Rattle.sqlite.specs.State.{HasCleanDisk};
 ghost use Rattle.sql_meaning.specs.Blank.{IsBlank, no_schema};
 
+use crate::fuses::{Left, Remains, Revive, options};
 use crate::pictures::{Picture, read_picture, reply_text, seen};
 use crate::requests::{preparation, reply_to};
 use memory_files::open_blank;
 use package_tables::fault::Fault;
 use sheet_types::command::Request;
-use sqlite::{Alter, Connection, FileStore, Files, MemStore, Options};
-use sqlite_disk::{Crash, Disk, Fuse, Memory};
+use sqlite::{Alter, Connection, FileStore, Files, MemStore};
+use sqlite_disk::Disk;
 use std::alloc::Global;
 use test_values::{BEGUN, FRAME, Step, archive, question, told};
 use test_worlds::blank_store;
 use uuid::Uuid;
 use world::world::World;
-
-// So few pages are kept that a request reads both files, writes the log before its commit, and copies it into the database file after that.
-fn options() -> Options {
-    Options {
-        cache_pages: 2,
-        spill_pages: 2,
-        checkpoint_frames: 8,
-        seed: 7,
-    }
-}
 
 // `None` where a request was not carried out.
 fn begun<S: Alter + Drop>(alloc: Global, conn: Connection<S>) -> Result<Option<World<S>>, Fault>
@@ -78,47 +69,6 @@ pub fn held_by<S: Alter + Drop>(
     }
 }
 
-/// What is left of a file: what was synced, as after a stop of the machine, or all that was written, as after the end of a process.
-#[derive(Clone, Copy)]
-pub enum Leaves {
-    Synced,
-    Written,
-}
-
-/// Of the log and of the database file.
-#[derive(Clone, Copy)]
-pub struct Left {
-    pub log: Leaves,
-    pub db: Leaves,
-}
-
-/// A disk whose files come back after a crash.
-pub trait Revive: Disk {
-    fn revive(self, alloc: Global, leaves: Leaves) -> Result<Self, Fault>
-        ensures { IfOk result (λ file. IsTrue (Self.Disk.is_usable file)) };
-}
-
-impl Revive for Fuse<Memory> {
-    fn revive(mut self, alloc: Global, leaves: Leaves) -> Result<Fuse<Memory>, Fault> {
-        match leaves {
-            Leaves::Synced => {
-                self.crash();
-                Ok(self)
-            }
-            Leaves::Written => {
-                let mut copy = Memory::new(alloc);
-                if copy.write_at(0, self.inner().bytes()).is_err() {
-                    return Err(Fault::OutOfMemory);
-                }
-                if copy.sync().is_err() {
-                    return Err(Fault::OutOfMemory);
-                }
-                Ok(Fuse::new(copy, u64::MAX))
-            }
-        }
-    }
-}
-
 /// The files come back, and are opened again.
 pub fn left_by<D: Revive + Drop>(
     alloc: Global,
@@ -129,15 +79,9 @@ pub fn left_by<D: Revive + Drop>(
     let Some(conn) = world.into_stores().pop() else {
         return Err(Fault::StoreFault);
     };
-    let Files { log, db } = conn.into_store().close();
-    let files = Files {
-        log: log.revive(alloc, left.log)?,
-        db: db.revive(alloc, left.db)?,
-    };
-    match Connection::open_files(alloc, files, Options::new(7)) {
-        Ok(mut again) => read_picture(alloc, &mut again, id),
-        Err((error, _)) => Err(Fault::from(error)),
-    }
+    let remains = Remains::of(alloc, conn)?;
+    let mut again = remains.reopened::<D>(alloc, left)?;
+    read_picture(alloc, &mut again, id)
 }
 
 /// What came of a request: its reply as a number and as a text, what the world read as then, where it could be read, and what a crash left.

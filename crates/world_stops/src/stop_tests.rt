@@ -1,63 +1,17 @@
 // One request of each kind, once for each call of a disk that stops in it. A crash leaves the world before the request or the one after it, and the reply fits.
-ghost use Rattle.std.specs.Prelude.{◌≡◌, [], IsTrue};
-
 use crate::fitting::{Both, STORE_FAULT, expect_fits, same, went_through};
+use crate::fuses::{Left, SYNCED, Stops, WAYS, fused};
 use crate::requests::later;
-use crate::runs::{Leaves, Left, Outcome, prepared, run, untouched};
+use crate::runs::{Outcome, prepared, run, untouched};
 use package_tables::fault::Fault;
 use sheet_types::command::Mapping;
-use sqlite::Files;
-use sqlite_disk::{Disk, Fuse, Memory};
+use sqlite_disk::{Fuse, Memory};
 use std::alloc::Global;
 use std::process::Abort;
 use std::test::Fail;
 use test_values::{Asks, Step};
 
-const SYNCED: Left = Left {
-    log: Leaves::Synced,
-    db: Leaves::Synced,
-};
-
-const WRITTEN: Left = Left {
-    log: Leaves::Written,
-    db: Leaves::Written,
-};
-
-// A machine that stops, or a process; or one file has all that was written, and the other not.
-const WAYS: [Left; 4] = [
-    SYNCED,
-    WRITTEN,
-    Left {
-        log: Leaves::Synced,
-        db: Leaves::Written,
-    },
-    Left {
-        log: Leaves::Written,
-        db: Leaves::Synced,
-    },
-];
-
-#[derive(Clone, Copy)]
-enum Stops {
-    Log,
-    Db,
-}
-
-// Empty files, of which one stops after so many calls.
-fn fused(alloc: Global, stops: Stops, calls: u64) -> Files<Fuse<Memory>>
-    ensures log { IsTrue (⟦<Fuse<Memory> as Disk>⟧.is_usable result.log) }
-    ensures db { IsTrue (⟦<Fuse<Memory> as Disk>⟧.is_usable result.db) }
-    ensures empty { ⟦<Fuse<Memory> as Disk>⟧.seen result.db ≡ [] }
-{
-    let (log_calls, db_calls) = match stops {
-        Stops::Log => (calls, u64::MAX),
-        Stops::Db => (u64::MAX, calls),
-    };
-    Files {
-        log: Fuse::new(Memory::new(alloc), log_calls),
-        db: Fuse::new(Memory::new(alloc), db_calls),
-    }
-}
+type File = Fuse<Memory>;
 
 fn run_with(
     alloc: Global,
@@ -66,11 +20,11 @@ fn run_with(
     step: &Step,
     left: Left,
 ) -> Result<Option<Outcome>, Fault> {
-    run(alloc, fused(alloc, stops, calls), step, left)
+    run(alloc, fused::<File>(alloc, stops, calls), step, left)
 }
 
 fn is_prepared(alloc: Global, stops: Stops, calls: u64) -> Result<bool, Fault> {
-    Ok(prepared(alloc, fused(alloc, stops, calls))?.is_some())
+    Ok(prepared(alloc, fused::<File>(alloc, stops, calls))?.is_some())
 }
 
 // With so few calls, and no fewer, the disk stops after the world was prepared.
@@ -92,7 +46,7 @@ fn calls_before(alloc: Global, stops: Stops) -> Result<u64, Fault> {
 
 fn both_worlds(alloc: Global, step: &Step) -> Result<Both, Fault> {
     let never = u64::MAX;
-    let before = untouched(alloc, fused(alloc, Stops::Log, never), step, SYNCED)?;
+    let before = untouched(alloc, fused::<File>(alloc, Stops::Log, never), step, SYNCED)?;
     let after = run_with(alloc, Stops::Log, never, step, SYNCED)?;
     match (before, after) {
         (Some(before), Some(after)) => Ok(Both { before, after }),
@@ -212,64 +166,8 @@ fn a_tile_is_added_while_the_file_stops(rt: HostRuntime) -> Result<(), Fail> {
 }
 
 #[test]
-fn a_medium_is_added_while_the_log_stops(rt: HostRuntime) -> Result<(), Fail> {
-    let step = later(9, Asks::Medium(7));
-    expect_either(&rt, rt.alloc(), &step, 5)?;
-    Ok(())
-}
-
-#[test]
-fn a_medium_is_added_while_the_file_stops(rt: HostRuntime) -> Result<(), Fail> {
-    let step = later(9, Asks::Medium(7));
-    expect_faults(&rt, rt.alloc(), Stops::Db, &step, 5, 5)?;
-    Ok(())
-}
-
-#[test]
-fn a_row_is_added_while_the_log_stops(rt: HostRuntime) -> Result<(), Fail> {
-    let step = later(9, Asks::Row(7, 5, 4096));
-    expect_either(&rt, rt.alloc(), &step, 5)?;
-    Ok(())
-}
-
-#[test]
-fn a_row_is_added_while_the_file_stops(rt: HostRuntime) -> Result<(), Fail> {
-    let step = later(9, Asks::Row(7, 5, 4096));
-    expect_faults(&rt, rt.alloc(), Stops::Db, &step, 5, 5)?;
-    Ok(())
-}
-
-#[test]
 fn a_row_is_deleted_while_the_log_stops(rt: HostRuntime) -> Result<(), Fail> {
     let step = later(9, Asks::Delete(3));
-    expect_either(&rt, rt.alloc(), &step, 3)?;
-    Ok(())
-}
-
-#[test]
-fn a_row_is_deleted_while_the_file_stops(rt: HostRuntime) -> Result<(), Fail> {
-    let step = later(9, Asks::Delete(3));
-    expect_faults(&rt, rt.alloc(), Stops::Db, &step, 5, 3)?;
-    Ok(())
-}
-
-#[test]
-fn a_row_is_linked_while_the_log_stops(rt: HostRuntime) -> Result<(), Fail> {
-    let step = later(9, Asks::Link(Mapping::RowsMedia, 3, 2));
-    expect_either(&rt, rt.alloc(), &step, 5)?;
-    Ok(())
-}
-
-#[test]
-fn a_row_is_linked_while_the_file_stops(rt: HostRuntime) -> Result<(), Fail> {
-    let step = later(9, Asks::Link(Mapping::RowsMedia, 3, 2));
-    expect_faults(&rt, rt.alloc(), Stops::Db, &step, 5, 5)?;
-    Ok(())
-}
-
-#[test]
-fn a_tile_is_unlinked_while_the_log_stops(rt: HostRuntime) -> Result<(), Fail> {
-    let step = later(9, Asks::Unlink(Mapping::TilesMedia, 1, 2));
     expect_either(&rt, rt.alloc(), &step, 3)?;
     Ok(())
 }
@@ -289,26 +187,10 @@ fn a_request_comes_again_while_the_log_stops(rt: HostRuntime) -> Result<(), Fail
     Ok(())
 }
 
-// Its receipt is the second. It stands in the log, so the file is read only as the world is read afterwards.
-#[test]
-fn a_request_comes_again_while_the_file_stops(rt: HostRuntime) -> Result<(), Fail> {
-    let step = Step::now(2, Asks::Medium(2));
-    expect_stops(&rt, rt.alloc(), Stops::Db, &step, 2, 4)?;
-    Ok(())
-}
-
 // The medium is linked.
 #[test]
 fn a_deletion_is_refused_while_the_log_stops(rt: HostRuntime) -> Result<(), Fail> {
     let step = later(9, Asks::Delete(2));
     expect_faults(&rt, rt.alloc(), Stops::Log, &step, -14, 4)?;
-    Ok(())
-}
-
-// The medium is linked.
-#[test]
-fn a_deletion_is_refused_while_the_file_stops(rt: HostRuntime) -> Result<(), Fail> {
-    let step = later(9, Asks::Delete(2));
-    expect_faults(&rt, rt.alloc(), Stops::Db, &step, -14, 4)?;
     Ok(())
 }

@@ -8,9 +8,9 @@ use Rattle.opening.specs.declared.faults.RecoverFault.{RecoverFault}
 use Rattle.recovery.specs.Recovered.{IsRecovered, IsUnopened}
 use Rattle.recovery.specs.declared.recovering.Recovered.{Recovered}
 use Rattle.recovery.specs.declared.recovering.Unopened.{Unopened}
-use Rattle.commands.specs.declared.endings.Ending.{Ending}
-use Rattle.commands.specs.declared.endings.OpenFault.{OpenFault}
-use Rattle.commands.specs.declared.endings.OpenFault.TheVariants.{Busy, Fault}
+use Rattle.folder_worlds.specs.declared.endings.Ending.{Ending}
+use Rattle.folder_worlds.specs.declared.endings.OpenFault.{OpenFault}
+use Rattle.folder_worlds.specs.declared.endings.OpenFault.TheVariants.{Busy, Fault}
 
 module _ {S : Type 0} (g : Ghosts S) where
   -- This is the world that stores came to, each just opened.

@@ -1,6 +1,6 @@
 //! How a call of the program on a folder ends: its exit status, and the lines that it prints before.
 ghost use Rattle.std.specs.Prelude.{◌≡◌};
-ghost use Rattle.commands.specs.Endings.{busy_file, busy_package, ending_status, error_text, fault_line, of_folder, output_text, store_line};
+ghost use Rattle.folder_worlds.specs.Endings.{busy_file, busy_package, ending_status, error_text, fault_line, of_folder, output_text, store_line};
 
 use command_words::statuses::{
     Failure, Outcome, error_of as outcome_error, output_of as outcome_output,
@@ -20,7 +20,7 @@ pub enum OpenFault {
 }
 
 impl From<FolderFault> for OpenFault {
-    ghost use Rattle.commands.specs.Endings.{of_folder};
+    ghost use Rattle.folder_worlds.specs.Endings.{of_folder};
 
     ghost from_gives = { λ fault met. met ≡ of_folder fault };
 

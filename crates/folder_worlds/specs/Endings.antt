@@ -1,20 +1,42 @@
 -- How a call of the program on a folder ends: its exit status, and the lines that it prints before (profile).
-use Rattle.std.specs.Prelude.{ℕ, List, [], ◌∷◌, ◌++◌, codes, Option, Some, None}
+use Rattle.std.specs.Prelude.{ℕ, List, [], ◌∷◌, ◌++◌, codes, Option, Some, None, Result, Ok, Err}
 use Rattle.command_words.specs.Endings.{outcome_status, line_of, output_text as outcome_output, error_text as outcome_error}
+use Rattle.command_words.specs.Failures.{of_fault}
+use Rattle.command_words.specs.declared.statuses.Failure.TheVariants as failure
+use Rattle.command_words.specs.declared.statuses.Outcome.TheVariants.{Done, Stopped}
+use Rattle.manifest_csv.specs.declared.package_manifests.ManifestFault.{ManifestFault}
+use Rattle.manifest_csv.specs.declared.package_manifests.ManifestFault.TheVariants as manifest
 use Rattle.folder.specs.declared.fault.FolderFault.{FolderFault}
 use Rattle.folder.specs.declared.fault.FolderFault.TheVariants as folder
 use Rattle.opening.specs.declared.faults.RecoverFault.{RecoverFault}
 use Rattle.opening.specs.declared.faults.RecoverFault.TheVariants.{NoArchive, TwoArchives, NotAPackage, TwoCopies, MissingPackage, ForeignFrame, Dangling, OutOfAccount, Altered, OutOfMemory, StoreFault}
-use Rattle.commands.specs.declared.endings.OpenFault.{OpenFault}
-use Rattle.commands.specs.declared.endings.OpenFault.TheVariants.{Busy, Fault}
-use Rattle.commands.specs.declared.endings.Ending.{Ending}
-use Rattle.commands.specs.declared.endings.Ending.TheVariants.{Usual, BadBody, HoldsPackages, NoSuchPackage, Declined, Unopened, Faulted}
+use Rattle.folder_worlds.specs.declared.endings.OpenFault.{OpenFault}
+use Rattle.folder_worlds.specs.declared.endings.OpenFault.TheVariants.{Busy, Fault}
+use Rattle.folder_worlds.specs.declared.endings.Ending.{Ending}
+use Rattle.folder_worlds.specs.declared.endings.Ending.TheVariants.{Usual, BadBody, HoldsPackages, NoSuchPackage, Declined, Unopened, Faulted}
 
 -- of a folder that could not be read, or of a file in it
 abbrev pub of_folder : FolderFault → OpenFault
 of_folder folder.OutOfMemory = Fault OutOfMemory
 of_folder (folder.Busy uuid) = Busy uuid
 of_folder folder.StoreFault = Fault StoreFault
+
+-- all was done; a file or a stream gave out; a growth was refused
+abbrev pub done : Ending
+done = Usual Done
+
+abbrev pub failed : Ending
+failed = Usual (Stopped failure.StoreFault)
+
+abbrev pub no_memory : Ending
+no_memory = Usual (Stopped failure.OutOfMemory)
+
+-- what was written of a package, or why it was not
+abbrev pub manifest_ending : Result (Unit {0}) ManifestFault → Ending
+manifest_ending (Ok x) = done
+manifest_ending (Err manifest.Unknown) = NoSuchPackage
+manifest_ending (Err (manifest.Failed fault)) = Usual (Stopped (of_fault fault))
+manifest_ending (Err manifest.Unwritten) = failed
 
 abbrev pub ending_status : Ending → ℕ
 ending_status (Usual outcome) = outcome_status outcome

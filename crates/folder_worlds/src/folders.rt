@@ -1,8 +1,9 @@
 //! A folder of packages, opened as the world that its stores stand for.
 ghost use Rattle.std.specs.Prelude.{IfOk, IfErr};
-ghost use Rattle.commands.specs.Folders.{AreJustOpened, IsFolderWorld};
+ghost use Rattle.folder_worlds.specs.Folders.{AreJustOpened, IsFolderWorld};
 
 use crate::endings::OpenFault;
+use crate::watching::opening_line;
 use folder::listing::list;
 use folder::opening::{close_stores, open_stores};
 use folder::start::FolderStore;
@@ -11,7 +12,7 @@ use sqlite::Connection;
 use sqlite_trees::store::Store;
 use world::world::World;
 
-/// The world that these stores stand for, each just opened. Those of packages that are not live are closed, and all of them where there is no world.
+/// The world that these stores stand for, each just opened. Those of packages that are not live are closed, and all of them where there is no world. Standard error is told how many are read, where it is a terminal.
 ///
 /// # Errors
 ///
@@ -23,7 +24,8 @@ fn world_of(
     requires { AreJustOpened ⟦<FolderStore as Store>⟧ stores.items }
     ensures { IfOk result (IsFolderWorld ⟦<FolderStore as Store>⟧) }
 {
-    match recover(rt.alloc(), stores) {
+    let mut line = opening_line(rt);
+    match recover(rt.alloc(), stores, &mut line) {
         Ok(Recovered { world, strays }) => {
             close_stores(strays);
             Ok(world)

@@ -2,16 +2,16 @@
 ghost use Rattle.std.specs.Prelude.{◌≡◌, IfOk, fold, max, string_bytes};
 ghost use Rattle.sheet_types.specs.World.{World as ModelWorld};
 ghost use Rattle.world.specs.Worlds.{StandsFor};
-ghost use Rattle.commands.specs.Folders.{OpensThen};
-ghost use Rattle.commands.specs.Printing.{good_line, last_receipt};
-ghost use Rattle.commands.specs.Subcommands.{Audits};
-ghost use Rattle.commands.specs.declared.endings.Ending.TheVariants.{Faulted};
-ghost use Rattle.commands.specs.declared.endings.OpenFault.TheVariants as unopened;
+ghost use Rattle.folder_worlds.specs.Folders.{OpensThen};
+ghost use Rattle.reporting.specs.Reports.{good_line, last_receipt};
+ghost use Rattle.reporting.specs.Reports.{Audits};
+ghost use Rattle.folder_worlds.specs.declared.endings.Ending.TheVariants.{Faulted};
+ghost use Rattle.folder_worlds.specs.declared.endings.OpenFault.TheVariants as unopened;
 
-use crate::endings::{DONE, Ending, FAILED, OpenFault};
-use crate::folders::open_folder;
 use folder::opening::close_stores;
 use folder::start::FolderStore;
+use folder_worlds::endings::{DONE, Ending, FAILED, OpenFault};
+use folder_worlds::folders::open_folder;
 use manifest_csv::sending::send;
 use opening::faults::RecoverFault;
 use package_tables::fault::Fault;

@@ -1,0 +1,3 @@
+pub mod Endings
+pub mod Folders
+pub mod Printing

@@ -1,0 +1,6 @@
+//! A folder of packages, opened as the world that its stores stand for, and how a call of the program on a folder ends.
+#![tactic(auto)]
+
+pub mod endings;
+pub mod folders;
+pub mod watching;

@@ -1,0 +1,5 @@
+//! Which words the command line of `sheetdesk` has, and what `--help` says of them.
+#![tactic(auto)]
+
+pub mod help;
+pub mod words;
