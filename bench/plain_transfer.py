@@ -3,7 +3,7 @@
 
 Usage: plain_transfer.py FOLDER COUNT..
 
-For each count it makes two packages in memory and on files in FOLDER, as `crates/times` does with the word `moves`: a source of twice as many tiles
+For each count it makes two packages in memory and on files in FOLDER, as `crates/workbench` does with the word `moves`: a source of twice as many tiles
 and a target with as many of its own. It prints a line a pair of stores, in the words of that program: nanoseconds an item for the
 carrying over and for the taking out, there and back. A moved tile takes the number after the greatest in its new package.
 """
@@ -19,7 +19,7 @@ BYTES = b"a tile of few bytes"
 
 
 def identity_of(number):
-    """As `times` has it: neighbours among the numbers are none among the identities."""
+    """As `workbench` has it: neighbours among the numbers are none among the identities."""
     return uuid_of((number * 0x9E37_79B9_7F4A_7C15 % (1 << 64)) << 64 | number)
 
 

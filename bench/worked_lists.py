@@ -1,6 +1,8 @@
 #!/usr/bin/env python3
 """Holds the second machine of samples/reference.py, and a program where one is named, against the worked examples.
 
+In the gate they are sessions, but for the longest (samples/make_sessions.py).
+
 Usage: worked_lists.py [PROGRAM]      PROGRAM is ./sheetdesk, or bench/plain_rehearse.py
 
 The examples stand in worked_lists.txt beside this file, with all that they must print, written out by hand; its head says how they

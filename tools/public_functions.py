@@ -6,7 +6,8 @@
 
 An edit counts for the public function in whose body it stands, and for each public function of the same file that calls the function in which it
 stands, directly or through others of the file. A test counts where it, or a helper, names the function before a bracket; a helper is a function or an
-impl of the test's file, of a module of its crate that the file uses, or of the crates of test values.
+impl of the test's file, of a module of its crate that the file uses, or of the crates of test values. The sessions of crates/workbench count as a test of what
+the command line calls, directly or through others of a few crates above the world.
 A law needs neither: a function with an empty body, or one with no result, no `&mut` and no handle, whose call can only give the fact of its clause.
 """
 import os
@@ -15,6 +16,8 @@ import sys
 
 ROOT = os.path.dirname(os.path.dirname(os.path.abspath(__file__)))
 TEST_VALUES = ["test_values", "test_worlds"]
+# The crates that a line of a session goes through (crates/workbench), from the words of the program on.
+OF_SESSIONS = ["command_line", "commands", "reporting", "views", "world_views", "exporting", "drawing", "cli"]
 HEAD = re.compile(r"^(?P<indent>\s*)(?P<pub>pub(?:\((?:crate|super)\))? )?fn (?P<name>\w+)", re.M)
 
 
@@ -126,7 +129,18 @@ def tests_by_name():
                 if re.search(r"#\[test\][^\n]*\n(?:\s*(?:#|//|ghost)[^\n]*\n)*\s*$", text[: it["start"] + 1] + "\n") or "#[test]" in text[max(0, it["start"] - 200) : it["start"]].rsplit("}", 1)[-1]:
                     whole = "\n".join(bodies[name] for name in reached(set(bodies), bodies, it["name"]) if name in bodies)
                     found.append((crate, it["name"], whole))
-    return found
+    return [*found, ("workbench", "sessions", sessions())]
+
+
+def sessions():
+    """The texts that a line of a session may lead to."""
+    bodies = {}
+    for crate in OF_SESSIONS:
+        folder = os.path.join(ROOT, "crates", crate)
+        for text in [read(os.path.join(folder, "src", file)) for file in sources(folder)]:
+            for it in functions(text):
+                bodies[it["name"]] = bodies.get(it["name"], "") + text[it["start"] : it["end"]]
+    return "\n".join(bodies[name] for name in reached(set(bodies), bodies, "run"))
 
 
 def rows():
