@@ -118,9 +118,9 @@ class Session:
         self.printed = []
         self.files = {}
 
-    def show(self, line, text=""):
+    def show(self, line):
         self.typed.append(line + "\n")
-        self.printed.append(line + "\n" + text)
+        self.printed.append(line + "\n")
 
     def type(self, line, text, status=0):
         self.typed.append(line + "\n")
