@@ -1,6 +1,6 @@
 -- From `SELECT id FROM t ..` to the numbers of rows, or whether there is a row, at rest.
 use Rattle.std.proofs.Common.{◌≡◌, ℕ, ℤ, List, [], ◌∷◌, map, length, Bool, true, false, cond, Ordering, Less, Result, refl, sym, ap, subst, ◌∙◌, arith}
-use Rattle.std.specs.Prelude.{filter, not, ◌==◌, ◌<ℤ◌, IfOk, IfErr, IsPermutation}
+use Rattle.std.specs.Prelude.{filter, not, ◌||◌, ◌==◌, ◌<ℤ◌, IfOk, IfErr, IsPermutation}
 use Rattle.std.specs.List.{AllByRecursion, list_any}
 use Rattle.std.specs.Ordering.{int_cmp}
 use Rattle.std.proofs.lemmas.Cmp.{int_ranked}
@@ -59,7 +59,7 @@ any_kept : {R : Type 0} (keeps : R → Bool) (xs : List R) → not (length (filt
 any_kept keeps [] = refl
 any_kept keeps (x ∷ xs) = one (keeps x) (any_kept keeps xs)
   where
-    one : (b : Bool) → not (length (filter keeps xs) == 0) ≡ list_any keeps xs → not (length (cond b (x ∷ filter keeps xs) (filter keeps xs)) == 0) ≡ cond b true (list_any keeps xs)
+    one : (b : Bool) → not (length (filter keeps xs) == 0) ≡ list_any keeps xs → not (length (cond b (x ∷ filter keeps xs) (filter keeps xs)) == 0) ≡ (b || list_any keeps xs)
     one true more = grind arith
     one false more = more
 
@@ -100,7 +100,7 @@ module _ {R : Type 0} {list : Listed R} (is : IsListed list) {number : R → ℤ
   any_means : (db : Database) → AreFormed db → (rows : List Row) → AreRows list.shape.table read.listing db rows → (any : Bool) → HasAny rows any → any ≡ list_any keeps (list.rows (tables_of db))
   any_means db formed rows listing any has =
       let kept = filter keeps (list.rows (tables_of db)) in
-      let long : length rows ≡ length kept = sym (length-map rows) ∙ length_permutation _ _ (answered db formed rows listing) ∙ length-map kept in
+      let long : length rows ≡ length kept = sym (length-map rows back) ∙ length_permutation _ _ (answered db formed rows listing) ∙ length-map kept number in
       has ∙ ap (λ n. not (n == 0)) long ∙ any_kept keeps (list.rows (tables_of db))
 
   module _ (every : (x : R) → keeps x ≡ true) (sized : list.shape.key ≡ (λ x. number_key (number x))) (keyed : (v : Value) (x : R) → column (list.shape.stored v x) 0 ≡ Int (number x)) where
