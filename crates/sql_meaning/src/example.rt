@@ -125,8 +125,8 @@ pub fn read_from<S: Alter>(conn: &mut Connection<S>, seq: i64) -> Result<Vec<Row
     )
 }
 
-/// The numbers of the notes of a place, in their order, outside a transaction. No other column comes
-/// into memory as a value, however long the notes are.
+/// The numbers of the notes of a place, in their order, outside a transaction. The answer has this
+/// one column, however long the notes are.
 pub fn numbers_of_place<S: Alter>(
     conn: &mut Connection<S>,
     place: i64,
