@@ -1,29 +1,32 @@
 -- The statements on `sheet_rows`. Written by tools/statements.py.
-use Rattle.std.proofs.Common.{ℕ, ℤ, List, [], ◌∷◌, true, codes, refl}
-use Rattle.std.specs.Prelude.{◌&&◌, int_le, int_lt}
-use Rattle.std.specs.Ordering.{int_eq, int_cmp, on}
+use Rattle.std.proofs.Common.{◌≡◌, ℕ, ℤ, List, [], ◌∷◌, Bool, true, codes, refl}
+use Rattle.std.specs.Prelude.{◌&&◌, bytes_eq, int_le, int_lt}
+use Rattle.std.specs.Ordering.{int_eq, int_cmp, on, then_cmp}
 use Rattle.sqlite_sql.specs.declared.ops.CompareOp.TheVariants.{Ge, Le, Gt, Lt}
-use Rattle.std.proofs.lemmas.Cmp.{on_total, int_cmp_total}
+use Rattle.std.proofs.lemmas.Cmp.{on_total, then_total, int_cmp_total}
 use Rattle.sqlite.specs.Order.{Row}
 use Rattle.sqlite.specs.Term.{col}
-use Rattle.sqlite.specs.declared.types.Value.TheVariants.{Int, Null, Text}
+use Rattle.sqlite.specs.Edit.{next_rowid}
+use Rattle.sqlite.specs.declared.types.Value.TheVariants.{Int, Null, Text, Blob}
 use Rattle.sqlite_tied.specs.Compute.{everything}
 use Rattle.sql_meaning.specs.Resolving.{resolving}
 use Rattle.sql_meaning.specs.Reading.{always, equals, compares, both, ascending, descending}
 use Rattle.sql_meaning.proofs.Insert.{IsInsert, IsRow}
 use Rattle.sql_meaning.proofs.Delete.{IsDelete, IsPlannedDelete}
-use Rattle.sql_meaning.proofs.Resolve.{one_table, one_source}
-use Rattle.sql_meaning.proofs.Select.{IsSelect, IsPlannedSelect}
+use Rattle.sql_meaning.proofs.Resolve.{one_table, one_source, over_table, all_rows}
+use Rattle.sql_meaning.proofs.Select.{IsSelect, IsPlannedSelect, IsNamed, IsPlannedNamed, asked_named}
 use Rattle.sql_meaning.proofs.First.{IsFirst, IsPlannedFirst}
 use Rattle.package_tables.specs.Tables.{sheet_rows}
-use Rattle.package_tables.specs.Shapes.{attribute_shape, int_at, text_at}
+use Rattle.package_tables.specs.Shapes.{attribute_shape, int_at, text_at, blob_at}
+use Rattle.sheet_types.specs.declared.command.Mapping.TheVariants.{TilesMedia, RowsMedia, RowsTiles}
 use Rattle.package_tables.specs.Listed.{attributes}
 use Rattle.package_tables.specs.Shown.{attribute_shown}
 use Rattle.package_tables.specs.declared.rows.AttributeRow.{AttributeRow}
 use Rattle.package_tables.proofs.Looking.{IsKnown, IsLookUp, IsRanked}
 use Rattle.package_tables.proofs.Newest.{IsNewest}
-use Rattle.package_tables.proofs.Ranking.{one_number}
-use Rattle.package_tables.proofs.Values.{same_number, at_least, at_most, above, below, both_same}
+use Rattle.package_tables.proofs.Numbering.{IsNumbering}
+use Rattle.package_tables.proofs.Ranking.{one_number, two_numbers}
+use Rattle.package_tables.proofs.Values.{same_number, same_text, at_least, at_most, above, below, both_same}
 use Rattle.package_tables.proofs.Written.{attributes_listed}
 
 pub insert_text : (tree : ℕ) → IsInsert (codes "INSERT INTO sheet_rows VALUES (?1, ?2, ?3, ?4, ?5)") (sheet_rows tree)
@@ -148,3 +151,78 @@ newest_plan tree schema at h = rw (h.stored, h.by_tree) refl
 
 pub newest : IsNewest attribute_shape (λ x. x.id) (codes "SELECT * FROM sheet_rows ORDER BY id DESC LIMIT 1") [] (λ x. true)
 newest = record { test = _; by = _; selects = newest_text; planned = newest_plan; given = refl; pass = _; shown = _; is = λ tree. refl; passing = λ v x. refl; begins = λ v x. refl; keyed = λ v x. refl }
+
+ids_text : (tree : ℕ) → IsNamed (codes "SELECT id FROM sheet_rows") (sheet_rows tree) (0 ∷ []) always [] all_rows
+unfolding everything
+ids_text tree = record {
+  parse = _;
+  asks = _;
+  src = _;
+  items = _;
+  parsed = refl;
+  statement = refl;
+  formats = refl;
+  one = over_table refl refl refl refl refl refl refl refl refl refl refl refl;
+  paged = λ schema. refl;
+  columns = ((_, _, refl, (_, _, refl, refl, refl)), tt);
+  condition = refl;
+  orders = tt;
+  enough = refl;
+}
+
+ids_plan : (tree : ℕ) → IsPlannedNamed (sheet_rows tree) (0 ∷ []) always [] all_rows
+unfolding resolving
+ids_plan tree schema at h = rw (h.stored, h.by_tree) refl
+
+pub ids : IsNumbering attribute_shape (λ x. x.id) (codes "SELECT id FROM sheet_rows") [] (λ x. true)
+ids = record { test = _; project = _; by = _; asked = λ tree. asked_named (ids_text tree) (ids_plan tree); given = refl; listing = _; is = λ tree. refl; shows = λ v x. refl; passing = λ v x. refl }
+
+has_attribute_text : (tree : ℕ) → IsNamed (codes "SELECT id FROM sheet_rows WHERE id = ?1") (sheet_rows tree) (0 ∷ []) (equals 0 0) [] all_rows
+unfolding everything
+has_attribute_text tree = record {
+  parse = _;
+  asks = _;
+  src = _;
+  items = _;
+  parsed = refl;
+  statement = refl;
+  formats = refl;
+  one = over_table refl refl refl refl refl refl refl refl refl refl refl refl;
+  paged = λ schema. refl;
+  columns = ((_, _, refl, (_, _, refl, refl, refl)), tt);
+  condition = (_, refl, (_, _, _, _, refl, refl, refl, refl, refl, refl, refl));
+  orders = tt;
+  enough = refl;
+}
+
+has_attribute_plan : (tree : ℕ) → IsPlannedNamed (sheet_rows tree) (0 ∷ []) (equals 0 0) [] all_rows
+unfolding resolving
+has_attribute_plan tree schema at h = rw (h.stored, h.by_tree) refl
+
+pub has_attribute : (id : ℤ) → IsNumbering attribute_shape (λ x. x.id) (codes "SELECT id FROM sheet_rows WHERE id = ?1") (Int id ∷ []) (λ x. int_eq x.id id)
+has_attribute id = record { test = _; project = _; by = _; asked = λ tree. asked_named (has_attribute_text tree) (has_attribute_plan tree); given = refl; listing = _; is = λ tree. refl; shows = λ v x. refl; passing = λ v x. (same_number x.id id) }
+
+attribute_ids_within_text : (tree : ℕ) → IsNamed (codes "SELECT id FROM sheet_rows WHERE x >= ?1 AND x < ?2 AND y > ?3 AND y <= ?4") (sheet_rows tree) (0 ∷ []) (both (both (both (compares Ge 1 0) (compares Lt 1 1)) (compares Gt 2 2)) (compares Le 2 3)) [] all_rows
+unfolding everything
+attribute_ids_within_text tree = record {
+  parse = _;
+  asks = _;
+  src = _;
+  items = _;
+  parsed = refl;
+  statement = refl;
+  formats = refl;
+  one = over_table refl refl refl refl refl refl refl refl refl refl refl refl;
+  paged = λ schema. refl;
+  columns = ((_, _, refl, (_, _, refl, refl, refl)), tt);
+  condition = (_, refl, (_, _, refl, (_, _, refl, (_, _, refl, (_, _, _, _, refl, refl, refl, refl, refl, refl, refl), (_, _, _, _, refl, refl, refl, refl, refl, refl, refl)), (_, _, _, _, refl, refl, refl, refl, refl, refl, refl)), (_, _, _, _, refl, refl, refl, refl, refl, refl, refl)));
+  orders = tt;
+  enough = refl;
+}
+
+attribute_ids_within_plan : (tree : ℕ) → IsPlannedNamed (sheet_rows tree) (0 ∷ []) (both (both (both (compares Ge 1 0) (compares Lt 1 1)) (compares Gt 2 2)) (compares Le 2 3)) [] all_rows
+unfolding resolving
+attribute_ids_within_plan tree schema at h = rw (h.stored, h.by_tree) refl
+
+pub attribute_ids_within : (west : ℤ) (east : ℤ) (south : ℤ) (north : ℤ) → IsNumbering attribute_shape (λ x. x.id) (codes "SELECT id FROM sheet_rows WHERE x >= ?1 AND x < ?2 AND y > ?3 AND y <= ?4") (Int west ∷ Int east ∷ Int south ∷ Int north ∷ []) (λ x. int_le west x.x && int_lt x.x east && int_lt south x.y && int_le x.y north)
+attribute_ids_within west east south north = record { test = _; project = _; by = _; asked = λ tree. asked_named (attribute_ids_within_text tree) (attribute_ids_within_plan tree); given = refl; listing = _; is = λ tree. refl; shows = λ v x. refl; passing = λ v x. (both_same (both_same (both_same (at_least x.x west) (below x.x east)) (above x.y south)) (at_most x.y north)) }

@@ -1,29 +1,32 @@
 -- The statements on `sheet_tiles`. Written by tools/statements.py.
-use Rattle.std.proofs.Common.{ℕ, ℤ, List, [], ◌∷◌, true, codes, refl}
-use Rattle.std.specs.Prelude.{◌&&◌, int_le}
-use Rattle.std.specs.Ordering.{int_eq, int_cmp, on}
-use Rattle.sqlite_sql.specs.declared.ops.CompareOp.TheVariants.{Ge, Le}
-use Rattle.std.proofs.lemmas.Cmp.{on_total, int_cmp_total}
+use Rattle.std.proofs.Common.{◌≡◌, ℕ, ℤ, List, [], ◌∷◌, Bool, true, codes, refl}
+use Rattle.std.specs.Prelude.{◌&&◌, bytes_eq, int_le, int_lt}
+use Rattle.std.specs.Ordering.{int_eq, int_cmp, on, then_cmp}
+use Rattle.sqlite_sql.specs.declared.ops.CompareOp.TheVariants.{Ge, Le, Gt, Lt}
+use Rattle.std.proofs.lemmas.Cmp.{on_total, then_total, int_cmp_total}
 use Rattle.sqlite.specs.Order.{Row}
 use Rattle.sqlite.specs.Term.{col}
-use Rattle.sqlite.specs.declared.types.Value.TheVariants.{Int, Null, Blob}
+use Rattle.sqlite.specs.Edit.{next_rowid}
+use Rattle.sqlite.specs.declared.types.Value.TheVariants.{Int, Null, Text, Blob}
 use Rattle.sqlite_tied.specs.Compute.{everything}
 use Rattle.sql_meaning.specs.Resolving.{resolving}
 use Rattle.sql_meaning.specs.Reading.{always, equals, compares, both, ascending, descending}
 use Rattle.sql_meaning.proofs.Insert.{IsInsert, IsRow}
 use Rattle.sql_meaning.proofs.Delete.{IsDelete, IsPlannedDelete}
-use Rattle.sql_meaning.proofs.Resolve.{one_table, one_source}
-use Rattle.sql_meaning.proofs.Select.{IsSelect, IsPlannedSelect}
+use Rattle.sql_meaning.proofs.Resolve.{one_table, one_source, over_table, all_rows}
+use Rattle.sql_meaning.proofs.Select.{IsSelect, IsPlannedSelect, IsNamed, IsPlannedNamed, asked_named}
 use Rattle.sql_meaning.proofs.First.{IsFirst, IsPlannedFirst}
 use Rattle.package_tables.specs.Tables.{sheet_tiles}
-use Rattle.package_tables.specs.Shapes.{tile_shape, int_at, blob_at}
+use Rattle.package_tables.specs.Shapes.{tile_shape, int_at, text_at, blob_at}
+use Rattle.sheet_types.specs.declared.command.Mapping.TheVariants.{TilesMedia, RowsMedia, RowsTiles}
 use Rattle.package_tables.specs.Listed.{tiles}
 use Rattle.package_tables.specs.Shown.{tile_shown}
 use Rattle.package_tables.specs.declared.rows.TileRow.{TileRow}
 use Rattle.package_tables.proofs.Looking.{IsKnown, IsLookUp, IsRanked}
 use Rattle.package_tables.proofs.Newest.{IsNewest}
-use Rattle.package_tables.proofs.Ranking.{one_number}
-use Rattle.package_tables.proofs.Values.{same_number, at_least, at_most, both_same}
+use Rattle.package_tables.proofs.Numbering.{IsNumbering}
+use Rattle.package_tables.proofs.Ranking.{one_number, two_numbers}
+use Rattle.package_tables.proofs.Values.{same_number, same_text, at_least, at_most, above, below, both_same}
 use Rattle.package_tables.proofs.Written.{tiles_listed}
 
 pub insert_text : (tree : ℕ) → IsInsert (codes "INSERT INTO sheet_tiles VALUES (?1, ?2, ?3, ?4, ?5)") (sheet_tiles tree)
@@ -173,3 +176,103 @@ newest_plan tree schema at h = rw (h.stored, h.by_tree) refl
 
 pub newest : IsNewest tile_shape (λ x. x.id) (codes "SELECT * FROM sheet_tiles ORDER BY id DESC LIMIT 1") [] (λ x. true)
 newest = record { test = _; by = _; selects = newest_text; planned = newest_plan; given = refl; pass = _; shown = _; is = λ tree. refl; passing = λ v x. refl; begins = λ v x. refl; keyed = λ v x. refl }
+
+ids_text : (tree : ℕ) → IsNamed (codes "SELECT id FROM sheet_tiles") (sheet_tiles tree) (0 ∷ []) always [] all_rows
+unfolding everything
+ids_text tree = record {
+  parse = _;
+  asks = _;
+  src = _;
+  items = _;
+  parsed = refl;
+  statement = refl;
+  formats = refl;
+  one = over_table refl refl refl refl refl refl refl refl refl refl refl refl;
+  paged = λ schema. refl;
+  columns = ((_, _, refl, (_, _, refl, refl, refl)), tt);
+  condition = refl;
+  orders = tt;
+  enough = refl;
+}
+
+ids_plan : (tree : ℕ) → IsPlannedNamed (sheet_tiles tree) (0 ∷ []) always [] all_rows
+unfolding resolving
+ids_plan tree schema at h = rw (h.stored, h.by_tree) refl
+
+pub ids : IsNumbering tile_shape (λ x. x.id) (codes "SELECT id FROM sheet_tiles") [] (λ x. true)
+ids = record { test = _; project = _; by = _; asked = λ tree. asked_named (ids_text tree) (ids_plan tree); given = refl; listing = _; is = λ tree. refl; shows = λ v x. refl; passing = λ v x. refl }
+
+has_tile_text : (tree : ℕ) → IsNamed (codes "SELECT id FROM sheet_tiles WHERE id = ?1") (sheet_tiles tree) (0 ∷ []) (equals 0 0) [] all_rows
+unfolding everything
+has_tile_text tree = record {
+  parse = _;
+  asks = _;
+  src = _;
+  items = _;
+  parsed = refl;
+  statement = refl;
+  formats = refl;
+  one = over_table refl refl refl refl refl refl refl refl refl refl refl refl;
+  paged = λ schema. refl;
+  columns = ((_, _, refl, (_, _, refl, refl, refl)), tt);
+  condition = (_, refl, (_, _, _, _, refl, refl, refl, refl, refl, refl, refl));
+  orders = tt;
+  enough = refl;
+}
+
+has_tile_plan : (tree : ℕ) → IsPlannedNamed (sheet_tiles tree) (0 ∷ []) (equals 0 0) [] all_rows
+unfolding resolving
+has_tile_plan tree schema at h = rw (h.stored, h.by_tree) refl
+
+pub has_tile : (id : ℤ) → IsNumbering tile_shape (λ x. x.id) (codes "SELECT id FROM sheet_tiles WHERE id = ?1") (Int id ∷ []) (λ x. int_eq x.id id)
+has_tile id = record { test = _; project = _; by = _; asked = λ tree. asked_named (has_tile_text tree) (has_tile_plan tree); given = refl; listing = _; is = λ tree. refl; shows = λ v x. refl; passing = λ v x. (same_number x.id id) }
+
+has_tile_at_text : (tree : ℕ) → IsNamed (codes "SELECT id FROM sheet_tiles WHERE zoom_level = ?1 AND tile_column = ?2 AND tile_row = ?3") (sheet_tiles tree) (0 ∷ []) (both (both (equals 1 0) (equals 2 1)) (equals 3 2)) [] all_rows
+unfolding everything
+has_tile_at_text tree = record {
+  parse = _;
+  asks = _;
+  src = _;
+  items = _;
+  parsed = refl;
+  statement = refl;
+  formats = refl;
+  one = over_table refl refl refl refl refl refl refl refl refl refl refl refl;
+  paged = λ schema. refl;
+  columns = ((_, _, refl, (_, _, refl, refl, refl)), tt);
+  condition = (_, refl, (_, _, refl, (_, _, refl, (_, _, _, _, refl, refl, refl, refl, refl, refl, refl), (_, _, _, _, refl, refl, refl, refl, refl, refl, refl)), (_, _, _, _, refl, refl, refl, refl, refl, refl, refl)));
+  orders = tt;
+  enough = refl;
+}
+
+has_tile_at_plan : (tree : ℕ) → IsPlannedNamed (sheet_tiles tree) (0 ∷ []) (both (both (equals 1 0) (equals 2 1)) (equals 3 2)) [] all_rows
+unfolding resolving
+has_tile_at_plan tree schema at h = rw (h.stored, h.by_tree) refl
+
+pub has_tile_at : (zoom_level : ℤ) (tile_column : ℤ) (tile_row : ℤ) → IsNumbering tile_shape (λ x. x.id) (codes "SELECT id FROM sheet_tiles WHERE zoom_level = ?1 AND tile_column = ?2 AND tile_row = ?3") (Int zoom_level ∷ Int tile_column ∷ Int tile_row ∷ []) (λ x. int_eq x.zoom_level zoom_level && int_eq x.tile_column tile_column && int_eq x.tile_row tile_row)
+has_tile_at zoom_level tile_column tile_row = record { test = _; project = _; by = _; asked = λ tree. asked_named (has_tile_at_text tree) (has_tile_at_plan tree); given = refl; listing = _; is = λ tree. refl; shows = λ v x. refl; passing = λ v x. (both_same (both_same (same_number x.zoom_level zoom_level) (same_number x.tile_column tile_column)) (same_number x.tile_row tile_row)) }
+
+tile_ids_between_text : (tree : ℕ) → IsNamed (codes "SELECT id FROM sheet_tiles WHERE zoom_level = ?1 AND tile_column >= ?2 AND tile_column <= ?3 AND tile_row >= ?4 AND tile_row <= ?5") (sheet_tiles tree) (0 ∷ []) (both (both (both (both (equals 1 0) (compares Ge 2 1)) (compares Le 2 2)) (compares Ge 3 3)) (compares Le 3 4)) [] all_rows
+unfolding everything
+tile_ids_between_text tree = record {
+  parse = _;
+  asks = _;
+  src = _;
+  items = _;
+  parsed = refl;
+  statement = refl;
+  formats = refl;
+  one = over_table refl refl refl refl refl refl refl refl refl refl refl refl;
+  paged = λ schema. refl;
+  columns = ((_, _, refl, (_, _, refl, refl, refl)), tt);
+  condition = (_, refl, (_, _, refl, (_, _, refl, (_, _, refl, (_, _, refl, (_, _, _, _, refl, refl, refl, refl, refl, refl, refl), (_, _, _, _, refl, refl, refl, refl, refl, refl, refl)), (_, _, _, _, refl, refl, refl, refl, refl, refl, refl)), (_, _, _, _, refl, refl, refl, refl, refl, refl, refl)), (_, _, _, _, refl, refl, refl, refl, refl, refl, refl)));
+  orders = tt;
+  enough = refl;
+}
+
+tile_ids_between_plan : (tree : ℕ) → IsPlannedNamed (sheet_tiles tree) (0 ∷ []) (both (both (both (both (equals 1 0) (compares Ge 2 1)) (compares Le 2 2)) (compares Ge 3 3)) (compares Le 3 4)) [] all_rows
+unfolding resolving
+tile_ids_between_plan tree schema at h = rw (h.stored, h.by_tree) refl
+
+pub tile_ids_between : (zoom_level : ℤ) (first_column : ℤ) (last_column : ℤ) (first_row : ℤ) (last_row : ℤ) → IsNumbering tile_shape (λ x. x.id) (codes "SELECT id FROM sheet_tiles WHERE zoom_level = ?1 AND tile_column >= ?2 AND tile_column <= ?3 AND tile_row >= ?4 AND tile_row <= ?5") (Int zoom_level ∷ Int first_column ∷ Int last_column ∷ Int first_row ∷ Int last_row ∷ []) (λ x. int_eq x.zoom_level zoom_level && int_le first_column x.tile_column && int_le x.tile_column last_column && int_le first_row x.tile_row && int_le x.tile_row last_row)
+tile_ids_between zoom_level first_column last_column first_row last_row = record { test = _; project = _; by = _; asked = λ tree. asked_named (tile_ids_between_text tree) (tile_ids_between_plan tree); given = refl; listing = _; is = λ tree. refl; shows = λ v x. refl; passing = λ v x. (both_same (both_same (both_same (both_same (same_number x.zoom_level zoom_level) (at_least x.tile_column first_column)) (at_most x.tile_column last_column)) (at_least x.tile_row first_row)) (at_most x.tile_row last_row)) }
