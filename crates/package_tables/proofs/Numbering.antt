@@ -1,5 +1,5 @@
 -- From `SELECT id FROM t ..` to the numbers of rows, or whether there is a row, at rest.
-use Rattle.std.proofs.Common.{◌≡◌, ℕ, ℤ, List, [], ◌∷◌, map, length, Bool, true, false, cond, Ordering, Less, Result, refl, sym, ap, subst, ◌∙◌, arith}
+use Rattle.std.proofs.Common.{◌≡◌, ℕ, ℤ, List, [], ◌∷◌, map, length, Bool, true, false, cond, Less, Result, refl, sym, ap, subst, ◌∙◌, arith}
 use Rattle.std.specs.Prelude.{filter, not, ◌||◌, ◌==◌, ◌<ℤ◌, IfOk, IfErr, IsPermutation}
 use Rattle.std.specs.List.{AllByRecursion, list_any}
 use Rattle.std.specs.Ordering.{int_cmp}
@@ -30,7 +30,7 @@ use Rattle.sql_meaning.proofs.Transactions.{Shuts, Settles}
 use Rattle.package_tables.specs.Shape.{Shape, IsStored, stored_rows}
 use Rattle.package_tables.specs.Shapes.{int_at, number_key}
 use Rattle.package_tables.specs.Shown.{number_shown, InSize, AreInSize}
-use Rattle.package_tables.specs.Package.{Tables, tables_of, AreFormed}
+use Rattle.package_tables.specs.Package.{tables_of, AreFormed}
 use Rattle.package_tables.specs.Listed.{Listed}
 use Rattle.package_tables.specs.Calls.{LooksUp, AreNumbersOf}
 use Rattle.package_tables.specs.declared.fault.Fault.{Fault}

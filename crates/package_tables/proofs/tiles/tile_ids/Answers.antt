@@ -1,4 +1,4 @@
-use Rattle.std.proofs.Common.{refl, to_z-of_z}
+use Rattle.std.proofs.Common.{refl}
 use Rattle.package_tables.proofs.Numbering.{looks_ids}
 use Rattle.package_tables.proofs.Written.{tiles_listed}
 use Rattle.package_tables.proofs.TileStatements.{ids}
