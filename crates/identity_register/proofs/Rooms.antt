@@ -1,12 +1,11 @@
 -- A kind of which each number is taken has as many items as may be.
-use Rattle.std.proofs.Common.{◌≡◌, ◌⊎◌, inl, inr, ⊎_elim, ℕ, zero, suc, ℤ, pos, ◌≤◌, ◌<◌, ◌≤ℤ◌, ◌<ℤ◌, ◌+ℤ◌, List, [], ◌∷◌, map, length, Bool, true, false, Option, Some, None, Result, Ok, refl, sym, ap, subst, ◌∙◌, arith, eq-eqb, ◌==◌}
+use Rattle.std.proofs.Common.{◌≡◌, ◌⊎◌, inl, inr, ⊎_elim, ℕ, zero, suc, ℤ, pos, ◌≤◌, ◌≤ℤ◌, ◌<ℤ◌, ◌+ℤ◌, List, [], ◌∷◌, map, length, Bool, true, false, Option, Some, None, Ok, refl, sym, ap, subst, ◌∙◌, arith, eq-eqb, ◌==◌}
 use Rattle.std.specs.Prelude.{int_le, int_lt, ◌&&◌, filter, count_by, cond}
-use Rattle.std.proofs.lemmas.Bool.{and_parts, and_from, false_from_ne_true, false≢true}
+use Rattle.std.proofs.lemmas.Bool.{and_parts, and_from, false_from_ne_true}
 use Rattle.std.proofs.lemmas.Cmp.{int_eq_equiv}
 use Rattle.std.proofs.lemmas.Int.{ints}
 use Rattle.std.proofs.lemmas.List.{length-map}
 use Rattle.std.proofs.lemmas.List.Sums.{length-filter}
-use Rattle.std.proofs.lemmas.Map.Keys.{IsDistinct-cons}
 use Rattle.std.proofs.lemmas.Map.Made.{length-le_from_is_member}
 use Rattle.std.specs.Cmp.{signed_Decides}
 use Rattle.std.specs.List.{AllByRecursion, IsDistinct, list_any}
@@ -26,12 +25,12 @@ use Rattle.sheet_types.specs.World.{Package, kind_number, kind_is, item_key}
 use Rattle.sheet_types.specs.declared.command.Item.{Item}
 use Rattle.sheet_types.specs.declared.frame.Frame.{Frame}
 use Rattle.sheet_types.specs.declared.receipt.MovedKind.{MovedKind}
-use Rattle.sheet_types.proofs.Every.{All-weaker, none_any}
+use Rattle.sheet_types.proofs.Every.{All-weaker}
 use Rattle.sheet_types.proofs.Order.{list_any-arranged, sum_by-arranged}
 use Rattle.sheet_types.proofs.Same.{In, All-In, In-map, In-of_map, In-filter, any_in, any_at}
 use Rattle.sheet_types.proofs.Sums.{sum_by-map}
 use Rattle.identity_register.specs.Numbering.{Numbered, greatest_number, identity_row, is_taken, IsTaken, IsGap, AreTaken, FindsGap}
-use Rattle.identity_register.specs.Reads.{Says, Reads}
+use Rattle.identity_register.specs.Reads.{Says}
 use Rattle.identity_register.specs.Calls.{Becomes}
 use Rattle.identity_register.specs.Changes.{IsNewItem, item_added}
 use Rattle.identity_register.specs.Room.{IsFull, ComesIn}

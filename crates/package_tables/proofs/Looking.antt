@@ -6,9 +6,6 @@ use Rattle.sqlite.specs.Query.{key_cmp}
 use Rattle.sqlite.specs.Order.{Row}
 use Rattle.sqlite.specs.Term.{Term}
 use Rattle.sqlite.specs.Table.{Table}
-use Rattle.sqlite_ast.specs.declared.Select.{Select as Written}
-use Rattle.sqlite_ast.specs.declared.Source.{Source as From}
-use Rattle.sqlite_ast.specs.declared.Shown.{Shown as Item}
 use Rattle.sqlite.specs.Store.{Ghosts}
 use Rattle.sqlite.specs.Effect.{Database}
 use Rattle.sqlite.specs.Held.{Held, state}
@@ -21,7 +18,7 @@ use Rattle.sql_meaning.specs.Reading.{Test, Listing, IsListing, Finds}
 use Rattle.sql_meaning.specs.Transactions.{Rests}
 use Rattle.sql_meaning.proofs.Where.{are_given}
 use Rattle.sql_meaning.proofs.Resolve.{all_rows}
-use Rattle.sql_meaning.proofs.Select.{IsReading, IsSelect, IsPlannedSelect, IsAsked, asked_all, shown_terms, listing_of, listing_showing, listed}
+use Rattle.sql_meaning.proofs.Select.{IsSelect, IsPlannedSelect, IsAsked, asked_all, all_listed, shown_terms, listing_of, listing_showing}
 use Rattle.sql_meaning.proofs.Answering.{shown_unchanged, failed_unchanged, asked_looks}
 use Rattle.sql_meaning.proofs.Transactions.{Shuts, Settles}
 use Rattle.sqlite_trees.proofs.ListLemmas.{all_of, filter_all}
@@ -104,22 +101,22 @@ module _ {table : ℕ → Table} {text : List ℕ} {params : Row} {listing : Lis
       at (Err e) (Ok x) found said = absurd said
       at answer (Err f) found said = tt
 
--- what the rows of a reading say of the tables is an answer inside a transaction
-module _ {Of : Written → From → Item → Type 0} {text : List ℕ} {t : Table} {test : Test} {by : List (Term × Key)} (reads : IsReading Of text t test by) {X Y : Type 0} (params : Row) (items : Y → List Row) (Says : List Row → X → Type 0) (Answer : Tables → X → Type 0)
+-- what the rows of a text say of the tables is an answer inside a transaction
+module _ {text : List ℕ} {t : Table} {test : Test} {project : List Term} {by : List (Term × Key)} {cut : Term × Term} (asked : IsAsked text t test project by cut) {X Y : Type 0} (params : Row) (items : Y → List Row) (Says : List Row → X → Type 0) (Answer : Tables → X → Type 0)
     (old new : State) (means : AreFormed old.now → (rows : List Row) → Shown text params old new rows → (x : X) → Says rows x → Answer (tables_of old.now) x) where
   pub told : (answer : Result Y Error) (result : Result X Fault) → (HasCleanDisk new → IfOk answer (λ y. Shown text params old new (items y))) → (HasCleanDisk new → IfErr answer (λ e. FailsToQuery text params old new e ⊎ IsTooLate text params old new e))
       → AreSaid items Says answer result → Tells Answer old new result
   told answer result ok err said clean = at answer result (ok clean) (err clean) said
     where
       bare : (rows : List Row) → Shown text params old new rows → IsUnchanged old new
-      bare rows shows = shown_unchanged text reads.parse reads.asks reads.parsed reads.statement params old new rows shows
+      bare rows shows = shown_unchanged text asked.parse asked.asks asked.parsed asked.statement params old new rows shows
 
       at : (answer : Result Y Error) (result : Result X Fault) → IfOk answer (λ y. Shown text params old new (items y)) → IfErr answer (λ e. FailsToQuery text params old new e ⊎ IsTooLate text params old new e) → AreSaid items Says answer result
           → TellsInside Answer old new result
       at (Ok y) (Ok x) shows fails said = (bare (items y) shows, λ formed. means formed (items y) shows x said)
       at (Ok y) (Err f) shows fails said = inl (bare (items y) shows)
       at (Err e) (Ok x) shows fails said = absurd said
-      at (Err e) (Err f) shows (inl why) said = failed_unchanged text reads.parse reads.asks reads.parsed reads.statement params old new e why
+      at (Err e) (Err f) shows (inl why) said = failed_unchanged text asked.parse asked.asks asked.parsed asked.statement params old new e why
       at (Err e) (Err f) shows (inr late) said = inl late.5
 
 module _ {R : Type 0} {list : Listed R} {shown : R → Row} (known : IsKnown list shown) {text : List ℕ} {params : Row} {keeps : R → Bool} (read : IsLookUp list.shape shown text params keeps) where
@@ -165,8 +162,7 @@ module _ {R : Type 0} {list : Listed R} {shown : R → Row} (known : IsKnown lis
     -- inside a transaction
     tells : (old new : State) (answer : Result Y Error) (result : Result X Fault) → (HasCleanDisk new → IfOk answer (λ y. Shown text params old new (items y)))
         → (HasCleanDisk new → IfErr answer (λ e. FailsToQuery text params old new e ⊎ IsTooLate text params old new e)) → AreSaid items Says answer result → Tells Answer old new result
-    tells old new = told (read.selects 0) params items Says Answer old new
-        (λ formed rows shows. means old.now formed rows (λ at tree has. (listed text list.shape.table read.test read.by read.selects read.planned params read.given read.listing read.is old new rows shows at tree has).0))
+    tells old new = told (query.asked 0) params items Says Answer old new (λ formed rows shows. means old.now formed rows (λ at tree has. (all_listed query.asked params query.given read.listing query.is old new rows shows at tree has).0))
 
   -- ---- one row, or all; the parameters as they are bound
 

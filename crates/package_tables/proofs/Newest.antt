@@ -1,4 +1,4 @@
--- From `SELECT * .. ORDER BY id DESC LIMIT 1` to the greatest number of the rows that pass, inside a transaction.
+-- From `SELECT id .. ORDER BY id DESC LIMIT 1` to the greatest number of the rows that pass, inside a transaction.
 use Rattle.std.proofs.Common.{◌≡◌, ◌⊎◌, inl, inr, ℕ, ℤ, ◌≤ℤ◌, List, [], ◌∷◌, map, Bool, true, false, Option, Some, None, Result, sym, ap, subst, ◌∙◌, Ordering, Less, Equal, Greater, arith, suc}
 use Rattle.std.specs.Prelude.{filter, IfOk, IfErr, Contains, ◌<ℤ◌}
 use Rattle.std.specs.List.{AllByRecursion}
@@ -26,8 +26,8 @@ use Rattle.sqlite_trees.proofs.ListLemmas.{map-map}
 use Rattle.sheet_types.specs.Ordered.{arranged}
 use Rattle.sheet_types.proofs.Order.{All-arranged}
 use Rattle.sql_meaning.specs.Reading.{Test, Listing, ShowsFirst, FindsFirst, descending}
-use Rattle.sql_meaning.proofs.Select.{listing_of}
-use Rattle.sql_meaning.proofs.First.{IsFirst, IsPlannedFirst, first_found}
+use Rattle.sql_meaning.proofs.Select.{IsAsked, listing_showing}
+use Rattle.sql_meaning.proofs.First.{one_row, asked_first}
 use Rattle.sql_meaning.proofs.Where.{are_given}
 use Rattle.sql_meaning.proofs.Greatest.{greatest_of}
 use Rattle.package_tables.specs.Shape.{Shape, IsStored, stored_rows}
@@ -83,13 +83,13 @@ module _ {R : Type 0} (shape : Shape R) (number : R → ℤ) (shown : Row → Ro
 -- what the text is with these parameters, and how the rows carry their numbers
 pub record IsNewest {R : Type 0} (shape : Shape R) (number : R → ℤ) (text : List ℕ) (params : Row) (keeps : R → Bool) : Type 0 where
   pub test : Test
+  pub project : ℕ → List Term
   pub by : List (Term × Key)
-  pub selects : (tree : ℕ) → IsFirst text (shape.table tree) test by
-  pub planned : (tree : ℕ) → IsPlannedFirst (shape.table tree) test by
+  pub asked : (tree : ℕ) → IsAsked text (shape.table tree) test (project tree) by one_row
   pub given : are_given test params ≡ true
   pub pass : Row → Bool
   pub shown : Row → Row
-  pub is : (tree : ℕ) → listing_of (shape.table tree) test by params ≡ record { keeps = pass; key = λ r. column r 0 ∷ []; shown = shown; by = descending ∷ [] }
+  pub is : (tree : ℕ) → listing_showing (project tree) (shape.table tree) test by params ≡ record { keeps = pass; key = λ r. column r 0 ∷ []; shown = shown; by = descending ∷ [] }
   pub passing : (v : Value) (x : R) → pass (shape.stored v x) ≡ keeps x
   pub begins : (v : Value) (x : R) → column (shown (shape.stored v x)) 0 ≡ Int (number x)
   pub keyed : (v : Value) (x : R) → column (shape.stored v x) 0 ≡ Int (number x)
@@ -118,8 +118,8 @@ module _ {R : Type 0} {list : Listed R} {shown' : R → Row} (known : IsKnown li
       → (HasCleanDisk new → IfErr answer (λ e. FailsToQuery text params old new e ⊎ IsTooLate text params old new e)) → (result : Result (Option ℤ) Fault) → AreSaid items BeginsWith answer result
       → Tells (λ t. IsGreatest number (filter keeps (list.rows t))) old new result
   tells_greatest items old new answer ok err result said =
-      told (newest.selects 0) params items BeginsWith (λ t. IsGreatest number (filter keeps (list.rows t))) old new
-      (λ formed rows shows. answered old.now new.now formed rows (first_found text list.shape.table newest.test newest.by newest.selects newest.planned params newest.given listing newest.is old new rows shows)) answer result ok err said
+      told (newest.asked 0) params items BeginsWith (λ t. IsGreatest number (filter keeps (list.rows t))) old new
+      (λ formed rows shows. answered old.now new.now formed rows (asked_first newest.asked params newest.given listing newest.is old new rows shows)) answer result ok err said
 
   -- the same of a text that asks for no row in particular
   pub tells_greatest_of_all : {Y : Type 0} (every : (x : R) → keeps x ≡ true) (items : Y → List Row) (old new : State) (answer : Result Y Error) → (HasCleanDisk new → IfOk answer (λ y. Shown text params old new (items y)))

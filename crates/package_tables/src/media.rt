@@ -78,7 +78,7 @@ pub fn all_media<S: Alter>(conn: &mut Connection<S>, alloc: Global) -> Result<Ve
     )
 }
 
-/// The numbers of all media, in the order of the table.
+/// The numbers of all media, in the order of the table. Media have no index, so the engine goes through their rows, one at a time.
 pub fn medium_ids<S: Alter>(conn: &mut Connection<S>, alloc: Global) -> Result<Vec<i64>, Fault>
     requires { Rests (state S.Store conn.old) }
     ensures { LooksUp (λ t found. found.items ≡ map (λ r. r.id) t.media) (state S.Store conn.old) (state S.Store conn.new) result }
@@ -100,5 +100,5 @@ pub fn greatest_medium_id<S: Alter>(tx: &mut Transaction<'_, S>) -> Result<Optio
     ensures told { Tells (λ t. IsGreatest (λ x. x.id) t.media) (state S.Store tx.old.conn.now) (state S.Store tx.new.conn.now) result }
     ensures survives { Survives (state S.Store tx.old.conn.now) (state S.Store tx.new.conn.now) (λ _. ⊥) }
 {
-    number_of(tx.query_all("SELECT * FROM sheet_media ORDER BY id DESC LIMIT 1", &[]))
+    number_of(tx.query_all("SELECT id FROM sheet_media ORDER BY id DESC LIMIT 1", &[]))
 }

@@ -180,5 +180,5 @@ pub fn greatest_tile_id<S: Alter>(tx: &mut Transaction<'_, S>) -> Result<Option<
     ensures told { Tells (λ t. IsGreatest (λ x. x.id) t.tiles) (state S.Store tx.old.conn.now) (state S.Store tx.new.conn.now) result }
     ensures survives { Survives (state S.Store tx.old.conn.now) (state S.Store tx.new.conn.now) (λ _. ⊥) }
 {
-    number_of(tx.query_all("SELECT * FROM sheet_tiles ORDER BY id DESC LIMIT 1", &[]))
+    number_of(tx.query_all("SELECT id FROM sheet_tiles ORDER BY id DESC LIMIT 1", &[]))
 }

@@ -282,28 +282,31 @@ def range_answer(t, name, tests):
 
 
 def newest_text(t):
-    return "SELECT * FROM %s ORDER BY %s DESC LIMIT 1" % (t["table"], t["by"][0])
+    return "SELECT %s FROM %s ORDER BY %s DESC LIMIT 1" % (t["by"][0], t["table"], t["by"][0])
 
 
 def newest_facts(t):
     by = "((col 1 0, descending) ∷ [])"
     return [
         "",
-        "newest_text : (tree : ℕ) → IsFirst (codes \"%s\") (%s tree) always %s" % (newest_text(t), t["table"], by),
+        "newest_text : (tree : ℕ) → IsNamed (codes \"%s\") (%s tree) (0 ∷ []) always %s one_row" % (newest_text(t), t["table"], by),
         "unfolding everything",
         "newest_text tree = record {",
-        "  parse = _;", "  asks = _;", "  src = _;", "  item = _;", "  parsed = refl;", "  statement = refl;", "  formats = refl;",
-        "  one = (one_source %s, λ schema. refl);" % " ".join(["refl"] * 13),
+        "  parse = _;", "  asks = _;", "  src = _;", "  items = _;", "  parsed = refl;", "  statement = refl;", "  formats = refl;",
+        "  one = over_table %s;" % " ".join(["refl"] * 12),
+        "  paged = λ schema. refl;",
+        "  columns = ((_, _, refl, (_, _, refl, refl, refl)), tt);",
         "  condition = refl;",
-        "  enough = refl;", "  few = λ at. refl;", "  some = λ at. refl;", "  sorted = λ schema at. (_, refl, refl);",
+        "  orders = ((_, (_, _, refl, refl, refl), refl, refl), tt);",
+        "  enough = refl;",
         "}",
         "",
-        "newest_plan : (tree : ℕ) → IsPlannedFirst (%s tree) always %s" % (t["table"], by),
+        "newest_plan : (tree : ℕ) → IsPlannedNamed (%s tree) (0 ∷ []) always %s one_row" % (t["table"], by),
         "unfolding resolving",
         "newest_plan tree schema at h = rw (h.stored, h.by_tree) refl",
         "",
         "pub newest : IsNewest %s (λ x. x.%s) (codes \"%s\") [] (λ x. true)" % (t["shape"], t["by"][0], newest_text(t)),
-        "newest = record { test = _; by = _; selects = newest_text; planned = newest_plan; given = refl; pass = _; shown = _; is = λ tree. refl; passing = λ v x. refl; begins = λ v x. refl; keyed = λ v x. refl }",
+        "newest = record { test = _; project = _; by = _; asked = λ tree. asked_named (newest_text tree) (newest_plan tree); given = refl; pass = _; shown = _; is = λ tree. refl; passing = λ v x. refl; begins = λ v x. refl; keyed = λ v x. refl }",
     ]
 
 
@@ -352,9 +355,9 @@ def statements(t):
         "use Rattle.sql_meaning.specs.Reading.{always, equals, compares, both, ascending, descending}",
         "use Rattle.sql_meaning.proofs.Insert.{IsInsert, IsRow}",
         "use Rattle.sql_meaning.proofs.Delete.{IsDelete, IsPlannedDelete}",
-        "use Rattle.sql_meaning.proofs.Resolve.{one_table, one_source, over_table, all_rows}",
+        "use Rattle.sql_meaning.proofs.Resolve.{one_table, over_table, all_rows}",
         "use Rattle.sql_meaning.proofs.Select.{IsSelect, IsPlannedSelect, IsNamed, IsPlannedNamed, asked_named}",
-        "use Rattle.sql_meaning.proofs.First.{IsFirst, IsPlannedFirst}",
+        "use Rattle.sql_meaning.proofs.First.{one_row}",
         "use Rattle.package_tables.specs.Tables.{%s}" % t["table"],
         "use Rattle.package_tables.specs.Shapes.{%s, int_at, text_at, blob_at}" % t["shape"],
         "use Rattle.sheet_types.specs.declared.command.Mapping.TheVariants.{TilesMedia, RowsMedia, RowsTiles}",

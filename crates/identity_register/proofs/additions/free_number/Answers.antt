@@ -1,4 +1,4 @@
-use Rattle.std.proofs.Common.{rules, Some, subst, to_z-of_z, FitsSigned, w64}
+use Rattle.std.proofs.Common.{rules, Some, to_z-of_z, FitsSigned, w64}
 use Rattle.sql_meaning.proofs.Transactions.{steps_then, steps_failed, steps_answer}
 use Rattle.package_tables.specs.Calls.{Answers}
 use Rattle.package_tables.specs.declared.fault.Fault.{Fault}
