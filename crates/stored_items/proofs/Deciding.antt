@@ -24,10 +24,10 @@ pub decides_same : {P Q : Type 0} (b : Bool) → (P → Q) → (Q → P) → Dec
 decides_same true to fro h = to h
 decides_same false to fro h = λ q. h (fro q)
 
-pub decides_both : {P Q : Type 0} (a b : Bool) → Decides P a → Decides Q b → Decides (P × Q) (a && b)
-decides_both true true p q = (p, q)
-decides_both true false p q = λ both. q both.1
-decides_both false b p q = λ both. p both.0
+pub decides_both : (P Q : Type 0) (a b : Bool) → Decides P a → Decides Q b → Decides (P × Q) (a && b)
+decides_both P Q true true p q = (p, q)
+decides_both P Q true false p q = λ both. q both.1
+decides_both P Q false b p q = λ both. p both.0
 
 -- no to a part is no to the whole
 pub says_no : {E F : Type 0} {P Q : Tables → Type 0} {a b : State} {r : Result Bool E} → r ≡ Ok false → Looks {X = Bool} {E = E} (Answers (λ t. Decides (P t))) a b r → ((t : Tables) → Q t → P t) → Looks {X = Bool} {E = F} (Answers (λ t. Decides (Q t))) a b (Ok false)

@@ -37,10 +37,6 @@ pub map_again : {X Y Z : Type 0} (f : Y → Z) (g : X → Y) (xs : List X) → m
 map_again f g [] = refl
 map_again f g (x ∷ xs) = ap (λ l. f (g x) ∷ l) (map_again f g xs)
 
-or_grouped : (a b c : Bool) → (a || (b || c)) ≡ ((a || b) || c)
-or_grouped true b c = refl
-or_grouped false b c = refl
-
 -- ---- one key
 
 module _ (t : Tables) where
@@ -61,41 +57,41 @@ module _ (t : Tables) where
       let tiles : List (ℤ × ℤ) = map (λ r. (pos 1, r.id)) t.tiles in
       let media : List (ℤ × ℤ) = map (λ r. (pos 2, r.id)) t.media in
       let others : List (ℤ × ℤ) = map (λ r. (pos 3, r.id)) t.rows in
-      let a = int_eq key.0 (pos 1) && list_any (λ r. int_eq r.id key.1) t.tiles in
-      let b = int_eq key.0 (pos 2) && list_any (λ r. int_eq r.id key.1) t.media in
-      let c = int_eq key.0 (pos 3) && list_any (λ r. int_eq r.id key.1) t.rows in
-      sym (list_any-IsPermutation p (row_keys t) rows moves) ∙ list_any-append p tiles (media ++ others) ∙ ap (λ v. list_any p tiles || v) (list_any-append p media others)
-      ∙ (λ n. of_kind (pos 1) (λ r. r.id) t.tiles key n || (of_kind (pos 2) (λ r. r.id) t.media key n || of_kind (pos 3) (λ r. r.id) t.rows key n))
-      ∙ or_grouped a b c
+      sym (list_any-IsPermutation p (row_keys t) rows moves) ∙ list_any-append p (tiles ++ media) others ∙ ap (λ v. v || list_any p others) (list_any-append p tiles media)
+      ∙ (λ n. (of_kind (pos 1) (λ r. r.id) t.tiles key n || of_kind (pos 2) (λ r. r.id) t.media key n) || of_kind (pos 3) (λ r. r.id) t.rows key n)
 
   -- ---- all keys of a kind of rows
+
+  abbrev IsKeyTaken : ℤ × ℤ → Type 0
+  IsKeyTaken x = is_taken x.0 x.1 t ≡ true
+
+  abbrev tiles : List (ℤ × ℤ)
+  tiles = map (λ r. (pos 1, r.id)) t.tiles
+
+  abbrev media : List (ℤ × ℤ)
+  media = map (λ r. (pos 2, r.id)) t.media
+
+  abbrev others : List (ℤ × ℤ)
+  others = map (λ r. (pos 3, r.id)) t.rows
 
   module _ (names : List (ℤ × ℤ)) (known : IsPermutation (map name_key t.identities) names) where
     pub rows_decided : (rows : List (ℤ × ℤ)) → IsPermutation (row_keys t) rows → (b : Bool) → Decides (AllByRecursion (λ x. has_key names x ≡ true) rows) b → Decides (RowsHaveIdentities t) b
     rows_decided rows moves b h = decides_same b to fro (decides_moved (λ x. has_key names x ≡ true) (row_keys t) rows b moves h)
       where
-        tiles : List (ℤ × ℤ)
-        tiles = map (λ r. (pos 1, r.id)) t.tiles
-        media : List (ℤ × ℤ)
-        media = map (λ r. (pos 2, r.id)) t.media
-        others : List (ℤ × ℤ)
-        others = map (λ r. (pos 3, r.id)) t.rows
-        IsTaken : ℤ × ℤ → Type 0
-        IsTaken x = is_taken x.0 x.1 t ≡ true
-        unfolding tiles media others IsTaken
         to : AllByRecursion (λ x. has_key names x ≡ true) (row_keys t) → RowsHaveIdentities t
         to all =
-            let taken = All-weaker (λ x. has_key names x ≡ true) IsTaken (λ x e. sym (name_taken names known x) ∙ e) (row_keys t) all in
-            let behind = All-right IsTaken tiles (media ++ others) taken in
+            let taken = All-weaker (λ x. has_key names x ≡ true) IsKeyTaken (λ x e. sym (name_taken names known x) ∙ e) (row_keys t) all in
+            let before = All-left IsKeyTaken (tiles ++ media) others taken in
             record {
-              tiles = All-of_map IsTaken (λ r. (pos 1, r.id)) t.tiles (All-left IsTaken tiles (media ++ others) taken);
-              media = All-of_map IsTaken (λ r. (pos 2, r.id)) t.media (All-left IsTaken media others behind);
-              rows = All-of_map IsTaken (λ r. (pos 3, r.id)) t.rows (All-right IsTaken media others behind);
+              tiles = All-of_map IsKeyTaken (λ r. (pos 1, r.id)) t.tiles (All-left IsKeyTaken tiles media before);
+              media = All-of_map IsKeyTaken (λ r. (pos 2, r.id)) t.media (All-right IsKeyTaken tiles media before);
+              rows = All-of_map IsKeyTaken (λ r. (pos 3, r.id)) t.rows (All-right IsKeyTaken (tiles ++ media) others taken);
             }
         fro : RowsHaveIdentities t → AllByRecursion (λ x. has_key names x ≡ true) (row_keys t)
-        fro it = All-weaker IsTaken (λ x. has_key names x ≡ true) (λ x e. name_taken names known x ∙ e) (row_keys t)
-            (All-append IsTaken tiles (media ++ others) (All-map IsTaken (λ r. (pos 1, r.id)) t.tiles it.tiles)
-            (All-append IsTaken media others (All-map IsTaken (λ r. (pos 2, r.id)) t.media it.media) (All-map IsTaken (λ r. (pos 3, r.id)) t.rows it.rows)))
+        fro it = All-weaker IsKeyTaken (λ x. has_key names x ≡ true) (λ x e. name_taken names known x ∙ e) (row_keys t)
+            (All-append IsKeyTaken (tiles ++ media) others
+            (All-append IsKeyTaken tiles media (All-map IsKeyTaken (λ r. (pos 1, r.id)) t.tiles it.tiles) (All-map IsKeyTaken (λ r. (pos 2, r.id)) t.media it.media))
+            (All-map IsKeyTaken (λ r. (pos 3, r.id)) t.rows it.rows))
 
     pub names_decided : (rows : List (ℤ × ℤ)) → IsPermutation (row_keys t) rows → (b : Bool) → Decides (AllByRecursion (λ x. has_key rows x ≡ true) names) b → Decides (AllByRecursion (λ r. has_row r.kind r.local_id t ≡ true) t.identities) b
     names_decided rows moves b h =
