@@ -7,7 +7,7 @@ use Rattle.sheet_types.specs.declared.command.Mapping.TheVariants.{TilesMedia, R
 use Rattle.package_tables.specs.Package.{Tables}
 use Rattle.stored_items.specs.Answers.{Decides}
 use Rattle.stored_items.specs.Tied.{AreTied, has_row}
-use Rattle.stored_items.specs.Ties.{has_key, name_key, row_keys, has_names, AreKeysOf, RowsHaveIdentities, PairsHaveIdentities}
+use Rattle.stored_items.specs.Ties.{has_key, name_key, row_keys, has_names, AreKeysOf, RowsHaveIdentities}
 use Rattle.stored_items.specs.declared.tied.TieKeys.{TieKeys}
 use Rattle.stored_items.proofs.Deciding.{decides_same, decides_both}
 use Rattle.stored_items.proofs.Keyed.{rows_decided, names_decided, pairs_decided}

@@ -4,7 +4,7 @@ use Rattle.std.specs.Prelude.{◌&&◌, ◌||◌, IsPermutation}
 use Rattle.std.specs.List.{AllByRecursion, list_any}
 use Rattle.std.specs.Ordering.{int_cmp, int_eq, eq_by_cmp}
 use Rattle.std.proofs.lemmas.List.Folds.{list_any-append}
-use Rattle.std.proofs.lemmas.List.Sorted.{list_any-IsPermutation, IsPermutation-trans}
+use Rattle.std.proofs.lemmas.List.Sorted.{list_any-IsPermutation}
 use Rattle.sheet_types.specs.World.{kind_number, base_kind, other_kind}
 use Rattle.sheet_types.specs.declared.command.Mapping.{Mapping}
 use Rattle.sheet_types.proofs.Every.{All-weaker, All-map, All-of_map, All-left, All-right, All-append}
@@ -14,7 +14,7 @@ use Rattle.package_tables.specs.declared.rows.MappingRow.{MappingRow}
 use Rattle.identity_register.specs.Numbering.{is_taken}
 use Rattle.identity_register.proofs.Finding.{any_map}
 use Rattle.stored_items.specs.Answers.{Decides}
-use Rattle.stored_items.specs.Tied.{AreTied, has_row}
+use Rattle.stored_items.specs.Tied.{has_row}
 use Rattle.stored_items.specs.Ties.{key_cmp, has_key, name_key, row_keys, has_names, has_identities, RowsHaveIdentities, PairsHaveIdentities}
 use Rattle.stored_items.proofs.Apart.{int_flips}
 use Rattle.stored_items.proofs.Deciding.{decides_same, decides_moved}

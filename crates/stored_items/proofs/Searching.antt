@@ -1,5 +1,5 @@
 -- What a binary search among sorted keys tells of all of them.
-use Rattle.std.proofs.Common.{◌≡◌, ℕ, zero, suc, ◌+◌, ◌<◌, ◌≤◌, List, [], ◌∷◌, length, get_or, Bool, true, false, Result, Ok, Err, Less, Equal, Greater, inl, inr, arith, refl, sym, ap}
+use Rattle.std.proofs.Common.{◌≡◌, ℕ, List, length, false, Result, Ok, Err, Less, Greater, inl, inr, arith, sym, ap}
 use Rattle.std.specs.Prelude.{IsSorted}
 use Rattle.std.specs.List.{All, list_any}
 use Rattle.std.specs.List.Sorted.{IsBinarySearchResult, IsSearchInRange, IsPartitionPoint}
