@@ -1,15 +1,21 @@
 //! The stores of a folder, opened.
 ghost use Rattle.std.specs.Prelude.{◌≡◌, ◌++◌, ◌∷◌, [], IfOk, OnOk, All, length};
 ghost use Rattle.sqlite.specs.Files.{file_state};
-ghost use Rattle.sqlite.specs.State.{HasCleanDisk};
+ghost use Rattle.sqlite.specs.Held.{state};
+ghost use Rattle.sqlite.specs.State.{HasCleanDisk, Opens};
+ghost use Rattle.sql_meaning.specs.Transactions.{Holds};
 ghost use Rattle.folder.specs.Opened.{IsJustOpened};
 
 use crate::fault::{FolderFault, fault_of};
 use crate::names::{file_name, path_of};
 use crate::start::{Empty, FolderStore};
-use sql_meaning::opening::readopt;
-use sqlite::Connection;
+use sqlite::{Alter, Connection};
 use uuid::Uuid;
+
+/// A law: a connection that was just opened holds what it shows, and a crash leaves that. Does nothing.
+fn rests_as_opened<S: Alter>(conn: &Connection<S>)
+    ensures { Opens (state S.Store conn.now) → Holds (state S.Store conn.now) (state S.Store conn.now).now }
+{}
 
 /// The store of a package, just opened: at rest, and adopted.
 ///
@@ -25,13 +31,12 @@ pub fn open_store(
 {
     let name = file_name(rt.alloc(), package)?;
     let path = path_of(rt.alloc(), folder, name.as_str())?;
-    let conn = match Connection::open_from(rt, path.as_str(), false, Empty) {
-        Ok(conn) => conn,
-        Err((error, _)) => return Err(fault_of(package, error)),
-    };
-    match readopt(rt.alloc(), conn) {
-        Ok(conn) => Ok(conn),
-        Err(error) => Err(fault_of(package, error)),
+    match Connection::open_from(rt, path.as_str(), false, Empty) {
+        Ok(conn) => {
+            rests_as_opened(&conn);
+            Ok(conn)
+        }
+        Err((error, _)) => Err(fault_of(package, error)),
     }
 }
 

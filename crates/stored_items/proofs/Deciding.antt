@@ -1,12 +1,11 @@
 -- Answers of yes or no from those of several calls.
 use Rattle.std.proofs.Common.{◌≡◌, ℕ, zero, suc, ◌+◌, ◌<◌, List, [], ◌∷◌, length, take, get_or, arith, Bool, true, false, Result, Ok, Err, IsTrue, IsErr, refl, sym, subst}
-use Rattle.std.specs.Prelude.{IsPermutation}
+use Rattle.std.specs.Prelude.{◌&&◌, IsPermutation}
 use Rattle.std.specs.List.{AllByRecursion}
 use Rattle.std.proofs.lemmas.List.{take_more}
 use Rattle.std.proofs.lemmas.List.Sorted.{IsPermutation-sym}
 use Rattle.sqlite.specs.Effect.{Database}
 use Rattle.sqlite.specs.State.{State, HasCleanDisk}
-use Rattle.sql_meaning.specs.Staying.{Stays}
 use Rattle.sql_meaning.specs.Transactions.{Looks}
 use Rattle.sql_meaning.proofs.Staying.{looks_stays, stays_then}
 use Rattle.sheet_types.proofs.Every.{All-weaker, All-snoc}
@@ -15,14 +14,19 @@ use Rattle.package_tables.specs.Calls.{Answers}
 use Rattle.package_tables.specs.Package.{Tables}
 use Rattle.identity_register.proofs.Finding.{moved}
 use Rattle.identity_register.proofs.Looking.{Looked, looked, looked_then, tells, fails}
-use Rattle.identity_register.proofs.Reaching.{GoesOn, looked_on}
-use Rattle.stored_items.specs.Answers.{Decides, LooksOn}
+use Rattle.identity_register.proofs.Reaching.{GoesOn}
+use Rattle.stored_items.specs.Answers.{Decides}
 use Rattle.stored_items.proofs.Walking.{AreNumbered, numbered}
 
 -- a question and another of the same answer
 pub decides_same : {P Q : Type 0} (b : Bool) → (P → Q) → (Q → P) → Decides P b → Decides Q b
 decides_same true to fro h = to h
 decides_same false to fro h = λ q. h (fro q)
+
+pub decides_both : (P Q : Type 0) (a b : Bool) → Decides P a → Decides Q b → Decides (P × Q) (a && b)
+decides_both P Q true true p q = (p, q)
+decides_both P Q true false p q = λ both. q both.1
+decides_both P Q false b p q = λ both. p both.0
 
 -- no to a part is no to the whole
 pub says_no : {E F : Type 0} {P Q : Tables → Type 0} {a b : State} {r : Result Bool E} → r ≡ Ok false → Looks {X = Bool} {E = E} (Answers (λ t. Decides (P t))) a b r → ((t : Tables) → Q t → P t) → Looks {X = Bool} {E = F} (Answers (λ t. Decides (Q t))) a b (Ok false)
@@ -70,22 +74,3 @@ decides_moved P xs ys b moves h = decides_same b (all_moved P ys xs (IsPermutati
 
 pub each_yes : {X : Type 0} (P : X → Type 0) (xs : List X) (i : ℕ) (d : X) → i < length xs → P (get_or xs i d) → AllByRecursion P (take i xs) → AllByRecursion P (take (i + 1) xs)
 each_yes P xs i d less p all = subst (AllByRecursion P) (sym (take_more xs i d less)) (All-snoc P (take i xs) (get_or xs i d) all p)
-
-pub one_no : {X : Type 0} (P : X → Type 0) (xs : List X) (i : ℕ) (d : X) → i < length xs → (P (get_or xs i d) → ⊥) → AllByRecursion P xs → ⊥
-one_no P [] i d less lacks all = absurd (omega (arith, less))
-one_no P (x ∷ xs) zero d less lacks all = lacks all.0
-one_no P (x ∷ xs) (suc i) d less lacks all = one_no P xs i d (omega (arith, less)) lacks all.1
-
--- ---- calls that may ask nothing
-
-pub goes_look : {X E : Type 0} (Answer : Tables → X → Type 0) {a c : State} {y : X} → GoesOn (λ t. Answer t y) a c → LooksOn {X = X} {E = E} Answer a c (Ok y)
-goes_look Answer it = record { stays = it.stays; told = λ clean is_open. let d = it.told clean is_open in (d.0, (d.1, d.2)) }
-
-pub look_fails : {X E : Type 0} {Answer : Tables → X → Type 0} {a c : State} (r : Result X E) → IsErr r → Stays a c → LooksOn {X = X} {E = E} Answer a c r
-look_fails (Ok x) failed stays = cc
-look_fails (Err e) failed stays = record { stays = stays; told = λ clean is_open. tt }
-
--- what was looked at, and what such a call found by it
-pub looks_last : {X E : Type 0} {Fact : Tables → Type 0} (Answer Told : Tables → X → Type 0) {a b c : State} (r : Result X E) → Looked Fact a b → LooksOn {X = X} {E = E} Answer b c r → ((t : Tables) (x : X) → Fact t → Answer t x → Told t x) → Looks {X = X} {E = E} (Answers Told) a c r
-looks_last {X} {E} Answer Told (Ok x) first next so = tells Told (looked_on {X = X} {E = E} Answer {r = Ok x} first refl next.stays next.told) (λ t h. so t x h.0 h.1)
-looks_last {X} {E} Answer Told (Err e) first next so = fails (Err e) refl (stays_then first.stays next.stays)

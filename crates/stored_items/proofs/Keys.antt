@@ -15,7 +15,7 @@ unfolding IsDistinct
 same_test e d h [] apart = tt
 same_test e d h (x ∷ xs) apart = (All-weaker (λ y. e x y ≡ false) (λ y. d x y ≡ false) (λ y k. sym (h x y) ∙ k) xs apart.0, same_test e d h xs apart.1)
 
-is_both : (o p : Ordering) → is_eq (ordering_then o p) ≡ (is_eq o && is_eq p)
+pub is_both : (o p : Ordering) → is_eq (ordering_then o p) ≡ (is_eq o && is_eq p)
 is_both Less p = refl
 is_both Equal p = refl
 is_both Greater p = refl

@@ -2,10 +2,13 @@ pub mod Apart
 pub mod Numbers
 pub mod Items
 pub mod Keys
+pub mod Keyed
+pub mod Judging
 pub mod Links
 pub mod Places
 pub mod Holding
 pub mod NextStatements
+pub mod Searching
 pub mod Walking
 pub mod Deciding
 pub mod Ranging

@@ -33,6 +33,11 @@ pub seen_last : {X E F : Type 0} (Answer : Tables → X → Type 0) (Fact : Tabl
 seen_last Answer Fact is looks (Ok u) p so = tells (λ t _. Fact t) (looked Answer is looks) (λ t h. so t h p)
 seen_last Answer Fact is looks (Err e) p so = fails (Err e) refl (looks_stays looks)
 
+-- some looks, and what a call on values made of what they answered
+pub told_last : {X E : Type 0} {Fact : Tables → Type 0} (Told : Tables → X → Type 0) {P : X → Type 0} {a b : State} → Looked Fact a b → (q : Result X E) → IfOk q P → ((t : Tables) (x : X) → Fact t → P x → Told t x) → Looks {X = X} {E = E} (Answers Told) a b q
+told_last Told it (Ok x) p so = tells Told it (λ t h. so t x h p)
+told_last Told it (Err e) p so = fails (Err e) refl it.stays
+
 -- several looks, and what a call on values saw in the end
 pub goes_last : {F : Type 0} {Fact : Tables → Type 0} (Told : Tables → Type 0) {P : Type 0} {a c : State} → GoesOn Fact a c → (HasCleanDisk c → IsTrue c.is_open) → (q : Result (Unit {0}) F) → IfOk q (λ _. P) → ((t : Tables) → Fact t → P → Told t) → Looks {X = Unit {0}} {E = F} (Answers (λ t _. Told t)) a c q
 goes_last Told it open' (Ok u) p so = goes_tell (λ t _. Told t) (record { stays = it.stays; told = λ clean is_open. let d = it.told clean is_open in (d.0, d.1, λ formed. so _ (d.2 formed) p) }) open'

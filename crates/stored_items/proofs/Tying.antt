@@ -1,4 +1,4 @@
--- The ties of rows, from what look-ups by number and by key tell.
+-- The ties of tables, from those of their parts.
 use Rattle.std.proofs.Common.{◌≡◌, ℤ, pos, Bool, true, false, refl, sym, subst, ◌∙◌, inl, inr}
 use Rattle.std.specs.Prelude.{◌&&◌, ◌||◌}
 use Rattle.std.specs.List.{AllByRecursion, list_any}
@@ -8,34 +8,15 @@ use Rattle.sheet_types.specs.World.{kind_number, base_kind, other_kind}
 use Rattle.sheet_types.specs.declared.command.Mapping.{Mapping}
 use Rattle.sheet_types.specs.declared.command.Mapping.TheVariants.{TilesMedia, RowsMedia, RowsTiles}
 use Rattle.sheet_types.proofs.Basics.{or-false}
-use Rattle.sheet_types.proofs.Every.{All-weaker, All-map, All-of_map}
+use Rattle.sheet_types.proofs.Every.{All-weaker}
 use Rattle.sheet_types.proofs.Same.{All-In, any_at}
 use Rattle.package_tables.specs.Package.{Tables}
 use Rattle.package_tables.specs.Mappings.{mapping_rows}
-use Rattle.identity_register.specs.Gathered.{tile_placed, medium_placed, attributes_placed}
 use Rattle.identity_register.specs.Numbering.{is_taken}
-use Rattle.identity_register.specs.declared.whole.Placed.{Placed}
 use Rattle.stored_items.specs.Tied.{AreTied, has_row, has_ends}
-use Rattle.stored_items.specs.Ties.{HaveIdentities, RowsHaveIdentities, PairsHaveIdentities, AllPairsHaveIdentities}
-use Rattle.stored_items.specs.Walks.{placed_in}
-use Rattle.stored_items.specs.declared.user_tables.UserTable.{UserTable}
-use Rattle.stored_items.specs.declared.user_tables.UserTable.TheVariants.{TileTable, MediaTable, RowTable}
+use Rattle.stored_items.specs.Ties.{RowsHaveIdentities, PairsHaveIdentities, AllPairsHaveIdentities}
 use Rattle.stored_items.proofs.Apart.{int_same}
 use Rattle.stored_items.proofs.Numbers.{which}
-
--- a row that has an identity
-abbrev pub IsNamed : Tables → Placed → Type 0
-IsNamed t x = is_taken x.kind x.number t ≡ true
-
-pub named_rows : (table : UserTable) (t : Tables) → AllByRecursion (IsNamed t) (placed_in table t) → HaveIdentities table t
-named_rows TileTable t h = All-of_map (IsNamed t) tile_placed t.tiles h
-named_rows MediaTable t h = All-of_map (IsNamed t) medium_placed t.media h
-named_rows RowTable t h = All-of_map (IsNamed t) attributes_placed t.rows h
-
-pub rows_named : (table : UserTable) (t : Tables) → HaveIdentities table t → AllByRecursion (IsNamed t) (placed_in table t)
-rows_named TileTable t h = All-map (IsNamed t) tile_placed t.tiles h
-rows_named MediaTable t h = All-map (IsNamed t) medium_placed t.media h
-rows_named RowTable t h = All-map (IsNamed t) attributes_placed t.rows h
 
 -- ---- a row by its kind and number
 

@@ -1,186 +1,145 @@
-//! Whether rows, identities and mapping rows belong together. An error is want of memory, or a store that failed; the store holds what it held.
-ghost use Rattle.std.specs.Prelude.{◌≡◌, true};
+//! Whether rows, identities and mapping rows belong together: their numbers are read, a statement a table, and compared in memory. An error is want of memory, or a store that failed; the store holds what it held.
+ghost use Rattle.std.specs.Prelude.{◌≡◌, ◌++◌, pos, map, true, IfOk, IsPermutation, IsSorted};
 ghost use Rattle.std.specs.List.{AllByRecursion};
 ghost use Rattle.sqlite.specs.Held.{state};
 ghost use Rattle.sql_meaning.specs.Transactions.{Rests};
-ghost use Rattle.identity_register.specs.Numbering.{is_taken};
 ghost use Rattle.package_tables.specs.Calls.{LooksUp};
-ghost use Rattle.stored_items.specs.Answers.{Decides, LooksOn};
-ghost use Rattle.stored_items.specs.Tied.{AreTied, has_row};
-ghost use Rattle.stored_items.specs.Ties.{HaveIdentities, RowsHaveIdentities, PairsHaveIdentities, AllPairsHaveIdentities, has_identities};
+ghost use Rattle.package_tables.specs.Package.{Tables};
+ghost use Rattle.stored_items.specs.Answers.{Decides};
+ghost use Rattle.stored_items.specs.Tied.{AreTied};
+ghost use Rattle.stored_items.specs.Ties.{key_cmp, name_key, row_keys, has_names, AreKeysOf};
 
-use crate::next_rows::next_row;
-use crate::user_tables::UserTable;
+use crate::row_ids::{attribute_ids, medium_ids, tile_ids};
+use crate::sorted::{has, has_all, in_order};
 use identity_register::kinds::{MEDIUM, ROW, TILE, number_of_kind};
-use package_tables::attributes::attribute_by_id;
 use package_tables::fault::Fault;
-use package_tables::identities::{all_identities, identity_by_key};
+use package_tables::identities::all_identities;
 use package_tables::mappings::all_pairs;
-use package_tables::media::medium_by_id;
 use package_tables::rows::{IdentityRow, MappingRow};
-use package_tables::tiles::tile_by_id;
 use sheet_types::command::Mapping;
 use sqlite::{Alter, Connection};
 use std::alloc::Global;
 
-/// Whether the row of this kind and number has an identity.
-fn has_identity<S: Alter>(conn: &mut Connection<S>, kind: i64, number: i64) -> Result<bool, Fault>
-    requires { Rests (state S.Store conn.old) }
-    ensures { LooksUp (λ t found. found ≡ is_taken kind number t) (state S.Store conn.old) (state S.Store conn.new) result }
-{
-    let found = identity_by_key(conn, kind, number)?;
-    Ok(found.is_some())
+/// All by which a store's tables are tied: the kinds and numbers of its identities and of its rows, and its mapping rows.
+#[derive(Drop)]
+struct TieKeys {
+    names: Vec<(i64, i64)>,
+    rows: Vec<(i64, i64)>,
+    tiles_media: Vec<MappingRow>,
+    rows_media: Vec<MappingRow>,
+    rows_tiles: Vec<MappingRow>,
 }
 
-/// Whether each row of a user table has an identity.
-fn rows_have_identities<S: Alter>(conn: &mut Connection<S>, table: UserTable) -> Result<bool, Fault>
-    requires { Rests (state S.Store conn.old) }
-    ensures { LooksUp (λ t. Decides (HaveIdentities table t)) (state S.Store conn.old) (state S.Store conn.new) result }
+/// The kinds and numbers of identity rows.
+fn names_of(alloc: Global, rows: Vec<IdentityRow>) -> Result<Vec<(i64, i64)>, Fault>
+    ensures { IfOk result (λ names. names.items ≡ map name_key rows.items) }
 {
-    let mut last = None;
-    for _ in 0..u64::MAX {
-        match next_row(conn, table, last)? {
-            None => return Ok(true),
-            Some(row) => {
-                if !has_identity(conn, row.kind, row.number)? {
-                    return Ok(false);
-                }
-                last = Some(row.number);
-            }
-        }
-    }
-    Err(Fault::StoreFault)
+    let names = rows.into_iter().map(|row| (row.kind, row.local_id));
+    Ok(names.collect(alloc)?)
 }
 
-/// Whether each row of all user tables has one.
-fn all_rows_have_identities<S: Alter>(conn: &mut Connection<S>) -> Result<bool, Fault>
+/// The kinds and numbers of all identities.
+fn read_names<S: Alter>(
+    conn: &mut Connection<S>,
+    alloc: Global,
+) -> Result<Vec<(i64, i64)>, Fault>
     requires { Rests (state S.Store conn.old) }
-    ensures { LooksUp (λ t. Decides (RowsHaveIdentities t)) (state S.Store conn.old) (state S.Store conn.new) result }
-{
-    if !rows_have_identities(conn, UserTable::TileTable)? {
-        return Ok(false);
-    }
-    if !rows_have_identities(conn, UserTable::MediaTable)? {
-        return Ok(false);
-    }
-    rows_have_identities(conn, UserTable::RowTable)
-}
-
-/// Whether the user table of this kind has a row of this number.
-fn has_row<S: Alter>(conn: &mut Connection<S>, kind: i64, number: i64) -> Result<bool, Fault>
-    requires { Rests (state S.Store conn.old) }
-    ensures { LooksUp (λ t found. found ≡ has_row kind number t) (state S.Store conn.old) (state S.Store conn.new) result }
-{
-    match kind {
-        TILE => {
-            let tile = tile_by_id(conn, number)?;
-            Ok(tile.is_some())
-        }
-        MEDIUM => {
-            let medium = medium_by_id(conn, number)?;
-            Ok(medium.is_some())
-        }
-        ROW => {
-            let row = attribute_by_id(conn, number)?;
-            Ok(row.is_some())
-        }
-        _ => Err(Fault::StoreFault),
-    }
-}
-
-/// Whether each of these identity rows has a row.
-fn have_rows<S: Alter>(conn: &mut Connection<S>, rows: &[IdentityRow]) -> Result<bool, Fault>
-    requires { Rests (state S.Store conn.old) }
-    ensures { LooksOn (λ t. Decides (AllByRecursion (λ r. has_row r.kind r.local_id t ≡ true) rows.now)) (state S.Store conn.old) (state S.Store conn.new) result }
-{
-    for row in rows {
-        if !has_row(conn, row.kind, row.local_id)? {
-            return Ok(false);
-        }
-    }
-    Ok(true)
-}
-
-/// Whether each identity of the store has a row.
-fn identities_have_rows<S: Alter>(conn: &mut Connection<S>, alloc: Global) -> Result<bool, Fault>
-    requires { Rests (state S.Store conn.old) }
-    ensures { LooksUp (λ t. Decides (AllByRecursion (λ r. has_row r.kind r.local_id t ≡ true) t.identities)) (state S.Store conn.old) (state S.Store conn.new) result }
+    ensures { LooksUp (λ t names. IsPermutation (map name_key t.identities) names.items) (state S.Store conn.old) (state S.Store conn.new) result }
 {
     let rows = all_identities(conn, alloc)?;
-    have_rows(conn, &rows)
+    names_of(alloc, rows)
 }
 
-/// Whether both numbers of a mapping row have identities of the kinds that the mapping relates.
-fn has_identities<S: Alter>(
-    conn: &mut Connection<S>,
-    mapping: Mapping,
-    pair: MappingRow,
-) -> Result<bool, Fault>
-    requires { Rests (state S.Store conn.old) }
-    ensures { LooksUp (λ t found. found ≡ has_identities mapping t pair) (state S.Store conn.old) (state S.Store conn.new) result }
+/// The numbers of rows of the three user tables, each with its kind.
+fn keys_of(
+    alloc: Global,
+    tiles: Vec<i64>,
+    media: Vec<i64>,
+    rows: Vec<i64>,
+) -> Result<Vec<(i64, i64)>, Fault>
+    ensures { IfOk result (λ keys. keys.items ≡ map (λ n. (pos 1, n)) tiles.items ++ map (λ n. (pos 2, n)) media.items ++ map (λ n. (pos 3, n)) rows.items) }
 {
-    let base = has_identity(conn, number_of_kind(mapping.base_kind()), pair.base_id)?;
-    let other = has_identity(conn, number_of_kind(mapping.other_kind()), pair.related_id)?;
-    Ok(base & other)
+    let tiles = tiles.into_iter().map(|number| (TILE, number));
+    let media = media.into_iter().map(|number| (MEDIUM, number));
+    let rows = rows.into_iter().map(|number| (ROW, number));
+    Ok(tiles.chain(media).chain(rows).collect(alloc)?)
 }
 
-/// Whether each of these mapping rows has.
-fn have_identities<S: Alter>(
+/// The kinds and numbers of all rows of the user tables.
+fn read_rows<S: Alter>(
     conn: &mut Connection<S>,
-    mapping: Mapping,
-    pairs: &[MappingRow],
-) -> Result<bool, Fault>
+    alloc: Global,
+) -> Result<Vec<(i64, i64)>, Fault>
     requires { Rests (state S.Store conn.old) }
-    ensures { LooksOn (λ t. Decides (AllByRecursion (λ r. has_identities mapping t r ≡ true) pairs.now)) (state S.Store conn.old) (state S.Store conn.new) result }
+    ensures { LooksUp (λ t keys. IsPermutation (row_keys t) keys.items) (state S.Store conn.old) (state S.Store conn.new) result }
+{
+    let tiles = tile_ids(conn, alloc)?;
+    let media = medium_ids(conn, alloc)?;
+    let rows = attribute_ids(conn, alloc)?;
+    keys_of(alloc, tiles, media, rows)
+}
+
+/// All of it, read a table at a time.
+fn read_keys<S: Alter>(conn: &mut Connection<S>, alloc: Global) -> Result<TieKeys, Fault>
+    requires { Rests (state S.Store conn.old) }
+    ensures { LooksUp AreKeysOf (state S.Store conn.old) (state S.Store conn.new) result }
+{
+    let names = read_names(conn, alloc)?;
+    let rows = read_rows(conn, alloc)?;
+    let tiles_media = all_pairs(conn, Mapping::TilesMedia, alloc)?;
+    let rows_media = all_pairs(conn, Mapping::RowsMedia, alloc)?;
+    let rows_tiles = all_pairs(conn, Mapping::RowsTiles, alloc)?;
+    Ok(TieKeys {
+        names,
+        rows,
+        tiles_media,
+        rows_media,
+        rows_tiles,
+    })
+}
+
+/// Whether both numbers of a mapping row are those of identities, each of the kind that the mapping relates.
+fn has_names(names: &[(i64, i64)], mapping: Mapping, pair: MappingRow) -> bool
+    requires { IsSorted key_cmp names.now }
+    ensures { result ≡ has_names names.now mapping pair }
+{
+    let base = has(names, &(number_of_kind(mapping.base_kind()), pair.base_id));
+    let other = has(names, &(number_of_kind(mapping.other_kind()), pair.related_id));
+    base & other
+}
+
+/// Whether those of each mapping row are.
+fn have_names(names: &[(i64, i64)], mapping: Mapping, pairs: &[MappingRow]) -> bool
+    requires { IsSorted key_cmp names.now }
+    ensures { Decides (AllByRecursion (λ r. has_names names.now mapping r ≡ true) pairs.now) result }
 {
     for pair in pairs {
-        if !has_identities(conn, mapping, *pair)? {
-            return Ok(false);
+        if !has_names(names, mapping, *pair) {
+            return false;
         }
     }
-    Ok(true)
+    true
 }
 
-/// Whether each row of a mapping table has.
-fn pairs_have_identities<S: Alter>(
-    conn: &mut Connection<S>,
-    mapping: Mapping,
-    alloc: Global,
-) -> Result<bool, Fault>
-    requires { Rests (state S.Store conn.old) }
-    ensures { LooksUp (λ t. Decides (PairsHaveIdentities mapping t)) (state S.Store conn.old) (state S.Store conn.new) result }
+/// Whether tables that have these keys are tied.
+fn are_tied_by(keys: TieKeys) -> bool
+    ensures { (t : Tables) → AreKeysOf t keys → Decides (AreTied t) result }
 {
-    let pairs = all_pairs(conn, mapping, alloc)?;
-    have_identities(conn, mapping, &pairs)
+    let names = in_order(keys.names);
+    let rows = in_order(keys.rows);
+    let rows_have_names = has_all(&names, &rows);
+    let names_have_rows = has_all(&rows, &names);
+    let tiles_media = have_names(&names, Mapping::TilesMedia, &keys.tiles_media);
+    let rows_media = have_names(&names, Mapping::RowsMedia, &keys.rows_media);
+    let rows_tiles = have_names(&names, Mapping::RowsTiles, &keys.rows_tiles);
+    rows_have_names & names_have_rows & tiles_media & rows_media & rows_tiles
 }
 
-/// Whether each row of all mapping tables has.
-fn all_pairs_have_identities<S: Alter>(
-    conn: &mut Connection<S>,
-    alloc: Global,
-) -> Result<bool, Fault>
-    requires { Rests (state S.Store conn.old) }
-    ensures { LooksUp (λ t. Decides (AllPairsHaveIdentities t)) (state S.Store conn.old) (state S.Store conn.new) result }
-{
-    if !pairs_have_identities(conn, Mapping::TilesMedia, alloc)? {
-        return Ok(false);
-    }
-    if !pairs_have_identities(conn, Mapping::RowsMedia, alloc)? {
-        return Ok(false);
-    }
-    pairs_have_identities(conn, Mapping::RowsTiles, alloc)
-}
-
-/// Whether each row of the user tables has an identity, each identity a row, and each mapping row the rows of its numbers. Contents are read one at a time.
+/// Whether each row of the user tables has an identity, each identity a row, and each mapping row the rows of its numbers. What is compared is in memory: two numbers a row, an identity and a mapping row.
 pub fn are_tied<S: Alter>(conn: &mut Connection<S>, alloc: Global) -> Result<bool, Fault>
     requires { Rests (state S.Store conn.old) }
     ensures { LooksUp (λ t. Decides (AreTied t)) (state S.Store conn.old) (state S.Store conn.new) result }
 {
-    if !all_rows_have_identities(conn)? {
-        return Ok(false);
-    }
-    if !identities_have_rows(conn, alloc)? {
-        return Ok(false);
-    }
-    all_pairs_have_identities(conn, alloc)
+    let keys = read_keys(conn, alloc)?;
+    Ok(are_tied_by(keys))
 }
