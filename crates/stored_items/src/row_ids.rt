@@ -20,10 +20,7 @@ fn of_tiles(alloc: Global, rows: Vec<TileRow>) -> Result<Vec<i64>, Fault>
 }
 
 /// The numbers of all tiles.
-pub(crate) fn tile_ids<S: Alter>(
-    conn: &mut Connection<S>,
-    alloc: Global,
-) -> Result<Vec<i64>, Fault>
+pub(crate) fn tile_ids<S: Alter>(conn: &mut Connection<S>, alloc: Global) -> Result<Vec<i64>, Fault>
     requires { Rests (state S.Store conn.old) }
     ensures { LooksUp (λ t ids. IsPermutation (map (λ r. r.id) t.tiles) ids.items) (state S.Store conn.old) (state S.Store conn.new) result }
 {
