@@ -10,7 +10,7 @@ use Rattle.stored_items.proofs.Seen.{told_last}
 use Rattle.stored_items.proofs.tied.read_rows.Goals as goal
 
 -- the numbers of a table, each with the number of its kind
-with_kind : {X : Type 0} (n : ℤ) (id : X → ℤ) (xs : List X) (ids : List ℤ) → ids ≡ map id xs → map (λ i. (n, i)) ids ≡ map (λ x. (n, id x)) xs
+with_kind : {X : Type 0} (n : ℤ) (id : X → ℤ) (xs : List X) (ids : List ℤ) → ids ≡ map id xs → map {B = ℤ × ℤ} (λ i. (n, i)) ids ≡ map {B = ℤ × ℤ} (λ x. (n, id x)) xs
 with_kind {X} n id xs ids same =
     let pair : ℤ → ℤ × ℤ = λ i. (n, i) in
     ap (map pair) same ∙ map_again pair id xs
@@ -27,5 +27,5 @@ returns g c =
     (looked_then (λ t ids. ids.items ≡ map (λ r. r.id) t.rows) (looked_then (λ t ids. ids.items ≡ map (λ r. r.id) t.media) (looked (λ t ids. ids.items ≡ map (λ r. r.id) t.tiles) c.in_ok-tiles.was c.tile_ids.ensures) c.in_ok-media.was c.medium_ids.ensures) c.in_ok-rows.was c.attribute_ids.ensures)
     c.keys_of.result c.keys_of.ensures
     (λ t keys h is.
-    let all = λ n. (with_kind (pos 1) (λ r. r.id) t.tiles tiles h.0.0 n ++ with_kind (pos 2) (λ r. r.id) t.media media h.0.1 n) ++ with_kind (pos 3) (λ r. r.id) t.rows rows h.1 n in
+    let all : (map {B = ℤ × ℤ} (λ i. (pos 1, i)) tiles ++ map {B = ℤ × ℤ} (λ i. (pos 2, i)) media) ++ map {B = ℤ × ℤ} (λ i. (pos 3, i)) rows ≡ row_keys t = λ n. (with_kind (pos 1) (λ r. r.id) t.tiles tiles h.0.0 n ++ with_kind (pos 2) (λ r. r.id) t.media media h.0.1 n) ++ with_kind (pos 3) (λ r. r.id) t.rows rows h.1 n in
     subst (IsPermutation (row_keys t)) (sym (is ∙ all)) (IsPermutation-refl (row_keys t)))
