@@ -9,13 +9,15 @@ ghost use Rattle.stored_items.specs.Answers.{Decides};
 ghost use Rattle.stored_items.specs.Tied.{AreTied};
 ghost use Rattle.stored_items.specs.Ties.{key_cmp, name_key, row_keys, has_names, AreKeysOf};
 
-use crate::row_ids::{attribute_ids, medium_ids, tile_ids};
 use crate::sorted::{has, has_all, in_order};
 use identity_register::kinds::{MEDIUM, ROW, TILE, number_of_kind};
+use package_tables::attributes::attribute_ids;
 use package_tables::fault::Fault;
 use package_tables::identities::all_identities;
 use package_tables::mappings::all_pairs;
+use package_tables::media::medium_ids;
 use package_tables::rows::{IdentityRow, MappingRow};
+use package_tables::tiles::tile_ids;
 use sheet_types::command::Mapping;
 use sqlite::{Alter, Connection};
 use std::alloc::Global;
