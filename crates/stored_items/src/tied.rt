@@ -41,10 +41,7 @@ fn names_of(alloc: Global, rows: Vec<IdentityRow>) -> Result<Vec<(i64, i64)>, Fa
 }
 
 /// The kinds and numbers of all identities.
-fn read_names<S: Alter>(
-    conn: &mut Connection<S>,
-    alloc: Global,
-) -> Result<Vec<(i64, i64)>, Fault>
+fn read_names<S: Alter>(conn: &mut Connection<S>, alloc: Global) -> Result<Vec<(i64, i64)>, Fault>
     requires { Rests (state S.Store conn.old) }
     ensures { LooksUp (λ t names. IsPermutation (map name_key t.identities) names.items) (state S.Store conn.old) (state S.Store conn.new) result }
 {
@@ -68,10 +65,7 @@ fn keys_of(
 }
 
 /// The kinds and numbers of all rows of the user tables.
-fn read_rows<S: Alter>(
-    conn: &mut Connection<S>,
-    alloc: Global,
-) -> Result<Vec<(i64, i64)>, Fault>
+fn read_rows<S: Alter>(conn: &mut Connection<S>, alloc: Global) -> Result<Vec<(i64, i64)>, Fault>
     requires { Rests (state S.Store conn.old) }
     ensures { LooksUp (λ t keys. IsPermutation (row_keys t) keys.items) (state S.Store conn.old) (state S.Store conn.new) result }
 {
@@ -106,7 +100,10 @@ fn has_names(names: &[(i64, i64)], mapping: Mapping, pair: MappingRow) -> bool
     ensures { result ≡ has_names names.now mapping pair }
 {
     let base = has(names, &(number_of_kind(mapping.base_kind()), pair.base_id));
-    let other = has(names, &(number_of_kind(mapping.other_kind()), pair.related_id));
+    let other = has(
+        names,
+        &(number_of_kind(mapping.other_kind()), pair.related_id),
+    );
     base & other
 }
 
