@@ -53,8 +53,8 @@ within_is a b = grind (arith, ints)
 abbrev pub is_tile_at : ℤ → ℤ → ℤ → TileRow → Bool
 is_tile_at zoom column row x = int_eq x.zoom_level zoom && int_eq x.tile_column column && int_eq x.tile_row row
 
-abbrev pub IsTileAt : ℤ → ℤ → ℤ → Tables → Option TileRow → Type 0
-IsTileAt zoom column row t = IsOneOf (is_tile_at zoom column row) t.tiles
+abbrev pub HasTileAt : ℤ → ℤ → ℤ → Tables → Bool → Type 0
+HasTileAt zoom column row t found = found ≡ list_any (is_tile_at zoom column row) t.tiles
 
 -- a row of an identity, if there is one
 abbrev pub IsRowFor : List ℕ → Tables → Option IdentityRow → Type 0

@@ -37,7 +37,7 @@ use Rattle.sheet_types.proofs.KindNumbers.{same_mapping}
 use Rattle.sheet_types.proofs.Order.{filter_arranged}
 use Rattle.sheet_types.proofs.Same.{In, In-all, In-filter, In-map, In-of_map, In-append, In-of_append, In-flat_map, In-of_flat_map, same_list}
 use Rattle.matrix_rules.specs.declared.spans.Span.{Span}
-use Rattle.package_tables.specs.Calls.{Answers, AreThose}
+use Rattle.package_tables.specs.Calls.{Answers, AreThose, AreNumbersOf}
 use Rattle.package_tables.specs.Package.{Tables, tables_of, AreFormed}
 use Rattle.package_tables.specs.Mappings.{mapping_rows}
 use Rattle.package_tables.specs.Shapes.{tile_shape, attribute_shape}
@@ -167,7 +167,7 @@ module _ (f : Frame) (p : Package) (t : Tables) (says : Says f p t) where
     kinds = All-weaker (λ i. In i passing) (λ i. kind_number (kind_of i.content) ≡ kind_number kind)
         (λ i here. let passes = (In-of_filter (λ i. test i.content) i p.items here).1 in let r = row (pos 0) i.content passes in ap kind_number (of (pos 0) i.content r.0 r.1).1) passing (In-all passing)
 
-    pub names_are : (asked : List R) (names found : List (List ℕ)) → AreThose keeps table asked → AllZip (IsNamed t.identities (pos (kind_number kind))) (map number asked) names → IsPermutation names found → IsArranged (λ id. id) found
+    pub names_are : (asked : List ℤ) (names found : List (List ℕ)) → AreNumbersOf number keeps table asked → AllZip (IsNamed t.identities (pos (kind_number kind))) asked names → IsPermutation names found → IsArranged (λ id. id) found
         → found ≡ identities (filter (λ i. test i.content) p.items)
     names_are asked names found those named moves order =
         same_list (λ id. id) found (identities passing) order (of_one_kind (kind_number kind) passing (filter_arranged item_key (λ i. test i.content) p.items (items_arranged f t p says)) kinds) to fro
@@ -185,9 +185,9 @@ module _ (f : Frame) (p : Package) (t : Tables) (says : Says f p t) where
 
         to : (id : List ℕ) → In id found → In id (identities passing)
         to id i =
-            let a = zip_right IsOf id (map number asked) names named (moved id found names (IsPermutation-sym names found moves) i) in
-            let r = In-of_map number a.0 asked a.1 in
-            let kept = In-of_filter keeps r.0 table (moved r.0 asked (filter keeps table) (IsPermutation-sym (filter keeps table) asked those) r.1) in
+            let a = zip_right IsOf id asked names named (moved id found names (IsPermutation-sym names found moves) i) in
+            let r = In-of_map number a.0 (filter keeps table) (moved a.0 asked (map number (filter keeps table)) (IsPermutation-sym (map number (filter keeps table)) asked those) a.1) in
+            let kept = In-of_filter keeps r.0 table r.1 in
             let m = In-of_flat_map (λ n. rows n.number n.item.content) r.0 says.numbered (in_arranged key (flat_map (λ n. rows n.number n.item.content) says.numbered) r.0 (subst (In r.0) is kept.0)) in
             let o = of m.0.number m.0.item.content r.0 m.2 in
             let same : m.0.item.identity ≡ id = one_item a.0 id a.2 m.0 m.1 o.1 (o.0 ∙ r.2) in
@@ -202,8 +202,8 @@ module _ (f : Frame) (p : Package) (t : Tables) (says : Says f p t) where
             let r = row n.0.number n.0.item.content passes in
             let o = of n.0.number n.0.item.content r.0 r.1 in
             let stored : In r.0 table = subst (In r.0) (sym is) (to_arranged key r.0 (flat_map (λ n. rows n.number n.item.content) says.numbered) (In-flat_map (λ n. rows n.number n.item.content) n.0 r.0 says.numbered n.1 r.1)) in
-            let here = moved r.0 (filter keeps table) asked those (In-filter keeps r.0 table stored (o.2 ∙ passes)) in
-            let a = zip_left IsOf (number r.0) (map number asked) names named (In-map number r.0 asked here) in
+            let here = moved (number r.0) (map number (filter keeps table)) asked those (In-map number r.0 (filter keeps table) (In-filter keeps r.0 table stored (o.2 ∙ passes))) in
+            let a = zip_left IsOf (number r.0) asked names named here in
             let same : n.0.item.identity ≡ a.0 = one_item (number r.0) a.0 a.2 n.0 n.1 o.1 o.0 in
             subst (λ v. In v found) (sym same ∙ ap (λ v. v.identity) n.2 ∙ x.2) (moved a.0 names found moves a.1)
 
@@ -228,7 +228,7 @@ module _ (f : Frame) (p : Package) (t : Tables) (says : Says f p t) where
   tile_row z s k (Media c b) h = absurd (true≢false (sym h))
   tile_row z s k (Row x y c l) h = absurd (true≢false (sym h))
 
-  pub tiles_are : (z : ℤ) (s : Span) (asked : List TileRow) (names found : List (List ℕ)) → AreThose (is_between z s) t.tiles asked → AllZip (IsNamed t.identities (pos 1)) (map (λ x. x.id) asked) names → IsPermutation names found → IsArranged (λ id. id) found
+  pub tiles_are : (z : ℤ) (s : Span) (asked : List ℤ) (names found : List (List ℕ)) → AreNumbersOf (λ x. x.id) (is_between z s) t.tiles asked → AllZip (IsNamed t.identities (pos 1)) asked names → IsPermutation names found → IsArranged (λ id. id) found
       → found ≡ tiles_in p z s
   tiles_are z s = names_are TileItem (λ x. x.id) tile_rows tile_shape.key t.tiles says.tiles (is_between z s) (stands_in z s) (tile_of z s) (tile_row z s)
 
@@ -244,7 +244,7 @@ module _ (f : Frame) (p : Package) (t : Tables) (says : Says f p t) where
   row_row g k (Media c b) h = absurd (true≢false (sym h))
   row_row g k (Row x y c l) h = (record { id = k; x = x; y = y; code = c; label = l }, inl refl)
 
-  pub rows_are : (g : Ground) (asked : List AttributeRow) (names found : List (List ℕ)) → AreThose (is_on g) t.rows asked → AllZip (IsNamed t.identities (pos 3)) (map (λ x. x.id) asked) names → IsPermutation names found → IsArranged (λ id. id) found
+  pub rows_are : (g : Ground) (asked : List ℤ) (names found : List (List ℕ)) → AreNumbersOf (λ x. x.id) (is_on g) t.rows asked → AllZip (IsNamed t.identities (pos 3)) asked names → IsPermutation names found → IsArranged (λ id. id) found
       → found ≡ rows_in p g
   rows_are g = names_are RowItem (λ x. x.id) attribute_rows attribute_shape.key t.rows says.rows (is_on g) (lies_on g) (row_of g) (row_row g)
 

@@ -23,7 +23,7 @@ use package_tables::identities::identity_by_uuid;
 use package_tables::mappings::{pair_of_base, pair_of_ends, pair_of_related};
 use package_tables::media::medium_by_id;
 use package_tables::rows::IdentityRow;
-use package_tables::tiles::{tile_at, tile_by_id};
+use package_tables::tiles::{has_tile_at as has_row_at, tile_by_id};
 use sheet_types::command::{Content, Item, Mapping, Relation};
 use sqlite::{Alter, Connection};
 use uuid::Uuid;
@@ -52,8 +52,8 @@ pub fn has_tile_at<S: Alter>(
     requires { Rests (state S.Store conn.old) }
     ensures { Looks (Sees (λ f p found. found ≡ list_any (λ i. is_at zoom column row i.content) p.items)) (state S.Store conn.old) (state S.Store conn.new) result }
 {
-    let found = tile_at(conn, zoom, column, row)?;
-    Ok(found.is_some())
+    let found = has_row_at(conn, zoom, column, row)?;
+    Ok(found)
 }
 
 /// Whether rows of these kinds can be the ends of a relation (OGC 18-000, user-defined mapping tables).

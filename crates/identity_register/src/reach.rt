@@ -19,12 +19,12 @@ use crate::look_ups::{mappings_of, row_of};
 use crate::stored_texts::stored_uuid;
 use crate::whole::links_in_order;
 use matrix_rules::spans::Span;
-use package_tables::attributes::attributes_within;
+use package_tables::attributes::attribute_ids_within;
 use package_tables::fault::Fault;
 use package_tables::identities::identity_by_key;
 use package_tables::mappings::{pairs_of_base, pairs_of_related};
-use package_tables::rows::{AttributeRow, MappingRow, TileRow};
-use package_tables::tiles::tiles_between;
+use package_tables::rows::MappingRow;
+use package_tables::tiles::tile_ids_between;
 use sheet_types::command::{Mapping, Relation};
 use sheet_types::frame::Ground;
 use sheet_types::sorting::uuid_is_before;
@@ -57,20 +57,6 @@ pub trait Reach {
     fn links_of(&mut self, identity: Uuid, alloc: Global) -> Result<Vec<Relation>, Fault>
         requires { can_ask self.old }
         ensures { Asks can_ask stays shows (λ p found. found.items ≡ links_of p identity) self.old self.new result };
-}
-
-/// The numbers of tiles.
-fn tile_numbers(tiles: &[TileRow], alloc: Global) -> Result<Vec<i64>, Fault>
-    ensures { IfOk result (λ numbers. numbers.items ≡ map (λ x. x.id) tiles.now) }
-{
-    Ok(tiles.iter().map(|tile| tile.id).collect(alloc)?)
-}
-
-/// The numbers of attributes rows.
-fn row_numbers(rows: &[AttributeRow], alloc: Global) -> Result<Vec<i64>, Fault>
-    ensures { IfOk result (λ numbers. numbers.items ≡ map (λ x. x.id) rows.now) }
-{
-    Ok(rows.iter().map(|row| row.id).collect(alloc)?)
 }
 
 /// The numbers of the bases of relations.
@@ -143,8 +129,7 @@ pub fn tiles_in<S: Alter>(
         row,
         last_row,
     } = *span;
-    let tiles = tiles_between(conn, alloc, zoom, column, last_column, row, last_row)?;
-    let numbers = tile_numbers(&tiles, alloc)?;
+    let numbers = tile_ids_between(conn, alloc, zoom, column, last_column, row, last_row)?;
     let names = names_of(conn, TILE, &numbers, alloc)?;
     names_in_order(names)
 }
@@ -164,8 +149,7 @@ pub fn rows_in<S: Alter>(
         east,
         north,
     } = *ground;
-    let rows = attributes_within(conn, alloc, west, east, south, north)?;
-    let numbers = row_numbers(&rows, alloc)?;
+    let numbers = attribute_ids_within(conn, alloc, west, east, south, north)?;
     let names = names_of(conn, ROW, &numbers, alloc)?;
     names_in_order(names)
 }

@@ -12,8 +12,8 @@ use Rattle.sql_meaning.specs.Resolving.{resolving}
 use Rattle.sql_meaning.specs.Reading.{always, equals, compares, both, ascending, descending}
 use Rattle.sql_meaning.proofs.Insert.{IsInsert, IsRow}
 use Rattle.sql_meaning.proofs.Delete.{IsDelete, IsPlannedDelete}
-use Rattle.sql_meaning.proofs.Resolve.{one_table, one_source}
-use Rattle.sql_meaning.proofs.Select.{IsSelect, IsPlannedSelect}
+use Rattle.sql_meaning.proofs.Resolve.{one_table, one_source, over_table, all_rows}
+use Rattle.sql_meaning.proofs.Select.{IsSelect, IsPlannedSelect, IsNamed, IsPlannedNamed, asked_named}
 use Rattle.sql_meaning.proofs.First.{IsFirst, IsPlannedFirst}
 use Rattle.package_tables.specs.Tables.{sheet_rows}
 use Rattle.package_tables.specs.Shapes.{attribute_shape, int_at, text_at}
@@ -22,6 +22,7 @@ use Rattle.package_tables.specs.Shown.{attribute_shown}
 use Rattle.package_tables.specs.declared.rows.AttributeRow.{AttributeRow}
 use Rattle.package_tables.proofs.Looking.{IsKnown, IsLookUp, IsRanked}
 use Rattle.package_tables.proofs.Newest.{IsNewest}
+use Rattle.package_tables.proofs.Numbering.{IsNumbering}
 use Rattle.package_tables.proofs.Ranking.{one_number}
 use Rattle.package_tables.proofs.Values.{same_number, at_least, at_most, above, below, both_same}
 use Rattle.package_tables.proofs.Written.{attributes_listed}
@@ -148,3 +149,78 @@ newest_plan tree schema at h = rw (h.stored, h.by_tree) refl
 
 pub newest : IsNewest attribute_shape (λ x. x.id) (codes "SELECT * FROM sheet_rows ORDER BY id DESC LIMIT 1") [] (λ x. true)
 newest = record { test = _; by = _; selects = newest_text; planned = newest_plan; given = refl; pass = _; shown = _; is = λ tree. refl; passing = λ v x. refl; begins = λ v x. refl; keyed = λ v x. refl }
+
+ids_text : (tree : ℕ) → IsNamed (codes "SELECT id FROM sheet_rows") (sheet_rows tree) (0 ∷ []) always [] all_rows
+unfolding everything
+ids_text tree = record {
+  parse = _;
+  asks = _;
+  src = _;
+  items = _;
+  parsed = refl;
+  statement = refl;
+  formats = refl;
+  one = over_table refl refl refl refl refl refl refl refl refl refl refl refl;
+  paged = λ schema. refl;
+  columns = ((_, _, refl, (_, _, refl, refl, refl)), tt);
+  condition = refl;
+  orders = tt;
+  enough = refl;
+}
+
+ids_plan : (tree : ℕ) → IsPlannedNamed (sheet_rows tree) (0 ∷ []) always [] all_rows
+unfolding resolving
+ids_plan tree schema at h = rw (h.stored, h.by_tree) refl
+
+pub ids : IsNumbering attribute_shape (λ x. x.id) (codes "SELECT id FROM sheet_rows") [] (λ x. true)
+ids = record { test = _; project = _; by = _; asked = λ tree. asked_named (ids_text tree) (ids_plan tree); given = refl; listing = _; is = λ tree. refl; shows = λ v x. refl; passing = λ v x. refl }
+
+has_attribute_text : (tree : ℕ) → IsNamed (codes "SELECT id FROM sheet_rows WHERE id = ?1") (sheet_rows tree) (0 ∷ []) (equals 0 0) [] all_rows
+unfolding everything
+has_attribute_text tree = record {
+  parse = _;
+  asks = _;
+  src = _;
+  items = _;
+  parsed = refl;
+  statement = refl;
+  formats = refl;
+  one = over_table refl refl refl refl refl refl refl refl refl refl refl refl;
+  paged = λ schema. refl;
+  columns = ((_, _, refl, (_, _, refl, refl, refl)), tt);
+  condition = (_, refl, (_, _, _, _, refl, refl, refl, refl, refl, refl, refl));
+  orders = tt;
+  enough = refl;
+}
+
+has_attribute_plan : (tree : ℕ) → IsPlannedNamed (sheet_rows tree) (0 ∷ []) (equals 0 0) [] all_rows
+unfolding resolving
+has_attribute_plan tree schema at h = rw (h.stored, h.by_tree) refl
+
+pub has_attribute : (id : ℤ) → IsNumbering attribute_shape (λ x. x.id) (codes "SELECT id FROM sheet_rows WHERE id = ?1") (Int id ∷ []) (λ x. int_eq x.id id)
+has_attribute id = record { test = _; project = _; by = _; asked = λ tree. asked_named (has_attribute_text tree) (has_attribute_plan tree); given = refl; listing = _; is = λ tree. refl; shows = λ v x. refl; passing = λ v x. (same_number x.id id) }
+
+attribute_ids_within_text : (tree : ℕ) → IsNamed (codes "SELECT id FROM sheet_rows WHERE x >= ?1 AND x < ?2 AND y > ?3 AND y <= ?4") (sheet_rows tree) (0 ∷ []) (both (both (both (compares Ge 1 0) (compares Lt 1 1)) (compares Gt 2 2)) (compares Le 2 3)) [] all_rows
+unfolding everything
+attribute_ids_within_text tree = record {
+  parse = _;
+  asks = _;
+  src = _;
+  items = _;
+  parsed = refl;
+  statement = refl;
+  formats = refl;
+  one = over_table refl refl refl refl refl refl refl refl refl refl refl refl;
+  paged = λ schema. refl;
+  columns = ((_, _, refl, (_, _, refl, refl, refl)), tt);
+  condition = (_, refl, (_, _, refl, (_, _, refl, (_, _, refl, (_, _, _, _, refl, refl, refl, refl, refl, refl, refl), (_, _, _, _, refl, refl, refl, refl, refl, refl, refl)), (_, _, _, _, refl, refl, refl, refl, refl, refl, refl)), (_, _, _, _, refl, refl, refl, refl, refl, refl, refl)));
+  orders = tt;
+  enough = refl;
+}
+
+attribute_ids_within_plan : (tree : ℕ) → IsPlannedNamed (sheet_rows tree) (0 ∷ []) (both (both (both (compares Ge 1 0) (compares Lt 1 1)) (compares Gt 2 2)) (compares Le 2 3)) [] all_rows
+unfolding resolving
+attribute_ids_within_plan tree schema at h = rw (h.stored, h.by_tree) refl
+
+pub attribute_ids_within : (west : ℤ) (east : ℤ) (south : ℤ) (north : ℤ) → IsNumbering attribute_shape (λ x. x.id) (codes "SELECT id FROM sheet_rows WHERE x >= ?1 AND x < ?2 AND y > ?3 AND y <= ?4") (Int west ∷ Int east ∷ Int south ∷ Int north ∷ []) (λ x. int_le west x.x && int_lt x.x east && int_lt south x.y && int_le x.y north)
+attribute_ids_within west east south north = record { test = _; project = _; by = _; asked = λ tree. asked_named (attribute_ids_within_text tree) (attribute_ids_within_plan tree); given = refl; listing = _; is = λ tree. refl; shows = λ v x. refl; passing = λ v x. (both_same (both_same (both_same (at_least x.x west) (below x.x east)) (above x.y south)) (at_most x.y north)) }

@@ -7,6 +7,8 @@ pub mod Ranking
 pub mod Looking
 pub mod Newest
 pub mod Next
+pub mod Sizes
+pub mod Numbering
 pub mod Values
 pub mod TileStatements
 pub mod MediumStatements

@@ -20,8 +20,9 @@ use Rattle.sql_meaning.specs.Known.{HasTable}
 use Rattle.sql_meaning.specs.Reading.{Test, Listing, IsListing, Finds}
 use Rattle.sql_meaning.specs.Transactions.{Rests}
 use Rattle.sql_meaning.proofs.Where.{are_given}
-use Rattle.sql_meaning.proofs.Select.{IsReading, IsSelect, IsPlannedSelect, listing_of, listed}
-use Rattle.sql_meaning.proofs.Answering.{shown_unchanged, failed_unchanged, found_looks}
+use Rattle.sql_meaning.proofs.Resolve.{all_rows}
+use Rattle.sql_meaning.proofs.Select.{IsReading, IsSelect, IsPlannedSelect, IsAsked, asked_all, shown_terms, listing_of, listing_showing, listed}
+use Rattle.sql_meaning.proofs.Answering.{shown_unchanged, failed_unchanged, asked_looks}
 use Rattle.sql_meaning.proofs.Transactions.{Shuts, Settles}
 use Rattle.sqlite_trees.proofs.ListLemmas.{all_of, filter_all}
 use Rattle.package_tables.specs.Shape.{Shape}
@@ -54,6 +55,15 @@ pub record IsLookUp {R : Type 0} (shape : Shape R) (shown : R → Row) (text : L
   pub shows : (v : Value) (x : R) → listing.shown (shape.stored v x) ≡ shown x
   pub passing : (v : Value) (x : R) → listing.keeps (shape.stored v x) ≡ keeps x
 
+-- with these parameters the text is a query of the table, and this is its listing
+pub record IsQuery (table : ℕ → Table) (text : List ℕ) (params : Row) (listing : Listing) : Type 0 where
+  pub test : Test
+  pub project : ℕ → List Term
+  pub by : List (Term × Key)
+  pub asked : (tree : ℕ) → IsAsked text (table tree) test (project tree) by all_rows
+  pub given : are_given test params ≡ true
+  pub is : (tree : ℕ) → listing_showing (project tree) (table tree) test by params ≡ listing
+
 -- the rows come by these keys, which order the values so
 pub record IsRanked {R : Type 0} {shape : Shape R} {shown : R → Row} {text : List ℕ} {params : Row} {keeps : R → Bool} (read : IsLookUp shape shown text params keeps) (cmp : R → R → Ordering) : Type 0 where
   pub keys : R → Row
@@ -70,6 +80,29 @@ HasHead shown rows first = MatchOption first (rows ≡ []) (λ x. slice_get rows
 
 abbrev pub AreShown : {R : Type 0} → (R → Row) → List Row → List R → Type 0
 AreShown shown rows xs = rows ≡ map shown xs
+
+-- the rows are this listing of a table, wherever it is
+abbrev pub AreRows : (ℕ → Table) → Listing → Database → List Row → Type 0
+AreRows table l db rows = (at tree : ℕ) → HasTable db.schema at (table tree) → IsListing l.key l.shown l.by (filter l.keeps (db.trees (table tree).tree)) rows
+
+-- what the rows of a query say of the tables is an answer at rest; the parameters are those that were bound
+module _ {table : ℕ → Table} {text : List ℕ} {params : Row} {listing : Listing} (query : IsQuery table text params listing) {X Y : Type 0} (items : Y → List Row) (Says : List Row → X → Type 0) (Answer : Tables → X → Type 0)
+    (means : (db : Database) → AreFormed db → (rows : List Row) → AreRows table listing db rows → (x : X) → Says rows x → Answer (tables_of db) x)
+    (bound : Row) (same : bound ≡ params) {S : Type 0} (g : Ghosts S) (shuts : Shuts g) (settles : Settles g) (old new : Held S) (rests : Rests (state g old)) (answer : Result Y Error)
+    (ok : HasCleanDisk (state g new) → IfOk answer (λ y. Shown text bound (state g old) (state g new) (items y))) (err : HasCleanDisk (state g new) → IfErr answer (FailsToQuery text bound (state g old) (state g new)))
+    (mode : old.in_transaction ≡ false → new.in_transaction ≡ false) (survives : Survives (state g old) (state g new) (CommitsShowing text bound (state g old))) (result : Result X Fault) where
+  pub query_looks : AreSaid items Says answer result → LooksUp Answer (state g old) (state g new) result
+  query_looks said =
+      let found = asked_looks query.asked params query.given listing query.is g shuts settles items old new rests answer
+      (subst (λ p. HasCleanDisk (state g new) → IfOk answer (λ y. Shown text p (state g old) (state g new) (items y))) same ok) (subst (λ p. HasCleanDisk (state g new) → IfErr answer (FailsToQuery text p (state g old) (state g new))) same err) mode
+      (subst (λ p. Survives (state g old) (state g new) (CommitsShowing text p (state g old))) same survives) in
+      record { rests = found.rests; done = λ clean. at answer result (found.done clean) said; was_open = found.was_open; holds = found.holds; survives = found.survives }
+    where
+      at : (answer : Result Y Error) (result : Result X Fault) → IfOk answer (λ y. IsTrue (state g new).is_open × Finds table listing (items y) (state g old).now (state g new).now) → AreSaid items Says answer result
+          → IfOk result (λ x. IsTrue (state g new).is_open × Answers Answer x (state g old).now (state g new).now)
+      at (Ok y) (Ok x) found said = (found.0, (found.1.same, λ formed. means (state g old).now formed (items y) found.1.listed x said))
+      at (Err e) (Ok x) found said = absurd said
+      at answer (Err f) found said = tt
 
 -- what the rows of a reading say of the tables is an answer inside a transaction
 module _ {Of : Written → From → Item → Type 0} {text : List ℕ} {t : Table} {test : Test} {by : List (Term × Key)} (reads : IsReading Of text t test by) {X Y : Type 0} (params : Row) (items : Y → List Row) (Says : List Row → X → Type 0) (Answer : Tables → X → Type 0)
@@ -90,8 +123,18 @@ module _ {Of : Written → From → Item → Type 0} {text : List ℕ} {t : Tabl
       at (Err e) (Err f) shows (inr late) said = inl late.5
 
 module _ {R : Type 0} {list : Listed R} {shown : R → Row} (known : IsKnown list shown) {text : List ℕ} {params : Row} {keeps : R → Bool} (read : IsLookUp list.shape shown text params keeps) where
+  query : IsQuery list.shape.table text params read.listing
+  query = record {
+    test = read.test;
+    project = λ tree. shown_terms (list.shape.table tree);
+    by = read.by;
+    asked = λ tree. asked_all (read.selects tree) (read.planned tree);
+    given = read.given;
+    is = read.is;
+  }
+
   abbrev AreListed : Database → List Row → Type 0
-  AreListed db rows = (at tree : ℕ) → HasTable db.schema at (list.shape.table tree) → IsListing read.listing.key read.listing.shown read.listing.by (filter read.listing.keeps (db.trees (list.shape.table tree).tree)) rows
+  AreListed db rows = AreRows list.shape.table read.listing db rows
 
   -- what the rows say answers a question on the tables
   abbrev Means : {X : Type 0} → (List Row → X → Type 0) → (Tables → X → Type 0) → Type 0
@@ -125,20 +168,6 @@ module _ {R : Type 0} {list : Listed R} {shown : R → Row} (known : IsKnown lis
     tells old new = told (read.selects 0) params items Says Answer old new
         (λ formed rows shows. means old.now formed rows (λ at tree has. (listed text list.shape.table read.test read.by read.selects read.planned params read.given read.listing read.is old new rows shows at tree has).0))
 
-    -- at rest
-    looks : {S : Type 0} (g : Ghosts S) (shuts : Shuts g) (settles : Settles g) (old new : Held S) (rests : Rests (state g old)) (answer : Result Y Error) (result : Result X Fault)
-        → (HasCleanDisk (state g new) → IfOk answer (λ y. Shown text params (state g old) (state g new) (items y))) → (HasCleanDisk (state g new) → IfErr answer (FailsToQuery text params (state g old) (state g new)))
-        → (old.in_transaction ≡ false → new.in_transaction ≡ false) → Survives (state g old) (state g new) (CommitsShowing text params (state g old)) → AreSaid items Says answer result → LooksUp Answer (state g old) (state g new) result
-    looks g shuts settles old new rests answer result ok err mode survives said =
-        let found = found_looks text list.shape.table read.test read.by read.selects read.planned params read.given read.listing read.is g shuts settles items old new rests answer ok err mode survives in
-        record { rests = found.rests; done = λ clean. at answer result (found.done clean) said; was_open = found.was_open; holds = found.holds; survives = found.survives }
-      where
-        at : (answer : Result Y Error) (result : Result X Fault) → IfOk answer (λ y. IsTrue (state g new).is_open × Finds list.shape.table read.listing (items y) (state g old).now (state g new).now) → AreSaid items Says answer result
-            → IfOk result (λ x. IsTrue (state g new).is_open × Answers Answer x (state g old).now (state g new).now)
-        at (Ok y) (Ok x) found said = (found.0, (found.1.same, λ formed. means (state g old).now formed (items y) found.1.listed x said))
-        at (Err e) (Ok x) found said = absurd said
-        at answer (Err f) found said = tt
-
   -- ---- one row, or all; the parameters as they are bound
 
   module _ {Y : Type 0} (items : Y → List Row) (given : Row) (same : given ≡ params) where
@@ -156,9 +185,7 @@ module _ {R : Type 0} {list : Listed R} {shown : R → Row} (known : IsKnown lis
         (err : HasCleanDisk (state g new) → IfErr answer (FailsToQuery text given (state g old) (state g new))) (mode : old.in_transaction ≡ false → new.in_transaction ≡ false)
         (survives : Survives (state g old) (state g new) (CommitsShowing text given (state g old))) where
       answers : {X : Type 0} (Says : List Row → X → Type 0) (Answer : Tables → X → Type 0) (means : Means Says Answer) (result : Result X Fault) → AreSaid items Says answer result → LooksUp Answer (state g old) (state g new) result
-      answers Says Answer means result said =
-          looks items Says Answer means g shuts settles old new rests answer result (subst (λ p. HasCleanDisk (state g new) → IfOk answer (λ y. Shown text p (state g old) (state g new) (items y))) same ok)
-          (subst (λ p. HasCleanDisk (state g new) → IfErr answer (FailsToQuery text p (state g old) (state g new))) same err) mode (subst (λ p. Survives (state g old) (state g new) (CommitsShowing text p (state g old))) same survives) said
+      answers Says Answer means result said = query_looks query items Says Answer means given same g shuts settles old new rests answer ok err mode survives result said
 
       pub looks_one : (result : Result (Option R) Fault) → AreSaid items (HasHead shown) answer result → LooksUp (λ t. IsOneOf keeps (list.rows t)) (state g old) (state g new) result
       looks_one result said = answers (HasHead shown) (λ t. IsOneOf keeps (list.rows t)) first_means result said

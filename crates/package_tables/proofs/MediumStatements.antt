@@ -10,8 +10,8 @@ use Rattle.sql_meaning.specs.Resolving.{resolving}
 use Rattle.sql_meaning.specs.Reading.{always, equals, ascending, descending}
 use Rattle.sql_meaning.proofs.Insert.{IsInsert, IsRow}
 use Rattle.sql_meaning.proofs.Delete.{IsDelete, IsPlannedDelete}
-use Rattle.sql_meaning.proofs.Resolve.{one_table, one_source}
-use Rattle.sql_meaning.proofs.Select.{IsSelect, IsPlannedSelect}
+use Rattle.sql_meaning.proofs.Resolve.{one_table, one_source, over_table, all_rows}
+use Rattle.sql_meaning.proofs.Select.{IsSelect, IsPlannedSelect, IsNamed, IsPlannedNamed, asked_named}
 use Rattle.sql_meaning.proofs.First.{IsFirst, IsPlannedFirst}
 use Rattle.package_tables.specs.Tables.{sheet_media}
 use Rattle.package_tables.specs.Shapes.{medium_shape, int_at, text_at, blob_at}
@@ -20,6 +20,7 @@ use Rattle.package_tables.specs.Shown.{medium_shown}
 use Rattle.package_tables.specs.declared.rows.MediaRow.{MediaRow}
 use Rattle.package_tables.proofs.Looking.{IsKnown, IsLookUp, IsRanked}
 use Rattle.package_tables.proofs.Newest.{IsNewest}
+use Rattle.package_tables.proofs.Numbering.{IsNumbering}
 use Rattle.package_tables.proofs.Ranking.{one_number}
 use Rattle.package_tables.proofs.Values.{same_number}
 use Rattle.package_tables.proofs.Written.{media_listed}
@@ -121,3 +122,53 @@ newest_plan tree schema at h = rw (h.stored, h.by_tree) refl
 
 pub newest : IsNewest medium_shape (λ x. x.id) (codes "SELECT * FROM sheet_media ORDER BY id DESC LIMIT 1") [] (λ x. true)
 newest = record { test = _; by = _; selects = newest_text; planned = newest_plan; given = refl; pass = _; shown = _; is = λ tree. refl; passing = λ v x. refl; begins = λ v x. refl; keyed = λ v x. refl }
+
+ids_text : (tree : ℕ) → IsNamed (codes "SELECT id FROM sheet_media") (sheet_media tree) (0 ∷ []) always [] all_rows
+unfolding everything
+ids_text tree = record {
+  parse = _;
+  asks = _;
+  src = _;
+  items = _;
+  parsed = refl;
+  statement = refl;
+  formats = refl;
+  one = over_table refl refl refl refl refl refl refl refl refl refl refl refl;
+  paged = λ schema. refl;
+  columns = ((_, _, refl, (_, _, refl, refl, refl)), tt);
+  condition = refl;
+  orders = tt;
+  enough = refl;
+}
+
+ids_plan : (tree : ℕ) → IsPlannedNamed (sheet_media tree) (0 ∷ []) always [] all_rows
+unfolding resolving
+ids_plan tree schema at h = rw (h.stored, h.by_tree) refl
+
+pub ids : IsNumbering medium_shape (λ x. x.id) (codes "SELECT id FROM sheet_media") [] (λ x. true)
+ids = record { test = _; project = _; by = _; asked = λ tree. asked_named (ids_text tree) (ids_plan tree); given = refl; listing = _; is = λ tree. refl; shows = λ v x. refl; passing = λ v x. refl }
+
+has_medium_text : (tree : ℕ) → IsNamed (codes "SELECT id FROM sheet_media WHERE id = ?1") (sheet_media tree) (0 ∷ []) (equals 0 0) [] all_rows
+unfolding everything
+has_medium_text tree = record {
+  parse = _;
+  asks = _;
+  src = _;
+  items = _;
+  parsed = refl;
+  statement = refl;
+  formats = refl;
+  one = over_table refl refl refl refl refl refl refl refl refl refl refl refl;
+  paged = λ schema. refl;
+  columns = ((_, _, refl, (_, _, refl, refl, refl)), tt);
+  condition = (_, refl, (_, _, _, _, refl, refl, refl, refl, refl, refl, refl));
+  orders = tt;
+  enough = refl;
+}
+
+has_medium_plan : (tree : ℕ) → IsPlannedNamed (sheet_media tree) (0 ∷ []) (equals 0 0) [] all_rows
+unfolding resolving
+has_medium_plan tree schema at h = rw (h.stored, h.by_tree) refl
+
+pub has_medium : (id : ℤ) → IsNumbering medium_shape (λ x. x.id) (codes "SELECT id FROM sheet_media WHERE id = ?1") (Int id ∷ []) (λ x. int_eq x.id id)
+has_medium id = record { test = _; project = _; by = _; asked = λ tree. asked_named (has_medium_text tree) (has_medium_plan tree); given = refl; listing = _; is = λ tree. refl; shows = λ v x. refl; passing = λ v x. (same_number x.id id) }

@@ -2,7 +2,7 @@
 use Rattle.std.proofs.Common.{◌≡◌, ℕ, List, [], ◌∷◌, map, Bool, true, false, cond, Option, Some, None, suc, zero, refl, sym, ap, subst, ◌∙◌, arith}
 use Rattle.std.specs.Prelude.{filter, slice_get, Contains, MatchOption, IsPermutation, if◌then◌else◌}
 use Rattle.std.specs.List.{AllByRecursion}
-use Rattle.std.proofs.lemmas.List.{nil_from_length}
+use Rattle.std.proofs.lemmas.List.{nil_from_length, map-id}
 use Rattle.std.proofs.lemmas.List.Sorted.{IsPermutation-refl, IsPermutation-sym, IsPermutation-trans, IsPermutation-cons, IsPermutation-insert, IsPermutation-map, Contains-permutation, length_permutation}
 use Rattle.sqlite_trees.proofs.ListLemmas.{IsPermutation-filter, map-map}
 use Rattle.sqlite.specs.Order.{Row}
@@ -52,37 +52,46 @@ pub read_back : {R : Type 0} (shown : R → Row) (back : Row → R) → ((x : R)
 read_back shown back returns [] = refl
 read_back shown back returns (x ∷ xs) = rw (returns x) (ap (λ k. x ∷ k) (read_back shown back returns xs))
 
--- `shown` is the row that a SELECT * shows of a value, and `back` reads it
-module _ {R : Type 0} (shape : Shape R) (laws : IsShape shape) (shown : R → Row) (back : Row → R) (returns : (x : R) → back (shown x) ≡ x)
+-- `shown` is the row that a SELECT shows of a value, from which `back` reads what `take` takes of it
+module _ {R V : Type 0} (shape : Shape R) (laws : IsShape shape) (take : R → V) (shown : R → Row) (back : Row → V) (returns : (x : R) → back (shown x) ≡ take x)
     (l : Listing) (keeps : R → Bool) (shows : (v : Value) (x : R) → l.shown (shape.stored v x) ≡ shown x) (passing : (v : Value) (x : R) → l.keeps (shape.stored v x) ≡ keeps x) where
   -- the rows that pass, as values
-  typed_rows : (rows : List Row) → AllByRecursion (IsStored shape) rows → map back (map l.shown (filter l.keeps rows)) ≡ filter keeps (map shape.typed rows)
+  typed_rows : (rows : List Row) → AllByRecursion (IsStored shape) rows → map back (map l.shown (filter l.keeps rows)) ≡ map take (filter keeps (map shape.typed rows))
   typed_rows [] h = refl
   typed_rows (r ∷ rows) h = one (keeps (shape.typed r)) refl (typed_rows rows h.1)
     where
       same : l.keeps r ≡ keeps (shape.typed r)
       same = ap l.keeps (sym h.0) ∙ passing (rowid r) (shape.typed r)
 
-      says : back (l.shown r) ≡ shape.typed r
+      says : back (l.shown r) ≡ take (shape.typed r)
       says = ap (λ s. back (l.shown s)) (sym h.0) ∙ ap back (shows (rowid r) (shape.typed r)) ∙ returns (shape.typed r)
 
-      one : (b : Bool) → keeps (shape.typed r) ≡ b → map back (map l.shown (filter l.keeps rows)) ≡ filter keeps (map shape.typed rows) → map back (map l.shown (filter l.keeps (r ∷ rows))) ≡ filter keeps (map shape.typed (r ∷ rows))
-      one true e more = rw (same, e, says) (ap (λ k. shape.typed r ∷ k) more)
+      one : (b : Bool) → keeps (shape.typed r) ≡ b → map back (map l.shown (filter l.keeps rows)) ≡ map take (filter keeps (map shape.typed rows)) → map back (map l.shown (filter l.keeps (r ∷ rows))) ≡ map take (filter keeps (map shape.typed (r ∷ rows)))
+      one true e more = rw (same, e, says) (ap (λ k. take (shape.typed r) ∷ k) more)
       one false e more = rw (same, e) more
 
+  -- the answer, as what is taken, is what passes of the table
+  pub taken : (db : Database) (formed : IsFormed shape db) (rows : List Row) (listed : (at tree : ℕ) → HasTable db.schema at (shape.table tree) → IsListing l.key l.shown l.by (filter l.keeps (db.trees (shape.table tree).tree)) rows)
+      → IsPermutation (map take (filter keeps (rows_of shape db))) (map back rows)
+  taken db formed rows listed =
+      let p = formed.placed in
+      let there = stored_rows shape db in
+      let same : db.trees (shape.table p.tree).tree ≡ there = sym (rows_placed shape laws db p.at p.tree p.has) in
+      let listing = subst (λ k. IsListing l.key l.shown l.by (filter l.keeps k) rows) same (listed p.at p.tree p.has) in
+      let moved : IsPermutation (map l.shown (filter l.keeps there)) rows =
+      subst (IsPermutation (map l.shown (filter l.keeps there))) (sym listing.shows)
+      (subst (λ k. IsPermutation k (map (λ (o : Row × Row). o.1) listing.ordered)) (map-map (λ (o : Row × Row). o.1) (λ r. (l.key r, l.shown r)) (filter l.keeps there)) (IsPermutation-map (λ (o : Row × Row). o.1) _ _ listing.same)) in
+      let kept : IsPermutation (map take (filter keeps (map shape.typed there))) (map back rows) = subst (λ k. IsPermutation k (map back rows)) (typed_rows there formed.stored) (IsPermutation-map back _ _ moved) in
+      let arranged_so : IsPermutation (filter keeps (rows_of shape db)) (filter keeps (map shape.typed there)) = IsPermutation-sym _ _ (IsPermutation-filter keeps _ _ (arranged_permutation shape.key (map shape.typed there))) in
+      IsPermutation-trans _ (map take (filter keeps (map shape.typed there))) _ (IsPermutation-map take _ _ arranged_so) kept
+
+-- `shown` is the row that a SELECT * shows of a value, and `back` reads it
+module _ {R : Type 0} (shape : Shape R) (laws : IsShape shape) (shown : R → Row) (back : Row → R) (returns : (x : R) → back (shown x) ≡ x)
+    (l : Listing) (keeps : R → Bool) (shows : (v : Value) (x : R) → l.shown (shape.stored v x) ≡ shown x) (passing : (v : Value) (x : R) → l.keeps (shape.stored v x) ≡ keeps x) where
   module _ (db : Database) (formed : IsFormed shape db) (rows : List Row) (listed : (at tree : ℕ) → HasTable db.schema at (shape.table tree) → IsListing l.key l.shown l.by (filter l.keeps (db.trees (shape.table tree).tree)) rows) where
     -- the answer, as values, is what passes of the table
     answered : IsPermutation (filter keeps (rows_of shape db)) (map back rows)
-    answered =
-        let p = formed.placed in
-        let there = stored_rows shape db in
-        let same : db.trees (shape.table p.tree).tree ≡ there = sym (rows_placed shape laws db p.at p.tree p.has) in
-        let listing = subst (λ k. IsListing l.key l.shown l.by (filter l.keeps k) rows) same (listed p.at p.tree p.has) in
-        let moved : IsPermutation (map l.shown (filter l.keeps there)) rows =
-        subst (IsPermutation (map l.shown (filter l.keeps there))) (sym listing.shows)
-        (subst (λ k. IsPermutation k (map (λ (o : Row × Row). o.1) listing.ordered)) (map-map (λ (o : Row × Row). o.1) (λ r. (l.key r, l.shown r)) (filter l.keeps there)) (IsPermutation-map (λ (o : Row × Row). o.1) _ _ listing.same)) in
-        let kept : IsPermutation (filter keeps (map shape.typed there)) (map back rows) = subst (λ k. IsPermutation k (map back rows)) (typed_rows there formed.stored) (IsPermutation-map back _ _ moved) in
-        IsPermutation-trans _ (filter keeps (map shape.typed there)) _ (IsPermutation-sym _ _ (IsPermutation-filter keeps _ _ (arranged_permutation shape.key (map shape.typed there)))) kept
+    answered = subst (λ k. IsPermutation k (map back rows)) (map-id (filter keeps (rows_of shape db))) (taken shape laws (λ x. x) shown back returns l keeps shows passing db formed rows listed)
 
     -- all of them
     pub those : (xs : List R) → rows ≡ map shown xs → AreThose keeps (rows_of shape db) xs

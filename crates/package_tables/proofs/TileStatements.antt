@@ -12,8 +12,8 @@ use Rattle.sql_meaning.specs.Resolving.{resolving}
 use Rattle.sql_meaning.specs.Reading.{always, equals, compares, both, ascending, descending}
 use Rattle.sql_meaning.proofs.Insert.{IsInsert, IsRow}
 use Rattle.sql_meaning.proofs.Delete.{IsDelete, IsPlannedDelete}
-use Rattle.sql_meaning.proofs.Resolve.{one_table, one_source}
-use Rattle.sql_meaning.proofs.Select.{IsSelect, IsPlannedSelect}
+use Rattle.sql_meaning.proofs.Resolve.{one_table, one_source, over_table, all_rows}
+use Rattle.sql_meaning.proofs.Select.{IsSelect, IsPlannedSelect, IsNamed, IsPlannedNamed, asked_named}
 use Rattle.sql_meaning.proofs.First.{IsFirst, IsPlannedFirst}
 use Rattle.package_tables.specs.Tables.{sheet_tiles}
 use Rattle.package_tables.specs.Shapes.{tile_shape, int_at, blob_at}
@@ -22,6 +22,7 @@ use Rattle.package_tables.specs.Shown.{tile_shown}
 use Rattle.package_tables.specs.declared.rows.TileRow.{TileRow}
 use Rattle.package_tables.proofs.Looking.{IsKnown, IsLookUp, IsRanked}
 use Rattle.package_tables.proofs.Newest.{IsNewest}
+use Rattle.package_tables.proofs.Numbering.{IsNumbering}
 use Rattle.package_tables.proofs.Ranking.{one_number}
 use Rattle.package_tables.proofs.Values.{same_number, at_least, at_most, both_same}
 use Rattle.package_tables.proofs.Written.{tiles_listed}
@@ -173,3 +174,103 @@ newest_plan tree schema at h = rw (h.stored, h.by_tree) refl
 
 pub newest : IsNewest tile_shape (λ x. x.id) (codes "SELECT * FROM sheet_tiles ORDER BY id DESC LIMIT 1") [] (λ x. true)
 newest = record { test = _; by = _; selects = newest_text; planned = newest_plan; given = refl; pass = _; shown = _; is = λ tree. refl; passing = λ v x. refl; begins = λ v x. refl; keyed = λ v x. refl }
+
+ids_text : (tree : ℕ) → IsNamed (codes "SELECT id FROM sheet_tiles") (sheet_tiles tree) (0 ∷ []) always [] all_rows
+unfolding everything
+ids_text tree = record {
+  parse = _;
+  asks = _;
+  src = _;
+  items = _;
+  parsed = refl;
+  statement = refl;
+  formats = refl;
+  one = over_table refl refl refl refl refl refl refl refl refl refl refl refl;
+  paged = λ schema. refl;
+  columns = ((_, _, refl, (_, _, refl, refl, refl)), tt);
+  condition = refl;
+  orders = tt;
+  enough = refl;
+}
+
+ids_plan : (tree : ℕ) → IsPlannedNamed (sheet_tiles tree) (0 ∷ []) always [] all_rows
+unfolding resolving
+ids_plan tree schema at h = rw (h.stored, h.by_tree) refl
+
+pub ids : IsNumbering tile_shape (λ x. x.id) (codes "SELECT id FROM sheet_tiles") [] (λ x. true)
+ids = record { test = _; project = _; by = _; asked = λ tree. asked_named (ids_text tree) (ids_plan tree); given = refl; listing = _; is = λ tree. refl; shows = λ v x. refl; passing = λ v x. refl }
+
+has_tile_text : (tree : ℕ) → IsNamed (codes "SELECT id FROM sheet_tiles WHERE id = ?1") (sheet_tiles tree) (0 ∷ []) (equals 0 0) [] all_rows
+unfolding everything
+has_tile_text tree = record {
+  parse = _;
+  asks = _;
+  src = _;
+  items = _;
+  parsed = refl;
+  statement = refl;
+  formats = refl;
+  one = over_table refl refl refl refl refl refl refl refl refl refl refl refl;
+  paged = λ schema. refl;
+  columns = ((_, _, refl, (_, _, refl, refl, refl)), tt);
+  condition = (_, refl, (_, _, _, _, refl, refl, refl, refl, refl, refl, refl));
+  orders = tt;
+  enough = refl;
+}
+
+has_tile_plan : (tree : ℕ) → IsPlannedNamed (sheet_tiles tree) (0 ∷ []) (equals 0 0) [] all_rows
+unfolding resolving
+has_tile_plan tree schema at h = rw (h.stored, h.by_tree) refl
+
+pub has_tile : (id : ℤ) → IsNumbering tile_shape (λ x. x.id) (codes "SELECT id FROM sheet_tiles WHERE id = ?1") (Int id ∷ []) (λ x. int_eq x.id id)
+has_tile id = record { test = _; project = _; by = _; asked = λ tree. asked_named (has_tile_text tree) (has_tile_plan tree); given = refl; listing = _; is = λ tree. refl; shows = λ v x. refl; passing = λ v x. (same_number x.id id) }
+
+has_tile_at_text : (tree : ℕ) → IsNamed (codes "SELECT id FROM sheet_tiles WHERE zoom_level = ?1 AND tile_column = ?2 AND tile_row = ?3") (sheet_tiles tree) (0 ∷ []) (both (both (equals 1 0) (equals 2 1)) (equals 3 2)) [] all_rows
+unfolding everything
+has_tile_at_text tree = record {
+  parse = _;
+  asks = _;
+  src = _;
+  items = _;
+  parsed = refl;
+  statement = refl;
+  formats = refl;
+  one = over_table refl refl refl refl refl refl refl refl refl refl refl refl;
+  paged = λ schema. refl;
+  columns = ((_, _, refl, (_, _, refl, refl, refl)), tt);
+  condition = (_, refl, (_, _, refl, (_, _, refl, (_, _, _, _, refl, refl, refl, refl, refl, refl, refl), (_, _, _, _, refl, refl, refl, refl, refl, refl, refl)), (_, _, _, _, refl, refl, refl, refl, refl, refl, refl)));
+  orders = tt;
+  enough = refl;
+}
+
+has_tile_at_plan : (tree : ℕ) → IsPlannedNamed (sheet_tiles tree) (0 ∷ []) (both (both (equals 1 0) (equals 2 1)) (equals 3 2)) [] all_rows
+unfolding resolving
+has_tile_at_plan tree schema at h = rw (h.stored, h.by_tree) refl
+
+pub has_tile_at : (zoom_level : ℤ) (tile_column : ℤ) (tile_row : ℤ) → IsNumbering tile_shape (λ x. x.id) (codes "SELECT id FROM sheet_tiles WHERE zoom_level = ?1 AND tile_column = ?2 AND tile_row = ?3") (Int zoom_level ∷ Int tile_column ∷ Int tile_row ∷ []) (λ x. int_eq x.zoom_level zoom_level && int_eq x.tile_column tile_column && int_eq x.tile_row tile_row)
+has_tile_at zoom_level tile_column tile_row = record { test = _; project = _; by = _; asked = λ tree. asked_named (has_tile_at_text tree) (has_tile_at_plan tree); given = refl; listing = _; is = λ tree. refl; shows = λ v x. refl; passing = λ v x. (both_same (both_same (same_number x.zoom_level zoom_level) (same_number x.tile_column tile_column)) (same_number x.tile_row tile_row)) }
+
+tile_ids_between_text : (tree : ℕ) → IsNamed (codes "SELECT id FROM sheet_tiles WHERE zoom_level = ?1 AND tile_column >= ?2 AND tile_column <= ?3 AND tile_row >= ?4 AND tile_row <= ?5") (sheet_tiles tree) (0 ∷ []) (both (both (both (both (equals 1 0) (compares Ge 2 1)) (compares Le 2 2)) (compares Ge 3 3)) (compares Le 3 4)) [] all_rows
+unfolding everything
+tile_ids_between_text tree = record {
+  parse = _;
+  asks = _;
+  src = _;
+  items = _;
+  parsed = refl;
+  statement = refl;
+  formats = refl;
+  one = over_table refl refl refl refl refl refl refl refl refl refl refl refl;
+  paged = λ schema. refl;
+  columns = ((_, _, refl, (_, _, refl, refl, refl)), tt);
+  condition = (_, refl, (_, _, refl, (_, _, refl, (_, _, refl, (_, _, refl, (_, _, _, _, refl, refl, refl, refl, refl, refl, refl), (_, _, _, _, refl, refl, refl, refl, refl, refl, refl)), (_, _, _, _, refl, refl, refl, refl, refl, refl, refl)), (_, _, _, _, refl, refl, refl, refl, refl, refl, refl)), (_, _, _, _, refl, refl, refl, refl, refl, refl, refl)));
+  orders = tt;
+  enough = refl;
+}
+
+tile_ids_between_plan : (tree : ℕ) → IsPlannedNamed (sheet_tiles tree) (0 ∷ []) (both (both (both (both (equals 1 0) (compares Ge 2 1)) (compares Le 2 2)) (compares Ge 3 3)) (compares Le 3 4)) [] all_rows
+unfolding resolving
+tile_ids_between_plan tree schema at h = rw (h.stored, h.by_tree) refl
+
+pub tile_ids_between : (zoom_level : ℤ) (first_column : ℤ) (last_column : ℤ) (first_row : ℤ) (last_row : ℤ) → IsNumbering tile_shape (λ x. x.id) (codes "SELECT id FROM sheet_tiles WHERE zoom_level = ?1 AND tile_column >= ?2 AND tile_column <= ?3 AND tile_row >= ?4 AND tile_row <= ?5") (Int zoom_level ∷ Int first_column ∷ Int last_column ∷ Int first_row ∷ Int last_row ∷ []) (λ x. int_eq x.zoom_level zoom_level && int_le first_column x.tile_column && int_le x.tile_column last_column && int_le first_row x.tile_row && int_le x.tile_row last_row)
+tile_ids_between zoom_level first_column last_column first_row last_row = record { test = _; project = _; by = _; asked = λ tree. asked_named (tile_ids_between_text tree) (tile_ids_between_plan tree); given = refl; listing = _; is = λ tree. refl; shows = λ v x. refl; passing = λ v x. (both_same (both_same (both_same (both_same (same_number x.zoom_level zoom_level) (at_least x.tile_column first_column)) (at_most x.tile_column last_column)) (at_least x.tile_row first_row)) (at_most x.tile_row last_row)) }

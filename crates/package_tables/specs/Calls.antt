@@ -45,6 +45,10 @@ IsOneOf keeps rows found = MatchOption found (list_any keeps rows ≡ false) (λ
 abbrev pub AreThose : {R : Type 0} → (R → Bool) → List R → List R → Type 0
 AreThose keeps rows found = IsPermutation (filter keeps rows) found
 
+-- the numbers of those, likewise
+abbrev pub AreNumbersOf : {R : Type 0} → (R → ℤ) → (R → Bool) → List R → List ℤ → Type 0
+AreNumbersOf number keeps rows found = IsPermutation (map number (filter keeps rows)) found
+
 -- all the rows, each as often as it is there, in this order
 abbrev pub AreAll : {R : Type 0} → (R → R → Ordering) → List R → List R → Type 0
 AreAll cmp rows found = IsPermutation rows found × IsSorted cmp found

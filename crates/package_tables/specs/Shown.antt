@@ -1,5 +1,6 @@
--- The row that `SELECT *` shows of a value, column by column.
-use Rattle.std.specs.Prelude.{◌≡◌, ℕ, ℤ, List, [], ◌∷◌, Option, Some, MatchOption, slice_get, IsUtf8}
+-- The row that a SELECT shows of a value, column by column.
+use Rattle.std.specs.Prelude.{◌≡◌, ◌⊎◌, ℕ, ◌<◌, ℤ, ◌≤ℤ◌, unsigned_abs, List, [], ◌∷◌, map, Option, Some, MatchOption, slice_get, IsUtf8, IsPermutation}
+use Rattle.sqlite_trees.specs.Tree.{IsAscending}
 use Rattle.sqlite.specs.Order.{Row, column}
 use Rattle.sqlite.specs.declared.types.Value.TheVariants.{Int, Text, Blob}
 use Rattle.package_tables.specs.declared.rows.ReceiptRow.{ReceiptRow}
@@ -19,6 +20,10 @@ use Rattle.package_tables.specs.declared.rows.TileRow.{TileRow}
 -- each text of a row is one: SQLite keeps any bytes as a text
 abbrev pub AreTexts : Row → Type 0
 AreTexts r = (at : ℕ) (text : List ℕ) → column r at ≡ Text text → IsUtf8 text
+
+-- of one column, a number
+abbrev pub number_shown : ℤ → Row
+number_shown n = Int n ∷ []
 
 abbrev pub tile_shown : TileRow → Row
 tile_shown x = Int x.id ∷ Int x.zoom_level ∷ Int x.tile_column ∷ Int x.tile_row ∷ Blob x.tile_data ∷ []
@@ -62,3 +67,11 @@ relation_shown x = Int x.id ∷ Text x.base_table_name ∷ Text x.base_primary_c
 -- the first row of an answer, if there is one, begins with the number
 abbrev pub BeginsWith : List Row → Option ℤ → Type 0
 BeginsWith rows found = MatchOption found (rows ≡ []) (λ n. (r : Row) × (slice_get rows 0 ≡ Some r) × (column r 0 ≡ Int n))
+
+-- numbers in the order in which a table has them (`number_key`): by their size, and of one size the lower first
+abbrev pub InSize : ℤ → ℤ → Type 0
+InSize a b = (unsigned_abs a < unsigned_abs b) ⊎ ((unsigned_abs a ≡ unsigned_abs b) × (a ≤ℤ b))
+
+-- the rows show these numbers, which have come into that order
+abbrev pub AreInSize : List Row → List ℤ → Type 0
+AreInSize rows numbers = (read : List ℤ) × (rows ≡ map number_shown read) × IsPermutation read numbers × IsAscending InSize numbers

@@ -1,15 +1,17 @@
 //! The statements on `sheet_rows`.
-ghost use Rattle.std.specs.Prelude.{◌≡◌, ◌&&◌, int_le, int_lt};
+ghost use Rattle.std.specs.Prelude.{◌≡◌, ◌&&◌, int_le, int_lt, map};
+ghost use Rattle.std.specs.List.{list_any};
 ghost use Rattle.std.specs.Ordering.{int_eq, int_cmp, on};
 ghost use Rattle.sqlite.specs.State.{Survives};
 ghost use Rattle.sqlite.specs.Held.{state};
 ghost use Rattle.sql_meaning.specs.Transactions.{Rests};
-ghost use Rattle.package_tables.specs.Calls.{Makes, Tells, LooksUp, IsOneOf, AreThose, AreAll, IsGreatest};
+ghost use Rattle.package_tables.specs.Calls.{Makes, Tells, LooksUp, IsOneOf, AreThose, AreNumbersOf, AreAll, IsGreatest};
 ghost use Rattle.package_tables.specs.Listed.{attributes};
 ghost use Rattle.package_tables.specs.Changes.{Adds, DropsAttribute};
 
 use crate::fault::{Fault, settled};
 use crate::from_row::{FromRow, all_of, first_of, number_at, number_of, text_at};
+use crate::numbers::{has_any, numbers_of};
 use crate::rows::AttributeRow;
 use sqlite::{Alter, Connection, Row, Transaction, params};
 use std::alloc::Global;
@@ -104,6 +106,43 @@ pub fn all_attributes<S: Alter>(
     all_of(
         alloc,
         conn.query_all("SELECT * FROM sheet_rows ORDER BY id", &[]),
+    )
+}
+
+/// The numbers of all attributes rows, in the order of the table.
+pub fn attribute_ids<S: Alter>(conn: &mut Connection<S>, alloc: Global) -> Result<Vec<i64>, Fault>
+    requires { Rests (state S.Store conn.old) }
+    ensures { LooksUp (λ t found. found.items ≡ map (λ r. r.id) t.rows) (state S.Store conn.old) (state S.Store conn.new) result }
+{
+    numbers_of(alloc, conn.query_all("SELECT id FROM sheet_rows", &[]))
+}
+
+/// Whether there is an attributes row of this number.
+pub fn has_attribute<S: Alter>(conn: &mut Connection<S>, id: i64) -> Result<bool, Fault>
+    requires { Rests (state S.Store conn.old) }
+    ensures { LooksUp (λ t found. found ≡ list_any (λ r. int_eq r.id id) t.rows) (state S.Store conn.old) (state S.Store conn.new) result }
+{
+    has_any(conn.query_all("SELECT id FROM sheet_rows WHERE id = ?1", params![id]))
+}
+
+/// The numbers of the attributes rows that `attributes_within` answers.
+pub fn attribute_ids_within<S: Alter>(
+    conn: &mut Connection<S>,
+    alloc: Global,
+    west: i64,
+    east: i64,
+    south: i64,
+    north: i64,
+) -> Result<Vec<i64>, Fault>
+    requires { Rests (state S.Store conn.old) }
+    ensures { LooksUp (λ t found. AreNumbersOf (λ r. r.id) (λ x. int_le west x.x && int_lt x.x east && int_lt south x.y && int_le x.y north) t.rows found.items) (state S.Store conn.old) (state S.Store conn.new) result }
+{
+    all_of(
+        alloc,
+        conn.query_all(
+            "SELECT id FROM sheet_rows WHERE x >= ?1 AND x < ?2 AND y > ?3 AND y <= ?4",
+            params![west, east, south, north],
+        ),
     )
 }
 

@@ -13,6 +13,7 @@ mod levels;
 pub mod mappings;
 pub mod media;
 pub mod moved;
+pub(crate) mod numbers;
 pub mod package;
 pub mod receipts;
 pub mod rows;

@@ -1,5 +1,6 @@
 //! The statements on `sheet_media`.
-ghost use Rattle.std.specs.Prelude.{◌≡◌};
+ghost use Rattle.std.specs.Prelude.{◌≡◌, map};
+ghost use Rattle.std.specs.List.{list_any};
 ghost use Rattle.std.specs.Ordering.{int_eq, int_cmp, on};
 ghost use Rattle.sqlite.specs.State.{Survives};
 ghost use Rattle.sqlite.specs.Held.{state};
@@ -10,6 +11,7 @@ ghost use Rattle.package_tables.specs.Changes.{Adds, DropsMedium};
 
 use crate::fault::{Fault, settled};
 use crate::from_row::{FromRow, all_of, bytes_at, first_of, number_at, number_of, text_at};
+use crate::numbers::{has_any, numbers_of};
 use crate::rows::MediaRow;
 use sqlite::{Alter, Connection, Row, Transaction, params};
 use std::alloc::Global;
@@ -74,6 +76,22 @@ pub fn all_media<S: Alter>(conn: &mut Connection<S>, alloc: Global) -> Result<Ve
         alloc,
         conn.query_all("SELECT * FROM sheet_media ORDER BY id", &[]),
     )
+}
+
+/// The numbers of all media, in the order of the table.
+pub fn medium_ids<S: Alter>(conn: &mut Connection<S>, alloc: Global) -> Result<Vec<i64>, Fault>
+    requires { Rests (state S.Store conn.old) }
+    ensures { LooksUp (λ t found. found.items ≡ map (λ r. r.id) t.media) (state S.Store conn.old) (state S.Store conn.new) result }
+{
+    numbers_of(alloc, conn.query_all("SELECT id FROM sheet_media", &[]))
+}
+
+/// Whether there is a medium of this number.
+pub fn has_medium<S: Alter>(conn: &mut Connection<S>, id: i64) -> Result<bool, Fault>
+    requires { Rests (state S.Store conn.old) }
+    ensures { LooksUp (λ t found. found ≡ list_any (λ r. int_eq r.id id) t.media) (state S.Store conn.old) (state S.Store conn.new) result }
+{
+    has_any(conn.query_all("SELECT id FROM sheet_media WHERE id = ?1", params![id]))
 }
 
 /// The greatest number of a medium, where there is one, inside a transaction.

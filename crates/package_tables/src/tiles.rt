@@ -1,15 +1,17 @@
 //! The statements on `sheet_tiles`.
-ghost use Rattle.std.specs.Prelude.{◌≡◌, ◌&&◌, int_le};
+ghost use Rattle.std.specs.Prelude.{◌≡◌, ◌&&◌, int_le, map};
+ghost use Rattle.std.specs.List.{list_any};
 ghost use Rattle.std.specs.Ordering.{int_eq, int_cmp, on};
 ghost use Rattle.sqlite.specs.State.{Survives};
 ghost use Rattle.sqlite.specs.Held.{state};
 ghost use Rattle.sql_meaning.specs.Transactions.{Rests};
-ghost use Rattle.package_tables.specs.Calls.{Makes, Tells, LooksUp, IsOneOf, AreThose, AreAll, IsGreatest};
+ghost use Rattle.package_tables.specs.Calls.{Makes, Tells, LooksUp, IsOneOf, AreThose, AreNumbersOf, AreAll, IsGreatest};
 ghost use Rattle.package_tables.specs.Listed.{tiles};
 ghost use Rattle.package_tables.specs.Changes.{Adds, DropsTile};
 
 use crate::fault::{Fault, settled};
 use crate::from_row::{FromRow, all_of, bytes_at, first_of, number_at, number_of};
+use crate::numbers::{has_any, numbers_of};
 use crate::rows::TileRow;
 use sqlite::{Alter, Connection, Row, Transaction, params};
 use std::alloc::Global;
@@ -115,6 +117,60 @@ pub fn all_tiles<S: Alter>(conn: &mut Connection<S>, alloc: Global) -> Result<Ve
     all_of(
         alloc,
         conn.query_all("SELECT * FROM sheet_tiles ORDER BY id", &[]),
+    )
+}
+
+/// The numbers of all tiles, in the order of the table. Only an index is read, so no bytes of a tile are.
+pub fn tile_ids<S: Alter>(conn: &mut Connection<S>, alloc: Global) -> Result<Vec<i64>, Fault>
+    requires { Rests (state S.Store conn.old) }
+    ensures { LooksUp (λ t found. found.items ≡ map (λ r. r.id) t.tiles) (state S.Store conn.old) (state S.Store conn.new) result }
+{
+    numbers_of(alloc, conn.query_all("SELECT id FROM sheet_tiles", &[]))
+}
+
+/// Whether there is a tile of this number.
+pub fn has_tile<S: Alter>(conn: &mut Connection<S>, id: i64) -> Result<bool, Fault>
+    requires { Rests (state S.Store conn.old) }
+    ensures { LooksUp (λ t found. found ≡ list_any (λ r. int_eq r.id id) t.tiles) (state S.Store conn.old) (state S.Store conn.new) result }
+{
+    has_any(conn.query_all("SELECT id FROM sheet_tiles WHERE id = ?1", params![id]))
+}
+
+/// Whether there is a tile in this place.
+pub fn has_tile_at<S: Alter>(
+    conn: &mut Connection<S>,
+    zoom_level: i64,
+    tile_column: i64,
+    tile_row: i64,
+) -> Result<bool, Fault>
+    requires { Rests (state S.Store conn.old) }
+    ensures { LooksUp (λ t found. found ≡ list_any (λ x. int_eq x.zoom_level zoom_level && int_eq x.tile_column tile_column && int_eq x.tile_row tile_row) t.tiles) (state S.Store conn.old) (state S.Store conn.new) result }
+{
+    has_any(conn.query_all(
+        "SELECT id FROM sheet_tiles WHERE zoom_level = ?1 AND tile_column = ?2 AND tile_row = ?3",
+        params![zoom_level, tile_column, tile_row],
+    ))
+}
+
+/// The numbers of the tiles that `tiles_between` answers.
+pub fn tile_ids_between<S: Alter>(
+    conn: &mut Connection<S>,
+    alloc: Global,
+    zoom_level: i64,
+    first_column: i64,
+    last_column: i64,
+    first_row: i64,
+    last_row: i64,
+) -> Result<Vec<i64>, Fault>
+    requires { Rests (state S.Store conn.old) }
+    ensures { LooksUp (λ t found. AreNumbersOf (λ r. r.id) (λ x. int_eq x.zoom_level zoom_level && int_le first_column x.tile_column && int_le x.tile_column last_column && int_le first_row x.tile_row && int_le x.tile_row last_row) t.tiles found.items) (state S.Store conn.old) (state S.Store conn.new) result }
+{
+    all_of(
+        alloc,
+        conn.query_all(
+            "SELECT id FROM sheet_tiles WHERE zoom_level = ?1 AND tile_column >= ?2 AND tile_column <= ?3 AND tile_row >= ?4 AND tile_row <= ?5",
+            params![zoom_level, first_column, last_column, first_row, last_row],
+        ),
     )
 }
 

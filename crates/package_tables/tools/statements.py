@@ -8,6 +8,7 @@ import os
 # whether its key is the rowid, its columns, the columns by which all rows are read, and its statements:
 #   deletes: (function, columns)      finds: (statement, columns, forms)      alls: function
 #   ranges: (statement, (column, comparison, parameter) ..), of numbers alone: all rows that pass, in any order
+#   ids: the function of all numbers; has: (function, columns), whether a row is there; id_ranges: as ranges, the numbers of the rows
 # The form of a find at rest has the name of its statement; the one inside a transaction has `_inside` after it.
 # The mapping tables have no functions here, but the facts alone: each function of src/mappings.rt serves all, and its
 # answers, which cite the facts of all by proofs/Mappings.antt, are written by hand.
@@ -17,14 +18,19 @@ TABLES = [
     dict(file="TileStatements", module="tiles", list="tiles", shape="tile_shape", table="sheet_tiles", row="TileRow", shown="tile_shown", keyed=True,
          columns=[("id", INT), ("zoom_level", INT), ("tile_column", INT), ("tile_row", INT), ("tile_data", BLOB)], by=["id"],
          insert="insert_tile", delete=("delete_tile", ["id"]), finds=[("tile_by_id", ["id"], [REST]), ("tile_at", ["zoom_level", "tile_column", "tile_row"], [REST])],
-         ranges=[("tiles_between", [("zoom_level", "=", "zoom_level"), ("tile_column", ">=", "first_column"), ("tile_column", "<=", "last_column"), ("tile_row", ">=", "first_row"), ("tile_row", "<=", "last_row")])], all="all_tiles", greatest="greatest_tile_id"),
+         ranges=[("tiles_between", [("zoom_level", "=", "zoom_level"), ("tile_column", ">=", "first_column"), ("tile_column", "<=", "last_column"), ("tile_row", ">=", "first_row"), ("tile_row", "<=", "last_row")])], all="all_tiles", greatest="greatest_tile_id",
+         ids="tile_ids", has=[("has_tile", ["id"]), ("has_tile_at", ["zoom_level", "tile_column", "tile_row"])],
+         id_ranges=[("tile_ids_between", [("zoom_level", "=", "zoom_level"), ("tile_column", ">=", "first_column"), ("tile_column", "<=", "last_column"), ("tile_row", ">=", "first_row"), ("tile_row", "<=", "last_row")])]),
     dict(file="MediumStatements", module="media", list="media", shape="medium_shape", table="sheet_media", row="MediaRow", shown="medium_shown", keyed=True,
          columns=[("id", INT), ("data", BLOB), ("content_type", TEXT)], by=["id"],
-         insert="insert_medium", delete=("delete_medium", ["id"]), finds=[("medium_by_id", ["id"], [REST])], all="all_media", greatest="greatest_medium_id"),
+         insert="insert_medium", delete=("delete_medium", ["id"]), finds=[("medium_by_id", ["id"], [REST])], all="all_media", greatest="greatest_medium_id",
+         ids="medium_ids", has=[("has_medium", ["id"])]),
     dict(file="AttributeStatements", module="attributes", list="attributes", shape="attribute_shape", table="sheet_rows", row="AttributeRow", shown="attribute_shown", keyed=True,
          columns=[("id", INT), ("x", INT), ("y", INT), ("code", INT), ("label", TEXT)], by=["id"],
          insert="insert_attribute", delete=("delete_attribute", ["id"]), finds=[("attribute_by_id", ["id"], [REST])],
-         ranges=[("attributes_within", [("x", ">=", "west"), ("x", "<", "east"), ("y", ">", "south"), ("y", "<=", "north")])], all="all_attributes", greatest="greatest_attribute_id"),
+         ranges=[("attributes_within", [("x", ">=", "west"), ("x", "<", "east"), ("y", ">", "south"), ("y", "<=", "north")])], all="all_attributes", greatest="greatest_attribute_id",
+         ids="attribute_ids", has=[("has_attribute", ["id"])],
+         id_ranges=[("attribute_ids_within", [("x", ">=", "west"), ("x", "<", "east"), ("y", ">", "south"), ("y", "<=", "north")])]),
     dict(file="TilesMediaStatements", list="TilesMedia", shape="tiles_media_shape", table="tiles_media", row="MappingRow", shown="mapping_shown", keyed=False,
          columns=[("base_id", INT), ("related_id", INT)], by=["base_id", "related_id"],
          delete=(None, ["base_id", "related_id"]),
@@ -189,6 +195,75 @@ def range_facts(t, name, tests):
     ]
 
 
+# ---- the numbers of rows, and whether a row is there: `SELECT id ..`, with no order, so that an index which has the columns
+# that are read stands for the table
+
+
+def ids_text(t, tests):
+    where_part = " WHERE " + " AND ".join("%s %s ?%d" % (c, op, j + 1) for j, (c, op, _) in enumerate(tests)) if tests else ""
+    return "SELECT %s FROM %s%s" % (t["columns"][0][0], t["table"], where_part)
+
+
+def ids_facts(t, name, tests):
+    def one(j, c, op):
+        word = COMPARED[op][0]
+        return "(equals %d %d)" % (number(t, c), j) if word is None else "(compares %s %d %d)" % (word, number(t, c), j)
+
+    key = t["columns"][0][0]
+    text = ids_text(t, tests)
+    parameters = [p for _, _, p in tests]
+    test = nested(lambda a, b: "(both %s %s)" % (a, b), [one(j, c, op) for j, (c, op, _) in enumerate(tests)]) if tests else "always"
+    kept = " && ".join(COMPARED[op][2].format(x="x." + c, p=p) for c, op, p in tests) if tests else "true"
+    alike = nested(lambda a, b: "(both_same %s %s)" % (a, b), ["(%s x.%s %s)" % (COMPARED[op][1], c, p) for c, op, p in tests]) if tests else "refl"
+    over = "".join("(%s : ℤ) " % p for p in parameters)
+    return [
+        "",
+        "%s_text : (tree : ℕ) → IsNamed (codes \"%s\") (%s tree) (0 ∷ []) %s [] all_rows" % (name, text, t["table"], test),
+        "unfolding everything",
+        "%s_text tree = record {" % name,
+        "  parse = _;", "  asks = _;", "  src = _;", "  items = _;", "  parsed = refl;", "  statement = refl;", "  formats = refl;",
+        "  one = over_table %s;" % " ".join(["refl"] * 12),
+        "  paged = λ schema. refl;",
+        "  columns = ((_, _, refl, (_, _, refl, refl, refl)), tt);",
+        "  condition = %s;" % (condition(parameters) if tests else "refl"),
+        "  orders = tt;",
+        "  enough = refl;",
+        "}",
+        "",
+        "%s_plan : (tree : ℕ) → IsPlannedNamed (%s tree) (0 ∷ []) %s [] all_rows" % (name, t["table"], test),
+        "unfolding resolving",
+        "%s_plan tree schema at h = rw (h.stored, h.by_tree) refl" % name,
+        "",
+        "pub %s : %sIsNumbering %s (λ x. x.%s) (codes \"%s\") %s (λ x. %s)"
+        % (name, over + "→ " if tests else "", t["shape"], key, text, "(%s[])" % "".join("Int %s ∷ " % p for p in parameters) if tests else "[]", kept),
+        "%s = record { test = _; project = _; by = _; asked = λ tree. asked_named (%s_text tree) (%s_plan tree); given = refl; listing = _; is = λ tree. refl; shows = λ v x. refl; passing = λ v x. %s }"
+        % (" ".join([name] + parameters), name, name, alike),
+    ]
+
+
+def equalities(columns):
+    return [(c, "=", c) for c in columns]
+
+
+def ids_answer(t, function, name, tests, lemma, said, clause, more):
+    parameters = [p for _, _, p in tests]
+    read = "(%s)" % " ".join([name] + ["c.args.%s" % p for p in parameters]) if parameters else name
+    bound_so = "(rw (%s) (simp (to_z-of_z, %s) refl))" % (to_sql(len(parameters)), ", ".join("c.ranges.%s" % p for p in parameters)) if parameters else "refl"
+    return [
+        "use Rattle.std.proofs.Common.{refl, to_z-of_z}",
+        "use Rattle.package_tables.proofs.Numbering.{%s}" % lemma,
+        "use Rattle.package_tables.proofs.Written.{%s_listed}" % t["list"],
+        "use Rattle.package_tables.proofs.%s.{%s}" % (t["file"], name),
+        "use Rattle.package_tables.proofs.%s.%s.Goals as goal" % (t["module"], function),
+        "",
+        "pub returns : goal.returns",
+        "returns g c =",
+        "    let e = c.query_all.ensures in",
+        "    %s %s_listed %s (λ rows. rows.items) _ %s g.S.Store g.met.S.Store.shut_if_dirty g.met.S.Store.settled" % (lemma, t["list"], read, bound_so),
+        "    c.args.conn.now c.query_all.new.self c.requires c.query_all.result e.ok e.err e.mode e.survives %sc.%s.result c.%s.ensures.%s" % (more, said, said, clause),
+    ]
+
+
 def range_answer(t, name, tests):
     parameters = [p for _, _, p in tests]
     return [
@@ -277,8 +352,8 @@ def statements(t):
         "use Rattle.sql_meaning.specs.Reading.{always, equals, compares, both, ascending, descending}",
         "use Rattle.sql_meaning.proofs.Insert.{IsInsert, IsRow}",
         "use Rattle.sql_meaning.proofs.Delete.{IsDelete, IsPlannedDelete}",
-        "use Rattle.sql_meaning.proofs.Resolve.{one_table, one_source}",
-        "use Rattle.sql_meaning.proofs.Select.{IsSelect, IsPlannedSelect}",
+        "use Rattle.sql_meaning.proofs.Resolve.{one_table, one_source, over_table, all_rows}",
+        "use Rattle.sql_meaning.proofs.Select.{IsSelect, IsPlannedSelect, IsNamed, IsPlannedNamed, asked_named}",
         "use Rattle.sql_meaning.proofs.First.{IsFirst, IsPlannedFirst}",
         "use Rattle.package_tables.specs.Tables.{%s}" % t["table"],
         "use Rattle.package_tables.specs.Shapes.{%s, int_at, text_at, blob_at}" % t["shape"],
@@ -288,6 +363,7 @@ def statements(t):
         "use Rattle.package_tables.specs.declared.rows.%s.{%s}" % (t["row"], t["row"]),
         "use Rattle.package_tables.proofs.Looking.{IsKnown, IsLookUp, IsRanked}",
         "use Rattle.package_tables.proofs.Newest.{IsNewest}",
+        "use Rattle.package_tables.proofs.Numbering.{IsNumbering}",
         "use Rattle.package_tables.proofs.Ranking.{one_number, two_numbers}",
         "use Rattle.package_tables.proofs.Values.{same_number, same_text, at_least, at_most, above, below, both_same}",
         "use Rattle.package_tables.proofs.Written.{%s}" % listed(t)[1].split()[0],
@@ -330,6 +406,12 @@ def statements(t):
     out += ranked(t)
     if "greatest" in t:
         out += newest_facts(t)
+    if "ids" in t:
+        out += ids_facts(t, "ids", [])
+    for name, columns in t.get("has", []):
+        out += ids_facts(t, name, equalities(columns))
+    for name, tests in t.get("id_ranges", []):
+        out += ids_facts(t, name, tests)
     return "\n".join(out) + "\n"
 
 
@@ -469,6 +551,12 @@ def main():
             write(folder + name + "/Answers.antt", range_answer(t, name, tests))
         if "greatest" in t:
             write(folder + t["greatest"] + "/Answers.antt", newest_answer(t))
+        if "ids" in t:
+            write(folder + t["ids"] + "/Answers.antt", ids_answer(t, t["ids"], "ids", [], "looks_ids", "numbers_of", "numbers", "(λ x. refl) refl (λ v x. refl) (λ found. found.items) "))
+        for name, columns in t.get("has", []):
+            write(folder + name + "/Answers.antt", ids_answer(t, name, name, equalities(columns), "looks_any", "has_any", "any", ""))
+        for name, tests in t.get("id_ranges", []):
+            write(folder + name + "/Answers.antt", ids_answer(t, name, name, tests, "looks_numbers", "all_of", "values", "(λ found. found.items) "))
         write(folder + t["all"] + "/Answers.antt", read_answer(t, "all", t["all"], [], False, True))
 
 

@@ -23,6 +23,8 @@ mod new_tables_tests;
 #[cfg(test)]
 mod noted;
 #[cfg(test)]
+mod number_tests;
+#[cfg(test)]
 mod range_tests;
 #[cfg(test)]
 mod reach_tests;

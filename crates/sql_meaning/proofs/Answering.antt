@@ -27,7 +27,8 @@ use Rattle.sqlite.specs.Table.{Table}
 use Rattle.sqlite_value.specs.declared.keys.Key.{Key}
 use Rattle.sql_meaning.specs.Reading.{Test, Listing, Finds}
 use Rattle.sql_meaning.proofs.Where.{are_given}
-use Rattle.sql_meaning.proofs.Select.{IsSelect, IsPlannedSelect, listing_of, listed}
+use Rattle.sql_meaning.proofs.Resolve.{all_rows}
+use Rattle.sql_meaning.proofs.Select.{IsSelect, IsPlannedSelect, IsAsked, asked_all, listing_of, listing_showing, all_listed}
 use Rattle.sql_meaning.specs.Transactions.{Rests, Made, Steps, Looks}
 use Rattle.sql_meaning.proofs.Transactions.{Shuts, Settles, clean_open}
 
@@ -135,23 +136,36 @@ module _ (text : List ℕ) (p : Parsed) (asks : Written) (parsed : first text �
 
 -- ---- a SELECT of a known table
 
-module _ (text : List ℕ) (table : ℕ → Table) (test : Test) (by : List (Term × Key)) (it : (tree : ℕ) → IsSelect text (table tree) test by) (plan : (tree : ℕ) → IsPlannedSelect (table tree) test by)
-    (params : Row) (given : are_given test params ≡ true) (l : Listing) (is : (tree : ℕ) → listing_of (table tree) test by params ≡ l) where
+module _ {text : List ℕ} {table : ℕ → Table} {test : Test} {project : ℕ → List Term} {by : List (Term × Key)} (it : (tree : ℕ) → IsAsked text (table tree) test (project tree) by all_rows)
+    (params : Row) (given : are_given test params ≡ true) (l : Listing) (is : (tree : ℕ) → listing_showing (project tree) (table tree) test by params ≡ l) where
   finds : (old new : State) (rows : List Row) → Shown text params old new rows → Finds table l rows old.now new.now
   finds old new rows shown = record {
     same = (shown_unchanged text (it 0).parse (it 0).asks (it 0).parsed (it 0).statement params old new rows shown).0.now_is;
-    listed = λ at tree has. (listed text table test by it plan params given l is old new rows shown at tree has).0;
+    listed = λ at tree has. (all_listed it params given l is old new rows shown at tree has).0;
   }
 
   -- in a transaction
-  pub found_steps : {X : Type 0} (items : X → List Row) (old new : State) (r : Result X Error) → (HasCleanDisk new → IfOk r (λ x. Shown text params old new (items x)))
+  pub asked_steps : {X : Type 0} (items : X → List Row) (old new : State) (r : Result X Error) → (HasCleanDisk new → IfOk r (λ x. Shown text params old new (items x)))
       → (HasCleanDisk new → IfErr r (λ e. FailsToQuery text params old new e ⊎ IsTooLate text params old new e)) → Survives old new (λ _. ⊥) → Steps (λ x. Finds table l (items x)) old new r
-  found_steps items old new r ok err survives =
+  asked_steps items old new r ok err survives =
       read_steps text (it 0).parse (it 0).asks (it 0).parsed (it 0).statement items params old new r (λ x. Finds table l (items x)) (λ x shown. finds old new (items x) shown) ok err survives
 
   -- on a connection at rest
+  pub asked_looks : {S X : Type 0} (g : Ghosts S) (shuts : Shuts g) (settles : Settles g) (items : X → List Row) (old new : Held S) (rests : Rests (state g old)) (r : Result X Error)
+      → (HasCleanDisk (state g new) → IfOk r (λ x. Shown text params (state g old) (state g new) (items x))) → (HasCleanDisk (state g new) → IfErr r (FailsToQuery text params (state g old) (state g new)))
+      → (old.in_transaction ≡ false → new.in_transaction ≡ false) → Survives (state g old) (state g new) (CommitsShowing text params (state g old)) → Looks (λ x. Finds table l (items x)) (state g old) (state g new) r
+  asked_looks g shuts settles items old new rests r ok err mode survives =
+      read_looks text (it 0).parse (it 0).asks (it 0).parsed (it 0).statement g shuts settles items params old new rests r (λ x. Finds table l (items x)) (λ x shown. finds (state g old) (state g new) (items x) shown) ok err mode survives
+
+-- ---- of all columns
+
+module _ (text : List ℕ) (table : ℕ → Table) (test : Test) (by : List (Term × Key)) (it : (tree : ℕ) → IsSelect text (table tree) test by) (plan : (tree : ℕ) → IsPlannedSelect (table tree) test by)
+    (params : Row) (given : are_given test params ≡ true) (l : Listing) (is : (tree : ℕ) → listing_of (table tree) test by params ≡ l) where
+  pub found_steps : {X : Type 0} (items : X → List Row) (old new : State) (r : Result X Error) → (HasCleanDisk new → IfOk r (λ x. Shown text params old new (items x)))
+      → (HasCleanDisk new → IfErr r (λ e. FailsToQuery text params old new e ⊎ IsTooLate text params old new e)) → Survives old new (λ _. ⊥) → Steps (λ x. Finds table l (items x)) old new r
+  found_steps items old new r ok err survives = asked_steps (λ tree. asked_all (it tree) (plan tree)) params given l is items old new r ok err survives
+
   pub found_looks : {S X : Type 0} (g : Ghosts S) (shuts : Shuts g) (settles : Settles g) (items : X → List Row) (old new : Held S) (rests : Rests (state g old)) (r : Result X Error)
       → (HasCleanDisk (state g new) → IfOk r (λ x. Shown text params (state g old) (state g new) (items x))) → (HasCleanDisk (state g new) → IfErr r (FailsToQuery text params (state g old) (state g new)))
       → (old.in_transaction ≡ false → new.in_transaction ≡ false) → Survives (state g old) (state g new) (CommitsShowing text params (state g old)) → Looks (λ x. Finds table l (items x)) (state g old) (state g new) r
-  found_looks g shuts settles items old new rests r ok err mode survives =
-      read_looks text (it 0).parse (it 0).asks (it 0).parsed (it 0).statement g shuts settles items params old new rests r (λ x. Finds table l (items x)) (λ x shown. finds (state g old) (state g new) (items x) shown) ok err mode survives
+  found_looks g shuts settles items old new rests r ok err mode survives = asked_looks (λ tree. asked_all (it tree) (plan tree)) params given l is g shuts settles items old new rests r ok err mode survives

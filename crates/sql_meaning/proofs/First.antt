@@ -17,19 +17,15 @@ use Rattle.sqlite_rules.specs.Lists.{Has}
 use Rattle.sqlite.specs.Order.{Row}
 use Rattle.sqlite.specs.Query.{key_cmp}
 use Rattle.sqlite_value.specs.declared.keys.Key.{Key}
-use Rattle.sqlite.specs.declared.types.Value.TheVariants.{Null, Int}
+use Rattle.sqlite.specs.declared.types.Value.TheVariants.{Int}
 use Rattle.sqlite.specs.Term.{Term, lit}
 use Rattle.sqlite.specs.Table.{Table}
 use Rattle.sqlite.specs.State.{State, HasCleanDisk, Survives, Shown, FailsToQuery, IsTooLate}
 use Rattle.sqlite.specs.declared.error.Error.{Error}
-use Rattle.sqlite.specs.Command.TheVariants.{Select}
-use Rattle.sqlite_schema.specs.declared.program.Program.{Program}
-use Rattle.sqlite.proofs.Callers.{IsPlain, command_of, reads_as}
 use Rattle.sql_meaning.specs.Reading.{Test, Listing, IsListing, ShowsFirst, FindsFirst}
 use Rattle.sql_meaning.specs.Transactions.{Steps}
-use Rattle.sql_meaning.proofs.Where.{are_given, terms_of_test}
-use Rattle.sql_meaning.proofs.Resolve.{understood_is}
-use Rattle.sql_meaning.proofs.Select.{IsPaged, IsPlannedPage, paged_query, page_is, page_of, shown_terms, listing_of}
+use Rattle.sql_meaning.proofs.Where.{are_given}
+use Rattle.sql_meaning.proofs.Select.{IsPaged, IsPlannedPage, IsAsked, asked_page, answer_is, page_of, listing_of, listing_showing}
 use Rattle.sql_meaning.proofs.Answering.{shown_unchanged, read_steps}
 
 has_from_map : {A B : Type 0} (f : A → B) (xs : List A) (y : B) → Has (map f xs) y → (x : A) × Has xs x × (y ≡ f x)
@@ -79,23 +75,30 @@ IsFirst text t test by = IsPaged text t test by one_row
 abbrev pub IsPlannedFirst : Table → Test → List (Term × Key) → Type 0
 IsPlannedFirst t test by = IsPlannedPage t test by one_row
 
-module _ (text : List ℕ) (table : ℕ → Table) (test : Test) (by : List (Term × Key)) (it : (tree : ℕ) → IsFirst text (table tree) test by) (plan : (tree : ℕ) → IsPlannedFirst (table tree) test by)
-    (params : Row) (given : are_given test params ≡ true) (l : Listing) (is : (tree : ℕ) → listing_of (table tree) test by params ≡ l) where
-  pub first_found : (old new : State) (rows : List Row) → Shown text params old new rows → FindsFirst table l rows old.now new.now
-  first_found old new rows shown = record {
+module _ {text : List ℕ} {table : ℕ → Table} {test : Test} {project : ℕ → List Term} {by : List (Term × Key)} (it : (tree : ℕ) → IsAsked text (table tree) test (project tree) by one_row)
+    (params : Row) (given : are_given test params ≡ true) (l : Listing) (is : (tree : ℕ) → listing_showing (project tree) (table tree) test by params ≡ l) where
+  pub asked_first : (old new : State) (rows : List Row) → Shown text params old new rows → FindsFirst table l rows old.now new.now
+  asked_first old new rows shown = record {
     same = (shown_unchanged text (it 0).parse (it 0).asks (it 0).parsed (it 0).statement params old new rows shown).0.now_is;
     first = λ at tree has.
         let t = table tree in
-        let schema = old.now.schema in
-        let q : Program = record { lets = []; body = paged_query t.tree (terms_of_test t test) (shown_terms t) by one_row } in
-        let known = understood_is schema text _ (page_is schema _ text at t test by one_row (it tree) (it tree).one.0 ((it tree).one.1 schema) has (plan tree)) in
-        let got = reads_as text params old new schema refl (Select q _) (ap command_of known.0) (subst IsPlain (sym known.0) (refl, refl)) known.1 rows shown in
-        let all = page_of schema at t has test (shown_terms t) by one_row old.now.trees params rows given (got.answer Null) in
+        let all = page_of old.now.schema at t has test (project tree) by one_row old.now.trees params rows given (answer_is (it tree) params old new at has rows shown) in
         subst (λ (m : Listing). ShowsFirst m.key m.shown m.by (filter m.keeps (old.now.trees t.tree)) rows) (is tree) (listing_first _ _ _ _ all.0 rows all.1 all.2);
   }
 
   -- in a transaction
+  pub asked_first_steps : {X : Type 0} (items : X → List Row) (old new : State) (r : Result X Error) → (HasCleanDisk new → IfOk r (λ x. Shown text params old new (items x)))
+      → (HasCleanDisk new → IfErr r (λ e. FailsToQuery text params old new e ⊎ IsTooLate text params old new e)) → Survives old new (λ _. ⊥) → Steps (λ x. FindsFirst table l (items x)) old new r
+  asked_first_steps items old new r ok err survives =
+      read_steps text (it 0).parse (it 0).asks (it 0).parsed (it 0).statement items params old new r (λ x. FindsFirst table l (items x)) (λ x shown. asked_first old new (items x) shown) ok err survives
+
+-- ---- of all columns
+
+module _ (text : List ℕ) (table : ℕ → Table) (test : Test) (by : List (Term × Key)) (it : (tree : ℕ) → IsFirst text (table tree) test by) (plan : (tree : ℕ) → IsPlannedFirst (table tree) test by)
+    (params : Row) (given : are_given test params ≡ true) (l : Listing) (is : (tree : ℕ) → listing_of (table tree) test by params ≡ l) where
+  pub first_found : (old new : State) (rows : List Row) → Shown text params old new rows → FindsFirst table l rows old.now new.now
+  first_found old new rows shown = asked_first (λ tree. asked_page (it tree) (plan tree)) params given l is old new rows shown
+
   pub first_steps : {X : Type 0} (items : X → List Row) (old new : State) (r : Result X Error) → (HasCleanDisk new → IfOk r (λ x. Shown text params old new (items x)))
       → (HasCleanDisk new → IfErr r (λ e. FailsToQuery text params old new e ⊎ IsTooLate text params old new e)) → Survives old new (λ _. ⊥) → Steps (λ x. FindsFirst table l (items x)) old new r
-  first_steps items old new r ok err survives =
-      read_steps text (it 0).parse (it 0).asks (it 0).parsed (it 0).statement items params old new r (λ x. FindsFirst table l (items x)) (λ x shown. first_found old new (items x) shown) ok err survives
+  first_steps items old new r ok err survives = asked_first_steps (λ tree. asked_page (it tree) (plan tree)) params given l is items old new r ok err survives

@@ -8,8 +8,9 @@ use Rattle.sqlite_value.specs.declared.keys.Key.{Key}
 use Rattle.sqlite_tied.specs.Compute.{everything}
 use Rattle.sql_meaning.specs.Resolving.{resolving}
 use Rattle.sql_meaning.specs.Reading.{equals, compares, ascending, descending, Test, both}
-use Rattle.sql_meaning.proofs.Resolve.{one_table, one_source}
-use Rattle.sql_meaning.proofs.Select.{IsSelect, IsPlannedSelect}
+use Rattle.sql_meaning.proofs.Resolve.{one_table, one_source, over_table, all_rows}
+use Rattle.sql_meaning.proofs.Columns.{named_terms}
+use Rattle.sql_meaning.proofs.Select.{IsSelect, IsPlannedSelect, IsNamed, IsPlannedNamed, IsAsked, asked_named}
 use Rattle.sql_meaning.proofs.First.{IsFirst, IsPlannedFirst}
 use Rattle.sql_meaning.proofs.Insert.{IsInsert, IsRow}
 use Rattle.sql_meaning.specs.Notes.{note_table, note_stored}
@@ -101,3 +102,30 @@ before_text tree = record {
 pub before_plan : (tree : ℕ) → IsPlannedSelect (note_table tree) in_place_below by_newest
 unfolding resolving
 before_plan tree schema at h = rw (h.stored, h.by_tree) refl
+
+-- ---- the numbers of a place
+
+pub numbers_text : (tree : ℕ) → IsNamed (codes "SELECT seq FROM notes WHERE place = ?1 ORDER BY seq") (note_table tree) (0 ∷ []) (equals 1 0) by_number all_rows
+unfolding everything
+numbers_text tree = record {
+  parse = _;
+  asks = _;
+  src = _;
+  items = _;
+  parsed = refl;
+  statement = refl;
+  formats = refl;
+  one = over_table refl refl refl refl refl refl refl refl refl refl refl refl;
+  paged = λ schema. refl;
+  columns = ((_, _, refl, (_, _, refl, refl, refl)), tt);
+  condition = (_, refl, (_, _, _, _, refl, refl, refl, refl, refl, refl, refl));
+  orders = ((_, (_, _, refl, refl, refl), refl, refl), tt);
+  enough = refl;
+}
+
+pub numbers_plan : (tree : ℕ) → IsPlannedNamed (note_table tree) (0 ∷ []) (equals 1 0) by_number all_rows
+unfolding resolving
+numbers_plan tree schema at h = rw (h.stored, h.by_tree) refl
+
+pub numbers : (tree : ℕ) → IsAsked (codes "SELECT seq FROM notes WHERE place = ?1 ORDER BY seq") (note_table tree) (equals 1 0) (named_terms (note_table tree) (0 ∷ [])) by_number all_rows
+numbers tree = asked_named (numbers_text tree) (numbers_plan tree)

@@ -57,3 +57,7 @@ notes_from seq = record { keeps = λ r. stands Ge (value_in r 0) (value.Int seq)
 abbrev pub notes_before : ℤ → ℤ → Listing
 notes_before place seq =
     record { keeps = λ r. is_same (value_in r 2) (value.Int place) && stands Lt (value_in r 0) (value.Int seq); key = λ r. value_in r 0 ∷ []; shown = shown_note; by = descending ∷ [] }
+
+-- the numbers of the notes of a place, in their order, and nothing else of them
+abbrev pub numbers_in : ℤ → Listing
+numbers_in place = record { keeps = λ r. is_same (value_in r 2) (value.Int place); key = λ r. value_in r 0 ∷ []; shown = λ r. value_in r 0 ∷ []; by = ascending ∷ [] }

@@ -8,7 +8,7 @@ ghost use Rattle.sql_meaning.specs.Reading.{Finds, FindsFirst};
 ghost use Rattle.sql_meaning.specs.Writing.{EachChained};
 ghost use Rattle.sql_meaning.specs.Known.{HasTable};
 ghost use Rattle.sql_meaning.specs.Notes.{AddsNote, AddsBoth, Adds};
-ghost use Rattle.sql_meaning.specs.Notes.{note_table, newest_in, notes_from, notes_before};
+ghost use Rattle.sql_meaning.specs.Notes.{note_table, newest_in, notes_from, notes_before, numbers_in};
 
 use crate::forms::{ColumnForm, TableForm, find_table};
 use sqlite::{Alter, Connection, Error, Row, Transaction, params};
@@ -122,6 +122,22 @@ pub fn read_from<S: Alter>(conn: &mut Connection<S>, seq: i64) -> Result<Vec<Row
     conn.query_all(
         "SELECT * FROM notes WHERE seq >= ?1 ORDER BY seq",
         params![seq],
+    )
+}
+
+/// The numbers of the notes of a place, in their order, outside a transaction. The answer has this
+/// one column, however long the notes are.
+pub fn numbers_of_place<S: Alter>(
+    conn: &mut Connection<S>,
+    place: i64,
+) -> Result<Vec<Row>, Error>
+    requires { Rests (state S.Store conn.old) }
+    ensures looks { Looks (λ rows. Finds note_table (numbers_in place) rows.items)
+        (state S.Store conn.old) (state S.Store conn.new) result }
+{
+    conn.query_all(
+        "SELECT seq FROM notes WHERE place = ?1 ORDER BY seq",
+        params![place],
     )
 }
 

@@ -87,6 +87,7 @@ module _ (t : Tables) where
               media = All-of_map IsKeyTaken (λ r. (pos 2, r.id)) t.media (All-right IsKeyTaken tiles media before);
               rows = All-of_map IsKeyTaken (λ r. (pos 3, r.id)) t.rows (All-right IsKeyTaken (tiles ++ media) others taken);
             }
+
         fro : RowsHaveIdentities t → AllByRecursion (λ x. has_key names x ≡ true) (row_keys t)
         fro it = All-weaker IsKeyTaken (λ x. has_key names x ≡ true) (λ x e. name_taken names known x ∙ e) (row_keys t)
             (All-append IsKeyTaken (tiles ++ media) others

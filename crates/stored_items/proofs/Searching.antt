@@ -18,6 +18,7 @@ searched_any {K} {R} order xs x (Err i) sorted within found = sym (list_any_none
   where
     parts : IsPartitionPoint (λ y. R y x ≡ Less) (λ y. R y x ≡ Greater) xs i
     parts = found (searchable_from_sorted order (λ k. k) xs x sorted)
+
     none : All (λ k. eq_by_cmp R k x ≡ false) xs
     none k d less = elim (cases_lt k i) [
       | inr high ↦ ap is_eq (parts.1 k d high less)

@@ -5,7 +5,6 @@ mod from_row;
 pub mod laws;
 mod next_rows;
 pub mod ranges;
-mod row_ids;
 mod sorted;
 pub mod tied;
 pub mod unique;

@@ -9,13 +9,15 @@ ghost use Rattle.stored_items.specs.Answers.{Decides};
 ghost use Rattle.stored_items.specs.Tied.{AreTied};
 ghost use Rattle.stored_items.specs.Ties.{key_cmp, name_key, row_keys, has_names, AreKeysOf};
 
-use crate::row_ids::{attribute_ids, medium_ids, tile_ids};
 use crate::sorted::{has, has_all, in_order};
 use identity_register::kinds::{MEDIUM, ROW, TILE, number_of_kind};
+use package_tables::attributes::attribute_ids;
 use package_tables::fault::Fault;
 use package_tables::identities::all_identities;
 use package_tables::mappings::all_pairs;
+use package_tables::media::medium_ids;
 use package_tables::rows::{IdentityRow, MappingRow};
+use package_tables::tiles::tile_ids;
 use sheet_types::command::Mapping;
 use sqlite::{Alter, Connection};
 use std::alloc::Global;
@@ -39,10 +41,7 @@ fn names_of(alloc: Global, rows: Vec<IdentityRow>) -> Result<Vec<(i64, i64)>, Fa
 }
 
 /// The kinds and numbers of all identities.
-fn read_names<S: Alter>(
-    conn: &mut Connection<S>,
-    alloc: Global,
-) -> Result<Vec<(i64, i64)>, Fault>
+fn read_names<S: Alter>(conn: &mut Connection<S>, alloc: Global) -> Result<Vec<(i64, i64)>, Fault>
     requires { Rests (state S.Store conn.old) }
     ensures { LooksUp (λ t names. IsPermutation (map name_key t.identities) names.items) (state S.Store conn.old) (state S.Store conn.new) result }
 {
@@ -66,10 +65,7 @@ fn keys_of(
 }
 
 /// The kinds and numbers of all rows of the user tables.
-fn read_rows<S: Alter>(
-    conn: &mut Connection<S>,
-    alloc: Global,
-) -> Result<Vec<(i64, i64)>, Fault>
+fn read_rows<S: Alter>(conn: &mut Connection<S>, alloc: Global) -> Result<Vec<(i64, i64)>, Fault>
     requires { Rests (state S.Store conn.old) }
     ensures { LooksUp (λ t keys. IsPermutation (row_keys t) keys.items) (state S.Store conn.old) (state S.Store conn.new) result }
 {
@@ -104,7 +100,10 @@ fn has_names(names: &[(i64, i64)], mapping: Mapping, pair: MappingRow) -> bool
     ensures { result ≡ has_names names.now mapping pair }
 {
     let base = has(names, &(number_of_kind(mapping.base_kind()), pair.base_id));
-    let other = has(names, &(number_of_kind(mapping.other_kind()), pair.related_id));
+    let other = has(
+        names,
+        &(number_of_kind(mapping.other_kind()), pair.related_id),
+    );
     base & other
 }
 

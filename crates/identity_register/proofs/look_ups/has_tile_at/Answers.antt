@@ -2,7 +2,7 @@
 use Rattle.std.proofs.Common.{◌∙◌}
 use Rattle.std.proofs.lemmas.Int.{to_z-of_z}
 use Rattle.identity_register.proofs.Looking.{looked, sees}
-use Rattle.identity_register.proofs.Answering.{IsTileAt, is_tile_at, one_tells, tiles_at}
+use Rattle.identity_register.proofs.Answering.{HasTileAt, tiles_at}
 use Rattle.identity_register.proofs.look_ups.has_tile_at.Goals as goal
 
 pub returns : goal.returns
@@ -10,5 +10,5 @@ returns g c =
     let zoom = c.ranges.zoom in
     let column = c.ranges.column in
     let row = c.ranges.row in
-    sees (looked (IsTileAt c.args.zoom c.args.column c.args.row) c.in_ok-found.was (simp to_z-of_z at c.tile_at.ensures))
-    (λ f p t says found. c.is_some.ensures ∙ one_tells (is_tile_at c.args.zoom c.args.column c.args.row) t.tiles c.in_ok-found.found found ∙ tiles_at f p t says c.args.zoom c.args.column c.args.row)
+    sees (looked (HasTileAt c.args.zoom c.args.column c.args.row) c.in_ok-found.was (simp to_z-of_z at c.has_tile_at.ensures))
+    (λ f p t says found. found ∙ tiles_at f p t says c.args.zoom c.args.column c.args.row)

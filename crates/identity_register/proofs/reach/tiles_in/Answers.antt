@@ -1,5 +1,5 @@
 -- The names of the rows between the ends of the block, in their order, are the tiles there.
-use Rattle.std.proofs.Common.{◌≡◌, ◌∙◌, ap, subst, map, pos, IfOk, rules}
+use Rattle.std.proofs.Common.{subst, pos, IfOk, rules}
 use mir.Syntax.{w64}
 use mir.Val.{SFits}
 use Rattle.std.specs.Prelude.{IsPermutation}
@@ -7,17 +7,14 @@ use Rattle.std.specs.List.{AllZip}
 use Rattle.std.proofs.lemmas.Int.{to_z-of_z}
 use Rattle.sql_meaning.proofs.Staying.{looks_stays, stays_then}
 use Rattle.sheet_types.specs.Ordered.{IsArranged}
-use Rattle.package_tables.specs.Calls.{AreThose}
+use Rattle.package_tables.specs.Calls.{AreNumbersOf}
 use Rattle.identity_register.specs.Gathered.{IsNamed}
 use Rattle.identity_register.proofs.Looking.{looked, fails}
 use Rattle.identity_register.proofs.Reaching.{looked_on, sees_if, is_between, tiles_are}
 use Rattle.identity_register.proofs.reach.tiles_in.Goals as goal
 
-pub returns-in_err-numbers : goal.returns-in_err-numbers
-returns-in_err-numbers g c = fails c.from_residual-in_err-numbers.result c.from_residual-in_err-numbers.ensures.0 (looks_stays c.tiles_between.ensures)
-
 pub returns-in_err-names : goal.returns-in_err-names
-returns-in_err-names g c = fails c.from_residual-in_err-names.result c.from_residual-in_err-names.ensures.0 (stays_then (looks_stays c.tiles_between.ensures) c.names_of.ensures.stays)
+returns-in_err-names g c = fails c.from_residual-in_err-names.result c.from_residual-in_err-names.ensures.0 (stays_then (looks_stays c.tile_ids_between.ensures) c.names_of.ensures.stays)
 
 pub returns : goal.returns
 returns g c =
@@ -26,9 +23,8 @@ returns g c =
     let last_column : SFits w64 c.args.span.now.last_column = search rules in
     let row : SFits w64 c.args.span.now.row = search rules in
     let last_row : SFits w64 c.args.span.now.last_row = search rules in
-    let found = c.in_ok-tiles.tiles.items in
+    let found = c.in_ok-numbers.numbers.items in
     let names = c.in_ok-names.names.items in
-    let numbers : c.deref-2.result.now ≡ map (λ x. x.id) found = c.deref-2.ensures.value ∙ c.in_ok-numbers.ensures ∙ ap (map (λ x. x.id)) c.deref.ensures.value in
     sees_if c.names_in_order.result
-    (looked_on (λ t found. AllZip (IsNamed t.identities (pos 1)) c.deref-2.result.now found.items) (looked (λ t found. AreThose (is_between c.args.zoom c.args.span.now) t.tiles found.items) c.in_ok-tiles.was (simp to_z-of_z at c.tiles_between.ensures)) c.in_ok-names.was c.names_of.ensures.stays c.names_of.ensures.told)
-    (λ sorted e f p t says h. tiles_are f p t says c.args.zoom c.args.span.now found names sorted.items h.0 (subst (λ l. AllZip (IsNamed t.identities (pos 1)) l names) numbers h.1) (subst (λ r. IfOk r (λ sorted. IsPermutation names sorted.items)) e c.names_in_order.ensures.same) (subst (λ r. IfOk r (λ sorted. IsArranged (λ id. id) sorted.items)) e c.names_in_order.ensures.order))
+    (looked_on (λ t found. AllZip (IsNamed t.identities (pos 1)) c.deref.result.now found.items) (looked (λ t found. AreNumbersOf (λ x. x.id) (is_between c.args.zoom c.args.span.now) t.tiles found.items) c.in_ok-numbers.was (simp to_z-of_z at c.tile_ids_between.ensures)) c.in_ok-names.was c.names_of.ensures.stays c.names_of.ensures.told)
+    (λ sorted e f p t says h. tiles_are f p t says c.args.zoom c.args.span.now found names sorted.items h.0 (subst (λ l. AllZip (IsNamed t.identities (pos 1)) l names) c.deref.ensures.value h.1) (subst (λ r. IfOk r (λ sorted. IsPermutation names sorted.items)) e c.names_in_order.ensures.same) (subst (λ r. IfOk r (λ sorted. IsArranged (λ id. id) sorted.items)) e c.names_in_order.ensures.order))
