@@ -34,10 +34,7 @@ fn in_size(mut numbers: Vec<i64>) -> Vec<i64>
 }
 
 /// The numbers that the rows of an answer show, in the order in which a table has them.
-pub(crate) fn numbers_of(
-    alloc: Global,
-    answer: Result<Vec<Row>, Error>,
-) -> Result<Vec<i64>, Fault>
+pub(crate) fn numbers_of(alloc: Global, answer: Result<Vec<Row>, Error>) -> Result<Vec<i64>, Fault>
     ensures numbers { IfOk result (λ numbers. IsOkAnd answer (λ rows. AreInSize rows.items numbers.items)) }
     ensures failed { IfErr answer (λ error. result ≡ Err (fault_of error)) }
     ensures none { IfOk answer (λ rows. IfErr result (λ fault. fault ≡ StoreFault → AllByRecursion AreTexts rows.items → (numbers : List ℤ) → rows.items ≢ map number_shown numbers)) }

@@ -127,10 +127,7 @@ pub fn read_from<S: Alter>(conn: &mut Connection<S>, seq: i64) -> Result<Vec<Row
 
 /// The numbers of the notes of a place, in their order, outside a transaction. The answer has this
 /// one column, however long the notes are.
-pub fn numbers_of_place<S: Alter>(
-    conn: &mut Connection<S>,
-    place: i64,
-) -> Result<Vec<Row>, Error>
+pub fn numbers_of_place<S: Alter>(conn: &mut Connection<S>, place: i64) -> Result<Vec<Row>, Error>
     requires { Rests (state S.Store conn.old) }
     ensures looks { Looks (λ rows. Finds note_table (numbers_in place) rows.items)
         (state S.Store conn.old) (state S.Store conn.new) result }
