@@ -1,12 +1,13 @@
 -- The statements on `sheet_tiles`. Written by tools/statements.py.
-use Rattle.std.proofs.Common.{ℕ, ℤ, List, [], ◌∷◌, true, codes, refl}
-use Rattle.std.specs.Prelude.{◌&&◌, int_le}
-use Rattle.std.specs.Ordering.{int_eq, int_cmp, on}
-use Rattle.sqlite_sql.specs.declared.ops.CompareOp.TheVariants.{Ge, Le}
-use Rattle.std.proofs.lemmas.Cmp.{on_total, int_cmp_total}
+use Rattle.std.proofs.Common.{◌≡◌, ℕ, ℤ, List, [], ◌∷◌, Bool, true, codes, refl}
+use Rattle.std.specs.Prelude.{◌&&◌, bytes_eq, int_le, int_lt}
+use Rattle.std.specs.Ordering.{int_eq, int_cmp, on, then_cmp}
+use Rattle.sqlite_sql.specs.declared.ops.CompareOp.TheVariants.{Ge, Le, Gt, Lt}
+use Rattle.std.proofs.lemmas.Cmp.{on_total, then_total, int_cmp_total}
 use Rattle.sqlite.specs.Order.{Row}
 use Rattle.sqlite.specs.Term.{col}
-use Rattle.sqlite.specs.declared.types.Value.TheVariants.{Int, Null, Blob}
+use Rattle.sqlite.specs.Edit.{next_rowid}
+use Rattle.sqlite.specs.declared.types.Value.TheVariants.{Int, Null, Text, Blob}
 use Rattle.sqlite_tied.specs.Compute.{everything}
 use Rattle.sql_meaning.specs.Resolving.{resolving}
 use Rattle.sql_meaning.specs.Reading.{always, equals, compares, both, ascending, descending}
@@ -16,15 +17,16 @@ use Rattle.sql_meaning.proofs.Resolve.{one_table, over_table, all_rows}
 use Rattle.sql_meaning.proofs.Select.{IsSelect, IsPlannedSelect, IsNamed, IsPlannedNamed, asked_named}
 use Rattle.sql_meaning.proofs.First.{one_row}
 use Rattle.package_tables.specs.Tables.{sheet_tiles}
-use Rattle.package_tables.specs.Shapes.{tile_shape, int_at, blob_at}
+use Rattle.package_tables.specs.Shapes.{tile_shape, int_at, text_at, blob_at}
+use Rattle.sheet_types.specs.declared.command.Mapping.TheVariants.{TilesMedia, RowsMedia, RowsTiles}
 use Rattle.package_tables.specs.Listed.{tiles}
 use Rattle.package_tables.specs.Shown.{tile_shown}
 use Rattle.package_tables.specs.declared.rows.TileRow.{TileRow}
 use Rattle.package_tables.proofs.Looking.{IsKnown, IsLookUp, IsRanked}
 use Rattle.package_tables.proofs.Newest.{IsNewest}
 use Rattle.package_tables.proofs.Numbering.{IsNumbering}
-use Rattle.package_tables.proofs.Ranking.{one_number}
-use Rattle.package_tables.proofs.Values.{same_number, at_least, at_most, both_same}
+use Rattle.package_tables.proofs.Ranking.{one_number, two_numbers}
+use Rattle.package_tables.proofs.Values.{same_number, same_text, at_least, at_most, above, below, both_same}
 use Rattle.package_tables.proofs.Written.{tiles_listed}
 
 pub insert_text : (tree : ℕ) → IsInsert (codes "INSERT INTO sheet_tiles VALUES (?1, ?2, ?3, ?4, ?5)") (sheet_tiles tree)
