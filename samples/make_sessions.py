@@ -7,8 +7,8 @@ Usage: make_sessions.py           writes first.csv, first_session.txt, and the r
 First comes the session of the README: an archive is made in a folder, takes in three sheets, a survey mark and a photograph, lends a sheet
 to a crew, which adds a mark of its own; then it is looked at. What its lines print is worked out by the second machine of reference.py.
 
-Then the worked examples of bench/worked_lists.txt, which has what they must print, written out by hand. Each list is rehearsed. Where an
-example tells more of a reply than its number, or has manifests in between, it is carried out in a folder too: requests of which more
+Then the worked examples of bench/worked_lists.txt, which has what they must print, written out by hand. Each list is rehearsed. An
+example that lends, and tells more than one reply whole or has manifests in between, is carried out in a folder too: requests of which more
 is told go in one by one, as JSON, and the others as lists. Such a reply's whole text, and the table of the packages, are the second
 machine's, once that agrees with all that the example tells (bench/worked_lists.py).
 
@@ -234,8 +234,10 @@ def worked(session, name, checks):
         worked_lists.check_reference(check)
     last = checks[-1]
     rehearse(session, last, short(name))
-    more = any(tells_more(last, at) for at in range(len(last.records)))
-    if not last.fault and (len(checks) > 1 or more):
+    whole = sum(tells_more(last, at) for at in range(len(last.records)))
+    lends = any(",split," in record or ",merge," in record for record in last.records)
+    # each line over a folder waits for the disk, and a program of the gate has two minutes
+    if not last.fault and lends and (len(checks) > 1 or whole > 1):
         carry_out(session, checks)
 
 
