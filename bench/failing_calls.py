@@ -1,10 +1,11 @@
 #!/usr/bin/env python3
 """Lets each allocation, each read of standard input and each write to standard output of a whole rehearsal of the sample fail in turn, alone and with all after it, and looks at what comes out.
 
-    bench/failing_calls.py [--step N] [--jobs N] [PROGRAM]
+    bench/failing_calls.py [--step N] [--first N] [--last N] [--jobs N] [PROGRAM]
 
 The program is crates/sheetdesk/out/sheetdesk where none is named; status 0 where all is as it must be. With a step each Nth allocation alone is
-refused (each read and each write still is): all of them are 140,000 runs. So many runs at once as --jobs says (1).
+refused (each read and each write still is): all of them are 140,000 runs. --first and --last part them: those allocations alone are refused, from the
+one to the other. So many runs at once as --jobs says (1).
 
 It needs gcc, which makes a library that is loaded before the C library. What must come out:
 - a read that fails: nothing but `refused: list`, status 1;
@@ -123,6 +124,8 @@ def is_right(kind, seen, whole):
 def main():
     words = argparse.ArgumentParser(description=__doc__, formatter_class=argparse.RawDescriptionHelpFormatter)
     words.add_argument("--step", type=int, default=1)
+    words.add_argument("--first", type=int, default=1)
+    words.add_argument("--last", type=int)
     words.add_argument("--jobs", type=int, default=1)
     words.add_argument("program", nargs="?", default=os.path.join(ROOT, "crates/sheetdesk/out/sheetdesk"))
     said = words.parse_args()
@@ -138,7 +141,8 @@ def main():
         assert run(program, library, listed, {}) == (whole, b"", 0), "the undisturbed run"
         for kind, count in zip(("FAIL_MEMORY", "FAIL_READ", "FAIL_WRITE"), counted(program, library, listed)):
             ends, step = Counter(), said.step if kind == "FAIL_MEMORY" else 1
-            tries = [extra for n in range(1, count + 1, step) for extra in (str(n), f"{n}+")]
+            first, last = (said.first, min(said.last or count, count)) if kind == "FAIL_MEMORY" else (1, count)
+            tries = [extra for n in range(first, last + 1, step) for extra in (str(n), f"{n}+")]
             with ThreadPoolExecutor(said.jobs) as pool:
                 for extra, seen in zip(tries, pool.map(lambda extra: run(program, library, listed, {kind: extra}), tries)):
                     ends[seen[2]] += 1
