@@ -3,6 +3,7 @@ pub mod KindNumbers
 pub mod LineReading
 pub mod Fitting
 pub mod Every
+pub mod Spelled
 pub mod Sums
 pub mod Found
 pub mod Order

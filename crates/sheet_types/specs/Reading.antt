@@ -1,5 +1,5 @@
 -- Texts that are read: digests, numbers, UUIDs, frames. Profile, over RFC 9562 (UUIDs) and FIPS 180-4 (digests).
-use Rattle.std.specs.Prelude.{◌≡◌, ℕ, ℤ, List, [], ◌∷◌, length, map, Option, FitsSigned}
+use Rattle.std.specs.Prelude.{◌≡◌, ℕ, ◌+◌, ◌*◌, ◌/◌, ◌%◌, ℤ, List, [], ◌∷◌, length, map, Option, FitsSigned}
 use Rattle.std.specs.Int.{w64}
 use Rattle.std.specs.List.{join_with_byte, AllByRecursion}
 use Rattle.std.specs.Fmt.{signed_decimal}
@@ -13,6 +13,10 @@ use Rattle.sheet_types.specs.declared.frame.Rect.{Rect}
 pub record IsDigest (digest : List ℕ) : Type 0 where
   pub long : length digest ≡ 32
   pub bytes : IsBytes digest
+
+-- the value of a lower-case hexadecimal digit by its code, 48 to 57 or 97 to 102; of any other code some number below 16
+abbrev pub digit_value : ℕ → ℕ
+digit_value c = (c % 16 + 9 * (c / 64)) % 16
 
 -- a rectangle as a line has it
 abbrev pub rect_text : Rect → List ℕ

@@ -1,10 +1,10 @@
 //! The digests of contents, and their texts (FIPS 180-4, 6.2).
-ghost use Rattle.std.specs.Prelude.{◌≡◌, ◌≢◌, ◌++◌, ◌∷◌, [], List, ℕ, Some, IfSome, IfNone};
+ghost use Rattle.std.specs.Prelude.{◌≡◌, ◌≢◌, ◌++◌, ◌∷◌, [], List, ℕ, Some, IfSome, IfNone, length};
 ghost use Rattle.std.specs.Fmt.{signed_decimal};
 ghost use Rattle.sha2.specs.Hashers.{Holds256};
 ghost use Rattle.sha2.specs.Sha256.{sha256};
 ghost use Rattle.hex.specs.Hex.{encode_lower};
-ghost use Rattle.sheet_types.specs.Reading.{IsDigest};
+ghost use Rattle.sheet_types.specs.Reading.{IsDigest, digit_value};
 ghost use Rattle.sheet_types.specs.Texts.{fingerprint, spaced};
 
 use crate::command::Content;
@@ -92,15 +92,34 @@ pub fn spell<'b>(digest: &[u8; 32], buffer: &'b mut [u8; 64]) -> &'b str
     }
 }
 
+// The value of a lower-case hexadecimal digit, told without a branch; some number below 16 of any other byte.
+fn digit_value(digit: u8) -> u8
+    ensures { result ≡ digit_value digit }
+{
+    (digit % 16 + 9 * (digit / 64)) % 16
+}
+
+// The digest that 64 digits spell; some bytes where they spell none. Digits of a digest come at random, so a branch on each would be guessed wrong half the time.
+fn decode(text: &[u8]) -> [u8; 32]
+    requires { length text.now ≡ 64 }
+    ensures { (digest : List ℕ) → IsDigest digest → text.now ≡ encode_lower digest → result ≡ digest }
+{
+    let mut digest = [0; 32];
+    for place in 0..32 {
+        digest[place] = digit_value(text[2 * place]) * 16 + digit_value(text[2 * place + 1]);
+    }
+    digest
+}
+
 /// The digest that a text of exactly 64 lower-case hexadecimal digits spells.
 pub fn read_fingerprint(text: &str) -> Option<[u8; 32]>
     ensures some { IfSome result (λ digest. text.now ≡ encode_lower digest) }
     ensures none { IfNone result ((digest : List ℕ) → IsDigest digest → text.now ≢ encode_lower digest) }
 {
-    let mut digest = [0; 32];
-    if hex::decode_to_slice(text, &mut digest).is_err() {
+    if text.len() != 64 {
         return None;
     }
+    let digest = decode(text.as_bytes());
     let mut buffer = [0; 64];
     if spell(&digest, &mut buffer) == text {
         Some(digest)
