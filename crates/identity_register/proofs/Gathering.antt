@@ -110,7 +110,7 @@ module _ (f : Frame) (p : Package) (t : Tables) (says : Says f p t) where
       (n.0, n.1, n.2, sym whole ∙ same)
 
   -- a row is of one item
-  one_row : (m n : Numbered) → In m says.numbered → In n says.numbered → identity_row m ≡ identity_row n → m ≡ n
+  pub one_row : (m n : Numbered) → In m says.numbered → In n says.numbered → identity_row m ≡ identity_row n → m ≡ n
   one_row m n i j e =
       same_item f p t says m n i j (same_uuid m.item.identity n.item.identity (All-In (λ x. IsUuid x.item.identity) m says.numbered says.numbers.uuids i) (All-In (λ x. IsUuid x.item.identity) n says.numbered says.numbers.uuids j) (ap (λ r. r.uuid) e))
 

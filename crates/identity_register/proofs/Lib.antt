@@ -16,6 +16,7 @@ mod MappingTables
 mod OneFrame
 pub mod OnePackage
 mod Gathering
+mod Telling
 mod Moments
 mod InOrder
 pub mod Reaching

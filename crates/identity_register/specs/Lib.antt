@@ -7,4 +7,5 @@ pub mod Answers
 pub mod Laws
 pub mod Creation
 pub mod Gathered
+pub mod Told
 pub mod Room

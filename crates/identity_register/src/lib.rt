@@ -13,4 +13,5 @@ pub mod reach;
 mod row_contents;
 pub mod selection;
 pub mod stored_texts;
+pub mod told;
 pub mod whole;

@@ -207,7 +207,7 @@ pub(crate) fn links_in_order(mut links: Vec<Relation>) -> Result<Vec<Relation>, 
 }
 
 /// All links of the package whose identity rows these are, by mapping, base and other end.
-fn links_by<S: Alter>(
+pub(crate) fn links_by<S: Alter>(
     conn: &mut Connection<S>,
     rows: &[IdentityRow],
     alloc: Global,

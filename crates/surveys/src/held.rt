@@ -1,37 +1,20 @@
 //! What the package that a store reads as holds, as receipts tell it.
-ghost use Rattle.std.specs.Prelude.{◌≡◌, map, IfOk};
 ghost use Rattle.sqlite.specs.Held.{state};
 ghost use Rattle.sql_meaning.specs.Transactions.{Rests, Looks};
-ghost use Rattle.sheet_types.specs.World.{item_moved, link_moved};
 ghost use Rattle.identity_register.specs.Calls.{Sees};
 ghost use Rattle.opening.specs.Sights.{head_said};
 ghost use Rattle.surveys.specs.Looks.{TellsHeld};
 
 use balance::sights::Sight as PackageSight;
-use identity_register::whole::holdings;
+use identity_register::told::told;
 use opening::sights::StoreHead;
 use package_tables::fault::Fault;
 use sheet_types::collections::MovedList;
-use sheet_types::command::{Item, Relation};
-use sheet_types::receipt::{Moved, Receipt};
+use sheet_types::receipt::Receipt;
 use sqlite::{Alter, Connection};
-use std::alloc::{AllocError, Global};
+use std::alloc::Global;
 
-/// Items as receipts tell them.
-fn items_told(alloc: Global, items: &[Item]) -> Result<Vec<Moved>, AllocError>
-    ensures { IfOk result (λ things. things.items ≡ map item_moved items.now) }
-{
-    items.iter().map(|item| Moved::of_item(item)).collect(alloc)
-}
-
-/// Links as receipts tell them.
-fn links_told(alloc: Global, links: &[Relation]) -> Result<Vec<Moved>, AllocError>
-    ensures { IfOk result (λ things. things.items ≡ map link_moved links.now) }
-{
-    links.iter().map(|link| Moved::of_link(link)).collect(alloc)
-}
-
-/// What is held by the package that the store reads as, of this head and these receipts. The contents of all its items are in memory until each is told by its digest.
+/// What is held by the package that the store reads as, of this head and these receipts. One content is in memory at a time.
 ///
 /// # Errors
 ///
@@ -45,9 +28,7 @@ pub(crate) fn held_of<S: Alter>(
     requires { Rests (state S.Store conn.old) }
     ensures { Looks (Sees (TellsHeld (head_said head) receipts.items)) (state S.Store conn.old) (state S.Store conn.new) result }
 {
-    let (items, links) = holdings(conn, alloc)?;
-    let items = items_told(alloc, &items)?;
-    let links = links_told(alloc, &links)?;
+    let (items, links) = told(conn, alloc)?;
     Ok(PackageSight {
         uuid: head.uuid,
         parent: head.parent,
