@@ -35,9 +35,10 @@ same_key i = ap (λ l. item_key (record { identity = l; content = i.content })) 
 -- so what is told of items in their order is in its order
 pub told_arranged : (items : List Item) → IsArranged item_key items → IsArranged moved_key (map item_moved items)
 told_arranged [] h = tt
-told_arranged (i ∷ is) h =
-    (All-map (λ y. is_before (moved_key (item_moved i)) (moved_key y) ≡ true) item_moved is (All-weaker _ _ (λ j e. subst (λ k. is_before k (moved_key (item_moved j)) ≡ true) (sym (same_key i)) (subst (λ k. is_before (item_key i) k ≡ true) (sym (same_key j)) e)) is h.0),
-    told_arranged is h.1)
+told_arranged (i ∷ is) h = (
+  All-map (λ y. is_before (moved_key (item_moved i)) (moved_key y) ≡ true) item_moved is (All-weaker _ _ (λ j e. subst (λ k. is_before k (moved_key (item_moved j)) ≡ true) (sym (same_key i)) (subst (λ k. is_before (item_key i) k ≡ true) (sym (same_key j)) e)) is h.0),
+  told_arranged is h.1,
+)
 
 module _ (f : Frame) (p : Package) (t : Tables) (says : Says f p t) where
   -- what is told of a row is told of the row's item

@@ -171,7 +171,11 @@ pub fn is_linked<S: Alter>(conn: &mut Connection<S>, identity: Uuid) -> Result<O
 }
 
 /// What the row of this kind and number holds.
-pub(crate) fn content_of<S: Alter>(conn: &mut Connection<S>, kind: i64, number: i64) -> Result<Content, Fault>
+pub(crate) fn content_of<S: Alter>(
+    conn: &mut Connection<S>,
+    kind: i64,
+    number: i64,
+) -> Result<Content, Fault>
     requires { Rests (state S.Store conn.old) }
     ensures { LooksUp (IsContentOf kind number) (state S.Store conn.old) (state S.Store conn.new) result }
 {

@@ -1,5 +1,6 @@
 pub mod Uuids
 pub mod Slots
+pub mod Verbs
 pub mod Read
 pub mod Parts
 pub mod Maps

@@ -44,7 +44,7 @@ fills_lacks OfMode text f = subst (Lacks 32) (sym f.1) (mode_lacks f.0)
 fills_lacks OfNumber text f = subst (Lacks 32) (sym f.2) (number_lacks f.0)
 
 -- a text with a space behind something does not lack it
-not_lacking : (c : ℕ) (word rest : List ℕ) → Lacks c (word ++ (c ∷ rest)) → ⊥
+pub not_lacking : (c : ℕ) (word rest : List ℕ) → Lacks c (word ++ (c ∷ rest)) → ⊥
 not_lacking c [] rest h = cc (h.0, eq-eqb c c refl)
 not_lacking c (x ∷ word) rest h = not_lacking c word rest h.1
 

@@ -1,5 +1,5 @@
 //! What the lines of receipts say, read back whole.
-ghost use Rattle.std.specs.Prelude.{◌≡◌, true, pos, decimal, ◌∷◌, ◌++◌, codes, option_map, IfSome, IfNone};
+ghost use Rattle.std.specs.Prelude.{◌≡◌, ℕ, List, true, pos, decimal, ◌∷◌, ◌++◌, codes, option_map, IfSome, IfNone};
 ghost use Rattle.std.specs.Fmt.{signed_decimal};
 ghost use Rattle.hex.specs.Hex.{encode_lower};
 ghost use Rattle.sheet_types.specs.Lines.{entry_from, IsUuid, is_number, is_bytes, is_rect};
@@ -123,6 +123,16 @@ fn read_verb(verb: &str, rest: &str) -> Option<LineEntry>
         "split" => read_split(rest),
         "merge" => read_merge(rest),
         _ => None,
+    }
+}
+
+/// What stands before the first space of a text, or the whole of one that has none. Of a line it is the verb.
+pub(crate) fn verb_of(text: &str) -> &str
+    ensures { (word rest : List ℕ) → Lacks 32 word → text.now ≡ word ++ (32 ∷ rest) → result.now ≡ word }
+{
+    match cut(text) {
+        Some((verb, _rest)) => verb,
+        None => text,
     }
 }
 

@@ -8,7 +8,7 @@ ghost use Rattle.std.specs.BTreeMap.{get};
 ghost use Rattle.ledger.specs.Lending.{is_open_by};
 ghost use Rattle.sheet_types.specs.Custody.{is_add, is_split, is_merge, ends_at, after, is_open_among, open_loans};
 
-use crate::entries::{LineEntry, read_line};
+use crate::entries::{LineEntry, read_line, verb_of};
 use sheet_types::error::OutOfMemory;
 use sheet_types::receipt::Receipt;
 use std::alloc::{AllocError, Global};
@@ -19,30 +19,33 @@ use uuid::Uuid;
 pub fn is_add(receipt: &Receipt) -> bool
     ensures { result ≡ is_add receipt.now }
 {
-    matches!(
-        read_line(receipt.line.as_str()),
-        Some(LineEntry::Add { .. })
-    )
+    let line = receipt.line.as_str();
+    match verb_of(line) {
+        "add" => matches!(read_line(line), Some(LineEntry::Add { .. })),
+        _ => false,
+    }
 }
 
 /// Whether the line of a receipt is that of a split.
 pub fn is_split(receipt: &Receipt) -> bool
     ensures { result ≡ is_split receipt.now }
 {
-    matches!(
-        read_line(receipt.line.as_str()),
-        Some(LineEntry::Split { .. })
-    )
+    let line = receipt.line.as_str();
+    match verb_of(line) {
+        "split" => matches!(read_line(line), Some(LineEntry::Split { .. })),
+        _ => false,
+    }
 }
 
 /// Whether the line of a receipt is that of a merge.
 pub fn is_merge(receipt: &Receipt) -> bool
     ensures { result ≡ is_merge receipt.now }
 {
-    matches!(
-        read_line(receipt.line.as_str()),
-        Some(LineEntry::Merge { .. })
-    )
+    let line = receipt.line.as_str();
+    match verb_of(line) {
+        "merge" => matches!(read_line(line), Some(LineEntry::Merge { .. })),
+        _ => false,
+    }
 }
 
 /// For each package that a merge among the receipts has as source the greatest number of one.
