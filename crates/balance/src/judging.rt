@@ -23,14 +23,29 @@ use std::alloc::Global;
 pub fn judge(alloc: Global, sights: &[Sight]) -> Result<bool, OutOfMemory>
     ensures { IfOk result (λ balanced. (w : World) → IsSeen sights.now w → IsTrue balanced ↔ Balanced w) }
 {
+    let ledger = ledger_of(alloc, sights)?;
+    judge_ledger(alloc, ledger.as_slice(), sights)
+}
+
+/// The same by its receipts, in the order of their numbers.
+///
+/// # Errors
+///
+/// Want of memory.
+pub fn judge_ledger(
+    alloc: Global,
+    ledger: &[Receipt],
+    sights: &[Sight],
+) -> Result<bool, OutOfMemory>
+    ensures { IfOk result (λ balanced. (w : World) → IsSeenWith ledger.now sights.now w → IsTrue balanced ↔ Balanced w) }
+{
     let Some(archive) = archive_of(sights) else {
         return Ok(false);
     };
-    let ledger = ledger_of(alloc, sights)?;
-    if !is_sound(alloc, archive, ledger.as_slice())? {
+    if !is_sound(alloc, archive, ledger)? {
         return Ok(false);
     }
-    is_accounted(alloc, ledger.as_slice(), sights)
+    is_accounted(alloc, ledger, sights)
 }
 
 // Whether a sound ledger accounts for what is held, and its receipts stand where they ought to.

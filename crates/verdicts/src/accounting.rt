@@ -2,12 +2,12 @@
 ghost use Rattle.std.specs.Prelude.{◌≡◌, [], length, IfOk, IfErr};
 ghost use Rattle.sheet_types.specs.Balance.{Balanced, altered};
 ghost use Rattle.sheet_types.specs.Ordered.{arranged, IsArranged};
-ghost use Rattle.sheet_types.specs.World.{World, package_key};
+ghost use Rattle.sheet_types.specs.World.{World};
 ghost use Rattle.balance.specs.Sights.{IsSeenWith};
 ghost use Rattle.verdicts.specs.Accounts.{sight_key, taken, IsWorldOf, IsInAccount, IsLastOf};
 
 use crate::arranging::{arranged_live, do_rise};
-use balance::judging::judge;
+use balance::judging::judge_ledger;
 use balance::sights::{Sight as PackageSight, ledger_of};
 use opening::altered::least_altered;
 use opening::faults::RecoverFault;
@@ -30,22 +30,34 @@ pub(crate) fn ledger_in_account(
 {
     let sorted = arranged_live(alloc, held, live)?;
     let sights = sorted.as_slice();
-    check_balance(alloc, sights)?;
+    check_apart(sights)?;
     let ledger = ledger_of(alloc, sights)?;
+    check_balance(alloc, ledger.as_slice(), sights)?;
     check_altered(alloc, ledger.as_slice(), sights)?;
     Ok(ledger)
 }
 
-// That no two packages have one UUID, and that the ledger accounts for them.
-fn check_balance(alloc: Global, sights: &[PackageSight]) -> Result<(), RecoverFault>
-    ensures apart { IfOk result (λ _. (w : World) → IsWorldOf sights.now w → IsArranged package_key w.packages) }
-    ensures balanced { IfOk result (λ _. (w : World) → IsWorldOf sights.now w → Balanced w) }
+// That no two packages have one UUID.
+fn check_apart(sights: &[PackageSight]) -> Result<(), RecoverFault>
+    ensures apart { IfOk result (λ _. IsArranged sight_key sights.now) }
     ensures fault { IfErr result (λ fault. (w : World) → IsWorldOf sights.now w → IsLastOf w fault) }
 {
     if !do_rise(sights) {
         return Err(RecoverFault::OutOfAccount);
     }
-    if !judge(alloc, sights)? {
+    Ok(())
+}
+
+// That the ledger accounts for the packages.
+fn check_balance(
+    alloc: Global,
+    ledger: &[Receipt],
+    sights: &[PackageSight],
+) -> Result<(), RecoverFault>
+    ensures balanced { IfOk result (λ _. (w : World) → IsSeenWith ledger.now sights.now w → Balanced w) }
+    ensures fault { IfErr result (λ fault. (w : World) → IsSeenWith ledger.now sights.now w → IsLastOf w fault) }
+{
+    if !judge_ledger(alloc, ledger, sights)? {
         return Err(RecoverFault::OutOfAccount);
     }
     Ok(())
