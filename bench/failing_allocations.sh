@@ -1,13 +1,14 @@
 #!/usr/bin/env bash
 # A test with each of its allocations refused in turn, whether an answer changes in place of the error.
 #
-# Usage: failing_allocations.sh [TEST [CRATE [FIRST]]]
+# Usage: failing_allocations.sh [TEST [CRATE [FIRST [LAST]]]]
 #
 # TEST is the full name of a test, create_tests::a_receipt_comes_whole_or_not_at_all of package_tables if left out. That one
 # enters a receipt; where memory is refused, it sees that the table is as it was, and enters it again. Those of world_stops,
 # as allocation_tests::a_tile_is_added_or_not, send a request to a world in memory. Needs the program that `rt test` leaves in
 # crates/CRATE/out, and a C compiler, for a library that stands before malloc and realloc and refuses one call. FIRST is the
-# first allocation that is refused, 1 if left out: a test of world_stops makes two worlds before the one that counts.
+# first allocation that is refused, 1 if left out: a test of world_stops makes two worlds before the one that counts. LAST is
+# the last one; all that follow, if left out.
 # A run ends well where the test passes, or where it ends with the error OutOfMemory. The last line counts:
 #   passed   the refusal was met inside the test, which found every answer as it is without it
 #   refused  a call of the test answered OutOfMemory, and the test ended there
@@ -16,7 +17,7 @@
 set -euo pipefail
 
 test=${1:-create_tests::a_receipt_comes_whole_or_not_at_all}
-crate=${2:-package_tables}
+crate=${2:-package_tests}
 program=$(cd "$(dirname "$0")/.." && pwd)/crates/$crate/out/${crate}_tests
 if [ ! -x "$program" ]; then
   echo "no $program: run rt test in crates/$crate" >&2
@@ -51,10 +52,11 @@ void *realloc(void *old, size_t size) { return refused() ? 0 : __libc_realloc(ol
 END
 "${CC:-cc}" -O2 -shared -fPIC -o "$work/refuse.so" "$work/refuse.c" || exit 2
 
-first=${3:-1}
+first=${3:-1} last=${4:-0}
 passed=0 refused=0 wrong=0 at=$((first - 1))
 while :; do
   at=$((at + 1))
+  if [ "$last" -gt 0 ] && [ "$at" -gt "$last" ]; then break; fi
   status=0
   LD_PRELOAD="$work/refuse.so" REFUSE_AT=$at "$program" "$test" >"$work/said" 2>&1 || status=$?
   said=$(tr '\n' ' ' <"$work/said")
