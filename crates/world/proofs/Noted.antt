@@ -1,0 +1,18 @@
+-- What a request comes to names nothing that is not known, once the receipt is noted.
+use Rattle.std.proofs.Common.{◌≡◌, sym, ap, subst, ◌∙◌, ℕ, List, Option, Some, None, Result, Ok, Err}
+use Rattle.sheet_types.specs.Step.{outcome, outcome_by, kept_reply, refuses, receipt_of, accepted}
+use Rattle.sheet_types.specs.World.{World}
+use Rattle.sheet_types.specs.declared.command.Request.{Request}
+use Rattle.sheet_types.specs.declared.receipt.Receipt.{Receipt}
+use Rattle.sheet_types.specs.declared.refusal.Refusal.{Refusal}
+use Rattle.known_uuids.specs.Known.{Grows, Knows, Notes}
+use Rattle.known_uuids.proofs.Remembering.{knows_more, knows_next}
+
+-- the world after a request that got this receipt
+pub knows_after : (q : Request) (due : Receipt) (known noted : List (List ℕ)) → Grows known noted → Notes noted due → (w next : World) → Knows known w → outcome w q ≡ (Ok due, next) → Knows noted next
+knows_after q due known noted grows notes w next knows is = by_case (kept_reply w q) (refuses w q) is
+  where
+    by_case : (k : Option Receipt) (refused : Option Refusal) → outcome_by w q k refused ≡ (Ok due, next) → Knows noted next
+    by_case (Some r) refused same = subst (Knows noted) (ap (λ o. o.1) same) (knows_more known noted w grows knows)
+    by_case None (Some why) same = absurd (let e = same in cc)
+    by_case None None same = subst (Knows noted) (ap (λ o. o.1) same) (knows_next known noted w q grows knows (subst (Notes noted) (let e = same in let t : due ≡ receipt_of w q = cc in t) notes))
