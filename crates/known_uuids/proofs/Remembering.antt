@@ -12,7 +12,7 @@ use Rattle.sheet_types.specs.declared.command.Command.TheVariants.{Add, Delete, 
 use Rattle.sheet_types.specs.declared.command.Request.{Request}
 use Rattle.sheet_types.specs.declared.receipt.Moved.{Moved}
 use Rattle.sheet_types.specs.declared.receipt.Receipt.{Receipt}
-use Rattle.sheet_types.proofs.Every.{All-weaker, All-filter, All-append, none_any}
+use Rattle.sheet_types.proofs.Every.{All-snoc, All-weaker, All-filter, All-append, none_any}
 use Rattle.sheet_types.proofs.Found.{not_found}
 use Rattle.sheet_types.proofs.Order.{All-put, All-arranged}
 use Rattle.ledger_laws.proofs.Packages.{stand_flat}
@@ -57,12 +57,16 @@ module _ (known : List (List ℕ)) (w : World) (knows : Knows known w) (id : Lis
 
 -- ---- what is known stays so
 
-notes_grow : (old new : List (List ℕ)) → Grows old new → (r : Receipt) → Notes old r → Notes new r
+pub notes_grow : (old new : List (List ℕ)) → Grows old new → (r : Receipt) → Notes old r → Notes new r
 notes_grow old new grows r notes = record {
   request = grows r.request notes.request;
   things = All-weaker (λ (m : Moved). Contains old m.base) (λ m. Contains new m.base) (λ m there. grows m.base there) r.items notes.things;
   target = elim r.target as (λ o. MatchOption o ⊤ (λ p. Contains old p) → MatchOption o ⊤ (λ p. Contains new p)) [ None ↦ λ there. tt | Some p ↦ λ there. grows p there ] notes.target;
 }
+
+-- of one receipt more
+pub notes_more : (old new : List (List ℕ)) (some : List Receipt) (r : Receipt) → Grows old new → Notes new r → AllByRecursion (Notes old) some → AllByRecursion (Notes new) (some ++ r ∷ [])
+notes_more old new some r grows here each = All-snoc (Notes new) some r (All-weaker (Notes old) (Notes new) (notes_grow old new grows) some each) here
 
 pub knows_more : (old new : List (List ℕ)) (w : World) → Grows old new → Knows old w → Knows new w
 knows_more old new w grows knows = All-weaker (Notes old) (Notes new) (notes_grow old new grows) (receipts_of w) knows

@@ -74,14 +74,15 @@ impl Known {
         Ok(())
     }
 
-    /// The same of the package that things came to, if they came to one.
+    /// The same of the package that things came to, if they came to one. Where that is not the one that has the receipt, it was lent by it or by one that it took; so it leads there, whatever its own receipts say.
     fn put_target(&mut self, target: Option<Uuid>, package: Uuid) -> Result<(), AllocError>
         ensures known { OnOk result (MatchOption target ⊤ (λ p. Contains self.new p)) }
         ensures grows { Grows self.old self.new }
     {
         match target {
-            Some(target) => self.put_new(target, package),
             None => Ok(()),
+            Some(target) if target == package => self.put_new(target, package),
+            Some(target) => self.put(target, package),
         }
     }
 
@@ -97,6 +98,21 @@ impl Known {
         self.put(receipt.request, package)?;
         self.put_things(receipt.items.as_slice(), package)?;
         self.put_target(receipt.target, package)?;
+        Ok(())
+    }
+
+    /// The same of receipts that a package has.
+    ///
+    /// # Errors
+    ///
+    /// Want of memory. What was known is still known.
+    pub fn note_all(&mut self, receipts: &[Receipt], package: Uuid) -> Result<(), AllocError>
+        ensures notes { OnOk result (AllByRecursion (Notes self.new) receipts.now) }
+        ensures grows { Grows self.old self.new }
+    {
+        for receipt in receipts {
+            self.note(receipt, package)?;
+        }
         Ok(())
     }
 }

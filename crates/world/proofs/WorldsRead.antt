@@ -15,7 +15,7 @@ use Rattle.world.proofs.Standing.{members_stay, clean_before}
 module _ {S : Type 0} (g : Ghosts S) where
   -- what rests on no UUID that is known
   pub asks_known : {X E : Type 0} {Answer : World → X → Type 0} {old new : List (Member S)} {known : List (List ℕ)} {r : Result X E} → AsksAll g {X = X} {E = E} Answer old new r → AsksAll g {X = X} {E = E} (λ w x. Knows known w → Answer w x) old new r
-  asks_known {r = r} it = asks_weaker g r (λ x w count are told knows. told) it
+  asks_known {X} {E} {Answer} {old} {new} {known} {r} it = asks_weaker g r (λ x w count are told knows. told) it
 
   module _ (f : Frame) (old new : List (Member S)) (count : ℕ) (has_failed : Bool) (strays : List (Held S)) (known : List (List ℕ)) where
     abbrev before : Seen S
