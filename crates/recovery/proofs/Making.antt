@@ -1,5 +1,5 @@
 -- Stores that are judged make a world: their views are right, each member is its package, and nothing is lost.
-use Rattle.std.specs.Prelude.{◌≡◌, ◌⊎◌, ◌≤◌, ℕ, zero, suc, ◌==◌, Bool, true, false, cond, List, [], ◌∷◌, ◌++◌, map, filter, find, length, refl, Option, Some, None, MatchOption, option_map, IsPermutation, IsTrue, slice_get, Result, Ok, Err, IfOk, IfErr}
+use Rattle.std.specs.Prelude.{◌≡◌, ◌⊎◌, ◌≤◌, ℕ, zero, suc, ◌==◌, Bool, true, false, cond, List, [], ◌∷◌, ◌++◌, map, flat_map, filter, find, length, refl, Option, Some, None, MatchOption, option_map, IsPermutation, IsTrue, slice_get, Result, Ok, Err, IfOk, IfErr}
 use Rattle.std.specs.List.{AllZip, AllByRecursion}
 use Rattle.std.specs.Option.{option_map_or}
 use Rattle.std.proofs.Common.{sym, ap, subst, ◌∙◌, take, arith, inl, inr}
@@ -10,11 +10,13 @@ use Rattle.sqlite.specs.Held.{Held, state}
 use Rattle.sql_meaning.specs.Transactions.{Rests}
 use Rattle.sheet_types.specs.Opening.{is_root}
 use Rattle.sheet_types.specs.Ordered.{put, arranged, is_before}
-use Rattle.sheet_types.specs.World.{World, package_key}
+use Rattle.sheet_types.specs.World.{World, Package, package_key, receipt_key}
 use Rattle.sheet_types.specs.declared.frame.Frame.{Frame}
+use Rattle.sheet_types.proofs.Every.{All-both, All-filter, All-map, All-snoc, All-weaker}
 use Rattle.sheet_types.proofs.Order.{All-arranged}
 use Rattle.identity_register.specs.Reads.{Reads}
 use Rattle.ledger_laws.specs.Laws.{StoreSight, StoresStandFor}
+use Rattle.ledger_laws.proofs.Packages.{stand_flat}
 use Rattle.opening.specs.Sights.{head_said}
 use Rattle.opening.specs.declared.faults.RecoverFault.{RecoverFault}
 use Rattle.package_tables.proofs.Reading.{arranged_permutation}
@@ -27,7 +29,9 @@ use Rattle.world.specs.Leaving.{AreAtRest}
 use Rattle.world.specs.Members.{AllRest, IsMember}
 use Rattle.world.specs.Worlds.{StandsFor, seen_of}
 use Rattle.world.specs.declared.members.Member.{Member}
-use Rattle.recovery.specs.Recovered.{archive_seen, said_root, AreJudged, AreViewsOf, IsFaultAt, IsJudgedOf, IsWant}
+use Rattle.known_uuids.specs.Known.{Grows, Knows, Notes}
+use Rattle.known_uuids.proofs.Remembering.{notes_grow}
+use Rattle.recovery.specs.Recovered.{archive_seen, said_root, AreAllNoted, AreJudged, AreViewsOf, IsFaultAt, IsJudgedOf, IsWant}
 use Rattle.recovery.specs.Sharing.{member_key, member_of, members_of, strays_of}
 use Rattle.recovery.specs.Stores.{IsSurveyed}
 use Rattle.recovery.proofs.Frames.{live_frames}
@@ -77,6 +81,35 @@ frame_seen_is seen views verdict frame found seen_as is =
     some_frame frame root.0.frame (sym found ∙ found_zip IsSeenAs said_root root_view (λ s. s.sight.frame) (λ v. v.frame) same_root (λ s v e. e.frame) seen views seen_as ∙ there)
     ∙ sym (ap (λ w. w.frame) root.2)
 
+-- ---- what receipts name
+
+-- what was noted of what was seen is known of views of it
+views_noted : (known : List (List ℕ)) (seen : List StoreSeen) (views : List StoreSight) → AreSeenAs seen views → AreAllNoted known seen → AllByRecursion (λ v. v.is_formed ≡ true → v.is_tied ≡ true → AllByRecursion (Notes known) v.reads_as.receipts) views
+views_noted known [] [] seen_as noted = tt
+views_noted known [] (v ∷ vs) seen_as noted = absurd seen_as
+views_noted known (s ∷ ss) [] seen_as noted = absurd seen_as
+views_noted known (s ∷ ss) (v ∷ vs) seen_as noted = (λ formed tied. subst (AllByRecursion (Notes known)) (seen_as.0.held formed tied).receipts noted.0, views_noted known ss vs seen_as.1 noted.1)
+
+-- of one store more
+pub noted_more : (old new : List (List ℕ)) (seen : List StoreSeen) (s : StoreSeen) → Grows old new → AllByRecursion (Notes new) s.held.receipts.items → AreAllNoted old seen → AreAllNoted new (seen ++ s ∷ [])
+noted_more old new seen s grows here each =
+    All-snoc (λ (x : StoreSeen). AllByRecursion (Notes new) x.held.receipts.items) seen s
+    (All-weaker (λ (x : StoreSeen). AllByRecursion (Notes old) x.held.receipts.items) (λ x. AllByRecursion (Notes new) x.held.receipts.items) (λ x some. All-weaker (Notes old) (Notes new) (notes_grow old new grows) x.held.receipts.items some) seen each) here
+
+-- and so of the world
+pub knows_seen : (known : List (List ℕ)) (seen : List StoreSeen) (views : List StoreSight) (verdict : Verdict) → AreAllNoted known seen → AreSeenAs seen views → (is : IsVerdictOf verdict views) → Knows known is.world
+knows_seen known seen views verdict noted seen_as is =
+    let P : StoreSight → Type 0 = λ v. AllByRecursion (Notes known) v.reads_as.receipts in
+    let Each : Package → Type 0 = λ p. AllByRecursion (Notes known) p.receipts in
+    let some : AllByRecursion (λ v. v.is_formed ≡ true → v.is_tied ≡ true → P v) (live_views views) =
+    All-filter (λ v. v.is_formed ≡ true → v.is_tied ≡ true → P v) (is_live_view views) views (views_noted known seen views seen_as noted) in
+    let formed : AllByRecursion (λ v. v.is_tied ≡ true → P v) (live_views views) =
+    All-both (λ v. v.is_formed ≡ true → v.is_tied ≡ true → P v) (λ v. v.is_formed ≡ true) (λ v. v.is_tied ≡ true → P v) (λ v so formed. so formed) (live_views views) some is.stands.in_order.formed in
+    let all : AllByRecursion P (live_views views) = All-both (λ v. v.is_tied ≡ true → P v) (λ v. v.is_tied ≡ true) P (λ v so tied. so tied) (live_views views) formed is.stands.in_order.tied in
+    let packages : AllByRecursion Each is.world.packages =
+    subst (AllByRecursion Each) (sym (ap (λ w. w.packages) is.stands.read_as.2)) (All-arranged package_key Each (map (λ v. v.reads_as) (live_views views)) (All-map Each (λ (v : StoreSight). v.reads_as) (live_views views) all)) in
+    All-arranged receipt_key (Notes known) (flat_map (λ p. p.receipts) is.world.packages) (stand_flat (Notes known) is.world.packages packages)
+
 -- what is so of an answer, and of a fault
 pub ok_so : {X E : Type 0} (P Q : X → Type 0) (r : Result X E) → ((x : X) → P x → Q x) → IfOk r P → IfOk r Q
 ok_so P Q (Ok x) so is = so x is
@@ -102,11 +135,11 @@ module _ {S : Type 0} (g : Ghosts S) where
       let more = views_of hs ss zip.1 in
       record { views = zip.0.right.0 ∷ more.views; right = ((zip.0.is_open, zip.0.right.1), more.right); seen_as = (zip.0.right.2, more.seen_as) }
 
-  pub judged : (stores : List (Held S)) (seen : List StoreSeen) (frame : Frame) (verdict : Verdict) → AllZip (IsSurveyed g) stores seen → IsJudgedOf seen frame verdict → AreJudged g stores frame verdict
-  judged stores seen frame verdict surveyed is =
+  pub judged : (stores : List (Held S)) (seen : List StoreSeen) (frame : Frame) (verdict : Verdict) (known : List (List ℕ)) → AllZip (IsSurveyed g) stores seen → IsJudgedOf seen frame verdict known → AreJudged g stores frame verdict known
+  judged stores seen frame verdict known surveyed is =
       let have = views_of stores seen surveyed in
       let told = is have.views have.seen_as in
-      record { views = have.views; right = have.right; is = told.0; frame_is = told.1 }
+      record { views = have.views; right = have.right; is = told.0; frame_is = told.1; knows = told.2 }
 
   pub fault_at : (stores : List (Held S)) (seen : List StoreSeen) (fault : RecoverFault) → AllZip (IsSurveyed g) stores seen → IsWant fault ⊎ ((views : List StoreSight) → AreSeenAs seen views → IsFaultOf views fault) → IsFaultAt g stores fault
   fault_at stores seen fault surveyed (inl want) = inl want
@@ -184,8 +217,8 @@ module _ {S : Type 0} (g : Ghosts S) where
       (live_frames StoreSight (λ v. v.head) (λ v. v.claims) (λ v. v.is_formed ≡ true) (λ v. v.is_tied ≡ true) (λ v. v.frame) (λ v. v.reads_as) views stands.in_order stands.read_as.0 stands.read_as.1)
 
   -- the members in the order of their UUIDs stand for the world
-  pub stands_so : (stores : List (Held S)) (frame : Frame) (verdict : Verdict) (it : AreJudged g stores frame verdict) (members : List (Member S)) → members ≡ arranged member_key (members_of stores verdict.kept.items) → StandsFor g (seen_of frame members verdict.count) it.is.world
-  stands_so stores frame verdict it members are =
+  pub stands_so : (stores : List (Held S)) (frame : Frame) (verdict : Verdict) (known : List (List ℕ)) (it : AreJudged g stores frame verdict known) (members : List (Member S)) → members ≡ arranged member_key (members_of stores verdict.kept.items) → StandsFor g (seen_of frame members verdict.count known) it.is.world
+  stands_so stores frame verdict known it members are =
       let w = it.is.world in
       let stands : StoresStandFor it.views w = it.is.stands in
       let sound : AllByRecursion (λ v. (v.is_formed ≡ true) × (v.is_tied ≡ true) × (v.frame ≡ w.frame)) (live_views it.views) =
@@ -201,6 +234,7 @@ module _ {S : Type 0} (g : Ghosts S) where
           counted = it.is.counted;
           register = it.is.register;
         };
+        known = it.knows;
       }
 
   -- ---- nothing is lost

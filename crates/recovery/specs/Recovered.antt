@@ -1,6 +1,6 @@
 -- What stores that are handed in come to: a world, or a fault. Profile.
-use Rattle.std.specs.Prelude.{◌≡◌, ◌⊎◌, ◌==◌, Bool, false, List, ◌++◌, map, find, Option, option_map, IsPermutation, IsTrue}
-use Rattle.std.specs.List.{AllZip}
+use Rattle.std.specs.Prelude.{◌≡◌, ◌⊎◌, ◌==◌, ℕ, Bool, false, List, ◌++◌, map, find, Option, option_map, IsPermutation, IsTrue}
+use Rattle.std.specs.List.{AllByRecursion, AllZip}
 use Rattle.std.specs.Option.{option_map_or}
 use Rattle.sqlite.specs.Held.{Held, state}
 use Rattle.sqlite.specs.Store.{Ghosts}
@@ -13,6 +13,7 @@ use Rattle.surveys.specs.Views.{IsViewOf}
 use Rattle.verdicts.specs.Views.{AreSeenAs, IsFaultOf, IsVerdictOf}
 use Rattle.verdicts.specs.declared.seen.StoreSeen.{StoreSeen}
 use Rattle.verdicts.specs.declared.verdict.Verdict.{Verdict}
+use Rattle.known_uuids.specs.Known.{Knows, Notes}
 use Rattle.world.specs.Leaving.{AreClean, AreAtRest}
 use Rattle.world.specs.Worlds.{StandsFor}
 use Rattle.recovery.specs.Stores.{AreOnlyRead}
@@ -31,9 +32,13 @@ archive_seen seen = option_map (λ s. s.sight.frame) (find said_root seen)
 abbrev pub IsWant : RecoverFault → Type 0
 IsWant fault = (fault ≡ OutOfMemory) ⊎ (fault ≡ StoreFault)
 
--- What was seen comes to this verdict, and the frame is that of its world.
-abbrev pub IsJudgedOf : List StoreSeen → Frame → Verdict → Type 0
-IsJudgedOf seen frame verdict = (views : List StoreSight) → AreSeenAs seen views → (is : IsVerdictOf verdict views) × (frame ≡ is.world.frame)
+-- what any receipt that was seen names is known
+abbrev pub AreAllNoted : List (List ℕ) → List StoreSeen → Type 0
+AreAllNoted known seen = AllByRecursion (λ s. AllByRecursion (Notes known) s.held.receipts.items) seen
+
+-- What was seen comes to this verdict, the frame is that of its world, and what that one's receipts name is known.
+abbrev pub IsJudgedOf : List StoreSeen → Frame → Verdict → List (List ℕ) → Type 0
+IsJudgedOf seen frame verdict known = (views : List StoreSight) → AreSeenAs seen views → (is : IsVerdictOf verdict views) × (frame ≡ is.world.frame) × Knows known is.world
 
 module _ {S : Type 0} (g : Ghosts S) where
   -- right views of what the stores hold, in turn
@@ -41,11 +46,12 @@ module _ {S : Type 0} (g : Ghosts S) where
   AreViewsOf stores views = AllZip (λ h v. IsTrue (state g h).is_open × IsViewOf (state g h).now v) stores views
 
   -- The stores come to these values: some right views of them do.
-  pub record AreJudged (stores : List (Held S)) (frame : Frame) (verdict : Verdict) : Type 0 where
+  pub record AreJudged (stores : List (Held S)) (frame : Frame) (verdict : Verdict) (known : List (List ℕ)) : Type 0 where
     pub views : List StoreSight
     pub right : AreViewsOf stores views
     pub is : IsVerdictOf verdict views
     pub frame_is : frame ≡ is.world.frame
+    pub knows : Knows known is.world
 
   -- The fault is the first of the nine that holds of right views of the stores; or memory or a store gave out.
   abbrev pub IsFaultAt : List (Held S) → RecoverFault → Type 0

@@ -2,6 +2,7 @@
 #![tactic(auto)]
 
 pub mod recovering;
+mod remembering;
 mod sharing;
 mod surveying;
 pub mod watching;

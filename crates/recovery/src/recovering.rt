@@ -10,9 +10,11 @@ ghost use Rattle.recovery.specs.Stores.{AreAllKeyed, AreOnlyRead};
 ghost use Rattle.recovery.specs.Sharing.{HasRoomOf};
 ghost use Rattle.recovery.specs.Recovered.{archive_seen, AreJudged, IsFaultAt, IsJudgedOf, IsRecovered, IsUnopened, IsWant, said_root};
 
+use crate::remembering::known_of;
 use crate::sharing::{Shares, room_for, share_out};
 use crate::surveying::{are_at_rest, survey_all};
 use crate::watching::Watcher;
+use known_uuids::known::Known;
 use matrix_rules::check::FrameRules;
 use opening::faults::RecoverFault;
 use package_tables::fault::Fault;
@@ -50,6 +52,7 @@ pub struct Unopened<S: Alter + Drop> {
 struct Judged {
     frame: Frame,
     verdict: Verdict,
+    known: Known,
 }
 
 // A store that gives out, as a fault of opening.
@@ -94,12 +97,13 @@ fn is_in_bounds(frame: &Frame, count: u64) -> bool
 
 // What was seen of all stores, judged.
 fn judge_seen(alloc: Global, seen: Vec<StoreSeen>) -> Result<Judged, RecoverFault>
-    ensures is { IfOk result (λ judged. IsJudgedOf seen.items judged.frame judged.verdict) }
+    ensures is { IfOk result (λ judged. IsJudgedOf seen.items judged.frame judged.verdict judged.known) }
     ensures good { IfOk result (λ judged. IsTrue (is_good_frame judged.frame)) }
     ensures low { IfOk result (λ judged. judged.verdict.count ≤ greatest_receipts) }
     ensures fault { IfErr result (λ fault. IsWant fault ⊎ ((views : List StoreSight) → AreSeenAs seen.items views → IsFaultOf views fault)) }
 {
     let frame = archive_frame(&seen);
+    let known = known_of(alloc, &seen)?;
     let verdict = judge_all(alloc, seen)?;
     // A verdict without an archive, or one out of these bounds, is never given.
     let Some(frame) = frame else {
@@ -108,7 +112,11 @@ fn judge_seen(alloc: Global, seen: Vec<StoreSeen>) -> Result<Judged, RecoverFaul
     if !is_in_bounds(&frame, verdict.count) {
         return Err(RecoverFault::StoreFault);
     }
-    Ok(Judged { frame, verdict })
+    Ok(Judged {
+        frame,
+        verdict,
+        known,
+    })
 }
 
 // All stores looked at, and judged. They are only read.
@@ -121,7 +129,7 @@ fn judge_stores<S: Alter + Drop, W: Watcher>(
     requires keyed { AreAllKeyed S.Store stores.old.items }
     ensures read { AreOnlyRead S.Store stores.old.items stores.new.items }
     ensures rests { AreAtRest S.Store stores.new.items }
-    ensures judged { IfOk result (λ judged. AreClean S.Store stores.new.items → AreJudged S.Store stores.new.items judged.frame judged.verdict) }
+    ensures judged { IfOk result (λ judged. AreClean S.Store stores.new.items → AreJudged S.Store stores.new.items judged.frame judged.verdict judged.known) }
     ensures good { IfOk result (λ judged. IsTrue (is_good_frame judged.frame)) }
     ensures low { IfOk result (λ judged. judged.verdict.count ≤ greatest_receipts) }
     ensures fault { IfErr result (λ fault. AreClean S.Store stores.new.items → IsFaultAt S.Store stores.new.items fault) }
@@ -168,7 +176,7 @@ fn opened<S: Alter + Drop>(
     requires long { length judged.verdict.kept.items ≡ length stores.items }
     requires good { IsTrue (is_good_frame judged.frame) }
     requires low { judged.verdict.count ≤ greatest_receipts }
-    requires judged { AreClean S.Store stores.items → AreJudged S.Store stores.items judged.frame judged.verdict }
+    requires judged { AreClean S.Store stores.items → AreJudged S.Store stores.items judged.frame judged.verdict judged.known }
     requires shares { HasRoomOf room.shares (length stores.items) }
     requires members { room.shares.members.items ≡ [] }
     requires strays { room.shares.strays.items ≡ [] }
@@ -177,7 +185,13 @@ fn opened<S: Alter + Drop>(
     ensures { IsRecovered S.Store stores.items result }
 {
     let Shares { members, strays } = share_out(stores, &judged.verdict.kept, room.shares);
-    let world = World::gathered(judged.frame, members, judged.verdict.count, room.handed_out);
+    let world = World::gathered(
+        judged.frame,
+        members,
+        judged.verdict.count,
+        room.handed_out,
+        judged.known,
+    );
     Recovered { world, strays }
 }
 

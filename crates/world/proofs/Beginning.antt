@@ -30,29 +30,29 @@ module _ {S : Type 0} (g : Ghosts S) where
       is_member = record { uuid = refl; parent = refl; depth = refl; loan = refl; sums = refl; ticket = refl; reads = λ is_open. keeps.reads }
 
   -- so does a world of it
-  pub begins : (archive : List ℕ) (f : Frame) (members : List (Member S)) (strays : List (Held S)) → (AllClean g members → AreMembers g members 0 (new_world archive f)) → AllClean g members → StandsFor g (record { frame = f; members = members; count = 0; has_failed = false; strays = strays }) (new_world archive f)
-  begins archive f members strays made clean = record { frame = refl; members = made clean }
+  pub begins : (archive : List ℕ) (f : Frame) (members : List (Member S)) (strays : List (Held S)) (known : List (List ℕ)) → (AllClean g members → AreMembers g members 0 (new_world archive f)) → AllClean g members → StandsFor g (record { frame = f; members = members; count = 0; has_failed = false; strays = strays; known = known }) (new_world archive f)
+  begins archive f members strays known made clean = record { frame = refl; members = made clean; known = tt }
 
-  pub held_first : (archive : List ℕ) (f : Frame) (members : List (Member S)) (strays : List (Held S)) → strays ≡ [] → AllRest g members → is_good_frame f ≡ true → (AllClean g members → AreMembers g members 0 (new_world archive f)) → IsHeld g (record { frame = f; members = members; count = 0; has_failed = false; strays = strays })
-  held_first archive f members strays none rests good made = record {
+  pub held_first : (archive : List ℕ) (f : Frame) (members : List (Member S)) (strays : List (Held S)) (known : List (List ℕ)) → strays ≡ [] → AllRest g members → is_good_frame f ≡ true → (AllClean g members → AreMembers g members 0 (new_world archive f)) → IsHeld g (record { frame = f; members = members; count = 0; has_failed = false; strays = strays; known = known })
+  held_first archive f members strays known none rests good made = record {
     gone = [];
     rests = rests;
     stray_rests = All-from_recursion (λ h. Rests (state g h)) strays (subst (AllByRecursion (λ h. Rests (state g h))) (sym none) tt);
     none = λ usable. none;
     good = good;
     counted = omega arith;
-    stands = λ clean gone. (new_world archive f, begins archive f members strays made clean);
+    stands = λ clean gone. (new_world archive f, begins archive f members strays known made clean);
   }
 
   -- so are members that stand for some world
-  pub held_gathered : (f : Frame) (members : List (Member S)) (count : ℕ) (strays : List (Held S)) → strays ≡ [] → AllRest g members → is_good_frame f ≡ true → count ≤ greatest_receipts
-      → StandsBeside g (seen_of f members count) → IsHeld g (record { frame = f; members = members; count = count; has_failed = false; strays = strays })
-  held_gathered f members count strays none rests good low beside = record {
+  pub held_gathered : (f : Frame) (members : List (Member S)) (count : ℕ) (strays : List (Held S)) (known : List (List ℕ)) → strays ≡ [] → AllRest g members → is_good_frame f ≡ true → count ≤ greatest_receipts
+      → StandsBeside g (seen_of f members count known) → IsHeld g (record { frame = f; members = members; count = count; has_failed = false; strays = strays; known = known })
+  held_gathered f members count strays known none rests good low beside = record {
     gone = beside.others;
     rests = rests;
     stray_rests = All-from_recursion (λ h. Rests (state g h)) strays (subst (AllByRecursion (λ h. Rests (state g h))) (sym none) tt);
     none = λ usable. none;
     good = good;
     counted = low;
-    stands = λ clean others. let some = beside.stands clean others in (some.0, record { frame = some.1.frame; members = some.1.members });
+    stands = λ clean others. let some = beside.stands clean others in (some.0, record { frame = some.1.frame; members = some.1.members; known = some.1.known });
   }

@@ -14,7 +14,9 @@ use Rattle.sheet_types.specs.declared.refusal.Refusal.TheVariants.{StoreFault}
 use Rattle.world.proofs.Changing.{each_leaves}
 use Rattle.world.specs.Members.{AllRest, AllClean, AllOpen, AreMembers}
 use Rattle.world.specs.Creating.{HasRoomFor}
-use Rattle.world.specs.Carries.{ServesAll, IsServedAs, IsBeforeCommit, IsUntouched}
+use Rattle.known_uuids.specs.Known.{Knows}
+use Rattle.known_uuids.proofs.Remembering.{knows_more}
+use Rattle.world.specs.Carries.{ServesAll, IsServedAs, IsSeenBy, IsBeforeCommit, IsUntouched}
 use Rattle.world.specs.Leaving.{AreClean, AreAtRest}
 use Rattle.world.specs.ServeFaults.{IsLastingFault, told_refusal, CountsShelf}
 use Rattle.sqlite_disk.specs.Disk.{MoreFaults}
@@ -99,13 +101,13 @@ module _ {S : Type 0} (g : Ghosts S) where
   pub left_as_it_stands : Shuts g → Settles g → LeftAsItStands g
   left_as_it_stands shuts settles seen w held stands opened = each_leaves g shuts settles seen.members seen.count w held.rests opened stands.members
 
-  module _ (f : Frame) (q : Request) (old new : List (Member S)) (strays : List (Held S)) (before after : ℕ) (r : Result (Result Receipt Refusal) ServeFault) (it : ServesAll g f q old new strays before after r) (was_failed has_failed : Bool) (strays_before : List (Held S)) (was : Seen S)
-      (seen : record { frame = f; members = old; count = before; has_failed = was_failed; strays = strays_before } ≡ was) where
+  module _ (f : Frame) (q : Request) (old new : List (Member S)) (strays : List (Held S)) (known noted : List (List ℕ)) (before after : ℕ) (r : Result (Result Receipt Refusal) ServeFault) (it : ServesAll g f q old new strays known noted before after r) (was_failed has_failed : Bool) (strays_before : List (Held S)) (was : Seen S)
+      (seen : record { frame = f; members = old; count = before; has_failed = was_failed; strays = strays_before; known = known } ≡ was) where
     abbrev now_seen : Seen S
-    now_seen = record { frame = f; members = new; count = after; has_failed = has_failed; strays = strays }
+    now_seen = record { frame = f; members = new; count = after; has_failed = has_failed; strays = strays; known = noted }
 
-    stood : (w : World) → StandsFor g was w → (f ≡ w.frame) × AreMembers g old before w
-    stood w stands = (ap (λ s. s.frame) seen ∙ stands.frame, subst (λ ms. AreMembers g ms before w) (sym (ap (λ s. s.members) seen)) (subst (λ n. AreMembers g was.members n w) (sym (ap (λ s. s.count) seen)) stands.members))
+    stood : (w : World) → StandsFor g was w → IsSeenBy f known w × AreMembers g old before w
+    stood w stands = ((ap (λ s. s.frame) seen ∙ stands.frame, subst (λ ids. Knows ids w) (sym (ap (λ s. s.known) seen)) stands.known), subst (λ ms. AreMembers g ms before w) (sym (ap (λ s. s.members) seen)) (subst (λ n. AreMembers g was.members n w) (sym (ap (λ s. s.count) seen)) stands.members))
 
     were_clean : AllClean g new → AreClean g it.gone → AllClean g was.members
     were_clean clean gone = subst (AllClean g) (ap (λ s. s.members) seen) (it.clean clean gone)
@@ -123,8 +125,8 @@ module _ {S : Type 0} (g : Ghosts S) where
       clean = were_clean;
       step = λ clean gone w stands.
           let both = stood w stands in
-          let as_model : IsServedAs g w q new after reply = it.told clean gone reply is w both.0 both.1 in
-          (as_model.0, inl (sym (ap (λ o. o.0) as_model.1), sym (ap (λ o. o.1) as_model.1)), record { frame = both.0 ∙ sym as_model.2; members = as_model.3 });
+          let as_model : IsServedAs g w q new noted after reply = it.told clean gone reply is w both.0 both.1 in
+          (as_model.0, inl (sym (ap (λ o. o.0) as_model.1), sym (ap (λ o. o.1) as_model.1)), record { frame = both.0.0 ∙ sym as_model.2; members = as_model.3; known = as_model.4 });
       opens = λ clean gone no_fault opened. (subst (λ (x : Result (Result Receipt Refusal) ServeFault). IfOk x (λ y. AllOpen g old → AllOpen g new)) is (it.opens clean gone)) (were_open opened);
       crash = λ fault usable w stands opened. leaves_before g old new strays w before (outcome w q).1.packages (it.none reply is) (it.unharmed (subst IsUntouched (sym is) (fault_is_err reply fault))) (stood w stands).1 (were_open opened);
       beside = λ clean gone no_fault w stands opened. it.beside clean gone reply is w (stood w stands).0 (stood w stands).1 (were_open opened);
@@ -138,7 +140,7 @@ module _ {S : Type 0} (g : Ghosts S) where
       beside_before = λ clean gone w stands opened. it.beside_before clean gone w (stood w stands).0 (stood w stands).1 (were_open opened);
       register = λ w stands. stands.members.register;
       clean = were_clean;
-      step = λ clean gone w stands. (w, inr (told_as_fault e why told, refl), record { frame = (stood w stands).0; members = it.failed e is w (stood w stands).1 });
+      step = λ clean gone w stands. (w, inr (told_as_fault e why told, refl), record { frame = (stood w stands).0.0; members = it.failed e is w (stood w stands).1; known = knows_more known noted w it.grows (stood w stands).0.1 });
       opens = λ clean gone no_fault. absurd (no_fault (told_as_fault e why told));
       crash = λ fault usable w stands opened. it.crash e is w (stood w stands).0 (stood w stands).1 (were_open opened);
       beside = λ clean gone no_fault. absurd (no_fault (told_as_fault e why told));
@@ -154,10 +156,10 @@ module _ {S : Type 0} (g : Ghosts S) where
     -- a refusal leaves it standing for what it stood for
     pub still_replied : (reply : Result Receipt Refusal) → r ≡ Ok reply → StandsStill g was reply now_seen
     still_replied (Ok receipt) is refused w stands = absurd (let e = refused in cc)
-    still_replied (Err why) is refused w stands = record { frame = (stood w stands).0; members = it.refused why is w (stood w stands).1 }
+    still_replied (Err why) is refused w stands = record { frame = (stood w stands).0.0; members = it.refused why is w (stood w stands).1; known = knows_more known noted w it.grows (stood w stands).0.1 }
 
     pub still_failed : (e : ServeFault) → r ≡ Err e → (why : Refusal) → StandsStill g was (Err why) now_seen
-    still_failed e is why refused w stands = record { frame = (stood w stands).0; members = it.failed e is w (stood w stands).1 }
+    still_failed e is why refused w stands = record { frame = (stood w stands).0.0; members = it.failed e is w (stood w stands).1; known = knows_more known noted w it.grows (stood w stands).0.1 }
 
     -- a world that can be used has no stray
     pub none_failed : (e : ServeFault) → r ≡ Err e → (IsTrue has_failed ↔ IsLastingFault e) → has_failed ≡ false → strays ≡ []

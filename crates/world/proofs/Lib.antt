@@ -7,6 +7,8 @@ pub mod Fitting
 pub mod Counting
 pub mod Limits
 pub mod Outcomes
+pub mod Noted
+pub mod Recalled
 pub mod StayingOpen
 pub mod Changing
 pub mod Due

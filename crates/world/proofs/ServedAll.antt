@@ -21,7 +21,9 @@ use Rattle.sql_meaning.specs.Transactions.{Rests}
 use Rattle.sql_meaning.specs.Stores.{LeavesEither}
 use Rattle.sql_meaning.proofs.Transactions.{Shuts, Settles}
 use Rattle.world.specs.Asking.{AsksAll}
-use Rattle.world.specs.Carries.{Carries, ServesAll, IsBeforeCommit}
+use Rattle.known_uuids.specs.Known.{Grows, Knows, Notes}
+use Rattle.known_uuids.proofs.Remembering.{knows_more}
+use Rattle.world.specs.Carries.{Carries, ServesAll, IsSeenBy, IsBeforeCommit}
 use Rattle.world.specs.Deciding.{IsOf, Decides}
 use Rattle.world.specs.Leaving.{AreAtRest, AreClean, AreBeside, LeavesOneOf}
 use Rattle.world.specs.Members.{AllRest, AllClean, AllOpen, AreMembers}
@@ -42,6 +44,7 @@ use Rattle.world.specs.declared.members.Member.{Member}
 use Rattle.world.proofs.CarriedOut.{leaves_before}
 use Rattle.world.proofs.HeldStores.{held_clean, members_left}
 use Rattle.world.proofs.Lent.{none_beside}
+use Rattle.world.proofs.Noted.{knows_after}
 use Rattle.world.proofs.Changing.{stay_leaves}
 use Rattle.world.proofs.Standing.{members_stay, clean_before}
 
@@ -110,20 +113,20 @@ module _ {S : Type 0} (g : Ghosts S) (shuts : Shuts g) (settles : Settles g) whe
 
   -- ---- a request
 
-  module _ (f : Frame) (q : Request) (old mid : List (Member S)) (at_rest : AllRest g old) (before : ℕ) (low : before ≤ greatest_receipts) {E : Type 0} {r : Result Decision E} (it : AsksAll g {X = Decision} {E = E} (λ w decision. IsOf f before w → Decides w q decision) old mid r) where
+  module _ (f : Frame) (q : Request) (old mid : List (Member S)) (known noted : List (List ℕ)) (grows : Grows known noted) (at_rest : AllRest g old) (before : ℕ) (low : before ≤ greatest_receipts) {E : Type 0} {r : Result Decision E} (it : AsksAll g {X = Decision} {E = E} (λ w decision. Knows known w → IsOf f before w → Decides w q decision) old mid r) where
     -- what was decided of a world
-    pub decided : (decision : Decision) → r ≡ Ok decision → AllClean g mid → (w : World) → f ≡ w.frame → AreMembers g old before w → Decides w q decision
+    pub decided : (decision : Decision) → r ≡ Ok decision → AllClean g mid → (w : World) → IsSeenBy f known w → AreMembers g old before w → Decides w q decision
     decided decision is clean w same are =
-        let here : AsksAll g {X = Decision} {E = E} (λ w decision. IsOf f before w → Decides w q decision) old mid (Ok decision) = subst (AsksAll g {X = Decision} {E = E} (λ w decision. IsOf f before w → Decides w q decision) old mid) is it in
-        here.told clean w before are (record { frame = same; counted = are.counted })
+        let here : AsksAll g {X = Decision} {E = E} (λ w decision. Knows known w → IsOf f before w → Decides w q decision) old mid (Ok decision) = subst (AsksAll g {X = Decision} {E = E} (λ w decision. Knows known w → IsOf f before w → Decides w q decision) old mid) is it in
+        here.told clean w before are same.1 (record { frame = same.0; counted = are.counted })
 
     pub decided_opens : (decision : Decision) → r ≡ Ok decision → AllClean g mid → AllOpen g old → AllOpen g mid
     decided_opens decision is clean was =
-        let here : AsksAll g {X = Decision} {E = E} (λ w decision. IsOf f before w → Decides w q decision) old mid (Ok decision) = subst (AsksAll g {X = Decision} {E = E} (λ w decision. IsOf f before w → Decides w q decision) old mid) is it in
+        let here : AsksAll g {X = Decision} {E = E} (λ w decision. Knows known w → IsOf f before w → Decides w q decision) old mid (Ok decision) = subst (AsksAll g {X = Decision} {E = E} (λ w decision. Knows known w → IsOf f before w → Decides w q decision) old mid) is it in
         here.stays_open clean was
 
     -- no decision was come to
-    pub all_undecided : (strays : List (Held S)) (why : ServeFault) → strays ≡ [] → IsBeforeCommit why → ServesAll g f q old mid strays before before (Err why)
+    pub all_undecided : (strays : List (Held S)) (why : ServeFault) → strays ≡ [] → IsBeforeCommit why → ServesAll g f q old mid strays known noted before before (Err why)
     all_undecided strays why none early = record {
       gone = [];
       left_over = [];
@@ -131,6 +134,7 @@ module _ {S : Type 0} (g : Ghosts S) (shuts : Shuts g) (settles : Settles g) whe
       rests = it.rests;
       stray_rests = none_rest strays none;
       counted = low;
+      grows = grows;
       clean = λ clean gone. clean_before g old mid it.stay clean;
       told = λ clean gone reply is. absurd (let e = is in cc);
       opens = λ clean gone. tt;
@@ -144,7 +148,7 @@ module _ {S : Type 0} (g : Ghosts S) (shuts : Shuts g) (settles : Settles g) whe
     }
 
     -- a reply was come to
-    pub all_answered : (strays : List (Held S)) (answer : Result Receipt Refusal) → strays ≡ [] → r ≡ Ok (Answered answer) → ServesAll g f q old mid strays before before (Ok answer)
+    pub all_answered : (strays : List (Held S)) (answer : Result Receipt Refusal) → strays ≡ [] → r ≡ Ok (Answered answer) → ServesAll g f q old mid strays known noted before before (Ok answer)
     all_answered strays answer none is = record {
       gone = [];
       left_over = [];
@@ -152,10 +156,11 @@ module _ {S : Type 0} (g : Ghosts S) (shuts : Shuts g) (settles : Settles g) whe
       rests = it.rests;
       stray_rests = none_rest strays none;
       counted = low;
+      grows = grows;
       clean = λ clean gone. clean_before g old mid it.stay clean;
       told = λ clean gone reply same_reply w same are.
           let answered : answer ≡ reply = cc in
-          (w, decided (Answered answer) is clean w same are ∙ ap (λ x. (x, w)) answered, refl, members_stay g old mid before w it.stay are);
+          (w, decided (Answered answer) is clean w same are ∙ ap (λ x. (x, w)) answered, refl, members_stay g old mid before w it.stay are, knows_more known noted w grows same.1);
       opens = λ clean gone. decided_opens (Answered answer) is clean;
       beside = λ clean gone reply is' w same are was. none_beside g w.frame (outcome w q).1.packages;
       refused = λ why is' w are. members_stay g old mid before w it.stay are;
@@ -167,10 +172,10 @@ module _ {S : Type 0} (g : Ghosts S) (shuts : Shuts g) (settles : Settles g) whe
     }
 
     module _ (Due : World → World → Type 0) (due : Receipt) (new : List (Member S)) (strays : List (Held S)) (after : ℕ) (decision : Decision) (is : r ≡ Ok decision)
-        (so : AllClean g mid → (w : World) → f ≡ w.frame → AreMembers g old before w → (next : World) × (outcome w q ≡ (Ok due, next)) × (next.frame ≡ w.frame) × Due w next) where
+        (so : AllClean g mid → (w : World) → IsSeenBy f known w → AreMembers g old before w → (next : World) × (outcome w q ≡ (Ok due, next)) × (next.frame ≡ w.frame) × Due w next) where
       -- what was due was carried out
-      pub all_carried_out : (receipt : Receipt) → before + 1 ≤ greatest_receipts → Carries g Due due mid new strays before after (Ok receipt) → ServesAll g f q old new strays before after (Ok (Ok receipt))
-      all_carried_out receipt bounded made =
+      pub all_carried_out : Notes noted due → (receipt : Receipt) → before + 1 ≤ greatest_receipts → Carries g Due due mid new strays before after (Ok receipt) → ServesAll g f q old new strays known noted before after (Ok (Ok receipt))
+      all_carried_out notes receipt bounded made =
           let done = made.ok receipt refl in
           record {
             gone = made.gone;
@@ -181,11 +186,12 @@ module _ {S : Type 0} (g : Ghosts S) (shuts : Shuts g) (settles : Settles g) whe
             rests = made.rests;
             stray_rests = made.stray_rests;
             counted = rw done.1 bounded;
+            grows = grows;
             clean = λ clean gone. clean_before g old mid it.stay (made.clean clean gone);
             told = λ clean gone reply same_reply w same are.
                 let x = so (made.clean clean gone) w same are in
                 let replied : Ok receipt ≡ reply = cc in
-                (x.0, x.1 ∙ ap (λ a. (Ok a, x.0)) (sym done.0) ∙ ap (λ a. (a, x.0)) replied, x.2, done.3 w x.0 clean gone (members_stay g old mid before w it.stay are) x.3);
+                (x.0, x.1 ∙ ap (λ a. (Ok a, x.0)) (sym done.0) ∙ ap (λ a. (a, x.0)) replied, x.2, done.3 w x.0 clean gone (members_stay g old mid before w it.stay are) x.3, knows_after q due known noted grows notes w x.0 same.1 x.1);
             opens = λ clean gone was. made.opens clean gone (decided_opens decision is (made.clean clean gone) was);
             beside = λ clean gone reply same_reply w same are was.
                 let x = so (made.clean clean gone) w same are in
@@ -199,7 +205,7 @@ module _ {S : Type 0} (g : Ghosts S) (shuts : Shuts g) (settles : Settles g) whe
           }
 
       -- or it failed
-      pub all_failed : (why : ServeFault) → Carries g Due due mid new strays before after (Err why) → ServesAll g f q old new strays before after (Err why)
+      pub all_failed : (why : ServeFault) → Carries g Due due mid new strays before after (Err why) → ServesAll g f q old new strays known noted before after (Err why)
       all_failed why made = record {
         gone = made.gone;
         left_over = made.left_over;
@@ -209,6 +215,7 @@ module _ {S : Type 0} (g : Ghosts S) (shuts : Shuts g) (settles : Settles g) whe
         rests = made.rests;
         stray_rests = made.stray_rests;
         counted = rw (made.err why refl).0 low;
+        grows = grows;
         clean = λ clean gone. clean_before g old mid it.stay (made.clean clean gone);
         told = λ clean gone reply is'. absurd (let e = is' in cc);
         opens = λ clean gone. tt;
@@ -229,47 +236,47 @@ module _ {S : Type 0} (g : Ghosts S) (shuts : Shuts g) (settles : Settles g) whe
 
 -- ---- each kind of what is due
 
-module _ {S : Type 0} (g : Ghosts S) (shuts : Shuts g) (settles : Settles g) (f : Frame) (q : Request) (old mid : List (Member S)) (at_rest : AllRest g old) (before : ℕ) (low : before ≤ greatest_receipts) {E : Type 0} {r : Result Decision E} (it : AsksAll g {X = Decision} {E = E} (λ w decision. IsOf f before w → Decides w q decision) old mid r) where
+module _ {S : Type 0} (g : Ghosts S) (shuts : Shuts g) (settles : Settles g) (f : Frame) (q : Request) (old mid : List (Member S)) (known noted : List (List ℕ)) (grows : Grows known noted) (at_rest : AllRest g old) (before : ℕ) (low : before ≤ greatest_receipts) {E : Type 0} {r : Result Decision E} (it : AsksAll g {X = Decision} {E = E} (λ w decision. Knows known w → IsOf f before w → Decides w q decision) old mid r) where
   abbrev So : (World → World → Type 0) → Receipt → Type 0
-  So Due due = AllClean g mid → (w : World) → f ≡ w.frame → AreMembers g old before w → (next : World) × (outcome w q ≡ (Ok due, next)) × (next.frame ≡ w.frame) × Due w next
+  So Due due = AllClean g mid → (w : World) → IsSeenBy f known w → AreMembers g old before w → (next : World) × (outcome w q ≡ (Ok due, next)) × (next.frame ≡ w.frame) × Due w next
 
   change_so : (change : Change) → r ≡ Ok (ChangeDue change) → So (λ w next. (next ≡ world_after change.receipt q.command w) × IsDue w change.at change.receipt q.command change.sums) change.receipt
   change_so change is clean w same are =
-      let d : Decides w q (ChangeDue change) = decided g shuts settles f q old mid at_rest before low it (ChangeDue change) is clean w same are in
+      let d : Decides w q (ChangeDue change) = decided g shuts settles f q old mid known noted grows at_rest before low it (ChangeDue change) is clean w same are in
       (world_after change.receipt q.command w, d.1, refl, (refl, d.2))
 
   split_so : (due : Lending) → r ≡ Ok (SplitDue due) → So (λ w next. (f ≡ w.frame) × IsLent w next due) due.receipt
   split_so due is clean w same are =
-      let d : Decides w q (SplitDue due) = decided g shuts settles f q old mid at_rest before low it (SplitDue due) is clean w same are in
-      (d.0, d.1, d.2.after.frame, (same, d.2))
+      let d : Decides w q (SplitDue due) = decided g shuts settles f q old mid known noted grows at_rest before low it (SplitDue due) is clean w same are in
+      (d.0, d.1, d.2.after.frame, (same.0, d.2))
 
   merge_so : (due : Returning) → r ≡ Ok (MergeDue due) → So (λ w next. IsReturned w next due) due.receipt
   merge_so due is clean w same are =
-      let d : Decides w q (MergeDue due) = decided g shuts settles f q old mid at_rest before low it (MergeDue due) is clean w same are in
+      let d : Decides w q (MergeDue due) = decided g shuts settles f q old mid known noted grows at_rest before low it (MergeDue due) is clean w same are in
       (d.0, d.1, d.2.after.frame, d.2)
 
   module _ (new : List (Member S)) (strays : List (Held S)) (after : ℕ) where
-    pub change_served : (change : Change) (receipt : Receipt) → strays ≡ [] → r ≡ Ok (ChangeDue change) → before + 1 ≤ greatest_receipts → Changes g change q.command mid new before after (Ok receipt) → ServesAll g f q old new strays before after (Ok (Ok receipt))
-    change_served change receipt none is bounded made = subst (λ ss. ServesAll g f q old new ss before after (Ok (Ok receipt))) (sym none)
-        (all_carried_out g shuts settles f q old mid at_rest before low it (λ w next. (next ≡ world_after change.receipt q.command w) × IsDue w change.at change.receipt q.command change.sums) change.receipt new [] after (ChangeDue change) is (change_so change is) receipt bounded (carries_changed g shuts settles change q.command mid new before after receipt made))
+    pub change_served : (change : Change) (receipt : Receipt) → Notes noted change.receipt → strays ≡ [] → r ≡ Ok (ChangeDue change) → before + 1 ≤ greatest_receipts → Changes g change q.command mid new before after (Ok receipt) → ServesAll g f q old new strays known noted before after (Ok (Ok receipt))
+    change_served change receipt notes none is bounded made = subst (λ ss. ServesAll g f q old new ss known noted before after (Ok (Ok receipt))) (sym none)
+        (all_carried_out g shuts settles f q old mid known noted grows at_rest before low it (λ w next. (next ≡ world_after change.receipt q.command w) × IsDue w change.at change.receipt q.command change.sums) change.receipt new [] after (ChangeDue change) is (change_so change is) notes receipt bounded (carries_changed g shuts settles change q.command mid new before after receipt made))
 
-    pub change_failed : (change : Change) (why : TurnFault) → strays ≡ [] → r ≡ Ok (ChangeDue change) → Changes g change q.command mid new before after (Err why) → ServesAll g f q old new strays before after (Err (Turn why))
-    change_failed change why none is made = subst (λ ss. ServesAll g f q old new ss before after (Err (Turn why))) (sym none)
-        (all_failed g shuts settles f q old mid at_rest before low it (λ w next. (next ≡ world_after change.receipt q.command w) × IsDue w change.at change.receipt q.command change.sums) change.receipt new [] after (ChangeDue change) is (change_so change is) (Turn why) (carries_unchanged g shuts settles change q.command mid new before after why made))
+    pub change_failed : (change : Change) (why : TurnFault) → strays ≡ [] → r ≡ Ok (ChangeDue change) → Changes g change q.command mid new before after (Err why) → ServesAll g f q old new strays known noted before after (Err (Turn why))
+    change_failed change why none is made = subst (λ ss. ServesAll g f q old new ss known noted before after (Err (Turn why))) (sym none)
+        (all_failed g shuts settles f q old mid known noted grows at_rest before low it (λ w next. (next ≡ world_after change.receipt q.command w) × IsDue w change.at change.receipt q.command change.sums) change.receipt new [] after (ChangeDue change) is (change_so change is) (Turn why) (carries_unchanged g shuts settles change q.command mid new before after why made))
 
-    pub split_served : (due : Lending) (receipt : Receipt) → r ≡ Ok (SplitDue due) → before + 1 ≤ greatest_receipts → Carries g (λ w next. (f ≡ w.frame) × IsLent w next due) due.receipt mid new strays before after (Ok receipt) → ServesAll g f q old new strays before after (Ok (Ok receipt))
-    split_served due receipt is bounded made = all_carried_out g shuts settles f q old mid at_rest before low it (λ w next. (f ≡ w.frame) × IsLent w next due) due.receipt new strays after (SplitDue due) is (split_so due is) receipt bounded made
+    pub split_served : (due : Lending) (receipt : Receipt) → Notes noted due.receipt → r ≡ Ok (SplitDue due) → before + 1 ≤ greatest_receipts → Carries g (λ w next. (f ≡ w.frame) × IsLent w next due) due.receipt mid new strays before after (Ok receipt) → ServesAll g f q old new strays known noted before after (Ok (Ok receipt))
+    split_served due receipt notes is bounded made = all_carried_out g shuts settles f q old mid known noted grows at_rest before low it (λ w next. (f ≡ w.frame) × IsLent w next due) due.receipt new strays after (SplitDue due) is (split_so due is) notes receipt bounded made
 
-    pub split_failed : (due : Lending) (why : ServeFault) → r ≡ Ok (SplitDue due) → Carries g (λ w next. (f ≡ w.frame) × IsLent w next due) due.receipt mid new strays before after (Err why) → ServesAll g f q old new strays before after (Err why)
-    split_failed due why is made = all_failed g shuts settles f q old mid at_rest before low it (λ w next. (f ≡ w.frame) × IsLent w next due) due.receipt new strays after (SplitDue due) is (split_so due is) why made
+    pub split_failed : (due : Lending) (why : ServeFault) → r ≡ Ok (SplitDue due) → Carries g (λ w next. (f ≡ w.frame) × IsLent w next due) due.receipt mid new strays before after (Err why) → ServesAll g f q old new strays known noted before after (Err why)
+    split_failed due why is made = all_failed g shuts settles f q old mid known noted grows at_rest before low it (λ w next. (f ≡ w.frame) × IsLent w next due) due.receipt new strays after (SplitDue due) is (split_so due is) why made
 
-    pub merge_served : (due : Returning) (receipt : Receipt) → strays ≡ [] → r ≡ Ok (MergeDue due) → before + 1 ≤ greatest_receipts → Carries g (λ w next. IsReturned w next due) due.receipt mid new [] before after (Ok receipt) → ServesAll g f q old new strays before after (Ok (Ok receipt))
-    merge_served due receipt none is bounded made = subst (λ ss. ServesAll g f q old new ss before after (Ok (Ok receipt))) (sym none)
-        (all_carried_out g shuts settles f q old mid at_rest before low it (λ w next. IsReturned w next due) due.receipt new [] after (MergeDue due) is (merge_so due is) receipt bounded made)
+    pub merge_served : (due : Returning) (receipt : Receipt) → Notes noted due.receipt → strays ≡ [] → r ≡ Ok (MergeDue due) → before + 1 ≤ greatest_receipts → Carries g (λ w next. IsReturned w next due) due.receipt mid new [] before after (Ok receipt) → ServesAll g f q old new strays known noted before after (Ok (Ok receipt))
+    merge_served due receipt notes none is bounded made = subst (λ ss. ServesAll g f q old new ss known noted before after (Ok (Ok receipt))) (sym none)
+        (all_carried_out g shuts settles f q old mid known noted grows at_rest before low it (λ w next. IsReturned w next due) due.receipt new [] after (MergeDue due) is (merge_so due is) notes receipt bounded made)
 
-    pub merge_failed : (due : Returning) (why : ServeFault) → strays ≡ [] → r ≡ Ok (MergeDue due) → Carries g (λ w next. IsReturned w next due) due.receipt mid new [] before after (Err why) → ServesAll g f q old new strays before after (Err why)
-    merge_failed due why none is made = subst (λ ss. ServesAll g f q old new ss before after (Err why)) (sym none)
-        (all_failed g shuts settles f q old mid at_rest before low it (λ w next. IsReturned w next due) due.receipt new [] after (MergeDue due) is (merge_so due is) why made)
+    pub merge_failed : (due : Returning) (why : ServeFault) → strays ≡ [] → r ≡ Ok (MergeDue due) → Carries g (λ w next. IsReturned w next due) due.receipt mid new [] before after (Err why) → ServesAll g f q old new strays known noted before after (Err why)
+    merge_failed due why none is made = subst (λ ss. ServesAll g f q old new ss known noted before after (Err why)) (sym none)
+        (all_failed g shuts settles f q old mid known noted grows at_rest before low it (λ w next. IsReturned w next due) due.receipt new [] after (MergeDue due) is (merge_so due is) why made)
 
 -- ---- the count of the shelf
 

@@ -4,31 +4,37 @@ use Rattle.sqlite.specs.Store.{Ghosts}
 use Rattle.sqlite.specs.Held.{Held}
 use Rattle.sheet_types.specs.World.{World}
 use Rattle.sheet_types.specs.declared.frame.Frame.{Frame}
+use Rattle.known_uuids.specs.Known.{Knows}
 use Rattle.world.specs.Asking.{AsksAll}
 use Rattle.world.specs.Members.{AllStay}
 use Rattle.world.specs.Worlds.{Seen, StandsFor, IsHeld, IsRead, TellsOf}
 use Rattle.world.specs.declared.members.Member.{Member}
+use Rattle.world.proofs.Questions.{asks_weaker}
 use Rattle.world.proofs.Standing.{members_stay, clean_before}
 
 module _ {S : Type 0} (g : Ghosts S) where
-  module _ (f : Frame) (old new : List (Member S)) (count : ℕ) (has_failed : Bool) (strays : List (Held S)) where
+  -- what rests on no UUID that is known
+  pub asks_known : {X E : Type 0} {Answer : World → X → Type 0} {old new : List (Member S)} {known : List (List ℕ)} {r : Result X E} → AsksAll g {X = X} {E = E} Answer old new r → AsksAll g {X = X} {E = E} (λ w x. Knows known w → Answer w x) old new r
+  asks_known {X} {E} {Answer} {old} {new} {known} {r} it = asks_weaker g r (λ x w count are told knows. told) it
+
+  module _ (f : Frame) (old new : List (Member S)) (count : ℕ) (has_failed : Bool) (strays : List (Held S)) (known : List (List ℕ)) where
     abbrev before : Seen S
-    before = record { frame = f; members = old; count = count; has_failed = has_failed; strays = strays }
+    before = record { frame = f; members = old; count = count; has_failed = has_failed; strays = strays; known = known }
 
     abbrev after : Seen S
-    after = record { frame = f; members = new; count = count; has_failed = has_failed; strays = strays }
+    after = record { frame = f; members = new; count = count; has_failed = has_failed; strays = strays; known = known }
 
     stands_after : AllStay g old new → (w : World) → StandsFor g before w → StandsFor g after w
-    stands_after stay w stands = record { frame = stands.frame; members = members_stay g old new count w stay stands.members }
+    stands_after stay w stands = record { frame = stands.frame; members = members_stay g old new count w stay stands.members; known = stands.known }
 
     read_members : AllStay g old new → IsRead g before after
     read_members stay = record { same = refl; stay = stay; clean = clean_before g old new stay; stands = stands_after stay }
 
-    tells_members : {X E : Type 0} {Answer : World → X → Type 0} (r : Result X E) → AsksAll g {X = X} {E = E} Answer old new r → TellsOf g {X = X} {E = E} Answer before after r
-    tells_members (Ok x) it = λ clean w stands. it.told clean w count stands.members
+    tells_members : {X E : Type 0} {Answer : World → X → Type 0} (r : Result X E) → AsksAll g {X = X} {E = E} (λ w x. Knows known w → Answer w x) old new r → TellsOf g {X = X} {E = E} Answer before after r
+    tells_members (Ok x) it = λ clean w stands. it.told clean w count stands.members stands.known
     tells_members (Err e) it = λ clean. tt
 
-    module _ {X E : Type 0} {Answer : World → X → Type 0} (r : Result X E) (it : AsksAll g {X = X} {E = E} Answer old new r) where
+    module _ {X E : Type 0} {Answer : World → X → Type 0} (r : Result X E) (it : AsksAll g {X = X} {E = E} (λ w x. Knows known w → Answer w x) old new r) where
       -- what the members told is told of the world
       pub world_tells : (was : Seen S) → before ≡ was → TellsOf g {X = X} {E = E} Answer was after r
       world_tells was seen = subst (λ s. TellsOf g {X = X} {E = E} Answer s after r) seen (tells_members r it)

@@ -9,6 +9,7 @@ use Rattle.sheet_types.specs.declared.command.Request.{Request}
 use Rattle.sheet_types.specs.declared.frame.Frame.{Frame}
 use Rattle.sheet_types.specs.declared.receipt.Receipt.{Receipt}
 use Rattle.sheet_types.specs.declared.refusal.Refusal.{Refusal}
+use Rattle.known_uuids.specs.Known.{Grows, Knows}
 use Rattle.world.specs.Leaving.{AreAtRest, AreClean, AreBeside, LeavesOneOf}
 use Rattle.world.specs.Members.{AllRest, AllClean, AllOpen, AreMembers}
 use Rattle.world.specs.ServeFaults.{IsLastingFault}
@@ -23,6 +24,10 @@ abbrev pub IsBeforeCommit : ServeFault → Type 0
 IsBeforeCommit (Unshelved why) = Unit {0}
 IsBeforeCommit (Turn (Before why)) = Unit {0}
 IsBeforeCommit (Turn (Committing why)) = ⊥
+
+-- the frame is that of the world, and what its receipts name is known
+abbrev pub IsSeenBy : Frame → List (List ℕ) → World → Type 0
+IsSeenBy f known w = (f ≡ w.frame) × Knows known w
 
 -- nothing was to be changed, or no such commit was tried
 abbrev pub IsUntouched : Result (Result Receipt Refusal) ServeFault → Type 0
@@ -50,12 +55,12 @@ module _ {S : Type 0} (g : Ghosts S) where
     pub unharmed : (why : ServeFault) → r ≡ Err why → IsBeforeCommit why → LeavesAsBefore g old new
     pub crash : (why : ServeFault) → r ≡ Err why → (w next : World) → AreMembers g old before w → Due w next → AllOpen g old → LeavesOneOf g w.frame (strays ++ map (λ m. m.conn) new) w.packages next.packages
 
-  -- The reply, and what the members stand for afterwards, are those of the model.
-  abbrev pub IsServedAs : World → Request → List (Member S) → ℕ → Result Receipt Refusal → Type 0
-  IsServedAs w q new after reply = (next : World) × (outcome w q ≡ (reply, next)) × (next.frame ≡ w.frame) × AreMembers g new after next
+  -- The reply, and what the members stand for afterwards, are those of the model, and what its receipts name then is known.
+  abbrev pub IsServedAs : World → Request → List (Member S) → List (List ℕ) → ℕ → Result Receipt Refusal → Type 0
+  IsServedAs w q new noted after reply = (next : World) × (outcome w q ≡ (reply, next)) × (next.frame ≡ w.frame) × AreMembers g new after next × Knows noted next
 
   -- One request was dealt with in a world that can be used. Where each disk has given back what was written, as the model says; and unless the reply is a receipt the members stand for what they stood for.
-  pub record ServesAll (f : Frame) (q : Request) (old new : List (Member S)) (strays : List (Held S)) (before after : ℕ) (r : Result (Result Receipt Refusal) ServeFault) : Type 0 where
+  pub record ServesAll (f : Frame) (q : Request) (old new : List (Member S)) (strays : List (Held S)) (known noted : List (List ℕ)) (before after : ℕ) (r : Result (Result Receipt Refusal) ServeFault) : Type 0 where
     -- the last states of the connections that were dropped
     pub gone : List (Held S)
     -- those of children that were dropped before they were of the world
@@ -63,17 +68,19 @@ module _ {S : Type 0} (g : Ghosts S) where
     pub rests : AllRest g new
     pub stray_rests : AreAtRest g strays
     pub counted : after ≤ greatest_receipts
+    -- what was known still is
+    pub grows : Grows known noted
     pub clean : AllClean g new → AreClean g gone → AllClean g old
-    pub told : AllClean g new → AreClean g gone → (reply : Result Receipt Refusal) → r ≡ Ok reply → (w : World) → f ≡ w.frame → AreMembers g old before w → IsServedAs w q new after reply
+    pub told : AllClean g new → AreClean g gone → (reply : Result Receipt Refusal) → r ≡ Ok reply → (w : World) → IsSeenBy f known w → AreMembers g old before w → IsServedAs w q new noted after reply
     pub opens : AllClean g new → AreClean g gone → IfOk r (λ reply. AllOpen g old → AllOpen g new)
     -- what a crash leaves of a merged child is beside the world after
-    pub beside : AllClean g new → AreClean g gone → (reply : Result Receipt Refusal) → r ≡ Ok reply → (w : World) → f ≡ w.frame → AreMembers g old before w → AllOpen g old → AreBeside g w.frame (outcome w q).1.packages gone
+    pub beside : AllClean g new → AreClean g gone → (reply : Result Receipt Refusal) → r ≡ Ok reply → (w : World) → IsSeenBy f known w → AreMembers g old before w → AllOpen g old → AreBeside g w.frame (outcome w q).1.packages gone
     -- and that of a child that was dropped is beside the world before
-    pub beside_before : AllClean g new → AreClean g gone → (w : World) → f ≡ w.frame → AreMembers g old before w → AllOpen g old → AreBeside g w.frame w.packages left_over
+    pub beside_before : AllClean g new → AreClean g gone → (w : World) → IsSeenBy f known w → AreMembers g old before w → AllOpen g old → AreBeside g w.frame w.packages left_over
     pub refused : (why : Refusal) → r ≡ Ok (Err why) → (w : World) → AreMembers g old before w → AreMembers g new after w
     pub failed : (why : ServeFault) → r ≡ Err why → (w : World) → AreMembers g old before w → AreMembers g new after w
     pub none : (reply : Result Receipt Refusal) → r ≡ Ok reply → strays ≡ []
     pub usable : (why : ServeFault) → r ≡ Err why → ¬ IsLastingFault why → strays ≡ []
     pub unharmed : IsUntouched r → LeavesAsBefore g old new
     -- After a fault, whatever a crash leaves of stores that were open reads as the world before or as the one that the request is to make, whole, and what else is held is beside it.
-    pub crash : (why : ServeFault) → r ≡ Err why → (w : World) → f ≡ w.frame → AreMembers g old before w → AllOpen g old → LeavesOneOf g w.frame (strays ++ map (λ m. m.conn) new) w.packages (outcome w q).1.packages
+    pub crash : (why : ServeFault) → r ≡ Err why → (w : World) → IsSeenBy f known w → AreMembers g old before w → AllOpen g old → LeavesOneOf g w.frame (strays ++ map (λ m. m.conn) new) w.packages (outcome w q).1.packages

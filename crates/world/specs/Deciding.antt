@@ -11,6 +11,7 @@ use Rattle.sheet_types.specs.declared.command.Request.{Request}
 use Rattle.sheet_types.specs.declared.frame.Frame.{Frame}
 use Rattle.sheet_types.specs.declared.refusal.Refusal.{Refusal}
 use Rattle.sheet_types.specs.declared.refusal.Refusal.TheVariants.{IdentityUsed}
+use Rattle.known_uuids.specs.Known.{Notes}
 use Rattle.world.specs.Laws.{ChangesOnePackage, package_of}
 use Rattle.world.specs.Loans.{IsLent, IsReturned, HasLendingPlace, HasReturnPlace}
 use Rattle.world.specs.Reasons.{text_reasons, package_reasons}
@@ -59,3 +60,10 @@ HasPlace members count (Answered reply) = Unit {0}
 HasPlace members count (SplitDue due) = HasLendingPlace due (length members) count
 HasPlace members count (MergeDue due) = HasReturnPlace due (length members) count
 HasPlace members count (ChangeDue due) = (due.at < length members) × (due.receipt.seq ≡ count + 1) × (count + 1 ≤ greatest_receipts)
+
+-- What the receipt of what is due names is known.
+abbrev pub IsNoted : List (List ℕ) → Decision → Type 0
+IsNoted known (Answered reply) = Unit {0}
+IsNoted known (SplitDue due) = Notes known due.receipt
+IsNoted known (MergeDue due) = Notes known due.receipt
+IsNoted known (ChangeDue due) = Notes known due.receipt

@@ -16,23 +16,25 @@ use Rattle.sheet_types.specs.declared.receipt.Sums.{Sums}
 use Rattle.sheet_types.specs.declared.refusal.Refusal.{Refusal}
 use Rattle.sheet_types.specs.declared.refusal.Refusal.TheVariants.{StoreFault}
 use Rattle.sqlite_disk.specs.Disk.{MoreFaults}
+use Rattle.known_uuids.specs.Known.{Knows}
 use Rattle.sql_meaning.specs.Stores.{EachLeaves}
 use Rattle.world.specs.Leaving.{AreClean, AreAtRest, AreBeside, LeavesOneOf}
 use Rattle.world.specs.Turning.{LeftAs}
 use Rattle.world.specs.Members.{AllOpen, AllRest, AllClean, AllStay, AreMembers}
 use Rattle.world.specs.declared.members.Member.{Member}
 
--- the frame, the members in the order of their UUIDs, the number of all receipts, whether the world has failed, and the stores of children that a split which failed left
+-- the frame, the members in the order of their UUIDs, the number of all receipts, whether the world has failed, the stores of children that a split which failed left, and the UUIDs that are known
 pub record Seen (S : Type 0) : Type 0 where
   pub frame : Frame
   pub members : List (Member S)
   pub count : ℕ
   pub has_failed : Bool
   pub strays : List (Held S)
+  pub known : List (List ℕ)
 
 -- a world that can be used, of these members
-abbrev pub seen_of : {S : Type 0} → Frame → List (Member S) → ℕ → Seen S
-seen_of f members count = record { frame = f; members = members; count = count; has_failed = false; strays = [] }
+abbrev pub seen_of : {S : Type 0} → Frame → List (Member S) → ℕ → List (List ℕ) → Seen S
+seen_of f members count known = record { frame = f; members = members; count = count; has_failed = false; strays = []; known = known }
 
 -- ---- as values that a model may have
 
@@ -54,8 +56,8 @@ member_code {S} store = code_by (Held S × (List ℕ × (Option (List ℕ) × (�
     (λ m. (m.conn, (m.uuid, (m.parent, (m.depth, (m.loan, (m.sums, m.ticket))))))) (λ p. record { conn = p.0; uuid = p.1.0; parent = p.1.1.0; depth = p.1.1.1.0; loan = p.1.1.1.1.0; sums = p.1.1.1.1.1.0; ticket = p.1.1.1.1.1.1 }) (λ _. refl)
 
 abbrev pub seen_code : {S : Type 0} → Coded S → Coded (Seen S)
-seen_code {S} store = code_by (Frame × (List (Member S) × (ℕ × (Bool × List (Held S))))) (coded× frame_code (coded× (coded_list (member_code store)) (coded× coded_ℕ (coded× coded_bool (coded_list (held_code store))))))
-    (λ w. (w.frame, (w.members, (w.count, (w.has_failed, w.strays))))) (λ p. record { frame = p.0; members = p.1.0; count = p.1.1.0; has_failed = p.1.1.1.0; strays = p.1.1.1.1 }) (λ _. refl)
+seen_code {S} store = code_by (Frame × (List (Member S) × (ℕ × (Bool × (List (Held S) × List (List ℕ)))))) (coded× frame_code (coded× (coded_list (member_code store)) (coded× coded_ℕ (coded× coded_bool (coded× (coded_list (held_code store)) (coded_list (coded_list coded_ℕ)))))))
+    (λ w. (w.frame, (w.members, (w.count, (w.has_failed, (w.strays, w.known)))))) (λ p. record { frame = p.0; members = p.1.0; count = p.1.1.0; has_failed = p.1.1.1.0; strays = p.1.1.1.1.0; known = p.1.1.1.1.1 }) (λ _. refl)
 
 -- ---- what it stands for
 
@@ -67,10 +69,11 @@ RunsOverRegisters w [] (reply ∷ replies) next = ⊥
 RunsOverRegisters w (q ∷ qs) [] next = ⊥
 
 module _ {S : Type 0} (g : Ghosts S) where
-  -- Its frame is that of the world, and its members are the world's packages.
+  -- Its frame is that of the world, its members are the world's packages, and it knows what the world's receipts name.
   pub record StandsFor (seen : Seen S) (w : World) : Type 0 where
     pub frame : seen.frame ≡ w.frame
     pub members : AreMembers g seen.members seen.count w
+    pub known : Knows seen.known w
 
   -- There is a world that it stands for, where each disk has given back what was written, those of other stores too.
   pub record StandsBeside (seen : Seen S) : Type 0 where

@@ -11,12 +11,14 @@ ghost use Rattle.world.specs.ServeFaults.{CountsShelf};
 ghost use Rattle.world.specs.Changes.{Changes};
 ghost use Rattle.world.specs.declared.deciding.Decision.TheVariants.{ChangeDue};
 
-use crate::deciding::{Change, Decision, decide};
+use crate::deciding::{Change, Decision};
 use crate::loans::{Lending, Returning, ServeFault};
 use crate::members::Member;
 use crate::merging::merge_at;
+use crate::noting::decide_and_note;
 use crate::splitting::{child_store, lend_and_place};
 use crate::turning::turn_at;
+use known_uuids::known::Known;
 use lending::turn_fault::TurnFault;
 use package_tables::fault::Fault;
 use sheet_types::command::{Command, Request};
@@ -104,10 +106,11 @@ fn carry_out_change<S: Alter + Drop>(
     Ok(change.receipt)
 }
 
-/// Answers one request, or carries it out. The count is that of all receipts. A refusal is a reply; what is an error here is a want of memory, a store that failed, or a shelf that had none.
+/// Answers one request, or carries it out. The count is that of all receipts, and what they name is known. A refusal is a reply; what is an error here is a want of memory, a store that failed, or a shelf that had none.
 pub(crate) fn serve<S: Alter + Drop, H: Shelf<S>>(
     members: &mut Vec<Member<S>>,
     strays: &mut Vec<Connection<S>>,
+    known: &mut Known,
     frame: &Frame,
     count: &mut u64,
     alloc: Global,
@@ -119,11 +122,11 @@ pub(crate) fn serve<S: Alter + Drop, H: Shelf<S>>(
     requires counted { count.old ≤ greatest_receipts }
     requires none { strays.old.items ≡ [] }
     requires room { HasRoomFor members.old.items strays.old }
-    ensures serves { ServesAll S.Store frame.now request.now members.old.items members.new.items strays.new.items count.old count.new result }
+    ensures serves { ServesAll S.Store frame.now request.now members.old.items members.new.items strays.new.items known.old known.new count.old count.new result }
     ensures room { HasRoomFor members.new.items strays.new }
     ensures shelf { CountsShelf result (H.failures_of shelf.old) (H.failures_of shelf.new) }
 {
-    match decide(members, frame, *count, alloc, request)? {
+    match decide_and_note(members, known, frame, *count, alloc, request)? {
         Decision::Answered(reply) => Ok(reply),
         Decision::ChangeDue(change) => {
             let receipt = carry_out_change(members, count, &request.command, change)?;

@@ -30,7 +30,7 @@ pub fn are_at_rest<S: Alter + Drop>(members: &[Member<S>]) -> bool
 }
 
 /// The receipt that the package of one member keeps for a request.
-fn kept_by<S: Alter + Drop>(
+pub(crate) fn kept_by<S: Alter + Drop>(
     members: &mut Vec<Member<S>>,
     at: usize,
     alloc: Global,
@@ -63,7 +63,7 @@ pub fn kept_in_all<S: Alter + Drop>(
 }
 
 /// Whether a receipt of one member's package names an identity as that of an item.
-fn named_by<S: Alter + Drop>(
+pub(crate) fn named_by<S: Alter + Drop>(
     members: &mut Vec<Member<S>>,
     at: usize,
     identity: Uuid,

@@ -9,22 +9,25 @@ ghost use Rattle.sheet_types.specs.Step.{receipt_of};
 ghost use Rattle.sheet_types.specs.Texts.{line};
 ghost use Rattle.sheet_types.specs.World.{World, holdings};
 ghost use Rattle.sheet_types.specs.declared.refusal.Refusal.TheVariants.{IdReused};
+ghost use Rattle.known_uuids.specs.Known.{Knows};
 ghost use Rattle.world.specs.Asking.{AsksAll};
 ghost use Rattle.world.specs.Deciding.{IsOf, IsNewTo, IsAskedOf, IsPlaced, refusal_before, Decides, HasPlace};
 ghost use Rattle.world.specs.Laws.{ChangesOnePackage, package_of};
 ghost use Rattle.world.specs.Members.{AllRest, AreMembers};
 
-use crate::asking::{is_named_in_all, kept_in_all, place_of};
+use crate::asking::place_of;
 use crate::asking_one::{refusal_at, thing_moved};
 use crate::deciding_merges::decide_merge;
 use crate::deciding_splits::{Asked, decide_split};
 use crate::loans::{Lending, Returning};
 use crate::members::Member;
+use crate::recalling::{find_kept, was_used};
 use crate::receipts::receipt_over;
 use crate::sums::{sums_after, sums_moved};
 use crate::texts::text_refusal;
 use crate::too_many::is_too_many;
 use identity_register::fitting::fits;
+use known_uuids::known::Known;
 use package_tables::fault::Fault;
 use sheet_types::command::{Command, Request};
 use sheet_types::frame::Frame;
@@ -60,7 +63,7 @@ pub enum Decision {
 }
 
 /// The package that a command changes.
-fn package_of(command: &Command) -> Uuid
+pub(crate) fn package_of(command: &Command) -> Uuid
     ensures { result ≡ package_of command.now }
 {
     match command {
@@ -106,12 +109,16 @@ fn new_identity(command: &Command) -> Option<Uuid>
 }
 
 /// Whether the identity that a command brings in was ever used.
-fn is_used<S: Alter + Drop>(members: &mut Vec<Member<S>>, command: &Command) -> Result<bool, Fault>
+fn is_used<S: Alter + Drop>(
+    members: &mut Vec<Member<S>>,
+    known: &Known,
+    command: &Command,
+) -> Result<bool, Fault>
     requires { AllRest S.Store members.old.items }
-    ensures { AsksAll S.Store (λ w found. found ≡ identity_used w command.now) members.old.items members.new.items result }
+    ensures { AsksAll S.Store (λ w found. Knows known.now w → found ≡ identity_used w command.now) members.old.items members.new.items result }
 {
     match new_identity(command) {
-        Some(identity) => is_named_in_all(members, identity),
+        Some(identity) => was_used(members, known, identity),
         None => Ok(false),
     }
 }
@@ -153,6 +160,7 @@ fn has_types(command: &Command)
 /// Why a request whose package stands at a place is refused, but for what it would leave: for its text, else for a used identity, else by its package.
 fn refused_before<S: Alter + Drop>(
     members: &mut Vec<Member<S>>,
+    known: &Known,
     at: usize,
     frame: &Frame,
     request: &Request,
@@ -160,12 +168,12 @@ fn refused_before<S: Alter + Drop>(
     requires within { at < length members.old.items }
     requires rests { AllRest S.Store members.old.items }
     requires good { IsTrue (is_good_frame frame.now) }
-    ensures { AsksAll S.Store (λ w found. frame.now ≡ w.frame → slice_get w.packages at ≡ Some (holdings w (package_of request.now.command)) → found ≡ refusal_before w request.now) members.old.items members.new.items result }
+    ensures { AsksAll S.Store (λ w found. Knows known.now w → frame.now ≡ w.frame → slice_get w.packages at ≡ Some (holdings w (package_of request.now.command)) → found ≡ refusal_before w request.now) members.old.items members.new.items result }
 {
     if let Some(why) = text_refusal(request) {
         return Ok(Some(why));
     }
-    if is_used(members, &request.command)? {
+    if is_used(members, known, &request.command)? {
         return Ok(Some(Refusal::IdentityUsed));
     }
     refusal_at(members, at, frame, &request.command)
@@ -221,6 +229,7 @@ fn prepared<S: Alter + Drop>(
 /// What a new request comes to whose package stands at a place.
 fn decide_at<S: Alter + Drop>(
     members: &mut Vec<Member<S>>,
+    known: &Known,
     at: usize,
     frame: &Frame,
     count: u64,
@@ -231,10 +240,10 @@ fn decide_at<S: Alter + Drop>(
     requires rests { AllRest S.Store members.old.items }
     requires good { IsTrue (is_good_frame frame.now) }
     requires small { count ≤ greatest_receipts }
-    ensures asks { AsksAll S.Store (λ w decision. IsPlaced frame.now count at request.now w → Decides w request.now decision) members.old.items members.new.items result }
+    ensures asks { AsksAll S.Store (λ w decision. Knows known.now w → IsPlaced frame.now count at request.now w → Decides w request.now decision) members.old.items members.new.items result }
     ensures place { IfOk result (λ decision. HasPlace members.new.items count decision) }
 {
-    if let Some(why) = refused_before(members, at, frame, request)? {
+    if let Some(why) = refused_before(members, known, at, frame, request)? {
         return Ok(Decision::Answered(Err(why)));
     }
     prepared(members, at, count, alloc, request)
@@ -243,6 +252,7 @@ fn decide_at<S: Alter + Drop>(
 /// What a request of the commands that change one package comes to that did not come before.
 fn decide_change<S: Alter + Drop>(
     members: &mut Vec<Member<S>>,
+    known: &Known,
     frame: &Frame,
     count: u64,
     alloc: Global,
@@ -251,18 +261,19 @@ fn decide_change<S: Alter + Drop>(
     requires rests { AllRest S.Store members.old.items }
     requires good { IsTrue (is_good_frame frame.now) }
     requires small { count ≤ greatest_receipts }
-    ensures asks { AsksAll S.Store (λ w decision. IsAskedOf frame.now count request.now w → kept w request.now.id ≡ None → Decides w request.now decision) members.old.items members.new.items result }
+    ensures asks { AsksAll S.Store (λ w decision. Knows known.now w → IsAskedOf frame.now count request.now w → kept w request.now.id ≡ None → Decides w request.now decision) members.old.items members.new.items result }
     ensures place { IfOk result (λ decision. HasPlace members.new.items count decision) }
 {
     match place_of(members.as_slice(), package_of(&request.command)) {
         None => Ok(Decision::Answered(Err(Refusal::UnknownPackage))),
-        Some(at) => decide_at(members, at, frame, count, alloc, request),
+        Some(at) => decide_at(members, known, at, frame, count, alloc, request),
     }
 }
 
 /// What a request comes to that did not come before.
 fn decide_new<S: Alter + Drop>(
     members: &mut Vec<Member<S>>,
+    known: &Known,
     frame: &Frame,
     count: u64,
     alloc: Global,
@@ -271,7 +282,7 @@ fn decide_new<S: Alter + Drop>(
     requires rests { AllRest S.Store members.old.items }
     requires good { IsTrue (is_good_frame frame.now) }
     requires small { count ≤ greatest_receipts }
-    ensures asks { AsksAll S.Store (λ w decision. IsNewTo frame.now count request.now w → Decides w request.now decision) members.old.items members.new.items result }
+    ensures asks { AsksAll S.Store (λ w decision. Knows known.now w → IsNewTo frame.now count request.now w → Decides w request.now decision) members.old.items members.new.items result }
     ensures place { IfOk result (λ decision. HasPlace members.new.items count decision) }
 {
     match &request.command {
@@ -297,17 +308,18 @@ fn decide_new<S: Alter + Drop>(
         Command::Add { .. }
         | Command::Delete { .. }
         | Command::Link { .. }
-        | Command::Unlink { .. } => decide_change(members, frame, count, alloc, request),
+        | Command::Unlink { .. } => decide_change(members, known, frame, count, alloc, request),
     }
 }
 
-/// What a request comes to. The count is that of the receipts so far, and the frame that of the world.
+/// What a request comes to, where all that the receipts of the world name is known. The count is that of the receipts so far, and the frame that of the world.
 ///
 /// # Errors
 ///
 /// Want of memory, or a store that failed. Nothing is changed then either.
 pub fn decide<S: Alter + Drop>(
     members: &mut Vec<Member<S>>,
+    known: &Known,
     frame: &Frame,
     count: u64,
     alloc: Global,
@@ -316,12 +328,12 @@ pub fn decide<S: Alter + Drop>(
     requires rests { AllRest S.Store members.old.items }
     requires good { IsTrue (is_good_frame frame.now) }
     requires small { count ≤ greatest_receipts }
-    ensures asks { AsksAll S.Store (λ w decision. IsOf frame.now count w → Decides w request.now decision) members.old.items members.new.items result }
+    ensures asks { AsksAll S.Store (λ w decision. Knows known.now w → IsOf frame.now count w → Decides w request.now decision) members.old.items members.new.items result }
     ensures place { IfOk result (λ decision. HasPlace members.new.items count decision) }
 {
-    if let Some(receipt) = kept_in_all(members, alloc, request.id)? {
+    if let Some(receipt) = find_kept(members, known, alloc, request.id)? {
         let reply = repeated(alloc, receipt, &request.command)?;
         return Ok(Decision::Answered(reply));
     }
-    decide_new(members, frame, count, alloc, request)
+    decide_new(members, known, frame, count, alloc, request)
 }

@@ -8,8 +8,9 @@ ghost use Rattle.world.specs.Members.{AllRest, AreMembers};
 ghost use Rattle.world.specs.Reading.{sight_of, member_sight};
 ghost use Rattle.world.specs.Worlds.{StandsFor, IsRead, TellsOf, held};
 
-use crate::asking::{kept_in_all, place_of};
+use crate::asking::place_of;
 use crate::members::Member;
+use crate::recalling::find_kept;
 use crate::reserving::push_reserved;
 use crate::world::World;
 use identity_register::whole::holdings;
@@ -156,7 +157,7 @@ impl<S: Alter + Drop> World<S> {
         ensures told { TellsOf S.Store (λ w found. found ≡ receipt_answer w id) self.old self.new result }
         ensures read { IsRead S.Store self.old self.new }
     {
-        kept_in_all(&mut self.members, alloc, id)
+        find_kept(&mut self.members, &self.known, alloc, id)
     }
 
     /// The stores that the world holds: the strays, and behind them those of its packages in their order. Takes no memory.

@@ -17,6 +17,7 @@ use crate::applying::serve;
 use crate::creating::{CreateFault, archive_alone};
 use crate::members::Member;
 use crate::reserving::{push_reserved, room_for_one};
+use known_uuids::known::Known;
 use matrix_rules::check::FrameRules;
 use sheet_types::command::Request;
 use sheet_types::error::OutOfMemory;
@@ -39,6 +40,8 @@ pub struct World<S: Alter + Drop> {
     pub(crate) has_failed: bool,
     // The stores of children that a split which failed left; a world that can be used has none. The list has room for the stores of all members too, so that all can be handed out without memory.
     pub(crate) strays: Vec<Connection<S>>,
+    // The UUIDs that receipts name, so that no store is asked of a new one.
+    pub(crate) known: Known,
 }
 
 impl<S: Alter + Drop> Model for World<S> {
@@ -49,9 +52,9 @@ impl<S: Alter + Drop> Model for World<S> {
 
     ghost coded = { seen_code S.code };
 
-    ghost view = { λ w. record { frame = w.frame; members = w.members.items; count = w.count; has_failed = w.has_failed; strays = w.strays.items } };
+    ghost view = { λ w. record { frame = w.frame; members = w.members.items; count = w.count; has_failed = w.has_failed; strays = w.strays.items; known = w.known } };
 
-    ghost invariant = { λ w. IsHeld S.Store (record { frame = w.frame; members = w.members.items; count = w.count; has_failed = w.has_failed; strays = w.strays.items }) × HasRoomFor w.members.items w.strays };
+    ghost invariant = { λ w. IsHeld S.Store (record { frame = w.frame; members = w.members.items; count = w.count; has_failed = w.has_failed; strays = w.strays.items; known = w.known }) × HasRoomFor w.members.items w.strays };
 }
 
 impl<S: Alter + Drop> World<S> {
@@ -89,22 +92,24 @@ impl<S: Alter + Drop> World<S> {
             count: 0,
             has_failed: false,
             strays: room,
+            known: Known::new(alloc),
         })
     }
 
-    /// The world that members stand for, in the order of their UUIDs, with so many receipts; each member's store is at rest. That they stand for it may rest on the disks of other stores too. The list that is handed in has room for the stores of all members, so this takes no memory.
+    /// The world that members stand for, in the order of their UUIDs, with so many receipts, where all that these name is known; each member's store is at rest. That they stand for it may rest on the disks of other stores too. The list that is handed in has room for the stores of all members, so this takes no memory.
     pub fn gathered(
         frame: Frame,
         members: Vec<Member<S>>,
         count: u64,
         room: Vec<Connection<S>>,
+        known: Known,
     ) -> World<S>
         requires rests { AllRest S.Store members.items }
         requires good { IsTrue (is_good_frame frame) }
         requires counted { count ≤ greatest_receipts }
         requires room { HasRoom members.items room }
-        requires stands { StandsBeside S.Store (seen_of frame members.items count) }
-        ensures { result ≡ seen_of frame members.items count }
+        requires stands { StandsBeside S.Store (seen_of frame members.items count known) }
+        ensures { result ≡ seen_of frame members.items count known }
     {
         World {
             frame,
@@ -112,6 +117,7 @@ impl<S: Alter + Drop> World<S> {
             count,
             has_failed: false,
             strays: room,
+            known,
         }
     }
 
@@ -156,6 +162,7 @@ impl<S: Alter + Drop> World<S> {
         match serve(
             &mut self.members,
             &mut self.strays,
+            &mut self.known,
             &self.frame,
             &mut self.count,
             alloc,

@@ -1,5 +1,6 @@
 // What a request comes to before anything is written, over two packages in memory. The digest is that of `tile 2 3 1`, LF and `ab` by another program's SHA-256.
 use crate::values::{empty_member, item, package, request};
+use known_uuids::known::Known;
 use package_tables::fault::Fault;
 use sheet_types::command::{Command, Request};
 use sheet_types::refusal::Refusal;
@@ -45,7 +46,7 @@ fn decided<S: Alter + Drop>(
     if !are_at_rest(members.as_slice()) || !is_good(&FRAME) || count > 1_000_000_000 {
         return Err(Fault::StoreFault);
     }
-    decide(members, &FRAME, count, alloc, &request)
+    decide(members, &Known::new(alloc), &FRAME, count, alloc, &request)
 }
 
 #[test]

@@ -9,7 +9,7 @@ use shelves::shelf::Shelf;
 use sqlite::{Alter, FileStore};
 use std::alloc::Global;
 use std::test::Fail;
-use test_values::{Asks, BEGUN, FRAME, counts, item, sums};
+use test_values::{Asks, BEGUN, FRAME, counts, item, sums, told};
 use test_worlds::{A, B, LoanStep, QUARTER, Wish, asked, package};
 use world::reading::PackageSight;
 use world::world::World;
@@ -111,5 +111,43 @@ fn a_loan_goes_and_comes_home(rt: HostRuntime) -> Result<(), Fail> {
     };
     assert!(rt; kept.seq == 6 && !world.has_failed());
     assert_eq!(rt; world.into_stores().len(), 1);
+    Ok(())
+}
+
+// The reply to a request, the number of the receipt or the reason with a minus.
+fn number_told<S: Alter + Drop, H: Shelf<S>>(
+    world: &mut World<S>,
+    shelf: &mut H,
+    alloc: Global,
+    number: u32,
+    wish: Wish,
+) -> Result<i64, Fault> {
+    let reply = replied(world, shelf, alloc, LoanStep::now(number, wish))?;
+    Ok(told(&reply))
+}
+
+// A request that came before and an identity that was used are known in whatever package, before a merge and after it.
+#[test]
+fn what_came_before_is_known_in_every_package(rt: HostRuntime) -> Result<(), Fail> {
+    let alloc = rt.alloc();
+    let mut shelf = MemoryFileShelf::new(alloc);
+    let mut world: World<FileStore<MemoryFile>> = archive_of(alloc, &mut shelf)?;
+    let first = Wish::Of(A, Asks::Tile(1, [2, 1, 1]));
+    let medium = Wish::Of(B, Asks::Medium(8));
+    for (number, wish, wanted) in [
+        (6, Wish::Split(A, B, Mode::Follow, QUARTER), 6),
+        (1, first, 1),
+        (7, medium, 7),
+        (8, Wish::Of(A, Asks::Medium(8)), -6),
+        (9, Wish::Of(B, Asks::Medium(3)), -6),
+        (7, medium, 7),
+        (10, Wish::Merge(B, A, 7), 8),
+        (7, medium, 7),
+        (11, Wish::Of(A, Asks::Medium(8)), -6),
+        (12, Wish::Split(A, B, Mode::Follow, QUARTER), -3),
+        (1, first, 1),
+    ] {
+        assert_eq!(rt; number_told(&mut world, &mut shelf, alloc, number, wish)?, wanted);
+    }
     Ok(())
 }

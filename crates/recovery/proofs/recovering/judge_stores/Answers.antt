@@ -10,8 +10,8 @@ use Rattle.recovery.proofs.recovering.judge_stores.Goals as goal
 
 pub returns-in-Ok-clause-judged : goal.returns-in-Ok-clause-judged
 returns-in-Ok-clause-judged g c =
-    ok_so (λ j. IsJudgedOf c.in-Ok.seen.items j.frame j.verdict) (λ j. AreClean g.S.Store c.survey_all.new.stores.items → AreJudged g.S.Store c.survey_all.new.stores.items j.frame j.verdict) c.judge_seen.result
-    (λ j is clean. judged g.S.Store c.survey_all.new.stores.items c.in-Ok.seen.items j.frame j.verdict (c.in-Ok.ensures.seen c.requires.keyed clean) is) c.judge_seen.ensures.is
+    ok_so (λ j. IsJudgedOf c.in-Ok.seen.items j.frame j.verdict j.known) (λ j. AreClean g.S.Store c.survey_all.new.stores.items → AreJudged g.S.Store c.survey_all.new.stores.items j.frame j.verdict j.known) c.judge_seen.result
+    (λ j is clean. judged g.S.Store c.survey_all.new.stores.items c.in-Ok.seen.items j.frame j.verdict j.known (c.in-Ok.ensures.seen c.requires.keyed clean) is) c.judge_seen.ensures.is
 
 pub returns-in-Ok-clause-fault : goal.returns-in-Ok-clause-fault
 returns-in-Ok-clause-fault g c =

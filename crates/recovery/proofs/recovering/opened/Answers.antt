@@ -19,7 +19,7 @@ gathered-world-requires-clause-stands g c =
     let are : members ≡ arranged member_key (members_of c.args.stores.items c.args.judged.verdict.kept.items) = c.share_out-members.ensures.members ∙ ap (λ k. arranged member_key (members_of c.args.stores.items k)) c.deref.ensures.value in
     record {
       others = c.args.stores.items;
-      stands = λ clean others. let it = c.requires.judged others in (it.is.world, stands_so g.S.Store c.args.stores.items c.args.judged.frame c.args.judged.verdict it members are);
+      stands = λ clean others. let it = c.requires.judged others in (it.is.world, stands_so g.S.Store c.args.stores.items c.args.judged.frame c.args.judged.verdict c.args.judged.known it members are);
     }
 
 pub returns : goal.returns
@@ -33,5 +33,5 @@ returns g c =
       only_read = all_still g.S.Store g.met.S.Store.shut_if_dirty g.met.S.Store.settled c.args.stores.items c.requires.rests;
       kept = nothing_lost g.S.Store c.args.stores.items kept members c.share_out-members.result.strays.items c.requires.long are strays;
       stray_rests = strays_rest g.S.Store c.args.stores.items kept c.share_out-members.result.strays.items strays c.requires.rests;
-      opened = λ clean. let it = c.requires.judged clean in record { views = it.views; right = it.right; world = it.is.world; stand = it.is.stands; is = stands_so g.S.Store c.args.stores.items c.args.judged.frame c.args.judged.verdict it members are };
+      opened = λ clean. let it = c.requires.judged clean in record { views = it.views; right = it.right; world = it.is.world; stand = it.is.stands; is = stands_so g.S.Store c.args.stores.items c.args.judged.frame c.args.judged.verdict c.args.judged.known it members are };
     })

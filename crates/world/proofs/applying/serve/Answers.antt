@@ -3,7 +3,7 @@ use Rattle.std.proofs.Common.{◌∙◌, sym, ap, subst, arith, Result, Ok}
 use Rattle.sheet_types.specs.declared.receipt.Receipt.{Receipt}
 use Rattle.sheet_types.specs.declared.refusal.Refusal.{Refusal}
 use Rattle.world.specs.Carries.{ServesAll}
-use Rattle.world.specs.Deciding.{HasPlace}
+use Rattle.world.specs.Deciding.{HasPlace, IsNoted}
 use Rattle.lending.specs.declared.turn_fault.TurnFault.TheVariants.{Before}
 use Rattle.world.specs.declared.loans.ServeFault.TheVariants.{Turn}
 use Rattle.world.proofs.ServedAll.{all_undecided, all_answered, change_served, change_failed, split_served, split_failed, merge_served, merge_failed, counts_turn, counts_handed}
@@ -13,29 +13,29 @@ use Rattle.world.proofs.applying.serve.Goals as goal
 
 pub returns-in_err-reply-clause-serves : goal.returns-in_err-reply-clause-serves
 returns-in_err-reply-clause-serves g c =
-    subst (ServesAll g.S.Store c.args.frame.now c.args.request.now c.args.members.now.items c.decide.new.members.items c.args.strays.now.items c.args.count.now c.args.count.now) (sym (turned_into _ _ c.from_residual.ensures.1))
-    (all_undecided g.S.Store g.met.S.Store.shut_if_dirty g.met.S.Store.settled c.args.frame.now c.args.request.now c.args.members.now.items c.decide.new.members.items c.requires.rests c.args.count.now c.requires.counted c.decide.ensures.asks c.args.strays.now.items (Turn (Before c.in_err-reply.field-0.0)) c.requires.none tt)
+    subst (ServesAll g.S.Store c.args.frame.now c.args.request.now c.args.members.now.items c.decide_and_note.new.members.items c.args.strays.now.items c.args.known.now c.decide_and_note.new.known c.args.count.now c.args.count.now) (sym (turned_into _ _ c.from_residual.ensures.1))
+    (all_undecided g.S.Store g.met.S.Store.shut_if_dirty g.met.S.Store.settled c.args.frame.now c.args.request.now c.args.members.now.items c.decide_and_note.new.members.items c.args.known.now c.decide_and_note.new.known c.decide_and_note.ensures.grows c.requires.rests c.args.count.now c.requires.counted c.decide_and_note.ensures.asks c.args.strays.now.items (Turn (Before c.in_err-reply.field-0.0)) c.requires.none tt)
 
 pub returns-in-Answered-clause-serves : goal.returns-in-Answered-clause-serves
 returns-in-Answered-clause-serves g c =
-    all_answered g.S.Store g.met.S.Store.shut_if_dirty g.met.S.Store.settled c.args.frame.now c.args.request.now c.args.members.now.items c.decide.new.members.items c.requires.rests c.args.count.now c.requires.counted c.decide.ensures.asks c.args.strays.now.items c.in-Answered.reply c.requires.none (c.in_ok-reply.was ∙ ap Ok c.in-Answered.is)
+    all_answered g.S.Store g.met.S.Store.shut_if_dirty g.met.S.Store.settled c.args.frame.now c.args.request.now c.args.members.now.items c.decide_and_note.new.members.items c.args.known.now c.decide_and_note.new.known c.decide_and_note.ensures.grows c.requires.rests c.args.count.now c.requires.counted c.decide_and_note.ensures.asks c.args.strays.now.items c.in-Answered.reply c.requires.none (c.in_ok-reply.was ∙ ap Ok c.in-Answered.is)
 
 pub returns-in_err-receipt-in-ChangeDue-clause-serves : goal.returns-in_err-receipt-in-ChangeDue-clause-serves
 returns-in_err-receipt-in-ChangeDue-clause-serves g c =
-    subst (ServesAll g.S.Store c.args.frame.now c.args.request.now c.args.members.now.items c.carry_out_change.new.members.items c.args.strays.now.items c.args.count.now c.carry_out_change.new.count) (sym (turned_into _ _ c.from_residual-in_err-receipt-in-ChangeDue.ensures.1))
-    (change_failed g.S.Store g.met.S.Store.shut_if_dirty g.met.S.Store.settled c.args.frame.now c.args.request.now c.args.members.now.items c.decide.new.members.items c.requires.rests c.args.count.now c.requires.counted c.decide.ensures.asks c.carry_out_change.new.members.items c.args.strays.now.items c.carry_out_change.new.count c.in-ChangeDue.change c.in_err-receipt-in-ChangeDue.field-0.0 c.requires.none (c.in_ok-reply.was ∙ ap Ok c.in-ChangeDue.is) c.in_err-receipt-in-ChangeDue.ensures.changes)
+    subst (ServesAll g.S.Store c.args.frame.now c.args.request.now c.args.members.now.items c.carry_out_change.new.members.items c.args.strays.now.items c.args.known.now c.decide_and_note.new.known c.args.count.now c.carry_out_change.new.count) (sym (turned_into _ _ c.from_residual-in_err-receipt-in-ChangeDue.ensures.1))
+    (change_failed g.S.Store g.met.S.Store.shut_if_dirty g.met.S.Store.settled c.args.frame.now c.args.request.now c.args.members.now.items c.decide_and_note.new.members.items c.args.known.now c.decide_and_note.new.known c.decide_and_note.ensures.grows c.requires.rests c.args.count.now c.requires.counted c.decide_and_note.ensures.asks c.carry_out_change.new.members.items c.args.strays.now.items c.carry_out_change.new.count c.in-ChangeDue.change c.in_err-receipt-in-ChangeDue.field-0.0 c.requires.none (c.in_ok-reply.was ∙ ap Ok c.in-ChangeDue.is) c.in_err-receipt-in-ChangeDue.ensures.changes)
 
 pub returns-in_ok-receipt-in-ChangeDue-clause-serves : goal.returns-in_ok-receipt-in-ChangeDue-clause-serves
 returns-in_ok-receipt-in-ChangeDue-clause-serves g c =
-    change_served g.S.Store g.met.S.Store.shut_if_dirty g.met.S.Store.settled c.args.frame.now c.args.request.now c.args.members.now.items c.decide.new.members.items c.requires.rests c.args.count.now c.requires.counted c.decide.ensures.asks c.carry_out_change.new.members.items c.args.strays.now.items c.carry_out_change.new.count c.in-ChangeDue.change c.in_ok-receipt-in-ChangeDue.receipt c.requires.none (c.in_ok-reply.was ∙ ap Ok c.in-ChangeDue.is) (subst (HasPlace c.decide.new.members.items c.args.count.now) c.in-ChangeDue.is c.in_ok-reply.ensures.place).2 c.in_ok-receipt-in-ChangeDue.ensures.changes
+    change_served g.S.Store g.met.S.Store.shut_if_dirty g.met.S.Store.settled c.args.frame.now c.args.request.now c.args.members.now.items c.decide_and_note.new.members.items c.args.known.now c.decide_and_note.new.known c.decide_and_note.ensures.grows c.requires.rests c.args.count.now c.requires.counted c.decide_and_note.ensures.asks c.carry_out_change.new.members.items c.args.strays.now.items c.carry_out_change.new.count c.in-ChangeDue.change c.in_ok-receipt-in-ChangeDue.receipt (subst (IsNoted c.decide_and_note.new.known) c.in-ChangeDue.is c.in_ok-reply.ensures.noted) c.requires.none (c.in_ok-reply.was ∙ ap Ok c.in-ChangeDue.is) (subst (HasPlace c.decide_and_note.new.members.items c.args.count.now) c.in-ChangeDue.is c.in_ok-reply.ensures.place).2 c.in_ok-receipt-in-ChangeDue.ensures.changes
 
 pub returns-in_err-receipt-in-ChangeDue-clause-room : goal.returns-in_err-receipt-in-ChangeDue-clause-room
 returns-in_err-receipt-in-ChangeDue-clause-room g c =
-    omega (arith, c.requires.room, stay_length g.S.Store _ _ c.decide.ensures.asks.stay, c.carry_out_change.ensures.long)
+    omega (arith, c.requires.room, stay_length g.S.Store _ _ c.decide_and_note.ensures.asks.stay, c.carry_out_change.ensures.long)
 
 pub returns-in_ok-receipt-in-ChangeDue-clause-room : goal.returns-in_ok-receipt-in-ChangeDue-clause-room
 returns-in_ok-receipt-in-ChangeDue-clause-room g c =
-    omega (arith, c.requires.room, stay_length g.S.Store _ _ c.decide.ensures.asks.stay, c.carry_out_change.ensures.long)
+    omega (arith, c.requires.room, stay_length g.S.Store _ _ c.decide_and_note.ensures.asks.stay, c.carry_out_change.ensures.long)
 
 pub returns-in_err-receipt-in-ChangeDue-clause-shelf : goal.returns-in_err-receipt-in-ChangeDue-clause-shelf
 returns-in_err-receipt-in-ChangeDue-clause-shelf g c =
@@ -43,20 +43,20 @@ returns-in_err-receipt-in-ChangeDue-clause-shelf g c =
 
 pub returns-in_err-receipt-in-SplitDue-clause-serves : goal.returns-in_err-receipt-in-SplitDue-clause-serves
 returns-in_err-receipt-in-SplitDue-clause-serves g c =
-    subst (ServesAll g.S.Store c.args.frame.now c.args.request.now c.args.members.now.items c.carry_out_split.new.members.items c.carry_out_split.new.strays.items c.args.count.now c.carry_out_split.new.count) (sym (turned_into _ _ c.from_residual-in_err-receipt-in-SplitDue.ensures.1))
-    (split_failed g.S.Store g.met.S.Store.shut_if_dirty g.met.S.Store.settled c.args.frame.now c.args.request.now c.args.members.now.items c.decide.new.members.items c.requires.rests c.args.count.now c.requires.counted c.decide.ensures.asks c.carry_out_split.new.members.items c.carry_out_split.new.strays.items c.carry_out_split.new.count c.in-SplitDue.due c.in_err-receipt-in-SplitDue.field-0.0 (c.in_ok-reply.was ∙ ap Ok c.in-SplitDue.is) c.in_err-receipt-in-SplitDue.ensures.carries)
+    subst (ServesAll g.S.Store c.args.frame.now c.args.request.now c.args.members.now.items c.carry_out_split.new.members.items c.carry_out_split.new.strays.items c.args.known.now c.decide_and_note.new.known c.args.count.now c.carry_out_split.new.count) (sym (turned_into _ _ c.from_residual-in_err-receipt-in-SplitDue.ensures.1))
+    (split_failed g.S.Store g.met.S.Store.shut_if_dirty g.met.S.Store.settled c.args.frame.now c.args.request.now c.args.members.now.items c.decide_and_note.new.members.items c.args.known.now c.decide_and_note.new.known c.decide_and_note.ensures.grows c.requires.rests c.args.count.now c.requires.counted c.decide_and_note.ensures.asks c.carry_out_split.new.members.items c.carry_out_split.new.strays.items c.carry_out_split.new.count c.in-SplitDue.due c.in_err-receipt-in-SplitDue.field-0.0 (c.in_ok-reply.was ∙ ap Ok c.in-SplitDue.is) c.in_err-receipt-in-SplitDue.ensures.carries)
 
 pub returns-in_ok-receipt-in-SplitDue-clause-serves : goal.returns-in_ok-receipt-in-SplitDue-clause-serves
 returns-in_ok-receipt-in-SplitDue-clause-serves g c =
-    split_served g.S.Store g.met.S.Store.shut_if_dirty g.met.S.Store.settled c.args.frame.now c.args.request.now c.args.members.now.items c.decide.new.members.items c.requires.rests c.args.count.now c.requires.counted c.decide.ensures.asks c.carry_out_split.new.members.items c.carry_out_split.new.strays.items c.carry_out_split.new.count c.in-SplitDue.due c.in_ok-receipt-in-SplitDue.receipt (c.in_ok-reply.was ∙ ap Ok c.in-SplitDue.is) (subst (HasPlace c.decide.new.members.items c.args.count.now) c.in-SplitDue.is c.in_ok-reply.ensures.place).counted c.in_ok-receipt-in-SplitDue.ensures.carries
+    split_served g.S.Store g.met.S.Store.shut_if_dirty g.met.S.Store.settled c.args.frame.now c.args.request.now c.args.members.now.items c.decide_and_note.new.members.items c.args.known.now c.decide_and_note.new.known c.decide_and_note.ensures.grows c.requires.rests c.args.count.now c.requires.counted c.decide_and_note.ensures.asks c.carry_out_split.new.members.items c.carry_out_split.new.strays.items c.carry_out_split.new.count c.in-SplitDue.due c.in_ok-receipt-in-SplitDue.receipt (subst (IsNoted c.decide_and_note.new.known) c.in-SplitDue.is c.in_ok-reply.ensures.noted) (c.in_ok-reply.was ∙ ap Ok c.in-SplitDue.is) (subst (HasPlace c.decide_and_note.new.members.items c.args.count.now) c.in-SplitDue.is c.in_ok-reply.ensures.place).counted c.in_ok-receipt-in-SplitDue.ensures.carries
 
 pub carry_out_split-requires-clause-room : goal.carry_out_split-requires-clause-room
 carry_out_split-requires-clause-room g c =
-    omega (arith, c.requires.room, stay_length g.S.Store _ _ c.decide.ensures.asks.stay)
+    omega (arith, c.requires.room, stay_length g.S.Store _ _ c.decide_and_note.ensures.asks.stay)
 
 pub carry_out_split-requires-clause-place : goal.carry_out_split-requires-clause-place
 carry_out_split-requires-clause-place g c =
-    subst (HasPlace c.decide.new.members.items c.args.count.now) c.in-SplitDue.is c.in_ok-reply.ensures.place
+    subst (HasPlace c.decide_and_note.new.members.items c.args.count.now) c.in-SplitDue.is c.in_ok-reply.ensures.place
 
 pub returns-in_err-receipt-in-SplitDue-clause-shelf : goal.returns-in_err-receipt-in-SplitDue-clause-shelf
 returns-in_err-receipt-in-SplitDue-clause-shelf g c =
@@ -64,32 +64,32 @@ returns-in_err-receipt-in-SplitDue-clause-shelf g c =
 
 pub returns-in_err-receipt-in-MergeDue-clause-serves : goal.returns-in_err-receipt-in-MergeDue-clause-serves
 returns-in_err-receipt-in-MergeDue-clause-serves g c =
-    subst (ServesAll g.S.Store c.args.frame.now c.args.request.now c.args.members.now.items c.carry_out_merge.new.members.items c.args.strays.now.items c.args.count.now c.carry_out_merge.new.count) (sym (turned_into _ _ c.from_residual-in_err-receipt-in-MergeDue.ensures.1))
-    (merge_failed g.S.Store g.met.S.Store.shut_if_dirty g.met.S.Store.settled c.args.frame.now c.args.request.now c.args.members.now.items c.decide.new.members.items c.requires.rests c.args.count.now c.requires.counted c.decide.ensures.asks c.carry_out_merge.new.members.items c.args.strays.now.items c.carry_out_merge.new.count c.in-MergeDue.due c.in_err-receipt-in-MergeDue.field-0.0 c.requires.none (c.in_ok-reply.was ∙ ap Ok c.in-MergeDue.is) c.in_err-receipt-in-MergeDue.ensures.carries)
+    subst (ServesAll g.S.Store c.args.frame.now c.args.request.now c.args.members.now.items c.carry_out_merge.new.members.items c.args.strays.now.items c.args.known.now c.decide_and_note.new.known c.args.count.now c.carry_out_merge.new.count) (sym (turned_into _ _ c.from_residual-in_err-receipt-in-MergeDue.ensures.1))
+    (merge_failed g.S.Store g.met.S.Store.shut_if_dirty g.met.S.Store.settled c.args.frame.now c.args.request.now c.args.members.now.items c.decide_and_note.new.members.items c.args.known.now c.decide_and_note.new.known c.decide_and_note.ensures.grows c.requires.rests c.args.count.now c.requires.counted c.decide_and_note.ensures.asks c.carry_out_merge.new.members.items c.args.strays.now.items c.carry_out_merge.new.count c.in-MergeDue.due c.in_err-receipt-in-MergeDue.field-0.0 c.requires.none (c.in_ok-reply.was ∙ ap Ok c.in-MergeDue.is) c.in_err-receipt-in-MergeDue.ensures.carries)
 
 pub returns-in_ok-receipt-in-MergeDue-clause-serves : goal.returns-in_ok-receipt-in-MergeDue-clause-serves
 returns-in_ok-receipt-in-MergeDue-clause-serves g c =
-    merge_served g.S.Store g.met.S.Store.shut_if_dirty g.met.S.Store.settled c.args.frame.now c.args.request.now c.args.members.now.items c.decide.new.members.items c.requires.rests c.args.count.now c.requires.counted c.decide.ensures.asks c.carry_out_merge.new.members.items c.args.strays.now.items c.carry_out_merge.new.count c.in-MergeDue.due c.in_ok-receipt-in-MergeDue.receipt c.requires.none (c.in_ok-reply.was ∙ ap Ok c.in-MergeDue.is) (subst (HasPlace c.decide.new.members.items c.args.count.now) c.in-MergeDue.is c.in_ok-reply.ensures.place).counted c.in_ok-receipt-in-MergeDue.ensures.carries
+    merge_served g.S.Store g.met.S.Store.shut_if_dirty g.met.S.Store.settled c.args.frame.now c.args.request.now c.args.members.now.items c.decide_and_note.new.members.items c.args.known.now c.decide_and_note.new.known c.decide_and_note.ensures.grows c.requires.rests c.args.count.now c.requires.counted c.decide_and_note.ensures.asks c.carry_out_merge.new.members.items c.args.strays.now.items c.carry_out_merge.new.count c.in-MergeDue.due c.in_ok-receipt-in-MergeDue.receipt (subst (IsNoted c.decide_and_note.new.known) c.in-MergeDue.is c.in_ok-reply.ensures.noted) c.requires.none (c.in_ok-reply.was ∙ ap Ok c.in-MergeDue.is) (subst (HasPlace c.decide_and_note.new.members.items c.args.count.now) c.in-MergeDue.is c.in_ok-reply.ensures.place).counted c.in_ok-receipt-in-MergeDue.ensures.carries
 
 pub returns-in_err-receipt-in-MergeDue-clause-room : goal.returns-in_err-receipt-in-MergeDue-clause-room
 returns-in_err-receipt-in-MergeDue-clause-room g c =
-    omega (arith, c.requires.room, stay_length g.S.Store _ _ c.decide.ensures.asks.stay, c.carry_out_merge.ensures.shorter)
+    omega (arith, c.requires.room, stay_length g.S.Store _ _ c.decide_and_note.ensures.asks.stay, c.carry_out_merge.ensures.shorter)
 
 pub returns-in_ok-receipt-in-MergeDue-clause-room : goal.returns-in_ok-receipt-in-MergeDue-clause-room
 returns-in_ok-receipt-in-MergeDue-clause-room g c =
-    omega (arith, c.requires.room, stay_length g.S.Store _ _ c.decide.ensures.asks.stay, c.carry_out_merge.ensures.shorter)
+    omega (arith, c.requires.room, stay_length g.S.Store _ _ c.decide_and_note.ensures.asks.stay, c.carry_out_merge.ensures.shorter)
 
 pub carry_out_merge-requires-clause-place : goal.carry_out_merge-requires-clause-place
 carry_out_merge-requires-clause-place g c =
-    subst (HasPlace c.decide.new.members.items c.args.count.now) c.in-MergeDue.is c.in_ok-reply.ensures.place
+    subst (HasPlace c.decide_and_note.new.members.items c.args.count.now) c.in-MergeDue.is c.in_ok-reply.ensures.place
 
 pub returns-in_err-reply-clause-room : goal.returns-in_err-reply-clause-room
 returns-in_err-reply-clause-room g c =
-    omega (arith, c.requires.room, stay_length g.S.Store _ _ c.decide.ensures.asks.stay)
+    omega (arith, c.requires.room, stay_length g.S.Store _ _ c.decide_and_note.ensures.asks.stay)
 
 pub returns-in-Answered-clause-room : goal.returns-in-Answered-clause-room
 returns-in-Answered-clause-room g c =
-    omega (arith, c.requires.room, stay_length g.S.Store _ _ c.decide.ensures.asks.stay)
+    omega (arith, c.requires.room, stay_length g.S.Store _ _ c.decide_and_note.ensures.asks.stay)
 
 pub returns-in_err-reply-clause-shelf : goal.returns-in_err-reply-clause-shelf
 returns-in_err-reply-clause-shelf g c =

@@ -2,14 +2,14 @@
 use Rattle.std.proofs.Common.{sym}
 use Rattle.world.proofs.Keeping.{room_stays}
 use Rattle.world.proofs.Standing.{stay_length}
-use Rattle.world.proofs.WorldsRead.{world_is_held, world_is_read, world_tells}
+use Rattle.world.proofs.WorldsRead.{asks_known, world_is_held, world_is_read, world_tells}
 use Rattle.world.proofs.world.World.holdings.Goals as goal
 
 pub invariant_of-self : goal.invariant_of-self
-invariant_of-self g c = (world_is_held g.S.Store _ _ _ _ _ _ c.holdings_in.result c.holdings_in.ensures c.self.invariant.0, room_stays _ _ c.self.inside.strays (sym (stay_length g.S.Store _ _ c.holdings_in.ensures.stay)) c.self.invariant.1)
+invariant_of-self g c = (world_is_held g.S.Store _ _ _ _ _ _ _ c.holdings_in.result (asks_known g.S.Store c.holdings_in.ensures) c.self.invariant.0, room_stays _ _ c.self.inside.strays (sym (stay_length g.S.Store _ _ c.holdings_in.ensures.stay)) c.self.invariant.1)
 
 pub returns-clause-told : goal.returns-clause-told
-returns-clause-told g c = world_tells g.S.Store _ _ _ c.self.inside.count c.self.inside.has_failed c.self.inside.strays.items c.holdings_in.result c.holdings_in.ensures c.args.self.now c.self.view_is
+returns-clause-told g c = world_tells g.S.Store _ _ _ c.self.inside.count c.self.inside.has_failed c.self.inside.strays.items c.self.inside.known c.holdings_in.result (asks_known g.S.Store c.holdings_in.ensures) c.args.self.now c.self.view_is
 
 pub returns-clause-read : goal.returns-clause-read
-returns-clause-read g c = world_is_read g.S.Store _ _ _ c.self.inside.count c.self.inside.has_failed c.self.inside.strays.items c.holdings_in.result c.holdings_in.ensures c.args.self.now c.self.view_is
+returns-clause-read g c = world_is_read g.S.Store _ _ _ c.self.inside.count c.self.inside.has_failed c.self.inside.strays.items c.self.inside.known c.holdings_in.result (asks_known g.S.Store c.holdings_in.ensures) c.args.self.now c.self.view_is
