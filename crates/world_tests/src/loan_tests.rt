@@ -147,7 +147,10 @@ fn what_came_before_is_known_in_every_package(rt: HostRuntime) -> Result<(), Fai
         (12, Wish::Split(A, B, Mode::Follow, QUARTER), -3),
         (1, first, 1),
     ] {
-        assert_eq!(rt; number_told(&mut world, &mut shelf, alloc, number, wish)?, wanted);
+        assert_eq!(rt;
+            number_told(&mut world, &mut shelf, alloc, number, wish)?,
+            wanted
+        );
     }
     Ok(())
 }
