@@ -1,4 +1,4 @@
-//! Tests of splits and merges at the level of stores. There is nothing here but tests.
+//! Tests of what moves from one package to another, and of splits and merges at the level of stores. There is nothing here but tests.
 #![tactic(auto)]
 
 #[cfg(test)]
@@ -6,8 +6,14 @@ mod allocation_tests;
 #[cfg(test)]
 mod both_ways;
 #[cfg(test)]
+mod page_tests;
+#[cfg(test)]
+mod parcel_tests;
+#[cfg(test)]
 mod stop_tests;
 #[cfg(test)]
 mod stops;
 #[cfg(test)]
 mod stores;
+#[cfg(test)]
+mod transfers;

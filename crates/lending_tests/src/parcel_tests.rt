@@ -1,6 +1,6 @@
 // Two tiles and two media, linked crosswise, which move between packages whose local numbers are others.
 
-use crate::moves::{
+use crate::transfers::{
     Items, LastNumber, Links, Put, Tables, Taken, Tiles, byte_of, carried, count_same, held, lifted,
 };
 use identity_register::selection::Selection;

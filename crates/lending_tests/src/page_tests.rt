@@ -1,6 +1,6 @@
 // Pages of a selection of more tiles than one page has. Tile k has the one byte k modulo 251.
 
-use crate::moves::{Tables, Taken, Tiles, byte_of, carried, held, page};
+use crate::transfers::{Tables, Taken, Tiles, byte_of, carried, held, page};
 use identity_register::selection::Selection;
 use package_tables::fault::Fault;
 use sqlite::{Alter, Connection};
