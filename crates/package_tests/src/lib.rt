@@ -3,17 +3,27 @@
 #![tactic(auto)]
 
 #[cfg(test)]
+mod asks;
+#[cfg(test)]
 mod change_tests;
 #[cfg(test)]
 mod cut_tests;
 #[cfg(test)]
+mod cuts;
+#[cfg(test)]
 mod dating_tests;
 #[cfg(test)]
-mod fillings;
+mod entries;
+#[cfg(test)]
+mod fixed_asks;
 #[cfg(test)]
 mod form_tests;
 #[cfg(test)]
+mod forms;
+#[cfg(test)]
 mod holdings_tests;
+#[cfg(test)]
+mod items;
 #[cfg(test)]
 mod look_up_tests;
 #[cfg(test)]
@@ -41,8 +51,6 @@ mod steps;
 #[cfg(test)]
 mod stored_receipt_tests;
 #[cfg(test)]
-mod stored_values;
-#[cfg(test)]
 mod tables;
 #[cfg(test)]
 mod user_rows_tests;
@@ -50,5 +58,3 @@ mod user_rows_tests;
 mod values;
 #[cfg(test)]
 mod version_tests;
-#[cfg(test)]
-mod versions;
