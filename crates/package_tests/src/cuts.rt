@@ -1,6 +1,6 @@
 // Cuts of a package at rest, and what they tell.
 
-use crate::items::{identities_text, links_text};
+use crate::items::{identities_text, links_text, number_of};
 use cut::select::select;
 use matrix_rules::check::FrameRules;
 use matrix_rules::ground::is_good;
@@ -40,9 +40,7 @@ pub(crate) fn cut_told<S: Alter>(
             text.push_str(links_text(a, &selection.links)?.as_str())?;
             Ok(text)
         }
-        Err(Refusal::CutLink(item)) => {
-            Ok(format!(in a; "cuts a link of {}", item.as_u128() as u64)?)
-        }
+        Err(Refusal::CutLink(item)) => { Ok(format!(in a; "cuts a link of {}", number_of(item))?) }
         Err(why) => Ok(format!(in a; "{why}")?),
     }
 }

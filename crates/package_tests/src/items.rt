@@ -120,16 +120,25 @@ fn content_text(a: Global, content: &Content) -> Result<String, AllocError> {
     }
 }
 
-// The last digits of an identity, in decimal.
+// The number of an identity, 0 where it is none below 256. It goes by the bytes, since a cast of 128 bits costs a proof a minute.
+pub(crate) fn number_of(identity: Uuid) -> u8 {
+    let last = identity.as_bytes()[15];
+    if identity == id(u64::from(last)) {
+        last
+    } else {
+        0
+    }
+}
+
 pub(crate) fn identity_text(a: Global, identity: Uuid) -> Result<String, AllocError> {
-    format!(in a; "{}", identity.as_u128() as u64)
+    format!(in a; "{}", number_of(identity))
 }
 
 // Those of each.
 pub(crate) fn identities_text(a: Global, identities: &[Uuid]) -> Result<String, AllocError> {
     let mut text = String::new(a);
     for identity in identities {
-        text.push_str(format!(in a; "{};", identity.as_u128() as u64)?.as_str())?;
+        text.push_str(format!(in a; "{};", number_of(*identity))?.as_str())?;
     }
     Ok(text)
 }
@@ -146,7 +155,7 @@ pub(crate) fn links_text(a: Global, links: &[Relation]) -> Result<String, AllocE
     let mut text = String::new(a);
     for link in links {
         let mapping = mapping_text(link.mapping);
-        let (base, other) = (link.base.as_u128() as u64, link.other.as_u128() as u64);
+        let (base, other) = (number_of(link.base), number_of(link.other));
         text.push_str(format!(in a; "{mapping} {base} {other};")?.as_str())?;
     }
     Ok(text)
@@ -157,7 +166,7 @@ fn held<S: Alter>(a: Global, conn: &mut Connection<S>) -> Result<String, Fault> 
     let (items, links) = holdings(conn, a)?;
     let mut text = String::new(a);
     for item in &items {
-        let identity = item.identity.as_u128() as u64;
+        let identity = number_of(item.identity);
         let content = content_text(a, &item.content)?;
         text.push_str(format!(in a; "{identity} {};", content.as_str())?.as_str())?;
     }
