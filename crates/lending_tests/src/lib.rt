@@ -6,6 +6,8 @@ mod allocation_tests;
 #[cfg(test)]
 mod both_ways;
 #[cfg(test)]
+mod homecomings;
+#[cfg(test)]
 mod page_tests;
 #[cfg(test)]
 mod parcel_tests;
