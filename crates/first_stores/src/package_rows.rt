@@ -12,26 +12,12 @@ ghost use Rattle.store_forms.specs.Looking.{Sees};
 ghost use Rattle.first_stores.specs.Copies.{AreRowsOf};
 
 use crate::from_row::all_of;
+use package_copies::package_rows::PackageRows;
 use package_tables::fault::Fault;
-use package_tables::rows::{
-    AttributeRow, IdentityRow, MappingRow, MediaRow, MovedRow, ReceiptRow, TileRow,
-};
+use package_tables::rows::{AttributeRow, IdentityRow, MappingRow, MediaRow, TileRow};
 use sqlite::{Alter, Connection};
 use std::alloc::Global;
 use store_forms::rows_alone::{moved_rows, receipt_rows};
-
-/// All rows of the tables that differ from package to package, but the head.
-#[derive(Drop)]
-pub(crate) struct PackageRows {
-    pub tiles: Vec<TileRow>,
-    pub media: Vec<MediaRow>,
-    pub rows: Vec<AttributeRow>,
-    pub tiles_media: Vec<MappingRow>,
-    pub rows_media: Vec<MappingRow>,
-    pub identities: Vec<IdentityRow>,
-    pub receipts: Vec<ReceiptRow>,
-    pub moved: Vec<MovedRow>,
-}
 
 fn tile_rows<S: Alter>(conn: &mut Connection<S>, alloc: Global) -> Result<Vec<TileRow>, Fault>
     requires { Rests (state S.Store conn.old) }

@@ -1,0 +1,3 @@
+mod Arriving
+mod Filling
+mod Reopening
