@@ -1,17 +1,21 @@
 -- What the looks at a store of the first version come to: some right view of it is seen so.
-use Rattle.std.proofs.Common.{◌≡◌, ◌∙◌, map, Bool, true, false, Some, None, sym, ap, subst}
-use Rattle.std.specs.Prelude.{option_map, pos}
+use Rattle.std.proofs.Common.{◌≡◌, ◌∙◌, map, Bool, true, false, Some, None, Result, Ok, Err, sym, ap, subst}
+use Rattle.std.specs.Prelude.{option_map, pos, IfOk}
 use Rattle.std.proofs.lemmas.Bool.{false≢true}
 use Rattle.sqlite.specs.Effect.{Database}
+use Rattle.sqlite.specs.State.{State, HasCleanDisk}
 use Rattle.sheet_types.specs.World.{no_package}
 use Rattle.sheet_types.specs.declared.frame.Frame.{Frame}
 use Rattle.ledger_laws.specs.Laws.{StoreSight}
 use Rattle.opening.specs.Sights.{head_said, claim_said}
 use Rattle.opening.specs.declared.sights.StoreHead.{StoreHead}
 use Rattle.package_tables.specs.Package.{tables_of}
-use Rattle.package_copies.specs.Copies.{AreInOrder}
+use Rattle.package_tables.specs.declared.fault.Fault.{Fault}
+use Rattle.package_copies.specs.Copies.{AreInOrder, IsCopy}
 use Rattle.package_copies.specs.declared.package_rows.PackageRows.{PackageRows}
 use Rattle.store_forms.specs.Heads.{ReadsHeadAt}
+use Rattle.store_forms.specs.Looking.{LooksAt}
+use Rattle.surveys.specs.Looks.{IsSeenRight}
 use Rattle.surveys.specs.Surveying.{IsSeenWithout}
 use Rattle.surveys.specs.declared.said.Said.{Said}
 use Rattle.verdicts.specs.Views.{IsSeenAs}
@@ -55,3 +59,8 @@ copied db s h f x seen some said read all order it =
     let headed = subst (λ h. ReadsHeadAt (pos 1) db (option_map head_said h)) some said.head in
     let right = it.2 in
     (right.0, view_seen db it.0 f h headed read it.1.formed (it.1.says ∙ whole_copy f (copy_row h) db x all order) right.0 right.1, right.2)
+
+-- what is seen of the copy itself
+pub seen_of_copy : (f : Frame) (h : StoreHead) (x : PackageRows) (old new : State) (r : Result StoreSeen Fault) → LooksAt IsSeenRight old new r → HasCleanDisk new → IsCopy f (copy_row h) x old.now → IfOk r (IsSeenOfCopy f h x)
+seen_of_copy f h x old new (Ok seen) looks clean copy = let d = looks.done clean in (old.now, copy.holds, d.1.1 copy.keyed)
+seen_of_copy f h x old new (Err e) looks clean copy = tt

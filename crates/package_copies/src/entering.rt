@@ -210,13 +210,22 @@ pub(crate) fn are_in_order<T: Entered>(rows: &[T]) -> bool
     true
 }
 
+/// Whether a mapping row stands before another.
+fn is_mapped_before(row: &MappingRow, next: &MappingRow) -> bool
+    ensures { result ≡ is_before (pair_key row.now.base_id row.now.related_id) (pair_key next.now.base_id next.now.related_id) }
+{
+    pair_is_before(
+        (row.base_id, row.related_id),
+        (next.base_id, next.related_id),
+    )
+}
+
 /// The same of mapping rows.
 pub(crate) fn are_pairs_in_order(rows: &[MappingRow]) -> bool
     ensures { IsTrue result → IsArranged (λ x. pair_key x.base_id x.related_id) rows.now }
 {
     for at in 1..rows.len() {
-        let (pair, next) = (rows[at - 1], rows[at]);
-        if !pair_is_before((pair.base_id, pair.related_id), (next.base_id, next.related_id)) {
+        if !is_mapped_before(&rows[at - 1], &rows[at]) {
             return false;
         }
     }
