@@ -103,5 +103,6 @@ pub fn copy(
     let blank = blank(alloc)?;
     let mut conn = create(alloc, blank, frame, info)?.into_connection();
     fill(&mut conn, rows)?;
-    reopened(alloc, conn)
+    let package = reopened(alloc, conn)?;
+    Ok(package)
 }
