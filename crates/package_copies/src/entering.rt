@@ -247,6 +247,18 @@ pub(crate) fn enter_all<T: Entered, S: Alter>(
     Ok(())
 }
 
+/// Enters a mapping row, of two numbers that are not yet related.
+fn enter_pair<S: Alter>(
+    tx: &mut Transaction<'_, S>,
+    mapping: Mapping,
+    row: &MappingRow,
+) -> Result<(), Fault>
+    ensures same_reference { tx.new.conn.ghost_name ≡ tx.old.conn.ghost_name }
+    ensures steps { Steps (λ _. OnTables (Adds (pairs mapping) row.now)) (state S.Store tx.old.conn.now) (state S.Store tx.new.conn.now) result }
+{
+    insert_pair(tx, mapping, row.base_id, row.related_id)
+}
+
 /// The same of mapping rows.
 pub(crate) fn enter_pairs<S: Alter>(
     tx: &mut Transaction<'_, S>,
@@ -258,7 +270,7 @@ pub(crate) fn enter_pairs<S: Alter>(
     ensures steps { Steps (λ _. OnTables (ListBecomes (pairs mapping) [] rows.now)) (state S.Store tx.old.conn.now) (state S.Store tx.new.conn.now) result }
 {
     for row in rows {
-        insert_pair(tx, mapping, row.base_id, row.related_id)?;
+        enter_pair(tx, mapping, row)?;
     }
     Ok(())
 }
