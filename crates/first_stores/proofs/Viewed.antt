@@ -1,6 +1,6 @@
 -- What is right to see of the copy is right to see of the store.
-use Rattle.std.proofs.Common.{◌≡◌, ◌∙◌, ℕ, pos, List, [], ◌∷◌, map, Bool, true, false, Option, Some, None, refl, sym, ap, subst}
-use Rattle.std.specs.Prelude.{◌↔◌, get_or, codes}
+use Rattle.std.proofs.Common.{◌≡◌, ◌∙◌, ℕ, pos, List, [], ◌∷◌, map, get_or, Bool, true, false, Option, Some, None, refl, sym, ap, subst}
+use Rattle.std.specs.Prelude.{◌↔◌}
 use Rattle.sqlite.specs.Effect.{Database}
 use Rattle.sheet_types.specs.Opening.{Head, Claim}
 use Rattle.sheet_types.specs.Reading.{optional_uuid_text}
@@ -18,7 +18,7 @@ use Rattle.package_tables.specs.Shapes.{head_shape}
 use Rattle.package_tables.specs.declared.rows.HeadRow.{HeadRow}
 use Rattle.identity_register.specs.Reads.{Says, Reads, head_row}
 use Rattle.first_version.specs.FirstVersion.{brought, first_tables_of, with_version, ReadsAtVersionOne}
-use Rattle.store_forms.specs.Frames.{AreDated}
+use Rattle.store_forms.specs.Frames.{AreDated, HasMoment}
 use Rattle.store_forms.specs.Heads.{IsLevel, IsHeadRow, IsHeadRowAt, IsHead, IsHeadAt, ReadsHead, ReadsHeadAt}
 use Rattle.stored_items.specs.Answers.{Decides}
 use Rattle.stored_items.specs.Ranges.{AreItemsInRange}
@@ -43,8 +43,8 @@ module _ (db copy : Database) (f : Frame) (h : StoreHead) (headed : IsHeadAt (po
   abbrev row : HeadRow
   row = headed.1.0
 
-  abbrev is : IsHeadRowAt (pos 1) row (head_said h)
-  is = headed.1.2
+  abbrev own : IsHeadRowAt (pos 1) row (head_said h)
+  own = headed.1.2
 
   -- ---- the head
 
@@ -53,30 +53,30 @@ module _ (db copy : Database) (f : Frame) (h : StoreHead) (headed : IsHeadAt (po
 
   own_level : IsLevel (copy_row h)
   own_level =
-      subst (λ z. ((optional_uuid_text h.parent ≡ []) ↔ (z ≡ pos 0)) × ((pos h.loan ≡ pos 0) ↔ (z ≡ pos 0))) is.depth
-      (subst (λ z. ((optional_uuid_text h.parent ≡ []) ↔ (row.depth ≡ pos 0)) × ((z ≡ pos 0) ↔ (row.depth ≡ pos 0))) is.loan
-      (subst (λ z. ((z ≡ []) ↔ (row.depth ≡ pos 0)) × ((row.loan ≡ pos 0) ↔ (row.depth ≡ pos 0))) is.parent is.level))
+      subst (λ z. ((optional_uuid_text h.parent ≡ []) ↔ (z ≡ pos 0)) × ((pos h.loan ≡ pos 0) ↔ (z ≡ pos 0))) own.depth
+      (subst (λ z. ((optional_uuid_text h.parent ≡ []) ↔ (row.depth ≡ pos 0)) × ((z ≡ pos 0) ↔ (row.depth ≡ pos 0))) own.loan
+      (subst (λ z. ((z ≡ []) ↔ (row.depth ≡ pos 0)) × ((row.loan ≡ pos 0) ↔ (row.depth ≡ pos 0))) own.parent own.level))
 
   own_row : IsHeadRow (copy_row h) (head_said h)
-  own_row = record { id = refl; version = refl; uuid = is.uuid; parent_uuid = is.parent_uuid; «package» = refl; parent = refl; depth = refl; low = is.low; loan = refl; loan_low = is.loan_low; created = refl; level = own_level }
+  own_row = record { id = refl; version = refl; uuid = own.uuid; parent_uuid = own.parent_uuid; «package» = refl; parent = refl; depth = refl; low = own.low; loan = refl; loan_low = own.loan_low; created = refl; level = own_level }
 
   own_head : IsHead copy (head_said h)
   own_head = (formed.heads, (copy_row h, heads_are, own_row))
 
   row_says : (k : Head) → IsHeadRow (copy_row h) k → IsHeadRowAt (pos 1) row k
   row_says k it = record {
-    id = is.id;
-    version = is.version;
+    id = own.id;
+    version = own.version;
     uuid = it.uuid;
     parent_uuid = it.parent_uuid;
-    «package» = is.package ∙ it.package;
-    parent = is.parent ∙ it.parent;
-    depth = is.depth ∙ it.depth;
+    «package» = own.package ∙ it.package;
+    parent = own.parent ∙ it.parent;
+    depth = own.depth ∙ it.depth;
     low = it.low;
-    loan = is.loan ∙ it.loan;
+    loan = own.loan ∙ it.loan;
     loan_low = it.loan_low;
-    created = is.created;
-    level = is.level;
+    created = own.created;
+    level = own.level;
   }
 
   head_seen : (o : Option Head) → ReadsHead copy o → ReadsHeadAt (pos 1) db o
@@ -90,15 +90,16 @@ module _ (db copy : Database) (f : Frame) (h : StoreHead) (headed : IsHeadAt (po
 
   fixed_seen : (g : Frame) → HasFixed g told → HasFixed g (record t { relations = mapping_relations })
   fixed_seen g it =
-      let own = read.frame.1.1 in
-      record { spatial_ref_sys = own.spatial_ref_sys ∙ it.spatial_ref_sys; contents = own.contents ∙ it.contents; tile_matrix_set = own.tile_matrix_set ∙ it.tile_matrix_set; tile_matrix = own.tile_matrix ∙ it.tile_matrix; relations = refl }
+      let mine = read.frame.1.1 in
+      record { spatial_ref_sys = mine.spatial_ref_sys ∙ it.spatial_ref_sys; contents = mine.contents ∙ it.contents; tile_matrix_set = mine.tile_matrix_set ∙ it.tile_matrix_set; tile_matrix = mine.tile_matrix ∙ it.tile_matrix; relations = refl }
 
   fixed_shown : (g : Frame) → HasFixed g (record t { relations = mapping_relations }) → HasFixed g told
   fixed_shown g it =
-      let own = read.frame.1.1 in
-      record { spatial_ref_sys = sym own.spatial_ref_sys ∙ it.spatial_ref_sys; contents = sym own.contents ∙ it.contents; tile_matrix_set = sym own.tile_matrix_set ∙ it.tile_matrix_set; tile_matrix = sym own.tile_matrix ∙ it.tile_matrix; relations = refl }
+      let mine = read.frame.1.1 in
+      record { spatial_ref_sys = sym mine.spatial_ref_sys ∙ it.spatial_ref_sys; contents = sym mine.contents ∙ it.contents; tile_matrix_set = sym mine.tile_matrix_set ∙ it.tile_matrix_set; tile_matrix = sym mine.tile_matrix ∙ it.tile_matrix; relations = refl }
 
   told_dated : AreDated told
+  unfolding HasMoment
   told_dated = (refl, (refl, (refl, tt)))
 
   -- ---- the form
@@ -133,7 +134,7 @@ module _ (db copy : Database) (f : Frame) (h : StoreHead) (headed : IsHeadAt (po
 
   form_seen : (b : Bool) → Decides (IsFormed copy) b → Decides (IsFirstFormed db) b
   form_seen true it = (it.0, whole_seen it.0 it.1)
-  form_seen false it = λ is. it (is.0, whole_shown is.0 is.1)
+  form_seen false it = λ first. it (first.0, whole_shown first.0 first.1)
 
   -- ---- the ties
 
@@ -151,12 +152,12 @@ module _ (db copy : Database) (f : Frame) (h : StoreHead) (headed : IsHeadAt (po
 
   head_brought : (p : Package) (created : List ℕ) → copy_row h ≡ head_row p created → with_version (pos 2) row ≡ head_row p row.created
   head_brought p created e = λ n. record {
-    id = is.id n;
+    id = own.id n;
     version = pos 2;
-    «package» = (is.package ∙ ap (λ r. r.package) e) n;
-    parent = (is.parent ∙ ap (λ r. r.parent) e) n;
-    depth = (is.depth ∙ ap (λ r. r.depth) e) n;
-    loan = (is.loan ∙ ap (λ r. r.loan) e) n;
+    «package» = (own.package ∙ ap (λ r. r.package) e) n;
+    parent = (own.parent ∙ ap (λ r. r.parent) e) n;
+    depth = (own.depth ∙ ap (λ r. r.depth) e) n;
+    loan = (own.loan ∙ ap (λ r. r.loan) e) n;
     created = row.created;
   }
 
@@ -184,7 +185,7 @@ module _ (db copy : Database) (f : Frame) (h : StoreHead) (headed : IsHeadAt (po
     free = read.formed.1;
     says = record {
       relations = read.frame.1.0;
-      version = ap (map (λ h. h.version)) headed.1.1 ∙ ap (λ v. v ∷ []) is.version;
+      version = ap (map (λ (r : HeadRow). r.version)) headed.1.1 ∙ ap (λ v. v ∷ []) own.version;
       says = says_brought g p (subst (Says g p) says it.says);
     };
   }

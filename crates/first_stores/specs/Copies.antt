@@ -24,7 +24,7 @@ pub record AreRowsOf (t : Tables) (x : PackageRows) : Type 0 where
 
 -- the row of the head of a copy; nothing that is seen depends on its moment
 abbrev pub copy_row : StoreHead → HeadRow
-copy_row h = head_of h.uuid h.parent h.depth h.loan (codes "1970-01-01T00:00:00Z")
+copy_row h = head_of h.uuid h.parent h.depth h.loan (codes "1970-01-01T00:00:00.000Z")
 
 -- seen of a package of this frame, this head and these rows
 abbrev pub IsSeenOfCopy : Frame → StoreHead → PackageRows → StoreSeen → Type 0

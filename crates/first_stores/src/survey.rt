@@ -1,5 +1,5 @@
 //! What the opening of a world sees of a store of the first version.
-ghost use Rattle.std.specs.Prelude.{◌≡◌, IfOk, IsOk, IsTrue};
+ghost use Rattle.std.specs.Prelude.{◌≡◌, IfOk, IsTrue};
 ghost use Rattle.sqlite.specs.Held.{state};
 ghost use Rattle.sheet_types.specs.Matrix.{is_good_frame};
 ghost use Rattle.sql_meaning.specs.Transactions.{Rests};
@@ -43,7 +43,7 @@ fn survey_copy(
     rows: &PackageRows,
 ) -> Result<StoreSeen, Fault>
     requires { IsTrue (is_good_frame frame.now) }
-    ensures order { IsOk result → AreInOrder rows.now }
+    ensures order { IfOk result (λ _. AreInOrder rows.now) }
     ensures seen { IfOk result (IsSeenOfCopy frame.now head rows.now) }
 {
     if !is_in_order(rows) || !is_fit(head) {
@@ -54,7 +54,7 @@ fn survey_copy(
         parent: head.parent,
         depth: head.depth,
         loan: head.loan,
-        created: "1970-01-01T00:00:00Z",
+        created: "1970-01-01T00:00:00.000Z",
     };
     let mut package = copy(alloc, frame, &info, rows)?;
     survey(&mut package, alloc)

@@ -34,4 +34,4 @@ returns g c =
     (seen_then (λ db found. AreKeyed db → ReadsFirstFormed db found) (seen (λ db s. AreKeyed db → IsFirstSaid db s) c.in_ok-said.was c.read_first_said.ensures) (c.in_ok-frame.was ∙ ap Ok c.in-Some-2.is) c.read_first_formed.ensures.looked)
     c.in_ok-rows.was c.read_rows.ensures)
     (λ db told keyed. let read = told.0.1 keyed in
-    copied db c.in_ok-said.said c.in-Some.head c.in-Some-2.frame c.in_ok-rows.rows c.in_ok-seen.seen (sym c.head_in.ensures ∙ c.in-Some.is) (told.0.0 keyed) read (told.1 read.formed.0) (c.in_ok-seen.ensures.order tt) c.in_ok-seen.ensures.seen)
+    copied db c.in_ok-said.said c.in-Some.head c.in-Some-2.frame c.in_ok-rows.rows c.in_ok-seen.seen (sym c.head_in.ensures ∙ c.in-Some.is) (told.0.0 keyed) read (told.1 read.formed.0) c.in_ok-seen.ensures.order c.in_ok-seen.ensures.seen)
