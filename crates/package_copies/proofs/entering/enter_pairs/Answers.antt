@@ -17,7 +17,7 @@ loop-row-init g c = record { same = refl; each = made_none (known c.args.mapping
 pub loop-row-preserved : goal.loop-row-preserved
 loop-row-preserved g c = record {
   same = c.enter_pair.ensures.same_reference ∙ c.loop-row.invariant.same;
-  each = comes_next (known c.args.mapping).is c.args.rows.now c.loop-row.row-index c.row-item.result c.row-item.result c.requires c.loop-row-test.true c.row-item.is c.loop-row.invariant.each c.in_ok-enter_pair.ensures.steps;
+  each = comes_next (known c.args.mapping).is c.args.rows.now c.loop-row.row-index _ _ c.requires c.loop-row-test.true refl c.loop-row.invariant.each c.in_ok-enter_pair.ensures.steps;
 }
 
 pub returns-clause-steps : goal.returns-clause-steps
@@ -26,4 +26,4 @@ returns-clause-steps g c =
 
 pub returns-in_err-enter_pair-clause-steps : goal.returns-in_err-enter_pair-clause-steps
 returns-in_err-enter_pair-clause-steps g c =
-    steps_failed _ c.from_residual.ensures.0 (comes_next (known c.args.mapping).is c.args.rows.now c.loop-row.row-index c.row-item.result c.row-item.result c.requires c.loop-row-test.true c.row-item.is c.loop-row.invariant.each c.enter_pair.ensures.steps)
+    steps_failed _ c.from_residual.ensures.0 (comes_next (known c.args.mapping).is c.args.rows.now c.loop-row.row-index _ _ c.requires c.loop-row-test.true refl c.loop-row.invariant.each c.enter_pair.ensures.steps)
