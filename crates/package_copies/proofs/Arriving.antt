@@ -49,6 +49,6 @@ module _ {R : Type 0} {list : Listed R} (is : IsListed list) where
       → Steps (λ _. OnTables (ListBecomes list [] (take (k + 1) xs))) old new r
   comes_next xs k d x order less same first step =
       let before : AllByRecursion (λ y. is_before (list.shape.key y) (list.shape.key x) ≡ true) (take k xs) =
-          subst (λ z. AllByRecursion (λ y. is_before (list.shape.key y) (list.shape.key z) ≡ true) (take k xs)) (sym same) (earlier list.shape.key xs k d order less) in
+      subst (λ z. AllByRecursion (λ y. is_before (list.shape.key y) (list.shape.key z) ≡ true) (take k xs)) (sym same) (earlier list.shape.key xs k d order less) in
       let whole : put list.shape.key x (take k xs) ≡ take (k + 1) xs = put_last list.shape.key x (take k xs) before ∙ sym (take_more xs k d less ∙ ap (λ z. take k xs ++ z ∷ []) (sym same)) in
       made_then is [] (take k xs) (take (k + 1) xs) first (made_by is x (take k xs) (take (k + 1) xs) (none_has list.shape.key x (take k xs) before) whole step)

@@ -1,5 +1,5 @@
 -- The lists of a package's tables that are filled in turn, where none of them has a row.
-use Rattle.std.proofs.Common.{◌≡◌, List, [], Result, Ok, ap, subst, ◌∙◌}
+use Rattle.std.proofs.Common.{◌≡◌, List, [], ap, subst, ◌∙◌}
 use Rattle.sqlite.specs.State.{State}
 use Rattle.sql_meaning.specs.Transactions.{Steps}
 use Rattle.sql_meaning.proofs.Transactions.{steps_then, steps_weaker}

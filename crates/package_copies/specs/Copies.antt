@@ -4,7 +4,6 @@ use Rattle.sqlite.specs.Effect.{Database}
 use Rattle.sheet_types.specs.Ordered.{IsArranged}
 use Rattle.sheet_types.specs.declared.frame.Frame.{Frame}
 use Rattle.sql_meaning.specs.Writing.{AreKeyed}
-use Rattle.package_tables.specs.Calls.{OnTables}
 use Rattle.package_tables.specs.Creation.{new_tables, HoldsTables}
 use Rattle.package_tables.specs.Package.{Tables}
 use Rattle.package_tables.specs.Shapes.{tile_shape, medium_shape, attribute_shape, tiles_media_shape, rows_media_shape, identity_shape, receipt_shape, moved_shape}

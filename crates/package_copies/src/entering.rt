@@ -66,6 +66,7 @@ impl Entered for TileRow {
     ghost use Rattle.package_tables.proofs.Written.{tiles_listed};
 
     ghost list = { tiles };
+
     ghost listed = { tiles_listed };
 
     fn is_before(&self, next: &TileRow) -> bool {
@@ -89,6 +90,7 @@ impl Entered for MediaRow {
     ghost use Rattle.package_tables.proofs.Written.{media_listed};
 
     ghost list = { media };
+
     ghost listed = { media_listed };
 
     fn is_before(&self, next: &MediaRow) -> bool {
@@ -110,6 +112,7 @@ impl Entered for AttributeRow {
     ghost use Rattle.package_tables.proofs.Written.{attributes_listed};
 
     ghost list = { attributes };
+
     ghost listed = { attributes_listed };
 
     fn is_before(&self, next: &AttributeRow) -> bool {
@@ -117,14 +120,7 @@ impl Entered for AttributeRow {
     }
 
     fn enter<S: Alter>(&self, tx: &mut Transaction<'_, S>) -> Result<(), Fault> {
-        insert_attribute(
-            tx,
-            self.id,
-            self.x,
-            self.y,
-            self.code,
-            self.label.as_str(),
-        )
+        insert_attribute(tx, self.id, self.x, self.y, self.code, self.label.as_str())
     }
 }
 
@@ -133,6 +129,7 @@ impl Entered for IdentityRow {
     ghost use Rattle.package_tables.proofs.Written.{identities_listed};
 
     ghost list = { identities };
+
     ghost listed = { identities_listed };
 
     fn is_before(&self, next: &IdentityRow) -> bool {
@@ -149,6 +146,7 @@ impl Entered for ReceiptRow {
     ghost use Rattle.package_tables.proofs.Written.{receipts_listed};
 
     ghost list = { receipts };
+
     ghost listed = { receipts_listed };
 
     fn is_before(&self, next: &ReceiptRow) -> bool {
@@ -178,6 +176,7 @@ impl Entered for MovedRow {
     ghost use Rattle.package_tables.proofs.Written.{moved_listed};
 
     ghost list = { moved };
+
     ghost listed = { moved_listed };
 
     fn is_before(&self, next: &MovedRow) -> bool {

@@ -1,4 +1,4 @@
-use Rattle.std.proofs.Common.{◌≡◌, ◌∙◌, [], Ok, take, refl, arith, subst}
+use Rattle.std.proofs.Common.{◌∙◌, [], refl, arith, subst}
 use Rattle.std.proofs.lemmas.List.{take_all}
 use Rattle.sqlite.specs.Held.{state}
 use Rattle.sql_meaning.specs.Transactions.{Steps}
