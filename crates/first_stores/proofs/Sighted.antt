@@ -64,3 +64,8 @@ copied db s h f x seen some said read all order it =
 pub seen_of_copy : (f : Frame) (h : StoreHead) (x : PackageRows) (old new : State) (r : Result StoreSeen Fault) → LooksAt IsSeenRight old new r → HasCleanDisk new → IsCopy f (copy_row h) x old.now → IfOk r (IsSeenOfCopy f h x)
 seen_of_copy f h x old new (Ok seen) looks clean copy = let d = looks.done clean in (old.now, copy.holds, d.1.1 copy.keyed)
 seen_of_copy f h x old new (Err e) looks clean copy = tt
+
+-- what holds in any case holds after Ok
+pub always : {X E : Type 0} {P : Type 0} (r : Result X E) → P → IfOk r (λ _. P)
+always (Ok x) p = p
+always (Err e) p = tt

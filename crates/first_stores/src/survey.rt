@@ -46,7 +46,11 @@ fn survey_copy(
     ensures order { IfOk result (λ _. AreInOrder rows.now) }
     ensures seen { IfOk result (IsSeenOfCopy frame.now head rows.now) }
 {
-    if !is_in_order(rows) || !is_fit(head) {
+    if !is_in_order(rows) {
+        return Err(Fault::StoreFault);
+    }
+    // A head in its ranges is; that is told of clean disks alone.
+    if !is_fit(head) {
         return Err(Fault::StoreFault);
     }
     let info = Info {
