@@ -25,10 +25,10 @@ use surveys::survey::{no_frame, survey, without_package};
 use verdicts::seen::StoreSeen;
 
 /// Whether depth and loan are such as a package may have.
-fn is_fit(head: StoreHead) -> bool
-    ensures { IsTrue result → IsFitInfo head.depth head.loan }
+fn is_fit(depth: u64, loan: u64) -> bool
+    ensures { IsTrue result → IsFitInfo depth loan }
 {
-    head.depth <= 4 && head.loan <= 1_000_000_000
+    depth <= 4 && loan <= 1_000_000_000
 }
 
 /// What is seen of a package of the second version in memory that has these rows.
@@ -46,18 +46,24 @@ fn survey_copy(
     ensures order { IfOk result (λ _. AreInOrder rows.now) }
     ensures seen { IfOk result (IsSeenOfCopy frame.now head rows.now) }
 {
+    let StoreHead {
+        uuid,
+        parent,
+        depth,
+        loan,
+    } = head;
     if !is_in_order(rows) {
         return Err(Fault::StoreFault);
     }
     // A head in its ranges is; that is told of clean disks alone.
-    if !is_fit(head) {
+    if !is_fit(depth, loan) {
         return Err(Fault::StoreFault);
     }
     let info = Info {
-        package: head.uuid,
-        parent: head.parent,
-        depth: head.depth,
-        loan: head.loan,
+        package: uuid,
+        parent,
+        depth,
+        loan,
         created: "1970-01-01T00:00:00.000Z",
     };
     let mut package = copy(alloc, frame, &info, rows)?;
