@@ -10,3 +10,4 @@ pub mod Filtered
 pub mod Dropping
 pub mod Reversing
 pub mod Alone
+pub mod Either

@@ -1,4 +1,5 @@
--- When a store reads as a package at the first version, which had no table of the third mapping. OGC GeoPackage 1.3 and OGC 18-000 for the tables; head and versions are profile.
+-- When a store reads as a package at the first version, which had no table of the third mapping.
+-- OGC GeoPackage 1.3 and OGC 18-000 for the tables; head and versions are profile.
 use Rattle.std.specs.Prelude.{◌≡◌, ◌⊎◌, ℕ, ℤ, pos, List, [], ◌∷◌, map, codes}
 use Rattle.sqlite.specs.Tree.{Trees}
 use Rattle.sqlite.specs.Effect.{Database}
@@ -53,18 +54,25 @@ with_version version head = record head { version = version }
 abbrev pub brought : Tables → Tables
 brought t = record t { relations = mapping_relations; heads = map (with_version (pos 2)) t.heads }
 
--- The tables say this package at the first version: with its two relations and its version in the head, and as tables of the second they say it.
+-- The tables say this package at the first version: they have its two relations and its version in the head,
+-- and as tables of the second they say it.
 pub record SaysAtVersionOne (f : Frame) (p : Package) (t : Tables) : Type 0 where
   pub relations : t.relations ≡ first_relations
   pub version : map (λ h. h.version) t.heads ≡ pos 1 ∷ []
   pub says : Says f p (brought t)
 
--- A database reads as this package at the first version: its fourteen tables have their form, and nothing has a name that the second version needs.
+-- A database reads as this package at the first version: its fourteen tables have their form, and nothing has a
+-- name that the second version needs.
 pub record ReadsAtVersionOne (f : Frame) (p : Package) (db : Database) : Type 0 where
   pub formed : AreFormedAt (pos 1) db
   pub free : AreFree db.schema
   pub says : SaysAtVersionOne f p (first_tables_of db)
 
+-- at the first version or at the second
+abbrev pub ReadsAtOne : Frame → Package → Database → Type 0
+ReadsAtOne f p db = ReadsAtVersionOne f p db ⊎ Reads f p db
+
 -- Trees read as this package at the first version or at the second, by the schema that they list.
 abbrev pub ReadsAtEither : Frame → Package → Trees → Type 0
-ReadsAtEither f p trees = (schema : Schema) × IsSound schema trees × (ReadsAtVersionOne f p (record { schema = schema; trees = trees }) ⊎ Reads f p (record { schema = schema; trees = trees }))
+ReadsAtEither f p trees =
+    (schema : Schema) × IsSound schema trees × ReadsAtOne f p (record { schema = schema; trees = trees })

@@ -8,7 +8,8 @@ use Rattle.first_version.specs.FirstVersion.{ReadsAtVersionOne}
 
 -- At the first version a store reads as at most one package of a frame.
 abbrev pub FirstReadsAlone : Type 0
-FirstReadsAlone = (f : Frame) (p q : Package) (db : Database) → ReadsAtVersionOne f p db → ReadsAtVersionOne f q db → p ≡ q
+FirstReadsAlone =
+    (f : Frame) (p q : Package) (db : Database) → ReadsAtVersionOne f p db → ReadsAtVersionOne f q db → p ≡ q
 
 -- No store reads at both versions.
 abbrev pub ReadsAtOneVersion : Type 0

@@ -19,6 +19,9 @@ DropsThirdRelation = Drops relations (λ x. int_eq x.id (pos 3))
 abbrev pub DropsThird : Database → Database → Type 0
 DropsThird old new = AreFormed old → AreFormedAt (pos 1) new × (first_tables_of new ≡ first_tables_of old)
 
--- A store that reads as a package with no row in the third mapping reads as it at the first version, if nothing else has the names of the second.
+-- A store that reads as a package with no row in the third mapping reads as it at the first version, if nothing else
+-- has the names of the second.
 abbrev pub TakesBack : Database → Database → Type 0
-TakesBack old new = (f : Frame) (p : Package) → Reads f p old → (tables_of old).rows_tiles ≡ [] → AreFree new.schema → ReadsAtVersionOne f p new
+TakesBack old new =
+    (f : Frame) (p : Package) → Reads f p old → (tables_of old).rows_tiles ≡ [] → AreFree new.schema
+    → ReadsAtVersionOne f p new

@@ -1,4 +1,5 @@
-//! Stores of the first version, which had no table of the third mapping: how one is brought to the second.
+//! Stores of the first version, which had no table of the third mapping: how one is brought to the
+//! second.
 #![tactic(auto)]
 
 pub mod laws;
@@ -6,3 +7,5 @@ pub mod migration;
 pub mod names;
 mod statements;
 pub mod taking_back;
+#[cfg(test)]
+mod tests;

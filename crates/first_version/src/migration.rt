@@ -8,8 +8,9 @@ ghost use Rattle.sheet_types.specs.World.{Package};
 ghost use Rattle.sheet_types.specs.declared.frame.Frame.{Frame};
 ghost use Rattle.sql_meaning.specs.Transactions.{Rests, Steps, Turns};
 ghost use Rattle.first_version.specs.FirstVersion.{ReadsAtVersionOne, ReadsAtEither};
-ghost use Rattle.first_version.specs.Migrating.{Brings};
+ghost use Rattle.first_version.specs.Migrating.{Brings, BringsIfFirst};
 
+use crate::names::are_free;
 use crate::statements::{insert_third_relation, make_third_index, make_third_table, set_version};
 use package_tables::fault::Fault;
 use sqlite::{Alter, Connection, Transaction};
@@ -25,19 +26,41 @@ fn bring<S: Alter>(tx: &mut Transaction<'_, S>) -> Result<(), Fault>
     set_version(tx, 2)
 }
 
-/// Brings a store of the first version to the second, in one transaction: the table of the third mapping, its index, its row in the relations, and the version in the head. The store reads as the package that it was.
+/// Brings a store of the first version to the second, in one transaction: the table of the third
+/// mapping, its index, its row in the relations, and the version in the head. The store reads as the
+/// package that it was.
 ///
 /// # Errors
 ///
-/// Want of memory, or a store that failed. The store holds what it held while it is open; only where the commit itself failed and shut it may a crash leave either version.
+/// Want of memory, or a store that failed. The store holds what it held while it is open; only where
+/// the commit itself failed and shut it may a crash leave either version.
 pub fn migrate<S: Alter>(conn: &mut Connection<S>) -> Result<(), Fault>
     requires { Rests (state S.Store conn.old) }
     ensures turns { Turns (λ _. Brings) (state S.Store conn.old) (state S.Store conn.new) result }
-    ensures left { HasCleanDisk (state S.Store conn.new) → IsTrue (state S.Store conn.old).is_open → IsDatabase (state S.Store conn.old).now
-        → (f : Frame) (p : Package) → ReadsAtVersionOne f p (state S.Store conn.old).now → (trees : Trees) → (state S.Store conn.new).may_leave trees → ReadsAtEither f p trees }
+    ensures left { HasCleanDisk (state S.Store conn.new)
+        → IsTrue (state S.Store conn.old).is_open → IsDatabase (state S.Store conn.old).now
+        → (f : Frame) (p : Package) → ReadsAtVersionOne f p (state S.Store conn.old).now
+        → (trees : Trees) → (state S.Store conn.new).may_leave trees → ReadsAtEither f p trees }
 {
     let mut tx = conn.transaction();
     bring(&mut tx)?;
     tx.commit()?;
+    Ok(())
+}
+
+/// Brings a store to the second version where it is of the first, and leaves it as it is where it is of the second:
+/// which it is, is told by the names that a migration makes.
+///
+/// # Errors
+///
+/// Those of `migrate`.
+pub fn migrate_if_first<S: Alter>(conn: &mut Connection<S>) -> Result<(), Fault>
+    requires { Rests (state S.Store conn.old) }
+    ensures { IsTrue (state S.Store conn.old).is_open
+        → Turns (λ _. BringsIfFirst) (state S.Store conn.old) (state S.Store conn.new) result }
+{
+    if are_free(conn.schema()) {
+        return migrate(conn);
+    }
     Ok(())
 }

@@ -46,7 +46,8 @@ fn is_free(schema: &Schema, name: &[u8]) -> bool
         && index_place(schema, name).is_none()
 }
 
-/// Whether the names that a migration makes are free: that of the third mapping table, and that of its index.
+/// Whether the names that a migration makes are free: that of the third mapping table, and that of
+/// its index.
 pub fn are_free(schema: &Schema) -> bool
     ensures { IsTrue result ↔ AreFree schema.now }
 {

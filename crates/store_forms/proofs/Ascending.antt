@@ -1,6 +1,6 @@
 -- Two lists that rise by a number are one where each is an order of the other.
-use Rattle.std.specs.Prelude.{◌≡◌, ◌⊎◌, ℤ, ◌<ℤ◌, Bool, true, false, int_lt, List, [], ◌∷◌, map, refl, IsPermutation, IsSorted}
-use Rattle.std.proofs.Common.{sym, ap, subst, ◌∙◌, arith, inl, inr, Less, Equal, Greater, Ordering, cond}
+use Rattle.std.specs.Prelude.{◌≡◌, ℤ, ◌<ℤ◌, Bool, true, false, int_lt, List, [], ◌∷◌, map, refl, IsPermutation, IsSorted}
+use Rattle.std.proofs.Common.{sym, ap, ◌∙◌, arith, inl, inr, Less, Equal, Greater, cond}
 use Rattle.std.specs.List.{AllByRecursion, IsDistinct}
 use Rattle.std.specs.Ordering.{on, is_gt, is_eq, int_cmp, int_eq}
 use Rattle.std.proofs.lemmas.Int.{ints}

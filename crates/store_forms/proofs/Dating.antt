@@ -1,5 +1,5 @@
 -- Rows in another order are dated alike.
-use Rattle.std.proofs.Common.{◌≡◌, Bool, true, List, [], ◌∷◌, refl, ap, sym, subst, IsTrue}
+use Rattle.std.proofs.Common.{◌≡◌, Bool, true, List, [], ◌∷◌, refl, ap, subst, IsTrue}
 use Rattle.std.specs.Prelude.{◌↔◌, IsPermutation, filter}
 use Rattle.std.specs.List.{AllByRecursion}
 use Rattle.std.proofs.lemmas.List.Sorted.{IsPermutation-sym}

@@ -1,10 +1,10 @@
 -- The two tables whose columns let a NULL in, and what a look at their rows tells of it.
-use Rattle.std.proofs.Common.{◌≡◌, ℕ, List, [], ◌∷◌, map, codes, Bool, true, false, Result, Ok, Err, IsTrue, IsErr, refl, sym, ap, subst, ◌∙◌}
-use Rattle.std.specs.Prelude.{◌↔◌, not, filter, IfOk, IfErr, IsOkAnd, IsPermutation}
+use Rattle.std.proofs.Common.{◌≡◌, ℕ, List, [], ◌∷◌, map, codes, Bool, true, false, Result, Ok, Err, IsTrue, IsErr, refl, sym, subst, ◌∙◌}
+use Rattle.std.specs.Prelude.{◌↔◌, not, IfOk, IfErr, IsOkAnd, IsPermutation}
 use Rattle.std.specs.List.{AllByRecursion, list_all}
 use Rattle.std.proofs.lemmas.List.Sorted.{IsPermutation-sym, IsPermutation-map}
 use Rattle.sheet_types.proofs.Every.{All-both}
-use Rattle.std.proofs.lemmas.Bool.{true≢false, false≢true, and_parts}
+use Rattle.std.proofs.lemmas.Bool.{false≢true, and_parts}
 use Rattle.sqlite.specs.Order.{Row, column}
 use Rattle.sqlite.specs.Ops.{is_null}
 use Rattle.sqlite.specs.Tree.{rowid}
@@ -15,12 +15,11 @@ use Rattle.sqlite.specs.Held.{Held, state}
 use Rattle.sqlite.specs.declared.error.Error.{Error}
 use Rattle.sqlite.specs.declared.types.Value.{Value}
 use Rattle.sqlite.specs.declared.types.Value.TheVariants.{Null, Int, Real, Text, Blob}
-use Rattle.sqlite.specs.State.{State, HasCleanDisk, Survives, Shown, FailsToQuery, CommitsShowing}
+use Rattle.sqlite.specs.State.{HasCleanDisk, Survives, Shown, FailsToQuery, CommitsShowing}
 use Rattle.sqlite_value.specs.declared.keys.Key.{Key}
 use Rattle.sqlite_trees.specs.View.{is_int}
-use Rattle.sqlite_trees.proofs.ListLemmas.{all-permutation, all-map, all_from_map, all_weaker, all-slice_get, map-map, filter_all, all_of}
+use Rattle.sqlite_trees.proofs.ListLemmas.{all-permutation, all-map, all_from_map, all-slice_get, map-map, filter_all, all_of}
 use Rattle.sqlite_tied.specs.Compute.{everything}
-use Rattle.sql_meaning.specs.Known.{HasTable}
 use Rattle.sql_meaning.specs.Reading.{Listing, IsListing, Finds, always, ascending}
 use Rattle.sql_meaning.specs.Resolving.{resolving}
 use Rattle.sql_meaning.specs.Transactions.{Rests, Looks}

@@ -15,8 +15,9 @@ use Rattle.package_tables.specs.declared.rows.SpatialRefSysRow.{SpatialRefSysRow
 use Rattle.package_tables.proofs.FixedRows.{own_comes, standard_suffices}
 use Rattle.store_forms.specs.Frames.{same_system, same_content, same_relation}
 use Rattle.store_forms.proofs.Agreeing.{agree_system, agree_content, agree_relation}
-use Rattle.store_forms.proofs.Both.{two, four}
-use Rattle.store_forms.proofs.Framing.{systems_order, contents_order, relations_order, undate}
+use Rattle.store_forms.proofs.Both.{two, three, four}
+use Rattle.store_forms.proofs.Framing.{systems_order, contents_order, relations_order, first_order, undate}
+use Rattle.first_version.specs.FirstVersion.{first_relations}
 use Rattle.store_forms.proofs.Having.{has_one, has_this, just}
 
 -- tests of three elements and of how many there are
@@ -47,6 +48,13 @@ pub relations_just : (rows : List RelationRow) (e f g : RelationRow) (a b c : Bo
 relations_just rows e f g a b c all first second third =
     subst (λ l. IsTrue (((a && b) && c) && nat_eq (length rows) 3) ↔ IsPermutation rows l) (sym all)
     (three_just relation_shape.key rows e f g a b c _ (subst (IsArranged relation_shape.key) all relations_order) (relation_in rows e a first) (relation_in rows f b second) (relation_in rows g c third) (unsigned_Decides (length rows) 3))
+
+pub first_relations_just : (rows : List RelationRow) (e f : RelationRow) (a b : Bool) → first_relations ≡ e ∷ f ∷ [] → a ≡ list_any (λ x. same_relation x e) rows → b ≡ list_any (λ x. same_relation x f) rows
+    → IsTrue ((a && b) && nat_eq (length rows) 2) ↔ IsPermutation rows first_relations
+first_relations_just rows e f a b all first second =
+    let tests = three a b (nat_eq (length rows) 2) (relation_in rows e a first) (relation_in rows f b second) (unsigned_Decides (length rows) 2) in
+    subst (λ l. IsTrue ((a && b) && nat_eq (length rows) 2) ↔ IsPermutation rows l) (sym all)
+    (just relation_shape.key rows (e ∷ f ∷ []) ((a && b) && nat_eq (length rows) 2) (subst (IsArranged relation_shape.key) all first_order) (λ yes. let h = tests.0 yes in ((h.0, (h.1, tt)), h.2), λ h. tests.1 (h.0.0, h.0.1.0, h.1)))
 
 pub contents_just : (frame : Frame) (rows : List ContentsRow) (e f g : ContentsRow) (a b c : Bool) → contents_of frame [] ≡ e ∷ f ∷ g ∷ [] → a ≡ list_any (λ x. same_content x e) rows → b ≡ list_any (λ x. same_content x f) rows
     → c ≡ list_any (λ x. same_content x g) rows → e.last_change ≡ [] → f.last_change ≡ [] → g.last_change ≡ [] → IsTrue (((a && b) && c) && nat_eq (length rows) 3) ↔ IsPermutation (undated rows) (contents_of frame [])

@@ -1,18 +1,15 @@
 -- The law: in a sound database whose tables are in the order of their rowids, a table that is there has its form, where no row has a NULL.
-use Rattle.std.proofs.Common.{◌≡◌, ℕ, List, [], ◌∷◌, Bool, true, refl, sym, ap, subst, ◌∙◌, drop}
-use Rattle.std.specs.Prelude.{◌&&◌, slice_get}
+use Rattle.std.proofs.Common.{◌≡◌, ℕ, List, [], ◌∷◌, true, sym, ap, subst, ◌∙◌, drop}
 use Rattle.std.specs.List.{AllByRecursion, list_all}
 use Rattle.std.proofs.lemmas.Bool.{and_parts}
 use Rattle.sqlite.specs.Effect.{Database, IsDatabase}
 use Rattle.sqlite.specs.Order.{Row}
-use Rattle.sqlite.specs.Table.{Table}
 use Rattle.sqlite.specs.Tree.{rowid}
 use Rattle.sqlite.specs.declared.types.Value.{Value}
 use Rattle.sqlite_trees.specs.View.{is_int}
 use Rattle.sqlite_trees.proofs.ListLemmas.{all-slice_get, all_weaker}
 use Rattle.sqlite_schema.specs.Rules.{passes, has_computed, are_typed, are_present}
 use Rattle.sqlite_schema.specs.declared.schema.Constraint.TheVariants.{Datatype, NotNull}
-use Rattle.sql_meaning.specs.Known.{HasTable}
 use Rattle.sql_meaning.specs.Writing.{IsKeyed, AreKeyed}
 use Rattle.sheet_types.proofs.Every.{All-both}
 use Rattle.package_tables.specs.Form.{IsPlaced}

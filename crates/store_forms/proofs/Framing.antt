@@ -15,14 +15,16 @@ use Rattle.sheet_types.proofs.Order.{put_arranged}
 use Rattle.matrix_rules.proofs.Frames.{good_frame}
 use Rattle.package_tables.specs.Calls.{AreAll, AreThose}
 use Rattle.package_tables.specs.Fixed.{HasFixed, standard_systems, own_system, is_standard, systems_of, contents_of, undated, matrix_set, level_row, first_levels, levels_of, mapping_relations}
-use Rattle.package_tables.specs.Package.{tables_of}
+use Rattle.package_tables.specs.Package.{Tables, tables_of}
 use Rattle.package_tables.specs.Shape.{stored_rows}
 use Rattle.package_tables.specs.Shapes.{spatial_ref_sys_shape, contents_shape, tile_matrix_shape, relation_shape, signed_key}
 use Rattle.package_tables.specs.declared.rows.ContentsRow.{ContentsRow}
 use Rattle.package_tables.specs.declared.rows.TileMatrixRow.{TileMatrixRow}
 use Rattle.package_tables.specs.declared.rows.TileMatrixSetRow.{TileMatrixSetRow}
 use Rattle.package_tables.proofs.FixedRows.{own_free, own_comes, standard_suffices, level_free, level_comes}
-use Rattle.store_forms.specs.Frames.{AreRead, AreRowsOf, IsFrameOf, ReadsFrame}
+use Rattle.first_version.specs.FirstVersion.{first_relations}
+use Rattle.package_tables.specs.declared.rows.RelationRow.{RelationRow}
+use Rattle.store_forms.specs.Frames.{AreRead, AreRowsOf, HasFixedWith, IsFrameOf, ReadsFrame, ReadsFirstFrame}
 use Rattle.store_forms.specs.declared.fixed_rows.FixedRows.{FixedRows}
 use Rattle.store_forms.proofs.Ascending.{Up, sorted_same}
 use Rattle.store_forms.proofs.Claiming.{map_arranged}
@@ -94,19 +96,33 @@ sets_same rows found s read = (λ e. single rows found s read e, λ e. single fo
 
 -- ---- the tables
 
-pub frame_same : (f : Frame) → IsTrue (is_good_frame f) → (db : Database) (found : FixedRows) → AreRead (tables_of db) found → AreRowsOf f found ↔ HasFixed f (tables_of db)
-frame_same f good db found read =
+pub first_order : IsArranged relation_shape.key first_relations
+first_order = ((refl, tt), (tt, tt))
+
+pub frame_same : (rels : List RelationRow) → IsArranged relation_shape.key rels → (f : Frame) → IsTrue (is_good_frame f) → (db : Database) (found : FixedRows) → AreRead (tables_of db) found → AreRowsOf rels f found ↔ HasFixedWith rels f (tables_of db)
+frame_same rels order f good db found read =
     let t = tables_of db in
     let low : pos 0 ≤ℤ f.first_zoom = (good_frame f good).first_zoom in
     let systems = table_same spatial_ref_sys_shape.key (map spatial_ref_sys_shape.typed (stored_rows spatial_ref_sys_shape db)) found.systems.items (systems_of f.srs_id) (systems_order f.srs_id) read.systems.0 in
     let listed = contents_same (map contents_shape.typed (stored_rows contents_shape db)) found.listed.items (contents_of f []) (contents_order f []) (those t.contents found.listed.items read.listed) in
     let sets = sets_same t.tile_matrix_set found.sets.items (matrix_set f) (those t.tile_matrix_set found.sets.items read.sets) in
     let levels = levels_same f low (map tile_matrix_shape.typed (stored_rows tile_matrix_shape db)) found.levels.items read.levels in
-    let related = table_same relation_shape.key (map relation_shape.typed (stored_rows relation_shape db)) found.related.items mapping_relations relations_order read.related.0 in (
-      λ are. record { spatial_ref_sys = systems.0 are.systems; contents = listed.0 are.listed; tile_matrix_set = sets.0 are.sets; tile_matrix = levels.0 are.levels; relations = related.0 are.related },
-      λ has. record { systems = systems.1 has.spatial_ref_sys; listed = listed.1 has.contents; sets = sets.1 has.tile_matrix_set; levels = levels.1 has.tile_matrix; related = related.1 has.relations },
+    let related = table_same relation_shape.key (map relation_shape.typed (stored_rows relation_shape db)) found.related.items rels order read.related.0 in (
+      λ are. (related.0 are.related, record { spatial_ref_sys = systems.0 are.systems; contents = listed.0 are.listed; tile_matrix_set = sets.0 are.sets; tile_matrix = levels.0 are.levels; relations = refl }),
+      λ has. record { systems = systems.1 has.1.spatial_ref_sys; listed = listed.1 has.1.contents; sets = sets.1 has.1.tile_matrix_set; levels = levels.1 has.1.tile_matrix; related = related.1 has.0 },
     )
 
-pub frame_read : (db : Database) (found : FixedRows) → AreRead (tables_of db) found → (r : Option Frame) → IsFrameOf found r → ReadsFrame (tables_of db) r
-frame_read db found read (Some f) is = (is.0, (frame_same f is.0 db found read).0 is.1)
-frame_read db found read None none = λ f has. none f has.0 ((frame_same f has.0 db found read).1 has.1)
+-- the relations of the second version are those of the fixed rows
+whole_fixed : (f : Frame) (t : Tables) → HasFixedWith mapping_relations f t → HasFixed f t
+whole_fixed f t has = record { spatial_ref_sys = has.1.spatial_ref_sys; contents = has.1.contents; tile_matrix_set = has.1.tile_matrix_set; tile_matrix = has.1.tile_matrix; relations = has.0 }
+
+parted_fixed : (f : Frame) (t : Tables) → HasFixed f t → HasFixedWith mapping_relations f t
+parted_fixed f t has = (has.relations, record { spatial_ref_sys = has.spatial_ref_sys; contents = has.contents; tile_matrix_set = has.tile_matrix_set; tile_matrix = has.tile_matrix; relations = refl })
+
+pub frame_read : (db : Database) (found : FixedRows) → AreRead (tables_of db) found → (r : Option Frame) → IsFrameOf mapping_relations found r → ReadsFrame (tables_of db) r
+frame_read db found read (Some f) is = (is.0, whole_fixed f (tables_of db) ((frame_same mapping_relations relations_order f is.0 db found read).0 is.1))
+frame_read db found read None none = λ f has. none f has.0 ((frame_same mapping_relations relations_order f has.0 db found read).1 (parted_fixed f (tables_of db) has.1))
+
+pub first_frame_read : (db : Database) (found : FixedRows) → AreRead (tables_of db) found → (r : Option Frame) → IsFrameOf first_relations found r → ReadsFirstFrame (tables_of db) r
+first_frame_read db found read (Some f) is = (is.0, (frame_same first_relations first_order f is.0 db found read).0 is.1)
+first_frame_read db found read None none = λ f has. none f has.0 ((frame_same first_relations first_order f has.0 db found read).1 has.1)

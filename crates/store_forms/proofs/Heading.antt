@@ -1,6 +1,6 @@
 -- Whose a store says that it is, from the rows of its table of heads.
-use Rattle.std.proofs.Common.{◌≡◌, ℕ, List, [], ◌∷◌, length, Option, Some, None, Ordering, refl, sym, ap, subst, IsTrue, arith}
-use Rattle.std.specs.Prelude.{◌↔◌, IfSome, IfNone, IsPermutation, false, true}
+use Rattle.std.proofs.Common.{◌≡◌, ℤ, List, [], ◌∷◌, length, Option, Some, None, Ordering, refl, sym, ap, subst, IsTrue, arith}
+use Rattle.std.specs.Prelude.{◌↔◌, IfSome, IfNone, IsPermutation, false}
 use Rattle.std.specs.List.{AllByRecursion}
 use Rattle.std.specs.Option.{option_map}
 use Rattle.std.proofs.lemmas.Bool.{false≢true}
@@ -15,7 +15,7 @@ use Rattle.package_tables.specs.Shape.{IsFormed, rows_of}
 use Rattle.package_tables.specs.Shapes.{head_shape}
 use Rattle.package_tables.specs.Tables.{sheet_package}
 use Rattle.package_tables.specs.declared.rows.HeadRow.{HeadRow}
-use Rattle.store_forms.specs.Heads.{head_said, IsHeadOf, ReadsHead}
+use Rattle.store_forms.specs.Heads.{head_said, IsHeadOfAt, ReadsHeadAt}
 use Rattle.store_forms.specs.declared.heads.StoreHead.{StoreHead}
 use Rattle.store_forms.proofs.Forming.{formed_needed}
 use Rattle.store_forms.proofs.Plain.{heads_plain}
@@ -33,16 +33,16 @@ single {X} xs ys y same is =
     at (x ∷ z ∷ zs) long all = absurd (omega (arith, long))
 
 -- the rows say this in any order
-moved_head : (xs ys : List HeadRow) (head : Head) → IsPermutation xs ys → IsHeadOf ys head → IsHeadOf xs head
-moved_head xs ys head same h = (h.0, single xs ys h.0 same h.1, h.2)
+moved_head : (v : ℤ) (xs ys : List HeadRow) (head : Head) → IsPermutation xs ys → IsHeadOfAt v ys head → IsHeadOfAt v xs head
+moved_head v xs ys head same h = (h.0, single xs ys h.0 same h.1, h.2)
 
 -- what a look for the table and then at its rows tells
-pub none_placed : (db : Database) (placed : IsTrue false ↔ IsPlaced db.schema sheet_package) → ReadsHead db None
-none_placed db placed head is = false≢true (placed.1 is.0.placed)
+pub none_placed : (v : ℤ) (db : Database) (placed : IsTrue false ↔ IsPlaced db.schema sheet_package) → ReadsHeadAt v db None
+none_placed v db placed head is = false≢true (placed.1 is.0.placed)
 
-pub head_read : (cmp : HeadRow → HeadRow → Ordering) (db : Database) (sound : IsDatabase db) (keyed : AreKeyed db) (placed : IsPlaced db.schema sheet_package) (rows : List HeadRow) → (IsFormed head_shape db → AreAll cmp (rows_of head_shape db) rows)
-    → (found : Option StoreHead) → IfSome found (λ h. IsHeadOf rows (head_said h)) → IfNone found ((head : Head) → IsHeadOf rows head → ⊥) → ReadsHead db (option_map head_said found)
-head_read cmp db sound keyed placed rows all (Some h) some none =
+pub head_read : (v : ℤ) (cmp : HeadRow → HeadRow → Ordering) (db : Database) (sound : IsDatabase db) (keyed : AreKeyed db) (placed : IsPlaced db.schema sheet_package) (rows : List HeadRow) → (IsFormed head_shape db → AreAll cmp (rows_of head_shape db) rows)
+    → (found : Option StoreHead) → IfSome found (λ h. IsHeadOfAt v rows (head_said h)) → IfNone found ((head : Head) → IsHeadOfAt v rows head → ⊥) → ReadsHeadAt v db (option_map head_said found)
+head_read v cmp db sound keyed placed rows all (Some h) some none =
     let formed = formed_needed head_shape heads_plain db sound keyed placed refl in
-    (formed, moved_head (rows_of head_shape db) rows (head_said h) (all formed).0 some)
-head_read cmp db sound keyed placed rows all None some none = λ head is. none head (moved_head rows (rows_of head_shape db) head (IsPermutation-sym _ _ (all is.0).0) is.1)
+    (formed, moved_head v (rows_of head_shape db) rows (head_said h) (all formed).0 some)
+head_read v cmp db sound keyed placed rows all None some none = λ head is. none head (moved_head v rows (rows_of head_shape db) head (IsPermutation-sym _ _ (all is.0).0) is.1)

@@ -1,5 +1,5 @@
 -- A row that its table lets in, and that has no NULL, is one of values of the columns' kinds.
-use Rattle.std.proofs.Common.{◌≡◌, ℕ, suc, ◌+◌, List, [], ◌∷◌, Bool, true, false, Option, Some, None, refl, sym, ap, subst, ◌∙◌, arith, drop}
+use Rattle.std.proofs.Common.{◌≡◌, ℕ, suc, ◌+◌, List, [], ◌∷◌, Bool, true, false, Option, Some, None, refl, ap, subst, ◌∙◌, arith, drop}
 use Rattle.std.specs.Prelude.{not, ◌&&◌, ◌||◌, if◌then◌else◌}
 use Rattle.std.proofs.lemmas.Bool.{true≢false, false≢true, and_parts}
 use Rattle.sqlite.specs.Order.{Row, column}
@@ -14,7 +14,6 @@ use Rattle.sqlite_schema.specs.Rules.{is_of, has_affinity, suits, are_typed, are
 use Rattle.sqlite_schema.specs.declared.schema.Column.{Column}
 use Rattle.sqlite_schema.specs.declared.schema.Kind.{Kind}
 use Rattle.sqlite_schema.specs.declared.schema.Kind.TheVariants as kind
-use Rattle.package_tables.specs.Shapes.{int_of}
 use Rattle.store_forms.specs.Rows.{is_kept, are_kept, as_kind, as_columns, as_rowid, as_row, are_filled, is_filled, ends_otherwise, are_needed}
 
 -- a value of a kind

@@ -1,5 +1,5 @@
 -- Calls that look at one store, one after the other, and what they tell of its database.
-use Rattle.std.proofs.Common.{◌≡◌, sym, subst, ◌∙◌, Result, Ok, Err, IsTrue, IsErr, refl, arith}
+use Rattle.std.proofs.Common.{◌≡◌, subst, ◌∙◌, Result, Ok, Err, IsTrue, IsErr, refl, arith}
 use Rattle.sqlite.specs.Effect.{Database, IsDatabase}
 use Rattle.sqlite.specs.Schema.{Schema}
 use Rattle.sqlite.specs.State.{State, HasCleanDisk, IsLive}

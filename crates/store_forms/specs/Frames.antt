@@ -1,5 +1,5 @@
 -- Of which frame the fixed rows of a store are.
-use Rattle.std.specs.Prelude.{◌≡◌, ◌&&◌, Bool, true, [], ◌∷◌, Option, Some, None, IsTrue, IsPermutation, bytes_eq}
+use Rattle.std.specs.Prelude.{◌≡◌, ◌&&◌, Bool, true, List, [], ◌∷◌, Option, Some, None, IsTrue, IsPermutation, bytes_eq}
 use Rattle.std.specs.List.{AllByRecursion}
 use Rattle.std.specs.Ordering.{on, int_cmp, int_eq}
 use Rattle.sheet_types.specs.Matrix.{is_good_frame}
@@ -13,7 +13,10 @@ use Rattle.package_tables.specs.declared.rows.ContentsRow.{ContentsRow}
 use Rattle.package_tables.specs.declared.rows.TileMatrixSetRow.{TileMatrixSetRow}
 use Rattle.package_tables.specs.declared.rows.TileMatrixRow.{TileMatrixRow}
 use Rattle.package_tables.specs.declared.rows.RelationRow.{RelationRow}
+use Rattle.first_version.specs.FirstVersion.{first_relations}
 use Rattle.store_forms.specs.declared.fixed_rows.FixedRows.{FixedRows}
+use Rattle.store_forms.specs.declared.versions.Version.{Version}
+use Rattle.store_forms.specs.declared.versions.Version.TheVariants.{First, Second}
 
 -- the frame is good, and the fixed rows are its own, whatever the moments of the last change
 abbrev pub HasFrame : Frame → Tables → Type 0
@@ -23,6 +26,23 @@ HasFrame f t = IsTrue (is_good_frame f) × HasFixed f t
 abbrev pub ReadsFrame : Tables → Option Frame → Type 0
 ReadsFrame t (Some f) = HasFrame f t
 ReadsFrame t None = (f : Frame) → HasFrame f t → ⊥
+
+-- the relations of a version
+abbrev pub relations_at : Version → List RelationRow
+relations_at First = first_relations
+relations_at Second = mapping_relations
+
+-- the tables have these relations, and the fixed rows of the frame beside them
+abbrev pub HasFixedWith : List RelationRow → Frame → Tables → Type 0
+HasFixedWith relations f t = (t.relations ≡ relations) × HasFixed f (record t { relations = mapping_relations })
+
+-- the same of the first version, which has two relations
+abbrev pub HasFirstFrame : Frame → Tables → Type 0
+HasFirstFrame f t = IsTrue (is_good_frame f) × HasFixedWith first_relations f t
+
+abbrev pub ReadsFirstFrame : Tables → Option Frame → Type 0
+ReadsFirstFrame t (Some f) = HasFirstFrame f t
+ReadsFirstFrame t None = (f : Frame) → HasFirstFrame f t → ⊥
 
 -- the last change of a table has a moment
 unfoldable pub HasMoment : ContentsRow → Type 0
@@ -42,18 +62,18 @@ pub record AreRead (t : Tables) (found : FixedRows) : Type 0 where
   pub levels : AreAll (on (λ x. x.zoom_level) int_cmp) t.tile_matrix found.levels.items
   pub related : AreAll (on (λ x. x.id) int_cmp) t.relations found.related.items
 
--- these are the fixed rows of the frame: the levels by their zooms, all others in any order
-pub record AreRowsOf (f : Frame) (found : FixedRows) : Type 0 where
+-- these are the fixed rows of the frame with these relations: the levels by their zooms, all others in any order
+pub record AreRowsOf (relations : List RelationRow) (f : Frame) (found : FixedRows) : Type 0 where
   pub systems : IsPermutation found.systems.items (systems_of f.srs_id)
   pub listed : IsPermutation (undated found.listed.items) (contents_of f [])
   pub sets : found.sets.items ≡ matrix_set f ∷ []
   pub levels : found.levels.items ≡ levels_of f
-  pub related : IsPermutation found.related.items mapping_relations
+  pub related : IsPermutation found.related.items relations
 
 -- the frame whose rows these are, or none where there is no such frame
-abbrev pub IsFrameOf : FixedRows → Option Frame → Type 0
-IsFrameOf found (Some f) = IsTrue (is_good_frame f) × AreRowsOf f found
-IsFrameOf found None = (f : Frame) → IsTrue (is_good_frame f) → AreRowsOf f found → ⊥
+abbrev pub IsFrameOf : List RelationRow → FixedRows → Option Frame → Type 0
+IsFrameOf relations found (Some f) = IsTrue (is_good_frame f) × AreRowsOf relations f found
+IsFrameOf relations found None = (f : Frame) → IsTrue (is_good_frame f) → AreRowsOf relations f found → ⊥
 
 -- ---- two rows, column by column
 

@@ -1,19 +1,16 @@
 //! What the receipts of a store claim.
 ghost use Rattle.std.specs.Prelude.{◌≡◌, map, unsigned_abs, IfOk};
-ghost use Rattle.std.specs.Ordering.{on, int_cmp};
 ghost use Rattle.sqlite.specs.Held.{state};
-ghost use Rattle.sql_meaning.specs.Transactions.{Rests, Looks};
+ghost use Rattle.sql_meaning.specs.Transactions.{Rests};
 ghost use Rattle.sheet_types.specs.Ordered.{arranged};
-ghost use Rattle.package_tables.specs.Calls.{AreAll};
 ghost use Rattle.package_tables.specs.Damaged.{ReadsClaims, claim_of_row};
-ghost use Rattle.package_tables.specs.Shape.{rows_of, IsFormed};
-ghost use Rattle.package_tables.specs.Shapes.{number_key, receipt_shape};
-ghost use Rattle.store_forms.specs.Looking.{Sees, LooksAt};
+ghost use Rattle.package_tables.specs.Shapes.{number_key};
+ghost use Rattle.store_forms.specs.Looking.{LooksAt};
 ghost use Rattle.store_forms.specs.Heads.{claim_said, store_claim};
 
-use crate::from_row::all_of;
 use crate::own_forms::RECEIPTS;
 use crate::placing::is_placed;
+use crate::rows_alone::receipt_rows;
 use package_tables::fault::Fault;
 use package_tables::rows::ReceiptRow;
 use sheet_types::collections::Text;
@@ -27,17 +24,6 @@ pub struct StoreClaim {
     pub line: Text,
     pub source: Text,
     pub target: Text,
-}
-
-/// The rows of the table of receipts, by their numbers.
-fn receipt_rows<S: Alter>(conn: &mut Connection<S>, alloc: Global) -> Result<Vec<ReceiptRow>, Fault>
-    requires { Rests (state S.Store conn.old) }
-    ensures { Looks (Sees (λ db found. IsFormed receipt_shape db → AreAll (on (λ x. x.seq) int_cmp) (rows_of receipt_shape db) found.items)) (state S.Store conn.old) (state S.Store conn.new) result }
-{
-    all_of(
-        alloc,
-        conn.query_all("SELECT * FROM sheet_receipts ORDER BY seq", &[]),
-    )
 }
 
 fn claims_of(rows: Vec<ReceiptRow>, alloc: Global) -> Result<Vec<StoreClaim>, Fault>

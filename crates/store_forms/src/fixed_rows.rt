@@ -2,8 +2,10 @@
 ghost use Rattle.std.specs.Prelude.{◌≡◌, ◌↔◌, IsTrue, IfOk, IsPermutation, [], true};
 ghost use Rattle.std.specs.List.{list_any};
 ghost use Rattle.package_tables.specs.Fixed.{is_standard, system, systems_of, content, contents_of, undated, relation, mapping_relations};
-ghost use Rattle.store_forms.specs.Frames.{same_system, same_content, same_relation};
+ghost use Rattle.store_forms.specs.Frames.{same_system, same_content, same_relation, relations_at};
+ghost use Rattle.first_version.specs.FirstVersion.{first_relations};
 
+use crate::versions::Version;
 use package_tables::fault::Fault;
 use package_tables::rows::{
     ContentsRow, RelationRow, SpatialRefSysRow, TileMatrixRow, TileMatrixSetRow,
@@ -140,7 +142,7 @@ fn has_relation(
 }
 
 /// Whether these are the relations of the three mapping tables (OGC 18-000, relations).
-pub(crate) fn are_relations(rows: &[RelationRow]) -> bool
+fn are_relations(rows: &[RelationRow]) -> bool
     ensures { IsTrue result ↔ IsPermutation rows.now mapping_relations }
 {
     let tile_media = has_relation(
@@ -154,4 +156,30 @@ pub(crate) fn are_relations(rows: &[RelationRow]) -> bool
     let row_media = has_relation(rows, 2, "sheet_rows", "sheet_media", "media", "rows_media");
     let row_tiles = has_relation(rows, 3, "sheet_rows", "sheet_tiles", "tiles", "rows_tiles");
     tile_media & row_media & row_tiles & (rows.len() == 3)
+}
+
+/// Whether these are the relations of the two mapping tables of the first version (OGC 18-000, relations).
+fn are_first_relations(rows: &[RelationRow]) -> bool
+    ensures { IsTrue result ↔ IsPermutation rows.now first_relations }
+{
+    let tile_media = has_relation(
+        rows,
+        1,
+        "sheet_tiles",
+        "sheet_media",
+        "media",
+        "tiles_media",
+    );
+    let row_media = has_relation(rows, 2, "sheet_rows", "sheet_media", "media", "rows_media");
+    tile_media & row_media & (rows.len() == 2)
+}
+
+/// Whether these are the relations of a version.
+pub(crate) fn are_relations_at(rows: &[RelationRow], version: Version) -> bool
+    ensures { IsTrue result ↔ IsPermutation rows.now (relations_at version) }
+{
+    match version {
+        Version::First => are_first_relations(rows),
+        Version::Second => are_relations(rows),
+    }
 }

@@ -7,10 +7,11 @@ ghost use Rattle.sqlite.specs.Order.{column};
 ghost use Rattle.sql_meaning.specs.Transactions.{Rests};
 ghost use Rattle.package_tables.specs.Package.{AreFormed};
 ghost use Rattle.package_tables.specs.Shapes.{contents_shape, spatial_ref_sys_shape};
+ghost use Rattle.store_forms.specs.Forms.{HasFirstForm};
 ghost use Rattle.store_forms.specs.Looking.{LooksAt};
 ghost use Rattle.store_forms.specs.Rows.{IsFull, AreFilled};
 
-use crate::placing::are_placed;
+use crate::placing::{are_first_placed, are_placed};
 use package_tables::fault::Fault;
 use sqlite::types::ValueRef;
 use sqlite::{Alter, Connection, Row};
@@ -70,6 +71,24 @@ pub fn has_form<S: Alter>(conn: &mut Connection<S>) -> Result<bool, Fault>
     ensures { LooksAt (λ db formed. IsTrue formed ↔ AreFormed db) (state S.Store conn.old) (state S.Store conn.new) result }
 {
     if !are_placed(conn)? {
+        return Ok(false);
+    }
+    if !are_systems_filled(conn)? {
+        return Ok(false);
+    }
+    are_contents_filled(conn)
+}
+
+/// Whether the store has the fourteen tables of the first version in their form, and no object has a name that the second needs. No store has the form of both.
+///
+/// # Errors
+///
+/// Those of `has_form`.
+pub fn has_first_form<S: Alter>(conn: &mut Connection<S>) -> Result<bool, Fault>
+    requires { Rests (state S.Store conn.old) }
+    ensures { LooksAt (λ db formed. IsTrue formed ↔ HasFirstForm db) (state S.Store conn.old) (state S.Store conn.new) result }
+{
+    if !are_first_placed(conn)? {
         return Ok(false);
     }
     if !are_systems_filled(conn)? {

@@ -3,9 +3,10 @@ ghost use Rattle.std.specs.Prelude.{◌≡◌, ◌↔◌, ◌∷◌, [], IsTrue,
 ghost use Rattle.sheet_types.specs.Matrix.{is_good_frame, has_level};
 ghost use Rattle.sheet_types.specs.declared.frame.Frame.{Frame as SomeFrame};
 ghost use Rattle.package_tables.specs.Fixed.{matrix_set, level_row, levels_of};
-ghost use Rattle.store_forms.specs.Frames.{same_set, same_level, AreRowsOf, IsFrameOf};
+ghost use Rattle.store_forms.specs.Frames.{same_set, same_level, relations_at, AreRowsOf, IsFrameOf};
 
-use crate::fixed_rows::{FixedRows, are_contents, are_relations, are_systems};
+use crate::fixed_rows::{FixedRows, are_contents, are_relations_at, are_systems};
+use crate::versions::Version;
 use matrix_rules::axis::axes_at;
 use matrix_rules::check::FrameRules;
 use matrix_rules::levels::{level_count, zoom_at};
@@ -94,15 +95,20 @@ fn are_levels(rows: &[TileMatrixRow], frame: &Frame) -> bool
 }
 
 /// Whether all rows are the fixed ones of the frame.
-fn are_rows_of(frame: &Frame, found: &FixedRows, alloc: Global) -> Result<bool, Fault>
+fn are_rows_of(
+    frame: &Frame,
+    found: &FixedRows,
+    alloc: Global,
+    version: Version,
+) -> Result<bool, Fault>
     requires { IsTrue (is_good_frame frame.now) }
-    ensures { IfOk result (λ are. IsTrue are ↔ AreRowsOf frame.now found.now) }
+    ensures { IfOk result (λ are. IsTrue are ↔ AreRowsOf (relations_at version) frame.now found.now) }
 {
     let systems = are_systems(&found.systems, frame.srs_id, alloc)?;
     let listed = are_contents(&found.listed, frame);
     let sets = are_sets(&found.sets, frame);
     let levels = are_levels(&found.levels, frame);
-    let related = are_relations(&found.related);
+    let related = are_relations_at(&found.related, version);
     Ok(systems & listed & sets & levels & related)
 }
 
@@ -112,9 +118,13 @@ fn is_good(frame: &Frame) -> bool
     frame.check().is_ok()
 }
 
-/// The frame whose fixed rows these are; none where there is no such frame.
-pub(crate) fn frame_of(found: &FixedRows, alloc: Global) -> Result<Option<Frame>, Fault>
-    ensures { IfOk result (IsFrameOf found.now) }
+/// The frame whose fixed rows these are at a version; none where there is no such frame.
+pub(crate) fn frame_of(
+    found: &FixedRows,
+    alloc: Global,
+    version: Version,
+) -> Result<Option<Frame>, Fault>
+    ensures { IfOk result (IsFrameOf (relations_at version) found.now) }
 {
     let Some(frame) = candidate(&found.sets, &found.levels) else {
         return Ok(None);
@@ -122,6 +132,6 @@ pub(crate) fn frame_of(found: &FixedRows, alloc: Global) -> Result<Option<Frame>
     if !is_good(&frame) {
         return Ok(None);
     }
-    let are = are_rows_of(&frame, found, alloc)?;
+    let are = are_rows_of(&frame, found, alloc, version)?;
     Ok(if are { Some(frame) } else { None })
 }

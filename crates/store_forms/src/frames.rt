@@ -9,6 +9,7 @@ ghost use Rattle.store_forms.specs.Frames.{AreDated, AreRead, HasMoment, ReadsFr
 
 use crate::fixed_rows::FixedRows;
 use crate::frame_rows::frame_of;
+use crate::versions::Version;
 use package_tables::fault::Fault;
 use package_tables::fixed::{
     all_contents, all_relations, all_spatial_ref_sys, all_tile_matrices, all_tile_matrix_sets,
@@ -28,7 +29,7 @@ fn has_moment(row: &ContentsRow) -> bool
 }
 
 /// Whether the last change of each of these tables has one.
-fn have_moments(rows: &[ContentsRow]) -> bool
+pub(crate) fn have_moments(rows: &[ContentsRow]) -> bool
     ensures { IsTrue result ↔ AllByRecursion HasMoment rows.now }
 {
     rows.iter().all(has_moment)
@@ -76,5 +77,5 @@ pub fn read_frame<S: Alter>(conn: &mut Connection<S>, alloc: Global) -> Result<O
     ensures { LooksUp ReadsFrame (state S.Store conn.old) (state S.Store conn.new) result }
 {
     let found = read_rows(conn, alloc)?;
-    Ok(frame_of(&found, alloc)?)
+    Ok(frame_of(&found, alloc, Version::Second)?)
 }

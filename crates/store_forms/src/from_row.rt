@@ -4,7 +4,10 @@ ghost use Rattle.sqlite.specs.Order.{column};
 ghost use Rattle.sqlite.specs.declared.types.Value.TheVariants.{Int, Text as StoredText};
 
 use package_tables::fault::Fault;
-use package_tables::rows::{HeadRow, ReceiptRow};
+use package_tables::rows::{
+    ContentsRow, HeadRow, MovedRow, ReceiptRow, RelationRow, SpatialRefSysRow, TileMatrixRow,
+    TileMatrixSetRow,
+};
 use sheet_types::collections::Text;
 use sqlite::{Error, Row};
 use std::alloc::Global;
@@ -73,6 +76,134 @@ impl FromRow for ReceiptRow {
             n_rows: number_at(row, 8)?,
             n_links: number_at(row, 9)?,
             n_bytes: number_at(row, 10)?,
+        })
+    }
+}
+
+impl FromRow for SpatialRefSysRow {
+    ghost use Rattle.package_tables.specs.Shown.{spatial_ref_sys_shown};
+
+    ghost shown = { spatial_ref_sys_shown };
+
+    fn from_row(row: &Row) -> Result<SpatialRefSysRow, Fault> {
+        if row.column_count() != 6 {
+            return Err(Fault::StoreFault);
+        }
+        Ok(SpatialRefSysRow {
+            srs_name: text_at(row, 0)?,
+            srs_id: number_at(row, 1)?,
+            organization: text_at(row, 2)?,
+            organization_coordsys_id: number_at(row, 3)?,
+            definition: text_at(row, 4)?,
+            description: text_at(row, 5)?,
+        })
+    }
+}
+
+impl FromRow for ContentsRow {
+    ghost use Rattle.package_tables.specs.Shown.{contents_shown};
+
+    ghost shown = { contents_shown };
+
+    fn from_row(row: &Row) -> Result<ContentsRow, Fault> {
+        if row.column_count() != 10 {
+            return Err(Fault::StoreFault);
+        }
+        Ok(ContentsRow {
+            table_name: text_at(row, 0)?,
+            data_type: text_at(row, 1)?,
+            identifier: text_at(row, 2)?,
+            description: text_at(row, 3)?,
+            last_change: text_at(row, 4)?,
+            min_x: number_at(row, 5)?,
+            min_y: number_at(row, 6)?,
+            max_x: number_at(row, 7)?,
+            max_y: number_at(row, 8)?,
+            srs_id: number_at(row, 9)?,
+        })
+    }
+}
+
+impl FromRow for TileMatrixSetRow {
+    ghost use Rattle.package_tables.specs.Shown.{tile_matrix_set_shown};
+
+    ghost shown = { tile_matrix_set_shown };
+
+    fn from_row(row: &Row) -> Result<TileMatrixSetRow, Fault> {
+        if row.column_count() != 6 {
+            return Err(Fault::StoreFault);
+        }
+        Ok(TileMatrixSetRow {
+            table_name: text_at(row, 0)?,
+            srs_id: number_at(row, 1)?,
+            min_x: number_at(row, 2)?,
+            min_y: number_at(row, 3)?,
+            max_x: number_at(row, 4)?,
+            max_y: number_at(row, 5)?,
+        })
+    }
+}
+
+impl FromRow for TileMatrixRow {
+    ghost use Rattle.package_tables.specs.Shown.{tile_matrix_shown};
+
+    ghost shown = { tile_matrix_shown };
+
+    fn from_row(row: &Row) -> Result<TileMatrixRow, Fault> {
+        if row.column_count() != 8 {
+            return Err(Fault::StoreFault);
+        }
+        Ok(TileMatrixRow {
+            table_name: text_at(row, 0)?,
+            zoom_level: number_at(row, 1)?,
+            matrix_width: number_at(row, 2)?,
+            matrix_height: number_at(row, 3)?,
+            tile_width: number_at(row, 4)?,
+            tile_height: number_at(row, 5)?,
+            pixel_x_size: number_at(row, 6)?,
+            pixel_y_size: number_at(row, 7)?,
+        })
+    }
+}
+
+impl FromRow for RelationRow {
+    ghost use Rattle.package_tables.specs.Shown.{relation_shown};
+
+    ghost shown = { relation_shown };
+
+    fn from_row(row: &Row) -> Result<RelationRow, Fault> {
+        if row.column_count() != 7 {
+            return Err(Fault::StoreFault);
+        }
+        Ok(RelationRow {
+            id: number_at(row, 0)?,
+            base_table_name: text_at(row, 1)?,
+            base_primary_column: text_at(row, 2)?,
+            related_table_name: text_at(row, 3)?,
+            related_primary_column: text_at(row, 4)?,
+            relation_name: text_at(row, 5)?,
+            mapping_table_name: text_at(row, 6)?,
+        })
+    }
+}
+
+impl FromRow for MovedRow {
+    ghost use Rattle.package_tables.specs.Shown.{moved_shown};
+
+    ghost shown = { moved_shown };
+
+    fn from_row(row: &Row) -> Result<MovedRow, Fault> {
+        if row.column_count() != 7 {
+            return Err(Fault::StoreFault);
+        }
+        Ok(MovedRow {
+            seq: number_at(row, 0)?,
+            position: number_at(row, 1)?,
+            kind: number_at(row, 2)?,
+            base: text_at(row, 3)?,
+            other: text_at(row, 4)?,
+            size: number_at(row, 5)?,
+            fingerprint: text_at(row, 6)?,
         })
     }
 }

@@ -12,11 +12,12 @@ ghost use Rattle.package_tables.specs.Calls.{AreAll};
 ghost use Rattle.package_tables.specs.Shape.{rows_of, IsFormed};
 ghost use Rattle.package_tables.specs.Shapes.{head_shape};
 ghost use Rattle.store_forms.specs.Looking.{Sees, LooksAt};
-ghost use Rattle.store_forms.specs.Heads.{head_said, IsLevel, IsMarked, IsHeadOf, IsHeadRow, ReadsHead};
+ghost use Rattle.store_forms.specs.Heads.{head_said, version_number, IsLevel, IsMarked, IsHeadOfAt, IsHeadRowAt, ReadsHead, ReadsHeadAt};
 
 use crate::from_row::all_of;
 use crate::own_forms::HEADS;
 use crate::placing::is_placed;
+use crate::versions::Version;
 use ledger::fitting::fits;
 use package_tables::fault::Fault;
 use package_tables::rows::HeadRow;
@@ -43,12 +44,12 @@ fn is(number: i64, wanted: i64) -> bool
     number == wanted
 }
 
-/// Whether the row is the first, of the second version, with a moment.
-fn is_marked(row: &HeadRow) -> bool
-    ensures { IsTrue result ↔ IsMarked row.now }
+/// Whether the row is the first, of this version, with a moment.
+fn is_marked(row: &HeadRow, version: Version) -> bool
+    ensures { IsTrue result ↔ IsMarked (version_number version) row.now }
 {
     let first = is(row.id, 1);
-    let second = is(row.version, 2);
+    let second = is(row.version, version.number());
     let moment = is_moment(row.created.as_str());
     first & second & moment
 }
@@ -108,11 +109,11 @@ fn read_number(number: i64, greatest: u64) -> Option<u64>
     if read <= greatest { Some(read) } else { None }
 }
 
-fn read_row(row: &HeadRow) -> Option<StoreHead>
-    ensures some { IfSome result (λ head. IsHeadRow row.now (head_said head)) }
-    ensures none { IfNone result ((head : Head) → IsHeadRow row.now head → ⊥) }
+fn read_row(row: &HeadRow, version: Version) -> Option<StoreHead>
+    ensures some { IfSome result (λ head. IsHeadRowAt (version_number version) row.now (head_said head)) }
+    ensures none { IfNone result ((head : Head) → IsHeadRowAt (version_number version) row.now head → ⊥) }
 {
-    if !is_marked(row) {
+    if !is_marked(row, version) {
         return None;
     }
     if !is_level(row) {
@@ -130,14 +131,14 @@ fn read_row(row: &HeadRow) -> Option<StoreHead>
     })
 }
 
-fn read_rows(rows: &[HeadRow]) -> Option<StoreHead>
-    ensures some { IfSome result (λ head. IsHeadOf rows.now (head_said head)) }
-    ensures none { IfNone result ((head : Head) → IsHeadOf rows.now head → ⊥) }
+fn read_rows(rows: &[HeadRow], version: Version) -> Option<StoreHead>
+    ensures some { IfSome result (λ head. IsHeadOfAt (version_number version) rows.now (head_said head)) }
+    ensures none { IfNone result ((head : Head) → IsHeadOfAt (version_number version) rows.now head → ⊥) }
 {
     if rows.len() != 1 {
         return None;
     }
-    read_row(&rows[0])
+    read_row(&rows[0], version)
 }
 
 /// The rows of the table of heads, by their ids.
@@ -151,18 +152,34 @@ fn head_rows<S: Alter>(conn: &mut Connection<S>, alloc: Global) -> Result<Vec<He
     )
 }
 
-/// Whose the store says that it is, where its table of heads has its form and one row, in its ranges; none in every other store.
+/// Whose the store says that it is at this version, where its table of heads has its form and one row, in its ranges; none in every other store.
 ///
 /// # Errors
 ///
 /// `OutOfMemory` where a growth was refused, and `StoreFault` where the store failed or a text is no UTF-8.
-pub fn head<S: Alter>(conn: &mut Connection<S>, alloc: Global) -> Result<Option<StoreHead>, Fault>
+pub fn head_at<S: Alter>(
+    conn: &mut Connection<S>,
+    alloc: Global,
+    version: Version,
+) -> Result<Option<StoreHead>, Fault>
     requires { Rests (state S.Store conn.old) }
-    ensures { LooksAt (λ db found. ReadsHead db (option_map head_said found)) (state S.Store conn.old) (state S.Store conn.new) result }
+    ensures { LooksAt (λ db found. ReadsHeadAt (version_number version) db (option_map head_said found)) (state S.Store conn.old) (state S.Store conn.new) result }
 {
     if !is_placed(conn, &HEADS)? {
         return Ok(None);
     }
     let rows = head_rows(conn, alloc)?;
-    Ok(read_rows(&rows))
+    Ok(read_rows(&rows, version))
+}
+
+/// Whose the store says that it is at the second version, which is that of every store that lives.
+///
+/// # Errors
+///
+/// Those of `head_at`.
+pub fn head<S: Alter>(conn: &mut Connection<S>, alloc: Global) -> Result<Option<StoreHead>, Fault>
+    requires { Rests (state S.Store conn.old) }
+    ensures { LooksAt (λ db found. ReadsHead db (option_map head_said found)) (state S.Store conn.old) (state S.Store conn.new) result }
+{
+    head_at(conn, alloc, Version::Second)
 }

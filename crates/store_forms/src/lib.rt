@@ -2,6 +2,7 @@
 #![tactic(auto)]
 
 pub mod claims;
+pub mod first_frames;
 mod fixed_rows;
 pub mod form;
 mod frame_rows;
@@ -11,3 +12,5 @@ pub mod heads;
 mod named_forms;
 mod own_forms;
 mod placing;
+pub mod rows_alone;
+pub mod versions;

@@ -6,7 +6,7 @@ ghost use Rattle.sql_meaning.specs.Forms.{table_of};
 ghost use Rattle.sql_meaning.specs.Transactions.{Rests, Looks};
 ghost use Rattle.package_tables.specs.Form.{IsPlaced};
 ghost use Rattle.store_forms.specs.Looking.{Sees};
-ghost use Rattle.store_forms.specs.Placing.{AreNamedPlaced, AreUsersPlaced, AreOwnPlaced, AreAllPlaced};
+ghost use Rattle.store_forms.specs.Placing.{AreNamedPlaced, AreUsersPlaced, AreOwnPlaced, AreAllPlaced, AreFirstUsersPlaced, AreFirstPlaced};
 
 use crate::named_forms::{
     CONTENTS, RELATIONS, SPATIAL_REFERENCE_SYSTEMS, TILE_MATRICES, TILE_MATRIX_SETS,
@@ -14,6 +14,7 @@ use crate::named_forms::{
 use crate::own_forms::{
     HEADS, IDENTITIES, MEDIA, MOVED, RECEIPTS, ROWS, ROWS_MEDIA, ROWS_TILES, TILES, TILES_MEDIA,
 };
+use first_version::names::are_free;
 use package_tables::fault::Fault;
 use sql_meaning::forms::{TableForm, find_table, is_quiet};
 use sqlite::{Alter, Connection};
@@ -47,6 +48,16 @@ fn are_users_placed(schema: &Schema) -> bool
         && has_table(schema, &ROWS_TILES)
 }
 
+fn are_first_users_placed(schema: &Schema) -> bool
+    ensures { IsTrue result ↔ AreFirstUsersPlaced schema.now }
+{
+    has_table(schema, &TILES)
+        && has_table(schema, &MEDIA)
+        && has_table(schema, &ROWS)
+        && has_table(schema, &TILES_MEDIA)
+        && has_table(schema, &ROWS_MEDIA)
+}
+
 fn are_own_placed(schema: &Schema) -> bool
     ensures { IsTrue result ↔ AreOwnPlaced schema.now }
 {
@@ -65,6 +76,18 @@ fn has_all_tables(schema: &Schema) -> bool
     let users = are_users_placed(schema);
     let own = are_own_placed(schema);
     quiet & named & users & own
+}
+
+/// Whether the schema has the fourteen tables of the first version and no foreign key that acts, and nothing has a name that the second needs.
+fn has_first_tables(schema: &Schema) -> bool
+    ensures { IsTrue result ↔ AreFirstPlaced schema.now }
+{
+    let quiet = is_quiet(schema);
+    let named = are_named_placed(schema);
+    let users = are_first_users_placed(schema);
+    let own = are_own_placed(schema);
+    let free = are_free(schema);
+    (quiet & named & users & own) & free
 }
 
 /// Asks nothing of the tables: a connection that answers is open.
@@ -95,4 +118,13 @@ pub(crate) fn are_placed<S: Alter>(conn: &mut Connection<S>) -> Result<bool, Fau
 {
     answer_nothing(conn)?;
     Ok(has_all_tables(conn.schema()))
+}
+
+/// Whether the store has the fourteen tables of the first version and no foreign key that acts, and nothing has a name that the second needs.
+pub(crate) fn are_first_placed<S: Alter>(conn: &mut Connection<S>) -> Result<bool, Fault>
+    requires { Rests (state S.Store conn.old) }
+    ensures { Looks (Sees (λ db found. IsDatabase db × (IsTrue found ↔ AreFirstPlaced db.schema))) (state S.Store conn.old) (state S.Store conn.new) result }
+{
+    answer_nothing(conn)?;
+    Ok(has_first_tables(conn.schema()))
 }

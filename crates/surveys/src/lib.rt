@@ -4,6 +4,6 @@
 mod forms;
 mod held;
 pub mod laws;
-mod said;
+pub mod said;
 pub mod survey;
 mod ties;

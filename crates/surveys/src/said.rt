@@ -16,7 +16,7 @@ use store_forms::heads::{StoreHead as ReadHead, head};
 
 /// Whose a store is, and what its receipts claim.
 #[derive(Drop)]
-pub(crate) struct Said {
+pub struct Said {
     pub head: Option<StoreHead>,
     pub claims: Vec<StoreClaim>,
 }
@@ -34,7 +34,7 @@ fn head_of(head: ReadHead) -> StoreHead
 }
 
 /// The same of a head that may be none.
-fn head_told(found: Option<ReadHead>) -> Option<StoreHead>
+pub fn head_told(found: Option<ReadHead>) -> Option<StoreHead>
     ensures { option_map opening.head_said result ≡ option_map head_said found }
 {
     match found {
@@ -44,7 +44,11 @@ fn head_told(found: Option<ReadHead>) -> Option<StoreHead>
 }
 
 /// The claims in the words of the opening.
-fn claims_of(alloc: Global, claims: Vec<ReadClaim>) -> Result<Vec<StoreClaim>, AllocError>
+///
+/// # Errors
+///
+/// Want of memory.
+pub fn claims_of(alloc: Global, claims: Vec<ReadClaim>) -> Result<Vec<StoreClaim>, AllocError>
     ensures { IfOk result (λ told. told.items ≡ map claim_told claims.items) }
 {
     let told = claims.into_iter().map(|claim| StoreClaim {

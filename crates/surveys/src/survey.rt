@@ -22,7 +22,7 @@ use uuid::Uuid;
 use verdicts::seen::StoreSeen;
 
 /// What stands where a store has no frame.
-const fn no_frame() -> Frame {
+pub const fn no_frame() -> Frame {
     Frame {
         srs_id: 0,
         min_x: 0,
@@ -51,7 +51,7 @@ fn nothing_held(alloc: Global) -> PackageSight {
 }
 
 /// A store of which no package is read.
-fn without_package(alloc: Global, said: Said, frame: Frame, is_formed: bool) -> StoreSeen
+pub fn without_package(alloc: Global, said: Said, frame: Frame, is_formed: bool) -> StoreSeen
     ensures { IsSeenWithout said frame is_formed result }
 {
     StoreSeen {

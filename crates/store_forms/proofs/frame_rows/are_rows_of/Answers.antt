@@ -1,6 +1,7 @@
 use Rattle.std.proofs.Common.{◌≡◌, [], ◌∷◌, rules, subst, IsTrue, FitsSigned, w64, to_z-of_z}
 use Rattle.std.specs.Prelude.{◌↔◌, IsPermutation}
-use Rattle.package_tables.specs.Fixed.{systems_of, contents_of, undated, matrix_set, levels_of, mapping_relations}
+use Rattle.package_tables.specs.Fixed.{systems_of, contents_of, undated, matrix_set, levels_of}
+use Rattle.store_forms.specs.Frames.{relations_at}
 use Rattle.store_forms.proofs.Both.{two, four}
 use Rattle.store_forms.proofs.frame_rows.are_rows_of.Goals as goal
 
@@ -13,7 +14,7 @@ returns c =
     let listed = subst (λ l. IsTrue c.are_contents-listed.result ↔ IsPermutation (undated l) (contents_of f [])) c.deref-2.ensures.value c.are_contents-listed.ensures in
     let sets = subst (λ l. IsTrue c.are_sets-sets.result ↔ (l ≡ matrix_set f ∷ [])) c.deref-3.ensures.value c.are_sets-sets.ensures in
     let levels = subst (λ l. IsTrue c.are_levels-levels.result ↔ (l ≡ levels_of f)) c.deref-4.ensures.value c.are_levels-levels.ensures in
-    let related = subst (λ l. IsTrue c.are_relations-related.result ↔ IsPermutation l mapping_relations) c.deref-5.ensures.value c.are_relations-related.ensures in
+    let related = subst (λ l. IsTrue c.are_relations_at-related.result ↔ IsPermutation l (relations_at c.args.version)) c.deref-5.ensures.value c.are_relations_at-related.ensures in
     let all = two _ _ (four _ _ _ _ systems listed sets levels) related in (
       λ yes. let h = all.0 yes in record { systems = h.0.0; listed = h.0.1; sets = h.0.2; levels = h.0.3; related = h.1 },
       λ are. all.1 ((are.systems, are.listed, are.sets, are.levels), are.related),

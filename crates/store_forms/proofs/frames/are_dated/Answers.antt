@@ -1,10 +1,9 @@
 -- The rows that were read are all.
-use Rattle.std.proofs.Common.{◌≡◌, true, sym, subst, IsTrue}
-use Rattle.std.specs.Prelude.{◌↔◌, IsPermutation}
-use Rattle.std.specs.List.{AllByRecursion}
+use Rattle.std.proofs.Common.{true, sym, subst, IsTrue}
+use Rattle.std.specs.Prelude.{◌↔◌}
 use Rattle.package_tables.specs.Calls.{AreThose}
 use Rattle.package_tables.specs.Package.{tables_of, AreFormed}
-use Rattle.store_forms.specs.Frames.{AreDated, HasMoment}
+use Rattle.store_forms.specs.Frames.{AreDated}
 use Rattle.store_forms.proofs.Dating.{dated_moved}
 use Rattle.store_forms.proofs.Seeing.{seen, sees}
 use Rattle.store_forms.proofs.frames.are_dated.Goals as goal

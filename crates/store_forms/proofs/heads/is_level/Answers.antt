@@ -1,5 +1,5 @@
 -- Both tests agree with that of the depth.
-use Rattle.std.proofs.Common.{◌≡◌, [], pos, subst, IsTrue, rules, to_z-of_z, FitsSigned, w64}
+use Rattle.std.proofs.Common.{◌≡◌, [], subst, IsTrue, rules, to_z-of_z, FitsSigned, w64}
 use Rattle.std.specs.Prelude.{◌↔◌}
 use Rattle.store_forms.proofs.Both.{two, alike, none_left}
 use Rattle.store_forms.proofs.heads.is_level.Goals as goal

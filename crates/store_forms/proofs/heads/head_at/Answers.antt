@@ -10,16 +10,16 @@ use Rattle.package_tables.specs.Form.{IsPlaced}
 use Rattle.package_tables.specs.Shape.{rows_of, IsFormed}
 use Rattle.package_tables.specs.Shapes.{head_shape}
 use Rattle.package_tables.specs.Tables.{sheet_package}
-use Rattle.store_forms.specs.Heads.{head_said, IsHeadOf, ReadsHead}
+use Rattle.store_forms.specs.Heads.{head_said, version_number, IsHeadOfAt, ReadsHeadAt}
 use Rattle.store_forms.proofs.Heading.{head_read}
 use Rattle.store_forms.proofs.Seeing.{seen, seen_then, sees}
-use Rattle.store_forms.proofs.heads.head.Goals as goal
+use Rattle.store_forms.proofs.heads.head_at.Goals as goal
 
 pub returns : goal.returns
 returns g c =
     let there : c.in_ok-is_placed.field-0 ≡ true = search rules in
-    sees (λ db found. AreKeyed db → ReadsHead db (option_map head_said found))
+    sees (λ db found. AreKeyed db → ReadsHeadAt (version_number c.args.version) db (option_map head_said found))
     (seen_then (λ db found. IsFormed head_shape db → AreAll (on (λ x. x.id) int_cmp) (rows_of head_shape db) found.items) (seen (λ db found. IsDatabase db × (IsTrue found ↔ IsPlaced db.schema sheet_package)) c.in_ok-is_placed.was c.is_placed.ensures) c.in_ok-rows.was c.head_rows.ensures)
-    (λ db told keyed. head_read (on (λ x. x.id) int_cmp) db told.0.0 keyed (told.0.1.0 there) c.in_ok-rows.rows.items told.1 c.read_rows.result
-    (subst (λ rows. IfSome c.read_rows.result (λ h. IsHeadOf rows (head_said h))) c.deref.ensures.value c.read_rows.ensures.some)
-    (subst (λ rows. IfNone c.read_rows.result ((h : Head) → IsHeadOf rows h → ⊥)) c.deref.ensures.value c.read_rows.ensures.none))
+    (λ db told keyed. head_read (version_number c.args.version) (on (λ x. x.id) int_cmp) db told.0.0 keyed (told.0.1.0 there) c.in_ok-rows.rows.items told.1 c.read_rows.result
+    (subst (λ rows. IfSome c.read_rows.result (λ h. IsHeadOfAt (version_number c.args.version) rows (head_said h))) c.deref.ensures.value c.read_rows.ensures.some)
+    (subst (λ rows. IfNone c.read_rows.result ((h : Head) → IsHeadOfAt (version_number c.args.version) rows h → ⊥)) c.deref.ensures.value c.read_rows.ensures.none))

@@ -3,7 +3,7 @@ use Rattle.package_tables.specs.Shapes.{receipt_shape}
 use Rattle.package_tables.specs.Shown.{receipt_shown}
 use Rattle.package_tables.proofs.ReceiptStatements.{receipts_known, all_receipts, all_receipts_ranked}
 use Rattle.store_forms.proofs.Asking.{rows_look}
-use Rattle.store_forms.proofs.claims.receipt_rows.Goals as goal
+use Rattle.store_forms.proofs.rows_alone.receipt_rows.Goals as goal
 
 pub returns : goal.returns
 returns g c =

@@ -1,0 +1,4 @@
+mod Copied
+mod Formed
+mod Sighted
+mod Viewed

@@ -1,0 +1,4 @@
+pub mod Views
+pub mod Copies
+pub mod Surveying
+pub mod Either

@@ -1,0 +1,4 @@
+mod Arriving
+mod Copying
+mod Filling
+mod Reopening
