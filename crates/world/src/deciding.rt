@@ -298,7 +298,7 @@ fn decide_new<S: Alter + Drop>(
                 mode: *mode,
                 rect: *rect,
             };
-            decide_split(members, frame, count, alloc, request, &asked)
+            decide_split(members, known, frame, count, alloc, request, &asked)
         }
         Command::Merge {
             child,

@@ -30,4 +30,4 @@ pub returns-in-Merge-clause-asks : goal.returns-in-Merge-clause-asks
 returns-in-Merge-clause-asks g c = asks_weaker g.S.Store _ (λ decision w count are told knows new. told new.of_world.counted new.new) c.decide_merge.ensures.asks
 
 pub returns-in-Split-clause-asks : goal.returns-in-Split-clause-asks
-returns-in-Split-clause-asks g c = asks_weaker g.S.Store _ (λ decision w count are told knows new. told new) c.decide_split.ensures.asks
+returns-in-Split-clause-asks g c = c.decide_split.ensures.asks
