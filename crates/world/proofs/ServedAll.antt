@@ -24,7 +24,7 @@ use Rattle.world.specs.Asking.{AsksAll}
 use Rattle.known_uuids.specs.Known.{Grows, Knows, Notes}
 use Rattle.known_uuids.proofs.Remembering.{knows_more}
 use Rattle.world.specs.Carries.{Carries, ServesAll, IsSeenBy, IsBeforeCommit}
-use Rattle.world.specs.Deciding.{IsOf, Decides}
+use Rattle.world.specs.Deciding.{IsOf, Decides, DecidesWhere}
 use Rattle.world.specs.Leaving.{AreAtRest, AreClean, AreBeside, LeavesOneOf}
 use Rattle.world.specs.Members.{AllRest, AllClean, AllOpen, AreMembers}
 use Rattle.world.specs.ServeFaults.{IsLastingFault, CountsShelf}
@@ -113,16 +113,16 @@ module _ {S : Type 0} (g : Ghosts S) (shuts : Shuts g) (settles : Settles g) whe
 
   -- ---- a request
 
-  module _ (f : Frame) (q : Request) (old mid : List (Member S)) (known noted : List (List ℕ)) (grows : Grows known noted) (at_rest : AllRest g old) (before : ℕ) (low : before ≤ greatest_receipts) {E : Type 0} {r : Result Decision E} (it : AsksAll g {X = Decision} {E = E} (λ w decision. Knows known w → IsOf f before w → Decides w q decision) old mid r) where
+  module _ (f : Frame) (q : Request) (old mid : List (Member S)) (known noted : List (List ℕ)) (grows : Grows known noted) (at_rest : AllRest g old) (before : ℕ) (low : before ≤ greatest_receipts) {E : Type 0} {r : Result Decision E} (it : AsksAll g {X = Decision} {E = E} (DecidesWhere known (IsOf f before) q) old mid r) where
     -- what was decided of a world
     pub decided : (decision : Decision) → r ≡ Ok decision → AllClean g mid → (w : World) → IsSeenBy f known w → AreMembers g old before w → Decides w q decision
     decided decision is clean w same are =
-        let here : AsksAll g {X = Decision} {E = E} (λ w decision. Knows known w → IsOf f before w → Decides w q decision) old mid (Ok decision) = subst (AsksAll g {X = Decision} {E = E} (λ w decision. Knows known w → IsOf f before w → Decides w q decision) old mid) is it in
+        let here : AsksAll g {X = Decision} {E = E} (DecidesWhere known (IsOf f before) q) old mid (Ok decision) = subst (AsksAll g {X = Decision} {E = E} (DecidesWhere known (IsOf f before) q) old mid) is it in
         here.told clean w before are same.1 (record { frame = same.0; counted = are.counted })
 
     pub decided_opens : (decision : Decision) → r ≡ Ok decision → AllClean g mid → AllOpen g old → AllOpen g mid
     decided_opens decision is clean was =
-        let here : AsksAll g {X = Decision} {E = E} (λ w decision. Knows known w → IsOf f before w → Decides w q decision) old mid (Ok decision) = subst (AsksAll g {X = Decision} {E = E} (λ w decision. Knows known w → IsOf f before w → Decides w q decision) old mid) is it in
+        let here : AsksAll g {X = Decision} {E = E} (DecidesWhere known (IsOf f before) q) old mid (Ok decision) = subst (AsksAll g {X = Decision} {E = E} (DecidesWhere known (IsOf f before) q) old mid) is it in
         here.stays_open clean was
 
     -- no decision was come to
@@ -236,7 +236,7 @@ module _ {S : Type 0} (g : Ghosts S) (shuts : Shuts g) (settles : Settles g) whe
 
 -- ---- each kind of what is due
 
-module _ {S : Type 0} (g : Ghosts S) (shuts : Shuts g) (settles : Settles g) (f : Frame) (q : Request) (old mid : List (Member S)) (known noted : List (List ℕ)) (grows : Grows known noted) (at_rest : AllRest g old) (before : ℕ) (low : before ≤ greatest_receipts) {E : Type 0} {r : Result Decision E} (it : AsksAll g {X = Decision} {E = E} (λ w decision. Knows known w → IsOf f before w → Decides w q decision) old mid r) where
+module _ {S : Type 0} (g : Ghosts S) (shuts : Shuts g) (settles : Settles g) (f : Frame) (q : Request) (old mid : List (Member S)) (known noted : List (List ℕ)) (grows : Grows known noted) (at_rest : AllRest g old) (before : ℕ) (low : before ≤ greatest_receipts) {E : Type 0} {r : Result Decision E} (it : AsksAll g {X = Decision} {E = E} (DecidesWhere known (IsOf f before) q) old mid r) where
   abbrev So : (World → World → Type 0) → Receipt → Type 0
   So Due due = AllClean g mid → (w : World) → IsSeenBy f known w → AreMembers g old before w → (next : World) × (outcome w q ≡ (Ok due, next)) × (next.frame ≡ w.frame) × Due w next
 

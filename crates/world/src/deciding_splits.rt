@@ -5,14 +5,12 @@ ghost use Rattle.sheet_types.specs.Lines.{HasTypes, is_rect};
 ghost use Rattle.sheet_types.specs.Matrix.{is_good_frame, is_good_rect, first_row};
 ghost use Rattle.sheet_types.specs.Ordered.{is_before};
 ghost use Rattle.sheet_types.specs.Refuse.{greatest_depth, greatest_receipts};
-ghost use Rattle.sheet_types.specs.Step.{cut_of};
-ghost use Rattle.sheet_types.specs.World.{World, Package, receipts_of, holdings};
+ghost use Rattle.sheet_types.specs.World.{World, Package};
 ghost use Rattle.sheet_types.specs.declared.command.Request.{Request};
 ghost use Rattle.known_uuids.specs.Known.{Knows};
-ghost use Rattle.lending.specs.Selecting.{IsSelectionOf};
 ghost use Rattle.world.specs.Asking.{AsksAll};
-ghost use Rattle.world.specs.Deciding.{IsOf, IsNewTo, Decides, HasPlace};
-ghost use Rattle.world.specs.DecidingSplits.{command_of, IsNewSplit, IsLender, uuid_used, reasons_before_cut, place_reasons, value_reasons, IsCutOut, IsGranted, leaves_too_many, IsMadeOf};
+ghost use Rattle.world.specs.Deciding.{IsNewTo, Decides, DecidesWhere, HasPlace};
+ghost use Rattle.world.specs.DecidingSplits.{command_of, IsPlacedSplit, IsAskedSplit, IsLender, uuid_used, reasons_before_cut, place_reasons, value_reasons, IsCutOut, IsSelectedFor, leaves_too_many, IsMadeOf};
 ghost use Rattle.world.specs.Members.{AllRest, AreMembers};
 ghost use Rattle.world.specs.declared.deciding_splits.Asked.{Asked};
 
@@ -147,7 +145,8 @@ fn refused_before_cut<S: Alter + Drop>(
 ) -> Result<Option<Refusal>, Fault>
     requires rests { AllRest S.Store members.old.items }
     requires good { IsTrue (is_good_frame frame.now) }
-    ensures asks { AsksAll S.Store (λ w found. Knows known.now w → frame.now ≡ w.frame → request.now.command ≡ command_of asked.now → depth ≡ (holdings w asked.now.package).depth → found ≡ first_row (reasons_before_cut w request.now)) members.old.items members.new.items result }
+    ensures asks { AsksAll S.Store (λ w found. Knows known.now w → IsAskedSplit frame.now request.now asked.now depth w → found ≡ first_row (reasons_before_cut w request.now))
+        members.old.items members.new.items result }
     ensures rect { IfOk result (λ found. found ≡ None → IsTrue (is_good_rect frame.now asked.now.rect)) }
     ensures shallow { IfOk result (λ found. found ≡ None → depth < greatest_depth) }
 {
@@ -170,7 +169,8 @@ fn cut_at<S: Alter + Drop>(
     requires rests { AllRest S.Store members.old.items }
     requires frame { IsTrue (is_good_frame frame.now) }
     requires rect { IsTrue (is_good_rect frame.now rect.now) }
-    ensures { AsksAll S.Store (λ w answer. frame.now ≡ w.frame → (p : Package) → slice_get w.packages at ≡ Some p → IsCutOut w p mode rect.now answer) members.old.items members.new.items result }
+    ensures { AsksAll S.Store (λ w answer. frame.now ≡ w.frame → (p : Package) → slice_get w.packages at ≡ Some p → IsCutOut w p mode rect.now answer)
+        members.old.items members.new.items result }
 {
     let member = &mut members[at];
     select(&mut member.conn, alloc, frame, rect, mode)
@@ -215,7 +215,8 @@ fn limited<S: Alter + Drop>(members: &[Member<S>], count: u64, due: Lending) -> 
     requires child_at { due.child_at ≤ length members.now }
     requires number { due.receipt.seq ≡ count + 1 }
     requires shallow { due.depth ≤ greatest_depth }
-    ensures decides { (w : World) (q : Request) (s : Asked) → AreMembers S.Store members.now count w → IsMadeOf w q s due → Decides w q result }
+    ensures decides { (w : World) (q : Request) (s : Asked) → AreMembers S.Store members.now count w → IsMadeOf w q s due
+        → Decides w q result }
     ensures place { HasPlace members.now count result }
 {
     if is_too_many(members, due.at, due.left, due.lent, count) {
@@ -238,8 +239,8 @@ fn prepared<S: Alter + Drop>(
     requires rests { AllRest S.Store members.old.items }
     requires small { count ≤ greatest_receipts }
     requires shallow { lender.depth < greatest_depth }
-    ensures asks { AsksAll S.Store (λ w decision. count ≡ length (receipts_of w) → IsNewSplit w request.now asked.now → IsLender w (holdings w asked.now.package) lender → IsGranted w request.now asked.now
-        → IsSelectionOf (cut_of w asked.now.package asked.now.mode asked.now.rect) selection → Decides w request.now decision) members.old.items members.new.items result }
+    ensures asks { AsksAll S.Store (λ w decision. IsSelectedFor count request.now asked.now lender selection w → Decides w request.now decision)
+        members.old.items members.new.items result }
     ensures place { IfOk result (λ decision. HasPlace members.new.items count decision) }
 {
     let things = things_at(members, lender.at, alloc, &selection)?;
@@ -266,7 +267,8 @@ fn prepared<S: Alter + Drop>(
 fn lender_at<S: Alter + Drop>(members: &[Member<S>], at: usize) -> Lender
     requires within { at < length members.now }
     ensures at { result.at ≡ at }
-    ensures kept { (w : World) (count : ℕ) (p : Package) → AreMembers S.Store members.now count w → slice_get w.packages at ≡ Some p → IsLender w p result }
+    ensures kept { (w : World) (count : ℕ) (p : Package) → AreMembers S.Store members.now count w
+        → slice_get w.packages at ≡ Some p → IsLender w p result }
 {
     let member = &members[at];
     Lender {
@@ -291,7 +293,8 @@ fn decide_at<S: Alter + Drop>(
     requires rests { AllRest S.Store members.old.items }
     requires good { IsTrue (is_good_frame frame.now) }
     requires small { count ≤ greatest_receipts }
-    ensures asks { AsksAll S.Store (λ w decision. Knows known.now w → IsOf frame.now count w → IsNewSplit w request.now asked.now → slice_get w.packages at ≡ Some (holdings w asked.now.package) → Decides w request.now decision) members.old.items members.new.items result }
+    ensures asks { AsksAll S.Store (DecidesWhere known.now (IsPlacedSplit frame.now count at request.now asked.now) request.now)
+        members.old.items members.new.items result }
     ensures place { IfOk result (λ decision. HasPlace members.new.items count decision) }
 {
     let lender = lender_at(members.as_slice(), at);
@@ -322,7 +325,8 @@ pub(crate) fn decide_split<S: Alter + Drop>(
     requires rests { AllRest S.Store members.old.items }
     requires good { IsTrue (is_good_frame frame.now) }
     requires small { count ≤ greatest_receipts }
-    ensures asks { AsksAll S.Store (λ w decision. Knows known.now w → IsNewTo frame.now count request.now w → Decides w request.now decision) members.old.items members.new.items result }
+    ensures asks { AsksAll S.Store (DecidesWhere known.now (IsNewTo frame.now count request.now) request.now)
+        members.old.items members.new.items result }
     ensures place { IfOk result (λ decision. HasPlace members.new.items count decision) }
 {
     fits(request.id);

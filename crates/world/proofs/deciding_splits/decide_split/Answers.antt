@@ -15,4 +15,14 @@ returns-in-Some-clause-asks g c =
     asks_weaker g.S.Store _
     (λ decision w count are told knows new.
     let there : AreMembers g.S.Store c.as_slice.result.now count w = subst (λ ms. AreMembers g.S.Store ms count w) (sym c.as_slice.ensures.value) are in
-    told knows new.of_world (record { asked = c.requires.asked; uuid = c.fits.ensures; types = c.has_types.ensures; new = new.new; live = c.in-Some.ensures.live w count there }) (c.in-Some.ensures.holds w count there)) c.decide_at.ensures.asks
+    told knows (record {
+      of_world = new.of_world;
+      split = record {
+        asked = c.requires.asked;
+        uuid = c.fits.ensures;
+        types = c.has_types.ensures;
+        new = new.new;
+        live = c.in-Some.ensures.live w count there;
+      };
+      place = c.in-Some.ensures.holds w count there;
+    })) c.decide_at.ensures.asks
