@@ -21,7 +21,7 @@ use Rattle.sql_meaning.specs.Transactions.{Rests}
 use Rattle.sql_meaning.specs.Stores.{LeavesEither}
 use Rattle.sql_meaning.proofs.Transactions.{Shuts, Settles}
 use Rattle.world.specs.Asking.{AsksAll}
-use Rattle.known_uuids.specs.Known.{Grows, Knows, Notes}
+use Rattle.known_uuids.specs.Known.{Grows, Notes}
 use Rattle.known_uuids.proofs.Remembering.{knows_more}
 use Rattle.world.specs.Carries.{Carries, ServesAll, IsSeenBy, IsBeforeCommit}
 use Rattle.world.specs.Deciding.{IsOf, Decides, DecidesWhere}
@@ -160,7 +160,13 @@ module _ {S : Type 0} (g : Ghosts S) (shuts : Shuts g) (settles : Settles g) whe
       clean = λ clean gone. clean_before g old mid it.stay clean;
       told = λ clean gone reply same_reply w same are.
           let answered : answer ≡ reply = cc in
-          (w, decided (Answered answer) is clean w same are ∙ ap (λ x. (x, w)) answered, refl, members_stay g old mid before w it.stay are, knows_more known noted w grows same.1);
+          record {
+            next = w;
+            told = decided (Answered answer) is clean w same are ∙ ap (λ x. (x, w)) answered;
+            frame = refl;
+            members = members_stay g old mid before w it.stay are;
+            known = knows_more known noted w grows same.1;
+          };
       opens = λ clean gone. decided_opens (Answered answer) is clean;
       beside = λ clean gone reply is' w same are was. none_beside g w.frame (outcome w q).1.packages;
       refused = λ why is' w are. members_stay g old mid before w it.stay are;
@@ -191,7 +197,13 @@ module _ {S : Type 0} (g : Ghosts S) (shuts : Shuts g) (settles : Settles g) whe
             told = λ clean gone reply same_reply w same are.
                 let x = so (made.clean clean gone) w same are in
                 let replied : Ok receipt ≡ reply = cc in
-                (x.0, x.1 ∙ ap (λ a. (Ok a, x.0)) (sym done.0) ∙ ap (λ a. (a, x.0)) replied, x.2, done.3 w x.0 clean gone (members_stay g old mid before w it.stay are) x.3, knows_after q due known noted grows notes w x.0 same.1 x.1);
+                record {
+                  next = x.0;
+                  told = x.1 ∙ ap (λ a. (Ok a, x.0)) (sym done.0) ∙ ap (λ a. (a, x.0)) replied;
+                  frame = x.2;
+                  members = done.3 w x.0 clean gone (members_stay g old mid before w it.stay are) x.3;
+                  known = knows_after q due known noted grows notes w x.0 same.1 x.1;
+                };
             opens = λ clean gone was. made.opens clean gone (decided_opens decision is (made.clean clean gone) was);
             beside = λ clean gone reply same_reply w same are was.
                 let x = so (made.clean clean gone) w same are in

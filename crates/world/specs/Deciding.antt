@@ -79,7 +79,8 @@ abbrev pub HasPlace : {S : Type 0} → List (Member S) → ℕ → Decision → 
 HasPlace members count (Answered reply) = Unit {0}
 HasPlace members count (SplitDue due) = HasLendingPlace due (length members) count
 HasPlace members count (MergeDue due) = HasReturnPlace due (length members) count
-HasPlace members count (ChangeDue due) = (due.at < length members) × (due.receipt.seq ≡ count + 1) × (count + 1 ≤ greatest_receipts)
+HasPlace members count (ChangeDue due) = (due.at < length members) × (due.receipt.seq ≡ count + 1)
+    × (count + 1 ≤ greatest_receipts)
 
 -- What the receipt of what is due names is known.
 abbrev pub IsNoted : List (List ℕ) → Decision → Type 0

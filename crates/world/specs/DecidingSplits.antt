@@ -111,7 +111,8 @@ pub record IsSelectedFor (count : ℕ) (q : Request) (s : Asked) (l : Lender) (t
 
 -- ---- the limits
 
--- The loan is past the limits of a package, or a member is with what is left of it, or one package or one receipt more is too many.
+-- The loan is past the limits of a package, or a member is with what is left of it, or one package or one receipt
+-- more is too many.
 abbrev pub leaves_too_many : {S : Type 0} → List (Member S) → ℕ → Sums → Sums → ℕ → Bool
 leaves_too_many members at left lent count =
     is_past_limits lent || list_any is_past_limits (sums_with members at left)

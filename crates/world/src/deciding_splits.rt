@@ -97,7 +97,8 @@ fn is_used<S: Alter + Drop>(
     id: Uuid,
 ) -> Result<bool, Fault>
     requires { AllRest S.Store members.old.items }
-    ensures { AsksAll S.Store (λ w found. Knows known.now w → found ≡ uuid_used w id) members.old.items members.new.items result }
+    ensures { AsksAll S.Store (λ w found. Knows known.now w → found ≡ uuid_used w id)
+        members.old.items members.new.items result }
 {
     if is_of_archive(members.as_slice(), id) {
         return Ok(true);

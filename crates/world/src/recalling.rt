@@ -44,7 +44,8 @@ fn kept_at<S: Alter + Drop>(
 ) -> Result<Option<Receipt>, Fault>
     requires within { at < length members.old.items }
     requires rests { AllRest S.Store members.old.items }
-    ensures { AsksAll S.Store (λ w found. IfSome found (λ receipt. Some receipt ≡ kept w id)) members.old.items members.new.items result }
+    ensures { AsksAll S.Store (λ w found. IfSome found (λ receipt. Some receipt ≡ kept w id))
+        members.old.items members.new.items result }
 {
     kept_by(members, at, alloc, id)
 }
@@ -58,7 +59,8 @@ fn kept_near<S: Alter + Drop>(
     id: Uuid,
 ) -> Result<Option<Receipt>, Fault>
     requires { AllRest S.Store members.old.items }
-    ensures { AsksAll S.Store (λ w found. IfSome found (λ receipt. Some receipt ≡ kept w id)) members.old.items members.new.items result }
+    ensures { AsksAll S.Store (λ w found. IfSome found (λ receipt. Some receipt ≡ kept w id))
+        members.old.items members.new.items result }
 {
     match live_place(members.as_slice(), known, package) {
         Some(at) => kept_at(members, at, alloc, id),
@@ -74,7 +76,8 @@ pub fn find_kept<S: Alter + Drop>(
     id: Uuid,
 ) -> Result<Option<Receipt>, Fault>
     requires { AllRest S.Store members.old.items }
-    ensures { AsksAll S.Store (λ w found. Knows known.now w → found ≡ kept w id) members.old.items members.new.items result }
+    ensures { AsksAll S.Store (λ w found. Knows known.now w → found ≡ kept w id)
+        members.old.items members.new.items result }
 {
     let Some(package) = known.place_of(id) else {
         return Ok(None);
@@ -93,7 +96,8 @@ fn named_at<S: Alter + Drop>(
 ) -> Result<bool, Fault>
     requires within { at < length members.old.items }
     requires rests { AllRest S.Store members.old.items }
-    ensures { AsksAll S.Store (λ w found. IsTrue found → is_used w identity ≡ true) members.old.items members.new.items result }
+    ensures { AsksAll S.Store (λ w found. IsTrue found → is_used w identity ≡ true)
+        members.old.items members.new.items result }
 {
     named_by(members, at, identity)
 }
@@ -106,7 +110,8 @@ fn named_near<S: Alter + Drop>(
     identity: Uuid,
 ) -> Result<bool, Fault>
     requires { AllRest S.Store members.old.items }
-    ensures { AsksAll S.Store (λ w found. IsTrue found → is_used w identity ≡ true) members.old.items members.new.items result }
+    ensures { AsksAll S.Store (λ w found. IsTrue found → is_used w identity ≡ true)
+        members.old.items members.new.items result }
 {
     match live_place(members.as_slice(), known, package) {
         Some(at) => named_at(members, at, identity),
@@ -121,7 +126,8 @@ pub fn was_used<S: Alter + Drop>(
     identity: Uuid,
 ) -> Result<bool, Fault>
     requires { AllRest S.Store members.old.items }
-    ensures { AsksAll S.Store (λ w found. Knows known.now w → found ≡ is_used w identity) members.old.items members.new.items result }
+    ensures { AsksAll S.Store (λ w found. Knows known.now w → found ≡ is_used w identity)
+        members.old.items members.new.items result }
 {
     let Some(package) = known.place_of(identity) else {
         return Ok(false);
@@ -140,7 +146,8 @@ fn lent_at<S: Alter + Drop>(
 ) -> Result<bool, Fault>
     requires within { at < length members.old.items }
     requires rests { AllRest S.Store members.old.items }
-    ensures { AsksAll S.Store (λ w found. IsTrue found → ever_lent w id ≡ true) members.old.items members.new.items result }
+    ensures { AsksAll S.Store (λ w found. IsTrue found → ever_lent w id ≡ true)
+        members.old.items members.new.items result }
 {
     lent_by(members, at, id)
 }
@@ -153,7 +160,8 @@ fn lent_near<S: Alter + Drop>(
     id: Uuid,
 ) -> Result<bool, Fault>
     requires { AllRest S.Store members.old.items }
-    ensures { AsksAll S.Store (λ w found. IsTrue found → ever_lent w id ≡ true) members.old.items members.new.items result }
+    ensures { AsksAll S.Store (λ w found. IsTrue found → ever_lent w id ≡ true)
+        members.old.items members.new.items result }
 {
     match live_place(members.as_slice(), known, package) {
         Some(at) => lent_at(members, at, id),
@@ -168,7 +176,8 @@ pub(crate) fn was_ever_lent<S: Alter + Drop>(
     id: Uuid,
 ) -> Result<bool, Fault>
     requires { AllRest S.Store members.old.items }
-    ensures { AsksAll S.Store (λ w found. Knows known.now w → found ≡ ever_lent w id) members.old.items members.new.items result }
+    ensures { AsksAll S.Store (λ w found. Knows known.now w → found ≡ ever_lent w id)
+        members.old.items members.new.items result }
 {
     let Some(package) = known.place_of(id) else {
         return Ok(false);
