@@ -102,7 +102,8 @@ pub record IsGranted (w : World) (q : Request) (s : Asked) : Type 0 where
   pub cut : refused w.frame (holdings w s.package) s.mode s.rect ≡ None
 
 -- So it is, and this is selected of the package that lends, after so many receipts.
-pub record IsSelectedFor (count : ℕ) (q : Request) (s : Asked) (l : Lender) (taken : Selection) (w : World) : Type 0 where
+pub record IsSelectedFor (count : ℕ) (q : Request) (s : Asked) (l : Lender) (taken : Selection)
+    (w : World) : Type 0 where
   pub counted : count ≡ length (receipts_of w)
   pub split : IsNewSplit w q s
   pub lends : IsLender w (holdings w s.package) l

@@ -217,7 +217,8 @@ module _ {S : Type 0} (g : Ghosts S) where
 
   -- The replies and the world afterwards are a run of the whole list, with a shelf that had failed so often before
   -- and after.
-  pub record IsRun (qs : List Request) (old : Seen S) (replies : List (Result Receipt Refusal)) (new : Seen S) (before after : ℕ) : Type 0 where
+  pub record IsRun (qs : List Request) (old : Seen S) (replies : List (Result Receipt Refusal)) (new : Seen S)
+      (before after : ℕ) : Type 0 where
     -- the last states of the connections that were dropped
     pub gone : List (Held S)
     pub clean : AllClean g new.members → AreClean g gone → AllClean g old.members

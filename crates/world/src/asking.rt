@@ -40,7 +40,8 @@ pub(crate) fn kept_by<S: Alter + Drop>(
 ) -> Result<Option<Receipt>, Fault>
     requires within { at < length members.old.items }
     requires rests { AllRest S.Store members.old.items }
-    ensures looked { TurnsAt S.Store members.old.items members.new.items at (λ before after. Looks (Sees (λ f p found. IsKept p id found)) before after result) }
+    ensures looked { TurnsAt S.Store members.old.items members.new.items at
+        (λ before after. Looks (Sees (λ f p found. IsKept p id found)) before after result) }
 {
     let member = &mut members[at];
     kept(&mut member.conn, alloc, id)
@@ -72,7 +73,8 @@ pub(crate) fn named_by<S: Alter + Drop>(
 ) -> Result<bool, Fault>
     requires within { at < length members.old.items }
     requires rests { AllRest S.Store members.old.items }
-    ensures looked { TurnsAt S.Store members.old.items members.new.items at (λ before after. Looks (Sees (λ f p found. found ≡ is_named p identity)) before after result) }
+    ensures looked { TurnsAt S.Store members.old.items members.new.items at
+        (λ before after. Looks (Sees (λ f p found. found ≡ is_named p identity)) before after result) }
 {
     let member = &mut members[at];
     names(&mut member.conn, identity)
@@ -102,7 +104,8 @@ pub(crate) fn lent_by<S: Alter + Drop>(
 ) -> Result<bool, Fault>
     requires within { at < length members.old.items }
     requires rests { AllRest S.Store members.old.items }
-    ensures looked { TurnsAt S.Store members.old.items members.new.items at (λ before after. Looks (Sees (λ f p found. found ≡ was_lent p id)) before after result) }
+    ensures looked { TurnsAt S.Store members.old.items members.new.items at
+        (λ before after. Looks (Sees (λ f p found. found ≡ was_lent p id)) before after result) }
 {
     let member = &mut members[at];
     was_lent(&mut member.conn, id)

@@ -82,7 +82,8 @@ fn repeated(
     receipt: Receipt,
     command: &Command,
 ) -> Result<Result<Receipt, Refusal>, Fault>
-    ensures { IfOk result (λ reply. reply ≡ (if bytes_eq receipt.line (line command.now) then Ok receipt else Err IdReused)) }
+    ensures { IfOk result
+        (λ reply. reply ≡ (if bytes_eq receipt.line (line command.now) then Ok receipt else Err IdReused)) }
 {
     let Ok(own) = line(alloc, command) else {
         return Err(Fault::OutOfMemory);
@@ -169,7 +170,8 @@ fn refused_before<S: Alter + Drop>(
     requires within { at < length members.old.items }
     requires rests { AllRest S.Store members.old.items }
     requires good { IsTrue (is_good_frame frame.now) }
-    ensures { AsksAll S.Store (λ w found. Knows known.now w → HasAt frame.now at (package_of request.now.command) w → found ≡ refusal_before w request.now)
+    ensures { AsksAll S.Store
+        (λ w found. Knows known.now w → HasAt frame.now at (package_of request.now.command) w → found ≡ refusal_before w request.now)
         members.old.items members.new.items result }
 {
     if let Some(why) = text_refusal(request) {
@@ -191,8 +193,8 @@ fn limited<S: Alter + Drop>(
 ) -> Decision
     requires within { at < length members.now }
     requires number { receipt.seq ≡ count + 1 }
-    ensures decides { (w : World) → AreMembers S.Store members.now count w → IsPlaced w.frame count at request.now w → refusal_before w request.now ≡ None
-        → receipt ≡ receipt_of w request.now → Decides w request.now result }
+    ensures decides { (w : World) → AreMembers S.Store members.now count w → IsPlaced w.frame count at request.now w
+        → refusal_before w request.now ≡ None → receipt ≡ receipt_of w request.now → Decides w request.now result }
     ensures place { HasPlace members.now count result }
 {
     fits(request.id);
@@ -217,7 +219,8 @@ fn prepared<S: Alter + Drop>(
     requires within { at < length members.old.items }
     requires rests { AllRest S.Store members.old.items }
     requires small { count ≤ greatest_receipts }
-    ensures asks { AsksAll S.Store (λ w decision. IsPlaced w.frame count at request.now w → refusal_before w request.now ≡ None → Decides w request.now decision)
+    ensures asks { AsksAll S.Store
+        (λ w decision. IsPlaced w.frame count at request.now w → refusal_before w request.now ≡ None → Decides w request.now decision)
         members.old.items members.new.items result }
     ensures place { IfOk result (λ decision. HasPlace members.new.items count decision) }
 {

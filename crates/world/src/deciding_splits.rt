@@ -146,7 +146,8 @@ fn refused_before_cut<S: Alter + Drop>(
 ) -> Result<Option<Refusal>, Fault>
     requires rests { AllRest S.Store members.old.items }
     requires good { IsTrue (is_good_frame frame.now) }
-    ensures asks { AsksAll S.Store (λ w found. Knows known.now w → IsAskedSplit frame.now request.now asked.now depth w → found ≡ first_row (reasons_before_cut w request.now))
+    ensures asks { AsksAll S.Store
+        (λ w found. Knows known.now w → IsAskedSplit frame.now request.now asked.now depth w → found ≡ first_row (reasons_before_cut w request.now))
         members.old.items members.new.items result }
     ensures rect { IfOk result (λ found. found ≡ None → IsTrue (is_good_rect frame.now asked.now.rect)) }
     ensures shallow { IfOk result (λ found. found ≡ None → depth < greatest_depth) }
@@ -170,7 +171,8 @@ fn cut_at<S: Alter + Drop>(
     requires rests { AllRest S.Store members.old.items }
     requires frame { IsTrue (is_good_frame frame.now) }
     requires rect { IsTrue (is_good_rect frame.now rect.now) }
-    ensures { AsksAll S.Store (λ w answer. frame.now ≡ w.frame → (p : Package) → slice_get w.packages at ≡ Some p → IsCutOut w p mode rect.now answer)
+    ensures { AsksAll S.Store
+        (λ w answer. frame.now ≡ w.frame → (p : Package) → slice_get w.packages at ≡ Some p → IsCutOut w p mode rect.now answer)
         members.old.items members.new.items result }
 {
     let member = &mut members[at];
@@ -216,8 +218,8 @@ fn limited<S: Alter + Drop>(members: &[Member<S>], count: u64, due: Lending) -> 
     requires child_at { due.child_at ≤ length members.now }
     requires number { due.receipt.seq ≡ count + 1 }
     requires shallow { due.depth ≤ greatest_depth }
-    ensures decides { (w : World) (q : Request) (s : Asked) → AreMembers S.Store members.now count w → IsMadeOf w q s due
-        → Decides w q result }
+    ensures decides { (w : World) (q : Request) (s : Asked) → AreMembers S.Store members.now count w
+        → IsMadeOf w q s due → Decides w q result }
     ensures place { HasPlace members.now count result }
 {
     if is_too_many(members, due.at, due.left, due.lent, count) {
@@ -240,7 +242,8 @@ fn prepared<S: Alter + Drop>(
     requires rests { AllRest S.Store members.old.items }
     requires small { count ≤ greatest_receipts }
     requires shallow { lender.depth < greatest_depth }
-    ensures asks { AsksAll S.Store (λ w decision. IsSelectedFor count request.now asked.now lender selection w → Decides w request.now decision)
+    ensures asks { AsksAll S.Store
+        (λ w decision. IsSelectedFor count request.now asked.now lender selection w → Decides w request.now decision)
         members.old.items members.new.items result }
     ensures place { IfOk result (λ decision. HasPlace members.new.items count decision) }
 {
@@ -294,7 +297,8 @@ fn decide_at<S: Alter + Drop>(
     requires rests { AllRest S.Store members.old.items }
     requires good { IsTrue (is_good_frame frame.now) }
     requires small { count ≤ greatest_receipts }
-    ensures asks { AsksAll S.Store (DecidesWhere known.now (IsPlacedSplit frame.now count at request.now asked.now) request.now)
+    ensures asks { AsksAll S.Store
+        (DecidesWhere known.now (IsPlacedSplit frame.now count at request.now asked.now) request.now)
         members.old.items members.new.items result }
     ensures place { IfOk result (λ decision. HasPlace members.new.items count decision) }
 {
