@@ -34,28 +34,30 @@ use Rattle.kept_stores.specs.Kept.{IsDated}
 use Rattle.kept_stores.proofs.Headed.{head_is_known, lent_head_is_low}
 use Rattle.register_views.specs.Beside.{IsUnknown}
 use Rattle.register_views.proofs.Timed.{step_keeps_timely}
+use Rattle.world.specs.Leaving.{IsBeside, StandsAmong}
 use Rattle.world.specs.Members.{IsMember}
+use Rattle.world.specs.Turning.{LeftAs}
 use Rattle.world.specs.Worlds.{held}
 use Rattle.world.specs.declared.members.Member.{Member}
 use Rattle.opening_laws.specs.Laws.{RestIsStores, RestIsOpened, LeftIsStores, CrashIsOpened, IsKeptWorld}
-use Rattle.opening_laws.specs.Stores.{IsStoreOf, IsStrayStore, ReadsAsNone, AreStoresOf, LeftSoundly, IsSoundlyBeside, StandsSoundlyAmong}
+use Rattle.opening_laws.specs.Stores.{IsStoreOf, IsStrayStore, ReadsAsNone, AreStoresOf}
 use Rattle.opening_laws.proofs.Openings.{opens_again, meets_no_fault}
 use Rattle.opening_laws.proofs.Zipped.{zip_permuted, zip_parts, zip_through, zip_all}
 
 -- ---- one store
 
 -- what was left as a package is read as it again
-reads_again : (f : Frame) (p : Package) (s : State) (trees : Trees) → IsAdopted s trees → LeftSoundly f trees p → Reads f p s.now
+reads_again : (f : Frame) (p : Package) (s : State) (trees : Trees) → IsAdopted s trees → LeftAs f trees p → Reads f p s.now
 reads_again f p s trees adopted d =
     let own : IsSound s.now.schema trees = subst (IsSound s.now.schema) adopted.trees_are adopted.sound in
-    let theirs : IsSound d.0.schema trees = subst (IsSound d.0.schema) (sym d.1) d.2 in
+    let theirs : IsSound d.0.schema trees = subst (IsSound d.0.schema) (sym d.1) d.2.formed.sound in
     let schema : d.0.schema ≡ s.now.schema = sound_alone d.0.schema s.now.schema trees theirs own in
     let same_trees : d.0.trees ≡ s.now.trees = sym d.1 ∙ sym adopted.trees_are in
     let same : d.0 ≡ s.now = λ n. record { schema = schema n; trees = same_trees n } in
-    subst (Reads f p) same d.3
+    subst (Reads f p) same d.2
 
 -- and what was left beside a world is a stray of it
-unknown_again : (w : World) (s : State) (trees : Trees) → IsAdopted s trees → IsSoundlyBeside w.frame w.packages trees → (h : Head) → IsHead s.now h → IsUnknown w h
+unknown_again : (w : World) (s : State) (trees : Trees) → IsAdopted s trees → IsBeside w.frame w.packages trees → (h : Head) → IsHead s.now h → IsUnknown w h
 unknown_again w s trees adopted is h said =
     let reads : Reads w.frame is.other s.now = reads_again w.frame is.other s trees adopted is.reads in
     let e : h ≡ head_of is.other = head_is_known w.frame is.other s.now h reads said in
@@ -67,7 +69,7 @@ unknown_again w s trees adopted is h said =
     }
 
 -- of which no package of it is read
-none_again : (w : World) (s : State) (trees : Trees) → IsAdopted s trees → IsSoundlyBeside w.frame w.packages trees → (p : Package) → Contains w.packages p → Reads w.frame p s.now → ⊥
+none_again : (w : World) (s : State) (trees : Trees) → IsAdopted s trees → IsBeside w.frame w.packages trees → (p : Package) → Contains w.packages p → Reads w.frame p s.now → ⊥
 none_again w s trees adopted is p there reads =
     let own : Reads w.frame is.other s.now = reads_again w.frame is.other s trees adopted is.reads in
     let same : p ≡ is.other = (reads_alone w.frame w.frame p is.other s.now reads own).1 in
@@ -138,17 +140,17 @@ module _ {S : Type 0} (g : Ghosts S) where
           members = parts.0;
           others = parts.1;
           all = subst (IsPermutation again) parts.2 moved.1;
-          each = zip_through IsAgain (LeftSoundly f) (λ _. Unit {0}) (IsStoreOf g w) (λ t h p is _ left is_open. record { reads = reads_again f p (state g h) t is.adopted left; dated = is.moments is_open })
+          each = zip_through IsAgain (LeftAs f) (λ _. Unit {0}) (IsStoreOf g w) (λ t h p is _ left is_open. record { reads = reads_again f p (state g h) t is.adopted left; dated = is.moments is_open })
               among.read parts.0 w.packages (All-each (λ _. Unit {0}) (λ _. tt) w.packages) parts.3 among.each;
-          beside = zip_all IsAgain (IsSoundlyBeside f w.packages) (IsStrayStore g w) (λ t h is beside _. unknown_again w (state g h) t is.adopted beside) among.rest parts.1 among.beside parts.4;
+          beside = zip_all IsAgain (IsBeside f w.packages) (IsStrayStore g w) (λ t h is beside _. unknown_again w (state g h) t is.adopted beside) among.rest parts.1 among.beside parts.4;
         },
-        zip_all IsAgain (IsSoundlyBeside f w.packages) (ReadsAsNone g w) (λ t h is beside _. none_again w (state g h) t is.adopted beside) among.rest parts.1 among.beside parts.4,
+        zip_all IsAgain (IsBeside f w.packages) (ReadsAsNone g w) (λ t h is beside _. none_again w (state g h) t is.adopted beside) among.rest parts.1 among.beside parts.4,
       )
 
   pub crash_is_opened : CrashIsOpened g
-  crash_is_opened q old reply new w contents again step fault usable stands is_open types timely schemas clean left opened moments =
+  crash_is_opened q old reply new w contents again step fault usable stands is_open types timely clean left opened moments =
       let register : IsRegister w = stands.members.register in
-      elim (schemas (step.crash fault usable w stands is_open) clean contents left) [
+      elim (step.crash fault usable w stands is_open clean contents left) [
         | inl before ↦
             let of : AreStoresOf g again w = (left_is_stores w contents again before opened moments).0 in
             ((λ found is clean'. inl (opens_again g w again found (register, timely) of is clean')), (λ refused is clean'. meets_no_fault g w again refused (register, timely) of is clean'))
@@ -156,6 +158,6 @@ module _ {S : Type 0} (g : Ghosts S) where
             let next : World = (outcome w q).1 in
             let kept : IsKeptWorld next = (step_keeps_register w q (outcome w q).0 next types register (inl (refl, refl)), step_keeps_timely w q (outcome w q).0 next types register timely (inl (refl, refl))) in
             let frame : w.frame ≡ next.frame = sym (same_frame w q) in
-            let of : AreStoresOf g again next = (left_is_stores next contents again (subst (λ f. StandsSoundlyAmong f next.packages contents) frame after) opened moments).0 in
+            let of : AreStoresOf g again next = (left_is_stores next contents again (subst (λ f. StandsAmong f next.packages contents) frame after) opened moments).0 in
             ((λ found is clean'. inr (opens_again g next again found kept of is clean')), (λ refused is clean'. meets_no_fault g next again refused kept of is clean'))
       ]

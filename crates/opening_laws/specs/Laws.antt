@@ -15,13 +15,13 @@ use Rattle.sheet_types.specs.declared.refusal.Refusal.{Refusal}
 use Rattle.ledger_laws.specs.Laws.{StoreSight}
 use Rattle.register_views.specs.Beside.{AreViewsOfWorld}
 use Rattle.register_views.specs.Timely.{IsTimely}
-use Rattle.world.specs.Leaving.{AreClean, MayBeLeft}
+use Rattle.world.specs.Leaving.{AreClean, MayBeLeft, StandsAmong}
 use Rattle.world.specs.Members.{AllOpen}
 use Rattle.world.specs.Worlds.{Seen, StandsFor, IsHeld, IsStep, held}
 use Rattle.recovery.specs.Recovered.{AreViewsOf, IsRecovered, IsUnopened, IsWant}
 use Rattle.recovery.specs.declared.recovering.Recovered.{Recovered}
 use Rattle.recovery.specs.declared.recovering.Unopened.{Unopened}
-use Rattle.opening_laws.specs.Stores.{AreStoresOf, IsStrayStore, ReadsAsNone, SayMoments, AreReopened, StandsSoundlyAmong, KeepsSchemas}
+use Rattle.opening_laws.specs.Stores.{AreStoresOf, IsStrayStore, ReadsAsNone, SayMoments, AreReopened}
 
 -- a world whose stores are opened: a register, each receipt of it with a moment
 abbrev pub IsKeptWorld : World → Type 0
@@ -85,7 +85,7 @@ module _ {S : Type 0} (g : Ghosts S) where
   -- Stores that are opened from contents that are those of a world's packages, with others beside them, are stores of that world.
   abbrev pub LeftIsStores : Type 0
   LeftIsStores = (w : World) (contents : List Trees) (again : List (Held S)) →
-      StandsSoundlyAmong w.frame w.packages contents →
+      StandsAmong w.frame w.packages contents →
       AreReopened g again contents → SayMoments g again → AreApart again w
 
   -- what is opened stands for the world before, or for the world that the request makes
@@ -97,7 +97,6 @@ module _ {S : Type 0} (g : Ghosts S) where
   CrashIsOpened = (q : Request) (old : Seen S) (reply : Result Receipt Refusal) (new : Seen S) (w : World) (contents : List Trees) (again : List (Held S)) →
       IsStep g q old reply new → IsFault reply → old.has_failed ≡ false → StandsFor g old w →
       AllOpen g old.members → HasTypes q.command → IsTimely w →
-      KeepsSchemas g w.frame (held g new) w.packages (outcome w q).1.packages →
       AreClean g (held g new) → MayBeLeft g (held g new) contents → AreReopened g again contents → SayMoments g again →
       ((found : Recovered S) (is : IsRecovered g again found) → AreClean g is.read → StandsForOneOf w q found.world)
       × ((refused : Unopened S) → IsUnopened g again refused → AreClean g refused.stores.items → IsWant refused.fault)
