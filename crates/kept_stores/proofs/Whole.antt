@@ -6,7 +6,7 @@ use Rattle.sheet_types.proofs.Every.{All-of_map}
 use Rattle.package_tables.specs.Package.{tables_of}
 use Rattle.identity_register.specs.Reads.{head_row}
 use Rattle.store_forms.specs.Frames.{HasMoment}
-use Rattle.kept_stores.specs.Laws.{KeptStoreIsWhole, NewPackageIsDated, ChangeIsDated, MadeIsDated}
+use Rattle.kept_stores.specs.Laws.{KeptStoreIsWhole, ReadIsDated, NewPackageIsDated, ChangeIsDated, MadeIsDated}
 use Rattle.kept_stores.proofs.Headed.{row_of_head}
 use Rattle.kept_stores.proofs.Ranged.{in_ranges}
 use Rattle.kept_stores.proofs.Received.{receipts_range, claims_are}
@@ -28,6 +28,13 @@ kept_store_is_whole w p db kept bounds store =
     }
 
 -- ---- moments
+
+pub read_is_dated : ReadIsDated
+unfolding HasMoment
+read_is_dated f p db reads = record {
+  created = subst (AllByRecursion (λ h. is_moment h.created ≡ true)) (sym reads.says.head) (reads.says.moment, tt);
+  changed = reads.says.dated;
+}
 
 pub change_is_dated : ChangeIsDated
 unfolding HasMoment

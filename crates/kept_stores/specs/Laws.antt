@@ -33,6 +33,10 @@ LentHeadIsLow = (db : Database) (h : Head) → IsHead db h → is_some h.parent 
 
 -- ---- moments
 
+-- A store that reads as a package says when it was made, and when each table was last changed.
+abbrev pub ReadIsDated : Type 0
+ReadIsDated = (f : Frame) (p : Package) (db : Database) → Reads f p db → IsDated (tables_of db)
+
 -- A new package says the moment of its head everywhere.
 abbrev pub NewPackageIsDated : Type 0
 NewPackageIsDated = (f : Frame) (head : HeadRow) → is_moment head.created ≡ true → IsDated (new_tables f head)

@@ -1,5 +1,5 @@
 //! Laws of stores that read as packages of a register, each the contract of a function that does nothing.
-ghost use Rattle.kept_stores.specs.Laws.{KeptStoreIsWhole, HeadIsKnown, LentHeadIsLow, NewPackageIsDated, ChangeIsDated, MadeIsDated};
+ghost use Rattle.kept_stores.specs.Laws.{KeptStoreIsWhole, HeadIsKnown, LentHeadIsLow, ReadIsDated, NewPackageIsDated, ChangeIsDated, MadeIsDated};
 
 /// A store that reads as a package of a register, and says moments, is whole and tied; head and claims are the package's.
 pub fn kept_store_is_whole()
@@ -14,6 +14,11 @@ pub fn head_is_known()
 /// The head of a loan is not that of an archive.
 pub fn lent_head_is_low()
     ensures { LentHeadIsLow }
+{}
+
+/// A store that reads as a package says moments.
+pub fn read_is_dated()
+    ensures { ReadIsDated }
 {}
 
 /// A new package says the moment at which it was made, at its head and of each table.
