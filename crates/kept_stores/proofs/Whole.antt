@@ -2,11 +2,10 @@
 use Rattle.std.proofs.Common.{◌≡◌, true, sym, subst}
 use Rattle.std.specs.List.{AllByRecursion}
 use Rattle.sheet_types.specs.Texts.{is_moment}
-use Rattle.sheet_types.proofs.Every.{All-of_map}
 use Rattle.package_tables.specs.Package.{tables_of}
 use Rattle.identity_register.specs.Reads.{head_row}
 use Rattle.store_forms.specs.Frames.{HasMoment}
-use Rattle.kept_stores.specs.Laws.{KeptStoreIsWhole, ReadIsDated, NewPackageIsDated, ChangeIsDated, MadeIsDated}
+use Rattle.kept_stores.specs.Laws.{KeptStoreIsWhole, ReadIsDated}
 use Rattle.kept_stores.proofs.Headed.{row_of_head}
 use Rattle.kept_stores.proofs.Ranged.{in_ranges}
 use Rattle.kept_stores.proofs.Received.{receipts_range, claims_are}
@@ -34,18 +33,4 @@ unfolding HasMoment
 read_is_dated f p db reads = record {
   created = subst (AllByRecursion (λ h. is_moment h.created ≡ true)) (sym reads.says.head) (reads.says.moment, tt);
   changed = reads.says.dated;
-}
-
-pub change_is_dated : ChangeIsDated
-unfolding HasMoment
-change_is_dated f at db moment is = subst (AllByRecursion HasMoment) (sym is) (moment, (moment, (moment, tt)))
-
-pub new_package_is_dated : NewPackageIsDated
-unfolding HasMoment
-new_package_is_dated f head moment = record { created = (moment, tt); changed = (moment, (moment, (moment, tt))) }
-
-pub made_is_dated : MadeIsDated
-made_is_dated f at db moment made last_change = record {
-  created = All-of_map (λ c. is_moment c ≡ true) (λ h. h.created) (tables_of db).heads (subst (AllByRecursion (λ c. is_moment c ≡ true)) (sym made) (moment, tt));
-  changed = change_is_dated f at db moment last_change;
 }
