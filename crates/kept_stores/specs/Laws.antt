@@ -6,16 +6,15 @@ use Rattle.sheet_types.specs.Opening.{Head, head_of}
 use Rattle.sheet_types.specs.Register.{IsKeptPackage}
 use Rattle.sheet_types.specs.World.{World, Package}
 use Rattle.sheet_types.specs.declared.frame.Frame.{Frame}
-use Rattle.package_tables.specs.Package.{tables_of}
 use Rattle.identity_register.specs.Reads.{Reads}
 use Rattle.store_forms.specs.Heads.{IsHead}
 use Rattle.register_views.specs.Timely.{IsInBounds}
-use Rattle.kept_stores.specs.Kept.{IsDated, IsKeptStore, IsWholeAs}
+use Rattle.kept_stores.specs.Kept.{IsWholeAs}
 
--- A store that reads as a package which keeps its rules, is in bounds, and says moments, is whole and tied; head and claims are the package's.
+-- A store that reads as a package which keeps its rules and is in bounds is whole and tied; head and claims are the package's.
 abbrev pub KeptStoreIsWhole : Type 0
 KeptStoreIsWhole = (w : World) (p : Package) (db : Database) → IsKeptPackage w p → IsInBounds p →
-    IsKeptStore w.frame p db → IsWholeAs w.frame p db
+    Reads w.frame p db → IsWholeAs w.frame p db
 
 -- The head that a store says is that of the package that it reads as.
 abbrev pub HeadIsKnown : Type 0
@@ -25,9 +24,3 @@ HeadIsKnown = (f : Frame) (p : Package) (db : Database) (h : Head) → Reads f p
 abbrev pub LentHeadIsLow : Type 0
 LentHeadIsLow = (db : Database) (h : Head) → IsHead db h → is_some h.parent ≡ true →
     ((h.depth == 0) ≡ false) × IsUuid h.uuid
-
--- ---- moments
-
--- A store that reads as a package says when it was made, and when each table was last changed.
-abbrev pub ReadIsDated : Type 0
-ReadIsDated = (f : Frame) (p : Package) (db : Database) → Reads f p db → IsDated (tables_of db)

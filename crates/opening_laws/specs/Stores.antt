@@ -7,16 +7,14 @@ use Rattle.sqlite.specs.Tree.{Trees}
 use Rattle.sheet_types.specs.Opening.{Head}
 use Rattle.sheet_types.specs.World.{World, Package}
 use Rattle.sql_meaning.specs.Transactions.{IsAdopted}
-use Rattle.package_tables.specs.Package.{tables_of}
 use Rattle.identity_register.specs.Reads.{Reads}
 use Rattle.store_forms.specs.Heads.{IsHead}
 use Rattle.register_views.specs.Beside.{IsUnknown}
-use Rattle.kept_stores.specs.Kept.{IsDated, IsKeptStore}
 
 module _ {S : Type 0} (g : Ghosts S) where
-  -- where it is open, the store reads as the package and says moments
+  -- where it is open, the store reads as the package
   abbrev pub IsStoreOf : World → Held S → Package → Type 0
-  IsStoreOf w h p = IsTrue (state g h).is_open → IsKeptStore w.frame p (state g h).now
+  IsStoreOf w h p = IsTrue (state g h).is_open → Reads w.frame p (state g h).now
 
   -- where it is open, whatever head it says is that of a loan that is no package of the world. It may have none, and be any database
   abbrev pub IsStrayStore : World → Held S → Type 0
@@ -34,10 +32,6 @@ module _ {S : Type 0} (g : Ghosts S) where
     pub all : IsPermutation stores (members ++ others)
     pub each : AllZip (IsStoreOf w) members w.packages
     pub beside : AllByRecursion (IsStrayStore w) others
-
-  -- where it is open, each says moments
-  abbrev pub SayMoments : List (Held S) → Type 0
-  SayMoments stores = AllByRecursion (λ h. IsTrue (state g h).is_open → IsDated (tables_of (state g h).now)) stores
 
   -- each was opened from these contents, in turn
   abbrev pub AreReopened : List (Held S) → List Trees → Type 0
