@@ -134,7 +134,9 @@ module _ (f : Frame) (p : Package) (t : Tables) (says : Says f p t) (r : Receipt
   enters = record {
     good = says.good;
     fixed = says.fixed;
+    dated = says.dated;
     created = says.created;
+    moment = says.moment;
     fit_head = says.fit_head;
     head = says.head;
     numbered = says.numbered;

@@ -1,18 +1,20 @@
 -- What is entered in a package's custody, and what it answers. Profile.
-use Rattle.std.specs.Prelude.{◌≡◌, ℕ, Bool, false, ◌&&◌, List, Option, MatchOption, Contains}
+use Rattle.std.specs.Prelude.{◌≡◌, ℕ, Bool, true, false, ◌&&◌, List, Option, MatchOption, Contains}
 use Rattle.std.specs.List.{list_any}
 use Rattle.sheet_types.specs.Balance.{names_identity}
 use Rattle.sheet_types.specs.Custody.{is_split, ends_at}
 use Rattle.sheet_types.specs.Ordered.{has}
+use Rattle.sheet_types.specs.Texts.{is_moment}
 use Rattle.sheet_types.specs.World.{Package, receipt_key}
 use Rattle.sheet_types.specs.declared.receipt.Receipt.{Receipt}
 use Rattle.identity_register.specs.Reads.{IsFitReceipt}
 
--- a receipt of an unused number and request, whose UUIDs and digests are such
+-- a receipt of an unused number and request, with a moment, whose UUIDs and digests are such
 pub record IsNewReceipt (r : Receipt) (p : Package) : Type 0 where
   pub number : has receipt_key (receipt_key r) p.receipts ≡ false
   pub request : has (λ x. x.request) r.request p.receipts ≡ false
   pub fit : IsFitReceipt r
+  pub moment : is_moment r.at ≡ true
 
 -- a receipt that the package keeps for a request, or none
 abbrev pub IsKept : Package → List ℕ → Option Receipt → Type 0

@@ -25,6 +25,7 @@ use Rattle.stored_items.specs.Ranges.{AreItemsInRange}
 use Rattle.stored_items.specs.Tied.{AreTied}
 use Rattle.stored_receipts.specs.Ranges.{AreReceiptsInRange}
 use Rattle.surveys.specs.Views.{IsWhole, IsFormed, IsViewOf}
+use Rattle.surveys.proofs.Packing.{moments_said}
 use Rattle.first_stores.specs.Copies.{copy_row}
 use Rattle.first_stores.specs.Surveying.{IsFirstRead}
 use Rattle.first_stores.specs.Views.{IsFirstWhole, IsFirstFormed, IsFirstViewOf}
@@ -167,7 +168,9 @@ module _ (db copy : Database) (f : Frame) (h : StoreHead) (headed : IsHeadAt (po
       record {
         good = it.good;
         fixed = record { spatial_ref_sys = fixed.spatial_ref_sys; contents = fixed.contents; tile_matrix_set = fixed.tile_matrix_set; tile_matrix = fixed.tile_matrix; relations = refl };
+        dated = moments_said (tables_of db).contents read.dated;
         created = row.created;
+        moment = own.created;
         fit_head = it.fit_head;
         head = ap (map (with_version (pos 2))) headed.1.1 ∙ ap (λ r. r ∷ []) (head_brought p it.created (one_row (copy_row h) (head_row p it.created) it.head));
         numbered = it.numbered;

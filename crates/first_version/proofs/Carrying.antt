@@ -2,7 +2,7 @@
 use Rattle.std.proofs.Common.{◌≡◌, ℕ, pos, List, map, Bool, true, codes, refl, sym, ap, subst, ◌∙◌}
 use Rattle.std.specs.List.{AllByRecursion}
 use Rattle.sqlite.specs.Table.{Table}
-use Rattle.sqlite.specs.Effect.{Database}
+use Rattle.sqlite.specs.Effect.{Database, IsDatabase}
 use Rattle.sheet_types.specs.Ordered.{arranged}
 use Rattle.sheet_types.specs.declared.command.Mapping.TheVariants.{TilesMedia, RowsMedia, RowsTiles}
 use Rattle.sql_meaning.specs.Known.{HasTable, IsQuiet, is_other}
@@ -117,8 +117,9 @@ module _ (stays : List ℕ → Bool) (old new : Database) (it : Carries stays ol
   }
 
 -- fourteen tables and the last are fifteen
-pub with_last : (new : Database) → AreFormedAt (pos 1) new → IsFormed rows_tiles_shape new → AreFormed new
-with_last new g last = record {
+pub with_last : (new : Database) → IsDatabase new → AreFormedAt (pos 1) new → IsFormed rows_tiles_shape new → AreFormed new
+with_last new sound g last = record {
+  sound = sound;
   quiet = g.quiet;
   spatial_ref_sys = g.spatial_ref_sys;
   contents = g.contents;
@@ -158,9 +159,9 @@ first_of db f = record {
   moved = f.moved;
 }
 
-pub fifteen_carried : (old new : Database) → Carries (λ name. true) old new → AreFormed old → AreFormed new × (tables_of new ≡ tables_of old)
-fifteen_carried old new it f =
+pub fifteen_carried : (old new : Database) → Carries (λ name. true) old new → IsDatabase new → AreFormed old → AreFormed new × (tables_of new ≡ tables_of old)
+fifteen_carried old new it sound f =
     let last = carried rows_tiles_shape (pairs_listed RowsTiles).laws (λ name. true) old new it refl f.rows_tiles in (
-      with_last new (still_formed (λ name. true) old new it (λ name other. refl) (first_of old f)) last.0,
+      with_last new sound (still_formed (λ name. true) old new it (λ name other. refl) (first_of old f)) last.0,
       still_said (λ name. true) old new it (λ name other. refl) (first_of old f) (tables_of new).rows_tiles ∙ ap (λ l. record (tables_of old) { rows_tiles = l }) last.1,
     )

@@ -19,7 +19,7 @@ use Rattle.sql_meaning.specs.Index.{Indexed}
 use Rattle.sql_meaning.specs.Writing.{IsKeyed}
 use Rattle.sql_meaning.proofs.Resolve.{understood_is}
 use Rattle.sql_meaning.proofs.Create.{makes, creates_in, plain_of}
-use Rattle.sql_meaning.proofs.Indexes.{makes_index}
+use Rattle.sql_meaning.proofs.Indexes.{makes_index, index_sound}
 use Rattle.sql_meaning.proofs.Writes.{is_in}
 use Rattle.package_tables.specs.Damaged.{AreFormedAt}
 use Rattle.package_tables.specs.Package.{tables_of}
@@ -63,7 +63,7 @@ has_it old new made sound formed free =
     let last = third_formed old new made sound free.table in
     let carries = third_carries old new made in
     record {
-      formed = with_last new (still_formed (λ name. true) old new carries (λ name other. refl) formed) last.0;
+      formed = with_last new sound (still_formed (λ name. true) old new carries (λ name other. refl) formed) last.0;
       says = ap (λ l. record (tables_of new) { rows_tiles = l }) last.1 ∙ still_said (λ name. true) old new carries (λ name other. refl) formed [];
       free = subst (λ (s : Schema). IsFree s (codes "by_rows_tiles")) (sym made.schema) (index_still_free old.schema free.index);
     }
@@ -91,7 +91,8 @@ third_indexed old new count h formed free =
     let it = index_made p.tree in
     let made = makes_index old new index_text it.0 it.1 p.at (rows_tiles p.tree) (by_rows_tiles p.tree 0) count it.2 p.has free h in
     let carries = index_carries (rows_tiles p.tree) old.now new.now made in
-    let both = fifteen_carried old.now new.now carries formed in
+    let sound = index_sound old new index_text it.0 it.1 p.at (rows_tiles p.tree) (by_rows_tiles p.tree 0) count it.2 p.has free h in
+    let both = fifteen_carried old.now new.now carries sound formed in
     let has = carries.has p.at (rows_tiles p.tree) refl p.has in
     let last = by_rows_tiles p.tree (next_tree old.now.schema) in (
       both.0,

@@ -95,7 +95,9 @@ adds f p t n says fresh uuid range free =
     record {
       good = says.good;
       fixed = says.fixed;
+      dated = says.dated;
       created = says.created;
+      moment = says.moment;
       fit_head = says.fit_head;
       head = says.head;
       numbered = n ∷ ns;

@@ -286,7 +286,9 @@ deletes f p t says n there free =
     record {
       good = says.good;
       fixed = says.fixed;
+      dated = says.dated;
       created = says.created;
+      moment = says.moment;
       fit_head = says.fit_head;
       head = says.head;
       numbered = filter (kept p n) ns;

@@ -42,7 +42,9 @@ says_links : (f : Frame) (p : Package) (t : Tables) (says : Says f p t) (linked 
 says_links f p t says linked links tiles_media rows_media rows_tiles ends of_links = record {
   good = says.good;
   fixed = says.fixed;
+  dated = says.dated;
   created = says.created;
+  moment = says.moment;
   fit_head = says.fit_head;
   head = says.head;
   numbered = says.numbered;

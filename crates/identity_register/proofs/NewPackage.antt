@@ -6,6 +6,7 @@ use Rattle.sqlite.specs.State.{State}
 use Rattle.sql_meaning.specs.Transactions.{Holds}
 use Rattle.sheet_types.specs.Lines.{IsUuid}
 use Rattle.sheet_types.specs.Matrix.{is_good_frame}
+use Rattle.sheet_types.specs.Texts.{is_moment}
 use Rattle.sheet_types.specs.declared.frame.Frame.{Frame}
 use Rattle.package_tables.specs.Creation.{head_of, new_tables, HoldsTables}
 use Rattle.package_tables.specs.Fixed.{contents_of}
@@ -13,13 +14,15 @@ use Rattle.package_tables.specs.declared.rows.HeadRow.{HeadRow}
 use Rattle.identity_register.specs.Creation.{new_package, Keeps, IsMadeAt}
 use Rattle.identity_register.specs.Reads.{Reads, Says, is_fit_end}
 
-module _ (f : Frame) (uuid : List ℕ) (parent : Option (List ℕ)) (depth loan : ℕ) (created : List ℕ) (good : IsTrue (is_good_frame f)) (fit : IsUuid uuid) (fit_parent : is_fit_end parent ≡ true) where
+module _ (f : Frame) (uuid : List ℕ) (parent : Option (List ℕ)) (depth loan : ℕ) (created : List ℕ) (good : IsTrue (is_good_frame f)) (moment : is_moment created ≡ true) (fit : IsUuid uuid) (fit_parent : is_fit_end parent ≡ true) where
   new_says : Says f (new_package uuid parent depth loan) (new_tables f (head_of uuid parent depth loan created))
   unfolding IsDistinct
   new_says = record {
     good = good;
     fixed = record { spatial_ref_sys = refl; contents = refl; tile_matrix_set = refl; tile_matrix = refl; relations = refl };
+    dated = (moment, (moment, (moment, tt)));
     created = created;
+    moment = moment;
     fit_head = record { uuid = fit; parent = fit_parent };
     head = refl;
     numbered = [];

@@ -1,6 +1,7 @@
 -- What a call on a store makes of the package that it reads as, and what it answers of it.
-use Rattle.std.specs.Prelude.{◌≡◌, ℕ, List}
+use Rattle.std.specs.Prelude.{◌≡◌, ℕ, true, List}
 use Rattle.sqlite.specs.Effect.{Database}
+use Rattle.sheet_types.specs.Texts.{is_moment}
 use Rattle.sheet_types.specs.World.{Package}
 use Rattle.sheet_types.specs.declared.frame.Frame.{Frame}
 use Rattle.package_tables.specs.Fixed.{contents_of}
@@ -19,6 +20,6 @@ Sees Answer x old new = (new ≡ old) × ((f : Frame) (p : Package) → Reads f 
 abbrev pub HasLastChange : Frame → List ℕ → Database → Type 0
 HasLastChange f at db = (tables_of db).contents ≡ contents_of f at
 
--- A store that reads as a package reads as the same one, this is the moment of its last change, and beside the contents its tables say what they said.
+-- Where this is a moment, a store that reads as a package reads as the same one, it is that of its last change, and beside the contents its tables say what they said.
 abbrev pub Dates : List ℕ → Database → Database → Type 0
-Dates at old new = (f : Frame) (p : Package) → Reads f p old → Reads f p new × HasLastChange f at new × (tables_of new ≡ record (tables_of old) { contents = (tables_of new).contents })
+Dates at old new = is_moment at ≡ true → (f : Frame) (p : Package) → Reads f p old → Reads f p new × HasLastChange f at new × (tables_of new ≡ record (tables_of old) { contents = (tables_of new).contents })

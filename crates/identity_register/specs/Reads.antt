@@ -7,7 +7,7 @@ use Rattle.sqlite.specs.Effect.{Database}
 use Rattle.sheet_types.specs.Ordered.{arranged}
 use Rattle.sheet_types.specs.Matrix.{is_good_frame}
 use Rattle.sheet_types.specs.Reading.{optional_uuid_text}
-use Rattle.sheet_types.specs.Texts.{uuid_text}
+use Rattle.sheet_types.specs.Texts.{uuid_text, is_moment}
 use Rattle.sheet_types.specs.World.{Package, item_key, link_key, receipt_key, kind_number}
 use Rattle.sheet_types.specs.Lines.{is_uuid, is_bytes}
 use Rattle.sheet_types.specs.Register.{HasEnds}
@@ -24,6 +24,7 @@ use Rattle.package_tables.specs.Creation.{head_of}
 use Rattle.package_tables.specs.Package.{Tables, tables_of, AreFormed}
 use Rattle.package_tables.specs.Fixed.{HasFixed}
 use Rattle.package_tables.specs.declared.rows.AttributeRow.{AttributeRow}
+use Rattle.package_tables.specs.declared.rows.ContentsRow.{ContentsRow}
 use Rattle.package_tables.specs.declared.rows.HeadRow.{HeadRow}
 use Rattle.package_tables.specs.declared.rows.IdentityRow.{IdentityRow}
 use Rattle.package_tables.specs.declared.rows.MappingRow.{MappingRow}
@@ -116,11 +117,17 @@ pub record SaysReceipts (entered of_package : List Receipt) (receipt_table : Lis
   pub receipts : receipt_table ≡ arranged receipt_shape.key (map receipt_row entered)
   pub moved : moved_table ≡ arranged moved_shape.key (flat_map moved_rows entered)
 
+-- each row of the contents says a moment of the last change (OGC GeoPackage 1.3, 1.1.3)
+abbrev pub SayMoments : List ContentsRow → Type 0
+SayMoments listed = AllByRecursion (λ c. is_moment c.last_change ≡ true) listed
+
 -- The tables say this package: its items under some numbers, its links and its receipts, in whatever order they came, are all that the tables hold.
 pub record Says (f : Frame) (p : Package) (t : Tables) : Type 0 where
   pub good : is_good_frame f ≡ true
   pub fixed : HasFixed f t
+  pub dated : SayMoments t.contents
   pub created : List ℕ
+  pub moment : is_moment created ≡ true
   pub fit_head : IsFitHead p.uuid p.parent
   pub head : t.heads ≡ head_row p created ∷ []
   pub numbered : List Numbered

@@ -1,8 +1,9 @@
 //! A package that comes into being.
-ghost use Rattle.std.specs.Prelude.{IfOk, IsTrue};
+ghost use Rattle.std.specs.Prelude.{◌≡◌, true, IfOk, IsTrue};
 ghost use Rattle.sqlite.specs.State.{HasCleanDisk};
 ghost use Rattle.sqlite.specs.Held.{state};
 ghost use Rattle.sheet_types.specs.Matrix.{is_good_frame};
+ghost use Rattle.sheet_types.specs.Texts.{is_moment};
 ghost use Rattle.sql_meaning.specs.Blank.{IsBlank, no_schema};
 ghost use Rattle.sql_meaning.specs.Transactions.{Rests};
 ghost use Rattle.package_tables.specs.Creation.{IsFitInfo};
@@ -15,7 +16,7 @@ use sheet_types::frame::Frame;
 use sqlite::{Alter, Connection};
 use std::alloc::Global;
 
-/// Makes the package that a head tells, with no items, no links and no receipts, in a store that is blank where its disk is clean.
+/// Makes the package that a head tells, with no items, no links and no receipts, in a store that is blank where its disk is clean. It reads as that package where the moment of making is one.
 ///
 /// # Errors
 ///
@@ -29,7 +30,7 @@ pub fn create<S: Alter + Drop>(
     requires rests { Rests (state S.Store conn) }
     requires frame { IsTrue (is_good_frame frame.now) }
     requires info { IsFitInfo info.now.depth info.now.loan }
-    ensures made { (HasCleanDisk (state S.Store conn) → IsBlank no_schema (state S.Store conn).now) → IfOk result (λ made. HasCleanDisk (state S.Store made)
+    ensures made { is_moment info.now.created.now ≡ true → (HasCleanDisk (state S.Store conn) → IsBlank no_schema (state S.Store conn).now) → IfOk result (λ made. HasCleanDisk (state S.Store made)
         → Keeps frame.now (new_package info.now.package info.now.parent info.now.depth info.now.loan) (state S.Store made)) }
     ensures dated { (HasCleanDisk (state S.Store conn) → IsBlank no_schema (state S.Store conn).now) → IfOk result (λ made. HasCleanDisk (state S.Store made) → IsMadeAt frame.now info.now.created.now (state S.Store made)) }
     ensures rests { IfOk result (λ made. Rests (state S.Store made)) }

@@ -1,6 +1,7 @@
 //! The moment of the last change of a package.
-ghost use Rattle.std.specs.Prelude.{◌≡◌, ⊤};
+ghost use Rattle.std.specs.Prelude.{◌≡◌, true};
 ghost use Rattle.sqlite.specs.Held.{state};
+ghost use Rattle.sheet_types.specs.Texts.{is_moment};
 ghost use Rattle.sql_meaning.specs.Transactions.{Steps};
 ghost use Rattle.identity_register.specs.Calls.{Becomes, Dates};
 
@@ -12,7 +13,7 @@ use sqlite::{Alter, Transaction};
 pub fn date_contents<S: Alter>(tx: &mut Transaction<'_, S>, at: &str) -> Result<(), Fault>
     ensures same_reference { tx.new.conn.ghost_name ≡ tx.old.conn.ghost_name }
     ensures dated { Steps (λ _. Dates at.now) (state S.Store tx.old.conn.now) (state S.Store tx.new.conn.now) result }
-    ensures steps { Steps (λ _. Becomes (λ _. ⊤) (λ p. p)) (state S.Store tx.old.conn.now) (state S.Store tx.new.conn.now) result }
+    ensures steps { Steps (λ _. Becomes (λ _. is_moment at.now ≡ true) (λ p. p)) (state S.Store tx.old.conn.now) (state S.Store tx.new.conn.now) result }
 {
     set_last_change(tx, at, "sheet_media")?;
     set_last_change(tx, at, "sheet_rows")?;

@@ -1,44 +1,31 @@
--- A store that reads as a package of a register, and says moments, is whole and tied.
-use Rattle.std.proofs.Common.{◌≡◌, true, sym, subst}
+-- A store that reads as a package of a register is whole and tied.
+use Rattle.std.proofs.Common.{List}
 use Rattle.std.specs.List.{AllByRecursion}
-use Rattle.sheet_types.specs.Texts.{is_moment}
-use Rattle.sheet_types.proofs.Every.{All-of_map}
 use Rattle.package_tables.specs.Package.{tables_of}
-use Rattle.identity_register.specs.Reads.{head_row}
+use Rattle.package_tables.specs.declared.rows.ContentsRow.{ContentsRow}
+use Rattle.identity_register.specs.Reads.{head_row, SayMoments}
 use Rattle.store_forms.specs.Frames.{HasMoment}
-use Rattle.kept_stores.specs.Laws.{KeptStoreIsWhole, NewPackageIsDated, ChangeIsDated, MadeIsDated}
+use Rattle.kept_stores.specs.Laws.{KeptStoreIsWhole}
 use Rattle.kept_stores.proofs.Headed.{row_of_head}
 use Rattle.kept_stores.proofs.Ranged.{in_ranges}
 use Rattle.kept_stores.proofs.Received.{receipts_range, claims_are}
 use Rattle.kept_stores.proofs.Ties.{all_tied}
 
+-- a package says a moment in each row of the contents
+moments_told : (listed : List ContentsRow) → SayMoments listed → AllByRecursion HasMoment listed
+unfolding HasMoment
+moments_told listed dated = dated
+
 pub kept_store_is_whole : KeptStoreIsWhole
-kept_store_is_whole w p db kept bounds store =
-    let says = store.reads.says in
-    let moment : is_moment says.created ≡ true = (subst (AllByRecursion (λ h. is_moment h.created ≡ true)) says.head store.dated.created).0 in
+kept_store_is_whole w p db kept bounds reads =
+    let says = reads.says in
     record {
-      formed = store.reads.formed;
-      headed = (store.reads.formed.heads, (head_row p says.created, says.head, row_of_head p says.created says.fit_head bounds.levelled moment));
+      formed = reads.formed;
+      headed = (reads.formed.heads, (head_row p says.created, says.head, row_of_head p says.created says.fit_head bounds.levelled says.moment));
       frame = (says.good, says.fixed);
-      dated = store.dated.changed;
+      dated = moments_told (tables_of db).contents says.dated;
       items = in_ranges w p (tables_of db) kept says;
       receipts = receipts_range says.entered p.receipts (tables_of db).receipts (tables_of db).moved says.of_receipts kept.receipts bounds.receipts;
       tied = all_tied w.frame p (tables_of db) says;
       claimed = claims_are says.entered p.receipts (tables_of db).receipts (tables_of db).moved says.of_receipts kept.receipts;
     }
-
--- ---- moments
-
-pub change_is_dated : ChangeIsDated
-unfolding HasMoment
-change_is_dated f at db moment is = subst (AllByRecursion HasMoment) (sym is) (moment, (moment, (moment, tt)))
-
-pub new_package_is_dated : NewPackageIsDated
-unfolding HasMoment
-new_package_is_dated f head moment = record { created = (moment, tt); changed = (moment, (moment, (moment, tt))) }
-
-pub made_is_dated : MadeIsDated
-made_is_dated f at db moment made last_change = record {
-  created = All-of_map (λ c. is_moment c ≡ true) (λ h. h.created) (tables_of db).heads (subst (AllByRecursion (λ c. is_moment c ≡ true)) (sym made) (moment, tt));
-  changed = change_is_dated f at db moment last_change;
-}

@@ -1,26 +1,20 @@
 -- Laws of stores that read as packages of a register. Profile.
-use Rattle.std.specs.Prelude.{◌≡◌, ◌==◌, ℕ, true, false, is_some, List, [], ◌∷◌, map}
+use Rattle.std.specs.Prelude.{◌≡◌, ◌==◌, true, false, is_some}
 use Rattle.sqlite.specs.Effect.{Database}
 use Rattle.sheet_types.specs.Lines.{IsUuid}
 use Rattle.sheet_types.specs.Opening.{Head, head_of}
 use Rattle.sheet_types.specs.Register.{IsKeptPackage}
-use Rattle.sheet_types.specs.Texts.{is_moment}
 use Rattle.sheet_types.specs.World.{World, Package}
 use Rattle.sheet_types.specs.declared.frame.Frame.{Frame}
-use Rattle.package_tables.specs.Creation.{new_tables}
-use Rattle.package_tables.specs.Package.{tables_of}
-use Rattle.package_tables.specs.declared.rows.HeadRow.{HeadRow}
-use Rattle.identity_register.specs.Calls.{HasLastChange}
 use Rattle.identity_register.specs.Reads.{Reads}
-use Rattle.store_forms.specs.Frames.{AreDated}
 use Rattle.store_forms.specs.Heads.{IsHead}
 use Rattle.register_views.specs.Timely.{IsInBounds}
-use Rattle.kept_stores.specs.Kept.{IsDated, IsKeptStore, IsWholeAs}
+use Rattle.kept_stores.specs.Kept.{IsWholeAs}
 
--- A store that reads as a package which keeps its rules, is in bounds, and says moments, is whole and tied; head and claims are the package's.
+-- A store that reads as a package which keeps its rules and is in bounds is whole and tied; head and claims are the package's.
 abbrev pub KeptStoreIsWhole : Type 0
 KeptStoreIsWhole = (w : World) (p : Package) (db : Database) → IsKeptPackage w p → IsInBounds p →
-    IsKeptStore w.frame p db → IsWholeAs w.frame p db
+    Reads w.frame p db → IsWholeAs w.frame p db
 
 -- The head that a store says is that of the package that it reads as.
 abbrev pub HeadIsKnown : Type 0
@@ -30,19 +24,3 @@ HeadIsKnown = (f : Frame) (p : Package) (db : Database) (h : Head) → Reads f p
 abbrev pub LentHeadIsLow : Type 0
 LentHeadIsLow = (db : Database) (h : Head) → IsHead db h → is_some h.parent ≡ true →
     ((h.depth == 0) ≡ false) × IsUuid h.uuid
-
--- ---- moments
-
--- A new package says the moment of its head everywhere.
-abbrev pub NewPackageIsDated : Type 0
-NewPackageIsDated = (f : Frame) (head : HeadRow) → is_moment head.created ≡ true → IsDated (new_tables f head)
-
--- Where a moment is that of the last change, each table says one.
-abbrev pub ChangeIsDated : Type 0
-ChangeIsDated = (f : Frame) (at : List ℕ) (db : Database) → is_moment at ≡ true → HasLastChange f at db →
-    AreDated (tables_of db)
-
--- So does a store whose one head says a moment, that of its last change too (`IsMadeAt`).
-abbrev pub MadeIsDated : Type 0
-MadeIsDated = (f : Frame) (at : List ℕ) (db : Database) → is_moment at ≡ true →
-    map (λ h. h.created) (tables_of db).heads ≡ at ∷ [] → HasLastChange f at db → IsDated (tables_of db)

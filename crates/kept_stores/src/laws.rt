@@ -1,7 +1,7 @@
 //! Laws of stores that read as packages of a register, each the contract of a function that does nothing.
-ghost use Rattle.kept_stores.specs.Laws.{KeptStoreIsWhole, HeadIsKnown, LentHeadIsLow, NewPackageIsDated, ChangeIsDated, MadeIsDated};
+ghost use Rattle.kept_stores.specs.Laws.{KeptStoreIsWhole, HeadIsKnown, LentHeadIsLow};
 
-/// A store that reads as a package of a register, and says moments, is whole and tied; head and claims are the package's.
+/// A store that reads as a package of a register is whole and tied; head and claims are the package's.
 pub fn kept_store_is_whole()
     ensures { KeptStoreIsWhole }
 {}
@@ -14,19 +14,4 @@ pub fn head_is_known()
 /// The head of a loan is not that of an archive.
 pub fn lent_head_is_low()
     ensures { LentHeadIsLow }
-{}
-
-/// A new package says the moment at which it was made, at its head and of each table.
-pub fn new_package_is_dated()
-    ensures { NewPackageIsDated }
-{}
-
-/// Where a moment is that of the last change, each table says one.
-pub fn change_is_dated()
-    ensures { ChangeIsDated }
-{}
-
-/// A store of which the moment of its making is told says moments.
-pub fn made_is_dated()
-    ensures { MadeIsDated }
 {}

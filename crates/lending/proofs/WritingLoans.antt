@@ -28,7 +28,7 @@ pub filled_then : {E F : Type 0} (s : Selection) (at : List ℕ) (source : State
     → Steps (λ _. FromClean source (Fills s at db)) old new q
 filled_then s at source db first next =
     steps_weaker (λ _. FromClean source (Fills s at db))
-    (λ _ chain clean c f from p selected read part reads come. let it = chain.2 f (with_cut c p) (chain.1 clean c f from p selected read part reads come) in (it.0, it.1))
+    (λ _ chain clean moment c f from p selected read part reads come. let it = chain.2 moment f (with_cut c p) (chain.1 clean c f from p selected read part reads come) in (it.0, it.1))
     (steps_then first next)
 
 -- ---- a parent lends
@@ -46,7 +46,7 @@ taken_then r s first next =
 pub lent_then : {E F : Type 0} (r : Receipt) (s : Selection) {old mid new : State} {x : Unit {0}} {q : Result (Unit {0}) F} → Steps {E = E} (λ _. TakesAndEnters r s) old mid (Ok x) → Steps (λ _. Dates r.at) mid new q → Steps (λ _. Lends r s) old new q
 lent_then r s first next =
     steps_weaker (λ _. Lends r s)
-    (λ _ chain c f p selected reads part receipt. let it = chain.2 f (lent r c p) (chain.1 c f p selected reads part receipt) in (it.0, it.1))
+    (λ _ chain c f p selected reads part receipt. let it = chain.2 receipt.moment f (lent r c p) (chain.1 c f p selected reads part receipt) in (it.0, it.1))
     (steps_then first next)
 
 -- ---- a parent takes home
@@ -79,7 +79,7 @@ pub home_then : {E F : Type 0} (r : Receipt) (s : Selection) (source : State) (d
     → Steps (λ _. FromClean source (TakesHome r s db)) old new q
 home_then r s source db first next =
     steps_weaker (λ _. FromClean source (TakesHome r s db))
-    (λ _ chain clean c f child p selected read reads may. let it = chain.2 f (returned r c child p) (chain.1 clean c f child p selected read reads may) in (it.0, it.1))
+    (λ _ chain clean c f child p selected read reads may. let it = chain.2 may.receipt.moment f (returned r c child p) (chain.1 clean c f child p selected read reads may) in (it.0, it.1))
     (steps_then first next)
 
 -- ---- where a transaction failed

@@ -1,8 +1,9 @@
 -- What a split and a merge make of the stores that they write, each in one transaction. Profile.
-use Rattle.std.specs.Prelude.{List, ℕ}
+use Rattle.std.specs.Prelude.{◌≡◌, ℕ, true, List}
 use Rattle.sqlite.specs.Effect.{Database}
 use Rattle.sheet_types.specs.Cut.{Cut}
 use Rattle.sheet_types.specs.Step.{less}
+use Rattle.sheet_types.specs.Texts.{is_moment}
 use Rattle.sheet_types.specs.World.{Package, with_receipt}
 use Rattle.sheet_types.specs.declared.frame.Frame.{Frame}
 use Rattle.sheet_types.specs.declared.receipt.Receipt.{Receipt}
@@ -16,9 +17,9 @@ use Rattle.identity_register.specs.declared.selection.Selection.{Selection}
 
 -- ---- the store of a child
 
--- What was selected of the package that another database reads as comes to this one, at this moment.
+-- What was selected of the package that another database reads as comes to this one, where this is a moment, and at it.
 abbrev pub Fills : Selection → List ℕ → Database → Database → Database → Type 0
-Fills s at source old new = (c : Cut) (f : Frame) (from p : Package) → IsSelectionOf c s → Reads f from source → IsPart c from → Reads f p old → MayCome c p → Reads f (with_cut c p) new × HasLastChange f at new
+Fills s at source old new = is_moment at ≡ true → (c : Cut) (f : Frame) (from p : Package) → IsSelectionOf c s → Reads f from source → IsPart c from → Reads f p old → MayCome c p → Reads f (with_cut c p) new × HasLastChange f at new
 
 -- ---- the store of the parent that a split takes from
 

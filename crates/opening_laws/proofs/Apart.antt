@@ -15,7 +15,6 @@ use Rattle.sheet_types.proofs.Sums.{count-cons, count_none, none_counted}
 use Rattle.package_tables.specs.Package.{tables_of}
 use Rattle.identity_register.specs.Reads.{Reads}
 use Rattle.ledger_laws.specs.Laws.{StoreSight}
-use Rattle.kept_stores.specs.Kept.{IsDated, IsKeptStore}
 use Rattle.store_forms.specs.Heads.{IsHead}
 use Rattle.world.specs.Members.{IsMember}
 use Rattle.world.specs.Worlds.{StandsFor}
@@ -28,7 +27,7 @@ use Rattle.register_views.proofs.Bounds.{packages_are_in_bounds}
 use Rattle.register_views.proofs.Found.{member_found}
 use Rattle.register_views.proofs.Seen.{In-permuted, zip_left, zip_right}
 use Rattle.register_views.proofs.Stands as standing
-use Rattle.opening_laws.specs.Laws.{StraysAreTold, OpenedSaysMoments, IsKeptWorld}
+use Rattle.opening_laws.specs.Laws.{StraysAreTold, IsKeptWorld}
 use Rattle.opening_laws.specs.Stores.{IsStoreOf, IsStrayStore, ReadsAsNone, AreStoresOf}
 use Rattle.opening_laws.proofs.AllViews.{IsRight, views_of_stores}
 use Rattle.opening_laws.proofs.OneView.{view_of_kept}
@@ -57,7 +56,7 @@ module _ {S : Type 0} (g : Ghosts S) where
           members = parts.0;
           others = parts.1;
           all = subst (IsPermutation new) parts.2 moved.1;
-          each = zip_through (StaysStore g) (IsStoreOf g w) (λ _. Unit {0}) (IsStoreOf g w) (λ a b p s _ is is_open. subst (λ (db : Database). IsKeptStore w.frame p db) (sym (s.holds is_open).now_is) (is (s.was_open is_open)))
+          each = zip_through (StaysStore g) (IsStoreOf g w) (λ _. Unit {0}) (IsStoreOf g w) (λ a b p s _ is is_open. subst (λ (db : Database). Reads w.frame p db) (sym (s.holds is_open).now_is) (is (s.was_open is_open)))
               of.members parts.0 w.packages (All-weaker (λ p. In p w.packages) (λ _. Unit {0}) (λ _ _. tt) w.packages (In-all w.packages)) parts.3 of.each;
           beside = zip_all (StaysStore g) (IsStrayStore g w) (IsStrayStore g w) (λ a b s is is_open h said. is (s.was_open is_open) h (subst (λ (db : Database). IsHead db h) (s.holds is_open).now_is said)) of.others parts.1 of.beside parts.4;
         },
@@ -140,23 +139,3 @@ module _ {S : Type 0} (g : Ghosts S) where
       let read = read_stores w stores is.read is.only_read of.0 of.1 in
       let stands : StandsFor g found.world w = opens_again g w stores found kept of.0 is clean in
       rest_strays w kept is.read opened.views read.0 read.1 opened.right (map (λ m. m.conn) found.world.members) found.strays.items is.kept (members_read w found.world.members w.packages stands.members.each)
-
-  abbrev Says : Held S → Type 0
-  Says h = IsTrue (state g h).is_open → IsDated (tables_of (state g h).now)
-
-  -- a store that reads as a package says moments, where it is one of these
-  says_of : (w : World) (stores : List (Held S)) (of : AreStoresOf g stores w) → AllByRecursion (ReadsAsNone g w) of.others → (h : Held S) → In h stores → (p : Package) → In p w.packages → (IsTrue (state g h).is_open → Reads w.frame p (state g h).now) → Says h
-  says_of w stores of none h i p j reads is_open = elim (In-of_append h of.members of.others (In-permuted h stores (of.members ++ of.others) of.all i)) [
-    | inl m ↦ let s = zip_left (IsStoreOf g w) h of.members w.packages of.each m in (s.2 is_open).dated
-    | inr o ↦ absurd (All-In (ReadsAsNone g w) h of.others none o is_open p (Contains-In p w.packages j) (reads is_open))
-  ]
-
-  pub opened_says_moments : OpenedSaysMoments g
-  opened_says_moments w stores found kept of is clean =
-      let conns : List (Held S) = map (λ m. m.conn) found.world.members in
-      let read = read_stores w stores is.read is.only_read of.0 of.1 in
-      let stands : StandsFor g found.world w = opens_again g w stores found kept of.0 is clean in
-      let reads = members_read w found.world.members w.packages stands.members.each in
-      All-weaker (λ h. In h conns) Says (λ h i.
-      let p = zip_left (λ x y. IsTrue (state g x).is_open → Reads w.frame y (state g x).now) h conns w.packages reads i in
-      says_of w is.read read.0 read.1 h (In-permuted h (conns ++ found.strays.items) is.read (IsPermutation-sym is.read (conns ++ found.strays.items) is.kept) (In-append h conns found.strays.items (inl i))) p.0 p.1 p.2) conns (In-all conns)

@@ -30,32 +30,33 @@ use Rattle.identity_register.specs.Reads.{Reads}
 use Rattle.identity_register.proofs.Finding.{contained}
 use Rattle.identity_register.proofs.OnePackage.{reads_alone}
 use Rattle.store_forms.specs.Heads.{IsHead}
-use Rattle.kept_stores.specs.Kept.{IsDated}
 use Rattle.kept_stores.proofs.Headed.{head_is_known, lent_head_is_low}
 use Rattle.register_views.specs.Beside.{IsUnknown}
 use Rattle.register_views.proofs.Timed.{step_keeps_timely}
+use Rattle.world.specs.Leaving.{IsBeside, StandsAmong}
 use Rattle.world.specs.Members.{IsMember}
+use Rattle.world.specs.Turning.{LeftAs}
 use Rattle.world.specs.Worlds.{held}
 use Rattle.world.specs.declared.members.Member.{Member}
 use Rattle.opening_laws.specs.Laws.{RestIsStores, RestIsOpened, LeftIsStores, CrashIsOpened, IsKeptWorld}
-use Rattle.opening_laws.specs.Stores.{IsStoreOf, IsStrayStore, ReadsAsNone, AreStoresOf, LeftSoundly, IsSoundlyBeside, StandsSoundlyAmong}
+use Rattle.opening_laws.specs.Stores.{IsStoreOf, IsStrayStore, ReadsAsNone, AreStoresOf}
 use Rattle.opening_laws.proofs.Openings.{opens_again, meets_no_fault}
 use Rattle.opening_laws.proofs.Zipped.{zip_permuted, zip_parts, zip_through, zip_all}
 
 -- ---- one store
 
 -- what was left as a package is read as it again
-reads_again : (f : Frame) (p : Package) (s : State) (trees : Trees) → IsAdopted s trees → LeftSoundly f trees p → Reads f p s.now
+reads_again : (f : Frame) (p : Package) (s : State) (trees : Trees) → IsAdopted s trees → LeftAs f trees p → Reads f p s.now
 reads_again f p s trees adopted d =
     let own : IsSound s.now.schema trees = subst (IsSound s.now.schema) adopted.trees_are adopted.sound in
-    let theirs : IsSound d.0.schema trees = subst (IsSound d.0.schema) (sym d.1) d.2 in
+    let theirs : IsSound d.0.schema trees = subst (IsSound d.0.schema) (sym d.1) d.2.formed.sound in
     let schema : d.0.schema ≡ s.now.schema = sound_alone d.0.schema s.now.schema trees theirs own in
     let same_trees : d.0.trees ≡ s.now.trees = sym d.1 ∙ sym adopted.trees_are in
     let same : d.0 ≡ s.now = λ n. record { schema = schema n; trees = same_trees n } in
-    subst (Reads f p) same d.3
+    subst (Reads f p) same d.2
 
 -- and what was left beside a world is a stray of it
-unknown_again : (w : World) (s : State) (trees : Trees) → IsAdopted s trees → IsSoundlyBeside w.frame w.packages trees → (h : Head) → IsHead s.now h → IsUnknown w h
+unknown_again : (w : World) (s : State) (trees : Trees) → IsAdopted s trees → IsBeside w.frame w.packages trees → (h : Head) → IsHead s.now h → IsUnknown w h
 unknown_again w s trees adopted is h said =
     let reads : Reads w.frame is.other s.now = reads_again w.frame is.other s trees adopted is.reads in
     let e : h ≡ head_of is.other = head_is_known w.frame is.other s.now h reads said in
@@ -67,7 +68,7 @@ unknown_again w s trees adopted is h said =
     }
 
 -- of which no package of it is read
-none_again : (w : World) (s : State) (trees : Trees) → IsAdopted s trees → IsSoundlyBeside w.frame w.packages trees → (p : Package) → Contains w.packages p → Reads w.frame p s.now → ⊥
+none_again : (w : World) (s : State) (trees : Trees) → IsAdopted s trees → IsBeside w.frame w.packages trees → (p : Package) → Contains w.packages p → Reads w.frame p s.now → ⊥
 none_again w s trees adopted is p there reads =
     let own : Reads w.frame is.other s.now = reads_again w.frame is.other s trees adopted is.reads in
     let same : p ≡ is.other = (reads_alone w.frame w.frame p is.other s.now reads own).1 in
@@ -86,76 +87,72 @@ same_frame : (w : World) (q : Request) → (outcome w q).1.frame ≡ w.frame
 same_frame w q = keeps (λ v. v.frame ≡ w.frame) w q refl (λ _ _. frame_carried w (receipt_of w q) q.command)
 
 module _ {S : Type 0} (g : Ghosts S) where
-  abbrev SaysMoments : Held S → Type 0
-  SaysMoments h = IsTrue (state g h).is_open → IsDated (tables_of (state g h).now)
-
   -- ---- a world at rest
 
-  member_stores : (w : World) (ms : List (Member S)) (ps : List Package) → AllByRecursion (λ m. SaysMoments m.conn) ms → AllZip (IsMember g w) ms ps → AllZip (IsStoreOf g w) (map (λ m. m.conn) ms) ps
-  member_stores w [] [] dated each = tt
-  member_stores w [] (p ∷ ps) dated each = absurd each
-  member_stores w (m ∷ ms) [] dated each = absurd each
-  member_stores w (m ∷ ms) (p ∷ ps) dated each = ((λ is_open. record { reads = each.0.reads is_open; dated = dated.0 is_open }), member_stores w ms ps dated.1 each.1)
+  member_stores : (w : World) (ms : List (Member S)) (ps : List Package) → AllZip (IsMember g w) ms ps → AllZip (IsStoreOf g w) (map (λ m. m.conn) ms) ps
+  member_stores w [] [] each = tt
+  member_stores w [] (p ∷ ps) each = absurd each
+  member_stores w (m ∷ ms) [] each = absurd each
+  member_stores w (m ∷ ms) (p ∷ ps) each = (each.0.reads, member_stores w ms ps each.1)
 
   pub rest_is_stores : RestIsStores g
-  rest_is_stores seen w is_held usable stands moments =
+  rest_is_stores seen w is_held usable stands =
       let conns : List (Held S) = map (λ m. m.conn) seen.members in (
         record {
           members = conns;
           others = seen.strays;
           all = IsPermutation-append_comm seen.strays conns;
-          each = member_stores w seen.members w.packages (All-of_map SaysMoments (λ m. m.conn) seen.members (All-right SaysMoments seen.strays conns moments)) stands.members.each;
+          each = member_stores w seen.members w.packages stands.members.each;
           beside = subst (AllByRecursion (IsStrayStore g w)) (sym (is_held.none usable)) tt;
         },
         subst (AllByRecursion (ReadsAsNone g w)) (sym (is_held.none usable)) tt,
       )
 
   pub rest_is_opened : RestIsOpened g
-  rest_is_opened seen w is_held usable stands timely moments =
-      let of : AreStoresOf g (held g seen) w = (rest_is_stores seen w is_held usable stands moments).0 in
+  rest_is_opened seen w is_held usable stands timely =
+      let of : AreStoresOf g (held g seen) w = (rest_is_stores seen w is_held usable stands).0 in
       let kept : IsKeptWorld w = (stands.members.register, timely) in
       ((λ found is clean. opens_again g w (held g seen) found kept of is clean), (λ refused is clean. meets_no_fault g w (held g seen) refused kept of is clean))
 
   -- ---- what a crash left
 
-  -- a store that was opened from a content, and says moments
-  record IsAgain (trees : Trees) (h : Held S) : Type 0 where
-    adopted : IsAdopted (state g h) trees
-    moments : SaysMoments h
+  -- a store that was opened from a content
+  abbrev IsAgain : Trees → Held S → Type 0
+  IsAgain trees h = IsAdopted (state g h) trees
 
-  each_again : (contents : List Trees) (again : List (Held S)) → AllZip (λ h trees. IsAdopted (state g h) trees) again contents → AllByRecursion SaysMoments again → AllZip IsAgain contents again
-  each_again [] [] opened moments = tt
-  each_again [] (h ∷ again) opened moments = absurd opened
-  each_again (t ∷ contents) [] opened moments = absurd opened
-  each_again (t ∷ contents) (h ∷ again) opened moments = (record { adopted = opened.0; moments = moments.0 }, each_again contents again opened.1 moments.1)
+  each_again : (contents : List Trees) (again : List (Held S)) → AllZip (λ h trees. IsAdopted (state g h) trees) again contents → AllZip IsAgain contents again
+  each_again [] [] opened = tt
+  each_again [] (h ∷ again) opened = absurd opened
+  each_again (t ∷ contents) [] opened = absurd opened
+  each_again (t ∷ contents) (h ∷ again) opened = (opened.0, each_again contents again opened.1)
 
   pub left_is_stores : LeftIsStores g
-  left_is_stores w contents again among opened moments =
+  left_is_stores w contents again among opened =
       let f : Frame = w.frame in
-      let moved : (hs : List (Held S)) × IsPermutation again hs × AllZip IsAgain (among.read ++ among.rest) hs = zip_permuted IsAgain contents (among.read ++ among.rest) again among.all (each_again contents again opened moments) in
+      let moved : (hs : List (Held S)) × IsPermutation again hs × AllZip IsAgain (among.read ++ among.rest) hs = zip_permuted IsAgain contents (among.read ++ among.rest) again among.all (each_again contents again opened) in
       let parts : (ms : List (Held S)) × (os : List (Held S)) × (moved.0 ≡ ms ++ os) × AllZip IsAgain among.read ms × AllZip IsAgain among.rest os = zip_parts IsAgain among.read among.rest moved.0 moved.2 in (
         record {
           members = parts.0;
           others = parts.1;
           all = subst (IsPermutation again) parts.2 moved.1;
-          each = zip_through IsAgain (LeftSoundly f) (λ _. Unit {0}) (IsStoreOf g w) (λ t h p is _ left is_open. record { reads = reads_again f p (state g h) t is.adopted left; dated = is.moments is_open })
+          each = zip_through IsAgain (LeftAs f) (λ _. Unit {0}) (IsStoreOf g w) (λ t h p is _ left is_open. reads_again f p (state g h) t is left)
               among.read parts.0 w.packages (All-each (λ _. Unit {0}) (λ _. tt) w.packages) parts.3 among.each;
-          beside = zip_all IsAgain (IsSoundlyBeside f w.packages) (IsStrayStore g w) (λ t h is beside _. unknown_again w (state g h) t is.adopted beside) among.rest parts.1 among.beside parts.4;
+          beside = zip_all IsAgain (IsBeside f w.packages) (IsStrayStore g w) (λ t h is beside _. unknown_again w (state g h) t is beside) among.rest parts.1 among.beside parts.4;
         },
-        zip_all IsAgain (IsSoundlyBeside f w.packages) (ReadsAsNone g w) (λ t h is beside _. none_again w (state g h) t is.adopted beside) among.rest parts.1 among.beside parts.4,
+        zip_all IsAgain (IsBeside f w.packages) (ReadsAsNone g w) (λ t h is beside _. none_again w (state g h) t is beside) among.rest parts.1 among.beside parts.4,
       )
 
   pub crash_is_opened : CrashIsOpened g
-  crash_is_opened q old reply new w contents again step fault usable stands is_open types timely schemas clean left opened moments =
+  crash_is_opened q old reply new w contents again step fault usable stands is_open types timely clean left opened =
       let register : IsRegister w = stands.members.register in
-      elim (schemas (step.crash fault usable w stands is_open) clean contents left) [
+      elim (step.crash fault usable w stands is_open clean contents left) [
         | inl before ↦
-            let of : AreStoresOf g again w = (left_is_stores w contents again before opened moments).0 in
+            let of : AreStoresOf g again w = (left_is_stores w contents again before opened).0 in
             ((λ found is clean'. inl (opens_again g w again found (register, timely) of is clean')), (λ refused is clean'. meets_no_fault g w again refused (register, timely) of is clean'))
         | inr after ↦
             let next : World = (outcome w q).1 in
             let kept : IsKeptWorld next = (step_keeps_register w q (outcome w q).0 next types register (inl (refl, refl)), step_keeps_timely w q (outcome w q).0 next types register timely (inl (refl, refl))) in
             let frame : w.frame ≡ next.frame = sym (same_frame w q) in
-            let of : AreStoresOf g again next = (left_is_stores next contents again (subst (λ f. StandsSoundlyAmong f next.packages contents) frame after) opened moments).0 in
+            let of : AreStoresOf g again next = (left_is_stores next contents again (subst (λ f. StandsAmong f next.packages contents) frame after) opened).0 in
             ((λ found is clean'. inr (opens_again g next again found kept of is clean')), (λ refused is clean'. meets_no_fault g next again refused kept of is clean'))
       ]

@@ -15,7 +15,7 @@ use Rattle.surveys.specs.Views.{IsViewOf, IsWhole}
 use Rattle.register_views.specs.Beside.{IsViewOfPackage, IsStrayView, IsUnknown}
 use Rattle.register_views.specs.Timely.{IsInBounds}
 use Rattle.register_views.proofs.Bounds.{unknown_is_stray}
-use Rattle.kept_stores.specs.Kept.{IsKeptStore, IsWholeAs}
+use Rattle.kept_stores.specs.Kept.{IsWholeAs}
 use Rattle.kept_stores.proofs.Headed.{head_is_known}
 use Rattle.kept_stores.proofs.Whole.{kept_store_is_whole}
 
@@ -29,15 +29,15 @@ head_read : (f : Frame) (p : Package) (db : Database) (o : Option Head) → Read
 head_read f p db None reads headed none = absurd (none (head_of p) headed)
 head_read f p db (Some h) reads headed said = ap Some (head_is_known f p db h reads said)
 
-pub view_of_kept : (w : World) (p : Package) (db : Database) (v : StoreSight) → IsKeptPackage w p → IsInBounds p → IsKeptStore w.frame p db → IsViewOf db v → IsViewOfPackage w v p
-view_of_kept w p db v kept bounds store view =
-    let whole : IsWholeAs w.frame p db = kept_store_is_whole w p db kept bounds store in
+pub view_of_kept : (w : World) (p : Package) (db : Database) (v : StoreSight) → IsKeptPackage w p → IsInBounds p → Reads w.frame p db → IsViewOf db v → IsViewOfPackage w v p
+view_of_kept w p db v kept bounds reads view =
+    let whole : IsWholeAs w.frame p db = kept_store_is_whole w p db kept bounds reads in
     let is : IsWhole w.frame db = record { formed = whole.formed; head = head_of p; headed = whole.headed; frame = whole.frame; dated = whole.dated; items = whole.items; receipts = whole.receipts } in
     let formed : v.is_formed ≡ true = decided _ v.is_formed view.formed (w.frame, is) in
     let tied : v.is_tied ≡ true = decided _ v.is_tied (view.tied formed) whole.tied in
-    let alone : (v.frame ≡ w.frame) × (v.reads_as ≡ p) = reads_alone v.frame w.frame v.reads_as p db (view.reads formed tied) store.reads in
+    let alone : (v.frame ≡ w.frame) × (v.reads_as ≡ p) = reads_alone v.frame w.frame v.reads_as p db (view.reads formed tied) reads in
     record {
-      head = head_read w.frame p db v.head store.reads whole.headed view.head;
+      head = head_read w.frame p db v.head reads whole.headed view.head;
       claims = view.claims.0 whole.formed.receipts ∙ whole.claimed;
       formed = formed;
       tied = tied;

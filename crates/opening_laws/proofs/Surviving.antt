@@ -16,7 +16,6 @@ use Rattle.sql_meaning.specs.Transactions.{IsAdopted, Rests}
 use Rattle.sql_meaning.proofs.Schemas.{sound_alone}
 use Rattle.sql_meaning.proofs.Transactions.{Settles}
 use Rattle.package_tables.specs.Package.{tables_of}
-use Rattle.kept_stores.specs.Kept.{IsDated, IsKeptStore}
 use Rattle.world.specs.Members.{IsMember}
 use Rattle.world.specs.declared.members.Member.{Member}
 use Rattle.opening_laws.specs.Laws.{RestSurvives}
@@ -36,34 +35,32 @@ module _ {S : Type 0} (g : Ghosts S) (settles : Settles g) where
       λ n. record { schema = schema n; trees = now n }
 
   again : (w : World) (ms : List (Member S)) (ps : List Package) (contents : List Trees) (stores : List (Held S)) → AllByRecursion (λ m. Rests (state g m.conn)) ms → AllByRecursion (λ m. IsTrue (state g m.conn).is_open) ms
-      → AllByRecursion (λ m. IsLive (state g m.conn)) ms → AllByRecursion (λ m. IsTrue (state g m.conn).is_open → IsDated (tables_of (state g m.conn).now)) ms → AllZip (IsMember g w) ms ps
+      → AllByRecursion (λ m. IsLive (state g m.conn)) ms → AllZip (IsMember g w) ms ps
       → AllZip (λ h trees. (state g h).may_leave trees) (map (λ m. m.conn) ms) contents → AllZip (λ h trees. IsAdopted (state g h) trees) stores contents → AllZip (IsStoreOf g w) stores ps
-  again w [] [] [] [] rests opens lives dated each left adopted = tt
-  again w [] [] [] (h ∷ stores) rests opens lives dated each left adopted = absurd adopted
-  again w [] [] (t ∷ contents) stores rests opens lives dated each left adopted = absurd left
-  again w [] (p ∷ ps) contents stores rests opens lives dated each left adopted = absurd each
-  again w (m ∷ ms) [] contents stores rests opens lives dated each left adopted = absurd each
-  again w (m ∷ ms) (p ∷ ps) [] stores rests opens lives dated each left adopted = absurd left
-  again w (m ∷ ms) (p ∷ ps) (t ∷ contents) [] rests opens lives dated each left adopted = absurd adopted
-  again w (m ∷ ms) (p ∷ ps) (t ∷ contents) (h ∷ stores) rests opens lives dated each left adopted =
+  again w [] [] [] [] rests opens lives each left adopted = tt
+  again w [] [] [] (h ∷ stores) rests opens lives each left adopted = absurd adopted
+  again w [] [] (t ∷ contents) stores rests opens lives each left adopted = absurd left
+  again w [] (p ∷ ps) contents stores rests opens lives each left adopted = absurd each
+  again w (m ∷ ms) [] contents stores rests opens lives each left adopted = absurd each
+  again w (m ∷ ms) (p ∷ ps) [] stores rests opens lives each left adopted = absurd left
+  again w (m ∷ ms) (p ∷ ps) (t ∷ contents) [] rests opens lives each left adopted = absurd adopted
+  again w (m ∷ ms) (p ∷ ps) (t ∷ contents) (h ∷ stores) rests opens lives each left adopted =
       let same : (state g m.conn).now ≡ (state g h).now = same_again m.conn h t opens.0 rests.0 lives.0 left.0 adopted.0 in (
-        (λ _. subst (λ (db : Database). IsKeptStore w.frame p db) same (record { reads = each.0.reads opens.0; dated = dated.0 opens.0 })),
-        again w ms ps contents stores rests.1 opens.1 lives.1 dated.1 each.1 left.1 adopted.1,
+        (λ _. subst (λ (db : Database). Reads w.frame p db) same (each.0.reads opens.0)),
+        again w ms ps contents stores rests.1 opens.1 lives.1 each.1 left.1 adopted.1,
       )
 
   pub rest_survives : RestSurvives g
-  rest_survives seen w contents stores is_held usable stands opens lives moments left adopted =
+  rest_survives seen w contents stores is_held usable stands opens lives left adopted =
       let conns : List (Held S) = map (λ m. m.conn) seen.members in
-      let Says : Held S → Type 0 = λ h. IsTrue (state g h).is_open → IsDated (tables_of (state g h).now) in
       let strays : seen.strays ≡ [] = is_held.none usable in
-      let dated : AllByRecursion Says conns = subst (λ l. AllByRecursion Says (l ++ conns)) strays moments in
       let may : AllZip (λ h trees. (state g h).may_leave trees) conns contents = subst (λ l. AllZip (λ h trees. (state g h).may_leave trees) (l ++ conns) contents) strays left in (
         record {
           members = stores;
           others = [];
           all = IsPermutation-same stores (stores ++ []) (and_nothing stores);
           each = again w seen.members w.packages contents stores (recursion_from_All (λ m. Rests (state g m.conn)) seen.members is_held.rests) (recursion_from_All (λ m. IsTrue (state g m.conn).is_open) seen.members opens) lives
-              (All-of_map Says (λ m. m.conn) seen.members dated) stands.members.each may adopted;
+              stands.members.each may adopted;
           beside = tt;
         },
         tt,

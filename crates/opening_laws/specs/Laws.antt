@@ -15,13 +15,13 @@ use Rattle.sheet_types.specs.declared.refusal.Refusal.{Refusal}
 use Rattle.ledger_laws.specs.Laws.{StoreSight}
 use Rattle.register_views.specs.Beside.{AreViewsOfWorld}
 use Rattle.register_views.specs.Timely.{IsTimely}
-use Rattle.world.specs.Leaving.{AreClean, MayBeLeft}
+use Rattle.world.specs.Leaving.{AreClean, MayBeLeft, StandsAmong}
 use Rattle.world.specs.Members.{AllOpen}
 use Rattle.world.specs.Worlds.{Seen, StandsFor, IsHeld, IsStep, held}
 use Rattle.recovery.specs.Recovered.{AreViewsOf, IsRecovered, IsUnopened, IsWant}
 use Rattle.recovery.specs.declared.recovering.Recovered.{Recovered}
 use Rattle.recovery.specs.declared.recovering.Unopened.{Unopened}
-use Rattle.opening_laws.specs.Stores.{AreStoresOf, IsStrayStore, ReadsAsNone, SayMoments, AreReopened, StandsSoundlyAmong, KeepsSchemas}
+use Rattle.opening_laws.specs.Stores.{AreStoresOf, IsStrayStore, ReadsAsNone, AreReopened}
 
 -- a world whose stores are opened: a register, each receipt of it with a moment
 abbrev pub IsKeptWorld : World → Type 0
@@ -54,22 +54,17 @@ module _ {S : Type 0} (g : Ghosts S) where
   StraysAreTold = (w : World) (stores : List (Held S)) (found : Recovered S) → IsKeptWorld w → AreApart stores w →
       (is : IsRecovered g stores found) → AreClean g is.read → AllByRecursion (IsStrayStore g w) found.strays.items
 
-  -- The stores of the world that was opened say moments, so that it can be opened again.
-  abbrev pub OpenedSaysMoments : Type 0
-  OpenedSaysMoments = (w : World) (stores : List (Held S)) (found : Recovered S) → IsKeptWorld w → AreApart stores w →
-      (is : IsRecovered g stores found) → AreClean g is.read → SayMoments g (map (λ m. m.conn) found.world.members)
-
   -- ---- a world at rest
 
   -- A usable world holds the stores of each register that it stands for.
   abbrev pub RestIsStores : Type 0
   RestIsStores = (seen : Seen S) (w : World) → IsHeld g seen → seen.has_failed ≡ false → StandsFor g seen w →
-      SayMoments g (held g seen) → AreApart (held g seen) w
+      AreApart (held g seen) w
 
   -- So it is opened again as that register, or memory or a store gave out.
   abbrev pub RestIsOpened : Type 0
   RestIsOpened = (seen : Seen S) (w : World) → IsHeld g seen → seen.has_failed ≡ false → StandsFor g seen w →
-      IsTimely w → SayMoments g (held g seen) →
+      IsTimely w →
       ((found : Recovered S) (is : IsRecovered g (held g seen) found) → AreClean g is.read → StandsFor g found.world w)
       × ((refused : Unopened S) → IsUnopened g (held g seen) refused → AreClean g refused.stores.items → IsWant refused.fault)
 
@@ -77,7 +72,7 @@ module _ {S : Type 0} (g : Ghosts S) where
   abbrev pub RestSurvives : Type 0
   RestSurvives = (seen : Seen S) (w : World) (contents : List Trees) (again : List (Held S)) → IsHeld g seen →
       seen.has_failed ≡ false → StandsFor g seen w →
-      AllOpen g seen.members → AllByRecursion (λ m. IsLive (state g m.conn)) seen.members → SayMoments g (held g seen) →
+      AllOpen g seen.members → AllByRecursion (λ m. IsLive (state g m.conn)) seen.members →
       MayBeLeft g (held g seen) contents → AreReopened g again contents → AreApart again w
 
   -- ---- a crash of a request
@@ -85,8 +80,8 @@ module _ {S : Type 0} (g : Ghosts S) where
   -- Stores that are opened from contents that are those of a world's packages, with others beside them, are stores of that world.
   abbrev pub LeftIsStores : Type 0
   LeftIsStores = (w : World) (contents : List Trees) (again : List (Held S)) →
-      StandsSoundlyAmong w.frame w.packages contents →
-      AreReopened g again contents → SayMoments g again → AreApart again w
+      StandsAmong w.frame w.packages contents →
+      AreReopened g again contents → AreApart again w
 
   -- what is opened stands for the world before, or for the world that the request makes
   abbrev pub StandsForOneOf : World → Request → Seen S → Type 0
@@ -97,8 +92,7 @@ module _ {S : Type 0} (g : Ghosts S) where
   CrashIsOpened = (q : Request) (old : Seen S) (reply : Result Receipt Refusal) (new : Seen S) (w : World) (contents : List Trees) (again : List (Held S)) →
       IsStep g q old reply new → IsFault reply → old.has_failed ≡ false → StandsFor g old w →
       AllOpen g old.members → HasTypes q.command → IsTimely w →
-      KeepsSchemas g w.frame (held g new) w.packages (outcome w q).1.packages →
-      AreClean g (held g new) → MayBeLeft g (held g new) contents → AreReopened g again contents → SayMoments g again →
+      AreClean g (held g new) → MayBeLeft g (held g new) contents → AreReopened g again contents →
       ((found : Recovered S) (is : IsRecovered g again found) → AreClean g is.read → StandsForOneOf w q found.world)
       × ((refused : Unopened S) → IsUnopened g again refused → AreClean g refused.stores.items → IsWant refused.fault)
 

@@ -1,5 +1,5 @@
 //! Laws of the opening of a register's stores, each the contract of a function that does nothing.
-ghost use Rattle.opening_laws.specs.Laws.{ViewsOfStores, OpensAgain, MeetsNoFault, StraysAreTold, OpenedSaysMoments, RestIsStores, RestIsOpened, RestSurvives, LeftIsStores, CrashIsOpened, OneRegisterOfStores};
+ghost use Rattle.opening_laws.specs.Laws.{ViewsOfStores, OpensAgain, MeetsNoFault, StraysAreTold, RestIsStores, RestIsOpened, RestSurvives, LeftIsStores, CrashIsOpened, OneRegisterOfStores};
 
 use sqlite::Alter;
 
@@ -21,11 +21,6 @@ pub fn meets_no_fault<S: Alter + Drop>()
 /// What `recover` hands out beside the world are the strays.
 pub fn strays_are_told<S: Alter + Drop>()
     ensures { StraysAreTold S.Store }
-{}
-
-/// The stores of a world that was opened say moments, as those did of which it was opened.
-pub fn opened_says_moments<S: Alter + Drop>()
-    ensures { OpenedSaysMoments S.Store }
 {}
 
 /// The stores that a usable world holds are those of the register that it stands for.

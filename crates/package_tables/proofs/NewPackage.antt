@@ -127,8 +127,9 @@ empty_form db blank = record {
 }
 
 module _ (db : Database) (it : IsEmptyForm db) where
-  formed : AreFormed db
-  formed = record {
+  formed : IsDatabase db → AreFormed db
+  formed sound = record {
+    sound = sound;
     quiet = it.form.quiet;
     spatial_ref_sys = no_rows_formed spatial_ref_sys_shape db it.form.spatial_ref_sys it.empty.0;
     contents = no_rows_formed contents_shape db it.form.contents it.empty.1.0;
@@ -155,7 +156,7 @@ keyed_if_empty trees [] h = tt
 keyed_if_empty trees (t ∷ tables) h = (subst IsKeyed (sym h.0) (record { ints = refl; rises = tt }), keyed_if_empty trees tables h.1)
 
 pub new_package : (db : Database) → IsBlank package_schema db → IsDatabase db → IsNewPackage db
-new_package db blank sound = let it = empty_form db blank in record { blank = blank; form = it; formed = formed db it; sound = sound; keyed = subst (λ (s : Schema). AllByRecursion (λ (t : Table). IsKeyed (db.trees t.tree)) s.tables) (sym blank.is) (keyed_if_empty db.trees package_schema.tables blank.empty); says = says db it }
+new_package db blank sound = let it = empty_form db blank in record { blank = blank; form = it; formed = formed db it sound; sound = sound; keyed = subst (λ (s : Schema). AllByRecursion (λ (t : Table). IsKeyed (db.trees t.tree)) s.tables) (sym blank.is) (keyed_if_empty db.trees package_schema.tables blank.empty); says = says db it }
 
 pub package_made : (old new : State) (r : Result (Unit {0}) Error) → OnOk r (ChangedInside (MadeBy texts) old new) → OnOk r (ChangedInside BecomesPackage old new)
 package_made old new (Ok done) made = record { shown = made.shown; changed = λ blank. let it = made.changed no_schema package_schema plan blank in new_package new.now it.0 it.1 }

@@ -2,7 +2,7 @@
 use Rattle.std.proofs.Common.{◌≡◌, ℕ, zero, suc, List, [], ◌∷◌, Bool, true, refl, sym, subst, get_or}
 use Rattle.std.specs.Prelude.{◌&&◌, ⊤}
 use Rattle.std.proofs.lemmas.Bool.{and_parts}
-use Rattle.sqlite.specs.Effect.{Database}
+use Rattle.sqlite.specs.Effect.{Database, IsDatabase}
 use Rattle.sqlite.specs.Table.{Table}
 use Rattle.sql_meaning.specs.Known.{IsQuiet, is_other, sequence_name}
 use Rattle.sql_meaning.specs.Writing.{Spares}
@@ -181,8 +181,9 @@ module _ (t : Table) (old new : Database) (spares : Spares t old new) where
 each_formed : (db : Database) → AreFormed db → Formed all db
 each_formed db f = (f.spatial_ref_sys, (f.contents, (f.tile_matrix_set, (f.tile_matrix, (f.relations, (f.tiles, (f.media, (f.rows, (f.tiles_media, (f.rows_media, (f.rows_tiles, (f.heads, (f.identities, (f.receipts, (f.moved, tt)))))))))))))))
 
-are_formed : (db : Database) → IsQuiet db.schema → Formed all db → AreFormed db
-are_formed db quiet f = record {
+are_formed : (db : Database) → IsDatabase db → IsQuiet db.schema → Formed all db → AreFormed db
+are_formed db sound quiet f = record {
+  sound = sound;
   quiet = quiet;
   spatial_ref_sys = f.0;
   contents = f.1.0;
@@ -209,7 +210,7 @@ written : (place tree : ℕ) (old new : Database) → others_apart ((ShapeAt pla
     → AreFormed new × (tables_of new ≡ as_tables (put_at all place (rows_of (ShapeAt place) new) (lists_of all old)))
 written place tree old new apart spares formed here =
     let did = others_kept ((ShapeAt place).table tree) old new spares all place apart (each_formed old formed) here in
-    (are_formed new (subst IsQuiet (sym spares.schema) formed.quiet) did.0, λ i. as_tables (did.1 i))
+    (are_formed new spares.sound (subst IsQuiet (sym spares.schema) formed.quiet) did.0, λ i. as_tables (did.1 i))
 
 -- ---- each list
 

@@ -1,6 +1,6 @@
 -- A package's tables, all of them, as lists of values in the order of their keys.
 use Rattle.std.specs.Prelude.{List}
-use Rattle.sqlite.specs.Effect.{Database}
+use Rattle.sqlite.specs.Effect.{Database, IsDatabase}
 use Rattle.sql_meaning.specs.Known.{IsQuiet}
 use Rattle.package_tables.specs.Shape.{rows_of, IsFormed}
 use Rattle.package_tables.specs.Shapes.{spatial_ref_sys_shape, contents_shape, tile_matrix_set_shape, tile_matrix_shape, relation_shape, tile_shape, medium_shape, attribute_shape, tiles_media_shape, rows_media_shape, rows_tiles_shape, head_shape, identity_shape, receipt_shape, moved_shape}
@@ -55,8 +55,9 @@ tables_of db = record {
   moved = rows_of moved_shape db;
 }
 
--- every table is there and holds rows of its kinds
+-- every table is there and holds rows of its kinds; the trees list the schema and obey it
 pub record AreFormed (db : Database) : Type 0 where
+  pub sound : IsDatabase db
   pub quiet : IsQuiet db.schema
   pub spatial_ref_sys : IsFormed spatial_ref_sys_shape db
   pub contents : IsFormed contents_shape db

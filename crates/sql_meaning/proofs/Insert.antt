@@ -18,7 +18,7 @@ use Rattle.sqlite.specs.Term.{Term, lit, col}
 use Rattle.sqlite.specs.Edit.{edit_of, put_all, numbered, with_rowid}
 use Rattle.sqlite.specs.Does.{AtPlace, OnRows}
 use Rattle.sqlite.specs.Rows.{Task, stamped, rowids_for, count_of, Counts}
-use Rattle.sqlite.specs.Effect.{Database, value_rows}
+use Rattle.sqlite.specs.Effect.{Database, value_rows, IsDatabase}
 use Rattle.sqlite.specs.Tree.{Trees}
 use Rattle.sqlite.specs.declared.error.Error.{Error}
 use Rattle.sqlite.specs.State.{State, mode_of, Executes, ExecutesInside}
@@ -94,8 +94,8 @@ module _ (limit : Option ℕ) (schema : Schema) (db : Trees) (at : ℕ) (t : Tab
   abbrev insert_task : Task
   insert_task = record { limit = limit; keys = Enforced; schema = schema; table = t; params = params }
 
-  inserts : (new : Database) → Ran insert_task (Insert at (Values (terms_of t) (width t))) db new → Inserted t row (record { schema = schema; trees = db }) new
-  inserts new ran =
+  inserts : (new : Database) → IsDatabase new → Ran insert_task (Insert at (Values (terms_of t) (width t))) db new → Inserted t row (record { schema = schema; trees = db }) new
+  inserts new sound ran =
       let p = parts_of insert_task (Values (terms_of t) (width t)) db ran.written ran.wrote in
       let how = rowids_for t (count_of p.counter) in
       let edit = edit_of db t [] how 0 p.rows in
@@ -110,6 +110,7 @@ module _ (limit : Option ℕ) (schema : Schema) (db : Trees) (at : ℕ) (t : Tab
         spares = record {
           schema = ap (λ (d : Database). d.schema) ran.now;
           others = λ be u there other counts. ap (λ (d : Trees). d u.tree) now ∙ later be u there counts ∙ kept_by schema db p.mid edit applied u (is_in schema be u there) (apart_in schema be at u t there has other);
+          sound = sound;
         };
       }
 
@@ -123,7 +124,7 @@ module _ (text : List ℕ) (table : ℕ → Table) (it : (tree : ℕ) → IsInse
       let w = runs_as text params old new old.now.schema refl what (ap command_of known) (subst IsPlain (sym known) (refl, refl)) count h in
       let ran = ran_of (task_on old params t) (mode_of old) what old.now.trees w.tally new.now
       (subst (λ (o : Option Table). AtPlace (λ (u : Table). OnRows (task_on old params u) (mode_of old) None what old.now.trees) o (Ok (w.tally, new.now))) has.there w.changed) in
-      inserts old.step_limit old.now.schema old.now.trees at t has quiet (it tree).named params (row (old.now.trees t.tree)) (given tree (old.now.trees t.tree)) new.now ran
+      inserts old.step_limit old.now.schema old.now.trees at t has quiet (it tree).named params (row (old.now.trees t.tree)) (given tree (old.now.trees t.tree)) new.now w.sound ran
 
   -- in a transaction
   pub inserted_inside : (r : Result ℕ Error) → ExecutesInside 0 text params old new r → WritesInside (Inserts table row) old new r

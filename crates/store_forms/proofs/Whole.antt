@@ -20,6 +20,7 @@ HasValues shape db = AllByRecursion (λ r. is_filled (shape.table 0) r ≡ true)
 
 pub all_formed : (db : Database) → IsDatabase db → AreKeyed db → AreAllPlaced db.schema → HasValues spatial_ref_sys_shape db → HasValues contents_shape db → AreFormed db
 all_formed db sound keyed placed systems contents = record {
+  sound = sound;
   quiet = placed.0;
   spatial_ref_sys = formed_filled spatial_ref_sys_shape systems_plain db sound keyed placed.1.0 systems;
   contents = formed_filled contents_shape contents_plain db sound keyed placed.1.1 contents;

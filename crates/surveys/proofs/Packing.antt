@@ -21,8 +21,10 @@ use Rattle.sheet_types.proofs.Order.{All-arranged}
 use Rattle.package_tables.proofs.Reading.{arranged_permutation}
 use Rattle.package_tables.specs.Package.{tables_of}
 use Rattle.identity_register.specs.Numbering.{Numbered, IsNumbering}
-use Rattle.identity_register.specs.Reads.{Says}
+use Rattle.package_tables.specs.declared.rows.ContentsRow.{ContentsRow}
+use Rattle.identity_register.specs.Reads.{Says, SayMoments}
 use Rattle.identity_register.proofs.OnePackage.{distinct_arranged, items_arranged}
+use Rattle.store_forms.specs.Frames.{HasMoment}
 use Rattle.store_forms.specs.Heads.{IsHead}
 use Rattle.stored_items.specs.Laws.{HoldsItems}
 use Rattle.stored_items.proofs.Holding.{says_what_it_holds}
@@ -49,6 +51,11 @@ module _ (items : List Item) (numbered : List Numbered) (are : items ≡ arrange
 
 -- ---- the package
 
+-- a moment in each row is what a package says
+pub moments_said : (listed : List ContentsRow) → AllByRecursion HasMoment listed → SayMoments listed
+unfolding HasMoment
+moments_said listed dated = dated
+
 module _ (f : Frame) (db : Database) (head : Head) (receipts : List Receipt) (whole : IsWhole f db) (headed : IsHead db head) (said : AreSaid (tables_of db) receipts) (held : HoldsItems f (tables_of db)) where
   abbrev found : Package
   found = record { uuid = head.uuid; parent = head.parent; depth = head.depth; loan = head.loan; items = held.items; links = held.links; receipts = receipts }
@@ -57,7 +64,9 @@ module _ (f : Frame) (db : Database) (head : Head) (receipts : List Receipt) (wh
   says = record {
     good = whole.frame.0;
     fixed = whole.frame.1;
+    dated = moments_said (tables_of db).contents whole.dated;
     created = headed.1.0.created;
+    moment = headed.1.2.created;
     fit_head = fit_head headed.1.0 head headed.1.2;
     head = headed.1.1 ∙ ap (λ row. row ∷ []) (row_is headed.1.0 head headed.1.2);
     numbered = held.numbered;

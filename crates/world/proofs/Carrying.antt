@@ -1,8 +1,9 @@
 -- A command's change and the entry of its receipt, as one change of the package.
-use Rattle.std.proofs.Common.{◌≡◌, Result, Ok, refl, sym, subst}
+use Rattle.std.proofs.Common.{◌≡◌, true, Result, Ok, refl, sym, subst}
 use Rattle.sqlite.specs.State.{State}
 use Rattle.sql_meaning.specs.Transactions.{Steps}
 use Rattle.sql_meaning.proofs.Transactions.{steps_then, steps_weaker}
+use Rattle.sheet_types.specs.Texts.{is_moment}
 use Rattle.sheet_types.specs.World.{Package, with_receipt}
 use Rattle.sheet_types.specs.declared.command.Command.{Command}
 use Rattle.sheet_types.specs.declared.command.Command.TheVariants.{Add, Delete, Link, Unlink, Split, Merge}
@@ -39,7 +40,7 @@ same_rest (Merge child into ticket) p = refl
 
 -- so a receipt that was new still is
 still_new : (r : Receipt) (command : Command) (p : Package) → IsNewReceipt r p → IsNewReceipt r (changed_by command p)
-still_new r command p new = subst (IsNewReceipt r) (sym (same_rest command p)) (record { number = new.number; request = new.request; fit = new.fit })
+still_new r command p new = subst (IsNewReceipt r) (sym (same_rest command p)) (record { number = new.number; request = new.request; fit = new.fit; moment = new.moment })
 
 -- and then its receipt
 pub receipt_then : {E F : Type 0} (r : Receipt) (command : Command) {old mid new : State} {x : Unit {0}} {q : Result (Unit {0}) F} → Steps {E = E} (λ _. Becomes (Meets command) (changed_by command)) old mid (Ok x) → Steps (λ _. Becomes (IsNewReceipt r) (with_receipt r)) mid new q
@@ -54,13 +55,13 @@ pub moment_said : {E F : Type 0} (r : Receipt) (command : Command) {old mid new 
     → Steps (λ _. SaysMoment r command) old new q
 moment_said r command first next =
     steps_weaker (λ _. SaysMoment r command)
-    (λ _ chain f p reads fits. (chain.2 f (after_command r command p) (chain.1 f p reads fits)).1)
+    (λ _ chain f p reads fits. (chain.2 fits.receipt.moment f (after_command r command p) (chain.1 f p reads fits)).1)
     (steps_then first next)
 
 -- and which no package shows
-pub moment_then : {E F : Type 0} (r : Receipt) (command : Command) {old mid new : State} {x : Unit {0}} {q : Result (Unit {0}) F} → Steps {E = E} (λ _. Becomes (Fits r command) (after_command r command)) old mid (Ok x) → Steps (λ _. Becomes (λ _. Unit {0}) (λ p. p)) mid new q
+pub moment_then : {E F : Type 0} (r : Receipt) (command : Command) {old mid new : State} {x : Unit {0}} {q : Result (Unit {0}) F} → Steps {E = E} (λ _. Becomes (Fits r command) (after_command r command)) old mid (Ok x) → Steps (λ _. Becomes (λ _. is_moment r.at ≡ true) (λ p. p)) mid new q
     → Steps (λ _. Becomes (Fits r command) (after_command r command)) old new q
 moment_then r command first next =
     steps_weaker (λ _. Becomes (Fits r command) (after_command r command))
-    (λ _ chain f p reads fits. chain.2 f (after_command r command p) (chain.1 f p reads fits) tt)
+    (λ _ chain f p reads fits. chain.2 f (after_command r command p) (chain.1 f p reads fits) fits.receipt.moment)
     (steps_then first next)

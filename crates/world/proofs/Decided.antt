@@ -8,10 +8,10 @@ use Rattle.sheet_types.specs.Answers.{sums_held}
 use Rattle.sheet_types.specs.Custody.{kept}
 use Rattle.sheet_types.specs.Lines.{IsUuid, HasTypes}
 use Rattle.sheet_types.specs.Matrix.{first_row}
-use Rattle.sheet_types.specs.Refuse.{refusal, identity_used, too_many}
+use Rattle.sheet_types.specs.Refuse.{refusal, identity_used, too_many, bad_text}
 use Rattle.sheet_types.specs.Register.{IsRegister}
 use Rattle.sheet_types.specs.Step.{accepted, outcome, receipt_of, receipt_over, moved}
-use Rattle.sheet_types.specs.Texts.{line}
+use Rattle.sheet_types.specs.Texts.{line, is_moment}
 use Rattle.sheet_types.specs.World.{World, is_live, holdings, no_package, receipts_of}
 use Rattle.sheet_types.specs.declared.command.Command.{Command}
 use Rattle.sheet_types.specs.declared.command.Command.TheVariants.{Add, Delete, Link, Unlink, Split, Merge}
@@ -22,7 +22,9 @@ use Rattle.sheet_types.specs.declared.receipt.Receipt.{Receipt}
 use Rattle.sheet_types.specs.declared.receipt.Sums.{Sums}
 use Rattle.sheet_types.specs.declared.refusal.Refusal.{Refusal}
 use Rattle.sheet_types.specs.declared.refusal.Refusal.TheVariants.{IdReused, UnknownPackage, IdentityUsed, TooMany}
-use Rattle.sheet_types.proofs.Basics.{None≢Some}
+use Rattle.sheet_types.proofs.Basics.{None≢Some, not_false}
+use Rattle.ledger_laws.proofs.Accepting.{rows_fail}
+use Rattle.std.proofs.lemmas.Bool.{or_parts}
 use Rattle.sheet_types.proofs.Every.{All-each}
 use Rattle.ledger_laws.proofs.Packages.{at_all}
 use Rattle.world.specs.Asking.{StandsAt}
@@ -140,7 +142,8 @@ nothing_against : (f : Frame) (count at : ℕ) (q : Request) (w : World) → IsP
 nothing_against f count at q w placed before =
     let parts = or_none (first_row (text_reasons q)) (option_or (then_some (identity_used w q.command) IdentityUsed) (first_row (package_reasons w.frame (holdings w (package_of q.command)) q.command))) before in
     let last = or_none (then_some (identity_used w q.command) IdentityUsed) (first_row (package_reasons w.frame (holdings w (package_of q.command)) q.command)) parts.1 in
-    record { live = placed.live; new = placed.new; unused = not_then (identity_used w q.command) IdentityUsed last.0; no_reason = last.1 }
+    let texts = rows_fail (text_reasons q) parts.0 in
+    record { live = placed.live; new = placed.new; moment = not_false (is_moment q.at) (or_parts (not (is_moment q.at)) (bad_text q.command) texts.0).0; unused = not_then (identity_used w q.command) IdentityUsed last.0; no_reason = last.1 }
 
 -- so it fits its package
 fits_there : (f : Frame) (count at : ℕ) (q : Request) (w : World) → IsRegister w → IsUuid q.id → HasTypes q.command → IsPlaced f count at q w → refusal_before w q ≡ None → Fits (receipt_of w q) q.command (holdings w (package_of q.command))

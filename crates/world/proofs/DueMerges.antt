@@ -17,7 +17,7 @@ use Rattle.sheet_types.specs.Lines.{HasTypes, IsUuid, is_uuid}
 use Rattle.sheet_types.specs.Ordered.{arranged, has, without, IsArranged}
 use Rattle.sheet_types.specs.Register.{IsRegister, IsKeptPackage, HasEnds}
 use Rattle.sheet_types.specs.Step.{accepted, joined, receipt_of}
-use Rattle.sheet_types.specs.Texts.{line, size}
+use Rattle.sheet_types.specs.Texts.{line, size, is_moment}
 use Rattle.sheet_types.specs.World.{World, Package, package_key, receipt_key, item_key, item_thing, link_key, receipts_of, holdings, no_package, is_live, with_receipt, has_item, is_tile, is_medium, is_row}
 use Rattle.sheet_types.specs.declared.command.Command.TheVariants.{Merge}
 use Rattle.sheet_types.specs.declared.command.Item.{Item}
@@ -45,7 +45,7 @@ use Rattle.identity_register.specs.declared.selection.Selection.{Selection}
 use Rattle.world.specs.declared.loans.Returning.{Returning}
 use Rattle.world.proofs.Changing.{changed_set}
 use Rattle.world.proofs.DueSplits.{fit_moved, held_moved}
-use Rattle.world.proofs.Fitting.{new_number}
+use Rattle.world.proofs.Fitting.{new_number, says_moment}
 use Rattle.world.proofs.Listing.{all_at, other_key, set_elsewhere, set_then_removed, without_at}
 use Rattle.world.proofs.Returned.{still_there}
 use Rattle.world.proofs.Tickets.{ticket_next}
@@ -86,7 +86,7 @@ sums_joined r x p =
 
 -- ---- the merge
 
-module _ (w : World) (id moment child into : List ℕ) (ticket' : ℤ) (types : HasTypes (Merge child into ticket')) (register : IsRegister w) (uuid : is_uuid id ≡ true) (k : Known w id moment child into ticket' types register) where
+module _ (w : World) (id moment child into : List ℕ) (ticket' : ℤ) (types : HasTypes (Merge child into ticket')) (register : IsRegister w) (uuid : is_uuid id ≡ true) (timed : is_moment moment ≡ true) (k : Known w id moment child into ticket' types register) where
   abbrev receipt : Receipt
   receipt = receipt_of w (merge_request id moment child into ticket')
 
@@ -169,6 +169,7 @@ module _ (w : World) (id moment child into : List ℕ) (ticket' : ℤ) (types : 
           target = uuids.1;
           items = fit_moved (holdings w child) (holdings w child).items (holdings w child).links kept_child.uuids kept_child.uuids kept_child.ends;
         };
+        moment = timed;
       }
 
   may : MayReturn receipt taken (holdings w child) (holdings w into)
@@ -258,4 +259,4 @@ module _ (w : World) (id moment child into : List ℕ) (ticket' : ℤ) (types : 
 -- A new merge that is not refused is due, where what is due was made of it.
 pub returned_where_accepted : ReturnedWhereAccepted
 returned_where_accepted w id moment child into ticket' due register uuid types new none made =
-    returned_of w id moment child into ticket' types register uuid (merge.known w id moment child into ticket' types register (ap (λ k. option_and_then (λ r. then_some (bytes_eq r.line (line (Merge child into ticket'))) r) k) new) none) due made
+    returned_of w id moment child into ticket' types register uuid (says_moment w (accepted w (merge_request id moment child into ticket')) (merge_request id moment child into ticket') none) (merge.known w id moment child into ticket' types register (ap (λ k. option_and_then (λ r. then_some (bytes_eq r.line (line (Merge child into ticket'))) r) k) new) none) due made

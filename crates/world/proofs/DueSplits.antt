@@ -15,7 +15,7 @@ use Rattle.sheet_types.specs.Lines.{HasTypes, IsUuid, is_uuid, is_rect}
 use Rattle.sheet_types.specs.Ordered.{arranged, has, IsArranged, is_before}
 use Rattle.sheet_types.specs.Register.{IsRegister, IsKeptPackage, HasEnds}
 use Rattle.sheet_types.specs.Step.{accepted, less, loan_of, cut_of, receipt_of, receipt_over, count_of, links_of}
-use Rattle.sheet_types.specs.Texts.{line, size}
+use Rattle.sheet_types.specs.Texts.{line, size, is_moment}
 use Rattle.sheet_types.specs.World.{World, Package, package_key, item_key, link_key, receipts_of, holdings, with_receipt, item_moved, link_moved, has_item, kind_number, base_kind, other_kind, is_tile, is_medium, is_row}
 use Rattle.sheet_types.specs.declared.command.Command.TheVariants.{Split}
 use Rattle.sheet_types.specs.declared.command.Item.{Item}
@@ -48,7 +48,7 @@ use Rattle.world.specs.Steps.{sums_moved, sums_less}
 use Rattle.identity_register.specs.declared.selection.Selection.{Selection}
 use Rattle.world.specs.declared.loans.Lending.{Lending}
 use Rattle.world.proofs.Changing.{changed_set}
-use Rattle.world.proofs.Fitting.{new_number, fit_item, fit_link}
+use Rattle.world.proofs.Fitting.{new_number, fit_item, fit_link, says_moment}
 use Rattle.world.proofs.Listing.{put_inserts, arranged_itself, other_key, all_at}
 use Rattle.world.proofs.Tickets.{ticket_next}
 
@@ -162,7 +162,7 @@ module _ (x : Package) (c : Cut) (tests : ByTests x c) (items : IsArranged item_
 
 -- ---- the split
 
-module _ (w : World) (id moment p child : List ℕ) (mode : Mode) (rect : Rect) (types : HasTypes (Split p child mode rect)) (register : IsRegister w) (uuid : is_uuid id ≡ true) (k : Known w id moment p child mode rect types register) where
+module _ (w : World) (id moment p child : List ℕ) (mode : Mode) (rect : Rect) (types : HasTypes (Split p child mode rect)) (register : IsRegister w) (uuid : is_uuid id ≡ true) (timed : is_moment moment ≡ true) (k : Known w id moment p child mode rect types register) where
   abbrev parent : Package
   parent = holdings w p
 
@@ -210,6 +210,7 @@ module _ (w : World) (id moment p child : List ℕ) (mode : Mode) (rect : Rect) 
               (subst (AllByRecursion (λ i. IsUuid i.identity)) (sym torn.items) (All-filter (λ i. IsUuid i.identity) (λ i. torn.s i.identity) (holdings w p).items kept.uuids))
               (subst (AllByRecursion (HasEnds (holdings w p))) (sym torn.links) (All-filter (HasEnds (holdings w p)) torn.u (holdings w p).links kept.ends));
         };
+        moment = timed;
       }
 
   one_more : receipts_of next ≡ receipts_of w ++ receipt ∷ []
@@ -304,4 +305,4 @@ module _ (w : World) (id moment p child : List ℕ) (mode : Mode) (rect : Rect) 
 -- A new split that is not refused is due, where what is due was made of it.
 pub lent_where_accepted : LentWhereAccepted
 lent_where_accepted w id moment p child mode rect due register uuid types new none made =
-    lent_of w id moment p child mode rect types register uuid (split.known w id moment p child mode rect types register (ap (λ k. option_and_then (λ r. then_some (bytes_eq r.line (line (Split p child mode rect))) r) k) new) none) due made
+    lent_of w id moment p child mode rect types register uuid (says_moment w (accepted w (split_request id moment p child mode rect)) (split_request id moment p child mode rect) none) (split.known w id moment p child mode rect types register (ap (λ k. option_and_then (λ r. then_some (bytes_eq r.line (line (Split p child mode rect))) r) k) new) none) due made

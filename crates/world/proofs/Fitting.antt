@@ -10,10 +10,10 @@ use Rattle.sheet_types.specs.Custody.{kept, custody, is_add, is_used}
 use Rattle.sheet_types.specs.Balance.{archive_of, names_identity, holds, IsThing}
 use Rattle.sheet_types.specs.Lines.{IsUuid, HasTypes, is_uuid, is_bytes}
 use Rattle.sheet_types.specs.Matrix.{first_row}
-use Rattle.sheet_types.specs.Refuse.{identity_used, id_reused, too_many}
+use Rattle.sheet_types.specs.Refuse.{refusal, reasons, identity_used, id_reused, too_many, bad_text}
 use Rattle.sheet_types.specs.Register.{IsRegister}
 use Rattle.sheet_types.specs.Step.{moved, source_of, target_of, added_item, relation}
-use Rattle.sheet_types.specs.Texts.{entry_of, kind_of, fingerprint, line}
+use Rattle.sheet_types.specs.Texts.{entry_of, kind_of, fingerprint, line, is_moment}
 use Rattle.sheet_types.specs.World.{World, Package, is_live, holdings, receipts_of, has_item, has_kind, item_of, item_thing, item_moved, link_key, base_kind, other_kind, receipt_key, is_item_kind}
 use Rattle.sheet_types.specs.declared.command.Command.{Command}
 use Rattle.sheet_types.specs.declared.command.Command.TheVariants.{Add, Delete, Link, Unlink, Split, Merge}
@@ -142,6 +142,7 @@ fits_where_accepted w q register uuid types one open' =
           target = ends.1;
           items = fit_things w q.command one types (kept_at w (package_of q.command) register open'.live).uuids;
         };
+        moment = open'.moment;
       };
     }
 
@@ -152,6 +153,12 @@ rows_none : {X : Type 0} (rows : List (Bool × X)) → AllByRecursion (λ row. r
 rows_none [] h = refl
 rows_none (row ∷ rows) h = rw h.0 (rows_none rows h.1)
 
+-- it says a moment
+pub says_moment : (w next : World) (q : Request) → refusal w next q ≡ None → is_moment q.at ≡ true
+says_moment w next q none =
+    let fails = rows_fail (reasons w next q) none in
+    not_false (is_moment q.at) (or_parts (not (is_moment q.at)) (bad_text q.command) fails.1.1.1.0).0
+
 pub nothing_against_accepted : NothingAgainstAccepted
 nothing_against_accepted w next q one new none =
     elim (is_live w (package_of q.command)) as (λ v. is_live w (package_of q.command) ≡ v → NothingAgainst w q) [
@@ -161,6 +168,7 @@ nothing_against_accepted w next q one new none =
           record {
             live = live;
             new = new;
+            moment = not_false (is_moment q.at) (or_parts (not (is_moment q.at)) (bad_text q.command) fails.1.0).0;
             unused = fails.1.1.1.0;
             no_reason = rows_none (package_reasons w.frame x q.command) (All-left (λ (row : Bool × Refusal). row.0 ≡ false) (package_reasons w.frame x q.command) ((too_many next, TooMany) ∷ []) fails.1.1.1.1);
           }

@@ -1,5 +1,5 @@
 -- A split among the members of a world.
-use Rattle.std.specs.Prelude.{◌≡◌, ◌≢◌, ◌⊎◌, ◌≤◌, ℕ, zero, suc, ◌+◌, List, [], ◌∷◌, ◌++◌, map, Some, slice_get, slice_set, refl, Result, Ok, Err, IsTrue}
+use Rattle.std.specs.Prelude.{◌≡◌, ◌≢◌, ◌⊎◌, ◌≤◌, ℕ, true, zero, suc, ◌+◌, List, [], ◌∷◌, ◌++◌, map, Some, slice_get, slice_set, refl, Result, Ok, Err, IsTrue}
 use Rattle.std.proofs.Common.{sym, ap, subst, ◌∙◌, inl, inr, arith, length, length-append}
 use Rattle.std.specs.List.{AllByRecursion, AllZip, insert}
 use Rattle.std.specs.List.Sorted.{IsPermutation}
@@ -14,6 +14,7 @@ use Rattle.sqlite.specs.Held.{Held, state}
 use Rattle.sqlite.specs.State.{State, HasCleanDisk}
 use Rattle.sqlite.proofs.StateLemmas.{clean_if_open}
 use Rattle.sheet_types.specs.Cut.{Cut}
+use Rattle.sheet_types.specs.Texts.{is_moment}
 use Rattle.sheet_types.specs.World.{World, Package}
 use Rattle.sheet_types.specs.declared.frame.Frame.{Frame}
 use Rattle.sheet_types.specs.declared.receipt.Receipt.{Receipt}
@@ -84,11 +85,11 @@ module _ {S : Type 0} (g : Ghosts S) where
 
   -- what was made of the parent that the member reads as is the loan
   pub loan_kept : (f : Frame) (w next : World) (count : ℕ) (due : Lending) (old : List (Member S)) (was : Member S) (child : Held S) → slice_get old due.at ≡ Some was → IsTrue (state g was.conn).is_open → f ≡ w.frame → AreMembers g old count w → (lent : IsLent w next due)
-      → ((c : Cut) (from : Package) → IsSelectionOf c due.selection → Reads f from (state g was.conn).now → IsPart c from → MayCome c (new_package due.child (Some due.parent) due.depth due.receipt.seq) → Keeps f (with_cut c (new_package due.child (Some due.parent) due.depth due.receipt.seq)) (state g child))
+      → (is_moment due.receipt.at ≡ true → (c : Cut) (from : Package) → IsSelectionOf c due.selection → Reads f from (state g was.conn).now → IsPart c from → MayCome c (new_package due.child (Some due.parent) due.depth due.receipt.seq) → Keeps f (with_cut c (new_package due.child (Some due.parent) due.depth due.receipt.seq)) (state g child))
       → Keeps w.frame (loan due lent.taken) (state g child)
   loan_kept f w next count due old was child place opened same are lent made =
       let reads : Reads f lent.parent (state g was.conn).now = subst (λ v. Reads v lent.parent (state g was.conn).now) (sym same) (read_at w count old due.at was lent.parent place lent.place opened are) in
-      subst (λ v. Keeps v (loan due lent.taken) (state g child)) same (made lent.taken lent.parent lent.selected reads lent.part lent.come)
+      subst (λ v. Keeps v (loan due lent.taken) (state g child)) same (made lent.receipt.moment lent.taken lent.parent lent.selected reads lent.part lent.come)
 
   -- what reads as a child that is not of the world is beside it
   pub is_beside : (w next : World) (due : Lending) (is : IsLent w next due) (trees : Trees) → LeftAs w.frame trees (new_package due.child (Some due.parent) due.depth due.receipt.seq) ⊎ LeftAs w.frame trees (loan due is.taken) → IsBeside w.frame w.packages trees
@@ -99,18 +100,18 @@ module _ {S : Type 0} (g : Ghosts S) where
   none_beside f packages = All-from_recursion (λ h. HasCleanDisk (state g h) → (trees : Trees) → (state g h).may_leave trees → IsBeside f packages trees) [] tt
 
   -- of a child that was made and not filled it leaves one of two
-  pub unfilled_leaves : {E : Type 0} {r : Result (Unit {0}) E} (f : Frame) (empty : Package) (s : Selection) (at : List ℕ) (db : Database) (source made : State) (child : Held S) → (HasCleanDisk made → Keeps f empty made)
-      → Turns {X = Unit {0}} {E = E} (λ _. FromClean source (Fills s at db)) made (state g child) r → LeavesChild g f empty s db source child
-  unfilled_leaves f empty s at db source made child keeps turns clean_source c from selected reads part come clean trees may =
-      let it : Keeps f empty made = keeps (omega (arith, turns.survives.clean, clean)) in
+  pub unfilled_leaves : {E : Type 0} {r : Result (Unit {0}) E} (f : Frame) (empty : Package) (s : Selection) (at : List ℕ) (db : Database) (source made : State) (child : Held S) → (is_moment at ≡ true → HasCleanDisk made → Keeps f empty made)
+      → Turns {X = Unit {0}} {E = E} (λ _. FromClean source (Fills s at db)) made (state g child) r → LeavesChild g f at empty s db source child
+  unfilled_leaves f empty s at db source made child keeps turns clean_source moment c from selected reads part come clean trees may =
+      let it : Keeps f empty made = keeps moment (omega (arith, turns.survives.clean, clean)) in
       elim (turns.left clean it.holds.is_open trees may) [
         | inl before ↦ inl (made.now, before, it.reads)
-        | inr after ↦ inr (after.1, after.3, (after.2 clean_source c f from empty selected reads part it.reads come).0)
+        | inr after ↦ inr (after.1, after.3, (after.2 clean_source moment c f from empty selected reads part it.reads come).0)
       ]
 
   -- so what was dropped is beside the world
   pub dropped_beside : (f : Frame) (w next : World) (count : ℕ) (due : Lending) (old : List (Member S)) (was : Member S) (source : State) → slice_get old due.at ≡ Some was → AllOpen g old → f ≡ w.frame → AreMembers g old count w → IsLent w next due → HasCleanDisk source
-      → (it : DropsUnfilled g f (new_package due.child (Some due.parent) due.depth due.receipt.seq) due.selection (state g was.conn).now source) → AreBeside g w.frame w.packages it.left_over
+      → (it : DropsUnfilled g f due.receipt.at (new_package due.child (Some due.parent) due.depth due.receipt.seq) due.selection (state g was.conn).now source) → AreBeside g w.frame w.packages it.left_over
   dropped_beside f w next count due old was source place opened same are is clean_source it =
       All-from_recursion (λ h. HasCleanDisk (state g h) → (trees : Trees) → (state g h).may_leave trees → IsBeside w.frame w.packages trees) it.left_over (each it.left_over it.leaves)
     where
@@ -118,11 +119,11 @@ module _ {S : Type 0} (g : Ghosts S) where
       reads = subst (λ v. Reads v is.parent (state g was.conn).now) (sym same)
           (read_at w count old due.at was is.parent place is.place (all-slice_get (λ (m : Member S). IsTrue (state g m.conn).is_open) old due.at was place (recursion_from_All (λ (m : Member S). IsTrue (state g m.conn).is_open) old opened)) are)
 
-      each : (hs : List (Held S)) → AllByRecursion (LeavesChild g f (new_package due.child (Some due.parent) due.depth due.receipt.seq) due.selection (state g was.conn).now source) hs
+      each : (hs : List (Held S)) → AllByRecursion (LeavesChild g f due.receipt.at (new_package due.child (Some due.parent) due.depth due.receipt.seq) due.selection (state g was.conn).now source) hs
           → AllByRecursion (λ h. HasCleanDisk (state g h) → (trees : Trees) → (state g h).may_leave trees → IsBeside w.frame w.packages trees) hs
       each [] all = tt
       each (h ∷ hs) all = (
-        (λ clean trees may. is_beside w next due is trees (subst (λ v. LeftAs v trees (new_package due.child (Some due.parent) due.depth due.receipt.seq) ⊎ LeftAs v trees (loan due is.taken)) same (all.0 clean_source is.taken is.parent is.selected reads is.part is.come clean trees may))),
+        (λ clean trees may. is_beside w next due is trees (subst (λ v. LeftAs v trees (new_package due.child (Some due.parent) due.depth due.receipt.seq) ⊎ LeftAs v trees (loan due is.taken)) same (all.0 clean_source is.receipt.moment is.taken is.parent is.selected reads is.part is.come clean trees may))),
         each hs all.1,
       )
 

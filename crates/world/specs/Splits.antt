@@ -1,5 +1,5 @@
 -- What a split makes of the members of a world, once the store of the child is there. Profile.
-use Rattle.std.specs.Prelude.{◌≡◌, ◌⊎◌, ◌≤◌, ℕ, ◌+◌, List, [], ◌∷◌, ◌++◌, map, length, Some, Result, Ok, Err, IfOk, IsTrue, ◌≢◌}
+use Rattle.std.specs.Prelude.{◌≡◌, ◌⊎◌, ◌≤◌, ℕ, ◌+◌, true, List, [], ◌∷◌, ◌++◌, map, length, Some, Result, Ok, Err, IfOk, IsTrue, ◌≢◌}
 use Rattle.sqlite.specs.Held.{Held, state}
 use Rattle.std.specs.List.{AllByRecursion}
 use Rattle.sqlite.specs.Effect.{Database}
@@ -7,6 +7,7 @@ use Rattle.sqlite.specs.State.{State, HasCleanDisk}
 use Rattle.sqlite.specs.Tree.{Trees}
 use Rattle.sqlite.specs.Store.{Ghosts}
 use Rattle.sheet_types.specs.Cut.{Cut}
+use Rattle.sheet_types.specs.Texts.{is_moment}
 use Rattle.sheet_types.specs.World.{World, Package}
 use Rattle.sheet_types.specs.declared.frame.Frame.{Frame}
 use Rattle.sheet_types.specs.declared.receipt.Receipt.{Receipt}
@@ -35,19 +36,19 @@ module _ {S : Type 0} (g : Ghosts S) where
   abbrev pub KeepsLoan : (w next : World) (due : Lending) → IsLent w next due → Held S → Type 0
   KeepsLoan w next due lent child = HasCleanDisk (state g child) → Keeps w.frame (loan due lent.taken) (state g child)
 
-  -- What a crash leaves of the store in which the child was made is the child with nothing in it, or with what was
-  -- selected of its parent.
-  abbrev pub LeavesChild : Frame → Package → Selection → Database → State → Held S → Type 0
-  LeavesChild f empty s source read child = HasCleanDisk read → (c : Cut) (from : Package) → IsSelectionOf c s
-      → Reads f from source → IsPart c from → MayCome c empty
+  -- What a crash leaves of the store in which the child was made, at this moment, is the child with nothing in it, or
+  -- with what was selected of its parent.
+  abbrev pub LeavesChild : Frame → List ℕ → Package → Selection → Database → State → Held S → Type 0
+  LeavesChild f at empty s source read child = HasCleanDisk read → is_moment at ≡ true → (c : Cut) (from : Package)
+      → IsSelectionOf c s → Reads f from source → IsPart c from → MayCome c empty
       → HasCleanDisk (state g child) → (trees : Trees) → (state g child).may_leave trees
       → LeftAs f trees empty ⊎ LeftAs f trees (with_cut c empty)
 
   -- The store in which the child was made was dropped, if one was made. The parent read as what this database holds.
-  pub record DropsUnfilled (f : Frame) (empty : Package) (s : Selection) (source : Database)
+  pub record DropsUnfilled (f : Frame) (at : List ℕ) (empty : Package) (s : Selection) (source : Database)
       (read : State) : Type 0 where
     pub left_over : List (Held S)
-    pub leaves : AllByRecursion (LeavesChild f empty s source read) left_over
+    pub leaves : AllByRecursion (LeavesChild f at empty s source read) left_over
 
   -- So what a crash leaves of it is beside the world, which the split has not changed.
   pub record DropsChild (f : Frame) (due : Lending) (old new : List (Member S)) : Type 0 where

@@ -11,7 +11,7 @@ use Rattle.sheet_types.specs.Matrix.{first_row}
 use Rattle.sheet_types.specs.Refuse.{greatest_items, greatest_links, greatest_packages, greatest_receipts, refusal, identity_used, too_many}
 use Rattle.sheet_types.specs.Register.{IsRegister}
 use Rattle.sheet_types.specs.Step.{accepted, added_item, outcome, receipt_of}
-use Rattle.sheet_types.specs.Texts.{line}
+use Rattle.sheet_types.specs.Texts.{line, is_moment}
 use Rattle.sheet_types.specs.World.{World, is_live, holdings, item_moved, receipts_of, changed}
 use Rattle.sheet_types.specs.declared.command.Command.{Command}
 use Rattle.sheet_types.specs.declared.command.Command.TheVariants.{Add, Delete, Link, Unlink, Split, Merge}
@@ -38,11 +38,12 @@ IsAddedBy (Merge child into number) thing = ⊤
 
 -- ---- what may be carried out
 
--- Nothing that is kept speaks against a request: its package is live, it did not come before, its identity is not
--- used, and its package gives no reason. Its texts and the limits are not looked at.
+-- Nothing that is kept speaks against a request: its package is live, it did not come before, it says a moment, its
+-- identity is not used, and its package gives no reason. Its other texts and the limits are not looked at.
 pub record NothingAgainst (w : World) (q : Request) : Type 0 where
   pub live : is_live w (package_of q.command) ≡ true
   pub new : kept w q.id ≡ None
+  pub moment : is_moment q.at ≡ true
   pub unused : identity_used w q.command ≡ false
   pub no_reason : first_row (package_reasons w.frame (holdings w (package_of q.command)) q.command) ≡ None
 

@@ -1,8 +1,9 @@
 //! The first member of a world: the archive, with nothing in it.
-ghost use Rattle.std.specs.Prelude.{◌≡◌, IfOk, IsTrue, length};
+ghost use Rattle.std.specs.Prelude.{◌≡◌, true, IfOk, IsTrue, length};
 ghost use Rattle.sqlite.specs.Held.{state};
 ghost use Rattle.sqlite.specs.State.{HasCleanDisk};
 ghost use Rattle.sheet_types.specs.Matrix.{is_good_frame};
+ghost use Rattle.sheet_types.specs.Texts.{is_moment};
 ghost use Rattle.sheet_types.specs.World.{new_world};
 ghost use Rattle.sql_meaning.specs.Blank.{IsBlank, no_schema};
 ghost use Rattle.world.specs.Members.{AllRest, AllClean, AllMadeAt, AreMembers};
@@ -51,6 +52,7 @@ pub(crate) fn archive_alone<S: Alter + Drop>(
 ) -> Result<Vec<Member<S>>, Fault>
     requires blank { HasCleanDisk (state S.Store conn) → IsBlank no_schema (state S.Store conn).now }
     requires good { IsTrue (is_good_frame frame.now) }
+    requires moment { is_moment at.now ≡ true }
     ensures rests { IfOk result (λ members. AllRest S.Store members.items) }
     ensures one { IfOk result (λ members. length members.items ≡ 1) }
     ensures clean { IfOk result (λ members. AllClean S.Store members.items → HasCleanDisk (state S.Store conn)) }

@@ -1,10 +1,11 @@
 //! A split among the members of a world: the child's store is made and committed first, then the parent takes its turn, and the child comes to its place. After the commit that carries the receipt nothing takes memory.
-ghost use Rattle.std.specs.Prelude.{◌≡◌, ◌≢◌, ◌++◌, ◌∷◌, [], ℕ, ◌<◌, ◌≤◌, ◌+◌, IsTrue, Some, Err, IfOk, OnOk, OnErr, IfErr, length, vec_len, vec_capacity};
+ghost use Rattle.std.specs.Prelude.{◌≡◌, ◌≢◌, ◌++◌, ◌∷◌, [], ℕ, ◌<◌, ◌≤◌, ◌+◌, true, IsTrue, Some, Err, IfOk, OnOk, OnErr, IfErr, length, vec_len, vec_capacity};
 ghost use Rattle.sqlite.specs.Held.{state};
 ghost use Rattle.sqlite.specs.State.{HasCleanDisk};
 ghost use Rattle.sqlite_disk.specs.Disk.{CountsFault, MoreFaults};
 ghost use Rattle.sheet_types.specs.Cut.{Cut};
 ghost use Rattle.sheet_types.specs.Matrix.{is_good_frame};
+ghost use Rattle.sheet_types.specs.Texts.{is_moment};
 ghost use Rattle.sheet_types.specs.World.{World, Package};
 ghost use Rattle.sql_meaning.specs.Blank.{IsBlank, no_schema};
 ghost use Rattle.sql_meaning.specs.Staying.{Stays};
@@ -57,10 +58,10 @@ fn filled_store<S: Alter + Drop>(
     ensures opens { HasCleanDisk (state S.Store source.new) → OnOk result (IsTrue (state S.Store source.new).is_open) }
     ensures rests { IfOk result (λ made. Rests (state S.Store made)) }
     ensures is_open { IfOk result (λ made. HasCleanDisk (state S.Store made) → IsTrue (state S.Store made).is_open) }
-    ensures made { IfOk result (λ made. HasCleanDisk (state S.Store made) → HasCleanDisk (state S.Store source.new) → (c : Cut) (from : Package) → IsSelectionOf c selection.now → Reads frame.now from (state S.Store source.old).now → IsPart c from
+    ensures made { IfOk result (λ made. HasCleanDisk (state S.Store made) → HasCleanDisk (state S.Store source.new) → is_moment info.now.created.now ≡ true → (c : Cut) (from : Package) → IsSelectionOf c selection.now → Reads frame.now from (state S.Store source.old).now → IsPart c from
         → MayCome c (new_package info.now.package info.now.parent info.now.depth info.now.loan)
         → Keeps frame.now (with_cut c (new_package info.now.package info.now.parent info.now.depth info.now.loan)) (state S.Store made)) }
-    ensures dropped { IfErr result (λ why. DropsUnfilled S.Store frame.now (new_package info.now.package info.now.parent info.now.depth info.now.loan) selection.now (state S.Store source.old).now (state S.Store source.new)) }
+    ensures dropped { IfErr result (λ why. DropsUnfilled S.Store frame.now info.now.created.now (new_package info.now.package info.now.parent info.now.depth info.now.loan) selection.now (state S.Store source.old).now (state S.Store source.new)) }
 {
     if !is_at_rest(&blank) {
         return Err(Fault::StoreFault);

@@ -3,10 +3,10 @@ use Rattle.identity_register.proofs.NewPackage.{new_keeps, new_dated}
 use Rattle.identity_register.proofs.creation.create.Goals as goal
 
 pub returns-clause-made : goal.returns-clause-made
-returns-clause-made g c blank =
+returns-clause-made g c moment blank =
     let f = c.args.frame.now in
     let i = c.args.info.now in
-    rw c.into_connection.ensures (λ clean. let made = c.in_ok-package.ensures.made blank clean in new_keeps f i.package i.parent i.depth i.loan i.created.now c.requires.frame c.fits.ensures c.fits_if_there.ensures _ made.0 made.1)
+    rw c.into_connection.ensures (λ clean. let made = c.in_ok-package.ensures.made blank clean in new_keeps f i.package i.parent i.depth i.loan i.created.now c.requires.frame moment c.fits.ensures c.fits_if_there.ensures _ made.0 made.1)
 
 pub returns-clause-dated : goal.returns-clause-dated
 returns-clause-dated g c blank =

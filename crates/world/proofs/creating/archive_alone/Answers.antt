@@ -38,7 +38,7 @@ pub returns-clause-made : goal.returns-clause-made
 returns-clause-made g c = λ clean.
     let one = one_member g.S.Store c.args.archive c.in_ok-conn.conn c.in_ok-members.members.items c.push_reserved.new.items.items c.in_ok-members.ensures.items c.push_reserved.ensures.items in
     let disk = its_disk g.S.Store c.args.archive c.in_ok-conn.conn c.push_reserved.new.items.items one clean in
-    subst (λ ms. AreMembers g.S.Store ms 0 (new_world c.args.archive c.args.frame.now)) (sym one) (alone g.S.Store c.args.archive c.args.frame.now c.in_ok-conn.conn c.fits.ensures c.requires.good (c.in_ok-conn.ensures.made c.requires.blank disk))
+    subst (λ ms. AreMembers g.S.Store ms 0 (new_world c.args.archive c.args.frame.now)) (sym one) (alone g.S.Store c.args.archive c.args.frame.now c.in_ok-conn.conn c.fits.ensures c.requires.good (c.in_ok-conn.ensures.made c.requires.moment c.requires.blank disk))
 
 pub returns-clause-dated : goal.returns-clause-dated
 returns-clause-dated g c = λ clean.
