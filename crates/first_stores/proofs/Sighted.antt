@@ -1,5 +1,5 @@
 -- What the looks at a store of the first version come to: some right view of it is seen so.
-use Rattle.std.proofs.Common.{◌≡◌, ◌∙◌, map, Bool, true, false, Some, None, Result, Ok, Err, sym, ap, subst}
+use Rattle.std.proofs.Common.{◌≡◌, ◌∙◌, map, false, Some, None, Result, Ok, Err, sym, ap, subst}
 use Rattle.std.specs.Prelude.{option_map, pos, IfOk}
 use Rattle.std.proofs.lemmas.Bool.{false≢true}
 use Rattle.sqlite.specs.Effect.{Database}
