@@ -1,5 +1,5 @@
 -- Stores of live packages, brought one after the other in the order of their UUIDs.
-use Rattle.std.specs.Prelude.{◌≡◌, ◌⊎◌, ℕ, zero, suc, ◌+◌, ◌≤◌, Bool, true, false, List, [], ◌∷◌, map, length, count_by, refl, is_some, Option, Some, None, MatchOption, option_map, Result, Ok, slice_get, slice_set}
+use Rattle.std.specs.Prelude.{◌≡◌, ◌⊎◌, ℕ, zero, suc, ◌+◌, ◌≤◌, Bool, true, false, List, [], ◌∷◌, map, length, count_by, refl, is_some, Option, Some, None, MatchOption, Result, Ok, Err, IfErr, slice_get, slice_set}
 use Rattle.std.specs.List.{AllByRecursion}
 use Rattle.std.proofs.Common.{sym, ap, subst, ◌∙◌, arith, inl, inr}
 use Rattle.std.proofs.lemmas.List.Elements.{All-set, All-from_recursion, recursion_from_All}
@@ -12,8 +12,12 @@ use Rattle.sql_meaning.specs.Transactions.{Rests}
 use Rattle.package_tables.specs.declared.fault.Fault.{Fault}
 use Rattle.verdicts.specs.declared.verdict.Kept.{Kept}
 use Rattle.world.specs.Leaving.{AreAtRest}
-use Rattle.recovery.specs.Brought.{Place, AreAllTurned, SomeAreTurned, IsTurned, MayBeTurned, TurnsOne}
+use Rattle.recovery.specs.Brought.{Place, AreAllTurned, AreBrought, SomeAreTurned, IsTurned, MayBeTurned, TurnsOne}
 use Rattle.recovery.specs.Waiting.{uuid_kept}
+
+pub any_err : {X E P : Type 0} (r : Result X E) → P → IfErr r (λ _. P)
+any_err (Ok x) is = tt
+any_err (Err e) is = is
 
 -- ---- fields of records in a list
 
@@ -252,3 +256,11 @@ module _ {S : Type 0} (g : Ghosts S) where
         new_is = it.now_is ∙ sym (map_twice (λ (x : Row S). x.place) (λ p. p.now) it.rows);
         each = All-map (MayBeDone g) (λ (x : Row S). x.place) it.rows (All-weaker (HasRole g) (λ x. MayBeDone g x.place) (λ x role. may_role g x.place.kept x.waits x.place.old x.place.now role) it.rows it.each);
       }
+
+-- a list of what is kept is as long as those of the stores
+pub as_long : {S : Type 0} (IsSo : Held S → Held S → Type 0) (kept : List (Option Kept)) (old new : List (Held S)) → AreBrought IsSo kept old new → length kept ≡ length new
+as_long {S} IsSo kept old new it = ap length it.kept_is ∙ lengths it.places ∙ sym (ap length it.new_is)
+  where
+    lengths : (places : List (Place S)) → length (map (λ p. p.kept) places) ≡ length (map (λ p. p.now) places)
+    lengths [] = refl
+    lengths (p ∷ places) = ap suc (lengths places)

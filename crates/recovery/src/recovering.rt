@@ -228,25 +228,18 @@ fn opened<S: Alter + Drop>(
     Recovered { world, strays }
 }
 
-/// Opens the world that stores stand for, whatever they are and in whatever order: the live ones become its members, the others are handed out beside it. A live one of the first version is brought to the second. Each was just opened, so that its tables are in the order of their rowids. The watcher is told how many of them were looked at.
-///
-/// # Errors
-///
-/// The first of the nine faults whose condition holds, with its least package or identity; or want of memory, or a store that failed. All stores are handed back: only read, but for some that may have been brought before memory or a store gave out.
-pub fn recover<S: Alter + Drop, W: Watcher>(
+// Opens the world of stores of which none is inside a transaction.
+fn recover_at_rest<S: Alter + Drop, W: Watcher>(
     alloc: Global,
     stores: Vec<Connection<S>>,
     watcher: &mut W,
 ) -> Result<Recovered<S>, Unopened<S>>
+    requires rests { AreAtRest S.Store stores.items }
     requires keyed { AreAllKeyed S.Store stores.items }
     ensures stands { IfOk result (IsRecovered S.Store stores.items) }
     ensures fault { IfErr result (IsUnopened S.Store stores.items) }
 {
     let mut stores = stores;
-    if !are_at_rest(&stores) {
-        let fault = RecoverFault::StoreFault;
-        return Err(Unopened { fault, stores });
-    }
     let judged = match judge_stores(alloc, &mut stores, watcher) {
         Ok(judged) => judged,
         Err(fault) => return Err(Unopened { fault, stores }),
@@ -261,4 +254,25 @@ pub fn recover<S: Alter + Drop, W: Watcher>(
         Err(fault) => return Err(Unopened { fault, stores }),
     };
     Ok(opened(stores, judged, room))
+}
+
+/// Opens the world that stores stand for, whatever they are and in whatever order: the live ones become its members, the others are handed out beside it. A live one of the first version is brought to the second. Each was just opened, so that its tables are in the order of their rowids. The watcher is told how many of them were looked at.
+///
+/// # Errors
+///
+/// The first of the nine faults whose condition holds, with its least package or identity; or want of memory, or a store that failed. All stores are handed back: only read, but for some that may have been brought before memory or a store gave out.
+pub fn recover<S: Alter + Drop, W: Watcher>(
+    alloc: Global,
+    stores: Vec<Connection<S>>,
+    watcher: &mut W,
+) -> Result<Recovered<S>, Unopened<S>>
+    requires keyed { AreAllKeyed S.Store stores.items }
+    ensures stands { IfOk result (IsRecovered S.Store stores.items) }
+    ensures fault { IfErr result (IsUnopened S.Store stores.items) }
+{
+    if are_at_rest(&stores) {
+        return recover_at_rest(alloc, stores, watcher);
+    }
+    let fault = RecoverFault::StoreFault;
+    Err(Unopened { fault, stores })
 }

@@ -1,0 +1,30 @@
+-- What was judged after the looks is so of the stores that were handed in.
+use Rattle.std.proofs.Common.{◌≡◌, ◌∙◌, refl, sym, subst, inl, inr, length, vec_len, arith}
+use Rattle.std.proofs.lemmas.List.Elements.{recursion_from_All}
+use Rattle.sqlite.specs.Held.{state}
+use Rattle.sql_meaning.specs.Transactions.{Rests}
+use Rattle.recovery.specs.Brought.{AreAllTurned, SomeAreTurned}
+use Rattle.recovery.proofs.Opened.{all_stay_may, fault_before, recovered, some_may, stands}
+use Rattle.recovery.proofs.Turning.{as_long}
+use Rattle.recovery.proofs.recovering.recover_at_rest.Goals as goal
+
+pub returns-in-Err-clause-fault : goal.returns-in-Err-clause-fault
+returns-in-Err-clause-fault g c = record {
+  brought = inr (all_stay_may g.S.Store g.met.S.Store.shut_if_dirty g.met.S.Store.settled c.args.stores.items c.judge_stores.new.stores.items (recursion_from_All (λ h. Rests (state g.S.Store h)) c.args.stores.items c.requires.rests) c.judge_stores.ensures.read);
+  only_read = inr c.judge_stores.ensures.read;
+  fault = λ clean. fault_before g.S.Store c.args.stores.items c.judge_stores.new.stores.items _ c.judge_stores.ensures.read (c.in-Err.ensures.fault clean);
+}
+
+pub returns-then-not-is_of_all-clause-fault : goal.returns-then-not-is_of_all-clause-fault
+returns-then-not-is_of_all-clause-fault g c = record {
+  brought = inr (all_stay_may g.S.Store g.met.S.Store.shut_if_dirty g.met.S.Store.settled c.args.stores.items c.judge_stores.new.stores.items (recursion_from_All (λ h. Rests (state g.S.Store h)) c.args.stores.items c.requires.rests) c.judge_stores.ensures.read);
+  only_read = inr c.judge_stores.ensures.read;
+  fault = λ clean. inl (inr refl);
+}
+
+pub returns-in-Err-brought-clause-fault : goal.returns-in-Err-brought-clause-fault
+returns-in-Err-brought-clause-fault g c = record {
+  brought = inr (some_may g.S.Store g.met.S.Store.shut_if_dirty g.met.S.Store.settled c.deref.result.now c.args.stores.items c.judge_stores.new.stores.items c.brought.new.stores.items c.requires.rests c.judge_stores.ensures.read c.in-Ok.ensures.opens c.in-Err-brought.ensures.failed);
+  only_read = inl c.in-Err-brought.ensures.fault;
+  fault = λ clean. inl c.in-Err-brought.ensures.fault;
+}
