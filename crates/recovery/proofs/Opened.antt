@@ -22,7 +22,7 @@ use Rattle.verdicts.specs.declared.verdict.Verdict.{Verdict}
 use Rattle.world.specs.Leaving.{AreAtRest, AreClean}
 use Rattle.world.specs.Worlds.{StandsFor}
 use Rattle.recovery.specs.Brought.{Place, AreAllTurned, SomeAreTurned, IsTurned, MayAllBeBrought, MayBeBrought, MayBeTurned}
-use Rattle.recovery.specs.Recovered.{seen_of_stores, AreJudged, AreViewsOf, IsApart, IsFaultAt, IsReadOf, IsRecovered}
+use Rattle.recovery.specs.Recovered.{seen_of_stores, AreJudged, AreViewsOf, IsApart, IsFaultAt, IsOpened, IsReadOf, IsRecovered}
 use Rattle.recovery.specs.Sharing.{strays_of, with_stray}
 use Rattle.recovery.specs.Stores.{AreOnlyRead, AreOpenWhereClean, StaysStore}
 use Rattle.recovery.specs.declared.recovering.Recovered.{Recovered}
@@ -148,23 +148,37 @@ module _ {S : Type 0} (g : Ghosts S) where
 
   -- ---- the world
 
-  module _ (shuts : Shuts g) (settles : Settles g) (stores read now : List (Held S)) (frame : Frame) (verdict : Verdict) (known : List (List ℕ)) (found : Recovered S) (rests : AreAtRest g stores) (stay : AreOnlyRead g stores read) (opens : AreOpenWhereClean g read)
-      (are_judged : AreClean g read → AreJudged g read frame verdict known) (turned : AreAllTurned g verdict.kept.items read now) where
-    -- stores that were judged and brought stand for a world
-    pub stands : AreClean g now → (w : _) × StandsFor g (seen_of_stores frame now verdict known) w
-    stands clean =
-        let it = are_judged (clean_before verdict.kept.items read now turned clean) in
-        (it.is.world, stands_so g read now frame verdict known it turned clean)
+  module _ (read now : List (Held S)) (frame : Frame) (verdict : Verdict) (known : List (List ℕ)) (are_judged : AreClean g read → AreJudged g read frame verdict known) (turned : AreAllTurned g verdict.kept.items read now) where
+    judged_so : AreClean g now → AreJudged g read frame verdict known
+    judged_so clean = are_judged (clean_before verdict.kept.items read now turned clean)
 
-    pub recovered : length verdict.kept.items ≡ length now → AreAtRest g now → found.world ≡ seen_of_stores frame now verdict known → found.strays.items ≡ strays_of now verdict.kept.items → IsRecovered g stores found
-    recovered long rests_now world_is strays_are = record {
-      now = now;
-      brought = all_turned_may shuts settles verdict.kept.items stores read now rests stay opens turned;
-      kept = nothing_lost g now verdict.kept.items found.world.members found.strays.items long (ap (λ w. w.members) world_is) strays_are;
-      strays_read = subst (AllByRecursion (IsReadOf g stores)) (sym (strays_are ∙ same_strays verdict.kept.items read now turned))
-          (strays_have g (IsReadOf g stores) read verdict.kept.items (read_of (Contains stores) (StaysStore g) stores read (recursion_from_All (Contains stores) stores (All-contains_itself stores)) stay));
-      stray_rests = strays_rest g now verdict.kept.items found.strays.items strays_are rests_now;
-      opened = λ clean.
-          let it = are_judged (clean_before verdict.kept.items read now turned clean) in
-          record { views = it.views; right = reread stores read it.views stay it.right; world = it.is.world; stand = it.is.stands; is = subst (λ s. StandsFor g s it.is.world) (sym world_is) (stands_so g read now frame verdict known it turned clean); apart = subst (AllByRecursion (IsApart g it.views)) (sym (strays_are ∙ same_strays verdict.kept.items read now turned)) (strays_apart read verdict.kept.items it.views it.is.world it.right it.is.kept) };
-    }
+    -- stores that were judged and brought stand for a world
+    pub stands : AreClean g now → (w : World) × StandsFor g (seen_of_stores frame now verdict known) w
+    stands clean = let it = judged_so clean in (it.is.world, stands_so g read now frame verdict known it turned clean)
+
+    module _ (stores : List (Held S)) (found : Recovered S) (stay : AreOnlyRead g stores read) (world_is : found.world ≡ seen_of_stores frame now verdict known) (strays_are : found.strays.items ≡ strays_of now verdict.kept.items) where
+      were_read : found.strays.items ≡ strays_of read verdict.kept.items
+      were_read = strays_are ∙ same_strays verdict.kept.items read now turned
+
+      opened : AreClean g now → IsOpened g stores found
+      opened clean =
+          let it = judged_so clean in
+          record {
+            views = it.views;
+            right = reread stores read it.views stay it.right;
+            world = it.is.world;
+            stand = it.is.stands;
+            is = subst (λ s. StandsFor g s it.is.world) (sym world_is) (stands_so g read now frame verdict known it turned clean);
+            apart = subst (AllByRecursion (IsApart g it.views)) (sym were_read) (strays_apart read verdict.kept.items it.views it.is.world it.right it.is.kept);
+          }
+
+      pub recovered : Shuts g → Settles g → AreAtRest g stores → AreOpenWhereClean g read → length verdict.kept.items ≡ length now → AreAtRest g now → IsRecovered g stores found
+      recovered shuts settles rests opens long rests_now = record {
+        now = now;
+        brought = all_turned_may shuts settles verdict.kept.items stores read now rests stay opens turned;
+        kept = nothing_lost g now verdict.kept.items found.world.members found.strays.items long (ap (λ w. w.members) world_is) strays_are;
+        strays_read = subst (AllByRecursion (IsReadOf g stores)) (sym were_read)
+            (strays_have g (IsReadOf g stores) read verdict.kept.items (read_of (Contains stores) (StaysStore g) stores read (recursion_from_All (Contains stores) stores (All-contains_itself stores)) stay));
+        stray_rests = strays_rest g now verdict.kept.items found.strays.items strays_are rests_now;
+        opened = opened;
+      }
