@@ -86,7 +86,7 @@ sums_joined r x p =
 
 -- ---- the merge
 
-module _ (w : World) (id moment child into : List ℕ) (ticket' : ℤ) (types : HasTypes (Merge child into ticket')) (register : IsRegister w) (uuid : is_uuid id ≡ true) (timed : is_moment moment ≡ true) (k : Known w id moment child into ticket' types register) where
+module _ (w : World) (id moment child into : List ℕ) (ticket' : ℤ) (types : HasTypes (Merge child into ticket')) (register : IsRegister w) (uuid : is_uuid id ≡ true) (k : Known w id moment child into ticket' types register) where
   abbrev receipt : Receipt
   receipt = receipt_of w (merge_request id moment child into ticket')
 
@@ -157,8 +157,8 @@ module _ (w : World) (id moment child into : List ℕ) (ticket' : ℤ) (types : 
   no_request : (u : List ℕ) → list_any (of_request id) (holdings w u).receipts ≡ false
   no_request u = none_any (of_request id) (holdings w u).receipts (of_package (λ r. of_request id r ≡ false) w u (none_pass (of_request id) (receipts_of w) k.new_request))
 
-  new : IsNewReceipt receipt (with_receipts_of (holdings w child) (with_cut taken (holdings w into)))
-  new =
+  new : is_moment moment ≡ true → IsNewReceipt receipt (with_receipts_of (holdings w child) (with_cut taken (holdings w into)))
+  new timed =
       let uuids : (is_uuid child ≡ true) × (is_uuid into ≡ true) = (subst IsUuid uuid_child kept_child.uuid, subst IsUuid uuid_into (merge.kept_into w id moment child into ticket' types register k).uuid) in
       record {
         number = in_neither (λ s. bytes_eq (receipt_key s) (receipt_key receipt)) (new_number w child register) (new_number w into register);
@@ -172,8 +172,8 @@ module _ (w : World) (id moment child into : List ℕ) (ticket' : ℤ) (types : 
         moment = timed;
       }
 
-  may : MayReturn receipt taken (holdings w child) (holdings w into)
-  may = record { part = whole_part (holdings w child) kept_child.items kept_child.links; come = come; apart = are_apart; receipt = new }
+  may : is_moment moment ≡ true → MayReturn receipt taken (holdings w child) (holdings w into)
+  may timed = record { part = whole_part (holdings w child) kept_child.items kept_child.links; come = come; apart = are_apart; receipt = new timed }
 
   pub one_more : receipts_of next ≡ receipts_of w ++ receipt ∷ []
   one_more = merge.receipts w id moment child into ticket' types register k
@@ -229,8 +229,8 @@ module _ (w : World) (id moment child into : List ℕ) (ticket' : ℤ) (types : 
     abbrev exact : Selection → Returning
     exact selection = record { from = from; into = at; selection = selection; receipt = receipt; sums = sums_held (returned receipt taken (holdings w child) (holdings w into)) }
 
-    is_returned : (selection : Selection) → IsSelectionOf taken selection → IsReturned w next (exact selection)
-    is_returned selection selected = record {
+    is_returned : is_moment moment ≡ true → (selection : Selection) → IsSelectionOf taken selection → IsReturned w next (exact selection)
+    is_returned timed selection selected = record {
       after = is_next;
       child = holdings w child;
       from = child_there;
@@ -239,7 +239,7 @@ module _ (w : World) (id moment child into : List ℕ) (ticket' : ℤ) (types : 
       into = into_there;
       taken = taken;
       selected = selected;
-      may = may;
+      may = may timed;
       sums = refl;
       packages = packages_after;
       parent_ticket = ticket_after (holdings w into).uuid ∙ ap (λ b. cond b receipt.seq (ticket w (holdings w into).uuid)) (ap (λ b. bytes_eq child (holdings w into).uuid || b) (ap (bytes_eq into) uuid_into ∙ bytes_eq_itself into) ∙ or-true (bytes_eq child (holdings w into).uuid));
@@ -248,15 +248,15 @@ module _ (w : World) (id moment child into : List ℕ) (ticket' : ℤ) (types : 
     }
 
   -- what was made of it is that
-  returned_of : (due : Returning) → IsMerge w id moment child into ticket' due → IsReturned w next due
-  returned_of due is =
+  returned_of : is_moment moment ≡ true → (due : Returning) → IsMerge w id moment child into ticket' due → IsReturned w next due
+  returned_of timed due is =
       let sums : due.sums ≡ sums_held (returned receipt taken (holdings w child) (holdings w into)) = is.sums
       ∙ ap (λ s. sums_more s (sums_held (holdings w into))) (sym (held_moved receipt.seq (merge_request id moment child into ticket') (holdings w child)))
       ∙ sym (sums_joined receipt (holdings w child) (holdings w into)) in
       let same : due ≡ exact due.from due.into is.child_at is.parent_at due.selection = λ j. record { from = due.from; into = due.into; selection = due.selection; receipt = is.receipt j; sums = sums j } in
-      subst (IsReturned w next) (sym same) (is_returned due.from due.into is.child_at is.parent_at due.selection is.selected)
+      subst (IsReturned w next) (sym same) (is_returned due.from due.into is.child_at is.parent_at timed due.selection is.selected)
 
 -- A new merge that is not refused is due, where what is due was made of it.
 pub returned_where_accepted : ReturnedWhereAccepted
 returned_where_accepted w id moment child into ticket' due register uuid types new none made =
-    returned_of w id moment child into ticket' types register uuid (says_moment w (accepted w (merge_request id moment child into ticket')) (merge_request id moment child into ticket') none) (merge.known w id moment child into ticket' types register (ap (λ k. option_and_then (λ r. then_some (bytes_eq r.line (line (Merge child into ticket'))) r) k) new) none) due made
+    returned_of w id moment child into ticket' types register uuid (merge.known w id moment child into ticket' types register (ap (λ k. option_and_then (λ r. then_some (bytes_eq r.line (line (Merge child into ticket'))) r) k) new) none) (says_moment w (accepted w (merge_request id moment child into ticket')) (merge_request id moment child into ticket') none) due made

@@ -1,10 +1,12 @@
 -- The member at the place is only read, and the child keeps what was selected of it.
-use Rattle.std.proofs.Common.{◌≡◌, [], Some, slice_get, refl}
+use Rattle.std.proofs.Common.{◌≡◌, ◌∙◌, [], Some, slice_get, refl, ap, subst}
 use Rattle.std.proofs.lemmas.Option.{slice_get_read}
 use Rattle.sqlite.specs.Held.{state}
 use Rattle.sql_meaning.specs.Staying.{Stays}
 use Rattle.world.specs.Members.{TurnsAt}
-use Rattle.world.specs.Splits.{DropsChild}
+use Rattle.sheet_types.specs.Texts.{is_moment}
+use Rattle.identity_register.specs.Creation.{new_package}
+use Rattle.world.specs.Splits.{DropsChild, DropsUnfilled}
 use Rattle.world.proofs.ChangesMade.{if_err}
 use Rattle.world.proofs.Lent.{loan_kept, dropped_beside, none_beside}
 use Rattle.world.proofs.Standing.{all_still, turn_rests, turn_open, turn_clean, turn_stays}
@@ -44,7 +46,7 @@ returns-clause-keeps g c clean w next count same are lent disk =
     let place : slice_get c.args.members.now.items c.args.due.now.at ≡ Some c.index_mut-member.result.now = slice_get_read _ _ _ _ refl c.requires.within c.index_mut-member.ensures.value in
     let turn : TurnsAt g.S.Store c.args.members.now.items _ c.args.due.now.at Stays = record { was = c.index_mut-member.result.now; place = place; last = c.filled_store.new.source; others = refl; turned = c.filled_store.ensures.source } in
     let source = turn_clean g.S.Store c.args.members.now.items _ c.args.due.now.at turn clean in
-    loan_kept g.S.Store c.args.frame.now w next count c.args.due.now c.args.members.now.items c.index_mut-member.result.now c.in_ok-child.child place (c.filled_store.ensures.source.was_open (c.in_ok-child.ensures.opens source)) same are lent (c.in_ok-child.ensures.made disk source)
+    loan_kept g.S.Store c.args.frame.now w next count c.args.due.now c.args.members.now.items c.index_mut-member.result.now c.in_ok-child.child place (c.filled_store.ensures.source.was_open (c.in_ok-child.ensures.opens source)) same are lent (λ moment. c.in_ok-child.ensures.made disk source (ap is_moment c.as_str.ensures ∙ moment))
 
 pub returns-in_err-blank-clause-dropped : goal.returns-in_err-blank-clause-dropped
 returns-in_err-blank-clause-dropped g c =
@@ -54,9 +56,11 @@ pub returns-in_err-child-clause-dropped : goal.returns-in_err-child-clause-dropp
 returns-in_err-child-clause-dropped g c =
     let place : slice_get c.args.members.now.items c.args.due.now.at ≡ Some c.index_mut-member.result.now = slice_get_read _ _ _ _ refl c.requires.within c.index_mut-member.ensures.value in
     let turn : TurnsAt g.S.Store c.args.members.now.items _ c.args.due.now.at Stays = record { was = c.index_mut-member.result.now; place = place; last = c.filled_store.new.source; others = refl; turned = c.filled_store.ensures.source } in
+    let due = c.args.due.now in
+    let dropped = subst (λ at. DropsUnfilled g.S.Store c.args.frame.now at (new_package due.child (Some due.parent) due.depth due.receipt.seq) due.selection (state g.S.Store c.index_mut-member.result.now.conn).now (state g.S.Store c.filled_store.new.source)) c.as_str.ensures c.in_err-child.ensures.dropped in
     if_err (DropsChild g.S.Store c.args.frame.now c.args.due.now c.args.members.now.items _) _ (record {
-      left_over = c.in_err-child.ensures.dropped.left_over;
+      left_over = dropped.left_over;
       beside = λ clean w next count same are is opened.
           dropped_beside g.S.Store c.args.frame.now w next count c.args.due.now c.args.members.now.items c.index_mut-member.result.now (state g.S.Store c.filled_store.new.source) place opened same are is
-          (turn_clean g.S.Store c.args.members.now.items _ c.args.due.now.at turn clean) c.in_err-child.ensures.dropped;
+          (turn_clean g.S.Store c.args.members.now.items _ c.args.due.now.at turn clean) dropped;
     })
