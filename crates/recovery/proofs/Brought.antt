@@ -61,9 +61,9 @@ module _ {S : Type 0} (g : Ghosts S) (shuts : Shuts g) (settles : Settles g) whe
     rests = turned.rests;
     clean = λ clean. let mid = turned.clean clean in omega (arith, stays.survives.clean, mid);
     was_open = λ is_open. stays.was_open (mid_open is_open);
-    holds = λ is_open. turned_holds b c (mid_open is_open) r (turned.turns (mid_open is_open)) (clean_open g shuts c is_open) is_open;
+    holds = λ is_open. turned_holds b c (mid_open is_open) r (turned.turns (mid_open is_open)) (clean_open g shuts settles c is_open) is_open;
     says = λ is_open. subst (λ (db : Database). ((state g c).now ≡ db) ⊎ BringsIfFirst db (state g c).now) (stays.holds (mid_open is_open)).now_is
-        (turned_says b c (mid_open is_open) r (turned.turns (mid_open is_open)) (clean_open g shuts c is_open) is_open);
+        (turned_says b c (mid_open is_open) r (turned.turns (mid_open is_open)) (clean_open g shuts settles c is_open) is_open);
     left = λ clean is_open sound f p reads trees may.
         let open_b : IsTrue (state g b).is_open = opens (turned.clean clean) in
         left_so (state g a).now sound f p reads trees
@@ -71,13 +71,14 @@ module _ {S : Type 0} (g : Ghosts S) (shuts : Shuts g) (settles : Settles g) whe
   }
     where
       mid_open : IsTrue (state g c).is_open → IsTrue (state g b).is_open
-      mid_open is_open = opens (turned.clean (clean_open g shuts c is_open))
+      mid_open is_open = opens (turned.clean (clean_open g shuts settles c is_open))
 
   -- one that was read, and then turned or not
   pub either_may : {E : Type 0} (a b c : Held S) → Rests (state g a) → StaysStore g a b → (HasCleanDisk (state g b) → IsTrue (state g b).is_open) → MayBeTurned g E b c → MayBeBrought (state g a) (state g c)
   either_may a b c rests stays opens (inl same) = subst (λ (h : Held S). MayBeBrought (state g a) (state g h)) (sym same) (stays_may a b rests stays)
   either_may a b c rests stays opens (inr it) = turned_may a b c it.0 stays opens it.1
 
+module _ {S : Type 0} (g : Ghosts S) where
   -- of one that was turned, and whose disk is clean, the package at the second version
   pub turned_reads : {E : Type 0} (b c : Held S) → IsTrue (state g b).is_open → IsTurned g {E = E} b c (Ok tt) → HasCleanDisk (state g c) → (f : Frame) (p : Package) → ReadsAtOne f p (state g b).now → Reads f p (state g c).now
   turned_reads b c open_b turned clean f p reads = (((turned.turns open_b).done clean).0 f p reads).0

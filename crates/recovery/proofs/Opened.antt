@@ -22,7 +22,7 @@ use Rattle.verdicts.specs.declared.verdict.Verdict.{Verdict}
 use Rattle.world.specs.Leaving.{AreAtRest, AreClean}
 use Rattle.world.specs.Worlds.{StandsFor}
 use Rattle.recovery.specs.Brought.{Place, AreAllTurned, SomeAreTurned, IsTurned, MayAllBeBrought, MayBeBrought, MayBeTurned}
-use Rattle.recovery.specs.Recovered.{seen_of_stores, AreJudged, AreViewsOf, IsApart, IsFaultAt, IsOpened, IsReadOf, IsRecovered}
+use Rattle.recovery.specs.Recovered.{seen_of_stores, StandsForSome, AreJudged, AreViewsOf, IsApart, IsFaultAt, IsOpened, IsReadOf, IsRecovered}
 use Rattle.recovery.specs.Sharing.{strays_of, with_stray}
 use Rattle.recovery.specs.Stores.{AreOnlyRead, AreOpenWhereClean, StaysStore}
 use Rattle.recovery.specs.declared.recovering.Recovered.{Recovered}
@@ -153,7 +153,7 @@ module _ {S : Type 0} (g : Ghosts S) where
     judged_so clean = are_judged (clean_before verdict.kept.items read now turned clean)
 
     -- stores that were judged and brought stand for a world
-    pub stands : AreClean g now → (w : World) × StandsFor g (seen_of_stores frame now verdict known) w
+    pub stands : AreClean g now → StandsForSome g (seen_of_stores frame now verdict known)
     stands clean = let it = judged_so clean in (it.is.world, stands_so g read now frame verdict known it turned clean)
 
     module _ (stores : List (Held S)) (found : Recovered S) (stay : AreOnlyRead g stores read) (world_is : found.world ≡ seen_of_stores frame now verdict known) (strays_are : found.strays.items ≡ strays_of now verdict.kept.items) where

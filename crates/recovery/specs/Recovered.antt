@@ -49,6 +49,10 @@ abbrev pub IsJudgedOf : List StoreSeen → Frame → Verdict → List (List ℕ)
 IsJudgedOf seen frame verdict known = (views : List StoreSight) → AreSeenAs seen views → (is : IsVerdictOf verdict views) × (frame ≡ is.world.frame) × Knows known is.world
 
 module _ {S : Type 0} (g : Ghosts S) where
+  -- there is a world that the value stands for
+  abbrev pub StandsForSome : Seen S → Type 0
+  StandsForSome seen = (w : World) × StandsFor g seen w
+
   -- right views of what the stores hold, in turn
   abbrev pub AreViewsOf : List (Held S) → List StoreSight → Type 0
   AreViewsOf stores views = AllZip (λ h v. IsTrue (state g h).is_open × IsViewAtEither (state g h).now v) stores views

@@ -6,12 +6,10 @@ ghost use Rattle.sheet_types.specs.Matrix.{is_good_frame};
 ghost use Rattle.sheet_types.specs.Refuse.{greatest_receipts};
 ghost use Rattle.world.specs.Creating.{HasRoom};
 ghost use Rattle.world.specs.Leaving.{AreAtRest, AreClean};
-ghost use Rattle.world.specs.Worlds.{StandsFor};
-ghost use Rattle.sheet_types.specs.World.{World};
 ghost use Rattle.recovery.specs.Stores.{AreAllKeyed, AreOnlyRead, AreOpenWhereClean};
 ghost use Rattle.recovery.specs.Brought.{AreAllTurned, SomeAreTurned};
 ghost use Rattle.recovery.specs.Sharing.{strays_of, HasRoomOf};
-ghost use Rattle.recovery.specs.Recovered.{archive_seen, AreJudged, IsFaultAt, IsJudgedOf, IsRecovered, IsUnopened, IsWant, said_root, seen_of_stores};
+ghost use Rattle.recovery.specs.Recovered.{archive_seen, AreJudged, IsFaultAt, IsJudgedOf, IsRecovered, IsUnopened, IsWant, said_root, seen_of_stores, StandsForSome};
 
 use crate::bringing::bring_live;
 use crate::remembering::known_of;
@@ -208,7 +206,7 @@ fn opened<S: Alter + Drop>(
     requires long { length judged.verdict.kept.items ≡ length stores.items }
     requires good { IsTrue (is_good_frame judged.frame) }
     requires low { judged.verdict.count ≤ greatest_receipts }
-    requires stands { AreClean S.Store stores.items → (w : World) × StandsFor S.Store (seen_of_stores judged.frame stores.items judged.verdict judged.known) w }
+    requires stands { AreClean S.Store stores.items → StandsForSome S.Store (seen_of_stores judged.frame stores.items judged.verdict judged.known) }
     requires shares { HasRoomOf room.shares (length stores.items) }
     requires members { room.shares.members.items ≡ [] }
     requires strays { room.shares.strays.items ≡ [] }
