@@ -1,5 +1,5 @@
 -- What an opening makes of the stores that are handed in: a world that they stand for, or all of them handed back.
-use Rattle.std.specs.Prelude.{◌≡◌, ◌⊎◌, ℕ, List, [], ◌∷◌, ◌++◌, map, length, Option, Some, None, MatchOption, Ok, IsTrue, Contains}
+use Rattle.std.specs.Prelude.{◌≡◌, ◌⊎◌, ℕ, List, [], ◌∷◌, ◌++◌, map, length, refl, Option, Some, None, MatchOption, Ok, IsTrue, Contains}
 use Rattle.std.specs.List.{AllZip, AllByRecursion}
 use Rattle.std.proofs.Common.{sym, ap, subst, ◌∙◌, inl, inr}
 use Rattle.std.proofs.lemmas.List.Elements.{All-contains_itself, All-from_recursion, recursion_from_All}

@@ -31,19 +31,19 @@ returns-in-Err-brought-clause-fault g c = record {
 
 pub opened-requires-clause-long : goal.opened-requires-clause-long
 opened-requires-clause-long g c =
-    let turned : AreAllTurned g.S.Store c.in-Ok.judged.verdict.kept.items c.judge_stores.new.stores.items c.brought-room.new.stores.items =
-    subst (λ k. AreAllTurned g.S.Store k c.judge_stores.new.stores.items c.brought-room.new.stores.items) c.deref.ensures.value c.in-Ok-brought.ensures.brought in
-    as_long _ c.in-Ok.judged.verdict.kept.items c.judge_stores.new.stores.items c.brought-room.new.stores.items turned
+    let turned : AreAllTurned g.S.Store c.in-Ok.judged.verdict.kept.items c.judge_stores.new.stores.items c.brought.new.stores.items =
+    subst (λ k. AreAllTurned g.S.Store k c.judge_stores.new.stores.items c.brought.new.stores.items) c.deref.ensures.value c.in-Ok-brought.ensures.brought in
+    as_long _ c.in-Ok.judged.verdict.kept.items c.judge_stores.new.stores.items c.brought.new.stores.items turned
 
 pub opened-requires-clause-stands : goal.opened-requires-clause-stands
 opened-requires-clause-stands g c =
-    let turned : AreAllTurned g.S.Store c.in-Ok.judged.verdict.kept.items c.judge_stores.new.stores.items c.brought-room.new.stores.items =
-    subst (λ k. AreAllTurned g.S.Store k c.judge_stores.new.stores.items c.brought-room.new.stores.items) c.deref.ensures.value c.in-Ok-brought.ensures.brought in
-    stands g.S.Store c.judge_stores.new.stores.items c.brought-room.new.stores.items c.in-Ok.judged.frame c.in-Ok.judged.verdict c.in-Ok.judged.known c.in-Ok.ensures.judged turned
+    let turned : AreAllTurned g.S.Store c.in-Ok.judged.verdict.kept.items c.judge_stores.new.stores.items c.brought.new.stores.items =
+    subst (λ k. AreAllTurned g.S.Store k c.judge_stores.new.stores.items c.brought.new.stores.items) c.deref.ensures.value c.in-Ok-brought.ensures.brought in
+    stands g.S.Store c.judge_stores.new.stores.items c.brought.new.stores.items c.in-Ok.judged.frame c.in-Ok.judged.verdict c.in-Ok.judged.known c.in-Ok.ensures.judged turned
 
 pub returns-clause-stands : goal.returns-clause-stands
 returns-clause-stands g c =
-    let turned : AreAllTurned g.S.Store c.in-Ok.judged.verdict.kept.items c.judge_stores.new.stores.items c.brought-room.new.stores.items =
-    subst (λ k. AreAllTurned g.S.Store k c.judge_stores.new.stores.items c.brought-room.new.stores.items) c.deref.ensures.value c.in-Ok-brought.ensures.brought in
-    recovered g.S.Store c.judge_stores.new.stores.items c.brought-room.new.stores.items c.in-Ok.judged.frame c.in-Ok.judged.verdict c.in-Ok.judged.known c.in-Ok.ensures.judged turned c.args.stores.items c.opened.result c.judge_stores.ensures.read c.opened.ensures.world c.opened.ensures.strays
-    g.met.S.Store.shut_if_dirty g.met.S.Store.settled c.requires.rests c.in-Ok.ensures.opens (as_long _ c.in-Ok.judged.verdict.kept.items c.judge_stores.new.stores.items c.brought-room.new.stores.items turned) c.brought-room.ensures.rests
+    let turned : AreAllTurned g.S.Store c.in-Ok.judged.verdict.kept.items c.judge_stores.new.stores.items c.brought.new.stores.items =
+    subst (λ k. AreAllTurned g.S.Store k c.judge_stores.new.stores.items c.brought.new.stores.items) c.deref.ensures.value c.in-Ok-brought.ensures.brought in
+    recovered g.S.Store c.judge_stores.new.stores.items c.brought.new.stores.items c.in-Ok.judged.frame c.in-Ok.judged.verdict c.in-Ok.judged.known c.in-Ok.ensures.judged turned c.args.stores.items c.opened.result c.judge_stores.ensures.read c.opened.ensures.world c.opened.ensures.strays
+    g.met.S.Store.shut_if_dirty g.met.S.Store.settled c.requires.rests c.in-Ok.ensures.opens (as_long _ c.in-Ok.judged.verdict.kept.items c.judge_stores.new.stores.items c.brought.new.stores.items turned) c.brought.ensures.rests
