@@ -16,11 +16,15 @@ use Rattle.verdicts.specs.declared.verdict.Kept.{Kept}
 
 -- ---- one store
 
--- Whatever a crash may leave of the store reads as each package that the database read as, at one version or at the other.
+-- Whatever a crash may leave of the store reads as each package that the database read as, at one version or at the
+-- other.
 abbrev pub LeavesAtEither : Database → State → Type 0
-LeavesAtEither was s = (f : Frame) (p : Package) → ReadsAtOne f p was → (trees : Trees) → s.may_leave trees → ReadsAtEither f p trees
+LeavesAtEither was s =
+    (f : Frame) (p : Package) → ReadsAtOne f p was → (trees : Trees) → s.may_leave trees → ReadsAtEither f p trees
 
--- A store that an opening looked at, and may have brought to the second version: it is at rest, and where it is open it says what it said, or the same package at the second version. A crash leaves that package too; of the database before, that asks that its trees list its schema.
+-- A store that an opening looked at, and may have brought to the second version: it is at rest, and where it is open it
+-- says what it said, or the same package at the second version. A crash leaves that package too, at one version or at the
+-- other, if the trees of the database before listed its schema.
 pub record MayBeBrought (old new : State) : Type 0 where
   pub rests : Rests new
   pub clean : HasCleanDisk new → HasCleanDisk old
@@ -34,7 +38,8 @@ module _ {S : Type 0} (g : Ghosts S) where
   abbrev pub MayAllBeBrought : List (Held S) → List (Held S) → Type 0
   MayAllBeBrought = AllZip (λ a b. MayBeBrought (state g a) (state g b))
 
-  -- What one transaction made of a store: an open one that reads as a package at either version reads as the same at the second.
+  -- What one transaction made of a store: an open one that reads as a package at either version reads as the same at the
+  -- second.
   pub record IsTurned {E : Type 0} (old new : Held S) (r : Result (Unit {0}) E) : Type 0 where
     pub rests : Rests (state g new)
     pub clean : HasCleanDisk (state g new) → HasCleanDisk (state g old)
@@ -61,7 +66,8 @@ pub record Place (S : Type 0) : Type 0 where
   pub now : Held S
 
 -- Of each store of a live package, of which something is kept, this is so; each other is as it was.
-pub record AreBrought {S : Type 0} (IsSo : Held S → Held S → Type 0) (kept : List (Option Kept)) (old new : List (Held S)) : Type 0 where
+pub record AreBrought {S : Type 0} (IsSo : Held S → Held S → Type 0) (kept : List (Option Kept)) (old new : List (Held S))
+    : Type 0 where
   pub places : List (Place S)
   pub kept_is : kept ≡ map (λ p. p.kept) places
   pub old_is : old ≡ map (λ p. p.old) places

@@ -71,7 +71,9 @@ module _ {S : Type 0} (g : Ghosts S) where
 
   -- one of these views is right of the store, and is not live
   abbrev pub IsApart : List StoreSight → Held S → Type 0
-  IsApart views h = (v : StoreSight) × Contains views v × IsTrue (state g h).is_open × IsViewAtEither (state g h).now v × (is_live_view views v ≡ false)
+  IsApart views h =
+      (v : StoreSight) × Contains views v × IsTrue (state g h).is_open × IsViewAtEither (state g h).now v
+      × (is_live_view views v ≡ false)
 
   -- The stores stand for a world, and so does what was opened; what is handed out beside it is not live.
   pub record IsOpened (stores : List (Held S)) (found : Recovered S) : Type 0 where
@@ -86,7 +88,8 @@ module _ {S : Type 0} (g : Ghosts S) where
   abbrev pub IsReadOf : List (Held S) → Held S → Type 0
   IsReadOf stores h = (was : Held S) × Contains stores was × StaysStore g was h
 
-  -- Each store is now as it was, or was brought to the second version; each is that of a member, or a stray, which was only read.
+  -- Each store is now as it was, or was brought to the second version; each is that of a member, or a stray, which was
+  -- only read.
   pub record IsRecovered (stores : List (Held S)) (found : Recovered S) : Type 0 where
     pub now : List (Held S)
     pub brought : MayAllBeBrought g stores now
@@ -99,7 +102,8 @@ module _ {S : Type 0} (g : Ghosts S) where
   abbrev pub AreSame : List (Held S) → Unopened S → Type 0
   AreSame stores refused = refused.stores.items ≡ stores
 
-  -- All stores are handed back in their order, untouched or each as it was or brought; for a fault of the nine they were only read, if at all.
+  -- All stores are handed back in their order, untouched, or each as it was or brought; for a fault of the nine they were
+  -- only read, if at all.
   pub record IsUnopened (stores : List (Held S)) (refused : Unopened S) : Type 0 where
     pub brought : AreSame stores refused ⊎ MayAllBeBrought g stores refused.stores.items
     pub only_read : IsWant refused.fault ⊎ AreOnlyRead g stores refused.stores.items

@@ -13,11 +13,13 @@ uuid_kept kept = option_map (λ k. k.head.uuid) kept
 abbrev pub first_of : Option Waiting → ℕ → Option (List ℕ) → Option Waiting
 first_of found place None = found
 first_of None place (Some uuid) = Some (record { place = place; uuid = uuid })
-first_of (Some first) place (Some uuid) = if is_before uuid first.uuid then Some (record { place = place; uuid = uuid }) else Some first
+first_of (Some first) place (Some uuid) =
+    if is_before uuid first.uuid then Some (record { place = place; uuid = uuid }) else Some first
 
 -- no other that waits comes before it
 abbrev pub AreBehind : List ℕ → List (Option (List ℕ)) → Type 0
-AreBehind uuid waiting = AllByRecursion (λ waits. MatchOption waits ⊤ (λ other. is_before other uuid ≡ false)) waiting
+AreBehind uuid waiting =
+    AllByRecursion (λ waits. MatchOption waits ⊤ (λ other. is_before other uuid ≡ false)) waiting
 
 -- It waits at that place, and no other that waits comes before it.
 pub record IsLeast (waiting : List (Option (List ℕ))) (first : Waiting) : Type 0 where
