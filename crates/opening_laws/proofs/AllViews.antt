@@ -9,7 +9,7 @@ use Rattle.sheet_types.specs.World.{World, Package}
 use Rattle.sheet_types.proofs.Every.{All-both}
 use Rattle.ledger_laws.specs.Laws.{StoreSight}
 use Rattle.ledger_laws.proofs.OneWorld.{one_world}
-use Rattle.surveys.specs.Views.{IsViewOf}
+use Rattle.first_stores.specs.Either.{IsViewAtEither}
 use Rattle.register_views.specs.Beside.{IsViewOfPackage, IsStrayView}
 use Rattle.register_views.specs.Timely.{IsInBounds}
 use Rattle.register_views.proofs.Bounds.{packages_are_in_bounds}
@@ -21,7 +21,7 @@ use Rattle.opening_laws.proofs.Zipped.{zip_permuted, zip_parts, zip_through, zip
 
 module _ {S : Type 0} (g : Ghosts S) where
   abbrev pub IsRight : Held S → StoreSight → Type 0
-  IsRight h v = IsTrue (state g h).is_open × IsViewOf (state g h).now v
+  IsRight h v = IsTrue (state g h).is_open × IsViewAtEither (state g h).now v
 
   -- the package keeps its rules, and is in bounds
   abbrev IsKeptIn : World → Package → Type 0

@@ -39,7 +39,8 @@ use Rattle.world.specs.Turning.{LeftAs}
 use Rattle.world.specs.Worlds.{held}
 use Rattle.world.specs.declared.members.Member.{Member}
 use Rattle.opening_laws.specs.Laws.{RestIsStores, RestIsOpened, LeftIsStores, CrashIsOpened, IsKeptWorld}
-use Rattle.opening_laws.specs.Stores.{IsStoreOf, IsStrayStore, ReadsAsNone, AreStoresOf}
+use Rattle.opening_laws.specs.Stores.{SaysUnknown, IsStoreOf, IsStrayStore, ReadsAsNone, AreStoresOf}
+use Rattle.opening_laws.proofs.OneView.{not_first}
 use Rattle.opening_laws.proofs.Openings.{opens_again, meets_no_fault}
 use Rattle.opening_laws.proofs.Zipped.{zip_permuted, zip_parts, zip_through, zip_all}
 
@@ -56,8 +57,9 @@ reads_again f p s trees adopted d =
     subst (Reads f p) same d.2
 
 -- and what was left beside a world is a stray of it
-unknown_again : (w : World) (s : State) (trees : Trees) → IsAdopted s trees → IsBeside w.frame w.packages trees → (h : Head) → IsHead s.now h → IsUnknown w h
-unknown_again w s trees adopted is h said =
+unknown_again : (w : World) (s : State) (trees : Trees) → IsAdopted s trees → IsBeside w.frame w.packages trees → SaysUnknown w s.now
+unknown_again w s trees adopted is h (inl first) = absurd (not_first w.frame is.other s.now (reads_again w.frame is.other s trees adopted is.reads) (h, first))
+unknown_again w s trees adopted is h (inr said) =
     let reads : Reads w.frame is.other s.now = reads_again w.frame is.other s trees adopted is.reads in
     let e : h ≡ head_of is.other = head_is_known w.frame is.other s.now h reads said in
     let low : ((h.depth == 0) ≡ false) × _ = lent_head_is_low s.now h said (ap (λ x. is_some x.parent) e ∙ is.lent) in

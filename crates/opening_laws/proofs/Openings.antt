@@ -1,22 +1,17 @@
 -- What `recover` answers of the stores of a register: a world that stands for it, or no fault of the nine.
-use Rattle.std.specs.Prelude.{◌≡◌, true, List, [], ◌∷◌, refl}
+use Rattle.std.specs.Prelude.{◌≡◌, true, List, refl}
 use Rattle.std.proofs.Common.{subst, inl, inr}
-use Rattle.std.specs.List.{AllZip}
-use Rattle.sqlite.specs.Effect.{Database}
-use Rattle.sqlite.specs.Held.{Held}
 use Rattle.sqlite.specs.Store.{Ghosts}
 use Rattle.ledger_laws.specs.Laws.{StoreSight, StoresStandFor, HasNoFault}
 use Rattle.ledger_laws.proofs.OneWorld.{one_world}
 use Rattle.opening.specs.declared.faults.RecoverFault.{RecoverFault}
 use Rattle.opening.specs.declared.faults.RecoverFault.TheVariants.{NoArchive, TwoArchives, NotAPackage, TwoCopies, MissingPackage, ForeignFrame, Dangling, OutOfAccount, Altered, OutOfMemory, StoreFault}
-use Rattle.surveys.specs.Views.{IsViewOf}
 use Rattle.verdicts.specs.Views.{IsFaultOf}
 use Rattle.world.specs.Worlds.{StandsFor}
-use Rattle.recovery.specs.Recovered.{AreViewsOf, IsOpened, IsWant}
-use Rattle.recovery.specs.Stores.{StaysStore}
+use Rattle.recovery.specs.Recovered.{IsOpened, IsWant}
 use Rattle.register_views.proofs.Stands as standing
 use Rattle.opening_laws.specs.Laws.{OpensAgain, MeetsNoFault}
-use Rattle.opening_laws.proofs.AllViews.{IsRight, views_of_stores}
+use Rattle.opening_laws.proofs.AllViews.{views_of_stores}
 
 -- where none of the nine holds, memory or a store gave out
 wanted : (views : List StoreSight) → HasNoFault views → (fault : RecoverFault) → IsFaultOf views fault → IsWant fault
@@ -33,20 +28,10 @@ wanted views none OutOfMemory is = inl refl
 wanted views none StoreFault is = inr refl
 
 module _ {S : Type 0} (g : Ghosts S) where
-  -- what is right of stores that were read is right of them before
-  reread : (old new : List (Held S)) (views : List StoreSight) → AllZip (StaysStore g) old new → AllZip (IsRight g) new views → AllZip (IsRight g) old views
-  reread [] [] [] stay right = tt
-  reread [] [] (v ∷ views) stay right = absurd right
-  reread [] (b ∷ new) views stay right = absurd stay
-  reread (a ∷ old) [] views stay right = absurd stay
-  reread (a ∷ old) (b ∷ new) [] stay right = absurd right
-  reread (a ∷ old) (b ∷ new) (v ∷ views) stay right = ((stay.0.was_open right.0.0, subst (λ (db : Database). IsViewOf db v) (stay.0.holds right.0.0).now_is right.0.1), reread old new views stay.1 right.1)
-
   pub opens_again : OpensAgain g
   opens_again w stores found kept of is clean =
-      let opened : IsOpened g is.read found = is.opened clean in
-      let right : AreViewsOf g stores opened.views = reread stores is.read opened.views is.only_read opened.right in
-      let stand : StoresStandFor opened.views w = standing.stands w kept.0 opened.views (views_of_stores g w stores opened.views kept of right) in
+      let opened : IsOpened g stores found = is.opened clean in
+      let stand : StoresStandFor opened.views w = standing.stands w kept.0 opened.views (views_of_stores g w stores opened.views kept of opened.right) in
       let same : opened.world ≡ w = one_world StoreSight (λ s. s.head) (λ s. s.claims) (λ s. s.is_formed ≡ true) (λ s. s.is_tied ≡ true) (λ s. s.frame) (λ s. s.reads_as) opened.views opened.world w opened.stand stand in
       subst (StandsFor g found.world) same opened.is
 
@@ -54,10 +39,5 @@ module _ {S : Type 0} (g : Ghosts S) where
   meets_no_fault w stores refused kept of is clean =
       elim (is.fault clean) [
         | inl want ↦ want
-        | inr f ↦
-            let right : AreViewsOf g stores f.0 = elim is.only_read [
-              | inl same ↦ subst (λ l. AreViewsOf g l f.0) same f.1
-              | inr read ↦ reread stores refused.stores.items f.0 read f.1
-            ] in
-            wanted f.0 (standing.no_faults w kept.0 f.0 (views_of_stores g w stores f.0 kept of right)) refused.fault f.2
+        | inr f ↦ wanted f.0 (standing.no_faults w kept.0 f.0 (views_of_stores g w stores f.0 kept of f.1)) refused.fault f.2
       ]

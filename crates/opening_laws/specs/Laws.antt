@@ -38,7 +38,7 @@ module _ {S : Type 0} (g : Ghosts S) where
   -- The world that they are opened as stands for the register.
   abbrev pub OpensAgain : Type 0
   OpensAgain = (w : World) (stores : List (Held S)) (found : Recovered S) → IsKeptWorld w → AreStoresOf g stores w →
-      (is : IsRecovered g stores found) → AreClean g is.read → StandsFor g found.world w
+      (is : IsRecovered g stores found) → AreClean g is.now → StandsFor g found.world w
 
   -- Where they are not opened, it is for none of the nine faults.
   abbrev pub MeetsNoFault : Type 0
@@ -49,10 +49,10 @@ module _ {S : Type 0} (g : Ghosts S) where
   abbrev pub AreApart : List (Held S) → World → Type 0
   AreApart stores w = (of : AreStoresOf g stores w) × AllByRecursion (ReadsAsNone g w) of.others
 
-  -- The strays are handed out beside it, and no store of a package is, where no stray reads as a package of the register.
+  -- The strays are handed out beside it, and no store of a package is.
   abbrev pub StraysAreTold : Type 0
-  StraysAreTold = (w : World) (stores : List (Held S)) (found : Recovered S) → IsKeptWorld w → AreApart stores w →
-      (is : IsRecovered g stores found) → AreClean g is.read → AllByRecursion (IsStrayStore g w) found.strays.items
+  StraysAreTold = (w : World) (stores : List (Held S)) (found : Recovered S) → IsKeptWorld w → AreStoresOf g stores w →
+      (is : IsRecovered g stores found) → AreClean g is.now → AllByRecursion (IsStrayStore g w) found.strays.items
 
   -- ---- a world at rest
 
@@ -65,7 +65,7 @@ module _ {S : Type 0} (g : Ghosts S) where
   abbrev pub RestIsOpened : Type 0
   RestIsOpened = (seen : Seen S) (w : World) → IsHeld g seen → seen.has_failed ≡ false → StandsFor g seen w →
       IsTimely w →
-      ((found : Recovered S) (is : IsRecovered g (held g seen) found) → AreClean g is.read → StandsFor g found.world w)
+      ((found : Recovered S) (is : IsRecovered g (held g seen) found) → AreClean g is.now → StandsFor g found.world w)
       × ((refused : Unopened S) → IsUnopened g (held g seen) refused → AreClean g refused.stores.items → IsWant refused.fault)
 
   -- Stores that are opened from whatever a crash left of a world at rest are its stores. Each connection that stands is live (`Connection::schema` says so of it).
@@ -93,7 +93,7 @@ module _ {S : Type 0} (g : Ghosts S) where
       IsStep g q old reply new → IsFault reply → old.has_failed ≡ false → StandsFor g old w →
       AllOpen g old.members → HasTypes q.command → IsTimely w →
       AreClean g (held g new) → MayBeLeft g (held g new) contents → AreReopened g again contents →
-      ((found : Recovered S) (is : IsRecovered g again found) → AreClean g is.read → StandsForOneOf w q found.world)
+      ((found : Recovered S) (is : IsRecovered g again found) → AreClean g is.now → StandsForOneOf w q found.world)
       × ((refused : Unopened S) → IsUnopened g again refused → AreClean g refused.stores.items → IsWant refused.fault)
 
   -- ---- one world

@@ -1,5 +1,5 @@
 -- Stores that are looked at one after the other, and what of the first ones was seen.
-use Rattle.std.specs.Prelude.{◌≡◌, ℕ, zero, suc, ◌+◌, ◌<◌, ◌≤◌, List, [], ◌∷◌, ◌++◌, length, refl, Some, Result, Ok, slice_get, slice_set}
+use Rattle.std.specs.Prelude.{◌≡◌, ℕ, zero, suc, ◌+◌, ◌<◌, ◌≤◌, List, [], ◌∷◌, ◌++◌, length, refl, Some, Result, Ok, slice_get, slice_set, IsTrue}
 use Rattle.std.specs.List.{AllZip, AllByRecursion}
 use Rattle.std.proofs.Common.{sym, ap, subst, ◌∙◌, arith, drop, take, get_or}
 use Rattle.std.proofs.Math.Seq.{drop-cons, set-append_seam}
@@ -11,17 +11,18 @@ use Rattle.sqlite.specs.Held.{Held, state}
 use Rattle.sqlite.specs.State.{HasCleanDisk}
 use Rattle.sqlite_trees.proofs.ListLemmas.{all-slice_get}
 use Rattle.sheet_types.proofs.Basics.{some_once}
+use Rattle.sheet_types.proofs.Every.{All-snoc}
 use Rattle.sql_meaning.specs.Transactions.{Rests, Looks}
 use Rattle.sql_meaning.specs.Writing.{AreKeyed}
 use Rattle.sql_meaning.proofs.Staying.{looks_stays, stays_then}
 use Rattle.sql_meaning.proofs.Transactions.{Shuts, Settles}
 use Rattle.store_forms.specs.Looking.{SaysOf}
-use Rattle.surveys.specs.Looks.{IsSeenRight}
+use Rattle.first_stores.specs.Either.{IsSeenAtEither}
 use Rattle.verdicts.specs.declared.seen.StoreSeen.{StoreSeen}
 use Rattle.verdicts.proofs.Lists.{zip_more}
 use Rattle.world.specs.Leaving.{AreClean, AreAtRest}
 use Rattle.world.proofs.Seeing.{stays_still}
-use Rattle.recovery.specs.Stores.{AreAllKeyed, AreOnlyRead, AreSurveyed, IsSurveyed, LooksAtOne, StaysStore}
+use Rattle.recovery.specs.Stores.{AreAllKeyed, AreOnlyRead, AreOpenWhereClean, AreSurveyed, IsSurveyed, LooksAtOne, StaysStore}
 
 -- of lists that go on, place by place
 zip_append : {A B : Type 0} (R : A → B → Type 0) (xs us : List A) (ys vs : List B) → AllZip R xs ys → AllZip R us vs → AllZip R (xs ++ us) (ys ++ vs)
@@ -74,6 +75,9 @@ module _ {S : Type 0} (g : Ghosts S) where
   abbrev Keyed : Held S → Type 0
   Keyed h = HasCleanDisk (state g h) → AreKeyed (state g h).now
 
+  abbrev OpenWhereClean : Held S → Type 0
+  OpenWhereClean h = HasCleanDisk (state g h) → IsTrue (state g h).is_open
+
   -- the first n were looked at, and this was seen of them
   pub record Surveyed (old now : List (Held S)) (n : ℕ) (seen : List StoreSeen) : Type 0 where
     pub done : List (Held S)
@@ -81,10 +85,11 @@ module _ {S : Type 0} (g : Ghosts S) where
     pub now_is : now ≡ done ++ drop n old
     pub read : AllZip (StaysStore g) (take n old) done
     pub rests : AreAtRest g now
+    pub opens : AllByRecursion OpenWhereClean done
     pub told : AreAllKeyed g old → AreClean g done → AllZip (IsSurveyed g) done seen
 
   pub surveyed_none : (old : List (Held S)) → AreAtRest g old → Surveyed old old 0 []
-  surveyed_none old rests = record { done = []; long = refl; now_is = refl; read = tt; rests = rests; told = λ keyed clean. tt }
+  surveyed_none old rests = record { done = []; long = refl; now_is = refl; read = tt; rests = rests; opens = tt; told = λ keyed clean. tt }
 
   module _ {E : Type 0} (old now new : List (Held S)) (n : ℕ) (seen : List StoreSeen) (r : Result StoreSeen E) (within : n < length old) (it : Surveyed old now n seen) (look : LooksAtOne g {E = E} now new n r) where
     abbrev here : Held S
@@ -128,20 +133,23 @@ module _ {S : Type 0} (g : Ghosts S) where
       now_is = front;
       read = done_read;
       rests = rests_new;
+      opens = All-snoc OpenWhereClean it.done look.last it.opens (λ clean. (looks.done clean).0);
       told = λ keyed clean.
           let each : AllByRecursion Cleanly (it.done ++ look.last ∷ []) = recursion_from_All Cleanly (it.done ++ look.last ∷ []) clean in
           let two : AllByRecursion Cleanly it.done × AllByRecursion Cleanly (look.last ∷ []) = all_back Cleanly it.done (look.last ∷ []) each in
           zip_last (IsSurveyed g) it.done seen look.last x (it.told keyed (All-from_recursion Cleanly it.done two.0)) (one keyed two.1.0);
     }
       where
+        looks : Looks {X = StoreSeen} {E = E} (SaysOf IsSeenAtEither) (state g look.was) (state g look.last) (Ok x)
+        looks = subst (Looks {X = StoreSeen} {E = E} (SaysOf IsSeenAtEither) (state g look.was) (state g look.last)) is look.looked
+
         one : AreAllKeyed g old → Cleanly look.last → IsSurveyed g look.last x
         one keyed clean =
-            let looks : Looks (SaysOf IsSeenRight) (state g look.was) (state g look.last) (Ok x) = subst (Looks {X = StoreSeen} {E = E} (SaysOf IsSeenRight) (state g look.was) (state g look.last)) is look.looked in
             let told = looks.done clean in
             let key : Keyed look.was = subst Keyed (sym was_is) (all-slice_get Keyed old n here place_old (recursion_from_All Keyed old keyed)) in
             record {
               is_open = told.0;
-              right = subst (λ d. IsSeenRight d x) (sym told.1.0) (told.1.1 (key (omega (arith, look.looked.survives.clean, clean))));
+              right = subst (λ d. IsSeenAtEither d x) (sym told.1.0) (told.1.1 (key (omega (arith, look.looked.survives.clean, clean))));
             }
 
     -- and where it failed, all were only read
@@ -176,3 +184,6 @@ module _ {S : Type 0} (g : Ghosts S) where
 
     pub all_seen : AreSurveyed g old now seen
     all_seen = λ keyed clean. subst (λ l. AllZip (IsSurveyed g) l seen) (sym all_done) (it.told keyed (subst (AreClean g) all_done clean))
+
+    pub all_open : AreOpenWhereClean g now
+    all_open = All-from_recursion OpenWhereClean now (subst (AllByRecursion OpenWhereClean) (sym all_done) it.opens)

@@ -3,6 +3,7 @@ use Rattle.std.specs.Prelude.{◌≡◌, ◌⊎◌, ◌≤◌, ℕ, zero, suc, �
 use Rattle.std.specs.List.{AllZip, AllByRecursion}
 use Rattle.std.specs.Option.{option_map_or}
 use Rattle.std.proofs.Common.{sym, ap, subst, ◌∙◌, take, arith, inl, inr}
+use Rattle.std.proofs.lemmas.Bool.{true≢false}
 use Rattle.std.proofs.lemmas.List.Elements.{All-from_recursion, recursion_from_All}
 use Rattle.std.proofs.lemmas.List.Sorted.{IsPermutation-refl, IsPermutation-trans, IsPermutation-sym, IsPermutation-cons, IsPermutation-to_front, IsPermutation-map, IsPermutation-append_left}
 use Rattle.sqlite.specs.Store.{Ghosts}
@@ -20,21 +21,27 @@ use Rattle.ledger_laws.proofs.Packages.{stand_flat}
 use Rattle.opening.specs.Sights.{head_said}
 use Rattle.opening.specs.declared.faults.RecoverFault.{RecoverFault}
 use Rattle.package_tables.proofs.Reading.{arranged_permutation}
-use Rattle.surveys.specs.Views.{IsViewOf}
+use Rattle.sqlite.specs.State.{HasCleanDisk}
+use Rattle.first_stores.specs.Either.{IsViewAtEither}
+use Rattle.first_version.specs.FirstVersion.{ReadsAtOne}
+use Rattle.package_tables.specs.declared.fault.Fault.{Fault}
+use Rattle.sqlite.specs.Effect.{Database}
 use Rattle.verdicts.specs.Views.{AreSeenAs, IsSeenAs, IsKept, IsFaultOf, IsKeptOf, IsVerdictOf, is_live_view, live_views}
 use Rattle.verdicts.specs.declared.seen.StoreSeen.{StoreSeen}
 use Rattle.verdicts.specs.declared.verdict.Kept.{Kept}
 use Rattle.verdicts.specs.declared.verdict.Verdict.{Verdict}
-use Rattle.world.specs.Leaving.{AreAtRest}
+use Rattle.world.specs.Leaving.{AreAtRest, AreClean}
 use Rattle.world.specs.Members.{AllRest, IsMember}
-use Rattle.world.specs.Worlds.{StandsFor, seen_of}
+use Rattle.world.specs.Worlds.{StandsFor}
 use Rattle.world.specs.declared.members.Member.{Member}
 use Rattle.known_uuids.specs.Known.{Grows, Knows, Notes}
 use Rattle.known_uuids.proofs.Remembering.{notes_grow}
-use Rattle.recovery.specs.Recovered.{archive_seen, said_root, AreAllNoted, AreJudged, AreViewsOf, IsFaultAt, IsJudgedOf, IsWant}
+use Rattle.recovery.specs.Brought.{Place, AreAllTurned, IsTurned}
+use Rattle.recovery.specs.Recovered.{archive_seen, said_root, seen_of_stores, AreAllNoted, AreJudged, AreViewsOf, IsFaultAt, IsJudgedOf, IsWant}
 use Rattle.recovery.specs.Sharing.{member_key, member_of, members_of, strays_of}
 use Rattle.recovery.specs.Stores.{IsSurveyed}
 use Rattle.recovery.proofs.Frames.{live_frames}
+use Rattle.recovery.proofs.Brought.{turned_reads}
 
 -- ---- the frame of the archive
 
@@ -169,22 +176,23 @@ module _ {S : Type 0} (g : Ghosts S) where
     abbrev Sound : StoreSight → Type 0
     Sound v = (v.is_formed ≡ true) × (v.is_tied ≡ true) × (v.frame ≡ w.frame)
 
-    abbrev Viewed : Held S → StoreSight → Type 0
-    Viewed h v = IsTrue (state g h).is_open × IsViewOf (state g h).now v
+    -- where the view is live and that of a package, the store reads as it at the second version
+    abbrev Viewed : (StoreSight → Bool) → Held S → StoreSight → Type 0
+    Viewed live h v = live v ≡ true → v.is_formed ≡ true → v.is_tied ≡ true → IsTrue (state g h).is_open → Reads v.frame v.reads_as (state g h).now
 
-    member_is : (h : Held S) (k : Kept) (v : StoreSight) → Viewed h v → IsKept views w k v → Sound v → IsMember g w (member_of h k) v.reads_as
-    member_is h k v view kept sound = record {
+    member_is : (live : StoreSight → Bool) (h : Held S) (k : Kept) (v : StoreSight) → Viewed live h v → live v ≡ true → IsKept views w k v → Sound v → IsMember g w (member_of h k) v.reads_as
+    member_is live h k v view lives kept sound = record {
       uuid = ap (λ x. x.uuid) kept.head;
       parent = ap (λ x. x.parent) kept.head;
       depth = ap (λ x. x.depth) kept.head;
       loan = ap (λ x. x.loan) kept.head;
       sums = kept.sums;
       ticket = kept.ticket_is;
-      reads = λ is_open. subst (λ f. Reads f v.reads_as (state g h).now) sound.2 (view.1.reads sound.0 sound.1);
+      reads = λ is_open. subst (λ f. Reads f v.reads_as (state g h).now) sound.2 (view lives sound.0 sound.1 is_open);
     }
 
     members_are : (live : StoreSight → Bool) → ((k : Option Kept) (v : StoreSight) → IsKeptOf views w k v → MatchOption k (live v ≡ false) (λ x. (live v ≡ true) × IsKept views w x v))
-        → (stores : List (Held S)) (kept : List (Option Kept)) (vs : List StoreSight) → AllZip Viewed stores vs → AllZip (IsKeptOf views w) kept vs → AllByRecursion Sound (filter live vs)
+        → (stores : List (Held S)) (kept : List (Option Kept)) (vs : List StoreSight) → AllZip (Viewed live) stores vs → AllZip (IsKeptOf views w) kept vs → AllByRecursion Sound (filter live vs)
         → AllZip (IsMember g w) (members_of stores kept) (map (λ v. v.reads_as) (filter live vs))
     members_are live lives [] kept [] view keep sound = tt
     members_are live lives [] kept (v ∷ vs) view keep sound = absurd view
@@ -195,7 +203,7 @@ module _ {S : Type 0} (g : Ghosts S) where
         one : (live v ≡ true) × IsKept views w k v → (AllByRecursion Sound (filter live vs) → AllZip (IsMember g w) (members_of hs ks) (map (λ x. x.reads_as) (filter live vs))) → AllZip (IsMember g w) (member_of h k ∷ members_of hs ks) (map (λ x. x.reads_as) (cond (live v) (v ∷ filter live vs) (filter live vs)))
         one is rest =
             let all : AllByRecursion Sound (v ∷ filter live vs) = subst (λ b. AllByRecursion Sound (cond b (v ∷ filter live vs) (filter live vs))) is.0 sound in
-            rw is.0 (member_is h k v view.0 is.1 all.0, rest all.1)
+            rw is.0 (member_is live h k v view.0 is.0 is.1 all.0, rest all.1)
     members_are live lives (h ∷ hs) (None ∷ ks) (v ∷ vs) view keep sound = one (lives None v keep.0) (λ more. members_are live lives hs ks vs view.1 keep.1 more)
       where
         one : live v ≡ false → (AllByRecursion Sound (filter live vs) → AllZip (IsMember g w) (members_of hs ks) (map (λ x. x.reads_as) (filter live vs))) → AllZip (IsMember g w) (members_of hs ks) (map (λ x. x.reads_as) (cond (live v) (v ∷ filter live vs) (filter live vs)))
@@ -216,21 +224,51 @@ module _ {S : Type 0} (g : Ghosts S) where
       subst (λ f. AllByRecursion (λ v. v.frame ≡ f) (live_views views)) (sym (ap (λ x. x.frame) stands.read_as.2))
       (live_frames StoreSight (λ v. v.head) (λ v. v.claims) (λ v. v.is_formed ≡ true) (λ v. v.is_tied ≡ true) (λ v. v.frame) (λ v. v.reads_as) views stands.in_order stands.read_as.0 stands.read_as.1)
 
+  abbrev Right : Held S → StoreSight → Type 0
+  Right h v = IsTrue (state g h).is_open × IsViewAtEither (state g h).now v
+
+  -- a right view of a package, at either version
+  reads_at_one : (db : Database) (v : StoreSight) → IsViewAtEither db v → v.is_formed ≡ true → v.is_tied ≡ true → ReadsAtOne v.frame v.reads_as db
+  reads_at_one db v (inl first) formed tied = inl (first.1.reads formed tied)
+  reads_at_one db v (inr second) formed tied = inr (second.1.reads formed tied)
+
+  abbrev IsDone : Place S → Type 0
+  IsDone p = MatchOption p.kept (p.now ≡ p.old) (λ _. IsTurned g {E = Fault} p.old p.now (Ok tt))
+
+  abbrev Cleanly : Held S → Type 0
+  Cleanly h = HasCleanDisk (state g h)
+
+  done_reads : (views : List StoreSight) (w : World) (kept : Option Kept) (old now : Held S) (v : StoreSight) → IsDone (record { kept = kept; old = old; now = now }) → IsKeptOf views w kept v → Right old v → Cleanly now → Viewed views w (is_live_view views) now v
+  done_reads views w None old now v done keep right clean = λ lives. absurd (true≢false (sym lives ∙ keep))
+  done_reads views w (Some k) old now v done keep right clean = λ lives formed tied is_open. turned_reads g old now right.0 done clean v.frame v.reads_as (reads_at_one (state g old).now v right.1 formed tied)
+
+  -- each live store was brought, and so reads as its package
+  all_read_so : (views : List StoreSight) (w : World) (ps : List (Place S)) (vs : List StoreSight) → AllByRecursion IsDone ps → AllZip (IsKeptOf views w) (map (λ p. p.kept) ps) vs → AllZip Right (map (λ p. p.old) ps) vs
+      → AllByRecursion Cleanly (map (λ p. p.now) ps) → AllZip (Viewed views w (is_live_view views)) (map (λ p. p.now) ps) vs
+  all_read_so views w [] [] done keep right clean = tt
+  all_read_so views w [] (v ∷ vs) done keep right clean = absurd right
+  all_read_so views w (p ∷ ps) [] done keep right clean = absurd right
+  all_read_so views w (p ∷ ps) (v ∷ vs) done keep right clean = (done_reads views w p.kept p.old p.now v done.0 keep.0 right.0 clean.0, all_read_so views w ps vs done.1 keep.1 right.1 clean.1)
+
   -- the members in the order of their UUIDs stand for the world
-  pub stands_so : (stores : List (Held S)) (frame : Frame) (verdict : Verdict) (known : List (List ℕ)) (it : AreJudged g stores frame verdict known) (members : List (Member S)) → members ≡ arranged member_key (members_of stores verdict.kept.items) → StandsFor g (seen_of frame members verdict.count known) it.is.world
-  stands_so stores frame verdict known it members are =
+  pub stands_so : (read now : List (Held S)) (frame : Frame) (verdict : Verdict) (known : List (List ℕ)) (it : AreJudged g read frame verdict known) → AreAllTurned g verdict.kept.items read now → AreClean g now → StandsFor g (seen_of_stores frame now verdict known) it.is.world
+  stands_so read now frame verdict known it turned clean =
       let w = it.is.world in
       let stands : StoresStandFor it.views w = it.is.stands in
       let sound : AllByRecursion (λ v. (v.is_formed ≡ true) × (v.is_tied ≡ true) × (v.frame ≡ w.frame)) (live_views it.views) =
       all_three (λ v. v.is_formed ≡ true) (λ v. v.is_tied ≡ true) (λ v. v.frame ≡ w.frame) (live_views it.views) stands.in_order.formed stands.in_order.tied (frames_so it.views w stands) in
-      let each : AllZip (IsMember g w) (members_of stores verdict.kept.items) (map (λ v. v.reads_as) (live_views it.views)) =
-      members_are it.views w (is_live_view it.views) (kept_lives it.views w) stores verdict.kept.items it.views it.right it.is.kept sound in
-      let order : AllZip (IsMember g w) (arranged member_key (members_of stores verdict.kept.items)) (arranged package_key (map (λ v. v.reads_as) (live_views it.views))) =
-      zip_arranged (IsMember g w) member_key package_key (λ m p is. is.uuid) (members_of stores verdict.kept.items) (map (λ v. v.reads_as) (live_views it.views)) each in
+      let viewed : AllZip (Viewed it.views w (is_live_view it.views)) now it.views =
+      subst (λ l. AllZip (Viewed it.views w (is_live_view it.views)) l it.views) (sym turned.new_is)
+      (all_read_so it.views w turned.places it.views turned.each (subst (λ l. AllZip (IsKeptOf it.views w) l it.views) turned.kept_is it.is.kept) (subst (λ l. AllZip Right l it.views) turned.old_is it.right)
+      (subst (AllByRecursion Cleanly) turned.new_is (recursion_from_All Cleanly now clean))) in
+      let each : AllZip (IsMember g w) (members_of now verdict.kept.items) (map (λ v. v.reads_as) (live_views it.views)) =
+      members_are it.views w (is_live_view it.views) (kept_lives it.views w) now verdict.kept.items it.views viewed it.is.kept sound in
+      let order : AllZip (IsMember g w) (arranged member_key (members_of now verdict.kept.items)) (arranged package_key (map (λ v. v.reads_as) (live_views it.views))) =
+      zip_arranged (IsMember g w) member_key package_key (λ m p is. is.uuid) (members_of now verdict.kept.items) (map (λ v. v.reads_as) (live_views it.views)) each in
       record {
         frame = it.frame_is;
         members = record {
-          each = subst (λ ms. AllZip (IsMember g w) ms w.packages) (sym are) (subst (AllZip (IsMember g w) (arranged member_key (members_of stores verdict.kept.items))) (sym (ap (λ x. x.packages) stands.read_as.2)) order);
+          each = subst (AllZip (IsMember g w) (arranged member_key (members_of now verdict.kept.items))) (sym (ap (λ x. x.packages) stands.read_as.2)) order;
           counted = it.is.counted;
           register = it.is.register;
         };
@@ -274,11 +312,11 @@ module _ {S : Type 0} (g : Ghosts S) where
   members_have P (h ∷ hs) (Some k ∷ ks) each = (each.0, members_have P hs ks each.1)
   members_have P (h ∷ hs) (None ∷ ks) each = members_have P hs ks each.1
 
-  last_has : (P : Held S → Type 0) (hs : List (Held S)) (h : Held S) → AllByRecursion P hs → P h → AllByRecursion P (hs ++ h ∷ [])
+  pub last_has : (P : Held S → Type 0) (hs : List (Held S)) (h : Held S) → AllByRecursion P hs → P h → AllByRecursion P (hs ++ h ∷ [])
   last_has P [] h each here = (here, tt)
   last_has P (x ∷ xs) h each here = (each.0, last_has P xs h each.1 here)
 
-  strays_have : (P : Held S → Type 0) (stores : List (Held S)) (kept : List (Option Kept)) → AllByRecursion P stores → AllByRecursion P (strays_of stores kept)
+  pub strays_have : (P : Held S → Type 0) (stores : List (Held S)) (kept : List (Option Kept)) → AllByRecursion P stores → AllByRecursion P (strays_of stores kept)
   strays_have P [] kept each = tt
   strays_have P (h ∷ hs) [] each = tt
   strays_have P (h ∷ hs) (Some k ∷ ks) each = strays_have P hs ks each.1

@@ -1,3 +1,5 @@
 pub mod Stores
 pub mod Sharing
+pub mod Waiting
+pub mod Brought
 pub mod Recovered

@@ -7,7 +7,7 @@ use Rattle.sqlite.specs.Store.{Ghosts}
 use Rattle.sql_meaning.specs.Staying.{Stays}
 use Rattle.sql_meaning.specs.Writing.{AreKeyed}
 use Rattle.store_forms.specs.Looking.{LooksAt}
-use Rattle.surveys.specs.Looks.{IsSeenRight}
+use Rattle.first_stores.specs.Either.{IsSeenAtEither}
 use Rattle.verdicts.specs.declared.seen.StoreSeen.{StoreSeen}
 use Rattle.world.specs.Leaving.{AreClean}
 
@@ -29,12 +29,16 @@ module _ {S : Type 0} (g : Ghosts S) where
     pub place : slice_get old at ≡ Some was
     pub last : Held S
     pub others : new ≡ slice_set old at last
-    pub looked : LooksAt IsSeenRight (state g was) (state g last) r
+    pub looked : LooksAt IsSeenAtEither (state g was) (state g last) r
 
   -- The store is open, and of what it holds this was seen, rightly.
   pub record IsSurveyed (h : Held S) (seen : StoreSeen) : Type 0 where
     pub is_open : IsTrue (state g h).is_open
-    pub right : IsSeenRight (state g h).now seen
+    pub right : IsSeenAtEither (state g h).now seen
+
+  -- each that has a clean disk is open
+  abbrev pub AreOpenWhereClean : List (Held S) → Type 0
+  AreOpenWhereClean = All (λ h. HasCleanDisk (state g h) → IsTrue (state g h).is_open)
 
   -- of each, where the disks have given back what was written
   abbrev pub AreSurveyed : List (Held S) → List (Held S) → List StoreSeen → Type 0

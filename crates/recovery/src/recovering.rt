@@ -6,13 +6,16 @@ ghost use Rattle.sheet_types.specs.Matrix.{is_good_frame};
 ghost use Rattle.sheet_types.specs.Refuse.{greatest_receipts};
 ghost use Rattle.world.specs.Creating.{HasRoom};
 ghost use Rattle.world.specs.Leaving.{AreAtRest, AreClean};
-ghost use Rattle.recovery.specs.Stores.{AreAllKeyed, AreOnlyRead};
-ghost use Rattle.recovery.specs.Sharing.{HasRoomOf};
-ghost use Rattle.recovery.specs.Recovered.{archive_seen, AreJudged, IsFaultAt, IsJudgedOf, IsRecovered, IsUnopened, IsWant, said_root};
+ghost use Rattle.recovery.specs.Stores.{AreAllKeyed, AreOnlyRead, AreOpenWhereClean};
+ghost use Rattle.recovery.specs.Brought.{AreAllTurned, SomeAreTurned};
+ghost use Rattle.recovery.specs.Sharing.{strays_of, HasRoomOf};
+ghost use Rattle.recovery.specs.Recovered.{archive_seen, AreJudged, IsFaultAt, IsJudgedOf, IsRecovered, IsUnopened, IsWant, said_root, seen_of_stores, StandsForSome};
 
+use crate::bringing::bring_live;
 use crate::remembering::known_of;
 use crate::sharing::{Shares, room_for, share_out};
 use crate::surveying::{are_at_rest, survey_all};
+use crate::waiting::all_waiting;
 use crate::watching::Watcher;
 use known_uuids::known::Known;
 use matrix_rules::check::FrameRules;
@@ -23,7 +26,7 @@ use sqlite::{Alter, Connection};
 use std::alloc::{AllocError, Global};
 use verdicts::judging::judge_all;
 use verdicts::seen::StoreSeen;
-use verdicts::verdict::Verdict;
+use verdicts::verdict::{Kept, Verdict};
 use world::world::World;
 
 /// The greatest number of receipts of a world (profile).
@@ -129,6 +132,7 @@ fn judge_stores<S: Alter + Drop, W: Watcher>(
     requires keyed { AreAllKeyed S.Store stores.old.items }
     ensures read { AreOnlyRead S.Store stores.old.items stores.new.items }
     ensures rests { AreAtRest S.Store stores.new.items }
+    ensures opens { IfOk result (λ _. AreOpenWhereClean S.Store stores.new.items) }
     ensures judged { IfOk result (λ judged. AreClean S.Store stores.new.items → AreJudged S.Store stores.new.items judged.frame judged.verdict judged.known) }
     ensures good { IfOk result (λ judged. IsTrue (is_good_frame judged.frame)) }
     ensures low { IfOk result (λ judged. judged.verdict.count ≤ greatest_receipts) }
@@ -166,7 +170,33 @@ fn room_of<S: Alter + Drop>(alloc: Global, count: usize) -> Result<Room<S>, Allo
     Ok(Room { shares, handed_out })
 }
 
-// The world of stores that are judged. Takes no memory.
+// All live stores brought to the second version, once there is room for all that is moved.
+fn brought<S: Alter + Drop>(
+    alloc: Global,
+    stores: &mut Vec<Connection<S>>,
+    kept: &[Option<Kept>],
+) -> Result<Room<S>, RecoverFault>
+    requires long { length kept.now ≡ length stores.old.items }
+    requires rests { AreAtRest S.Store stores.old.items }
+    ensures rests { AreAtRest S.Store stores.new.items }
+    ensures brought { IfOk result (λ _. AreAllTurned S.Store kept.now stores.old.items stores.new.items) }
+    ensures shares { IfOk result (λ room. HasRoomOf room.shares (length stores.new.items)) }
+    ensures members { IfOk result (λ room. room.shares.members.items ≡ []) }
+    ensures strays { IfOk result (λ room. room.shares.strays.items ≡ []) }
+    ensures empty { IfOk result (λ room. room.handed_out.items ≡ []) }
+    ensures handed_out { IfOk result (λ room. length stores.new.items ≤ vec_capacity room.handed_out) }
+    ensures failed { IfErr result (λ _. SomeAreTurned S.Store kept.now stores.old.items stores.new.items) }
+    ensures fault { IfErr result IsWant }
+{
+    let room = room_of(alloc, kept.len())?;
+    let waiting = all_waiting(alloc, kept)?;
+    match bring_live(stores, kept, waiting) {
+        Ok(()) => Ok(room),
+        Err(fault) => Err(fault_of(fault)),
+    }
+}
+
+// The world of stores that are judged and brought. Takes no memory.
 fn opened<S: Alter + Drop>(
     stores: Vec<Connection<S>>,
     judged: Judged,
@@ -176,13 +206,14 @@ fn opened<S: Alter + Drop>(
     requires long { length judged.verdict.kept.items ≡ length stores.items }
     requires good { IsTrue (is_good_frame judged.frame) }
     requires low { judged.verdict.count ≤ greatest_receipts }
-    requires judged { AreClean S.Store stores.items → AreJudged S.Store stores.items judged.frame judged.verdict judged.known }
+    requires stands { AreClean S.Store stores.items → StandsForSome S.Store (seen_of_stores judged.frame stores.items judged.verdict judged.known) }
     requires shares { HasRoomOf room.shares (length stores.items) }
     requires members { room.shares.members.items ≡ [] }
     requires strays { room.shares.strays.items ≡ [] }
     requires empty { room.handed_out.items ≡ [] }
     requires handed_out { length stores.items ≤ vec_capacity room.handed_out }
-    ensures { IsRecovered S.Store stores.items result }
+    ensures world { result.world ≡ seen_of_stores judged.frame stores.items judged.verdict judged.known }
+    ensures strays { result.strays.items ≡ strays_of stores.items judged.verdict.kept.items }
 {
     let Shares { members, strays } = share_out(stores, &judged.verdict.kept, room.shares);
     let world = World::gathered(
@@ -195,25 +226,18 @@ fn opened<S: Alter + Drop>(
     Recovered { world, strays }
 }
 
-/// Opens the world that stores stand for, whatever they are and in whatever order: the live ones become its members, the others are handed out beside it. Each was just opened, so that its tables are in the order of their rowids. The watcher is told how many of them were looked at.
-///
-/// # Errors
-///
-/// The first of the nine faults whose condition holds, with its least package or identity; or want of memory, or a store that failed. All stores are handed back, only read.
-pub fn recover<S: Alter + Drop, W: Watcher>(
+// Opens the world of stores of which none is inside a transaction.
+fn recover_at_rest<S: Alter + Drop, W: Watcher>(
     alloc: Global,
     stores: Vec<Connection<S>>,
     watcher: &mut W,
 ) -> Result<Recovered<S>, Unopened<S>>
+    requires rests { AreAtRest S.Store stores.items }
     requires keyed { AreAllKeyed S.Store stores.items }
     ensures stands { IfOk result (IsRecovered S.Store stores.items) }
     ensures fault { IfErr result (IsUnopened S.Store stores.items) }
 {
     let mut stores = stores;
-    if !are_at_rest(&stores) {
-        let fault = RecoverFault::StoreFault;
-        return Err(Unopened { fault, stores });
-    }
     let judged = match judge_stores(alloc, &mut stores, watcher) {
         Ok(judged) => judged,
         Err(fault) => return Err(Unopened { fault, stores }),
@@ -223,14 +247,30 @@ pub fn recover<S: Alter + Drop, W: Watcher>(
         let fault = RecoverFault::StoreFault;
         return Err(Unopened { fault, stores });
     }
-    let room = match room_of(alloc, stores.len()) {
+    let room = match brought(alloc, &mut stores, &judged.verdict.kept) {
         Ok(room) => room,
-        Err(error) => {
-            return Err(Unopened {
-                fault: RecoverFault::from(error),
-                stores,
-            });
-        }
+        Err(fault) => return Err(Unopened { fault, stores }),
     };
     Ok(opened(stores, judged, room))
+}
+
+/// Opens the world that stores stand for, whatever they are and in whatever order: the live ones become its members, the others are handed out beside it. A live one of the first version is brought to the second. Each was just opened, so that its tables are in the order of their rowids. The watcher is told how many of them were looked at.
+///
+/// # Errors
+///
+/// The first of the nine faults whose condition holds, with its least package or identity; or want of memory, or a store that failed. All stores are handed back: only read, but for some that may have been brought before memory or a store gave out.
+pub fn recover<S: Alter + Drop, W: Watcher>(
+    alloc: Global,
+    stores: Vec<Connection<S>>,
+    watcher: &mut W,
+) -> Result<Recovered<S>, Unopened<S>>
+    requires keyed { AreAllKeyed S.Store stores.items }
+    ensures stands { IfOk result (IsRecovered S.Store stores.items) }
+    ensures fault { IfErr result (IsUnopened S.Store stores.items) }
+{
+    if are_at_rest(&stores) {
+        return recover_at_rest(alloc, stores, watcher);
+    }
+    let fault = RecoverFault::StoreFault;
+    Err(Unopened { fault, stores })
 }

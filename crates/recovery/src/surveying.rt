@@ -1,14 +1,14 @@
 //! All stores that are handed in, each looked at once. None is written to.
 ghost use Rattle.std.specs.Prelude.{◌<◌, ◌↔◌, length, IfOk, IsTrue};
 ghost use Rattle.world.specs.Leaving.{AreAtRest};
-ghost use Rattle.recovery.specs.Stores.{AreOnlyRead, AreSurveyed, LooksAtOne};
+ghost use Rattle.recovery.specs.Stores.{AreOnlyRead, AreOpenWhereClean, AreSurveyed, LooksAtOne};
 
 use crate::watching::Watcher;
+use first_stores::either::survey_either;
 use package_tables::fault::Fault;
 use sql_meaning::resting::is_at_rest;
 use sqlite::{Alter, Connection};
 use std::alloc::Global;
-use surveys::survey::survey;
 use verdicts::seen::StoreSeen;
 
 /// Whether no store is inside a transaction.
@@ -34,7 +34,7 @@ fn survey_at<S: Alter + Drop>(
     ensures looked { LooksAtOne S.Store stores.old.items stores.new.items at result }
 {
     let conn = &mut stores[at];
-    survey(conn, alloc)
+    survey_either(conn, alloc)
 }
 
 /// What is seen of each store, in turn.
@@ -50,6 +50,7 @@ pub(crate) fn survey_all<S: Alter + Drop, W: Watcher>(
     requires { AreAtRest S.Store stores.old.items }
     ensures read { AreOnlyRead S.Store stores.old.items stores.new.items }
     ensures rests { AreAtRest S.Store stores.new.items }
+    ensures opens { IfOk result (λ _. AreOpenWhereClean S.Store stores.new.items) }
     ensures seen { IfOk result (λ seen. AreSurveyed S.Store stores.old.items stores.new.items seen.items) }
 {
     let count = stores.len();

@@ -5,3 +5,5 @@
 mod opening_tests;
 #[cfg(test)]
 mod stores;
+#[cfg(test)]
+mod version_tests;

@@ -100,6 +100,15 @@ fn archive_of<S: Alter + Drop, H: Shelf<S>>(
     }
 }
 
+// The store of an archive that holds nothing.
+pub fn alone(alloc: Global) -> Result<InFile, Fail> {
+    let world: InFiles = archive_of(alloc, &mut MemoryFileShelf::new(alloc))?;
+    let Some(archive) = world.into_stores().pop() else {
+        return Err(Fail::new("the archive"));
+    };
+    Ok(archive)
+}
+
 // An archive with a row and a tile outside of what it lent; the loan has a tile with a medium that it is linked to.
 pub fn lender(alloc: Global) -> Result<InFiles, Fail> {
     let mut world: InFiles = archive_of(alloc, &mut MemoryFileShelf::new(alloc))?;
