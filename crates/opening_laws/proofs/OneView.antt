@@ -34,7 +34,7 @@ head_read f p db (Some h) reads headed said = ap Some (head_is_known f p db h re
 
 -- a store that reads as a package says the second version
 pub not_first : (f : Frame) (p : Package) (db : Database) → Reads f p db → SaysFirst db → ⊥
-not_first f p db reads (head, (formed, (row, (rows, is)))) =
+not_first f p db reads (head, (formed, (row, rows, is))) =
     let versions : pos 1 ∷ [] ≡ pos 2 ∷ [] = ap (λ v. v ∷ []) (sym is.version) ∙ ap (map (λ (h : HeadRow). h.version)) (sym rows ∙ reads.says.head) in
     let e = versions in
     cc

@@ -16,6 +16,7 @@ use Rattle.sql_meaning.specs.Transactions.{IsAdopted, Rests}
 use Rattle.sql_meaning.proofs.Schemas.{sound_alone}
 use Rattle.sql_meaning.proofs.Transactions.{Settles}
 use Rattle.package_tables.specs.Package.{tables_of}
+use Rattle.identity_register.specs.Reads.{Reads}
 use Rattle.world.specs.Members.{IsMember}
 use Rattle.world.specs.declared.members.Member.{Member}
 use Rattle.opening_laws.specs.Laws.{RestSurvives}
