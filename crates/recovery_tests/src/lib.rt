@@ -4,6 +4,8 @@
 #[cfg(test)]
 mod opening_tests;
 #[cfg(test)]
+mod stop_tests;
+#[cfg(test)]
 mod stores;
 #[cfg(test)]
 mod version_tests;
