@@ -1,5 +1,5 @@
 -- The rows that were read in order are those of the tables as they stand.
-use Rattle.std.proofs.Common.{◌≡◌, ◌∙◌, ℕ, List, map, sym}
+use Rattle.std.proofs.Common.{◌≡◌, ◌∙◌, List, map, sym}
 use Rattle.std.specs.Prelude.{IsPermutation}
 use Rattle.sqlite.specs.Effect.{Database}
 use Rattle.sheet_types.specs.Ordered.{IsArranged}

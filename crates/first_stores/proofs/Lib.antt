@@ -1,4 +1,5 @@
 mod Copied
 mod Formed
+mod Numbering
 mod Sighted
 mod Viewed

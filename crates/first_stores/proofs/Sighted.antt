@@ -1,5 +1,5 @@
 -- What the looks at a store of the first version come to: some right view of it is seen so.
-use Rattle.std.proofs.Common.{◌≡◌, ◌∙◌, map, Bool, true, false, Some, None, Result, Ok, Err, sym, ap, subst}
+use Rattle.std.proofs.Common.{◌≡◌, ◌∙◌, map, false, Some, None, Result, Ok, Err, sym, ap, subst}
 use Rattle.std.specs.Prelude.{option_map, pos, IfOk}
 use Rattle.std.proofs.lemmas.Bool.{false≢true}
 use Rattle.sqlite.specs.Effect.{Database}
@@ -9,6 +9,7 @@ use Rattle.sheet_types.specs.declared.frame.Frame.{Frame}
 use Rattle.ledger_laws.specs.Laws.{StoreSight}
 use Rattle.opening.specs.Sights.{head_said, claim_said}
 use Rattle.opening.specs.declared.sights.StoreHead.{StoreHead}
+use Rattle.package_tables.specs.Damaged.{AreFormedAt}
 use Rattle.package_tables.specs.Package.{tables_of}
 use Rattle.package_tables.specs.declared.fault.Fault.{Fault}
 use Rattle.package_copies.specs.Copies.{AreInOrder, IsCopy}
@@ -21,9 +22,11 @@ use Rattle.surveys.specs.declared.said.Said.{Said}
 use Rattle.verdicts.specs.Views.{IsSeenAs}
 use Rattle.verdicts.specs.declared.seen.StoreSeen.{StoreSeen}
 use Rattle.first_stores.specs.Copies.{copy_row, AreRowsOf, IsSeenOfCopy}
+use Rattle.first_stores.specs.Numbers.{have_numbers}
 use Rattle.first_stores.specs.Surveying.{IsFirstSaid, IsFirstRead}
 use Rattle.first_stores.specs.Views.{IsFirstFormed, IsFirstSeenRight}
 use Rattle.first_stores.proofs.Copied.{whole_copy}
+use Rattle.first_stores.proofs.Numbering.{numbered}
 use Rattle.first_stores.proofs.Viewed.{view_seen}
 
 -- what is said, and no package
@@ -52,6 +55,11 @@ unformed db s f x said lacks seen = (
 -- a store without head is none
 pub no_head : (db : Database) (s : Said) → s.head ≡ None → IsFirstSaid db s → IsFirstFormed db → ⊥
 no_head db s none said formed = subst (λ h. ReadsHeadAt (pos 1) db (option_map head_said h)) none said.head formed.1.head formed.1.headed
+
+-- a store with a row under a number that no package has
+pub misnumbered : (db : Database) (s : Said) (f : Frame) (x : PackageRows) (seen : StoreSeen) → IsFirstSaid db s → (AreFormedAt (pos 1) db → AreRowsOf (tables_of db) x) → have_numbers x ≡ false → IsSeenWithout s f false seen → IsFirstSeenRight db seen
+misnumbered db s f x seen said all low it =
+    unformed db s f seen said (λ formed. false≢true (sym low ∙ numbered formed.0 (tables_of db) x (all formed.1.formed.0) formed.1.items formed.1.receipts)) it
 
 -- a store whose rows were copied
 pub copied : (db : Database) (s : Said) (h : StoreHead) (f : Frame) (x : PackageRows) (seen : StoreSeen) → s.head ≡ Some h → IsFirstSaid db s → IsFirstRead f db → AreRowsOf (tables_of db) x → AreInOrder x → IsSeenOfCopy f h x seen → IsFirstSeenRight db seen

@@ -9,7 +9,6 @@ use Rattle.sheet_types.specs.declared.frame.Frame.{Frame}
 use Rattle.ledger_laws.specs.Laws.{StoreSight}
 use Rattle.opening.specs.Sights.{head_said}
 use Rattle.opening.specs.declared.sights.StoreHead.{StoreHead}
-use Rattle.package_tables.specs.Creation.{HoldsTables}
 use Rattle.package_tables.specs.Damaged.{ReadsClaims, claim_of_row}
 use Rattle.package_tables.specs.Fixed.{HasFixed, mapping_relations}
 use Rattle.package_tables.specs.Package.{Tables, tables_of, AreFormed}

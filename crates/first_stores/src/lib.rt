@@ -4,6 +4,7 @@
 pub mod either;
 mod forms;
 mod from_row;
+mod numbers;
 mod package_rows;
 mod said;
 pub mod survey;

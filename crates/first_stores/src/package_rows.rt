@@ -1,5 +1,5 @@
 //! The rows of a store of the first version beside its fixed rows and its head. Each look asks for the form of its own table alone.
-ghost use Rattle.std.specs.Prelude.{pos};
+ghost use Rattle.std.specs.Prelude.{pos, IsPermutation};
 ghost use Rattle.std.specs.Ordering.{on, then_cmp, int_cmp};
 ghost use Rattle.sqlite.specs.Held.{state};
 ghost use Rattle.sql_meaning.specs.Transactions.{Rests, Looks};
@@ -14,7 +14,7 @@ ghost use Rattle.first_stores.specs.Copies.{AreRowsOf};
 use crate::from_row::all_of;
 use package_copies::package_rows::PackageRows;
 use package_tables::fault::Fault;
-use package_tables::rows::{AttributeRow, IdentityRow, MappingRow, MediaRow, TileRow};
+use package_tables::rows::{AttributeRow, IdentityRow, MappingRow, MediaRow, MovedRow, TileRow};
 use sqlite::{Alter, Connection};
 use std::alloc::Global;
 use store_forms::rows_alone::{moved_rows, receipt_rows};
@@ -94,6 +94,14 @@ fn identity_rows<S: Alter>(
     )
 }
 
+/// The rows of what was moved, by the receipts' numbers and by their places.
+fn in_turn(mut moved: Vec<MovedRow>) -> Vec<MovedRow>
+    ensures { IsPermutation moved.items result.items }
+{
+    moved.sort_unstable_by_key(|row| (row.seq, row.position));
+    moved
+}
+
 /// All these rows of a store whose fourteen tables have their form.
 ///
 /// # Errors
@@ -122,6 +130,6 @@ pub(crate) fn read_rows<S: Alter>(
         rows_media,
         identities,
         receipts,
-        moved,
+        moved: in_turn(moved),
     })
 }

@@ -10,6 +10,7 @@ ghost use Rattle.first_stores.specs.Copies.{IsSeenOfCopy};
 ghost use Rattle.first_stores.specs.Views.{IsFirstSeenRight};
 
 use crate::forms::read_first_formed;
+use crate::numbers::have_numbers;
 use crate::package_rows::read_rows;
 use crate::said::read_first_said;
 use opening::sights::StoreHead;
@@ -94,6 +95,10 @@ pub fn survey_first<S: Alter>(conn: &mut Connection<S>, alloc: Global) -> Result
         return Ok(without_package(alloc, said, no_frame(), false));
     };
     let rows = read_rows(conn, alloc)?;
+    // A copy tells a row by how far its number is from 0, and no package has one below 0.
+    if !have_numbers(&rows) {
+        return Ok(without_package(alloc, said, no_frame(), false));
+    }
     let seen = survey_copy(alloc, &frame, head, &rows)?;
     Ok(seen)
 }

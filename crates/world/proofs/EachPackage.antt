@@ -1,8 +1,9 @@
 -- What each package of a register tells of the whole.
-use Rattle.std.specs.Prelude.{◌≡◌, ℕ, ◌+◌, ◌≤◌, ◌<◌, Bool, true, [], ◌∷◌, length, slice_index, find, flat_map, bytes_eq, Some, Contains}
+use Rattle.std.specs.Prelude.{◌≡◌, ℕ, ◌+◌, ◌≤◌, ◌<◌, ◌&&◌, Bool, List, true, [], ◌∷◌, length, slice_index, find, flat_map, bytes_eq, Some, Contains}
 use Rattle.std.proofs.Common.{refl, ap, ◌∙◌, arith, inl, inr}
 use Rattle.std.proofs.lemmas.Slice.Eq.{bytes_eq-Decides}
 use Rattle.std.specs.List.{list_any, AllByRecursion}
+use Rattle.sheet_types.specs.Custody.{is_split, ends_at}
 use Rattle.sheet_types.specs.Ordered.{has}
 use Rattle.sheet_types.specs.World.{World, Package, receipt_key, receipts_of}
 use Rattle.sheet_types.specs.Balance.{archive_of, names_identity}
@@ -18,6 +19,8 @@ use Rattle.ledger_laws.proofs.Shifting.{numbers_below}
 use Rattle.ledger_laws.proofs.Packages.{stand_flat}
 use Rattle.identity_register.proofs.Finding.{contained}
 use Rattle.identity_register.proofs.Answering.{any_flat_map}
+use Rattle.custody.specs.Receipts.{was_lent}
+use Rattle.world.specs.DecidingSplits.{ever_lent}
 use Rattle.world.specs.Register.{UsedIsNamed, NoneIsKept, KeptIsThere, NumberIsCount}
 
 -- a test of all receipts is one of each package's
@@ -33,6 +36,10 @@ among_receipts w p r here there =
 
 pub used_is_named : UsedIsNamed
 used_is_named w id register = added_is_named (archive_of w) id (receipts_of w) register.balanced.ledger ∙ in_packages (names_identity id) w
+
+-- a split ever made a package of this UUID, where some package has the receipt
+pub lent_in_packages : (w : World) (id : List ℕ) → ever_lent w id ≡ list_any (λ p. was_lent p id) w.packages
+lent_in_packages w id = in_packages (λ r. is_split r && ends_at r.target id) w
 
 pub none_is_kept : NoneIsKept
 none_is_kept w id none = not_found (of_request id) (receipts_of w) (in_packages (of_request id) w ∙ none_any (λ p. list_any (of_request id) p.receipts) w.packages none)

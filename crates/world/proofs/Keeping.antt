@@ -126,7 +126,7 @@ module _ {S : Type 0} (g : Ghosts S) where
       step = λ clean gone w stands.
           let both = stood w stands in
           let as_model : IsServedAs g w q new noted after reply = it.told clean gone reply is w both.0 both.1 in
-          (as_model.0, inl (sym (ap (λ o. o.0) as_model.1), sym (ap (λ o. o.1) as_model.1)), record { frame = both.0.0 ∙ sym as_model.2; members = as_model.3; known = as_model.4 });
+          (as_model.next, inl (sym (ap (λ o. o.0) as_model.told), sym (ap (λ o. o.1) as_model.told)), record { frame = both.0.0 ∙ sym as_model.frame; members = as_model.members; known = as_model.known });
       opens = λ clean gone no_fault opened. (subst (λ (x : Result (Result Receipt Refusal) ServeFault). IfOk x (λ y. AllOpen g old → AllOpen g new)) is (it.opens clean gone)) (were_open opened);
       crash = λ fault usable w stands opened. leaves_before g old new strays w before (outcome w q).1.packages (it.none reply is) (it.unharmed (subst IsUntouched (sym is) (fault_is_err reply fault))) (stood w stands).1 (were_open opened);
       beside = λ clean gone no_fault w stands opened. it.beside clean gone reply is w (stood w stands).0 (stood w stands).1 (were_open opened);

@@ -1,4 +1,4 @@
--- What one package keeps or names is kept or named by the world.
+-- What one package keeps or names is kept or named by the world, and a loan that it made was made.
 use Rattle.std.proofs.Common.{◌≡◌, sym, ◌∙◌, ℕ, Bool, true, List, Option, Some, None, IsTrue, slice_get}
 use Rattle.std.specs.Option.{IfSome}
 use Rattle.sqlite_trees.proofs.ListLemmas.{all-slice_get}
@@ -7,8 +7,9 @@ use Rattle.sheet_types.specs.Register.{IsRegister}
 use Rattle.sheet_types.specs.World.{World, Package}
 use Rattle.sheet_types.specs.declared.receipt.Receipt.{Receipt}
 use Rattle.sheet_types.proofs.Same.{In, In-all, Contains-In, any_in}
-use Rattle.custody.specs.Receipts.{IsKept, is_named}
-use Rattle.world.proofs.EachPackage.{kept_is_there, used_is_named}
+use Rattle.custody.specs.Receipts.{IsKept, is_named, was_lent}
+use Rattle.world.specs.DecidingSplits.{ever_lent}
+use Rattle.world.proofs.EachPackage.{kept_is_there, used_is_named, lent_in_packages}
 
 -- the package at a place has told this
 abbrev pub ToldAt : (Package → Type 0) → ℕ → World → Type 0
@@ -23,3 +24,6 @@ kept_there id at (Some r) w register told = sym (kept_is_there w id told.0 r reg
 
 pub named_there : (id : List ℕ) (at : ℕ) (found : Bool) (w : World) → IsRegister w → ToldAt (λ p. found ≡ is_named p id) at w → IsTrue found → is_used w id ≡ true
 named_there id at found w register told is = used_is_named w id register ∙ any_in (λ x. is_named x id) told.0 w.packages (stands_in w at told.0 told.1) (sym told.2 ∙ is)
+
+pub lent_there : (id : List ℕ) (at : ℕ) (found : Bool) (w : World) → ToldAt (λ p. found ≡ was_lent p id) at w → IsTrue found → ever_lent w id ≡ true
+lent_there id at found w told is = lent_in_packages w id ∙ any_in (λ x. was_lent x id) told.0 w.packages (stands_in w at told.0 told.1) (sym told.2 ∙ is)

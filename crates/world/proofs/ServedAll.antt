@@ -21,10 +21,10 @@ use Rattle.sql_meaning.specs.Transactions.{Rests}
 use Rattle.sql_meaning.specs.Stores.{LeavesEither}
 use Rattle.sql_meaning.proofs.Transactions.{Shuts, Settles}
 use Rattle.world.specs.Asking.{AsksAll}
-use Rattle.known_uuids.specs.Known.{Grows, Knows, Notes}
+use Rattle.known_uuids.specs.Known.{Grows, Notes}
 use Rattle.known_uuids.proofs.Remembering.{knows_more}
 use Rattle.world.specs.Carries.{Carries, ServesAll, IsSeenBy, IsBeforeCommit}
-use Rattle.world.specs.Deciding.{IsOf, Decides}
+use Rattle.world.specs.Deciding.{IsOf, Decides, DecidesWhere}
 use Rattle.world.specs.Leaving.{AreAtRest, AreClean, AreBeside, LeavesOneOf}
 use Rattle.world.specs.Members.{AllRest, AllClean, AllOpen, AreMembers}
 use Rattle.world.specs.ServeFaults.{IsLastingFault, CountsShelf}
@@ -113,16 +113,16 @@ module _ {S : Type 0} (g : Ghosts S) (shuts : Shuts g) (settles : Settles g) whe
 
   -- ---- a request
 
-  module _ (f : Frame) (q : Request) (old mid : List (Member S)) (known noted : List (List ℕ)) (grows : Grows known noted) (at_rest : AllRest g old) (before : ℕ) (low : before ≤ greatest_receipts) {E : Type 0} {r : Result Decision E} (it : AsksAll g {X = Decision} {E = E} (λ w decision. Knows known w → IsOf f before w → Decides w q decision) old mid r) where
+  module _ (f : Frame) (q : Request) (old mid : List (Member S)) (known noted : List (List ℕ)) (grows : Grows known noted) (at_rest : AllRest g old) (before : ℕ) (low : before ≤ greatest_receipts) {E : Type 0} {r : Result Decision E} (it : AsksAll g {X = Decision} {E = E} (DecidesWhere known (IsOf f before) q) old mid r) where
     -- what was decided of a world
     pub decided : (decision : Decision) → r ≡ Ok decision → AllClean g mid → (w : World) → IsSeenBy f known w → AreMembers g old before w → Decides w q decision
     decided decision is clean w same are =
-        let here : AsksAll g {X = Decision} {E = E} (λ w decision. Knows known w → IsOf f before w → Decides w q decision) old mid (Ok decision) = subst (AsksAll g {X = Decision} {E = E} (λ w decision. Knows known w → IsOf f before w → Decides w q decision) old mid) is it in
+        let here : AsksAll g {X = Decision} {E = E} (DecidesWhere known (IsOf f before) q) old mid (Ok decision) = subst (AsksAll g {X = Decision} {E = E} (DecidesWhere known (IsOf f before) q) old mid) is it in
         here.told clean w before are same.1 (record { frame = same.0; counted = are.counted })
 
     pub decided_opens : (decision : Decision) → r ≡ Ok decision → AllClean g mid → AllOpen g old → AllOpen g mid
     decided_opens decision is clean was =
-        let here : AsksAll g {X = Decision} {E = E} (λ w decision. Knows known w → IsOf f before w → Decides w q decision) old mid (Ok decision) = subst (AsksAll g {X = Decision} {E = E} (λ w decision. Knows known w → IsOf f before w → Decides w q decision) old mid) is it in
+        let here : AsksAll g {X = Decision} {E = E} (DecidesWhere known (IsOf f before) q) old mid (Ok decision) = subst (AsksAll g {X = Decision} {E = E} (DecidesWhere known (IsOf f before) q) old mid) is it in
         here.stays_open clean was
 
     -- no decision was come to
@@ -160,7 +160,13 @@ module _ {S : Type 0} (g : Ghosts S) (shuts : Shuts g) (settles : Settles g) whe
       clean = λ clean gone. clean_before g old mid it.stay clean;
       told = λ clean gone reply same_reply w same are.
           let answered : answer ≡ reply = cc in
-          (w, decided (Answered answer) is clean w same are ∙ ap (λ x. (x, w)) answered, refl, members_stay g old mid before w it.stay are, knows_more known noted w grows same.1);
+          record {
+            next = w;
+            told = decided (Answered answer) is clean w same are ∙ ap (λ x. (x, w)) answered;
+            frame = refl;
+            members = members_stay g old mid before w it.stay are;
+            known = knows_more known noted w grows same.1;
+          };
       opens = λ clean gone. decided_opens (Answered answer) is clean;
       beside = λ clean gone reply is' w same are was. none_beside g w.frame (outcome w q).1.packages;
       refused = λ why is' w are. members_stay g old mid before w it.stay are;
@@ -191,7 +197,13 @@ module _ {S : Type 0} (g : Ghosts S) (shuts : Shuts g) (settles : Settles g) whe
             told = λ clean gone reply same_reply w same are.
                 let x = so (made.clean clean gone) w same are in
                 let replied : Ok receipt ≡ reply = cc in
-                (x.0, x.1 ∙ ap (λ a. (Ok a, x.0)) (sym done.0) ∙ ap (λ a. (a, x.0)) replied, x.2, done.3 w x.0 clean gone (members_stay g old mid before w it.stay are) x.3, knows_after q due known noted grows notes w x.0 same.1 x.1);
+                record {
+                  next = x.0;
+                  told = x.1 ∙ ap (λ a. (Ok a, x.0)) (sym done.0) ∙ ap (λ a. (a, x.0)) replied;
+                  frame = x.2;
+                  members = done.3 w x.0 clean gone (members_stay g old mid before w it.stay are) x.3;
+                  known = knows_after q due known noted grows notes w x.0 same.1 x.1;
+                };
             opens = λ clean gone was. made.opens clean gone (decided_opens decision is (made.clean clean gone) was);
             beside = λ clean gone reply same_reply w same are was.
                 let x = so (made.clean clean gone) w same are in
@@ -236,7 +248,7 @@ module _ {S : Type 0} (g : Ghosts S) (shuts : Shuts g) (settles : Settles g) whe
 
 -- ---- each kind of what is due
 
-module _ {S : Type 0} (g : Ghosts S) (shuts : Shuts g) (settles : Settles g) (f : Frame) (q : Request) (old mid : List (Member S)) (known noted : List (List ℕ)) (grows : Grows known noted) (at_rest : AllRest g old) (before : ℕ) (low : before ≤ greatest_receipts) {E : Type 0} {r : Result Decision E} (it : AsksAll g {X = Decision} {E = E} (λ w decision. Knows known w → IsOf f before w → Decides w q decision) old mid r) where
+module _ {S : Type 0} (g : Ghosts S) (shuts : Shuts g) (settles : Settles g) (f : Frame) (q : Request) (old mid : List (Member S)) (known noted : List (List ℕ)) (grows : Grows known noted) (at_rest : AllRest g old) (before : ℕ) (low : before ≤ greatest_receipts) {E : Type 0} {r : Result Decision E} (it : AsksAll g {X = Decision} {E = E} (DecidesWhere known (IsOf f before) q) old mid r) where
   abbrev So : (World → World → Type 0) → Receipt → Type 0
   So Due due = AllClean g mid → (w : World) → IsSeenBy f known w → AreMembers g old before w → (next : World) × (outcome w q ≡ (Ok due, next)) × (next.frame ≡ w.frame) × Due w next
 

@@ -6,13 +6,12 @@ use Rattle.std.specs.Option.{option_or}
 use Rattle.sqlite_trees.proofs.ListLemmas.{all-slice_get}
 use Rattle.sqlite.specs.Store.{Ghosts}
 use Rattle.sheet_types.specs.Answers.{sums_held}
-use Rattle.sheet_types.specs.Custody.{is_split, ends_at}
 use Rattle.sheet_types.specs.Cut.{cut, identities}
 use Rattle.sheet_types.specs.Matrix.{first_row, is_good_rect}
 use Rattle.sheet_types.specs.Refuse.{is_archive, package_used, bad_text, greatest_depth}
 use Rattle.sheet_types.specs.Register.{IsRegister, IsKeptPackage}
 use Rattle.sheet_types.specs.Texts.{is_moment}
-use Rattle.sheet_types.specs.World.{World, Package, holdings, receipts_of}
+use Rattle.sheet_types.specs.World.{World, Package, holdings}
 use Rattle.sheet_types.specs.declared.command.Mode.{Mode}
 use Rattle.sheet_types.specs.declared.command.Request.{Request}
 use Rattle.sheet_types.specs.declared.frame.Frame.{Frame}
@@ -23,7 +22,6 @@ use Rattle.identity_register.proofs.Deleting.{distinct_filter}
 use Rattle.identity_register.specs.declared.selection.Selection.{Selection}
 use Rattle.cut.specs.Taken.{IsCutOf, IsSelected}
 use Rattle.cut.proofs.Kept.{kept_in_order}
-use Rattle.custody.specs.Receipts.{was_lent}
 use Rattle.ledger_laws.proofs.Splitting.{by_tests}
 use Rattle.lending.proofs.Selected.{sorted_selection}
 use Rattle.world.specs.DecidingSplits.{command_of, ever_lent, uuid_used, reasons_before_cut, place_reasons, value_reasons, IsCutOut, IsLender}
@@ -32,17 +30,12 @@ use Rattle.world.specs.Reasons.{text_reasons}
 use Rattle.world.specs.declared.deciding_splits.Asked.{Asked}
 use Rattle.world.specs.declared.deciding_splits.Lender.{Lender}
 use Rattle.world.specs.declared.members.Member.{Member}
-use Rattle.world.proofs.EachPackage.{in_packages}
 use Rattle.world.proofs.Parts.{first_of_both}
 use Rattle.world.proofs.Placed.{any_zip}
 use Rattle.world.proofs.SplitDecided.{as_asked, asking}
 use Rattle.world.proofs.Standing.{zip_at}
 
 -- ---- the UUID of the child
-
--- a split ever made it, where a package has the receipt
-pub lent_in_packages : (w : World) (id : List ℕ) → ever_lent w id ≡ list_any (λ p. was_lent p id) w.packages
-lent_in_packages w id = in_packages (λ r. is_split r && ends_at r.target id) w
 
 -- the members tell whether it is the archive's
 pub archive_told : {S : Type 0} (g : Ghosts S) (members : List (Member S)) (count : ℕ) (w : World) (id : List ℕ) → AreMembers g members count w

@@ -7,8 +7,10 @@ use Rattle.world.specs.Members.{AllRest, AllClean, AllOpen, AllStay, AreMembers}
 use Rattle.world.specs.declared.members.Member.{Member}
 
 module _ {S : Type 0} (g : Ghosts S) where
-  -- All members were only read, if at all, and where each disk gave back what was written the answer is true of the world that they stood for.
-  pub record AsksAll {X E : Type 0} (Answer : World → X → Type 0) (old new : List (Member S)) (r : Result X E) : Type 0 where
+  -- All members were only read, if at all, and where each disk gave back what was written the answer is true of the
+  -- world that they stood for.
+  pub record AsksAll {X E : Type 0} (Answer : World → X → Type 0) (old new : List (Member S))
+      (r : Result X E) : Type 0 where
     pub rests : AllRest g new
     pub stay : AllStay g old new
     pub stays_open : AllClean g new → IfOk r (λ x. AllOpen g old → AllOpen g new)
@@ -21,7 +23,8 @@ module _ {S : Type 0} (g : Ghosts S) where
     pub place : slice_get members at ≡ Some member
     pub named : member.uuid ≡ uuid
     pub live : (w : World) (count : ℕ) → AreMembers g members count w → is_live w uuid ≡ true
-    pub holds : (w : World) (count : ℕ) → AreMembers g members count w → slice_get w.packages at ≡ Some (holdings w uuid)
+    pub holds : (w : World) (count : ℕ) → AreMembers g members count w
+        → slice_get w.packages at ≡ Some (holdings w uuid)
 
   -- No member is of this package, and so it is not live.
   pub record StandsNowhere (members : List (Member S)) (uuid : List ℕ) : Type 0 where

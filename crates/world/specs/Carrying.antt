@@ -1,4 +1,5 @@
--- What a command that changes one package makes of it, with its receipt, and what has to hold of the package before. Profile.
+-- What a command that changes one package makes of it, with its receipt, and what has to hold of the package before.
+-- Profile.
 use Rattle.sqlite.specs.Effect.{Database}
 use Rattle.sheet_types.specs.World.{Package, with_receipt}
 use Rattle.sheet_types.specs.Step.{relation, added_item}
@@ -11,7 +12,8 @@ use Rattle.identity_register.specs.Reads.{Reads}
 use Rattle.identity_register.specs.Changes.{IsNewItem, item_added, IsLooseItem, item_deleted, IsNewLink, link_added, IsLink, link_removed}
 use Rattle.custody.specs.Receipts.{IsNewReceipt}
 
--- The package is as the command's change needs it. A split and a merge change more than one package, so nothing is promised of them.
+-- The package is as the command's change needs it. A split and a merge change more than one package, so nothing is
+-- promised of them.
 abbrev pub Meets : Command → Package → Type 0
 Meets (Add uuid identity content) p = IsNewItem identity p
 Meets (Delete uuid identity) p = IsLooseItem identity p

@@ -19,14 +19,19 @@ IsUncommitted (Err (Before fault)) = ⊤
 IsUncommitted (Err (Committing fault)) = ⊥
 
 module _ {S : Type 0} (g : Ghosts S) where
-  -- A change that is due was carried out: the receipt is the reply and its number the new count. Or it failed, and nothing has changed.
-  pub record Changes (change : Change) (command : Command) (old new : List (Member S)) (before after : ℕ) (r : Result Receipt TurnFault) : Type 0 where
+  -- A change that is due was carried out: the receipt is the reply and its number the new count. Or it failed, and
+  -- nothing has changed.
+  pub record Changes (change : Change) (command : Command) (old new : List (Member S)) (before after : ℕ)
+      (r : Result Receipt TurnFault) : Type 0 where
     pub rests : AllRest g new
     pub clean : AllClean g new → AllClean g old
     pub ok : (receipt : Receipt) → r ≡ Ok receipt → (receipt ≡ change.receipt) × (after ≡ before + 1)
-        × ((w : World) → AreMembers g old before w → IsDue w change.at change.receipt command change.sums → AreMembers g new (before + 1) (world_after change.receipt command w))
-    pub crash : (w : World) → AreMembers g old before w → IsDue w change.at change.receipt command change.sums → AllOpen g old
+        × ((w : World) → AreMembers g old before w → IsDue w change.at change.receipt command change.sums
+        → AreMembers g new (before + 1) (world_after change.receipt command w))
+    pub crash : (w : World) → AreMembers g old before w → IsDue w change.at change.receipt command change.sums
+        → AllOpen g old
         → LeavesEither g (λ m. m.conn) (LeftAs w.frame) new w.packages (world_after change.receipt command w).packages
     pub opens : AllClean g new → IfOk r (λ receipt. AllOpen g old → AllOpen g new)
-    pub err : (fault : TurnFault) → r ≡ Err fault → (after ≡ before) × ((w : World) → AreMembers g old before w → AreMembers g new before w)
+    pub err : (fault : TurnFault) → r ≡ Err fault
+        → (after ≡ before) × ((w : World) → AreMembers g old before w → AreMembers g new before w)
     pub unharmed : IsUncommitted r → LeavesAsBefore g old new

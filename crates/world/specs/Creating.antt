@@ -16,7 +16,8 @@ create_refusal f at = option_or (option_map BadFrame (frame_fault f)) (then_some
 
 -- Where something is wrong that is the answer, and else no other fault than want of memory or the store's is.
 abbrev pub IsCreatedOrRefused : {X : Type 0} → Frame → List ℕ → Result X CreateFault → Type 0
-IsCreatedOrRefused f at r = MatchOption (create_refusal f at) (IfErr r (λ why. (fault : Fault) × (why ≡ Failed fault))) (λ why. r ≡ Err why)
+IsCreatedOrRefused f at r =
+    MatchOption (create_refusal f at) (IfErr r (λ why. (fault : Fault) × (why ≡ Failed fault))) (λ why. r ≡ Err why)
 
 -- an empty list has room for one of each of these
 abbrev pub HasRoom : {X Y : Type 0} → List X → Vec Y Global → Type 0

@@ -1,4 +1,5 @@
--- What a merge comes to before anything is written: why it is refused, by what is kept of the members and by what its two packages hold. Profile.
+-- What a merge comes to before anything is written: why it is refused, by what is kept of the members and by what its
+-- two packages hold. Profile.
 use Rattle.std.specs.Prelude.{◌≡◌, ℕ, ℤ, ◌+◌, ◌-◌, Bool, true, ◌||◌, nat_lt, List, [], ◌∷◌, length, find, Option, Some, None, option_map, slice_get, if◌then◌else◌}
 use Rattle.std.specs.List.{list_any}
 use Rattle.std.specs.Option.{option_or}
@@ -41,7 +42,8 @@ pub record IsMergeAt (count from at : ℕ) (q : Request) (w : World) : Type 0 wh
 
 -- by what is kept of the members
 abbrev pub kept_reasons : World → Command → List (Bool × Refusal)
-kept_reasons w command = (foreign w command, Foreign) ∷ (stale w command, Stale (ticket w (child_of command))) ∷ carrying LoanOpen (loan_open w command) ∷ []
+kept_reasons w command = (foreign w command, Foreign) ∷ (stale w command, Stale (ticket w (child_of command)))
+    ∷ carrying LoanOpen (loan_open w command) ∷ []
 
 -- by its texts, else by that
 abbrev pub refusal_by_kept : World → Request → Option Refusal
@@ -75,6 +77,8 @@ nearer_clash (Some first) clash = if is_before clash.place first.place then clas
 abbrev pub all_of : Package → Cut
 all_of p = record { items = p.items; links = p.links }
 
--- A member is past the limits, with these sums for the one that takes all, or there would be too many members without the one that goes, or one receipt more is too many.
+-- A member is past the limits, with these sums for the one that takes all, or there would be too many members without
+-- the one that goes, or one receipt more is too many.
 abbrev pub leaves_too_many : {S : Type 0} → List (Member S) → ℕ → Sums → ℕ → Bool
-leaves_too_many members at sums count = list_any is_past_limits (sums_with members at sums) || nat_lt greatest_packages (length members - 1) || nat_lt greatest_receipts (count + 1)
+leaves_too_many members at sums count = list_any is_past_limits (sums_with members at sums)
+    || nat_lt greatest_packages (length members - 1) || nat_lt greatest_receipts (count + 1)

@@ -7,6 +7,7 @@ use Rattle.sheet_types.specs.Cut.{cut}
 use Rattle.sheet_types.specs.Lines.{HasTypes, IsUuid}
 use Rattle.sheet_types.specs.Matrix.{first_row, is_good_rect}
 use Rattle.sheet_types.specs.Refuse.{is_archive, package_used, bad_rectangle, too_deep, bad_text, greatest_depth, greatest_packages, greatest_receipts}
+use Rattle.sheet_types.specs.Step.{cut_of}
 use Rattle.sheet_types.specs.Texts.{is_moment}
 use Rattle.sheet_types.specs.World.{World, Package, receipts_of, holdings, is_live}
 use Rattle.sheet_types.specs.declared.command.Command.{Command}
@@ -21,6 +22,7 @@ use Rattle.sheet_types.specs.declared.refusal.Refusal.TheVariants.{PackageUsed, 
 use Rattle.identity_register.specs.declared.selection.Selection.{Selection}
 use Rattle.cut.specs.Taken.{refused}
 use Rattle.lending.specs.Selecting.{IsSelectionOf}
+use Rattle.world.specs.Deciding.{IsOf}
 use Rattle.world.specs.Loans.{IsSplit}
 use Rattle.world.specs.Reasons.{text_reasons}
 use Rattle.world.specs.Steps.{is_past_limits}
@@ -43,6 +45,18 @@ pub record IsNewSplit (w : World) (q : Request) (s : Asked) : Type 0 where
   pub types : HasTypes (command_of s)
   pub new : kept w q.id ≡ None
   pub live : is_live w s.package ≡ true
+
+-- and its package stands at this place; the frame and the number of receipts are those of the world
+pub record IsPlacedSplit (f : Frame) (count at : ℕ) (q : Request) (s : Asked) (w : World) : Type 0 where
+  pub of_world : IsOf f count w
+  pub split : IsNewSplit w q s
+  pub place : slice_get w.packages at ≡ Some (holdings w s.package)
+
+-- the frame is that of the world, the request asks for this split, and its package is so deep
+pub record IsAskedSplit (f : Frame) (q : Request) (s : Asked) (depth : ℕ) (w : World) : Type 0 where
+  pub frame : f ≡ w.frame
+  pub asked : q.command ≡ command_of s
+  pub deep : depth ≡ (holdings w s.package).depth
 
 -- the package stands at this place, and this is kept of it
 pub record IsLender (w : World) (p : Package) (l : Lender) : Type 0 where
@@ -87,11 +101,23 @@ pub record IsGranted (w : World) (q : Request) (s : Asked) : Type 0 where
   pub before : first_row (reasons_before_cut w q) ≡ None
   pub cut : refused w.frame (holdings w s.package) s.mode s.rect ≡ None
 
+-- So it is, and this is selected of the package that lends, after so many receipts.
+pub record IsSelectedFor (count : ℕ) (q : Request) (s : Asked) (l : Lender) (taken : Selection)
+    (w : World) : Type 0 where
+  pub counted : count ≡ length (receipts_of w)
+  pub split : IsNewSplit w q s
+  pub lends : IsLender w (holdings w s.package) l
+  pub granted : IsGranted w q s
+  pub selected : IsSelectionOf (cut_of w s.package s.mode s.rect) taken
+
 -- ---- the limits
 
--- The loan is past the limits of a package, or a member is with what is left of it, or one package or one receipt more is too many.
+-- The loan is past the limits of a package, or a member is with what is left of it, or one package or one receipt
+-- more is too many.
 abbrev pub leaves_too_many : {S : Type 0} → List (Member S) → ℕ → Sums → Sums → ℕ → Bool
-leaves_too_many members at left lent count = is_past_limits lent || list_any is_past_limits (sums_with members at left) || nat_lt greatest_packages (length members + 1) || nat_lt greatest_receipts (count + 1)
+leaves_too_many members at left lent count =
+    is_past_limits lent || list_any is_past_limits (sums_with members at left)
+    || nat_lt greatest_packages (length members + 1) || nat_lt greatest_receipts (count + 1)
 
 -- ---- what is due
 

@@ -31,7 +31,8 @@ package_of (Unlink uuid mapping base other) = uuid
 package_of (Split uuid child mode rect) = uuid
 package_of (Merge child into ticket) = into
 
--- the reasons of a command that changes one package, which package is live and is p. next is the world that the request would leave
+-- the reasons of a command that changes one package, which package is live and is p. next is the world that the
+-- request would leave
 abbrev pub live_reasons : World → World → Package → Request → List (Bool × Refusal)
 live_reasons w next p q =
     (id_reused w q, IdReused)
@@ -43,12 +44,17 @@ live_reasons w next p q =
 
 -- Such a command is refused for the first of these, where its package is live.
 abbrev pub RefusedByParts : Type 0
-RefusedByParts = (w next : World) (p : Package) (q : Request) → ChangesOnePackage q.command → is_live w (package_of q.command) ≡ true → holdings w (package_of q.command) ≡ p → refusal w next q ≡ first_row (live_reasons w next p q)
+RefusedByParts = (w next : World) (p : Package) (q : Request) → ChangesOnePackage q.command
+    → is_live w (package_of q.command) ≡ true → holdings w (package_of q.command) ≡ p
+    → refusal w next q ≡ first_row (live_reasons w next p q)
 
 -- Where it is not live, what was reused or that it is not known is all that is told.
 abbrev pub RefusedUnlessLive : Type 0
-RefusedUnlessLive = (w next : World) (q : Request) → ChangesOnePackage q.command → is_live w (package_of q.command) ≡ false → refusal w next q ≡ first_row ((id_reused w q, IdReused) ∷ (true, UnknownPackage) ∷ [])
+RefusedUnlessLive = (w next : World) (q : Request) → ChangesOnePackage q.command
+    → is_live w (package_of q.command) ≡ false
+    → refusal w next q ≡ first_row ((id_reused w q, IdReused) ∷ (true, UnknownPackage) ∷ [])
 
 -- Such a command is carried out in the world by the change of the one package that it names, with the receipt in it.
 abbrev pub CarriedOutInOne : Type 0
-CarriedOutInOne = (w : World) (r : Receipt) (command : Command) → ChangesOnePackage command → carried_out w r command ≡ changed (after_command r command) (package_of command) w
+CarriedOutInOne = (w : World) (r : Receipt) (command : Command) → ChangesOnePackage command
+    → carried_out w r command ≡ changed (after_command r command) (package_of command) w

@@ -11,7 +11,8 @@ use Rattle.sheet_types.specs.declared.frame.Frame.{Frame}
 use Rattle.sql_meaning.specs.Transactions.{Rests}
 use Rattle.world.specs.Turning.{LeftAs}
 
--- The content reads as a loan, and no package of the world has its UUID: so no open split of the world means it, and it is left alone when the world is opened.
+-- The content reads as a loan, and no package of the world has its UUID: so no open split of the world means it, and
+-- it is left alone when the world is opened.
 pub record IsBeside (f : Frame) (packages : List Package) (trees : Trees) : Type 0 where
   pub other : Package
   pub reads : LeftAs f trees other
@@ -41,8 +42,10 @@ module _ {S : Type 0} (g : Ghosts S) where
 
   -- whatever a crash leaves of these is beside a world's packages
   abbrev pub AreBeside : Frame → List Package → List (Held S) → Type 0
-  AreBeside f packages = All (λ h. HasCleanDisk (state g h) → (trees : Trees) → (state g h).may_leave trees → IsBeside f packages trees)
+  AreBeside f packages = All (λ h. HasCleanDisk (state g h) → (trees : Trees) → (state g h).may_leave trees
+      → IsBeside f packages trees)
 
   -- A crash leaves one of two worlds, whole; what else is held is beside it.
   abbrev pub LeavesOneOf : Frame → List (Held S) → List Package → List Package → Type 0
-  LeavesOneOf f stores before after = AreClean stores → (contents : List Trees) → MayBeLeft stores contents → StandsAmong f before contents ⊎ StandsAmong f after contents
+  LeavesOneOf f stores before after = AreClean stores → (contents : List Trees) → MayBeLeft stores contents
+      → StandsAmong f before contents ⊎ StandsAmong f after contents

@@ -1,4 +1,5 @@
--- When a split or a merge is due, by what is kept of a world: which member gives, which takes, and what the world is after it. Profile.
+-- When a split or a merge is due, by what is kept of a world: which member gives, which takes, and what the world is
+-- after it. Profile.
 use Rattle.std.specs.Prelude.{◌≡◌, ◌<◌, ◌≤◌, ℕ, ℤ, Bool, not, ◌||◌, ◌&&◌, [], ◌∷◌, ◌+◌, ◌-◌, List, Some, None, length, slice_get, slice_set, if◌then◌else◌, bytes_eq, nat_lt, false, true, is_some, count_by}
 use Rattle.std.specs.List.{insert, remove, AllByRecursion}
 use Rattle.sheet_types.specs.Answers.{sums_held}
@@ -36,7 +37,8 @@ pub record IsNext (w next : World) : Type 0 where
 
 -- the ticket of each of these packages but that at a place stays
 abbrev pub OthersStay : World → World → List Package → ℕ → Type 0
-OthersStay w next packages at = (k : ℕ) (p : Package) → slice_get packages k ≡ Some p → ¬ (k ≡ at) → ticket next p.uuid ≡ ticket w p.uuid
+OthersStay w next packages at = (k : ℕ) (p : Package) → slice_get packages k ≡ Some p → ¬ (k ≡ at)
+    → ticket next p.uuid ≡ ticket w p.uuid
 
 -- ---- a split
 
@@ -44,7 +46,8 @@ OthersStay w next packages at = (k : ℕ) (p : Package) → slice_get packages k
 abbrev pub loan : Lending → Cut → Package
 loan due c = with_cut c (new_package due.child (Some due.parent) due.depth due.receipt.seq)
 
--- The split is due, and the world after it is next: the package at its place lends the cut, and the loan stands at the place that is meant for it.
+-- The split is due, and the world after it is next: the package at its place lends the cut, and the loan stands at
+-- the place that is meant for it.
 pub record IsLent (w next : World) (due : Lending) : Type 0 where
   pub after : IsNext w next
   pub parent : Package
@@ -69,7 +72,8 @@ pub record IsLent (w next : World) (due : Lending) : Type 0 where
 abbrev pub place_for : List ℕ → List Package → ℕ
 place_for uuid packages = count_by (λ x. is_before x.uuid uuid) packages
 
--- What is due was made of this split: where the packages stand, what was selected, and the sums by what its receipt moves.
+-- What is due was made of this split: where the packages stand, what was selected, and the sums by what its receipt
+-- moves.
 pub record IsSplit (w : World) (id moment p child : List ℕ) (mode : Mode) (rect : Rect) (due : Lending) : Type 0 where
   pub at : slice_get w.packages due.at ≡ Some (holdings w p)
   pub child_at : due.child_at ≡ place_for child w.packages
@@ -83,8 +87,10 @@ pub record IsSplit (w : World) (id moment p child : List ℕ) (mode : Mode) (rec
 
 -- A new split that is not refused is due, and the world after it is the accepted one, where what is due was made of it.
 abbrev pub LentWhereAccepted : Type 0
-LentWhereAccepted = (w : World) (id moment p child : List ℕ) (mode : Mode) (rect : Rect) (due : Lending) → IsRegister w → IsUuid id → HasTypes (Split p child mode rect) → kept w id ≡ None
-    → refusal w (accepted w (split_request id moment p child mode rect)) (split_request id moment p child mode rect) ≡ None → IsSplit w id moment p child mode rect due
+LentWhereAccepted = (w : World) (id moment p child : List ℕ) (mode : Mode) (rect : Rect) (due : Lending)
+    → IsRegister w → IsUuid id → HasTypes (Split p child mode rect) → kept w id ≡ None
+    → refusal w (accepted w (split_request id moment p child mode rect)) (split_request id moment p child mode rect)
+    ≡ None → IsSplit w id moment p child mode rect due
     → IsLent w (accepted w (split_request id moment p child mode rect)) due
 
 -- why a split of a live package that did not come before is refused, in the order of the model
@@ -101,11 +107,14 @@ split_reasons w next q =
 
 -- A new split whose package is live is refused for the first of them; one whose package is not live, for that.
 abbrev pub SplitRefusedInTurn : Type 0
-SplitRefusedInTurn = (w next : World) (id moment p child : List ℕ) (mode : Mode) (rect : Rect) → kept w id ≡ None → is_live w p ≡ true →
-    refusal w next (split_request id moment p child mode rect) ≡ first_row (split_reasons w next (split_request id moment p child mode rect))
+SplitRefusedInTurn = (w next : World) (id moment p child : List ℕ) (mode : Mode) (rect : Rect) → kept w id ≡ None
+    → is_live w p ≡ true →
+    refusal w next (split_request id moment p child mode rect)
+    ≡ first_row (split_reasons w next (split_request id moment p child mode rect))
 
 abbrev pub SplitRefusedAsUnknown : Type 0
-SplitRefusedAsUnknown = (w next : World) (id moment p child : List ℕ) (mode : Mode) (rect : Rect) → kept w id ≡ None → is_live w p ≡ false →
+SplitRefusedAsUnknown = (w next : World) (id moment p child : List ℕ) (mode : Mode) (rect : Rect) → kept w id ≡ None
+    → is_live w p ≡ false →
     refusal w next (split_request id moment p child mode rect) ≡ Some UnknownPackage
 
 -- the places of a split among so many members, and its numbers
@@ -122,7 +131,8 @@ pub record HasLendingPlace (due : Lending) (members count : ℕ) : Type 0 where
 abbrev pub place_without : ℕ → ℕ → ℕ
 place_without gone at = if nat_lt gone at then at - 1 else at
 
--- The merge is due, and the world after it is next: the package at the one place is gone, and that at the other has all that it had.
+-- The merge is due, and the world after it is next: the package at the one place is gone, and that at the other has
+-- all that it had.
 pub record IsReturned (w next : World) (due : Returning) : Type 0 where
   pub after : IsNext w next
   pub child : Package
@@ -140,7 +150,8 @@ pub record IsReturned (w next : World) (due : Returning) : Type 0 where
   -- no package of the world after has the child's UUID
   pub apart : AllByRecursion (λ p. bytes_eq p.uuid child.uuid ≡ false) next.packages
 
--- What is due was made of this merge: where the packages stand, all that the child holds as what was selected, and the sums by what its receipt moves.
+-- What is due was made of this merge: where the packages stand, all that the child holds as what was selected, and
+-- the sums by what its receipt moves.
 pub record IsMerge (w : World) (id moment child into : List ℕ) (ticket' : ℤ) (due : Returning) : Type 0 where
   pub child_at : slice_get w.packages due.from ≡ Some (holdings w child)
   pub parent_at : slice_get w.packages due.into ≡ Some (holdings w into)
@@ -150,8 +161,10 @@ pub record IsMerge (w : World) (id moment child into : List ℕ) (ticket' : ℤ)
 
 -- A new merge that is not refused is due, and the world after it is the accepted one, where what is due was made of it.
 abbrev pub ReturnedWhereAccepted : Type 0
-ReturnedWhereAccepted = (w : World) (id moment child into : List ℕ) (ticket' : ℤ) (due : Returning) → IsRegister w → IsUuid id → HasTypes (Merge child into ticket') → kept w id ≡ None
-    → refusal w (accepted w (merge_request id moment child into ticket')) (merge_request id moment child into ticket') ≡ None → IsMerge w id moment child into ticket' due
+ReturnedWhereAccepted = (w : World) (id moment child into : List ℕ) (ticket' : ℤ) (due : Returning) → IsRegister w
+    → IsUuid id → HasTypes (Merge child into ticket') → kept w id ≡ None
+    → refusal w (accepted w (merge_request id moment child into ticket')) (merge_request id moment child into ticket')
+    ≡ None → IsMerge w id moment child into ticket' due
     → IsReturned w (accepted w (merge_request id moment child into ticket')) due
 
 -- why a merge of two live packages that did not come before is refused, in the order of the model
@@ -167,11 +180,14 @@ merge_reasons w next q =
 
 -- A new merge whose packages are live is refused for the first of them; one of whose packages is not live, for that.
 abbrev pub MergeRefusedInTurn : Type 0
-MergeRefusedInTurn = (w next : World) (id moment child into : List ℕ) (ticket' : ℤ) → kept w id ≡ None → is_live w child ≡ true → is_live w into ≡ true →
-    refusal w next (merge_request id moment child into ticket') ≡ first_row (merge_reasons w next (merge_request id moment child into ticket'))
+MergeRefusedInTurn = (w next : World) (id moment child into : List ℕ) (ticket' : ℤ) → kept w id ≡ None
+    → is_live w child ≡ true → is_live w into ≡ true →
+    refusal w next (merge_request id moment child into ticket')
+    ≡ first_row (merge_reasons w next (merge_request id moment child into ticket'))
 
 abbrev pub MergeRefusedAsUnknown : Type 0
-MergeRefusedAsUnknown = (w next : World) (id moment child into : List ℕ) (ticket' : ℤ) → kept w id ≡ None → (is_live w child && is_live w into) ≡ false →
+MergeRefusedAsUnknown = (w next : World) (id moment child into : List ℕ) (ticket' : ℤ) → kept w id ≡ None
+    → (is_live w child && is_live w into) ≡ false →
     refusal w next (merge_request id moment child into ticket') ≡ Some UnknownPackage
 
 -- the places of a merge among so many members, and its number

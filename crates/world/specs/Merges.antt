@@ -21,12 +21,17 @@ module _ {S : Type 0} (g : Ghosts S) where
     pub rests : AllRest g new
     pub clean : AllClean g new → AreClean g gone → AllClean g old
     pub done : (receipt : Receipt) → r ≡ Ok receipt → (receipt ≡ due.receipt) × (length new + 1 ≡ length old)
-        × ((w next : World) (count : ℕ) → AllClean g new → AreClean g gone → AreMembers g old count w → IsReturned w next due → AreMembers g new (count + 1) next)
+        × ((w next : World) (count : ℕ) → AllClean g new → AreClean g gone → AreMembers g old count w
+        → IsReturned w next due → AreMembers g new (count + 1) next)
     pub opens : AllClean g new → AreClean g gone → IfOk r (λ receipt. AllOpen g old → AllOpen g new)
     -- what a crash leaves of a child that was dropped is beside the world after
-    pub beside : (receipt : Receipt) → r ≡ Ok receipt → (w next : World) (count : ℕ) → AreMembers g old count w → IsReturned w next due → AllOpen g old → AreBeside g w.frame next.packages gone
+    pub beside : (receipt : Receipt) → r ≡ Ok receipt → (w next : World) (count : ℕ) → AreMembers g old count w
+        → IsReturned w next due → AllOpen g old → AreBeside g w.frame next.packages gone
     pub kept : (why : TurnFault) → r ≡ Err why → gone ≡ []
-    pub failed : (why : TurnFault) → r ≡ Err why → (length new ≡ length old) × ((w : World) (count : ℕ) → AreMembers g old count w → AreMembers g new count w)
+    pub failed : (why : TurnFault) → r ≡ Err why
+        → (length new ≡ length old) × ((w : World) (count : ℕ) → AreMembers g old count w → AreMembers g new count w)
     pub unharmed : IsUncommitted r → LeavesAsBefore g old new
-    -- After an error, whatever a crash leaves of the members reads as the world before, or as the one after with the child beside it.
-    pub crash : (why : TurnFault) → r ≡ Err why → (w next : World) (count : ℕ) → AreMembers g old count w → IsReturned w next due → AllOpen g old → LeavesOneOf g w.frame (map (λ m. m.conn) new) w.packages next.packages
+    -- After an error, whatever a crash leaves of the members reads as the world before, or as the one after with the
+    -- child beside it.
+    pub crash : (why : TurnFault) → r ≡ Err why → (w next : World) (count : ℕ) → AreMembers g old count w
+        → IsReturned w next due → AllOpen g old → LeavesOneOf g w.frame (map (λ m. m.conn) new) w.packages next.packages

@@ -1,4 +1,5 @@
--- The reasons for a refusal by what they ask: the request alone, or one package and its frame. Each list is in the order of the model, of which the first that holds is the reply. Profile.
+-- The reasons for a refusal by what they ask: the request alone, or one package and its frame. Each list is in the
+-- order of the model, of which the first that holds is the reply. Profile.
 use Rattle.std.specs.Prelude.{ℕ, ℤ, Bool, not, ◌&&◌, ◌||◌, List, [], ◌∷◌, Option, Some, None}
 use Rattle.std.specs.List.{list_any}
 use Rattle.sheet_types.specs.Ordered.{has}
@@ -25,7 +26,8 @@ text_reasons q = (not (is_moment q.at) || bad_text q.command, BadText) ∷ (too_
 
 -- of a tile that is to come to a place
 abbrev pub tile_reasons : Frame → Package → ℤ → ℤ → ℤ → List (Bool × Refusal)
-tile_reasons f p zoom column row = (not (has_place f zoom column row), BadPlace) ∷ (list_any (λ i. is_at zoom column row i.content) p.items, PlaceTaken) ∷ []
+tile_reasons f p zoom column row = (not (has_place f zoom column row), BadPlace)
+    ∷ (list_any (λ i. is_at zoom column row i.content) p.items, PlaceTaken) ∷ []
 
 -- of an item that is to come in
 abbrev pub content_reasons : Frame → Package → Content → List (Bool × Refusal)
@@ -35,7 +37,8 @@ content_reasons f p (Row x y code label) = (not (in_frame f x y), OutOfFrame) �
 
 -- of an item that is to go
 abbrev pub delete_reasons : Package → List ℕ → List (Bool × Refusal)
-delete_reasons p identity = (not (has_item p identity), UnknownItem) ∷ (list_any (has_end identity) p.links, Linked) ∷ []
+delete_reasons p identity = (not (has_item p identity), UnknownItem) ∷ (list_any (has_end identity) p.links, Linked)
+    ∷ []
 
 -- of a link that is to come in
 abbrev pub link_reasons : Package → Relation → List (Bool × Refusal)

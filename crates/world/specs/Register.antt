@@ -18,8 +18,12 @@ NoneIsKept = (w : World) (id : List ℕ) → AllByRecursion (λ p. IsKept p id N
 
 -- The receipt that a package has for a request is the one that is kept.
 abbrev pub KeptIsThere : Type 0
-KeptIsThere = (w : World) (id : List ℕ) (p : Package) (r : Receipt) → IsRegister w → Contains w.packages p → IsKept p id (Some r) → kept w id ≡ Some r
+KeptIsThere = (w : World) (id : List ℕ) (p : Package) (r : Receipt) → IsRegister w → Contains w.packages p
+    → IsKept p id (Some r) → kept w id ≡ Some r
 
--- There are as many receipts as the greatest number that a package has, or none: where no package has a number past n, and some package has n or n is 0.
+-- There are as many receipts as the greatest number that a package has, or none: where no package has a number past
+-- n, and some package has n or n is 0.
 abbrev pub NumberIsCount : Type 0
-NumberIsCount = (w : World) (n : ℕ) → IsRegister w → AllByRecursion (λ p. AllByRecursion (λ r. r.seq ≤ n) p.receipts) w.packages → (n ≡ 0) ⊎ (list_any (λ p. has receipt_key (n ∷ []) p.receipts) w.packages ≡ true) → length (receipts_of w) ≡ n
+NumberIsCount = (w : World) (n : ℕ) → IsRegister w
+    → AllByRecursion (λ p. AllByRecursion (λ r. r.seq ≤ n) p.receipts) w.packages
+    → (n ≡ 0) ⊎ (list_any (λ p. has receipt_key (n ∷ []) p.receipts) w.packages ≡ true) → length (receipts_of w) ≡ n

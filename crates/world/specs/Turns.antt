@@ -17,7 +17,8 @@ module _ {S : Type 0} (g : Ghosts S) where
   after_turn sums ticket was last (Err e) = record was { conn = last }
 
   -- The store of the member at a place took this turn, or is as it was, and all other members are as they were.
-  pub record TakesTurn {E : Type 0} (Change : Database → Database → Type 0) (sums : Sums) (ticket : ℕ) (old new : List (Member S)) (at : ℕ) (reply : Result (Unit {0}) E) : Type 0 where
+  pub record TakesTurn {E : Type 0} (Change : Database → Database → Type 0) (sums : Sums) (ticket : ℕ)
+      (old new : List (Member S)) (at : ℕ) (reply : Result (Unit {0}) E) : Type 0 where
     pub was : Member S
     pub place : slice_get old at ≡ Some was
     pub last : Held S
@@ -27,4 +28,5 @@ module _ {S : Type 0} (g : Ghosts S) where
 
   -- a crash leaves of each member no more than it left before
   abbrev pub LeavesNoMore : List (Member S) → List (Member S) → Type 0
-  LeavesNoMore old new = AllClean g new → AllZip (λ m n. (trees : Trees) → (state g n.conn).may_leave trees → (state g m.conn).may_leave trees) old new
+  LeavesNoMore old new = AllClean g new
+      → AllZip (λ m n. (trees : Trees) → (state g n.conn).may_leave trees → (state g m.conn).may_leave trees) old new

@@ -23,7 +23,8 @@ use Rattle.world.specs.Turning.{LeftAs}
 use Rattle.world.specs.Members.{AllOpen, AllRest, AllClean, AllStay, AreMembers}
 use Rattle.world.specs.declared.members.Member.{Member}
 
--- the frame, the members in the order of their UUIDs, the number of all receipts, whether the world has failed, the stores of children that a split which failed left, and the UUIDs that are known
+-- the frame, the members in the order of their UUIDs, the number of all receipts, whether the world has failed, the
+-- stores of children that a split which failed left, and the UUIDs that are known
 pub record Seen (S : Type 0) : Type 0 where
   pub frame : Frame
   pub members : List (Member S)
@@ -42,29 +43,108 @@ abbrev Eleven : Type 0
 Eleven = ℤ × (ℤ × (ℤ × (ℤ × (ℤ × (ℤ × (ℤ × (ℤ × (ℤ × (ℤ × ℤ)))))))))
 
 abbrev frame_code : Coded Frame
-frame_code = code_by Eleven (coded× coded_ℤ (coded× coded_ℤ (coded× coded_ℤ (coded× coded_ℤ (coded× coded_ℤ (coded× coded_ℤ (coded× coded_ℤ (coded× coded_ℤ (coded× coded_ℤ (coded× coded_ℤ coded_ℤ))))))))))
-    (λ f. (f.srs_id, (f.min_x, (f.min_y, (f.max_x, (f.max_y, (f.tile_width, (f.tile_height, (f.first_zoom, (f.levels, (f.matrix_width, f.matrix_height)))))))))))
-    (λ p. record { srs_id = p.0; min_x = p.1.0; min_y = p.1.1.0; max_x = p.1.1.1.0; max_y = p.1.1.1.1.0; tile_width = p.1.1.1.1.1.0; tile_height = p.1.1.1.1.1.1.0; first_zoom = p.1.1.1.1.1.1.1.0; levels = p.1.1.1.1.1.1.1.1.0; matrix_width = p.1.1.1.1.1.1.1.1.1.0; matrix_height = p.1.1.1.1.1.1.1.1.1.1 })
+frame_code =
+    code_by Eleven
+    (coded× coded_ℤ (coded× coded_ℤ (coded× coded_ℤ (coded× coded_ℤ (coded× coded_ℤ (coded× coded_ℤ (coded× coded_ℤ
+    (coded× coded_ℤ (coded× coded_ℤ (coded× coded_ℤ coded_ℤ))))))))))
+    (λ f. (
+      f.srs_id,
+      (
+        f.min_x,
+        (
+          f.min_y,
+          (
+            f.max_x,
+            (
+              f.max_y,
+              (
+                f.tile_width,
+                (
+                  f.tile_height,
+                  (f.first_zoom, (f.levels, (f.matrix_width, f.matrix_height))),
+                ),
+              ),
+            ),
+          ),
+        ),
+      ),
+    ))
+    (λ p. record {
+      srs_id = p.0;
+      min_x = p.1.0;
+      min_y = p.1.1.0;
+      max_x = p.1.1.1.0;
+      max_y = p.1.1.1.1.0;
+      tile_width = p.1.1.1.1.1.0;
+      tile_height = p.1.1.1.1.1.1.0;
+      first_zoom = p.1.1.1.1.1.1.1.0;
+      levels = p.1.1.1.1.1.1.1.1.0;
+      matrix_width = p.1.1.1.1.1.1.1.1.1.0;
+      matrix_height = p.1.1.1.1.1.1.1.1.1.1;
+    })
     (λ _. refl)
 
 abbrev sums_code : Coded Sums
-sums_code = code_by (ℕ × (ℕ × (ℕ × (ℕ × ℕ)))) (coded× coded_ℕ (coded× coded_ℕ (coded× coded_ℕ (coded× coded_ℕ coded_ℕ))))
-    (λ s. (s.tiles, (s.media, (s.rows, (s.links, s.bytes))))) (λ p. record { tiles = p.0; media = p.1.0; rows = p.1.1.0; links = p.1.1.1.0; bytes = p.1.1.1.1 }) (λ _. refl)
+sums_code =
+    code_by (ℕ × (ℕ × (ℕ × (ℕ × ℕ)))) (coded× coded_ℕ (coded× coded_ℕ (coded× coded_ℕ (coded× coded_ℕ coded_ℕ))))
+    (λ s. (s.tiles, (s.media, (s.rows, (s.links, s.bytes)))))
+    (λ p. record { tiles = p.0; media = p.1.0; rows = p.1.1.0; links = p.1.1.1.0; bytes = p.1.1.1.1 })
+    (λ _. refl)
+
+-- the fields of a member in turn
+abbrev MemberParts : Type 0 → Type 0
+MemberParts S = Held S × (List ℕ × (Option (List ℕ) × (ℕ × (ℕ × (Sums × ℕ)))))
+
+abbrev member_parts : {S : Type 0} → Coded S → Coded (MemberParts S)
+member_parts store =
+    coded× (held_code store) (coded× (coded_list coded_ℕ) (coded× (coded_option (coded_list coded_ℕ))
+    (coded× coded_ℕ (coded× coded_ℕ (coded× sums_code coded_ℕ)))))
 
 abbrev member_code : {S : Type 0} → Coded S → Coded (Member S)
-member_code {S} store = code_by (Held S × (List ℕ × (Option (List ℕ) × (ℕ × (ℕ × (Sums × ℕ)))))) (coded× (held_code store) (coded× (coded_list coded_ℕ) (coded× (coded_option (coded_list coded_ℕ)) (coded× coded_ℕ (coded× coded_ℕ (coded× sums_code coded_ℕ))))))
-    (λ m. (m.conn, (m.uuid, (m.parent, (m.depth, (m.loan, (m.sums, m.ticket))))))) (λ p. record { conn = p.0; uuid = p.1.0; parent = p.1.1.0; depth = p.1.1.1.0; loan = p.1.1.1.1.0; sums = p.1.1.1.1.1.0; ticket = p.1.1.1.1.1.1 }) (λ _. refl)
+member_code {S} store =
+    code_by (MemberParts S) (member_parts store)
+    (λ m. (m.conn, (m.uuid, (m.parent, (m.depth, (m.loan, (m.sums, m.ticket)))))))
+    (λ p. record {
+      conn = p.0;
+      uuid = p.1.0;
+      parent = p.1.1.0;
+      depth = p.1.1.1.0;
+      loan = p.1.1.1.1.0;
+      sums = p.1.1.1.1.1.0;
+      ticket = p.1.1.1.1.1.1;
+    })
+    (λ _. refl)
+
+-- and those of what is seen
+abbrev SeenParts : Type 0 → Type 0
+SeenParts S = Frame × (List (Member S) × (ℕ × (Bool × (List (Held S) × List (List ℕ)))))
+
+abbrev seen_parts : {S : Type 0} → Coded S → Coded (SeenParts S)
+seen_parts store =
+    coded× frame_code (coded× (coded_list (member_code store)) (coded× coded_ℕ
+    (coded× coded_bool (coded× (coded_list (held_code store)) (coded_list (coded_list coded_ℕ))))))
 
 abbrev pub seen_code : {S : Type 0} → Coded S → Coded (Seen S)
-seen_code {S} store = code_by (Frame × (List (Member S) × (ℕ × (Bool × (List (Held S) × List (List ℕ)))))) (coded× frame_code (coded× (coded_list (member_code store)) (coded× coded_ℕ (coded× coded_bool (coded× (coded_list (held_code store)) (coded_list (coded_list coded_ℕ)))))))
-    (λ w. (w.frame, (w.members, (w.count, (w.has_failed, (w.strays, w.known)))))) (λ p. record { frame = p.0; members = p.1.0; count = p.1.1.0; has_failed = p.1.1.1.0; strays = p.1.1.1.1.0; known = p.1.1.1.1.1 }) (λ _. refl)
+seen_code {S} store =
+    code_by (SeenParts S) (seen_parts store)
+    (λ w. (w.frame, (w.members, (w.count, (w.has_failed, (w.strays, w.known))))))
+    (λ p. record {
+      frame = p.0;
+      members = p.1.0;
+      count = p.1.1.0;
+      has_failed = p.1.1.1.0;
+      strays = p.1.1.1.1.0;
+      known = p.1.1.1.1.1;
+    })
+    (λ _. refl)
 
 -- ---- what it stands for
 
 -- A run in which each world is a register: the one before the first request, and the one after each.
 abbrev pub RunsOverRegisters : World → List Request → List (Result Receipt Refusal) → World → Type 0
 RunsOverRegisters w [] [] next = (next ≡ w) × IsRegister w
-RunsOverRegisters w (q ∷ qs) (reply ∷ replies) next = IsRegister w × ((mid : World) × Step w q reply mid × RunsOverRegisters mid qs replies next)
+RunsOverRegisters w (q ∷ qs) (reply ∷ replies) next = IsRegister w
+    × ((mid : World) × Step w q reply mid × RunsOverRegisters mid qs replies next)
 RunsOverRegisters w [] (reply ∷ replies) next = ⊥
 RunsOverRegisters w (q ∷ qs) [] next = ⊥
 
@@ -80,7 +160,8 @@ module _ {S : Type 0} (g : Ghosts S) where
     pub others : List (Held S)
     pub stands : AllClean g seen.members → AreClean g others → (w : World) × StandsFor seen w
 
-  -- What each value of `World` keeps. Where each disk has given back what was written, those of dropped connections too, there is a world that it stands for, and so a register.
+  -- What each value of `World` keeps. Where each disk has given back what was written, those of dropped connections
+  -- too, there is a world that it stands for, and so a register.
   pub record IsHeld (seen : Seen S) : Type 0 where
     -- the last states of the connections that were dropped so far, as those of merged children
     pub gone : List (Held S)
@@ -96,45 +177,62 @@ module _ {S : Type 0} (g : Ghosts S) where
   abbrev pub held : Seen S → List (Held S)
   held seen = seen.strays ++ map (λ m. m.conn) seen.members
 
-  -- The reply and the world afterwards are a step of each world that it stood for, where each disk has given back what was written, those of the connections that were dropped too.
+  -- The reply and the world afterwards are a step of each world that it stood for, where each disk has given back
+  -- what was written, those of the connections that were dropped too.
   pub record IsStep (q : Request) (old : Seen S) (reply : Result Receipt Refusal) (new : Seen S) : Type 0 where
     -- the last states of the connections that were dropped, as those of merged children
     pub gone : List (Held S)
-    -- those of children that a split dropped before they were of the world; a store in which no child came to be made is not among them
+    -- those of children that a split dropped before they were of the world; a store in which no child came to be made
+    -- is not among them
     pub left_over : List (Held S)
     pub clean : AllClean g new.members → AreClean g gone → AllClean g old.members
-    pub step : AllClean g new.members → AreClean g gone → (w : World) → StandsFor old w → (next : World) × Step w q reply next × StandsFor new next
+    pub step : AllClean g new.members → AreClean g gone → (w : World) → StandsFor old w
+        → (next : World) × Step w q reply next × StandsFor new next
     -- Open stores are still open after a receipt or a refusal.
-    pub opens : AllClean g new.members → AreClean g gone → ¬ IsFault reply → AllOpen g old.members → AllOpen g new.members
-    -- After a fault of a world that could be used, whatever a crash leaves of stores that were open reads as the world before or as the one that the request is to make, whole, and what else is held is beside it.
-    pub crash : IsFault reply → old.has_failed ≡ false → (w : World) → StandsFor old w → AllOpen g old.members → LeavesOneOf g w.frame (held new) w.packages (outcome w q).1.packages
+    pub opens : AllClean g new.members → AreClean g gone → ¬ IsFault reply → AllOpen g old.members
+        → AllOpen g new.members
+    -- After a fault of a world that could be used, whatever a crash leaves of stores that were open reads as the
+    -- world before or as the one that the request is to make, whole, and what else is held is beside it.
+    pub crash : IsFault reply → old.has_failed ≡ false → (w : World) → StandsFor old w → AllOpen g old.members
+        → LeavesOneOf g w.frame (held new) w.packages (outcome w q).1.packages
     -- What a crash leaves of what was dropped is beside the world that the request made.
-    pub beside : AllClean g new.members → AreClean g gone → ¬ IsFault reply → (w : World) → StandsFor old w → AllOpen g old.members → AreBeside g w.frame (outcome w q).1.packages gone
+    pub beside : AllClean g new.members → AreClean g gone → ¬ IsFault reply → (w : World) → StandsFor old w
+        → AllOpen g old.members → AreBeside g w.frame (outcome w q).1.packages gone
     -- What it leaves of a child that was dropped is beside the world that it was to be of.
-    pub beside_before : AllClean g new.members → AreClean g gone → (w : World) → StandsFor old w → AllOpen g old.members → AreBeside g w.frame w.packages left_over
+    pub beside_before : AllClean g new.members → AreClean g gone → (w : World) → StandsFor old w
+        → AllOpen g old.members → AreBeside g w.frame w.packages left_over
     -- What it stands for afterwards is a register, balanced.
     pub register : (w : World) → StandsFor new w → IsRegister w
 
-  -- After a refusal or a fault that leaves the world usable, whatever a crash leaves of stores that were open reads as the world before. So a world of which a commit may have gone through has failed.
+  -- After a refusal or a fault that leaves the world usable, whatever a crash leaves of stores that were open reads
+  -- as the world before. So a world of which a commit may have gone through has failed.
   abbrev pub LeavesNoTrace : Seen S → Result Receipt Refusal → Seen S → Type 0
-  LeavesNoTrace old reply new = IsErr reply → new.has_failed ≡ false → AllClean g new.members → (w : World) → StandsFor old w → AllOpen g old.members → EachLeaves g (λ m. m.conn) (LeftAs w.frame) new.members w.packages
+  LeavesNoTrace old reply new = IsErr reply → new.has_failed ≡ false → AllClean g new.members → (w : World)
+      → StandsFor old w → AllOpen g old.members → EachLeaves g (λ m. m.conn) (LeftAs w.frame) new.members w.packages
 
   -- Of open stores a crash leaves what they read as: the packages of each world that they stand for, and nothing else.
   abbrev pub LeftAsItStands : Type 0
-  LeftAsItStands = (seen : Seen S) (w : World) → IsHeld seen → StandsFor seen w → AllOpen g seen.members → EachLeaves g (λ m. m.conn) (LeftAs w.frame) seen.members w.packages
+  LeftAsItStands = (seen : Seen S) (w : World) → IsHeld seen → StandsFor seen w → AllOpen g seen.members
+      → EachLeaves g (λ m. m.conn) (LeftAs w.frame) seen.members w.packages
 
-  -- The replies and the world afterwards are a run of the whole list, with a shelf that had failed so often before and after.
-  pub record IsRun (qs : List Request) (old : Seen S) (replies : List (Result Receipt Refusal)) (new : Seen S) (before after : ℕ) : Type 0 where
+  -- The replies and the world afterwards are a run of the whole list, with a shelf that had failed so often before
+  -- and after.
+  pub record IsRun (qs : List Request) (old : Seen S) (replies : List (Result Receipt Refusal)) (new : Seen S)
+      (before after : ℕ) : Type 0 where
     -- the last states of the connections that were dropped
     pub gone : List (Held S)
     pub clean : AllClean g new.members → AreClean g gone → AllClean g old.members
-    pub run : AllClean g new.members → AreClean g gone → (w : World) → StandsFor old w → (next : World) × Run w qs replies next × StandsFor new next
+    pub run : AllClean g new.members → AreClean g gone → (w : World) → StandsFor old w
+        → (next : World) × Run w qs replies next × StandsFor new next
     -- The world is a register, balanced, before the first request and after each one.
-    pub registers : AllClean g new.members → AreClean g gone → (w : World) → StandsFor old w → (next : World) × RunsOverRegisters w qs replies next × StandsFor new next
+    pub registers : AllClean g new.members → AreClean g gone → (w : World) → StandsFor old w
+        → (next : World) × RunsOverRegisters w qs replies next × StandsFor new next
     -- Open stores are still open where no reply tells a fault, so that a crash leaves what the world stands for then.
-    pub opens : AllClean g new.members → AreClean g gone → AllByRecursion (λ reply. ¬ IsFault reply) replies → AllOpen g old.members → AllOpen g new.members
+    pub opens : AllClean g new.members → AreClean g gone → AllByRecursion (λ reply. ¬ IsFault reply) replies
+        → AllOpen g old.members → AllOpen g new.members
     -- A world that can still be used told no request that a store failed, unless the shelf's count rose.
-    pub told : new.has_failed ≡ false → ¬ MoreFaults before after → AllByRecursion (λ reply. ¬ (reply ≡ Err StoreFault)) replies
+    pub told : new.has_failed ≡ false → ¬ MoreFaults before after
+        → AllByRecursion (λ reply. ¬ (reply ≡ Err StoreFault)) replies
     pub usable : AllByRecursion (λ reply. ¬ IsFault reply) replies → new.has_failed ≡ old.has_failed
     pub shelf : before ≤ after
 

@@ -61,7 +61,8 @@ fn carry_out_split<S: Alter + Drop, H: Shelf<S>>(
     requires place { HasLendingPlace due (length members.old.items) count.old }
     requires none { strays.old.items ≡ [] }
     requires room { HasRoomFor members.old.items strays.old }
-    ensures carries { Carries S.Store (λ w next. (frame.now ≡ w.frame) × IsLent w next due) due.receipt members.old.items members.new.items strays.new.items count.old count.new result }
+    ensures carries { Carries S.Store (λ w next. (frame.now ≡ w.frame) × IsLent w next due) due.receipt
+        members.old.items members.new.items strays.new.items count.old count.new result }
     ensures room { HasRoomFor members.new.items strays.new }
     ensures shelf { CountsShelf result (H.failures_of shelf.old) (H.failures_of shelf.new) }
 {
@@ -80,7 +81,8 @@ fn carry_out_merge<S: Alter + Drop>(
 ) -> Result<Receipt, ServeFault>
     requires rests { AllRest S.Store members.old.items }
     requires place { HasReturnPlace due (length members.old.items) count.old }
-    ensures carries { Carries S.Store (λ w next. IsReturned w next due) due.receipt members.old.items members.new.items [] count.old count.new result }
+    ensures carries { Carries S.Store (λ w next. IsReturned w next due) due.receipt
+        members.old.items members.new.items [] count.old count.new result }
     ensures shorter { length members.new.items ≤ length members.old.items }
     ensures shelf { (failures : ℕ) → CountsShelf result failures failures }
 {
@@ -98,7 +100,8 @@ fn carry_out_change<S: Alter + Drop>(
 ) -> Result<Receipt, TurnFault>
     requires rests { AllRest S.Store members.old.items }
     requires place { HasPlace members.old.items count.old (ChangeDue change) }
-    ensures changes { Changes S.Store change command.now members.old.items members.new.items count.old count.new result }
+    ensures changes { Changes S.Store change command.now
+        members.old.items members.new.items count.old count.new result }
     ensures long { length members.new.items ≡ length members.old.items }
 {
     turn_at(members, change.at, command, &change.receipt, change.sums)?;
@@ -122,7 +125,8 @@ pub(crate) fn serve<S: Alter + Drop, H: Shelf<S>>(
     requires counted { count.old ≤ greatest_receipts }
     requires none { strays.old.items ≡ [] }
     requires room { HasRoomFor members.old.items strays.old }
-    ensures serves { ServesAll S.Store frame.now request.now members.old.items members.new.items strays.new.items known.old known.new count.old count.new result }
+    ensures serves { ServesAll S.Store frame.now request.now
+        members.old.items members.new.items strays.new.items known.old known.new count.old count.new result }
     ensures room { HasRoomFor members.new.items strays.new }
     ensures shelf { CountsShelf result (H.failures_of shelf.old) (H.failures_of shelf.new) }
 {

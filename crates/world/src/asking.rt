@@ -1,14 +1,16 @@
-//! What is looked up in all live packages: a kept receipt, a used identity, and the place of a package. The look-ups are made in the order of the members and stop at the first that answers. An error is want of memory, or a store that failed; all members are as they were.
+//! What is looked up in all live packages: a kept receipt, a used identity, a loan that was ever made, and the place of a package. The look-ups are made in the order of the members and stop at the first that answers. An error is want of memory, or a store that failed; all members are as they were.
 ghost use Rattle.std.specs.Prelude.{◌≡◌, ◌<◌, ◌↔◌, IsTrue, length};
 ghost use Rattle.sql_meaning.specs.Transactions.{Looks};
 ghost use Rattle.sheet_types.specs.Custody.{kept, is_used};
 ghost use Rattle.identity_register.specs.Calls.{Sees};
-ghost use Rattle.custody.specs.Receipts.{IsKept, is_named};
-ghost use Rattle.world.specs.Members.{AllRest, TurnsAt};
+ghost use Rattle.custody.specs.Receipts.{IsKept, is_named, was_lent};
 ghost use Rattle.world.specs.Asking.{AsksAll, IsPlaceOf};
+ghost use Rattle.world.specs.DecidingSplits.{ever_lent};
+ghost use Rattle.world.specs.Members.{AllRest, TurnsAt};
 
 use crate::members::Member;
 use custody::keeping::kept;
+use custody::lending::was_lent;
 use custody::names;
 use package_tables::fault::Fault;
 use sheet_types::receipt::Receipt;
@@ -38,7 +40,8 @@ pub(crate) fn kept_by<S: Alter + Drop>(
 ) -> Result<Option<Receipt>, Fault>
     requires within { at < length members.old.items }
     requires rests { AllRest S.Store members.old.items }
-    ensures looked { TurnsAt S.Store members.old.items members.new.items at (λ before after. Looks (Sees (λ f p found. IsKept p id found)) before after result) }
+    ensures looked { TurnsAt S.Store members.old.items members.new.items at
+        (λ before after. Looks (Sees (λ f p found. IsKept p id found)) before after result) }
 {
     let member = &mut members[at];
     kept(&mut member.conn, alloc, id)
@@ -70,7 +73,8 @@ pub(crate) fn named_by<S: Alter + Drop>(
 ) -> Result<bool, Fault>
     requires within { at < length members.old.items }
     requires rests { AllRest S.Store members.old.items }
-    ensures looked { TurnsAt S.Store members.old.items members.new.items at (λ before after. Looks (Sees (λ f p found. found ≡ is_named p identity)) before after result) }
+    ensures looked { TurnsAt S.Store members.old.items members.new.items at
+        (λ before after. Looks (Sees (λ f p found. found ≡ is_named p identity)) before after result) }
 {
     let member = &mut members[at];
     names(&mut member.conn, identity)
@@ -86,6 +90,37 @@ pub fn is_named_in_all<S: Alter + Drop>(
 {
     for at in 0..members.len() {
         if named_by(members, at, identity)? {
+            return Ok(true);
+        }
+    }
+    Ok(false)
+}
+
+/// Whether one member's package has the receipt of a split that made a package of this UUID.
+pub(crate) fn lent_by<S: Alter + Drop>(
+    members: &mut Vec<Member<S>>,
+    at: usize,
+    id: Uuid,
+) -> Result<bool, Fault>
+    requires within { at < length members.old.items }
+    requires rests { AllRest S.Store members.old.items }
+    ensures looked { TurnsAt S.Store members.old.items members.new.items at
+        (λ before after. Looks (Sees (λ f p found. found ≡ was_lent p id)) before after result) }
+{
+    let member = &mut members[at];
+    was_lent(&mut member.conn, id)
+}
+
+/// Whether a split ever made a package of this UUID.
+pub(crate) fn was_lent_in_all<S: Alter + Drop>(
+    members: &mut Vec<Member<S>>,
+    id: Uuid,
+) -> Result<bool, Fault>
+    requires { AllRest S.Store members.old.items }
+    ensures { AsksAll S.Store (λ w found. found ≡ ever_lent w id) members.old.items members.new.items result }
+{
+    for at in 0..members.len() {
+        if lent_by(members, at, id)? {
             return Ok(true);
         }
     }

@@ -29,7 +29,9 @@ pub fn refusal_at<S: Alter + Drop>(
     requires within { at < length members.old.items }
     requires rests { AllRest S.Store members.old.items }
     requires good { IsTrue (is_good_frame frame.now) }
-    ensures { AsksAll S.Store (λ w found. frame.now ≡ w.frame → (p : Package) → slice_get w.packages at ≡ Some p → found ≡ first_row (package_reasons w.frame p command.now)) members.old.items members.new.items result }
+    ensures { AsksAll S.Store
+        (λ w found. frame.now ≡ w.frame → (p : Package) → slice_get w.packages at ≡ Some p → found ≡ first_row (package_reasons w.frame p command.now))
+        members.old.items members.new.items result }
 {
     let member = &mut members[at];
     package_refusal(&mut member.conn, frame, command)
@@ -43,7 +45,8 @@ pub fn item_at<S: Alter + Drop>(
 ) -> Result<Option<Item>, Fault>
     requires within { at < length members.old.items }
     requires rests { AllRest S.Store members.old.items }
-    ensures { AsksAll S.Store (λ w found. (p : Package) → slice_get w.packages at ≡ Some p → found ≡ item_of p identity) members.old.items members.new.items result }
+    ensures { AsksAll S.Store (λ w found. (p : Package) → slice_get w.packages at ≡ Some p → found ≡ item_of p identity)
+        members.old.items members.new.items result }
 {
     let member = &mut members[at];
     find(&mut member.conn, identity)
@@ -57,7 +60,9 @@ pub fn thing_moved<S: Alter + Drop>(
 ) -> Result<Option<Moved>, Fault>
     requires within { at < length members.old.items }
     requires rests { AllRest S.Store members.old.items }
-    ensures { AsksAll S.Store (λ w found. ChangesOnePackage command.now → slice_get w.packages at ≡ Some (holdings w (package_of command.now)) → MatchOption found (moved w command.now ≡ []) (λ m. moved w command.now ≡ m ∷ [])) members.old.items members.new.items result }
+    ensures { AsksAll S.Store
+        (λ w found. ChangesOnePackage command.now → slice_get w.packages at ≡ Some (holdings w (package_of command.now)) → MatchOption found (moved w command.now ≡ []) (λ m. moved w command.now ≡ m ∷ []))
+        members.old.items members.new.items result }
 {
     match command {
         Command::Add {

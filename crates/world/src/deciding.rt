@@ -1,17 +1,17 @@
 //! What a request comes to before anything is written: the reply, or the change that is due. The members are read in the order in which the reasons are told, and no further than the first that holds.
-ghost use Rattle.std.specs.Prelude.{◌≡◌, ◌<◌, ◌≤◌, ◌+◌, IsTrue, None, Some, Ok, Err, IfOk, length, slice_get, bytes_eq, false, if◌then◌else◌};
+ghost use Rattle.std.specs.Prelude.{◌≡◌, ◌<◌, ◌≤◌, ◌+◌, IsTrue, None, Ok, Err, IfOk, length, bytes_eq, false, if◌then◌else◌};
 ghost use Rattle.std.specs.Option.{option_map_or};
-ghost use Rattle.sheet_types.specs.Custody.{kept, is_used};
+ghost use Rattle.sheet_types.specs.Custody.{is_used};
 ghost use Rattle.sheet_types.specs.Lines.{HasTypes};
 ghost use Rattle.sheet_types.specs.Matrix.{is_good_frame};
 ghost use Rattle.sheet_types.specs.Refuse.{identity_used, greatest_receipts};
 ghost use Rattle.sheet_types.specs.Step.{receipt_of};
 ghost use Rattle.sheet_types.specs.Texts.{line};
-ghost use Rattle.sheet_types.specs.World.{World, holdings};
+ghost use Rattle.sheet_types.specs.World.{World};
 ghost use Rattle.sheet_types.specs.declared.refusal.Refusal.TheVariants.{IdReused};
 ghost use Rattle.known_uuids.specs.Known.{Knows};
 ghost use Rattle.world.specs.Asking.{AsksAll};
-ghost use Rattle.world.specs.Deciding.{IsOf, IsNewTo, IsAskedOf, IsPlaced, refusal_before, Decides, HasPlace};
+ghost use Rattle.world.specs.Deciding.{IsOf, IsNewTo, IsNewChange, HasAt, IsPlaced, refusal_before, Decides, DecidesWhere, HasPlace};
 ghost use Rattle.world.specs.Laws.{ChangesOnePackage, package_of};
 ghost use Rattle.world.specs.Members.{AllRest, AreMembers};
 
@@ -82,7 +82,8 @@ fn repeated(
     receipt: Receipt,
     command: &Command,
 ) -> Result<Result<Receipt, Refusal>, Fault>
-    ensures { IfOk result (λ reply. reply ≡ (if bytes_eq receipt.line (line command.now) then Ok receipt else Err IdReused)) }
+    ensures { IfOk result
+        (λ reply. reply ≡ (if bytes_eq receipt.line (line command.now) then Ok receipt else Err IdReused)) }
 {
     let Ok(own) = line(alloc, command) else {
         return Err(Fault::OutOfMemory);
@@ -115,7 +116,8 @@ fn is_used<S: Alter + Drop>(
     command: &Command,
 ) -> Result<bool, Fault>
     requires { AllRest S.Store members.old.items }
-    ensures { AsksAll S.Store (λ w found. Knows known.now w → found ≡ identity_used w command.now) members.old.items members.new.items result }
+    ensures { AsksAll S.Store (λ w found. Knows known.now w → found ≡ identity_used w command.now)
+        members.old.items members.new.items result }
 {
     match new_identity(command) {
         Some(identity) => was_used(members, known, identity),
@@ -168,7 +170,9 @@ fn refused_before<S: Alter + Drop>(
     requires within { at < length members.old.items }
     requires rests { AllRest S.Store members.old.items }
     requires good { IsTrue (is_good_frame frame.now) }
-    ensures { AsksAll S.Store (λ w found. Knows known.now w → frame.now ≡ w.frame → slice_get w.packages at ≡ Some (holdings w (package_of request.now.command)) → found ≡ refusal_before w request.now) members.old.items members.new.items result }
+    ensures { AsksAll S.Store
+        (λ w found. Knows known.now w → HasAt frame.now at (package_of request.now.command) w → found ≡ refusal_before w request.now)
+        members.old.items members.new.items result }
 {
     if let Some(why) = text_refusal(request) {
         return Ok(Some(why));
@@ -189,7 +193,8 @@ fn limited<S: Alter + Drop>(
 ) -> Decision
     requires within { at < length members.now }
     requires number { receipt.seq ≡ count + 1 }
-    ensures decides { (w : World) → AreMembers S.Store members.now count w → IsPlaced w.frame count at request.now w → refusal_before w request.now ≡ None → receipt ≡ receipt_of w request.now → Decides w request.now result }
+    ensures decides { (w : World) → AreMembers S.Store members.now count w → IsPlaced w.frame count at request.now w
+        → refusal_before w request.now ≡ None → receipt ≡ receipt_of w request.now → Decides w request.now result }
     ensures place { HasPlace members.now count result }
 {
     fits(request.id);
@@ -214,7 +219,9 @@ fn prepared<S: Alter + Drop>(
     requires within { at < length members.old.items }
     requires rests { AllRest S.Store members.old.items }
     requires small { count ≤ greatest_receipts }
-    ensures asks { AsksAll S.Store (λ w decision. IsPlaced w.frame count at request.now w → refusal_before w request.now ≡ None → Decides w request.now decision) members.old.items members.new.items result }
+    ensures asks { AsksAll S.Store
+        (λ w decision. IsPlaced w.frame count at request.now w → refusal_before w request.now ≡ None → Decides w request.now decision)
+        members.old.items members.new.items result }
     ensures place { IfOk result (λ decision. HasPlace members.new.items count decision) }
 {
     let Some(thing) = thing_moved(members, at, &request.command)? else {
@@ -240,7 +247,8 @@ fn decide_at<S: Alter + Drop>(
     requires rests { AllRest S.Store members.old.items }
     requires good { IsTrue (is_good_frame frame.now) }
     requires small { count ≤ greatest_receipts }
-    ensures asks { AsksAll S.Store (λ w decision. Knows known.now w → IsPlaced frame.now count at request.now w → Decides w request.now decision) members.old.items members.new.items result }
+    ensures asks { AsksAll S.Store (DecidesWhere known.now (IsPlaced frame.now count at request.now) request.now)
+        members.old.items members.new.items result }
     ensures place { IfOk result (λ decision. HasPlace members.new.items count decision) }
 {
     if let Some(why) = refused_before(members, known, at, frame, request)? {
@@ -261,7 +269,8 @@ fn decide_change<S: Alter + Drop>(
     requires rests { AllRest S.Store members.old.items }
     requires good { IsTrue (is_good_frame frame.now) }
     requires small { count ≤ greatest_receipts }
-    ensures asks { AsksAll S.Store (λ w decision. Knows known.now w → IsAskedOf frame.now count request.now w → kept w request.now.id ≡ None → Decides w request.now decision) members.old.items members.new.items result }
+    ensures asks { AsksAll S.Store (DecidesWhere known.now (IsNewChange frame.now count request.now) request.now)
+        members.old.items members.new.items result }
     ensures place { IfOk result (λ decision. HasPlace members.new.items count decision) }
 {
     match place_of(members.as_slice(), package_of(&request.command)) {
@@ -282,7 +291,8 @@ fn decide_new<S: Alter + Drop>(
     requires rests { AllRest S.Store members.old.items }
     requires good { IsTrue (is_good_frame frame.now) }
     requires small { count ≤ greatest_receipts }
-    ensures asks { AsksAll S.Store (λ w decision. Knows known.now w → IsNewTo frame.now count request.now w → Decides w request.now decision) members.old.items members.new.items result }
+    ensures asks { AsksAll S.Store (DecidesWhere known.now (IsNewTo frame.now count request.now) request.now)
+        members.old.items members.new.items result }
     ensures place { IfOk result (λ decision. HasPlace members.new.items count decision) }
 {
     match &request.command {
@@ -298,7 +308,7 @@ fn decide_new<S: Alter + Drop>(
                 mode: *mode,
                 rect: *rect,
             };
-            decide_split(members, frame, count, alloc, request, &asked)
+            decide_split(members, known, frame, count, alloc, request, &asked)
         }
         Command::Merge {
             child,
@@ -328,7 +338,8 @@ pub fn decide<S: Alter + Drop>(
     requires rests { AllRest S.Store members.old.items }
     requires good { IsTrue (is_good_frame frame.now) }
     requires small { count ≤ greatest_receipts }
-    ensures asks { AsksAll S.Store (λ w decision. Knows known.now w → IsOf frame.now count w → Decides w request.now decision) members.old.items members.new.items result }
+    ensures asks { AsksAll S.Store (DecidesWhere known.now (IsOf frame.now count) request.now)
+        members.old.items members.new.items result }
     ensures place { IfOk result (λ decision. HasPlace members.new.items count decision) }
 {
     if let Some(receipt) = find_kept(members, known, alloc, request.id)? {

@@ -124,7 +124,9 @@ fn has_tile_in<S: Alter + Drop>(
 ) -> Result<bool, Fault>
     requires within { at < length members.old.items }
     requires rests { AllRest S.Store members.old.items }
-    ensures { AsksAll S.Store (λ w found. (p : Package) → slice_get w.packages at ≡ Some p → found ≡ list_any (λ i. is_at zoom column row i.content) p.items) members.old.items members.new.items result }
+    ensures { AsksAll S.Store
+        (λ w found. (p : Package) → slice_get w.packages at ≡ Some p → found ≡ list_any (λ i. is_at zoom column row i.content) p.items)
+        members.old.items members.new.items result }
 {
     let member = &mut members[at];
     has_tile_at(&mut member.conn, zoom, column, row)
@@ -138,7 +140,9 @@ fn clash_at<S: Alter + Drop>(
 ) -> Result<Option<Clash>, Fault>
     requires within { at < length members.old.items }
     requires rests { AllRest S.Store members.old.items }
-    ensures { AsksAll S.Store (λ w found. (p : Package) → slice_get w.packages at ≡ Some p → found ≡ then_some (takes_place p item.now.content) (clash_of item.now)) members.old.items members.new.items result }
+    ensures { AsksAll S.Store
+        (λ w found. (p : Package) → slice_get w.packages at ≡ Some p → found ≡ then_some (takes_place p item.now.content) (clash_of item.now))
+        members.old.items members.new.items result }
 {
     match &item.content {
         Content::Tile {
@@ -192,7 +196,9 @@ fn first_taken<S: Alter + Drop>(
 ) -> Result<Option<Clash>, Fault>
     requires within { at < length members.old.items }
     requires rests { AllRest S.Store members.old.items }
-    ensures { AsksAll S.Store (λ w found. (p : Package) → slice_get w.packages at ≡ Some p → found ≡ first_clash p items.now) members.old.items members.new.items result }
+    ensures { AsksAll S.Store
+        (λ w found. (p : Package) → slice_get w.packages at ≡ Some p → found ≡ first_clash p items.now)
+        members.old.items members.new.items result }
 {
     let mut first = None;
     for place in 0..items.len() {
@@ -323,7 +329,9 @@ fn decide_held<S: Alter + Drop>(
     requires two { from ≡ at → ⊥ }
     requires rests { AllRest S.Store members.old.items }
     requires small { count ≤ greatest_receipts }
-    ensures asks { AsksAll S.Store (λ w decision. IsMergeAt count from at request.now w → refusal_by_kept w request.now ≡ None → Decides w request.now decision) members.old.items members.new.items result }
+    ensures asks { AsksAll S.Store
+        (λ w decision. IsMergeAt count from at request.now w → refusal_by_kept w request.now ≡ None → Decides w request.now decision)
+        members.old.items members.new.items result }
     ensures place { IfOk result (λ decision. HasPlace members.new.items count decision) }
 {
     let (items, links) = holdings_at(members, from, alloc)?;
@@ -353,7 +361,9 @@ pub(crate) fn decide_merge<S: Alter + Drop>(
     requires rests { AllRest S.Store members.old.items }
     requires small { count ≤ greatest_receipts }
     requires merges { request.now.command ≡ Merge child into ticket }
-    ensures asks { AsksAll S.Store (λ w decision. count ≡ length (receipts_of w) → kept w request.now.id ≡ None → Decides w request.now decision) members.old.items members.new.items result }
+    ensures asks { AsksAll S.Store
+        (λ w decision. count ≡ length (receipts_of w) → kept w request.now.id ≡ None → Decides w request.now decision)
+        members.old.items members.new.items result }
     ensures place { IfOk result (λ decision. HasPlace members.new.items count decision) }
 {
     fits(request.id);

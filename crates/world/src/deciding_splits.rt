@@ -5,17 +5,13 @@ ghost use Rattle.sheet_types.specs.Lines.{HasTypes, is_rect};
 ghost use Rattle.sheet_types.specs.Matrix.{is_good_frame, is_good_rect, first_row};
 ghost use Rattle.sheet_types.specs.Ordered.{is_before};
 ghost use Rattle.sheet_types.specs.Refuse.{greatest_depth, greatest_receipts};
-ghost use Rattle.sheet_types.specs.Step.{cut_of};
-ghost use Rattle.sheet_types.specs.World.{World, Package, receipts_of, holdings};
+ghost use Rattle.sheet_types.specs.World.{World, Package};
 ghost use Rattle.sheet_types.specs.declared.command.Request.{Request};
-ghost use Rattle.sql_meaning.specs.Transactions.{Looks};
-ghost use Rattle.identity_register.specs.Calls.{Sees};
-ghost use Rattle.custody.specs.Receipts.{was_lent};
-ghost use Rattle.lending.specs.Selecting.{IsSelectionOf};
+ghost use Rattle.known_uuids.specs.Known.{Knows};
 ghost use Rattle.world.specs.Asking.{AsksAll};
-ghost use Rattle.world.specs.Deciding.{IsOf, IsNewTo, Decides, HasPlace};
-ghost use Rattle.world.specs.DecidingSplits.{command_of, IsNewSplit, IsLender, ever_lent, uuid_used, reasons_before_cut, place_reasons, value_reasons, IsCutOut, IsGranted, leaves_too_many, IsMadeOf};
-ghost use Rattle.world.specs.Members.{AllRest, AreMembers, TurnsAt};
+ghost use Rattle.world.specs.Deciding.{IsNewTo, Decides, DecidesWhere, HasPlace};
+ghost use Rattle.world.specs.DecidingSplits.{command_of, IsPlacedSplit, IsAskedSplit, IsLender, uuid_used, reasons_before_cut, place_reasons, value_reasons, IsCutOut, IsSelectedFor, leaves_too_many, IsMadeOf};
+ghost use Rattle.world.specs.Members.{AllRest, AreMembers};
 ghost use Rattle.world.specs.declared.deciding_splits.Asked.{Asked};
 
 use crate::asking::place_of;
@@ -23,13 +19,14 @@ use crate::deciding::Decision;
 use crate::loan_receipts::{receipt_of_things, things_at};
 use crate::loans::Lending;
 use crate::members::Member;
+use crate::recalling::was_ever_lent;
 use crate::sums::{less, sums_moved};
 use crate::texts::text_refusal;
 use crate::too_many::{any_past_limits, is_past_limits};
-use custody::lending::was_lent;
 use cut::select::select;
 use identity_register::fitting::fits;
 use identity_register::selection::Selection;
+use known_uuids::known::Known;
 use matrix_rules::ground::is_good;
 use package_tables::fault::Fault;
 use sheet_types::command::{Mode, Request};
@@ -79,33 +76,6 @@ fn has_types(asked: Asked)
     rect_has_types(asked.rect);
 }
 
-/// Whether one member's package has the receipt of a split that made a package of this UUID.
-fn lent_by<S: Alter + Drop>(
-    members: &mut Vec<Member<S>>,
-    at: usize,
-    id: Uuid,
-) -> Result<bool, Fault>
-    requires within { at < length members.old.items }
-    requires rests { AllRest S.Store members.old.items }
-    ensures looked { TurnsAt S.Store members.old.items members.new.items at (λ before after. Looks (Sees (λ f p found. found ≡ was_lent p id)) before after result) }
-{
-    let member = &mut members[at];
-    was_lent(&mut member.conn, id)
-}
-
-/// Whether a split ever made a package of this UUID.
-fn was_ever_lent<S: Alter + Drop>(members: &mut Vec<Member<S>>, id: Uuid) -> Result<bool, Fault>
-    requires { AllRest S.Store members.old.items }
-    ensures { AsksAll S.Store (λ w found. found ≡ ever_lent w id) members.old.items members.new.items result }
-{
-    for at in 0..members.len() {
-        if lent_by(members, at, id)? {
-            return Ok(true);
-        }
-    }
-    Ok(false)
-}
-
 /// Whether a member is the archive, and of this UUID.
 fn is_archive<S: Alter + Drop>(member: &Member<S>, id: Uuid) -> bool
     ensures { result ≡ (is_none member.now.parent && bytes_eq member.now.uuid id) }
@@ -121,14 +91,19 @@ fn is_of_archive<S: Alter + Drop>(members: &[Member<S>], id: Uuid) -> bool
 }
 
 /// Whether this is the UUID of the archive, or was ever that of a loan.
-fn is_used<S: Alter + Drop>(members: &mut Vec<Member<S>>, id: Uuid) -> Result<bool, Fault>
+fn is_used<S: Alter + Drop>(
+    members: &mut Vec<Member<S>>,
+    known: &Known,
+    id: Uuid,
+) -> Result<bool, Fault>
     requires { AllRest S.Store members.old.items }
-    ensures { AsksAll S.Store (λ w found. found ≡ uuid_used w id) members.old.items members.new.items result }
+    ensures { AsksAll S.Store (λ w found. Knows known.now w → found ≡ uuid_used w id)
+        members.old.items members.new.items result }
 {
     if is_of_archive(members.as_slice(), id) {
         return Ok(true);
     }
-    was_ever_lent(members, id)
+    was_ever_lent(members, known, id)
 }
 
 /// Why a split is refused for its rectangle or the depth of its package, if it is.
@@ -163,6 +138,7 @@ fn refused_by_values(frame: &Frame, request: &Request, rect: &Rect, depth: u64) 
 /// Why a split is refused before it is looked at what it would take, if it is.
 fn refused_before_cut<S: Alter + Drop>(
     members: &mut Vec<Member<S>>,
+    known: &Known,
     frame: &Frame,
     request: &Request,
     asked: &Asked,
@@ -170,11 +146,13 @@ fn refused_before_cut<S: Alter + Drop>(
 ) -> Result<Option<Refusal>, Fault>
     requires rests { AllRest S.Store members.old.items }
     requires good { IsTrue (is_good_frame frame.now) }
-    ensures asks { AsksAll S.Store (λ w found. frame.now ≡ w.frame → request.now.command ≡ command_of asked.now → depth ≡ (holdings w asked.now.package).depth → found ≡ first_row (reasons_before_cut w request.now)) members.old.items members.new.items result }
+    ensures asks { AsksAll S.Store
+        (λ w found. Knows known.now w → IsAskedSplit frame.now request.now asked.now depth w → found ≡ first_row (reasons_before_cut w request.now))
+        members.old.items members.new.items result }
     ensures rect { IfOk result (λ found. found ≡ None → IsTrue (is_good_rect frame.now asked.now.rect)) }
     ensures shallow { IfOk result (λ found. found ≡ None → depth < greatest_depth) }
 {
-    if is_used(members, asked.child)? {
+    if is_used(members, known, asked.child)? {
         return Ok(Some(Refusal::PackageUsed));
     }
     Ok(refused_by_values(frame, request, &asked.rect, depth))
@@ -193,7 +171,9 @@ fn cut_at<S: Alter + Drop>(
     requires rests { AllRest S.Store members.old.items }
     requires frame { IsTrue (is_good_frame frame.now) }
     requires rect { IsTrue (is_good_rect frame.now rect.now) }
-    ensures { AsksAll S.Store (λ w answer. frame.now ≡ w.frame → (p : Package) → slice_get w.packages at ≡ Some p → IsCutOut w p mode rect.now answer) members.old.items members.new.items result }
+    ensures { AsksAll S.Store
+        (λ w answer. frame.now ≡ w.frame → (p : Package) → slice_get w.packages at ≡ Some p → IsCutOut w p mode rect.now answer)
+        members.old.items members.new.items result }
 {
     let member = &mut members[at];
     select(&mut member.conn, alloc, frame, rect, mode)
@@ -238,7 +218,8 @@ fn limited<S: Alter + Drop>(members: &[Member<S>], count: u64, due: Lending) -> 
     requires child_at { due.child_at ≤ length members.now }
     requires number { due.receipt.seq ≡ count + 1 }
     requires shallow { due.depth ≤ greatest_depth }
-    ensures decides { (w : World) (q : Request) (s : Asked) → AreMembers S.Store members.now count w → IsMadeOf w q s due → Decides w q result }
+    ensures decides { (w : World) (q : Request) (s : Asked) → AreMembers S.Store members.now count w
+        → IsMadeOf w q s due → Decides w q result }
     ensures place { HasPlace members.now count result }
 {
     if is_too_many(members, due.at, due.left, due.lent, count) {
@@ -261,8 +242,9 @@ fn prepared<S: Alter + Drop>(
     requires rests { AllRest S.Store members.old.items }
     requires small { count ≤ greatest_receipts }
     requires shallow { lender.depth < greatest_depth }
-    ensures asks { AsksAll S.Store (λ w decision. count ≡ length (receipts_of w) → IsNewSplit w request.now asked.now → IsLender w (holdings w asked.now.package) lender → IsGranted w request.now asked.now
-        → IsSelectionOf (cut_of w asked.now.package asked.now.mode asked.now.rect) selection → Decides w request.now decision) members.old.items members.new.items result }
+    ensures asks { AsksAll S.Store
+        (λ w decision. IsSelectedFor count request.now asked.now lender selection w → Decides w request.now decision)
+        members.old.items members.new.items result }
     ensures place { IfOk result (λ decision. HasPlace members.new.items count decision) }
 {
     let things = things_at(members, lender.at, alloc, &selection)?;
@@ -289,7 +271,8 @@ fn prepared<S: Alter + Drop>(
 fn lender_at<S: Alter + Drop>(members: &[Member<S>], at: usize) -> Lender
     requires within { at < length members.now }
     ensures at { result.at ≡ at }
-    ensures kept { (w : World) (count : ℕ) (p : Package) → AreMembers S.Store members.now count w → slice_get w.packages at ≡ Some p → IsLender w p result }
+    ensures kept { (w : World) (count : ℕ) (p : Package) → AreMembers S.Store members.now count w
+        → slice_get w.packages at ≡ Some p → IsLender w p result }
 {
     let member = &members[at];
     Lender {
@@ -302,6 +285,7 @@ fn lender_at<S: Alter + Drop>(members: &[Member<S>], at: usize) -> Lender
 /// What a new split comes to whose package stands at a place.
 fn decide_at<S: Alter + Drop>(
     members: &mut Vec<Member<S>>,
+    known: &Known,
     at: usize,
     frame: &Frame,
     count: u64,
@@ -313,11 +297,13 @@ fn decide_at<S: Alter + Drop>(
     requires rests { AllRest S.Store members.old.items }
     requires good { IsTrue (is_good_frame frame.now) }
     requires small { count ≤ greatest_receipts }
-    ensures asks { AsksAll S.Store (λ w decision. IsOf frame.now count w → IsNewSplit w request.now asked.now → slice_get w.packages at ≡ Some (holdings w asked.now.package) → Decides w request.now decision) members.old.items members.new.items result }
+    ensures asks { AsksAll S.Store
+        (DecidesWhere known.now (IsPlacedSplit frame.now count at request.now asked.now) request.now)
+        members.old.items members.new.items result }
     ensures place { IfOk result (λ decision. HasPlace members.new.items count decision) }
 {
     let lender = lender_at(members.as_slice(), at);
-    if let Some(why) = refused_before_cut(members, frame, request, asked, lender.depth)? {
+    if let Some(why) = refused_before_cut(members, known, frame, request, asked, lender.depth)? {
         return Ok(Decision::Answered(Err(why)));
     }
     match cut_at(members, at, frame, alloc, &asked.rect, asked.mode)? {
@@ -333,6 +319,7 @@ fn decide_at<S: Alter + Drop>(
 /// Want of memory, or a store that failed. Nothing is changed then either.
 pub(crate) fn decide_split<S: Alter + Drop>(
     members: &mut Vec<Member<S>>,
+    known: &Known,
     frame: &Frame,
     count: u64,
     alloc: Global,
@@ -343,13 +330,14 @@ pub(crate) fn decide_split<S: Alter + Drop>(
     requires rests { AllRest S.Store members.old.items }
     requires good { IsTrue (is_good_frame frame.now) }
     requires small { count ≤ greatest_receipts }
-    ensures asks { AsksAll S.Store (λ w decision. IsNewTo frame.now count request.now w → Decides w request.now decision) members.old.items members.new.items result }
+    ensures asks { AsksAll S.Store (DecidesWhere known.now (IsNewTo frame.now count request.now) request.now)
+        members.old.items members.new.items result }
     ensures place { IfOk result (λ decision. HasPlace members.new.items count decision) }
 {
     fits(request.id);
     has_types(*asked);
     match place_of(members.as_slice(), asked.package) {
         None => Ok(Decision::Answered(Err(Refusal::UnknownPackage))),
-        Some(at) => decide_at(members, at, frame, count, alloc, request, asked),
+        Some(at) => decide_at(members, known, at, frame, count, alloc, request, asked),
     }
 }

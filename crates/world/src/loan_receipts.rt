@@ -29,7 +29,9 @@ fn thing_at<S: Alter + Drop>(
 ) -> Result<Option<Moved>, Fault>
     requires within { at < length members.old.items }
     requires rests { AllRest S.Store members.old.items }
-    ensures { AsksAll S.Store (λ w thing. (p : Package) → slice_get w.packages at ≡ Some p → thing ≡ option_map item_moved (item_of p identity)) members.old.items members.new.items result }
+    ensures { AsksAll S.Store
+        (λ w thing. (p : Package) → slice_get w.packages at ≡ Some p → thing ≡ option_map item_moved (item_of p identity))
+        members.old.items members.new.items result }
 {
     match item_at(members, at, identity)? {
         Some(item) => Ok(Some(Moved::of_item(&item))),
@@ -46,7 +48,9 @@ fn things_under<S: Alter + Drop>(
 ) -> Result<Vec<Moved>, Fault>
     requires within { at < length members.old.items }
     requires rests { AllRest S.Store members.old.items }
-    ensures { AsksAll S.Store (λ w things. (p : Package) → slice_get w.packages at ≡ Some p → map (λ id. option_map item_moved (item_of p id)) identities.now ≡ map Some things.items) members.old.items members.new.items result }
+    ensures { AsksAll S.Store
+        (λ w things. (p : Package) → slice_get w.packages at ≡ Some p → map (λ id. option_map item_moved (item_of p id)) identities.now ≡ map Some things.items)
+        members.old.items members.new.items result }
 {
     let mut things = Vec::new(alloc);
     for identity in identities {
@@ -92,7 +96,9 @@ pub(crate) fn things_at<S: Alter + Drop>(
 ) -> Result<MovedList, Fault>
     requires within { at < length members.old.items }
     requires rests { AllRest S.Store members.old.items }
-    ensures { AsksAll S.Store (λ w things. (p : Package) (c : Cut) → slice_get w.packages at ≡ Some p → IsSelectionOf c selection.now → IsPart c p → things ≡ moved_of c.items c.links) members.old.items members.new.items result }
+    ensures { AsksAll S.Store
+        (λ w things. (p : Package) (c : Cut) → slice_get w.packages at ≡ Some p → IsSelectionOf c selection.now → IsPart c p → things ≡ moved_of c.items c.links)
+        members.old.items members.new.items result }
 {
     let items = things_under(members, at, alloc, &selection.identities)?;
     let sorted = in_order(items)?;

@@ -2,9 +2,9 @@
 ghost use Rattle.std.specs.Prelude.{◌≤◌, IsTrue, IfOk, OnOk};
 ghost use Rattle.sheet_types.specs.Matrix.{is_good_frame};
 ghost use Rattle.sheet_types.specs.Refuse.{greatest_receipts};
-ghost use Rattle.known_uuids.specs.Known.{Grows, Knows};
+ghost use Rattle.known_uuids.specs.Known.{Grows};
 ghost use Rattle.world.specs.Asking.{AsksAll};
-ghost use Rattle.world.specs.Deciding.{IsOf, IsNoted, Decides, HasPlace};
+ghost use Rattle.world.specs.Deciding.{IsOf, IsNoted, DecidesWhere, HasPlace};
 ghost use Rattle.world.specs.Members.{AllRest};
 
 use crate::deciding::{Decision, decide, package_of};
@@ -45,7 +45,8 @@ pub(crate) fn decide_and_note<S: Alter + Drop>(
     requires rests { AllRest S.Store members.old.items }
     requires good { IsTrue (is_good_frame frame.now) }
     requires small { count ≤ greatest_receipts }
-    ensures asks { AsksAll S.Store (λ w decision. Knows known.old w → IsOf frame.now count w → Decides w request.now decision) members.old.items members.new.items result }
+    ensures asks { AsksAll S.Store (DecidesWhere known.old (IsOf frame.now count) request.now)
+        members.old.items members.new.items result }
     ensures place { IfOk result (λ decision. HasPlace members.new.items count decision) }
     ensures grows { Grows known.old known.new }
     ensures noted { IfOk result (λ decision. IsNoted known.new decision) }

@@ -42,7 +42,9 @@ pub(crate) fn holdings_at<S: Alter + Drop>(
 ) -> Result<(Vec<Item>, Vec<Relation>), Fault>
     requires within { at < length members.old.items }
     requires rests { AllRest S.Store members.old.items }
-    ensures { AsksAll S.Store (λ w held. (p : Package) → slice_get w.packages at ≡ Some p → (held.0.items ≡ p.items) × (held.1.items ≡ p.links)) members.old.items members.new.items result }
+    ensures { AsksAll S.Store
+        (λ w held. (p : Package) → slice_get w.packages at ≡ Some p → (held.0.items ≡ p.items) × (held.1.items ≡ p.links))
+        members.old.items members.new.items result }
 {
     let member = &mut members[at];
     holdings(&mut member.conn, alloc)
@@ -55,7 +57,9 @@ pub fn holdings_in<S: Alter + Drop>(
     package: Uuid,
 ) -> Result<Option<(Vec<Item>, Vec<Relation>)>, Fault>
     requires { AllRest S.Store members.old.items }
-    ensures { AsksAll S.Store (λ w found. option_map (λ held. (held.0.items, held.1.items)) found ≡ holdings_answer w «package») members.old.items members.new.items result }
+    ensures { AsksAll S.Store
+        (λ w found. option_map (λ held. (held.0.items, held.1.items)) found ≡ holdings_answer w «package»)
+        members.old.items members.new.items result }
 {
     match place_of(members.as_slice(), package) {
         Some(at) => Ok(Some(holdings_at(members, at, alloc)?)),

@@ -2,10 +2,13 @@
 ghost use Rattle.std.specs.Prelude.{◌≡◌, ◌<◌, Some, IfSome, IsTrue, true, length};
 ghost use Rattle.sheet_types.specs.Custody.{kept, is_used};
 ghost use Rattle.known_uuids.specs.Known.{Knows};
-ghost use Rattle.world.specs.Members.{AllRest};
 ghost use Rattle.world.specs.Asking.{AsksAll};
+ghost use Rattle.world.specs.DecidingSplits.{ever_lent};
+ghost use Rattle.world.specs.Members.{AllRest};
 
-use crate::asking::{is_named_in_all, kept_by, kept_in_all, named_by, place_of};
+use crate::asking::{
+    is_named_in_all, kept_by, kept_in_all, lent_by, named_by, place_of, was_lent_in_all,
+};
 use crate::members::Member;
 use known_uuids::known::Known;
 use package_tables::fault::Fault;
@@ -41,7 +44,8 @@ fn kept_at<S: Alter + Drop>(
 ) -> Result<Option<Receipt>, Fault>
     requires within { at < length members.old.items }
     requires rests { AllRest S.Store members.old.items }
-    ensures { AsksAll S.Store (λ w found. IfSome found (λ receipt. Some receipt ≡ kept w id)) members.old.items members.new.items result }
+    ensures { AsksAll S.Store (λ w found. IfSome found (λ receipt. Some receipt ≡ kept w id))
+        members.old.items members.new.items result }
 {
     kept_by(members, at, alloc, id)
 }
@@ -55,7 +59,8 @@ fn kept_near<S: Alter + Drop>(
     id: Uuid,
 ) -> Result<Option<Receipt>, Fault>
     requires { AllRest S.Store members.old.items }
-    ensures { AsksAll S.Store (λ w found. IfSome found (λ receipt. Some receipt ≡ kept w id)) members.old.items members.new.items result }
+    ensures { AsksAll S.Store (λ w found. IfSome found (λ receipt. Some receipt ≡ kept w id))
+        members.old.items members.new.items result }
 {
     match live_place(members.as_slice(), known, package) {
         Some(at) => kept_at(members, at, alloc, id),
@@ -71,7 +76,8 @@ pub fn find_kept<S: Alter + Drop>(
     id: Uuid,
 ) -> Result<Option<Receipt>, Fault>
     requires { AllRest S.Store members.old.items }
-    ensures { AsksAll S.Store (λ w found. Knows known.now w → found ≡ kept w id) members.old.items members.new.items result }
+    ensures { AsksAll S.Store (λ w found. Knows known.now w → found ≡ kept w id)
+        members.old.items members.new.items result }
 {
     let Some(package) = known.place_of(id) else {
         return Ok(None);
@@ -90,7 +96,8 @@ fn named_at<S: Alter + Drop>(
 ) -> Result<bool, Fault>
     requires within { at < length members.old.items }
     requires rests { AllRest S.Store members.old.items }
-    ensures { AsksAll S.Store (λ w found. IsTrue found → is_used w identity ≡ true) members.old.items members.new.items result }
+    ensures { AsksAll S.Store (λ w found. IsTrue found → is_used w identity ≡ true)
+        members.old.items members.new.items result }
 {
     named_by(members, at, identity)
 }
@@ -103,7 +110,8 @@ fn named_near<S: Alter + Drop>(
     identity: Uuid,
 ) -> Result<bool, Fault>
     requires { AllRest S.Store members.old.items }
-    ensures { AsksAll S.Store (λ w found. IsTrue found → is_used w identity ≡ true) members.old.items members.new.items result }
+    ensures { AsksAll S.Store (λ w found. IsTrue found → is_used w identity ≡ true)
+        members.old.items members.new.items result }
 {
     match live_place(members.as_slice(), known, package) {
         Some(at) => named_at(members, at, identity),
@@ -118,7 +126,8 @@ pub fn was_used<S: Alter + Drop>(
     identity: Uuid,
 ) -> Result<bool, Fault>
     requires { AllRest S.Store members.old.items }
-    ensures { AsksAll S.Store (λ w found. Knows known.now w → found ≡ is_used w identity) members.old.items members.new.items result }
+    ensures { AsksAll S.Store (λ w found. Knows known.now w → found ≡ is_used w identity)
+        members.old.items members.new.items result }
 {
     let Some(package) = known.place_of(identity) else {
         return Ok(false);
@@ -127,4 +136,54 @@ pub fn was_used<S: Alter + Drop>(
         return Ok(true);
     }
     is_named_in_all(members, identity)
+}
+
+/// Whether the package of the member at a place has the receipt of a split that made a package of this UUID; that it does not tells nothing.
+fn lent_at<S: Alter + Drop>(
+    members: &mut Vec<Member<S>>,
+    at: usize,
+    id: Uuid,
+) -> Result<bool, Fault>
+    requires within { at < length members.old.items }
+    requires rests { AllRest S.Store members.old.items }
+    ensures { AsksAll S.Store (λ w found. IsTrue found → ever_lent w id ≡ true)
+        members.old.items members.new.items result }
+{
+    lent_by(members, at, id)
+}
+
+/// The same of the package to which the UUID leads, if that is live.
+fn lent_near<S: Alter + Drop>(
+    members: &mut Vec<Member<S>>,
+    known: &Known,
+    package: Uuid,
+    id: Uuid,
+) -> Result<bool, Fault>
+    requires { AllRest S.Store members.old.items }
+    ensures { AsksAll S.Store (λ w found. IsTrue found → ever_lent w id ≡ true)
+        members.old.items members.new.items result }
+{
+    match live_place(members.as_slice(), known, package) {
+        Some(at) => lent_at(members, at, id),
+        None => Ok(false),
+    }
+}
+
+/// Whether a split ever made a package of this UUID.
+pub(crate) fn was_ever_lent<S: Alter + Drop>(
+    members: &mut Vec<Member<S>>,
+    known: &Known,
+    id: Uuid,
+) -> Result<bool, Fault>
+    requires { AllRest S.Store members.old.items }
+    ensures { AsksAll S.Store (λ w found. Knows known.now w → found ≡ ever_lent w id)
+        members.old.items members.new.items result }
+{
+    let Some(package) = known.place_of(id) else {
+        return Ok(false);
+    };
+    if lent_near(members, known, package, id)? {
+        return Ok(true);
+    }
+    was_lent_in_all(members, id)
 }

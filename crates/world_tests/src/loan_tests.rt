@@ -10,7 +10,7 @@ use sqlite::{Alter, FileStore};
 use std::alloc::Global;
 use std::test::Fail;
 use test_values::{Asks, BEGUN, FRAME, counts, item, sums, told};
-use test_worlds::{A, B, LoanStep, QUARTER, Wish, asked, package};
+use test_worlds::{A, B, C, D, LoanStep, QUARTER, Wish, asked, package};
 use world::reading::PackageSight;
 use world::world::World;
 
@@ -146,6 +146,39 @@ fn what_came_before_is_known_in_every_package(rt: HostRuntime) -> Result<(), Fai
         (11, Wish::Of(A, Asks::Medium(8)), -6),
         (12, Wish::Split(A, B, Mode::Follow, QUARTER), -3),
         (1, first, 1),
+    ] {
+        assert_eq!(rt;
+            number_told(&mut world, &mut shelf, alloc, number, wish)?,
+            wanted
+        );
+    }
+    Ok(())
+}
+
+fn quarter_of(lender: u8, child: u8) -> Wish {
+    Wish::Split(lender, child, Mode::Follow, QUARTER)
+}
+
+// A UUID is lent once: not again while its loan is out, nor after the loan came home, by way of another loan too. That of an item is known and was never lent. The reason with number 3 is that the UUID was used.
+#[test]
+fn a_uuid_is_lent_once(rt: HostRuntime) -> Result<(), Fail> {
+    let alloc = rt.alloc();
+    let mut shelf = MemoryFileShelf::new(alloc);
+    let mut world: World<FileStore<MemoryFile>> = archive_of(alloc, &mut shelf)?;
+    for (number, wish, wanted) in [
+        (6, quarter_of(A, A), -3),
+        (7, quarter_of(A, B), 6),
+        (8, quarter_of(B, C), 7),
+        (9, quarter_of(A, C), -3),
+        (10, Wish::Merge(C, B, 7), 8),
+        (11, Wish::Merge(B, A, 8), 9),
+        (12, quarter_of(A, C), -3),
+        (13, quarter_of(A, B), -3),
+        (14, Wish::Of(A, Asks::Medium(0)), 10),
+        (15, quarter_of(A, 0), 11),
+        (16, Wish::Merge(0, A, 11), 12),
+        (17, quarter_of(A, 0), -3),
+        (18, quarter_of(A, D), 13),
     ] {
         assert_eq!(rt;
             number_told(&mut world, &mut shelf, alloc, number, wish)?,

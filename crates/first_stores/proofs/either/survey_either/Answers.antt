@@ -1,4 +1,4 @@
-use Rattle.std.proofs.Common.{◌∙◌, Ok, Some, None, pos, inl, inr, ap, subst}
+use Rattle.std.proofs.Common.{pos, inl, inr, subst}
 use Rattle.std.specs.Prelude.{option_map}
 use Rattle.sql_meaning.specs.Writing.{AreKeyed}
 use Rattle.store_forms.specs.Heads.{head_said, ReadsHeadAt}

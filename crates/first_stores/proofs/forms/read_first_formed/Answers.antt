@@ -1,4 +1,4 @@
-use Rattle.std.proofs.Common.{◌≡◌, ◌∙◌, Ok, IsTrue, true, pos, ap, rules}
+use Rattle.std.proofs.Common.{◌∙◌, Ok, IsTrue, pos, ap}
 use Rattle.std.specs.Prelude.{◌↔◌}
 use Rattle.sql_meaning.specs.Writing.{AreKeyed}
 use Rattle.sql_meaning.proofs.Staying.{looks_stays, stays_then}

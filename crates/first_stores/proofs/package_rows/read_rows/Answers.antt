@@ -1,4 +1,5 @@
 use Rattle.std.proofs.Common.{pos}
+use Rattle.std.proofs.lemmas.List.Sorted.{IsPermutation-trans}
 use Rattle.std.specs.Ordering.{on, then_cmp, int_cmp}
 use Rattle.sql_meaning.proofs.Staying.{looks_stays, stays_then}
 use Rattle.package_tables.specs.Calls.{AreAll}
@@ -21,7 +22,7 @@ returns g c =
     let receipts = seen_then (λ db found. IsFormed receipt_shape db → AreAll (on (λ x. x.seq) int_cmp) (rows_of receipt_shape db) found.items) identities c.in_ok-receipts.was c.receipt_rows.ensures in
     let moved = seen_then (λ db found. IsFormed moved_shape db → AreAll (on (λ x. x.seq) int_cmp) (rows_of moved_shape db) found.items) receipts c.in_ok-moved.was c.moved_rows.ensures in
     sees (λ db found. AreFormedAt (pos 1) db → AreRowsOf (tables_of db) found) moved
-    (λ db told formed. record { tiles = (told.0.0.0.0.0.0.0 formed.tiles).0; media = (told.0.0.0.0.0.0.1 formed.media).0; rows = (told.0.0.0.0.0.1 formed.rows).0; tiles_media = (told.0.0.0.0.1 formed.tiles_media).0; rows_media = (told.0.0.0.1 formed.rows_media).0; identities = (told.0.0.1 formed.identities).0; receipts = (told.0.1 formed.receipts).0; moved = (told.1 formed.moved).0 })
+    (λ db told formed. record { tiles = (told.0.0.0.0.0.0.0 formed.tiles).0; media = (told.0.0.0.0.0.0.1 formed.media).0; rows = (told.0.0.0.0.0.1 formed.rows).0; tiles_media = (told.0.0.0.0.1 formed.tiles_media).0; rows_media = (told.0.0.0.1 formed.rows_media).0; identities = (told.0.0.1 formed.identities).0; receipts = (told.0.1 formed.receipts).0; moved = IsPermutation-trans (rows_of moved_shape db) c.in_ok-moved.moved.items c.in_turn.result.items (told.1 formed.moved).0 c.in_turn.ensures })
 
 -- a look that failed leaves the store as it was too
 pub returns-in_err-rows : goal.returns-in_err-rows

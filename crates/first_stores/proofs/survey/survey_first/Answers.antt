@@ -7,7 +7,7 @@ use Rattle.store_forms.proofs.Seeing.{seen, seen_then, sees, fails}
 use Rattle.first_stores.specs.Copies.{AreRowsOf}
 use Rattle.first_stores.specs.Surveying.{IsFirstSaid, ReadsFirstFormed}
 use Rattle.first_stores.specs.Views.{IsFirstSeenRight}
-use Rattle.first_stores.proofs.Sighted.{unformed, no_head, copied}
+use Rattle.first_stores.proofs.Sighted.{unformed, no_head, misnumbered, copied}
 use Rattle.first_stores.proofs.survey.survey_first.Goals as goal
 
 pub returns-in_default : goal.returns-in_default
@@ -23,6 +23,14 @@ returns-in_default-2 g c =
 
 pub returns-in_err-rows : goal.returns-in_err-rows
 returns-in_err-rows g c = fails _ c.from_residual-in_err-rows.ensures.0 (stays_then (stays_then (looks_stays c.read_first_said.ensures) (looks_stays c.read_first_formed.ensures.looked)) (looks_stays c.read_rows.ensures))
+
+pub returns-then-not-have_numbers : goal.returns-then-not-have_numbers
+returns-then-not-have_numbers g c =
+    sees (λ db x. AreKeyed db → IsFirstSeenRight db x)
+    (seen_then (λ db found. AreFormedAt (pos 1) db → AreRowsOf (tables_of db) found)
+    (seen_then (λ db found. AreKeyed db → ReadsFirstFormed db found) (seen (λ db s. AreKeyed db → IsFirstSaid db s) c.in_ok-said.was c.read_first_said.ensures) (c.in_ok-frame.was ∙ ap Ok c.in-Some-2.is) c.read_first_formed.ensures.looked)
+    c.in_ok-rows.was c.read_rows.ensures)
+    (λ db told keyed. misnumbered db c.in_ok-said.said c.no_frame-then-not-have_numbers.result c.in_ok-rows.rows c.without_package-then-not-have_numbers.result (told.0.0 keyed) told.1 (sym c.have_numbers.ensures ∙ c.if-not-have_numbers.true) c.without_package-then-not-have_numbers.ensures)
 
 pub returns-in_err-seen : goal.returns-in_err-seen
 returns-in_err-seen g c = fails _ c.from_residual-in_err-seen.ensures.0 (stays_then (stays_then (looks_stays c.read_first_said.ensures) (looks_stays c.read_first_formed.ensures.looked)) (looks_stays c.read_rows.ensures))

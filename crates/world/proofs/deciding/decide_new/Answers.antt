@@ -24,10 +24,13 @@ one_by_unlink command (uuid, mapping, base, other, is) = subst ChangesOnePackage
 pub returns-in-Add-clause-asks : goal.returns-in-Add-clause-asks
 returns-in-Add-clause-asks g c =
     let one : ChangesOnePackage c.args.request.now.command = elim c.in-Add.is [ inl add ↦ one_by_add _ add | inr (inl delete) ↦ one_by_delete _ delete | inr (inr (inl link)) ↦ one_by_link _ link | inr (inr (inr unlink)) ↦ one_by_unlink _ unlink ] in
-    asks_weaker g.S.Store _ (λ decision w count are told knows new. told knows (record { frame = new.of_world.frame; counted = new.of_world.counted; one = one }) new.new) c.decide_change.ensures.asks
+    asks_weaker g.S.Store _ (λ decision w count are told knows new. told knows (record {
+      asked = record { frame = new.of_world.frame; counted = new.of_world.counted; one = one };
+      new = new.new;
+    })) c.decide_change.ensures.asks
 
 pub returns-in-Merge-clause-asks : goal.returns-in-Merge-clause-asks
 returns-in-Merge-clause-asks g c = asks_weaker g.S.Store _ (λ decision w count are told knows new. told new.of_world.counted new.new) c.decide_merge.ensures.asks
 
 pub returns-in-Split-clause-asks : goal.returns-in-Split-clause-asks
-returns-in-Split-clause-asks g c = asks_weaker g.S.Store _ (λ decision w count are told knows new. told new) c.decide_split.ensures.asks
+returns-in-Split-clause-asks g c = c.decide_split.ensures.asks

@@ -11,9 +11,9 @@ use Rattle.world.proofs.deciding_splits.decide_at.Goals as goal
 pub returns-in-Some-clause-asks : goal.returns-in-Some-clause-asks
 returns-in-Some-clause-asks g c =
     asks_answer g.S.Store {x = Some c.in-Some.why} (c.in_ok-why.was ∙ ap Ok c.in-Some.is)
-    (λ w count are told of_world new place.
-    let lends = c.lender_at-lender.ensures.kept w count (holdings w c.args.asked.now.package) (subst (λ ms. AreMembers g.S.Store ms count w) (sym c.as_slice.ensures.value) are) place in
-    split_refused_before w c.args.request.now c.args.asked.now c.in-Some.why new (sym (told of_world.frame new.asked lends.depth))) c.refused_before_cut.ensures.asks
+    (λ w count are told knows is.
+    let lends = c.lender_at-lender.ensures.kept w count (holdings w c.args.asked.now.package) (subst (λ ms. AreMembers g.S.Store ms count w) (sym c.as_slice.ensures.value) are) is.place in
+    split_refused_before w c.args.request.now c.args.asked.now c.in-Some.why is.split (sym (told knows (record { frame = is.of_world.frame; asked = is.split.asked; deep = lends.depth })))) c.refused_before_cut.ensures.asks
 
 pub returns-in_err-why-2-clause-asks : goal.returns-in_err-why-2-clause-asks
 returns-in_err-why-2-clause-asks g c = asks_failed g.S.Store _ c.from_residual-in_err-why-2.ensures.0 (asks_then g.S.Store {x = None} _ (c.in_ok-why.was ∙ ap Ok c.in_default.is) c.refused_before_cut.ensures.asks c.cut_at.ensures)
@@ -27,9 +27,10 @@ cut_at-requires-clause-rect g c = c.in_ok-why.ensures.rect c.in_default.is
 pub returns-in-Err-clause-asks : goal.returns-in-Err-clause-asks
 returns-in-Err-clause-asks g c =
     asks_answer g.S.Store {x = Err c.in-Err.why} (c.in_ok-why-2.was ∙ ap Ok c.in-Err.is)
-    (λ w count are told of_world new place.
-    let lends = c.lender_at-lender.ensures.kept w count (holdings w c.args.asked.now.package) (subst (λ ms. AreMembers g.S.Store ms count w) (sym c.as_slice.ensures.value) are) place in
-    split_uncut w c.args.request.now c.args.asked.now c.in-Err.why new (sym (told.0 of_world.frame new.asked lends.depth)) (told.1 of_world.frame (holdings w c.args.asked.now.package) place))
+    (λ w count are told knows is.
+    let lends = c.lender_at-lender.ensures.kept w count (holdings w c.args.asked.now.package) (subst (λ ms. AreMembers g.S.Store ms count w) (sym c.as_slice.ensures.value) are) is.place in
+    split_uncut w c.args.request.now c.args.asked.now c.in-Err.why is.split (sym (told.0 knows (record { frame = is.of_world.frame; asked = is.split.asked; deep = lends.depth })))
+    (told.1 is.of_world.frame (holdings w c.args.asked.now.package) is.place))
     (asks_then g.S.Store {x = None} _ (c.in_ok-why.was ∙ ap Ok c.in_default.is) c.refused_before_cut.ensures.asks c.cut_at.ensures)
 
 pub prepared-requires-clause-within : goal.prepared-requires-clause-within
@@ -43,9 +44,16 @@ prepared-requires-clause-shallow g c = c.in_ok-why.ensures.shallow c.in_default.
 pub returns-in-Ok-clause-asks : goal.returns-in-Ok-clause-asks
 returns-in-Ok-clause-asks g c =
     asks_weaker g.S.Store _
-    (λ decision w count are told of_world new place.
-    let lends : IsLender w (holdings w c.args.asked.now.package) c.lender_at-lender.result = c.lender_at-lender.ensures.kept w count (holdings w c.args.asked.now.package) (subst (λ ms. AreMembers g.S.Store ms count w) (sym c.as_slice.ensures.value) are) place in
-    let taken = told.1.0 of_world.frame (holdings w c.args.asked.now.package) place in
-    told.1.1 of_world.counted new lends (record { before = sym (told.0 of_world.frame new.asked lends.depth); cut = taken.0 }) taken.1)
+    (λ decision w count are told knows is.
+    let lends : IsLender w (holdings w c.args.asked.now.package) c.lender_at-lender.result = c.lender_at-lender.ensures.kept w count (holdings w c.args.asked.now.package) (subst (λ ms. AreMembers g.S.Store ms count w) (sym c.as_slice.ensures.value) are) is.place in
+    let taken = told.1.0 is.of_world.frame (holdings w c.args.asked.now.package) is.place in
+    let before = sym (told.0 knows (record { frame = is.of_world.frame; asked = is.split.asked; deep = lends.depth })) in
+    told.1.1 (record {
+      counted = is.of_world.counted;
+      split = is.split;
+      lends = lends;
+      granted = record { before = before; cut = taken.0 };
+      selected = taken.1;
+    }))
     (asks_then g.S.Store {x = None} _ (c.in_ok-why.was ∙ ap Ok c.in_default.is) c.refused_before_cut.ensures.asks
     (asks_then g.S.Store {x = Ok c.in-Ok.selection} _ (c.in_ok-why-2.was ∙ ap Ok c.in-Ok.is) c.cut_at.ensures c.prepared.ensures.asks))

@@ -18,9 +18,9 @@ limited-requires-clause-child_at g c = subst (λ ms. c.place_for.result ≤ leng
 pub returns-clause-asks : goal.returns-clause-asks
 returns-clause-asks g c =
     asks_answer g.S.Store {x = c.in_ok-things.things} c.in_ok-things.was
-    (λ w n are told counted new lends granted selected.
-    let here = counted_so g.S.Store _ n c.args.count w (members_stay g.S.Store _ _ n w c.things_at.ensures.stay are) counted in
-    let moved = told (holdings w c.args.asked.now.package) (cut_of w c.args.asked.now.package c.args.asked.now.mode c.args.asked.now.rect) lends.place selected (split_part w c.args.request.now c.args.asked.now are.register new granted) in
+    (λ w n are told is.
+    let here = counted_so g.S.Store _ n c.args.count w (members_stay g.S.Store _ _ n w c.things_at.ensures.stay are) is.counted in
+    let moved = told (holdings w c.args.asked.now.package) (cut_of w c.args.asked.now.package c.args.asked.now.mode c.args.asked.now.rect) is.lends.place is.selected (split_part w c.args.request.now c.args.asked.now are.register is.split is.granted) in
     let child_at = c.place_for.ensures.place ∙ members_before g.S.Store c.as_slice.result.now c.args.count w c.args.asked.now.child (subst (λ ms. AreMembers g.S.Store ms c.args.count w) (sym c.as_slice.ensures.value) here) in
     c.limited.ensures.decides w c.args.request.now c.args.asked.now (subst (λ ms. AreMembers g.S.Store ms c.args.count w) (sym c.as_slice-2.ensures.value) here)
-    (split_made w c.args.request.now c.args.asked.now c.args.lender c.args.count new lends counted _ c.in_ok-things.things granted selected refl child_at refl refl refl moved c.in_ok-receipt.ensures c.sums_moved-lent.ensures c.in-Some.ensures.1)) c.things_at.ensures
+    (split_made w c.args.request.now c.args.asked.now c.args.lender c.args.count is.split is.lends is.counted _ c.in_ok-things.things is.granted is.selected refl child_at refl refl refl moved c.in_ok-receipt.ensures c.sums_moved-lent.ensures c.in-Some.ensures.1)) c.things_at.ensures

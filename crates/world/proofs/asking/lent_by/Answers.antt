@@ -1,7 +1,7 @@
 -- The look at the one member is its store's turn.
 use Rattle.std.proofs.Common.{◌≡◌, Some, slice_get, refl}
 use Rattle.std.proofs.lemmas.Option.{slice_get_read}
-use Rattle.world.proofs.deciding_splits.lent_by.Goals as goal
+use Rattle.world.proofs.asking.lent_by.Goals as goal
 
 pub returns : goal.returns
 returns g c =

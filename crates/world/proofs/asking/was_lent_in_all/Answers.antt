@@ -5,8 +5,8 @@ use Rattle.sheet_types.proofs.Same.{any_in}
 use Rattle.custody.specs.Receipts.{was_lent}
 use Rattle.world.specs.DecidingSplits.{ever_lent}
 use Rattle.world.proofs.Asked.{asked_none, asked_one, asked_all, asked_here, asked_fails}
-use Rattle.world.proofs.SplitAsked.{lent_in_packages}
-use Rattle.world.proofs.deciding_splits.was_ever_lent.Goals as goal
+use Rattle.world.proofs.EachPackage.{lent_in_packages}
+use Rattle.world.proofs.asking.was_lent_in_all.Goals as goal
 
 pub loop-at-init : goal.loop-at-init
 loop-at-init g c = record { asked = asked_none g.S.Store g.met.S.Store.shut_if_dirty g.met.S.Store.settled (λ p. was_lent p c.args.id ≡ false) c.args.members.now.items c.requires }
