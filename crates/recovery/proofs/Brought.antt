@@ -1,5 +1,6 @@
 -- What becomes of one store that was looked at, and may have been brought.
-use Rattle.std.proofs.Common.{◌≡◌, ◌⊎◌, inl, inr, Result, Ok, Err, IsTrue, sym, subst, arith}
+use Rattle.std.specs.Prelude.{IfOk, OnErr}
+use Rattle.std.proofs.Common.{◌≡◌, ◌⊎◌, inl, inr, Result, Ok, Err, IsTrue, refl, sym, ap, subst, ◌∙◌, arith}
 use Rattle.sqlite.specs.Effect.{Database, IsDatabase}
 use Rattle.sqlite.specs.Held.{Held, state}
 use Rattle.sqlite.specs.State.{State, HasCleanDisk}
@@ -12,7 +13,7 @@ use Rattle.sql_meaning.proofs.Transactions.{Shuts, Settles, at_rest, clean_open}
 use Rattle.identity_register.specs.Reads.{Reads}
 use Rattle.first_version.specs.FirstVersion.{ReadsAtOne, ReadsAtEither}
 use Rattle.first_version.specs.Migrating.{BringsIfFirst}
-use Rattle.recovery.specs.Brought.{MayBeBrought, IsTurned, MayBeTurned}
+use Rattle.recovery.specs.Brought.{LeavesAtEither, MayBeBrought, IsTurned, MayBeTurned}
 use Rattle.recovery.specs.Stores.{StaysStore}
 
 abbrev Either : Unit {0} → Database → Database → Type 0

@@ -1,5 +1,5 @@
 -- What an opening makes of the stores that are handed in: a world that they stand for, or all of them handed back.
-use Rattle.std.specs.Prelude.{◌≡◌, ℕ, List, [], ◌∷◌, ◌++◌, map, length, refl, Option, Some, None, MatchOption, Ok, IsTrue, Contains}
+use Rattle.std.specs.Prelude.{◌≡◌, ◌⊎◌, ℕ, List, [], ◌∷◌, ◌++◌, map, length, refl, Option, Some, None, MatchOption, Ok, IsTrue, Contains}
 use Rattle.std.specs.List.{AllZip, AllByRecursion}
 use Rattle.std.proofs.Common.{sym, ap, subst, ◌∙◌, inl, inr}
 use Rattle.std.proofs.lemmas.List.Elements.{All-contains_itself, All-from_recursion, recursion_from_All}
@@ -21,8 +21,8 @@ use Rattle.verdicts.specs.declared.verdict.Kept.{Kept}
 use Rattle.verdicts.specs.declared.verdict.Verdict.{Verdict}
 use Rattle.world.specs.Leaving.{AreAtRest, AreClean}
 use Rattle.world.specs.Worlds.{StandsFor}
-use Rattle.recovery.specs.Brought.{Place, AreAllTurned, SomeAreTurned, IsTurned, MayAllBeBrought, MayBeTurned}
-use Rattle.recovery.specs.Recovered.{seen_of_stores, StandsForSome, AreJudged, IsApart, IsFaultAt, IsOpened, IsReadOf, IsRecovered}
+use Rattle.recovery.specs.Brought.{Place, AreAllTurned, SomeAreTurned, IsTurned, MayAllBeBrought, MayBeBrought, MayBeTurned}
+use Rattle.recovery.specs.Recovered.{seen_of_stores, StandsForSome, AreJudged, AreViewsOf, IsApart, IsFaultAt, IsOpened, IsReadOf, IsRecovered}
 use Rattle.recovery.specs.Sharing.{strays_of, with_stray}
 use Rattle.recovery.specs.Stores.{AreOnlyRead, AreOpenWhereClean, StaysStore}
 use Rattle.recovery.specs.declared.recovering.Recovered.{Recovered}

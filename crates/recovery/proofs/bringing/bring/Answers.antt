@@ -1,5 +1,5 @@
 -- A store whose names are free goes through the migration, and another is left as it is.
-use Rattle.std.proofs.Common.{subst, arith, IsTrue}
+use Rattle.std.proofs.Common.{◌≡◌, subst, arith, IsTrue}
 use Rattle.std.specs.Prelude.{◌↔◌}
 use Rattle.std.proofs.lemmas.Bool.{both_ways}
 use Rattle.sqlite.specs.Held.{state}
