@@ -1,8 +1,7 @@
 -- What is handed out beside a world that was opened are the strays.
-use Rattle.std.specs.Prelude.{◌≡◌, ◌⊎◌, false, List, ◌++◌}
+use Rattle.std.specs.Prelude.{◌⊎◌, false, List, ◌++◌}
 use Rattle.std.proofs.Common.{sym, subst, ◌∙◌, inl, inr}
 use Rattle.std.proofs.lemmas.Bool.{true≢false}
-use Rattle.std.specs.List.{AllByRecursion}
 use Rattle.sqlite.specs.Effect.{Database}
 use Rattle.sqlite.specs.Held.{Held, state}
 use Rattle.sqlite.specs.Store.{Ghosts}
@@ -13,7 +12,7 @@ use Rattle.identity_register.specs.Reads.{Reads}
 use Rattle.identity_register.proofs.Finding.{contained}
 use Rattle.ledger_laws.specs.Laws.{StoreSight}
 use Rattle.recovery.specs.Recovered.{IsApart, IsOpened, IsReadOf}
-use Rattle.register_views.specs.Beside.{is_live, AreViewsOfWorld}
+use Rattle.register_views.specs.Beside.{AreViewsOfWorld}
 use Rattle.register_views.specs.Timely.{IsInBounds}
 use Rattle.register_views.proofs.Bounds.{packages_are_in_bounds}
 use Rattle.register_views.proofs.Found.{member_found}

@@ -1,5 +1,5 @@
 -- The stores of a world at rest, and those that are opened from what a crash left.
-use Rattle.std.specs.Prelude.{◌≡◌, false, List, [], ◌∷◌, ◌++◌, map, refl, is_some, ◌==◌, bytes_eq, IsTrue, IsPermutation, Contains}
+use Rattle.std.specs.Prelude.{◌≡◌, false, List, [], ◌∷◌, ◌++◌, map, refl, is_some, ◌==◌, bytes_eq, IsPermutation, Contains}
 use Rattle.std.proofs.Common.{sym, ap, subst, ◌∙◌, inl, inr}
 use Rattle.std.proofs.lemmas.Bool.{true≢false}
 use Rattle.std.proofs.lemmas.List.Sorted.{IsPermutation-append_comm}
@@ -9,7 +9,7 @@ use Rattle.sqlite.specs.State.{State}
 use Rattle.sqlite.specs.Store.{Ghosts}
 use Rattle.sqlite.specs.Tree.{Trees}
 use Rattle.sqlite_catalog.specs.Listing.{IsSound}
-use Rattle.sheet_types.specs.Opening.{Head, head_of}
+use Rattle.sheet_types.specs.Opening.{head_of}
 use Rattle.sheet_types.specs.Register.{IsRegister}
 use Rattle.sheet_types.specs.Step.{outcome, carried_out, receipt_of}
 use Rattle.sheet_types.specs.World.{World, Package}
@@ -20,18 +20,15 @@ use Rattle.sheet_types.specs.declared.frame.Frame.{Frame}
 use Rattle.sheet_types.specs.declared.receipt.Receipt.{Receipt}
 use Rattle.sheet_types.proofs.Basics.{bytes_eq_itself}
 use Rattle.sheet_types.proofs.Same.{All-In}
-use Rattle.sheet_types.proofs.Every.{All-each, All-right, All-of_map, none_any}
+use Rattle.sheet_types.proofs.Every.{All-each, none_any}
 use Rattle.ledger_laws.proofs.Accepting.{keeps}
 use Rattle.ledger_laws.proofs.Running.{step_keeps_register}
 use Rattle.sql_meaning.specs.Transactions.{IsAdopted}
 use Rattle.sql_meaning.proofs.Schemas.{sound_alone}
-use Rattle.package_tables.specs.Package.{tables_of}
 use Rattle.identity_register.specs.Reads.{Reads}
 use Rattle.identity_register.proofs.Finding.{contained}
 use Rattle.identity_register.proofs.OnePackage.{reads_alone}
-use Rattle.store_forms.specs.Heads.{IsHead}
 use Rattle.kept_stores.proofs.Headed.{head_is_known, lent_head_is_low}
-use Rattle.register_views.specs.Beside.{IsUnknown}
 use Rattle.register_views.proofs.Timed.{step_keeps_timely}
 use Rattle.world.specs.Leaving.{IsBeside, StandsAmong}
 use Rattle.world.specs.Members.{IsMember}

@@ -11,11 +11,9 @@ use Rattle.sqlite.specs.Tree.{Trees}
 use Rattle.sqlite_catalog.specs.Listing.{IsSound}
 use Rattle.sqlite_trees.proofs.ListLemmas.{IsPermutation-same}
 use Rattle.sheet_types.specs.World.{World, Package}
-use Rattle.sheet_types.proofs.Every.{All-of_map}
 use Rattle.sql_meaning.specs.Transactions.{IsAdopted, Rests}
 use Rattle.sql_meaning.proofs.Schemas.{sound_alone}
 use Rattle.sql_meaning.proofs.Transactions.{Settles}
-use Rattle.package_tables.specs.Package.{tables_of}
 use Rattle.identity_register.specs.Reads.{Reads}
 use Rattle.world.specs.Members.{IsMember}
 use Rattle.world.specs.declared.members.Member.{Member}

@@ -1,5 +1,5 @@
 -- Laws of the opening of a register's stores. Profile.
-use Rattle.std.specs.Prelude.{◌≡◌, ◌⊎◌, false, List, map, Result}
+use Rattle.std.specs.Prelude.{◌≡◌, ◌⊎◌, false, List, Result}
 use Rattle.std.specs.List.{AllByRecursion}
 use Rattle.sqlite.specs.Held.{Held, state}
 use Rattle.sqlite.specs.State.{IsLive}
