@@ -35,7 +35,7 @@ struct Held {
 
 // What is left of the files of a store: what was synced, as after a loss of power, and all that was written, as after the end of a process.
 #[derive(Drop)]
-struct Left {
+struct Remains {
     synced: Held,
     written: Held,
 }
@@ -73,13 +73,13 @@ fn copied(alloc: Global, log: &Fuse<Memory>, db: &Fuse<Memory>) -> Result<Held, 
 }
 
 // What is left of the files of a store, which is gone.
-fn left(alloc: Global, conn: Stopping) -> Result<Left, Fault> {
+fn remains_of(alloc: Global, conn: Stopping) -> Result<Remains, Fault> {
     let Files { mut log, mut db } = conn.into_store().close();
     let written = copied(alloc, &log, &db)?;
     log.crash();
     db.crash();
     let synced = copied(alloc, &log, &db)?;
-    Ok(Left { synced, written })
+    Ok(Remains { synced, written })
 }
 
 // A shelf without stores.
@@ -129,7 +129,7 @@ fn first_archive(alloc: Global) -> Result<Held, Fail> {
     };
     at_rest(&archive)?;
     take_back(&mut archive)?;
-    Ok(left(alloc, archive)?.synced)
+    Ok(remains_of(alloc, archive)?.synced)
 }
 
 // The version that the head of a store says, if it has one.
@@ -178,9 +178,9 @@ fn survives(alloc: Global, first: &Held, stops: Stops, calls: u64) -> Result<(bo
     let (is_whole, Some(conn)) = recovered(alloc, conn)? else {
         return Ok((true, false));
     };
-    let left = left(alloc, conn)?;
+    let remains = remains_of(alloc, conn)?;
     Ok((
-        is_archive(alloc, &left.synced)? && is_archive(alloc, &left.written)?,
+        is_archive(alloc, &remains.synced)? && is_archive(alloc, &remains.written)?,
         is_whole,
     ))
 }
