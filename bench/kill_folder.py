@@ -1,7 +1,7 @@
 #!/usr/bin/env python3
 """Stops `sheetdesk` at each of its write calls over a folder, takes its disk away, and damages its files: what is left must be a world.
 
-Usage: kill_folder.py [--program PROGRAM] [--step N] [--flips N] [PART..]      (1; 400; all of import init disk space readonly damage flips)
+Usage: kill_folder.py [--program PROGRAM] [--step N] [--flips N] [PART..]      (1; 400; all of import init first disk space readonly damage flips)
 
 PROGRAM is the built sheetdesk, or a Python file as bench/plain_folder.py. The list is that of samples/archive.csv: a hundred requests
 with loans of loans and merges. All that must come is worked out by the second machine (samples/reference.py) or by hand.
@@ -11,6 +11,8 @@ with loans of loans and merges. All that must come is worked out by the second m
   calls; the next one says `good n`, where n is what was reported, or one receipt more; each live package is to the byte as it was then;
   a second import of the list reports what is due of a list that comes twice, and leaves the packages that it must.
 - init: likewise; then an audit says `good 0`, or `NoArchive` where the archive was not made whole.
+- first: packages that stock SQLite took back to the first version; an opening of them is killed at each of its calls. The next one finds
+  the same world, and each live package is of the second version then.
 - disk: the same calls of an import fail, from the Nth on: writes for want of room, or syncs with an error. The import says so, and no
   more than the request in which it was met is in doubt; all the rest as above, with the disk back.
 - space: the same in a file system in memory that is too small, for several sizes (where it may be mounted).
@@ -24,11 +26,13 @@ It needs strace, and works in /dev/shm where there is one, since a killed progra
 """
 
 import argparse
+import contextlib
 import os
 import random
 import re
 import shlex
 import shutil
+import sqlite3
 import subprocess
 import sys
 import tempfile
@@ -289,6 +293,57 @@ def part_init(said):
                 os.remove(os.path.join(path, name))
             expect(words(path), 0, f"archive {ARCHIVE}\n")
     print(f"init: {len(calls)} calls, killed at each: {dict(said_of)}", flush=True)
+
+
+def versions(folder, due):
+    """The version that each live package says, by stock SQLite."""
+    found = set()
+    for package in due.manifests:
+        with contextlib.closing(sqlite3.connect(file_of(folder, package))) as store:
+            found |= set(store.execute("SELECT version FROM sheet_package"))
+    return {version for (version,) in found}
+
+
+def taken_back(folder):
+    """Each package is one of the first version, which had no table of the third mapping."""
+    for name in os.listdir(folder):
+        if name.endswith(".gpkg"):
+            with contextlib.closing(sqlite3.connect(os.path.join(folder, name))) as store:
+                store.executescript("""
+                    DROP TABLE rows_tiles;
+                    DELETE FROM gpkgext_relations WHERE id = 3;
+                    UPDATE sheet_package SET version = 1;
+                    PRAGMA wal_checkpoint(TRUNCATE);""")
+
+
+def part_first(said):
+    records = [record for record in RECORDS if b"rows_tiles" not in record]
+    due = Due(records)
+    listed = os.path.join(work, "first.csv")
+    with open(listed, "wb") as file:
+        file.write(HEADER + b"".join(records))
+    first, folder = begun("first"), folder_of("folder")
+    expect(["import", first, listed], 0, reference.REPORT_HEADER + "\n" + "".join(due.lines))
+    expect(["audit", first], 0, f"good {due.receipts}\n")
+    taken_back(first)
+    right(versions(first, due) == {1}, f"taken back to {versions(first, due)}")
+    shutil.copytree(first, folder)
+    calls = traced(folder, ["audit", folder])
+    tried = 0
+    for at in range(0, len(calls), said.step):
+        shutil.rmtree(folder)
+        shutil.copytree(first, folder)
+        ran = killed(["audit", folder], calls[at])
+        what = f"an opening killed at call {at + 1} of {len(calls)}, {calls[at]}"
+        right(ran.status in (-9, 137), f"{what}: {ran}")
+        try:
+            expect(["audit", folder], 0, f"good {due.receipts}\n")
+            holds(folder, due)
+            right(versions(folder, due) == {2}, f"versions {versions(folder, due)}")
+        except Wrong as wrong:
+            raise Wrong(f"{what}: {wrong}") from None
+        tried += 1
+    print(f"first: {len(calls)} calls {dict(Counter(name for name, _ in calls))}; killed at {tried} of them, {len(due.manifests)} live packages brought", flush=True)
 
 
 def stopped_well(ran, what):

@@ -4,8 +4,6 @@
 #[cfg(test)]
 mod opening_tests;
 #[cfg(test)]
-mod stop_tests;
-#[cfg(test)]
 mod stores;
 #[cfg(test)]
 mod version_tests;
