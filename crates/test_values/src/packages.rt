@@ -3,23 +3,18 @@ ghost use Rattle.std.specs.Prelude.{◌≤◌, IsTrue};
 ghost use Rattle.sheet_types.specs.Matrix.{is_good_frame};
 ghost use Rattle.sheet_types.specs.Refuse.{greatest_depth, greatest_receipts};
 
-use crate::changes::{Change, committed};
+use crate::changes::committed;
+use crate::rows::{Row, Tables};
 use crate::values::FRAME;
 use matrix_rules::check::FrameRules;
-use package_tables::attributes::insert_attribute;
 use package_tables::create::{Info, create};
 use package_tables::fault::Fault;
-use package_tables::identities::insert_identity;
-use package_tables::mappings::insert_pair;
-use package_tables::media::insert_medium;
 use package_tables::package::Package;
-use package_tables::schema::create_schema;
-use package_tables::tiles::insert_tile;
 use sheet_types::checks::GREATEST_DEPTH;
 use sheet_types::command::Mapping;
 use sheet_types::frame::Frame;
 use sql_meaning::resting::is_at_rest;
-use sqlite::{Alter, Connection, Transaction};
+use sqlite::{Alter, Connection};
 use std::alloc::Global;
 use uuid::Uuid;
 
@@ -85,24 +80,20 @@ pub fn empty_package<S: Alter + Drop>(
     Ok(new_tables(alloc, conn, &FRAME, &info)?.into_connection())
 }
 
-struct WithALink;
-
-impl<S: Alter> Change<S> for WithALink {
-    fn make(&self, tx: &mut Transaction<'_, S>) -> Result<(), Fault> {
-        create_schema(tx)?;
-        insert_tile(tx, 7, 2, 3, 1, b"ab")?;
-        insert_identity(tx, 1, 7, "00000000-0000-0000-0000-000000000001")?;
-        insert_medium(tx, 4, b"png", "image/png")?;
-        insert_identity(tx, 2, 4, "00000000-0000-0000-0000-000000000002")?;
-        insert_attribute(tx, 4, 100, -7, 31, "well")?;
-        insert_identity(tx, 3, 4, "00000000-0000-0000-0000-000000000003")?;
-        insert_pair(tx, Mapping::TilesMedia, 7, 4)
-    }
-}
+/// A tile 7 that is linked to a medium, and a row that is linked to nothing; the medium and the row both have the number 4, and the identities are 1, 2 and 3.
+pub const WITH_A_LINK: [Row; 7] = [
+    Row::Tile(7, [2, 3, 1], "ab"),
+    Row::Identity(1, 7, "00000000-0000-0000-0000-000000000001"),
+    Row::Medium(4, "png", "image/png"),
+    Row::Identity(2, 4, "00000000-0000-0000-0000-000000000002"),
+    Row::Attribute(4, [100, -7, 31], "well"),
+    Row::Identity(3, 4, "00000000-0000-0000-0000-000000000003"),
+    Row::Pair(Mapping::TilesMedia, 7, 4),
+];
 
 /// Fills a blank store with a tile that is linked to a medium, and a row that is linked to nothing: a tile 7 at column 3 and row 1
 /// of zoom 2, and a medium and a row that both have the number 4; their identities are 1, 2 and 3. Tells whether no transaction
 /// stood in its way.
 pub fn fill_with_a_link<S: Alter>(conn: &mut Connection<S>) -> Result<bool, Fault> {
-    committed(conn, &WithALink)
+    committed(conn, &Tables(WITH_A_LINK.as_slice()))
 }
