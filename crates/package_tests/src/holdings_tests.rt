@@ -8,7 +8,7 @@ use package_tables::identities::insert_identity;
 use package_tables::media::insert_medium;
 use package_tables::schema::create_schema;
 use package_tables::tiles::insert_tile;
-use sheet_types::command::{Content, Item, Mapping, Relation};
+use sheet_types::command::{Content, Item, Relation};
 use sqlite::{Alter, Connection, Transaction};
 use std::alloc::Global;
 use std::test::Fail;
@@ -128,51 +128,6 @@ fn are_those(found: &[Item], from: usize, kind: u8) -> bool {
         }
     }
     true
-}
-
-// ---- links across five items
-
-fn first() -> Uuid {
-    Uuid::from_u128(0x1)
-}
-
-fn second() -> Uuid {
-    Uuid::from_u128(0x2)
-}
-
-fn third() -> Uuid {
-    Uuid::from_u128(0x3)
-}
-
-fn first_medium() -> Uuid {
-    Uuid::from_u128(0x11)
-}
-
-fn second_medium() -> Uuid {
-    Uuid::from_u128(0x12)
-}
-
-fn of_row(base: Uuid, other: Uuid) -> Relation {
-    Relation::new(Mapping::RowsMedia, base, other)
-}
-
-// The numbers stand the other way round than the UUIDs.
-struct WithEnds;
-
-impl<S: Alter> Change<S> for WithEnds {
-    fn make(&self, tx: &mut Transaction<'_, S>) -> Result<(), Fault> {
-        create_schema(tx)?;
-        insert_tile(tx, 2, 0, 0, 0, b"a")?;
-        name(tx, 1, 2, first())?;
-        insert_tile(tx, 1, 0, 1, 0, b"b")?;
-        name(tx, 1, 1, second())?;
-        insert_attribute(tx, 1, 0, 0, 0, "")?;
-        name(tx, 3, 1, third())?;
-        insert_medium(tx, 2, b"c", "image/png")?;
-        name(tx, 2, 2, first_medium())?;
-        insert_medium(tx, 1, b"d", "image/png")?;
-        name(tx, 2, 1, second_medium())
-    }
 }
 
 // ---- tests

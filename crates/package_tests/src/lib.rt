@@ -1,21 +1,45 @@
-//! Tests of the crates that hold one package, and of what looks at one store: `package_tables`, `identity_register`, `custody`, `cut`, `store_forms`,
-//! `stored_receipts` and `first_version`. There is nothing here but tests.
+//! Tests of the crates below `world`: `sql_meaning`, `memory_files`, `shelves`, `folder`, `package_tables`, `identity_register`, `custody`, `cut`, `store_forms`, `stored_receipts`, `first_version`, `transfer`
+//! and `lending`. There is nothing here but tests.
 #![tactic(auto)]
 
+#[cfg(test)]
+mod allocation_tests;
+#[cfg(test)]
+mod asks;
+#[cfg(test)]
+mod blank_stores;
+#[cfg(test)]
+mod both_ways;
 #[cfg(test)]
 mod change_tests;
 #[cfg(test)]
 mod cut_tests;
 #[cfg(test)]
+mod cuts;
+#[cfg(test)]
 mod dating_tests;
 #[cfg(test)]
-mod fillings;
+mod entries;
+#[cfg(test)]
+mod files_in_memory;
+#[cfg(test)]
+mod files_of_a_folder;
+#[cfg(test)]
+mod fixed_asks;
 #[cfg(test)]
 mod form_tests;
 #[cfg(test)]
+mod forms;
+#[cfg(test)]
 mod holdings_tests;
 #[cfg(test)]
+mod homecomings;
+#[cfg(test)]
+mod items;
+#[cfg(test)]
 mod look_up_tests;
+#[cfg(test)]
+mod meanings;
 #[cfg(test)]
 mod new_package_tests;
 #[cfg(test)]
@@ -24,6 +48,10 @@ mod new_tables_tests;
 mod noted;
 #[cfg(test)]
 mod number_tests;
+#[cfg(test)]
+mod page_tests;
+#[cfg(test)]
+mod parcel_tests;
 #[cfg(test)]
 mod range_tests;
 #[cfg(test)]
@@ -39,16 +67,20 @@ mod span_tests;
 #[cfg(test)]
 mod steps;
 #[cfg(test)]
+mod stop_tests;
+#[cfg(test)]
+mod stops;
+#[cfg(test)]
 mod stored_receipt_tests;
 #[cfg(test)]
-mod stored_values;
+mod stores;
 #[cfg(test)]
 mod tables;
+#[cfg(test)]
+mod transfers;
 #[cfg(test)]
 mod user_rows_tests;
 #[cfg(test)]
 mod values;
 #[cfg(test)]
 mod version_tests;
-#[cfg(test)]
-mod versions;

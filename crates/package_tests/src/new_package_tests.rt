@@ -1,63 +1,27 @@
 // A package that was just made, in memory: nothing is found in it, and what is put into it is.
 
-use crate::steps::{Added, is_named_by_a_link, is_taken, kind};
-use identity_register::look_ups::find;
-use package_tables::create::Info;
-use package_tables::fault::Fault;
-use sheet_types::collections::Bytes;
-use sheet_types::command::Content;
-use sheet_types::receipt::MovedKind;
-use sqlite::{Alter, Connection};
-use std::alloc::Global;
+use crate::items::{Does, OfItems, Thing};
+use crate::steps::{Step, wrong_in_package};
+use crate::values::loan;
 use std::test::Fail;
-use test_values::{AT, FRAME, at_rest, committed, in_memory, new_package};
-use uuid::Uuid;
+use test_values::FRAME;
 
 // A loan of the package 1.
-fn made<S: Alter + Drop>(alloc: Global, conn: Connection<S>) -> Result<Connection<S>, Fault> {
-    let info = Info {
-        package: Uuid::from_u128(2),
-        parent: Some(Uuid::from_u128(1)),
-        depth: 1,
-        loan: 7,
-        created: AT,
-    };
-    new_package(alloc, conn, &FRAME, &info)
-}
-
-fn a_tile(alloc: Global) -> Result<Content, Fault> {
-    Ok(Content::Tile {
-        zoom: 2,
-        column: 3,
-        row: 1,
-        bytes: Bytes::from_vec(b"webp".to_vec(alloc)?),
-    })
-}
-
-fn is_found<S: Alter>(conn: &mut Connection<S>) -> Result<bool, Fault> {
-    at_rest(conn)?;
-    match find(conn, Uuid::from_u128(9))? {
-        None => Ok(false),
-        Some(item) => match item.content {
-            Content::Tile { bytes, .. } => Ok(bytes.as_slice() == b"webp".as_slice()),
-            _ => Ok(false),
-        },
-    }
-}
+const LOAN: [Step; 9] = [
+    Step::Items(OfItems::Found(9), "-"),
+    Step::Items(OfItems::IsLinked(9), "-"),
+    Step::Items(OfItems::HasTileAt([2, 3, 1]), "no"),
+    Step::Items(OfItems::Held, ""),
+    Step::Does(Does::Adds(9, Thing::Tile([2, 3, 1], "webp"))),
+    Step::Items(OfItems::Found(9), "tile 2 3 1 webp"),
+    Step::Items(OfItems::IsLinked(9), "no"),
+    Step::Items(OfItems::HasTileAt([2, 3, 1]), "yes"),
+    Step::Items(OfItems::Held, "9 tile 2 3 1 webp;"),
+];
 
 #[test]
 fn a_new_package_holds_what_is_put_into_it_alone(rt: HostRuntime) -> Result<(), Fail> {
-    let alloc = rt.alloc();
-    let mut conn = made(alloc, in_memory(alloc)?)?;
-    assert!(rt; !is_found(&mut conn)?);
-    assert!(rt; kind(&mut conn, 9)? == None);
-    assert!(rt; is_named_by_a_link(&mut conn, 9)? == None);
-    assert!(rt; !is_taken(&mut conn, 3, 1)?);
-    let tile = a_tile(alloc)?;
-    assert!(rt; committed(&mut conn, &Added(Uuid::from_u128(9), &tile))?);
-    assert!(rt; is_found(&mut conn)?);
-    assert!(rt; kind(&mut conn, 9)? == Some(MovedKind::TileItem));
-    assert!(rt; is_named_by_a_link(&mut conn, 9)? == Some(false));
-    assert!(rt; is_taken(&mut conn, 3, 1)?);
+    let wrong = wrong_in_package(rt.alloc(), &FRAME, &loan(), LOAN.as_slice())?;
+    assert_eq!(rt; wrong.as_str(), "");
     Ok(())
 }

@@ -1,12 +1,11 @@
 // The objects of a new package, as the store lists them.
 
-use crate::steps::Tables;
 use crate::values::{close, open};
 use sqlite::{Alter, Connection, Error};
 use sqlite_disk::Memory;
 use std::alloc::Global;
 use std::test::Fail;
-use test_values::committed;
+use test_values::{Tables, committed};
 
 // As stock SQLite 3.40.1 lists them after the same statements.
 const OBJECTS: &str = "index by_rows_media rows_media
@@ -65,7 +64,7 @@ fn objects<S: Alter>(alloc: Global, conn: &mut Connection<S>) -> Result<String, 
 fn a_schema_on_a_disk_is_there_when_it_is_opened_again(rt: HostRuntime) -> Result<(), Fail> {
     let alloc = rt.alloc();
     let mut conn = open(alloc, Memory::new(alloc))?;
-    assert!(rt; committed(&mut conn, &Tables)?);
+    assert!(rt; committed(&mut conn, &Tables(&[]))?);
     let mut again = open(alloc, close(conn)?)?;
     assert_eq!(rt; objects(alloc, &mut again)?.as_str(), OBJECTS);
     Ok(())

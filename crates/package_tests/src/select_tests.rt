@@ -1,130 +1,119 @@
 // Selections in stores, worked out by hand. The rectangle is the upper left quarter of a frame of 4096 by 4096: x from 0 to 2048 and
-// y from 2048 to 4096.
+// y from 2048 to 4096. Each is the same without the three indexes beside the keys that ranges and ends are found by.
 
-use crate::fillings::{
-    id, package, put_link, put_medium, put_row, put_tile, refuses, relation, takes, without_indexes,
-};
-use package_tables::fault::Fault;
+use crate::cuts::Cuts;
+use crate::items::{Does, Thing};
+use crate::steps::{Step, wrong_in_package};
+use crate::values::archive;
 use sheet_types::command::{Mapping, Mode};
-use sheet_types::refusal::Refusal;
-use sqlite::{Alter, Connection};
-use std::alloc::Global;
 use std::test::Fail;
-use test_values::in_memory;
+use test_values::FRAME;
 
-fn fill_zooms<S: Alter>(alloc: Global, conn: &mut Connection<S>) -> Result<(), Fault> {
-    put_tile(alloc, conn, 1, [0, 0, 0])?;
-    put_tile(alloc, conn, 2, [1, 0, 0])?;
-    put_tile(alloc, conn, 3, [2, 0, 0])?;
-    put_tile(alloc, conn, 4, [2, 1, 0])?;
-    put_tile(alloc, conn, 5, [2, 0, 1])?;
-    put_tile(alloc, conn, 6, [2, 1, 1])?;
-    put_tile(alloc, conn, 7, [2, 2, 0])?;
-    Ok(())
-}
+// The upper left of the four tiles of zoom 1.
+const CORNER: [i64; 5] = [1, 0, 0, 0, 0];
 
-fn fill_points<S: Alter>(alloc: Global, conn: &mut Connection<S>) -> Result<(), Fault> {
-    put_row(alloc, conn, 1, [0, 4096])?;
-    put_row(alloc, conn, 2, [2047, 2049])?;
-    put_row(alloc, conn, 3, [2048, 3000])?;
-    put_row(alloc, conn, 4, [0, 2048])?;
-    Ok(())
-}
+const ZOOMS: [Step; 10] = [
+    Step::Does(Does::Adds(1, Thing::Tile([0, 0, 0], "A"))),
+    Step::Does(Does::Adds(2, Thing::Tile([1, 0, 0], "A"))),
+    Step::Does(Does::Adds(3, Thing::Tile([2, 0, 0], "A"))),
+    Step::Does(Does::Adds(4, Thing::Tile([2, 1, 0], "A"))),
+    Step::Does(Does::Adds(5, Thing::Tile([2, 0, 1], "A"))),
+    Step::Does(Does::Adds(6, Thing::Tile([2, 1, 1], "A"))),
+    Step::Does(Does::Adds(7, Thing::Tile([2, 2, 0], "A"))),
+    Step::Cuts(Cuts(Mode::Strict, CORNER), "2;3;4;5;6;"),
+    Step::Alters("DROP INDEX by_xy; DROP INDEX by_tiles_media; DROP INDEX by_rows_media"),
+    Step::Cuts(Cuts(Mode::Strict, CORNER), "2;3;4;5;6;"),
+];
+
+const POINTS: [Step; 5] = [
+    Step::Does(Does::Adds(1, Thing::Row([0, 4096], 0, ""))),
+    Step::Does(Does::Adds(2, Thing::Row([2047, 2049], 0, ""))),
+    Step::Does(Does::Adds(3, Thing::Row([2048, 3000], 0, ""))),
+    Step::Does(Does::Adds(4, Thing::Row([0, 2048], 0, ""))),
+    Step::Cuts(Cuts(Mode::Strict, CORNER), "1;2;"),
+];
 
 // A tile inside and a row outside have one medium.
-fn fill_shared_medium<S: Alter>(alloc: Global, conn: &mut Connection<S>) -> Result<(), Fault> {
-    put_tile(alloc, conn, 1, [1, 0, 0])?;
-    put_row(alloc, conn, 2, [3000, 1000])?;
-    put_medium(alloc, conn, 3)?;
-    put_link(conn, Mapping::TilesMedia, 1, 3)?;
-    put_link(conn, Mapping::RowsMedia, 2, 3)?;
-    Ok(())
-}
+const SHARED_MEDIUM: [Step; 10] = [
+    Step::Does(Does::Adds(1, Thing::Tile([1, 0, 0], "A"))),
+    Step::Does(Does::Adds(2, Thing::Row([3000, 1000], 0, ""))),
+    Step::Does(Does::Adds(3, Thing::Medium("image/jpeg", "JP"))),
+    Step::Does(Does::Links(Mapping::TilesMedia, 1, 3)),
+    Step::Does(Does::Links(Mapping::RowsMedia, 2, 3)),
+    Step::Cuts(Cuts(Mode::Strict, CORNER), "cuts a link of 3"),
+    Step::Cuts(
+        Cuts(Mode::Follow, CORNER),
+        "1;2;3;tile-medium 1 3;row-medium 2 3;",
+    ),
+    Step::Alters("DROP INDEX by_xy; DROP INDEX by_tiles_media; DROP INDEX by_rows_media"),
+    Step::Cuts(Cuts(Mode::Strict, CORNER), "cuts a link of 3"),
+    Step::Cuts(
+        Cuts(Mode::Follow, CORNER),
+        "1;2;3;tile-medium 1 3;row-medium 2 3;",
+    ),
+];
 
 // From the tile inside over its medium to a tile outside, and on to that one's second medium.
-fn fill_two_rounds<S: Alter>(alloc: Global, conn: &mut Connection<S>) -> Result<(), Fault> {
-    put_tile(alloc, conn, 1, [1, 0, 0])?;
-    put_tile(alloc, conn, 2, [1, 1, 0])?;
-    put_tile(alloc, conn, 5, [1, 1, 1])?;
-    put_medium(alloc, conn, 3)?;
-    put_medium(alloc, conn, 4)?;
-    put_link(conn, Mapping::TilesMedia, 1, 3)?;
-    put_link(conn, Mapping::TilesMedia, 2, 3)?;
-    put_link(conn, Mapping::TilesMedia, 2, 4)?;
-    Ok(())
-}
+const TWO_ROUNDS: [Step; 11] = [
+    Step::Does(Does::Adds(1, Thing::Tile([1, 0, 0], "A"))),
+    Step::Does(Does::Adds(2, Thing::Tile([1, 1, 0], "A"))),
+    Step::Does(Does::Adds(5, Thing::Tile([1, 1, 1], "A"))),
+    Step::Does(Does::Adds(3, Thing::Medium("image/jpeg", "JP"))),
+    Step::Does(Does::Adds(4, Thing::Medium("image/jpeg", "JP"))),
+    Step::Does(Does::Links(Mapping::TilesMedia, 1, 3)),
+    Step::Does(Does::Links(Mapping::TilesMedia, 2, 3)),
+    Step::Does(Does::Links(Mapping::TilesMedia, 2, 4)),
+    Step::Cuts(
+        Cuts(Mode::Follow, CORNER),
+        "1;2;3;4;tile-medium 1 3;tile-medium 2 3;tile-medium 2 4;",
+    ),
+    Step::Alters("DROP INDEX by_xy; DROP INDEX by_tiles_media; DROP INDEX by_rows_media"),
+    Step::Cuts(
+        Cuts(Mode::Follow, CORNER),
+        "1;2;3;4;tile-medium 1 3;tile-medium 2 3;tile-medium 2 4;",
+    ),
+];
 
 // A row inside is related to a tile outside.
-fn fill_row_of_tile<S: Alter>(alloc: Global, conn: &mut Connection<S>) -> Result<(), Fault> {
-    put_row(alloc, conn, 1, [100, 4000])?;
-    put_tile(alloc, conn, 2, [1, 1, 1])?;
-    put_link(conn, Mapping::RowsTiles, 1, 2)?;
-    Ok(())
-}
+const ROW_OF_TILE: [Step; 5] = [
+    Step::Does(Does::Adds(1, Thing::Row([100, 4000], 0, ""))),
+    Step::Does(Does::Adds(2, Thing::Tile([1, 1, 1], "A"))),
+    Step::Does(Does::Links(Mapping::RowsTiles, 1, 2)),
+    Step::Cuts(Cuts(Mode::Strict, CORNER), "cuts a link of 1"),
+    Step::Cuts(Cuts(Mode::Follow, CORNER), "1;2;row-tile 1 2;"),
+];
 
 #[test]
 fn cut_over_zooms(rt: HostRuntime) -> Result<(), Fail> {
-    let alloc = rt.alloc();
-    let mut conn = package(alloc, in_memory(alloc)?)?;
-    fill_zooms(alloc, &mut conn)?;
-    let inside = [id(2), id(3), id(4), id(5), id(6)];
-    assert!(rt; takes(alloc, &mut conn, Mode::Strict, &inside, &[])?);
-    without_indexes(&mut conn)?;
-    assert!(rt; takes(alloc, &mut conn, Mode::Strict, &inside, &[])?);
+    let wrong = wrong_in_package(rt.alloc(), &FRAME, &archive(), ZOOMS.as_slice())?;
+    assert_eq!(rt; wrong.as_str(), "");
     Ok(())
 }
 
 #[test]
 fn points_on_edges(rt: HostRuntime) -> Result<(), Fail> {
-    let alloc = rt.alloc();
-    let mut conn = package(alloc, in_memory(alloc)?)?;
-    fill_points(alloc, &mut conn)?;
-    assert!(rt; takes(alloc, &mut conn, Mode::Strict, &[id(1), id(2)], &[])?);
+    let wrong = wrong_in_package(rt.alloc(), &FRAME, &archive(), POINTS.as_slice())?;
+    assert_eq!(rt; wrong.as_str(), "");
     Ok(())
 }
 
 #[test]
 fn shared_medium(rt: HostRuntime) -> Result<(), Fail> {
-    let alloc = rt.alloc();
-    let mut conn = package(alloc, in_memory(alloc)?)?;
-    fill_shared_medium(alloc, &mut conn)?;
-    let items = [id(1), id(2), id(3)];
-    let links = [
-        relation(Mapping::TilesMedia, 1, 3),
-        relation(Mapping::RowsMedia, 2, 3),
-    ];
-    assert!(rt; refuses(alloc, &mut conn, Mode::Strict, Refusal::CutLink(id(3)))?);
-    assert!(rt; takes(alloc, &mut conn, Mode::Follow, &items, &links)?);
-    without_indexes(&mut conn)?;
-    assert!(rt; refuses(alloc, &mut conn, Mode::Strict, Refusal::CutLink(id(3)))?);
-    assert!(rt; takes(alloc, &mut conn, Mode::Follow, &items, &links)?);
+    let wrong = wrong_in_package(rt.alloc(), &FRAME, &archive(), SHARED_MEDIUM.as_slice())?;
+    assert_eq!(rt; wrong.as_str(), "");
     Ok(())
 }
 
 #[test]
 fn follow_two_rounds(rt: HostRuntime) -> Result<(), Fail> {
-    let alloc = rt.alloc();
-    let mut conn = package(alloc, in_memory(alloc)?)?;
-    fill_two_rounds(alloc, &mut conn)?;
-    let items = [id(1), id(2), id(3), id(4)];
-    let links = [
-        relation(Mapping::TilesMedia, 1, 3),
-        relation(Mapping::TilesMedia, 2, 3),
-        relation(Mapping::TilesMedia, 2, 4),
-    ];
-    assert!(rt; takes(alloc, &mut conn, Mode::Follow, &items, &links)?);
-    without_indexes(&mut conn)?;
-    assert!(rt; takes(alloc, &mut conn, Mode::Follow, &items, &links)?);
+    let wrong = wrong_in_package(rt.alloc(), &FRAME, &archive(), TWO_ROUNDS.as_slice())?;
+    assert_eq!(rt; wrong.as_str(), "");
     Ok(())
 }
 
 #[test]
 fn row_related_to_a_tile(rt: HostRuntime) -> Result<(), Fail> {
-    let alloc = rt.alloc();
-    let mut conn = package(alloc, in_memory(alloc)?)?;
-    fill_row_of_tile(alloc, &mut conn)?;
-    let links = [relation(Mapping::RowsTiles, 1, 2)];
-    assert!(rt; refuses(alloc, &mut conn, Mode::Strict, Refusal::CutLink(id(1)))?);
-    assert!(rt; takes(alloc, &mut conn, Mode::Follow, &[id(1), id(2)], &links)?);
+    let wrong = wrong_in_package(rt.alloc(), &FRAME, &archive(), ROW_OF_TILE.as_slice())?;
+    assert_eq!(rt; wrong.as_str(), "");
     Ok(())
 }

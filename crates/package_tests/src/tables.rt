@@ -1,23 +1,11 @@
-// The tables of a package as texts, on a connection that is at rest: of each row all columns, of bytes their number.
+// The rows of a package's tables as texts: of each all columns, of bytes their number.
 
-use package_tables::attributes::all_attributes;
 use package_tables::fault::Fault;
-use package_tables::fixed::all_contents;
-use package_tables::head::all_heads;
-use package_tables::identities::all_identities;
-use package_tables::mappings::all_pairs;
-use package_tables::media::all_media;
-use package_tables::moved::moved_of;
-use package_tables::receipts::receipt_by_request;
 use package_tables::rows::{
     AttributeRow, ContentsRow, HeadRow, IdentityRow, MappingRow, MediaRow, MovedRow, ReceiptRow,
     RelationRow, SpatialRefSysRow, TileMatrixRow, TileMatrixSetRow, TileRow,
 };
-use package_tables::tiles::all_tiles;
-use sheet_types::command::Mapping;
-use sqlite::{Alter, Connection};
 use std::alloc::{AllocError, Global};
-use test_values::at_rest;
 
 // ---- a row as a text
 
@@ -200,6 +188,22 @@ impl Told for RelationRow {
     }
 }
 
+impl Told for i64 {
+    fn told(&self, alloc: Global) -> Result<String, AllocError> {
+        format!(in alloc; "{}", self)
+    }
+}
+
+pub(crate) fn fixed_text(a: Global, text: &str) -> Result<String, AllocError> {
+    String::from_str(a, text)
+}
+
+// Numbers in their order.
+pub(crate) fn sorted(alloc: Global, mut numbers: Vec<i64>) -> Result<String, Fault> {
+    numbers.sort_unstable();
+    listed(alloc, &numbers, ';')
+}
+
 // The row that was found, or "-" where there is none.
 pub(crate) fn found<T: Told>(alloc: Global, row: &Option<T>) -> Result<String, Fault> {
     match row {
@@ -216,71 +220,4 @@ pub(crate) fn listed<T: Told>(alloc: Global, rows: &[T], end: char) -> Result<St
         told.push(end)?;
     }
     Ok(told)
-}
-
-// ---- the tables. They have no clause, so that the proof of a test does not carry the state of each call
-
-pub(crate) fn tiles<S: Alter>(alloc: Global, conn: &mut Connection<S>) -> Result<String, Fault> {
-    at_rest(conn)?;
-    listed(alloc, &all_tiles(conn, alloc)?, ';')
-}
-
-pub(crate) fn media<S: Alter>(alloc: Global, conn: &mut Connection<S>) -> Result<String, Fault> {
-    at_rest(conn)?;
-    listed(alloc, &all_media(conn, alloc)?, ';')
-}
-
-pub(crate) fn attributes<S: Alter>(
-    alloc: Global,
-    conn: &mut Connection<S>,
-) -> Result<String, Fault> {
-    at_rest(conn)?;
-    listed(alloc, &all_attributes(conn, alloc)?, ';')
-}
-
-pub(crate) fn pairs<S: Alter>(
-    alloc: Global,
-    conn: &mut Connection<S>,
-    mapping: Mapping,
-) -> Result<String, Fault> {
-    at_rest(conn)?;
-    listed(alloc, &all_pairs(conn, mapping, alloc)?, ';')
-}
-
-pub(crate) fn identities<S: Alter>(
-    alloc: Global,
-    conn: &mut Connection<S>,
-) -> Result<String, Fault> {
-    at_rest(conn)?;
-    listed(alloc, &all_identities(conn, alloc)?, ';')
-}
-
-pub(crate) fn contents<S: Alter>(alloc: Global, conn: &mut Connection<S>) -> Result<String, Fault> {
-    at_rest(conn)?;
-    listed(alloc, &all_contents(conn, alloc)?, '|')
-}
-
-pub(crate) fn heads<S: Alter>(alloc: Global, conn: &mut Connection<S>) -> Result<String, Fault> {
-    at_rest(conn)?;
-    listed(alloc, &all_heads(conn, alloc)?, '|')
-}
-
-// The receipt of a request.
-pub(crate) fn receipt<S: Alter>(
-    alloc: Global,
-    conn: &mut Connection<S>,
-    request: &str,
-) -> Result<String, Fault> {
-    at_rest(conn)?;
-    found(alloc, &receipt_by_request(conn, request)?)
-}
-
-// What the receipt of a number moved.
-pub(crate) fn moved<S: Alter>(
-    alloc: Global,
-    conn: &mut Connection<S>,
-    seq: i64,
-) -> Result<String, Fault> {
-    at_rest(conn)?;
-    listed(alloc, &moved_of(conn, alloc, seq)?, ';')
 }

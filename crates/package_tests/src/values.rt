@@ -24,6 +24,17 @@ pub(crate) fn archive() -> Info<'static> {
 pub(crate) const HEAD: &str =
     "1 2 00000000-0000-0000-0000-000000000001  0 0 2026-11-22T09:00:00.000Z|";
 
+// The head of its loan, package 2.
+pub(crate) fn loan() -> Info<'static> {
+    Info {
+        package: Uuid::from_u128(2),
+        parent: Some(Uuid::from_u128(1)),
+        depth: 1,
+        loan: 7,
+        created: AT,
+    }
+}
+
 pub(crate) fn open(alloc: Global, db: Memory) -> Result<Connection<FileStore<Memory>>, Error>
     requires { IsTrue (memory_is_usable db) }
 {

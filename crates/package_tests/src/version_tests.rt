@@ -1,92 +1,101 @@
 // A store of the first version is brought to the second, or left as it was.
 
-use crate::versions::{
-    Linked, back, brought, full_store, head, held, receipts, relations, row_medium, row_tile,
-    tile_medium,
-};
-use first_version::names::are_free;
-use package_tables::fault::Fault;
-use package_tables::rows::RelationRow;
-use sqlite::{Alter, Connection};
-use std::alloc::Global;
+use crate::asks::Asks;
+use crate::fixed_asks::{OfFixed, OfReceipts};
+use crate::forms::{OfForms, Turns};
+use crate::items::OfItems;
+use crate::steps::{Step, wrong_in_new_tables};
+use crate::values::HEAD;
+use sheet_types::command::Mapping;
 use std::test::Fail;
-use test_values::{AT, altered, committed};
-use uuid::Uuid;
+use test_values::{AT, Row};
 
-fn is_third(row: Option<&RelationRow>) -> bool {
-    match row {
-        Some(row) => {
-            row.id == 3
-                && row.base_table_name.as_str() == "sheet_rows"
-                && row.base_primary_column.as_str() == "id"
-                && row.related_table_name.as_str() == "sheet_tiles"
-                && row.related_primary_column.as_str() == "id"
-                && row.relation_name.as_str() == "tiles"
-                && row.mapping_table_name.as_str() == "rows_tiles"
-        }
-        None => false,
-    }
-}
+const TILE: &str = "00000000-0000-0000-0000-000000000001";
 
-// The version, how many relations there are, and whether the head says else what it said.
-fn is_at<S: Alter>(
-    alloc: Global,
-    conn: &mut Connection<S>,
-    version: i64,
-    related: usize,
-) -> Result<bool, Fault> {
-    let head = head(alloc, conn)?;
-    Ok(
-        head.id == 1
-            && head.version == version
-            && head.depth == 0
-            && head.created.as_str() == AT
-            && relations(alloc, conn)?.len() == related,
-    )
-}
+// A package of the second version with a tile, a medium, a row, two links and a receipt.
+const FULL: [Row; 10] = [
+    Row::Tile(7, [2, 3, 1], "ab"),
+    Row::Identity(1, 7, TILE),
+    Row::Medium(4, "png", "image/png"),
+    Row::Identity(2, 4, "00000000-0000-0000-0000-000000000002"),
+    Row::Attribute(9, [100, 200, 31], "well"),
+    Row::Identity(3, 9, "00000000-0000-0000-0000-000000000003"),
+    Row::Pair(Mapping::TilesMedia, 7, 4),
+    Row::Pair(Mapping::RowsMedia, 9, 4),
+    Row::Receipt {
+        seq: 1,
+        request: "00000000-0000-0000-0000-00000000000a",
+        at: AT,
+        line: "add",
+        source: "",
+        target: "",
+        counts: [1, 0, 0, 0, 2],
+    },
+    Row::Moved([1, 0, 1], TILE, "", 2, ""),
+];
+
+const FIRST_HEAD: &str = "1 1 00000000-0000-0000-0000-000000000001  0 0 2026-11-22T09:00:00.000Z|";
+
+const TWO_RELATIONS: &str =
+    "1 sheet_tiles id sheet_media id media tiles_media|2 sheet_rows id sheet_media id media rows_media|";
+
+const THREE_RELATIONS: &str =
+    "1 sheet_tiles id sheet_media id media tiles_media|2 sheet_rows id sheet_media id media rows_media|3 sheet_rows id sheet_tiles id tiles rows_tiles|";
+
+const BROUGHT: [Step; 15] = [
+    Step::Tells(Asks::Fixed(OfFixed::Heads), HEAD),
+    Step::Tells(Asks::Fixed(OfFixed::Relations), THREE_RELATIONS),
+    Step::Forms(OfForms::AreFree, "no"),
+    Step::Turns(Turns::Back, "done"),
+    Step::Tells(Asks::Fixed(OfFixed::Heads), FIRST_HEAD),
+    Step::Tells(Asks::Fixed(OfFixed::Relations), TWO_RELATIONS),
+    Step::Forms(OfForms::AreFree, "yes"),
+    Step::Turns(Turns::Brought, "done"),
+    Step::Tells(Asks::Fixed(OfFixed::Heads), HEAD),
+    Step::Tells(Asks::Fixed(OfFixed::Relations), THREE_RELATIONS),
+    Step::Forms(OfForms::AreFree, "no"),
+    Step::Items(
+        OfItems::Held,
+        "1 tile 2 3 1 ab;2 medium image/png png;3 row 100 200 31 well;tile-medium 1 2;row-medium 3 2;",
+    ),
+    Step::Tells(Asks::Receipts(OfReceipts::Counts), "1 1"),
+    // a row and a tile come to be linked, which the first version had no table for
+    Step::Puts(Row::Pair(Mapping::RowsTiles, 9, 7)),
+    Step::Items(
+        OfItems::Held,
+        "1 tile 2 3 1 ab;2 medium image/png png;3 row 100 200 31 well;tile-medium 1 2;row-medium 3 2;row-tile 3 1;",
+    ),
+];
+
+const STAYS: [Step; 14] = [
+    // one of the second version has the table
+    Step::Turns(Turns::Brought, "StoreFault"),
+    Step::Tells(Asks::Fixed(OfFixed::Heads), HEAD),
+    Step::Tells(Asks::Fixed(OfFixed::Relations), THREE_RELATIONS),
+    // the name of the index is taken, and the table that was made before goes again
+    Step::Turns(Turns::Back, "done"),
+    Step::Alters("CREATE TABLE by_rows_tiles (x INTEGER) STRICT"),
+    Step::Forms(OfForms::AreFree, "no"),
+    Step::Turns(Turns::Brought, "StoreFault"),
+    Step::Tells(Asks::Fixed(OfFixed::Heads), FIRST_HEAD),
+    Step::Tells(Asks::Fixed(OfFixed::Relations), TWO_RELATIONS),
+    Step::Alters("DROP TABLE by_rows_tiles"),
+    Step::Forms(OfForms::AreFree, "yes"),
+    Step::Turns(Turns::Brought, "done"),
+    Step::Tells(Asks::Fixed(OfFixed::Heads), HEAD),
+    Step::Tells(Asks::Fixed(OfFixed::Relations), THREE_RELATIONS),
+];
 
 #[test]
 fn a_store_of_the_first_version_is_brought(rt: HostRuntime) -> Result<(), Fail> {
-    let a = rt.alloc();
-    let mut conn = full_store(a)?;
-    let conn = &mut conn;
-    assert!(rt; is_at(a, conn, 2, 3)?);
-    assert!(rt; !are_free(conn.schema()));
-    back(conn)?;
-    assert!(rt; is_at(a, conn, 1, 2)?);
-    assert!(rt; are_free(conn.schema()));
-    brought(conn)?;
-    assert!(rt; is_at(a, conn, 2, 3)?);
-    assert!(rt; is_third(relations(a, conn)?.last()));
-    assert!(rt; !are_free(conn.schema()));
-    let (items, links) = held(a, conn)?;
-    assert!(rt; items.len() == 3);
-    assert!(rt; items[0].identity == Uuid::from_u128(1));
-    assert!(rt; links.as_slice() == [tile_medium(), row_medium()].as_slice());
-    assert!(rt; receipts(a, conn)?.len() == 1);
-    assert!(rt; committed(conn, &Linked)?);
-    let (_, links) = held(a, conn)?;
-    assert!(rt; links.as_slice() == [tile_medium(), row_medium(), row_tile()].as_slice());
+    let wrong = wrong_in_new_tables(rt.alloc(), FULL.as_slice(), BROUGHT.as_slice())?;
+    assert_eq!(rt; wrong.as_str(), "");
     Ok(())
 }
 
 #[test]
 fn a_store_that_cannot_be_brought_stays(rt: HostRuntime) -> Result<(), Fail> {
-    let a = rt.alloc();
-    let mut conn = full_store(a)?;
-    let conn = &mut conn;
-    // one of the second version has the table
-    assert!(rt; brought(conn) == Err(Fault::StoreFault));
-    assert!(rt; is_at(a, conn, 2, 3)?);
-    // the name of the index is taken, and the table that was made before goes again
-    back(conn)?;
-    altered(conn, "CREATE TABLE by_rows_tiles (x INTEGER) STRICT")?;
-    assert!(rt; !are_free(conn.schema()));
-    assert!(rt; brought(conn) == Err(Fault::StoreFault));
-    assert!(rt; is_at(a, conn, 1, 2)?);
-    altered(conn, "DROP TABLE by_rows_tiles")?;
-    assert!(rt; are_free(conn.schema()));
-    brought(conn)?;
-    assert!(rt; is_at(a, conn, 2, 3)?);
+    let wrong = wrong_in_new_tables(rt.alloc(), FULL.as_slice(), STAYS.as_slice())?;
+    assert_eq!(rt; wrong.as_str(), "");
     Ok(())
 }

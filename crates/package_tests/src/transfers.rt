@@ -8,14 +8,11 @@ use identity_register::look_ups::find;
 use identity_register::selection::Selection;
 use identity_register::whole::holdings;
 use package_tables::fault::Fault;
-use package_tables::identities::insert_identity;
 use package_tables::package::begin;
-use package_tables::schema::create_schema;
-use package_tables::tiles::insert_tile;
 use sheet_types::command::{Content, Item, Relation};
 use sqlite::{Alter, Connection, Transaction};
 use std::alloc::Global;
-use test_values::{Change, at_rest, tile_content};
+use test_values::{Change, Row, at_rest, links_text, tile_content};
 use transfer::lifting::lift;
 use transfer::pages::{carry_over, carry_page};
 use transfer::parcel::Parcel;
@@ -23,18 +20,8 @@ use transfer::putting::put;
 use transfer::taking::take;
 use uuid::Uuid;
 
-// The tables of a package, without rows.
-#[derive(Drop)]
-pub(crate) struct Tables;
-
-impl<S: Alter> Change<S> for Tables {
-    fn make(&self, tx: &mut Transaction<'_, S>) -> Result<(), Fault> {
-        Ok(create_schema(tx)?)
-    }
-}
-
 // The tile of a number, of one byte.
-pub(crate) fn tile_of(alloc: Global, number: u16) -> Result<Content, Fault> {
+fn tile_of(alloc: Global, number: u16) -> Result<Content, Fault> {
     tile_content(
         alloc,
         [9, (number % 256) as i64, (number / 256) as i64],
@@ -61,15 +48,10 @@ impl<S: Alter> Change<S> for Tiles {
 }
 
 // A tile under the last number that there may be.
-#[derive(Drop)]
-pub(crate) struct LastNumber;
-
-impl<S: Alter> Change<S> for LastNumber {
-    fn make(&self, tx: &mut Transaction<'_, S>) -> Result<(), Fault> {
-        insert_tile(tx, 1_000_000, 2, 3, 3, b"Z")?;
-        insert_identity(tx, TILE, 1_000_000, "00000000-0000-0000-0000-0000000003e8")
-    }
-}
+pub(crate) const LAST_NUMBER: [Row; 2] = [
+    Row::Tile(1_000_000, [2, 3, 3], "Z"),
+    Row::Identity(TILE, 1_000_000, "00000000-0000-0000-0000-0000000003e8"),
+];
 
 #[derive(Drop)]
 pub(crate) struct Items<'a>(pub &'a [Item]);
@@ -95,23 +77,34 @@ impl<'a, S: Alter> Change<S> for Links<'a> {
     }
 }
 
-pub(crate) fn held<S: Alter>(
-    alloc: Global,
-    conn: &mut Connection<S>,
-) -> Result<(Vec<Item>, Vec<Relation>), Fault> {
+// How many items a package has, and its links.
+pub(crate) fn held<S: Alter>(alloc: Global, conn: &mut Connection<S>) -> Result<String, Fault> {
     at_rest(conn)?;
-    holdings(conn, alloc)
+    let (items, links) = holdings(conn, alloc)?;
+    let links = links_text(alloc, &links)?;
+    Ok(format!(in alloc; "{};{}", items.len(), links.as_str())?)
 }
 
-// The one byte of a tile.
-pub(crate) fn byte_of<S: Alter>(conn: &mut Connection<S>, id: u128) -> Result<Option<u8>, Fault> {
+fn first_byte(content: &Content) -> Option<u8> {
+    match content {
+        Content::Tile { bytes, .. } => bytes.as_slice().first().copied(),
+        Content::Media { .. } | Content::Row { .. } => None,
+    }
+}
+
+// The one byte of a tile, "-" where there is none.
+pub(crate) fn byte_of<S: Alter>(
+    alloc: Global,
+    conn: &mut Connection<S>,
+    id: u16,
+) -> Result<String, Fault> {
     at_rest(conn)?;
-    match find(conn, Uuid::from_u128(id))? {
-        Some(item) => match item.content {
-            Content::Tile { bytes, .. } => Ok(bytes.as_slice().first().copied()),
-            Content::Media { .. } | Content::Row { .. } => Ok(None),
+    match find(conn, Uuid::from_u128(u128::from(id)))? {
+        Some(item) => match first_byte(&item.content) {
+            Some(byte) => Ok(format!(in alloc; "{byte}")?),
+            None => Ok(String::from_str(alloc, "-")?),
         },
-        None => Ok(None),
+        None => Ok(String::from_str(alloc, "-")?),
     }
 }
 
@@ -167,24 +160,17 @@ fn is_same(a: &Content, b: &Content) -> bool {
     }
 }
 
-// How many of these items the package has with the same content.
-pub(crate) fn count_same<S: Alter>(
-    conn: &mut Connection<S>,
-    items: &[Item],
-) -> Result<usize, Fault> {
-    let mut same: usize = 0;
+// Whether the package has these items with the same content.
+pub(crate) fn has_all<S: Alter>(conn: &mut Connection<S>, items: &[Item]) -> Result<bool, Fault> {
+    let mut all = true;
     for item in items {
         at_rest(conn)?;
-        match find(conn, item.identity)? {
-            Some(found) => {
-                if is_same(&found.content, &item.content) {
-                    same = same.wrapping_add(1);
-                }
-            }
-            None => {}
-        }
+        all = match find(conn, item.identity)? {
+            Some(found) => all && is_same(&found.content, &item.content),
+            None => false,
+        };
     }
-    Ok(same)
+    Ok(all)
 }
 
 pub(crate) fn lifted<S: Alter>(

@@ -17,6 +17,7 @@ use sheet_types::command::{Content, Item, Mapping, Relation};
 use sheet_types::receipt::Receipt;
 use sqlite::{Alter, Connection, Transaction};
 use std::alloc::Global;
+use std::str::from_utf8;
 use test_values::{Change, at_rest, medium_content, row_content, text, tile_content};
 use uuid::Uuid;
 
@@ -109,19 +110,21 @@ pub(crate) fn is_dated<S: Alter>(
     Ok(dated)
 }
 
-// Whether a package has a tile of this identity with these bytes.
-pub(crate) fn has_tile<S: Alter>(
+// The bytes of a tile, "-" where there is no tile of this identity.
+pub(crate) fn tile_bytes<S: Alter>(
+    a: Global,
     conn: &mut Connection<S>,
     identity: u128,
-    expected: &[u8],
-) -> Result<bool, Fault> {
+) -> Result<String, Fault> {
     at_rest(conn)?;
     match find(conn, id(identity))? {
         Some(item) => match item.content {
-            Content::Tile { bytes, .. } => Ok(bytes.as_slice() == expected),
-            Content::Media { .. } | Content::Row { .. } => Ok(false),
+            Content::Tile { bytes, .. } => {
+                Ok(String::from_str(a, from_utf8(bytes.as_slice()).unwrap_or("?"))?)
+            }
+            Content::Media { .. } | Content::Row { .. } => Ok(String::from_str(a, "-")?),
         },
-        None => Ok(false),
+        None => Ok(String::from_str(a, "-")?),
     }
 }
 

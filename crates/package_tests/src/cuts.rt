@@ -1,0 +1,45 @@
+// Cuts of a package at rest, and what they tell.
+
+use cut::select::select;
+use matrix_rules::check::FrameRules;
+use matrix_rules::ground::is_good;
+use package_tables::fault::Fault;
+use sheet_types::command::Mode;
+use sheet_types::frame::Rect;
+use sheet_types::refusal::Refusal;
+use sqlite::{Alter, Connection};
+use std::alloc::Global;
+use test_values::{FRAME, at_rest, identities_text, links_text, number_of};
+
+// A rectangle by its zoom, its first and last column, its first and last row.
+#[derive(Clone, Copy)]
+pub(crate) struct Cuts(pub Mode, pub [i64; 5]);
+
+// The items that are selected and then the links, or why nothing is.
+pub(crate) fn cut_told<S: Alter>(
+    a: Global,
+    conn: &mut Connection<S>,
+    cuts: Cuts,
+) -> Result<String, Fault> {
+    let Cuts(mode, of) = cuts;
+    let rect = Rect {
+        zoom: of[0],
+        column: of[1],
+        last_column: of[2],
+        row: of[3],
+        last_row: of[4],
+    };
+    at_rest(conn)?;
+    if FRAME.check().is_err() || !is_good(&FRAME, &rect) {
+        return Err(Fault::StoreFault);
+    }
+    match select(conn, a, &FRAME, &rect, mode)? {
+        Ok(selection) => {
+            let mut text = identities_text(a, &selection.identities)?;
+            text.push_str(links_text(a, &selection.links)?.as_str())?;
+            Ok(text)
+        }
+        Err(Refusal::CutLink(item)) => { Ok(format!(in a; "cuts a link of {}", number_of(item))?) }
+        Err(why) => Ok(format!(in a; "{why}")?),
+    }
+}
