@@ -1,24 +1,29 @@
 // What a request comes to before anything is written, over two packages in memory. The digest is that of `tile 2 3 1`, LF and `ab` by another program's SHA-256.
+use crate::told::{receipt_text, sums_text};
 use crate::values::{empty_member, item, package, request};
 use known_uuids::known::Known;
 use package_tables::fault::Fault;
 use sheet_types::command::{Command, Request};
-use sheet_types::refusal::Refusal;
-use sqlite::{Alter, Connection, MemStore};
-use std::alloc::Global;
+use sqlite::{Alter, Connection};
+use std::alloc::{AllocError, Global};
 use std::test::Fail;
-use test_values::{AT, FRAME, is_good, sums, text, tile_content};
+use test_values::{AT, Checked, FRAME, in_memory, is_good, text, tile_content};
 use world::asking::are_at_rest;
-use world::deciding::{Decision, decide};
+use world::deciding::{Change, Decision, decide};
 use world::members::Member;
 
-const LINE: &str =
-    "add 00000000-0000-0000-0000-000000000002 00000000-0000-0000-0000-000000000011 tile 2 528f176f55fe100ca85fe06d11f0336c87947d621d6d7895e1e357c0cfe0e8e1";
+// The second member's change to the sums after it, and the receipt with its moment, its line, and the tile that it moved.
+const CHANGE: &str =
+    "1: 1 0 0 0 2; 2026-11-22T09:00:00.000Z add 00000000-0000-0000-0000-000000000002 00000000-0000-0000-0000-000000000011 tile 2 528f176f55fe100ca85fe06d11f0336c87947d621d6d7895e1e357c0cfe0e8e1; 1 0>2 1 0 0 0 2: tile 17 0 of 2 bytes;";
 
-fn two(alloc: Global) -> Result<Vec<Member<MemStore>>, Fault> {
+fn two<S: Alter + Drop>(
+    alloc: Global,
+    first: Connection<S>,
+    second: Connection<S>,
+) -> Result<Vec<Member<S>>, Fault> {
     let mut members = Vec::new(alloc);
-    members.push(empty_member(alloc, Connection::open_in_memory(alloc)?, 1)?)?;
-    members.push(empty_member(alloc, Connection::open_in_memory(alloc)?, 2)?)?;
+    members.push(empty_member(alloc, first, 1)?)?;
+    members.push(empty_member(alloc, second, 2)?)?;
     Ok(members)
 }
 
@@ -49,36 +54,29 @@ fn decided<S: Alter + Drop>(
     decide(members, &Known::new(alloc), &FRAME, count, alloc, &request)
 }
 
-#[test]
-fn the_first_tile_is_due(rt: HostRuntime) -> Result<(), Fail> {
-    let alloc = rt.alloc();
-    let mut members = two(alloc)?;
-    let Decision::ChangeDue(change) = decided(&mut members, 0, alloc, 1)? else {
-        return Err(Fail::new("the tile is taken"));
-    };
-    assert!(rt; change.at == 1 && change.sums == sums(1, 0, 0, 0, 2));
-    assert!(rt; change.receipt.seq == 1 && change.receipt.request == request(1));
-    assert_eq!(rt; change.receipt.at.as_str(), AT);
-    assert_eq!(rt; change.receipt.line.as_str(), LINE);
-    assert!(rt; change.receipt.source.is_none() && change.receipt.target == Some(package(2)));
-    assert_eq!(rt; change.receipt.items.as_slice().len(), 1);
-    Ok(())
+fn change_text(alloc: Global, change: &Change) -> Result<String, AllocError> {
+    let sums = sums_text(alloc, change.sums)?;
+    let receipt = receipt_text(alloc, &change.receipt)?;
+    let (at, line) = (&change.receipt.at, &change.receipt.line);
+    format!(in alloc;
+        "{}: {}; {} {}; {}",
+        change.at,
+        sums.as_str(),
+        at.as_str(),
+        line.as_str(),
+        receipt.as_str()
+    )
 }
 
-// Why it is refused.
-fn refused<S: Alter + Drop>(
-    members: &mut Vec<Member<S>>,
-    count: u64,
-    alloc: Global,
-    row: i64,
-) -> Result<Option<Refusal>, Fault> {
-    let decision = decided(members, count, alloc, row)?;
-    match &decision {
-        Decision::Answered(Err(why)) => Ok(Some(*why)),
-        Decision::Answered(Ok(_))
-        | Decision::ChangeDue(_)
-        | Decision::SplitDue(_)
-        | Decision::MergeDue(_) => Ok(None),
+// A change by what it is, or only that it is due.
+fn decision_text(alloc: Global, decision: &Decision, is_whole: bool) -> Result<String, AllocError> {
+    match decision {
+        Decision::ChangeDue(change) if is_whole => change_text(alloc, change),
+        Decision::ChangeDue(_) => String::from_str(alloc, "due"),
+        Decision::Answered(Err(why)) => String::from_str(alloc, why.name()),
+        Decision::Answered(Ok(_)) | Decision::SplitDue(_) | Decision::MergeDue(_) => {
+            String::from_str(alloc, "another")
+        }
     }
 }
 
@@ -89,16 +87,56 @@ fn set_tiles<S: Alter + Drop>(members: &mut Vec<Member<S>>, tiles: u64) {
     }
 }
 
+// After so many receipts, with so many tiles in the second member, an addition to this row; and what it comes to, whole or not.
+#[derive(Clone, Copy)]
+struct Step(u64, u64, i64, bool, &'static str);
+
+fn told<S: Alter + Drop>(
+    alloc: Global,
+    members: &mut Vec<Member<S>>,
+    step: Step,
+) -> Result<String, Fault> {
+    set_tiles(members, step.1);
+    let decision = decided(members, step.0, alloc, step.2)?;
+    Ok(decision_text(alloc, &decision, step.3)?)
+}
+
+fn wrong<S: Alter + Drop>(
+    alloc: Global,
+    first: Connection<S>,
+    second: Connection<S>,
+    steps: &[Step],
+) -> Result<String, Fault> {
+    let mut members = two(alloc, first, second)?;
+    let mut checked = Checked::new(alloc);
+    for step in steps {
+        checked.told(told(alloc, &mut members, *step), step.4);
+    }
+    Ok(String::from_str(alloc, checked.wrong())?)
+}
+
+const FIRST: [Step; 1] = [Step(0, 0, 1, true, CHANGE)];
+
+const LIMITS: [Step; 5] = [
+    Step(1_000_000_000, 0, 1, false, "TooMany"),
+    Step(1_000_000_000, 0, 4, false, "BadPlace"),
+    Step(0, 1_000_000, 1, false, "TooMany"),
+    Step(999_999_999, 0, 1, false, "due"),
+    Step(0, 999_999, 1, false, "due"),
+];
+
+#[test]
+fn the_first_tile_is_due(rt: HostRuntime) -> Result<(), Fail> {
+    let a = rt.alloc();
+    let wrong = wrong(a, in_memory(a)?, in_memory(a)?, FIRST.as_slice())?;
+    assert_eq!(rt; wrong.as_str(), "");
+    Ok(())
+}
+
 #[test]
 fn the_limits_come_last(rt: HostRuntime) -> Result<(), Fail> {
-    let alloc = rt.alloc();
-    let mut members = two(alloc)?;
-    assert!(rt; refused(&mut members, 1_000_000_000, alloc, 1)? == Some(Refusal::TooMany));
-    assert!(rt; refused(&mut members, 1_000_000_000, alloc, 4)? == Some(Refusal::BadPlace));
-    assert!(rt; refused(&mut members, 999_999_999, alloc, 1)?.is_none());
-    set_tiles(&mut members, 1_000_000);
-    assert!(rt; refused(&mut members, 0, alloc, 1)? == Some(Refusal::TooMany));
-    set_tiles(&mut members, 999_999);
-    assert!(rt; refused(&mut members, 0, alloc, 1)?.is_none());
+    let a = rt.alloc();
+    let wrong = wrong(a, in_memory(a)?, in_memory(a)?, LIMITS.as_slice())?;
+    assert_eq!(rt; wrong.as_str(), "");
     Ok(())
 }

@@ -1,13 +1,14 @@
 // Requests and the reasons for which they are refused, by the rules. The package has a tile with a medium, and a row that is linked to nothing.
+use crate::told::refusal_text;
 use package_tables::fault::Fault;
 use sheet_types::command::{Command, Request};
 use sheet_types::refusal::Refusal;
-use sql_meaning::resting::is_at_rest;
 use sqlite::{Alter, Connection};
 use std::alloc::Global;
 use std::test::Fail;
 use test_values::{
-    AT, FRAME, archive, fill_with_a_link, is_good, item, question, text, tile_content,
+    AT, Checked, FRAME, answered, archive, at_rest, fill_with_a_link, in_memory, is_good, item,
+    question, text, tile_content,
 };
 use uuid::Uuid;
 use world::judging::package_refusal;
@@ -37,24 +38,32 @@ fn texts_and_sizes(rt: HostRuntime) -> Result<(), Fail> {
 }
 
 // Why the deletion of an item is refused.
-fn judged<S: Alter>(conn: &mut Connection<S>, id: u128) -> Result<Option<Refusal>, Fault> {
-    if !is_at_rest(conn) || !is_good(&FRAME) {
+fn judged<S: Alter>(alloc: Global, conn: &mut Connection<S>, id: u8) -> Result<String, Fault> {
+    at_rest(conn)?;
+    if !is_good(&FRAME) {
         return Err(Fault::StoreFault);
     }
     let delete = Command::Delete {
         package: archive(),
-        identity: Uuid::from_u128(id),
+        identity: Uuid::from_u128(u128::from(id)),
     };
-    package_refusal(conn, &FRAME, &delete)
+    Ok(refusal_text(alloc, package_refusal(conn, &FRAME, &delete)?)?)
+}
+
+fn wrong<S: Alter + Drop>(alloc: Global, conn: Connection<S>) -> Result<String, Fault> {
+    let mut conn = conn;
+    let mut checked = Checked::new(alloc);
+    checked.told(answered(alloc, fill_with_a_link(&mut conn)?), "yes");
+    for (id, expected) in [(1, "Linked"), (2, "Linked"), (3, "-"), (9, "UnknownItem")] {
+        checked.told(judged(alloc, &mut conn, id), expected);
+    }
+    Ok(String::from_str(alloc, checked.wrong())?)
 }
 
 #[test]
 fn items_that_go(rt: HostRuntime) -> Result<(), Fail> {
-    let mut conn = Connection::open_in_memory(rt.alloc())?;
-    assert!(rt; fill_with_a_link(&mut conn)?);
-    assert!(rt; judged(&mut conn, 1)? == Some(Refusal::Linked));
-    assert!(rt; judged(&mut conn, 2)? == Some(Refusal::Linked));
-    assert!(rt; judged(&mut conn, 3)?.is_none());
-    assert!(rt; judged(&mut conn, 9)? == Some(Refusal::UnknownItem));
+    let a = rt.alloc();
+    let wrong = wrong(a, in_memory(a)?)?;
+    assert_eq!(rt; wrong.as_str(), "");
     Ok(())
 }

@@ -20,6 +20,8 @@ mod receipt_tests;
 #[cfg(test)]
 mod shelf_tests;
 #[cfg(test)]
+mod told;
+#[cfg(test)]
 mod too_many_tests;
 #[cfg(test)]
 mod turning_tests;
@@ -27,3 +29,5 @@ mod turning_tests;
 mod values;
 #[cfg(test)]
 mod world_tests;
+#[cfg(test)]
+mod worlds;

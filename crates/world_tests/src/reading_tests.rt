@@ -1,79 +1,82 @@
 // What a world in memory tells after a few requests, and what two members tell. What is expected follows from what each request asks for: an item counts the bytes of its tile, medium or label.
-use crate::values::{item as item_of, member_with_a_medium, package};
-use sheet_types::command::{Item, Mapping, Relation};
+use crate::told::{items_text, sums_text};
+use crate::values::{member_with_a_medium, package};
+use crate::worlds::{Of, Step, sights_text, world_of, wrong};
+use package_tables::fault::Fault;
+use sheet_types::command::Mapping;
 use shelves::memory::MemoryShelf;
 use sqlite::{Alter, Connection, MemStore};
 use std::alloc::Global;
 use std::test::Fail;
-use test_values::{Asks, FRAME, NOTHING, Step, archive, item, question, sums};
-use test_worlds::new_world;
-use uuid::Uuid;
+use test_values::{Asks, Checked, FRAME, in_memory, links_text, sums};
+use test_worlds::{A, B, Wish};
 use world::asking::are_at_rest;
 use world::members::Member;
-use world::reading::{PackageSight, holdings_in, sights_of, sums_in};
+use world::reading::{holdings_in, sights_of, sums_in};
 use world::world::World;
 
-// The items are of these identities and sizes.
-fn are_items(items: &[Item], expected: &[(Uuid, usize)]) -> bool {
-    items.len() == expected.len()
-        && items.iter().zip(expected).all(|(found, (identity, size))| found.identity == *identity
-            && found.content.size() == *size)
-}
+const NOTHING: [Step; 5] = [
+    Step(Of::Holdings(A), ""),
+    Step(Of::Sums(A), "0 0 0 0 0"),
+    Step(Of::Kept(1), "-"),
+    Step(Of::Holdings(B), "-"),
+    Step(Of::HasFailed, "no"),
+];
 
 #[test]
 fn an_archive_with_nothing_in_it(rt: HostRuntime) -> Result<(), Fail> {
     let alloc = rt.alloc();
-    let mut world = new_world(alloc)?;
-    let Some((items, links)) = world.holdings(alloc, archive())? else {
-        return Err(Fail::new("the archive is live"));
-    };
-    assert!(rt; items.is_empty() && links.is_empty());
-    assert!(rt; world.sums(archive()) == Some(NOTHING));
-    assert!(rt; world.receipt(alloc, question(1))?.is_none());
-    assert!(rt; world.holdings(alloc, package(2))?.is_none());
-    assert!(rt; world.frame() == FRAME && !world.has_failed());
+    let mut shelf = MemoryShelf::new(alloc);
+    let wrong = wrong::<MemStore, MemoryShelf>(alloc, &mut shelf, &[], NOTHING.as_slice(), 1)?;
+    assert_eq!(rt; wrong.as_str(), "");
+    let world: World<MemStore> = world_of(alloc, &mut shelf)?;
+    assert!(rt; world.frame() == FRAME);
     Ok(())
 }
 
 // Four items and three links, added in another order than that in which they are told.
-fn filled(alloc: Global) -> Result<World<MemStore>, Fail> {
-    let mut world = new_world(alloc)?;
-    for (number, asks) in [
-        (1, Asks::Row(1, 5, 6)),
-        (2, Asks::Medium(3)),
-        (3, Asks::Medium(2)),
-        (4, Asks::Tile(4, [2, 3, 1])),
-        (5, Asks::Link(Mapping::RowsMedia, 1, 2)),
-        (6, Asks::Link(Mapping::TilesMedia, 4, 3)),
-        (7, Asks::Link(Mapping::TilesMedia, 4, 2)),
-    ] {
-        let request = Step::now(number, asks).request(alloc)?;
-        if world
-            .apply(alloc, &request, &mut MemoryShelf::new(alloc))
-            .is_err()
-        {
-            return Err(Fail::new("a refusal"));
-        }
-    }
-    Ok(world)
-}
+const A_FEW: [Step; 9] = [
+    Step(
+        Of::Reply(1, Wish::Of(A, Asks::Row(1, 5, 6))),
+        "1 0>10 0 0 1 0 4: row 1 0 of 4 bytes;",
+    ),
+    Step(
+        Of::Reply(2, Wish::Of(A, Asks::Medium(3))),
+        "2 0>10 0 1 0 0 2: medium 3 0 of 2 bytes;",
+    ),
+    Step(
+        Of::Reply(3, Wish::Of(A, Asks::Medium(2))),
+        "3 0>10 0 1 0 0 2: medium 2 0 of 2 bytes;",
+    ),
+    Step(
+        Of::Reply(4, Wish::Of(A, Asks::Tile(4, [2, 3, 1]))),
+        "4 0>10 1 0 0 0 1: tile 4 0 of 1 bytes;",
+    ),
+    Step(
+        Of::Reply(5, Wish::Of(A, Asks::Link(Mapping::RowsMedia, 1, 2))),
+        "5 0>10 0 0 0 1 0: row-medium 1 2 of 0 bytes;",
+    ),
+    Step(
+        Of::Reply(6, Wish::Of(A, Asks::Link(Mapping::TilesMedia, 4, 3))),
+        "6 0>10 0 0 0 1 0: tile-medium 4 3 of 0 bytes;",
+    ),
+    Step(
+        Of::Reply(7, Wish::Of(A, Asks::Link(Mapping::TilesMedia, 4, 2))),
+        "7 0>10 0 0 0 1 0: tile-medium 4 2 of 0 bytes;",
+    ),
+    Step(
+        Of::Holdings(A),
+        "4 of 1 bytes;2 of 2 bytes;3 of 2 bytes;1 of 4 bytes;tile-medium 4 2;tile-medium 4 3;row-medium 1 2;",
+    ),
+    Step(Of::Sums(A), "1 2 1 3 9"),
+];
 
 #[test]
 fn an_archive_after_a_few_requests(rt: HostRuntime) -> Result<(), Fail> {
     let alloc = rt.alloc();
-    let mut world = filled(alloc)?;
-    let Some((items, links)) = world.holdings(alloc, archive())? else {
-        return Err(Fail::new("the archive is live"));
-    };
-    let expected = [(item(4), 1), (item(2), 2), (item(3), 2), (item(1), 4)];
-    assert!(rt; are_items(items.as_slice(), &expected));
-    let related = [
-        Relation::new(Mapping::TilesMedia, item(4), item(2)),
-        Relation::new(Mapping::TilesMedia, item(4), item(3)),
-        Relation::new(Mapping::RowsMedia, item(1), item(2)),
-    ];
-    assert!(rt; links.as_slice() == related.as_slice());
-    assert!(rt; world.sums(archive()) == Some(sums(1, 2, 1, 3, 9)));
+    let mut shelf = MemoryShelf::new(alloc);
+    let wrong = wrong::<MemStore, MemoryShelf>(alloc, &mut shelf, &[], A_FEW.as_slice(), 1)?;
+    assert_eq!(rt; wrong.as_str(), "");
     Ok(())
 }
 
@@ -82,7 +85,7 @@ fn loan<S: Alter + Drop>(
     alloc: Global,
     conn: Connection<S>,
     number: u64,
-) -> Result<Member<S>, Fail> {
+) -> Result<Member<S>, Fault> {
     let mut member = member_with_a_medium(alloc, conn, number, number)?;
     member.parent = Some(package(1));
     member.depth = 2;
@@ -91,46 +94,65 @@ fn loan<S: Alter + Drop>(
     Ok(member)
 }
 
-// A package of members has one item, of three bytes, and no link.
-fn holds<S: Alter + Drop>(
-    members: &mut Vec<Member<S>>,
+fn held<S: Alter + Drop>(
     alloc: Global,
+    members: &mut Vec<Member<S>>,
     number: u64,
-) -> Result<bool, Fail> {
+) -> Result<String, Fault> {
     if !are_at_rest(members.as_slice()) {
-        return Err(Fail::new("a store is inside a transaction"));
+        return Err(Fault::StoreFault);
     }
     match holdings_in(members, alloc, package(number))? {
         Some((items, links)) => {
-            Ok(are_items(items.as_slice(), &[(item_of(number), 3)]) && links.is_empty())
+            let mut text = items_text(alloc, &items)?;
+            text.push_str(links_text(alloc, &links)?.as_str())?;
+            Ok(text)
         }
-        None => Ok(false),
+        None => Ok(String::from_str(alloc, "-")?),
     }
 }
 
-// What a member is to tell of itself.
-fn sight(number: u64) -> PackageSight {
-    PackageSight {
-        uuid: package(number),
-        parent: Some(package(1)),
-        depth: 2,
-        ticket: number,
+fn summed<S: Alter + Drop>(
+    alloc: Global,
+    members: &[Member<S>],
+    number: u64,
+) -> Result<String, Fault> {
+    match sums_in(members, package(number)) {
+        Some(sums) => Ok(sums_text(alloc, sums)?),
+        None => Ok(String::from_str(alloc, "-")?),
     }
+}
+
+fn seen<S: Alter + Drop>(alloc: Global, members: &[Member<S>]) -> Result<String, Fault> {
+    Ok(sights_text(alloc, &sights_of(members, alloc)?)?)
+}
+
+// Packages 2 and 3, whose media are 18 and 19.
+fn wrong_of_two<S: Alter + Drop>(
+    alloc: Global,
+    first: Connection<S>,
+    second: Connection<S>,
+) -> Result<String, Fault> {
+    let mut members = Vec::new(alloc);
+    members.push(loan(alloc, first, 2)?)?;
+    members.push(loan(alloc, second, 3)?)?;
+    let mut checked = Checked::new(alloc);
+    for (number, holds, counts) in [
+        (1, "-", "-"),
+        (2, "18 of 3 bytes;", "0 2 0 0 0"),
+        (3, "19 of 3 bytes;", "0 3 0 0 0"),
+    ] {
+        checked.told(held(alloc, &mut members, number), holds);
+        checked.told(summed(alloc, &members, number), counts);
+    }
+    checked.told(seen(alloc, &members), "2 of 1, 2 2;3 of 1, 2 3;");
+    Ok(String::from_str(alloc, checked.wrong())?)
 }
 
 #[test]
 fn each_of_two_members(rt: HostRuntime) -> Result<(), Fail> {
-    let alloc = rt.alloc();
-    let mut members = Vec::new(alloc);
-    members.push(loan(alloc, Connection::open_in_memory(alloc)?, 2)?)?;
-    members.push(loan(alloc, Connection::open_in_memory(alloc)?, 3)?)?;
-    assert!(rt; holds(&mut members, alloc, 2)?);
-    assert!(rt; holds(&mut members, alloc, 3)?);
-    assert!(rt; !holds(&mut members, alloc, 1)?);
-    assert!(rt; sums_in(members.as_slice(), package(2)) == Some(sums(0, 2, 0, 0, 0)));
-    assert!(rt; sums_in(members.as_slice(), package(3)) == Some(sums(0, 3, 0, 0, 0)));
-    assert!(rt; sums_in(members.as_slice(), package(1)).is_none());
-    let sights = sights_of(members.as_slice(), alloc)?;
-    assert!(rt; sights.as_slice() == [sight(2), sight(3)].as_slice());
+    let a = rt.alloc();
+    let wrong = wrong_of_two(a, in_memory(a)?, in_memory(a)?)?;
+    assert_eq!(rt; wrong.as_str(), "");
     Ok(())
 }

@@ -1,14 +1,14 @@
 // A shelf that has no store: a split is answered by a fault and nothing else happens.
+use crate::worlds::{Of, Step, check, world_of};
+use package_tables::fault::Fault;
 use sheet_types::command::Mode;
-use sheet_types::refusal::Refusal;
 use shelves::memory::MemoryShelf;
 use shelves::shelf::{Shelf, ShelfFault};
 use sqlite::{Alter, Connection, MemStore};
 use std::alloc::Global;
-use std::process::Abort;
 use std::test::Fail;
-use test_values::Asks;
-use test_worlds::{A, B, LoanStep, QUARTER, Wish, new_world};
+use test_values::{Asks, Checked, answered};
+use test_worlds::{A, B, QUARTER, Wish};
 use uuid::Uuid;
 use world::world::World;
 
@@ -33,49 +33,59 @@ impl<S: Alter> Shelf<S> for BareShelf {
 }
 
 // An archive with a tile in the quarter.
-fn filled(alloc: Global) -> Result<World<MemStore>, Fail> {
-    let mut world = new_world(alloc)?;
-    let tile = LoanStep::now(1, Wish::Of(A, Asks::Tile(1, [1, 0, 0]))).request(alloc)?;
-    match world.apply(alloc, &tile, &mut MemoryShelf::new(alloc)) {
-        Ok(_) => Ok(world),
-        Err(_) => Err(Fail::new("the tile comes in")),
-    }
+const FILLED: [Step; 1] = [Step(
+    Of::Reply(1, Wish::Of(A, Asks::Tile(1, [1, 0, 0]))),
+    "1 0>10 1 0 0 0 1: tile 1 0 of 1 bytes;",
+)];
+
+const SPLIT: Of = Of::Reply(2, Wish::Split(A, B, Mode::Strict, QUARTER));
+
+const LENT: [Step; 1] = [Step(SPLIT, "2 10>11 1 0 0 0 1: tile 1 0 of 1 bytes;")];
+
+const STANDS: [Step; 2] = [
+    Step(Of::HasFailed, "no"),
+    Step(Of::Packages, "10 of 0, 0 1;"),
+];
+
+// A split is told this fault of a shelf without stores, and changes nothing. It may be asked again, and then the shelf has a store;
+// one that came before needs none.
+fn wrong_of(
+    alloc: Global,
+    stores: &mut MemoryShelf,
+    bare: &mut BareShelf,
+    told: &'static str,
+) -> Result<String, Fault> {
+    let mut world: World<MemStore> = world_of(alloc, stores)?;
+    let mut checked = Checked::new(alloc);
+    check(alloc, &mut world, stores, FILLED.as_slice(), &mut checked);
+    check(alloc, &mut world, bare, &[Step(SPLIT, told)], &mut checked);
+    checked.told(answered(alloc, bare.failures == 1), "yes");
+    check(alloc, &mut world, stores, STANDS.as_slice(), &mut checked);
+    check(alloc, &mut world, stores, LENT.as_slice(), &mut checked);
+    check(alloc, &mut world, bare, LENT.as_slice(), &mut checked);
+    checked.told(answered(alloc, bare.failures == 1), "yes");
+    Ok(String::from_str(alloc, checked.wrong())?)
 }
 
-// It may be asked again, and then the shelf has a store.
-fn expect_unshelved(
-    rt: &impl Abort,
-    alloc: Global,
-    why: ShelfFault,
-    told: Refusal,
-) -> Result<(), Fail> {
-    let mut world = filled(alloc)?;
-    let split = LoanStep::now(2, Wish::Split(A, B, Mode::Strict, QUARTER)).request(alloc)?;
-    let mut shelf = BareShelf { failures: 0, why };
-    let Err(found) = world.apply(alloc, &split, &mut shelf) else {
-        return Err(Fail::new("there is no store"));
-    };
-    assert!(rt; found == told && shelf.failures == 1);
-    assert!(rt; !world.has_failed());
-    assert_eq!(rt; world.packages(alloc)?.len(), 1);
-    let Ok(receipt) = world.apply(alloc, &split, &mut MemoryShelf::new(alloc)) else {
-        return Err(Fail::new("there is a store"));
-    };
-    assert_eq!(rt; receipt.seq, 2);
-    // One that came before needs none.
-    assert!(rt; world.apply(alloc, &split, &mut shelf).is_ok());
-    assert_eq!(rt; shelf.failures, 1);
-    Ok(())
+fn wrong(alloc: Global, why: ShelfFault, told: &'static str) -> Result<String, Fault> {
+    wrong_of(
+        alloc,
+        &mut MemoryShelf::new(alloc),
+        &mut BareShelf { failures: 0, why },
+        told,
+    )
 }
 
 #[test]
 fn a_shelf_that_faults(rt: HostRuntime) -> Result<(), Fail> {
-    let fault = ShelfFault::StoreFault;
-    expect_unshelved(&rt, rt.alloc(), fault, Refusal::StoreFault)
+    let wrong = wrong(rt.alloc(), ShelfFault::StoreFault, "StoreFault")?;
+    assert_eq!(rt; wrong.as_str(), "");
+    Ok(())
 }
 
 #[test]
 fn a_shelf_without_memory(rt: HostRuntime) -> Result<(), Fail> {
-    let fault = ShelfFault::OutOfMemory;
-    expect_unshelved(&rt, rt.alloc(), fault, Refusal::OutOfMemory)
+    let wrong = wrong(rt.alloc(), ShelfFault::OutOfMemory, "OutOfMemory")?;
+    assert_eq!(rt; wrong.as_str(), "");
+    Ok(())
 }

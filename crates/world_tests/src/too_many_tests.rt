@@ -1,9 +1,11 @@
 // What a package holds after each command, and what is too many, by the rules: a package holds up to 1 000 000 items of a kind and 4 000 000 links, there are up to 256 packages and 1 000 000 000 receipts.
 use crate::values::member_of;
+use package_tables::fault::Fault;
 use sheet_types::command::Command;
-use sqlite::Connection;
+use sqlite::{Alter, Connection};
+use std::alloc::Global;
 use std::test::Fail;
-use test_values::{moved_medium, receipt_of, sums, tile_content};
+use test_values::{in_memory, moved_medium, receipt_of, sums, tile_content};
 use uuid::Uuid;
 use world::sums::{sums_after, sums_moved};
 use world::too_many::{any_past_limits, is_past_limits, is_too_many};
@@ -58,20 +60,32 @@ fn limits_of_a_package(rt: HostRuntime) -> Result<(), Fail> {
     Ok(())
 }
 
-#[test]
-fn limits_of_the_members(rt: HostRuntime) -> Result<(), Fail> {
-    let alloc = rt.alloc();
+// What is said of two members, of which the first holds as many tiles as may be and the second one more, if that of this place came
+// to so many tiles after so many receipts.
+fn limits<S: Alter + Drop>(
+    alloc: Global,
+    first: Connection<S>,
+    second: Connection<S>,
+) -> Result<[bool; 7], Fault> {
     let most = sums(1_000_000, 0, 0, 0, 1_000_000);
     let past = sums(1_000_001, 0, 0, 0, 1_000_001);
     let mut members = Vec::new(alloc);
-    members.push(member_of(Connection::open_in_memory(alloc)?, identity(1), most, 0))?;
-    members.push(member_of(Connection::open_in_memory(alloc)?, identity(2), past, 0))?;
-    assert!(rt; any_past_limits(members.as_slice(), 0, most));
-    assert!(rt; !any_past_limits(members.as_slice(), 1, most));
-    assert!(rt; any_past_limits(members.as_slice(), 1, past));
-    assert!(rt; is_too_many(members.as_slice(), 0, most, 1));
-    assert!(rt; !is_too_many(members.as_slice(), 1, most, 1));
-    assert!(rt; !is_too_many(members.as_slice(), 1, most, 999_999_999));
-    assert!(rt; is_too_many(members.as_slice(), 1, most, 1_000_000_000));
+    members.push(member_of(first, identity(1), most, 0))?;
+    members.push(member_of(second, identity(2), past, 0))?;
+    Ok([
+        any_past_limits(members.as_slice(), 0, most),
+        !any_past_limits(members.as_slice(), 1, most),
+        any_past_limits(members.as_slice(), 1, past),
+        is_too_many(members.as_slice(), 0, most, 1),
+        !is_too_many(members.as_slice(), 1, most, 1),
+        !is_too_many(members.as_slice(), 1, most, 999_999_999),
+        is_too_many(members.as_slice(), 1, most, 1_000_000_000),
+    ])
+}
+
+#[test]
+fn limits_of_the_members(rt: HostRuntime) -> Result<(), Fail> {
+    let a = rt.alloc();
+    assert!(rt; limits(a, in_memory(a)?, in_memory(a)?)? == [true; 7]);
     Ok(())
 }

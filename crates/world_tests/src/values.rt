@@ -3,10 +3,11 @@
 use package_tables::fault::Fault;
 use sheet_types::command::Command;
 use sheet_types::receipt::Sums;
-use sql_meaning::resting::is_at_rest;
 use sqlite::{Alter, Connection};
 use std::alloc::Global;
-use test_values::{NOTHING, ONE_MEDIUM, empty_package, medium_content, moved_medium, receipt_of};
+use test_values::{
+    NOTHING, ONE_MEDIUM, at_rest, empty_package, medium_content, moved_medium, receipt_of,
+};
 use uuid::Uuid;
 use world::carrying_out::apply_to_package;
 use world::members::Member;
@@ -20,11 +21,11 @@ pub fn package(number: u64) -> Uuid {
 
 // An item of the package of that number, and the request that brought it.
 pub fn item(number: u64) -> Uuid {
-    Uuid::from_u128(u128::from(number | 16))
+    package(number.wrapping_add(16))
 }
 
 pub fn request(number: u64) -> Uuid {
-    Uuid::from_u128(u128::from(number | 32))
+    package(number.wrapping_add(32))
 }
 
 // The addition of a medium of three bytes.
@@ -76,9 +77,7 @@ pub fn member_with_a_medium<S: Alter + Drop>(
     let command = add_medium(alloc, uuid, medium)?;
     let thing = moved_medium(medium);
     let receipt = receipt_of(alloc, seq, request(number), uuid, thing, ONE_MEDIUM)?;
-    if !is_at_rest(&conn) {
-        return Err(Fault::StoreFault);
-    }
+    at_rest(&conn)?;
     apply_to_package(&mut conn, &command, &receipt)?;
     Ok(member_of(conn, uuid, ONE_MEDIUM, seq))
 }

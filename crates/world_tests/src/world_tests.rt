@@ -1,19 +1,20 @@
 // A world of one archive: a list that is run, and what no world is made of.
+use crate::worlds::world_of;
 use package_tables::fault::Fault;
+use sheet_types::command::Request;
 use sheet_types::frame::{Frame, FrameFault};
 use shelves::memory::MemoryShelf;
+use shelves::shelf::Shelf;
+use sqlite::{Alter, MemStore};
 use std::alloc::Global;
 use std::test::Fail;
 use test_values::{Asks, BEGUN, FRAME, Step, archive, told};
-use test_worlds::{blank_store, new_world};
+use test_worlds::blank_store;
 use world::creating::CreateFault;
 use world::world::World;
 
-// A place that is taken is told, and the list goes on.
-#[test]
-fn a_list_is_run(rt: HostRuntime) -> Result<(), Fail> {
-    let alloc = rt.alloc();
-    let mut world = new_world(alloc)?;
+// The requests of a list in turn: a place that is taken is told, and the list goes on.
+fn list(alloc: Global) -> Result<Vec<Request>, Fault> {
     let mut list = Vec::new(alloc);
     for (number, asks) in [
         (1, Asks::Tile(1, [2, 0, 0])),
@@ -22,13 +23,27 @@ fn a_list_is_run(rt: HostRuntime) -> Result<(), Fail> {
     ] {
         list.push(Step::now(number, asks).request(alloc)?)?;
     }
-    let Ok(replies) = world.run(alloc, list.as_slice(), &mut MemoryShelf::new(alloc)) else {
-        return Err(Fail::new("there is memory"));
+    Ok(list)
+}
+
+fn replies<S: Alter + Drop, H: Shelf<S>>(alloc: Global, shelf: &mut H) -> Result<Vec<i64>, Fault> {
+    let mut world = world_of(alloc, shelf)?;
+    let list = list(alloc)?;
+    let Ok(replies) = world.run(alloc, &list, shelf) else {
+        return Err(Fault::OutOfMemory);
     };
-    assert_eq!(rt; replies.len(), 3);
-    for (reply, wanted) in replies.as_slice().iter().zip([1, -11, 2]) {
-        assert_eq!(rt; told(reply), wanted);
+    let mut numbers = Vec::new(alloc);
+    for reply in &replies {
+        numbers.push(told(reply))?;
     }
+    Ok(numbers)
+}
+
+#[test]
+fn a_list_is_run(rt: HostRuntime) -> Result<(), Fail> {
+    let alloc = rt.alloc();
+    let replies = replies::<MemStore, MemoryShelf>(alloc, &mut MemoryShelf::new(alloc))?;
+    assert!(rt; replies.as_slice() == [1, -11, 2].as_slice());
     Ok(())
 }
 
