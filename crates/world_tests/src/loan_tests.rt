@@ -78,46 +78,68 @@ const KNOWN: [Step; 11] = [
     Step(Of::Number(1, FIRST), "1"),
 ];
 
-fn wrong_over_files(alloc: Global, steps: &[Step]) -> Result<String, Fault> {
+// A UUID is lent once: not again while its loan is out, nor after the loan came home, by way of another loan too. That of an item is
+// known and was never lent. The reason with number 3 is that the UUID was used.
+const LENT_ONCE: [Step; 13] = [
+    Step(
+        Of::Number(6, Wish::Split(A, A, Mode::Follow, QUARTER)),
+        "-3",
+    ),
+    Step(Of::Number(7, Wish::Split(A, B, Mode::Follow, QUARTER)), "6"),
+    Step(Of::Number(8, Wish::Split(B, C, Mode::Follow, QUARTER)), "7"),
+    Step(
+        Of::Number(9, Wish::Split(A, C, Mode::Follow, QUARTER)),
+        "-3",
+    ),
+    Step(Of::Number(10, Wish::Merge(C, B, 7)), "8"),
+    Step(Of::Number(11, Wish::Merge(B, A, 8)), "9"),
+    Step(
+        Of::Number(12, Wish::Split(A, C, Mode::Follow, QUARTER)),
+        "-3",
+    ),
+    Step(
+        Of::Number(13, Wish::Split(A, B, Mode::Follow, QUARTER)),
+        "-3",
+    ),
+    Step(Of::Number(14, Wish::Of(A, Asks::Medium(0))), "10"),
+    Step(
+        Of::Number(15, Wish::Split(A, 0, Mode::Follow, QUARTER)),
+        "11",
+    ),
+    Step(Of::Number(16, Wish::Merge(0, A, 11)), "12"),
+    Step(
+        Of::Number(17, Wish::Split(A, 0, Mode::Follow, QUARTER)),
+        "-3",
+    ),
+    Step(
+        Of::Number(18, Wish::Split(A, D, Mode::Follow, QUARTER)),
+        "13",
+    ),
+];
+
+fn wrong_over_files(alloc: Global, steps: &[Step], stores: usize) -> Result<String, Fault> {
     let mut shelf = MemoryFileShelf::new(alloc);
-    wrong::<FileStore<MemoryFile>, MemoryFileShelf>(alloc, &mut shelf, FILLED.as_slice(), steps, 1)
+    let before = FILLED.as_slice();
+    wrong::<FileStore<MemoryFile>, MemoryFileShelf>(alloc, &mut shelf, before, steps, stores)
 }
 
 #[test]
 fn a_loan_goes_and_comes_home(rt: HostRuntime) -> Result<(), Fail> {
-    let wrong = wrong_over_files(rt.alloc(), THERE_AND_BACK.as_slice())?;
+    let wrong = wrong_over_files(rt.alloc(), THERE_AND_BACK.as_slice(), 1)?;
     assert_eq!(rt; wrong.as_str(), "");
     Ok(())
 }
 
 #[test]
 fn what_came_before_is_known_in_every_package(rt: HostRuntime) -> Result<(), Fail> {
-    let wrong = wrong_over_files(rt.alloc(), KNOWN.as_slice())?;
+    let wrong = wrong_over_files(rt.alloc(), KNOWN.as_slice(), 1)?;
     assert_eq!(rt; wrong.as_str(), "");
     Ok(())
 }
 
-// A UUID is lent once: not again while its loan is out, nor after the loan came home, by way of another loan too. That of an item is
-// known and was never lent. The reason with number 3 is that the UUID was used.
-const LENT_ONCE: [Step; 13] = [
-    Step(Of::Number(6, Wish::Split(A, A, Mode::Follow, QUARTER)), "-3"),
-    Step(Of::Number(7, Wish::Split(A, B, Mode::Follow, QUARTER)), "6"),
-    Step(Of::Number(8, Wish::Split(B, C, Mode::Follow, QUARTER)), "7"),
-    Step(Of::Number(9, Wish::Split(A, C, Mode::Follow, QUARTER)), "-3"),
-    Step(Of::Number(10, Wish::Merge(C, B, 7)), "8"),
-    Step(Of::Number(11, Wish::Merge(B, A, 8)), "9"),
-    Step(Of::Number(12, Wish::Split(A, C, Mode::Follow, QUARTER)), "-3"),
-    Step(Of::Number(13, Wish::Split(A, B, Mode::Follow, QUARTER)), "-3"),
-    Step(Of::Number(14, Wish::Of(A, Asks::Medium(0))), "10"),
-    Step(Of::Number(15, Wish::Split(A, 0, Mode::Follow, QUARTER)), "11"),
-    Step(Of::Number(16, Wish::Merge(0, A, 11)), "12"),
-    Step(Of::Number(17, Wish::Split(A, 0, Mode::Follow, QUARTER)), "-3"),
-    Step(Of::Number(18, Wish::Split(A, D, Mode::Follow, QUARTER)), "13"),
-];
-
 #[test]
 fn a_uuid_is_lent_once(rt: HostRuntime) -> Result<(), Fail> {
-    let wrong = wrong_over_files(rt.alloc(), LENT_ONCE.as_slice())?;
+    let wrong = wrong_over_files(rt.alloc(), LENT_ONCE.as_slice(), 2)?;
     assert_eq!(rt; wrong.as_str(), "");
     Ok(())
 }
