@@ -7,5 +7,3 @@ pub mod migration;
 pub mod names;
 mod statements;
 pub mod taking_back;
-#[cfg(test)]
-mod tests;
