@@ -1,5 +1,8 @@
 // What is asked of the second of two members, of whose packages the first is empty and the second has one tile. What is expected follows from the two packages.
 use crate::values::member_of;
+use asking::asking::are_at_rest;
+use asking::asking_one::{item_at, refusal_at, thing_moved};
+use members::members::Member;
 use package_tables::fault::Fault;
 use package_tables::identities::insert_identity;
 use package_tables::schema::create_schema;
@@ -13,9 +16,6 @@ use std::alloc::Global;
 use std::test::Fail;
 use test_values::{FRAME, NOTHING, is_good, tile_content};
 use uuid::Uuid;
-use world::asking::are_at_rest;
-use world::asking_one::{item_at, refusal_at, thing_moved};
-use world::members::Member;
 
 fn package() -> Uuid {
     Uuid::from_u128(9)

@@ -1,15 +1,15 @@
 // Two packages in memory, each with one medium and its receipt, and what they are asked. What is expected follows from what was entered.
 
 use crate::values::{item, member_with_a_medium, package, request};
+use asking::asking::{are_at_rest, is_named_in_all, kept_in_all, place_of};
+use asking::recalling::{find_kept, was_used};
 use known_uuids::known::Known;
+use members::members::Member;
 use package_tables::fault::Fault;
 use sqlite::{Alter, Connection};
 use std::alloc::Global;
 use std::test::Fail;
 use uuid::Uuid;
-use world::asking::{are_at_rest, is_named_in_all, kept_in_all, place_of};
-use world::members::Member;
-use world::recalling::{find_kept, was_used};
 
 // The number of the receipt that is kept for a request, 0 where there is none.
 fn kept_number<S: Alter + Drop>(

@@ -1,5 +1,6 @@
 // Commands that change one package, carried out with their receipts in a new package in memory. What is expected follows from what each command asks for.
 use crate::values::{MADE, package};
+use carrying::carrying_out::apply_to_package;
 use custody::names;
 use identity_register::look_ups::find;
 use lending::turn_fault::TurnFault;
@@ -14,7 +15,6 @@ use std::alloc::Global;
 use std::test::Fail;
 use test_values::{AT, NOTHING, empty_package, item, receipt_of, tile_content};
 use uuid::Uuid;
-use world::carrying_out::apply_to_package;
 
 // Carries a command out that moves the tile, with a receipt of this number.
 fn carried<S: Alter>(

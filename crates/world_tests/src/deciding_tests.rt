@@ -1,6 +1,9 @@
 // What a request comes to before anything is written, over two packages in memory. The digest is that of `tile 2 3 1`, LF and `ab` by another program's SHA-256.
 use crate::values::{empty_member, item, package, request};
+use asking::asking::are_at_rest;
+use deciding::deciding::{Decision, decide};
 use known_uuids::known::Known;
+use members::members::Member;
 use package_tables::fault::Fault;
 use sheet_types::command::{Command, Request};
 use sheet_types::refusal::Refusal;
@@ -8,9 +11,6 @@ use sqlite::{Alter, Connection, MemStore};
 use std::alloc::Global;
 use std::test::Fail;
 use test_values::{AT, FRAME, is_good, sums, text, tile_content};
-use world::asking::are_at_rest;
-use world::deciding::{Decision, decide};
-use world::members::Member;
 
 const LINE: &str =
     "add 00000000-0000-0000-0000-000000000002 00000000-0000-0000-0000-000000000011 tile 2 528f176f55fe100ca85fe06d11f0336c87947d621d6d7895e1e357c0cfe0e8e1";

@@ -1,4 +1,6 @@
 // Requests and the reasons for which they are refused, by the rules. The package has a tile with a medium, and a row that is linked to nothing.
+use asking::judging::package_refusal;
+use asking::texts::text_refusal;
 use package_tables::fault::Fault;
 use sheet_types::command::{Command, Request};
 use sheet_types::refusal::Refusal;
@@ -10,8 +12,6 @@ use test_values::{
     AT, FRAME, archive, fill_with_a_link, is_good, item, question, text, tile_content,
 };
 use uuid::Uuid;
-use world::judging::package_refusal;
-use world::texts::text_refusal;
 
 // The addition of a tile of these bytes at this moment.
 fn addition(alloc: Global, at: &str, bytes: &[u8]) -> Result<Request, Fault> {

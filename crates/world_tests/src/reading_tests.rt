@@ -1,5 +1,7 @@
 // What a world in memory tells after a few requests, and what two members tell. What is expected follows from what each request asks for: an item counts the bytes of its tile, medium or label.
 use crate::values::{item as item_of, member_with_a_medium, package};
+use asking::asking::are_at_rest;
+use members::members::Member;
 use sheet_types::command::{Item, Mapping, Relation};
 use shelves::memory::MemoryShelf;
 use sqlite::{Alter, Connection, MemStore};
@@ -8,8 +10,6 @@ use std::test::Fail;
 use test_values::{Asks, FRAME, NOTHING, Step, archive, item, question, sums};
 use test_worlds::new_world;
 use uuid::Uuid;
-use world::asking::are_at_rest;
-use world::members::Member;
 use world::reading::{PackageSight, holdings_in, sights_of, sums_in};
 use world::world::World;
 

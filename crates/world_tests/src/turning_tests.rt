@@ -1,7 +1,11 @@
 // Two packages in memory, of which the second takes turns. What is expected follows from what each command asks for.
 
 use crate::values::{add_medium, empty_member, package};
+use asking::asking::are_at_rest;
+use asking::sums::{sums_after, sums_moved};
+use carrying::turning::turn_at;
 use identity_register::look_ups::find;
+use members::members::Member;
 use package_tables::fault::Fault;
 use sheet_types::command::{Command, Mode};
 use sheet_types::frame::Rect;
@@ -12,10 +16,6 @@ use std::alloc::Global;
 use std::test::Fail;
 use test_values::{ONE_MEDIUM, moved_medium, receipt_of, sums};
 use uuid::Uuid;
-use world::asking::are_at_rest;
-use world::members::Member;
-use world::sums::{sums_after, sums_moved};
-use world::turning::turn_at;
 
 fn medium() -> Uuid {
     Uuid::from_u128(16)
