@@ -1,4 +1,4 @@
-//! What is asked of the one live package that a request names: why it does not take a command, an item of it, and what a command moves of it. All other members are left alone, so the answers stand beside those of `asking`. An error is want of memory, or a store that failed; all members are as they were.
+//! What is asked of the one live package that a request names: why it does not take a command, an item of it, all that it holds, and what a command moves of it. All other members are left alone, so the answers stand beside those of `asking`. An error is want of memory, or a store that failed; all members are as they were.
 ghost use Rattle.std.specs.Prelude.{◌≡◌, ◌<◌, [], ◌∷◌, IsTrue, Some, MatchOption, length, slice_get};
 ghost use Rattle.sheet_types.specs.Matrix.{is_good_frame, first_row};
 ghost use Rattle.sheet_types.specs.World.{Package, item_of, holdings};
