@@ -2,7 +2,7 @@
 ghost use Rattle.std.specs.Prelude.{◌≡◌, ℕ, List, map, IfOk, string_bytes};
 ghost use Rattle.sheet_types.specs.World.{new_world};
 ghost use Rattle.sheet_types.specs.declared.frame.Frame.{Frame};
-ghost use Rattle.world.specs.Members.{AllClean};
+ghost use Rattle.members.specs.Members.{AllClean};
 ghost use Rattle.world.specs.Worlds.{StandsFor};
 ghost use Rattle.command_words.specs.Arguments.{Asks, IsFirstUnread};
 ghost use Rattle.command_words.specs.Endings.{import_outcome};

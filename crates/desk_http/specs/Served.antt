@@ -11,8 +11,8 @@ use Rattle.sheet_types.specs.declared.command.Request.{Request}
 use Rattle.sheet_types.specs.declared.receipt.Receipt.{Receipt}
 use Rattle.sheet_types.specs.declared.refusal.Refusal.{Refusal}
 use Rattle.sheet_types.specs.declared.refusal.Refusal.TheVariants.{StoreFault}
-use Rattle.world.specs.Leaving.{AreClean}
-use Rattle.world.specs.Members.{AllClean}
+use Rattle.carrying.specs.Leaving.{AreClean}
+use Rattle.members.specs.Members.{AllClean}
 use Rattle.world.specs.Worlds.{IsRead, IsStep, LeavesNoTrace, Seen, StandsFor, StandsStill}
 use Rattle.manifest_csv.specs.PackageManifests.{manifest}
 use Rattle.manifest_csv.specs.Sent.{WentOut}

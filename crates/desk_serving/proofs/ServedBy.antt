@@ -7,9 +7,9 @@ use Rattle.sheet_types.specs.World.{World}
 use Rattle.sheet_types.specs.declared.command.Request.{Request}
 use Rattle.sheet_types.specs.declared.receipt.Receipt.{Receipt}
 use Rattle.sheet_types.specs.declared.refusal.Refusal.{Refusal}
-use Rattle.world.specs.Leaving.{AreClean}
+use Rattle.carrying.specs.Leaving.{AreClean}
 use Rattle.world.specs.Worlds.{IsRead, RunsOverRegisters, Seen}
-use Rattle.world.proofs.HeldStores.{left_clean, right_clean}
+use Rattle.carrying.proofs.HeldStores.{left_clean, right_clean}
 use Rattle.desk_calls.specs.declared.calls.Call.TheVariants as call
 use Rattle.desk_http.specs.Served.{Applies, IsDue, Serving, Tells}
 use Rattle.desk_http.specs.declared.serving.Served.{Served}

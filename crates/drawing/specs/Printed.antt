@@ -5,7 +5,7 @@ use Rattle.sqlite.specs.Store.{Ghosts}
 use Rattle.sheet_types.specs.Matrix.{has_level}
 use Rattle.sheet_types.specs.World.{World}
 use Rattle.sheet_maps.specs.Worlds.{IsWorldMap}
-use Rattle.world.specs.Members.{AllClean}
+use Rattle.members.specs.Members.{AllClean}
 use Rattle.world.specs.Worlds.{IsRead, Seen, StandsFor}
 use Rattle.manifest_csv.specs.Sent.{WentOut}
 use Rattle.drawing.specs.Zooms.{drawn_zoom}

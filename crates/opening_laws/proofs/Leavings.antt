@@ -30,11 +30,11 @@ use Rattle.identity_register.proofs.Finding.{contained}
 use Rattle.identity_register.proofs.OnePackage.{reads_alone}
 use Rattle.kept_stores.proofs.Headed.{head_is_known, lent_head_is_low}
 use Rattle.register_views.proofs.Timed.{step_keeps_timely}
-use Rattle.world.specs.Leaving.{IsBeside, StandsAmong}
-use Rattle.world.specs.Members.{IsMember}
-use Rattle.world.specs.Turning.{LeftAs}
+use Rattle.carrying.specs.Leaving.{IsBeside, StandsAmong}
+use Rattle.members.specs.Members.{IsMember}
+use Rattle.members.specs.Turning.{LeftAs}
 use Rattle.world.specs.Worlds.{held}
-use Rattle.world.specs.declared.members.Member.{Member}
+use Rattle.members.specs.declared.members.Member.{Member}
 use Rattle.opening_laws.specs.Laws.{RestIsStores, RestIsOpened, LeftIsStores, CrashIsOpened, IsKeptWorld}
 use Rattle.opening_laws.specs.Stores.{SaysUnknown, IsStoreOf, IsStrayStore, ReadsAsNone, AreStoresOf}
 use Rattle.opening_laws.proofs.OneView.{not_first}

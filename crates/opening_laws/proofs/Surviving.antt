@@ -15,8 +15,8 @@ use Rattle.sql_meaning.specs.Transactions.{IsAdopted, Rests}
 use Rattle.sql_meaning.proofs.Schemas.{sound_alone}
 use Rattle.sql_meaning.proofs.Transactions.{Settles}
 use Rattle.identity_register.specs.Reads.{Reads}
-use Rattle.world.specs.Members.{IsMember}
-use Rattle.world.specs.declared.members.Member.{Member}
+use Rattle.members.specs.Members.{IsMember}
+use Rattle.members.specs.declared.members.Member.{Member}
 use Rattle.opening_laws.specs.Laws.{RestSurvives}
 use Rattle.opening_laws.specs.Stores.{IsStoreOf}
 

@@ -15,8 +15,8 @@ use Rattle.sheet_types.specs.declared.refusal.Refusal.{Refusal}
 use Rattle.ledger_laws.specs.Laws.{StoreSight}
 use Rattle.register_views.specs.Beside.{AreViewsOfWorld}
 use Rattle.register_views.specs.Timely.{IsTimely}
-use Rattle.world.specs.Leaving.{AreClean, MayBeLeft, StandsAmong}
-use Rattle.world.specs.Members.{AllOpen}
+use Rattle.carrying.specs.Leaving.{AreClean, MayBeLeft, StandsAmong}
+use Rattle.members.specs.Members.{AllOpen}
 use Rattle.world.specs.Worlds.{Seen, StandsFor, IsHeld, IsStep, held}
 use Rattle.recovery.specs.Recovered.{AreViewsOf, IsRecovered, IsUnopened, IsWant}
 use Rattle.recovery.specs.declared.recovering.Recovered.{Recovered}

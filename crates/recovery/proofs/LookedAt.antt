@@ -20,8 +20,8 @@ use Rattle.store_forms.specs.Looking.{SaysOf}
 use Rattle.first_stores.specs.Either.{IsSeenAtEither}
 use Rattle.verdicts.specs.declared.seen.StoreSeen.{StoreSeen}
 use Rattle.verdicts.proofs.Lists.{zip_more}
-use Rattle.world.specs.Leaving.{AreClean, AreAtRest}
-use Rattle.world.proofs.Seeing.{stays_still}
+use Rattle.carrying.specs.Leaving.{AreClean, AreAtRest}
+use Rattle.members.proofs.Seeing.{stays_still}
 use Rattle.recovery.specs.Stores.{AreAllKeyed, AreOnlyRead, AreOpenWhereClean, AreSurveyed, IsSurveyed, LooksAtOne, StaysStore}
 
 -- of lists that go on, place by place

@@ -30,10 +30,10 @@ use Rattle.verdicts.specs.Views.{AreSeenAs, IsSeenAs, IsKept, IsFaultOf, IsKeptO
 use Rattle.verdicts.specs.declared.seen.StoreSeen.{StoreSeen}
 use Rattle.verdicts.specs.declared.verdict.Kept.{Kept}
 use Rattle.verdicts.specs.declared.verdict.Verdict.{Verdict}
-use Rattle.world.specs.Leaving.{AreAtRest, AreClean}
-use Rattle.world.specs.Members.{AllRest, IsMember}
+use Rattle.carrying.specs.Leaving.{AreAtRest, AreClean}
+use Rattle.members.specs.Members.{AllRest, IsMember}
 use Rattle.world.specs.Worlds.{StandsFor}
-use Rattle.world.specs.declared.members.Member.{Member}
+use Rattle.members.specs.declared.members.Member.{Member}
 use Rattle.known_uuids.specs.Known.{Grows, Knows, Notes}
 use Rattle.known_uuids.proofs.Remembering.{notes_grow}
 use Rattle.recovery.specs.Brought.{Place, AreAllTurned, IsTurned}

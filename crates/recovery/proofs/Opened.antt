@@ -19,7 +19,7 @@ use Rattle.sheet_types.specs.World.{World}
 use Rattle.verdicts.specs.Views.{IsKeptOf}
 use Rattle.verdicts.specs.declared.verdict.Kept.{Kept}
 use Rattle.verdicts.specs.declared.verdict.Verdict.{Verdict}
-use Rattle.world.specs.Leaving.{AreAtRest, AreClean}
+use Rattle.carrying.specs.Leaving.{AreAtRest, AreClean}
 use Rattle.world.specs.Worlds.{StandsFor}
 use Rattle.recovery.specs.Brought.{Place, AreAllTurned, SomeAreTurned, IsTurned, MayAllBeBrought, MayBeBrought, MayBeTurned}
 use Rattle.recovery.specs.Recovered.{seen_of_stores, StandsForSome, AreJudged, AreViewsOf, IsApart, IsFaultAt, IsOpened, IsReadOf, IsRecovered}

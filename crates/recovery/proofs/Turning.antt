@@ -11,7 +11,7 @@ use Rattle.sheet_types.proofs.Sums.{count-cons, none_counted}
 use Rattle.sql_meaning.specs.Transactions.{Rests}
 use Rattle.package_tables.specs.declared.fault.Fault.{Fault}
 use Rattle.verdicts.specs.declared.verdict.Kept.{Kept}
-use Rattle.world.specs.Leaving.{AreAtRest}
+use Rattle.carrying.specs.Leaving.{AreAtRest}
 use Rattle.recovery.specs.Brought.{Place, AreAllTurned, AreBrought, SomeAreTurned, IsTurned, MayBeTurned, TurnsOne}
 use Rattle.recovery.specs.Waiting.{uuid_kept}
 

@@ -14,7 +14,7 @@ use Rattle.verdicts.specs.Views.{is_live_view, AreSeenAs, IsFaultOf, IsVerdictOf
 use Rattle.verdicts.specs.declared.seen.StoreSeen.{StoreSeen}
 use Rattle.verdicts.specs.declared.verdict.Verdict.{Verdict}
 use Rattle.known_uuids.specs.Known.{Knows, Notes}
-use Rattle.world.specs.Leaving.{AreClean, AreAtRest}
+use Rattle.carrying.specs.Leaving.{AreClean, AreAtRest}
 use Rattle.world.specs.Worlds.{Seen, StandsFor, seen_of}
 use Rattle.sheet_types.specs.Ordered.{arranged}
 use Rattle.recovery.specs.Sharing.{member_key, members_of}

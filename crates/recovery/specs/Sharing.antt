@@ -3,7 +3,7 @@ use Rattle.std.specs.Prelude.{◌≡◌, ◌+◌, ◌≤◌, ℕ, List, [], ◌�
 use Rattle.sqlite.specs.Held.{Held}
 use Rattle.sheet_types.specs.Ordered.{put, arranged}
 use Rattle.verdicts.specs.declared.verdict.Kept.{Kept}
-use Rattle.world.specs.declared.members.Member.{Member}
+use Rattle.members.specs.declared.members.Member.{Member}
 use Rattle.recovery.specs.declared.sharing.Shares.{Shares}
 
 abbrev pub member_key : {S : Type 0} → Member S → List ℕ

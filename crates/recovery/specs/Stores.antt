@@ -9,7 +9,7 @@ use Rattle.sql_meaning.specs.Writing.{AreKeyed}
 use Rattle.store_forms.specs.Looking.{LooksAt}
 use Rattle.first_stores.specs.Either.{IsSeenAtEither}
 use Rattle.verdicts.specs.declared.seen.StoreSeen.{StoreSeen}
-use Rattle.world.specs.Leaving.{AreClean}
+use Rattle.carrying.specs.Leaving.{AreClean}
 
 module _ {S : Type 0} (g : Ghosts S) where
   -- each has its tables in the order of their rowids, as one that was just opened has

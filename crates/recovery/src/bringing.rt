@@ -2,7 +2,7 @@
 ghost use Rattle.std.specs.Prelude.{◌≡◌, ◌<◌, length, map, IfOk, IfErr};
 ghost use Rattle.sqlite.specs.Held.{state};
 ghost use Rattle.sql_meaning.specs.Transactions.{Rests};
-ghost use Rattle.world.specs.Leaving.{AreAtRest};
+ghost use Rattle.carrying.specs.Leaving.{AreAtRest};
 ghost use Rattle.recovery.specs.Brought.{AreAllTurned, IsTurned, SomeAreTurned, TurnsOne};
 ghost use Rattle.recovery.specs.Waiting.{uuid_kept};
 

@@ -5,7 +5,7 @@ ghost use Rattle.verdicts.specs.Views.{AreSeenAs, IsFaultOf};
 ghost use Rattle.sheet_types.specs.Matrix.{is_good_frame};
 ghost use Rattle.sheet_types.specs.Refuse.{greatest_receipts};
 ghost use Rattle.world.specs.Creating.{HasRoom};
-ghost use Rattle.world.specs.Leaving.{AreAtRest, AreClean};
+ghost use Rattle.carrying.specs.Leaving.{AreAtRest, AreClean};
 ghost use Rattle.recovery.specs.Stores.{AreAllKeyed, AreOnlyRead, AreOpenWhereClean};
 ghost use Rattle.recovery.specs.Brought.{AreAllTurned, SomeAreTurned};
 ghost use Rattle.recovery.specs.Sharing.{strays_of, HasRoomOf};

@@ -4,14 +4,14 @@ ghost use Rattle.sheet_types.specs.Ordered.{is_before, put};
 ghost use Rattle.sheet_types.proofs.Arranging.{IsInOrder};
 ghost use Rattle.recovery.specs.Sharing.{member_key, member_of, with_member, with_stray, HasRoomOf, AreShared};
 
+use members::members::Member;
+use members::reserving::{insert_reserved, push_reserved};
 use opening::sights::StoreHead;
 use sheet_types::sorting::uuid_is_before;
 use sqlite::{Alter, Connection};
 use std::alloc::{AllocError, Global};
 use uuid::Uuid;
 use verdicts::verdict::Kept;
-use world::members::Member;
-use world::reserving::{insert_reserved, push_reserved};
 
 /// The members of a world in the order of their UUIDs, and the strays.
 #[derive(Drop)]

@@ -1,6 +1,6 @@
 //! All stores that are handed in, each looked at once. None is written to.
 ghost use Rattle.std.specs.Prelude.{◌<◌, ◌↔◌, length, IfOk, IsTrue};
-ghost use Rattle.world.specs.Leaving.{AreAtRest};
+ghost use Rattle.carrying.specs.Leaving.{AreAtRest};
 ghost use Rattle.recovery.specs.Stores.{AreOnlyRead, AreOpenWhereClean, AreSurveyed, LooksAtOne};
 
 use crate::watching::Watcher;

@@ -13,9 +13,9 @@ use Rattle.sheet_types.specs.World.{new_world, no_package}
 use Rattle.sheet_types.specs.declared.frame.Frame.{Frame}
 use Rattle.ledger_laws.proofs.First.{new_world_is_register}
 use Rattle.identity_register.specs.Creation.{new_package, Keeps}
-use Rattle.world.specs.Members.{AllRest, AllClean, IsMember, AreMembers}
+use Rattle.members.specs.Members.{AllRest, AllClean, IsMember, AreMembers}
 use Rattle.world.specs.Worlds.{StandsFor, StandsBeside, IsHeld, seen_of}
-use Rattle.world.specs.declared.members.Member.{Member}
+use Rattle.members.specs.declared.members.Member.{Member}
 
 module _ {S : Type 0} (g : Ghosts S) where
   -- the archive's own member

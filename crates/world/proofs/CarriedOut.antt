@@ -17,26 +17,26 @@ use Rattle.sql_meaning.specs.Transactions.{Rests}
 use Rattle.sql_meaning.proofs.Transactions.{Shuts, Settles}
 use Rattle.sql_meaning.proofs.StoreLemmas.{same_world}
 use Rattle.package_tables.specs.declared.fault.Fault.TheVariants as fault
-use Rattle.world.specs.Carries.{Carries, IsBeforeCommit}
-use Rattle.world.specs.Leaving.{IsBeside, AreAtRest, AreBeside, LeavesOneOf}
-use Rattle.world.specs.Loans.{IsLent, IsReturned}
-use Rattle.world.specs.Members.{AllRest, AllClean, AllOpen, AllStay, AreMembers}
-use Rattle.world.specs.Merges.{Merges}
-use Rattle.world.specs.ServeFaults.{IsLastingFault}
-use Rattle.world.specs.Changes.{IsUncommitted}
-use Rattle.world.specs.Splits.{Splits, KeepsLoan}
-use Rattle.world.specs.Turning.{LeftAs, LeavesAsBefore}
+use Rattle.carrying.specs.Carries.{Carries, IsBeforeCommit}
+use Rattle.carrying.specs.Leaving.{IsBeside, AreAtRest, AreBeside, LeavesOneOf}
+use Rattle.due_loans.specs.Loans.{IsLent, IsReturned}
+use Rattle.members.specs.Members.{AllRest, AllClean, AllOpen, AllStay, AreMembers}
+use Rattle.carrying.specs.Merges.{Merges}
+use Rattle.due_loans.specs.ServeFaults.{IsLastingFault}
+use Rattle.carrying.specs.Turns.{IsUncommitted}
+use Rattle.carrying.specs.Splits.{Splits, KeepsLoan}
+use Rattle.members.specs.Turning.{LeftAs, LeavesAsBefore}
 use Rattle.lending.specs.declared.turn_fault.TurnFault.{TurnFault}
 use Rattle.lending.specs.declared.turn_fault.TurnFault.TheVariants.{Before, Committing}
-use Rattle.world.specs.declared.loans.Lending.{Lending}
-use Rattle.world.specs.declared.loans.Returning.{Returning}
-use Rattle.world.specs.declared.loans.ServeFault.{ServeFault}
-use Rattle.world.specs.declared.loans.ServeFault.TheVariants.{Turn}
-use Rattle.world.specs.declared.members.Member.{Member}
-use Rattle.world.proofs.Changing.{stay_leaves}
-use Rattle.world.proofs.HeldStores.{held_clean, members_left}
-use Rattle.world.proofs.Lent.{child_left, is_beside, none_beside}
-use Rattle.world.proofs.Standing.{members_stay, clean_before}
+use Rattle.due_loans.specs.declared.loans.Lending.{Lending}
+use Rattle.due_loans.specs.declared.loans.Returning.{Returning}
+use Rattle.due_loans.specs.declared.loans.ServeFault.{ServeFault}
+use Rattle.due_loans.specs.declared.loans.ServeFault.TheVariants.{Turn}
+use Rattle.members.specs.declared.members.Member.{Member}
+use Rattle.members.proofs.Changing.{stay_leaves}
+use Rattle.carrying.proofs.HeldStores.{held_clean, members_left}
+use Rattle.carrying.proofs.Lent.{child_left, is_beside, none_beside}
+use Rattle.members.proofs.Standing.{members_stay, clean_before}
 
 module _ {S : Type 0} (g : Ghosts S) where
   -- ---- the stores that are held

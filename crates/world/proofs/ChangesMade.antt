@@ -1,28 +1,24 @@
 -- What carrying out the change of one package says in each of the ways in which it ends.
-use Rattle.std.proofs.Common.{◌≡◌, refl, sym, ap, subst, ℕ, ◌+◌, List, Result, Ok, Err, IfErr, IsErrAnd}
+use Rattle.std.proofs.Common.{◌≡◌, refl, sym, ap, subst, ℕ, ◌+◌, List, Result, Ok, Err, IsErrAnd}
 use Rattle.sqlite.specs.Store.{Ghosts}
 use Rattle.sheet_types.specs.World.{World}
 use Rattle.sheet_types.specs.declared.command.Command.{Command}
 use Rattle.sheet_types.specs.declared.receipt.Receipt.{Receipt}
 use Rattle.sql_meaning.specs.Stores.{LeavesEither}
-use Rattle.world.specs.Members.{AllRest, AllClean, AllOpen, AreMembers}
+use Rattle.members.specs.Members.{AllRest, AllClean, AllOpen, AreMembers}
 use Rattle.package_tables.specs.declared.fault.Fault.{Fault}
-use Rattle.world.specs.Changes.{Changes, IsUncommitted}
-use Rattle.world.specs.Turning.{IsDue, LeavesAsBefore, LeftAs, world_after}
+use Rattle.world.specs.Changes.{Changes}
+use Rattle.carrying.specs.Turns.{IsUncommitted}
+use Rattle.members.specs.Turning.{IsDue, LeavesAsBefore, LeftAs, world_after}
 use Rattle.lending.specs.declared.turn_fault.TurnFault.{TurnFault}
 use Rattle.lending.specs.declared.turn_fault.TurnFault.TheVariants.{Before, Committing}
-use Rattle.world.specs.declared.deciding.Change.{Change}
-use Rattle.world.specs.declared.members.Member.{Member}
+use Rattle.deciding.specs.declared.deciding.Change.{Change}
+use Rattle.members.specs.declared.members.Member.{Member}
 
 -- an error that was handed on, or turned into another
 pub turned_into : {X E : Type 0} (r : Result X E) (e : E) → IsErrAnd r (λ why. why ≡ e) → r ≡ Err e
 turned_into (Ok x) e told = absurd told
 turned_into (Err y) e told = ap Err told
-
--- what holds after any error
-pub if_err : {X E : Type 0} (P : Type 0) (r : Result X E) → P → IfErr r (λ why. P)
-if_err P (Ok x) p = tt
-if_err P (Err e) p = p
 
 module _ {S : Type 0} (g : Ghosts S) where
   -- what a crash leaves of a change that is due

@@ -11,27 +11,27 @@ use Rattle.sheet_types.specs.declared.refusal.Refusal.{Refusal}
 use Rattle.package_tables.specs.declared.fault.Fault.TheVariants as fault
 use Rattle.sql_meaning.proofs.Transactions.{Shuts, Settles}
 use Rattle.sheet_types.specs.declared.refusal.Refusal.TheVariants.{StoreFault}
-use Rattle.world.proofs.Changing.{each_leaves}
-use Rattle.world.specs.Members.{AllRest, AllClean, AllOpen, AreMembers}
+use Rattle.members.proofs.Changing.{each_leaves}
+use Rattle.members.specs.Members.{AllRest, AllClean, AllOpen, AreMembers}
 use Rattle.world.specs.Creating.{HasRoomFor}
 use Rattle.known_uuids.specs.Known.{Knows}
 use Rattle.known_uuids.proofs.Remembering.{knows_more}
-use Rattle.world.specs.Carries.{ServesAll, IsServedAs, IsSeenBy, IsBeforeCommit, IsUntouched}
-use Rattle.world.specs.Leaving.{AreClean, AreAtRest}
-use Rattle.world.specs.ServeFaults.{IsLastingFault, told_refusal, CountsShelf}
+use Rattle.carrying.specs.Carries.{ServesAll, IsServedAs, IsSeenBy, IsBeforeCommit, IsUntouched}
+use Rattle.carrying.specs.Leaving.{AreClean, AreAtRest}
+use Rattle.due_loans.specs.ServeFaults.{IsLastingFault, told_refusal, CountsShelf}
 use Rattle.sqlite_disk.specs.Disk.{MoreFaults}
 use Rattle.std.specs.Prelude.{◌⊎◌}
 use Rattle.std.proofs.Common.{arith}
-use Rattle.world.specs.declared.loans.ServeFault.{ServeFault}
-use Rattle.world.specs.declared.loans.ServeFault.TheVariants.{Unshelved, Turn}
+use Rattle.due_loans.specs.declared.loans.ServeFault.{ServeFault}
+use Rattle.due_loans.specs.declared.loans.ServeFault.TheVariants.{Unshelved, Turn}
 use Rattle.world.proofs.CarriedOut.{leaves_before}
-use Rattle.world.proofs.HeldStores.{left_clean, right_clean}
-use Rattle.world.proofs.Lent.{none_beside}
+use Rattle.carrying.proofs.HeldStores.{left_clean, right_clean}
+use Rattle.carrying.proofs.Lent.{none_beside}
 use Rattle.sqlite.specs.Held.{Held}
 use Rattle.std.specs.Prelude.{[], ◌++◌, IsErr}
 use Rattle.world.specs.Worlds.{Seen, StandsFor, IsHeld, IsStep, StandsStill, LeavesNoTrace, LeftAsItStands}
 use Rattle.lending.specs.declared.turn_fault.TurnFault.TheVariants.{Before, Committing}
-use Rattle.world.specs.declared.members.Member.{Member}
+use Rattle.members.specs.declared.members.Member.{Member}
 
 -- a fault is told as a fault
 is_fault : (e : ServeFault) → IsFault (Err (told_refusal e))

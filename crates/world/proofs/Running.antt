@@ -2,8 +2,8 @@
 use Rattle.std.specs.Prelude.{◌⊎◌, ◌≤◌, ℕ}
 use Rattle.std.proofs.Common.{inl, inr, arith, sym, subst}
 use Rattle.sqlite_disk.specs.Disk.{MoreFaults}
-use Rattle.world.specs.Leaving.{AreClean}
-use Rattle.world.proofs.HeldStores.{left_clean, right_clean}
+use Rattle.carrying.specs.Leaving.{AreClean}
+use Rattle.carrying.proofs.HeldStores.{left_clean, right_clean}
 use Rattle.std.proofs.Common.{◌≡◌, ◌∙◌, refl, true, false, List, [], ◌∷◌, ◌++◌, Result, Err}
 use Rattle.sqlite.specs.Store.{Ghosts}
 use Rattle.sheet_types.specs.Register.{IsRegister}

@@ -20,33 +20,34 @@ use Rattle.sheet_types.specs.declared.refusal.Refusal.{Refusal}
 use Rattle.sql_meaning.specs.Transactions.{Rests}
 use Rattle.sql_meaning.specs.Stores.{LeavesEither}
 use Rattle.sql_meaning.proofs.Transactions.{Shuts, Settles}
-use Rattle.world.specs.Asking.{AsksAll}
+use Rattle.asking.specs.Asking.{AsksAll}
 use Rattle.known_uuids.specs.Known.{Grows, Notes}
 use Rattle.known_uuids.proofs.Remembering.{knows_more}
-use Rattle.world.specs.Carries.{Carries, ServesAll, IsSeenBy, IsBeforeCommit}
-use Rattle.world.specs.Deciding.{IsOf, Decides, DecidesWhere}
-use Rattle.world.specs.Leaving.{AreAtRest, AreClean, AreBeside, LeavesOneOf}
-use Rattle.world.specs.Members.{AllRest, AllClean, AllOpen, AreMembers}
-use Rattle.world.specs.ServeFaults.{IsLastingFault, CountsShelf}
-use Rattle.world.specs.Changes.{Changes, IsUncommitted}
-use Rattle.world.specs.Turning.{IsDue, LeftAs, world_after}
+use Rattle.carrying.specs.Carries.{Carries, ServesAll, IsSeenBy, IsBeforeCommit}
+use Rattle.deciding.specs.Deciding.{IsOf, Decides, DecidesWhere}
+use Rattle.carrying.specs.Leaving.{AreAtRest, AreClean, AreBeside, LeavesOneOf}
+use Rattle.members.specs.Members.{AllRest, AllClean, AllOpen, AreMembers}
+use Rattle.due_loans.specs.ServeFaults.{IsLastingFault, CountsShelf}
+use Rattle.world.specs.Changes.{Changes}
+use Rattle.carrying.specs.Turns.{IsUncommitted}
+use Rattle.members.specs.Turning.{IsDue, LeftAs, world_after}
 use Rattle.lending.specs.declared.turn_fault.TurnFault.{TurnFault}
 use Rattle.lending.specs.declared.turn_fault.TurnFault.TheVariants.{Before, Committing}
-use Rattle.world.specs.declared.deciding.Change.{Change}
-use Rattle.world.specs.declared.deciding.Decision.{Decision}
-use Rattle.world.specs.declared.deciding.Decision.TheVariants.{Answered, ChangeDue, SplitDue, MergeDue}
-use Rattle.world.specs.declared.loans.Lending.{Lending}
-use Rattle.world.specs.declared.loans.Returning.{Returning}
-use Rattle.world.specs.Loans.{IsLent, IsReturned}
-use Rattle.world.specs.declared.loans.ServeFault.{ServeFault}
-use Rattle.world.specs.declared.loans.ServeFault.TheVariants.{Unshelved, Turn}
-use Rattle.world.specs.declared.members.Member.{Member}
+use Rattle.deciding.specs.declared.deciding.Change.{Change}
+use Rattle.deciding.specs.declared.deciding.Decision.{Decision}
+use Rattle.deciding.specs.declared.deciding.Decision.TheVariants.{Answered, ChangeDue, SplitDue, MergeDue}
+use Rattle.due_loans.specs.declared.loans.Lending.{Lending}
+use Rattle.due_loans.specs.declared.loans.Returning.{Returning}
+use Rattle.due_loans.specs.Loans.{IsLent, IsReturned}
+use Rattle.due_loans.specs.declared.loans.ServeFault.{ServeFault}
+use Rattle.due_loans.specs.declared.loans.ServeFault.TheVariants.{Unshelved, Turn}
+use Rattle.members.specs.declared.members.Member.{Member}
 use Rattle.world.proofs.CarriedOut.{leaves_before}
-use Rattle.world.proofs.HeldStores.{held_clean, members_left}
-use Rattle.world.proofs.Lent.{none_beside}
+use Rattle.carrying.proofs.HeldStores.{held_clean, members_left}
+use Rattle.carrying.proofs.Lent.{none_beside}
 use Rattle.world.proofs.Noted.{knows_after}
-use Rattle.world.proofs.Changing.{stay_leaves}
-use Rattle.world.proofs.Standing.{members_stay, clean_before}
+use Rattle.members.proofs.Changing.{stay_leaves}
+use Rattle.members.proofs.Standing.{members_stay, clean_before}
 
 module _ {S : Type 0} (g : Ghosts S) (shuts : Shuts g) (settles : Settles g) where
   -- ---- a change of one package

@@ -5,12 +5,12 @@ use Rattle.sqlite.specs.Held.{Held}
 use Rattle.sheet_types.specs.World.{World}
 use Rattle.sheet_types.specs.declared.frame.Frame.{Frame}
 use Rattle.known_uuids.specs.Known.{Knows}
-use Rattle.world.specs.Asking.{AsksAll}
-use Rattle.world.specs.Members.{AllStay}
+use Rattle.asking.specs.Asking.{AsksAll}
+use Rattle.members.specs.Members.{AllStay}
 use Rattle.world.specs.Worlds.{Seen, StandsFor, IsHeld, IsRead, TellsOf}
-use Rattle.world.specs.declared.members.Member.{Member}
-use Rattle.world.proofs.Questions.{asks_weaker}
-use Rattle.world.proofs.Standing.{members_stay, clean_before}
+use Rattle.members.specs.declared.members.Member.{Member}
+use Rattle.asking.proofs.Questions.{asks_weaker}
+use Rattle.members.proofs.Standing.{members_stay, clean_before}
 
 module _ {S : Type 0} (g : Ghosts S) where
   -- what rests on no UUID that is known

@@ -1,22 +1,16 @@
 -- What the change of one package makes of the members of a world. Profile.
-use Rattle.std.specs.Prelude.{◌≡◌, ℕ, ◌+◌, ⊤, List, Result, Ok, Err, IfOk}
+use Rattle.std.specs.Prelude.{◌≡◌, ℕ, ◌+◌, List, Result, Ok, Err, IfOk}
 use Rattle.sqlite.specs.Store.{Ghosts}
 use Rattle.sheet_types.specs.World.{World}
 use Rattle.sheet_types.specs.declared.command.Command.{Command}
 use Rattle.sheet_types.specs.declared.receipt.Receipt.{Receipt}
 use Rattle.sql_meaning.specs.Stores.{LeavesEither}
-use Rattle.world.specs.Members.{AllRest, AllClean, AllOpen, AreMembers}
-use Rattle.world.specs.Turning.{IsDue, LeavesAsBefore, LeftAs, world_after}
+use Rattle.members.specs.Members.{AllRest, AllClean, AllOpen, AreMembers}
+use Rattle.members.specs.Turning.{IsDue, LeavesAsBefore, LeftAs, world_after}
 use Rattle.lending.specs.declared.turn_fault.TurnFault.{TurnFault}
-use Rattle.lending.specs.declared.turn_fault.TurnFault.TheVariants.{Before, Committing}
-use Rattle.world.specs.declared.deciding.Change.{Change}
-use Rattle.world.specs.declared.members.Member.{Member}
-
--- no commit was tried
-abbrev pub IsUncommitted : {X : Type 0} → Result X TurnFault → Type 0
-IsUncommitted (Ok x) = ⊥
-IsUncommitted (Err (Before fault)) = ⊤
-IsUncommitted (Err (Committing fault)) = ⊥
+use Rattle.carrying.specs.Turns.{IsUncommitted}
+use Rattle.deciding.specs.declared.deciding.Change.{Change}
+use Rattle.members.specs.declared.members.Member.{Member}
 
 module _ {S : Type 0} (g : Ghosts S) where
   -- A change that is due was carried out: the receipt is the reply and its number the new count. Or it failed, and

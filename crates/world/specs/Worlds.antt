@@ -18,10 +18,10 @@ use Rattle.sheet_types.specs.declared.refusal.Refusal.TheVariants.{StoreFault}
 use Rattle.sqlite_disk.specs.Disk.{MoreFaults}
 use Rattle.known_uuids.specs.Known.{Knows}
 use Rattle.sql_meaning.specs.Stores.{EachLeaves}
-use Rattle.world.specs.Leaving.{AreClean, AreAtRest, AreBeside, LeavesOneOf}
-use Rattle.world.specs.Turning.{LeftAs}
-use Rattle.world.specs.Members.{AllOpen, AllRest, AllClean, AllStay, AreMembers}
-use Rattle.world.specs.declared.members.Member.{Member}
+use Rattle.carrying.specs.Leaving.{AreClean, AreAtRest, AreBeside, LeavesOneOf}
+use Rattle.members.specs.Turning.{LeftAs}
+use Rattle.members.specs.Members.{AllOpen, AllRest, AllClean, AllStay, AreMembers}
+use Rattle.members.specs.declared.members.Member.{Member}
 
 -- the frame, the members in the order of their UUIDs, the number of all receipts, whether the world has failed, the
 -- stores of children that a split which failed left, and the UUIDs that are known

@@ -6,12 +6,12 @@ ghost use Rattle.sheet_types.specs.Matrix.{is_good_frame};
 ghost use Rattle.sheet_types.specs.Texts.{is_moment};
 ghost use Rattle.sheet_types.specs.World.{new_world};
 ghost use Rattle.sql_meaning.specs.Blank.{IsBlank, no_schema};
-ghost use Rattle.world.specs.Members.{AllRest, AllClean, AllMadeAt, AreMembers};
+ghost use Rattle.members.specs.Members.{AllRest, AllClean, AllMadeAt, AreMembers};
 
-use crate::members::Member;
-use crate::reserving::push_reserved;
 use identity_register::creation::create;
 use identity_register::fitting::fits;
+use members::members::Member;
+use members::reserving::push_reserved;
 use package_tables::create::Info;
 use package_tables::fault::Fault;
 use sheet_types::frame::{Frame, FrameFault};

@@ -3,13 +3,13 @@ ghost use Rattle.std.specs.Prelude.{◌≤◌, IsTrue, IfOk, OnOk};
 ghost use Rattle.sheet_types.specs.Matrix.{is_good_frame};
 ghost use Rattle.sheet_types.specs.Refuse.{greatest_receipts};
 ghost use Rattle.known_uuids.specs.Known.{Grows};
-ghost use Rattle.world.specs.Asking.{AsksAll};
-ghost use Rattle.world.specs.Deciding.{IsOf, IsNoted, DecidesWhere, HasPlace};
-ghost use Rattle.world.specs.Members.{AllRest};
+ghost use Rattle.asking.specs.Asking.{AsksAll};
+ghost use Rattle.deciding.specs.Deciding.{IsOf, IsNoted, DecidesWhere, HasPlace};
+ghost use Rattle.members.specs.Members.{AllRest};
 
-use crate::deciding::{Decision, decide, package_of};
-use crate::members::Member;
+use deciding::deciding::{Decision, decide, package_of};
 use known_uuids::known::Known;
+use members::members::Member;
 use package_tables::fault::Fault;
 use sheet_types::command::{Command, Request};
 use sheet_types::frame::Frame;

@@ -3,17 +3,17 @@ ghost use Rattle.std.specs.Prelude.{◌≡◌, ◌<◌, ◌≤◌, ◌+◌, ◌+
 ghost use Rattle.std.specs.Option.{option_map};
 ghost use Rattle.sheet_types.specs.Answers.{sums_of, package_sights, holdings_answer, receipt_answer};
 ghost use Rattle.sheet_types.specs.World.{World as ModelWorld, Package};
-ghost use Rattle.world.specs.Asking.{AsksAll};
-ghost use Rattle.world.specs.Members.{AllRest, AreMembers};
+ghost use Rattle.asking.specs.Asking.{AsksAll};
+ghost use Rattle.members.specs.Members.{AllRest, AreMembers};
 ghost use Rattle.world.specs.Reading.{sight_of, member_sight};
 ghost use Rattle.world.specs.Worlds.{StandsFor, IsRead, TellsOf, held};
 
-use crate::asking::place_of;
-use crate::members::Member;
-use crate::recalling::find_kept;
-use crate::reserving::push_reserved;
 use crate::world::World;
-use identity_register::whole::holdings;
+use asking::asking::place_of;
+use asking::asking_one::holdings_at;
+use asking::recalling::find_kept;
+use members::members::Member;
+use members::reserving::push_reserved;
 use package_tables::fault::Fault;
 use sheet_types::command::{Item, Relation};
 use sheet_types::receipt::{Receipt, Sums};
@@ -32,22 +32,6 @@ pub struct PackageSight {
     pub depth: u64,
     /// The number of the last receipt that names the package, 0 where there is none.
     pub ticket: u64,
-}
-
-/// The items of the package of the member at a place, by kind and identity, and its links, by mapping, base and medium.
-pub(crate) fn holdings_at<S: Alter + Drop>(
-    members: &mut Vec<Member<S>>,
-    at: usize,
-    alloc: Global,
-) -> Result<(Vec<Item>, Vec<Relation>), Fault>
-    requires within { at < length members.old.items }
-    requires rests { AllRest S.Store members.old.items }
-    ensures { AsksAll S.Store
-        (λ w held. (p : Package) → slice_get w.packages at ≡ Some p → (held.0.items ≡ p.items) × (held.1.items ≡ p.links))
-        members.old.items members.new.items result }
-{
-    let member = &mut members[at];
-    holdings(&mut member.conn, alloc)
 }
 
 /// The items and the links of a package, if it is live.

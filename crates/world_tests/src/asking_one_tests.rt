@@ -1,6 +1,9 @@
 // What is asked of the second of two members, of whose packages the first is empty and the second has one tile. What is expected follows from the two packages.
 use crate::told::{item_text, refusal_text, thing_text};
 use crate::values::member_of;
+use asking::asking::are_at_rest;
+use asking::asking_one::{item_at, refusal_at, thing_moved};
+use members::members::Member;
 use package_tables::fault::Fault;
 use sheet_types::command::{Command, Item, Mapping};
 use sheet_types::receipt::Moved;
@@ -12,9 +15,6 @@ use test_values::{
     Checked, FRAME, NOTHING, Row, Tables, committed, in_memory, is_good, tile_content,
 };
 use uuid::Uuid;
-use world::asking::are_at_rest;
-use world::asking_one::{item_at, refusal_at, thing_moved};
-use world::members::Member;
 
 fn id(number: u64) -> Uuid {
     Uuid::from_u128(u128::from(number))

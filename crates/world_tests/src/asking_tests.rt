@@ -1,7 +1,10 @@
 // Two packages in memory, each with one medium and its receipt, and what they are asked. What is expected follows from what was entered.
 
 use crate::values::{item, member_with_a_medium, package, request};
+use asking::asking::{are_at_rest, is_named_in_all, kept_in_all, place_of};
+use asking::recalling::{find_kept, was_used};
 use known_uuids::known::Known;
+use members::members::Member;
 use package_tables::fault::Fault;
 use sheet_types::receipt::Receipt;
 use sqlite::{Alter, Connection};
@@ -9,9 +12,6 @@ use std::alloc::Global;
 use std::test::Fail;
 use test_values::{Checked, answered, in_memory};
 use uuid::Uuid;
-use world::asking::{are_at_rest, is_named_in_all, kept_in_all, place_of};
-use world::members::Member;
-use world::recalling::{find_kept, was_used};
 
 // Packages 2 and 3, of whose media the first came by the receipt 4, the second by 5.
 fn two<S: Alter + Drop>(

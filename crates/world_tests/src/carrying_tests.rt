@@ -1,5 +1,6 @@
 // Commands that change one package, carried out with their receipts in a new package in memory. What is expected follows from what each command asks for.
 use crate::values::{MADE, package};
+use carrying::carrying_out::apply_to_package;
 use custody::names;
 use identity_register::look_ups::find;
 use lending::turn_fault::TurnFault;
@@ -16,7 +17,6 @@ use test_values::{
     tile_content,
 };
 use uuid::Uuid;
-use world::carrying_out::apply_to_package;
 
 // What is done and asked: the tile 1 comes or goes, with a receipt; how many bytes it has, whether a receipt names it, and the moment
 // of the last change in the first row of the contents.

@@ -8,9 +8,9 @@ use sqlite::{Alter, Connection};
 use std::alloc::{AllocError, Global};
 use std::test::Fail;
 use test_values::{AT, Checked, FRAME, in_memory, is_good, text, tile_content};
-use world::asking::are_at_rest;
-use world::deciding::{Change, Decision, decide};
-use world::members::Member;
+use asking::asking::are_at_rest;
+use deciding::deciding::{Change, Decision, decide};
+use members::members::Member;
 
 // The second member's change to the sums after it, and the receipt with its moment, its line, and the tile that it moved.
 const CHANGE: &str =

@@ -11,8 +11,8 @@ use test_values::{
     question, text, tile_content,
 };
 use uuid::Uuid;
-use world::judging::package_refusal;
-use world::texts::text_refusal;
+use asking::judging::package_refusal;
+use asking::texts::text_refusal;
 
 // The addition of a tile of these bytes at this moment.
 fn addition(alloc: Global, at: &str, bytes: &[u8]) -> Result<Request, Fault> {

@@ -10,8 +10,8 @@ use std::alloc::Global;
 use std::test::Fail;
 use test_values::{Asks, Checked, FRAME, in_memory, links_text, sums};
 use test_worlds::{A, B, Wish};
-use world::asking::are_at_rest;
-use world::members::Member;
+use asking::asking::are_at_rest;
+use members::members::Member;
 use world::reading::{holdings_in, sights_of, sums_in};
 use world::world::World;
 

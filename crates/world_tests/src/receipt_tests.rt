@@ -1,10 +1,10 @@
 // A receipt field by field, by the rules. The digest is that of `tile 2 3 3`, LF and `A` by another program's SHA-256.
+use asking::receipts::receipt_over;
 use sheet_types::command::{Command, Request};
 use sheet_types::fingerprints::spell;
 use sheet_types::receipt::{Moved, MovedKind};
 use std::test::Fail;
 use test_values::{AT, archive, counts, item, question, sums, text, tile_content};
-use world::receipts::receipt_over;
 
 const DIGEST: &str = "b363ee0ecc9cf61b12ecdafd75dca2779729b4fcc5f1bd718c33aad2c94af4f8";
 

@@ -7,8 +7,8 @@ use std::alloc::Global;
 use std::test::Fail;
 use test_values::{in_memory, moved_medium, receipt_of, sums, tile_content};
 use uuid::Uuid;
-use world::sums::{sums_after, sums_moved};
-use world::too_many::{any_past_limits, is_past_limits, is_too_many};
+use asking::sums::{sums_after, sums_moved};
+use asking::too_many::{any_past_limits, is_past_limits, is_too_many};
 
 fn identity(number: u128) -> Uuid {
     Uuid::from_u128(number)

@@ -11,10 +11,10 @@ use sqlite::{Alter, Connection};
 use std::alloc::Global;
 use std::test::Fail;
 use test_values::{Checked, ONE_MEDIUM, answered, at_rest, in_memory, moved_medium, receipt_of};
-use world::asking::are_at_rest;
-use world::members::Member;
-use world::sums::{sums_after, sums_moved};
-use world::turning::turn_at;
+use asking::asking::are_at_rest;
+use members::members::Member;
+use asking::sums::{sums_after, sums_moved};
+use carrying::turning::turn_at;
 
 // What is done and asked: a turn of the second member with the receipt of a number, whether the package of a member has the medium,
 // and what is kept of a member: its sums and its ticket.

@@ -1,5 +1,7 @@
 // What the tests of single parts share: the moment of a new package, identities, the addition of a medium, and members.
 
+use carrying::carrying_out::apply_to_package;
+use members::members::Member;
 use package_tables::fault::Fault;
 use sheet_types::command::Command;
 use sheet_types::receipt::Sums;
@@ -9,8 +11,6 @@ use test_values::{
     NOTHING, ONE_MEDIUM, at_rest, empty_package, medium_content, moved_medium, receipt_of,
 };
 use uuid::Uuid;
-use world::carrying_out::apply_to_package;
-use world::members::Member;
 
 // Before the first receipt.
 pub const MADE: &str = "2026-11-22T08:00:00.000Z";

@@ -7,9 +7,9 @@ use Rattle.sqlite.specs.Store.{Ghosts}
 use Rattle.sheet_types.specs.World.{World, Package}
 use Rattle.sheet_types.specs.declared.frame.Frame.{Frame}
 use Rattle.histories.specs.Stores.{AreClean, AreRead, AsksStores}
-use Rattle.world.specs.Members.{IsMember}
+use Rattle.members.specs.Members.{IsMember}
 use Rattle.world.specs.Worlds.{Seen, StandsFor, held}
-use Rattle.world.specs.declared.members.Member.{Member}
+use Rattle.members.specs.declared.members.Member.{Member}
 use Rattle.world_views.specs.Looks.{Asks, IsUntouched, LooksInto}
 
 module _ {S : Type 0} (g : Ghosts S) where

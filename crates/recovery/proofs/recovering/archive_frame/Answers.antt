@@ -5,7 +5,7 @@ use Rattle.std.specs.List.{AllByRecursion}
 use Rattle.std.proofs.lemmas.List.{take_all}
 use Rattle.std.proofs.lemmas.Option.{slice_get-get_or}
 use Rattle.verdicts.specs.declared.seen.StoreSeen.{StoreSeen}
-use Rattle.world.proofs.Asked.{take_one_more}
+use Rattle.asking.proofs.Asked.{take_one_more}
 use Rattle.recovery.specs.Recovered.{said_root}
 use Rattle.recovery.proofs.Making.{found_first, none_found}
 use Rattle.recovery.proofs.recovering.archive_frame.Goals as goal

@@ -3,7 +3,7 @@ use Rattle.std.specs.Prelude.{List}
 use Rattle.std.proofs.Common.{◌⊎◌}
 use Rattle.ledger_laws.specs.Laws.{StoreSight}
 use Rattle.verdicts.specs.Views.{AreSeenAs, IsFaultOf}
-use Rattle.world.specs.Leaving.{AreClean}
+use Rattle.carrying.specs.Leaving.{AreClean}
 use Rattle.recovery.specs.Recovered.{AreJudged, IsFaultAt, IsJudgedOf, IsWant}
 use Rattle.recovery.proofs.Making.{ok_so, err_so, judged, fault_at}
 use Rattle.recovery.proofs.recovering.judge_stores.Goals as goal

@@ -1,8 +1,8 @@
 -- The merge says it all.
 use Rattle.std.proofs.Common.{refl, subst, sym, ap, ◌∙◌, arith, []}
 use Rattle.sheet_types.specs.declared.receipt.Receipt.{Receipt}
-use Rattle.world.specs.Carries.{Carries}
-use Rattle.world.specs.Loans.{IsReturned}
+use Rattle.carrying.specs.Carries.{Carries}
+use Rattle.due_loans.specs.Loans.{IsReturned}
 use Rattle.world.proofs.CarriedOut.{carries_returned, carries_unreturned}
 use Rattle.world.proofs.ChangesMade.{turned_into}
 use Rattle.world.proofs.ServedAll.{counts_turn}

@@ -1,16 +1,16 @@
 -- Room is made, the child's store is filled, and then the parent lends.
 use Rattle.std.proofs.Common.{◌≡◌, refl, subst, sym, ap, ◌∙◌, arith, [], length, vec_len, Ok, Err}
 use Rattle.sheet_types.specs.declared.receipt.Receipt.{Receipt}
-use Rattle.world.specs.Carries.{Carries}
-use Rattle.world.specs.Loans.{IsLent}
-use Rattle.world.specs.Members.{AllOpen, AllStay, AreMembers}
-use Rattle.world.specs.Splits.{Splits}
+use Rattle.carrying.specs.Carries.{Carries}
+use Rattle.due_loans.specs.Loans.{IsLent}
+use Rattle.members.specs.Members.{AllOpen, AllStay, AreMembers}
+use Rattle.carrying.specs.Splits.{Splits}
 use Rattle.lending.specs.declared.turn_fault.TurnFault.TheVariants.{Before}
-use Rattle.world.specs.declared.loans.ServeFault.TheVariants.{Turn}
+use Rattle.due_loans.specs.declared.loans.ServeFault.TheVariants.{Turn}
 use Rattle.world.proofs.CarriedOut.{carries_unbegun, carries_lent, carries_unlent}
 use Rattle.world.proofs.ChangesMade.{turned_into}
-use Rattle.world.proofs.Lent.{none_beside}
-use Rattle.world.proofs.Standing.{all_still, stay_length}
+use Rattle.carrying.proofs.Lent.{none_beside}
+use Rattle.members.proofs.Standing.{all_still, stay_length}
 use Rattle.world.proofs.applying.carry_out_split.Goals as goal
 
 pub returns-in_err-make_room-clause-carries : goal.returns-in_err-make_room-clause-carries

@@ -2,13 +2,13 @@
 use Rattle.std.proofs.Common.{◌∙◌, sym, ap, subst, arith, Result, Ok}
 use Rattle.sheet_types.specs.declared.receipt.Receipt.{Receipt}
 use Rattle.sheet_types.specs.declared.refusal.Refusal.{Refusal}
-use Rattle.world.specs.Carries.{ServesAll}
-use Rattle.world.specs.Deciding.{HasPlace, IsNoted}
+use Rattle.carrying.specs.Carries.{ServesAll}
+use Rattle.deciding.specs.Deciding.{HasPlace, IsNoted}
 use Rattle.lending.specs.declared.turn_fault.TurnFault.TheVariants.{Before}
-use Rattle.world.specs.declared.loans.ServeFault.TheVariants.{Turn}
+use Rattle.due_loans.specs.declared.loans.ServeFault.TheVariants.{Turn}
 use Rattle.world.proofs.ServedAll.{all_undecided, all_answered, change_served, change_failed, split_served, split_failed, merge_served, merge_failed, counts_turn, counts_handed}
 use Rattle.world.proofs.ChangesMade.{turned_into}
-use Rattle.world.proofs.Standing.{stay_length}
+use Rattle.members.proofs.Standing.{stay_length}
 use Rattle.world.proofs.applying.serve.Goals as goal
 
 pub returns-in_err-reply-clause-serves : goal.returns-in_err-reply-clause-serves

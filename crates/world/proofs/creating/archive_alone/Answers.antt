@@ -8,8 +8,8 @@ use Rattle.sql_meaning.specs.Transactions.{Rests}
 use Rattle.sheet_types.specs.World.{new_world}
 use Rattle.sheet_types.specs.declared.frame.Frame.{Frame}
 use Rattle.identity_register.specs.Creation.{IsMadeAt}
-use Rattle.world.specs.Members.{AllRest, AllClean, AllMadeAt, AreMembers}
-use Rattle.world.specs.declared.members.Member.{Member}
+use Rattle.members.specs.Members.{AllRest, AllClean, AllMadeAt, AreMembers}
+use Rattle.members.specs.declared.members.Member.{Member}
 use Rattle.world.proofs.Beginning.{first_member, alone}
 use Rattle.world.proofs.creating.archive_alone.Goals as goal
 

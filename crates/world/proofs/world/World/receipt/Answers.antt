@@ -1,7 +1,7 @@
 -- What the members tell is told of the world.
 use Rattle.std.proofs.Common.{sym}
 use Rattle.world.proofs.Keeping.{room_stays}
-use Rattle.world.proofs.Standing.{stay_length}
+use Rattle.members.proofs.Standing.{stay_length}
 use Rattle.world.proofs.WorldsRead.{world_is_held, world_is_read, world_tells}
 use Rattle.world.proofs.world.World.receipt.Goals as goal
 

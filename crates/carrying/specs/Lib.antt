@@ -1,0 +1,5 @@
+pub mod Leaving
+pub mod Turns
+pub mod Splits
+pub mod Merges
+pub mod Carries

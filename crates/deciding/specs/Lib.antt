@@ -1,0 +1,3 @@
+pub mod Deciding
+pub mod DecidingSplits
+pub mod DecidingMerges

@@ -1,0 +1,12 @@
+pub mod Seeing
+pub mod FirstRows
+pub mod Parts
+pub mod Carrying
+pub mod EachPackage
+pub mod Fitting
+pub mod Counting
+pub mod Limits
+pub mod Outcomes
+pub mod Changing
+pub mod Due
+pub mod Standing

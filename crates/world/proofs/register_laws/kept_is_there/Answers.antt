@@ -1,6 +1,0 @@
--- The lemma says it.
-use Rattle.world.proofs.EachPackage.{kept_is_there}
-use Rattle.world.proofs.register_laws.kept_is_there.Goals as goal
-
-pub returns : goal.returns
-returns c = kept_is_there

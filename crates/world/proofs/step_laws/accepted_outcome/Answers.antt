@@ -1,6 +1,0 @@
--- The lemma says it.
-use Rattle.world.proofs.Outcomes.{accepted_outcome}
-use Rattle.world.proofs.step_laws.accepted_outcome.Goals as goal
-
-pub returns : goal.returns
-returns c = accepted_outcome

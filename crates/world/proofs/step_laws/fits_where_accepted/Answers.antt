@@ -1,6 +1,0 @@
--- The lemma says it.
-use Rattle.world.proofs.Fitting.{fits_where_accepted}
-use Rattle.world.proofs.step_laws.fits_where_accepted.Goals as goal
-
-pub returns : goal.returns
-returns c = fits_where_accepted

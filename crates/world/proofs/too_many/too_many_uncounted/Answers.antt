@@ -1,6 +1,0 @@
--- The lemma says it.
-use Rattle.world.proofs.Overfull.{too_many_uncounted}
-use Rattle.world.proofs.too_many.too_many_uncounted.Goals as goal
-
-pub returns : goal.returns
-returns c = too_many_uncounted
