@@ -6,10 +6,6 @@ mod contents;
 mod fields;
 pub mod list_laws;
 pub mod lists;
-#[cfg(test)]
-mod lists_tests;
 mod loans;
 mod records;
 mod requests;
-#[cfg(test)]
-mod tests;

@@ -29,7 +29,7 @@ mod replies;
 #[cfg(test)]
 mod steps;
 #[cfg(test)]
-mod tallies;
+mod sums;
 #[cfg(test)]
 mod values;
 #[cfg(test)]
