@@ -5,8 +5,8 @@
     tools/public_functions.py --missing  the functions that lack a clause, an edit or a test; status 1 where there is one
 
 An edit counts for the public function in whose body it stands, and for each public function of the same file that calls the function in which it
-stands, directly or through others of the file. A test counts where it, or a helper, names the function before a bracket; a helper is a function or an
-impl of the test's file, of a module of its crate that the file uses, or of the crates of test values. The sessions of crates/workbench count as a test of what
+stands, directly or through others of the file. A test counts where it, or a helper, names the function before a bracket; a helper is a function, an
+impl or a constant of the test's file, of a module of its crate that the file uses, or of the crates of test values. The sessions of crates/workbench count as a test of what
 the command line calls, directly or through others of a few crates above the world.
 A law needs neither: a function with an empty body, or one with no result, no `&mut` and no handle, whose call can only give the fact of its clause.
 """
@@ -18,6 +18,7 @@ ROOT = os.path.dirname(os.path.dirname(os.path.abspath(__file__)))
 TEST_VALUES = ["test_values", "test_worlds"]
 # The crates that a line of a session goes through (crates/workbench), from the words of the program on.
 OF_SESSIONS = ["command_line", "commands", "reporting", "views", "world_views", "exporting", "drawing", "cli"]
+CONST = re.compile(r"^(?:pub(?:\(crate\))? )?const (?P<name>\w+): .*?;$", re.M | re.S)
 HEAD = re.compile(r"^(?P<indent>\s*)(?P<pub>pub(?:\((?:crate|super)\))? )?fn (?P<name>\w+)", re.M)
 
 
@@ -101,7 +102,7 @@ def reached(names, bodies, start):
 
 
 def helpers(crate, text):
-    """The texts that a test of a file may lead to, by the names of functions and of the types of impls."""
+    """The texts that a test of a file may lead to, by the names of functions, of the types of impls and of tables."""
     folders = [os.path.join(ROOT, "crates", it, "src") for it in TEST_VALUES]
     paths = [os.path.join(folder, file) for folder in folders if os.path.isdir(folder) for file in sorted(os.listdir(folder))]
     of_tests = re.findall(r"^#\[cfg\(test\)\]\nmod (\w+);", read(os.path.join(ROOT, "crates", crate, "src", "lib.rt")), re.M)
@@ -112,6 +113,7 @@ def helpers(crate, text):
         own = [it for it in functions(whole) if not any(impl.start() < it["start"] < impl.end() for impl in impls)]
         bodies |= {it["name"]: whole[it["start"] : it["end"]] for it in own}
         bodies |= {it["type"]: it[0] for it in impls}
+        bodies |= {it["name"]: it[0] for it in CONST.finditer(whole)}
     return bodies
 
 

@@ -51,17 +51,3 @@ pub fn read_records<R: Read + Drop>(alloc: Global, reader: R) -> (Vec<ByteRecord
     }
     (rows, Ending::End)
 }
-
-#[cfg(test)]
-mod tests {
-    use super::*;
-
-    #[test]
-    fn records_of_a_text(rt: HostRuntime) {
-        let (rows, ending) = read_records(rt.alloc(), b"a,b\r\n\nc,\"d,\"\"e\"\n\xff".as_slice());
-        assert_eq!(rt; ending, Ending::End);
-        assert_eq!(rt; rows.len(), 3);
-        assert!(rt; rows[1].get(1) == Some(b"d,\"e".as_slice()));
-        assert!(rt; rows[2].get(0) == Some(b"\xff".as_slice()));
-    }
-}

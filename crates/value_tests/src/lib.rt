@@ -1,9 +1,36 @@
-//! Tests of values, frames and free numbers: `sheet_types`, `matrix_rules` and `renumbering`. There is nothing here but tests.
+//! Tests of what needs no store: values, frames, receipts and what is judged of them, lists and other texts. There is nothing here but
+//! tests.
 #![tactic(auto)]
 
 #[cfg(test)]
+mod accounts;
+#[cfg(test)]
+mod balances;
+#[cfg(test)]
+mod bodies;
+#[cfg(test)]
+mod calls;
+#[cfg(test)]
+mod claims;
+#[cfg(test)]
+mod exports;
+#[cfg(test)]
 mod frames;
 #[cfg(test)]
-mod free_numbers;
+mod keys;
+#[cfg(test)]
+mod lists;
+#[cfg(test)]
+mod maps;
+#[cfg(test)]
+mod receipts;
+#[cfg(test)]
+mod replies;
+#[cfg(test)]
+mod steps;
+#[cfg(test)]
+mod sums;
 #[cfg(test)]
 mod values;
+#[cfg(test)]
+mod ways;
