@@ -165,8 +165,9 @@ enum OfLedger {
 
 fn loans_told(alloc: Global, all: &[Receipt]) -> Result<String, OutOfMemory> {
     let mut text = String::new(alloc);
-    for (loan, seq) in open_loans(alloc, all)? {
-        let word = package_word(Some(loan));
+    let loans = open_loans(alloc, all)?;
+    for (loan, seq) in loans.iter() {
+        let word = package_word(Some(*loan));
         text.push_str(format!(in alloc; "{word} {seq};")?.as_str())?;
     }
     Ok(text)
@@ -245,11 +246,15 @@ fn noted(
     Ok(())
 }
 
-fn wrong_in(alloc: Global, entries: &[Entry], steps: &[(OfLedger, &str)]) -> Checked {
-    let mut checked = Checked::new(alloc);
-    if noted(alloc, &mut checked, entries, steps).is_err() {
+fn note(alloc: Global, checked: &mut Checked, entries: &[Entry], steps: &[(OfLedger, &str)]) {
+    if noted(alloc, checked, entries, steps).is_err() {
         checked.told(Err(OutOfMemory), "memory");
     }
+}
+
+fn wrong_in(alloc: Global, entries: &[Entry], steps: &[(OfLedger, &str)]) -> Checked {
+    let mut checked = Checked::new(alloc);
+    note(alloc, &mut checked, entries, steps);
     checked
 }
 
@@ -324,12 +329,11 @@ const NOT_SOUND: [(OfLedger, &str); 1] = [(OfLedger::Is(Part::Sound), "no")];
 fn a_row_linked_to_a_tile(rt: HostRuntime) {
     let alloc = rt.alloc();
     let links = LINKS.as_slice();
-    assert_eq!(rt;
-        wrong_in(alloc, &links[..1], LINKED_ONCE.as_slice()).wrong(),
-        ""
-    );
-    assert_eq!(rt; wrong_in(alloc, &links[..2], SOUND.as_slice()).wrong(), "");
-    assert_eq!(rt; wrong_in(alloc, links, NOT_SOUND.as_slice()).wrong(), "");
+    let mut checked = Checked::new(alloc);
+    note(alloc, &mut checked, &links[..1], LINKED_ONCE.as_slice());
+    note(alloc, &mut checked, &links[..2], SOUND.as_slice());
+    note(alloc, &mut checked, links, NOT_SOUND.as_slice());
+    assert_eq!(rt; checked.wrong(), "");
 }
 
 // In the place of the merge: from the archive, misnumbered, of another size, without its line, to another end, added and lent again.

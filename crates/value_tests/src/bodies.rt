@@ -42,13 +42,14 @@ fn body_told(alloc: Global, text: &[u8]) -> Result<String, OutOfMemory> {
 }
 
 fn size_told(alloc: Global, text: &[u8]) -> Result<String, OutOfMemory> {
-    match read_request(alloc, text)? {
-        Some(request) => match &request.command {
-            Command::Add { content, .. } => Ok(format!(in alloc; "{}", content.size())?),
-            _ => said(alloc, "another command"),
-        },
-        None => said(alloc, "-"),
-    }
+    let Some(request) = read_request(alloc, text)? else {
+        return said(alloc, "-");
+    };
+    let size = match &request.command {
+        Command::Add { content, .. } => content.size(),
+        _ => usize::MAX,
+    };
+    Ok(format!(in alloc; "{size}")?)
 }
 
 impl Ask for Body {

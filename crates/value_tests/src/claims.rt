@@ -1,7 +1,7 @@
 //! An archive that added a tile and lent a package, and that package, told by hand: found, missing, copied, brought back, in the wrong
 //! place, torn and altered. Stores are written as words.
 
-use crate::balances::{Package, sight};
+use crate::balances::{Package, push, sight};
 use crate::receipts::{
     ADDED, ADDITION, ARCHIVE, Entry, LENT, LOAN, RETURNED, TILE, Thing, package, package_text,
     package_word, receipts,
@@ -197,9 +197,19 @@ struct Holders(u64, u64);
 impl Ask for Holders {
     fn told(&self, alloc: Global) -> Result<String, OutOfMemory> {
         let ledger = receipts(alloc, &[ADDITION])?;
-        let first = sight(alloc, Package(ARCHIVE, 0, 0, Thing::Tile(1, self.0)), &[])?;
-        let second = sight(alloc, Package(ARCHIVE, 0, 0, Thing::Tile(1, self.1)), &[])?;
-        let seen = vec![in alloc; first, second]?;
+        let mut seen = Vec::new(alloc);
+        push(
+            alloc,
+            &mut seen,
+            Package(ARCHIVE, 0, 0, Thing::Tile(1, self.0)),
+            &[],
+        )?;
+        push(
+            alloc,
+            &mut seen,
+            Package(ARCHIVE, 0, 0, Thing::Tile(1, self.1)),
+            &[],
+        )?;
         package_text(alloc, least_altered(alloc, &ledger, &seen)?)
     }
 }
@@ -234,12 +244,12 @@ fn loan_seen(alloc: Global, depth: u64) -> Result<StoreSeen, OutOfMemory> {
     })
 }
 
-// An archive that has a tile of one byte, of two, none, or another; one whose rows are not tied; a loan at its depth, one too deep, one
+// An archive that has a tile of one byte, none, or another; one with a tile of two bytes, whose rows are not tied; a loan at its depth, one too deep, one
 // that is neither formed nor tied; and a store without a head that is not formed.
 fn store_seen(alloc: Global, word: &str) -> Result<StoreSeen, OutOfMemory> {
     let mut seen = match word {
         "archive" => archive_seen(alloc, TILE)?,
-        "grown" | "untied" => archive_seen(alloc, Thing::Tile(1, 2))?,
+        "untied" => archive_seen(alloc, Thing::Tile(1, 2))?,
         "emptied" => archive_seen(alloc, Thing::Nothing)?,
         "altered" => archive_seen(alloc, Thing::Altered)?,
         "deep" | "torn" => loan_seen(alloc, 2)?,

@@ -222,11 +222,12 @@ const REQUESTS: [(Asked, &str); 10] = [
 
 // The records of requests, one after the other.
 fn all_told(alloc: Global) -> Result<String, OutOfMemory> {
-    let mut records = Vec::new(alloc);
+    let mut text = list(alloc, &[])?;
     for asked in REQUESTS {
-        records.push(asked.0.1)?;
+        text.push_str(asked.0.1)?;
+        text.push_str("\n")?;
     }
-    outcome_of(alloc, records.as_slice())
+    outcome(alloc, text.as_bytes())
 }
 
 #[test]

@@ -5,7 +5,7 @@ use crate::steps::{Checked, said, uuid};
 use balance::sights::Sight;
 use sheet_types::collections::MovedList;
 use sheet_types::error::OutOfMemory;
-use sheet_types::receipt::{Moved, MovedKind};
+use sheet_types::receipt::{Moved, MovedKind, Sums};
 use std::alloc::Global;
 use tallies::holdings::sums_of;
 use tallies::tickets::{last_receipts, ticket_of};
@@ -24,22 +24,30 @@ fn list(alloc: Global, moved: &[Moved]) -> Result<MovedList, OutOfMemory> {
     Ok(MovedList::from_vec(Vec::from_slice(alloc, moved)?))
 }
 
-// The tiles, media, rows, links and bytes of a tile of three bytes, a row of five and a link.
-fn sums_told(alloc: Global) -> Result<String, OutOfMemory> {
+// A tile of three bytes, a row of five and a link.
+fn seen(alloc: Global) -> Result<Sight, OutOfMemory> {
     let items = [moved(MovedKind::TileItem, 3), moved(MovedKind::RowItem, 5)];
     let mut link = moved(MovedKind::RowsTilesLink, 0);
     link.other = Some(uuid(0, 2));
-    let seen = Sight {
+    Ok(Sight {
         uuid: uuid(ARCHIVE, 0),
         parent: None,
         loan: 0,
         items: list(alloc, items.as_slice())?,
         links: list(alloc, &[link])?,
         receipts: Vec::new(alloc),
-    };
-    let Some(sums) = sums_of(&seen) else {
-        return said(alloc, "-");
-    };
+    })
+}
+
+// Its tiles, media, rows, links and bytes.
+fn sums_told(alloc: Global) -> Result<String, OutOfMemory> {
+    match sums_of(&seen(alloc)?) {
+        Some(sums) => sums_text(alloc, sums),
+        None => said(alloc, "-"),
+    }
+}
+
+fn sums_text(alloc: Global, sums: Sums) -> Result<String, OutOfMemory> {
     let mut text = String::new(alloc);
     for number in [sums.tiles, sums.media, sums.rows, sums.links, sums.bytes] {
         text.push_str(format!(in alloc; "{number};")?.as_str())?;
