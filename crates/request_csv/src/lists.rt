@@ -137,7 +137,7 @@ fn requests_in(alloc: Global, rows: IntoIter<ByteRecord>) -> Result<Vec<Request>
 }
 
 /// The requests of a list, of its records and how they ended. A fault of the records comes before one of their end: Header where there is no record at all, Read where the reader failed after records that have no fault.
-pub fn requests_of(
+pub(crate) fn requests_of(
     alloc: Global,
     rows: Vec<ByteRecord>,
     ended: Ending,
