@@ -1,15 +1,9 @@
-//! Tests of the crates below `world`: `sql_meaning`, `memory_files`, `shelves`, `folder`, `package_tables`, `identity_register`, `custody`, `cut`, `store_forms`, `stored_receipts`, `first_version`, `transfer`
-//! and `lending`. There is nothing here but tests.
+//! Tests of what holds one package: `package_tables`, `identity_register`, `custody`, `cut`, `store_forms`, `stored_receipts` and
+//! `first_version`. There is nothing here but tests.
 #![tactic(auto)]
 
 #[cfg(test)]
-mod allocation_tests;
-#[cfg(test)]
 mod asks;
-#[cfg(test)]
-mod blank_stores;
-#[cfg(test)]
-mod both_ways;
 #[cfg(test)]
 mod change_tests;
 #[cfg(test)]
@@ -21,10 +15,6 @@ mod dating_tests;
 #[cfg(test)]
 mod entries;
 #[cfg(test)]
-mod files_in_memory;
-#[cfg(test)]
-mod files_of_a_folder;
-#[cfg(test)]
 mod fixed_asks;
 #[cfg(test)]
 mod form_tests;
@@ -33,13 +23,9 @@ mod forms;
 #[cfg(test)]
 mod holdings_tests;
 #[cfg(test)]
-mod homecomings;
-#[cfg(test)]
 mod items;
 #[cfg(test)]
 mod look_up_tests;
-#[cfg(test)]
-mod meanings;
 #[cfg(test)]
 mod new_package_tests;
 #[cfg(test)]
@@ -48,10 +34,6 @@ mod new_tables_tests;
 mod noted;
 #[cfg(test)]
 mod number_tests;
-#[cfg(test)]
-mod page_tests;
-#[cfg(test)]
-mod parcel_tests;
 #[cfg(test)]
 mod range_tests;
 #[cfg(test)]
@@ -67,17 +49,9 @@ mod span_tests;
 #[cfg(test)]
 mod steps;
 #[cfg(test)]
-mod stop_tests;
-#[cfg(test)]
-mod stops;
-#[cfg(test)]
 mod stored_receipt_tests;
 #[cfg(test)]
-mod stores;
-#[cfg(test)]
 mod tables;
-#[cfg(test)]
-mod transfers;
 #[cfg(test)]
 mod user_rows_tests;
 #[cfg(test)]

@@ -24,57 +24,34 @@ fn squares<S: Alter>(conn: &mut Connection<S>) -> Result<(), Error> {
     Ok(())
 }
 
-// How many tables there are, the sum of all squares, the root of one, and how many squares there are after a deletion that is taken back.
-fn found<S: Alter>(conn: &mut Connection<S>) -> Result<[i64; 4], Error> {
-    let tables = number(conn, "SELECT count(*) FROM sqlite_schema")?;
-    batch(
-        conn,
-        "CREATE TABLE square (n INTEGER NOT NULL UNIQUE, root INTEGER NOT NULL UNIQUE, text TEXT NOT NULL) STRICT",
-    )?;
-    squares(conn)?;
-    let sum = number(conn, "SELECT sum(n) FROM square")?;
-    let root = number(conn, "SELECT root FROM square WHERE n = 99856")?;
-    batch(conn, "BEGIN; DELETE FROM square; ROLLBACK")?;
-    Ok([
-        tables,
-        sum,
-        root,
-        number(conn, "SELECT count(*) FROM square")?,
-    ])
-}
-
-// The sum of the first n squares is n (n + 1) (2 n + 1) / 6.
 #[test]
 fn what_is_committed_is_read_back(rt: HostRuntime) -> Result<(), Fail> {
-    let found = found(&mut blank_in_files(rt.alloc(), 7)?)?;
-    assert!(rt; found == [0, 21_413_400, 316, 400]);
+    let mut conn = blank_in_files(rt.alloc(), 7)?;
+    assert_eq!(rt; number(&mut conn, "SELECT count(*) FROM sqlite_schema")?, 0);
+    batch(
+        &mut conn,
+        "CREATE TABLE square (n INTEGER NOT NULL UNIQUE, root INTEGER NOT NULL UNIQUE, text TEXT NOT NULL) STRICT",
+    )?;
+    squares(&mut conn)?;
+    // the sum of the first n squares is n (n + 1) (2 n + 1) / 6
+    assert_eq!(rt; number(&mut conn, "SELECT sum(n) FROM square")?, 21_413_400);
+    assert_eq!(rt;
+        number(&mut conn, "SELECT root FROM square WHERE n = 99856")?,
+        316
+    );
+    batch(&mut conn, "BEGIN; DELETE FROM square; ROLLBACK")?;
+    assert_eq!(rt; number(&mut conn, "SELECT count(*) FROM square")?, 400);
     Ok(())
-}
-
-fn write(file: &mut MemoryFile, at: usize, bytes: &[u8]) -> IoResult<()> {
-    file.write_at(at, bytes)
-}
-
-fn resize(file: &mut MemoryFile, len: usize) -> IoResult<()> {
-    file.set_len(len)
-}
-
-fn sync(file: &mut MemoryFile) -> IoResult<()> {
-    file.sync()
-}
-
-fn read(file: &mut MemoryFile, at: usize, buf: &mut [u8]) -> IoResult<()> {
-    file.read_at(at, buf)
 }
 
 /// What the file holds after writes behind its end, inside it and over its end, and after a cut and a growth.
 fn edits(file: &mut MemoryFile) -> IoResult<()> {
-    write(file, 3, b"map")?;
-    write(file, 1, b"a")?;
-    write(file, 5, b"sheet")?;
-    resize(file, 8)?;
-    sync(file)?;
-    resize(file, 10)
+    file.write_at(3, b"map")?;
+    file.write_at(1, b"a")?;
+    file.write_at(5, b"sheet")?;
+    file.set_len(8)?;
+    file.sync()?;
+    file.set_len(10)
 }
 
 #[test]
@@ -84,11 +61,11 @@ fn a_file_holds_what_was_written(rt: HostRuntime) -> Result<(), Fail> {
     assert_eq!(rt; file.bytes(), b"\0a\0mashe\0\0".as_slice());
     assert_eq!(rt; file.len()?, 10);
     let mut four = [9u8; 4];
-    read(&mut file, 4, &mut four)?;
+    file.read_at(4, &mut four)?;
     assert_eq!(rt; &four, b"ashe");
-    assert!(rt; read(&mut file, 7, &mut four).is_err());
-    assert!(rt; read(&mut file, 11, &mut four).is_err());
-    assert!(rt; write(&mut file, usize::MAX, b"ab").is_err());
+    assert!(rt; file.read_at(7, &mut four).is_err());
+    assert!(rt; file.read_at(11, &mut four).is_err());
+    assert!(rt; file.write_at(usize::MAX, b"ab").is_err());
     assert!(rt; file.may_be_used());
     assert_eq!(rt; file.bytes(), b"\0a\0mashe\0\0".as_slice());
     Ok(())

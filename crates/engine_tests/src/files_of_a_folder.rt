@@ -60,9 +60,8 @@ fn number<S: Alter>(conn: &mut Connection<S>, sql: &str) -> Result<i64, Error> {
     conn.query_row(sql, &[])?.get(0)
 }
 
-fn tables<S: Alter + Drop>(conn: Connection<S>) -> Result<i64, Error> {
-    let mut conn = conn;
-    number(&mut conn, "SELECT count(*) FROM sqlite_schema")
+fn tables<S: Alter>(conn: &mut Connection<S>) -> Result<i64, Error> {
+    number(conn, "SELECT count(*) FROM sqlite_schema")
 }
 
 fn blank<H: Shelf<FolderStore>>(
@@ -72,35 +71,28 @@ fn blank<H: Shelf<FolderStore>>(
     shelf.blank(Uuid::from_u128(package))
 }
 
-// Makes a table with one note in a store, which is then dropped.
-fn begun<S: Alter + Drop>(conn: Connection<S>) -> Result<(), Error> {
-    let mut conn = conn;
-    batch(
-        &mut conn,
-        "CREATE TABLE notes(n INTEGER) STRICT; INSERT INTO notes VALUES (30)",
-    )
-}
-
-// The note, of a store that is then dropped.
-fn note<S: Alter + Drop>(conn: Connection<S>) -> Result<i64, Error> {
-    let mut conn = conn;
-    number(&mut conn, "SELECT n FROM notes")
-}
-
 #[test]
 fn a_shelf_makes_a_store_in_place_of_what_stood(rt: HostRuntime) -> Result<(), Fail> {
     let folder = "folder_test_shelf";
     let _ = fs::remove_dir_all(&rt, folder);
     fs::create_dir(&rt, folder)?;
     let mut shelf = FolderShelf::new(&rt, folder);
-    begun(blank(&mut shelf, A)?)?;
-    let conn = open_store(&rt, folder, Uuid::from_u128(A))?;
+    let mut conn = blank(&mut shelf, A)?;
+    batch(
+        &mut conn,
+        "CREATE TABLE notes(n INTEGER) STRICT; INSERT INTO notes VALUES (30)",
+    )?;
+    drop(conn);
+    let mut conn = open_store(&rt, folder, Uuid::from_u128(A))?;
+    assert_eq!(rt; number(&mut conn, "SELECT n FROM notes")?, 30);
     assert!(rt;
         open_store(&rt, folder, Uuid::from_u128(A)).err()
             == Some(FolderFault::Busy(Uuid::from_u128(A)))
     );
-    assert_eq!(rt; note(conn)?, 30);
-    assert_eq!(rt; tables(blank(&mut shelf, A)?)?, 0);
+    drop(conn);
+    let mut conn = blank(&mut shelf, A)?;
+    assert_eq!(rt; tables(&mut conn)?, 0);
+    drop(conn);
     assert_eq!(rt; shelf.failures(), 0);
     fs::create_dir(
         &rt,
