@@ -98,7 +98,10 @@ fn ports_and_counts(rt: HostRuntime) {
         ("4294967297", None, None),
         ("9223372036854775808", None, None),
     ] {
-        assert!(rt; read_port(text) == port && read_count(text) == count, "{text}");
+        assert!(rt;
+            read_port(text) == port && read_count(text) == count,
+            "{text}"
+        );
     }
 }
 

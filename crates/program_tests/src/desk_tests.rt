@@ -23,9 +23,7 @@ fn an_addition_and_what_is_read_of_it(rt: HostRuntime) {
         // the second time it is the kept receipt
         answers(Sent::Post(ADD), Wrote::All(ANSWER)),
         answers(
-            Sent::Bytes(
-                "GET /receipts/90000000-0000-4000-8000-000000000001 HTTP/1.0\r\n\r\n",
-            ),
+            Sent::Bytes("GET /receipts/90000000-0000-4000-8000-000000000001 HTTP/1.0\r\n\r\n"),
             Wrote::All(ANSWER),
         ),
         answers(
@@ -49,7 +47,10 @@ fn an_addition_and_what_is_read_of_it(rt: HostRuntime) {
             ),
         ),
     ];
-    passes(&rt, wrong(a, &mut MemoryFileShelf::new(a), steps.as_slice()));
+    passes(
+        &rt,
+        wrong(a, &mut MemoryFileShelf::new(a), steps.as_slice()),
+    );
 }
 
 // One byte shorter than it says.
@@ -69,12 +70,20 @@ fn a_body_that_is_short(rt: HostRuntime) {
             Wrote::Ends("HTTP/1.1 200 OK\r\n", "\"ticket\":0,\"tiles\":0}]"),
         ),
     ];
-    passes(&rt, wrong(a, &mut MemoryFileShelf::new(a), steps.as_slice()));
+    passes(
+        &rt,
+        wrong(a, &mut MemoryFileShelf::new(a), steps.as_slice()),
+    );
 }
 
 // A connection whose reader fails after so many bytes.
 const fn cut(count: usize, ended: &'static str, wrote: Wrote) -> Step {
-    Step::Writes(What::Serves(Sent::Post(ADD), Reads::Fails(count)), WHOLE, ended, wrote)
+    Step::Writes(
+        What::Serves(Sent::Post(ADD), Reads::Fails(count)),
+        WHOLE,
+        ended,
+        wrote,
+    )
 }
 
 #[test]
@@ -89,13 +98,13 @@ fn readers_that_fail(rt: HostRuntime) {
         // it fails only where nothing is asked of it any more
         cut(WHOLE, "answered", Wrote::All(ANSWER)),
     ];
-    passes(&rt, wrong(a, &mut MemoryFileShelf::new(a), steps.as_slice()));
+    passes(
+        &rt,
+        wrong(a, &mut MemoryFileShelf::new(a), steps.as_slice()),
+    );
 }
 
-fn unwritten<S: Alter + Drop, H: Shelf<S>>(
-    alloc: Global,
-    shelf: &mut H,
-) -> Result<String, Fault> {
+fn unwritten<S: Alter + Drop, H: Shelf<S>>(alloc: Global, shelf: &mut H) -> Result<String, Fault> {
     let post = What::Serves(Sent::Post(ADD), Reads::Whole);
     let mut checked = Checked::new(alloc);
     for room in [0usize, 10, 55, 300] {

@@ -27,11 +27,26 @@ fn wrong(alloc: Global, cases: &[(End, &str)]) -> Result<String, Fault> {
 fn each_outcome_has_its_status_and_its_lines(rt: HostRuntime) {
     let cases = [
         (End::Of(Outcome::Done), "0 ||"),
-        (End::Of(Outcome::Refused(What::BadUuid)), "1 refused: uuid\n||"),
-        (End::Of(Outcome::Refused(What::BadMoment)), "1 refused: at\n||"),
-        (End::Of(Outcome::Refused(What::BadFrame)), "1 refused: frame\n||"),
-        (End::Of(Outcome::Refused(What::BadNumber)), "1 refused: number\n||"),
-        (End::Of(Outcome::Refused(What::BadList)), "1 refused: list\n||"),
+        (
+            End::Of(Outcome::Refused(What::BadUuid)),
+            "1 refused: uuid\n||",
+        ),
+        (
+            End::Of(Outcome::Refused(What::BadMoment)),
+            "1 refused: at\n||",
+        ),
+        (
+            End::Of(Outcome::Refused(What::BadFrame)),
+            "1 refused: frame\n||",
+        ),
+        (
+            End::Of(Outcome::Refused(What::BadNumber)),
+            "1 refused: number\n||",
+        ),
+        (
+            End::Of(Outcome::Refused(What::BadList)),
+            "1 refused: list\n||",
+        ),
         (
             End::Of(Outcome::Stopped(Failure::OutOfMemory)),
             "3 |store: OutOfMemory\n|",
@@ -60,14 +75,29 @@ fn so_has_each_ending_of_a_command(rt: HostRuntime) {
         (End::Command(DONE), "0 ||"),
         (End::Command(list), "1 refused: list\n||"),
         (End::Command(Ending::BadBody), "1 refused: body\n||"),
-        (End::Command(Ending::HoldsPackages), "1 refused: folder holds packages\n||"),
-        (End::Command(Ending::NoSuchPackage), "1 refused: no such package\n||"),
+        (
+            End::Command(Ending::HoldsPackages),
+            "1 refused: folder holds packages\n||",
+        ),
+        (
+            End::Command(Ending::NoSuchPackage),
+            "1 refused: no such package\n||",
+        ),
         (End::Command(Ending::Declined), "1 ||"),
         (End::Command(FAILED), "3 |store: StoreFault\n|"),
         (End::Command(NO_MEMORY), "3 |store: OutOfMemory\n|"),
-        (End::Command(Ending::Unopened(missing())), "3 |store: MissingPackage\n|"),
-        (End::Command(Ending::Faulted(missing())), "3 MissingPackage\n||"),
-        (End::Command(Ending::Unopened(busy())), "3 |store: StoreFault\n|7"),
+        (
+            End::Command(Ending::Unopened(missing())),
+            "3 |store: MissingPackage\n|",
+        ),
+        (
+            End::Command(Ending::Faulted(missing())),
+            "3 MissingPackage\n||",
+        ),
+        (
+            End::Command(Ending::Unopened(busy())),
+            "3 |store: StoreFault\n|7",
+        ),
         (End::Command(Ending::Faulted(busy())), "3 StoreFault\n||7"),
     ];
     passes(&rt, wrong(rt.alloc(), cases.as_slice()));
@@ -81,14 +111,23 @@ fn so_has_each_ending_of_a_map_and_a_view(rt: HostRuntime) {
         (End::Map(MapEnding::Usual(DONE)), "0 ||"),
         (End::Map(MapEnding::NoSuchZoom), "1 refused: zoom\n||"),
         (End::Map(MapEnding::Usual(number)), "1 refused: number\n||"),
-        (End::Map(MapEnding::Usual(FAILED)), "3 |store: StoreFault\n|"),
+        (
+            End::Map(MapEnding::Usual(FAILED)),
+            "3 |store: StoreFault\n|",
+        ),
         (
             End::Map(MapEnding::Usual(Ending::Unopened(busy()))),
             "3 |store: StoreFault\n|7",
         ),
         (End::View(ViewEnding::Usual(DONE)), "0 ||"),
-        (End::View(ViewEnding::NoSuchRequest), "1 refused: no such request\n||"),
-        (End::View(ViewEnding::NoSuchIdentity), "1 refused: no such identity\n||"),
+        (
+            End::View(ViewEnding::NoSuchRequest),
+            "1 refused: no such request\n||",
+        ),
+        (
+            End::View(ViewEnding::NoSuchIdentity),
+            "1 refused: no such identity\n||",
+        ),
         (
             End::View(ViewEnding::Usual(Ending::Unopened(no_archive))),
             "3 |store: NoArchive\n|",

@@ -1,4 +1,5 @@
-// Endings of the subcommands as texts: the status, what goes to standard output and to standard error, and the package whose file is busy.
+// Endings of the subcommands as texts: the status, what goes to standard output and to standard error, and the
+// package whose file is busy.
 use command_words::statuses::{self, Outcome};
 use drawing::endings::{self as of_maps, MapEnding};
 use folder_worlds::endings::{self as of_commands, Ending};

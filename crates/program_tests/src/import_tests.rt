@@ -1,4 +1,5 @@
-// Imports into an archive in memory and manifests of it. Reports and manifests were written out by hand; the digests are Python's `hashlib`.
+// Imports into an archive in memory and manifests of it. Reports and manifests were written out by hand; the digests
+// are Python's `hashlib`.
 use crate::outputs::What;
 use crate::streams::{NOTHING, Reads, WHOLE, Wrote};
 use crate::texts::{List, REPORT_OF_ONE, REPORT_OF_TWO};
@@ -35,7 +36,13 @@ fn unread<S: Alter + Drop, H: Shelf<S>>(alloc: Global, shelf: &mut H) -> Result<
         let mut world = world_of(alloc, shelf)?;
         let step = [Step::Writes(what, WHOLE, ended, NOTHING)];
         check(alloc, &mut world, shelf, step.as_slice(), &mut checked);
-        check(alloc, &mut world, shelf, NOTHING_CAME.as_slice(), &mut checked);
+        check(
+            alloc,
+            &mut world,
+            shelf,
+            NOTHING_CAME.as_slice(),
+            &mut checked,
+        );
     }
     Ok(String::from_str(alloc, checked.wrong())?)
 }
@@ -53,14 +60,23 @@ fn a_tile_of_the_greatest_size(rt: HostRuntime) {
     let manifest =
         "kind,identity,other,zoom,column,row,x,y,code,size,fingerprint,text\ntile,00000000-0000-4000-8000-000000000001,,2,3,3,,,,1048576,bfa5590c5ef51b89416f3d888ef6ade3742a1c9f64b293a4d11a6a88afdebced,\n";
     let steps = [
-        Step::Writes(imports(List::Greatest), WHOLE, "done 1/1", Wrote::All(REPORT_OF_ONE)),
+        Step::Writes(
+            imports(List::Greatest),
+            WHOLE,
+            "done 1/1",
+            Wrote::All(REPORT_OF_ONE),
+        ),
         Step::Tells(Of::Sums(A), "1 0 0 0 1048576"),
         Step::Writes(What::Manifest(A), WHOLE, "done", Wrote::All(manifest)),
     ];
-    passes(&rt, wrong(a, &mut MemoryFileShelf::new(a), steps.as_slice()));
+    passes(
+        &rt,
+        wrong(a, &mut MemoryFileShelf::new(a), steps.as_slice()),
+    );
 }
 
-// How an import of two tiles ends whose writer took so many bytes of `REPORT_OF_TWO` and failed, and what then stands: a request is carried out before its line is written.
+// How an import of two tiles ends whose writer took so many bytes of `REPORT_OF_TWO` and failed, and what then
+// stands: a request is carried out before its line is written.
 fn left(room: usize) -> (&'static str, &'static str) {
     if room < 25 {
         ("unwritten", "0 0 0 0 0")
@@ -71,10 +87,7 @@ fn left(room: usize) -> (&'static str, &'static str) {
     }
 }
 
-fn unwritten<S: Alter + Drop, H: Shelf<S>>(
-    alloc: Global,
-    shelf: &mut H,
-) -> Result<String, Fault> {
+fn unwritten<S: Alter + Drop, H: Shelf<S>>(alloc: Global, shelf: &mut H) -> Result<String, Fault> {
     let mut checked = Checked::new(alloc);
     for room in 0..111 {
         let (ended, sums) = left(room);
@@ -101,12 +114,20 @@ fn a_list_again_after_a_writer_that_failed(rt: HostRuntime) {
     let a = rt.alloc();
     let whole = Wrote::All(REPORT_OF_TWO);
     let steps = [
-        Step::Writes(imports(List::Two), 30, "unwritten", Wrote::Front(REPORT_OF_TWO, 30)),
+        Step::Writes(
+            imports(List::Two),
+            30,
+            "unwritten",
+            Wrote::Front(REPORT_OF_TWO, 30),
+        ),
         Step::Tells(Of::Sums(A), "1 0 0 0 1"),
         Step::Writes(imports(List::Two), 111, "done 1/2 2/2", whole),
         Step::Tells(Of::Sums(A), "2 0 0 0 2"),
     ];
-    passes(&rt, wrong(a, &mut MemoryFileShelf::new(a), steps.as_slice()));
+    passes(
+        &rt,
+        wrong(a, &mut MemoryFileShelf::new(a), steps.as_slice()),
+    );
 }
 
 // One of them is refused.
@@ -121,16 +142,21 @@ fn each_request_is_told_once(rt: HostRuntime) {
         "done 1/4 2/4 3/4 4/4",
         Wrote::All(report),
     )];
-    passes(&rt, wrong(a, &mut MemoryFileShelf::new(a), steps.as_slice()));
+    passes(
+        &rt,
+        wrong(a, &mut MemoryFileShelf::new(a), steps.as_slice()),
+    );
 }
 
-fn manifests<S: Alter + Drop, H: Shelf<S>>(
-    alloc: Global,
-    shelf: &mut H,
-) -> Result<String, Fault> {
+fn manifests<S: Alter + Drop, H: Shelf<S>>(alloc: Global, shelf: &mut H) -> Result<String, Fault> {
     let whole = Wrote::All(MANIFEST_OF_THE_FIRST);
     let before = [
-        Step::Writes(imports(List::One), WHOLE, "done 1/1", Wrote::All(REPORT_OF_ONE)),
+        Step::Writes(
+            imports(List::One),
+            WHOLE,
+            "done 1/1",
+            Wrote::All(REPORT_OF_ONE),
+        ),
         Step::Writes(What::Manifest(A), 187, "done", whole),
         Step::Writes(What::Manifest(A), 187, "done", whole),
     ];

@@ -1,4 +1,5 @@
-//! Tests of what stands over `world`: lists, manifests, the desk, commands over a folder, and openings. There is nothing here but tests.
+//! Tests of what stands over `world`: lists, manifests, the desk, commands over a folder, and openings. There is
+//! nothing here but tests.
 #![tactic(auto)]
 
 #[cfg(test)]

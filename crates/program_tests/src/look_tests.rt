@@ -1,4 +1,5 @@
-// Exports, maps, views and single requests of worlds in memory. The lines of views were laid out by Python's `ljust` and `rjust`, the map was worked out by hand; the digests are Python's `hashlib`.
+// Exports, maps, views and single requests of worlds in memory. The lines of views were laid out by Python's `ljust`
+// and `rjust`, the map was worked out by hand; the digests are Python's `hashlib`.
 use crate::endings::{End, end_text};
 use crate::outputs::{What, ended};
 use crate::streams::{NOTHING, Reads, WHOLE, Wrote, is_wrote, judged_paper, paper};
@@ -38,12 +39,20 @@ fn streams_that_fail_at_a_request(rt: HostRuntime) {
             NOTHING,
         ),
         Step::Tells(Of::Sums(A), "0 0 0 0 0"),
-        Step::Writes(whole, 20, "3 |store: StoreFault\n|", Wrote::Front(RECEIPT_LINE, 20)),
+        Step::Writes(
+            whole,
+            20,
+            "3 |store: StoreFault\n|",
+            Wrote::Front(RECEIPT_LINE, 20),
+        ),
         // It stands.
         Step::Writes(whole, WHOLE, "0 ||", Wrote::All(RECEIPT_LINE)),
         Step::Tells(Of::Sums(A), "1 0 0 0 1"),
     ];
-    passes(&rt, wrong(a, &mut MemoryFileShelf::new(a), steps.as_slice()));
+    passes(
+        &rt,
+        wrong(a, &mut MemoryFileShelf::new(a), steps.as_slice()),
+    );
 }
 
 #[test]
@@ -53,7 +62,12 @@ fn the_receipt_of_a_tile(rt: HostRuntime) {
     let steps = [
         tile,
         Step::Writes(What::Receipt(1), WHOLE, "0 ||", Wrote::All(RECEIPT_LINE)),
-        Step::Writes(What::Receipt(2), WHOLE, "1 refused: no such request\n||", NOTHING),
+        Step::Writes(
+            What::Receipt(2),
+            WHOLE,
+            "1 refused: no such request\n||",
+            NOTHING,
+        ),
         Step::Writes(
             What::Receipt(1),
             20,
@@ -61,7 +75,10 @@ fn the_receipt_of_a_tile(rt: HostRuntime) {
             Wrote::Front(RECEIPT_LINE, 20),
         ),
     ];
-    passes(&rt, wrong(a, &mut MemoryFileShelf::new(a), steps.as_slice()));
+    passes(
+        &rt,
+        wrong(a, &mut MemoryFileShelf::new(a), steps.as_slice()),
+    );
 }
 
 const TABLE: &str =
@@ -140,7 +157,12 @@ fn fails_at_the_last<S: Alter + Drop, H: Shelf<S>>(
 fn exports<S: Alter + Drop, H: Shelf<S>>(alloc: Global, shelf: &mut H) -> Result<String, Fault> {
     let steps = [
         Step::Writes(What::Export(A), WHOLE, "0 ||", EXPORT),
-        Step::Writes(What::Export(B), WHOLE, "1 refused: no such package\n||", NOTHING),
+        Step::Writes(
+            What::Export(B),
+            WHOLE,
+            "1 refused: no such package\n||",
+            NOTHING,
+        ),
     ];
     let mut world = world_of(alloc, shelf)?;
     let mut checked = Checked::new(alloc);
@@ -157,11 +179,13 @@ fn an_export_of_a_tile(rt: HostRuntime) {
     passes(&rt, exports(a, &mut MemoryFileShelf::new(a)));
 }
 
-// Zoom 2 has 4 by 4 square places. The archive has a sheet in the south-eastern corner and one in the north-western, over which lies that of the loan.
+// Zoom 2 has 4 by 4 square places. The archive has a sheet in the south-eastern corner and one in the north-western,
+// over which lies that of the loan.
 const MAP: &str =
     "<svg xmlns=\"http://www.w3.org/2000/svg\" viewBox=\"0 0 480 208\" width=\"480\" height=\"208\" font-family=\"Helvetica, Arial, sans-serif\" font-size=\"11\">\n<rect width=\"100%\" height=\"100%\" fill=\"#ffffff\"/>\n<text x=\"20\" y=\"30\" font-size=\"16\">Who holds which sheets at zoom 2, 4 by 4 places</text>\n<path d=\"M20 48v96M44 48v96M68 48v96M92 48v96M20 48h96M20 72h96M20 96h96M20 120h96\" fill=\"none\" stroke=\"#d8d4c8\" stroke-width=\"0.5\"/>\n<g stroke=\"#4a4a4a\" stroke-width=\"0.5\">\n<rect x=\"93\" y=\"121\" width=\"22\" height=\"22\" fill=\"#eedd66\"><title>a0000000-0000-4000-8000-000000000000 2/3/3</title></rect>\n<rect x=\"21\" y=\"49\" width=\"22\" height=\"22\" fill=\"#eedd66\"><title>a0000000-0000-4000-8000-000000000000 2/0/0</title></rect>\n<rect x=\"23\" y=\"51\" width=\"18\" height=\"18\" fill=\"#7799ee\"><title>b0000000-0000-4000-8000-000000000000 2/0/0</title></rect>\n</g>\n<rect x=\"20\" y=\"48\" width=\"96\" height=\"96\" fill=\"none\" stroke=\"#6b6250\"/>\n<rect x=\"20\" y=\"172\" width=\"12\" height=\"12\" fill=\"#eedd66\"/>\n<text x=\"39\" y=\"182\"><tspan font-family=\"monospace\">a0000000-0000-4000-8000-000000000000</tspan> sheets: 2, depth: 0</text>\n<rect x=\"20\" y=\"190\" width=\"12\" height=\"12\" fill=\"#7799ee\"/>\n<text x=\"39\" y=\"200\"><tspan font-family=\"monospace\">b0000000-0000-4000-8000-000000000000</tspan> sheets: 1, depth: 1</text>\n</svg>\n";
 
-// An archive takes two sheets in, lends the one in the corner, and takes a new one in there. Zoom 2 is the finest, and has few enough places.
+// An archive takes two sheets in, lends the one in the corner, and takes a new one in there. Zoom 2 is the finest,
+// and has few enough places.
 #[test]
 fn the_map_of_an_archive_and_its_loan(rt: HostRuntime) {
     let a = rt.alloc();
@@ -172,7 +196,15 @@ fn the_map_of_an_archive_and_its_loan(rt: HostRuntime) {
         Step::Tells(Of::Reply(4, Wish::Of(A, Asks::Tile(4, [2, 0, 0]))), "4"),
         Step::Writes(What::Map(None), 1286, "0 ||", Wrote::All(MAP)),
         Step::Writes(What::Map(Some(2)), 1286, "0 ||", Wrote::All(MAP)),
-        Step::Writes(What::Map(None), 1285, "3 |store: StoreFault\n|", Wrote::Front(MAP, 1285)),
+        Step::Writes(
+            What::Map(None),
+            1285,
+            "3 |store: StoreFault\n|",
+            Wrote::Front(MAP, 1285),
+        ),
     ];
-    passes(&rt, wrong(a, &mut MemoryFileShelf::new(a), steps.as_slice()));
+    passes(
+        &rt,
+        wrong(a, &mut MemoryFileShelf::new(a), steps.as_slice()),
+    );
 }

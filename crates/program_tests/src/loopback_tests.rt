@@ -1,7 +1,11 @@
-// Worlds that are served over the loopback address in one process; what goes out was written out by hand, and the digests are Python's `hashlib`.
+// Worlds that are served over the loopback address in one process; what goes out was written out by hand, and the
+// digests are Python's `hashlib`.
 use crate::endings::{End, end_text};
-use crate::streams::{NOTHING, Wrote, judged, judged_paper, paper, WHOLE};
-use crate::texts::{ADD, ADD_SECOND, ANSWER, List, PACKAGES_OF_ONE, RECEIPT_OF_SECOND, REPORT_OF_ONE, Sent, list_text, sent_text};
+use crate::streams::{NOTHING, WHOLE, Wrote, judged, judged_paper, paper};
+use crate::texts::{
+    ADD, ADD_SECOND, ANSWER, List, PACKAGES_OF_ONE, RECEIPT_OF_SECOND, REPORT_OF_ONE, Sent,
+    list_text, sent_text,
+};
 use crate::worlds::{passes, world_of};
 use cli::serving::{rehearse_and_serve, served};
 use command_words::arguments::{DeskWords, Words, read_rehearsal};
@@ -33,11 +37,7 @@ const GOOD: Words<'static> = Words {
 struct Client(Sent, Wrote);
 
 // Clients of a port of this machine that have sent all of their bytes, each with what it is to be sent.
-fn clients(
-    rt: &HostRuntime,
-    port: u16,
-    all: &[Client],
-) -> Result<Vec<(TcpStream, Wrote)>, Fail> {
+fn clients(rt: &HostRuntime, port: u16, all: &[Client]) -> Result<Vec<(TcpStream, Wrote)>, Fail> {
     let alloc = rt.alloc();
     let mut streams = Vec::new(alloc);
     for client in all {
@@ -58,7 +58,12 @@ fn answer(alloc: Global, stream: TcpStream, wrote: Wrote) -> Result<String, Faul
         Ok(_) => "answered",
         Err(_) => "cut off",
     };
-    judged(alloc, String::from_str(alloc, ended)?, out.as_slice(), wrote)
+    judged(
+        alloc,
+        String::from_str(alloc, ended)?,
+        out.as_slice(),
+        wrote,
+    )
 }
 
 fn check_answers(alloc: Global, streams: Vec<(TcpStream, Wrote)>, checked: &mut Checked) {
@@ -163,9 +168,7 @@ const OF_A_LIST: [Client; 3] = [
         Wrote::Ends("HTTP/1.1 200 OK\r\n", RECEIPT_OF_SECOND),
     ),
     Client(
-        Sent::Bytes(
-            "GET /packages/a0000000-0000-4000-8000-000000000000/manifest HTTP/1.1\r\n\r\n",
-        ),
+        Sent::Bytes("GET /packages/a0000000-0000-4000-8000-000000000000/manifest HTTP/1.1\r\n\r\n"),
         Wrote::Ends(
             "HTTP/1.1 200 OK\r\n",
             "tile,00000000-0000-4000-8000-000000000002,,2,2,3,,,,1,ca064f10d44434d2993b7838dd7608a5eb80700df31329372f266a175e8d221c,\n",
@@ -232,15 +235,7 @@ fn visited(
     let mut out = paper(alloc, WHOLE)?;
     let text = left(
         alloc,
-        rehearse_and_serve(
-            rt,
-            alloc,
-            &GOOD,
-            &desk,
-            &mut reader,
-            &mut out,
-            &mut Silent,
-        ),
+        rehearse_and_serve(rt, alloc, &GOOD, &desk, &mut reader, &mut out, &mut Silent),
     )?;
     Ok((judged_paper(alloc, text, &out, wrote)?, reader.visitor))
 }
@@ -260,7 +255,11 @@ fn a_client_that_comes_while_the_list_is_read(rt: HostRuntime) -> Result<(), Fai
     checked.is(text.as_str(), "1 tiles");
     match visitor {
         Some(stream) => {
-            let answer = answer(alloc, stream, Wrote::Ends("HTTP/1.1 200 OK\r\n", PACKAGES_OF_ONE));
+            let answer = answer(
+                alloc,
+                stream,
+                Wrote::Ends("HTTP/1.1 200 OK\r\n", PACKAGES_OF_ONE),
+            );
             checked.told(answer, "answered");
         }
         None => checked.is("no client was sent", ""),

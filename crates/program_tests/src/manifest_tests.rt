@@ -50,7 +50,12 @@ fn wrong(alloc: Global) -> Result<String, Fault> {
     let Ok(written) = manifest_text(alloc, &items, &links) else {
         return Err(Fault::OutOfMemory);
     };
-    judged(alloc, String::new(alloc), written.as_slice(), Wrote::All(WANTED))
+    judged(
+        alloc,
+        String::new(alloc),
+        written.as_slice(),
+        Wrote::All(WANTED),
+    )
 }
 
 #[test]

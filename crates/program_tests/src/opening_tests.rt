@@ -1,4 +1,5 @@
-// A world that is opened again, and each of the nine faults. What is expected follows from how the stores were made: A is the archive, B its loan, the split is receipt 6.
+// A world that is opened again, and each of the nine faults. What is expected follows from how the stores were made:
+// A is the archive, B its loan, the split is receipt 6.
 use crate::openings::{Holds, LEND, Store, Version, open};
 use crate::worlds::{Of, Step, passes};
 use package_tables::fault::Fault;
@@ -47,11 +48,39 @@ fn whole<S: Alter + Drop, H: Shelf<S>>(a: Global, shelf: &mut H) -> Result<Strin
     let none = NO_STEPS.as_slice();
     let c = &mut checked;
     let lent = [LOAN, BLANK, ARCHIVE];
-    open(a, shelf, lent.as_slice(), GOES_ON.as_slice(), "opened 2, strays -", c);
+    open(
+        a,
+        shelf,
+        lent.as_slice(),
+        GOES_ON.as_slice(),
+        "opened 2, strays -",
+        c,
+    );
     open(a, shelf, [LOAN].as_slice(), none, "NoArchive : 2", c);
-    open(a, shelf, [ARCHIVE, ARCHIVE].as_slice(), none, "TwoArchives : 2 2", c);
-    open(a, shelf, [ARCHIVE].as_slice(), none, "MissingPackage B: 2", c);
-    open(a, shelf, [ARCHIVE, LOAN, LOAN].as_slice(), none, "TwoCopies B: 2 2 2", c);
+    open(
+        a,
+        shelf,
+        [ARCHIVE, ARCHIVE].as_slice(),
+        none,
+        "TwoArchives : 2 2",
+        c,
+    );
+    open(
+        a,
+        shelf,
+        [ARCHIVE].as_slice(),
+        none,
+        "MissingPackage B: 2",
+        c,
+    );
+    open(
+        a,
+        shelf,
+        [ARCHIVE, LOAN, LOAN].as_slice(),
+        none,
+        "TwoCopies B: 2 2 2",
+        c,
+    );
     Ok(String::from_str(a, checked.wrong())?)
 }
 
@@ -68,8 +97,22 @@ fn first<S: Alter + Drop, H: Shelf<S>>(a: Global, shelf: &mut H) -> Result<Strin
     let c = &mut checked;
     let both = [FIRST_LOAN, BLANK, FIRST_ARCHIVE];
     open(a, shelf, both.as_slice(), lent, "opened 2 2, strays -", c);
-    open(a, shelf, [FIRST_ARCHIVE, LOAN].as_slice(), lent, "opened 2 2, strays", c);
-    open(a, shelf, [FIRST_LOAN, FIRST_ALONE].as_slice(), none, "opened 2, strays 1", c);
+    open(
+        a,
+        shelf,
+        [FIRST_ARCHIVE, LOAN].as_slice(),
+        lent,
+        "opened 2 2, strays",
+        c,
+    );
+    open(
+        a,
+        shelf,
+        [FIRST_LOAN, FIRST_ALONE].as_slice(),
+        none,
+        "opened 2, strays 1",
+        c,
+    );
     Ok(String::from_str(a, checked.wrong())?)
 }
 
@@ -95,7 +138,14 @@ fn damaged<S: Alter + Drop, H: Shelf<S>>(
             Store(Holds::Loan, version, damage.1),
             Store(Holds::Archive, version, damage.0),
         ];
-        open(a, shelf, stores.as_slice(), NO_STEPS.as_slice(), damage.2, &mut checked);
+        open(
+            a,
+            shelf,
+            stores.as_slice(),
+            NO_STEPS.as_slice(),
+            damage.2,
+            &mut checked,
+        );
     }
     Ok(String::from_str(a, checked.wrong())?)
 }
@@ -104,18 +154,34 @@ const DAMAGES: [Damage; 7] = [
     // A table or a value that lacks its form.
     Damage("DROP TABLE rows_tiles", "", "NotAPackage A: 2 2"),
     Damage("UPDATE sheet_rows SET code = -1", "", "NotAPackage A: 2 2"),
-    Damage("", "UPDATE gpkg_contents SET last_change = ''", "NotAPackage B: 2 2"),
+    Damage(
+        "",
+        "UPDATE gpkg_contents SET last_change = ''",
+        "NotAPackage B: 2 2",
+    ),
     // A loan that is not at home.
-    Damage("", "UPDATE sheet_package SET depth = 2", "ForeignFrame B: 2 2"),
+    Damage(
+        "",
+        "UPDATE sheet_package SET depth = 2",
+        "ForeignFrame B: 2 2",
+    ),
     // A row without identity.
-    Damage("DELETE FROM sheet_identity WHERE kind = 3", "", "Dangling A: 2 2"),
+    Damage(
+        "DELETE FROM sheet_identity WHERE kind = 3",
+        "",
+        "Dangling A: 2 2",
+    ),
     // An item that is lost, and one that is altered.
     Damage(
         "DELETE FROM sheet_rows; DELETE FROM sheet_identity WHERE kind = 3",
         "",
         "OutOfAccount : 2 2",
     ),
-    Damage("UPDATE sheet_tiles SET tile_data = X'7a'", "", "Altered 4: 2 2"),
+    Damage(
+        "UPDATE sheet_tiles SET tile_data = X'7a'",
+        "",
+        "Altered 4: 2 2",
+    ),
 ];
 
 #[test]
@@ -128,13 +194,24 @@ fn stores_that_are_damaged(rt: HostRuntime) {
 // Nothing is written: they are of the first version still.
 const DAMAGES_OF_FIRST: [Damage; 3] = [
     Damage("UPDATE sheet_rows SET code = -1", "", "NotAPackage A: 1 1"),
-    Damage("DELETE FROM sheet_identity WHERE kind = 3", "", "Dangling A: 1 1"),
-    Damage("UPDATE sheet_tiles SET tile_data = X'7a'", "", "Altered 4: 1 1"),
+    Damage(
+        "DELETE FROM sheet_identity WHERE kind = 3",
+        "",
+        "Dangling A: 1 1",
+    ),
+    Damage(
+        "UPDATE sheet_tiles SET tile_data = X'7a'",
+        "",
+        "Altered 4: 1 1",
+    ),
 ];
 
 #[test]
 fn stores_of_the_first_version_that_are_damaged(rt: HostRuntime) {
     let a = rt.alloc();
     let shelf = &mut MemoryFileShelf::new(a);
-    passes(&rt, damaged(a, shelf, Version::First, DAMAGES_OF_FIRST.as_slice()));
+    passes(
+        &rt,
+        damaged(a, shelf, Version::First, DAMAGES_OF_FIRST.as_slice()),
+    );
 }

@@ -1,4 +1,5 @@
-// Stores of a world that is opened, as data: what they hold, of which version they are, and which statements were carried out on them. One function makes them, opens them, and tells what they come to.
+// Stores of a world that is opened, as data: what they hold, of which version they are, and which statements were
+// carried out on them. One function makes them, opens them, and tells what they come to.
 ghost use Rattle.std.specs.Prelude.{IfOk};
 ghost use Rattle.recovery.specs.Stores.{AreAllKeyed};
 
@@ -38,17 +39,25 @@ pub(crate) enum Version {
 
 // A store, and the statements that are carried out on it.
 #[derive(Clone, Copy)]
-pub(crate) struct Store(pub(crate) Holds, pub(crate) Version, pub(crate) &'static str);
+pub(crate) struct Store(
+    pub(crate) Holds,
+    pub(crate) Version,
+    pub(crate) &'static str,
+);
 
 pub(crate) const LEND: Wish = Wish::Split(A, B, Mode::Follow, QUARTER);
 
-// The archive has a row and a tile outside of what it lent; the loan has a tile with a medium that it is linked to. The split is the receipt 6.
+// The archive has a row and a tile outside of what it lent; the loan has a tile with a medium that it is linked to.
+// The split is the receipt 6.
 const LENDS: [Step; 6] = [
     Step::Tells(Of::Reply(1, Wish::Of(A, Asks::Tile(1, [2, 1, 1]))), "1"),
     Step::Tells(Of::Reply(2, Wish::Of(A, Asks::Medium(2))), "2"),
     Step::Tells(Of::Reply(3, Wish::Of(A, Asks::Row(3, 5, 6))), "3"),
     Step::Tells(Of::Reply(4, Wish::Of(A, Asks::Tile(4, [2, 2, 0]))), "4"),
-    Step::Tells(Of::Reply(5, Wish::Of(A, Asks::Link(Mapping::TilesMedia, 1, 2))), "5"),
+    Step::Tells(
+        Of::Reply(5, Wish::Of(A, Asks::Link(Mapping::TilesMedia, 1, 2))),
+        "5",
+    ),
     Step::Tells(Of::Reply(6, LEND), "6"),
 ];
 

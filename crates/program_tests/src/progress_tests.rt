@@ -41,14 +41,39 @@ fn wrong(alloc: Global) -> Result<String, Fault> {
         (Done::Told(999), 99, NOTHING, "done"),
         (Done::Told(1000), 99, Wrote::All(THOUSAND), "done"),
         (Done::Told(1001), 99, NOTHING, "done"),
-        (Done::Told(2000), 99, Wrote::All("2000 of 2500 requests are done\n"), "done"),
+        (
+            Done::Told(2000),
+            99,
+            Wrote::All("2000 of 2500 requests are done\n"),
+            "done",
+        ),
         (Done::Told(2500), 99, NOTHING, "done"),
-        (Done::Told(25000), 99, Wrote::All("25000 of 2500 requests are done\n"), "done"),
+        (
+            Done::Told(25000),
+            99,
+            Wrote::All("25000 of 2500 requests are done\n"),
+            "done",
+        ),
         (Done::Requests(1000), 99, Wrote::All(THOUSAND), "done"),
         (Done::Requests(1000), 9, Wrote::Front(THOUSAND, 9), "failed"),
-        (Done::Packages(0), 99, Wrote::All("0 of 2 packages are read\r"), "done"),
-        (Done::Packages(1), 99, Wrote::All("1 of 2 packages are read\r"), "done"),
-        (Done::Packages(2), 99, Wrote::All("2 of 2 packages are read\n"), "done"),
+        (
+            Done::Packages(0),
+            99,
+            Wrote::All("0 of 2 packages are read\r"),
+            "done",
+        ),
+        (
+            Done::Packages(1),
+            99,
+            Wrote::All("1 of 2 packages are read\r"),
+            "done",
+        ),
+        (
+            Done::Packages(2),
+            99,
+            Wrote::All("2 of 2 packages are read\n"),
+            "done",
+        ),
     ] {
         checked.told(written(alloc, done, room, wrote), wanted);
     }

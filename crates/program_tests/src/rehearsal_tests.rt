@@ -1,4 +1,5 @@
-// A rehearsal whose output was written out by hand, over writers that fail; the digest is Python's `hashlib`. What rehearsals print is in the sessions of `workbench`.
+// A rehearsal whose output was written out by hand, over writers that fail; the digest is Python's `hashlib`. What
+// rehearsals print is in the sessions of `workbench`.
 use crate::endings::{End, end_text};
 use crate::streams::{Wrote, judged_paper, paper};
 use crate::texts::{List, list_text};

@@ -51,12 +51,36 @@ fn wrong(alloc: Global) -> Result<String, Fault> {
     let mut checked = Checked::new(alloc);
     checked.is(header_line(), "line,request,seq,refusal\n");
     for (n, reply, wanted) in [
-        (1, Reply::Receipt(1), "1,9000abcd-0000-4000-8000-000000000001,1,0\n"),
-        (2, Reply::Receipt(20), "2,9000abcd-0000-4000-8000-000000000001,20,0\n"),
-        (3, Reply::Refused(Refusal::Stale(7)), "3,9000abcd-0000-4000-8000-000000000001,0,20\n"),
-        (4, Reply::Refused(Refusal::IdReused), "4,9000abcd-0000-4000-8000-000000000001,0,1\n"),
-        (5, Reply::Refused(Refusal::OutOfMemory), "5,9000abcd-0000-4000-8000-000000000001,0,24\n"),
-        (6, Reply::Refused(Refusal::StoreFault), "6,9000abcd-0000-4000-8000-000000000001,0,25\n"),
+        (
+            1,
+            Reply::Receipt(1),
+            "1,9000abcd-0000-4000-8000-000000000001,1,0\n",
+        ),
+        (
+            2,
+            Reply::Receipt(20),
+            "2,9000abcd-0000-4000-8000-000000000001,20,0\n",
+        ),
+        (
+            3,
+            Reply::Refused(Refusal::Stale(7)),
+            "3,9000abcd-0000-4000-8000-000000000001,0,20\n",
+        ),
+        (
+            4,
+            Reply::Refused(Refusal::IdReused),
+            "4,9000abcd-0000-4000-8000-000000000001,0,1\n",
+        ),
+        (
+            5,
+            Reply::Refused(Refusal::OutOfMemory),
+            "5,9000abcd-0000-4000-8000-000000000001,0,24\n",
+        ),
+        (
+            6,
+            Reply::Refused(Refusal::StoreFault),
+            "6,9000abcd-0000-4000-8000-000000000001,0,25\n",
+        ),
         (
             u64::MAX,
             Reply::Receipt(u64::MAX),

@@ -10,7 +10,8 @@ use test_values::Checked;
 // What a writer takes at a call, in turn; behind the last it takes nothing more.
 #[derive(Clone, Copy)]
 enum Taking {
-    // One byte at every second call, and it is interrupted before; so many bytes, after which it fails, or takes nothing.
+    // One byte at every second call, and it is interrupted before; so many bytes, after which it fails, or takes
+    // nothing.
     SlowlyThenFails(usize),
     SlowlyThenNothing(usize),
     // Five bytes a call, but for the second, which fails.
@@ -85,9 +86,17 @@ fn wrong(a: Global) -> Result<String, Fault> {
     let cut = Wrote::All("line,");
     let whole = Wrote::All("line,request\n1");
     let texts = ["line,request", "", "\n1"];
-    checked.told(sent(a, Taking::All, texts.as_slice(), whole), "sent sent sent in 2");
+    checked.told(
+        sent(a, Taking::All, texts.as_slice(), whole),
+        "sent sent sent in 2",
+    );
     for (taking, text, wrote, ended) in [
-        (Taking::SlowlyThenFails(100), line, Wrote::All(line), "sent in 26"),
+        (
+            Taking::SlowlyThenFails(100),
+            line,
+            Wrote::All(line),
+            "sent in 26",
+        ),
         (Taking::SlowlyThenFails(5), line, cut, "stopped in 12"),
         (Taking::SlowlyThenNothing(5), line, cut, "stopped in 12"),
         (Taking::SlowlyThenNothing(5), "line,", cut, "sent in 10"),

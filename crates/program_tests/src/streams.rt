@@ -1,4 +1,5 @@
-// Streams that the tests give: a reader that may fail at its end, a writer that had been written to before, and who is told how far an import is.
+// Streams that the tests give: a reader that may fail at its end, a writer that had been written to before, and who
+// is told how far an import is.
 ghost use Rattle.std.specs.Prelude.{None};
 
 use manifest_csv::progress::Teller;

@@ -1,4 +1,5 @@
-// What is done to a world and asked of it, as data. One function carries it out, so a further step costs next to nothing to prove.
+// What is done to a world and asked of it, as data. One function carries it out, so a further step costs next to
+// nothing to prove.
 use crate::outputs::{What, written};
 use crate::streams::Wrote;
 use package_tables::fault::Fault;
@@ -32,7 +33,8 @@ pub(crate) enum Of {
     IsKept(u32),
 }
 
-// A question and what is to be told; or what is to be written by a writer with so much room, how it is to end, and what it then wrote.
+// A question and what is to be told; or what is to be written by a writer with so much room, how it is to end, and
+// what it then wrote.
 #[derive(Clone, Copy)]
 pub(crate) enum Step {
     Tells(Of, &'static str),
