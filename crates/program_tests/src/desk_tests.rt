@@ -2,13 +2,9 @@
 use crate::outputs::What;
 use crate::streams::{NOTHING, Reads, WHOLE, Wrote};
 use crate::texts::{ADD, ADD_AT_SAME_PLACE, ANSWER, PACKAGES_OF_ONE, Sent};
-use crate::worlds::{Step, check, passes, world_of, wrong};
+use crate::worlds::{Step, passes, wrong};
 use package_tables::fault::Fault;
-use shelves::file_memory::MemoryFileShelf;
-use shelves::shelf::Shelf;
-use sqlite::Alter;
 use std::alloc::Global;
-use test_values::Checked;
 
 // A connection over streams that do not fail.
 const fn answers(sent: Sent, wrote: Wrote) -> Step {
@@ -17,7 +13,6 @@ const fn answers(sent: Sent, wrote: Wrote) -> Step {
 
 #[test]
 fn an_addition_and_what_is_read_of_it(rt: HostRuntime) {
-    let a = rt.alloc();
     let steps = [
         answers(Sent::Post(ADD), Wrote::All(ANSWER)),
         // the second time it is the kept receipt
@@ -47,16 +42,12 @@ fn an_addition_and_what_is_read_of_it(rt: HostRuntime) {
             ),
         ),
     ];
-    passes(
-        &rt,
-        wrong(a, &mut MemoryFileShelf::new(a), steps.as_slice()),
-    );
+    passes(&rt, wrong(rt.alloc(), steps.as_slice()));
 }
 
 // One byte shorter than it says.
 #[test]
 fn a_body_that_is_short(rt: HostRuntime) {
-    let a = rt.alloc();
     let steps = [
         answers(
             Sent::Short(ADD),
@@ -70,10 +61,7 @@ fn a_body_that_is_short(rt: HostRuntime) {
             Wrote::Ends("HTTP/1.1 200 OK\r\n", "\"ticket\":0,\"tiles\":0}]"),
         ),
     ];
-    passes(
-        &rt,
-        wrong(a, &mut MemoryFileShelf::new(a), steps.as_slice()),
-    );
+    passes(&rt, wrong(rt.alloc(), steps.as_slice()));
 }
 
 // A connection whose reader fails after so many bytes.
@@ -88,7 +76,6 @@ const fn cut(count: usize, ended: &'static str, wrote: Wrote) -> Step {
 
 #[test]
 fn readers_that_fail(rt: HostRuntime) {
-    let a = rt.alloc();
     let steps = [
         cut(0, "unread", NOTHING),
         cut(1, "unread", NOTHING),
@@ -98,29 +85,23 @@ fn readers_that_fail(rt: HostRuntime) {
         // it fails only where nothing is asked of it any more
         cut(WHOLE, "answered", Wrote::All(ANSWER)),
     ];
-    passes(
-        &rt,
-        wrong(a, &mut MemoryFileShelf::new(a), steps.as_slice()),
-    );
+    passes(&rt, wrong(rt.alloc(), steps.as_slice()));
 }
 
-fn unwritten<S: Alter + Drop, H: Shelf<S>>(alloc: Global, shelf: &mut H) -> Result<String, Fault> {
+fn wrong_of_writers(alloc: Global) -> Result<String, Fault> {
     let post = What::Serves(Sent::Post(ADD), Reads::Whole);
-    let mut checked = Checked::new(alloc);
+    let mut steps = Vec::new(alloc);
     for room in [0usize, 10, 55, 300] {
-        let steps = [
-            Step::Writes(post, room, "unwritten", Wrote::Front(ANSWER, room)),
-            Step::Writes(post, WHOLE, "answered", Wrote::All(ANSWER)),
-        ];
-        let mut world = world_of(alloc, shelf)?;
-        check(alloc, &mut world, shelf, steps.as_slice(), &mut checked);
+        let front = Wrote::Front(ANSWER, room);
+        steps.push(Step::Anew)?;
+        steps.push(Step::Writes(post, room, "unwritten", front))?;
+        steps.push(Step::Writes(post, WHOLE, "answered", Wrote::All(ANSWER)))?;
     }
-    Ok(String::from_str(alloc, checked.wrong())?)
+    wrong(alloc, &steps)
 }
 
 // What was asked stands, and is answered at the next call.
 #[test]
 fn writers_that_fail(rt: HostRuntime) {
-    let a = rt.alloc();
-    passes(&rt, unwritten(a, &mut MemoryFileShelf::new(a)));
+    passes(&rt, wrong_of_writers(rt.alloc()));
 }

@@ -1,8 +1,8 @@
 // Exports, maps, views and single requests of worlds in memory. The lines of views were laid out by Python's `ljust`
 // and `rjust`, the map was worked out by hand; the digests are Python's `hashlib`.
 use crate::endings::{End, end_text};
-use crate::outputs::{What, ended};
-use crate::streams::{NOTHING, Reads, WHOLE, Wrote, is_wrote, judged_paper, paper};
+use crate::outputs::What;
+use crate::streams::{NOTHING, Reads, WHOLE, Wrote, judged_paper, paper};
 use crate::texts::{ADD, List, RECEIPT_LINE, REPORT_OF_ONE};
 use crate::worlds::{Of, Step, check, passes, world_of, wrong};
 use package_tables::fault::Fault;
@@ -12,7 +12,7 @@ use shelves::shelf::Shelf;
 use sqlite::{Alter, Connection};
 use std::alloc::Global;
 use test_lists::Narrow;
-use test_values::{Asks, Checked, answered, item};
+use test_values::{Asks, Checked, item};
 use test_worlds::{A, B, CORNER, Wish};
 use views::endings::Ending;
 use views::explaining::explain_in;
@@ -29,7 +29,6 @@ const ONE_TILE: [Step; 1] = [Step::Writes(
 
 #[test]
 fn streams_that_fail_at_a_request(rt: HostRuntime) {
-    let a = rt.alloc();
     let whole = What::Applies(ADD, Reads::Whole);
     let steps = [
         Step::Writes(
@@ -49,15 +48,11 @@ fn streams_that_fail_at_a_request(rt: HostRuntime) {
         Step::Writes(whole, WHOLE, "0 ||", Wrote::All(RECEIPT_LINE)),
         Step::Tells(Of::Sums(A), "1 0 0 0 1"),
     ];
-    passes(
-        &rt,
-        wrong(a, &mut MemoryFileShelf::new(a), steps.as_slice()),
-    );
+    passes(&rt, wrong(rt.alloc(), steps.as_slice()));
 }
 
 #[test]
 fn the_receipt_of_a_tile(rt: HostRuntime) {
-    let a = rt.alloc();
     let [tile] = ONE_TILE;
     let steps = [
         tile,
@@ -75,10 +70,7 @@ fn the_receipt_of_a_tile(rt: HostRuntime) {
             Wrote::Front(RECEIPT_LINE, 20),
         ),
     ];
-    passes(
-        &rt,
-        wrong(a, &mut MemoryFileShelf::new(a), steps.as_slice()),
-    );
+    passes(&rt, wrong(rt.alloc(), steps.as_slice()));
 }
 
 const TABLE: &str =
@@ -106,7 +98,7 @@ fn looked<S: Alter + Drop>(
     }
 }
 
-fn views<S: Alter + Drop, H: Shelf<S>>(alloc: Global, shelf: &mut H) -> Result<String, Fault> {
+fn wrong_over<S: Alter + Drop, H: Shelf<S>>(alloc: Global, shelf: &mut H) -> Result<String, Fault> {
     let mut checked = Checked::new(alloc);
     for (look, wanted, wrote) in [
         (Look::Table, "0 ||", Wrote::All(TABLE)),
@@ -127,7 +119,7 @@ fn views<S: Alter + Drop, H: Shelf<S>>(alloc: Global, shelf: &mut H) -> Result<S
 #[test]
 fn the_table_and_the_way_of_a_tile(rt: HostRuntime) {
     let a = rt.alloc();
-    passes(&rt, views(a, &mut MemoryFileShelf::new(a)));
+    passes(&rt, wrong_over(a, &mut MemoryFileShelf::new(a)));
 }
 
 // A tile under its number, to the byte, between what the package is and its end.
@@ -136,47 +128,17 @@ const EXPORT: Wrote = Wrote::Ends(
     "INSERT INTO sheet_tiles VALUES (1,2,3,3,X'41');\nINSERT INTO sheet_tile_identity VALUES (1,'00000000-0000-4000-8000-000000000001');\nCOMMIT;\n",
 );
 
-// A writer that has room for all but the last byte of an export fails, and took what it has room for.
-fn fails_at_the_last<S: Alter + Drop, H: Shelf<S>>(
-    alloc: Global,
-    world: &mut World<S>,
-    shelf: &mut H,
-) -> Result<String, Fault> {
-    let mut whole = Narrow::new(alloc, WHOLE);
-    let _done = ended(alloc, world, shelf, What::Export(A), &mut whole)?;
-    let room = whole.taken.len().saturating_sub(1);
-    let mut short = Narrow::new(alloc, room);
-    let end = ended(alloc, world, shelf, What::Export(A), &mut short)?;
-    if short.taken.len() == room && whole.taken.as_slice().starts_with(short.taken.as_slice()) {
-        Ok(end)
-    } else {
-        Ok(String::from_str(alloc, "wrote other bytes")?)
-    }
-}
-
-fn exports<S: Alter + Drop, H: Shelf<S>>(alloc: Global, shelf: &mut H) -> Result<String, Fault> {
-    let steps = [
-        Step::Writes(What::Export(A), WHOLE, "0 ||", EXPORT),
-        Step::Writes(
-            What::Export(B),
-            WHOLE,
-            "1 refused: no such package\n||",
-            NOTHING,
-        ),
-    ];
-    let mut world = world_of(alloc, shelf)?;
-    let mut checked = Checked::new(alloc);
-    check(alloc, &mut world, shelf, ONE_TILE.as_slice(), &mut checked);
-    check(alloc, &mut world, shelf, steps.as_slice(), &mut checked);
-    let short = fails_at_the_last(alloc, &mut world, shelf);
-    checked.told(short, "3 |store: StoreFault\n|");
-    Ok(String::from_str(alloc, checked.wrong())?)
-}
-
 #[test]
 fn an_export_of_a_tile(rt: HostRuntime) {
-    let a = rt.alloc();
-    passes(&rt, exports(a, &mut MemoryFileShelf::new(a)));
+    let [tile] = ONE_TILE;
+    let none = "1 refused: no such package\n||";
+    let steps = [
+        tile,
+        Step::Writes(What::Export(A), WHOLE, "0 ||", EXPORT),
+        Step::Writes(What::Export(B), WHOLE, none, NOTHING),
+        Step::Shortly(What::Export(A), "3 |store: StoreFault\n|"),
+    ];
+    passes(&rt, wrong(rt.alloc(), steps.as_slice()));
 }
 
 // Zoom 2 has 4 by 4 square places. The archive has a sheet in the south-eastern corner and one in the north-western,
@@ -188,7 +150,6 @@ const MAP: &str =
 // and has few enough places.
 #[test]
 fn the_map_of_an_archive_and_its_loan(rt: HostRuntime) {
-    let a = rt.alloc();
     let steps = [
         Step::Tells(Of::Reply(1, Wish::Of(A, Asks::Tile(1, [2, 0, 0]))), "1"),
         Step::Tells(Of::Reply(2, Wish::Of(A, Asks::Tile(3, [2, 3, 3]))), "2"),
@@ -203,8 +164,5 @@ fn the_map_of_an_archive_and_its_loan(rt: HostRuntime) {
             Wrote::Front(MAP, 1285),
         ),
     ];
-    passes(
-        &rt,
-        wrong(a, &mut MemoryFileShelf::new(a), steps.as_slice()),
-    );
+    passes(&rt, wrong(rt.alloc(), steps.as_slice()));
 }

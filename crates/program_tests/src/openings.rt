@@ -11,6 +11,7 @@ use package_tables::head::all_heads;
 use recovery::recovering::{Recovered, recover};
 use recovery::watching::Unwatched;
 use sheet_types::command::{Mapping, Mode};
+use shelves::file_memory::MemoryFileShelf;
 use shelves::shelf::Shelf;
 use sql_meaning::opening::readopt;
 use sqlite::{Alter, Connection};
@@ -18,6 +19,7 @@ use std::alloc::{AllocError, Global};
 use test_values::{Asks, Checked, altered, at_rest, item};
 use test_worlds::{A, B, QUARTER, Wish, package};
 use uuid::Uuid;
+use world::world::World;
 
 // What a store holds.
 #[derive(Clone, Copy)]
@@ -29,6 +31,8 @@ pub(crate) enum Holds {
     Alone,
     // No table at all.
     Nothing,
+    // It is not there.
+    Absent,
 }
 
 #[derive(Clone, Copy)]
@@ -45,7 +49,24 @@ pub(crate) struct Store(
     pub(crate) &'static str,
 );
 
-pub(crate) const LEND: Wish = Wish::Split(A, B, Mode::Follow, QUARTER);
+// What is done in a world that was opened: nothing, what shows that it is the one of the archive and its loan, or that
+// and a merge.
+#[derive(Clone, Copy)]
+pub(crate) enum Then {
+    Nothing,
+    IsAsLent,
+    GoesOn,
+}
+
+// Stores, in their order, what is done in the world that they come to, and what is told.
+#[derive(Clone, Copy)]
+pub(crate) struct Case(
+    pub(crate) [Store; 3],
+    pub(crate) Then,
+    pub(crate) &'static str,
+);
+
+const LEND: Wish = Wish::Split(A, B, Mode::Follow, QUARTER);
 
 // The archive has a row and a tile outside of what it lent; the loan has a tile with a medium that it is linked to.
 // The split is the receipt 6.
@@ -104,7 +125,7 @@ fn holding<S: Alter + Drop, H: Shelf<S>>(
         }
         Holds::Loan => last(lender(alloc, shelf, true, checked)?),
         Holds::Alone => last(lender(alloc, shelf, false, checked)?),
-        Holds::Nothing => blank(shelf),
+        Holds::Nothing | Holds::Absent => blank(shelf),
     }
 }
 
@@ -122,6 +143,22 @@ fn made<S: Alter + Drop, H: Shelf<S>>(
     }
     altered(&mut conn, store.2)?;
     Ok(conn)
+}
+
+fn all_made<S: Alter + Drop, H: Shelf<S>>(
+    alloc: Global,
+    shelf: &mut H,
+    stores: &[Store],
+    checked: &mut Checked,
+) -> Result<Vec<Connection<S>>, Fault> {
+    let mut all = Vec::new(alloc);
+    for store in stores {
+        if let Holds::Absent = store.0 {
+            continue;
+        }
+        all.push(made(alloc, shelf, *store, checked)?)?;
+    }
+    Ok(all)
 }
 
 // The stores as they are when they were just opened.
@@ -206,17 +243,42 @@ fn told_of_fault<S: Alter + Drop>(
     Ok(text)
 }
 
-// A world and its strays, by the versions of their stores, once steps were carried out in it.
-fn told_of_world<S: Alter + Drop, H: Shelf<S>>(
+const AS_LENT: [Step; 4] = [
+    Step::Tells(Of::Packages, "A of -, 0 6;B of A, 1 6;"),
+    Step::Tells(Of::Sums(A), "1 0 1 0 5"),
+    Step::Tells(Of::Sums(B), "1 1 0 1 3"),
+    // A request that came before gets the receipt that is kept.
+    Step::Tells(Of::Reply(6, LEND), "6"),
+];
+
+const COMES_HOME: [Step; 2] = [
+    Step::Tells(Of::Reply(7, Wish::Merge(B, A, 6)), "7"),
+    Step::Tells(Of::Sums(A), "2 1 1 1 8"),
+];
+
+fn check_world<S: Alter + Drop, H: Shelf<S>>(
     alloc: Global,
+    world: &mut World<S>,
     shelf: &mut H,
-    found: Recovered<S>,
-    steps: &[Step],
+    then: Then,
     checked: &mut Checked,
+) {
+    match then {
+        Then::Nothing => {}
+        Then::IsAsLent => check(alloc, world, shelf, AS_LENT.as_slice(), checked),
+        Then::GoesOn => {
+            check(alloc, world, shelf, AS_LENT.as_slice(), checked);
+            check(alloc, world, shelf, COMES_HOME.as_slice(), checked)
+        }
+    }
+}
+
+// A world and its strays, by the versions of their stores.
+fn told_of_world<S: Alter + Drop>(
+    alloc: Global,
+    world: World<S>,
+    strays: Vec<Connection<S>>,
 ) -> Result<String, AllocError> {
-    let Recovered { world, strays } = found;
-    let mut world = world;
-    check(alloc, &mut world, shelf, steps, checked);
     let mut text = String::from_str(alloc, "opened")?;
     tell_versions(alloc, &mut text, world.into_stores())?;
     text.push_str(", strays")?;
@@ -224,32 +286,42 @@ fn told_of_world<S: Alter + Drop, H: Shelf<S>>(
     Ok(text)
 }
 
+// What stores come to that were just closed.
 fn told<S: Alter + Drop, H: Shelf<S>>(
     alloc: Global,
     shelf: &mut H,
-    stores: &[Store],
-    steps: &[Step],
+    stores: Vec<Connection<S>>,
+    then: Then,
     checked: &mut Checked,
 ) -> Result<String, Fault> {
-    let mut all = Vec::new(alloc);
-    for store in stores {
-        all.push(made(alloc, shelf, *store, checked)?)?;
-    }
-    match recover(alloc, reopened(alloc, all)?, &mut Unwatched) {
-        Ok(found) => Ok(told_of_world(alloc, shelf, found, steps, checked)?),
+    match recover(alloc, reopened(alloc, stores)?, &mut Unwatched) {
+        Ok(found) => {
+            let Recovered { world, strays } = found;
+            let mut world = world;
+            check_world(alloc, &mut world, shelf, then, checked);
+            Ok(told_of_world(alloc, world, strays)?)
+        }
         Err(refused) => Ok(told_of_fault(alloc, refused.fault, refused.stores)?),
     }
 }
 
-// Opens these stores, carries steps out in the world that they come to, and notes what was told.
-pub(crate) fn open<S: Alter + Drop, H: Shelf<S>>(
+// What was told of cases that was not expected, one a line.
+fn wrong_over<S: Alter + Drop, H: Shelf<S>>(
     alloc: Global,
     shelf: &mut H,
-    stores: &[Store],
-    steps: &[Step],
-    expected: &'static str,
-    checked: &mut Checked,
-) {
-    let found = told(alloc, shelf, stores, steps, checked);
-    checked.told(found, expected);
+    cases: &[Case],
+) -> Result<String, Fault> {
+    let mut checked = Checked::new(alloc);
+    for case in cases {
+        let stores = case.0;
+        let all = all_made(alloc, shelf, stores.as_slice(), &mut checked)?;
+        let found = told(alloc, shelf, all, case.1, &mut checked);
+        checked.told(found, case.2);
+    }
+    Ok(String::from_str(alloc, checked.wrong())?)
+}
+
+// The same over files in memory.
+pub(crate) fn wrong(alloc: Global, cases: &[Case]) -> Result<String, Fault> {
+    wrong_over(alloc, &mut MemoryFileShelf::new(alloc), cases)
 }

@@ -1,6 +1,6 @@
 // What is written of a world: each call of a library stands here once. How it ended is told as a text.
 use crate::endings::{End, end_text};
-use crate::streams::{Giving, Noted, Reads, Wrote, judged_paper, paper};
+use crate::streams::{Giving, Noted, Reads, WHOLE, Wrote, judged_paper, paper};
 use crate::texts::{List, Sent, list_text, sent_text};
 use commands::applying::apply_in;
 use desk_calls::source::Outer;
@@ -85,7 +85,7 @@ fn serve_end(ended: Result<Served, ServeFault>) -> &'static str {
 }
 
 // How it ended.
-pub(crate) fn ended<S: Alter + Drop, H: Shelf<S>>(
+fn ended<S: Alter + Drop, H: Shelf<S>>(
     alloc: Global,
     world: &mut World<S>,
     shelf: &mut H,
@@ -135,4 +135,23 @@ pub(crate) fn written<S: Alter + Drop, H: Shelf<S>>(
     let mut out = paper(alloc, room)?;
     let ended = ended(alloc, world, shelf, what, &mut out)?;
     judged_paper(alloc, ended, &out, wrote)
+}
+
+// Over a writer that has room for all but the last byte, which takes what it has room for.
+pub(crate) fn short<S: Alter + Drop, H: Shelf<S>>(
+    alloc: Global,
+    world: &mut World<S>,
+    shelf: &mut H,
+    what: What,
+) -> Result<String, Fault> {
+    let mut whole = Narrow::new(alloc, WHOLE);
+    let _done = ended(alloc, world, shelf, what, &mut whole)?;
+    let room = whole.taken.len().saturating_sub(1);
+    let mut out = Narrow::new(alloc, room);
+    let ended = ended(alloc, world, shelf, what, &mut out)?;
+    if out.taken.len() == room && whole.taken.as_slice().starts_with(out.taken.as_slice()) {
+        Ok(ended)
+    } else {
+        Ok(String::from_str(alloc, "other bytes were written")?)
+    }
 }

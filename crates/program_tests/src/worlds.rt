@@ -1,8 +1,9 @@
 // What is done to a world and asked of it, as data. One function carries it out, so a further step costs next to
 // nothing to prove.
-use crate::outputs::{What, written};
+use crate::outputs::{What, short, written};
 use crate::streams::Wrote;
 use package_tables::fault::Fault;
+use shelves::file_memory::MemoryFileShelf;
 use shelves::shelf::Shelf;
 use sqlite::Alter;
 use std::alloc::{AllocError, Global};
@@ -33,12 +34,15 @@ pub(crate) enum Of {
     IsKept(u32),
 }
 
-// A question and what is to be told; or what is to be written by a writer with so much room, how it is to end, and
-// what it then wrote.
+// A question and what is to be told; or what is to be written by a writer with so much room, how it is to end, and what
+// it then wrote; or how it ends where there is room for all but the last byte of what is else written.
 #[derive(Clone, Copy)]
 pub(crate) enum Step {
     Tells(Of, &'static str),
     Writes(What, usize, &'static str, Wrote),
+    Shortly(What, &'static str),
+    // The next step is one in a new world.
+    Anew,
 }
 
 pub(crate) fn letter(uuid: Uuid) -> &'static str {
@@ -104,24 +108,6 @@ fn told<S: Alter + Drop, H: Shelf<S>>(
     }
 }
 
-// Carries steps out, and notes what was told.
-pub(crate) fn check<S: Alter + Drop, H: Shelf<S>>(
-    alloc: Global,
-    world: &mut World<S>,
-    shelf: &mut H,
-    steps: &[Step],
-    checked: &mut Checked,
-) {
-    for step in steps {
-        match *step {
-            Step::Tells(of, expected) => checked.told(told(alloc, world, shelf, of), expected),
-            Step::Writes(what, room, ended, wrote) => {
-                checked.told(written(alloc, world, shelf, what, room, wrote), ended)
-            }
-        }
-    }
-}
-
 // A world of the archive A alone.
 pub(crate) fn world_of<S: Alter + Drop, H: Shelf<S>>(
     alloc: Global,
@@ -136,8 +122,37 @@ pub(crate) fn world_of<S: Alter + Drop, H: Shelf<S>>(
     }
 }
 
+fn begin_anew<S: Alter + Drop, H: Shelf<S>>(
+    alloc: Global,
+    world: &mut World<S>,
+    shelf: &mut H,
+) -> Result<String, Fault> {
+    *world = world_of(alloc, shelf)?;
+    Ok(String::new(alloc))
+}
+
+// Carries steps out, and notes what was told.
+pub(crate) fn check<S: Alter + Drop, H: Shelf<S>>(
+    alloc: Global,
+    world: &mut World<S>,
+    shelf: &mut H,
+    steps: &[Step],
+    checked: &mut Checked,
+) {
+    for step in steps {
+        match *step {
+            Step::Tells(of, expected) => checked.told(told(alloc, world, shelf, of), expected),
+            Step::Writes(what, room, ended, wrote) => {
+                checked.told(written(alloc, world, shelf, what, room, wrote), ended)
+            }
+            Step::Shortly(what, ended) => checked.told(short(alloc, world, shelf, what), ended),
+            Step::Anew => checked.told(begin_anew(alloc, world, shelf), ""),
+        }
+    }
+}
+
 // What the steps told that was not expected, one a line, of a new world.
-pub(crate) fn wrong<S: Alter + Drop, H: Shelf<S>>(
+fn wrong_over<S: Alter + Drop, H: Shelf<S>>(
     alloc: Global,
     shelf: &mut H,
     steps: &[Step],
@@ -146,4 +161,9 @@ pub(crate) fn wrong<S: Alter + Drop, H: Shelf<S>>(
     let mut checked = Checked::new(alloc);
     check(alloc, &mut world, shelf, steps, &mut checked);
     Ok(String::from_str(alloc, checked.wrong())?)
+}
+
+// The same over files in memory.
+pub(crate) fn wrong(alloc: Global, steps: &[Step]) -> Result<String, Fault> {
+    wrong_over(alloc, &mut MemoryFileShelf::new(alloc), steps)
 }
