@@ -1,0 +1,137 @@
+// Imports into an archive in memory and manifests of it. Reports and manifests were written out by hand; the digests
+// are Python's `hashlib`.
+use crate::outputs::What;
+use crate::streams::{NOTHING, Reads, WHOLE, Wrote};
+use crate::texts::{List, REPORT_OF_ONE, REPORT_OF_TWO};
+use crate::worlds::{Of, Step, passes, wrong};
+use package_tables::fault::Fault;
+use std::alloc::Global;
+use test_lists::MANIFEST_OF_THE_FIRST;
+use test_worlds::A;
+
+// An import that is read whole.
+const fn imports(list: List) -> What {
+    What::Imports(list, Reads::Whole)
+}
+
+// A list that is not read.
+const fn unread(list: List, ended: &'static str) -> Step {
+    Step::Writes(imports(list), WHOLE, ended, NOTHING)
+}
+
+// Nothing was carried out, though the first record of a list would be accepted.
+const NONE: Step = Step::Tells(Of::Sums(A), "0 0 0 0 0");
+
+const UNKNOWN: Step = Step::Tells(Of::IsKept(1), "no");
+
+#[test]
+fn lists_that_are_not_read(rt: HostRuntime) {
+    let broken = What::Imports(List::One, Reads::Fails(WHOLE));
+    let steps = [
+        unread(List::Seventeen, "unread"),
+        NONE,
+        UNKNOWN,
+        unread(List::NoRequest, "no record 3"),
+        NONE,
+        UNKNOWN,
+        unread(List::Empty, "no header"),
+        unread(List::Headless, "no header"),
+        NONE,
+        UNKNOWN,
+        // A reader that fails after a good list.
+        Step::Writes(broken, WHOLE, "unread", NOTHING),
+        NONE,
+        UNKNOWN,
+    ];
+    passes(&rt, wrong(rt.alloc(), steps.as_slice()));
+}
+
+#[test]
+fn a_tile_of_the_greatest_size(rt: HostRuntime) {
+    let manifest =
+        "kind,identity,other,zoom,column,row,x,y,code,size,fingerprint,text\ntile,00000000-0000-4000-8000-000000000001,,2,3,3,,,,1048576,bfa5590c5ef51b89416f3d888ef6ade3742a1c9f64b293a4d11a6a88afdebced,\n";
+    let steps = [
+        Step::Writes(
+            imports(List::Greatest),
+            WHOLE,
+            "done 1/1",
+            Wrote::All(REPORT_OF_ONE),
+        ),
+        Step::Tells(Of::Sums(A), "1 0 0 0 1048576"),
+        Step::Writes(What::Manifest(A), WHOLE, "done", Wrote::All(manifest)),
+    ];
+    passes(&rt, wrong(rt.alloc(), steps.as_slice()));
+}
+
+// How an import of two tiles ends whose writer took so many bytes of `REPORT_OF_TWO` and failed, and what then stands:
+// a request is carried out before its line is written.
+fn left(room: usize) -> (&'static str, &'static str) {
+    if room < 25 {
+        ("unwritten", "0 0 0 0 0")
+    } else if room < 68 {
+        ("unwritten", "1 0 0 0 1")
+    } else {
+        ("unwritten 1/2", "2 0 0 0 2")
+    }
+}
+
+fn wrong_of_reports(alloc: Global) -> Result<String, Fault> {
+    let mut steps = Vec::new(alloc);
+    for room in 0..111 {
+        let (ended, sums) = left(room);
+        let front = Wrote::Front(REPORT_OF_TWO, room);
+        steps.push(Step::Anew)?;
+        steps.push(Step::Writes(imports(List::Two), room, ended, front))?;
+        steps.push(Step::Tells(Of::Sums(A), sums))?;
+    }
+    wrong(alloc, &steps)
+}
+
+// A writer with every smaller room fails: the header, a line at its beginning, in its middle or at its end.
+#[test]
+fn writers_that_fail_in_a_report(rt: HostRuntime) {
+    passes(&rt, wrong_of_reports(rt.alloc()));
+}
+
+#[test]
+fn a_list_again_after_a_writer_that_failed(rt: HostRuntime) {
+    let whole = Wrote::All(REPORT_OF_TWO);
+    let front = Wrote::Front(REPORT_OF_TWO, 30);
+    let steps = [
+        Step::Writes(imports(List::Two), 30, "unwritten", front),
+        Step::Tells(Of::Sums(A), "1 0 0 0 1"),
+        Step::Writes(imports(List::Two), 111, "done 1/2 2/2", whole),
+        Step::Tells(Of::Sums(A), "2 0 0 0 2"),
+    ];
+    passes(&rt, wrong(rt.alloc(), steps.as_slice()));
+}
+
+// One of them is refused.
+#[test]
+fn each_request_is_told_once(rt: HostRuntime) {
+    let report =
+        "line,request,seq,refusal\n1,90000000-0000-4000-8000-000000000001,1,0\n2,90000000-0000-4000-8000-000000000002,2,0\n3,90000000-0000-4000-8000-000000000003,0,20\n4,90000000-0000-4000-8000-000000000004,3,0\n";
+    let told = "done 1/4 2/4 3/4 4/4";
+    let steps = [Step::Writes(imports(List::Lends), WHOLE, told, Wrote::All(report))];
+    passes(&rt, wrong(rt.alloc(), steps.as_slice()));
+}
+
+fn wrong_of_manifests(alloc: Global) -> Result<String, Fault> {
+    let report = Wrote::All(REPORT_OF_ONE);
+    let whole = Wrote::All(MANIFEST_OF_THE_FIRST);
+    let mut steps = Vec::new(alloc);
+    steps.push(Step::Writes(imports(List::One), WHOLE, "done 1/1", report))?;
+    steps.push(Step::Writes(What::Manifest(A), 187, "done", whole))?;
+    for room in 0..187 {
+        let front = Wrote::Front(MANIFEST_OF_THE_FIRST, room);
+        steps.push(Step::Writes(What::Manifest(A), room, "unwritten", front))?;
+    }
+    steps.push(Step::Writes(What::Manifest(A), 187, "done", whole))?;
+    wrong(alloc, &steps)
+}
+
+// A second time it is the same; a writer with any room smaller than its 187 bytes fails.
+#[test]
+fn a_manifest_and_writers_that_fail(rt: HostRuntime) {
+    passes(&rt, wrong_of_manifests(rt.alloc()));
+}

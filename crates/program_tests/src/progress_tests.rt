@@ -1,0 +1,87 @@
+// What is told of an import and of an opening, written out by hand.
+use crate::streams::{NOTHING, Wrote, judged_paper, paper};
+use crate::worlds::passes;
+use command_words::progress::{Progress, write_opening, write_progress};
+use manifest_csv::progress::Teller;
+use package_tables::fault::Fault;
+use std::alloc::Global;
+use test_values::Checked;
+
+// What is written of requests or of packages that are done, of 2500 or of 2.
+#[derive(Clone, Copy)]
+enum Done {
+    // Where it is due.
+    Told(u64),
+    Requests(u64),
+    Packages(u64),
+}
+
+fn written(alloc: Global, done: Done, room: usize, wrote: Wrote) -> Result<String, Fault> {
+    let mut out = paper(alloc, room)?;
+    let went = match done {
+        Done::Told(done) => {
+            let mut progress = Progress { writer: out };
+            progress.tell(done, 2500);
+            out = progress.writer;
+            Ok(())
+        }
+        Done::Requests(done) => write_progress(&mut out, done, 2500),
+        Done::Packages(done) => write_opening(&mut out, done, 2),
+    };
+    let text = if went.is_ok() { "done" } else { "failed" };
+    judged_paper(alloc, String::from_str(alloc, text)?, &out, wrote)
+}
+
+const THOUSAND: &str = "1000 of 2500 requests are done\n";
+
+fn wrong(alloc: Global) -> Result<String, Fault> {
+    let mut checked = Checked::new(alloc);
+    for (done, room, wrote, wanted) in [
+        (Done::Told(1), 99, NOTHING, "done"),
+        (Done::Told(999), 99, NOTHING, "done"),
+        (Done::Told(1000), 99, Wrote::All(THOUSAND), "done"),
+        (Done::Told(1001), 99, NOTHING, "done"),
+        (
+            Done::Told(2000),
+            99,
+            Wrote::All("2000 of 2500 requests are done\n"),
+            "done",
+        ),
+        (Done::Told(2500), 99, NOTHING, "done"),
+        (
+            Done::Told(25000),
+            99,
+            Wrote::All("25000 of 2500 requests are done\n"),
+            "done",
+        ),
+        (Done::Requests(1000), 99, Wrote::All(THOUSAND), "done"),
+        (Done::Requests(1000), 9, Wrote::Front(THOUSAND, 9), "failed"),
+        (
+            Done::Packages(0),
+            99,
+            Wrote::All("0 of 2 packages are read\r"),
+            "done",
+        ),
+        (
+            Done::Packages(1),
+            99,
+            Wrote::All("1 of 2 packages are read\r"),
+            "done",
+        ),
+        (
+            Done::Packages(2),
+            99,
+            Wrote::All("2 of 2 packages are read\n"),
+            "done",
+        ),
+    ] {
+        checked.told(written(alloc, done, room, wrote), wanted);
+    }
+    Ok(String::from_str(alloc, checked.wrong())?)
+}
+
+// Each thousandth request is told; packages are counted on one line.
+#[test]
+fn what_is_told(rt: HostRuntime) {
+    passes(&rt, wrong(rt.alloc()));
+}

@@ -1,0 +1,123 @@
+// Streams that the tests give: a reader that may fail at its end, a writer that had been written to before, and who
+// is told how far an import is.
+ghost use Rattle.std.specs.Prelude.{None};
+
+use manifest_csv::progress::Teller;
+use package_tables::fault::Fault;
+use std::alloc::{AllocError, Global};
+use std::io::{Error, ErrorKind, Read, Result as IoResult};
+use std::str::from_utf8;
+use test_lists::Narrow;
+
+// How a reader gives a text: whole, or this many bytes at most, one by one, and then it fails.
+#[derive(Clone, Copy)]
+pub(crate) enum Reads {
+    Whole,
+    Fails(usize),
+}
+
+#[derive(Drop)]
+pub(crate) struct Giving<'a> {
+    text: &'a [u8],
+    fails: bool,
+}
+
+impl<'a> Giving<'a> {
+    pub(crate) fn new(text: &'a str, reads: Reads) -> Giving<'a> {
+        let text = text.as_bytes();
+        match reads {
+            Reads::Whole => Giving { text, fails: false },
+            Reads::Fails(most) => Giving {
+                text: &text[..text.len().min(most)],
+                fails: true,
+            },
+        }
+    }
+}
+
+impl<'a> Read for Giving<'a> {
+    fn read(&mut self, buf: &mut [u8]) -> IoResult<usize> {
+        if !self.fails {
+            return self.text.read(buf);
+        }
+        if self.text.is_empty() {
+            return Err(Error::from(ErrorKind::BrokenPipe));
+        }
+        let taking = buf.len().min(1);
+        buf[..taking].copy_from_slice(&self.text[..taking]);
+        self.text = &self.text[taking..];
+        Ok(taking)
+    }
+}
+
+// Room for all that a test writes.
+pub(crate) const WHOLE: usize = 1_000_000;
+
+// A writer with room for so many bytes behind one that it was given before.
+pub(crate) fn paper(alloc: Global, room: usize) -> Result<Narrow, AllocError> {
+    let mut out = Narrow::new(alloc, room.saturating_add(1));
+    out.taken.push(b'>')?;
+    Ok(out)
+}
+
+// What was written: all of a text, so many bytes of one, or what begins and ends in two.
+#[derive(Clone, Copy)]
+pub(crate) enum Wrote {
+    All(&'static str),
+    Front(&'static str, usize),
+    Ends(&'static str, &'static str),
+}
+
+pub(crate) const NOTHING: Wrote = Wrote::All("");
+
+pub(crate) fn is_wrote(out: &[u8], wrote: Wrote) -> bool {
+    match wrote {
+        Wrote::All(text) => out == text.as_bytes(),
+        Wrote::Front(text, count) => out.len() == count && text.as_bytes().starts_with(out),
+        Wrote::Ends(front, back) => {
+            out.starts_with(front.as_bytes()) && out.ends_with(back.as_bytes())
+        }
+    }
+}
+
+// How it ended; where something else was written, that too.
+pub(crate) fn judged(
+    alloc: Global,
+    ended: String,
+    out: &[u8],
+    wrote: Wrote,
+) -> Result<String, Fault> {
+    if is_wrote(out, wrote) {
+        return Ok(ended);
+    }
+    let text = from_utf8(out).unwrap_or("no text");
+    Ok(format!(in alloc; "{} and wrote {text}", ended.as_str())?)
+}
+
+// The same of what was written on a paper.
+pub(crate) fn judged_paper(
+    alloc: Global,
+    ended: String,
+    out: &Narrow,
+    wrote: Wrote,
+) -> Result<String, Fault> {
+    match out.taken.as_slice().split_first() {
+        Some((b'>', written)) => judged(alloc, ended, written, wrote),
+        _ => Ok(String::from_str(alloc, "what was written before is gone")?),
+    }
+}
+
+// Notes what it is told.
+#[derive(Drop)]
+pub(crate) struct Noted {
+    pub(crate) told: Vec<(u64, u64)>,
+}
+
+impl Teller for Noted {
+    ghost told = { λ _. None };
+
+    fn tell(&mut self, done: u64, all: u64) {
+        // Where there is no memory, the test finds less than it wants.
+        let _noted = self.told.push((done, all));
+    }
+}

@@ -1,0 +1,117 @@
+// Request lists and requests to a desk, written out by hand; the digests are Python's `hashlib`.
+use std::alloc::{AllocError, Global};
+use test_lists::{FIRST_TILE, NO_REQUEST, SEVENTEEN, list};
+
+const SECOND_BESIDE: &str =
+    "90000000-0000-4000-8000-000000000002,2024-05-01T08:00:00.000Z,add,a0000000-0000-4000-8000-000000000000,00000000-0000-4000-8000-000000000002,,tile,2,2,3,,,,,,,,42";
+
+const TILE_TO_LEND: &str =
+    "90000000-0000-4000-8000-000000000001,2024-05-01T08:00:00.000Z,add,a0000000-0000-4000-8000-000000000000,00000000-0000-4000-8000-000000000001,,tile,1,0,0,,,,,,,,41";
+
+const SPLIT: &str =
+    "90000000-0000-4000-8000-000000000002,2024-05-01T08:00:00.000Z,split,a0000000-0000-4000-8000-000000000000,,b0000000-0000-4000-8000-000000000000,strict,1,0,0,0,0,,,,,,";
+
+// The last receipt of the loan is that of its split, 2.
+const STALE: &str =
+    "90000000-0000-4000-8000-000000000003,2024-05-01T08:00:00.000Z,merge,b0000000-0000-4000-8000-000000000000,,a0000000-0000-4000-8000-000000000000,,,,,,,,,,1,,";
+
+const HOME: &str =
+    "90000000-0000-4000-8000-000000000004,2024-05-01T08:00:00.000Z,merge,b0000000-0000-4000-8000-000000000000,,a0000000-0000-4000-8000-000000000000,,,,,,,,,,2,,";
+
+// A text that may be a request list.
+#[derive(Clone, Copy)]
+pub(crate) enum List {
+    // One tile, two tiles.
+    One,
+    Two,
+    // A tile that is lent, and comes home at the second try.
+    Lends,
+    // One tile of 1,048,576 bytes 0xa5.
+    Greatest,
+    // Good records, and behind them one of seventeen fields, or one that names no command.
+    Seventeen,
+    NoRequest,
+    // No header.
+    Empty,
+    Headless,
+}
+
+// The first tile, with the greatest size.
+fn greatest(alloc: Global) -> Result<String, AllocError> {
+    let mut text = list(alloc, &[])?;
+    text.push_str(FIRST_TILE.trim_end_matches("41"))?;
+    text.push_str("a5".repeat(alloc, 1_048_576)?.as_str())?;
+    text.push_str("\n")?;
+    Ok(text)
+}
+
+pub(crate) fn list_text(alloc: Global, which: List) -> Result<String, AllocError> {
+    match which {
+        List::One => list(alloc, &[FIRST_TILE]),
+        List::Two => list(alloc, &[FIRST_TILE, SECOND_BESIDE]),
+        List::Lends => list(alloc, &[TILE_TO_LEND, SPLIT, STALE, HOME]),
+        List::Greatest => greatest(alloc),
+        List::Seventeen => list(alloc, &[FIRST_TILE, SEVENTEEN]),
+        List::NoRequest => list(alloc, &[FIRST_TILE, SECOND_BESIDE, NO_REQUEST]),
+        List::Empty => Ok(String::new(alloc)),
+        List::Headless => String::from_str(alloc, FIRST_TILE),
+    }
+}
+
+pub(crate) const REPORT_OF_ONE: &str =
+    "line,request,seq,refusal\n1,90000000-0000-4000-8000-000000000001,1,0\n";
+
+// A header of 25 bytes and two lines of 43.
+pub(crate) const REPORT_OF_TWO: &str =
+    "line,request,seq,refusal\n1,90000000-0000-4000-8000-000000000001,1,0\n2,90000000-0000-4000-8000-000000000002,2,0\n";
+
+// The first tile as a request to a desk, and its receipt with an end of line.
+pub(crate) const ADD: &str =
+    "{\"at\":\"2024-05-01T08:00:00.000Z\",\"command\":\"add\",\"data\":\"41\",\"identity\":\"00000000-0000-4000-8000-000000000001\",\"kind\":\"tile\",\"package\":\"a0000000-0000-4000-8000-000000000000\",\"request\":\"90000000-0000-4000-8000-000000000001\",\"column\":3,\"row\":3,\"zoom\":2}";
+
+pub(crate) const RECEIPT_LINE: &str =
+    "{\"at\":\"2024-05-01T08:00:00.000Z\",\"bytes\":1,\"from\":\"\",\"items\":1,\"line\":\"add a0000000-0000-4000-8000-000000000000 00000000-0000-4000-8000-000000000001 tile 1 b363ee0ecc9cf61b12ecdafd75dca2779729b4fcc5f1bd718c33aad2c94af4f8\",\"links\":0,\"media\":0,\"request\":\"90000000-0000-4000-8000-000000000001\",\"rows\":0,\"seq\":1,\"tiles\":1,\"to\":\"a0000000-0000-4000-8000-000000000000\"}\n";
+
+// The whole answer to it: the receipt has 362 bytes.
+pub(crate) const ANSWER: &str =
+    "HTTP/1.1 200 OK\r\ncontent-type: application/json\r\ncontent-length: 362\r\nconnection: close\r\n\r\n{\"at\":\"2024-05-01T08:00:00.000Z\",\"bytes\":1,\"from\":\"\",\"items\":1,\"line\":\"add a0000000-0000-4000-8000-000000000000 00000000-0000-4000-8000-000000000001 tile 1 b363ee0ecc9cf61b12ecdafd75dca2779729b4fcc5f1bd718c33aad2c94af4f8\",\"links\":0,\"media\":0,\"request\":\"90000000-0000-4000-8000-000000000001\",\"rows\":0,\"seq\":1,\"tiles\":1,\"to\":\"a0000000-0000-4000-8000-000000000000\"}";
+
+// A second tile, and its receipt.
+pub(crate) const ADD_SECOND: &str =
+    "{\"at\":\"2024-05-01T08:01:00.000Z\",\"command\":\"add\",\"data\":\"42\",\"identity\":\"00000000-0000-4000-8000-000000000002\",\"kind\":\"tile\",\"package\":\"a0000000-0000-4000-8000-000000000000\",\"request\":\"90000000-0000-4000-8000-000000000002\",\"column\":2,\"row\":3,\"zoom\":2}";
+
+pub(crate) const RECEIPT_OF_SECOND: &str =
+    "{\"at\":\"2024-05-01T08:01:00.000Z\",\"bytes\":1,\"from\":\"\",\"items\":1,\"line\":\"add a0000000-0000-4000-8000-000000000000 00000000-0000-4000-8000-000000000002 tile 1 ca064f10d44434d2993b7838dd7608a5eb80700df31329372f266a175e8d221c\",\"links\":0,\"media\":0,\"request\":\"90000000-0000-4000-8000-000000000002\",\"rows\":0,\"seq\":2,\"tiles\":1,\"to\":\"a0000000-0000-4000-8000-000000000000\"}";
+
+// Another tile at the place of the first.
+pub(crate) const ADD_AT_SAME_PLACE: &str =
+    "{\"at\":\"2024-05-01T08:00:00.000Z\",\"command\":\"add\",\"data\":\"41\",\"identity\":\"00000000-0000-4000-8000-000000000002\",\"kind\":\"tile\",\"package\":\"a0000000-0000-4000-8000-000000000000\",\"request\":\"90000000-0000-4000-8000-000000000002\",\"column\":3,\"row\":3,\"zoom\":2}";
+
+// What an archive is told as that the first tile alone came into.
+pub(crate) const PACKAGES_OF_ONE: &str =
+    "\r\n\r\n[{\"bytes\":1,\"depth\":0,\"links\":0,\"loans\":0,\"media\":0,\"package\":\"a0000000-0000-4000-8000-000000000000\",\"parent\":\"\",\"rows\":0,\"ticket\":1,\"tiles\":1}]";
+
+// What a client sends.
+#[derive(Clone, Copy)]
+pub(crate) enum Sent {
+    // These bytes.
+    Bytes(&'static str),
+    // A request with its length, and with one byte more than it has.
+    Post(&'static str),
+    Short(&'static str),
+    // 60,000 bytes of a body that is said to be too large.
+    Large,
+}
+
+fn post(alloc: Global, size: usize, body: &str) -> Result<String, AllocError> {
+    format!(in alloc; "POST /requests HTTP/1.1\r\nContent-Length: {size}\r\n\r\n{body}")
+}
+
+pub(crate) fn sent_text(alloc: Global, sent: Sent) -> Result<String, AllocError> {
+    match sent {
+        Sent::Bytes(text) => String::from_str(alloc, text),
+        Sent::Post(body) => post(alloc, body.len(), body),
+        Sent::Short(body) => post(alloc, body.len().saturating_add(1), body),
+        Sent::Large => post(alloc, 2_200_001, "0123456789".repeat(alloc, 6000)?.as_str()),
+    }
+}

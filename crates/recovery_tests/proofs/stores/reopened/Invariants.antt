@@ -1,5 +1,0 @@
-use Rattle.recovery.specs.Stores.{AreAllKeyed}
-use Rattle.recovery_tests.proofs.stores.reopened.Given as goal
-
-abbrev pub invariant-loop-conn : goal.invariant-loop-conn
-invariant-loop-conn g l = record { keyed : AreAllKeyed g.S.Store l.all.items }
