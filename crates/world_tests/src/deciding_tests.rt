@@ -1,16 +1,16 @@
 // What a request comes to before anything is written, over two packages in memory. The digest is that of `tile 2 3 1`, LF and `ab` by another program's SHA-256.
 use crate::told::{receipt_text, sums_text};
 use crate::values::{empty_member, item, package, request};
+use asking::asking::are_at_rest;
+use deciding::deciding::{Change, Decision, decide};
 use known_uuids::known::Known;
+use members::members::Member;
 use package_tables::fault::Fault;
 use sheet_types::command::{Command, Request};
 use sqlite::{Alter, Connection};
 use std::alloc::{AllocError, Global};
 use std::test::Fail;
 use test_values::{AT, Checked, FRAME, in_memory, is_good, text, tile_content};
-use asking::asking::are_at_rest;
-use deciding::deciding::{Change, Decision, decide};
-use members::members::Member;
 
 // The second member's change to the sums after it, and the receipt with its moment, its line, and the tile that it moved.
 const CHANGE: &str =

@@ -1,5 +1,7 @@
 // Requests and the reasons for which they are refused, by the rules. The package has a tile with a medium, and a row that is linked to nothing.
 use crate::told::refusal_text;
+use asking::judging::package_refusal;
+use asking::texts::text_refusal;
 use package_tables::fault::Fault;
 use sheet_types::command::{Command, Request};
 use sheet_types::refusal::Refusal;
@@ -11,8 +13,6 @@ use test_values::{
     question, text, tile_content,
 };
 use uuid::Uuid;
-use asking::judging::package_refusal;
-use asking::texts::text_refusal;
 
 // The addition of a tile of these bytes at this moment.
 fn addition(alloc: Global, at: &str, bytes: &[u8]) -> Result<Request, Fault> {

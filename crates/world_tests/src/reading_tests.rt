@@ -2,6 +2,8 @@
 use crate::told::{items_text, sums_text};
 use crate::values::{member_with_a_medium, package};
 use crate::worlds::{Of, Step, sights_text, world_of, wrong};
+use asking::asking::are_at_rest;
+use members::members::Member;
 use package_tables::fault::Fault;
 use sheet_types::command::Mapping;
 use shelves::memory::MemoryShelf;
@@ -10,8 +12,6 @@ use std::alloc::Global;
 use std::test::Fail;
 use test_values::{Asks, Checked, FRAME, in_memory, links_text, sums};
 use test_worlds::{A, B, Wish};
-use asking::asking::are_at_rest;
-use members::members::Member;
 use world::reading::{holdings_in, sights_of, sums_in};
 use world::world::World;
 

@@ -1,5 +1,7 @@
 // What a package holds after each command, and what is too many, by the rules: a package holds up to 1 000 000 items of a kind and 4 000 000 links, there are up to 256 packages and 1 000 000 000 receipts.
 use crate::values::member_of;
+use asking::sums::{sums_after, sums_moved};
+use asking::too_many::{any_past_limits, is_past_limits, is_too_many};
 use package_tables::fault::Fault;
 use sheet_types::command::Command;
 use sqlite::{Alter, Connection};
@@ -7,8 +9,6 @@ use std::alloc::Global;
 use std::test::Fail;
 use test_values::{in_memory, moved_medium, receipt_of, sums, tile_content};
 use uuid::Uuid;
-use asking::sums::{sums_after, sums_moved};
-use asking::too_many::{any_past_limits, is_past_limits, is_too_many};
 
 fn identity(number: u128) -> Uuid {
     Uuid::from_u128(number)

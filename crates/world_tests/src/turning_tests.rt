@@ -2,7 +2,11 @@
 
 use crate::told::sums_text;
 use crate::values::{add_medium, empty_member, item, package, request};
+use asking::asking::are_at_rest;
+use asking::sums::{sums_after, sums_moved};
+use carrying::turning::turn_at;
 use identity_register::look_ups::find;
+use members::members::Member;
 use package_tables::fault::Fault;
 use sheet_types::command::{Command, Mode};
 use sheet_types::frame::Rect;
@@ -11,10 +15,6 @@ use sqlite::{Alter, Connection};
 use std::alloc::Global;
 use std::test::Fail;
 use test_values::{Checked, ONE_MEDIUM, answered, at_rest, in_memory, moved_medium, receipt_of};
-use asking::asking::are_at_rest;
-use members::members::Member;
-use asking::sums::{sums_after, sums_moved};
-use carrying::turning::turn_at;
 
 // What is done and asked: a turn of the second member with the receipt of a number, whether the package of a member has the medium,
 // and what is kept of a member: its sums and its ticket.
