@@ -110,10 +110,10 @@ fn frame_told(alloc: Global, frame: &Frame, asks: OfFrame) -> Result<String, Out
     match asks {
         OfFrame::DefaultZoom => numbers_text(alloc, &[default_zoom(frame)]),
         OfFrame::HasLevel(zoom) => answered(alloc, has_level(frame, zoom)),
-        OfFrame::Map(zoom, _)
-        | OfFrame::Layout(zoom)
-        | OfFrame::IsOn(zoom, _, _)
-        | OfFrame::IsNumbered(zoom, _, _, _) => zoom_told(alloc, frame, zoom, asks),
+        OfFrame::Map(zoom, _) => zoom_told(alloc, frame, zoom, asks),
+        OfFrame::Layout(zoom) => zoom_told(alloc, frame, zoom, asks),
+        OfFrame::IsOn(zoom, _, _) => zoom_told(alloc, frame, zoom, asks),
+        OfFrame::IsNumbered(zoom, _, _, _) => zoom_told(alloc, frame, zoom, asks),
     }
 }
 

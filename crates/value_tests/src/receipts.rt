@@ -68,25 +68,25 @@ fn link() -> Moved {
     }
 }
 
-fn moved(thing: Thing) -> Option<Moved> {
-    match thing {
-        Thing::Tile(number, size) => Some(tile(number, size)),
-        Thing::Altered => Some(Moved {
-            fingerprint: Some([0; 32]),
-            ..tile(1, 1)
-        }),
-        Thing::Link => Some(link()),
-        Thing::Nothing => None,
+fn altered() -> Moved {
+    Moved {
+        fingerprint: Some([0; 32]),
+        ..tile(1, 1)
     }
+}
+
+fn one(alloc: Global, item: Moved) -> Result<MovedList, OutOfMemory> {
+    Ok(MovedList::from_vec(vec![in alloc; item]?))
 }
 
 /// A list of this, or of nothing.
 pub(crate) fn things(alloc: Global, thing: Thing) -> Result<MovedList, OutOfMemory> {
-    let mut list = Vec::new(alloc);
-    if let Some(found) = moved(thing) {
-        list.push(found)?;
+    match thing {
+        Thing::Tile(number, size) => one(alloc, tile(number, size)),
+        Thing::Altered => one(alloc, altered()),
+        Thing::Link => one(alloc, link()),
+        Thing::Nothing => Ok(MovedList::from_vec(Vec::new(alloc))),
     }
-    Ok(MovedList::from_vec(list))
 }
 
 /// A receipt by its number, that of its request, its line, where it moves what, and where to.
