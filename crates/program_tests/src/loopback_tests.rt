@@ -214,11 +214,7 @@ impl<'a, N: Net<Listener = TcpListener, Stream = TcpStream>> Read for Visited<'a
 }
 
 // What a desk on a port ends with, whose list is one tile, and the client that came while it was read, if it was.
-fn visited(
-    rt: &HostRuntime,
-    port: u16,
-    wrote: Wrote,
-) -> Result<(String, Option<TcpStream>), Fault> {
+fn visit(rt: &HostRuntime, port: u16, wrote: Wrote) -> Result<(String, Option<TcpStream>), Fault> {
     let alloc = rt.alloc();
     let digits = format!(in alloc; "{port}")?;
     let desk = DeskWords {
@@ -247,11 +243,11 @@ fn a_client_that_comes_while_the_list_is_read(rt: HostRuntime) -> Result<(), Fai
     let mut checked = Checked::new(alloc);
     let listener = listen(&rt, 0)?;
     let port = listener.local_addr()?.port();
-    let (text, visitor) = visited(&rt, port, NOTHING)?;
+    let (text, visitor) = visit(&rt, port, NOTHING)?;
     checked.is(text.as_str(), "3 |store: StoreFault\n|");
     checked.holds(Ok(visitor.is_none()));
     drop(listener);
-    let (text, visitor) = visited(&rt, port, PRINTED)?;
+    let (text, visitor) = visit(&rt, port, PRINTED)?;
     checked.is(text.as_str(), "1 tiles");
     match visitor {
         Some(stream) => {

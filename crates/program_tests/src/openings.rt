@@ -177,7 +177,7 @@ fn reopened<S: Alter + Drop>(
 }
 
 // The version that the head of a store says, if it has one.
-fn version<S: Alter + Drop>(alloc: Global, conn: Connection<S>) -> Result<Option<i64>, Fault> {
+fn version_said<S: Alter + Drop>(alloc: Global, conn: Connection<S>) -> Result<Option<i64>, Fault> {
     let mut conn = conn;
     at_rest(&conn)?;
     let mut heads = all_heads(&mut conn, alloc)?;
@@ -191,7 +191,7 @@ fn tell_versions<S: Alter + Drop>(
     stores: Vec<Connection<S>>,
 ) -> Result<(), AllocError> {
     for conn in stores {
-        match version(alloc, conn) {
+        match version_said(alloc, conn) {
             Ok(Some(version)) => text.push_str(format!(in alloc; " {version}")?.as_str())?,
             _ => text.push_str(" -")?,
         }
