@@ -1,11 +1,10 @@
 // Cuts of a package at rest, and what they tell.
 
 use cut::select::select;
-use identity_register::relation::Relation;
 use matrix_rules::check::FrameRules;
 use matrix_rules::ground::is_good;
 use package_tables::fault::Fault;
-use sheet_types::command::Mode;
+use sheet_types::command::{Mode, Relation};
 use sheet_types::frame::Rect;
 use sheet_types::refusal::Refusal;
 use sqlite::{Alter, Connection};
