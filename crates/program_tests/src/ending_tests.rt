@@ -15,7 +15,7 @@ use views::endings::Ending as ViewEnding;
 fn wrong(alloc: Global, cases: &[(End, &str)]) -> Result<String, Fault> {
     let mut checked = Checked::new(alloc);
     for case in cases {
-        match end_text(alloc, case.0) {
+        match end_text(alloc, &case.0) {
             Ok(text) => checked.is(text.as_str(), case.1),
             Err(_) => checked.is("no memory", case.1),
         }

@@ -17,44 +17,44 @@ pub(crate) enum End {
     View(ViewEnding),
 }
 
-fn status_of(end: End) -> u8 {
+fn status_of(end: &End) -> u8 {
     match end {
-        End::Of(end) => statuses::status_of(end),
-        End::Command(end) => of_commands::status_of(end),
-        End::Map(end) => of_maps::status_of(end),
-        End::View(end) => of_views::status_of(end),
+        End::Of(end) => statuses::status_of(*end),
+        End::Command(end) => of_commands::status_of(*end),
+        End::Map(end) => of_maps::status_of(*end),
+        End::View(end) => of_views::status_of(*end),
     }
 }
 
-fn output_of(end: End) -> &'static str {
+fn output_of(end: &End) -> &'static str {
     match end {
-        End::Of(end) => statuses::output_of(end),
-        End::Command(end) => of_commands::output_of(end),
-        End::Map(end) => of_maps::output_of(end),
-        End::View(end) => of_views::output_of(end),
+        End::Of(end) => statuses::output_of(*end),
+        End::Command(end) => of_commands::output_of(*end),
+        End::Map(end) => of_maps::output_of(*end),
+        End::View(end) => of_views::output_of(*end),
     }
 }
 
-fn error_of(end: End) -> &'static str {
+fn error_of(end: &End) -> &'static str {
     match end {
-        End::Of(end) => statuses::error_of(end),
-        End::Command(end) => of_commands::error_of(end),
-        End::Map(end) => of_maps::error_of(end),
-        End::View(end) => of_views::error_of(end),
+        End::Of(end) => statuses::error_of(*end),
+        End::Command(end) => of_commands::error_of(*end),
+        End::Map(end) => of_maps::error_of(*end),
+        End::View(end) => of_views::error_of(*end),
     }
 }
 
-fn busy_package(end: End) -> Option<Uuid> {
+fn busy_package(end: &End) -> Option<Uuid> {
     match end {
         End::Of(_) => None,
-        End::Command(end) => of_commands::busy_package(end),
-        End::Map(end) => of_maps::busy_package(end),
-        End::View(end) => of_views::busy_package(end),
+        End::Command(end) => of_commands::busy_package(*end),
+        End::Map(end) => of_maps::busy_package(*end),
+        End::View(end) => of_views::busy_package(*end),
     }
 }
 
 // The status, the output, the error and the number of a busy package, with a stroke after each line.
-pub(crate) fn end_text(alloc: Global, end: End) -> Result<String, AllocError> {
+pub(crate) fn end_text(alloc: Global, end: &End) -> Result<String, AllocError> {
     let (status, output, error) = (status_of(end), output_of(end), error_of(end));
     match busy_package(end) {
         Some(package) => {

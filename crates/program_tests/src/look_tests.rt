@@ -109,7 +109,7 @@ fn wrong_over<S: Alter + Drop, H: Shelf<S>>(alloc: Global, shelf: &mut H) -> Res
         check(alloc, &mut world, shelf, ONE_TILE.as_slice(), &mut checked);
         let mut out = paper(alloc, WHOLE)?;
         let (ending, stores) = looked(alloc, world, look, &mut out);
-        let text = end_text(alloc, End::View(ending))?;
+        let text = end_text(alloc, &End::View(ending))?;
         checked.told(judged_paper(alloc, text, &out, wrote), wanted);
         checked.holds(Ok(stores.len() == 1));
     }

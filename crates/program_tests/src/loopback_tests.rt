@@ -125,7 +125,7 @@ fn left<S: Alter + Drop>(
             Some(sums) => format!(in alloc; "{} tiles", sums.tiles),
             None => String::from_str(alloc, "no archive"),
         },
-        Err(outcome) => end_text(alloc, End::Of(outcome)),
+        Err(outcome) => end_text(alloc, &End::Of(outcome)),
     }
 }
 

@@ -199,7 +199,7 @@ fn tell_versions<S: Alter + Drop>(
     Ok(())
 }
 
-fn name_of(fault: RecoverFault) -> &'static str {
+fn name_of(fault: &RecoverFault) -> &'static str {
     match fault {
         RecoverFault::NoArchive => "NoArchive",
         RecoverFault::TwoArchives => "TwoArchives",
@@ -220,14 +220,14 @@ fn fourth(identity: Uuid) -> &'static str {
 }
 
 // The package that a fault names, or the tile 4.
-fn whose(fault: RecoverFault) -> &'static str {
+fn whose(fault: &RecoverFault) -> &'static str {
     match fault {
         RecoverFault::NotAPackage(package)
         | RecoverFault::TwoCopies(package)
         | RecoverFault::MissingPackage(package)
         | RecoverFault::ForeignFrame(package)
-        | RecoverFault::Dangling(package) => letter(package),
-        RecoverFault::Altered(identity) => fourth(identity),
+        | RecoverFault::Dangling(package) => letter(*package),
+        RecoverFault::Altered(identity) => fourth(*identity),
         _ => "",
     }
 }
@@ -238,7 +238,9 @@ fn told_of_fault<S: Alter + Drop>(
     fault: RecoverFault,
     stores: Vec<Connection<S>>,
 ) -> Result<String, AllocError> {
-    let mut text = format!(in alloc; "{} {}:", name_of(fault), whose(fault))?;
+    let name = name_of(&fault);
+    let of = whose(&fault);
+    let mut text = format!(in alloc; "{name} {of}:")?;
     tell_versions(alloc, &mut text, stores)?;
     Ok(text)
 }

@@ -103,16 +103,16 @@ fn ended<S: Alter + Drop, H: Shelf<S>>(
         }
         What::Export(digit) => {
             let ending = export_in(alloc, world, package(digit), out);
-            end_text(alloc, End::Command(ending))
+            end_text(alloc, &End::Command(ending))
         }
-        What::Map(zoom) => end_text(alloc, End::Map(map_in(alloc, world, zoom, out))),
+        What::Map(zoom) => end_text(alloc, &End::Map(map_in(alloc, world, zoom, out))),
         What::Applies(body, reads) => {
             let ending = apply_in(alloc, world, shelf, Giving::new(body, reads), out);
-            end_text(alloc, End::Command(ending))
+            end_text(alloc, &End::Command(ending))
         }
         What::Receipt(number) => {
             let ending = receipt_in(alloc, world, asked(number), out);
-            end_text(alloc, End::View(ending))
+            end_text(alloc, &End::View(ending))
         }
         What::Serves(sent, reads) => {
             let text = sent_text(alloc, sent)?;

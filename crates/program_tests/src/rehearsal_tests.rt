@@ -24,7 +24,7 @@ const OF_ONE: &str =
 fn rehearsed(alloc: Global, text: &str, room: usize) -> Result<String, Fault> {
     let mut out = paper(alloc, room)?;
     let outcome = rehearse(alloc, &GOOD, text.as_bytes(), &mut out, &mut Silent);
-    let ended = end_text(alloc, End::Of(outcome))?;
+    let ended = end_text(alloc, &End::Of(outcome))?;
     judged_paper(alloc, ended, &out, Wrote::Front(OF_ONE, room))
 }
 
