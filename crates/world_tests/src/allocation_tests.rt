@@ -1,5 +1,6 @@
-// One request of each kind in a world in memory, a split and a merge among them. Run by `bench/failing_allocations.sh`, which refuses each
-// allocation in turn: the world is that before the request or the one after it, and the reply fits.
+// One request of each kind in a world in memory, a split and a merge among them. Run by
+// `bench/failing_allocations.sh`, which refuses each allocation in turn: the world is that before the request or the
+// one after it, and the reply fits.
 use crate::fitting::{both_worlds, check_both, fits, left_fits, stands};
 use crate::scenes::{ADDS, COMES_AGAIN, DELETES, IS_REFUSED, LENDS, LINKS, Scene, TAKES_HOME};
 use crate::stops::{Comes, in_memory};

@@ -95,7 +95,8 @@ fn compared(store: &StorePicture, stores: &[StorePicture]) -> Option<bool> {
     None
 }
 
-// Whether what is left is this world: the store of each of its packages, and beside them at most the store of the loan that the other world has and this one not.
+// Whether what is left is this world: the store of each of its packages, and beside them at most the store of the
+// loan that the other world has and this one not.
 fn is_world(left: &[StorePicture], world: &[StorePicture], other: &[StorePicture]) -> bool {
     for store in world {
         if compared(store, left) != Some(true) {
@@ -134,7 +135,8 @@ pub fn stands(left: &[StorePicture], both: &Both) -> Stands {
     }
 }
 
-/// The stores that a crash leaves are those of after where the request got its receipt, of before where it got none and the world goes on, and else those of before or after.
+/// The stores that a crash leaves are those of after where the request got its receipt, of before where it got none
+/// and the world goes on, and else those of before or after.
 pub fn left_fits(found: &Found, stands: Stands) -> bool {
     match stands {
         Stands::Before => found.reply.number <= 0,

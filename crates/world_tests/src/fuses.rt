@@ -46,7 +46,8 @@ impl Revive for Fuse<Memory> {
     }
 }
 
-/// What is left of a file: what was synced, as after a stop of the machine, or all that was written, as after the end of a process.
+/// What is left of a file: what was synced, as after a stop of the machine, or all that was written, as after the end
+/// of a process.
 #[derive(Clone, Copy)]
 pub enum Leaves {
     Synced,
@@ -150,7 +151,8 @@ pub enum Stops {
     Db,
 }
 
-/// So few pages are kept that a request reads both files, writes the log before its commit, and copies it into the database file after that.
+/// So few pages are kept that a request reads both files, writes the log before its commit, and copies it into the
+/// database file after that.
 fn options() -> Options {
     Options {
         cache_pages: 2,

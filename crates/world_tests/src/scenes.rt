@@ -9,7 +9,8 @@ const LATER: &str = "2024-05-01T09:30:00.000Z";
 // The tile of zoom 2 beside the corner.
 const BESIDE: [i64; 5] = [2, 1, 1, 0, 0];
 
-/// A tile, a medium and a row, and a link of the first two. The number of a request, and of its receipt, is its place from 1 on.
+/// A tile, a medium and a row, and a link of the first two. The number of a request, and of its receipt, is its place
+/// from 1 on.
 pub const ITEMS: [Wish; 4] = [
     Wish::Of(A, Asks::Tile(1, [2, 3, 3])),
     Wish::Of(A, Asks::Medium(2)),
@@ -17,9 +18,9 @@ pub const ITEMS: [Wish; 4] = [
     Wish::Of(A, Asks::Link(Mapping::TilesMedia, 1, 2)),
 ];
 
-/// Makes a loan, and ends it: into the archive come the tile 1 in the corner with the medium 2, linked, and the row 3 in the tile
-/// beside it with the tile 4 elsewhere, linked; then the archive lends the corner to B, the medium 5 comes into B, and B is taken
-/// home.
+/// Makes a loan, and ends it: into the archive come the tile 1 in the corner with the medium 2, linked, and the row 3
+/// in the tile beside it with the tile 4 elsewhere, linked; then the archive lends the corner to B, the medium 5
+/// comes into B, and B is taken home.
 pub const LOANS: [Wish; 9] = [
     Wish::Of(A, Asks::Tile(1, [2, 0, 0])),
     Wish::Of(A, Asks::Medium(2)),
@@ -46,8 +47,8 @@ pub enum Asked {
     Again(u32, Wish),
 }
 
-/// A request, what it is told, and where all stands before it and after it: of each store, the archive's first, the items by kind
-/// and number, and the links.
+/// A request, what it is told, and where all stands before it and after it: of each store, the archive's first, the
+/// items by kind and number, and the links.
 #[derive(Clone, Copy)]
 pub struct Scene {
     pub before: Before,

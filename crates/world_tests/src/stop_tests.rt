@@ -1,4 +1,5 @@
-// One request of each kind, once for each call of a file that stops in it. A crash leaves the world before the request or the one after it, and the reply fits.
+// One request of each kind, once for each call of a file that stops in it. A crash leaves the world before the
+// request or the one after it, and the reply fits.
 use crate::fitting::{
     Both, STORE_FAULT, Stands, both_worlds, check_both, fits, left_fits, stands, went_through,
 };
@@ -15,8 +16,8 @@ use std::test::Fail;
 use test_values::{Checked, answered};
 use test_worlds::{A, B, C, asked};
 
-// How many runs a request answered by a fault of its own; how many crashes of these left which world; and for how many runs the
-// shelf had no store.
+// How many runs a request answered by a fault of its own; how many crashes of these left which world; and for how
+// many runs the shelf had no store.
 #[derive(Clone, Copy)]
 struct Counts {
     faults: u64,
@@ -28,7 +29,8 @@ struct Counts {
 // What the counts of a file that stops are to show.
 #[derive(Clone, Copy)]
 enum Shows {
-    // This log is of the package that carries the receipt: of the crashes some leave the world before and some the one after.
+    // This log is of the package that carries the receipt: of the crashes some leave the world before and some the
+    // one after.
     Either,
     // It is read before anything is committed.
     Before,

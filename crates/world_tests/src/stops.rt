@@ -63,8 +63,8 @@ pub struct Reply {
     pub text: String,
 }
 
-/// What came of a request: the reply, whether the world failed, and whether the shelf; what the world reads as then, where it can be
-/// read; and the reply to the request that came again.
+/// What came of a request: the reply, whether the world failed, and whether the shelf; what the world reads as then,
+/// where it can be read; and the reply to the request that came again.
 #[derive(Drop)]
 pub struct Found {
     pub reply: Reply,
