@@ -1,7 +1,7 @@
 // One request of each kind in a world in memory, a split and a merge among them. Run by
 // `bench/failing_allocations.sh`, which refuses each allocation in turn: the world is that before the request or the
 // one after it, and the reply fits.
-use crate::fitting::{both_worlds, check_both, fits, left_fits, stands};
+use crate::fitting::{both_worlds, check_both, fits, left_fits, which_stands};
 use crate::scenes::{ADDS, COMES_AGAIN, DELETES, IS_REFUSED, LENDS, LINKS, Scene, TAKES_HOME};
 use crate::stops::{Comes, in_memory};
 use package_tables::fault::Fault;
@@ -18,7 +18,7 @@ fn wrong(alloc: Global, scene: &Scene) -> Result<String, Fault> {
         return Err(Fault::OutOfMemory);
     };
     checked.is(fits(&ended.found, &both), "fits");
-    let stands = stands(&ended.stores, &both);
+    let stands = which_stands(&ended.stores, &both);
     checked.is(
         if left_fits(&ended.found, stands) {
             "fits"

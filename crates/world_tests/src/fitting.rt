@@ -125,7 +125,7 @@ pub enum Stands {
 }
 
 /// Which world these stores are.
-pub fn stands(left: &[StorePicture], both: &Both) -> Stands {
+pub fn which_stands(left: &[StorePicture], both: &Both) -> Stands {
     let (before, after) = (both.before.stores.as_slice(), both.after.stores.as_slice());
     match (is_world(left, before, after), is_world(left, after, before)) {
         (true, true) => Stands::Both,

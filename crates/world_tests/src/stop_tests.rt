@@ -1,7 +1,7 @@
 // One request of each kind, once for each call of a file that stops in it. A crash leaves the world before the
 // request or the one after it, and the reply fits.
 use crate::fitting::{
-    Both, STORE_FAULT, Stands, both_worlds, check_both, fits, left_fits, stands, went_through,
+    Both, STORE_FAULT, Stands, both_worlds, check_both, fits, left_fits, went_through, which_stands,
 };
 use crate::fuses::{Fusing, Revive, Stops, WAYS};
 use crate::scenes::{
@@ -69,7 +69,7 @@ fn count_crashes<D: Revive + Drop>(
     let is_fault = found.reply.number == STORE_FAULT && !found.was_unshelved;
     for way in WAYS {
         let left = left::<D>(alloc, &ended.files, way, asked(scene.step().number))?;
-        let stands = stands(&left, both);
+        let stands = which_stands(&left, both);
         checked.is(
             if left_fits(found, stands) {
                 "fits"

@@ -88,7 +88,7 @@ fn replied<S: Alter + Drop, H: Shelf<S>>(
     })
 }
 
-fn found<S: Alter + Drop, H: Shelf<S>>(
+fn asked_once_or_again<S: Alter + Drop, H: Shelf<S>>(
     alloc: Global,
     world: &mut World<S>,
     shelf: &mut H,
@@ -127,7 +127,7 @@ struct Ended<S: Alter + Drop> {
     stores: Vec<Connection<S>>,
 }
 
-fn ended<S: Alter + Drop, H: Shelf<S>>(
+fn carried_out<S: Alter + Drop, H: Shelf<S>>(
     alloc: Global,
     shelf: &mut H,
     scene: &Scene,
@@ -136,7 +136,7 @@ fn ended<S: Alter + Drop, H: Shelf<S>>(
     let Some(mut world) = prepared(alloc, shelf, scene.before)? else {
         return Ok(None);
     };
-    let found = found(alloc, &mut world, shelf, &scene.step(), comes)?;
+    let found = asked_once_or_again(alloc, &mut world, shelf, &scene.step(), comes)?;
     let stores = world.into_stores();
     Ok(Some(Ended { found, stores }))
 }
@@ -163,7 +163,7 @@ pub struct InMemory {
 /// In memory, since a store reads the same wherever it is; `None` where memory was refused before the request.
 pub fn in_memory(alloc: Global, scene: &Scene, comes: Comes) -> Result<Option<InMemory>, Fault> {
     let mut shelf = MemoryShelf::new(alloc);
-    let ended: Option<Ended<MemStore>> = ended(alloc, &mut shelf, scene, comes)?;
+    let ended: Option<Ended<MemStore>> = carried_out(alloc, &mut shelf, scene, comes)?;
     let Some(Ended { found, stores }) = ended else {
         return Ok(None);
     };
@@ -197,7 +197,7 @@ pub fn over_files<D: Revive + Drop>(
     comes: Comes,
 ) -> Result<Option<OverFiles>, Fault> {
     let mut shelf = FusedShelf::new(alloc, fusing);
-    let ended: Option<Ended<FileStore<D>>> = ended(alloc, &mut shelf, scene, comes)?;
+    let ended: Option<Ended<FileStore<D>>> = carried_out(alloc, &mut shelf, scene, comes)?;
     let Some(Ended { found, stores }) = ended else {
         return Ok(None);
     };
