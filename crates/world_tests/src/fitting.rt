@@ -116,7 +116,7 @@ fn is_world(left: &[StorePicture], world: &[StorePicture], other: &[StorePicture
 }
 
 /// Which world is left: that before or after the request, both where it changes nothing, or neither.
-#[derive(Clone, Copy, PartialEq, Eq)]
+#[derive(Clone, Copy)]
 pub enum Stands {
     Before,
     After,

@@ -34,14 +34,20 @@ const TABLES: [&str; 16] = [
     "SELECT * FROM tiles_media",
 ];
 
+fn digest_text(alloc: Global, digest: Option<[u8; 32]>) -> Result<String, AllocError> {
+    match digest {
+        Some(digest) => {
+            let mut digits = [0; 64];
+            String::from_str(alloc, spell(&digest, &mut digits))
+        }
+        None => String::from_str(alloc, "-"),
+    }
+}
+
 fn thing_in_full(alloc: Global, thing: &Moved) -> Result<String, AllocError> {
     let (kind, base, other) = (thing.kind.number(), number(thing.base), end(thing.other));
-    let mut digits = [0; 64];
-    let digest = match thing.fingerprint {
-        Some(digest) => spell(&digest, &mut digits),
-        None => "-",
-    };
-    format!(in alloc; "{kind} {base} {other} {} {digest}\n", thing.size)
+    let digest = digest_text(alloc, thing.fingerprint)?;
+    format!(in alloc; "{kind} {base} {other} {} {}\n", thing.size, digest.as_str())
 }
 
 fn receipt_in_full(alloc: Global, receipt: &Receipt) -> Result<String, AllocError> {
