@@ -47,7 +47,11 @@ fn digest_text(alloc: Global, digest: Option<[u8; 32]>) -> Result<String, AllocE
 fn thing_in_full(alloc: Global, thing: &Moved) -> Result<String, AllocError> {
     let (kind, base, other) = (thing.kind.number(), number(thing.base), end(thing.other));
     let digest = digest_text(alloc, thing.fingerprint)?;
-    format!(in alloc; "{kind} {base} {other} {} {}\n", thing.size, digest.as_str())
+    format!(in alloc;
+        "{kind} {base} {other} {} {}\n",
+        thing.size,
+        digest.as_str()
+    )
 }
 
 fn receipt_in_full(alloc: Global, receipt: &Receipt) -> Result<String, AllocError> {
