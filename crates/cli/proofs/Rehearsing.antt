@@ -12,16 +12,17 @@ use Rattle.sheet_types.specs.declared.frame.Frame.{Frame}
 use Rattle.carrying.specs.Leaving.{AreClean}
 use Rattle.members.specs.Members.{AllClean}
 use Rattle.world.specs.Worlds.{Seen, StandsFor}
-use Rattle.manifest_csv.specs.Imports.{Imports, IsImported}
+use Rattle.manifest_csv.specs.Imports.{Imports, IsImported, IsWhyUnread}
 use Rattle.request_csv.specs.RequestLists.{IsList}
 use Rattle.manifest_csv.specs.Sent.{WentOut}
 use Rattle.manifest_csv.specs.declared.importing.ImportFault.{ImportFault}
 use Rattle.manifest_csv.specs.declared.importing.ImportFault.TheVariants.{Unread, Stopped as Interrupted, Unwritten}
+use Rattle.request_csv.specs.declared.lists.ReadFault.{ReadFault}
 use Rattle.request_csv.specs.declared.lists.ReadFault.TheVariants.{Header, Record, Read, Memory}
 use Rattle.manifest_csv.proofs.SentFacts.{went_out_past}
 use Rattle.command_words.specs.Arguments.{Asks, IsFirstUnread}
 use Rattle.command_words.specs.Endings.{import_outcome}
-use Rattle.cli.specs.Rehearsals.{Ran, report, live_text, StandsOn, Writes, Rehearses}
+use Rattle.cli.specs.Rehearsals.{Ran, report, live_text, IsInMemory, StandsOn, Writes, Rehearses}
 use Rattle.cli.specs.Servings.{HandsOn}
 use Rattle.command_words.specs.declared.statuses.What.{What}
 use Rattle.command_words.specs.declared.statuses.What.TheVariants.{BadUuid, BadMoment, BadFrame, BadNumber, BadList}
@@ -38,7 +39,14 @@ never_done (Unread Read) = λ h. let e = h in cc
 never_done (Interrupted n fault) = λ h. let e = h in cc
 never_done Unwritten = λ h. let e = h in cc
 
-module _ {S W : Type 0} (g : Ghosts S) (clean : (h : Held S) → HasCleanDisk (state g h)) (contents : W → Option (List ℕ)) (w : World) (text : Option (List ℕ)) (old new : Seen S) (stands : StandsFor g old w) where
+-- a list that was not read: nothing is carried out and nothing is written
+pub unread : {W : Type 0} (w : World) (text : Option (List ℕ)) (writer : W) (held : Option (List ℕ)) (fault : ReadFault) → IsWhyUnread text fault → Rehearses w text writer writer held held (import_outcome (Unread fault))
+unread w text writer held Memory why = inl refl
+unread w text writer held Header why = (refl, refl, (Header, (λ h. let e = h in cc), why))
+unread w text writer held (Record n) why = (refl, refl, (Record n, (λ h. let e = h in cc), why))
+unread w text writer held Read why = (refl, refl, (Read, (λ h. let e = h in cc), why))
+
+module _ {S W : Type 0} (g : Ghosts S) (clean : IsInMemory g) (contents : W → Option (List ℕ)) (w : World) (text : Option (List ℕ)) (old new : Seen S) (stands : StandsFor g old w) where
   all_clean : (seen : Seen S) → AllClean g seen.members
   all_clean seen = λ k d within. clean (slice_index_or seen.members k d).conn
 

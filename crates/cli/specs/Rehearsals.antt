@@ -2,6 +2,8 @@
 use Rattle.std.specs.Prelude.{◌≡◌, ◌≢◌, ◌⊎◌, ◌≤◌, ℕ, List, ◌++◌, codes, flat_map, length, map, take, Option, Result, IfSome, MatchResult}
 use Rattle.std.specs.List.{AllByRecursion}
 use Rattle.std.specs.Io.KnownBytes.{Appends}
+use Rattle.sqlite.specs.Held.{Held, state}
+use Rattle.sqlite.specs.State.{HasCleanDisk}
 use Rattle.sqlite.specs.Store.{Ghosts}
 use Rattle.package_tables.specs.declared.fault.Fault.{Fault}
 use Rattle.sheet_types.specs.Ordered.{IsArranged}
@@ -48,6 +50,10 @@ abbrev pub live_text : World → List ℕ
 live_text w = packages_text w (map (λ p. p.uuid) w.packages)
 
 module _ {S : Type 0} (g : Ghosts S) where
+  -- stores that are in memory: no disk of theirs ever lied
+  abbrev pub IsInMemory : Type 0
+  IsInMemory = (h : Held S) → HasCleanDisk (state g h)
+
   -- A value stands for each world that another stood for, and no disk of that had lied that does not now.
   abbrev pub StandsOn : Seen S → Seen S → Type 0
   StandsOn old new = (AllClean g new.members → AllClean g old.members) × ((w : World) → StandsFor g old w → StandsFor g new w)

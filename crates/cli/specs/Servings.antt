@@ -29,3 +29,9 @@ module _ {S : Type 0} (g : Ghosts S) where
   abbrev pub RehearsesAndServes : {W : Type 0} → World → ℕ → Option (List ℕ) → W → W → Option (List ℕ) → Option (List ℕ) → Result (Seen S) Outcome → Type 0
   RehearsesAndServes w most text writer writer' before after (Ok seen) = (done : Rehearses w text writer writer' before after Done) × IsLeftBy done.0.next most seen
   RehearsesAndServes w most text writer writer' before after (Err outcome) = (outcome ≢ Done) × Rehearses w text writer writer' before after outcome
+
+-- The same, of a world whose stores are of one kind or of the other.
+abbrev pub Leaves : {W : Type 0} → World → ℕ → Option (List ℕ) → W → W → Option (List ℕ) → Option (List ℕ) → Result LeftWorld Outcome → Type 0
+Leaves w most text writer writer' before after (Ok (Arrays seen)) = RehearsesAndServes over_memory w most text writer writer' before after (Ok seen)
+Leaves w most text writer writer' before after (Ok (Files seen)) = RehearsesAndServes over_files w most text writer writer' before after (Ok seen)
+Leaves w most text writer writer' before after (Err outcome) = (outcome ≢ Done) × Rehearses w text writer writer' before after outcome

@@ -6,23 +6,25 @@ ghost use Rattle.members.specs.Members.{AllClean};
 ghost use Rattle.world.specs.Worlds.{StandsFor};
 ghost use Rattle.command_words.specs.Arguments.{Asks, IsFirstUnread};
 ghost use Rattle.command_words.specs.Endings.{import_outcome};
-ghost use Rattle.cli.specs.Rehearsals.{package_line, package_text, packages_text, live_text, StandsOn, Writes, Rehearses};
+ghost use Rattle.manifest_csv.specs.Imports.{IsListOf};
+ghost use Rattle.cli.specs.Rehearsals.{package_line, package_text, packages_text, live_text, StandsOn, Writes, Rehearses, IsInMemory};
 ghost use Rattle.cli.specs.Servings.{HandsOn};
 ghost use Rattle.command_words.specs.declared.statuses.What.{What};
 ghost use Rattle.command_words.specs.declared.statuses.Outcome.TheVariants.{Refused};
 
 use command_words::arguments::{Rehearsal, Words, read_rehearsal};
 use command_words::statuses::{Failure, Outcome, What};
-use manifest_csv::importing::{ImportFault, import};
+use manifest_csv::importing::{ImportFault, carry_out};
 use manifest_csv::package_manifests::write_manifest;
 use manifest_csv::progress::Teller;
 use manifest_csv::sending::send;
 use memory_files::MemoryFile;
-use request_csv::lists::ReadFault;
+use request_csv::lists::{ReadFault, read_requests};
+use sheet_types::command::Request;
 use shelves::file_memory::MemoryFileShelf;
+use shelves::memory::MemoryShelf;
 use shelves::shelf::Shelf;
-use sqlite::{Alter, FileStore};
-use sqlite_trees::store::Store;
+use sqlite::{Alter, FileStore, MemStore};
 use std::alloc::{AllocError, Global};
 use std::io::{Read, Write};
 use uuid::Uuid;
@@ -67,7 +69,7 @@ fn new_world<S: Alter + Drop, H: Shelf<S>>(
 }
 
 /// How an import ends the program, unless it went through.
-fn end_of_import(fault: ImportFault) -> Outcome
+pub(crate) fn end_of_import(fault: ImportFault) -> Outcome
     ensures { result ≡ import_outcome fault }
 {
     match fault {
@@ -130,6 +132,10 @@ fn write_packages<S: Alter + Drop, W: Write>(
     write_each(alloc, world, sights.as_slice(), writer)
 }
 
+// How many requests a world in the engine's arrays is asked for at most. A request costs less there than in files up to some ten thousand
+// items, and more beyond: what comes into the middle of an index moves all behind it.
+pub(crate) const FEW: u64 = 4096;
+
 // The world, the import and the manifests.
 fn carried_out<R: Read + Drop, W: Write, T: Teller>(
     alloc: Global,
@@ -140,30 +146,66 @@ fn carried_out<R: Read + Drop, W: Write, T: Teller>(
 ) -> Outcome
     ensures { Rehearses (new_world rehearsal.now.archive rehearsal.now.frame) (R.remaining reader) writer.old writer.new (W.contents writer.old) (W.contents writer.new) result }
 {
-    let mut shelf = MemoryFileShelf::new(alloc);
-    match handed_on(alloc, rehearsal, &mut shelf, reader, writer, teller) {
+    match read_requests(alloc, reader) {
+        Ok(requests) => over_either(alloc, rehearsal, requests.as_slice(), writer, teller),
+        Err(fault) => end_of_import(ImportFault::Unread(fault)),
+    }
+}
+
+// In the engine's arrays where the requests are few, and in files in memory where they are many.
+fn over_either<W: Write, T: Teller>(
+    alloc: Global,
+    rehearsal: &Rehearsal<'_>,
+    requests: &[Request],
+    writer: &mut W,
+    teller: &mut T,
+) -> Outcome
+    ensures { IsListOf requests.now (λ text. Rehearses (new_world rehearsal.now.archive rehearsal.now.frame) text writer.old writer.new (W.contents writer.old) (W.contents writer.new) result) }
+{
+    if requests.len() as u64 <= FEW {
+        let mut shelf = MemoryShelf::new(alloc);
+        over::<MemStore, MemoryShelf, W, T>(alloc, rehearsal, &mut shelf, requests, writer, teller)
+    } else {
+        let mut shelf = MemoryFileShelf::new(alloc);
+        over::<FileStore<MemoryFile>, MemoryFileShelf, W, T>(
+            alloc, rehearsal, &mut shelf, requests, writer, teller,
+        )
+    }
+}
+
+// Over the stores of this shelf, which are in memory.
+fn over<S: Alter + Drop, H: Shelf<S>, W: Write, T: Teller>(
+    alloc: Global,
+    rehearsal: &Rehearsal<'_>,
+    shelf: &mut H,
+    requests: &[Request],
+    writer: &mut W,
+    teller: &mut T,
+) -> Outcome
+    ensures { IsInMemory S.Store → IsListOf requests.now (λ text. Rehearses (new_world rehearsal.now.archive rehearsal.now.frame) text writer.old writer.new (W.contents writer.old) (W.contents writer.new) result) }
+{
+    match handed_on::<S, H, W, T>(alloc, rehearsal, shelf, requests, writer, teller) {
         Ok(_) => Outcome::Done,
         Err(outcome) => outcome,
     }
 }
 
 /// The world that a rehearsal comes to, once its report and its packages are written; or how it ended before.
-pub(crate) fn handed_on<R: Read + Drop, W: Write, T: Teller>(
+pub(crate) fn handed_on<S: Alter + Drop, H: Shelf<S>, W: Write, T: Teller>(
     alloc: Global,
     rehearsal: &Rehearsal<'_>,
-    shelf: &mut MemoryFileShelf,
-    reader: R,
+    shelf: &mut H,
+    requests: &[Request],
     writer: &mut W,
     teller: &mut T,
-) -> Result<World<FileStore<MemoryFile>>, Outcome>
-    ensures { HandsOn ⟦<FileStore<MemoryFile> as Store>⟧ (new_world rehearsal.now.archive rehearsal.now.frame) (R.remaining reader) writer.old writer.new (W.contents writer.old) (W.contents writer.new) result }
+) -> Result<World<S>, Outcome>
+    ensures { IsInMemory S.Store → IsListOf requests.now (λ text. HandsOn S.Store (new_world rehearsal.now.archive rehearsal.now.frame) text writer.old writer.new (W.contents writer.old) (W.contents writer.new) result) }
 {
-    let made: Result<World<FileStore<MemoryFile>>, Failure> = new_world(alloc, rehearsal, shelf);
-    let mut world = match made {
+    let mut world = match new_world::<S, H>(alloc, rehearsal, shelf) {
         Ok(world) => world,
         Err(failure) => return Err(Outcome::Stopped(failure)),
     };
-    if let Err(fault) = import(alloc, &mut world, shelf, reader, writer, teller) {
+    if let Err(fault) = carry_out(alloc, &mut world, shelf, requests, writer, teller) {
         return Err(end_of_import(fault));
     }
     match write_packages(alloc, &mut world, writer) {

@@ -3,24 +3,38 @@ ghost use Rattle.std.specs.Prelude.{◌≡◌, ℕ, List, Err};
 ghost use Rattle.sheet_types.specs.World.{new_world};
 ghost use Rattle.sheet_types.specs.declared.frame.Frame.{Frame};
 ghost use Rattle.command_words.specs.Arguments.{Asks, AsksDesk, IsFirstUnserved};
-ghost use Rattle.cli.specs.Servings.{RehearsesAndServes};
+ghost use Rattle.cli.specs.Rehearsals.{IsInMemory};
+ghost use Rattle.cli.specs.Servings.{Leaves, RehearsesAndServes};
+ghost use Rattle.manifest_csv.specs.Imports.{IsListOf};
 ghost use Rattle.command_words.specs.declared.statuses.What.{What};
 ghost use Rattle.command_words.specs.declared.statuses.Outcome.TheVariants.{Refused};
 
-use crate::rehearse::handed_on;
+use crate::rehearse::{FEW, end_of_import, handed_on};
 use command_words::arguments::{DeskWords, Rehearsal, Words, read_serving};
 use command_words::statuses::{Failure, Outcome};
 use desk_serving::connections::serve_each;
 use desk_serving::listening::listen;
+use manifest_csv::importing::ImportFault;
 use manifest_csv::progress::Teller;
 use memory_files::MemoryFile;
+use request_csv::lists::read_requests;
+use sheet_types::command::Request;
 use shelves::file_memory::MemoryFileShelf;
-use sqlite::FileStore;
-use sqlite_trees::store::Store;
+use shelves::memory::MemoryShelf;
+use shelves::shelf::Shelf;
+use sqlite::{Alter, FileStore, MemStore};
 use std::alloc::Global;
 use std::io::{Read, Write};
 use std::net::{Net, TcpListener, TcpStream};
 use world::world::World;
+
+/// The world that connections left, by where its stores are.
+pub enum LeftWorld {
+    /// In the engine's arrays.
+    Arrays(World<MemStore>),
+    /// In files in memory.
+    Files(World<FileStore<MemoryFile>>),
+}
 
 /// Does what `rehearse` does with the first words, and then serves the world that the list led to: so many connections of 127.0.0.1 at the port, one after the other. The world as they left it comes back.
 /// The words are read first, and then the port is taken, so that a client may connect while the list is carried out. Where a word cannot be read or the port cannot be had, nothing is read and nothing is written.
@@ -41,10 +55,10 @@ pub fn rehearse_and_serve<
     reader: R,
     writer: &mut W,
     teller: &mut T,
-) -> Result<World<FileStore<MemoryFile>>, Outcome>
+) -> Result<LeftWorld, Outcome>
     ensures refused { (what : What) → IsFirstUnserved words.now.archive.now words.now.at.now words.now.frame.now desk.now.port.now desk.now.count.now what → result ≡ Err (Refused what) }
     ensures unwritten { (what : What) → IsFirstUnserved words.now.archive.now words.now.at.now words.now.frame.now desk.now.port.now desk.now.count.now what → writer.new ≡ writer.old }
-    ensures served { (uuid moment : List ℕ) (frame : Frame) (port count : ℕ) → Asks words.now.archive.now words.now.at.now words.now.frame.now uuid moment frame → AsksDesk desk.now.port.now desk.now.count.now port count → RehearsesAndServes ⟦<FileStore<MemoryFile> as Store>⟧ (new_world uuid frame) count (R.remaining reader) writer.old writer.new (W.contents writer.old) (W.contents writer.new) result }
+    ensures served { (uuid moment : List ℕ) (frame : Frame) (port count : ℕ) → Asks words.now.archive.now words.now.at.now words.now.frame.now uuid moment frame → AsksDesk desk.now.port.now desk.now.count.now port count → Leaves (new_world uuid frame) count (R.remaining reader) writer.old writer.new (W.contents writer.old) (W.contents writer.new) result }
 {
     let (rehearsal, desk) = match read_serving(words, desk) {
         Ok(asked) => asked,
@@ -60,6 +74,7 @@ pub fn rehearse_and_serve<
 }
 
 /// Carries a list out in the world of a new archive, writes its report and its packages, and then serves so many connections of the listener over that world. The world as they left it comes back.
+/// It is in the engine's arrays where the requests and the connections are few, and in files in memory where they are many.
 ///
 /// # Errors
 ///
@@ -72,15 +87,62 @@ pub fn served<R: Read + Drop, W: Write, T: Teller>(
     reader: R,
     writer: &mut W,
     teller: &mut T,
-) -> Result<World<FileStore<MemoryFile>>, Outcome>
-    ensures { RehearsesAndServes ⟦<FileStore<MemoryFile> as Store>⟧ (new_world rehearsal.now.archive rehearsal.now.frame) count (R.remaining reader) writer.old writer.new (W.contents writer.old) (W.contents writer.new) result }
+) -> Result<LeftWorld, Outcome>
+    ensures { Leaves (new_world rehearsal.now.archive rehearsal.now.frame) count (R.remaining reader) writer.old writer.new (W.contents writer.old) (W.contents writer.new) result }
 {
-    let mut shelf = MemoryFileShelf::new(alloc);
-    match handed_on(alloc, rehearsal, &mut shelf, reader, writer, teller) {
-        Ok(mut world) => {
-            serve_each(alloc, &mut world, &mut shelf, listener, count);
-            Ok(world)
-        }
-        Err(outcome) => Err(outcome),
+    match read_requests(alloc, reader) {
+        Ok(requests) => served_by_either(
+            alloc, rehearsal, listener, count, requests.as_slice(), writer, teller,
+        ),
+        Err(fault) => Err(end_of_import(ImportFault::Unread(fault))),
     }
+}
+
+// In the engine's arrays, or in files in memory.
+fn served_by_either<W: Write, T: Teller>(
+    alloc: Global,
+    rehearsal: &Rehearsal<'_>,
+    listener: &TcpListener,
+    count: u32,
+    requests: &[Request],
+    writer: &mut W,
+    teller: &mut T,
+) -> Result<LeftWorld, Outcome>
+    ensures { IsListOf requests.now (λ text. Leaves (new_world rehearsal.now.archive rehearsal.now.frame) count text writer.old writer.new (W.contents writer.old) (W.contents writer.new) result) }
+{
+    if (requests.len() as u64).saturating_add(u64::from(count)) <= FEW {
+        let mut shelf = MemoryShelf::new(alloc);
+        match served_over::<MemStore, MemoryShelf, W, T>(
+            alloc, rehearsal, listener, count, &mut shelf, requests, writer, teller,
+        ) {
+            Ok(world) => Ok(LeftWorld::Arrays(world)),
+            Err(outcome) => Err(outcome),
+        }
+    } else {
+        let mut shelf = MemoryFileShelf::new(alloc);
+        match served_over::<FileStore<MemoryFile>, MemoryFileShelf, W, T>(
+            alloc, rehearsal, listener, count, &mut shelf, requests, writer, teller,
+        ) {
+            Ok(world) => Ok(LeftWorld::Files(world)),
+            Err(outcome) => Err(outcome),
+        }
+    }
+}
+
+// Over the stores of this shelf, which are in memory.
+fn served_over<S: Alter + Drop, H: Shelf<S>, W: Write, T: Teller>(
+    alloc: Global,
+    rehearsal: &Rehearsal<'_>,
+    listener: &TcpListener,
+    count: u32,
+    shelf: &mut H,
+    requests: &[Request],
+    writer: &mut W,
+    teller: &mut T,
+) -> Result<World<S>, Outcome>
+    ensures { IsInMemory S.Store → IsListOf requests.now (λ text. RehearsesAndServes S.Store (new_world rehearsal.now.archive rehearsal.now.frame) count text writer.old writer.new (W.contents writer.old) (W.contents writer.new) result) }
+{
+    let mut world = handed_on::<S, H, W, T>(alloc, rehearsal, shelf, requests, writer, teller)?;
+    serve_each(alloc, &mut world, shelf, listener, count);
+    Ok(world)
 }

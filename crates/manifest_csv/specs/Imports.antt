@@ -51,6 +51,10 @@ IsWritten requests replies sent text before after (Err (Unread fault)) = ⊥
 abbrev pub IsWhyUnread : Option (List ℕ) → ReadFault → Type 0
 IsWhyUnread text fault = (fault ≡ Read) ⊎ (fault ≡ Memory) ⊎ IfSome text (λ t. MeetsFirst t fault)
 
+-- what holds of each text whose list these requests are, and of a text that nobody knows
+abbrev pub IsListOf : List Request → (Option (List ℕ) → Type 0) → Type 0
+IsListOf requests of = (text : Option (List ℕ)) → IfSome text (λ t. IsList t requests) → of text
+
 module _ {S : Type 0} (g : Ghosts S) where
   -- The first of the requests were carried out, one after the other, with a shelf that had failed so often before and after, and their lines were written.
   pub record IsReported (requests : List Request) (old new : Seen S) (failed fails : ℕ) (before after : Option (List ℕ)) (r : Result (Unit {0}) ImportFault) : Type 0 where

@@ -1,7 +1,7 @@
 //! A request list, carried out by a world, and the report of it.
 ghost use Rattle.std.specs.Prelude.{◌≡◌, ◌≤◌, length};
 ghost use Rattle.std.specs.String.{string_capacity};
-ghost use Rattle.manifest_csv.specs.Imports.{IsEndOf, IsReported, Imports};
+ghost use Rattle.manifest_csv.specs.Imports.{IsEndOf, IsListOf, IsReported, Imports};
 ghost use Rattle.manifest_csv.specs.Progress.{AreTold, IsTold};
 
 use crate::progress::Teller;
@@ -90,7 +90,32 @@ fn report_each<S: Alter + Drop, H: Shelf<S>, W: Write, T: Teller>(
     Ok(())
 }
 
-/// Carries out the request list of a reader and writes the report of it. The shelf gives the stores of the packages that a request makes. The whole list is read before anything is carried out, and room for the longest line is there before the first is written. A refusal is reported, and the import goes on. The teller is told of each request whose line was written.
+/// Carries out the requests of a list that was read, and writes the report of it. The shelf gives the stores of the packages that a request makes. Room for the longest line is there before the first is written. A refusal is reported, and the import goes on. The teller is told of each request whose line was written.
+///
+/// # Errors
+///
+/// Want of memory for a line, as if the list had not been read; a request that want of memory or a store stopped; or a writer that failed.
+pub fn carry_out<S: Alter + Drop, H: Shelf<S>, W: Write, T: Teller>(
+    alloc: Global,
+    world: &mut World<S>,
+    shelf: &mut H,
+    requests: &[Request],
+    writer: &mut W,
+    teller: &mut T,
+) -> Result<(), ImportFault>
+    ensures imported { IsListOf requests.now (λ text. Imports S.Store text world.old world.new
+        (H.failures_of shelf.old) (H.failures_of shelf.new)
+        writer.old writer.new (W.contents writer.old) (W.contents writer.new) result) }
+    ensures told { IsListOf requests.now (λ text. IsTold text (T.told teller.old) (T.told teller.new) result) }
+{
+    let Ok(mut buffer) = line_buffer(alloc) else {
+        return Err(ImportFault::Unread(ReadFault::Memory));
+    };
+    send(writer, header_line().as_bytes())?;
+    report_each(alloc, world, requests, shelf, &mut buffer, writer, teller)
+}
+
+/// Carries out the request list of a reader and writes the report of it, as `carry_out` does. The whole list is read before anything is carried out.
 ///
 /// # Errors
 ///
@@ -109,17 +134,5 @@ pub fn import<S: Alter + Drop, H: Shelf<S>, R: Read + Drop, W: Write, T: Teller>
     ensures told { IsTold (R.remaining reader) (T.told teller.old) (T.told teller.new) result }
 {
     let requests = read_requests(alloc, reader)?;
-    let Ok(mut buffer) = line_buffer(alloc) else {
-        return Err(ImportFault::Unread(ReadFault::Memory));
-    };
-    send(writer, header_line().as_bytes())?;
-    report_each(
-        alloc,
-        world,
-        requests.as_slice(),
-        shelf,
-        &mut buffer,
-        writer,
-        teller,
-    )
+    carry_out(alloc, world, shelf, requests.as_slice(), writer, teller)
 }

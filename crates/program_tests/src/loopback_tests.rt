@@ -7,7 +7,7 @@ use crate::texts::{
     list_text, sent_text,
 };
 use crate::worlds::{passes, world_of};
-use cli::serving::{rehearse_and_serve, served};
+use cli::serving::{LeftWorld, rehearse_and_serve, served};
 use command_words::arguments::{DeskWords, Words, read_rehearsal};
 use command_words::statuses::Outcome;
 use desk_serving::connections::serve_each;
@@ -115,16 +115,22 @@ fn three_connections(rt: HostRuntime) -> Result<(), Fail> {
     Ok(())
 }
 
-// How many tiles the archive of a world holds that was served, or how it ended before.
-fn left<S: Alter + Drop>(
-    alloc: Global,
-    left: Result<World<S>, Outcome>,
-) -> Result<String, AllocError> {
+fn tiles<S: Alter + Drop>(alloc: Global, world: &World<S>) -> Result<String, AllocError> {
+    match world.sums(package(A)) {
+        Some(sums) => format!(in alloc; "{} tiles", sums.tiles),
+        None => String::from_str(alloc, "no archive"),
+    }
+}
+
+// How many tiles the archive of a world holds that was served, and where its stores are; or how it ended before.
+fn left(alloc: Global, left: Result<LeftWorld, Outcome>) -> Result<String, AllocError> {
     match left {
-        Ok(world) => match world.sums(package(A)) {
-            Some(sums) => format!(in alloc; "{} tiles", sums.tiles),
-            None => String::from_str(alloc, "no archive"),
-        },
+        Ok(LeftWorld::Arrays(world)) => tiles(alloc, &world),
+        Ok(LeftWorld::Files(world)) => {
+            let mut text = tiles(alloc, &world)?;
+            text.push_str(" in files")?;
+            Ok(text)
+        }
         Err(outcome) => end_text(alloc, &End::Of(outcome)),
     }
 }
@@ -188,6 +194,26 @@ fn the_world_of_a_list_is_served(rt: HostRuntime) -> Result<(), Fail> {
     let streams = clients(&rt, port, OF_A_LIST.as_slice())?;
     let done = served_list(alloc, &listener, List::One, 3, PRINTED);
     checked.told(done, "2 tiles");
+    check_answers(alloc, streams, &mut checked);
+    assert_eq!(rt; checked.wrong(), "");
+    Ok(())
+}
+
+const PACKAGES: [Client; 1] = [Client(
+    Sent::Bytes("GET /packages HTTP/1.1\r\n\r\n"),
+    Wrote::Ends("HTTP/1.1 200 OK\r\n", PACKAGES_OF_ONE),
+)];
+
+// A world that is asked for more has its stores in files.
+#[test]
+fn the_world_of_a_long_list_is_served(rt: HostRuntime) -> Result<(), Fail> {
+    let alloc = rt.alloc();
+    let mut checked = Checked::new(alloc);
+    let listener = listen(&rt, 0)?;
+    let port = listener.local_addr()?.port();
+    let streams = clients(&rt, port, PACKAGES.as_slice())?;
+    let done = served_list(alloc, &listener, List::Often, 1, PRINTED);
+    checked.told(done, "1 tiles in files");
     check_answers(alloc, streams, &mut checked);
     assert_eq!(rt; checked.wrong(), "");
     Ok(())

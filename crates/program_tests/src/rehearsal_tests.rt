@@ -1,14 +1,15 @@
 // A rehearsal whose output was written out by hand, over writers that fail; the digest is Python's `hashlib`. What
 // rehearsals print is in the sessions of `workbench`.
 use crate::endings::{End, end_text};
-use crate::streams::{Wrote, judged_paper, paper};
-use crate::texts::{List, list_text};
+use crate::streams::{WHOLE, Wrote, judged_paper, paper};
+use crate::texts::{List, REPORT_OF_ONE, list_text};
 use crate::worlds::passes;
 use cli::rehearse::rehearse;
 use command_words::arguments::Words;
 use manifest_csv::progress::Silent;
 use package_tables::fault::Fault;
 use std::alloc::Global;
+use test_lists::MANIFEST_OF_THE_FIRST;
 use test_values::Checked;
 
 const GOOD: Words<'static> = Words {
@@ -37,6 +38,29 @@ fn wrong(alloc: Global) -> Result<String, Fault> {
     }
     checked.told(rehearsed(alloc, text.as_str(), 300), "0 ||");
     Ok(String::from_str(alloc, checked.wrong())?)
+}
+
+// The report begins with the first line of the list, and the manifest of the tile ends what is written.
+fn repeated(alloc: Global) -> Result<String, Fault> {
+    let text = list_text(alloc, List::Often)?;
+    let mut out = paper(alloc, WHOLE)?;
+    let outcome = rehearse(alloc, &GOOD, text.as_str().as_bytes(), &mut out, &mut Silent);
+    let ended = end_text(alloc, &End::Of(outcome))?;
+    judged_paper(
+        alloc,
+        ended,
+        &out,
+        Wrote::Ends(REPORT_OF_ONE, MANIFEST_OF_THE_FIRST),
+    )
+}
+
+// A list that is long is carried out over stores in files.
+#[test]
+fn a_long_list(rt: HostRuntime) {
+    let alloc = rt.alloc();
+    let mut checked = Checked::new(alloc);
+    checked.told(repeated(alloc), "0 ||");
+    assert_eq!(rt; checked.wrong(), "");
 }
 
 // A writer with every smaller room fails: in the report, in the package's line, in the manifest.

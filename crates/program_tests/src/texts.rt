@@ -28,6 +28,8 @@ pub(crate) enum List {
     Lends,
     // One tile of 1,048,576 bytes 0xa5.
     Greatest,
+    // The first tile, asked for 4,097 times.
+    Often,
     // Good records, and behind them one of seventeen fields, or one that names no command.
     Seventeen,
     NoRequest,
@@ -45,12 +47,21 @@ fn greatest(alloc: Global) -> Result<String, AllocError> {
     Ok(text)
 }
 
+// More than a world in the engine's arrays is asked for.
+fn often(alloc: Global) -> Result<String, AllocError> {
+    let mut text = list(alloc, &[FIRST_TILE])?;
+    let again = format!(in alloc; "{FIRST_TILE}\n")?;
+    text.push_str(again.as_str().repeat(alloc, 4_096)?.as_str())?;
+    Ok(text)
+}
+
 pub(crate) fn list_text(alloc: Global, which: List) -> Result<String, AllocError> {
     match which {
         List::One => list(alloc, &[FIRST_TILE]),
         List::Two => list(alloc, &[FIRST_TILE, SECOND_BESIDE]),
         List::Lends => list(alloc, &[TILE_TO_LEND, SPLIT, STALE, HOME]),
         List::Greatest => greatest(alloc),
+        List::Often => often(alloc),
         List::Seventeen => list(alloc, &[FIRST_TILE, SEVENTEEN]),
         List::NoRequest => list(alloc, &[FIRST_TILE, SECOND_BESIDE, NO_REQUEST]),
         List::Empty => Ok(String::new(alloc)),

@@ -1,16 +1,16 @@
--- Done where a world was handed on, and else how it ended.
-use Rattle.std.proofs.Common.{sym, subst}
+-- The list is read, and then carried out.
+use Rattle.std.proofs.Common.{sym, subst, IfSome}
+use Rattle.request_csv.specs.RequestLists.{IsList}
 use Rattle.sheet_types.specs.World.{new_world}
 use Rattle.cli.specs.Rehearsals.{Rehearses}
-use Rattle.cli.proofs.rehearse.carried_out.Goals.{in-Ok, in-Err}
+use Rattle.cli.proofs.Rehearsing.{unread}
 use Rattle.cli.proofs.rehearse.carried_out.Goals as goal
 
-pub returns : goal.returns
-returns g c = elim c.match-handed_on.branch [
-  | in-Ok w ↦
-      subst (Rehearses (new_world c.args.rehearsal.now.archive c.args.rehearsal.now.frame) (g.R.Read.remaining c.args.reader) c.args.writer.now c.handed_on.new.writer (g.W.Write.contents c.args.writer.now) (g.W.Write.contents c.handed_on.new.writer)) (sym w.result-is)
-      w.in-Ok.ensures.0
-  | in-Err w ↦
-      subst (Rehearses (new_world c.args.rehearsal.now.archive c.args.rehearsal.now.frame) (g.R.Read.remaining c.args.reader) c.args.writer.now c.handed_on.new.writer (g.W.Write.contents c.args.writer.now) (g.W.Write.contents c.handed_on.new.writer)) (sym w.result-is)
-      w.in-Err.ensures.1
-]
+pub returns-in-Ok : goal.returns-in-Ok
+returns-in-Ok g c =
+    c.over_either.ensures (g.R.Read.remaining c.args.reader) (subst (λ qs. IfSome (g.R.Read.remaining c.args.reader) (λ t. IsList t qs)) (sym c.as_slice.ensures.value) c.in-Ok.ensures.list)
+
+pub returns-in-Err : goal.returns-in-Err
+returns-in-Err g c =
+    subst (Rehearses (new_world c.args.rehearsal.now.archive c.args.rehearsal.now.frame) (g.R.Read.remaining c.args.reader) c.args.writer.now c.args.writer.now (g.W.Write.contents c.args.writer.now) (g.W.Write.contents c.args.writer.now)) (sym c.end_of_import.ensures)
+    (unread (new_world c.args.rehearsal.now.archive c.args.rehearsal.now.frame) (g.R.Read.remaining c.args.reader) c.args.writer.now (g.W.Write.contents c.args.writer.now) c.in-Err.fault c.in-Err.ensures.fault)
