@@ -7,7 +7,7 @@ use Rattle.sqlite.specs.Store.{Ghosts}
 use Rattle.sheet_types.specs.World.{World, new_world}
 use Rattle.sheet_types.specs.declared.frame.Frame.{Frame}
 use Rattle.world.specs.Worlds.{Seen}
-use Rattle.desk_serving.specs.Connections.{IsServedBy}
+use Rattle.desk_http.specs.Connections.{IsServedBy}
 use Rattle.command_words.specs.Arguments.{Asks, AsksDesk, IsNumber, IsFirstUnserved}
 use Rattle.cli.specs.Servings.{HandsOn, RehearsesAndServes}
 use Rattle.command_words.specs.declared.statuses.Outcome.{Outcome}

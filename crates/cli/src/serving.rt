@@ -12,8 +12,8 @@ ghost use Rattle.command_words.specs.declared.statuses.Outcome.TheVariants.{Refu
 use crate::rehearse::{FEW, end_of_import, handed_on};
 use command_words::arguments::{DeskWords, Rehearsal, Words, read_serving};
 use command_words::statuses::{Failure, Outcome};
-use desk_serving::connections::serve_each;
-use desk_serving::listening::listen;
+use desk_http::connections::serve_each;
+use desk_http::listening::listen;
 use manifest_csv::importing::ImportFault;
 use manifest_csv::progress::Teller;
 use memory_files::MemoryFile;

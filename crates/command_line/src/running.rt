@@ -10,15 +10,15 @@ use commands::applying::apply;
 use commands::importing::import;
 use commands::init::init;
 use commands::serving::serve;
-use drawing::endings as drawn;
-use drawing::maps::map;
-use exporting::exporting::export;
+use views::map_endings as drawn;
+use views::maps::map;
+use views::exporting::export;
 use folder_worlds::endings::{
     Ending, FAILED, NO_MEMORY, busy_package, error_of, output_of, status_of,
 };
 use program_words::words::sheetdesk;
-use reporting::auditing::audit;
-use reporting::manifest::manifest;
+use views::auditing::audit;
+use views::manifest::manifest;
 use std::convert::AsStr;
 use std::io;
 use std::io::{IsTerminal, Read};

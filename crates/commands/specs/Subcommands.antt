@@ -8,7 +8,7 @@ use Rattle.request_json.specs.Requests.{IsRequestText}
 use Rattle.world.specs.Worlds.{IsStep, LeavesNoTrace, Seen, StandsStill}
 use Rattle.manifest_csv.specs.Imports.{Imports}
 use Rattle.manifest_csv.specs.declared.importing.ImportFault.{ImportFault}
-use Rattle.desk_serving.specs.Connections.{IsServedBy}
+use Rattle.desk_http.specs.Connections.{IsServedBy}
 use Rattle.command_words.specs.Endings.{import_outcome}
 use Rattle.command_words.specs.declared.statuses.Failure.{Failure}
 use Rattle.command_words.specs.declared.statuses.Outcome.TheVariants.{Refused, Stopped}

@@ -8,8 +8,8 @@ ghost use Rattle.folder_worlds.specs.declared.endings.Ending.TheVariants.{Usual}
 
 use command_words::arguments::{Desk, DeskWords, read_desk};
 use command_words::statuses::{Outcome, What};
-use desk_serving::connections::serve_each;
-use desk_serving::listening::listen;
+use desk_http::connections::serve_each;
+use desk_http::listening::listen;
 use folder::opening::close_stores;
 use folder::shelf::FolderShelf;
 use folder::start::FolderStore;

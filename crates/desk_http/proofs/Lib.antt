@@ -1,3 +1,4 @@
 mod AnswerFacts
 mod DueFacts
 mod ListingFacts
+mod ServedBy

@@ -1,2 +1,3 @@
+pub mod Connections
 pub mod Listing
 pub mod Served

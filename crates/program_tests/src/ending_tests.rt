@@ -2,7 +2,7 @@
 use crate::endings::{End, end_text};
 use crate::worlds::passes;
 use command_words::statuses::{Failure, Outcome, What};
-use drawing::endings::MapEnding;
+use views::map_endings::MapEnding;
 use folder::fault::FolderFault;
 use folder_worlds::endings::{DONE, Ending, FAILED, NO_MEMORY, OpenFault};
 use opening::faults::RecoverFault;

@@ -1,7 +1,7 @@
 // Endings of the subcommands as texts: the status, what goes to standard output and to standard error, and the
 // package whose file is busy.
 use command_words::statuses::{self, Outcome};
-use drawing::endings::{self as of_maps, MapEnding};
+use views::map_endings::{self as of_maps, MapEnding};
 use folder_worlds::endings::{self as of_commands, Ending};
 use std::alloc::{AllocError, Global};
 use test_values::number_of;

@@ -1,1 +1,9 @@
+mod Beginnings
+mod Exported
+mod Gathered
+mod Printed
+mod Rows
+mod Systems
 pub mod ToldTexts
+mod Untouched
+mod ZoomWords

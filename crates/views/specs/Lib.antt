@@ -1,3 +1,10 @@
 pub mod Endings
+pub mod ExportEndings
+pub mod Folders
+pub mod MapEndings
+pub mod Printed
+pub mod Reports
 pub mod Showing
 pub mod Views
+pub mod Written
+pub mod Zooms

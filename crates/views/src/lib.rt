@@ -1,8 +1,18 @@
-//! What the program `sheetdesk` shows of a folder of packages to people who look: three subcommands that read and never write.
+//! What the program `sheetdesk` shows of a folder of packages: subcommands that read and never write. Tables, receipts and ways for people
+//! who look; a manifest and an audit; a package as SQL; a drawing of who holds which sheets.
 #![tactic(auto)]
 
+pub mod auditing;
 pub mod endings;
 pub mod explaining;
+pub mod exporting;
+mod gathering;
+pub mod manifest;
+pub mod map_endings;
+pub mod maps;
+pub mod printing;
 pub mod receipts;
 mod showing;
 pub mod status;
+pub mod writing;
+pub mod zooms;

@@ -1,0 +1,85 @@
+-- What one connection makes of a world, and one after another.
+use Rattle.std.specs.Prelude.{◌≤◌, ℕ}
+use Rattle.std.proofs.Common.{◌≡◌, ◌⊎◌, ◌+◌, List, [], ◌∷◌, ◌++◌, length, Option, Result, Ok, Err, refl, sym, subst, inl, inr, arith, length-append}
+use Rattle.sqlite.specs.Store.{Ghosts}
+use Rattle.sheet_types.specs.Step.{Step}
+use Rattle.sheet_types.specs.World.{World}
+use Rattle.sheet_types.specs.declared.command.Request.{Request}
+use Rattle.sheet_types.specs.declared.receipt.Receipt.{Receipt}
+use Rattle.sheet_types.specs.declared.refusal.Refusal.{Refusal}
+use Rattle.carrying.specs.Leaving.{AreClean}
+use Rattle.world.specs.Worlds.{IsRead, RunsOverRegisters, Seen}
+use Rattle.carrying.proofs.HeldStores.{left_clean, right_clean}
+use Rattle.desk_calls.specs.declared.calls.Call.TheVariants as call
+use Rattle.desk_http.specs.Served.{Applies, IsDue, Serving, Tells}
+use Rattle.desk_http.specs.declared.serving.Served.{Served}
+use Rattle.desk_http.specs.declared.serving.Served.TheVariants.{Nothing, Answered}
+use Rattle.desk_http.specs.declared.serving.ServeFault.{ServeFault}
+use Rattle.desk_http.specs.declared.serving.ServeFault.TheVariants.{Read, Write}
+use Rattle.desk_http.specs.Connections.{IsServedBy}
+
+-- a run over registers, and another behind it
+runs_then : (w mid next : World) (qs more : List Request) (replies others : List (Result Receipt Refusal)) → RunsOverRegisters w qs replies mid → RunsOverRegisters mid more others next
+    → RunsOverRegisters w (qs ++ more) (replies ++ others) next
+runs_then w mid next [] more [] others ran goes = subst (λ v. RunsOverRegisters v more others next) ran.0 goes
+runs_then w mid next [] more (r ∷ replies) others ran goes = absurd ran
+runs_then w mid next (q ∷ qs) more [] others ran goes = absurd ran
+runs_then w mid next (q ∷ qs) more (r ∷ replies) others ran goes = (ran.0, (ran.1.0, ran.1.1, runs_then ran.1.0 mid next qs more replies others ran.1.2 goes))
+
+module _ {S : Type 0} (g : Ghosts S) where
+  -- nothing was asked yet
+  pub served_none : (seen : Seen S) → IsServedBy g 0 seen seen
+  served_none seen = record { requests = []; few = omega arith; replies = []; gone = []; clean = λ clean gone. clean; run = λ clean gone w stands. (w, (refl, stands.members.register), stands) }
+
+  -- the same, where the world was only read
+  read_by : (old new : Seen S) → IsRead g old new → IsServedBy g 1 old new
+  read_by old new read = record { requests = []; few = omega arith; replies = []; gone = []; clean = λ clean gone. read.clean clean; run = λ clean gone w stands. (w, (refl, stands.members.register), read.stands w stands) }
+
+  pub same_by : (old new : Seen S) → new ≡ old → IsServedBy g 1 old new
+  same_by old new same = subst (λ seen. IsServedBy g 1 old seen) (sym same) (record { requests = []; few = omega arith; replies = []; gone = []; clean = λ clean gone. clean; run = λ clean gone w stands. (w, (refl, stands.members.register), stands) })
+
+  told_by : (old new : Seen S) → (new ≡ old) ⊎ IsRead g old new → IsServedBy g 1 old new
+  told_by old new (inl same) = same_by old new same
+  told_by old new (inr read) = read_by old new read
+
+  -- a request
+  applied_by : (q : Request) (old new : Seen S) (reply : Result Receipt Refusal) (before after : ℕ) → Applies g q old reply new before after → IsServedBy g 1 old new
+  applied_by q old new reply before after applies = record {
+    requests = q ∷ [];
+    few = omega arith;
+    replies = reply ∷ [];
+    gone = applies.step.gone;
+    clean = applies.step.clean;
+    run = λ clean gone w stands.
+        let is = applies.step.step clean gone w stands in
+        (is.0, (stands.members.register, (is.0, is.1, (refl, applies.step.register is.0 is.2))), is.2);
+  }
+
+  due_by : (text : Option (List ℕ)) (old new : Seen S) (out : List ℕ) (before after : ℕ) → IsDue g text old out new before after → IsServedBy g 1 old new
+  due_by known old new out before after (inl (call.Refused flaw, is, (same, text))) = same_by old new same
+  due_by known old new out before after (inl (call.Apply q, is, (reply, applies, text))) = applied_by q old new reply before after applies
+  due_by known old new out before after (inl (call.Packages, is, tells)) = told_by old new tells.read
+  due_by known old new out before after (inl (call.Manifest id, is, tells)) = told_by old new tells.read
+  due_by known old new out before after (inl (call.Receipt id, is, tells)) = told_by old new tells.read
+  due_by known old new out before after (inr (some, text, same)) = same_by old new same
+
+  -- what came of one connection, whether its bytes are known or not
+  pub served_by : (text : Option (List ℕ)) (old new : Seen S) (before after : ℕ) (held holds : Option (List ℕ)) (r : Result Served ServeFault) → Serving g text old new before after held holds r → IsServedBy g 1 old new
+  served_by known old new before after held holds (Ok Nothing) (none, same) = same_by old new same
+  served_by known old new before after held holds (Ok Answered) (out, due, sent) = due_by known old new out before after due
+  served_by known old new before after held holds (Err Read) same = same_by old new same
+  served_by known old new before after held holds (Err Write) (out, due, sent) = due_by known old new out before after due
+
+  -- some connections, and others behind them
+  pub served_then : (m n : ℕ) (old mid new : Seen S) → IsServedBy g m old mid → IsServedBy g n mid new → IsServedBy g (m + n) old new
+  served_then m n old mid new first next = record {
+    requests = first.requests ++ next.requests;
+    few = let both = length-append first.requests next.requests in omega (arith, both, first.few, next.few);
+    replies = first.replies ++ next.replies;
+    gone = first.gone ++ next.gone;
+    clean = λ clean gone. first.clean (next.clean clean (right_clean g first.gone next.gone gone)) (left_clean g first.gone next.gone gone);
+    run = λ clean gone w stands.
+        let was = first.run (next.clean clean (right_clean g first.gone next.gone gone)) (left_clean g first.gone next.gone gone) w stands in
+        let is = next.run clean (right_clean g first.gone next.gone gone) was.0 was.2 in
+        (is.0, runs_then w was.0 is.0 first.requests next.requests first.replies next.replies was.1 is.1, is.2);
+  }

@@ -1,6 +1,0 @@
--- The connections so far.
-use Rattle.desk_serving.specs.Connections.{IsServedBy}
-use Rattle.desk_serving.proofs.connections.serve_each.Given as goal
-
-abbrev pub invariant-connections : goal.invariant-connections
-invariant-connections g l = IsServedBy g.S.Store l.turn l.initial.world l.world

@@ -1,7 +1,0 @@
--- Where no connection came, nothing has changed.
-use Rattle.std.proofs.Common.{refl}
-use Rattle.desk_serving.proofs.ServedBy.{same_by}
-use Rattle.desk_serving.proofs.connections.serve_next.Goals as goal
-
-pub returns-in-Err : goal.returns-in-Err
-returns-in-Err g c = same_by g.S.Store c.args.world.now c.args.world.now refl

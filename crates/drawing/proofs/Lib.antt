@@ -1,4 +1,0 @@
-mod Untouched
-mod Gathered
-mod Printed
-mod ZoomWords

@@ -1,4 +1,0 @@
-pub mod Zooms
-pub mod Printed
-pub mod Endings
-pub mod Folders

@@ -1,4 +1,0 @@
-mod Beginnings
-mod Exported
-mod Rows
-mod Systems

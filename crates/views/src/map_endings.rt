@@ -1,0 +1,58 @@
+//! How a call that prints a map ends: its exit status, and the lines that it prints before.
+ghost use Rattle.std.specs.Prelude.{◌≡◌};
+ghost use Rattle.views.specs.MapEndings.{busy_package, ending_status, error_text, output_text};
+
+use folder_worlds::endings::{
+    Ending as CommandEnding, busy_package as usual_package, error_of as usual_error,
+    output_of as usual_output, status_of as usual_status,
+};
+use uuid::Uuid;
+
+/// The end of a call that prints a map.
+#[derive(Clone, Copy, Debug, PartialEq, Eq)]
+pub enum MapEnding {
+    /// As the other subcommands end too: the map is printed, the word of the zoom is no number, or memory, a store, the folder or the writer gave out.
+    Usual(CommandEnding),
+    /// The frame has no such zoom.
+    NoSuchZoom,
+}
+
+/// The exit status: 0 done, 1 refused, 3 stopped.
+pub fn status_of(ending: MapEnding) -> u8
+    ensures { result ≡ ending_status ending }
+{
+    match ending {
+        MapEnding::Usual(ending) => usual_status(ending),
+        MapEnding::NoSuchZoom => 1,
+    }
+}
+
+/// What goes to standard output at the end, behind what was printed before: a line, or nothing.
+pub fn output_of(ending: MapEnding) -> &'static str
+    ensures { result.now ≡ output_text ending }
+{
+    match ending {
+        MapEnding::Usual(ending) => usual_output(ending),
+        MapEnding::NoSuchZoom => "refused: zoom\n",
+    }
+}
+
+/// What goes to standard error at the end: a line, or nothing.
+pub fn error_of(ending: MapEnding) -> &'static str
+    ensures { result.now ≡ error_text ending }
+{
+    match ending {
+        MapEnding::Usual(ending) => usual_error(ending),
+        MapEnding::NoSuchZoom => "",
+    }
+}
+
+/// The package whose file another process may hold, where that is why the program ended. Standard error is told so in a line of its own.
+pub fn busy_package(ending: MapEnding) -> Option<Uuid>
+    ensures { result ≡ busy_package ending }
+{
+    match ending {
+        MapEnding::Usual(ending) => usual_package(ending),
+        MapEnding::NoSuchZoom => None,
+    }
+}
