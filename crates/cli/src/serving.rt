@@ -92,7 +92,13 @@ pub fn served<R: Read + Drop, W: Write, T: Teller>(
 {
     match read_requests(alloc, reader) {
         Ok(requests) => served_by_either(
-            alloc, rehearsal, listener, count, requests.as_slice(), writer, teller,
+            alloc,
+            rehearsal,
+            listener,
+            count,
+            requests.as_slice(),
+            writer,
+            teller,
         ),
         Err(fault) => Err(end_of_import(ImportFault::Unread(fault))),
     }

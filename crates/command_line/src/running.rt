@@ -10,23 +10,22 @@ use commands::applying::apply;
 use commands::importing::import;
 use commands::init::init;
 use commands::serving::serve;
-use views::map_endings as drawn;
-use views::maps::map;
-use views::exporting::export;
 use folder_worlds::endings::{
     Ending, FAILED, NO_MEMORY, busy_package, error_of, output_of, status_of,
 };
 use program_words::words::sheetdesk;
-use views::auditing::audit;
-use views::manifest::manifest;
 use std::convert::AsStr;
 use std::io;
 use std::io::{IsTerminal, Read};
 use uuid::Uuid;
-use views::endings as seen;
+use views::auditing::audit;
 use views::explaining::explain;
+use views::exporting::export;
+use views::manifest::manifest;
+use views::maps::map;
 use views::receipts::receipt;
 use views::status::status;
+use views::{endings as seen, map_endings as drawn};
 
 /// Prints a text on standard error. Where that fails too, the status alone says how the program ended.
 fn print_error(rt: &HostRuntime, text: &str) {

@@ -1,8 +1,8 @@
 //! Connections served one after the other.
 ghost use Rattle.desk_http.specs.Connections.{IsServedBy};
 
-use desk_calls::source::Outer;
 use crate::serving::{Served, serve_one};
+use desk_calls::source::Outer;
 use shelves::shelf::Shelf;
 use sqlite::Alter;
 use std::alloc::Global;

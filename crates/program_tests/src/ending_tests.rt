@@ -2,7 +2,6 @@
 use crate::endings::{End, end_text};
 use crate::worlds::passes;
 use command_words::statuses::{Failure, Outcome, What};
-use views::map_endings::MapEnding;
 use folder::fault::FolderFault;
 use folder_worlds::endings::{DONE, Ending, FAILED, NO_MEMORY, OpenFault};
 use opening::faults::RecoverFault;
@@ -11,6 +10,7 @@ use std::alloc::Global;
 use test_values::Checked;
 use uuid::Uuid;
 use views::endings::Ending as ViewEnding;
+use views::map_endings::MapEnding;
 
 fn wrong(alloc: Global, cases: &[(End, &str)]) -> Result<String, Fault> {
     let mut checked = Checked::new(alloc);

@@ -1,12 +1,12 @@
 // Endings of the subcommands as texts: the status, what goes to standard output and to standard error, and the
 // package whose file is busy.
 use command_words::statuses::{self, Outcome};
-use views::map_endings::{self as of_maps, MapEnding};
 use folder_worlds::endings::{self as of_commands, Ending};
 use std::alloc::{AllocError, Global};
 use test_values::number_of;
 use uuid::Uuid;
 use views::endings::{self as of_views, Ending as ViewEnding};
+use views::map_endings::{self as of_maps, MapEnding};
 
 // How a rehearsal, a command, a map or a view ended.
 #[derive(Clone, Copy)]

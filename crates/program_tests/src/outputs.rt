@@ -5,8 +5,6 @@ use crate::texts::{List, Sent, list_text, sent_text};
 use commands::applying::apply_in;
 use desk_calls::source::Outer;
 use desk_http::serving::{ServeFault, Served, serve_one};
-use views::maps::map_in;
-use views::exporting::export_in;
 use manifest_csv::importing::{ImportFault, import};
 use manifest_csv::package_manifests::{ManifestFault, write_manifest};
 use package_tables::fault::Fault;
@@ -16,6 +14,8 @@ use sqlite::Alter;
 use std::alloc::{AllocError, Global};
 use test_lists::Narrow;
 use test_worlds::{asked, package};
+use views::exporting::export_in;
+use views::maps::map_in;
 use views::receipts::receipt_in;
 use world::world::World;
 

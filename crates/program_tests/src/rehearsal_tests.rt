@@ -44,7 +44,13 @@ fn wrong(alloc: Global) -> Result<String, Fault> {
 fn repeated(alloc: Global) -> Result<String, Fault> {
     let text = list_text(alloc, List::Often)?;
     let mut out = paper(alloc, WHOLE)?;
-    let outcome = rehearse(alloc, &GOOD, text.as_str().as_bytes(), &mut out, &mut Silent);
+    let outcome = rehearse(
+        alloc,
+        &GOOD,
+        text.as_str().as_bytes(),
+        &mut out,
+        &mut Silent,
+    );
     let ended = end_text(alloc, &End::Of(outcome))?;
     judged_paper(
         alloc,
