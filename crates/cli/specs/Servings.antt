@@ -1,5 +1,7 @@
 -- What a rehearsal leaves whose world is then served to connections. Profile.
 use Rattle.std.specs.Prelude.{◌≡◌, ◌≢◌, ◌≤◌, ℕ, List, length, Option, Result, Ok, Err}
+use Rattle.sqlite.specs.Files.{over_files}
+use Rattle.sqlite.specs.Steps.{over_memory}
 use Rattle.sqlite.specs.Store.{Ghosts}
 use Rattle.sheet_types.specs.World.{World}
 use Rattle.sheet_types.specs.declared.command.Request.{Request}
@@ -7,6 +9,8 @@ use Rattle.sheet_types.specs.declared.receipt.Receipt.{Receipt}
 use Rattle.sheet_types.specs.declared.refusal.Refusal.{Refusal}
 use Rattle.world.specs.Worlds.{RunsOverRegisters, Seen, StandsFor}
 use Rattle.cli.specs.Rehearsals.{Rehearses}
+use Rattle.cli.specs.declared.serving.LeftWorld.{LeftWorld}
+use Rattle.cli.specs.declared.serving.LeftWorld.TheVariants.{Arrays, Files}
 use Rattle.command_words.specs.declared.statuses.Outcome.{Outcome}
 use Rattle.command_words.specs.declared.statuses.Outcome.TheVariants.{Done}
 
