@@ -2,9 +2,10 @@
 use Rattle.std.proofs.Common.{◌≡◌, ◌≢◌, ◌∙◌, refl, sym, subst, ℕ, List, Option, IfSome, Result, Ok, Err, MatchResult, inl, inr, take, length, slice_index_or}
 use Rattle.std.specs.Io.KnownBytes.{Appends}
 use Rattle.std.proofs.KnownBytes.{Appends-trans}
-use Rattle.sqlite.specs.Held.{Held, state}
-use Rattle.sqlite.specs.State.{HasCleanDisk}
+use Rattle.sqlite.specs.Held.{Held}
+use Rattle.sqlite.specs.Steps.{over_memory}
 use Rattle.sqlite.specs.Store.{Ghosts}
+use Rattle.sqlite_trees.specs.View.{doubt}
 use Rattle.sheet_types.specs.Step.{Run}
 use Rattle.sheet_types.specs.World.{World}
 use Rattle.sheet_types.specs.declared.command.Request.{Request}
@@ -29,6 +30,11 @@ use Rattle.command_words.specs.declared.statuses.What.TheVariants.{BadUuid, BadM
 use Rattle.command_words.specs.declared.statuses.Failure.{Failure}
 use Rattle.command_words.specs.declared.statuses.Outcome.TheVariants.{Done, Stopped}
 use Rattle.command_words.proofs.FrameTexts.{frame_once, in_range}
+
+-- the engine's arrays have no disk
+pub arrays_clean : IsInMemory over_memory
+unfolding doubt
+arrays_clean h = refl
 
 -- an import that did not go through is not done
 pub never_done : (fault : ImportFault) → import_outcome fault ≢ Done

@@ -9,7 +9,8 @@ use Rattle.sheet_types.specs.declared.frame.Frame.{Frame}
 use Rattle.world.specs.Worlds.{Seen}
 use Rattle.desk_http.specs.Connections.{IsServedBy}
 use Rattle.command_words.specs.Arguments.{Asks, AsksDesk, IsNumber, IsFirstUnserved}
-use Rattle.cli.specs.Servings.{HandsOn, RehearsesAndServes}
+use Rattle.cli.specs.Servings.{HandsOn, Leaves, RehearsesAndServes}
+use Rattle.cli.specs.declared.serving.LeftWorld.{LeftWorld}
 use Rattle.command_words.specs.declared.statuses.Outcome.{Outcome}
 use Rattle.command_words.specs.declared.statuses.What.{What}
 use Rattle.command_words.specs.declared.statuses.What.TheVariants.{BadUuid, BadMoment, BadFrame, BadNumber, BadList}
@@ -39,9 +40,9 @@ one_number least most text m n small one other =
     decimal_injective m n (omega (arith, small, high)) (omega (arith, small, high')) (sym one.0 ∙ other.0)
 
 -- what the words ask for, in the words of another reading of them
-pub same_served : {S W : Type 0} (g : Ghosts S) (u v : List ℕ) (f e : Frame) (m n : ℕ) (text : Option (List ℕ)) (writer writer' : W) (before after : Option (List ℕ)) (r : Result (Seen S) Outcome)
-    → u ≡ v → f ≡ e → m ≡ n → RehearsesAndServes g (new_world v e) n text writer writer' before after r → RehearsesAndServes g (new_world u f) m text writer writer' before after r
-same_served g u v f e m n text writer writer' before after r uuid frame times it =
-    subst (λ x. RehearsesAndServes g (new_world x f) m text writer writer' before after r) (sym uuid)
-    (subst (λ y. RehearsesAndServes g (new_world v y) m text writer writer' before after r) (sym frame)
-    (subst (λ k. RehearsesAndServes g (new_world v e) k text writer writer' before after r) (sym times) it))
+pub same_served : {W : Type 0} (u v : List ℕ) (f e : Frame) (m n : ℕ) (text : Option (List ℕ)) (writer writer' : W) (before after : Option (List ℕ)) (r : Result LeftWorld Outcome)
+    → u ≡ v → f ≡ e → m ≡ n → Leaves (new_world v e) n text writer writer' before after r → Leaves (new_world u f) m text writer writer' before after r
+same_served u v f e m n text writer writer' before after r uuid frame times it =
+    subst (λ x. Leaves (new_world x f) m text writer writer' before after r) (sym uuid)
+    (subst (λ y. Leaves (new_world v y) m text writer writer' before after r) (sym frame)
+    (subst (λ k. Leaves (new_world v e) k text writer writer' before after r) (sym times) it))

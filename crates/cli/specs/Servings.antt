@@ -1,5 +1,5 @@
 -- What a rehearsal leaves whose world is then served to connections. Profile.
-use Rattle.std.specs.Prelude.{◌≡◌, ◌≢◌, ◌≤◌, ℕ, List, length, Option, Result, Ok, Err}
+use Rattle.std.specs.Prelude.{◌≢◌, ◌≤◌, ℕ, List, length, Option, Result, Ok, Err}
 use Rattle.sqlite.specs.Files.{over_files}
 use Rattle.sqlite.specs.Steps.{over_memory}
 use Rattle.sqlite.specs.Store.{Ghosts}

@@ -1,5 +1,5 @@
 -- The import, and the packages after it; the stores are in memory, and so always clean.
-use Rattle.std.proofs.Common.{◌∙◌, refl, sym, subst, slice_index_or}
+use Rattle.std.proofs.Common.{◌∙◌, sym, subst, slice_index_or}
 use Rattle.sheet_types.specs.World.{new_world}
 use Rattle.cli.specs.Rehearsals.{Rehearses}
 use Rattle.cli.proofs.Rehearsing.{never_done, import_ended, all_handed, packages_failed}

@@ -11,4 +11,4 @@ pub returns-clause-served : goal.returns-clause-served
 returns-clause-served g c = λ uuid moment frame port count asks desk.
     let same = one_asked c.args.words.now.archive.now c.args.words.now.at.now c.args.words.now.frame.now uuid moment frame asks c.in-Ok.asked.0.archive c.in-Ok.asked.0.at.now c.in-Ok.asked.0.frame c.in-Ok.ensures.ok in
     let times : count ≡ c.in-Ok.asked.1.count = one_number 1 1000000 c.args.desk.now.count.now count c.in-Ok.asked.1.count (omega arith) desk.1 c.in-Ok.ensures.desk.1 in
-    same_served _ uuid c.in-Ok.asked.0.archive frame c.in-Ok.asked.0.frame count c.in-Ok.asked.1.count (g.R.Read.remaining c.args.reader) c.args.writer.now c.served.new.writer (g.W.Write.contents c.args.writer.now) (g.W.Write.contents c.served.new.writer) c.served.result same.0 same.1 times c.served.ensures
+    same_served uuid c.in-Ok.asked.0.archive frame c.in-Ok.asked.0.frame count c.in-Ok.asked.1.count (g.R.Read.remaining c.args.reader) c.args.writer.now c.served.new.writer (g.W.Write.contents c.args.writer.now) (g.W.Write.contents c.served.new.writer) c.served.result same.0 same.1 times c.served.ensures
