@@ -29,6 +29,7 @@ use std::net::{Net, TcpListener, TcpStream};
 use world::world::World;
 
 /// The world that connections left, by where its stores are.
+#[derive(Drop)]
 pub enum LeftWorld {
     /// In the engine's arrays.
     Arrays(World<MemStore>),
