@@ -27,10 +27,24 @@ fn number<S: Alter>(conn: &mut Connection<S>) -> Result<i64, Error> {
     conn.query_row("SELECT n FROM notes", &[])?.get(0)
 }
 
+// The same, and what then stands in it.
+fn begun_in<S: Alter + Drop>(conn: &mut Connection<S>) -> Result<i64, Error>
+    requires { HasCleanDisk (state S.Store conn.old) → IsBlank no_schema (state S.Store conn.old).now }
+{
+    begin(conn)?;
+    number(conn)
+}
+
 fn begun<S: Alter + Drop, H: Shelf<S>>(shelf: &mut H) -> Result<i64, Fail> {
     let mut conn = shelf.blank(Uuid::from_u128(7))?;
-    begin(&mut conn)?;
-    Ok(number(&mut conn)?)
+    Ok(begun_in(&mut conn)?)
+}
+
+// Two stores under one UUID, each begun, and how often the shelf then has failed.
+fn begun_twice<S: Alter + Drop, H: Shelf<S>>(shelf: &mut H) -> Result<(i64, i64, u64), Fail> {
+    let first = begun(shelf)?;
+    let second = begun(shelf)?;
+    Ok((first, second, shelf.failures()))
 }
 
 fn begun_on_files<D: Disk + Drop>(alloc: Global, files: Files<D>) -> Result<i64, Error>
@@ -39,10 +53,7 @@ fn begun_on_files<D: Disk + Drop>(alloc: Global, files: Files<D>) -> Result<i64,
     requires empty { D.Disk.seen files.db ≡ [] }
 {
     match open_blank(alloc, files, Options::new(7)) {
-        Ok(mut conn) => {
-            begin(&mut conn)?;
-            number(&mut conn)
-        }
+        Ok(mut conn) => begun_in(&mut conn),
         Err((error, _)) => Err(error),
     }
 }
@@ -50,24 +61,15 @@ fn begun_on_files<D: Disk + Drop>(alloc: Global, files: Files<D>) -> Result<i64,
 #[test]
 fn a_store_in_memory_is_blank_each_time(rt: HostRuntime) -> Result<(), Fail> {
     let mut shelf = MemoryShelf::new(rt.alloc());
-    assert_eq!(rt; begun::<MemStore, MemoryShelf>(&mut shelf)?, 30);
-    assert_eq!(rt; begun::<MemStore, MemoryShelf>(&mut shelf)?, 30);
-    assert_eq!(rt; shelf.failures(), 0);
+    assert!(rt; begun_twice::<MemStore, MemoryShelf>(&mut shelf)? == (30, 30, 0));
     Ok(())
 }
 
 #[test]
 fn a_store_in_files_in_memory_is_blank_each_time(rt: HostRuntime) -> Result<(), Fail> {
     let mut shelf = MemoryFileShelf::new(rt.alloc());
-    assert_eq!(rt;
-        begun::<FileStore<MemoryFile>, MemoryFileShelf>(&mut shelf)?,
-        30
-    );
-    assert_eq!(rt;
-        begun::<FileStore<MemoryFile>, MemoryFileShelf>(&mut shelf)?,
-        30
-    );
-    assert_eq!(rt; shelf.failures(), 0);
+    let told = begun_twice::<FileStore<MemoryFile>, MemoryFileShelf>(&mut shelf)?;
+    assert!(rt; told == (30, 30, 0));
     Ok(())
 }
 

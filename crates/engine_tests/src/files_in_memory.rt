@@ -24,23 +24,36 @@ fn squares<S: Alter>(conn: &mut Connection<S>) -> Result<(), Error> {
     Ok(())
 }
 
-#[test]
-fn what_is_committed_is_read_back(rt: HostRuntime) -> Result<(), Fail> {
-    let mut conn = blank_in_files(rt.alloc(), 7)?;
-    assert_eq!(rt; number(&mut conn, "SELECT count(*) FROM sqlite_schema")?, 0);
+// How many tables there are; then the sum of the squares, a root, and how many squares there are after they were
+// deleted and came back.
+fn told_of_squares<S: Alter>(conn: &mut Connection<S>) -> Result<[i64; 4], Error> {
+    let tables = number(conn, "SELECT count(*) FROM sqlite_schema")?;
     batch(
-        &mut conn,
+        conn,
         "CREATE TABLE square (n INTEGER NOT NULL UNIQUE, root INTEGER NOT NULL UNIQUE, text TEXT NOT NULL) STRICT",
     )?;
-    squares(&mut conn)?;
+    squares(conn)?;
+    let sum = number(conn, "SELECT sum(n) FROM square")?;
+    let root = number(conn, "SELECT root FROM square WHERE n = 99856")?;
+    batch(conn, "BEGIN; DELETE FROM square; ROLLBACK")?;
+    let count = number(conn, "SELECT count(*) FROM square")?;
+    Ok([tables, sum, root, count])
+}
+
+// Over any store, so that the one that was made is let go at a type that costs no proof.
+fn told_of_made<S: Alter + Drop>(made: Result<Connection<S>, Error>) -> Result<[i64; 4], Error> {
+    let mut conn = made?;
+    told_of_squares(&mut conn)
+}
+
+#[test]
+fn what_is_committed_is_read_back(rt: HostRuntime) -> Result<(), Fail> {
+    let [tables, sum, root, count] = told_of_made(blank_in_files(rt.alloc(), 7))?;
+    assert_eq!(rt; tables, 0);
     // the sum of the first n squares is n (n + 1) (2 n + 1) / 6
-    assert_eq!(rt; number(&mut conn, "SELECT sum(n) FROM square")?, 21_413_400);
-    assert_eq!(rt;
-        number(&mut conn, "SELECT root FROM square WHERE n = 99856")?,
-        316
-    );
-    batch(&mut conn, "BEGIN; DELETE FROM square; ROLLBACK")?;
-    assert_eq!(rt; number(&mut conn, "SELECT count(*) FROM square")?, 400);
+    assert_eq!(rt; sum, 21_413_400);
+    assert_eq!(rt; root, 316);
+    assert_eq!(rt; count, 400);
     Ok(())
 }
 
