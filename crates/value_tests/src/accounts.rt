@@ -4,7 +4,7 @@ use crate::receipts::{
     ADDED, ADDITION, ARCHIVE, Entry, LENT, LOAN, MERGE, RETURNED, SPLIT, TILE, Thing, package,
     package_text, package_word, receipts, tile,
 };
-use crate::steps::{Ask, Checked, answered, said, uuid, wrong};
+use crate::steps::{Checked, answered, said, uuid};
 use ledger::accounting::account;
 use ledger::agreeing::agree;
 use ledger::entering::{are_entered, is_entered};
@@ -20,6 +20,7 @@ use ledger::soundness::is_sound;
 use sheet_types::error::OutOfMemory;
 use sheet_types::receipt::Receipt;
 use std::alloc::Global;
+use uuid::Uuid;
 
 const DELETED: &str =
     "delete a0000000-0000-4000-8000-000000000000 00000000-0000-4000-8000-000000000001";
@@ -51,18 +52,32 @@ fn entry_word(alloc: Global, entry: &LineEntry) -> Result<String, OutOfMemory> {
     }
 }
 
-impl Ask for Line {
+fn push_packages(text: &mut String, ends: &[Option<Uuid>]) -> Result<(), OutOfMemory> {
+    for end in ends {
+        text.push_str(" ")?;
+        text.push_str(package_word(*end))?;
+    }
+    Ok(())
+}
+
+impl Line {
     fn told(&self, alloc: Global) -> Result<String, OutOfMemory> {
         let Some(entry) = read_line(self.0) else {
             return said(alloc, "-");
         };
         let mut text = entry_word(alloc, &entry)?;
-        for end in [entry.source(), entry.target(), Some(entry.stands_in())] {
-            text.push_str(" ")?;
-            text.push_str(package_word(end))?;
-        }
+        let ends = [entry.source(), entry.target(), Some(entry.stands_in())];
+        push_packages(&mut text, ends.as_slice())?;
         Ok(text)
     }
+}
+
+fn wrong(alloc: Global, steps: &[(Line, &'static str)]) -> Checked {
+    let mut checked = Checked::new(alloc);
+    for step in steps {
+        checked.told(step.0.told(alloc), step.1);
+    }
+    checked
 }
 
 // What stands in each line, and the package that it comes from, goes to and stands in.
@@ -175,13 +190,10 @@ fn loans_told(alloc: Global, all: &[Receipt]) -> Result<String, OutOfMemory> {
 
 fn flow_text(alloc: Global, flow: Flow) -> Result<String, OutOfMemory> {
     let (came, left) = (flow.came, flow.left);
-    let mut text = String::new(alloc);
-    for number in [
-        came.tiles, came.links, came.bytes, left.tiles, left.links, left.bytes,
-    ] {
-        text.push_str(format!(in alloc; "{number};")?.as_str())?;
-    }
-    Ok(text)
+    Ok(format!(in alloc;
+        "{};{};{};{};{};{};",
+        came.tiles, came.links, came.bytes, left.tiles, left.links, left.bytes
+    )?)
 }
 
 fn last_told(alloc: Global, all: &[Receipt]) -> Result<String, OutOfMemory> {
@@ -351,7 +363,7 @@ const BROKEN: [Entry; 7] = [
 #[derive(Clone, Copy)]
 struct EndsIn(Entry);
 
-impl Ask for EndsIn {
+impl EndsIn {
     fn told(&self, alloc: Global) -> Result<String, OutOfMemory> {
         let all = receipts(alloc, &[ADDITION, SPLIT, self.0])?;
         ledger_told(alloc, all.as_slice(), OfLedger::Is(Part::Sound))
@@ -363,8 +375,8 @@ fn broken_ledgers(rt: HostRuntime) {
     let alloc = rt.alloc();
     let mut checked = Checked::new(alloc);
     checked.told(EndsIn(MERGE).told(alloc), "yes");
-    for last in BROKEN {
-        checked.told(EndsIn(last).told(alloc), "no");
+    for last in BROKEN.as_slice() {
+        checked.told(EndsIn(*last).told(alloc), "no");
     }
     assert_eq!(rt; checked.wrong(), "");
 }

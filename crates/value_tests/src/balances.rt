@@ -101,8 +101,8 @@ fn holds(
 fn verdicts(alloc: Global, seen: &[Sight]) -> Result<String, OutOfMemory> {
     let ledger = ledger_of(alloc, seen)?;
     let mut text = String::new(alloc);
-    for part in PARTS {
-        let answer = holds(alloc, part, ledger.as_slice(), seen)?;
+    for part in PARTS.as_slice() {
+        let answer = holds(alloc, *part, ledger.as_slice(), seen)?;
         text.push_str(signs(alloc, &[answer])?.as_str())?;
     }
     Ok(text)

@@ -1,6 +1,6 @@
 //! Requests as JSON, worked out by hand; lines as the formats state them, digests by Python's `hashlib`.
 
-use crate::steps::{Ask, Checked, said, wrong};
+use crate::steps::{Checked, said};
 use request_json::requests::read_request;
 use sheet_types::command::{Command, Request};
 use sheet_types::error::OutOfMemory;
@@ -52,7 +52,7 @@ fn size_told(alloc: Global, text: &[u8]) -> Result<String, OutOfMemory> {
     Ok(format!(in alloc; "{size}")?)
 }
 
-impl Ask for Body {
+impl Body {
     fn told(&self, alloc: Global) -> Result<String, OutOfMemory> {
         let text = match *self {
             Body::Whole(text) => said(alloc, text)?,
@@ -66,6 +66,14 @@ impl Ask for Body {
             _ => body_told(alloc, text.as_bytes()),
         }
     }
+}
+
+fn wrong(alloc: Global, steps: &[(Body, &'static str)]) -> Checked {
+    let mut checked = Checked::new(alloc);
+    for step in steps {
+        checked.told(step.0.told(alloc), step.1);
+    }
+    checked
 }
 
 const REQUESTS: [(Body, &str); 12] = [
@@ -188,7 +196,7 @@ fn deep_told(alloc: Global) -> Result<String, OutOfMemory> {
 fn texts_that_are_no_requests(rt: HostRuntime) {
     let alloc = rt.alloc();
     let mut checked = Checked::new(alloc);
-    for body in NO_REQUESTS {
+    for body in NO_REQUESTS.as_slice() {
         checked.told(body.told(alloc), "-");
     }
     checked.told(body_told(alloc, b"\xff"), "-");

@@ -1,6 +1,6 @@
 //! What the bytes of connections ask, worked out by hand.
 
-use crate::steps::{Ask, Checked, said, wrong};
+use crate::steps::{Checked, said};
 use desk_calls::calls::{Call, CallFault, Flaw};
 use desk_calls::reading::read_call;
 use desk_calls::source::{Memory, Outer, Source};
@@ -153,7 +153,7 @@ fn cut(text: &[u8], count: usize) -> &[u8] {
     &text[..text.len().min(count)]
 }
 
-impl Ask for Sent {
+impl Sent {
     fn told(&self, alloc: Global) -> Result<String, OutOfMemory> {
         let text = sent_text(alloc, *self)?;
         match *self {
@@ -174,6 +174,14 @@ impl Ask for Sent {
             _ => asked(alloc, &mut Memory(text.as_bytes())),
         }
     }
+}
+
+fn wrong(alloc: Global, steps: &[(Sent, &'static str)]) -> Checked {
+    let mut checked = Checked::new(alloc);
+    for step in steps {
+        checked.told(step.0.told(alloc), step.1);
+    }
+    checked
 }
 
 #[test]

@@ -6,7 +6,7 @@ use crate::receipts::{
     ADDED, ADDITION, ARCHIVE, Entry, LENT, LOAN, RETURNED, TILE, Thing, package, package_text,
     package_word, receipts,
 };
-use crate::steps::{Ask, answered, uuid, wrong};
+use crate::steps::{Checked, answered, uuid};
 use crate::values::{signs, text};
 use opening::altered::least_altered;
 use opening::archives::{has_no_archive, has_two_archives};
@@ -159,11 +159,19 @@ fn claims_told(alloc: Global, seen: &[Sight], asks: Asks) -> Result<String, OutO
 #[derive(Clone, Copy)]
 struct Of(&'static str, Asks);
 
-impl Ask for Of {
+impl Of {
     fn told(&self, alloc: Global) -> Result<String, OutOfMemory> {
         let seen = stores(alloc, self.0)?;
         claims_told(alloc, seen.as_slice(), self.1)
     }
+}
+
+fn wrong_claims(alloc: Global, steps: &[(Of, &'static str)]) -> Checked {
+    let mut checked = Checked::new(alloc);
+    for step in steps {
+        checked.told(step.0.told(alloc), step.1);
+    }
+    checked
 }
 
 const CLAIMS: [(Of, &str); 16] = [
@@ -187,14 +195,14 @@ const CLAIMS: [(Of, &str); 16] = [
 
 #[test]
 fn what_stores_claim(rt: HostRuntime) {
-    assert_eq!(rt; wrong(rt.alloc(), CLAIMS.as_slice()).wrong(), "");
+    assert_eq!(rt; wrong_claims(rt.alloc(), CLAIMS.as_slice()).wrong(), "");
 }
 
 // The least item that no addition says, of archives that hold a tile of these sizes.
 #[derive(Clone, Copy)]
 struct Holders(u64, u64);
 
-impl Ask for Holders {
+impl Holders {
     fn told(&self, alloc: Global) -> Result<String, OutOfMemory> {
         let ledger = receipts(alloc, &[ADDITION])?;
         let mut seen = Vec::new(alloc);
@@ -214,11 +222,19 @@ impl Ask for Holders {
     }
 }
 
+fn wrong_holders(alloc: Global, steps: &[(Holders, &'static str)]) -> Checked {
+    let mut checked = Checked::new(alloc);
+    for step in steps {
+        checked.told(step.0.told(alloc), step.1);
+    }
+    checked
+}
+
 const HOLDERS: [(Holders, &str); 2] = [(Holders(1, 1), "-"), (Holders(1, 2), "tile")];
 
 #[test]
 fn an_item_that_grew_is_altered(rt: HostRuntime) {
-    assert_eq!(rt; wrong(rt.alloc(), HOLDERS.as_slice()).wrong(), "");
+    assert_eq!(rt; wrong_holders(rt.alloc(), HOLDERS.as_slice()).wrong(), "");
 }
 
 // The receipts of the archive, of which the second lent a package with nothing in it.
@@ -299,7 +315,7 @@ fn fault_text(alloc: Global, fault: RecoverFault) -> Result<String, OutOfMemory>
 #[derive(Clone, Copy)]
 struct Judged(&'static str);
 
-impl Ask for Judged {
+impl Judged {
     fn told(&self, alloc: Global) -> Result<String, OutOfMemory> {
         let mut seen = Vec::new(alloc);
         for word in self.0.split(' ') {
@@ -310,6 +326,14 @@ impl Ask for Judged {
             Err(fault) => fault_text(alloc, fault),
         }
     }
+}
+
+fn wrong_verdicts(alloc: Global, steps: &[(Judged, &'static str)]) -> Checked {
+    let mut checked = Checked::new(alloc);
+    for step in steps {
+        checked.told(step.0.told(alloc), step.1);
+    }
+    checked
 }
 
 const JUDGED: [(Judged, &str); 10] = [
@@ -328,5 +352,5 @@ const JUDGED: [(Judged, &str); 10] = [
 
 #[test]
 fn what_stores_come_to(rt: HostRuntime) {
-    assert_eq!(rt; wrong(rt.alloc(), JUDGED.as_slice()).wrong(), "");
+    assert_eq!(rt; wrong_verdicts(rt.alloc(), JUDGED.as_slice()).wrong(), "");
 }

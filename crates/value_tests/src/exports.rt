@@ -1,6 +1,6 @@
 //! Statements that were written by hand from OGC GeoPackage 1.3 and OGC 18-000; the bytes of doubles are those of Python's `struct`.
 
-use crate::steps::{Ask, Checked, said, uuid, wrong};
+use crate::steps::{Checked, numbers_text, said, uuid};
 use crate::values::{bytes, signs, text};
 use export_sql::lines::{item_rows, link_row};
 use export_sql::literals::{Thousandths, text_literal};
@@ -102,19 +102,22 @@ fn number_told(alloc: Global, name: u8) -> Result<String, OutOfMemory> {
     Ok(format!(in alloc; "{}", number_of(&numbers, uuid(0, name)))?)
 }
 
+// One medium is counted. No function holds more than one item, or an item and a text.
+fn counted(alloc: Global) -> Result<Counts, OutOfMemory> {
+    Ok(Counts::none().counted(&item(alloc, Given::Medium(3))?.content))
+}
+
+fn count_of(alloc: Global, counts: Counts, given: Given) -> Result<i64, OutOfMemory> {
+    let count = counts.of_kind(&item(alloc, given)?.content);
+    Ok(i64::try_from(count).unwrap_or(-1))
+}
+
 fn counts_told(alloc: Global) -> Result<String, OutOfMemory> {
-    let medium = item(alloc, Given::Medium(3))?;
-    let counts = Counts::none().counted(&medium.content);
-    let mut text = String::new(alloc);
-    for given in [
-        Given::Tile(9, 1, 0, 0, "B"),
-        Given::Medium(3),
-        Given::Row(4),
-    ] {
-        let count = counts.of_kind(&item(alloc, given)?.content);
-        text.push_str(format!(in alloc; "{count};")?.as_str())?;
-    }
-    Ok(text)
+    let counts = counted(alloc)?;
+    let tiles = count_of(alloc, counts, Given::Tile(9, 1, 0, 0, "B"))?;
+    let media = count_of(alloc, counts, Given::Medium(3))?;
+    let rows = count_of(alloc, counts, Given::Row(4))?;
+    numbers_text(alloc, &[tiles, media, rows])
 }
 
 fn link_told(alloc: Global) -> Result<String, OutOfMemory> {
@@ -122,6 +125,14 @@ fn link_told(alloc: Global) -> Result<String, OutOfMemory> {
     let numbers = numbers_of(alloc, list.as_slice())?;
     let link = Relation::new(Mapping::RowsTiles, uuid(0, 4), uuid(0, 9));
     Ok(link_row(alloc, &numbers, &link)?)
+}
+
+fn thousandths_told(alloc: Global, number: i64) -> Result<String, OutOfMemory> {
+    Ok(format!(in alloc; "{}", Thousandths(number))?)
+}
+
+fn rows_told(alloc: Global, number: u64, given: Given) -> Result<String, OutOfMemory> {
+    Ok(item_rows(alloc, 25832, number, &item(alloc, given)?)?)
 }
 
 fn matrices_told(alloc: Global, words: &str) -> Result<String, OutOfMemory> {
@@ -136,15 +147,13 @@ fn matrices_told(alloc: Global, words: &str) -> Result<String, OutOfMemory> {
     }
 }
 
-impl Ask for Exports {
+impl Exports {
     fn told(&self, alloc: Global) -> Result<String, OutOfMemory> {
         match *self {
-            Exports::Thousandths(number) => Ok(format!(in alloc; "{}", Thousandths(number))?),
+            Exports::Thousandths(number) => thousandths_told(alloc, number),
             Exports::Literal(words) => Ok(text_literal(alloc, words)?),
             Exports::Point(srs_id, x, y) => point_told(alloc, srs_id, x, y),
-            Exports::Rows(number, given) => {
-                Ok(item_rows(alloc, 25832, number, &item(alloc, given)?)?)
-            }
+            Exports::Rows(number, given) => rows_told(alloc, number, given),
             Exports::NumberOf(name) => number_told(alloc, name),
             Exports::Counts => counts_told(alloc),
             Exports::LinkRow => link_told(alloc),
@@ -152,6 +161,14 @@ impl Ask for Exports {
             Exports::Closing => said(alloc, closing()),
         }
     }
+}
+
+fn wrong(alloc: Global, steps: &[(Exports, &'static str)]) -> Checked {
+    let mut checked = Checked::new(alloc);
+    for step in steps {
+        checked.told(step.0.told(alloc), step.1);
+    }
+    checked
 }
 
 const EXPORTS: [(Exports, &str); 24] = [

@@ -1,7 +1,7 @@
 //! Frames, grounds, edges and spans whose values were worked out by hand and by a second program. A frame is written as a text, and a
 //! rectangle by its zoom, its first and last column and its first and last row.
 
-use crate::steps::{Ask, answered, numbers_text, said, wrong};
+use crate::steps::{Checked, answered, numbers_text, said};
 use matrix_rules::axis::axes_at;
 use matrix_rules::check::FrameRules;
 use matrix_rules::ground::{
@@ -166,13 +166,21 @@ fn frame_told(alloc: Global, frame: &Frame, asks: OfFrame) -> Result<String, Out
 #[derive(Clone, Copy)]
 struct Of(&'static str, OfFrame);
 
-impl Ask for Of {
+impl Of {
     fn told(&self, alloc: Global) -> Result<String, OutOfMemory> {
         match read_frame(self.0) {
             Some(frame) => frame_told(alloc, &frame, self.1),
             None => said(alloc, "no frame"),
         }
     }
+}
+
+fn wrong(alloc: Global, steps: &[(Of, &'static str)]) -> Checked {
+    let mut checked = Checked::new(alloc);
+    for step in steps {
+        checked.told(step.0.told(alloc), step.1);
+    }
+    checked
 }
 
 const CHECKS: [(Of, &str); 23] = [

@@ -13,6 +13,8 @@ mod calls;
 #[cfg(test)]
 mod claims;
 #[cfg(test)]
+mod commands;
+#[cfg(test)]
 mod exports;
 #[cfg(test)]
 mod frames;
@@ -22,6 +24,8 @@ mod keys;
 mod lists;
 #[cfg(test)]
 mod maps;
+#[cfg(test)]
+mod orders;
 #[cfg(test)]
 mod receipts;
 #[cfg(test)]

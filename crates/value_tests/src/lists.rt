@@ -1,6 +1,6 @@
 //! Request lists whose requests and faults were worked out by hand; the digests are Python's `hashlib`.
 
-use crate::steps::{Ask, Checked, said, uuid, wrong};
+use crate::steps::{Checked, said, uuid};
 use request_csv::lists::{ReadFault, read_requests};
 use sheet_types::command::{Command, Content, Request};
 use sheet_types::error::OutOfMemory;
@@ -45,10 +45,18 @@ fn failing_outcome(alloc: Global, records: &[&str]) -> Result<String, OutOfMemor
 #[derive(Clone, Copy)]
 struct Whole(&'static str);
 
-impl Ask for Whole {
+impl Whole {
     fn told(&self, alloc: Global) -> Result<String, OutOfMemory> {
         outcome(alloc, self.0.as_bytes())
     }
+}
+
+fn wrong_headers(alloc: Global, steps: &[(Whole, &'static str)]) -> Checked {
+    let mut checked = Checked::new(alloc);
+    for step in steps {
+        checked.told(step.0.told(alloc), step.1);
+    }
+    checked
 }
 
 const HEADERS: [(Whole, &str); 15] = [
@@ -118,7 +126,7 @@ const HEADERS: [(Whole, &str); 15] = [
 #[test]
 fn headers(rt: HostRuntime) {
     let alloc = rt.alloc();
-    let mut checked = wrong(alloc, HEADERS.as_slice());
+    let mut checked = wrong_headers(alloc, HEADERS.as_slice());
     checked.told(outcome(alloc, b"request,\xff\n".as_slice()), "Read");
     // a reader that fails before the header, and behind another
     checked.told(outcome(alloc, Failing::new(b"".as_slice())), "Read");
@@ -141,7 +149,7 @@ fn request_text(alloc: Global, number: u8, request: &Request) -> Result<String, 
 #[derive(Clone, Copy)]
 struct Asked(u8, &'static str);
 
-impl Ask for Asked {
+impl Asked {
     fn told(&self, alloc: Global) -> Result<String, OutOfMemory> {
         match read_requests(alloc, list(alloc, &[self.1])?.as_bytes()) {
             Ok(requests) => match requests.first() {
@@ -151,6 +159,14 @@ impl Ask for Asked {
             Err(fault) => fault_text(alloc, fault),
         }
     }
+}
+
+fn wrong_requests(alloc: Global, steps: &[(Asked, &'static str)]) -> Checked {
+    let mut checked = Checked::new(alloc);
+    for step in steps {
+        checked.told(step.0.told(alloc), step.1);
+    }
+    checked
 }
 
 const REQUESTS: [(Asked, &str); 10] = [
@@ -223,7 +239,7 @@ const REQUESTS: [(Asked, &str); 10] = [
 // The records of requests, one after the other.
 fn all_told(alloc: Global) -> Result<String, OutOfMemory> {
     let mut text = list(alloc, &[])?;
-    for asked in REQUESTS {
+    for asked in REQUESTS.as_slice() {
         text.push_str(asked.0.1)?;
         text.push_str("\n")?;
     }
@@ -233,7 +249,7 @@ fn all_told(alloc: Global) -> Result<String, OutOfMemory> {
 #[test]
 fn every_command(rt: HostRuntime) {
     let alloc = rt.alloc();
-    let mut checked = wrong(alloc, REQUESTS.as_slice());
+    let mut checked = wrong_requests(alloc, REQUESTS.as_slice());
     checked.told(all_told(alloc), "10");
     assert_eq!(rt; checked.wrong(), "");
 }
@@ -308,11 +324,13 @@ fn ended_told(alloc: Global, end: &str, records: &[&str]) -> Result<String, OutO
     outcome(alloc, list_ended(alloc, end, records)?.as_bytes())
 }
 
+const ENDS: [&str; 5] = ["\n", "\r\n", "\r", "\n\n\r\n", "\r\r"];
+
 #[test]
 fn ends_of_records_and_what_is_passed_over(rt: HostRuntime) {
     let alloc = rt.alloc();
     let mut checked = Checked::new(alloc);
-    for end in ["\n", "\r\n", "\r", "\n\n\r\n", "\r\r"] {
+    for end in ENDS.as_slice() {
         checked.told(ended_told(alloc, end, &[FIRST_TILE, DELETION]), "2");
         checked.told(
             ended_told(alloc, end, &[FIRST_TILE, NO_REQUEST]),
@@ -376,17 +394,26 @@ const NO_LOANS: [&str; 22] = [
     "90000000-0000-4000-8000-000000000008,T,merge,b0000000-0000-4000-8000-000000000000,,a0000000-0000-4000-8000-000000000000,,,,,,,,,,9223372036854775808,,",
 ];
 
+// A record that is refused where it is the first of a list, and where it is the third.
+fn ask_first(alloc: Global, checked: &mut Checked, refused: &str) {
+    checked.told(outcome_of(alloc, &[refused]), "Record 1");
+}
+
+fn ask_third(alloc: Global, checked: &mut Checked, refused: &str) {
+    let records = [FIRST_TILE, DELETION, refused, SEVENTEEN];
+    checked.told(outcome_of(alloc, records.as_slice()), "Record 3");
+}
+
 #[test]
 fn records_that_are_no_requests(rt: HostRuntime) {
     let alloc = rt.alloc();
     let mut checked = Checked::new(alloc);
-    for refused in REFUSED {
-        checked.told(outcome_of(alloc, &[refused]), "Record 1");
-        let records = [FIRST_TILE, DELETION, refused, SEVENTEEN];
-        checked.told(outcome_of(alloc, records.as_slice()), "Record 3");
+    for refused in REFUSED.as_slice() {
+        ask_first(alloc, &mut checked, refused);
+        ask_third(alloc, &mut checked, refused);
     }
-    for refused in NO_LOANS {
-        checked.told(outcome_of(alloc, &[refused]), "Record 1");
+    for refused in NO_LOANS.as_slice() {
+        ask_first(alloc, &mut checked, refused);
     }
     assert_eq!(rt; checked.wrong(), "");
 }
@@ -408,17 +435,21 @@ fn no_text_told(alloc: Global) -> Result<String, OutOfMemory> {
     outcome(alloc, text.as_slice())
 }
 
+fn ask_unread(alloc: Global, checked: &mut Checked, unread: &str) {
+    checked.told(outcome_of(alloc, &[unread]), "Read");
+    checked.told(outcome_of(alloc, &[FIRST_TILE, unread, NO_REQUEST]), "Read");
+    checked.told(
+        outcome_of(alloc, &[FIRST_TILE, NO_REQUEST, unread]),
+        "Record 2",
+    );
+}
+
 #[test]
 fn records_that_are_not_read(rt: HostRuntime) {
     let alloc = rt.alloc();
     let mut checked = Checked::new(alloc);
-    for unread in UNREAD {
-        checked.told(outcome_of(alloc, &[unread]), "Read");
-        checked.told(outcome_of(alloc, &[FIRST_TILE, unread, NO_REQUEST]), "Read");
-        checked.told(
-            outcome_of(alloc, &[FIRST_TILE, NO_REQUEST, unread]),
-            "Record 2",
-        );
+    for unread in UNREAD.as_slice() {
+        ask_unread(alloc, &mut checked, unread);
     }
     checked.told(no_text_told(alloc), "Read");
     // a reader that fails behind the records: their fault comes first

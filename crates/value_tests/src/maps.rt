@@ -1,7 +1,7 @@
 //! Maps of small frames, written by hand.
 
 use crate::receipts::{ARCHIVE, LOAN};
-use crate::steps::{Ask, answered, numbers_text, said, uuid, wrong};
+use crate::steps::{Checked, answered, numbers_text, said, uuid};
 use crate::values::bytes;
 use matrix_rules::check::FrameRules;
 use sheet_maps::colours::colour;
@@ -163,16 +163,34 @@ fn tile(alloc: Global, zoom: i64, column: i64) -> Result<Item, OutOfMemory> {
     })
 }
 
-fn places_told(alloc: Global) -> Result<String, OutOfMemory> {
-    let items = vec![in alloc; tile(alloc, 3, 0)?, tile(alloc, 4, 1)?, tile(alloc, 3, 2)?]?;
+// Three tiles, by their zooms and columns.
+const TILES: [(i64, i64); 3] = [(3, 0), (4, 1), (3, 2)];
+
+fn tiles(alloc: Global) -> Result<Vec<Item>, OutOfMemory> {
+    let mut list = Vec::new(alloc);
+    for (zoom, column) in TILES.as_slice() {
+        list.push(tile(alloc, *zoom, *column)?)?;
+    }
+    Ok(list)
+}
+
+fn places_text(alloc: Global, places: &[Place]) -> Result<String, OutOfMemory> {
     let mut text = String::new(alloc);
-    for found in places_of(alloc, 3, items.as_slice())? {
+    for found in places {
         text.push_str(format!(in alloc; "{} {};", found.column, found.row)?.as_str())?;
     }
     Ok(text)
 }
 
-impl Ask for Maps {
+fn places_in(alloc: Global, items: &[Item]) -> Result<String, OutOfMemory> {
+    places_text(alloc, places_of(alloc, 3, items)?.as_slice())
+}
+
+fn places_told(alloc: Global) -> Result<String, OutOfMemory> {
+    places_in(alloc, tiles(alloc)?.as_slice())
+}
+
+impl Maps {
     fn told(&self, alloc: Global) -> Result<String, OutOfMemory> {
         match *self {
             Maps::Of(words, asks) => match read_frame(words) {
@@ -185,6 +203,14 @@ impl Ask for Maps {
             Maps::Places => places_told(alloc),
         }
     }
+}
+
+fn wrong(alloc: Global, steps: &[(Maps, &'static str)]) -> Checked {
+    let mut checked = Checked::new(alloc);
+    for step in steps {
+        checked.told(step.0.told(alloc), step.1);
+    }
+    checked
 }
 
 const MAPS: [(Maps, &str); 17] = [

@@ -75,7 +75,7 @@ fn altered() -> Moved {
     }
 }
 
-fn one(alloc: Global, item: Moved) -> Result<MovedList, OutOfMemory> {
+pub(crate) fn one(alloc: Global, item: Moved) -> Result<MovedList, OutOfMemory> {
     Ok(MovedList::from_vec(vec![in alloc; item]?))
 }
 

@@ -1,7 +1,7 @@
 //! Responses as the formats state them, worked out by hand; digest and lengths by Python's `hashlib` and `len`.
 
 use crate::receipts::{ARCHIVE, LOAN, package};
-use crate::steps::{Ask, said, uuid, wrong};
+use crate::steps::{Checked, said, uuid};
 use crate::values::text;
 use desk_replies::bodies::{receipt_body, refusal_body};
 use desk_replies::fixed::{Fixed, fixed_response};
@@ -141,54 +141,89 @@ fn bytes_text(alloc: Global, bytes: &[u8]) -> Result<String, OutOfMemory> {
     }
 }
 
-impl Ask for Reply {
+// Each question is answered by a function of its own, so that none holds more than what it asks of.
+fn response_told(alloc: Global, receipt: &Receipt) -> Result<String, OutOfMemory> {
+    bytes_text(alloc, receipt_response(alloc, receipt)?.as_slice())
+}
+
+fn sent_told(alloc: Global, receipt: &Receipt) -> Result<String, OutOfMemory> {
+    bytes_text(alloc, receipt_outgoing(alloc, receipt).as_slice())
+}
+
+fn replied_told(alloc: Global, answer: &Result<Receipt, Refusal>) -> Result<String, OutOfMemory> {
+    bytes_text(alloc, reply_outgoing(alloc, answer).as_slice())
+}
+
+fn conflict_told(alloc: Global, why: &Refusal) -> Result<String, OutOfMemory> {
+    bytes_text(alloc, conflict_response(alloc, why)?.as_slice())
+}
+
+fn refusal_told(alloc: Global, why: &Refusal) -> Result<String, OutOfMemory> {
+    bytes_text(alloc, refusal_outgoing(alloc, why).as_slice())
+}
+
+fn manifest_told(alloc: Global, text: &str) -> Result<String, OutOfMemory> {
+    bytes_text(alloc, manifest_response(alloc, text.as_bytes())?.as_slice())
+}
+
+fn good_told(alloc: Global, text: &str) -> Result<String, OutOfMemory> {
+    bytes_text(alloc, good_response(alloc, text.as_bytes())?.as_slice())
+}
+
+fn loans_told(alloc: Global, first: u8) -> Result<String, OutOfMemory> {
+    let count = loans_among(listed().as_slice(), uuid(first, 0));
+    Ok(format!(in alloc; "{count}")?)
+}
+
+fn list_told(alloc: Global) -> Result<String, OutOfMemory> {
+    bytes_text(alloc, list_body(alloc, listed().as_slice())?.as_slice())
+}
+
+fn no_packages_told(alloc: Global) -> Result<String, OutOfMemory> {
+    bytes_text(alloc, list_response(alloc, &[])?.as_slice())
+}
+
+// What is told of the first receipt, or of a refusal.
+fn receipt_told(alloc: Global, receipt: &Receipt, reply: Reply) -> Result<String, OutOfMemory> {
+    match reply {
+        Reply::Receipt => response_told(alloc, receipt),
+        Reply::ReceiptSent => sent_told(alloc, receipt),
+        _ => receipt_body(alloc, receipt),
+    }
+}
+
+fn first_replied(alloc: Global) -> Result<String, OutOfMemory> {
+    replied_told(alloc, &Ok(first_receipt(alloc)?))
+}
+
+impl Reply {
     fn told(&self, alloc: Global) -> Result<String, OutOfMemory> {
         match *self {
-            Reply::ReceiptBody => receipt_body(alloc, &first_receipt(alloc)?),
-            Reply::QuotedBody => receipt_body(alloc, &quoted_receipt(alloc)?),
-            Reply::Receipt => {
-                bytes_text(
-                    alloc,
-                    receipt_response(alloc, &first_receipt(alloc)?)?.as_slice(),
-                )
-            }
-            Reply::ReceiptSent => {
-                bytes_text(
-                    alloc,
-                    receipt_outgoing(alloc, &first_receipt(alloc)?).as_slice(),
-                )
-            }
-            Reply::ReceiptReplied => {
-                bytes_text(
-                    alloc,
-                    reply_outgoing(alloc, &Ok(first_receipt(alloc)?)).as_slice(),
-                )
-            }
+            Reply::ReceiptBody => receipt_told(alloc, &first_receipt(alloc)?, *self),
+            Reply::QuotedBody => receipt_told(alloc, &quoted_receipt(alloc)?, *self),
+            Reply::Receipt => receipt_told(alloc, &first_receipt(alloc)?, *self),
+            Reply::ReceiptSent => receipt_told(alloc, &first_receipt(alloc)?, *self),
+            Reply::ReceiptReplied => first_replied(alloc),
             Reply::RefusalBody(why) => refusal_body(alloc, &refusal(why)),
-            Reply::Conflict(why) => {
-                bytes_text(alloc, conflict_response(alloc, &refusal(why))?.as_slice())
-            }
-            Reply::RefusalSent(why) => {
-                bytes_text(alloc, refusal_outgoing(alloc, &refusal(why)).as_slice())
-            }
-            Reply::RefusalReplied(why) => {
-                bytes_text(alloc, reply_outgoing(alloc, &Err(refusal(why))).as_slice())
-            }
+            Reply::Conflict(why) => conflict_told(alloc, &refusal(why)),
+            Reply::RefusalSent(why) => refusal_told(alloc, &refusal(why)),
+            Reply::RefusalReplied(why) => replied_told(alloc, &Err(refusal(why))),
             Reply::Fixed(fixed) => bytes_text(alloc, fixed_response(fixed)),
-            Reply::Manifest(text) => {
-                bytes_text(alloc, manifest_response(alloc, text.as_bytes())?.as_slice())
-            }
-            Reply::Good(text) => {
-                bytes_text(alloc, good_response(alloc, text.as_bytes())?.as_slice())
-            }
-            Reply::LoansOf(first) => {
-                let count = loans_among(listed().as_slice(), uuid(first, 0));
-                Ok(format!(in alloc; "{count}")?)
-            }
-            Reply::List => bytes_text(alloc, list_body(alloc, listed().as_slice())?.as_slice()),
-            Reply::NoPackages => bytes_text(alloc, list_response(alloc, &[])?.as_slice()),
+            Reply::Manifest(text) => manifest_told(alloc, text),
+            Reply::Good(text) => good_told(alloc, text),
+            Reply::LoansOf(first) => loans_told(alloc, first),
+            Reply::List => list_told(alloc),
+            Reply::NoPackages => no_packages_told(alloc),
         }
     }
+}
+
+fn wrong(alloc: Global, steps: &[(Reply, &'static str)]) -> Checked {
+    let mut checked = Checked::new(alloc);
+    for step in steps {
+        checked.told(step.0.told(alloc), step.1);
+    }
+    checked
 }
 
 const RECEIPT: &str =

@@ -1,14 +1,9 @@
-//! A test as data: questions, and what each is to be told.
+//! A test as data: questions, and what each is to be told. A question is a plain value with a method `told`, and each type
+//! of questions has a loop of its own over its tables: tests that gave them to a generic one took longer to prove.
 
 use sheet_types::error::OutOfMemory;
 use std::alloc::Global;
 use uuid::Uuid;
-
-/// A question, as a plain value.
-pub(crate) trait Ask {
-    /// What is told, as a text.
-    fn told(&self, alloc: Global) -> Result<String, OutOfMemory>;
-}
 
 /// Notes each answer that is not the one that was expected, by its number from 1 on. It has no clause and no exit, so what it is given is
 /// straight code, and a test asserts once that nothing is wrong.
@@ -60,15 +55,6 @@ impl Checked {
             self.wrong.as_str()
         }
     }
-}
-
-/// What was told that was not expected.
-pub(crate) fn wrong<A: Ask>(alloc: Global, steps: &[(A, &'static str)]) -> Checked {
-    let mut checked = Checked::new(alloc);
-    for step in steps {
-        checked.told(step.0.told(alloc), step.1);
-    }
-    checked
 }
 
 /// A text of its own.

@@ -48,11 +48,10 @@ fn sums_told(alloc: Global) -> Result<String, OutOfMemory> {
 }
 
 fn sums_text(alloc: Global, sums: Sums) -> Result<String, OutOfMemory> {
-    let mut text = String::new(alloc);
-    for number in [sums.tiles, sums.media, sums.rows, sums.links, sums.bytes] {
-        text.push_str(format!(in alloc; "{number};")?.as_str())?;
-    }
-    Ok(text)
+    Ok(format!(in alloc;
+        "{};{};{};{};{};",
+        sums.tiles, sums.media, sums.rows, sums.links, sums.bytes
+    )?)
 }
 
 const ENTRIES: [Entry; 3] = [

@@ -2,7 +2,7 @@
 //! and `rjust`.
 
 use crate::receipts::{ARCHIVE, LOAN, package, package_text};
-use crate::steps::{Ask, said, uuid, wrong};
+use crate::steps::{Checked, said, uuid};
 use crate::values::text;
 use sheet_types::collections::MovedList;
 use sheet_types::error::OutOfMemory;
@@ -185,7 +185,7 @@ fn way_told(alloc: Global, count: usize, first: u8, last: u8) -> Result<String, 
     }
 }
 
-impl Ask for Views {
+impl Views {
     fn told(&self, alloc: Global) -> Result<String, OutOfMemory> {
         match *self {
             Views::NoPackage => Ok(status_text(alloc, &[])?),
@@ -201,6 +201,14 @@ impl Ask for Views {
             }
         }
     }
+}
+
+fn wrong(alloc: Global, steps: &[(Views, &'static str)]) -> Checked {
+    let mut checked = Checked::new(alloc);
+    for step in steps {
+        checked.told(step.0.told(alloc), step.1);
+    }
+    checked
 }
 
 const VIEWS: [(Views, &str); 7] = [
