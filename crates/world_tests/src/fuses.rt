@@ -46,7 +46,8 @@ impl Revive for Fuse<Memory> {
     }
 }
 
-/// What is left of a file: what was synced, as after a stop of the machine, or all that was written, as after the end of a process.
+/// What is left of a file: what was synced, as after a stop of the machine, or all that was written, as after the end
+/// of a process.
 #[derive(Clone, Copy)]
 pub enum Leaves {
     Synced,
@@ -150,24 +151,9 @@ pub enum Stops {
     Db,
 }
 
-/// Empty files, of which one stops after so many calls.
-pub fn fused<D: Revive>(alloc: Global, stops: Stops, calls: u64) -> Files<D>
-    ensures log { IsTrue (D.Disk.is_usable result.log) }
-    ensures db { IsTrue (D.Disk.is_usable result.db) }
-    ensures empty { D.Disk.seen result.db ≡ [] }
-{
-    let (log_calls, db_calls) = match stops {
-        Stops::Log => (calls, u64::MAX),
-        Stops::Db => (u64::MAX, calls),
-    };
-    Files {
-        log: D::fresh(alloc, log_calls),
-        db: D::fresh(alloc, db_calls),
-    }
-}
-
-/// So few pages are kept that a request reads both files, writes the log before its commit, and copies it into the database file after that.
-pub fn options() -> Options {
+/// So few pages are kept that a request reads both files, writes the log before its commit, and copies it into the
+/// database file after that.
+fn options() -> Options {
     Options {
         cache_pages: 2,
         spill_pages: 2,
@@ -222,11 +208,6 @@ impl FusedShelf {
             failures: 0,
         }
     }
-
-    /// Whether it had no store to give.
-    pub fn has_failed(&self) -> bool {
-        self.failures > 0
-    }
 }
 
 impl<D: Revive + Drop> Shelf<FileStore<D>> for FusedShelf {
@@ -238,7 +219,14 @@ impl<D: Revive + Drop> Shelf<FileStore<D>> for FusedShelf {
         } else {
             (u64::MAX, roomy())
         };
-        let files = fused(self.alloc, self.fusing.stops, calls);
+        let (log_calls, db_calls) = match self.fusing.stops {
+            Stops::Log => (calls, u64::MAX),
+            Stops::Db => (u64::MAX, calls),
+        };
+        let files = Files {
+            log: D::fresh(self.alloc, log_calls),
+            db: D::fresh(self.alloc, db_calls),
+        };
         match open_blank(self.alloc, files, options) {
             Ok(conn) => Ok(conn),
             Err(_) => {
