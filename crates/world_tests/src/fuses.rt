@@ -105,6 +105,10 @@ impl FileRemains {
             Leaves::Written => &self.written,
         }
     }
+
+    fn has_unsynced(&self) -> bool {
+        self.synced.as_slice() != self.written.as_slice()
+    }
 }
 
 /// What remains of the files of a store.
@@ -141,6 +145,22 @@ impl Remains {
             Ok(conn) => Ok(conn),
             Err((error, _)) => Err(Fault::from(error)),
         }
+    }
+}
+
+/// Whether a crash in this way leaves other bytes of these stores than each way before it in `WAYS`.
+pub fn leaves_other(files: &[Remains], way: Left) -> bool {
+    let mut logs = false;
+    let mut dbs = false;
+    for remains in files {
+        logs = logs || remains.log.has_unsynced();
+        dbs = dbs || remains.db.has_unsynced();
+    }
+    match (way.log, way.db) {
+        (Leaves::Synced, Leaves::Synced) => true,
+        (Leaves::Written, Leaves::Written) => logs || dbs,
+        (Leaves::Synced, Leaves::Written) => logs && dbs,
+        (Leaves::Written, Leaves::Synced) => logs && dbs,
     }
 }
 
