@@ -46,7 +46,8 @@ impl Revive for Fuse<Memory> {
     }
 }
 
-/// What is left of a file: what was synced, as after a stop of the machine, or all that was written, as after the end of a process.
+/// What is left of a file: what was synced, as after a stop of the machine, or all that was written, as after the end
+/// of a process.
 #[derive(Clone, Copy)]
 pub enum Leaves {
     Synced,
@@ -104,6 +105,10 @@ impl FileRemains {
             Leaves::Written => &self.written,
         }
     }
+
+    fn has_unsynced(&self) -> bool {
+        self.synced.as_slice() != self.written.as_slice()
+    }
 }
 
 /// What remains of the files of a store.
@@ -143,6 +148,22 @@ impl Remains {
     }
 }
 
+/// Whether a crash in this way leaves other bytes of these stores than each way before it in `WAYS`.
+pub fn leaves_other(files: &[Remains], way: Left) -> bool {
+    let mut logs = false;
+    let mut dbs = false;
+    for remains in files {
+        logs = logs || remains.log.has_unsynced();
+        dbs = dbs || remains.db.has_unsynced();
+    }
+    match (way.log, way.db) {
+        (Leaves::Synced, Leaves::Synced) => true,
+        (Leaves::Written, Leaves::Written) => logs || dbs,
+        (Leaves::Synced, Leaves::Written) => logs && dbs,
+        (Leaves::Written, Leaves::Synced) => logs && dbs,
+    }
+}
+
 /// Which file stops.
 #[derive(Clone, Copy)]
 pub enum Stops {
@@ -150,24 +171,9 @@ pub enum Stops {
     Db,
 }
 
-/// Empty files, of which one stops after so many calls.
-pub fn fused<D: Revive>(alloc: Global, stops: Stops, calls: u64) -> Files<D>
-    ensures log { IsTrue (D.Disk.is_usable result.log) }
-    ensures db { IsTrue (D.Disk.is_usable result.db) }
-    ensures empty { D.Disk.seen result.db ≡ [] }
-{
-    let (log_calls, db_calls) = match stops {
-        Stops::Log => (calls, u64::MAX),
-        Stops::Db => (u64::MAX, calls),
-    };
-    Files {
-        log: D::fresh(alloc, log_calls),
-        db: D::fresh(alloc, db_calls),
-    }
-}
-
-/// So few pages are kept that a request reads both files, writes the log before its commit, and copies it into the database file after that.
-pub fn options() -> Options {
+/// So few pages are kept that a request reads both files, writes the log before its commit, and copies it into the
+/// database file after that.
+fn options() -> Options {
     Options {
         cache_pages: 2,
         spill_pages: 2,
@@ -222,11 +228,6 @@ impl FusedShelf {
             failures: 0,
         }
     }
-
-    /// Whether it had no store to give.
-    pub fn has_failed(&self) -> bool {
-        self.failures > 0
-    }
 }
 
 impl<D: Revive + Drop> Shelf<FileStore<D>> for FusedShelf {
@@ -238,7 +239,14 @@ impl<D: Revive + Drop> Shelf<FileStore<D>> for FusedShelf {
         } else {
             (u64::MAX, roomy())
         };
-        let files = fused(self.alloc, self.fusing.stops, calls);
+        let (log_calls, db_calls) = match self.fusing.stops {
+            Stops::Log => (calls, u64::MAX),
+            Stops::Db => (u64::MAX, calls),
+        };
+        let files = Files {
+            log: D::fresh(self.alloc, log_calls),
+            db: D::fresh(self.alloc, db_calls),
+        };
         match open_blank(self.alloc, files, options) {
             Ok(conn) => Ok(conn),
             Err(_) => {
