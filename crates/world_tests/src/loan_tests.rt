@@ -1,10 +1,9 @@
-// A split and a merge of a world whose stores are files in memory. What is expected was worked out by hand. The rectangle is the north-western quarter of the frame: at zoom 2 the tile of column 1 and row 1 lies in it, that of column 2 and row 0 does not.
+// A split and a merge of a world in memory. What is expected was worked out by hand. The rectangle is the north-western quarter of the frame: at zoom 2 the tile of column 1 and row 1 lies in it, that of column 2 and row 0 does not.
 use crate::worlds::{Of, Step, wrong};
-use memory_files::MemoryFile;
 use package_tables::fault::Fault;
 use sheet_types::command::{Mapping, Mode};
-use shelves::file_memory::MemoryFileShelf;
-use sqlite::FileStore;
+use shelves::memory::MemoryShelf;
+use sqlite::MemStore;
 use std::alloc::Global;
 use std::test::Fail;
 use test_values::Asks;
@@ -117,29 +116,29 @@ const LENT_ONCE: [Step; 13] = [
     ),
 ];
 
-fn wrong_over_files(alloc: Global, steps: &[Step], stores: usize) -> Result<String, Fault> {
-    let mut shelf = MemoryFileShelf::new(alloc);
+fn wrong_of_loans(alloc: Global, steps: &[Step], stores: usize) -> Result<String, Fault> {
+    let mut shelf = MemoryShelf::new(alloc);
     let before = FILLED.as_slice();
-    wrong::<FileStore<MemoryFile>, MemoryFileShelf>(alloc, &mut shelf, before, steps, stores)
+    wrong::<MemStore, MemoryShelf>(alloc, &mut shelf, before, steps, stores)
 }
 
 #[test]
 fn a_loan_goes_and_comes_home(rt: HostRuntime) -> Result<(), Fail> {
-    let wrong = wrong_over_files(rt.alloc(), THERE_AND_BACK.as_slice(), 1)?;
+    let wrong = wrong_of_loans(rt.alloc(), THERE_AND_BACK.as_slice(), 1)?;
     assert_eq!(rt; wrong.as_str(), "");
     Ok(())
 }
 
 #[test]
 fn what_came_before_is_known_in_every_package(rt: HostRuntime) -> Result<(), Fail> {
-    let wrong = wrong_over_files(rt.alloc(), KNOWN.as_slice(), 1)?;
+    let wrong = wrong_of_loans(rt.alloc(), KNOWN.as_slice(), 1)?;
     assert_eq!(rt; wrong.as_str(), "");
     Ok(())
 }
 
 #[test]
 fn a_uuid_is_lent_once(rt: HostRuntime) -> Result<(), Fail> {
-    let wrong = wrong_over_files(rt.alloc(), LENT_ONCE.as_slice(), 2)?;
+    let wrong = wrong_of_loans(rt.alloc(), LENT_ONCE.as_slice(), 2)?;
     assert_eq!(rt; wrong.as_str(), "");
     Ok(())
 }
