@@ -2,7 +2,7 @@
 // it costs no proof of a call.
 
 use crate::fixed_asks::{OfFixed, OfReceipts, of_fixed, of_receipts};
-use crate::tables::{found, listed, sorted};
+use crate::tables::{Part, found, joined, listed, sorted};
 use package_tables::attributes::{
     all_attributes, attribute_by_id, attribute_ids, attribute_ids_within, attributes_within,
     greatest_attribute_id, has_attribute,
@@ -16,12 +16,13 @@ use package_tables::mappings::{
     all_pairs, pair_of_base, pair_of_ends, pairs_of_base, pairs_of_related,
 };
 use package_tables::media::{all_media, greatest_medium_id, has_medium, medium_by_id, medium_ids};
+use package_tables::rows::{AttributeRow, TileRow};
 use package_tables::tiles::{
     all_tiles, greatest_tile_id, has_tile, has_tile_at, tile_at, tile_by_id, tile_ids,
     tile_ids_between, tiles_between,
 };
 use sheet_types::command::Mapping;
-use sqlite::{Alter, Connection};
+use sqlite::{Alter, Connection, Transaction};
 use std::alloc::Global;
 use test_values::{answered, at_rest};
 
@@ -88,24 +89,39 @@ pub(crate) enum Asks {
     Receipts(OfReceipts),
 }
 
+fn numbers_of_tiles(a: Global, tiles: Result<Vec<TileRow>, Fault>) -> Result<Vec<i64>, Fault> {
+    let tiles = tiles?;
+    let mut numbers = Vec::new(a);
+    for tile in &tiles {
+        numbers.push(tile.id)?;
+    }
+    Ok(numbers)
+}
+
+fn numbers_of_rows(a: Global, rows: Result<Vec<AttributeRow>, Fault>) -> Result<Vec<i64>, Fault> {
+    let rows = rows?;
+    let mut numbers = Vec::new(a);
+    for row in &rows {
+        numbers.push(row.id)?;
+    }
+    Ok(numbers)
+}
+
 fn of_tiles<S: Alter>(a: Global, conn: &mut Connection<S>, asks: OfTiles) -> Result<String, Fault> {
     at_rest(conn)?;
     match asks {
-        OfTiles::ById(id) => found(a, &tile_by_id(conn, id)?),
-        OfTiles::At(at) => found(a, &tile_at(conn, at[0], at[1], at[2])?),
-        OfTiles::All => listed(a, &all_tiles(conn, a)?, ';'),
+        OfTiles::ById(id) => found(a, tile_by_id(conn, id)),
+        OfTiles::At(at) => found(a, tile_at(conn, at[0], at[1], at[2])),
+        OfTiles::All => listed(a, all_tiles(conn, a), ';'),
         OfTiles::Between(of) => {
-            let mut numbers = Vec::new(a);
-            for tile in &tiles_between(conn, a, of[0], of[1], of[2], of[3], of[4])? {
-                numbers.push(tile.id)?;
-            }
-            sorted(a, numbers)
+            let tiles = tiles_between(conn, a, of[0], of[1], of[2], of[3], of[4]);
+            sorted(a, numbers_of_tiles(a, tiles))
         }
-        OfTiles::Ids => listed(a, &tile_ids(conn, a)?, ';'),
+        OfTiles::Ids => listed(a, tile_ids(conn, a), ';'),
         OfTiles::IdsBetween(of) => {
             sorted(
                 a,
-                tile_ids_between(conn, a, of[0], of[1], of[2], of[3], of[4])?,
+                tile_ids_between(conn, a, of[0], of[1], of[2], of[3], of[4]),
             )
         }
         OfTiles::Has(id) => answered(a, has_tile(conn, id)?),
@@ -116,9 +132,9 @@ fn of_tiles<S: Alter>(a: Global, conn: &mut Connection<S>, asks: OfTiles) -> Res
 fn of_media<S: Alter>(a: Global, conn: &mut Connection<S>, asks: OfMedia) -> Result<String, Fault> {
     at_rest(conn)?;
     match asks {
-        OfMedia::ById(id) => found(a, &medium_by_id(conn, id)?),
-        OfMedia::All => listed(a, &all_media(conn, a)?, ';'),
-        OfMedia::Ids => listed(a, &medium_ids(conn, a)?, ';'),
+        OfMedia::ById(id) => found(a, medium_by_id(conn, id)),
+        OfMedia::All => listed(a, all_media(conn, a), ';'),
+        OfMedia::Ids => listed(a, medium_ids(conn, a), ';'),
         OfMedia::Has(id) => answered(a, has_medium(conn, id)?),
     }
 }
@@ -126,20 +142,17 @@ fn of_media<S: Alter>(a: Global, conn: &mut Connection<S>, asks: OfMedia) -> Res
 fn of_rows<S: Alter>(a: Global, conn: &mut Connection<S>, asks: OfRows) -> Result<String, Fault> {
     at_rest(conn)?;
     match asks {
-        OfRows::ById(id) => found(a, &attribute_by_id(conn, id)?),
-        OfRows::All => listed(a, &all_attributes(conn, a)?, ';'),
+        OfRows::ById(id) => found(a, attribute_by_id(conn, id)),
+        OfRows::All => listed(a, all_attributes(conn, a), ';'),
         OfRows::Within(on) => {
-            let mut numbers = Vec::new(a);
-            for row in &attributes_within(conn, a, on[0], on[1], on[2], on[3])? {
-                numbers.push(row.id)?;
-            }
-            sorted(a, numbers)
+            let rows = attributes_within(conn, a, on[0], on[1], on[2], on[3]);
+            sorted(a, numbers_of_rows(a, rows))
         }
-        OfRows::Ids => listed(a, &attribute_ids(conn, a)?, ';'),
+        OfRows::Ids => listed(a, attribute_ids(conn, a), ';'),
         OfRows::IdsWithin(on) => {
             listed(
                 a,
-                &attribute_ids_within(conn, a, on[0], on[1], on[2], on[3])?,
+                attribute_ids_within(conn, a, on[0], on[1], on[2], on[3]),
                 ';',
             )
         }
@@ -155,13 +168,13 @@ fn of_pairs<S: Alter>(
 ) -> Result<String, Fault> {
     at_rest(conn)?;
     match asks {
-        OfPairs::Ends(base, related) => found(a, &pair_of_ends(conn, mapping, base, related)?),
-        OfPairs::Base(base) => found(a, &pair_of_base(conn, mapping, base)?),
-        OfPairs::AllOfBase(base) => listed(a, &pairs_of_base(conn, a, mapping, base)?, ';'),
+        OfPairs::Ends(base, related) => found(a, pair_of_ends(conn, mapping, base, related)),
+        OfPairs::Base(base) => found(a, pair_of_base(conn, mapping, base)),
+        OfPairs::AllOfBase(base) => listed(a, pairs_of_base(conn, a, mapping, base), ';'),
         OfPairs::AllOfRelated(related) => {
-            listed(a, &pairs_of_related(conn, a, mapping, related)?, ';')
+            listed(a, pairs_of_related(conn, a, mapping, related), ';')
         }
-        OfPairs::All => listed(a, &all_pairs(conn, mapping, a)?, ';'),
+        OfPairs::All => listed(a, all_pairs(conn, mapping, a), ';'),
     }
 }
 
@@ -172,9 +185,9 @@ fn of_identities<S: Alter>(
 ) -> Result<String, Fault> {
     at_rest(conn)?;
     match asks {
-        OfIdentities::ByUuid(uuid) => found(a, &identity_by_uuid(conn, uuid)?),
-        OfIdentities::ByKey(kind, id) => found(a, &identity_by_key(conn, kind, id)?),
-        OfIdentities::All => listed(a, &all_identities(conn, a)?, ';'),
+        OfIdentities::ByUuid(uuid) => found(a, identity_by_uuid(conn, uuid)),
+        OfIdentities::ByKey(kind, id) => found(a, identity_by_key(conn, kind, id)),
+        OfIdentities::All => listed(a, all_identities(conn, a), ';'),
     }
 }
 
@@ -204,6 +217,26 @@ pub(crate) enum Inside {
     IdentityByKey(i64, i64),
 }
 
+fn greatest<S: Alter>(a: Global, tx: &mut Transaction<'_, S>) -> Result<String, Fault> {
+    let tile = greatest_tile_id(tx)?.unwrap_or(-1);
+    let medium = greatest_medium_id(tx)?.unwrap_or(-1);
+    let row = greatest_attribute_id(tx)?.unwrap_or(-1);
+    let numbers = [Part::Number(tile), Part::Number(medium), Part::Number(row)];
+    Ok(joined(a, numbers.as_slice())?)
+}
+
+fn told_by<S: Alter>(
+    a: Global,
+    tx: &mut Transaction<'_, S>,
+    asks: Inside,
+) -> Result<String, Fault> {
+    match asks {
+        Inside::Greatest => greatest(a, tx),
+        Inside::IdentityByUuid(uuid) => found(a, identity_by_uuid_inside(tx, uuid)),
+        Inside::IdentityByKey(kind, id) => found(a, identity_by_key_inside(tx, kind, id)),
+    }
+}
+
 // What it tells.
 pub(crate) fn told_inside<S: Alter>(
     a: Global,
@@ -214,14 +247,5 @@ pub(crate) fn told_inside<S: Alter>(
         return Err(Fault::StoreFault);
     }
     let mut tx = conn.transaction();
-    match asks {
-        Inside::Greatest => {
-            let tile = greatest_tile_id(&mut tx)?.unwrap_or(-1);
-            let medium = greatest_medium_id(&mut tx)?.unwrap_or(-1);
-            let row = greatest_attribute_id(&mut tx)?.unwrap_or(-1);
-            Ok(format!(in a; "{tile} {medium} {row}")?)
-        }
-        Inside::IdentityByUuid(uuid) => found(a, &identity_by_uuid_inside(&mut tx, uuid)?),
-        Inside::IdentityByKey(kind, id) => found(a, &identity_by_key_inside(&mut tx, kind, id)?),
-    }
+    told_by(a, &mut tx, asks)
 }

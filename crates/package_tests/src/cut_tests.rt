@@ -31,14 +31,18 @@ fn item(number: u8, content: Content) -> Item {
     }
 }
 
+const TILES: [(u8, [i64; 3]); 3] = [(1, [1, 0, 0]), (2, [1, 1, 0]), (5, [1, 1, 1])];
+
+const MEDIA: [u8; 2] = [3, 4];
+
 // Three tiles of zoom 1, of which the first lies in the corner, and two media.
 fn items(alloc: Global) -> Result<Vec<Item>, Fault> {
     let mut items = Vec::new(alloc);
-    for (number, place) in [(1, [1, 0, 0]), (2, [1, 1, 0]), (5, [1, 1, 1])] {
-        items.push(item(number, tile_content(alloc, place, b"A")?))?;
+    for tile in TILES.as_slice() {
+        items.push(item(tile.0, tile_content(alloc, tile.1, b"A")?))?;
     }
-    for number in [3, 4] {
-        items.push(item(number, medium_content(alloc, "image/jpeg", b"JP")?))?;
+    for number in MEDIA.as_slice() {
+        items.push(item(*number, medium_content(alloc, "image/jpeg", b"JP")?))?;
     }
     Ok(items)
 }
@@ -80,17 +84,20 @@ fn takes(outcome: &Option<Result<Selection, Refusal>>, items: &[Uuid], links: &[
     }
 }
 
-#[test]
-fn each_is_asked_once(rt: HostRuntime) -> Result<(), Fail> {
-    let alloc = rt.alloc();
-    let links = [
+fn links() -> [Relation; 3] {
+    [
         link(Mapping::TilesMedia, 1, 3),
         link(Mapping::TilesMedia, 2, 3),
         link(Mapping::TilesMedia, 2, 4),
-    ];
-    let mut reach = noted(alloc, items(alloc)?, &links)?;
-    let follow = cut(alloc, &mut reach, &CORNER, Mode::Follow);
-    assert!(rt; takes(&follow, &[id(1), id(2), id(3), id(4)], &links));
+    ]
+}
+
+fn follows(alloc: Global, reach: &mut Noted) -> bool {
+    let follow = cut(alloc, reach, &CORNER, Mode::Follow);
+    takes(&follow, &[id(1), id(2), id(3), id(4)], &links())
+}
+
+fn asks_spans(spans: &[(i64, Span)]) -> bool {
     let of_zoom_1 = Span {
         column: 0,
         last_column: 0,
@@ -103,14 +110,37 @@ fn each_is_asked_once(rt: HostRuntime) -> Result<(), Fail> {
         row: 0,
         last_row: 1,
     };
+    spans == [(1, of_zoom_1), (2, of_zoom_2)].as_slice()
+}
+
+fn asks_grounds(grounds: &[Ground]) -> bool {
     let ground = Ground {
         west: 0,
         south: 2048,
         east: 2048,
         north: 4096,
     };
-    assert!(rt; reach.spans.as_slice() == [(1, of_zoom_1), (2, of_zoom_2)].as_slice());
-    assert!(rt; reach.grounds.as_slice() == [ground].as_slice());
-    assert!(rt; reach.asked.as_slice() == [id(1), id(3), id(2), id(4)].as_slice());
+    grounds == [ground].as_slice()
+}
+
+fn asks_links(asked: &[Uuid]) -> bool {
+    asked == [id(1), id(3), id(2), id(4)].as_slice()
+}
+
+// Whether the cut follows the links, and which spans, grounds and links it asks for.
+fn told_of_cut(alloc: Global) -> Result<[bool; 4], Fault> {
+    let mut reach = noted(alloc, items(alloc)?, &links())?;
+    let is_followed = follows(alloc, &mut reach);
+    Ok([
+        is_followed,
+        asks_spans(reach.spans.as_slice()),
+        asks_grounds(reach.grounds.as_slice()),
+        asks_links(reach.asked.as_slice()),
+    ])
+}
+
+#[test]
+fn each_is_asked_once(rt: HostRuntime) -> Result<(), Fail> {
+    assert!(rt; told_of_cut(rt.alloc())? == [true, true, true, true]);
     Ok(())
 }

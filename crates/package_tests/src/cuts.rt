@@ -1,24 +1,24 @@
 // Cuts of a package at rest, and what they tell.
 
 use cut::select::select;
+use identity_register::selection::Selection;
 use matrix_rules::check::FrameRules;
 use matrix_rules::ground::is_good;
 use package_tables::fault::Fault;
-use sheet_types::command::{Mode, Relation};
+use sheet_types::command::Mode;
 use sheet_types::frame::Rect;
 use sheet_types::refusal::Refusal;
 use sqlite::{Alter, Connection};
 use std::alloc::{AllocError, Global};
 use test_values::{FRAME, at_rest, identities_text, links_text, number_of};
-use uuid::Uuid;
 
 // A rectangle by its zoom, its first and last column, its first and last row.
 #[derive(Clone, Copy)]
 pub(crate) struct Cuts(pub Mode, pub [i64; 5]);
 
-fn selected_text(a: Global, identities: &[Uuid], links: &[Relation]) -> Result<String, AllocError> {
-    let mut text = identities_text(a, identities)?;
-    text.push_str(links_text(a, links)?.as_str())?;
+fn selected_text(a: Global, selection: &Selection) -> Result<String, AllocError> {
+    let mut text = identities_text(a, selection.identities.as_slice())?;
+    text.push_str(links_text(a, selection.links.as_slice())?.as_str())?;
     Ok(text)
 }
 
@@ -51,13 +51,7 @@ pub(crate) fn cut_told<S: Alter>(
         return Err(Fault::StoreFault);
     }
     match select(conn, a, &FRAME, &rect, cuts.0)? {
-        Ok(selection) => {
-            Ok(selected_text(
-                a,
-                selection.identities.as_slice(),
-                selection.links.as_slice(),
-            )?)
-        }
+        Ok(selection) => Ok(selected_text(a, &selection)?),
         Err(why) => Ok(refusal_text(a, why)?),
     }
 }

@@ -24,84 +24,16 @@ pub(crate) enum Given {
     Line(u64, &'static str),
 }
 
-// The loan of a medium, with its link to a tile.
-fn loan(alloc: Global) -> Result<Receipt, Fault> {
-    let mut things = Vec::new(alloc);
-    things.push(Moved {
-        kind: MovedKind::MediaItem,
-        base: Uuid::from_u128(2),
-        other: None,
-        size: 5,
-        fingerprint: Some([171; 32]),
-    })?;
-    things.push(Moved {
-        kind: MovedKind::TilesMediaLink,
-        base: Uuid::from_u128(3),
-        other: Some(Uuid::from_u128(2)),
-        size: 0,
-        fingerprint: None,
-    })?;
-    Ok(Receipt {
-        seq: 7,
-        request: Uuid::from_u128(9),
-        at: text(alloc, AT)?,
-        line: text(alloc, "the line")?,
-        source: Some(Uuid::from_u128(1)),
-        target: None,
-        items: MovedList::from_vec(things),
-        tiles: 0,
-        media: 1,
-        rows: 0,
-        links: 1,
-        bytes: 5,
-    })
-}
-
-// The return of a tile, from one package to another.
-fn give_back(alloc: Global) -> Result<Receipt, Fault> {
-    let mut things = Vec::new(alloc);
-    things.push(Moved {
-        kind: MovedKind::TileItem,
-        base: Uuid::from_u128(6),
-        other: None,
-        size: 9,
-        fingerprint: Some([205; 32]),
-    })?;
-    Ok(Receipt {
-        seq: 8,
-        request: Uuid::from_u128(10),
-        at: text(alloc, AT)?,
-        line: text(alloc, "another line")?,
-        source: Some(Uuid::from_u128(5)),
-        target: Some(Uuid::from_u128(1)),
-        items: MovedList::from_vec(things),
-        tiles: 1,
-        media: 0,
-        rows: 0,
-        links: 0,
-        bytes: 9,
-    })
-}
-
-// The receipt of a number and a request that moved nothing.
-fn empty(alloc: Global, seq: u64, request: u64) -> Result<Receipt, Fault> {
-    let mut receipt = give_back(alloc)?;
-    receipt.seq = seq;
-    receipt.request = Uuid::from_u128(u128::from(request));
-    receipt.items = MovedList::from_vec(Vec::new(alloc));
-    Ok(receipt)
-}
-
-// A receipt of nothing under this line, for package 1.
-fn of_line(alloc: Global, seq: u64, line: &str) -> Result<Receipt, Fault> {
+// A receipt of these things, from package 5 to package 1, that counts none.
+fn bare(a: Global, seq: u64, request: u64, line: &str, things: &[Moved]) -> Result<Receipt, Fault> {
     Ok(Receipt {
         seq,
-        request: Uuid::from_u128(seq as u128),
-        at: text(alloc, AT)?,
-        line: text(alloc, line)?,
+        request: Uuid::from_u128(u128::from(request)),
+        at: text(a, AT)?,
+        line: text(a, line)?,
         source: Some(Uuid::from_u128(5)),
         target: Some(Uuid::from_u128(1)),
-        items: MovedList::from_vec(Vec::new(alloc)),
+        items: MovedList::from_vec(Vec::from_slice(a, things)?),
         tiles: 0,
         media: 0,
         rows: 0,
@@ -110,12 +42,58 @@ fn of_line(alloc: Global, seq: u64, line: &str) -> Result<Receipt, Fault> {
     })
 }
 
+// The loan of a medium, with its link to a tile.
+fn loan(a: Global) -> Result<Receipt, Fault> {
+    let things = [
+        Moved {
+            kind: MovedKind::MediaItem,
+            base: Uuid::from_u128(2),
+            other: None,
+            size: 5,
+            fingerprint: Some([171; 32]),
+        },
+        Moved {
+            kind: MovedKind::TilesMediaLink,
+            base: Uuid::from_u128(3),
+            other: Some(Uuid::from_u128(2)),
+            size: 0,
+            fingerprint: None,
+        },
+    ];
+    let mut receipt = bare(a, 7, 9, "the line", things.as_slice())?;
+    receipt.source = Some(Uuid::from_u128(1));
+    receipt.target = None;
+    receipt.media = 1;
+    receipt.links = 1;
+    receipt.bytes = 5;
+    Ok(receipt)
+}
+
+// The return of a tile, from one package to another, with the things that it says.
+fn back(a: Global, seq: u64, request: u64, things: &[Moved]) -> Result<Receipt, Fault> {
+    let mut receipt = bare(a, seq, request, "another line", things)?;
+    receipt.tiles = 1;
+    receipt.bytes = 9;
+    Ok(receipt)
+}
+
+fn give_back(a: Global) -> Result<Receipt, Fault> {
+    let thing = Moved {
+        kind: MovedKind::TileItem,
+        base: Uuid::from_u128(6),
+        other: None,
+        size: 9,
+        fingerprint: Some([205; 32]),
+    };
+    back(a, 8, 10, [thing].as_slice())
+}
+
 fn receipt_of(a: Global, given: Given) -> Result<Receipt, Fault> {
     match given {
         Given::Loan => loan(a),
         Given::Back => give_back(a),
-        Given::Empty(seq, request) => empty(a, seq, request),
-        Given::Line(seq, line) => of_line(a, seq, line),
+        Given::Empty(seq, request) => back(a, seq, request, &[]),
+        Given::Line(seq, line) => bare(a, seq, seq, line, &[]),
     }
 }
 
@@ -151,6 +129,26 @@ fn is_same(a: &Receipt, b: &Receipt) -> bool {
     heads && texts && ends && items && counts && a.links == b.links && a.bytes == b.bytes
 }
 
+fn is_kept(found: Option<Receipt>, receipt: &Receipt) -> bool {
+    match &found {
+        Some(found) => is_same(found, receipt),
+        None => false,
+    }
+}
+
+fn keeps<S: Alter>(a: Global, conn: &mut Connection<S>, given: Given) -> Result<bool, Fault> {
+    at_rest(conn)?;
+    let receipt = receipt_of(a, given)?;
+    let found = kept(conn, a, receipt.request)?;
+    Ok(is_kept(found, &receipt))
+}
+
+fn keeps_for<S: Alter>(a: Global, conn: &mut Connection<S>, request: u64) -> Result<bool, Fault> {
+    at_rest(conn)?;
+    let found = kept(conn, a, Uuid::from_u128(u128::from(request)))?;
+    Ok(found.is_some())
+}
+
 // What custody tells.
 pub(crate) fn custody_told<S: Alter>(
     a: Global,
@@ -162,17 +160,8 @@ pub(crate) fn custody_told<S: Alter>(
         OfCustody::Names(identity) => {
             answered(a, names(conn, Uuid::from_u128(u128::from(identity)))?)
         }
-        OfCustody::Keeps(given) => {
-            let receipt = receipt_of(a, given)?;
-            match kept(conn, a, receipt.request)? {
-                Some(found) => answered(a, is_same(&found, &receipt)),
-                None => answered(a, false),
-            }
-        }
-        OfCustody::KeepsFor(request) => {
-            let found = kept(conn, a, Uuid::from_u128(u128::from(request)))?;
-            answered(a, found.is_some())
-        }
+        OfCustody::Keeps(given) => answered(a, keeps(a, conn, given)?),
+        OfCustody::KeepsFor(request) => answered(a, keeps_for(a, conn, request)?),
         OfCustody::WasLent(package) => {
             answered(a, was_lent(conn, Uuid::from_u128(u128::from(package)))?)
         }

@@ -43,12 +43,12 @@ pub(crate) fn of_fixed<S: Alter>(
 ) -> Result<String, Fault> {
     at_rest(conn)?;
     match asks {
-        OfFixed::Contents => listed(a, &all_contents(conn, a)?, '|'),
-        OfFixed::Systems => listed(a, &all_spatial_ref_sys(conn, a)?, '|'),
-        OfFixed::MatrixSets => listed(a, &all_tile_matrix_sets(conn, a)?, '|'),
-        OfFixed::Matrices => listed(a, &all_tile_matrices(conn, a)?, '|'),
-        OfFixed::Relations => listed(a, &all_relations(conn, a)?, '|'),
-        OfFixed::Heads => listed(a, &all_heads(conn, a)?, '|'),
+        OfFixed::Contents => listed(a, all_contents(conn, a), '|'),
+        OfFixed::Systems => listed(a, all_spatial_ref_sys(conn, a), '|'),
+        OfFixed::MatrixSets => listed(a, all_tile_matrix_sets(conn, a), '|'),
+        OfFixed::Matrices => listed(a, all_tile_matrices(conn, a), '|'),
+        OfFixed::Relations => listed(a, all_relations(conn, a), '|'),
+        OfFixed::Heads => listed(a, all_heads(conn, a), '|'),
     }
 }
 
@@ -67,9 +67,9 @@ pub(crate) fn of_receipts<S: Alter>(
 ) -> Result<String, Fault> {
     at_rest(conn)?;
     match asks {
-        OfReceipts::Of(request) => found(a, &receipt_by_request(conn, request)?),
+        OfReceipts::Of(request) => found(a, receipt_by_request(conn, request)),
         OfReceipts::Counts => counts(a, conn),
-        OfReceipts::Moved(seq) => listed(a, &moved_of(conn, a, seq)?, ';'),
-        OfReceipts::MovedOfKind(base, kind) => found(a, &moved_of_kind(conn, base, kind)?),
+        OfReceipts::Moved(seq) => listed(a, moved_of(conn, a, seq), ';'),
+        OfReceipts::MovedOfKind(base, kind) => found(a, moved_of_kind(conn, base, kind)),
     }
 }

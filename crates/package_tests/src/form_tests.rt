@@ -3,7 +3,9 @@
 use crate::forms::OfForms;
 use crate::steps::{Step, wrong_in_nothing, wrong_in_package};
 use crate::values::loan;
+use package_tables::fault::Fault;
 use sheet_types::frame::Frame;
+use std::alloc::Global;
 use std::test::Fail;
 use test_values::FRAME;
 
@@ -149,12 +151,30 @@ fn frames_of_new_packages(rt: HostRuntime) -> Result<(), Fail> {
     Ok(())
 }
 
+fn wrong_after(a: Global, statements: &'static str) -> Result<String, Fault> {
+    let steps = [Step::Alters(statements), Step::Forms(OfForms::Frame, "-")];
+    wrong_in_package(a, &FRAME, &loan(), steps.as_slice())
+}
+
+// The statements after which something is wrong, each in a package of its own, one a line, and what it is.
+fn wrong_without(a: Global, all: &[&'static str]) -> Result<String, Fault> {
+    let mut told = String::new(a);
+    for statements in all {
+        let wrong = wrong_after(a, *statements)?;
+        if !wrong.as_str().is_empty() {
+            told.push_str(*statements)?;
+            told.push('\n')?;
+            told.push_str(wrong.as_str())?;
+        }
+    }
+    Ok(told)
+}
+
 #[test]
 fn no_frame(rt: HostRuntime) -> Result<(), Fail> {
-    for statements in NO_FRAME {
-        let steps = [Step::Alters(statements), Step::Forms(OfForms::Frame, "-")];
-        let wrong = wrong_in_package(rt.alloc(), &FRAME, &loan(), steps.as_slice())?;
-        assert_eq!(rt; wrong.as_str(), "", "{statements}");
-    }
+    assert_eq!(rt;
+        wrong_without(rt.alloc(), NO_FRAME.as_slice())?.as_str(),
+        ""
+    );
     Ok(())
 }

@@ -1,6 +1,6 @@
 // What a store says of itself: its form, its head, its moments, its frame and its claims; its receipts, and its version.
 
-use crate::tables::fixed_text;
+use crate::tables::{Part, Told, fixed_text, joined, listed};
 use first_version::migration::migrate;
 use first_version::names::are_free;
 use first_version::taking_back::take_back;
@@ -9,7 +9,7 @@ use sheet_types::fingerprints::spell;
 use sheet_types::receipt::{Moved, MovedKind, Receipt};
 use sqlite::{Alter, Connection};
 use std::alloc::{AllocError, Global};
-use store_forms::claims::claims;
+use store_forms::claims::{StoreClaim, claims};
 use store_forms::form::has_form;
 use store_forms::frames::{are_dated, read_frame};
 use store_forms::heads::head;
@@ -63,29 +63,42 @@ fn frame_text<S: Alter>(a: Global, conn: &mut Connection<S>) -> Result<String, F
     at_rest(conn)?;
     match read_frame(conn, a)? {
         Some(f) => {
-            let ends = format!(in a; "{} {} {} {}", f.min_x, f.min_y, f.max_x, f.max_y)?;
-            let tiles = format!(in a; "{} {}", f.tile_width, f.tile_height)?;
-            let zooms = format!(in a; "{} {}", f.first_zoom, f.levels)?;
-            let matrix = format!(in a; "{} {}", f.matrix_width, f.matrix_height)?;
-            let places = format!(in a; "{} {}", ends.as_str(), tiles.as_str())?;
-            let levels = format!(in a; "{} {}", zooms.as_str(), matrix.as_str())?;
-            Ok(format!(in a; "{} {} {}", f.srs_id, places.as_str(), levels.as_str())?)
+            let numbers = [
+                Part::Number(f.srs_id),
+                Part::Number(f.min_x),
+                Part::Number(f.min_y),
+                Part::Number(f.max_x),
+                Part::Number(f.max_y),
+                Part::Number(f.tile_width),
+                Part::Number(f.tile_height),
+                Part::Number(f.first_zoom),
+                Part::Number(f.levels),
+                Part::Number(f.matrix_width),
+                Part::Number(f.matrix_height),
+            ];
+            Ok(joined(a, numbers.as_slice())?)
         }
         None => Ok(fixed_text(a, "-")?),
     }
 }
 
+impl Told for StoreClaim {
+    fn told(&self, alloc: Global) -> Result<String, AllocError> {
+        joined(
+            alloc,
+            &[
+                Part::Number(self.seq),
+                Part::Text(self.line.as_str()),
+                Part::Text(self.source.as_str()),
+                Part::Text(self.target.as_str()),
+            ],
+        )
+    }
+}
+
 fn claims_text<S: Alter>(a: Global, conn: &mut Connection<S>) -> Result<String, Fault> {
     at_rest(conn)?;
-    let mut said = String::new(a);
-    for claim in &claims(conn, a)? {
-        let seq = claim.seq;
-        let line = claim.line.as_str();
-        let source = claim.source.as_str();
-        let target = claim.target.as_str();
-        said.push_str(format!(in a; "{seq} {line} {source} {target}|")?.as_str())?;
-    }
-    Ok(said)
+    listed(a, claims(conn, a), '|')
 }
 
 fn kind_text(kind: MovedKind) -> &'static str {
@@ -109,47 +122,63 @@ fn digest_text(a: Global, digest: &Option<[u8; 32]>) -> Result<String, AllocErro
     }
 }
 
-fn thing_text(a: Global, thing: &Moved) -> Result<String, AllocError> {
-    let kind = kind_text(thing.kind);
-    let base = identity_text(a, thing.base)?;
-    let other = end_text(a, thing.other)?;
-    let digest = digest_text(a, &thing.fingerprint)?;
-    let ends = format!(in a; "{kind} {} {}", base.as_str(), other.as_str())?;
-    format!(in a; "{} {} {};", ends.as_str(), thing.size, digest.as_str())
+// Each of these puts a part behind a text, so that few texts are held at once.
+fn put(text: &mut String, part: Result<String, AllocError>) -> Result<(), AllocError> {
+    let part = part?;
+    text.push_str(part.as_str())?;
+    text.push(' ')
 }
 
-fn receipt_text(a: Global, r: &Receipt) -> Result<String, AllocError> {
-    let request = identity_text(a, r.request)?;
-    let source = end_text(a, r.source)?;
-    let target = end_text(a, r.target)?;
-    let texts = format!(in a; "{} {}", r.at.as_str(), r.line.as_str())?;
-    let ends = format!(in a; "{} {}", source.as_str(), target.as_str())?;
-    let counts = format!(in a;
-        "{} {} {} {} {}",
-        r.tiles, r.media, r.rows, r.links, r.bytes
-    )?;
-    let head = format!(in a; "{} {}", r.seq, request.as_str())?;
-    let said = format!(in a; "{} {} {}", texts.as_str(), ends.as_str(), counts.as_str())?;
-    let mut text = format!(in a; "{} {}: ", head.as_str(), said.as_str())?;
+fn put_number(a: Global, text: &mut String, number: u64) -> Result<(), AllocError> {
+    put(text, format!(in a; "{number}"))
+}
+
+fn put_thing(a: Global, text: &mut String, thing: &Moved) -> Result<(), AllocError> {
+    put(text, fixed_text(a, kind_text(thing.kind)))?;
+    put(text, identity_text(a, thing.base))?;
+    put(text, end_text(a, thing.other))?;
+    put_number(a, text, thing.size)?;
+    text.push_str(digest_text(a, &thing.fingerprint)?.as_str())?;
+    text.push(';')
+}
+
+fn put_counts(a: Global, text: &mut String, r: &Receipt) -> Result<(), AllocError> {
+    put_number(a, text, r.tiles)?;
+    put_number(a, text, r.media)?;
+    put_number(a, text, r.rows)?;
+    put_number(a, text, r.links)?;
+    text.push_str(format!(in a; "{}: ", r.bytes)?.as_str())
+}
+
+fn put_receipt(a: Global, text: &mut String, r: &Receipt) -> Result<(), AllocError> {
+    put_number(a, text, r.seq)?;
+    put(text, identity_text(a, r.request))?;
+    put(text, fixed_text(a, r.at.as_str()))?;
+    put(text, fixed_text(a, r.line.as_str()))?;
+    put(text, end_text(a, r.source))?;
+    put(text, end_text(a, r.target))?;
+    put_counts(a, text, r)?;
     for thing in r.items.as_slice() {
-        text.push_str(thing_text(a, thing)?.as_str())?;
+        put_thing(a, text, thing)?;
     }
-    text.push('|')?;
+    text.push('|')
+}
+
+fn list_text(a: Global, list: &[Receipt]) -> Result<String, AllocError> {
+    let mut text = String::new(a);
+    for receipt in list {
+        put_receipt(a, &mut text, receipt)?;
+    }
     Ok(text)
 }
 
 fn receipts_text<S: Alter>(a: Global, conn: &mut Connection<S>) -> Result<String, Fault> {
     at_rest(conn)?;
-    let mut text = String::new(a);
-    match receipts(conn, a)? {
-        Some(list) => {
-            for receipt in &list {
-                text.push_str(receipt_text(a, receipt)?.as_str())?;
-            }
-        }
-        None => text.push('-')?,
+    let list = receipts(conn, a)?;
+    match &list {
+        Some(list) => Ok(list_text(a, list)?),
+        None => Ok(fixed_text(a, "-")?),
     }
-    Ok(text)
 }
 
 // What the store tells.

@@ -130,19 +130,33 @@ fn are_those(found: &[Item], from: usize, kind: u8) -> bool {
     true
 }
 
+// How many items there are, whether those of each kind are the ones that were put in, and how many links there are.
+fn told_of(found: &[Item], links: &[Relation]) -> (usize, [bool; 3], usize) {
+    let of_kinds = [
+        are_those(found, 0, 1),
+        are_those(found, 300, 2),
+        are_those(found, 600, 3),
+    ];
+    (found.len(), of_kinds, links.len())
+}
+
+fn told_of_filled<S: Alter>(
+    alloc: Global,
+    conn: &mut Connection<S>,
+) -> Result<(usize, [bool; 3], usize), Fault> {
+    if !committed(conn, &Filled)? {
+        return Err(Fault::StoreFault);
+    }
+    let (found, links) = held(alloc, conn)?;
+    Ok(told_of(&found, &links))
+}
+
 // ---- tests
 
 #[test]
 fn many_items_are_read_back(rt: HostRuntime) -> Result<(), Fail> {
-    let a = rt.alloc();
-    let mut conn = in_memory(a)?;
-    let conn = &mut conn;
-    assert!(rt; committed(conn, &Filled)?);
-    let (found, links) = held(a, conn)?;
-    assert!(rt; found.len() == 900);
-    assert!(rt; are_those(&found, 0, 1));
-    assert!(rt; are_those(&found, 300, 2));
-    assert!(rt; are_those(&found, 600, 3));
-    assert!(rt; links.is_empty());
+    let mut conn = in_memory(rt.alloc())?;
+    let told = told_of_filled(rt.alloc(), &mut conn)?;
+    assert!(rt; told == (900, [true, true, true], 0));
     Ok(())
 }

@@ -1,6 +1,7 @@
 // What is done to the items and links of a package, and asked of them, as data. An identity is a small number here. Each call is here
 // once, so a test that makes it costs no proof of a call.
 
+use crate::tables::{Part, joined};
 use identity_register::additions::add;
 use identity_register::changes::{delete, link, unlink};
 use identity_register::dating::date_contents;
@@ -10,7 +11,7 @@ use identity_register::whole::holdings;
 use matrix_rules::spans::Span;
 use package_tables::fault::Fault;
 use package_tables::fixed::set_last_change;
-use sheet_types::command::{Content, Mapping, Relation};
+use sheet_types::command::{Content, Item, Mapping, Relation};
 use sheet_types::frame::Ground;
 use sqlite::{Alter, Connection, Transaction};
 use std::alloc::{AllocError, Global};
@@ -106,20 +107,43 @@ fn content_text(a: Global, content: &Content) -> Result<String, AllocError> {
             row,
             bytes,
         } => {
-            let bytes = from_utf8(bytes.as_slice()).unwrap_or("?");
-            format!(in a; "tile {zoom} {column} {row} {bytes}")
+            let parts = [
+                Part::Text("tile"),
+                Part::Number(*zoom),
+                Part::Number(*column),
+                Part::Number(*row),
+                Part::Text(from_utf8(bytes.as_slice()).unwrap_or("?")),
+            ];
+            joined(a, parts.as_slice())
         }
         Content::Media {
             content_type,
             bytes,
         } => {
-            let bytes = from_utf8(bytes.as_slice()).unwrap_or("?");
-            format!(in a; "medium {} {bytes}", content_type.as_str())
+            let parts = [
+                Part::Text("medium"),
+                Part::Text(content_type.as_str()),
+                Part::Text(from_utf8(bytes.as_slice()).unwrap_or("?")),
+            ];
+            joined(a, parts.as_slice())
         }
         Content::Row { x, y, code, label } => {
-            format!(in a; "row {x} {y} {code} {}", label.as_str())
+            let parts = [
+                Part::Text("row"),
+                Part::Number(*x),
+                Part::Number(*y),
+                Part::Number(*code),
+                Part::Text(label.as_str()),
+            ];
+            joined(a, parts.as_slice())
         }
     }
+}
+
+fn put_item(a: Global, text: &mut String, item: &Item) -> Result<(), AllocError> {
+    text.push_str(format!(in a; "{} ", number_of(item.identity))?.as_str())?;
+    text.push_str(content_text(a, &item.content)?.as_str())?;
+    text.push(';')
 }
 
 fn held<S: Alter>(a: Global, conn: &mut Connection<S>) -> Result<String, Fault> {
@@ -127,9 +151,7 @@ fn held<S: Alter>(a: Global, conn: &mut Connection<S>) -> Result<String, Fault> 
     let (items, links) = holdings(conn, a)?;
     let mut text = String::new(a);
     for item in &items {
-        let identity = number_of(item.identity);
-        let content = content_text(a, &item.content)?;
-        text.push_str(format!(in a; "{identity} {};", content.as_str())?.as_str())?;
+        put_item(a, &mut text, item)?;
     }
     text.push_str(links_text(a, &links)?.as_str())?;
     Ok(text)

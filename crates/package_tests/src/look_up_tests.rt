@@ -65,18 +65,20 @@ fn a_link_that_is_to_come_in_has_a_state(rt: HostRuntime) -> Result<(), Fail> {
     Ok(())
 }
 
+const KINDS: [MovedKind; 3] = [
+    MovedKind::TileItem,
+    MovedKind::RowItem,
+    MovedKind::RowsTilesLink,
+];
+
 // From the least number to the greatest, and one beyond each.
 #[test]
 fn a_stored_number_tells_a_kind(rt: HostRuntime) -> Result<(), Fail> {
     assert!(rt; kind_of_number(1)? == MovedKind::TileItem);
     assert!(rt; kind_of_number(5)? == MovedKind::RowsMediaLink);
     assert!(rt; kind_of_number(6)? == MovedKind::RowsTilesLink);
-    for kind in [
-        MovedKind::TileItem,
-        MovedKind::RowItem,
-        MovedKind::RowsTilesLink,
-    ] {
-        assert!(rt; kind_of_number(number_of_kind(kind))? == kind);
+    for kind in KINDS.as_slice() {
+        assert!(rt; kind_of_number(number_of_kind(*kind))? == *kind);
     }
     assert!(rt; kind_of_number(0).is_err());
     assert!(rt; kind_of_number(7).is_err());

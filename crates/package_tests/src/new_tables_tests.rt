@@ -1,12 +1,17 @@
 // A new package, in memory and on a disk, and what comes into it. The expected rows are those of the GeoPackage standard and of the profile.
 
+ghost use Rattle.std.specs.Prelude.{IfOk, IsTrue};
+ghost use Rattle.sqlite_disk.specs.Memory.{memory_is_usable};
+
 use crate::asks::Asks;
 use crate::fixed_asks::{OfFixed, OfReceipts};
 use crate::items::Does;
 use crate::steps::{Step, wrong, wrong_in_new_tables};
 use crate::values::{HEAD, archive, close, open};
 use package_tables::fault::Fault;
+use sqlite::{Alter, Connection, Error};
 use sqlite_disk::Memory;
+use std::alloc::Global;
 use std::test::Fail;
 use test_values::{AT, FRAME, Row, Rows, committed, in_memory, new_tables};
 
@@ -205,30 +210,71 @@ fn receipts_and_what_they_moved_are_found(rt: HostRuntime) -> Result<(), Fail> {
     Ok(())
 }
 
+fn entered<S: Alter>(conn: &mut Connection<S>, rows: &[Row]) -> Result<(), Fault> {
+    if committed(conn, &Rows(rows))? {
+        Ok(())
+    } else {
+        Err(Fault::StoreFault)
+    }
+}
+
+// What was wrong after memory was refused to the fourth receipt, which then comes in.
+fn wrong_when_refused<S: Alter>(a: Global, conn: &mut Connection<S>) -> Result<String, Fault> {
+    let left = wrong(a, conn, THREE_ALONE.as_slice())?;
+    entered(conn, FOURTH.as_slice())?;
+    Ok(left)
+}
+
+// What was wrong while the fourth receipt came in.
+fn wrong_at_fourth<S: Alter>(a: Global, conn: &mut Connection<S>) -> Result<String, Fault> {
+    let made = committed(conn, &Rows(FOURTH.as_slice()));
+    match made {
+        Ok(_) => Ok(String::new(a)),
+        Err(Fault::OutOfMemory) => wrong_when_refused(a, conn),
+        Err(Fault::StoreFault) => Err(Fault::StoreFault),
+    }
+}
+
+fn wrong_of_four<S: Alter>(a: Global, conn: &mut Connection<S>) -> Result<String, Fault> {
+    entered(conn, ENTERED.as_slice())?;
+    let mut told = wrong_at_fourth(a, conn)?;
+    told.push_str(wrong(a, conn, FOUR.as_slice())?.as_str())?;
+    Ok(told)
+}
+
 // `bench/failing_allocations.sh` runs this test with each allocation refused in turn.
 #[test]
 fn a_receipt_comes_whole_or_not_at_all(rt: HostRuntime) -> Result<(), Fail> {
     let alloc = rt.alloc();
     let mut conn = new_tables(alloc, in_memory(alloc)?, &FRAME, &archive())?.into_connection();
-    assert!(rt; committed(&mut conn, &Rows(ENTERED.as_slice()))?);
-    if let Err(fault) = committed(&mut conn, &Rows(FOURTH.as_slice())) {
-        assert!(rt; fault == Fault::OutOfMemory);
-        let left = wrong(alloc, &mut conn, THREE_ALONE.as_slice())?;
-        assert_eq!(rt; left.as_str(), "");
-        assert!(rt; committed(&mut conn, &Rows(FOURTH.as_slice()))?);
-    }
-    let wrong = wrong(alloc, &mut conn, FOUR.as_slice())?;
+    let wrong = wrong_of_four(alloc, &mut conn)?;
     assert_eq!(rt; wrong.as_str(), "");
     Ok(())
+}
+
+// The disk of a new package.
+fn made_on_disk(a: Global) -> Result<Memory, Fail>
+    ensures { IfOk result (λ db. IsTrue (memory_is_usable db)) }
+{
+    let disk = open(a, Memory::new(a))?;
+    let conn = new_tables(a, disk, &FRAME, &archive())?.into_connection();
+    Ok(close(conn)?)
+}
+
+// What is wrong of a store that was opened. Over any store, so that it is let go at a type that costs no proof.
+fn wrong_of_opened<S: Alter + Drop>(
+    a: Global,
+    opened: Result<Connection<S>, Error>,
+) -> Result<String, Fault> {
+    let mut conn = opened?;
+    wrong(a, &mut conn, AGAIN.as_slice())
 }
 
 #[test]
 fn a_new_package_is_there_when_its_disk_is_opened_again(rt: HostRuntime) -> Result<(), Fail> {
     let alloc = rt.alloc();
-    let disk = open(alloc, Memory::new(alloc))?;
-    let conn = new_tables(alloc, disk, &FRAME, &archive())?.into_connection();
-    let mut again = open(alloc, close(conn)?)?;
-    let wrong = wrong(alloc, &mut again, AGAIN.as_slice())?;
+    let disk = made_on_disk(alloc)?;
+    let wrong = wrong_of_opened(alloc, open(alloc, disk))?;
     assert_eq!(rt; wrong.as_str(), "");
     Ok(())
 }

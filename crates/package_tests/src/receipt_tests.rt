@@ -8,7 +8,7 @@ use crate::values::archive;
 use custody::homing::bring_home;
 use package_tables::fault::Fault;
 use package_tables::package::begin;
-use sqlite::{Alter, Connection};
+use sqlite::{Alter, Connection, MemStore};
 use std::alloc::Global;
 use std::test::Fail;
 use test_values::{FRAME, at_rest, in_memory, new_package};
@@ -109,27 +109,42 @@ fn brought_home<S: Alter>(
 }
 
 // What the steps of both packages told that was not expected.
-fn wrong_after_homecoming<S: Alter>(
+fn wrong_of_both<S: Alter>(
     a: Global,
     child: &mut Connection<S>,
+    of_child: &[Step],
     parent: &mut Connection<S>,
+    of_parent: &[Step],
 ) -> Result<String, Fault> {
-    let mut told = wrong(a, child, OF_THE_CHILD.as_slice())?;
-    told.push_str(wrong(a, parent, OF_THE_PARENT.as_slice())?.as_str())?;
-    if !brought_home(child, parent)? {
+    let mut told = wrong(a, child, of_child)?;
+    told.push_str(wrong(a, parent, of_parent)?.as_str())?;
+    Ok(told)
+}
+
+// Takes both by value and over any store, so that they are let go at a type that costs no proof.
+fn wrong_after_homecoming<S: Alter + Drop>(
+    a: Global,
+    mut child: Connection<S>,
+    mut parent: Connection<S>,
+) -> Result<String, Fault> {
+    let (of_child, of_parent) = (OF_THE_CHILD.as_slice(), OF_THE_PARENT.as_slice());
+    let mut told = wrong_of_both(a, &mut child, of_child, &mut parent, of_parent)?;
+    if !brought_home(&mut child, &mut parent)? {
         return Err(Fault::StoreFault);
     }
-    told.push_str(wrong(a, parent, COME_HOME.as_slice())?.as_str())?;
-    told.push_str(wrong(a, child, LEFT.as_slice())?.as_str())?;
+    let (of_child, of_parent) = (LEFT.as_slice(), COME_HOME.as_slice());
+    told.push_str(wrong_of_both(a, &mut child, of_child, &mut parent, of_parent)?.as_str())?;
     Ok(told)
+}
+
+fn new_archive(a: Global) -> Result<Connection<MemStore>, Fault> {
+    new_package(a, in_memory(a)?, &FRAME, &archive())
 }
 
 #[test]
 fn all_receipts_come_home(rt: HostRuntime) -> Result<(), Fail> {
     let alloc = rt.alloc();
-    let mut child = new_package(alloc, in_memory(alloc)?, &FRAME, &archive())?;
-    let mut parent = new_package(alloc, in_memory(alloc)?, &FRAME, &archive())?;
-    let wrong = wrong_after_homecoming(alloc, &mut child, &mut parent)?;
+    let wrong = wrong_after_homecoming(alloc, new_archive(alloc)?, new_archive(alloc)?)?;
     assert_eq!(rt; wrong.as_str(), "");
     Ok(())
 }

@@ -1,5 +1,8 @@
 // The objects of a new package, as the store lists them.
 
+ghost use Rattle.std.specs.Prelude.{IfOk, IsTrue};
+ghost use Rattle.sqlite_disk.specs.Memory.{memory_is_usable};
+
 use crate::values::{close, open};
 use package_tables::fault::Fault;
 use sqlite::{Alter, Connection, Error};
@@ -62,16 +65,37 @@ fn objects<S: Alter>(alloc: Global, conn: &mut Connection<S>) -> Result<String, 
 }
 
 // Over any store: where the store is a known one, a change that borrows is not proved.
-fn made<S: Alter>(conn: &mut Connection<S>) -> Result<bool, Fault> {
-    committed(conn, &Tables(&[]))
+fn made<S: Alter>(conn: &mut Connection<S>) -> Result<(), Fault> {
+    if committed(conn, &Tables(&[]))? {
+        Ok(())
+    } else {
+        Err(Fault::StoreFault)
+    }
+}
+
+// The disk of a store with the schema.
+fn made_on_disk(a: Global) -> Result<Memory, Fail>
+    ensures { IfOk result (λ db. IsTrue (memory_is_usable db)) }
+{
+    let mut conn = open(a, Memory::new(a))?;
+    made(&mut conn)?;
+    Ok(close(conn)?)
+}
+
+// Over any store, so that the one that was opened is let go at a type that costs no proof.
+fn objects_of<S: Alter + Drop>(
+    a: Global,
+    opened: Result<Connection<S>, Error>,
+) -> Result<String, Error> {
+    let mut conn = opened?;
+    objects(a, &mut conn)
 }
 
 #[test]
 fn a_schema_on_a_disk_is_there_when_it_is_opened_again(rt: HostRuntime) -> Result<(), Fail> {
     let alloc = rt.alloc();
-    let mut conn = open(alloc, Memory::new(alloc))?;
-    assert!(rt; made(&mut conn)?);
-    let mut again = open(alloc, close(conn)?)?;
-    assert_eq!(rt; objects(alloc, &mut again)?.as_str(), OBJECTS);
+    let disk = made_on_disk(alloc)?;
+    let listed = objects_of(alloc, open(alloc, disk))?;
+    assert_eq!(rt; listed.as_str(), OBJECTS);
     Ok(())
 }

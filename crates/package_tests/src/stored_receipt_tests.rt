@@ -3,6 +3,8 @@
 use crate::forms::OfForms;
 use crate::steps::{Step, wrong_in_package};
 use crate::values::archive;
+use package_tables::fault::Fault;
+use std::alloc::Global;
 use std::test::Fail;
 use test_values::{AT, FRAME, Row};
 
@@ -119,15 +121,26 @@ fn rows_in_their_ranges_say_receipts_in_order(rt: HostRuntime) -> Result<(), Fai
     Ok(())
 }
 
+fn wrong_of(a: Global, thing: &OneThing, expected: &'static str) -> Result<String, Fault> {
+    let steps = thing.steps(expected);
+    wrong_in_package(a, &FRAME, &archive(), steps.as_slice())
+}
+
+// What was wrong of things that are out of their ranges, each in a package of its own.
+fn wrong_of_all(a: Global, things: &[OneThing]) -> Result<String, Fault> {
+    let mut wrong = String::new(a);
+    for thing in things {
+        wrong.push_str(wrong_of(a, thing, "no")?.as_str())?;
+    }
+    Ok(wrong)
+}
+
 #[test]
 fn a_row_out_of_its_ranges_is_seen(rt: HostRuntime) -> Result<(), Fail> {
-    let steps = GOOD.steps("yes");
-    let wrong = wrong_in_package(rt.alloc(), &FRAME, &archive(), steps.as_slice())?;
-    assert_eq!(rt; wrong.as_str(), "");
-    for thing in OUT_OF_RANGE {
-        let steps = thing.steps("no");
-        let wrong = wrong_in_package(rt.alloc(), &FRAME, &archive(), steps.as_slice())?;
-        assert_eq!(rt; wrong.as_str(), "");
-    }
+    assert_eq!(rt; wrong_of(rt.alloc(), &GOOD, "yes")?.as_str(), "");
+    assert_eq!(rt;
+        wrong_of_all(rt.alloc(), OUT_OF_RANGE.as_slice())?.as_str(),
+        ""
+    );
     Ok(())
 }
