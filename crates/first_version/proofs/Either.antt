@@ -1,20 +1,18 @@
 -- A store of either version comes to the second.
-use Rattle.std.proofs.Common.{◌≡◌, ◌⊎◌, inl, inr, Result, Ok, Err, IsTrue, sym, ◌∙◌}
+use Rattle.std.proofs.Common.{inl, inr, Ok, Err, IsTrue, sym, ◌∙◌}
 use Rattle.std.specs.Prelude.{IfOk}
 use Rattle.sqlite.specs.Tree.{Trees}
 use Rattle.sqlite.specs.Store.{Ghosts}
 use Rattle.sqlite.specs.Held.{Held, state}
-use Rattle.sqlite.specs.Schema.{Schema}
-use Rattle.sqlite.specs.Effect.{Database, IsDatabase}
-use Rattle.sqlite.specs.State.{State, HasCleanDisk, Survives}
+use Rattle.sqlite.specs.Effect.{Database}
+use Rattle.sqlite.specs.State.{State}
 use Rattle.sql_meaning.specs.Transactions.{Rests, Holds, Turns, WouldLeave}
 use Rattle.sql_meaning.proofs.Transactions.{Shuts, Settles, at_rest, same_survives}
 use Rattle.sheet_types.specs.World.{Package}
 use Rattle.sheet_types.specs.declared.frame.Frame.{Frame}
 use Rattle.identity_register.specs.Reads.{Reads}
-use Rattle.package_tables.specs.declared.fault.Fault.{Fault}
 use Rattle.package_tables.proofs.InTurn.{Done, done}
-use Rattle.first_version.specs.FirstVersion.{AreFree, ReadsAtOne}
+use Rattle.first_version.specs.FirstVersion.{AreFree}
 use Rattle.first_version.specs.Migrating.{Brings, BringsIfFirst}
 
 -- a store of the second version has the table

@@ -1,6 +1,5 @@
 -- The one head gets a version.
-use Rattle.std.proofs.Common.{◌≡◌, ℕ, ℤ, ◌≤◌, List, [], ◌∷◌, map, length, true, Ok, codes, refl, sym, ap, subst, ◌∙◌, arith}
-use Rattle.std.specs.Prelude.{filter}
+use Rattle.std.proofs.Common.{◌≡◌, ℕ, ℤ, List, [], ◌∷◌, map, length, true, Ok, codes, refl, sym, ap, subst, ◌∙◌, arith}
 use Rattle.std.specs.List.{AllByRecursion}
 use Rattle.sqlite.specs.Order.{Row}
 use Rattle.sqlite.specs.Tree.{rowid}
@@ -63,7 +62,7 @@ versions version old new updates formed head is =
     let there : old.trees (sheet_package p.tree).tree ≡ head_shape.stored (rowid alone.0) head ∷ [] = table.before ∙ alone.1 ∙ ap (λ r. r ∷ []) (sym stored) in
     let next = head_shape.stored (rowid alone.0) (with_version version head) in
     let rows : stored_rows head_shape new ≡ next ∷ [] = table.after
-    ∙ did.rows (subst IsKeyed (sym table.before) here.keyed) (subst (λ l. length (filter (λ r. true) l) ≤ 1) (sym there) (omega arith))
+    ∙ did.rows (subst IsKeyed (sym table.before) here.keyed)
     (subst (AllByRecursion (λ r. has_kinds (sheet_package p.tree) (change version r) ≡ true)) (sym there) (of_kinds p.tree (rowid alone.0) (with_version version head), tt))
     ∙ ap (map (change version)) there in
     let formed_new : IsFormed head_shape new = record {

@@ -1,26 +1,21 @@
 -- A package whose moment of the last change is another is the same package.
-use Rattle.std.proofs.Common.{◌≡◌, ℕ, List, Result, Ok, refl, sym, ap, subst, ◌∙◌}
-use Rattle.std.specs.Prelude.{codes, true}
+use Rattle.std.proofs.Common.{◌≡◌, ℕ, List, Result, refl, sym, ap, subst, ◌∙◌}
+use Rattle.std.specs.Prelude.{true}
 use Rattle.sqlite.specs.Effect.{Database}
-use Rattle.sqlite.specs.State.{State}
+use Rattle.sqlite.specs.State.{State, Survives}
 use Rattle.sql_meaning.specs.Transactions.{Steps}
-use Rattle.sql_meaning.proofs.Transactions.{steps_then, steps_weaker}
-use Rattle.sheet_types.specs.Ordered.{IsArranged}
+use Rattle.sql_meaning.proofs.Transactions.{steps_weaker}
 use Rattle.sheet_types.specs.Texts.{is_moment}
 use Rattle.sheet_types.specs.World.{Package}
 use Rattle.sheet_types.specs.declared.frame.Frame.{Frame}
-use Rattle.package_tables.specs.Calls.{OnTables}
+use Rattle.package_tables.specs.Calls.{Makes, OnTables}
 use Rattle.package_tables.specs.Changes.{SetsLastChange}
 use Rattle.package_tables.specs.Fixed.{contents_of}
 use Rattle.package_tables.specs.Package.{Tables, tables_of}
-use Rattle.package_tables.specs.Shapes.{contents_shape}
-use Rattle.package_tables.proofs.FixedKept.{names_apart, fixed_kept, dated_in_turn}
+use Rattle.package_tables.proofs.FixedKept.{dated}
+use Rattle.package_tables.proofs.Stepping.{makes_steps}
 use Rattle.identity_register.specs.Calls.{Becomes, HasLastChange, Dates}
 use Rattle.identity_register.specs.Reads.{Says}
-
--- one call sets the moment of one table, where the names differ
-abbrev Sets : List ℕ → List ℕ → Database → Database → Type 0
-Sets at name old new = IsArranged contents_shape.key (tables_of old).contents → OnTables (SetsLastChange at name) old new
 
 still_says : (f : Frame) (p : Package) (at : List ℕ) (t : Tables) → is_moment at ≡ true → Says f p t → Says f p (record t { contents = contents_of f at })
 still_says f p at t moment says = record {
@@ -40,23 +35,15 @@ still_says f p at t moment says = record {
   of_receipts = says.of_receipts;
 }
 
--- the three tables, one after the other
-dated_so : (at : List ℕ) (old one two new : Database) → Sets at (codes "sheet_media") old one → Sets at (codes "sheet_rows") one two → Sets at (codes "sheet_tiles") two new → Dates at old new
-dated_so at old one two new media rows tiles moment f p reads =
-    let fixed = reads.says.fixed in
-    let first = media (names_apart f (tables_of old) fixed) reads.formed in
-    let after = fixed_kept f at (codes "sheet_media") (tables_of old) (tables_of one) fixed first.1 in
-    let second = rows (names_apart f (tables_of one) after) first.0 in
-    let later = fixed_kept f at (codes "sheet_rows") (tables_of one) (tables_of two) after second.1 in
-    let third = tiles (names_apart f (tables_of two) later) second.0 in
-    let are = dated_in_turn f at (tables_of old) (tables_of one) (tables_of two) (tables_of new) fixed first.1 second.1 third.1 in
+dated_so : (at : List ℕ) (old new : Database) → OnTables (SetsLastChange at) old new → Dates at old new
+dated_so at old new sets moment f p reads =
+    let did = sets reads.formed in
+    let are = dated f at (tables_of old) (tables_of new) reads.says.fixed did.1 in
     let last : HasLastChange f at new = ap (λ (t : Tables). t.contents) are in
-    (record { formed = third.0; says = subst (Says f p) (sym are) (still_says f p at (tables_of old) moment reads.says) }, last, are ∙ ap (λ c. record (tables_of old) { contents = c }) (sym last))
+    (record { formed = did.0; says = subst (Says f p) (sym are) (still_says f p at (tables_of old) moment reads.says) }, last, are ∙ ap (λ c. record (tables_of old) { contents = c }) (sym last))
 
-pub dated_steps : {E F G : Type 0} (at : List ℕ) {old one two new : State} {x y : Unit {0}} {r : Result (Unit {0}) G} → Steps {E = E} (λ _. Sets at (codes "sheet_media")) old one (Ok x) → Steps {E = F} (λ _. Sets at (codes "sheet_rows")) one two (Ok y)
-    → Steps (λ _. Sets at (codes "sheet_tiles")) two new r → Steps (λ _. Dates at) old new r
-dated_steps at {old} {one} {two} {new} media rows tiles =
-    steps_weaker (λ _. Dates at) (λ _ chain. dated_so at old.now chain.1.0 chain.0 new.now chain.1.1 chain.1.2 chain.2) (steps_then (steps_then media rows) tiles)
+pub dated_steps : {E : Type 0} (at : List ℕ) {old new : State} {r : Result (Unit {0}) E} → Makes (SetsLastChange at) old new r → Survives old new (λ _. ⊥) → Steps (λ _. Dates at) old new r
+dated_steps at {old} {new} makes survives = steps_weaker (λ _. Dates at) (λ _. dated_so at old.now new.now) (makes_steps (SetsLastChange at) makes survives)
 
 -- which is no change of the package
 pub same_steps : {E : Type 0} (at : List ℕ) {old new : State} {r : Result (Unit {0}) E} → Steps (λ _. Dates at) old new r → Steps (λ _. Becomes (λ _. is_moment at ≡ true) (λ p. p)) old new r

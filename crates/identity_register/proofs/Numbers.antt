@@ -1,9 +1,12 @@
 -- A number that is free in a kind, and the rows of an item that comes in under it.
-use Rattle.std.proofs.Common.{◌≡◌, ℕ, ℤ, pos, ◌≤ℤ◌, ◌+ℤ◌, arith, FitsSigned, w64, to_z, of_z, to_z-of_z, List, [], ◌∷◌, map, Bool, true, false, Option, Result, Ok, refl, sym, ap, subst, ◌∙◌}
-use Rattle.std.specs.Prelude.{int_le, ◌&&◌, bytes_eq, flat_map, unsigned_abs}
+use Rattle.std.proofs.Common.{◌≡◌, ℕ, ℤ, pos, ◌≤ℤ◌, ◌<ℤ◌, ◌+ℤ◌, arith, FitsSigned, w64, to_z, of_z, to_z-of_z, List, [], ◌∷◌, map, Bool, true, false, Option, Some, None, Result, Ok, refl, sym, ap, subst, ◌∙◌}
+use Rattle.std.specs.Prelude.{int_le, ◌&&◌, ◌||◌, bytes_eq, cond, if◌then◌else◌, filter, flat_map, unsigned_abs}
 use Rattle.std.specs.List.{AllByRecursion, list_any}
 use Rattle.std.specs.Ordering.{int_eq}
-use Rattle.std.proofs.lemmas.Bool.{and_from, or_from}
+use Rattle.std.proofs.lemmas.Bool.{and_from, and_parts, or_from, false_from_ne_true}
+use Rattle.std.specs.Cmp.{signed_Decides}
+use Rattle.std.specs.Int.Signed.{<ℤ_irrefl}
+use Rattle.std.proofs.lemmas.List.Elements.{recursion_from_All}
 use Rattle.std.proofs.lemmas.Int.{ints}
 use Rattle.sqlite.specs.Effect.{Database}
 use Rattle.sqlite.specs.State.{State, Survives}
@@ -11,7 +14,7 @@ use Rattle.sql_meaning.specs.Transactions.{Steps}
 use Rattle.sql_meaning.proofs.Transactions.{steps_then, steps_weaker, steps_answer}
 use Rattle.package_tables.specs.Package.{Tables, tables_of, AreFormed}
 use Rattle.package_tables.specs.Shapes.{tile_shape, medium_shape, attribute_shape, identity_shape}
-use Rattle.package_tables.specs.Calls.{Makes, Tells, Answers, OnTables, IsOneOf}
+use Rattle.package_tables.specs.Calls.{Makes, Tells, Answers, OnTables, IsOneOf, IsGreatest}
 use Rattle.std.specs.Option.{is_some}
 use Rattle.package_tables.specs.declared.rows.IdentityRow.{IdentityRow}
 use Rattle.package_tables.specs.Listed.{identities}
@@ -26,7 +29,7 @@ use Rattle.sheet_types.specs.declared.command.Content.TheVariants.{Tile, Media, 
 use Rattle.sheet_types.specs.declared.frame.Frame.{Frame}
 use Rattle.sheet_types.proofs.Every.{All-weaker, All-both, All-map, All-of_map, All-each, none_pass, none_any}
 use Rattle.sheet_types.proofs.Order.{list_any-arranged}
-use Rattle.identity_register.specs.Numbering.{Numbered, greatest_number, place_in_tables, identity_row, tile_rows, media_rows, attribute_rows, puts, with_item, IsTaken, IsGap, FindsGap, AddsContent}
+use Rattle.identity_register.specs.Numbering.{Numbered, greatest_number, place_in_tables, identity_row, tile_rows, media_rows, attribute_rows, puts, with_item, IsTaken, IsGap, FindsGap, AddsContent, number_after}
 use Rattle.identity_register.specs.Reads.{Says}
 use Rattle.identity_register.specs.Calls.{Becomes}
 use Rattle.identity_register.specs.Changes.{IsNewItem, item_added}
@@ -156,6 +159,44 @@ pub taken_steps : {E : Type 0} (kind number : ℤ) (found : Option IdentityRow) 
 taken_steps {E} kind number found told survives =
     steps_answer {E = E} {F = E} (Answers (IsTaken kind number)) (is_some found) (λ it. (it.0, λ formed. one_tells (λ r. int_eq r.kind kind && int_eq r.local_id number) _ found (it.1 formed)))
     (tells_steps (λ t. IsOneOf (λ r. int_eq r.kind kind && int_eq r.local_id number) t.identities) told survives)
+
+below_is_other : (a b : ℤ) → a <ℤ b → int_eq a b ≡ false
+below_is_other a b low = false_from_ne_true (int_eq a b) (λ same. <ℤ_irrefl (subst (λ y. y <ℤ b) ((signed_Decides a b).0 same) low))
+
+next_within : (n : ℤ) → is_within (pos 1) (pos 999999) n ≡ true → is_within (pos 1) greatest_number (n +ℤ pos 1) ≡ true
+next_within n low = let parts : (int_le (pos 1) n ≡ true) × (int_le n (pos 999999) ≡ true) = and_parts (int_le (pos 1) n) (int_le n (pos 999999)) low in and_from (int_le (pos 1) (n +ℤ pos 1)) (int_le (n +ℤ pos 1) greatest_number) (grind (arith, ints)) (grind (arith, ints))
+
+-- a number above those of a kind is not taken
+above_free : (kind number : ℤ) (rows : List IdentityRow) → AllByRecursion (λ x. x.local_id <ℤ number) (filter (λ x. int_eq x.kind kind) rows) → list_any (λ x. int_eq x.kind kind && int_eq x.local_id number) rows ≡ false
+above_free kind number [] h = refl
+above_free kind number (x ∷ rows) h =
+    elim (int_eq x.kind kind) as (λ v. AllByRecursion (λ r. r.local_id <ℤ number) (cond v (x ∷ filter (λ r. int_eq r.kind kind) rows) (filter (λ r. int_eq r.kind kind) rows)) → (v && int_eq x.local_id number || list_any (λ r. int_eq r.kind kind && int_eq r.local_id number) rows) ≡ false) [
+      | true ↦ λ k. rw (below_is_other x.local_id number k.0) (above_free kind number rows k.1)
+      | false ↦ λ k. above_free kind number rows k
+    ] h
+
+-- the number after the greatest of a kind is a gap
+after_greatest : (kind : ℤ) (t : Tables) (found : Option ℤ) (number : ℤ) → IsGreatest (λ x. x.local_id) (filter (λ x. int_eq x.kind kind) t.identities) found → number_after found ≡ Some number → IsGap kind t number
+after_greatest kind t None number none after =
+    let one : pos 1 ≡ number = cc in
+    subst (IsGap kind t) one (refl, above_free kind (pos 1) t.identities (subst (AllByRecursion (λ x. x.local_id <ℤ pos 1)) (sym none) tt))
+after_greatest kind t (Some n) number greatest after =
+    elim (is_within (pos 1) (pos 999999) n) as (λ v. is_within (pos 1) (pos 999999) n ≡ v → (if v then Some (n +ℤ pos 1) else None) ≡ Some number → IsGap kind t number) [
+      | true ↦ λ low e.
+          let next : n +ℤ pos 1 ≡ number = cc in
+          let below = All-weaker (λ (x : IdentityRow). x.local_id ≤ℤ n) (λ x. x.local_id <ℤ (n +ℤ pos 1)) (λ x h. omega (arith, ints)) (filter (λ x. int_eq x.kind kind) t.identities) (recursion_from_All (λ x. x.local_id ≤ℤ n) (filter (λ x. int_eq x.kind kind) t.identities) greatest.1) in
+          subst (IsGap kind t) next (next_within n low, above_free kind (n +ℤ pos 1) t.identities below)
+      | false ↦ λ _ e. absurd (let none : None ≡ Some number = e in cc)
+    ] refl after
+
+-- by the greatest number that was looked up
+pub greatest_steps : {E : Type 0} (kind : ℤ) {old new : State} {r : Result (Option ℤ) E} → Tells (λ t. IsGreatest (λ x. x.local_id) (filter (λ x. int_eq x.kind kind) t.identities)) old new r → Survives old new (λ _. ⊥)
+    → Steps (Answers (λ t. IsGreatest (λ x. x.local_id) (filter (λ x. int_eq x.kind kind) t.identities))) old new r
+greatest_steps kind told survives = tells_steps (λ t. IsGreatest (λ x. x.local_id) (filter (λ x. int_eq x.kind kind) t.identities)) told survives
+
+pub after_steps : {E F : Type 0} (kind : ℤ) (found : Option ℤ) (number : ℤ) {old new : State} → number_after found ≡ Some number
+    → Steps {E = E} (Answers (λ t. IsGreatest (λ x. x.local_id) (filter (λ x. int_eq x.kind kind) t.identities))) old new (Ok found) → Steps {E = F} (Answers (FindsGap kind)) old new (Ok (Some number))
+after_steps {E} {F} kind found number {old} after told = steps_answer {E = E} {F = F} (Answers (FindsGap kind)) (Some number) (λ it. (it.0, λ formed. after_greatest kind (tables_of old.now) found number (it.1 formed) after)) told
 
 -- steps that leave the store as it was, and then an answer
 pub same_then : {X Y E F : Type 0} {First : X → Database → Database → Type 0} (Answer : Tables → Y → Type 0) {old mid new : State} {x : X} {r : Result Y F} → ((a b : Database) → First x a b → b ≡ a) → Steps {E = E} First old mid (Ok x)

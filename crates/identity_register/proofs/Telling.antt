@@ -4,9 +4,8 @@ use Rattle.std.specs.Prelude.{bytes_eq, Contains, IsPermutation, Some}
 use Rattle.std.specs.List.{AllZip}
 use Rattle.std.proofs.lemmas.List.Sorted.{IsPermutation-sym}
 use Rattle.sheet_types.specs.Ordered.{is_before, IsArranged}
-use Rattle.sheet_types.specs.Texts.{uuid_text, kind_of}
+use Rattle.sheet_types.specs.Texts.{uuid_text}
 use Rattle.sheet_types.specs.World.{Package, item_key, item_of, item_moved, moved_key}
-use Rattle.sheet_types.specs.Lines.{IsUuid}
 use Rattle.sheet_types.specs.declared.command.Item.{Item}
 use Rattle.sheet_types.specs.declared.frame.Frame.{Frame}
 use Rattle.sheet_types.specs.declared.receipt.Moved.{Moved}

@@ -7,8 +7,6 @@ use Rattle.sheet_types.specs.Ordered.{put}
 use Rattle.sheet_types.specs.Matrix.{is_within}
 use Rattle.sheet_types.specs.Texts.{uuid_text, kind_of}
 use Rattle.sheet_types.specs.World.{kind_number, kind_is, link_kind}
-use Rattle.sheet_types.specs.declared.receipt.MovedKind.{MovedKind}
-use Rattle.sheet_types.specs.declared.receipt.MovedKind.TheVariants.{TileItem, MediaItem, RowItem, TilesMediaLink, RowsMediaLink, RowsTilesLink}
 use Rattle.sheet_types.specs.Lines.{IsUuid}
 use Rattle.sheet_types.specs.declared.command.Content.{Content}
 use Rattle.sheet_types.specs.declared.command.Content.TheVariants.{Tile, Media, Row}
@@ -18,7 +16,6 @@ use Rattle.sheet_types.specs.declared.command.Relation.{Relation}
 use Rattle.package_tables.specs.Shapes.{tile_shape, medium_shape, attribute_shape, identity_shape}
 use Rattle.package_tables.specs.Package.{Tables}
 use Rattle.package_tables.specs.Mappings.{pair_shape, mapping_rows, with_mapping_rows}
-use Rattle.package_tables.specs.Calls.{IsGreatest}
 use Rattle.package_tables.specs.Listed.{tiles, media, attributes}
 use Rattle.package_tables.specs.Changes.{Adds}
 use Rattle.package_tables.specs.declared.rows.TileRow.{TileRow}
@@ -143,19 +140,10 @@ AreRowsOfEnds base other t rows = IsRowOf base t rows.base × IsRowOf other t ro
 
 -- ---- a free number
 
--- the greatest number in the table of a kind
-abbrev pub IsGreatestOf : MovedKind → Tables → Option ℤ → Type 0
-IsGreatestOf TileItem t found = IsGreatest (λ x. x.id) t.tiles found
-IsGreatestOf MediaItem t found = IsGreatest (λ x. x.id) t.media found
-IsGreatestOf RowItem t found = IsGreatest (λ x. x.id) t.rows found
-IsGreatestOf TilesMediaLink t found = found ≡ None
-IsGreatestOf RowsMediaLink t found = found ≡ None
-IsGreatestOf RowsTilesLink t found = found ≡ None
-
--- the number after the greatest of a table; 1 where there is none, or where none comes after it
-abbrev pub number_after : Option ℤ → ℤ
-number_after None = pos 1
-number_after (Some n) = if is_within (pos 1) (pos 999999) n then n +ℤ pos 1 else pos 1
+-- the number after the greatest, and 1 where there is none; none where no number that may be is the one after it
+abbrev pub number_after : Option ℤ → Option ℤ
+number_after None = Some (pos 1)
+number_after (Some n) = if is_within (pos 1) (pos 999999) n then Some (n +ℤ pos 1) else None
 
 -- an identity row has this kind and number
 abbrev pub is_taken : ℤ → ℤ → Tables → Bool

@@ -2,20 +2,19 @@
 ghost use Rattle.std.specs.Prelude.{◌≡◌, pos, true};
 ghost use Rattle.sqlite.specs.Held.{state};
 ghost use Rattle.sql_meaning.specs.Transactions.{Steps};
-ghost use Rattle.sheet_types.specs.Matrix.{is_within};
 ghost use Rattle.sheet_types.specs.Texts.{kind_of};
 ghost use Rattle.sheet_types.specs.World.{kind_number};
 ghost use Rattle.package_tables.specs.Calls.{OnTables, Answers};
 ghost use Rattle.identity_register.specs.Calls.{Becomes};
 ghost use Rattle.identity_register.specs.Changes.{IsNewItem, item_added};
-ghost use Rattle.identity_register.specs.Numbering.{IsGreatestOf, IsTaken, FindsGap, AddsContent, greatest_number, number_after};
+ghost use Rattle.identity_register.specs.Numbering.{IsTaken, FindsGap, AddsContent, number_after};
 ghost use Rattle.identity_register.specs.Room.{ComesIn};
 
-use package_tables::attributes::{greatest_attribute_id, insert_attribute};
+use package_tables::attributes::insert_attribute;
 use package_tables::fault::Fault;
-use package_tables::identities::{identity_by_key_inside, insert_identity};
-use package_tables::media::{greatest_medium_id, insert_medium};
-use package_tables::tiles::{greatest_tile_id, insert_tile};
+use package_tables::identities::{greatest_local_id, identity_by_key_inside, insert_identity};
+use package_tables::media::insert_medium;
+use package_tables::tiles::insert_tile;
 use sheet_types::command::Content;
 use sqlite::{Alter, Transaction};
 use uuid::Uuid;
@@ -30,26 +29,14 @@ fn stored_kind(content: &Content) -> i64
     content.kind().number() as i64
 }
 
-/// The greatest number in the table that a content belongs to.
-fn greatest<S: Alter>(tx: &mut Transaction<'_, S>, content: &Content) -> Result<Option<i64>, Fault>
-    ensures same_reference { tx.new.conn.ghost_name ≡ tx.old.conn.ghost_name }
-    ensures steps { Steps (Answers (IsGreatestOf (kind_of content.now))) (state S.Store tx.old.conn.now) (state S.Store tx.new.conn.now) result }
-{
-    match content {
-        Content::Tile { .. } => greatest_tile_id(tx),
-        Content::Media { .. } => greatest_medium_id(tx),
-        Content::Row { .. } => greatest_attribute_id(tx),
-    }
-}
-
-/// The number after the greatest, or the first where there is none or it is the last that may be.
-fn number_after(greatest: Option<i64>) -> i64
-    ensures next { result ≡ number_after greatest }
-    ensures range { is_within (pos 1) greatest_number result ≡ true }
+/// The number after the greatest, and 1 where there is none. None where no number that may be is the one after it.
+fn number_after(greatest: Option<i64>) -> Option<i64>
+    ensures { result ≡ number_after greatest }
 {
     match greatest {
-        Some(number) if number >= 1 && number < GREATEST => number + 1,
-        _ => 1,
+        None => Some(1),
+        Some(number) if number >= 1 && number < GREATEST => Some(number + 1),
+        Some(_) => None,
     }
 }
 
@@ -76,7 +63,7 @@ fn first_gap<S: Alter>(tx: &mut Transaction<'_, S>, kind: i64) -> Result<Option<
     Ok(None)
 }
 
-/// A number that no item of the kind has: the one after the greatest, and where that is taken, as where the greatest is the last that may be, the first. None where each is taken.
+/// A number that no item of the kind has: the one after the greatest, and where none that may be comes after it, the first. None where each is taken.
 fn free_number<S: Alter>(
     tx: &mut Transaction<'_, S>,
     content: &Content,
@@ -85,12 +72,11 @@ fn free_number<S: Alter>(
     ensures steps { Steps (Answers (FindsGap (pos (kind_number (kind_of content.now))))) (state S.Store tx.old.conn.now) (state S.Store tx.new.conn.now) result }
 {
     let kind = stored_kind(content);
-    let number = number_after(greatest(tx, content)?);
-    let taken = is_taken(tx, kind, number)?;
-    if taken {
-        return first_gap(tx, kind);
+    let greatest = greatest_local_id(tx, kind)?;
+    match number_after(greatest) {
+        Some(number) => Ok(Some(number)),
+        None => first_gap(tx, kind),
     }
-    Ok(Some(number))
 }
 
 /// Puts the row of a content into its table.

@@ -15,7 +15,5 @@ pub fn date_contents<S: Alter>(tx: &mut Transaction<'_, S>, at: &str) -> Result<
     ensures dated { Steps (λ _. Dates at.now) (state S.Store tx.old.conn.now) (state S.Store tx.new.conn.now) result }
     ensures steps { Steps (λ _. Becomes (λ _. is_moment at.now ≡ true) (λ p. p)) (state S.Store tx.old.conn.now) (state S.Store tx.new.conn.now) result }
 {
-    set_last_change(tx, at, "sheet_media")?;
-    set_last_change(tx, at, "sheet_rows")?;
-    set_last_change(tx, at, "sheet_tiles")
+    set_last_change(tx, at)
 }

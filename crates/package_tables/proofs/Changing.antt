@@ -1,9 +1,7 @@
--- What an UPDATE of one row makes of a table's values.
-use Rattle.std.proofs.Common.{◌≡◌, ℕ, ◌≤◌, List, [], ◌∷◌, map, length, Bool, true, false, cond, refl, sym, ap, subst, ◌∙◌, Less, arith}
-use Rattle.std.proofs.lemmas.List.{length-map}
+-- What an UPDATE of all rows makes of a table's values.
+use Rattle.std.proofs.Common.{◌≡◌, ℕ, List, [], ◌∷◌, map, length, Bool, true, false, refl, sym, ap, subst, ◌∙◌, Less}
 use Rattle.std.proofs.lemmas.List.Sorted.{length_permutation}
-use Rattle.std.proofs.lemmas.List.Sums.{length-filter}
-use Rattle.std.specs.Prelude.{◌&&◌, filter, bytes_eq, count_by, if◌then◌else◌}
+use Rattle.std.specs.Prelude.{◌&&◌}
 use Rattle.std.specs.List.{AllByRecursion}
 use Rattle.std.proofs.lemmas.Bool.{false≢true}
 use Rattle.sqlite_value.specs.Order.{value_cmp}
@@ -14,8 +12,7 @@ use Rattle.sqlite.specs.Edit.{have_rowids}
 use Rattle.sqlite.specs.declared.types.Value.{Value}
 use Rattle.sqlite.specs.Effect.{Database}
 use Rattle.sqlite_trees.specs.View.{is_int}
-use Rattle.sheet_types.specs.Ordered.{is_before, arranged, put, IsArranged}
-use Rattle.sheet_types.proofs.Order.{counts_arranged}
+use Rattle.sheet_types.specs.Ordered.{is_before, arranged, put}
 use Rattle.sql_meaning.specs.Known.{IsQuiet}
 use Rattle.sql_meaning.specs.Kinds.{has_kinds}
 use Rattle.sql_meaning.specs.Writing.{Updates, IsKeyed}
@@ -24,19 +21,13 @@ use Rattle.package_tables.specs.Package.{tables_of, AreFormed}
 use Rattle.package_tables.specs.Listed.{Listed}
 use Rattle.package_tables.proofs.Lists.{IsListed}
 use Rattle.package_tables.proofs.Reading.{arranged_permutation}
-use Rattle.package_tables.proofs.Shapes.{standing, arranged-filter}
+use Rattle.package_tables.proofs.Shapes.{standing}
 
 -- ---- lists in the order of a key
 
 module _ {R : Type 0} (key : R → List ℕ) where
   pub length-arranged : (xs : List R) → length (arranged key xs) ≡ length xs
   length-arranged xs = length_permutation xs (arranged key xs) (arranged_permutation key xs)
-
-  -- where the keys rise, at most one element has a key
-  pub at_most_one : (k : List ℕ) (xs : List R) → IsArranged key xs → length (filter (λ x. bytes_eq (key x) k) xs) ≤ 1
-  at_most_one k xs h =
-      let counted : count_by (λ x. bytes_eq (key x) k) xs ≤ 1 = counts_arranged key k xs h in
-      omega (arith, length-filter (λ x. bytes_eq (key x) k) xs, counted)
 
   module _ (f : R → R) (same : (x : R) → key (f x) ≡ key x) where
     map-put : (x : R) (xs : List R) → put key (f x) (map f xs) ≡ map f (put key x xs)
@@ -99,69 +90,41 @@ all_of_kinds shape t change make kinds makes (r ∷ rows) h ints = one (is_int (
     one false e rest more = absurd (false≢true rest)
 
 module _ {R : Type 0} (shape : Shape R) (laws : IsShape shape) where
-  -- the value of a key is changed, where the keys tell the values apart
-  pub changed : (hits : Row → Bool) (change : Row → Row) (k : List ℕ) (make : R → R) (old new : Database) → Updates shape.table hits change old new → IsQuiet old.schema → IsFormed shape old
-      → ((v : Value) (x : R) → hits (shape.stored v x) ≡ bytes_eq (shape.key x) k) → ((v : Value) (x : R) → change (shape.stored v x) ≡ shape.stored v (make x))
+  -- each value is changed
+  pub changed : (change : Row → Row) (make : R → R) (old new : Database) → Updates shape.table (λ _. true) change old new → IsQuiet old.schema → IsFormed shape old
+      → ((v : Value) (x : R) → change (shape.stored v x) ≡ shape.stored v (make x))
       → ((x : R) → shape.key (make x) ≡ shape.key x) → ((v : Value) (x : R) → rowid (shape.stored v (make x)) ≡ rowid (shape.stored v x))
-      → ((tree : ℕ) (v : Value) (x : R) → is_int v ≡ true → has_kinds (shape.table tree) (shape.stored v x) ≡ true) → IsArranged shape.key (rows_of shape old)
-      → IsFormed shape new × (rows_of shape new ≡ map (λ x. if bytes_eq (shape.key x) k then make x else x) (rows_of shape old))
-  changed hits change k make old new updates quiet formed same makes keys rowids kinds apart =
+      → ((tree : ℕ) (v : Value) (x : R) → is_int v ≡ true → has_kinds (shape.table tree) (shape.stored v x) ≡ true)
+      → IsFormed shape new × (rows_of shape new ≡ map make (rows_of shape old))
+  changed change make old new updates quiet formed makes keys rowids kinds =
       let p = formed.placed in
       let did = updates p.at p.tree p.has quiet in
       let there = stored_rows shape old in
       let table = standing shape laws old new p did.spares.schema in
-      let few : length (filter hits there) ≤ 1 = fewer there formed.stored apart in
       let fit = all_of_kinds shape (shape.table p.tree) change make (kinds p.tree) makes there formed.stored formed.keyed.ints in
-      let rows : stored_rows shape new ≡ map g there = table.after
-      ∙ did.rows (subst IsKeyed (sym table.before) formed.keyed) (subst (λ l. length (filter hits l) ≤ 1) (sym table.before) few) (subst (AllByRecursion (λ r. has_kinds (shape.table p.tree) (change r) ≡ true)) (sym table.before) fit)
-      ∙ ap (map g) table.before in (
+      let rows : stored_rows shape new ≡ map change there = table.after
+      ∙ did.rows (subst IsKeyed (sym table.before) formed.keyed) (subst (AllByRecursion (λ r. has_kinds (shape.table p.tree) (change r) ≡ true)) (sym table.before) fit)
+      ∙ ap (map change) table.before in (
         record {
           placed = table.placed;
-          keyed = subst IsKeyed (sym rows) (record { ints = all_ints shape laws g f steps kept there formed.stored formed.keyed.ints; rises = still_rises shape laws g f steps kept there formed.stored formed.keyed.rises });
-          stored = subst (AllByRecursion (IsStored shape)) (sym rows) (all_stored shape laws g f steps kept there formed.stored);
+          keyed = subst IsKeyed (sym rows) (record { ints = all_ints shape laws change make steps rowids there formed.stored formed.keyed.ints; rises = still_rises shape laws change make steps rowids there formed.stored formed.keyed.rises });
+          stored = subst (AllByRecursion (IsStored shape)) (sym rows) (all_stored shape laws change make steps rowids there formed.stored);
         },
         ap (λ l. arranged shape.key (map shape.typed l)) rows
-            ∙ ap (arranged shape.key) (typed-map shape laws g f steps kept there formed.stored)
-            ∙ arranged-map shape.key f keyed (map shape.typed there),
+            ∙ ap (arranged shape.key) (typed-map shape laws change make steps rowids there formed.stored)
+            ∙ arranged-map shape.key make keys (map shape.typed there),
       )
     where
-      g : Row → Row
-      g r = if hits r then change r else r
-
-      f : R → R
-      f x = if bytes_eq (shape.key x) k then make x else x
-
-      steps : (r : Row) → IsStored shape r → g r ≡ shape.stored (rowid r) (f (shape.typed r))
-      steps r h = one (bytes_eq (shape.key (shape.typed r)) k) refl (ap hits (sym h) ∙ same (rowid r) (shape.typed r))
-        where
-          one : (b : Bool) → bytes_eq (shape.key (shape.typed r)) k ≡ b → hits r ≡ bytes_eq (shape.key (shape.typed r)) k → cond (hits r) (change r) r ≡ shape.stored (rowid r) (cond (bytes_eq (shape.key (shape.typed r)) k) (make (shape.typed r)) (shape.typed r))
-          one true e is = rw (is, e) (ap change (sym h) ∙ makes (rowid r) (shape.typed r))
-          one false e is = rw (is, e) (sym h)
-
-      kept : (v : Value) (x : R) → rowid (shape.stored v (f x)) ≡ rowid (shape.stored v x)
-      kept v x = elim (bytes_eq (shape.key x) k) as (λ b. rowid (shape.stored v (cond b (make x) x)) ≡ rowid (shape.stored v x)) [ true ↦ rowids v x | false ↦ refl ]
-
-      keyed : (x : R) → shape.key (f x) ≡ shape.key x
-      keyed x = elim (bytes_eq (shape.key x) k) as (λ b. shape.key (cond b (make x) x) ≡ shape.key x) [ true ↦ keys x | false ↦ refl ]
-
-      tested : (rows : List Row) → AllByRecursion (IsStored shape) rows → AllByRecursion (λ r. hits r ≡ bytes_eq (shape.key (shape.typed r)) k) rows
-      tested [] h = tt
-      tested (r ∷ rows) h = (ap hits (sym h.0) ∙ same (rowid r) (shape.typed r), tested rows h.1)
-
-      fewer : (rows : List Row) → AllByRecursion (IsStored shape) rows → IsArranged shape.key (arranged shape.key (map shape.typed rows)) → length (filter hits rows) ≤ 1
-      fewer rows h apart =
-          let as_values : length (arranged shape.key (map shape.typed (filter hits rows))) ≡ length (filter hits rows) = length-arranged shape.key (map shape.typed (filter hits rows)) ∙ length-map (filter hits rows) shape.typed in
-          let passed = ap length (arranged-filter shape.key shape.typed (λ x. bytes_eq (shape.key x) k) hits rows (tested rows h)) in
-          subst (λ n. n ≤ 1) (sym passed ∙ as_values) (at_most_one shape.key k (arranged shape.key (map shape.typed rows)) apart)
+      steps : (r : Row) → IsStored shape r → change r ≡ shape.stored (rowid r) (make (shape.typed r))
+      steps r h = ap change (sym h) ∙ makes (rowid r) (shape.typed r)
 
 module _ {R : Type 0} {list : Listed R} (is : IsListed list) where
-  pub changes : (hits : Row → Bool) (change : Row → Row) (k : List ℕ) (make : R → R) (old new : Database) → AreFormed old
-      → ((v : Value) (x : R) → hits (list.shape.stored v x) ≡ bytes_eq (list.shape.key x) k) → ((v : Value) (x : R) → change (list.shape.stored v x) ≡ list.shape.stored v (make x))
+  pub changes : (change : Row → Row) (make : R → R) (old new : Database) → AreFormed old → ((v : Value) (x : R) → change (list.shape.stored v x) ≡ list.shape.stored v (make x))
       → ((x : R) → list.shape.key (make x) ≡ list.shape.key x) → ((v : Value) (x : R) → rowid (list.shape.stored v (make x)) ≡ rowid (list.shape.stored v x))
-      → ((tree : ℕ) (v : Value) (x : R) → is_int v ≡ true → has_kinds (list.shape.table tree) (list.shape.stored v x) ≡ true) → IsArranged list.shape.key (list.rows (tables_of old)) → Updates list.shape.table hits change old new
-      → AreFormed new × (tables_of new ≡ list.with_rows (map (λ x. if bytes_eq (list.shape.key x) k then make x else x) (list.rows (tables_of old))) (tables_of old))
-  changes hits change k make old new formed same makes keys rowids kinds apart updates =
+      → ((tree : ℕ) (v : Value) (x : R) → is_int v ≡ true → has_kinds (list.shape.table tree) (list.shape.stored v x) ≡ true) → Updates list.shape.table (λ _. true) change old new
+      → AreFormed new × (tables_of new ≡ list.with_rows (map make (list.rows (tables_of old))) (tables_of old))
+  changes change make old new formed makes keys rowids kinds updates =
       let here = is.formed old formed in
-      let did = changed list.shape is.laws hits change k make old new updates formed.quiet here same makes keys rowids kinds (rw (sym (is.lists old)) apart) in
+      let did = changed list.shape is.laws change make old new updates formed.quiet here makes keys rowids kinds in
       let both = is.written here.placed.tree old new (updates here.placed.at here.placed.tree here.placed.has formed.quiet).spares formed did.0 in
       (both.0, rw (is.lists old) (both.1 ∙ ap (λ l. list.with_rows l (tables_of old)) did.1))

@@ -8,7 +8,6 @@ use Rattle.sql_meaning.proofs.Insert.{IsInsert, IsRow}
 use Rattle.std.proofs.Common.{◌≡◌, true}
 use Rattle.sqlite.specs.Term.{Term, col}
 use Rattle.sql_meaning.specs.Resolving.{resolving}
-use Rattle.sql_meaning.specs.Reading.{equals}
 use Rattle.sql_meaning.specs.Kinds.{has_kinds}
 use Rattle.sqlite_trees.specs.View.{is_int}
 use Rattle.sqlite.specs.declared.types.Value.{Value}
@@ -72,11 +71,11 @@ relation_insert_row row tree there = record { source = _; laid = refl; kinds = r
 abbrev pub change_terms : List Term
 change_terms = col 1 0 ∷ col 1 0 ∷ col 1 1 ∷ col 1 2 ∷ col 1 3 ∷ col 1 4 ∷ col 0 0 ∷ col 1 6 ∷ col 1 7 ∷ col 1 8 ∷ col 1 9 ∷ col 1 10 ∷ []
 
-pub change_text : (tree : ℕ) → IsUpdate (codes "UPDATE gpkg_contents SET last_change = ?1 WHERE table_name = ?2") (gpkg_contents tree) (equals 0 1) 0 change_terms
+pub change_text : (tree : ℕ) → IsUpdate (codes "UPDATE gpkg_contents SET last_change = ?1") (gpkg_contents tree) always 0 change_terms
 unfolding everything
-change_text tree = record { parse = _; name = _; value = _; where' = _; place = _; parsed = refl; statement = refl; formats = refl; named = refl; given = refl; placed = refl; projected = refl; condition = (_, refl, (_, _, _, _, refl, refl, refl, refl, refl, refl, refl)); enough = refl }
+change_text tree = record { parse = _; name = _; value = _; where' = _; place = _; parsed = refl; statement = refl; formats = refl; named = refl; given = refl; placed = refl; projected = refl; condition = refl; enough = refl }
 
-pub change_plan : (tree : ℕ) → IsPlannedUpdate (gpkg_contents tree) (equals 0 1) change_terms
+pub change_plan : (tree : ℕ) → IsPlannedUpdate (gpkg_contents tree) always change_terms
 unfolding resolving
 change_plan tree schema at h = rw (h.stored, h.by_tree) refl
 

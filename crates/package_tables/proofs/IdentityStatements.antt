@@ -9,17 +9,19 @@ use Rattle.sqlite.specs.Edit.{next_rowid}
 use Rattle.sqlite.specs.declared.types.Value.TheVariants.{Int, Text}
 use Rattle.sqlite_tied.specs.Compute.{everything}
 use Rattle.sql_meaning.specs.Resolving.{resolving}
-use Rattle.sql_meaning.specs.Reading.{always, equals, both, ascending}
+use Rattle.sql_meaning.specs.Reading.{always, equals, both, ascending, descending}
 use Rattle.sql_meaning.proofs.Insert.{IsInsert, IsRow}
 use Rattle.sql_meaning.proofs.Delete.{IsDelete, IsPlannedDelete}
-use Rattle.sql_meaning.proofs.Resolve.{one_table}
-use Rattle.sql_meaning.proofs.Select.{IsSelect, IsPlannedSelect}
+use Rattle.sql_meaning.proofs.Resolve.{one_table, over_table}
+use Rattle.sql_meaning.proofs.Select.{IsSelect, IsPlannedSelect, IsNamed, IsPlannedNamed, asked_named}
+use Rattle.sql_meaning.proofs.First.{one_row}
 use Rattle.package_tables.specs.Tables.{sheet_identity}
 use Rattle.package_tables.specs.Shapes.{identity_shape, int_at, text_at}
 use Rattle.package_tables.specs.Listed.{identities}
 use Rattle.package_tables.specs.Shown.{identity_shown}
 use Rattle.package_tables.specs.declared.rows.IdentityRow.{IdentityRow}
 use Rattle.package_tables.proofs.Looking.{IsKnown, IsLookUp, IsRanked}
+use Rattle.package_tables.proofs.Newest.{IsNewest}
 use Rattle.package_tables.proofs.Ranking.{two_numbers}
 use Rattle.package_tables.proofs.Values.{same_number, same_text, both_same}
 use Rattle.package_tables.proofs.Written.{identities_listed}
@@ -121,3 +123,28 @@ all = record { test = _; by = _; selects = all_text; planned = all_plan; given =
 pub all_ranked : IsRanked all (then_cmp (on (λ x. x.kind) int_cmp) (on (λ x. x.local_id) int_cmp))
 unfolding all
 all_ranked = record { keys = λ x. Int x.kind ∷ Int x.local_id ∷ []; keyed = λ v x. refl; total = then_total (on_total (λ x. x.kind) int_cmp_total) (on_total (λ x. x.local_id) int_cmp_total); alike = λ x y. two_numbers x.kind y.kind x.local_id y.local_id }
+
+newest_text : (tree : ℕ) → IsNamed (codes "SELECT local_id FROM sheet_identity WHERE kind = ?1 ORDER BY local_id DESC LIMIT 1") (sheet_identity tree) (1 ∷ []) (equals 0 0) ((col 1 2, descending) ∷ []) one_row
+unfolding everything
+newest_text tree = record {
+  parse = _;
+  asks = _;
+  src = _;
+  items = _;
+  parsed = refl;
+  statement = refl;
+  formats = refl;
+  one = over_table refl refl refl refl refl refl refl refl refl refl refl refl;
+  paged = λ schema. refl;
+  columns = ((_, _, refl, (_, _, refl, refl, refl)), tt);
+  condition = (_, refl, (_, _, _, _, refl, refl, refl, refl, refl, refl, refl));
+  orders = ((_, (_, _, refl, refl, refl), refl, refl), tt);
+  enough = refl;
+}
+
+newest_plan : (tree : ℕ) → IsPlannedNamed (sheet_identity tree) (1 ∷ []) (equals 0 0) ((col 1 2, descending) ∷ []) one_row
+unfolding resolving
+newest_plan tree schema at h = rw (h.stored, h.by_tree) refl
+
+pub newest : (kind : ℤ) → IsNewest identity_shape (λ x. x.local_id) (codes "SELECT local_id FROM sheet_identity WHERE kind = ?1 ORDER BY local_id DESC LIMIT 1") (Int kind ∷ []) (λ x. int_eq x.kind kind)
+newest kind = record { test = _; project = _; by = _; asked = λ tree. asked_named (newest_text tree) (newest_plan tree); given = refl; pass = _; shown = _; place = 2; is = λ tree. refl; passing = λ v x. (same_number x.kind kind); begins = λ v x. refl; keyed = λ v x. refl }

@@ -1,32 +1,26 @@
 -- The statements on `sheet_media`. Written by tools/statements.py.
-use Rattle.std.proofs.Common.{◌≡◌, ℕ, ℤ, List, [], ◌∷◌, Bool, true, codes, refl}
-use Rattle.std.specs.Prelude.{◌&&◌, bytes_eq, int_le, int_lt}
-use Rattle.std.specs.Ordering.{int_eq, int_cmp, on, then_cmp}
-use Rattle.sqlite_sql.specs.declared.ops.CompareOp.TheVariants.{Ge, Le, Gt, Lt}
-use Rattle.std.proofs.lemmas.Cmp.{on_total, then_total, int_cmp_total}
+use Rattle.std.proofs.Common.{ℕ, ℤ, List, [], ◌∷◌, true, codes, refl}
+use Rattle.std.specs.Ordering.{int_eq, int_cmp, on}
+use Rattle.std.proofs.lemmas.Cmp.{on_total, int_cmp_total}
 use Rattle.sqlite.specs.Order.{Row}
 use Rattle.sqlite.specs.Term.{col}
-use Rattle.sqlite.specs.Edit.{next_rowid}
 use Rattle.sqlite.specs.declared.types.Value.TheVariants.{Int, Null, Text, Blob}
 use Rattle.sqlite_tied.specs.Compute.{everything}
 use Rattle.sql_meaning.specs.Resolving.{resolving}
-use Rattle.sql_meaning.specs.Reading.{always, equals, compares, both, ascending, descending}
+use Rattle.sql_meaning.specs.Reading.{always, equals, ascending}
 use Rattle.sql_meaning.proofs.Insert.{IsInsert, IsRow}
 use Rattle.sql_meaning.proofs.Delete.{IsDelete, IsPlannedDelete}
 use Rattle.sql_meaning.proofs.Resolve.{one_table, over_table, all_rows}
 use Rattle.sql_meaning.proofs.Select.{IsSelect, IsPlannedSelect, IsNamed, IsPlannedNamed, asked_named}
-use Rattle.sql_meaning.proofs.First.{one_row}
 use Rattle.package_tables.specs.Tables.{sheet_media}
 use Rattle.package_tables.specs.Shapes.{medium_shape, int_at, text_at, blob_at}
-use Rattle.sheet_types.specs.declared.command.Mapping.TheVariants.{TilesMedia, RowsMedia, RowsTiles}
 use Rattle.package_tables.specs.Listed.{media}
 use Rattle.package_tables.specs.Shown.{medium_shown}
 use Rattle.package_tables.specs.declared.rows.MediaRow.{MediaRow}
 use Rattle.package_tables.proofs.Looking.{IsKnown, IsLookUp, IsRanked}
-use Rattle.package_tables.proofs.Newest.{IsNewest}
 use Rattle.package_tables.proofs.Numbering.{IsNumbering}
-use Rattle.package_tables.proofs.Ranking.{one_number, two_numbers}
-use Rattle.package_tables.proofs.Values.{same_number, same_text, at_least, at_most, above, below, both_same}
+use Rattle.package_tables.proofs.Ranking.{one_number}
+use Rattle.package_tables.proofs.Values.{same_number}
 use Rattle.package_tables.proofs.Written.{media_listed}
 
 pub insert_text : (tree : ℕ) → IsInsert (codes "INSERT INTO sheet_media VALUES (?1, ?2, ?3)") (sheet_media tree)
@@ -101,31 +95,6 @@ all = record { test = _; by = _; selects = all_text; planned = all_plan; given =
 pub all_ranked : IsRanked all (on (λ x. x.id) int_cmp)
 unfolding all
 all_ranked = record { keys = λ x. Int x.id ∷ []; keyed = λ v x. refl; total = (on_total (λ x. x.id) int_cmp_total); alike = λ x y. one_number x.id y.id }
-
-newest_text : (tree : ℕ) → IsNamed (codes "SELECT id FROM sheet_media ORDER BY id DESC LIMIT 1") (sheet_media tree) (0 ∷ []) always ((col 1 0, descending) ∷ []) one_row
-unfolding everything
-newest_text tree = record {
-  parse = _;
-  asks = _;
-  src = _;
-  items = _;
-  parsed = refl;
-  statement = refl;
-  formats = refl;
-  one = over_table refl refl refl refl refl refl refl refl refl refl refl refl;
-  paged = λ schema. refl;
-  columns = ((_, _, refl, (_, _, refl, refl, refl)), tt);
-  condition = refl;
-  orders = ((_, (_, _, refl, refl, refl), refl, refl), tt);
-  enough = refl;
-}
-
-newest_plan : (tree : ℕ) → IsPlannedNamed (sheet_media tree) (0 ∷ []) always ((col 1 0, descending) ∷ []) one_row
-unfolding resolving
-newest_plan tree schema at h = rw (h.stored, h.by_tree) refl
-
-pub newest : IsNewest medium_shape (λ x. x.id) (codes "SELECT id FROM sheet_media ORDER BY id DESC LIMIT 1") [] (λ x. true)
-newest = record { test = _; project = _; by = _; asked = λ tree. asked_named (newest_text tree) (newest_plan tree); given = refl; pass = _; shown = _; is = λ tree. refl; passing = λ v x. refl; begins = λ v x. refl; keyed = λ v x. refl }
 
 ids_text : (tree : ℕ) → IsNamed (codes "SELECT id FROM sheet_media") (sheet_media tree) (0 ∷ []) always [] all_rows
 unfolding everything

@@ -1,5 +1,5 @@
 -- The changes that writes make: each names the one list that it changes, and what comes in, goes or becomes of it.
-use Rattle.std.specs.Prelude.{◌≡◌, ◌&&◌, ℕ, ℤ, Bool, false, not, List, map, filter, if◌then◌else◌, bytes_eq}
+use Rattle.std.specs.Prelude.{◌≡◌, ◌&&◌, ℕ, ℤ, Bool, false, not, List, map, filter}
 use Rattle.std.specs.Ordering.{int_eq}
 use Rattle.sheet_types.specs.Ordered.{put, has}
 use Rattle.sheet_types.specs.declared.command.Mapping.{Mapping}
@@ -35,10 +35,10 @@ DropsIdentity kind local_id = Drops identities (λ x. int_eq x.kind kind && int_
 abbrev pub ListBecomes : {R : Type 0} → Listed R → List R → List R → Tables → Tables → Type 0
 ListBecomes list from to before after = list.rows before ≡ from → after ≡ list.with_rows to before
 
--- the contents, the row of the table of this name with the moment
-abbrev pub redated : List ℕ → List ℕ → List ContentsRow → List ContentsRow
-redated at name = map (λ (c : ContentsRow). if bytes_eq c.table_name name then record c { last_change = at } else c)
+-- the contents, each row with the moment
+abbrev pub redated : List ℕ → List ContentsRow → List ContentsRow
+redated at = map (λ (c : ContentsRow). record c { last_change = at })
 
--- that row gets the moment, and nothing else changes
-abbrev pub SetsLastChange : List ℕ → List ℕ → Tables → Tables → Type 0
-SetsLastChange at name before after = after ≡ record before { contents = redated at name before.contents }
+-- each row of the contents gets the moment, and nothing else changes
+abbrev pub SetsLastChange : List ℕ → Tables → Tables → Type 0
+SetsLastChange at before after = after ≡ record before { contents = redated at before.contents }

@@ -3,13 +3,10 @@ ghost use Rattle.std.specs.Prelude.{◌≡◌, true};
 ghost use Rattle.std.specs.Ordering.{on, int_cmp};
 ghost use Rattle.sqlite.specs.State.{Survives};
 ghost use Rattle.sqlite.specs.Held.{state};
-ghost use Rattle.sql_meaning.specs.Transactions.{Rests, Steps};
-ghost use Rattle.package_tables.specs.Calls.{Makes, LooksUp, AreThose, AreAll, OnTables};
+ghost use Rattle.sql_meaning.specs.Transactions.{Rests};
+ghost use Rattle.package_tables.specs.Calls.{Makes, LooksUp, AreThose, AreAll};
 ghost use Rattle.package_tables.specs.Listed.{contents, matrices, matrix_sets, relations, systems};
 ghost use Rattle.package_tables.specs.Changes.{Adds, SetsLastChange};
-ghost use Rattle.sheet_types.specs.Ordered.{IsArranged};
-ghost use Rattle.package_tables.specs.Package.{tables_of};
-ghost use Rattle.package_tables.specs.Shapes.{contents_shape};
 
 use crate::fault::{Fault, settled};
 use crate::from_row::{FromRow, all_of, number_at, text_at};
@@ -159,21 +156,13 @@ pub(crate) fn insert_relation<S: Alter>(
     ))
 }
 
-/// Says when a table changed last, in `last_change` of its row in the contents (OGC GeoPackage 1.3, 1.1.3). The names of the contents have to differ, as they do in each package.
-pub fn set_last_change<S: Alter>(
-    tx: &mut Transaction<'_, S>,
-    at: &str,
-    table_name: &str,
-) -> Result<(), Fault>
+/// Says when each table changed last, in `last_change` of each row of the contents (OGC GeoPackage 1.3, 1.1.3).
+pub fn set_last_change<S: Alter>(tx: &mut Transaction<'_, S>, at: &str) -> Result<(), Fault>
     ensures same_reference { tx.new.conn.ghost_name ≡ tx.old.conn.ghost_name }
-    ensures wrote { IsArranged contents_shape.key (tables_of (state S.Store tx.old.conn.now).now).contents → Makes (SetsLastChange at.now table_name.now) (state S.Store tx.old.conn.now) (state S.Store tx.new.conn.now) result }
-    ensures steps { Steps (λ _ old new. IsArranged contents_shape.key (tables_of old).contents → OnTables (SetsLastChange at.now table_name.now) old new) (state S.Store tx.old.conn.now) (state S.Store tx.new.conn.now) result }
+    ensures wrote { Makes (SetsLastChange at.now) (state S.Store tx.old.conn.now) (state S.Store tx.new.conn.now) result }
     ensures survives { Survives (state S.Store tx.old.conn.now) (state S.Store tx.new.conn.now) (λ _. ⊥) }
 {
-    settled(tx.execute(
-        "UPDATE gpkg_contents SET last_change = ?1 WHERE table_name = ?2",
-        params![at, table_name],
-    ))
+    settled(tx.execute("UPDATE gpkg_contents SET last_change = ?1", params![at]))
 }
 
 impl FromRow for SpatialRefSysRow {

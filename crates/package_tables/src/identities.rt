@@ -1,15 +1,15 @@
 //! The statements on `sheet_identity`.
-ghost use Rattle.std.specs.Prelude.{◌≡◌, ◌&&◌, bytes_eq};
+ghost use Rattle.std.specs.Prelude.{◌≡◌, ◌&&◌, bytes_eq, filter};
 ghost use Rattle.std.specs.Ordering.{int_eq, int_cmp, on, then_cmp};
 ghost use Rattle.sqlite.specs.State.{Survives};
 ghost use Rattle.sqlite.specs.Held.{state};
 ghost use Rattle.sql_meaning.specs.Transactions.{Rests};
-ghost use Rattle.package_tables.specs.Calls.{Makes, Tells, LooksUp, IsOneOf, AreAll};
+ghost use Rattle.package_tables.specs.Calls.{Makes, Tells, LooksUp, IsOneOf, AreAll, IsGreatest};
 ghost use Rattle.package_tables.specs.Listed.{identities};
 ghost use Rattle.package_tables.specs.Changes.{Adds, DropsIdentity};
 
 use crate::fault::{Fault, settled};
-use crate::from_row::{FromRow, all_of, first_of, number_at, text_at};
+use crate::from_row::{FromRow, all_of, first_of, number_at, number_of, text_at};
 use crate::rows::IdentityRow;
 use sqlite::{Alter, Connection, Row, Transaction, params};
 use std::alloc::Global;
@@ -114,6 +114,21 @@ pub fn identity_by_key_inside<S: Alter>(
     ensures survives { Survives (state S.Store tx.old.conn.now) (state S.Store tx.new.conn.now) (λ _. ⊥) }
 {
     first_of(tx.query_all(BY_KEY, params![kind, local_id]))
+}
+
+/// The greatest number of a kind that has an identity, where there is one, inside a transaction.
+pub fn greatest_local_id<S: Alter>(
+    tx: &mut Transaction<'_, S>,
+    kind: i64,
+) -> Result<Option<i64>, Fault>
+    ensures same_reference { tx.new.conn.ghost_name ≡ tx.old.conn.ghost_name }
+    ensures told { Tells (λ t. IsGreatest (λ x. x.local_id) (filter (λ x. int_eq x.kind kind) t.identities)) (state S.Store tx.old.conn.now) (state S.Store tx.new.conn.now) result }
+    ensures survives { Survives (state S.Store tx.old.conn.now) (state S.Store tx.new.conn.now) (λ _. ⊥) }
+{
+    number_of(tx.query_all(
+        "SELECT local_id FROM sheet_identity WHERE kind = ?1 ORDER BY local_id DESC LIMIT 1",
+        params![kind],
+    ))
 }
 
 /// All lasting identities, by their kinds and numbers.

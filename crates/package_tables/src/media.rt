@@ -5,12 +5,12 @@ ghost use Rattle.std.specs.Ordering.{int_eq, int_cmp, on};
 ghost use Rattle.sqlite.specs.State.{Survives};
 ghost use Rattle.sqlite.specs.Held.{state};
 ghost use Rattle.sql_meaning.specs.Transactions.{Rests};
-ghost use Rattle.package_tables.specs.Calls.{Makes, Tells, LooksUp, IsOneOf, AreAll, IsGreatest};
+ghost use Rattle.package_tables.specs.Calls.{Makes, LooksUp, IsOneOf, AreAll};
 ghost use Rattle.package_tables.specs.Listed.{media};
 ghost use Rattle.package_tables.specs.Changes.{Adds, DropsMedium};
 
 use crate::fault::{Fault, settled};
-use crate::from_row::{FromRow, all_of, bytes_at, first_of, number_at, number_of, text_at};
+use crate::from_row::{FromRow, all_of, bytes_at, first_of, number_at, text_at};
 use crate::numbers::{has_any, numbers_of};
 use crate::rows::MediaRow;
 use sqlite::{Alter, Connection, Row, Transaction, params};
@@ -92,13 +92,4 @@ pub fn has_medium<S: Alter>(conn: &mut Connection<S>, id: i64) -> Result<bool, F
     ensures { LooksUp (λ t found. found ≡ list_any (λ r. int_eq r.id id) t.media) (state S.Store conn.old) (state S.Store conn.new) result }
 {
     has_any(conn.query_all("SELECT id FROM sheet_media WHERE id = ?1", params![id]))
-}
-
-/// The greatest number of a medium, where there is one, inside a transaction.
-pub fn greatest_medium_id<S: Alter>(tx: &mut Transaction<'_, S>) -> Result<Option<i64>, Fault>
-    ensures same_reference { tx.new.conn.ghost_name ≡ tx.old.conn.ghost_name }
-    ensures told { Tells (λ t. IsGreatest (λ x. x.id) t.media) (state S.Store tx.old.conn.now) (state S.Store tx.new.conn.now) result }
-    ensures survives { Survives (state S.Store tx.old.conn.now) (state S.Store tx.new.conn.now) (λ _. ⊥) }
-{
-    number_of(tx.query_all("SELECT id FROM sheet_media ORDER BY id DESC LIMIT 1", &[]))
 }

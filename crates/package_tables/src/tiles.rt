@@ -5,12 +5,12 @@ ghost use Rattle.std.specs.Ordering.{int_eq, int_cmp, on};
 ghost use Rattle.sqlite.specs.State.{Survives};
 ghost use Rattle.sqlite.specs.Held.{state};
 ghost use Rattle.sql_meaning.specs.Transactions.{Rests};
-ghost use Rattle.package_tables.specs.Calls.{Makes, Tells, LooksUp, IsOneOf, AreThose, AreNumbersOf, AreAll, IsGreatest};
+ghost use Rattle.package_tables.specs.Calls.{Makes, LooksUp, IsOneOf, AreThose, AreNumbersOf, AreAll};
 ghost use Rattle.package_tables.specs.Listed.{tiles};
 ghost use Rattle.package_tables.specs.Changes.{Adds, DropsTile};
 
 use crate::fault::{Fault, settled};
-use crate::from_row::{FromRow, all_of, bytes_at, first_of, number_at, number_of};
+use crate::from_row::{FromRow, all_of, bytes_at, first_of, number_at};
 use crate::numbers::{has_any, numbers_of};
 use crate::rows::TileRow;
 use sqlite::{Alter, Connection, Row, Transaction, params};
@@ -172,13 +172,4 @@ pub fn tile_ids_between<S: Alter>(
             params![zoom_level, first_column, last_column, first_row, last_row],
         ),
     )
-}
-
-/// The greatest number of a tile, where there is one, inside a transaction.
-pub fn greatest_tile_id<S: Alter>(tx: &mut Transaction<'_, S>) -> Result<Option<i64>, Fault>
-    ensures same_reference { tx.new.conn.ghost_name ≡ tx.old.conn.ghost_name }
-    ensures told { Tells (λ t. IsGreatest (λ x. x.id) t.tiles) (state S.Store tx.old.conn.now) (state S.Store tx.new.conn.now) result }
-    ensures survives { Survives (state S.Store tx.old.conn.now) (state S.Store tx.new.conn.now) (λ _. ⊥) }
-{
-    number_of(tx.query_all("SELECT id FROM sheet_tiles ORDER BY id DESC LIMIT 1", &[]))
 }

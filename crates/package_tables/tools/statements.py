@@ -8,6 +8,7 @@ import os
 # whether its key is the rowid, its columns, the columns by which all rows are read, and its statements:
 #   deletes: (function, columns)      finds: (statement, columns, forms)      alls: function
 #   ranges: (statement, (column, comparison, parameter) ..), of numbers alone: all rows that pass, in any order
+#   greatest: (function, column, columns), the greatest of a column where the others have these values
 #   ids: the function of all numbers; has: (function, columns), whether a row is there; id_ranges: as ranges, the numbers of the rows
 # The form of a find at rest has the name of its statement; the one inside a transaction has `_inside` after it.
 # The mapping tables have no functions here, but the facts alone: each function of src/mappings.rt serves all, and its
@@ -18,17 +19,17 @@ TABLES = [
     dict(file="TileStatements", module="tiles", list="tiles", shape="tile_shape", table="sheet_tiles", row="TileRow", shown="tile_shown", keyed=True,
          columns=[("id", INT), ("zoom_level", INT), ("tile_column", INT), ("tile_row", INT), ("tile_data", BLOB)], by=["id"],
          insert="insert_tile", delete=("delete_tile", ["id"]), finds=[("tile_by_id", ["id"], [REST]), ("tile_at", ["zoom_level", "tile_column", "tile_row"], [REST])],
-         ranges=[("tiles_between", [("zoom_level", "=", "zoom_level"), ("tile_column", ">=", "first_column"), ("tile_column", "<=", "last_column"), ("tile_row", ">=", "first_row"), ("tile_row", "<=", "last_row")])], all="all_tiles", greatest="greatest_tile_id",
+         ranges=[("tiles_between", [("zoom_level", "=", "zoom_level"), ("tile_column", ">=", "first_column"), ("tile_column", "<=", "last_column"), ("tile_row", ">=", "first_row"), ("tile_row", "<=", "last_row")])], all="all_tiles",
          ids="tile_ids", has=[("has_tile", ["id"]), ("has_tile_at", ["zoom_level", "tile_column", "tile_row"])],
          id_ranges=[("tile_ids_between", [("zoom_level", "=", "zoom_level"), ("tile_column", ">=", "first_column"), ("tile_column", "<=", "last_column"), ("tile_row", ">=", "first_row"), ("tile_row", "<=", "last_row")])]),
     dict(file="MediumStatements", module="media", list="media", shape="medium_shape", table="sheet_media", row="MediaRow", shown="medium_shown", keyed=True,
          columns=[("id", INT), ("data", BLOB), ("content_type", TEXT)], by=["id"],
-         insert="insert_medium", delete=("delete_medium", ["id"]), finds=[("medium_by_id", ["id"], [REST])], all="all_media", greatest="greatest_medium_id",
+         insert="insert_medium", delete=("delete_medium", ["id"]), finds=[("medium_by_id", ["id"], [REST])], all="all_media",
          ids="medium_ids", has=[("has_medium", ["id"])]),
     dict(file="AttributeStatements", module="attributes", list="attributes", shape="attribute_shape", table="sheet_rows", row="AttributeRow", shown="attribute_shown", keyed=True,
          columns=[("id", INT), ("x", INT), ("y", INT), ("code", INT), ("label", TEXT)], by=["id"],
          insert="insert_attribute", delete=("delete_attribute", ["id"]), finds=[("attribute_by_id", ["id"], [REST])],
-         ranges=[("attributes_within", [("x", ">=", "west"), ("x", "<", "east"), ("y", ">", "south"), ("y", "<=", "north")])], all="all_attributes", greatest="greatest_attribute_id",
+         ranges=[("attributes_within", [("x", ">=", "west"), ("x", "<", "east"), ("y", ">", "south"), ("y", "<=", "north")])], all="all_attributes",
          ids="attribute_ids", has=[("has_attribute", ["id"])],
          id_ranges=[("attribute_ids_within", [("x", ">=", "west"), ("x", "<", "east"), ("y", ">", "south"), ("y", "<=", "north")])]),
     dict(file="TilesMediaStatements", list="TilesMedia", shape="tiles_media_shape", table="tiles_media", row="MappingRow", shown="mapping_shown", keyed=False,
@@ -46,7 +47,8 @@ TABLES = [
     dict(file="IdentityStatements", module="identities", list="identities", shape="identity_shape", table="sheet_identity", row="IdentityRow", shown="identity_shown", keyed=False,
          columns=[("kind", INT), ("local_id", INT), ("uuid", TEXT)], by=["kind", "local_id"],
          insert="insert_identity", delete=("delete_identity", ["kind", "local_id"]),
-         finds=[("identity_by_uuid", ["uuid"], [REST, INSIDE]), ("identity_by_key", ["kind", "local_id"], [REST, INSIDE])], all="all_identities"),
+         finds=[("identity_by_uuid", ["uuid"], [REST, INSIDE]), ("identity_by_key", ["kind", "local_id"], [REST, INSIDE])], all="all_identities",
+         greatest=("greatest_local_id", "local_id", ["kind"])),
 ]
 
 RESERVED = {"data", "package", "in", "as"}
@@ -282,47 +284,53 @@ def range_answer(t, name, tests):
 
 
 def newest_text(t):
-    return "SELECT %s FROM %s ORDER BY %s DESC LIMIT 1" % (t["by"][0], t["table"], t["by"][0])
+    _, column, columns = t["greatest"]
+    return "SELECT %s FROM %s WHERE %s ORDER BY %s DESC LIMIT 1" % (column, t["table"], where(columns), column)
 
 
 def newest_facts(t):
-    by = "((col 1 0, descending) ∷ [])"
+    _, column, columns = t["greatest"]
+    shown = "(%d ∷ [])" % number(t, column)
+    test = test_of(t, columns)
+    by = "((col 1 %d, descending) ∷ [])" % place(t, column)
     return [
         "",
-        "newest_text : (tree : ℕ) → IsNamed (codes \"%s\") (%s tree) (0 ∷ []) always %s one_row" % (newest_text(t), t["table"], by),
+        "newest_text : (tree : ℕ) → IsNamed (codes \"%s\") (%s tree) %s %s %s one_row" % (newest_text(t), t["table"], shown, test, by),
         "unfolding everything",
         "newest_text tree = record {",
         "  parse = _;", "  asks = _;", "  src = _;", "  items = _;", "  parsed = refl;", "  statement = refl;", "  formats = refl;",
         "  one = over_table %s;" % " ".join(["refl"] * 12),
         "  paged = λ schema. refl;",
         "  columns = ((_, _, refl, (_, _, refl, refl, refl)), tt);",
-        "  condition = refl;",
+        "  condition = %s;" % condition(columns),
         "  orders = ((_, (_, _, refl, refl, refl), refl, refl), tt);",
         "  enough = refl;",
         "}",
         "",
-        "newest_plan : (tree : ℕ) → IsPlannedNamed (%s tree) (0 ∷ []) always %s one_row" % (t["table"], by),
+        "newest_plan : (tree : ℕ) → IsPlannedNamed (%s tree) %s %s %s one_row" % (t["table"], shown, test, by),
         "unfolding resolving",
         "newest_plan tree schema at h = rw (h.stored, h.by_tree) refl",
         "",
-        "pub newest : IsNewest %s (λ x. x.%s) (codes \"%s\") [] (λ x. true)" % (t["shape"], t["by"][0], newest_text(t)),
-        "newest = record { test = _; project = _; by = _; asked = λ tree. asked_named (newest_text tree) (newest_plan tree); given = refl; pass = _; shown = _; is = λ tree. refl; passing = λ v x. refl; begins = λ v x. refl; keyed = λ v x. refl }",
+        "pub newest : %s → IsNewest %s (λ x. x.%s) (codes \"%s\") (%s) (λ x. %s)" % (arguments(t, columns), t["shape"], column, newest_text(t), bound(t, columns), keeps(t, columns, "x")),
+        "newest %s = record { test = _; project = _; by = _; asked = λ tree. asked_named (newest_text tree) (newest_plan tree); given = refl; pass = _; shown = _; place = %d; is = λ tree. refl; passing = λ v x. %s; begins = λ v x. refl; keyed = λ v x. refl }"
+        % (" ".join(columns), place(t, column), same(t, columns, "x")),
     ]
 
 
 def newest_answer(t):
-    function = t["greatest"]
+    function, _, columns = t["greatest"]
     return [
-        "use Rattle.std.proofs.Common.{refl}",
+        "use Rattle.std.proofs.Common.{refl, to_z-of_z}",
         "use Rattle.sqlite.specs.Held.{state}",
-        "use Rattle.package_tables.proofs.Newest.{tells_greatest_of_all}",
+        "use Rattle.package_tables.proofs.Newest.{tells_greatest}",
         "use Rattle.package_tables.proofs.%s.{known, newest}" % t["file"],
         "use Rattle.package_tables.proofs.%s.%s.Goals as goal" % (t["module"], function),
         "",
         "pub returns-clause-told : goal.returns-clause-told",
         "returns-clause-told g c =",
         "    let e = c.query_all.ensures in",
-        "    tells_greatest_of_all known newest (λ x. refl) (λ rows. rows.items) (state g.S.Store c.args.tx.now.conn.now) (state g.S.Store c.query_all.new.self.conn.now) c.query_all.result e.ok e.err c.number_of.result c.number_of.ensures.number",
+        "    tells_greatest known (newest %s) (λ rows. rows.items) _ %s" % (passed(t, columns), given(t, columns)),
+        "    (state g.S.Store c.args.tx.now.conn.now) (state g.S.Store c.query_all.new.self.conn.now) c.query_all.result e.ok e.err c.number_of.result c.number_of.ensures.number",
     ]
 
 
@@ -553,7 +561,7 @@ def main():
         for name, tests in t.get("ranges", []):
             write(folder + name + "/Answers.antt", range_answer(t, name, tests))
         if "greatest" in t:
-            write(folder + t["greatest"] + "/Answers.antt", newest_answer(t))
+            write(folder + t["greatest"][0] + "/Answers.antt", newest_answer(t))
         if "ids" in t:
             write(folder + t["ids"] + "/Answers.antt", ids_answer(t, t["ids"], "ids", [], "looks_ids", "numbers_of", "numbers", "(λ x. refl) refl (λ v x. refl) (λ found. found.items) "))
         for name, columns in t.get("has", []):

@@ -3,12 +3,11 @@ use Rattle.std.proofs.Common.{◌≡◌, sym, subst, rules, IfOk, ◌∙◌}
 use mir.Syntax.{w64}
 use mir.Val.{SFits}
 use Rattle.std.proofs.lemmas.Int.{to_z-of_z}
-use Rattle.sql_meaning.proofs.Staying.{looks_stays}
 use Rattle.sheet_types.specs.Lines.{IsUuid}
 use Rattle.sheet_types.specs.Texts.{uuid_text}
 use Rattle.identity_register.specs.Answers.{IsContentOf}
 use Rattle.identity_register.specs.Told.{IsToldOf}
-use Rattle.identity_register.proofs.Looking.{looked, tells, fails}
+use Rattle.identity_register.proofs.Looking.{looked, tells}
 use Rattle.identity_register.proofs.told.told_at.Goals as goal
 
 pub returns : goal.returns

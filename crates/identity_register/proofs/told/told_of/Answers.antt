@@ -1,5 +1,5 @@
 -- One row more has what is told of it.
-use Rattle.std.proofs.Common.{◌≤◌, take, length, arith, [], ap, subst, sym, is_ok}
+use Rattle.std.proofs.Common.{◌≤◌, length, arith, [], ap, subst, sym, is_ok}
 use Rattle.std.specs.List.{AllZip}
 use Rattle.std.proofs.ResultArms.{chosen}
 use Rattle.std.proofs.lemmas.List.{take_all}
@@ -8,7 +8,7 @@ use Rattle.sql_meaning.proofs.Staying.{looks_stays, stays_then}
 use Rattle.package_tables.specs.Package.{tables_of}
 use Rattle.identity_register.specs.Told.{IsToldOf}
 use Rattle.identity_register.proofs.Gathering.{zip_more}
-use Rattle.identity_register.proofs.Reaching.{GoesOn, stays_itself, goes_from, goes_on}
+use Rattle.identity_register.proofs.Reaching.{stays_itself, goes_from, goes_on}
 use Rattle.identity_register.proofs.told.told_of.Goals as goal
 
 pub loop-row-init : goal.loop-row-init
