@@ -1,10 +1,11 @@
 #!/usr/bin/env python3
 """Times additions over loopback: the desk of `sheetdesk`, and Python's http.server over stock SQLite (plain_desk.py), in one run.
 
-Usage: desk_times.py [--files FOLDER] [--program PROGRAM] [ROUNDS [COUNT]]      (3 rounds of 3000 additions)
+Usage: desk_times.py [--files FOLDER] [--program PROGRAM] [--clients N] [ROUNDS [COUNT]]      (3 rounds of 3000 additions)
 
-One client sends COUNT additions, a third each tiles, media and rows, one a connection, each when the one before is answered. Both
-sides get the same bytes, and must answer the same bodies. The packages are in memory (`rehearse --serve`, plain_desk.py), or with
+N clients (1 by itself), each a process, send COUNT additions in all, a third each tiles, media and rows, one a connection, each client
+when its last is answered: with one the server waits while the client works, with three it has always something to do. Both sides get
+the same bytes, and must answer the same bodies, but for the numbers of receipts where several clients come in any order. The packages are in memory (`rehearse --serve`, plain_desk.py), or with
 --files in files of a new folder in FOLDER, where each addition is committed by itself and waits for the disk (`serve`, and
 `plain_folder.py serve`). Told are additions a second by the clock, with the client's own work in them, and the microseconds of
 processor that the server took for each, less those of a server that was asked one thing: the median of the rounds, with the
@@ -12,7 +13,9 @@ least and the greatest. What a client alone costs is told too: the same exchange
 """
 
 import argparse
+import multiprocessing
 import os
+import re
 import resource
 import shutil
 import socket
@@ -99,7 +102,42 @@ def exchanged(port, texts):
     return time.perf_counter() - start, answers
 
 
-def run(side, texts, files):
+def client(port, texts, line):
+    """A client of its own: it begins when it is told to, and tells when it ended and what it got."""
+    line.recv()
+    answers = [exchange(port, text) for text in texts]
+    line.send((time.perf_counter(), answers))
+
+
+def exchanged_by(clients, port, texts):
+    """The same by several clients at once."""
+    if clients == 1:
+        return exchanged(port, texts)
+    forked, lines = multiprocessing.get_context("fork"), []
+    for at in range(clients):
+        ours, theirs = forked.Pipe()
+        forked.Process(target=client, args=[port, texts[at::clients], theirs], daemon=True).start()
+        lines.append(ours)
+    start = time.perf_counter()
+    for line in lines:
+        line.send(None)
+    answers, ends = [b""] * len(texts), []
+    for at, line in enumerate(lines):
+        end, answers[at::clients] = line.recv()
+        ends.append(end)
+    return max(ends) - start, answers
+
+
+def are_alike(clients, bodies):
+    """Whether both sides answered the same, each with a receipt: the very bytes, or with the same numbers in another order."""
+    numbers = [[int(found[1]) if (found := re.search(rb'"seq":(\d+)', body)) else 0 for body in side] for side in bodies]
+    if clients == 1:
+        return bodies[0] == bodies[1] and all(numbers[0])
+    unnumbered = [[re.sub(rb'"seq":\d+', b"", body) for body in side] for side in bodies]
+    return unnumbered[0] == unnumbered[1] and all(sorted(side) == list(range(1, len(side) + 1)) for side in numbers)
+
+
+def run(side, texts, files, clients=1):
     """The seconds by the clock, those of the server's processor, and the answers."""
     folder, port = new_folder(side, files), free_port()
     before = processor_seconds()
@@ -108,7 +146,7 @@ def run(side, texts, files):
         server.stdin.write(HEADER.encode())
     server.stdin.close()
     listening(port)
-    took, answers = exchanged(port, texts)
+    took, answers = exchanged_by(clients, port, texts)
     if server.wait() != 0:
         sys.exit(f"{side} ended with {server.returncode}")
     if folder:
@@ -138,20 +176,21 @@ def main():
     words = argparse.ArgumentParser(description=__doc__, formatter_class=argparse.RawDescriptionHelpFormatter)
     words.add_argument("--files", metavar="FOLDER")
     words.add_argument("--program", default=PROGRAM)
+    words.add_argument("--clients", type=int, default=1)
     words.add_argument("rounds", type=int, nargs="?", default=3)
     words.add_argument("count", type=int, nargs="?", default=3000)
     said = words.parse_args()
     PROGRAM, texts = said.program, list(posts(said.count))
     measured = {"sheetdesk": [], "Python": []}
-    print(f"load {os.getloadavg()[0]:.1f} at the start, {said.rounds} rounds of {said.count} additions, packages in {said.files or 'memory'}")
+    print(f"load {os.getloadavg()[0]:.1f} at the start, {said.rounds} rounds of {said.count} additions by {said.clients} at once, packages in {said.files or 'memory'}")
     for _ in range(said.rounds):
         bodies = []
         for side, runs in measured.items():
             idle = run(side, [b"GET /nothing HTTP/1.1\r\n\r\n"] if side == "sheetdesk" else texts[:1], said.files)[1]
-            took, used, answers = run(side, texts, said.files)
+            took, used, answers = run(side, texts, said.files, said.clients)
             runs.append((said.count / took, 1e6 * (used - idle) / said.count))
             bodies.append(answers)
-        if bodies[0] != bodies[1] or not all(b'"seq":' in body for body in bodies[0]):
+        if not are_alike(said.clients, bodies):
             sys.exit("they do not answer the same, or an addition was refused")
     for side, runs in measured.items():
         print(f"{side:9} {spelled([each for each, _ in runs], 0)} additions a second, {spelled([cost for _, cost in runs], 1)} us of processor an addition")

@@ -15,7 +15,7 @@ use world::world::World;
 /// How long a read or a write waits for the other side, in seconds.
 const PATIENCE: u64 = 10;
 
-/// How long it waits for what is sent after the answer, in seconds.
+/// How long it waits for more where something was sent after what was read, in seconds.
 const FAREWELL: u64 = 1;
 
 /// Lets no read and no write of a connection wait for longer.
@@ -25,19 +25,16 @@ fn set_patience(stream: &TcpStream) -> io::Result<()> {
     stream.set_write_timeout(limit)
 }
 
-/// Says that nothing more is written, and lets the next reads wait for a short time only.
-fn end_writing(stream: &TcpStream) -> io::Result<()> {
-    stream.shutdown(Shutdown::Write)?;
+/// Lets each read wait again, and for a short time only.
+fn set_farewell(stream: &TcpStream) -> io::Result<()> {
+    stream.set_nonblocking(false)?;
     stream.set_read_timeout(Some(Duration::from_secs(FAREWELL)))
 }
 
-/// Takes what is still sent after the answer, up to 4,194,304 bytes, until the other side closes. A connection that is closed over bytes that nobody took is reset, and the answer may be lost by that.
-fn hang_up(stream: &TcpStream) {
+/// Takes what is still sent after the answer, up to 4,194,304 bytes, until the other side closes or a read has nothing to give. A connection that is closed over bytes that nobody took is reset, and the answer may be lost by that.
+fn take_rest(stream: &TcpStream) {
     let mut reader = stream;
     let mut rest = [0u8; 4096];
-    if end_writing(stream).is_err() {
-        return;
-    }
     for _piece in 0..1024u32 {
         match reader.read(&mut rest) {
             Ok(0) | Err(_) => return,
@@ -46,38 +43,67 @@ fn hang_up(stream: &TcpStream) {
     }
 }
 
-/// Serves one connection, whatever becomes of it.
+/// Says that nothing more is written, and looks once whether the other side has sent more. Where it has, the rest is taken. Tells whether it has neither sent more nor closed: the connection is then kept until the next is served (RFC 9112, section 9.6), so that nobody waits for its end.
+fn stays_open(stream: &TcpStream) -> io::Result<bool> {
+    let mut reader = stream;
+    let mut rest = [0u8; 4096];
+    stream.shutdown(Shutdown::Write)?;
+    stream.set_nonblocking(true)?;
+    match reader.read(&mut rest) {
+        Ok(0) => Ok(false),
+        Ok(_) => {
+            set_farewell(stream)?;
+            take_rest(stream);
+            Ok(false)
+        }
+        Err(error) => Ok(error.kind() == io::ErrorKind::WouldBlock),
+    }
+}
+
+/// Ends a connection that was kept, with what has come since.
+fn let_go(kept: Option<TcpStream>) {
+    if let Some(stream) = kept {
+        take_rest(&stream);
+    }
+}
+
+/// Serves one connection, whatever becomes of it. Tells whether it was answered and its other side has not closed it yet.
 fn serve_stream<S: Alter + Drop, H: Shelf<S>>(
     alloc: Global,
     world: &mut World<S>,
     shelf: &mut H,
     stream: &TcpStream,
-)
+) -> bool
     ensures { IsServedBy S.Store 1 world.old world.new }
 {
     if set_patience(stream).is_err() {
-        return;
+        return false;
     }
     let mut reader = Outer(stream);
     let mut writer = stream;
     match serve_one(alloc, world, shelf, &mut reader, &mut writer) {
-        Ok(Served::Answered) => hang_up(stream),
-        Ok(Served::Nothing) | Err(_) => {}
+        Ok(Served::Answered) => stays_open(stream).unwrap_or(false),
+        Ok(Served::Nothing) | Err(_) => false,
     }
 }
 
-/// Serves the next connection of a listener, if one comes.
+/// Serves the next connection of a listener, if one comes, and lets go of the one that was kept. Gives the next to be kept.
 fn serve_next<S: Alter + Drop, H: Shelf<S>>(
     alloc: Global,
     world: &mut World<S>,
     shelf: &mut H,
     listener: &TcpListener,
-)
+    kept: Option<TcpStream>,
+) -> Option<TcpStream>
     ensures { IsServedBy S.Store 1 world.old world.new }
 {
     match listener.accept() {
-        Ok((stream, _)) => serve_stream(alloc, world, shelf, &stream),
-        Err(_) => {}
+        Ok((stream, _)) => {
+            let stays = serve_stream(alloc, world, shelf, &stream);
+            let_go(kept);
+            if stays { Some(stream) } else { None }
+        }
+        Err(_) => kept,
     }
 }
 
@@ -91,7 +117,9 @@ pub fn serve_each<S: Alter + Drop, H: Shelf<S>>(
 )
     ensures { IsServedBy S.Store count world.old world.new }
 {
+    let mut kept = None;
     'connections: for turn in 0..count {
-        serve_next(alloc, world, shelf, listener);
+        kept = serve_next(alloc, world, shelf, listener, kept);
     }
+    let_go(kept);
 }

@@ -5,4 +5,4 @@ pub connections-init : goal.connections-init
 connections-init g c = served_none g.S.Store c.args.world.now
 
 pub connections-preserved : goal.connections-preserved
-connections-preserved g c = served_then g.S.Store c.connections.turn 1 c.args.world.now c.connections.world c.serve_next.new.world c.connections.invariant c.serve_next.ensures
+connections-preserved g c = served_then g.S.Store c.connections.turn 1 c.args.world.now c.connections.world c.serve_next-kept.new.world c.connections.invariant c.serve_next-kept.ensures

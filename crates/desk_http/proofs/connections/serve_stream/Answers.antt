@@ -9,8 +9,8 @@ returns-then-is_err g c = same_by g.S.Store c.args.world.now c.args.world.now re
 pub returns-in-Ok-Answered : goal.returns-in-Ok-Answered
 returns-in-Ok-Answered g c = served_by g.S.Store None c.args.world.now c.serve_one.new.world (g.H.Shelf.failures_of c.args.shelf.now) (g.H.Shelf.failures_of c.serve_one.new.shelf) None None c.serve_one.result c.serve_one.ensures.served
 
-pub returns-else-is_err : goal.returns-else-is_err
-returns-else-is_err g c = served_by g.S.Store None c.args.world.now c.serve_one.new.world (g.H.Shelf.failures_of c.args.shelf.now) (g.H.Shelf.failures_of c.serve_one.new.shelf) None None c.serve_one.result c.serve_one.ensures.served
+pub returns-in-Ok-Nothing : goal.returns-in-Ok-Nothing
+returns-in-Ok-Nothing g c = served_by g.S.Store None c.args.world.now c.serve_one.new.world (g.H.Shelf.failures_of c.args.shelf.now) (g.H.Shelf.failures_of c.serve_one.new.shelf) None None c.serve_one.result c.serve_one.ensures.served
 
-pub returns-else-is_err-2 : goal.returns-else-is_err-2
-returns-else-is_err-2 g c = served_by g.S.Store None c.args.world.now c.serve_one.new.world (g.H.Shelf.failures_of c.args.shelf.now) (g.H.Shelf.failures_of c.serve_one.new.shelf) None None c.serve_one.result c.serve_one.ensures.served
+pub returns-in-Ok-Nothing-2 : goal.returns-in-Ok-Nothing-2
+returns-in-Ok-Nothing-2 g c = served_by g.S.Store None c.args.world.now c.serve_one.new.world (g.H.Shelf.failures_of c.args.shelf.now) (g.H.Shelf.failures_of c.serve_one.new.shelf) None None c.serve_one.result c.serve_one.ensures.served
