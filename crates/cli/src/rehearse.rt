@@ -20,7 +20,7 @@ use manifest_csv::progress::Teller;
 use manifest_csv::sending::send;
 use memory_files::MemoryFile;
 use request_csv::lists::{ReadFault, read_requests};
-use sheet_types::command::Request;
+use sheet_types::command::{Command, Request};
 use shelves::file_memory::MemoryFileShelf;
 use shelves::memory::MemoryShelf;
 use shelves::shelf::Shelf;
@@ -134,7 +134,25 @@ fn write_packages<S: Alter + Drop, W: Write>(
 
 // How many requests a world in the engine's arrays is asked for at most. A request costs less there than in files up to some ten thousand
 // items, and more beyond: what comes into the middle of an index moves all behind it.
-pub(crate) const FEW: u64 = 4096;
+const FEW: u64 = 4096;
+
+// How many where some of them take something out: for each thing that goes an array goes through all that its table holds.
+const FEW_THAT_TAKE: u64 = 1024;
+
+/// Whether a command takes things out of a package.
+fn takes_out(command: &Command) -> bool {
+    match command {
+        Command::Delete { .. } | Command::Unlink { .. } | Command::Split { .. } => true,
+        Command::Add { .. } | Command::Link { .. } | Command::Merge { .. } => false,
+    }
+}
+
+/// Whether the engine's arrays serve these requests, and so many more, sooner than files in memory do.
+pub(crate) fn are_few(requests: &[Request], more: u64) -> bool {
+    let takes = requests.iter().any(|request| takes_out(&request.command));
+    let most = if takes { FEW_THAT_TAKE } else { FEW };
+    (requests.len() as u64).saturating_add(more) <= most
+}
 
 // The world, the import and the manifests.
 fn carried_out<R: Read + Drop, W: Write, T: Teller>(
@@ -162,7 +180,7 @@ fn over_either<W: Write, T: Teller>(
 ) -> Outcome
     ensures { IsListOf requests.now (λ text. Rehearses (new_world rehearsal.now.archive rehearsal.now.frame) text writer.old writer.new (W.contents writer.old) (W.contents writer.new) result) }
 {
-    if requests.len() as u64 <= FEW {
+    if are_few(requests, 0) {
         let mut shelf = MemoryShelf::new(alloc);
         over::<MemStore, MemoryShelf, W, T>(alloc, rehearsal, &mut shelf, requests, writer, teller)
     } else {

@@ -9,7 +9,7 @@ ghost use Rattle.manifest_csv.specs.Imports.{IsListOf};
 ghost use Rattle.command_words.specs.declared.statuses.What.{What};
 ghost use Rattle.command_words.specs.declared.statuses.Outcome.TheVariants.{Refused};
 
-use crate::rehearse::{FEW, end_of_import, handed_on};
+use crate::rehearse::{are_few, end_of_import, handed_on};
 use command_words::arguments::{DeskWords, Rehearsal, Words, read_serving};
 use command_words::statuses::{Failure, Outcome};
 use desk_http::connections::serve_each;
@@ -117,7 +117,7 @@ fn served_by_either<W: Write, T: Teller>(
 ) -> Result<LeftWorld, Outcome>
     ensures { IsListOf requests.now (λ text. Leaves (new_world rehearsal.now.archive rehearsal.now.frame) count text writer.old writer.new (W.contents writer.old) (W.contents writer.new) result) }
 {
-    if (requests.len() as u64).saturating_add(u64::from(count)) <= FEW {
+    if are_few(requests, u64::from(count)) {
         let mut shelf = MemoryShelf::new(alloc);
         match served_over::<MemStore, MemoryShelf, W, T>(
             alloc, rehearsal, listener, count, &mut shelf, requests, writer, teller,
