@@ -5,21 +5,21 @@ use crate::fixed_asks::{OfFixed, OfReceipts, of_fixed, of_receipts};
 use crate::tables::{Part, found, joined, listed, sorted};
 use package_tables::attributes::{
     all_attributes, attribute_by_id, attribute_ids, attribute_ids_within, attributes_within,
-    greatest_attribute_id, has_attribute,
+    has_attribute,
 };
 use package_tables::fault::Fault;
 use package_tables::identities::{
-    all_identities, identity_by_key, identity_by_key_inside, identity_by_uuid,
+    all_identities, greatest_local_id, identity_by_key, identity_by_key_inside, identity_by_uuid,
     identity_by_uuid_inside,
 };
 use package_tables::mappings::{
     all_pairs, pair_of_base, pair_of_ends, pairs_of_base, pairs_of_related,
 };
-use package_tables::media::{all_media, greatest_medium_id, has_medium, medium_by_id, medium_ids};
+use package_tables::media::{all_media, has_medium, medium_by_id, medium_ids};
 use package_tables::rows::{AttributeRow, TileRow};
 use package_tables::tiles::{
-    all_tiles, greatest_tile_id, has_tile, has_tile_at, tile_at, tile_by_id, tile_ids,
-    tile_ids_between, tiles_between,
+    all_tiles, has_tile, has_tile_at, tile_at, tile_by_id, tile_ids, tile_ids_between,
+    tiles_between,
 };
 use sheet_types::command::Mapping;
 use sqlite::{Alter, Connection, Transaction};
@@ -211,16 +211,16 @@ pub(crate) fn told<S: Alter>(
 // A question inside a transaction, which is then dropped.
 #[derive(Clone, Copy)]
 pub(crate) enum Inside {
-    // The greatest numbers of tiles, media and rows, -1 where there is none.
+    // The greatest numbers of tiles, media and rows among the identities, -1 where there is none.
     Greatest,
     IdentityByUuid(&'static str),
     IdentityByKey(i64, i64),
 }
 
 fn greatest<S: Alter>(a: Global, tx: &mut Transaction<'_, S>) -> Result<String, Fault> {
-    let tile = greatest_tile_id(tx)?.unwrap_or(-1);
-    let medium = greatest_medium_id(tx)?.unwrap_or(-1);
-    let row = greatest_attribute_id(tx)?.unwrap_or(-1);
+    let tile = greatest_local_id(tx, 1)?.unwrap_or(-1);
+    let medium = greatest_local_id(tx, 2)?.unwrap_or(-1);
+    let row = greatest_local_id(tx, 3)?.unwrap_or(-1);
     let numbers = [Part::Number(tile), Part::Number(medium), Part::Number(row)];
     Ok(joined(a, numbers.as_slice())?)
 }

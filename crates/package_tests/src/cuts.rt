@@ -39,6 +39,18 @@ fn rect_of(of: [i64; 5]) -> Rect {
     }
 }
 
+// Takes what was selected, so that no store is at hand where it leaves.
+fn selection_told(
+    a: Global,
+    selected: Result<Result<Selection, Refusal>, Fault>,
+) -> Result<String, Fault> {
+    let selected = selected?;
+    match &selected {
+        Ok(selection) => Ok(selected_text(a, selection)?),
+        Err(why) => Ok(refusal_text(a, *why)?),
+    }
+}
+
 // The items that are selected and then the links, or why nothing is.
 pub(crate) fn cut_told<S: Alter>(
     a: Global,
@@ -50,8 +62,5 @@ pub(crate) fn cut_told<S: Alter>(
     if FRAME.check().is_err() || !is_good(&FRAME, &rect) {
         return Err(Fault::StoreFault);
     }
-    match select(conn, a, &FRAME, &rect, cuts.0)? {
-        Ok(selection) => Ok(selected_text(a, &selection)?),
-        Err(why) => Ok(refusal_text(a, why)?),
-    }
+    selection_told(a, select(conn, a, &FRAME, &rect, cuts.0))
 }

@@ -12,7 +12,7 @@ use std::alloc::{AllocError, Global};
 use store_forms::claims::{StoreClaim, claims};
 use store_forms::form::has_form;
 use store_forms::frames::{are_dated, read_frame};
-use store_forms::heads::head;
+use store_forms::heads::{StoreHead, head};
 use stored_receipts::{are_in_range, receipts};
 use test_values::{answered, at_rest, number_of};
 use uuid::Uuid;
@@ -46,15 +46,19 @@ fn end_text(a: Global, end: Option<Uuid>) -> Result<String, AllocError> {
     }
 }
 
+fn head_line(a: Global, head: &StoreHead) -> Result<String, AllocError> {
+    let mut text = String::new(a);
+    put(&mut text, identity_text(a, head.uuid))?;
+    put(&mut text, end_text(a, head.parent))?;
+    put_number(a, &mut text, head.depth)?;
+    text.push_str(format!(in a; "{}", head.loan)?.as_str())?;
+    Ok(text)
+}
+
 fn head_text<S: Alter>(a: Global, conn: &mut Connection<S>) -> Result<String, Fault> {
     at_rest(conn)?;
     match head(conn, a)? {
-        Some(head) => {
-            let uuid = identity_text(a, head.uuid)?;
-            let parent = end_text(a, head.parent)?;
-            let (depth, loan) = (head.depth, head.loan);
-            Ok(format!(in a; "{} {} {depth} {loan}", uuid.as_str(), parent.as_str())?)
-        }
+        Some(head) => Ok(head_line(a, &head)?),
         None => Ok(fixed_text(a, "-")?),
     }
 }

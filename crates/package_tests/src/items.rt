@@ -58,7 +58,7 @@ pub(crate) enum Does {
     Unlinks(Mapping, u64, u64),
     Dates(&'static str),
     // The moment of the last change of one table.
-    DatesTable(&'static str, &'static str),
+    DatesEach(&'static str),
 }
 
 // The change, with the allocator that its content takes.
@@ -73,7 +73,7 @@ impl<S: Alter> Change<S> for Done {
             Does::Links(mapping, base, other) => link(tx, relation(mapping, base, other)),
             Does::Unlinks(mapping, base, other) => unlink(tx, relation(mapping, base, other)),
             Does::Dates(at) => date_contents(tx, at),
-            Does::DatesTable(at, table) => set_last_change(tx, at, table),
+            Does::DatesEach(at) => set_last_change(tx, at),
         }
     }
 }
@@ -146,15 +146,29 @@ fn put_item(a: Global, text: &mut String, item: &Item) -> Result<(), AllocError>
     text.push(';')
 }
 
-fn held<S: Alter>(a: Global, conn: &mut Connection<S>) -> Result<String, Fault> {
-    at_rest(conn)?;
-    let (items, links) = holdings(conn, a)?;
+fn items_text(a: Global, items: &[Item]) -> Result<String, AllocError> {
     let mut text = String::new(a);
-    for item in &items {
+    for item in items {
         put_item(a, &mut text, item)?;
     }
-    text.push_str(links_text(a, &links)?.as_str())?;
     Ok(text)
+}
+
+// Each of these takes what it tells of, so that no store and no second list is at hand where it leaves.
+fn both_text(a: Global, items: &[Item], links: &[Relation]) -> Result<String, AllocError> {
+    let mut text = items_text(a, items)?;
+    text.push_str(links_text(a, links)?.as_str())?;
+    Ok(text)
+}
+
+fn both_told(a: Global, held: Result<(Vec<Item>, Vec<Relation>), Fault>) -> Result<String, Fault> {
+    let held = held?;
+    Ok(both_text(a, held.0.as_slice(), held.1.as_slice())?)
+}
+
+fn held<S: Alter>(a: Global, conn: &mut Connection<S>) -> Result<String, Fault> {
+    at_rest(conn)?;
+    both_told(a, holdings(conn, a))
 }
 
 fn one_item<S: Alter>(a: Global, conn: &mut Connection<S>, identity: u64) -> Result<String, Fault> {

@@ -39,6 +39,8 @@ mod range_tests;
 #[cfg(test)]
 mod reach_tests;
 #[cfg(test)]
+mod reading;
+#[cfg(test)]
 mod receipt_tests;
 #[cfg(test)]
 mod schema_tests;

@@ -1,66 +1,70 @@
 // What the look-ups answer of packages in memory: a tile with a medium and a row that is linked to nothing, and a row with a
 // medium beside a tile and another row that are linked to nothing. What is expected follows from what was put in.
 
-use crate::items::OfItems;
-use crate::steps::{Step, wrong_in_tables};
+use crate::reading::Table;
+use crate::steps::{wrong_in_tables, wrong_with_a_link};
 use identity_register::kinds::{kind_of_number, number_of_kind};
 use identity_register::stored_texts::stored_uuid;
-use sheet_types::command::Mapping;
 use sheet_types::receipt::MovedKind;
 use std::test::Fail;
-use test_values::{Row, WITH_A_LINK};
 use uuid::Uuid;
 
 // Each but the last has the local number 4 of its kind.
-const WITH_ROWS: [Row; 9] = [
-    Row::Tile(4, [2, 3, 1], "ab"),
-    Row::Identity(1, 4, "00000000-0000-0000-0000-000000000001"),
-    Row::Medium(4, "png", "image/png"),
-    Row::Identity(2, 4, "00000000-0000-0000-0000-000000000002"),
-    Row::Attribute(4, [100, -7, 31], "well"),
-    Row::Identity(3, 4, "00000000-0000-0000-0000-000000000003"),
-    Row::Attribute(5, [101, -7, 32], "pump"),
-    Row::Identity(3, 5, "00000000-0000-0000-0000-000000000004"),
-    Row::Pair(Mapping::RowsMedia, 4, 4),
-];
+const WITH_ROWS: Table = Table(
+    9,
+    "tile 4 2 3 1 ab
+identity 1 4 00000000-0000-0000-0000-000000000001
+medium 4 image/png png
+identity 2 4 00000000-0000-0000-0000-000000000002
+row 4 100 -7 31 well
+identity 3 4 00000000-0000-0000-0000-000000000003
+row 5 101 -7 32 pump
+identity 3 5 00000000-0000-0000-0000-000000000004
+pair rows_media 4 4
+",
+);
 
-const ANSWERS: [Step; 13] = [
-    Step::Items(OfItems::Found(1), "tile 2 3 1 ab"),
-    Step::Items(OfItems::Found(2), "medium image/png png"),
-    Step::Items(OfItems::Found(3), "row 100 -7 31 well"),
-    Step::Items(OfItems::Found(4), "-"),
-    Step::Items(OfItems::Found(9), "-"),
-    Step::Items(OfItems::IsLinked(1), "yes"),
-    Step::Items(OfItems::IsLinked(2), "yes"),
-    Step::Items(OfItems::IsLinked(3), "no"),
-    Step::Items(OfItems::IsLinked(4), "-"),
-    Step::Items(OfItems::HasTileAt([2, 3, 1]), "yes"),
-    Step::Items(OfItems::HasTileAt([2, 1, 3]), "no"),
-    Step::Items(OfItems::HasLink(Mapping::TilesMedia, 1, 2), "yes"),
-    Step::Items(OfItems::HasLink(Mapping::TilesMedia, 1, 3), "no"),
-];
+const ANSWERS: Table = Table(
+    13,
+    "item found 1 => [tile 2 3 1 ab]
+item found 2 => [medium image/png png]
+item found 3 => [row 100 -7 31 well]
+item found 4 => [-]
+item found 9 => [-]
+item is_linked 1 => [yes]
+item is_linked 2 => [yes]
+item is_linked 3 => [no]
+item is_linked 4 => [-]
+item has_tile_at 2 3 1 => [yes]
+item has_tile_at 2 1 3 => [no]
+item has_link tiles_media 1 2 => [yes]
+item has_link tiles_media 1 3 => [no]
+",
+);
 
 // Both ends are to be known before their kinds are judged.
-const STATES: [Step; 7] = [
-    Step::Items(OfItems::LinkState(Mapping::RowsMedia, 9, 2), "unknown end"),
-    Step::Items(OfItems::LinkState(Mapping::TilesMedia, 3, 9), "unknown end"),
-    Step::Items(OfItems::LinkState(Mapping::TilesMedia, 3, 2), "wrong kinds"),
-    Step::Items(OfItems::LinkState(Mapping::RowsMedia, 2, 3), "wrong kinds"),
-    Step::Items(OfItems::LinkState(Mapping::TilesMedia, 1, 2), "absent"),
-    Step::Items(OfItems::LinkState(Mapping::RowsMedia, 4, 2), "absent"),
-    Step::Items(OfItems::LinkState(Mapping::RowsMedia, 3, 2), "there"),
-];
+const STATES: Table = Table(
+    7,
+    "item link_state rows_media 9 2 => [unknown end]
+item link_state tiles_media 3 9 => [unknown end]
+item link_state tiles_media 3 2 => [wrong kinds]
+item link_state rows_media 2 3 => [wrong kinds]
+item link_state tiles_media 1 2 => [absent]
+item link_state rows_media 4 2 => [absent]
+item link_state rows_media 3 2 => [there]
+",
+);
 
 #[test]
 fn look_ups_answer_of_the_package(rt: HostRuntime) -> Result<(), Fail> {
-    let wrong = wrong_in_tables(rt.alloc(), WITH_A_LINK.as_slice(), ANSWERS.as_slice())?;
+    let wrong = wrong_with_a_link(rt.alloc(), ANSWERS)?;
     assert_eq!(rt; wrong.as_str(), "");
     Ok(())
 }
 
 #[test]
 fn a_link_that_is_to_come_in_has_a_state(rt: HostRuntime) -> Result<(), Fail> {
-    let wrong = wrong_in_tables(rt.alloc(), WITH_ROWS.as_slice(), STATES.as_slice())?;
+    let wrong = wrong_in_tables(rt.alloc(), WITH_ROWS, STATES)?;
     assert_eq!(rt; wrong.as_str(), "");
     Ok(())
 }

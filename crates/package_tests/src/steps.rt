@@ -1,18 +1,22 @@
-// A test as data: what is done to a package in turn, and what is asked of it. One function carries it out, so a further step costs next to nothing to prove.
+// A test as data: what is done to a package in turn, and what is asked of it, a step a line of a text. One function carries it out, so a
+// further step costs no proof.
 
 use crate::asks::{Asks, Inside, told, told_inside};
 use crate::cuts::{Cuts, cut_told};
 use crate::entries::{Entered, Given, OfCustody, custody_told};
 use crate::forms::{OfForms, Turns, forms_told, turned};
 use crate::items::{Does, Done, OfItems, items_told};
+use crate::reading::{Table, read_row, read_step, unread};
 use crate::values::archive;
 use package_tables::create::Info;
 use package_tables::fault::Fault;
+use package_tables::schema::create_schema;
 use sheet_types::frame::Frame;
-use sqlite::{Alter, Connection};
+use sqlite::{Alter, Connection, Transaction};
 use std::alloc::Global;
 use test_values::{
-    Checked, FRAME, Row, Rows, Tables, altered, committed, in_memory, new_package, new_tables,
+    Change, Checked, FRAME, Row, Rows, altered, committed, fill_with_a_link, in_memory,
+    new_package, new_tables,
 };
 
 // A step, and what a question is to be told.
@@ -73,25 +77,107 @@ fn expected(step: Step) -> &'static str {
     }
 }
 
+// Carries a step out, and notes what it told. One that cannot be read is noted as it stands.
+fn take_step<S: Alter>(
+    a: Global,
+    conn: &mut Connection<S>,
+    line: &'static str,
+    checked: &mut Checked,
+) {
+    match read_step(line) {
+        Some(step) => checked.told(step_told(a, conn, step), expected(step)),
+        None => checked.is(line, "a step that can be read"),
+    }
+}
+
+fn all_steps(found: usize, wanted: usize) -> &'static str {
+    if found == wanted {
+        "all steps"
+    } else {
+        "another number of steps"
+    }
+}
+
 // What the steps told that was not expected, one a line.
 pub(crate) fn wrong<S: Alter>(
     a: Global,
     conn: &mut Connection<S>,
-    steps: &[Step],
+    steps: Table,
 ) -> Result<String, Fault> {
     let mut checked = Checked::new(a);
-    for step in steps {
-        checked.told(step_told(a, conn, *step), expected(*step));
+    let mut found = 0usize;
+    for line in steps.1.lines() {
+        if !line.starts_with('#') {
+            take_step(a, conn, line, &mut checked);
+            found = found.saturating_add(1);
+        }
     }
+    checked.is(all_steps(found, steps.0), "all steps");
     Ok(String::from_str(a, checked.wrong())?)
 }
 
-// The same, after these rows came into the tables of a package in memory.
-pub(crate) fn wrong_in_tables(a: Global, rows: &[Row], steps: &[Step]) -> Result<String, Fault> {
-    let mut conn = in_memory(a)?;
-    if !committed(&mut conn, &Tables(rows))? {
+// The rows of a table, behind the schema where there is none yet.
+#[derive(Drop)]
+pub(crate) struct Filled {
+    pub has_schema: bool,
+    pub rows: Table,
+}
+
+fn put<S: Alter>(tx: &mut Transaction<'_, S>, line: &'static str) -> Result<(), Fault> {
+    match read_row(line) {
+        Some(row) => Rows([row].as_slice()).make(tx),
+        None => Err(Fault::StoreFault),
+    }
+}
+
+impl<S: Alter> Change<S> for Filled {
+    fn make(&self, tx: &mut Transaction<'_, S>) -> Result<(), Fault> {
+        if !self.has_schema {
+            create_schema(tx)?;
+        }
+        for line in self.rows.1.lines() {
+            put(tx, line)?;
+        }
+        Ok(())
+    }
+}
+
+// Steps in a store, after these rows came into it.
+fn wrong_after_rows<S: Alter>(
+    a: Global,
+    conn: &mut Connection<S>,
+    filled: &Filled,
+    steps: Table,
+) -> Result<String, Fault> {
+    if let Some(line) = unread(filled.rows) {
+        return Ok(String::from_str(a, line)?);
+    }
+    if !committed(conn, filled)? {
         return Err(Fault::StoreFault);
     }
+    wrong(a, conn, steps)
+}
+
+// What was wrong, after these rows came into the tables of a package in memory.
+pub(crate) fn wrong_in_tables(a: Global, rows: Table, steps: Table) -> Result<String, Fault> {
+    let mut conn = in_memory(a)?;
+    let filled = Filled {
+        has_schema: false,
+        rows,
+    };
+    wrong_after_rows(a, &mut conn, &filled, steps)
+}
+
+// The same after statements were carried out in a new package in memory.
+pub(crate) fn wrong_after(
+    a: Global,
+    frame: &Frame,
+    info: &Info<'_>,
+    statements: &str,
+    steps: Table,
+) -> Result<String, Fault> {
+    let mut conn = new_package(a, in_memory(a)?, frame, info)?;
+    altered(&mut conn, statements)?;
     wrong(a, &mut conn, steps)
 }
 
@@ -100,27 +186,32 @@ pub(crate) fn wrong_in_package(
     a: Global,
     frame: &Frame,
     info: &Info<'_>,
-    steps: &[Step],
+    steps: Table,
 ) -> Result<String, Fault> {
-    let mut conn = new_package(a, in_memory(a)?, frame, info)?;
-    wrong(a, &mut conn, steps)
+    wrong_after(a, frame, info, "", steps)
 }
 
 // The same in the tables of a new archive, into which these rows came.
-pub(crate) fn wrong_in_new_tables(
-    a: Global,
-    rows: &[Row],
-    steps: &[Step],
-) -> Result<String, Fault> {
+pub(crate) fn wrong_in_new_tables(a: Global, rows: Table, steps: Table) -> Result<String, Fault> {
     let mut conn = new_tables(a, in_memory(a)?, &FRAME, &archive())?.into_connection();
-    if !committed(&mut conn, &Rows(rows))? {
-        return Err(Fault::StoreFault);
-    }
-    wrong(a, &mut conn, steps)
+    let filled = Filled {
+        has_schema: true,
+        rows,
+    };
+    wrong_after_rows(a, &mut conn, &filled, steps)
 }
 
 // The same in a store in memory that nothing is in.
-pub(crate) fn wrong_in_nothing(a: Global, steps: &[Step]) -> Result<String, Fault> {
+pub(crate) fn wrong_in_nothing(a: Global, steps: Table) -> Result<String, Fault> {
     let mut conn = in_memory(a)?;
+    wrong(a, &mut conn, steps)
+}
+
+// The same beside a tile 7 with a medium 4, and a row 4 that is linked to nothing; their identities are 1, 2 and 3.
+pub(crate) fn wrong_with_a_link(a: Global, steps: Table) -> Result<String, Fault> {
+    let mut conn = in_memory(a)?;
+    if !fill_with_a_link(&mut conn)? {
+        return Err(Fault::StoreFault);
+    }
     wrong(a, &mut conn, steps)
 }

@@ -20,10 +20,6 @@ pub(crate) fn archive() -> Info<'static> {
     }
 }
 
-// The same as the text of its row.
-pub(crate) const HEAD: &str =
-    "1 2 00000000-0000-0000-0000-000000000001  0 0 2026-11-22T09:00:00.000Z|";
-
 // The head of its loan, package 2.
 pub(crate) fn loan() -> Info<'static> {
     Info {
