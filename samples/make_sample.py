@@ -1,7 +1,7 @@
 #!/usr/bin/env python3
 """Writes the sample: the request list of the archive of Nordmark, and what its rehearsal must print, by the second machine of reference.py.
 
-Usage: make_sample.py           writes archive.csv and archive.expected.txt, and the run that the gate makes of the program
+Usage: make_sample.py           writes archive.csv and archive.expected.txt
        make_sample.py --check   writes nothing; status 1 where one of these files is not what would be written
 
 The same text comes out each time: nothing is drawn at random, and the identities are UUIDs made of names. nordmark.py has the archive,
@@ -20,7 +20,6 @@ from machine.frames import Frame
 from machine.world import World, apply, audit
 
 HERE = os.path.dirname(os.path.abspath(__file__))
-PROGRAM = os.path.join(HERE, "..", "crates", "sheetdesk")
 
 
 class List:
@@ -88,22 +87,20 @@ def told():
     return requests
 
 
-def files():
-    """Each file's path and bytes."""
+def rehearsed():
+    """The list, and what its rehearsal prints."""
     sample = told().text().encode()
     done = reference.rehearse(nordmark.ARCHIVE, nordmark.FRAME, sample)
     met = {reply.number for reply in done.replies if isinstance(reply, reference.Refusal)}
     assert done.status == 0 and met == set(range(1, 23)) - {16}, met
     audit(done.world)
-    words = ["rehearse", "--archive", nordmark.ARCHIVE, "--at", nordmark.CREATED, "--frame", nordmark.FRAME]
-    return {
-        os.path.join(HERE, "archive.csv"): sample,
-        os.path.join(HERE, "archive.expected.txt"): done.text.encode(),
-        os.path.join(PROGRAM, "args"): "".join(word + "\n" for word in words).encode(),
-        os.path.join(PROGRAM, "stdin"): sample,
-        os.path.join(PROGRAM, "stdout"): done.text.encode(),
-        os.path.join(PROGRAM, "status"): b"0",
-    }
+    return sample, done.text
+
+
+def files():
+    """Each file's path and bytes."""
+    sample, text = rehearsed()
+    return {os.path.join(HERE, "archive.csv"): sample, os.path.join(HERE, "archive.expected.txt"): text.encode()}
 
 
 def is_as_wanted(path, wanted):

@@ -1,11 +1,12 @@
 #!/usr/bin/env python3
 """Writes the sessions that the gate carries out: their lines, the files that these name, and what each line prints.
 
-Usage: make_sessions.py           writes first.csv, first_session.txt, and the run that the gate makes of crates/workbench
+Usage: make_sessions.py           writes first.csv, first_session.txt, and the run that the gate makes of crates/sheetdesk
        make_sessions.py --check   writes nothing; status 1 where a file is not what would be written, or the README does not show the first session
 
-First comes the session of the README: an archive is made in a folder, takes in three sheets, a survey mark and a photograph, lends a sheet
-to a crew, which adds a mark of its own; then it is looked at. What its lines print is worked out by the second machine of reference.py.
+First the sample is rehearsed, from standard input (make_sample.py). Then comes the session of the README: an archive is made in a folder,
+takes in three sheets, a survey mark and a photograph, lends a sheet to a crew, which adds a mark of its own; then it is looked at. What its
+lines print is worked out by the second machine of reference.py.
 
 Then the worked examples of bench/worked_lists.txt, which has what they must print, written out by hand. Each list is rehearsed. An
 example that lends, and tells more than one reply whole or has manifests in between, is carried out in a folder too: requests of which more
@@ -23,10 +24,10 @@ import nordmark
 import reference
 from machine.lists import read_requests
 from machine.world import Receipt
-from make_sample import List
+from make_sample import List, rehearsed as rehearsed_sample
 
 HERE = os.path.dirname(os.path.abspath(__file__))
-CRATE = os.path.join(HERE, "..", "crates", "workbench")
+CRATE = os.path.join(HERE, "..", "crates", "sheetdesk")
 DATA = os.path.join(CRATE, "data")
 README = os.path.join(HERE, "..", "README.md")
 REFUSALS = os.path.join(HERE, "refusals.txt")
@@ -38,6 +39,7 @@ import worked_lists
 from desk_requests import body_of
 
 CREW = nordmark.HARBOUR
+MAKING = f"--archive {nordmark.ARCHIVE} --at {nordmark.CREATED} --frame {nordmark.FRAME}"
 
 
 def told():
@@ -142,7 +144,7 @@ def first_session():
     receipt = next(reply for reply in done.replies if isinstance(reply, Receipt) and reply.request == lent)
     session = Session()
     session.type("mkdir maps", "")
-    session.run(f"init --archive {nordmark.ARCHIVE} --at {nordmark.CREATED} --frame {nordmark.FRAME} maps", f"archive {nordmark.ARCHIVE}\n")
+    session.run(f"init {MAKING} maps", f"archive {nordmark.ARCHIVE}\n")
     session.run("import maps " + session.name("samples/first.csv", requests.text().encode()), report_of(done))
     session.run("status maps", status_of(done.world))
     session.run(f"explain maps {light}", way_of(done.world, light))
@@ -276,6 +278,9 @@ def sessions_by_hand(session):
 def all_sessions():
     """The first session as the README shows it, and all of them."""
     first, every = first_session(), Session()
+    every.show("# The sample, on standard input.")
+    every.run(f"rehearse {MAKING}", rehearsed_sample()[1])
+    every.show("")
     every.show("# The first session of the README.")
     every.typed += first.typed
     every.printed += first.printed
@@ -293,7 +298,10 @@ def files():
         os.path.join(HERE, "first.csv"): first.files["samples/first.csv"],
         os.path.join(HERE, "first_session.txt"): "".join(first.printed).encode(),
         os.path.join(DATA, "sessions.txt"): "".join(every.typed).encode(),
+        os.path.join(CRATE, "args"): b"session\nsessions.txt\n",
+        os.path.join(CRATE, "stdin"): rehearsed_sample()[0],
         os.path.join(CRATE, "stdout"): "".join(every.printed).encode(),
+        os.path.join(CRATE, "status"): b"0",
         **made,
     }
 

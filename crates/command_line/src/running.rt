@@ -1,4 +1,4 @@
-//! A command line, carried out: what it asks for is done in `cli` and `commands`.
+//! A command, carried out: what it asks for is done in `cli`, `commands` and `views`.
 use clap::error::ErrorKind;
 use clap::{ArgMatches, Error};
 use cli::rehearse::rehearse;
@@ -28,7 +28,7 @@ use views::status::status;
 use views::{endings as seen, map_endings as drawn};
 
 /// Prints a text on standard error. Where that fails too, the status alone says how the program ended.
-fn print_error(rt: &HostRuntime, text: &str) {
+pub(crate) fn print_error(rt: &HostRuntime, text: &str) {
     let _printed = eprint!(rt; "{text}");
 }
 
@@ -45,7 +45,7 @@ fn is_printed(rt: &HostRuntime, text: &str) -> bool {
 }
 
 /// Says that standard output failed, and answers the exit status.
-fn output_failed(rt: &HostRuntime) -> u8 {
+pub(crate) fn output_failed(rt: &HostRuntime) -> u8 {
     print_error(rt, error_of(FAILED));
     status_of(FAILED)
 }
@@ -94,7 +94,7 @@ fn mapped(rt: &HostRuntime, ending: &drawn::MapEnding) -> u8 {
 }
 
 /// Prints what the command line is answered with where it names nothing to be done: a usage fault, or help.
-fn answered(rt: &HostRuntime, error: &Error) -> u8 {
+pub(crate) fn answered(rt: &HostRuntime, error: &Error) -> u8 {
     if error.kind() == ErrorKind::OutOfMemory {
         return out_of_memory(rt);
     }
@@ -202,7 +202,7 @@ fn changed<R: Read + Drop>(
 }
 
 /// Carries out the command of this name over a folder, if it has one, and answers the exit status.
-fn carried_out<R: Read + Drop>(
+pub(crate) fn carried_out<R: Read + Drop>(
     rt: &HostRuntime,
     name: &str,
     given: &ArgMatches<'_>,
@@ -235,21 +235,11 @@ fn carried_out<R: Read + Drop>(
 }
 
 /// What these words ask for; an error where they are no use of the program, or ask for help.
-fn matched<'a, W: AsStr>(rt: &HostRuntime, words: &'a [W]) -> Result<ArgMatches<'a>, Error> {
+pub(crate) fn matched<'a, W: AsStr>(
+    rt: &HostRuntime,
+    words: &'a [W],
+) -> Result<ArgMatches<'a>, Error> {
     sheetdesk(rt.alloc())?.try_get_matches_from(words)
-}
-
-/// Carries out a command line, the program's name first, over a reader in place of standard input, and answers the exit status.
-/// What it prints goes to standard output and standard error. A subcommand is required.
-pub fn run<W: AsStr, R: Read + Drop>(rt: &HostRuntime, words: &[W], reader: R) -> u8 {
-    let matches = match matched(rt, words) {
-        Ok(matches) => matches,
-        Err(error) => return answered(rt, &error),
-    };
-    match matches.subcommand() {
-        Some((name, given)) => carried_out(rt, name, given, reader),
-        None => 2,
-    }
 }
 
 /// Says that memory gave out, and answers the exit status.

@@ -122,6 +122,34 @@ pub const EXPORT_ABOUT: &str = "Prints a package as SQL that makes a GeoPackage 
 /// What `map` is for.
 pub const MAP_ABOUT: &str = "Prints a drawing of who holds which sheets, as SVG";
 
+/// What `session` is for.
+pub const SESSION_ABOUT: &str =
+    "Carries out the commands of a file, and prints each with its answer";
+
+/// After the words of `session`.
+pub const SESSION_WORDS: &str = "Each line of the file is one of
+  ./sheetdesk WORDS..          a command, its words between single spaces, without quotes
+  ./sheetdesk WORDS.. < INPUT  the same, with this file on standard input
+  mkdir FOLDER                 a folder is made
+  # ..                         a comment, which is printed, as an empty line is
+Each is printed behind `$ `, then what it prints itself, then its status, as `status 1`, unless that is 0.
+Whatever it was, the next line follows. A folder that cannot be made and an INPUT that cannot be read have
+status 1; a line that is none of these, and a session in a session, status 2.
+
+Example, where first.txt has these four lines:
+  mkdir maps
+  ./sheetdesk init --archive a0000000-0000-4000-8000-000000000000 --at 2024-05-01T08:00:00.000Z --frame 25832,0,0,4096,4096,256,256,0,3,1,1 maps
+  ./sheetdesk import maps list.csv
+  ./sheetdesk audit maps
+and list.csv is of the form that `sheetdesk rehearse --help` tells:
+  sheetdesk session first.txt
+
+Exit status:
+  0  the last line was reached
+  1  the file cannot be read as text: `refused: session`; nothing was done
+  2  the command line is no use of the program
+  3  memory or standard output gave out";
+
 /// After the words of a command over a folder.
 pub const FOLDER_WORDS: &str =
     "A folder holds its packages as SQLite databases, each the file UUID.gpkg. It is one register: one

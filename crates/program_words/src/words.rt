@@ -2,7 +2,7 @@
 use crate::help::{
     ABOUT, APPLY_ABOUT, AUDIT_ABOUT, EXPLAIN_ABOUT, EXPORT_ABOUT, FOLDER_WORDS, IMPORT_ABOUT,
     INIT_ABOUT, MANIFEST_ABOUT, MAP_ABOUT, RECEIPT_ABOUT, REHEARSE_ABOUT, REHEARSE_WORDS,
-    SERVE_ABOUT, STATUS_ABOUT, WORDS,
+    SERVE_ABOUT, SESSION_ABOUT, SESSION_WORDS, STATUS_ABOUT, WORDS,
 };
 use clap::{Arg, ArgAction, Command};
 use std::alloc::{AllocError, Global};
@@ -175,6 +175,19 @@ fn rehearse_command<'a>(alloc: Global) -> Result<Command<'a>, AllocError> {
     Ok(rehearse.about(REHEARSE_ABOUT).after_help(REHEARSE_WORDS))
 }
 
+/// The command that carries out others.
+fn session_command<'a>(alloc: Global) -> Result<Command<'a>, AllocError> {
+    Command::new(alloc, "session")
+        .about(SESSION_ABOUT)
+        .after_help(SESSION_WORDS)
+        .arg(word(
+            alloc,
+            "file",
+            "FILE",
+            "The commands, a line each, as first.txt",
+        ))
+}
+
 /// The command line of the program.
 pub fn sheetdesk<'a>(alloc: Global) -> Result<Command<'a>, AllocError> {
     Command::new(alloc, "sheetdesk")
@@ -192,5 +205,6 @@ pub fn sheetdesk<'a>(alloc: Global) -> Result<Command<'a>, AllocError> {
         .subcommand(map_command(alloc)?)?
         .subcommand(audit_command(alloc)?)?
         .subcommand(serve_command(alloc)?)?
-        .subcommand(rehearse_command(alloc)?)
+        .subcommand(rehearse_command(alloc)?)?
+        .subcommand(session_command(alloc)?)
 }

@@ -1,7 +1,8 @@
 //! The program `sheetdesk`: the words that it is called with, and the exit status.
 #![tactic(auto)]
 
-use command_line::running::{out_of_memory, run};
+use command_line::running::out_of_memory;
+use command_line::sessions::run;
 use std::io;
 use std::process::ExitCode;
 
@@ -22,7 +23,7 @@ fn unread(rt: &HostRuntime, error: &io::Error) -> u8 {
 
 fn main(rt: HostRuntime) -> ExitCode {
     let status = match words_given(&rt) {
-        Ok(words) => run(&rt, words.as_slice(), rt.reader()),
+        Ok(words) => run(&rt, words.as_slice(), &mut rt.reader()),
         Err(error) => unread(&rt, &error),
     };
     ExitCode::from(status)
