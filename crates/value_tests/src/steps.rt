@@ -3,6 +3,7 @@
 //! longer to prove.
 
 use crate::accounts::line_told;
+use crate::calls::call_of;
 use crate::claims::{claims_of, verdict_of};
 use crate::frames::frame_of;
 use crate::values::words_of;
@@ -102,6 +103,8 @@ pub(crate) enum Of {
     Verdicts,
     // Lines of a ledger.
     Lines,
+    // Bytes of a connection.
+    Calls,
 }
 
 fn told(alloc: Global, of: Of, question: &str) -> Result<String, OutOfMemory> {
@@ -111,6 +114,7 @@ fn told(alloc: Global, of: Of, question: &str) -> Result<String, OutOfMemory> {
         Of::Claims => claims_of(alloc, question),
         Of::Verdicts => verdict_of(alloc, question),
         Of::Lines => line_told(alloc, question),
+        Of::Calls => call_of(alloc, question),
     }
 }
 
