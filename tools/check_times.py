@@ -7,7 +7,7 @@ It needs strace, and leave to trace what else the user runs. A check writes down
 time from one to the next is taken as what the second cost. So the first module of a crate has the loading of the libraries below it, and a
 function that waits for a processor looks dearer. When the command has ended, standard error has for each check its crate, its kind and
 minutes by the clock, and the N dearest functions in seconds (20 where none is given). The exit status is the command's. All checks of the
-machine are traced that begin meanwhile. It costs them a hundredth or so.
+machine are traced that begin meanwhile, and are slower for it: over the engine, whose modules are many, by a tenth to a third.
 """
 
 import collections
