@@ -16,7 +16,6 @@ import argparse
 import multiprocessing
 import os
 import re
-import resource
 import shutil
 import socket
 import statistics
@@ -81,8 +80,11 @@ def listening(port):
     sys.exit("the server does not listen")
 
 
-def processor_seconds():
-    used = resource.getrusage(resource.RUSAGE_CHILDREN)
+def ended(side, server):
+    """The seconds of the processor that a server took until it ended."""
+    _, status, used = os.wait4(server.pid, 0)
+    if status != 0:
+        sys.exit(f"{side} ended with {os.waitstatus_to_exitcode(status)}")
     return used.ru_utime + used.ru_stime
 
 
@@ -140,18 +142,16 @@ def are_alike(clients, bodies):
 def run(side, texts, files, clients=1):
     """The seconds by the clock, those of the server's processor, and the answers."""
     folder, port = new_folder(side, files), free_port()
-    before = processor_seconds()
     server = subprocess.Popen(words_of(side, port, len(texts), folder), stdin=subprocess.PIPE, stdout=subprocess.DEVNULL)
     if not folder:
         server.stdin.write(HEADER.encode())
     server.stdin.close()
     listening(port)
     took, answers = exchanged_by(clients, port, texts)
-    if server.wait() != 0:
-        sys.exit(f"{side} ended with {server.returncode}")
+    used = ended(side, server)
     if folder:
         shutil.rmtree(folder)
-    return took, processor_seconds() - before, [answer.split(b"\r\n\r\n", 1)[1] for answer in answers]
+    return took, used, [answer.split(b"\r\n\r\n", 1)[1] for answer in answers]
 
 
 def client_alone(texts):
@@ -195,7 +195,8 @@ def main():
     for side, runs in measured.items():
         print(f"{side:9} {spelled([each for each, _ in runs], 0)} additions a second, {spelled([cost for _, cost in runs], 1)} us of processor an addition")
     ratios = [ours[0] / theirs[0] for ours, theirs in zip(measured["sheetdesk"], measured["Python"])]
-    print(f"sheetdesk serves {spelled(ratios, 1)} times as many; the client alone makes {client_alone(texts):.0f} exchanges a second; load {os.getloadavg()[0]:.1f} at the end")
+    costs = [theirs[1] / ours[1] for ours, theirs in zip(measured["sheetdesk"], measured["Python"])]
+    print(f"sheetdesk serves {spelled(ratios, 1)} times as many, of the processor {spelled(costs, 1)}; the client alone makes {client_alone(texts):.0f} exchanges a second; load {os.getloadavg()[0]:.1f} at the end")
 
 
 if __name__ == "__main__":
