@@ -4,7 +4,7 @@ use crate::receipts::{
     ADDED, ADDITION, ARCHIVE, Entry, LENT, LOAN, MERGE, RETURNED, SPLIT, TILE, Thing, package,
     package_text, package_word, receipts, tile,
 };
-use crate::steps::{Checked, Of, Table, answered, in_brackets, said, unread, uuid, wrong_of};
+use crate::steps::{Checked, answered, said, uuid};
 use ledger::accounting::account;
 use ledger::agreeing::agree;
 use ledger::entering::{are_entered, is_entered};
@@ -37,6 +37,10 @@ const TILE_LINKED: &str =
 const TILE_UNLINKED: &str =
     "unlink rows_tiles a0000000-0000-4000-8000-000000000000 00000000-0000-4000-8000-000000000001 00000000-0000-4000-8000-000000000002";
 
+// A line, as it is read.
+#[derive(Clone, Copy)]
+struct Line(&'static str);
+
 fn entry_word(alloc: Global, entry: &LineEntry) -> Result<String, OutOfMemory> {
     match entry {
         LineEntry::Add { kind, size, .. } => Ok(format!(in alloc; "add {kind} {size}")?),
@@ -56,57 +60,73 @@ fn push_packages(text: &mut String, ends: &[Option<Uuid>]) -> Result<(), OutOfMe
     Ok(())
 }
 
-fn read_told(alloc: Global, text: &str) -> Result<String, OutOfMemory> {
-    let Some(entry) = read_line(text) else {
-        return said(alloc, "-");
-    };
-    let mut text = entry_word(alloc, &entry)?;
-    let ends = [entry.source(), entry.target(), Some(entry.stands_in())];
-    push_packages(&mut text, ends.as_slice())?;
-    Ok(text)
-}
-
-/// A line in brackets, as it is read.
-pub(crate) fn line_told(alloc: Global, question: &str) -> Result<String, OutOfMemory> {
-    match in_brackets(question) {
-        Some(text) => read_told(alloc, text),
-        None => unread(alloc, question),
+impl Line {
+    fn told(&self, alloc: Global) -> Result<String, OutOfMemory> {
+        let Some(entry) = read_line(self.0) else {
+            return said(alloc, "-");
+        };
+        let mut text = entry_word(alloc, &entry)?;
+        let ends = [entry.source(), entry.target(), Some(entry.stands_in())];
+        push_packages(&mut text, ends.as_slice())?;
+        Ok(text)
     }
 }
 
+fn wrong(alloc: Global, steps: &[(Line, &'static str)]) -> Checked {
+    let mut checked = Checked::new(alloc);
+    for step in steps {
+        checked.told(step.0.told(alloc), step.1);
+    }
+    checked
+}
+
 // What stands in each line, and the package that it comes from, goes to and stands in.
-const LINES: Table = Table(
-    16,
-    "[add a0000000-0000-4000-8000-000000000000 00000000-0000-4000-8000-000000000001 tile 1 \
-    c20eb71e63f0260834960dcfbffbdf9e96eadc0b8946db35a34b9382dc301848] => [add tile 1 - a a]
-[delete a0000000-0000-4000-8000-000000000000 00000000-0000-4000-8000-000000000001] => [delete a - a]
-[link rows_media a0000000-0000-4000-8000-000000000000 00000000-0000-4000-8000-000000000001 \
-    00000000-0000-4000-8000-000000000002] => [link rows_media - a a]
-[unlink rows_media a0000000-0000-4000-8000-000000000000 00000000-0000-4000-8000-000000000001 \
-    00000000-0000-4000-8000-000000000002] => [unlink rows_media a - a]
-[link rows_tiles a0000000-0000-4000-8000-000000000000 00000000-0000-4000-8000-000000000001 \
-    00000000-0000-4000-8000-000000000002] => [link rows_tiles - a a]
-[unlink rows_tiles a0000000-0000-4000-8000-000000000000 00000000-0000-4000-8000-000000000001 \
-    00000000-0000-4000-8000-000000000002] => [unlink rows_tiles a - a]
-[split a0000000-0000-4000-8000-000000000000 b0000000-0000-4000-8000-000000000000 strict 1 0 0 0 0] => [split \
-    strict a b a]
-[merge b0000000-0000-4000-8000-000000000000 a0000000-0000-4000-8000-000000000000 2] => [merge 2 b a a]
-[] => [-]
-[delete] => [-]
-[delete a0000000-0000-4000-8000-000000000000 00000000-0000-4000-8000-000000000001 ] => [-]
-[delete A0000000-0000-4000-8000-000000000000 00000000-0000-4000-8000-000000000001] => [-]
-[merge b0000000-0000-4000-8000-000000000000 a0000000-0000-4000-8000-000000000000 02] => [-]
-[split a0000000-0000-4000-8000-000000000000 b0000000-0000-4000-8000-000000000000 loose 1 0 0 0 0] => [-]
-[add a0000000-0000-4000-8000-000000000000 00000000-0000-4000-8000-000000000001 tile -1 \
-    c20eb71e63f0260834960dcfbffbdf9e96eadc0b8946db35a34b9382dc301848] => [-]
-[add a0000000-0000-4000-8000-000000000000 00000000-0000-4000-8000-000000000001 rows_media 0 \
-    0000000000000000000000000000000000000000000000000000000000000000] => [-]
-",
-);
+const LINES: [(Line, &str); 16] = [
+    (Line(ADDED), "add tile 1 - a a"),
+    (Line(DELETED), "delete a - a"),
+    (Line(LINKED), "link rows_media - a a"),
+    (Line(UNLINKED), "unlink rows_media a - a"),
+    (Line(TILE_LINKED), "link rows_tiles - a a"),
+    (Line(TILE_UNLINKED), "unlink rows_tiles a - a"),
+    (Line(LENT), "split strict a b a"),
+    (Line(RETURNED), "merge 2 b a a"),
+    (Line(""), "-"),
+    (Line("delete"), "-"),
+    (
+        Line("delete a0000000-0000-4000-8000-000000000000 00000000-0000-4000-8000-000000000001 "),
+        "-",
+    ),
+    (
+        Line("delete A0000000-0000-4000-8000-000000000000 00000000-0000-4000-8000-000000000001"),
+        "-",
+    ),
+    (
+        Line("merge b0000000-0000-4000-8000-000000000000 a0000000-0000-4000-8000-000000000000 02"),
+        "-",
+    ),
+    (
+        Line(
+            "split a0000000-0000-4000-8000-000000000000 b0000000-0000-4000-8000-000000000000 loose 1 0 0 0 0",
+        ),
+        "-",
+    ),
+    (
+        Line(
+            "add a0000000-0000-4000-8000-000000000000 00000000-0000-4000-8000-000000000001 tile -1 c20eb71e63f0260834960dcfbffbdf9e96eadc0b8946db35a34b9382dc301848",
+        ),
+        "-",
+    ),
+    (
+        Line(
+            "add a0000000-0000-4000-8000-000000000000 00000000-0000-4000-8000-000000000001 rows_media 0 0000000000000000000000000000000000000000000000000000000000000000",
+        ),
+        "-",
+    ),
+];
 
 #[test]
 fn lines_are_read(rt: HostRuntime) {
-    assert_eq!(rt; wrong_of(rt.alloc(), Of::Lines, LINES).wrong(), "");
+    assert_eq!(rt; wrong(rt.alloc(), LINES.as_slice()).wrong(), "");
 }
 
 // A part of the rule for ledgers, or all of it.

@@ -1,6 +1,6 @@
 //! What the bytes of connections ask, worked out by hand.
 
-use crate::steps::{Checked, Of, Table, said, unread, wrong_of};
+use crate::steps::{Checked, said};
 use desk_calls::calls::{Call, CallFault, Flaw};
 use desk_calls::reading::read_call;
 use desk_calls::source::{Memory, Outer, Source};
@@ -34,16 +34,13 @@ fn flaw_name(flaw: Flaw) -> &'static str {
     }
 }
 
-// Whether it is the request of the body, or the line of another.
+// The line of a request under its own identity.
 fn request_text(alloc: Global, request: &Request) -> Result<String, OutOfMemory> {
-    if read_uuid("90000000-0000-4000-8000-000000000001") != Some(request.id) {
-        return said(alloc, "another request");
+    if read_uuid("90000000-0000-4000-8000-000000000001") == Some(request.id) {
+        line(alloc, &request.command)
+    } else {
+        said(alloc, "another request")
     }
-    let text = line(alloc, &request.command)?;
-    if text.as_str() == LINE {
-        return said(alloc, "the addition");
-    }
-    Ok(text)
 }
 
 fn named(alloc: Global, word: &str, found: Option<Uuid>) -> Result<String, OutOfMemory> {
@@ -92,214 +89,285 @@ impl<'a> Read for Failing<'a> {
     }
 }
 
+// The bytes that are sent: a text; a head and a body behind it; a POST with these fields and an empty object; the first bytes of a
+// request; a request of so many fields, and one whose head has so many bytes, and more than 29.
+#[derive(Clone, Copy)]
+enum Sent {
+    Text(&'static str),
+    Both(&'static str, &'static str),
+    Fields(&'static str),
+    Front(usize),
+    Many(usize),
+    Long(usize),
+    // A head and a body cut behind so many bytes, by a reader that fails.
+    Failing(&'static str, &'static str, usize),
+}
+
 fn joined(alloc: Global, head: &str, body: &str) -> Result<String, OutOfMemory> {
     let mut text = said(alloc, head)?;
     text.push_str(body)?;
     Ok(text)
 }
 
-// What stands in a question: `~` is the end of a line in a head, `^` a line feed alone.
-fn sent_text(alloc: Global, words: &str) -> Result<String, OutOfMemory> {
-    let mut text = String::new(alloc);
-    for letter in words.chars() {
-        match letter {
-            '~' => text.push_str("\r\n")?,
-            '^' => text.push('\n')?,
-            other => text.push(other)?,
-        }
-    }
+fn repeated(
+    alloc: Global,
+    front: &str,
+    middle: &str,
+    count: usize,
+    back: &str,
+) -> Result<String, OutOfMemory> {
+    let mut text = said(alloc, front)?;
+    text.push_str(middle.repeat(alloc, count)?.as_str())?;
+    text.push_str(back)?;
     Ok(text)
+}
+
+fn sent_text(alloc: Global, bytes: Sent) -> Result<String, OutOfMemory> {
+    match bytes {
+        Sent::Text(text) => said(alloc, text),
+        Sent::Both(head, body) | Sent::Failing(head, body, _) => joined(alloc, head, body),
+        Sent::Fields(fields) => {
+            Ok(format!(in alloc; "POST /requests HTTP/1.1\r\n{fields}\r\n{{}}")?)
+        }
+        Sent::Front(_) => said(alloc, "GET /nothing HTTP/1.1\r\n\r\n"),
+        Sent::Many(count) => {
+            repeated(
+                alloc,
+                "GET /nothing HTTP/1.1\r\n",
+                "a: b\r\n",
+                count,
+                "\r\n",
+            )
+        }
+        Sent::Long(size) => repeated(
+            alloc,
+            "GET /nothing HTTP/1.1\r\na:",
+            "b",
+            size.saturating_sub(29),
+            "\r\n\r\n",
+        ),
+    }
 }
 
 fn cut(text: &[u8], count: usize) -> &[u8] {
     &text[..text.len().min(count)]
 }
 
-fn text_told(alloc: Global, text: &str) -> Result<String, OutOfMemory> {
-    asked(alloc, &mut Memory(text.as_bytes()))
-}
-
-// A text, and this body behind it.
-fn both_told(alloc: Global, words: &str, body: &str) -> Result<String, OutOfMemory> {
-    let head = sent_text(alloc, words)?;
-    text_told(alloc, joined(alloc, head.as_str(), body)?.as_str())
-}
-
-// A POST with these fields and an empty object.
-fn fields_told(alloc: Global, words: &str) -> Result<String, OutOfMemory> {
-    let fields = sent_text(alloc, words)?;
-    let text = format!(in alloc; "POST /requests HTTP/1.1\r\n{fields}\r\n{{}}")?;
-    text_told(alloc, text.as_str())
-}
-
-// A request of so many fields.
-fn many_told(alloc: Global, count: usize) -> Result<String, OutOfMemory> {
-    let mut text = said(alloc, "GET /nothing HTTP/1.1\r\n")?;
-    text.push_str("a: b\r\n".repeat(alloc, count)?.as_str())?;
-    text.push_str("\r\n")?;
-    text_told(alloc, text.as_str())
-}
-
-// One whose head has so many bytes, and more than 29.
-fn long_told(alloc: Global, size: usize) -> Result<String, OutOfMemory> {
-    let mut text = said(alloc, "GET /nothing HTTP/1.1\r\na:")?;
-    text.push_str("b".repeat(alloc, size.saturating_sub(29))?.as_str())?;
-    text.push_str("\r\n\r\n")?;
-    if text.len() != size {
-        return said(alloc, "another size");
-    }
-    text_told(alloc, text.as_str())
-}
-
-// The first bytes of a text, by a reader that fails behind them.
-fn failing_told(alloc: Global, text: &str, count: usize) -> Result<String, OutOfMemory> {
-    let failing = Failing {
-        text: cut(text.as_bytes(), count),
-        is_ready: true,
-    };
-    asked(alloc, &mut Outer(failing))
-}
-
-fn counted_told(
-    alloc: Global,
-    kind: &str,
-    count: usize,
-    question: &str,
-) -> Result<String, OutOfMemory> {
-    match kind {
-        "many" => many_told(alloc, count),
-        "long" => long_told(alloc, count),
-        "failing" => failing_told(alloc, joined(alloc, HEAD, ADD)?.as_str(), count),
-        _ => unread(alloc, question),
+impl Sent {
+    fn told(&self, alloc: Global) -> Result<String, OutOfMemory> {
+        let text = sent_text(alloc, *self)?;
+        match *self {
+            Sent::Front(count) => asked(alloc, &mut Memory(cut(text.as_bytes(), count))),
+            Sent::Failing(_, _, count) => asked(
+                alloc,
+                &mut Outer(Failing {
+                    text: cut(text.as_bytes(), count),
+                    is_ready: true,
+                }),
+            ),
+            Sent::Long(size) => {
+                if text.len() != size {
+                    return said(alloc, "another size");
+                }
+                asked(alloc, &mut Memory(text.as_bytes()))
+            }
+            _ => asked(alloc, &mut Memory(text.as_bytes())),
+        }
     }
 }
 
-fn sent_told(
-    alloc: Global,
-    kind: &str,
-    words: &str,
-    question: &str,
-) -> Result<String, OutOfMemory> {
-    match kind {
-        "text" => both_told(alloc, words, ""),
-        "added" => both_told(alloc, words, ADD),
-        "more" => both_told(alloc, words, joined(alloc, ADD, "}")?.as_str()),
-        "fields" => fields_told(alloc, words),
-        "broken" => failing_told(alloc, sent_text(alloc, words)?.as_str(), 1000),
-        _ => match words.parse::<usize>() {
-            Ok(count) => counted_told(alloc, kind, count, question),
-            Err(_) => unread(alloc, question),
-        },
+fn wrong(alloc: Global, steps: &[(Sent, &'static str)]) -> Checked {
+    let mut checked = Checked::new(alloc);
+    for step in steps {
+        checked.told(step.0.told(alloc), step.1);
     }
-}
-
-/// What a question of a table asks: a kind of bytes that are sent, and what they are made of.
-pub(crate) fn call_of(alloc: Global, question: &str) -> Result<String, OutOfMemory> {
-    match question.split_once(' ') {
-        Some((kind, words)) => sent_told(alloc, kind, words, question),
-        None => unread(alloc, question),
-    }
+    checked
 }
 
 #[test]
 fn each_beginning_of_a_request(rt: HostRuntime) {
     let alloc = rt.alloc();
-    let text = b"GET /nothing HTTP/1.1\r\n\r\n";
     let mut checked = Checked::new(alloc);
     for count in 1..25usize {
-        checked.told(
-            asked(alloc, &mut Memory(cut(text.as_slice(), count))),
-            "BadRequest",
-        );
+        checked.told(Sent::Front(count).told(alloc), "BadRequest");
     }
-    checked.told(text_told(alloc, ""), "nothing");
-    checked.told(asked(alloc, &mut Memory(text.as_slice())), "NoSuchPath");
+    checked.told(Sent::Front(0).told(alloc), "nothing");
+    checked.told(Sent::Front(25).told(alloc), "NoSuchPath");
     checked.told(asked(alloc, &mut Memory(b"\xff")), "BadRequest");
     assert_eq!(rt; checked.wrong(), "");
 }
 
-const HEADS: Table = Table(
-    27,
-    "# blank lines before the request line, a line feed alone at the ends of lines, the older version
-text ~^GET /packages HTTP/1.1~~ => [packages]
-text GET /packages HTTP/1.1^^ => [packages]
-text GET /packages HTTP/1.0~~ => [packages]
-text GET /packages?x=1?y HTTP/1.1~Host: desk~~ => [packages]
-# a body of a GET is not looked at
-text GET /packages HTTP/1.1~Content-Length: x~Transfer-Encoding: chunked~~ => [packages]
-text GET /packages HTTP/2.0~~ => [BadRequest]
-text GET  /packages HTTP/1.1~~ => [BadRequest]
-text GET /packages~~ => [BadRequest]
-text GET /packages HTTP/1.1~no colon~~ => [BadRequest]
-text ~ => [BadRequest]
-text GET /requests HTTP/1.1~~ => [BadMethod]
-text POST /packages HTTP/1.1~~ => [BadMethod]
-text post /requests HTTP/1.1~~ => [BadMethod]
-# a wrong method is seen before a wrong length, an unknown path before a wrong method
-text PUT /requests HTTP/1.1~Content-Length: x~~ => [BadMethod]
-text PUT /request HTTP/1.1~~ => [NoSuchPath]
-text GET /packages/ HTTP/1.1~~ => [NoSuchPath]
-text GET /packages//manifest HTTP/1.1~~ => [NoSuchPath]
-text GET /packages/x/manifest/ HTTP/1.1~~ => [NoSuchPath]
-text GET /receipts/ HTTP/1.1~~ => [NoSuchPath]
-text GET /receipts/x/y HTTP/1.1~~ => [NoSuchPath]
-text GET /Packages HTTP/1.1~~ => [NoSuchPath]
-text GET /packages/A0000000-0000-4000-8000-00000000000a/manifest?x HTTP/1.1~~ => \
-    [manifest a0000000-0000-4000-8000-00000000000a]
-text GET /receipts/90000000-0000-4000-8000-000000000001 HTTP/1.0~~ => [receipt 90000000-0000-4000-8000-000000000001]
-# what is no UUID
-text GET /packages/x/manifest HTTP/1.1~~ => [manifest ]
-text GET /packages/a000000000004000800000000000000a/manifest HTTP/1.1~~ => [manifest ]
-text GET /packages/%610000000-0000-4000-8000-00000000000a/manifest HTTP/1.1~~ => [manifest ]
-text GET /receipts/{90000000-0000-4000-8000-000000000001} HTTP/1.1~~ => [receipt ]",
-);
+const HEADS: [(Sent, &str); 27] = [
+    // blank lines before the request line, a line feed alone at the ends of lines, the older version
+    (
+        Sent::Text("\r\n\nGET /packages HTTP/1.1\r\n\r\n"),
+        "packages",
+    ),
+    (Sent::Text("GET /packages HTTP/1.1\n\n"), "packages"),
+    (Sent::Text("GET /packages HTTP/1.0\r\n\r\n"), "packages"),
+    (
+        Sent::Text("GET /packages?x=1?y HTTP/1.1\r\nHost: desk\r\n\r\n"),
+        "packages",
+    ),
+    // a body of a GET is not looked at
+    (
+        Sent::Text(
+            "GET /packages HTTP/1.1\r\nContent-Length: x\r\nTransfer-Encoding: chunked\r\n\r\n",
+        ),
+        "packages",
+    ),
+    (Sent::Text("GET /packages HTTP/2.0\r\n\r\n"), "BadRequest"),
+    (Sent::Text("GET  /packages HTTP/1.1\r\n\r\n"), "BadRequest"),
+    (Sent::Text("GET /packages\r\n\r\n"), "BadRequest"),
+    (
+        Sent::Text("GET /packages HTTP/1.1\r\nno colon\r\n\r\n"),
+        "BadRequest",
+    ),
+    (Sent::Text("\r\n"), "BadRequest"),
+    (Sent::Text("GET /requests HTTP/1.1\r\n\r\n"), "BadMethod"),
+    (Sent::Text("POST /packages HTTP/1.1\r\n\r\n"), "BadMethod"),
+    (Sent::Text("post /requests HTTP/1.1\r\n\r\n"), "BadMethod"),
+    // a wrong method is seen before a wrong length, an unknown path before a wrong method
+    (
+        Sent::Text("PUT /requests HTTP/1.1\r\nContent-Length: x\r\n\r\n"),
+        "BadMethod",
+    ),
+    (Sent::Text("PUT /request HTTP/1.1\r\n\r\n"), "NoSuchPath"),
+    (Sent::Text("GET /packages/ HTTP/1.1\r\n\r\n"), "NoSuchPath"),
+    (
+        Sent::Text("GET /packages//manifest HTTP/1.1\r\n\r\n"),
+        "NoSuchPath",
+    ),
+    (
+        Sent::Text("GET /packages/x/manifest/ HTTP/1.1\r\n\r\n"),
+        "NoSuchPath",
+    ),
+    (Sent::Text("GET /receipts/ HTTP/1.1\r\n\r\n"), "NoSuchPath"),
+    (
+        Sent::Text("GET /receipts/x/y HTTP/1.1\r\n\r\n"),
+        "NoSuchPath",
+    ),
+    (Sent::Text("GET /Packages HTTP/1.1\r\n\r\n"), "NoSuchPath"),
+    (
+        Sent::Text(
+            "GET /packages/A0000000-0000-4000-8000-00000000000a/manifest?x HTTP/1.1\r\n\r\n",
+        ),
+        "manifest a0000000-0000-4000-8000-00000000000a",
+    ),
+    (
+        Sent::Text("GET /receipts/90000000-0000-4000-8000-000000000001 HTTP/1.0\r\n\r\n"),
+        "receipt 90000000-0000-4000-8000-000000000001",
+    ),
+    // what is no UUID
+    (
+        Sent::Text("GET /packages/x/manifest HTTP/1.1\r\n\r\n"),
+        "manifest ",
+    ),
+    (
+        Sent::Text("GET /packages/a000000000004000800000000000000a/manifest HTTP/1.1\r\n\r\n"),
+        "manifest ",
+    ),
+    (
+        Sent::Text(
+            "GET /packages/%610000000-0000-4000-8000-00000000000a/manifest HTTP/1.1\r\n\r\n",
+        ),
+        "manifest ",
+    ),
+    (
+        Sent::Text("GET /receipts/{90000000-0000-4000-8000-000000000001} HTTP/1.1\r\n\r\n"),
+        "receipt ",
+    ),
+];
 
 #[test]
 fn heads_paths_and_methods(rt: HostRuntime) {
-    assert_eq!(rt; wrong_of(rt.alloc(), Of::Calls, HEADS).wrong(), "");
+    assert_eq!(rt; wrong(rt.alloc(), HEADS.as_slice()).wrong(), "");
 }
 
-const BODIES: Table = Table(
-    31,
-    "fields Content-Length: 2200000~ => [BadRequest]
-fields content-length: 2200001~ => [TooLarge]
-fields CONTENT-LENGTH: 999999999~ => [TooLarge]
-fields Content-Length: 0000000001~ => [BadRequest]
-fields Content-Length: +1~ => [BadRequest]
-fields Content-Length: 1 1~ => [BadRequest]
-fields Content-Length:~ => [BadRequest]
-fields Content-Length: 5~Content-Length: 5~ => [BadRequest]
-fields  => [NoLength]
-fields Content-Length: 2200001~Transfer-Encoding: chunked~ => [BadRequest]
-fields transfer-encoding:~ => [BadRequest]
-fields Content-Length: 2~ => [BadRequest]
-added POST /requests HTTP/1.1~Content-Length: 251~~ => [the addition]
-# nine digits, and what follows the body is not looked at
-more POST /requests HTTP/1.0~content-length:  000000251 ~~ => [the addition]
-# one byte shorter than it says, and cut in its last byte
-added POST /requests HTTP/1.1~Content-Length: 252~~ => [BadRequest]
-added POST /requests HTTP/1.1~Content-Length: 250~~ => [BadRequest]
-text POST /requests HTTP/1.1~Content-Length: 0~~ => [BadRequest]
-text POST /requests HTTP/1.1~Content-Length: 2~~[] => [BadRequest]
-text POST /requests HTTP/1.1~Content-Length: 7~~nothing => [BadRequest]
-# limits of heads
-many 64 => [NoSuchPath]
-many 65 => [BadRequest]
-long 16384 => [NoSuchPath]
-long 16385 => [BadRequest]
-# a reader that fails
-failing 0 => [failed]
-failing 1 => [failed]
-failing 30 => [failed]
-failing 60 => [failed]
-failing 200 => [failed]
-# only where nothing is asked of it any more, and after a check that fails nothing is taken
-failing 1000 => [the addition]
-broken POST /requests HTTP/1.1~Content-Length: 251~~ => [failed]
-broken POST /packages HTTP/1.1~Content-Length: 5~~ => [BadMethod]",
-);
+const BODIES: [(Sent, &str); 31] = [
+    (Sent::Fields("Content-Length: 2200000\r\n"), "BadRequest"),
+    (Sent::Fields("content-length: 2200001\r\n"), "TooLarge"),
+    (Sent::Fields("CONTENT-LENGTH: 999999999\r\n"), "TooLarge"),
+    (Sent::Fields("Content-Length: 0000000001\r\n"), "BadRequest"),
+    (Sent::Fields("Content-Length: +1\r\n"), "BadRequest"),
+    (Sent::Fields("Content-Length: 1 1\r\n"), "BadRequest"),
+    (Sent::Fields("Content-Length:\r\n"), "BadRequest"),
+    (
+        Sent::Fields("Content-Length: 5\r\nContent-Length: 5\r\n"),
+        "BadRequest",
+    ),
+    (Sent::Fields(""), "NoLength"),
+    (
+        Sent::Fields("Content-Length: 2200001\r\nTransfer-Encoding: chunked\r\n"),
+        "BadRequest",
+    ),
+    (Sent::Fields("transfer-encoding:\r\n"), "BadRequest"),
+    (Sent::Fields("Content-Length: 2\r\n"), "BadRequest"),
+    (Sent::Both(HEAD, ADD), LINE),
+    // nine digits, and what follows the body is not looked at
+    (
+        Sent::Both(
+            "POST /requests HTTP/1.0\r\ncontent-length:  000000251 \r\n\r\n",
+            MORE,
+        ),
+        LINE,
+    ),
+    // one byte shorter than it says, and cut in its last byte
+    (
+        Sent::Both(
+            "POST /requests HTTP/1.1\r\nContent-Length: 252\r\n\r\n",
+            ADD,
+        ),
+        "BadRequest",
+    ),
+    (
+        Sent::Both(
+            "POST /requests HTTP/1.1\r\nContent-Length: 250\r\n\r\n",
+            ADD,
+        ),
+        "BadRequest",
+    ),
+    (
+        Sent::Text("POST /requests HTTP/1.1\r\nContent-Length: 0\r\n\r\n"),
+        "BadRequest",
+    ),
+    (
+        Sent::Text("POST /requests HTTP/1.1\r\nContent-Length: 2\r\n\r\n[]"),
+        "BadRequest",
+    ),
+    (
+        Sent::Text("POST /requests HTTP/1.1\r\nContent-Length: 7\r\n\r\nnothing"),
+        "BadRequest",
+    ),
+    // limits of heads
+    (Sent::Many(64), "NoSuchPath"),
+    (Sent::Many(65), "BadRequest"),
+    (Sent::Long(16_384), "NoSuchPath"),
+    (Sent::Long(16_385), "BadRequest"),
+    // a reader that fails
+    (Sent::Failing(HEAD, ADD, 0), "failed"),
+    (Sent::Failing(HEAD, ADD, 1), "failed"),
+    (Sent::Failing(HEAD, ADD, 30), "failed"),
+    (Sent::Failing(HEAD, ADD, 60), "failed"),
+    (Sent::Failing(HEAD, ADD, 200), "failed"),
+    // only where nothing is asked of it any more, and after a check that fails nothing is taken
+    (Sent::Failing(HEAD, ADD, 1000), LINE),
+    (Sent::Failing(HEAD, "", 1000), "failed"),
+    (
+        Sent::Failing(
+            "POST /packages HTTP/1.1\r\nContent-Length: 5\r\n\r\n",
+            "",
+            1000,
+        ),
+        "BadMethod",
+    ),
+];
+
+// The body with one byte behind it.
+const MORE: &str =
+    "{\"at\":\"2024-05-01T08:00:00.000Z\",\"command\":\"add\",\"data\":\"41\",\"identity\":\"00000000-0000-4000-8000-000000000001\",\"kind\":\"tile\",\"package\":\"a0000000-0000-4000-8000-000000000000\",\"request\":\"90000000-0000-4000-8000-000000000001\",\"column\":3,\"row\":3,\"zoom\":2}}";
 
 #[test]
 fn lengths_bodies_and_readers_that_fail(rt: HostRuntime) {
-    assert_eq!(rt; wrong_of(rt.alloc(), Of::Calls, BODIES).wrong(), "");
+    assert_eq!(rt; wrong(rt.alloc(), BODIES.as_slice()).wrong(), "");
 }

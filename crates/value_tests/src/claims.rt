@@ -6,7 +6,7 @@ use crate::receipts::{
     ADDED, ADDITION, ARCHIVE, Entry, LENT, LOAN, RETURNED, TILE, Thing, package, package_text,
     package_word, receipts,
 };
-use crate::steps::{Checked, Of, Table, Words, answered, unread, uuid, wrong_of};
+use crate::steps::{Checked, answered, uuid};
 use crate::values::{signs, text};
 use opening::altered::least_altered;
 use opening::archives::{has_no_archive, has_two_archives};
@@ -156,54 +156,46 @@ fn claims_told(alloc: Global, seen: &[Sight], asks: Asks) -> Result<String, OutO
     }
 }
 
-fn asks_of(word: &str) -> Option<Asks> {
-    match word {
-        "live" => Some(Asks::Live),
-        "splits" => Some(Asks::Splits),
-        "missing" => Some(Asks::Missing),
-        "copied" => Some(Asks::Copied),
-        "foreign" => Some(Asks::Foreign),
-        "has_no_archive" => Some(Asks::HasNoArchive),
-        "has_two_archives" => Some(Asks::HasTwoArchives),
-        "unfit" => Some(Asks::Unfit),
-        "unfit_of_one" => Some(Asks::UnfitOfOne),
-        _ => None,
+#[derive(Clone, Copy)]
+struct Of(&'static str, Asks);
+
+impl Of {
+    fn told(&self, alloc: Global) -> Result<String, OutOfMemory> {
+        let seen = stores(alloc, self.0)?;
+        claims_told(alloc, seen.as_slice(), self.1)
     }
 }
 
-/// What is asked of stores, and they.
-pub(crate) fn claims_of(alloc: Global, question: &str) -> Result<String, OutOfMemory> {
-    let mut words = Words { left: question };
-    match asks_of(words.word()) {
-        Some(asks) => claims_told(alloc, stores(alloc, words.left)?.as_slice(), asks),
-        None => unread(alloc, question),
+fn wrong_claims(alloc: Global, steps: &[(Of, &'static str)]) -> Checked {
+    let mut checked = Checked::new(alloc);
+    for step in steps {
+        checked.told(step.0.told(alloc), step.1);
     }
+    checked
 }
 
-const CLAIMS: Table = Table(
-    16,
-    "live loan lender => [++]
-splits loan lender => [1]
-missing loan lender => [-]
-copied loan lender => [-]
-foreign loan lender => [-]
-has_no_archive loan lender => [no]
-has_two_archives loan lender => [no]
-missing lender => [b]
-copied lender loan loan => [b]
-live returned loan => [+-]
-splits returned loan => [0]
-foreign lender deep => [b]
-has_no_archive loan => [yes]
-has_two_archives loan lender lender => [yes]
-unfit lender loan => [b]
-unfit_of_one lender loan => [-]
-",
-);
+const CLAIMS: [(Of, &str); 16] = [
+    (Of("loan lender", Asks::Live), "++"),
+    (Of("loan lender", Asks::Splits), "1"),
+    (Of("loan lender", Asks::Missing), "-"),
+    (Of("loan lender", Asks::Copied), "-"),
+    (Of("loan lender", Asks::Foreign), "-"),
+    (Of("loan lender", Asks::HasNoArchive), "no"),
+    (Of("loan lender", Asks::HasTwoArchives), "no"),
+    (Of("lender", Asks::Missing), "b"),
+    (Of("lender loan loan", Asks::Copied), "b"),
+    (Of("returned loan", Asks::Live), "+-"),
+    (Of("returned loan", Asks::Splits), "0"),
+    (Of("lender deep", Asks::Foreign), "b"),
+    (Of("loan", Asks::HasNoArchive), "yes"),
+    (Of("loan lender lender", Asks::HasTwoArchives), "yes"),
+    (Of("lender loan", Asks::Unfit), "b"),
+    (Of("lender loan", Asks::UnfitOfOne), "-"),
+];
 
 #[test]
 fn what_stores_claim(rt: HostRuntime) {
-    assert_eq!(rt; wrong_of(rt.alloc(), Of::Claims, CLAIMS).wrong(), "");
+    assert_eq!(rt; wrong_claims(rt.alloc(), CLAIMS.as_slice()).wrong(), "");
 }
 
 // The least item that no addition says, of archives that hold a tile of these sizes.
@@ -320,35 +312,45 @@ fn fault_text(alloc: Global, fault: RecoverFault) -> Result<String, OutOfMemory>
     Ok(format!(in alloc; "{fault} {}", package_word(of))?)
 }
 
-/// What these stores come to.
-pub(crate) fn verdict_of(alloc: Global, words: &str) -> Result<String, OutOfMemory> {
-    let mut seen = Vec::new(alloc);
-    for word in words.split(' ') {
-        seen.push(store_seen(alloc, word)?)?;
-    }
-    match judge_all(alloc, seen) {
-        Ok(verdict) => verdict_text(alloc, &verdict),
-        Err(fault) => fault_text(alloc, fault),
+#[derive(Clone, Copy)]
+struct Judged(&'static str);
+
+impl Judged {
+    fn told(&self, alloc: Global) -> Result<String, OutOfMemory> {
+        let mut seen = Vec::new(alloc);
+        for word in self.0.split(' ') {
+            seen.push(store_seen(alloc, word)?)?;
+        }
+        match judge_all(alloc, seen) {
+            Ok(verdict) => verdict_text(alloc, &verdict),
+            Err(fault) => fault_text(alloc, fault),
+        }
     }
 }
 
-const JUDGED: Table = Table(
-    10,
-    "loan stray archive => [2: b 0 0 2; -; a 1 1 2;]
-loan => [NoArchive -]
-archive archive => [TwoArchives -]
-# what is no package is told before what is not tied and too deep
-archive torn => [NotAPackage b]
-archive => [MissingPackage b]
-archive loan loan => [TwoCopies b]
-archive deep => [ForeignFrame b]
-loan untied => [Dangling a]
-loan emptied => [OutOfAccount -]
-loan altered => [Altered tile]
-",
-);
+fn wrong_verdicts(alloc: Global, steps: &[(Judged, &'static str)]) -> Checked {
+    let mut checked = Checked::new(alloc);
+    for step in steps {
+        checked.told(step.0.told(alloc), step.1);
+    }
+    checked
+}
+
+const JUDGED: [(Judged, &str); 10] = [
+    (Judged("loan stray archive"), "2: b 0 0 2; -; a 1 1 2;"),
+    (Judged("loan"), "NoArchive -"),
+    (Judged("archive archive"), "TwoArchives -"),
+    // what is no package is told before what is not tied and too deep
+    (Judged("archive torn"), "NotAPackage b"),
+    (Judged("archive"), "MissingPackage b"),
+    (Judged("archive loan loan"), "TwoCopies b"),
+    (Judged("archive deep"), "ForeignFrame b"),
+    (Judged("loan untied"), "Dangling a"),
+    (Judged("loan emptied"), "OutOfAccount -"),
+    (Judged("loan altered"), "Altered tile"),
+];
 
 #[test]
 fn what_stores_come_to(rt: HostRuntime) {
-    assert_eq!(rt; wrong_of(rt.alloc(), Of::Verdicts, JUDGED).wrong(), "");
+    assert_eq!(rt; wrong_verdicts(rt.alloc(), JUDGED.as_slice()).wrong(), "");
 }

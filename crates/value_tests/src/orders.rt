@@ -1,8 +1,8 @@
 //! Modes, refusals, which of two stands before the other, and a receipt that is cloned.
 
 use crate::receipts::{ARCHIVE, Entry, LOAN, Thing, one, receipt};
-use crate::steps::{Checked, Of, Table, answered, ask_all, uuid};
-use crate::values::{Given, PICTURE, content, item, signs};
+use crate::steps::{Checked, answered, uuid};
+use crate::values::{Given, PICTURE, Reads, Words, ask_words, content, item, signs};
 use sheet_types::command::{Item, Mapping, Relation};
 use sheet_types::error::OutOfMemory;
 use sheet_types::receipt::{Moved, Receipt};
@@ -126,12 +126,10 @@ fn receipt_cloned(alloc: Global) -> Result<String, OutOfMemory> {
     clone_told(alloc, &of_medium(alloc, moved)?, moved)
 }
 
-const MODES: Table = Table(
-    2,
-    "mode [strict] => [strict]
-mode [Strict] => [-]
-",
-);
+const MODES: [(Words, &str); 2] = [
+    (Words(Reads::Mode, "strict"), "strict"),
+    (Words(Reads::Mode, "Strict"), "-"),
+];
 
 const REFUSALS: [(Refuses, &str); 7] = [
     (Refuses::IdReused, "1 IdReused IdReused"),
@@ -158,7 +156,7 @@ const ORDERS: [(Orders, &str); 7] = [
 fn refusals_orders_and_receipts(rt: HostRuntime) {
     let alloc = rt.alloc();
     let mut checked = Checked::new(alloc);
-    ask_all(alloc, Of::Words, MODES, &mut checked);
+    ask_words(alloc, &mut checked, MODES.as_slice());
     ask_refusals(alloc, &mut checked, REFUSALS.as_slice());
     ask_orders(alloc, &mut checked, ORDERS.as_slice());
     checked.told(receipt_cloned(alloc), "++-+");

@@ -1,12 +1,6 @@
-//! A test as data: questions, and what each is to be told. A table is one text, a question a line, so that a further one costs no proof, and
-//! one loop asks them all. Where questions are plain values, each type has a loop of its own: tests that gave them to a generic one took
-//! longer to prove.
+//! A test as data: questions, and what each is to be told. A question is a plain value with a method `told`, and each type
+//! of questions has a loop of its own over its tables: tests that gave them to a generic one took longer to prove.
 
-use crate::accounts::line_told;
-use crate::calls::call_of;
-use crate::claims::{claims_of, verdict_of};
-use crate::frames::frame_of;
-use crate::values::words_of;
 use sheet_types::error::OutOfMemory;
 use std::alloc::Global;
 use uuid::Uuid;
@@ -38,8 +32,7 @@ impl Checked {
         Ok(())
     }
 
-    /// An answer in words.
-    pub(crate) fn is(&mut self, found: &str, expected: &str) {
+    fn is(&mut self, found: &str, expected: &str) {
         self.number = self.number.saturating_add(1);
         if found != expected && self.note(found, expected).is_err() {
             self.is_lost = true;
@@ -86,128 +79,4 @@ pub(crate) fn numbers_text(alloc: Global, numbers: &[i64]) -> Result<String, Out
 /// A UUID by its first byte and its last.
 pub(crate) fn uuid(first: u8, last: u8) -> Uuid {
     Uuid::from_bytes([first, 0, 0, 0, 0, 0, 0x40, 0, 0x80, 0, 0, 0, 0, 0, 0, last])
-}
-
-/// How many rows a table has, and they, one a line: a question, and in brackets what it is to be told. A line that begins with `#` says
-/// something of those below it, and is none.
-#[derive(Clone, Copy)]
-pub(crate) struct Table(pub usize, pub &'static str);
-
-/// What the questions of a table are of.
-#[derive(Clone, Copy)]
-pub(crate) enum Of {
-    Frames,
-    // Texts that are read.
-    Words,
-    Claims,
-    Verdicts,
-    // Lines of a ledger.
-    Lines,
-    // Bytes of a connection.
-    Calls,
-}
-
-fn told(alloc: Global, of: Of, question: &str) -> Result<String, OutOfMemory> {
-    match of {
-        Of::Frames => frame_of(alloc, question),
-        Of::Words => words_of(alloc, question),
-        Of::Claims => claims_of(alloc, question),
-        Of::Verdicts => verdict_of(alloc, question),
-        Of::Lines => line_told(alloc, question),
-        Of::Calls => call_of(alloc, question),
-    }
-}
-
-/// What a question that cannot be read is told, which nothing expects.
-pub(crate) fn unread(alloc: Global, question: &str) -> Result<String, OutOfMemory> {
-    let mut text = said(alloc, "no question: ")?;
-    text.push_str(question)?;
-    Ok(text)
-}
-
-/// What stands in brackets.
-pub(crate) fn in_brackets(words: &str) -> Option<&str> {
-    match words.strip_prefix('[') {
-        Some(inner) => inner.strip_suffix(']'),
-        None => None,
-    }
-}
-
-// The question of a row, and what it is to be told.
-fn parts(row: &str) -> Option<(&str, &str)> {
-    let (question, answer) = row.split_once(" => ")?;
-    Some((question, in_brackets(answer)?))
-}
-
-fn ask(alloc: Global, of: Of, row: &str, checked: &mut Checked) {
-    match parts(row) {
-        Some((question, expected)) => checked.told(told(alloc, of, question), expected),
-        None => checked.is(row, "a row"),
-    }
-}
-
-fn all_rows(found: usize, wanted: usize) -> &'static str {
-    if found == wanted {
-        "all rows"
-    } else {
-        "another number of rows"
-    }
-}
-
-/// Asks all of a table.
-pub(crate) fn ask_all(alloc: Global, of: Of, table: Table, checked: &mut Checked) {
-    let mut found = 0usize;
-    for row in table.1.lines() {
-        if !row.starts_with('#') {
-            ask(alloc, of, row, checked);
-            found = found.saturating_add(1);
-        }
-    }
-    checked.is(all_rows(found, table.0), "all rows");
-}
-
-/// What a table told that was not expected.
-pub(crate) fn wrong_of(alloc: Global, of: Of, table: Table) -> Checked {
-    let mut checked = Checked::new(alloc);
-    ask_all(alloc, of, table, &mut checked);
-    checked
-}
-
-/// The words of a question that are left, one space apart.
-#[derive(Clone, Copy)]
-pub(crate) struct Words<'a> {
-    pub left: &'a str,
-}
-
-impl<'a> Words<'a> {
-    pub(crate) fn word(&mut self) -> &'a str {
-        let left = self.left;
-        match left.split_once(' ') {
-            Some((word, rest)) => {
-                self.left = rest;
-                word
-            }
-            None => {
-                self.left = "";
-                left
-            }
-        }
-    }
-
-    pub(crate) fn number(&mut self) -> Option<i64> {
-        self.word().parse::<i64>().ok()
-    }
-
-    pub(crate) fn three(&mut self) -> Option<[i64; 3]> {
-        Some([self.number()?, self.number()?, self.number()?])
-    }
-
-    pub(crate) fn five(&mut self) -> Option<[i64; 5]> {
-        let [a, b, c] = self.three()?;
-        Some([a, b, c, self.number()?, self.number()?])
-    }
-
-    pub(crate) fn is_done(&self) -> bool {
-        self.left.is_empty()
-    }
 }

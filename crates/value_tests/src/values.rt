@@ -1,9 +1,7 @@
 //! Values against vectors from outside: digests by another program's SHA-256, and texts as the formats state them.
 
 use crate::receipts::ARCHIVE;
-use crate::steps::{
-    Checked, Of as Asked, Table, Words, answered, ask_all, in_brackets, said, unread, uuid,
-};
+use crate::steps::{Checked, answered, said, uuid};
 use sheet_types::checks::{has_bad_text, has_good_size, is_too_large};
 use sheet_types::collections::{Bytes, Text};
 use sheet_types::command::{Command, Content, Item, Mapping};
@@ -121,7 +119,7 @@ fn limits_told(alloc: Global, given: Content) -> Result<String, OutOfMemory> {
     )
 }
 
-fn size_told(alloc: Global, given: &Content) -> Result<String, OutOfMemory> {
+fn kind_told(alloc: Global, given: &Content) -> Result<String, OutOfMemory> {
     Ok(format!(in alloc; "{} {}", given.kind(), given.size())?)
 }
 
@@ -157,7 +155,7 @@ impl Of {
         let given = self.0;
         match self.1 {
             OfContent::Fingerprint => spelled(alloc, &content(alloc, given)?),
-            OfContent::Kind => size_told(alloc, &content(alloc, given)?),
+            OfContent::Kind => kind_told(alloc, &content(alloc, given)?),
             OfContent::Limits => limits_told(alloc, content(alloc, given)?),
             OfContent::Moved => moved_told(alloc, &content(alloc, given)?),
             OfContent::Clone => clone_told(alloc, &content(alloc, given)?),
@@ -172,6 +170,23 @@ fn wrong_contents(alloc: Global, steps: &[(Of, &'static str)]) -> Checked {
         checked.told(step.0.told(alloc), step.1);
     }
     checked
+}
+
+/// What a text is read as.
+#[derive(Clone, Copy)]
+pub(crate) enum Reads {
+    Fingerprint,
+    Uuid,
+    StoredUuid,
+    StoredOptional,
+    Number,
+    Frame,
+    Moment,
+    // The number of the kind and its word.
+    Kind,
+    // The mapping, the kind of its links, and of both ends.
+    Mapping,
+    Mode,
 }
 
 const FRAME: Frame = Frame {
@@ -262,44 +277,50 @@ fn mode_told(alloc: Global, words: &str) -> Result<String, OutOfMemory> {
     }
 }
 
-fn kind_told(alloc: Global, words: &str) -> Result<String, OutOfMemory> {
-    let kind = match words.parse::<u8>() {
-        Ok(number) => MovedKind::from_number(number),
-        Err(_) => None,
-    };
-    match kind {
-        Some(kind) => Ok(format!(in alloc; "{kind}")?),
-        None => said(alloc, "-"),
+/// A text, and what it is read as.
+#[derive(Clone, Copy)]
+pub(crate) struct Words(pub Reads, pub &'static str);
+
+impl Words {
+    fn told(&self, alloc: Global) -> Result<String, OutOfMemory> {
+        let words = self.1;
+        match self.0 {
+            Reads::Fingerprint => fingerprint_told(alloc, words),
+            Reads::Uuid => uuid_told(alloc, read_uuid(words)),
+            Reads::StoredUuid => uuid_told(alloc, read_stored_uuid(words)),
+            Reads::StoredOptional => optional_told(alloc, words),
+            Reads::Number => number_told(alloc, words),
+            Reads::Frame => frame_told(alloc, words),
+            Reads::Moment => answered(alloc, is_moment(words)),
+            Reads::Kind => kind_of_told(alloc, words),
+            Reads::Mapping => mapping_of_told(alloc, words),
+            Reads::Mode => mode_told(alloc, words),
+        }
     }
 }
 
-fn read_told(alloc: Global, reads: &str, words: &str) -> Result<String, OutOfMemory> {
-    match reads {
-        "fingerprint" => fingerprint_told(alloc, words),
-        "uuid" => uuid_told(alloc, read_uuid(words)),
-        "stored_uuid" => uuid_told(alloc, read_stored_uuid(words)),
-        "stored_optional" => optional_told(alloc, words),
-        "number" => number_told(alloc, words),
-        "frame" => frame_told(alloc, words),
-        "moment" => answered(alloc, is_moment(words)),
-        // the number of the kind and its word
-        "kind" => kind_of_told(alloc, words),
-        // the kind of a number
-        "kind_of_number" => kind_told(alloc, words),
-        // the mapping, the kind of its links, and of both ends
-        "mapping" => mapping_of_told(alloc, words),
-        "mode" => mode_told(alloc, words),
-        reads => unread(alloc, reads),
+pub(crate) fn ask_words(alloc: Global, checked: &mut Checked, steps: &[(Words, &'static str)]) {
+    for step in steps {
+        checked.told(step.0.told(alloc), step.1);
     }
 }
 
-/// What a text is read as, and the text in brackets.
-pub(crate) fn words_of(alloc: Global, question: &str) -> Result<String, OutOfMemory> {
-    let mut words = Words { left: question };
-    let reads = words.word();
-    match in_brackets(words.left) {
-        Some(text) => read_told(alloc, reads, text),
-        None => unread(alloc, question),
+// The kind of a number.
+#[derive(Clone, Copy)]
+struct Kind(u8);
+
+impl Kind {
+    fn told(&self, alloc: Global) -> Result<String, OutOfMemory> {
+        match MovedKind::from_number(self.0) {
+            Some(kind) => Ok(format!(in alloc; "{kind}")?),
+            None => said(alloc, "-"),
+        }
+    }
+}
+
+fn ask_kinds(alloc: Global, checked: &mut Checked, steps: &[(Kind, &'static str)]) {
+    for step in steps {
+        checked.told(step.0.told(alloc), step.1);
     }
 }
 
@@ -367,120 +388,203 @@ fn contents(rt: HostRuntime) {
     assert_eq!(rt; wrong_contents(rt.alloc(), CONTENTS.as_slice()).wrong(), "");
 }
 
-const TEXTS: Table = Table(
-    46,
-    "fingerprint [b363ee0ecc9cf61b12ecdafd75dca2779729b4fcc5f1bd718c33aad2c94af4f8] => \
-    [b363ee0ecc9cf61b12ecdafd75dca2779729b4fcc5f1bd718c33aad2c94af4f8]
-fingerprint [] => [-]
-fingerprint [b363ee0ecc9cf61b12ecdafd75dca2779729b4fcc5f1bd718c33aad2c94af4f] => [-]
-fingerprint [b363ee0ecc9cf61b12ecdafd75dca2779729b4fcc5f1bd718c33aad2c94af4f800] => [-]
-fingerprint [b363ee0ecc9cf61b12ecdafd75dca2779729b4fcc5f1bd718c33aad2c94af4fF] => [-]
-fingerprint [B363EE0ECC9CF61B12ECDAFD75DCA2779729B4FCC5F1BD718C33AAD2C94AF4F8] => [-]
-fingerprint [b363ee0ecc9cf61b12ecdafd75dca2779729b4fcc5f1bd718c33aad2c94af4fg] => [-]
-uuid [a0000000-0000-4000-8000-000000000000] => [a0000000-0000-4000-8000-000000000000]
-uuid [A0000000-0000-4000-8000-000000000000] => [a0000000-0000-4000-8000-000000000000]
-uuid [] => [-]
-uuid [{a0000000-0000-4000-8000-000000000000}] => [-]
-uuid [urn:uuid:a0000000-0000-4000-8000-000000000000] => [-]
-uuid [a0000000000040008000000000000000] => [-]
-uuid [a0000000-0000-4000-8000-00000000000] => [-]
-uuid [a0000000-0000-4000-8000-000000000000 ] => [-]
-uuid [a0000000-0000-4000-8000-00000000000g] => [-]
-uuid [a0000000_0000_4000_8000_000000000000] => [-]
-stored_uuid [a0000000-0000-4000-8000-000000000000] => [a0000000-0000-4000-8000-000000000000]
-stored_uuid [A0000000-0000-4000-8000-000000000000] => [-]
-stored_optional [] => [[]]
-stored_optional [a0000000-0000-4000-8000-000000000000] => [[a0000000-0000-4000-8000-000000000000]]
-stored_optional [A0000000-0000-4000-8000-000000000000] => [-]
-stored_optional [ ] => [-]
-number [0] => [0]
-number [-12] => [-12]
-number [9223372036854775807] => [9223372036854775807]
-number [-9223372036854775808] => [-9223372036854775808]
-number [-0] => [-]
-number [+1] => [-]
-number [01] => [-]
-number [-01] => [-]
-number [9223372036854775808] => [-]
-number [-9223372036854775809] => [-]
-number [] => [-]
-number [-] => [-]
-number [ 1] => [-]
-number [1 ] => [-]
-number [1.0] => [-]
-number [0x1] => [-]
-frame [25832,-5,0,4096,4097,256,255,3,2,7,1] => [the frame]
-frame [] => [-]
-frame [1,2,3,4,5,6,7,8,9,10] => [-]
-frame [1,2,3,4,5,6,7,8,9,10,11,12] => [-]
-frame [1,2,3,4,5,6,7,8,9,10,11,] => [-]
-frame [1,,3,4,5,6,7,8,9,10,11] => [-]
-frame [1, 2,3,4,5,6,7,8,9,10,11] => [-]
-",
-);
+const TEXTS: [(Words, &str); 46] = [
+    (Words(Reads::Fingerprint, TILE_DIGEST), TILE_DIGEST),
+    (Words(Reads::Fingerprint, ""), "-"),
+    (
+        Words(
+            Reads::Fingerprint,
+            "b363ee0ecc9cf61b12ecdafd75dca2779729b4fcc5f1bd718c33aad2c94af4f",
+        ),
+        "-",
+    ),
+    (
+        Words(
+            Reads::Fingerprint,
+            "b363ee0ecc9cf61b12ecdafd75dca2779729b4fcc5f1bd718c33aad2c94af4f800",
+        ),
+        "-",
+    ),
+    (
+        Words(
+            Reads::Fingerprint,
+            "b363ee0ecc9cf61b12ecdafd75dca2779729b4fcc5f1bd718c33aad2c94af4fF",
+        ),
+        "-",
+    ),
+    (
+        Words(
+            Reads::Fingerprint,
+            "B363EE0ECC9CF61B12ECDAFD75DCA2779729B4FCC5F1BD718C33AAD2C94AF4F8",
+        ),
+        "-",
+    ),
+    (
+        Words(
+            Reads::Fingerprint,
+            "b363ee0ecc9cf61b12ecdafd75dca2779729b4fcc5f1bd718c33aad2c94af4fg",
+        ),
+        "-",
+    ),
+    (
+        Words(Reads::Uuid, "a0000000-0000-4000-8000-000000000000"),
+        "a0000000-0000-4000-8000-000000000000",
+    ),
+    (
+        Words(Reads::Uuid, "A0000000-0000-4000-8000-000000000000"),
+        "a0000000-0000-4000-8000-000000000000",
+    ),
+    (Words(Reads::Uuid, ""), "-"),
+    (
+        Words(Reads::Uuid, "{a0000000-0000-4000-8000-000000000000}"),
+        "-",
+    ),
+    (
+        Words(Reads::Uuid, "urn:uuid:a0000000-0000-4000-8000-000000000000"),
+        "-",
+    ),
+    (Words(Reads::Uuid, "a0000000000040008000000000000000"), "-"),
+    (
+        Words(Reads::Uuid, "a0000000-0000-4000-8000-00000000000"),
+        "-",
+    ),
+    (
+        Words(Reads::Uuid, "a0000000-0000-4000-8000-000000000000 "),
+        "-",
+    ),
+    (
+        Words(Reads::Uuid, "a0000000-0000-4000-8000-00000000000g"),
+        "-",
+    ),
+    (
+        Words(Reads::Uuid, "a0000000_0000_4000_8000_000000000000"),
+        "-",
+    ),
+    (
+        Words(Reads::StoredUuid, "a0000000-0000-4000-8000-000000000000"),
+        "a0000000-0000-4000-8000-000000000000",
+    ),
+    (
+        Words(Reads::StoredUuid, "A0000000-0000-4000-8000-000000000000"),
+        "-",
+    ),
+    (Words(Reads::StoredOptional, ""), "[]"),
+    (
+        Words(
+            Reads::StoredOptional,
+            "a0000000-0000-4000-8000-000000000000",
+        ),
+        "[a0000000-0000-4000-8000-000000000000]",
+    ),
+    (
+        Words(
+            Reads::StoredOptional,
+            "A0000000-0000-4000-8000-000000000000",
+        ),
+        "-",
+    ),
+    (Words(Reads::StoredOptional, " "), "-"),
+    (Words(Reads::Number, "0"), "0"),
+    (Words(Reads::Number, "-12"), "-12"),
+    (
+        Words(Reads::Number, "9223372036854775807"),
+        "9223372036854775807",
+    ),
+    (
+        Words(Reads::Number, "-9223372036854775808"),
+        "-9223372036854775808",
+    ),
+    (Words(Reads::Number, "-0"), "-"),
+    (Words(Reads::Number, "+1"), "-"),
+    (Words(Reads::Number, "01"), "-"),
+    (Words(Reads::Number, "-01"), "-"),
+    (Words(Reads::Number, "9223372036854775808"), "-"),
+    (Words(Reads::Number, "-9223372036854775809"), "-"),
+    (Words(Reads::Number, ""), "-"),
+    (Words(Reads::Number, "-"), "-"),
+    (Words(Reads::Number, " 1"), "-"),
+    (Words(Reads::Number, "1 "), "-"),
+    (Words(Reads::Number, "1.0"), "-"),
+    (Words(Reads::Number, "0x1"), "-"),
+    (
+        Words(Reads::Frame, "25832,-5,0,4096,4097,256,255,3,2,7,1"),
+        "the frame",
+    ),
+    (Words(Reads::Frame, ""), "-"),
+    (Words(Reads::Frame, "1,2,3,4,5,6,7,8,9,10"), "-"),
+    (Words(Reads::Frame, "1,2,3,4,5,6,7,8,9,10,11,12"), "-"),
+    (Words(Reads::Frame, "1,2,3,4,5,6,7,8,9,10,11,"), "-"),
+    (Words(Reads::Frame, "1,,3,4,5,6,7,8,9,10,11"), "-"),
+    (Words(Reads::Frame, "1, 2,3,4,5,6,7,8,9,10,11"), "-"),
+];
 
 #[test]
 fn texts_that_are_read(rt: HostRuntime) {
     let alloc = rt.alloc();
     let mut checked = Checked::new(alloc);
-    ask_all(alloc, Asked::Words, TEXTS, &mut checked);
+    ask_words(alloc, &mut checked, TEXTS.as_slice());
     assert_eq!(rt; checked.wrong(), "");
 }
 
-const WORDS: Table = Table(
-    31,
-    "frame [+1,2,3,4,5,6,7,8,9,10,11] => [-]
-frame [1;2;3;4;5;6;7;8;9;10;11] => [-]
-moment [2024-05-01T08:00:00.000Z] => [yes]
-moment [2023-02-31T23:59:59.999Z] => [yes]
-moment [0000-01-01T00:00:00.000Z] => [yes]
-moment [9999-12-31T23:59:59.999Z] => [yes]
-moment [2024-13-01T08:00:00.000Z] => [no]
-moment [2024-00-01T08:00:00.000Z] => [no]
-moment [2024-05-00T08:00:00.000Z] => [no]
-moment [2024-05-32T08:00:00.000Z] => [no]
-moment [2024-05-01T24:00:00.000Z] => [no]
-moment [2024-05-01T08:60:00.000Z] => [no]
-moment [2024-05-01T08:00:60.000Z] => [no]
-moment [2024-05-01t08:00:00.000Z] => [no]
-moment [2024-05-01 08:00:00.000Z] => [no]
-moment [2024-05-01T08:00:00.000] => [no]
-moment [2024-05-01T08:00:00.000Z ] => [no]
-moment [2024-05-01T08:00:00.00DZ] => [no]
-moment [T] => [no]
-moment [] => [no]
-kind [tile] => [1 tile]
-kind [media] => [2 media]
-kind [row] => [3 row]
-kind [tiles_media] => [4 tiles_media]
-kind [rows_media] => [5 rows_media]
-kind [rows_tiles] => [6 rows_tiles]
-kind [tiles] => [-]
-mapping [tiles_media] => [tiles_media tiles_media tile media]
-mapping [rows_media] => [rows_media rows_media row media]
-mapping [rows_tiles] => [rows_tiles rows_tiles row tile]
-mapping [row] => [-]
-",
-);
+const WORDS: [(Words, &str); 31] = [
+    (Words(Reads::Frame, "+1,2,3,4,5,6,7,8,9,10,11"), "-"),
+    (Words(Reads::Frame, "1;2;3;4;5;6;7;8;9;10;11"), "-"),
+    (Words(Reads::Moment, "2024-05-01T08:00:00.000Z"), "yes"),
+    (Words(Reads::Moment, "2023-02-31T23:59:59.999Z"), "yes"),
+    (Words(Reads::Moment, "0000-01-01T00:00:00.000Z"), "yes"),
+    (Words(Reads::Moment, "9999-12-31T23:59:59.999Z"), "yes"),
+    (Words(Reads::Moment, "2024-13-01T08:00:00.000Z"), "no"),
+    (Words(Reads::Moment, "2024-00-01T08:00:00.000Z"), "no"),
+    (Words(Reads::Moment, "2024-05-00T08:00:00.000Z"), "no"),
+    (Words(Reads::Moment, "2024-05-32T08:00:00.000Z"), "no"),
+    (Words(Reads::Moment, "2024-05-01T24:00:00.000Z"), "no"),
+    (Words(Reads::Moment, "2024-05-01T08:60:00.000Z"), "no"),
+    (Words(Reads::Moment, "2024-05-01T08:00:60.000Z"), "no"),
+    (Words(Reads::Moment, "2024-05-01t08:00:00.000Z"), "no"),
+    (Words(Reads::Moment, "2024-05-01 08:00:00.000Z"), "no"),
+    (Words(Reads::Moment, "2024-05-01T08:00:00.000"), "no"),
+    (Words(Reads::Moment, "2024-05-01T08:00:00.000Z "), "no"),
+    (Words(Reads::Moment, "2024-05-01T08:00:00.00DZ"), "no"),
+    (Words(Reads::Moment, "T"), "no"),
+    (Words(Reads::Moment, ""), "no"),
+    (Words(Reads::Kind, "tile"), "1 tile"),
+    (Words(Reads::Kind, "media"), "2 media"),
+    (Words(Reads::Kind, "row"), "3 row"),
+    (Words(Reads::Kind, "tiles_media"), "4 tiles_media"),
+    (Words(Reads::Kind, "rows_media"), "5 rows_media"),
+    (Words(Reads::Kind, "rows_tiles"), "6 rows_tiles"),
+    (Words(Reads::Kind, "tiles"), "-"),
+    (
+        Words(Reads::Mapping, "tiles_media"),
+        "tiles_media tiles_media tile media",
+    ),
+    (
+        Words(Reads::Mapping, "rows_media"),
+        "rows_media rows_media row media",
+    ),
+    (
+        Words(Reads::Mapping, "rows_tiles"),
+        "rows_tiles rows_tiles row tile",
+    ),
+    (Words(Reads::Mapping, "row"), "-"),
+];
 
-const KINDS: Table = Table(
-    8,
-    "kind_of_number [0] => [-]
-kind_of_number [1] => [tile]
-kind_of_number [2] => [media]
-kind_of_number [3] => [row]
-kind_of_number [4] => [tiles_media]
-kind_of_number [5] => [rows_media]
-kind_of_number [6] => [rows_tiles]
-kind_of_number [7] => [-]
-",
-);
+const KINDS: [(Kind, &str); 8] = [
+    (Kind(0), "-"),
+    (Kind(1), "tile"),
+    (Kind(2), "media"),
+    (Kind(3), "row"),
+    (Kind(4), "tiles_media"),
+    (Kind(5), "rows_media"),
+    (Kind(6), "rows_tiles"),
+    (Kind(7), "-"),
+];
 
 #[test]
 fn moments_kinds_and_mappings(rt: HostRuntime) {
     let alloc = rt.alloc();
     let mut checked = Checked::new(alloc);
-    ask_all(alloc, Asked::Words, WORDS, &mut checked);
-    ask_all(alloc, Asked::Words, KINDS, &mut checked);
+    ask_words(alloc, &mut checked, WORDS.as_slice());
+    ask_kinds(alloc, &mut checked, KINDS.as_slice());
     assert_eq!(rt; checked.wrong(), "");
 }
