@@ -10,7 +10,8 @@ with loans of loans and merges. All that must come is worked out by the second m
   STEPth) until the import ends by itself. What was reported is a beginning of the report. Then an audit is killed at one of its own
   calls; the next one says `good n`, where n is what was reported, or one receipt more; each live package is to the byte as it was then;
   a second import of the list reports what is due of a list that comes twice, and leaves the packages that it must.
-- init: likewise; then an audit says `good 0`, or `NoArchive` where the archive was not made whole.
+- init: likewise; then an audit says `good 0`, or `NoArchive` where no archive was made; and there the same `init` makes it, and leaves no file but
+  its own and its log.
 - first: packages that stock SQLite took back to the first version; an opening of them is killed at each of its calls. The next one finds
   the same world, and each live package is of the second version then.
 - disk: the same calls of an import fail, from the Nth on: writes for want of room, or syncs with an error. The import says so, and no
@@ -288,10 +289,10 @@ def part_init(said):
         if ran.status == 0:
             expect(["import", path, LIST], 0, REPORT)
         else:
-            # Nothing is lost: what stands there is removed by hand.
-            for name in os.listdir(path):
-                os.remove(os.path.join(path, name))
             expect(words(path), 0, f"archive {ARCHIVE}\n")
+            left = [name for name in os.listdir(path) if not name.startswith(f"{ARCHIVE}.gpkg") or "-new" in name]
+            right(not left, f"init, killed at {call}, then whole: {left}")
+            expect(["audit", path], 0, "good 0\n")
     print(f"init: {len(calls)} calls, killed at each: {dict(said_of)}", flush=True)
 
 

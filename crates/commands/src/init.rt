@@ -17,10 +17,8 @@ ghost use Rattle.folder_worlds.specs.declared.endings.Ending.TheVariants.{Usual}
 use command_words::arguments::{Rehearsal, Words, read_rehearsal};
 use command_words::statuses::{Failure, Outcome};
 use folder::fault::FolderFault;
+use folder::founding::{blank_unfinished, finish, remove_unfinished};
 use folder::listing::list;
-use folder::opening::close_stores;
-use folder::removing::remove_store;
-use folder::shelf::blank_in_folder;
 use folder::start::FolderStore;
 use folder_worlds::endings::{DONE, Ending, FAILED, NO_MEMORY, OpenFault};
 use manifest_csv::sending::send;
@@ -56,26 +54,34 @@ fn archive_line(alloc: Global, archive: Uuid) -> Result<String, AllocError>
     format!(in alloc; "archive {archive}\n")
 }
 
-/// Makes the file of a new archive in a folder. Where it cannot be made whole, what was made of it is removed.
-fn make(rt: &HostRuntime, rehearsal: &Rehearsal<'_>, folder: &str) -> Result<(), Ending>
+/// Makes a new archive in a file that is no package's yet, and gives it the archive's name once it is whole.
+fn make_whole(rt: &HostRuntime, rehearsal: &Rehearsal<'_>, folder: &str) -> Result<(), Ending>
     ensures { IfErr result IsUnmade }
 {
-    let conn = match blank_in_folder(rt, folder, rehearsal.archive) {
+    let conn = match blank_unfinished(rt, folder, rehearsal.archive) {
         Ok(conn) => conn,
         Err(fault) => return Err(unopened(fault)),
     };
     let made: Result<World<FolderStore>, Failure> = new_world(rt.alloc(), rehearsal, conn);
     match made {
-        Ok(world) => {
-            close_stores(world.into_stores());
-            Ok(())
-        }
-        Err(failure) => {
-            // The fault is told, whatever becomes of the file.
-            let _removed = remove_store(rt, folder, rehearsal.archive);
-            Err(Ending::Usual(Outcome::Stopped(failure)))
-        }
+        Ok(world) => match finish(rt, folder, rehearsal.archive, world.into_stores()) {
+            Ok(()) => Ok(()),
+            Err(fault) => Err(unopened(fault)),
+        },
+        Err(failure) => Err(Ending::Usual(Outcome::Stopped(failure))),
     }
+}
+
+/// Makes the file of a new archive in a folder. Where it cannot be made whole, what was made of it is removed.
+fn make(rt: &HostRuntime, rehearsal: &Rehearsal<'_>, folder: &str) -> Result<(), Ending>
+    ensures { IfErr result IsUnmade }
+{
+    let made = make_whole(rt, rehearsal, folder);
+    if made.is_err() {
+        // The fault is told, whatever becomes of the file.
+        let _removed = remove_unfinished(rt, folder, rehearsal.archive);
+    }
+    made
 }
 
 /// How a folder that fails ends the program.

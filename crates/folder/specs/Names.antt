@@ -13,6 +13,10 @@ extension = codes ".gpkg"
 abbrev pub file_name : List ℕ → List ℕ
 file_name uuid = uuid_text uuid ++ extension
 
+-- the file of one that is not whole yet
+abbrev pub unfinished_name : List ℕ → List ℕ
+unfinished_name uuid = uuid_text uuid ++ codes ".gpkg-new"
+
 -- the path of a file in a folder
 abbrev pub path_text : List ℕ → List ℕ → List ℕ
 path_text folder name = folder ++ (codes "/" ++ name)

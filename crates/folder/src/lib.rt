@@ -2,6 +2,7 @@
 #![tactic(auto)]
 
 pub mod fault;
+pub mod founding;
 pub mod listing;
 pub mod names;
 pub mod opening;

@@ -37,12 +37,21 @@ pub fn remove_store<R: Files + AllocGlobal>(
     folder: &str,
     package: Uuid,
 ) -> Result<(), FolderFault> {
+    let file = file_name(rt.alloc(), package)?;
+    remove_files(rt, folder, file.as_str())
+}
+
+/// Removes the file of this name, and then each file whose name begins with it.
+pub(crate) fn remove_files<R: Files + AllocGlobal>(
+    rt: &R,
+    folder: &str,
+    file: &str,
+) -> Result<(), FolderFault> {
     let bytes = folder_bytes(rt, folder)?;
     let names = names_in(rt.alloc(), bytes.as_slice())?;
-    let file = file_name(rt.alloc(), package)?;
-    remove(rt, folder, file.as_str())?;
+    remove(rt, folder, file)?;
     for name in &names {
-        if is_beside(name, file.as_str()) {
+        if is_beside(name, file) {
             remove_named(rt, folder, name)?;
         }
     }

@@ -80,7 +80,19 @@ pub fn blank_in_folder(
 {
     remove_store(rt, folder, package)?;
     let name = file_name(rt.alloc(), package)?;
-    let path = path_of(rt.alloc(), folder, name.as_str())?;
+    blank_named(rt, folder, package, name.as_str())
+}
+
+/// An empty store of a package in the file of this name, which is not there.
+pub(crate) fn blank_named(
+    rt: &HostRuntime,
+    folder: &str,
+    package: Uuid,
+    name: &str,
+) -> Result<Connection<FolderStore>, FolderFault>
+    ensures { IfOk result (λ conn. HasCleanDisk (file_state conn) → IsBlank no_schema (file_state conn).now) }
+{
+    let path = path_of(rt.alloc(), folder, name)?;
     match Connection::open_from(rt, path.as_str(), false, Empty) {
         Ok(conn) => Ok(conn),
         Err((error, _)) => Err(fault_of(package, error)),
