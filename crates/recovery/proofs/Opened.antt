@@ -1,138 +1,34 @@
 -- What an opening makes of the stores that are handed in: a world that they stand for, or all of them handed back.
-use Rattle.std.specs.Prelude.{◌≡◌, ◌⊎◌, ℕ, List, [], ◌∷◌, ◌++◌, map, length, refl, Option, Some, None, MatchOption, Ok, IsTrue, Contains}
+use Rattle.std.specs.Prelude.{◌≡◌, ℕ, List, [], ◌∷◌, length, Option, Some, None, IsTrue, Contains}
 use Rattle.std.specs.List.{AllZip, AllByRecursion}
-use Rattle.std.proofs.Common.{sym, ap, subst, ◌∙◌, inl, inr}
-use Rattle.std.proofs.lemmas.List.Elements.{All-contains_itself, All-from_recursion, recursion_from_All}
-use Rattle.sqlite.specs.Effect.{Database}
+use Rattle.std.proofs.Common.{sym, ap, subst, ◌∙◌}
+use Rattle.std.proofs.lemmas.List.Elements.{All-contains_itself, recursion_from_All}
 use Rattle.sqlite.specs.Held.{Held, state}
-use Rattle.sqlite.specs.State.{HasCleanDisk}
 use Rattle.sqlite.specs.Store.{Ghosts}
+use Rattle.sheet_types.specs.World.{World}
 use Rattle.sheet_types.specs.declared.frame.Frame.{Frame}
-use Rattle.sheet_types.proofs.Every.{All-weaker}
-use Rattle.sql_meaning.specs.Transactions.{Rests}
 use Rattle.sql_meaning.proofs.Transactions.{Shuts, Settles}
 use Rattle.ledger_laws.specs.Laws.{StoreSight}
-use Rattle.opening.specs.declared.faults.RecoverFault.{RecoverFault}
-use Rattle.package_tables.specs.declared.fault.Fault.{Fault}
 use Rattle.first_stores.specs.Either.{IsViewAtEither}
-use Rattle.sheet_types.specs.World.{World}
 use Rattle.verdicts.specs.Views.{IsKeptOf}
 use Rattle.verdicts.specs.declared.verdict.Kept.{Kept}
 use Rattle.verdicts.specs.declared.verdict.Verdict.{Verdict}
 use Rattle.carrying.specs.Leaving.{AreAtRest, AreClean}
 use Rattle.world.specs.Worlds.{StandsFor}
-use Rattle.recovery.specs.Brought.{Place, AreAllTurned, SomeAreTurned, IsTurned, MayAllBeBrought, MayBeBrought, MayBeTurned}
-use Rattle.recovery.specs.Recovered.{seen_of_stores, StandsForSome, AreJudged, AreViewsOf, IsApart, IsFaultAt, IsOpened, IsReadOf, IsRecovered}
-use Rattle.recovery.specs.Sharing.{strays_of, with_stray}
-use Rattle.recovery.specs.Stores.{AreOnlyRead, AreOpenWhereClean, StaysStore}
+use Rattle.judged_stores.specs.Brought.{AreAllTurned}
+use Rattle.judged_stores.specs.Judged.{AreJudged}
+use Rattle.judged_stores.specs.Sharing.{strays_of}
+use Rattle.judged_stores.specs.Stores.{AreOnlyRead, AreOpenWhereClean, StaysStore}
+use Rattle.judged_stores.proofs.HandedIn.{all_turned_may, clean_before, read_of, reread, same_strays}
+use Rattle.judged_stores.proofs.Members.{are_members, last_has, nothing_lost, strays_have, strays_rest}
+use Rattle.recovery.specs.Recovered.{seen_of_stores, StandsForSome, IsApart, IsOpened, IsReadOf, IsRecovered}
 use Rattle.recovery.specs.declared.recovering.Recovered.{Recovered}
-use Rattle.recovery.proofs.Brought.{either_may, stays_may}
-use Rattle.recovery.proofs.Making.{nothing_lost, stands_so, last_has, strays_have, strays_rest}
 
 module _ {S : Type 0} (g : Ghosts S) where
   abbrev Right : Held S → StoreSight → Type 0
   Right h v = IsTrue (state g h).is_open × IsViewAtEither (state g h).now v
 
-  abbrev Resting : Held S → Type 0
-  Resting h = Rests (state g h)
-
-  abbrev Cleanly : Held S → Type 0
-  Cleanly h = HasCleanDisk (state g h)
-
-  abbrev OpenWhereClean : Held S → Type 0
-  OpenWhereClean h = HasCleanDisk (state g h) → IsTrue (state g h).is_open
-
-  -- ---- what is right of stores that were read is right of them before
-
-  reread : (old new : List (Held S)) (views : List StoreSight) → AllZip (StaysStore g) old new → AllZip Right new views → AllZip Right old views
-  reread [] [] [] stay right = tt
-  reread [] [] (v ∷ views) stay right = absurd right
-  reread [] (b ∷ new) views stay right = absurd stay
-  reread (a ∷ old) [] views stay right = absurd stay
-  reread (a ∷ old) (b ∷ new) [] stay right = absurd right
-  reread (a ∷ old) (b ∷ new) (v ∷ views) stay right = ((stay.0.was_open right.0.0, subst (λ (db : Database). IsViewAtEither db v) (stay.0.holds right.0.0).now_is right.0.1), reread old new views stay.1 right.1)
-
-  pub fault_before : (old new : List (Held S)) (fault : RecoverFault) → AreOnlyRead g old new → IsFaultAt g new fault → IsFaultAt g old fault
-  fault_before old new fault stay (inl want) = inl want
-  fault_before old new fault stay (inr (views, right, is)) = inr (views, reread old new views stay right, is)
-
-  -- ---- what became of each
-
-  abbrev Tried : Place S → Type 0
-  Tried p = MayBeTurned g Fault p.old p.now
-
-  done_tried : (kept : Option Kept) (old now : Held S) → MatchOption kept (now ≡ old) (λ _. IsTurned g {E = Fault} old now (Ok tt)) → MayBeTurned g Fault old now
-  done_tried None old now done = inl done
-  done_tried (Some k) old now done = inr (Ok tt, done)
-
-  may_tried : (kept : Option Kept) (old now : Held S) → MatchOption kept (now ≡ old) (λ _. MayBeTurned g Fault old now) → MayBeTurned g Fault old now
-  may_tried None old now done = inl done
-  may_tried (Some k) old now done = done
-
-  -- one whose disk is clean had a clean one
-  tried_clean : (old now : Held S) → MayBeTurned g Fault old now → Cleanly now → Cleanly old
-  tried_clean old now (inl same) clean = subst Cleanly same clean
-  tried_clean old now (inr it) clean = it.1.clean clean
-
-  all_clean : (ps : List (Place S)) → AllByRecursion Tried ps → AllByRecursion Cleanly (map (λ p. p.now) ps) → AllByRecursion Cleanly (map (λ p. p.old) ps)
-  all_clean [] tried clean = tt
-  all_clean (p ∷ ps) tried clean = (tried_clean p.old p.now tried.0 clean.0, all_clean ps tried.1 clean.1)
-
-  all_done : (kept : List (Option Kept)) (read now : List (Held S)) (turned : AreAllTurned g kept read now) → AllByRecursion Tried turned.places
-  all_done kept read now turned = All-weaker (λ p. MatchOption p.kept (p.now ≡ p.old) (λ _. IsTurned g {E = Fault} p.old p.now (Ok tt))) Tried (λ p done. done_tried p.kept p.old p.now done) turned.places turned.each
-
-  clean_before : (kept : List (Option Kept)) (read now : List (Held S)) → AreAllTurned g kept read now → AreClean g now → AreClean g read
-  clean_before kept read now turned clean =
-      All-from_recursion Cleanly read (subst (AllByRecursion Cleanly) (sym turned.old_is) (all_clean turned.places (all_done kept read now turned) (subst (AllByRecursion Cleanly) turned.new_is (recursion_from_All Cleanly now clean))))
-
-  module _ (shuts : Shuts g) (settles : Settles g) where
-    pub all_stay_may : (old new : List (Held S)) → AllByRecursion Resting old → AllZip (StaysStore g) old new → MayAllBeBrought g old new
-    all_stay_may [] [] rests stay = tt
-    all_stay_may [] (b ∷ bs) rests stay = absurd stay
-    all_stay_may (a ∷ old) [] rests stay = absurd stay
-    all_stay_may (a ∷ old) (b ∷ bs) rests stay = (stays_may g shuts settles a b rests.0 stay.0, all_stay_may old bs rests.1 stay.1)
-
-    all_may : (stores : List (Held S)) (ps : List (Place S)) → AllByRecursion Resting stores → AllZip (StaysStore g) stores (map (λ p. p.old) ps) → AllByRecursion OpenWhereClean (map (λ p. p.old) ps) → AllByRecursion Tried ps → MayAllBeBrought g stores (map (λ p. p.now) ps)
-    all_may [] [] rests stay opens tried = tt
-    all_may [] (p ∷ ps) rests stay opens tried = absurd stay
-    all_may (a ∷ stores) [] rests stay opens tried = absurd stay
-    all_may (a ∷ stores) (p ∷ ps) rests stay opens tried = (either_may g shuts settles a p.old p.now rests.0 stay.0 opens.0 tried.0, all_may stores ps rests.1 stay.1 opens.1 tried.1)
-
-    may_of : (stores read now : List (Held S)) (ps : List (Place S)) → read ≡ map (λ p. p.old) ps → now ≡ map (λ p. p.now) ps → AreAtRest g stores → AreOnlyRead g stores read → AreOpenWhereClean g read → AllByRecursion Tried ps → MayAllBeBrought g stores now
-    may_of stores read now ps old_is new_is rests stay opens tried =
-        subst (MayAllBeBrought g stores) (sym new_is)
-        (all_may stores ps (recursion_from_All Resting stores rests) (subst (AllZip (StaysStore g) stores) old_is stay) (subst (AllByRecursion OpenWhereClean) old_is (recursion_from_All OpenWhereClean read opens)) tried)
-
-    -- some were turned before memory or a store gave out
-    pub some_may : (kept : List (Option Kept)) (stores read now : List (Held S)) → AreAtRest g stores → AreOnlyRead g stores read → AreOpenWhereClean g read → SomeAreTurned g kept read now → MayAllBeBrought g stores now
-    some_may kept stores read now rests stay opens turned =
-        may_of stores read now turned.places turned.old_is turned.new_is rests stay opens
-        (All-weaker (λ p. MatchOption p.kept (p.now ≡ p.old) (λ _. MayBeTurned g Fault p.old p.now)) Tried (λ p done. may_tried p.kept p.old p.now done) turned.places turned.each)
-
-    pub all_turned_may : (kept : List (Option Kept)) (stores read now : List (Held S)) → AreAtRest g stores → AreOnlyRead g stores read → AreOpenWhereClean g read → AreAllTurned g kept read now → MayAllBeBrought g stores now
-    all_turned_may kept stores read now rests stay opens turned = may_of stores read now turned.places turned.old_is turned.new_is rests stay opens (all_done kept read now turned)
-
   -- ---- the strays
-
-  -- what goes with a store that was read
-  read_of : {A B : Type 0} (P : A → Type 0) (R : A → B → Type 0) (xs : List A) (ys : List B) → AllByRecursion P xs → AllZip R xs ys → AllByRecursion (λ y. (x : A) × P x × R x y) ys
-  read_of P R [] [] each zip = tt
-  read_of P R [] (y ∷ ys) each zip = absurd zip
-  read_of P R (x ∷ xs) [] each zip = absurd zip
-  read_of P R (x ∷ xs) (y ∷ ys) each zip = ((x, each.0, zip.0), read_of P R xs ys each.1 zip.1)
-
-  stray_still : (kept : Option Kept) (old now : Held S) (hs : List (Held S)) → MatchOption kept (now ≡ old) (λ _. IsTurned g {E = Fault} old now (Ok tt)) → with_stray now kept hs ≡ with_stray old kept hs
-  stray_still None old now hs same = ap (λ h. hs ++ h ∷ []) same
-  stray_still (Some k) old now hs done = refl
-
-  strays_still : (ps : List (Place S)) → AllByRecursion (λ p. MatchOption p.kept (p.now ≡ p.old) (λ _. IsTurned g {E = Fault} p.old p.now (Ok tt))) ps → strays_of (map (λ p. p.now) ps) (map (λ p. p.kept) ps) ≡ strays_of (map (λ p. p.old) ps) (map (λ p. p.kept) ps)
-  strays_still [] done = refl
-  strays_still (p ∷ ps) done = ap (with_stray p.now p.kept) (strays_still ps done.1) ∙ stray_still p.kept p.old p.now (strays_of (map (λ x. x.old) ps) (map (λ x. x.kept) ps)) done.0
-
-  same_strays : (kept : List (Option Kept)) (read now : List (Held S)) → AreAllTurned g kept read now → strays_of now kept ≡ strays_of read kept
-  same_strays kept read now turned =
-      ap (λ l. strays_of l kept) turned.new_is ∙ ap (strays_of (map (λ (p : Place S). p.now) turned.places)) turned.kept_is ∙ strays_still turned.places turned.each
-      ∙ sym (ap (λ l. strays_of l kept) turned.old_is ∙ ap (strays_of (map (λ (p : Place S). p.old) turned.places)) turned.kept_is)
 
   -- what a view that is not live is right of
   apart_of : (all : List StoreSight) (world : World) (hs : List (Held S)) (ks : List (Option Kept)) (vs : List StoreSight) → AllZip Right hs vs → AllZip (IsKeptOf all world) ks vs → AllByRecursion (Contains all) vs → AllByRecursion (IsApart g all) (strays_of hs ks)
@@ -148,37 +44,41 @@ module _ {S : Type 0} (g : Ghosts S) where
 
   -- ---- the world
 
+  -- the members in the order of their UUIDs stand for the world
+  stands_so : (read now : List (Held S)) (frame : Frame) (verdict : Verdict) (known : List (List ℕ)) (it : AreJudged g read frame verdict known) → AreAllTurned g verdict.kept.items read now → AreClean g now → StandsFor g (seen_of_stores frame now verdict known) it.is.world
+  stands_so read now frame verdict known it turned clean = record { frame = it.frame_is; members = are_members g read now frame verdict known it turned clean; known = it.knows }
+
   module _ (read now : List (Held S)) (frame : Frame) (verdict : Verdict) (known : List (List ℕ)) (are_judged : AreClean g read → AreJudged g read frame verdict known) (turned : AreAllTurned g verdict.kept.items read now) where
     judged_so : AreClean g now → AreJudged g read frame verdict known
-    judged_so clean = are_judged (clean_before verdict.kept.items read now turned clean)
+    judged_so clean = are_judged (clean_before g verdict.kept.items read now turned clean)
 
     -- stores that were judged and brought stand for a world
     pub stands : AreClean g now → StandsForSome g (seen_of_stores frame now verdict known)
-    stands clean = let it = judged_so clean in (it.is.world, stands_so g read now frame verdict known it turned clean)
+    stands clean = let it = judged_so clean in (it.is.world, stands_so read now frame verdict known it turned clean)
 
     module _ (stores : List (Held S)) (found : Recovered S) (stay : AreOnlyRead g stores read) (world_is : found.world ≡ seen_of_stores frame now verdict known) (strays_are : found.strays.items ≡ strays_of now verdict.kept.items) where
       were_read : found.strays.items ≡ strays_of read verdict.kept.items
-      were_read = strays_are ∙ same_strays verdict.kept.items read now turned
+      were_read = strays_are ∙ same_strays g verdict.kept.items read now turned
 
       opened : AreClean g now → IsOpened g stores found
       opened clean =
           let it = judged_so clean in
           record {
             views = it.views;
-            right = reread stores read it.views stay it.right;
+            right = reread g stores read it.views stay it.right;
             world = it.is.world;
             stand = it.is.stands;
-            is = subst (λ s. StandsFor g s it.is.world) (sym world_is) (stands_so g read now frame verdict known it turned clean);
+            is = subst (λ s. StandsFor g s it.is.world) (sym world_is) (stands_so read now frame verdict known it turned clean);
             apart = subst (AllByRecursion (IsApart g it.views)) (sym were_read) (strays_apart read verdict.kept.items it.views it.is.world it.right it.is.kept);
           }
 
       pub recovered : Shuts g → Settles g → AreAtRest g stores → AreOpenWhereClean g read → length verdict.kept.items ≡ length now → AreAtRest g now → IsRecovered g stores found
       recovered shuts settles rests opens long rests_now = record {
         now = now;
-        brought = all_turned_may shuts settles verdict.kept.items stores read now rests stay opens turned;
+        brought = all_turned_may g shuts settles verdict.kept.items stores read now rests stay opens turned;
         kept = nothing_lost g now verdict.kept.items found.world.members found.strays.items long (ap (λ w. w.members) world_is) strays_are;
         strays_read = subst (AllByRecursion (IsReadOf g stores)) (sym were_read)
-            (strays_have g (IsReadOf g stores) read verdict.kept.items (read_of (Contains stores) (StaysStore g) stores read (recursion_from_All (Contains stores) stores (All-contains_itself stores)) stay));
+            (strays_have g (IsReadOf g stores) read verdict.kept.items (read_of g (Contains stores) (StaysStore g) stores read (recursion_from_All (Contains stores) stores (All-contains_itself stores)) stay));
         stray_rests = strays_rest g now verdict.kept.items found.strays.items strays_are rests_now;
         opened = opened;
       }

@@ -1,10 +1,4 @@
 //! The opening of a world: the stores that are handed in come to a world, or to the first of the nine faults whose condition holds.
 #![tactic(auto)]
 
-mod bringing;
 pub mod recovering;
-mod remembering;
-mod sharing;
-mod surveying;
-mod waiting;
-pub mod watching;

@@ -2,8 +2,8 @@
 use Rattle.std.proofs.Common.{◌≡◌, ◌∙◌, sym, ap, subst, arith}
 use Rattle.sheet_types.specs.Ordered.{arranged}
 use Rattle.world.specs.Worlds.{StandsFor, seen_of}
-use Rattle.recovery.specs.Sharing.{member_key, members_of, strays_of}
-use Rattle.recovery.proofs.Making.{members_rest, few}
+use Rattle.judged_stores.specs.Sharing.{member_key, members_of, strays_of}
+use Rattle.judged_stores.proofs.Members.{members_rest, few}
 use Rattle.recovery.proofs.recovering.opened.Goals as goal
 
 pub gathered-world-requires-clause-rests : goal.gathered-world-requires-clause-rests

@@ -3,9 +3,10 @@ use Rattle.std.proofs.Common.{◌≡◌, refl, ap, subst, inl, inr, length, vec_
 use Rattle.std.proofs.lemmas.List.Elements.{recursion_from_All}
 use Rattle.sqlite.specs.Held.{state}
 use Rattle.sql_meaning.specs.Transactions.{Rests}
-use Rattle.recovery.specs.Brought.{AreAllTurned}
-use Rattle.recovery.proofs.Opened.{all_stay_may, fault_before, recovered, some_may, stands}
-use Rattle.recovery.proofs.Turning.{as_long}
+use Rattle.judged_stores.specs.Brought.{AreAllTurned}
+use Rattle.judged_stores.proofs.HandedIn.{all_stay_may, fault_before, some_may}
+use Rattle.judged_stores.proofs.Turning.{as_long}
+use Rattle.recovery.proofs.Opened.{recovered, stands}
 use Rattle.recovery.proofs.recovering.recover_at_rest.Goals as goal
 
 pub returns-in-Err-clause-fault : goal.returns-in-Err-clause-fault

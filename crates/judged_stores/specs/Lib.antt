@@ -1,0 +1,5 @@
+pub mod Stores
+pub mod Judged
+pub mod Waiting
+pub mod Brought
+pub mod Sharing
