@@ -1,6 +1,6 @@
 //! How far the opening of a folder is, told on a writer.
 use command_words::progress::write_opening;
-use recovery::watching::Watcher;
+use judged_stores::watching::Watcher;
 use std::io::{IsTerminal, Stderr, Write};
 
 /// Writes how many packages of a folder are read, where there is a writer. Where it fails, nothing more comes of it.

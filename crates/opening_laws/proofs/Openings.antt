@@ -8,7 +8,8 @@ use Rattle.opening.specs.declared.faults.RecoverFault.{RecoverFault}
 use Rattle.opening.specs.declared.faults.RecoverFault.TheVariants.{NoArchive, TwoArchives, NotAPackage, TwoCopies, MissingPackage, ForeignFrame, Dangling, OutOfAccount, Altered, OutOfMemory, StoreFault}
 use Rattle.verdicts.specs.Views.{IsFaultOf}
 use Rattle.world.specs.Worlds.{StandsFor}
-use Rattle.recovery.specs.Recovered.{IsOpened, IsWant}
+use Rattle.judged_stores.specs.Judged.{IsWant}
+use Rattle.recovery.specs.Recovered.{IsOpened}
 use Rattle.register_views.proofs.Stands as standing
 use Rattle.opening_laws.specs.Laws.{OpensAgain, MeetsNoFault}
 use Rattle.opening_laws.proofs.AllViews.{views_of_stores}

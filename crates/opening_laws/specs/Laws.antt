@@ -18,7 +18,8 @@ use Rattle.register_views.specs.Timely.{IsTimely}
 use Rattle.carrying.specs.Leaving.{AreClean, MayBeLeft, StandsAmong}
 use Rattle.members.specs.Members.{AllOpen}
 use Rattle.world.specs.Worlds.{Seen, StandsFor, IsHeld, IsStep, held}
-use Rattle.recovery.specs.Recovered.{AreViewsOf, IsRecovered, IsUnopened, IsWant}
+use Rattle.judged_stores.specs.Judged.{AreViewsOf, IsWant}
+use Rattle.recovery.specs.Recovered.{IsRecovered, IsUnopened}
 use Rattle.recovery.specs.declared.recovering.Recovered.{Recovered}
 use Rattle.recovery.specs.declared.recovering.Unopened.{Unopened}
 use Rattle.opening_laws.specs.Stores.{AreStoresOf, IsStrayStore, ReadsAsNone, AreReopened}
