@@ -1,15 +1,15 @@
 // Stores of a world that is opened, as data: what they hold, of which version they are, and which statements were
 // carried out on them. One function makes them, opens them, and tells what they come to.
 ghost use Rattle.std.specs.Prelude.{IfOk};
-ghost use Rattle.recovery.specs.Stores.{AreAllKeyed};
+ghost use Rattle.judged_stores.specs.Stores.{AreAllKeyed};
 
 use crate::worlds::{Of, Step, check, letter, world_of};
 use first_version::taking_back::take_back;
+use judged_stores::watching::Unwatched;
 use opening::faults::RecoverFault;
 use package_tables::fault::Fault;
 use package_tables::head::all_heads;
 use recovery::recovering::{Recovered, recover};
-use recovery::watching::Unwatched;
 use sheet_types::command::{Mapping, Mode};
 use shelves::file_memory::MemoryFileShelf;
 use shelves::shelf::Shelf;

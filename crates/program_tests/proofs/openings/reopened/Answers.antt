@@ -5,7 +5,7 @@ use Rattle.std.proofs.lemmas.List.Elements.{All-push}
 use Rattle.sqlite.specs.Held.{Held, state}
 use Rattle.sqlite.specs.State.{HasCleanDisk}
 use Rattle.sql_meaning.specs.Writing.{AreKeyed}
-use Rattle.recovery.specs.Stores.{AreAllKeyed}
+use Rattle.judged_stores.specs.Stores.{AreAllKeyed}
 use Rattle.program_tests.proofs.openings.reopened.Goals as goal
 
 pub loop-conn-preserved : goal.loop-conn-preserved

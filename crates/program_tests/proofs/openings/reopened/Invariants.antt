@@ -1,4 +1,4 @@
-use Rattle.recovery.specs.Stores.{AreAllKeyed}
+use Rattle.judged_stores.specs.Stores.{AreAllKeyed}
 use Rattle.program_tests.proofs.openings.reopened.Given as goal
 
 abbrev pub invariant-loop-conn : goal.invariant-loop-conn
