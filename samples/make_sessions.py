@@ -13,7 +13,8 @@ example that lends, and tells more than one reply whole or has manifests in betw
 is told go in one by one, as JSON, and the others as lists. Such a reply's whole text, and the table of the packages, are the second
 machine's, once that agrees with all that the example tells (bench/worked_lists.py).
 
-Last the sessions of refusals.txt, written out by hand as they stand there. Nothing here runs the program.
+Last the sessions of refusals.txt and folders.txt, written out by hand as they stand there. The folders of packages that the latter opens
+are make_folders.py's. Nothing here runs the program.
 """
 
 import os
@@ -30,7 +31,9 @@ HERE = os.path.dirname(os.path.abspath(__file__))
 CRATE = os.path.join(HERE, "..", "crates", "sheetdesk")
 DATA = os.path.join(CRATE, "data")
 README = os.path.join(HERE, "..", "README.md")
-REFUSALS = os.path.join(HERE, "refusals.txt")
+BY_HAND = [os.path.join(HERE, name) for name in ("refusals.txt", "folders.txt")]
+# The packages that make_folders.py makes.
+FOLDERS = os.path.join(DATA, "folders")
 
 sys.path.insert(0, os.path.join(HERE, "..", "bench"))
 sys.dont_write_bytecode = True
@@ -268,11 +271,12 @@ def worked_sessions(session):
 
 
 def sessions_by_hand(session):
-    """Those of refusals.txt: lines that begin with `$ ` are typed, those with `# ` are comments, the others are printed."""
-    with open(REFUSALS, encoding="utf-8") as found:
-        lines = found.read().splitlines(keepends=True)
-    session.printed += lines
-    session.typed += [line.removeprefix("$ ") for line in lines if line.startswith(("$ ", "# ")) or line == "\n"]
+    """Lines that begin with `$ ` are typed, those with `# ` are comments, the others are printed."""
+    for path in BY_HAND:
+        with open(path, encoding="utf-8") as found:
+            lines = found.read().splitlines(keepends=True)
+        session.printed += lines
+        session.typed += [line.removeprefix("$ ") for line in lines if line.startswith(("$ ", "# ")) or line == "\n"]
 
 
 def all_sessions():
@@ -307,10 +311,10 @@ def files():
 
 
 def strays():
-    """Files of the sessions that none of them names."""
+    """Files of the sessions that none of them names, apart from the packages."""
     wanted = {os.path.normpath(path) for path in files()}
     found = {os.path.normpath(os.path.join(folder, name)) for folder, _, names in os.walk(DATA) for name in names}
-    return sorted(found - wanted)
+    return sorted(path for path in found - wanted if not path.startswith(os.path.normpath(FOLDERS) + os.sep))
 
 
 def is_as_wanted(path, wanted):
