@@ -5,8 +5,8 @@ Usage: make_sessions.py           writes first.csv, first_session.txt, and the r
        make_sessions.py --check   writes nothing; status 1 where a file is not what would be written, or the README does not show the first session
 
 First the sample is rehearsed, from standard input (make_sample.py). Then comes the session of the README: an archive is made in a folder,
-takes in three sheets, a survey mark and a photograph, lends a sheet to a crew, which adds a mark of its own; then it is looked at. What its
-lines print is worked out by the second machine of reference.py.
+takes in three sheets, a survey mark and a photograph, lends a sheet to a crew, which adds a mark of its own; then it is looked at, and
+exported. What its lines print is worked out by the second machine of reference.py.
 
 Then the worked examples of bench/worked_lists.txt, which has what they must print, written out by hand. Each list is rehearsed. An
 example that lends, and tells more than one reply whole or has manifests in between, is carried out in a folder too: requests of which more
@@ -23,8 +23,10 @@ import sys
 
 import nordmark
 import reference
+from machine.exports import export
+from machine.frames import Frame
 from machine.lists import read_requests
-from machine.world import Receipt
+from machine.world import Receipt, World
 from make_sample import List, rehearsed as rehearsed_sample
 
 HERE = os.path.dirname(os.path.abspath(__file__))
@@ -155,6 +157,18 @@ def first_session():
     session.run(f"manifest maps {CREW}", manifest_of(done, CREW))
     session.run("audit maps", f"good {len(done.world.receipts)}\n")
     return session
+
+
+def exports(session):
+    """The packages of the first session as SQL, and an archive with nothing in it over a frame whose numbers are all different."""
+    world = rehearsed(told()[0].text().encode()).world
+    for uuid in (CREW, nordmark.ARCHIVE):
+        session.run(f"export maps {uuid}", export(world.frame, world.packages[uuid]))
+    archive, frame = "a0000000-0000-4000-8000-00000000beef", "-1,-3000,-700,3001,500,17,5,4,1,353,6"
+    world = World(archive, Frame.read(frame))
+    session.type("mkdir oblong", "")
+    session.run(f"init --archive A0000000-0000-4000-8000-00000000BeEf --at {nordmark.CREATED} --frame={frame} oblong", f"archive {archive}\n")
+    session.run(f"export oblong {archive.upper()}", export(world.frame, world.packages[archive]))
 
 
 def making(check):
@@ -289,6 +303,9 @@ def all_sessions():
     every.typed += first.typed
     every.printed += first.printed
     every.files = first.files
+    every.show("")
+    every.show("# Its packages as SQL, and an archive with nothing in it, over an oblong frame.")
+    exports(every)
     worked_sessions(every)
     sessions_by_hand(every)
     return first, every
