@@ -5,15 +5,16 @@ Usage: make_sessions.py           writes first.csv, first_session.txt, and the r
        make_sessions.py --check   writes nothing; status 1 where a file is not what would be written, or the README does not show the first session
 
 First the sample is rehearsed, from standard input (make_sample.py). Then comes the session of the README: an archive is made in a folder,
-takes in three sheets, a survey mark and a photograph, lends a sheet to a crew, which adds a mark of its own; then it is looked at. What its
-lines print is worked out by the second machine of reference.py.
+takes in three sheets, a survey mark and a photograph, lends a sheet to a crew, which adds a mark of its own; then it is looked at, and
+exported. What its lines print is worked out by the second machine of reference.py.
 
 Then the worked examples of bench/worked_lists.txt, which has what they must print, written out by hand. Each list is rehearsed. An
 example that lends, and tells more than one reply whole or has manifests in between, is carried out in a folder too: requests of which more
 is told go in one by one, as JSON, and the others as lists. Such a reply's whole text, and the table of the packages, are the second
 machine's, once that agrees with all that the example tells (bench/worked_lists.py).
 
-Last the sessions of refusals.txt, written out by hand as they stand there. Nothing here runs the program.
+Last the sessions of refusals.txt and folders.txt, written out by hand as they stand there. The folders of packages that the latter opens
+are make_folders.py's. Nothing here runs the program.
 """
 
 import os
@@ -22,15 +23,19 @@ import sys
 
 import nordmark
 import reference
+from machine.exports import export
+from machine.frames import Frame
 from machine.lists import read_requests
-from machine.world import Receipt
+from machine.world import Receipt, World
 from make_sample import List, rehearsed as rehearsed_sample
 
 HERE = os.path.dirname(os.path.abspath(__file__))
 CRATE = os.path.join(HERE, "..", "crates", "sheetdesk")
 DATA = os.path.join(CRATE, "data")
 README = os.path.join(HERE, "..", "README.md")
-REFUSALS = os.path.join(HERE, "refusals.txt")
+BY_HAND = [os.path.join(HERE, name) for name in ("refusals.txt", "folders.txt")]
+# The packages that make_folders.py makes.
+FOLDERS = os.path.join(DATA, "folders")
 
 sys.path.insert(0, os.path.join(HERE, "..", "bench"))
 sys.dont_write_bytecode = True
@@ -154,6 +159,18 @@ def first_session():
     return session
 
 
+def exports(session):
+    """The packages of the first session as SQL, and an archive with nothing in it over a frame whose numbers are all different."""
+    world = rehearsed(told()[0].text().encode()).world
+    for uuid in (CREW, nordmark.ARCHIVE):
+        session.run(f"export maps {uuid}", export(world.frame, world.packages[uuid]))
+    archive, frame = "a0000000-0000-4000-8000-00000000beef", "-1,-3000,-700,3001,500,17,5,4,1,353,6"
+    world = World(archive, Frame.read(frame))
+    session.type("mkdir oblong", "")
+    session.run(f"init --archive A0000000-0000-4000-8000-00000000BeEf --at {nordmark.CREATED} --frame={frame} oblong", f"archive {archive}\n")
+    session.run(f"export oblong {archive.upper()}", export(world.frame, world.packages[archive]))
+
+
 def making(check):
     return f"--archive {worked_lists.uuid_of('a')} --at {worked_lists.MOMENTS['T']} --frame {check.frame}"
 
@@ -268,11 +285,12 @@ def worked_sessions(session):
 
 
 def sessions_by_hand(session):
-    """Those of refusals.txt: lines that begin with `$ ` are typed, those with `# ` are comments, the others are printed."""
-    with open(REFUSALS, encoding="utf-8") as found:
-        lines = found.read().splitlines(keepends=True)
-    session.printed += lines
-    session.typed += [line.removeprefix("$ ") for line in lines if line.startswith(("$ ", "# ")) or line == "\n"]
+    """Lines that begin with `$ ` are typed, those with `# ` are comments, the others are printed."""
+    for path in BY_HAND:
+        with open(path, encoding="utf-8") as found:
+            lines = found.read().splitlines(keepends=True)
+        session.printed += lines
+        session.typed += [line.removeprefix("$ ") for line in lines if line.startswith(("$ ", "# ")) or line == "\n"]
 
 
 def all_sessions():
@@ -285,6 +303,9 @@ def all_sessions():
     every.typed += first.typed
     every.printed += first.printed
     every.files = first.files
+    every.show("")
+    every.show("# Its packages as SQL, and an archive with nothing in it, over an oblong frame.")
+    exports(every)
     worked_sessions(every)
     sessions_by_hand(every)
     return first, every
@@ -307,10 +328,10 @@ def files():
 
 
 def strays():
-    """Files of the sessions that none of them names."""
+    """Files of the sessions that none of them names, apart from the packages."""
     wanted = {os.path.normpath(path) for path in files()}
     found = {os.path.normpath(os.path.join(folder, name)) for folder, _, names in os.walk(DATA) for name in names}
-    return sorted(found - wanted)
+    return sorted(path for path in found - wanted if not path.startswith(os.path.normpath(FOLDERS) + os.sep))
 
 
 def is_as_wanted(path, wanted):

@@ -1,4 +1,5 @@
-// Statuses and lines, as they were agreed on and judged by hand.
+// Statuses and lines, as they were agreed on and judged by hand. What goes to standard output stands in the sessions
+// too; what goes to standard error does here alone.
 use crate::endings::{End, end_text};
 use crate::worlds::passes;
 use command_words::statuses::{Failure, Outcome, What};
@@ -23,42 +24,6 @@ fn wrong(alloc: Global, cases: &[(End, &str)]) -> Result<String, Fault> {
     Ok(String::from_str(alloc, checked.wrong())?)
 }
 
-#[test]
-fn each_outcome_has_its_status_and_its_lines(rt: HostRuntime) {
-    let cases = [
-        (End::Of(Outcome::Done), "0 ||"),
-        (
-            End::Of(Outcome::Refused(What::BadUuid)),
-            "1 refused: uuid\n||",
-        ),
-        (
-            End::Of(Outcome::Refused(What::BadMoment)),
-            "1 refused: at\n||",
-        ),
-        (
-            End::Of(Outcome::Refused(What::BadFrame)),
-            "1 refused: frame\n||",
-        ),
-        (
-            End::Of(Outcome::Refused(What::BadNumber)),
-            "1 refused: number\n||",
-        ),
-        (
-            End::Of(Outcome::Refused(What::BadList)),
-            "1 refused: list\n||",
-        ),
-        (
-            End::Of(Outcome::Stopped(Failure::OutOfMemory)),
-            "3 |store: OutOfMemory\n|",
-        ),
-        (
-            End::Of(Outcome::Stopped(Failure::StoreFault)),
-            "3 |store: StoreFault\n|",
-        ),
-    ];
-    passes(&rt, wrong(rt.alloc(), cases.as_slice()));
-}
-
 // The package 7 is not there, and is busy.
 fn missing() -> OpenFault {
     OpenFault::Fault(RecoverFault::MissingPackage(Uuid::from_u128(7)))
@@ -68,21 +33,18 @@ fn busy() -> OpenFault {
     OpenFault::from(FolderFault::Busy(Uuid::from_u128(7)))
 }
 
+// Of a rehearsal, a command, a map and a view.
 #[test]
-fn so_has_each_ending_of_a_command(rt: HostRuntime) {
-    let list = Ending::Usual(Outcome::Refused(What::BadList));
+fn each_ending_has_its_status_and_its_lines(rt: HostRuntime) {
+    let list = Outcome::Refused(What::BadList);
+    let no_memory = Outcome::Stopped(Failure::OutOfMemory);
+    let of_map = MapEnding::Usual(Ending::Unopened(busy()));
+    let of_view = ViewEnding::Usual(Ending::Unopened(missing()));
     let cases = [
+        (End::Of(Outcome::Done), "0 ||"),
+        (End::Of(list), "1 refused: list\n||"),
+        (End::Of(no_memory), "3 |store: OutOfMemory\n|"),
         (End::Command(DONE), "0 ||"),
-        (End::Command(list), "1 refused: list\n||"),
-        (End::Command(Ending::BadBody), "1 refused: body\n||"),
-        (
-            End::Command(Ending::HoldsPackages),
-            "1 refused: folder holds packages\n||",
-        ),
-        (
-            End::Command(Ending::NoSuchPackage),
-            "1 refused: no such package\n||",
-        ),
         (End::Command(Ending::Declined), "1 ||"),
         (End::Command(FAILED), "3 |store: StoreFault\n|"),
         (End::Command(NO_MEMORY), "3 |store: OutOfMemory\n|"),
@@ -99,43 +61,13 @@ fn so_has_each_ending_of_a_command(rt: HostRuntime) {
             "3 |store: StoreFault\n|7",
         ),
         (End::Command(Ending::Faulted(busy())), "3 StoreFault\n||7"),
-    ];
-    passes(&rt, wrong(rt.alloc(), cases.as_slice()));
-}
-
-#[test]
-fn so_has_each_ending_of_a_map_and_a_view(rt: HostRuntime) {
-    let number = Ending::Usual(Outcome::Refused(What::BadNumber));
-    let no_archive = OpenFault::Fault(RecoverFault::NoArchive);
-    let cases = [
-        (End::Map(MapEnding::Usual(DONE)), "0 ||"),
         (End::Map(MapEnding::NoSuchZoom), "1 refused: zoom\n||"),
-        (End::Map(MapEnding::Usual(number)), "1 refused: number\n||"),
-        (
-            End::Map(MapEnding::Usual(FAILED)),
-            "3 |store: StoreFault\n|",
-        ),
-        (
-            End::Map(MapEnding::Usual(Ending::Unopened(busy()))),
-            "3 |store: StoreFault\n|7",
-        ),
-        (End::View(ViewEnding::Usual(DONE)), "0 ||"),
-        (
-            End::View(ViewEnding::NoSuchRequest),
-            "1 refused: no such request\n||",
-        ),
+        (End::Map(of_map), "3 |store: StoreFault\n|7"),
         (
             End::View(ViewEnding::NoSuchIdentity),
             "1 refused: no such identity\n||",
         ),
-        (
-            End::View(ViewEnding::Usual(Ending::Unopened(no_archive))),
-            "3 |store: NoArchive\n|",
-        ),
-        (
-            End::View(ViewEnding::Usual(Ending::Unopened(busy()))),
-            "3 |store: StoreFault\n|7",
-        ),
+        (End::View(of_view), "3 |store: MissingPackage\n|"),
     ];
     passes(&rt, wrong(rt.alloc(), cases.as_slice()));
 }

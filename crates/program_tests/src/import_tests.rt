@@ -3,45 +3,23 @@
 use crate::outputs::What;
 use crate::streams::{NOTHING, Reads, WHOLE, Wrote};
 use crate::texts::{List, REPORT_OF_ONE, REPORT_OF_TWO};
-use crate::worlds::{Of, Step, passes, wrong};
+use crate::worlds::{Step, passes, wrong};
 use package_tables::fault::Fault;
 use std::alloc::Global;
 use test_lists::MANIFEST_OF_THE_FIRST;
-use test_worlds::A;
 
 // An import that is read whole.
 const fn imports(list: List) -> What {
     What::Imports(list, Reads::Whole)
 }
 
-// A list that is not read.
-const fn unread(list: List, ended: &'static str) -> Step {
-    Step::Writes(imports(list), WHOLE, ended, NOTHING)
-}
-
-// Nothing was carried out, though the first record of a list would be accepted.
-const NONE: Step = Step::Tells(Of::Sums(A), "0 0 0 0 0");
-
-const UNKNOWN: Step = Step::Tells(Of::IsKept(1), "no");
-
+// Nothing was carried out, though its record would be accepted.
 #[test]
-fn lists_that_are_not_read(rt: HostRuntime) {
+fn a_reader_that_fails_after_a_good_list(rt: HostRuntime) {
     let broken = What::Imports(List::One, Reads::Fails(WHOLE));
     let steps = [
-        unread(List::Seventeen, "unread"),
-        NONE,
-        UNKNOWN,
-        unread(List::NoRequest, "no record 3"),
-        NONE,
-        UNKNOWN,
-        unread(List::Empty, "no header"),
-        unread(List::Headless, "no header"),
-        NONE,
-        UNKNOWN,
-        // A reader that fails after a good list.
         Step::Writes(broken, WHOLE, "unread", NOTHING),
-        NONE,
-        UNKNOWN,
+        Step::Holds("0 0 0 0 0"),
     ];
     passes(&rt, wrong(rt.alloc(), steps.as_slice()));
 }
@@ -57,8 +35,8 @@ fn a_tile_of_the_greatest_size(rt: HostRuntime) {
             "done 1/1",
             Wrote::All(REPORT_OF_ONE),
         ),
-        Step::Tells(Of::Sums(A), "1 0 0 0 1048576"),
-        Step::Writes(What::Manifest(A), WHOLE, "done", Wrote::All(manifest)),
+        Step::Holds("1 0 0 0 1048576"),
+        Step::Writes(What::Manifest, WHOLE, "done", Wrote::All(manifest)),
     ];
     passes(&rt, wrong(rt.alloc(), steps.as_slice()));
 }
@@ -82,7 +60,7 @@ fn wrong_of_reports(alloc: Global) -> Result<String, Fault> {
         let front = Wrote::Front(REPORT_OF_TWO, room);
         steps.push(Step::Anew)?;
         steps.push(Step::Writes(imports(List::Two), room, ended, front))?;
-        steps.push(Step::Tells(Of::Sums(A), sums))?;
+        steps.push(Step::Holds(sums))?;
     }
     wrong(alloc, &steps)
 }
@@ -99,9 +77,9 @@ fn a_list_again_after_a_writer_that_failed(rt: HostRuntime) {
     let front = Wrote::Front(REPORT_OF_TWO, 30);
     let steps = [
         Step::Writes(imports(List::Two), 30, "unwritten", front),
-        Step::Tells(Of::Sums(A), "1 0 0 0 1"),
+        Step::Holds("1 0 0 0 1"),
         Step::Writes(imports(List::Two), 111, "done 1/2 2/2", whole),
-        Step::Tells(Of::Sums(A), "2 0 0 0 2"),
+        Step::Holds("2 0 0 0 2"),
     ];
     passes(&rt, wrong(rt.alloc(), steps.as_slice()));
 }
@@ -121,12 +99,12 @@ fn wrong_of_manifests(alloc: Global) -> Result<String, Fault> {
     let whole = Wrote::All(MANIFEST_OF_THE_FIRST);
     let mut steps = Vec::new(alloc);
     steps.push(Step::Writes(imports(List::One), WHOLE, "done 1/1", report))?;
-    steps.push(Step::Writes(What::Manifest(A), 187, "done", whole))?;
+    steps.push(Step::Writes(What::Manifest, 187, "done", whole))?;
     for room in 0..187 {
         let front = Wrote::Front(MANIFEST_OF_THE_FIRST, room);
-        steps.push(Step::Writes(What::Manifest(A), room, "unwritten", front))?;
+        steps.push(Step::Writes(What::Manifest, room, "unwritten", front))?;
     }
-    steps.push(Step::Writes(What::Manifest(A), 187, "done", whole))?;
+    steps.push(Step::Writes(What::Manifest, 187, "done", whole))?;
     wrong(alloc, &steps)
 }
 

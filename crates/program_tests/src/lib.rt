@@ -1,9 +1,7 @@
-//! Tests of what stands over `world`: lists, manifests, the desk, commands over a folder, and openings. There is
-//! nothing here but tests.
+//! Tests of what stands over `world` and no session can show: streams that fail, or take a text in pieces, connections
+//! over memory and the loopback address, and what standard error is told. There is nothing here but tests.
 #![tactic(auto)]
 
-#[cfg(test)]
-mod argument_tests;
 #[cfg(test)]
 mod desk_tests;
 #[cfg(test)]
@@ -19,19 +17,11 @@ mod look_tests;
 #[cfg(test)]
 mod loopback_tests;
 #[cfg(test)]
-mod manifest_tests;
-#[cfg(test)]
-mod opening_tests;
-#[cfg(test)]
-mod openings;
-#[cfg(test)]
 mod outputs;
 #[cfg(test)]
 mod progress_tests;
 #[cfg(test)]
 mod rehearsal_tests;
-#[cfg(test)]
-mod report_tests;
 #[cfg(test)]
 mod sending_tests;
 #[cfg(test)]

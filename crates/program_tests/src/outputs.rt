@@ -8,31 +8,35 @@ use desk_http::serving::{ServeFault, Served, serve_one};
 use manifest_csv::importing::{ImportFault, import};
 use manifest_csv::package_manifests::{ManifestFault, write_manifest};
 use package_tables::fault::Fault;
-use request_csv::lists::ReadFault;
 use shelves::shelf::Shelf;
 use sqlite::Alter;
 use std::alloc::{AllocError, Global};
 use test_lists::Narrow;
-use test_worlds::{asked, package};
+use test_values::archive;
+use uuid::Uuid;
 use views::exporting::export_in;
 use views::maps::map_in;
 use views::receipts::receipt_in;
 use world::world::World;
 
-// A package goes by its first digit, a request by its number.
 #[derive(Clone, Copy)]
 pub(crate) enum What {
     // The report of a list.
     Imports(List, Reads),
-    Manifest(u8),
-    Export(u8),
-    // At a zoom, or the default one.
-    Map(Option<i64>),
-    // The receipt of a request that comes as a text.
+    // Of the archive; the map at the default zoom.
+    Manifest,
+    Export,
+    Map,
+    // The receipt of a request that comes as a text, and that of the first one.
     Applies(&'static str, Reads),
-    Receipt(u32),
+    Receipt,
     // What a client is answered.
     Serves(Sent, Reads),
+}
+
+// The request of the first tile.
+fn first_request() -> Uuid {
+    Uuid::from_u128(0x90000000_0000_4000_8000_000000000001)
 }
 
 fn import_end(alloc: Global, ended: Result<(), ImportFault>) -> Result<String, AllocError> {
@@ -40,10 +44,7 @@ fn import_end(alloc: Global, ended: Result<(), ImportFault>) -> Result<String, A
         Ok(()) => String::from_str(alloc, "done"),
         Err(ImportFault::Unwritten) => String::from_str(alloc, "unwritten"),
         Err(ImportFault::Stopped(_, _)) => String::from_str(alloc, "stopped"),
-        Err(ImportFault::Unread(ReadFault::Header)) => String::from_str(alloc, "no header"),
-        Err(ImportFault::Unread(ReadFault::Record(at))) => format!(in alloc; "no record {at}"),
-        Err(ImportFault::Unread(ReadFault::Read)) => String::from_str(alloc, "unread"),
-        Err(ImportFault::Unread(ReadFault::Memory)) => String::from_str(alloc, "no memory"),
+        Err(ImportFault::Unread(_)) => String::from_str(alloc, "unread"),
     }
 }
 
@@ -97,21 +98,21 @@ fn ended<S: Alter + Drop, H: Shelf<S>>(
             let text = list_text(alloc, which)?;
             imported(alloc, world, shelf, Giving::new(text.as_str(), reads), out)
         }
-        What::Manifest(digit) => {
-            let ended = write_manifest(alloc, world, package(digit), out);
+        What::Manifest => {
+            let ended = write_manifest(alloc, world, archive(), out);
             String::from_str(alloc, manifest_end(ended))
         }
-        What::Export(digit) => {
-            let ending = export_in(alloc, world, package(digit), out);
+        What::Export => {
+            let ending = export_in(alloc, world, archive(), out);
             end_text(alloc, &End::Command(ending))
         }
-        What::Map(zoom) => end_text(alloc, &End::Map(map_in(alloc, world, zoom, out))),
+        What::Map => end_text(alloc, &End::Map(map_in(alloc, world, None, out))),
         What::Applies(body, reads) => {
             let ending = apply_in(alloc, world, shelf, Giving::new(body, reads), out);
             end_text(alloc, &End::Command(ending))
         }
-        What::Receipt(number) => {
-            let ending = receipt_in(alloc, world, asked(number), out);
+        What::Receipt => {
+            let ending = receipt_in(alloc, world, first_request(), out);
             end_text(alloc, &End::View(ending))
         }
         What::Serves(sent, reads) => {

@@ -1,6 +1,15 @@
 // Request lists and requests to a desk, written out by hand; the digests are Python's `hashlib`.
+use crate::streams::Wrote;
+use command_words::arguments::Words;
 use std::alloc::{AllocError, Global};
-use test_lists::{FIRST_TILE, NO_REQUEST, SEVENTEEN, list};
+use test_lists::{FIRST_TILE, MANIFEST_OF_THE_FIRST, list};
+
+// The words of a rehearsal.
+pub(crate) const GOOD: Words<'static> = Words {
+    archive: "a0000000-0000-4000-8000-000000000000",
+    at: "2024-05-01T08:00:00.000Z",
+    frame: "25832,0,0,4096,4096,256,256,0,3,1,1",
+};
 
 const SECOND_BESIDE: &str =
     "90000000-0000-4000-8000-000000000002,2024-05-01T08:00:00.000Z,add,a0000000-0000-4000-8000-000000000000,00000000-0000-4000-8000-000000000002,,tile,2,2,3,,,,,,,,42";
@@ -30,11 +39,7 @@ pub(crate) enum List {
     Greatest,
     // The first tile, asked for 4,097 times.
     Often,
-    // Good records, and behind them one of seventeen fields, or one that names no command.
-    Seventeen,
-    NoRequest,
     // No header.
-    Empty,
     Headless,
 }
 
@@ -62,15 +67,16 @@ pub(crate) fn list_text(alloc: Global, which: List) -> Result<String, AllocError
         List::Lends => list(alloc, &[TILE_TO_LEND, SPLIT, STALE, HOME]),
         List::Greatest => greatest(alloc),
         List::Often => often(alloc),
-        List::Seventeen => list(alloc, &[FIRST_TILE, SEVENTEEN]),
-        List::NoRequest => list(alloc, &[FIRST_TILE, SECOND_BESIDE, NO_REQUEST]),
-        List::Empty => Ok(String::new(alloc)),
         List::Headless => String::from_str(alloc, FIRST_TILE),
     }
 }
 
 pub(crate) const REPORT_OF_ONE: &str =
     "line,request,seq,refusal\n1,90000000-0000-4000-8000-000000000001,1,0\n";
+
+// What a rehearsal of one tile prints, and of many more requests for the same: the report begins with the first line of
+// the list, and the manifest of the tile ends what is written.
+pub(crate) const PRINTED: Wrote = Wrote::Ends(REPORT_OF_ONE, MANIFEST_OF_THE_FIRST);
 
 // A header of 25 bytes and two lines of 43.
 pub(crate) const REPORT_OF_TWO: &str =

@@ -1,17 +1,14 @@
-// What is done to a world and asked of it, as data. One function carries it out, so a further step costs next to
-// nothing to prove.
+// What is written of a world and what it then holds, as data. One function carries it out, so a further step costs next
+// to nothing to prove.
 use crate::outputs::{What, short, written};
 use crate::streams::Wrote;
 use package_tables::fault::Fault;
 use shelves::file_memory::MemoryFileShelf;
 use shelves::shelf::Shelf;
 use sqlite::Alter;
-use std::alloc::{AllocError, Global};
+use std::alloc::Global;
 use std::process::Abort;
-use test_values::{BEGUN, Checked, FRAME, answered, told as number_told};
-use test_worlds::{A, B, LoanStep, Wish, asked, package};
-use uuid::Uuid;
-use world::reading::PackageSight;
+use test_values::{BEGUN, Checked, FRAME, archive};
 use world::world::World;
 
 // A test passes where nothing was wrong.
@@ -22,101 +19,34 @@ pub(crate) fn passes(rt: &impl Abort, wrong: Result<String, Fault>) {
     }
 }
 
-// A question. A package goes by its first digit, a request by its number.
-#[derive(Clone, Copy)]
-pub(crate) enum Of {
-    // A request is replied to, by the number of the receipt, or that of the reason below zero.
-    Reply(u32, Wish),
-    // Each live package: its parent, its depth and its ticket.
-    Packages,
-    // So many tiles, media, rows, links and bytes.
-    Sums(u8),
-    IsKept(u32),
-}
-
-// A question and what is to be told; or what is to be written by a writer with so much room, how it is to end, and what
-// it then wrote; or how it ends where there is room for all but the last byte of what is else written.
+// What is to be written by a writer with so much room, how it is to end, and what it then wrote; how it ends where there
+// is room for all but the last byte of what is else written; or what the archive holds.
 #[derive(Clone, Copy)]
 pub(crate) enum Step {
-    Tells(Of, &'static str),
     Writes(What, usize, &'static str, Wrote),
     Shortly(What, &'static str),
+    // So many tiles, media, rows, links and bytes.
+    Holds(&'static str),
     // The next step is one in a new world.
     Anew,
 }
 
-pub(crate) fn letter(uuid: Uuid) -> &'static str {
-    if uuid == package(A) {
-        "A"
-    } else if uuid == package(B) {
-        "B"
-    } else {
-        "?"
-    }
-}
-
-fn sight_text(alloc: Global, sight: &PackageSight) -> Result<String, AllocError> {
-    let parent = match sight.parent {
-        Some(parent) => letter(parent),
-        None => "-",
+fn held<S: Alter + Drop>(alloc: Global, world: &World<S>) -> Result<String, Fault> {
+    let Some(sums) = world.sums(archive()) else {
+        return Err(Fault::StoreFault);
     };
-    let own = letter(sight.uuid);
-    format!(in alloc; "{own} of {parent}, {} {};", sight.depth, sight.ticket)
+    Ok(format!(in alloc;
+        "{} {} {} {} {}",
+        sums.tiles, sums.media, sums.rows, sums.links, sums.bytes
+    )?)
 }
 
-fn sights_text(alloc: Global, sights: &[PackageSight]) -> Result<String, AllocError> {
-    let mut text = String::new(alloc);
-    for sight in sights {
-        text.push_str(sight_text(alloc, sight)?.as_str())?;
-    }
-    Ok(text)
-}
-
-fn replied<S: Alter + Drop, H: Shelf<S>>(
-    alloc: Global,
-    world: &mut World<S>,
-    shelf: &mut H,
-    number: u32,
-    wish: Wish,
-) -> Result<String, Fault> {
-    let request = LoanStep::now(number, wish).request(alloc)?;
-    let reply = world.apply(alloc, &request, shelf);
-    Ok(format!(in alloc; "{}", number_told(&reply))?)
-}
-
-fn held<S: Alter + Drop>(alloc: Global, world: &World<S>, digit: u8) -> Result<String, AllocError> {
-    match world.sums(package(digit)) {
-        Some(sums) => format!(in alloc;
-            "{} {} {} {} {}",
-            sums.tiles, sums.media, sums.rows, sums.links, sums.bytes
-        ),
-        None => String::from_str(alloc, "-"),
-    }
-}
-
-fn told<S: Alter + Drop, H: Shelf<S>>(
-    alloc: Global,
-    world: &mut World<S>,
-    shelf: &mut H,
-    of: Of,
-) -> Result<String, Fault> {
-    match of {
-        Of::Reply(number, wish) => replied(alloc, world, shelf, number, wish),
-        Of::Packages => Ok(sights_text(alloc, &world.packages(alloc)?)?),
-        Of::Sums(digit) => Ok(held(alloc, world, digit)?),
-        Of::IsKept(number) => answered(alloc, world.receipt(alloc, asked(number))?.is_some()),
-    }
-}
-
-// A world of the archive A alone.
-pub(crate) fn world_of<S: Alter + Drop, H: Shelf<S>>(
-    alloc: Global,
-    shelf: &mut H,
-) -> Result<World<S>, Fault> {
-    let Ok(conn) = shelf.blank(package(A)) else {
+// A world of the archive alone.
+fn world_of<S: Alter + Drop, H: Shelf<S>>(alloc: Global, shelf: &mut H) -> Result<World<S>, Fault> {
+    let Ok(conn) = shelf.blank(archive()) else {
         return Err(Fault::OutOfMemory);
     };
-    match World::create(alloc, conn, package(A), BEGUN, &FRAME) {
+    match World::create(alloc, conn, archive(), BEGUN, &FRAME) {
         Ok(world) => Ok(world),
         Err(_) => Err(Fault::StoreFault),
     }
@@ -132,7 +62,7 @@ fn begin_anew<S: Alter + Drop, H: Shelf<S>>(
 }
 
 // Carries steps out, and notes what was told.
-pub(crate) fn check<S: Alter + Drop, H: Shelf<S>>(
+fn check<S: Alter + Drop, H: Shelf<S>>(
     alloc: Global,
     world: &mut World<S>,
     shelf: &mut H,
@@ -141,11 +71,11 @@ pub(crate) fn check<S: Alter + Drop, H: Shelf<S>>(
 ) {
     for step in steps {
         match *step {
-            Step::Tells(of, expected) => checked.told(told(alloc, world, shelf, of), expected),
             Step::Writes(what, room, ended, wrote) => {
                 checked.told(written(alloc, world, shelf, what, room, wrote), ended)
             }
             Step::Shortly(what, ended) => checked.told(short(alloc, world, shelf, what), ended),
+            Step::Holds(sums) => checked.told(held(alloc, world), sums),
             Step::Anew => checked.told(begin_anew(alloc, world, shelf), ""),
         }
     }

@@ -1,0 +1,201 @@
+#!/usr/bin/env python3
+"""Writes the folders of packages that sessions of folders.txt open: what stock SQLite made, and damaged.
+
+Usage: make_folders.py           writes the files that are not as they would be made, and takes away any other
+       make_folders.py --check   writes nothing; status 1 where a file is not what would be made, or plain Python has another fault
+
+An archive A takes in the first six requests of the worked example `loan that is opened again` (bench/worked_lists.txt), by which it lends
+B; bench/plain_folder.py carries them out over stock SQLite. A folder is a copy of the two files, of one, or of some under other names,
+and a file may be changed by SQL. Files stand below crates/sheetdesk/data/folders, small ones: pages of 512 bytes, and no log.
+Two files are the same where SQLite's dumps of them are, since its releases number themselves in a file. Of each folder whose files are
+all of the second version, what bench/plain_audit.py finds is held against the fault that is named here.
+"""
+
+import contextlib
+import io
+import os
+import shutil
+import sqlite3
+import sys
+import tempfile
+from collections import namedtuple
+
+HERE = os.path.dirname(os.path.abspath(__file__))
+FOLDERS = os.path.join(HERE, "..", "crates", "sheetdesk", "data", "folders")
+
+sys.path.insert(0, os.path.join(HERE, "..", "bench"))
+sys.dont_write_bytecode = True
+
+import plain_audit
+import plain_folder
+import worked_lists
+from machine.lists import read_requests
+
+EXAMPLE = "loan that is opened again"
+ARCHIVE, LOAN, OTHER = (f"{worked_lists.uuid_of(digit)}.gpkg" for digit in "abc")
+
+# What the first version has not: no store of it has a link of a row to a tile.
+FIRST_VERSION = ["DROP TABLE rows_tiles", "DELETE FROM gpkgext_relations WHERE id = 3", "UPDATE sheet_package SET version = 1"]
+
+BAD_CODE = "UPDATE sheet_rows SET code = -1"
+TORN = "DELETE FROM sheet_identity WHERE kind = 3"
+LOST = ["DELETE FROM sheet_rows", TORN]
+CHANGED = "UPDATE sheet_tiles SET tile_data = X'7a'"
+
+# A file of a folder: the package that it is a copy of, and what is done to it.
+Copy = namedtuple("Copy", "package statements")
+# Its bytes, where it is no package.
+NO_BYTES, NO_DATABASE, NOTES = b"", b"no database", b"B has the sheets of the quarter in the north-west.\n"
+
+
+def lent(*statements):
+    return Copy("lent/" + ARCHIVE, statements)
+
+
+def loan(*statements):
+    return Copy("lent/" + LOAN, statements)
+
+
+def alone(*statements):
+    return Copy("alone/" + ARCHIVE, statements)
+
+
+# Each folder: the fault that it is, or None, and its files. Of one that has a package of the first version plain Python says nothing.
+CASES = {
+    "lent": (None, {ARCHIVE: lent(), LOAN: loan(), OTHER: NO_BYTES, "notes.txt": NOTES}),
+    "no_archive": ("NoArchive", {LOAN: loan()}),
+    "two_archives": ("TwoArchives", {ARCHIVE: lent(), OTHER: lent()}),
+    "missing_package": ("MissingPackage", {ARCHIVE: lent()}),
+    "two_copies": ("TwoCopies", {ARCHIVE: lent(), LOAN: loan(), OTHER: loan()}),
+    "lost_table": ("NotAPackage", {ARCHIVE: lent("DROP TABLE rows_tiles"), LOAN: loan()}),
+    "bad_code": ("NotAPackage", {ARCHIVE: lent(BAD_CODE), LOAN: loan()}),
+    "bad_moment": ("NotAPackage", {ARCHIVE: lent(), LOAN: loan("UPDATE gpkg_contents SET last_change = ''")}),
+    "foreign_frame": ("ForeignFrame", {ARCHIVE: lent(), LOAN: loan("UPDATE sheet_package SET depth = 2")}),
+    "dangling": ("Dangling", {ARCHIVE: lent(TORN), LOAN: loan()}),
+    "out_of_account": ("OutOfAccount", {ARCHIVE: lent(*LOST), LOAN: loan()}),
+    "altered": ("Altered", {ARCHIVE: lent(CHANGED), LOAN: loan()}),
+    "no_database": ("StoreFault", {ARCHIVE: lent(), LOAN: NO_DATABASE}),
+    "first": (None, {ARCHIVE: lent(*FIRST_VERSION), LOAN: loan(*FIRST_VERSION), OTHER: NO_BYTES}),
+    "mixed": (None, {ARCHIVE: lent(*FIRST_VERSION), LOAN: loan()}),
+    "first_stray": (None, {ARCHIVE: alone(*FIRST_VERSION), LOAN: loan(*FIRST_VERSION)}),
+    "first_bad_code": ("NotAPackage", {ARCHIVE: lent(*FIRST_VERSION, BAD_CODE), LOAN: loan(*FIRST_VERSION)}),
+    "first_dangling": ("Dangling", {ARCHIVE: lent(*FIRST_VERSION, TORN), LOAN: loan(*FIRST_VERSION)}),
+    "first_altered": ("Altered", {ARCHIVE: lent(*FIRST_VERSION, CHANGED), LOAN: loan(*FIRST_VERSION)}),
+}
+
+
+def is_of_first_version(files):
+    return any(isinstance(file, Copy) and FIRST_VERSION[-1] in file.statements for file in files.values())
+
+
+def make_archive(folder):
+    """A new archive, as the example begins."""
+    os.mkdir(folder)
+    words = ["--archive", worked_lists.uuid_of("a"), "--at", worked_lists.MOMENTS["T"], "--frame", worked_lists.FRAME, folder]
+    with contextlib.redirect_stdout(io.TextIOWrapper(io.BytesIO())):
+        plain_folder.init(words)
+
+
+def make_lent(folder):
+    """The same after the split of the example."""
+    make_archive(folder)
+    check = [check for check in worked_lists.written_out() if check.name == EXAMPLE][0]
+    register = plain_folder.Folder(folder)
+    for number, request in enumerate(read_requests(worked_lists.list_of(check)), 1):
+        assert register.apply(request) == (number, 0), request
+    register.close()
+
+
+def change(path, statements):
+    """Carries statements out on a package, and makes its file small."""
+    store = sqlite3.connect(path, isolation_level=None)
+    for statement in ["PRAGMA journal_mode = DELETE", "PRAGMA page_size = 512", *statements, "VACUUM", "PRAGMA journal_mode = WAL"]:
+        store.execute(statement).fetchall()
+    store.close()
+
+
+def make(room):
+    """All folders below one."""
+    made = os.path.join(room, "made")
+    os.mkdir(made)
+    make_archive(os.path.join(made, "alone"))
+    make_lent(os.path.join(made, "lent"))
+    wanted = os.path.join(room, "folders")
+    for name, (_, files) in CASES.items():
+        os.makedirs(os.path.join(wanted, name))
+        for file, content in files.items():
+            path = os.path.join(wanted, name, file)
+            if isinstance(content, Copy):
+                shutil.copyfile(os.path.join(made, content.package), path)
+                change(path, content.statements)
+            else:
+                with open(path, "wb") as out:
+                    out.write(content)
+    return wanted
+
+
+def content_of(path):
+    """What a file holds, whichever release of SQLite wrote it; None where there is none."""
+    if not os.path.exists(path):
+        return None
+    with open(path, "rb") as found:
+        head = found.read()
+    if not head.startswith(b"SQLite format 3\0"):
+        return head
+    store = sqlite3.connect(f"file:{path}?mode=ro&immutable=1", uri=True)
+    dump = list(store.iterdump())
+    store.close()
+    # pages of so many bytes, and the journal
+    return head[16:20], dump
+
+
+def files_below(folder):
+    return {os.path.relpath(os.path.join(at, name), folder) for at, _, names in os.walk(folder) for name in names}
+
+
+def differences(wanted):
+    paths = sorted(files_below(wanted) | files_below(FOLDERS))
+    return [path for path in paths if content_of(os.path.join(wanted, path)) != content_of(os.path.join(FOLDERS, path))]
+
+
+def audited(folder):
+    """The fault that plain Python finds in a folder, or None."""
+    try:
+        plain_folder.Folder(folder).close()
+    except plain_audit.Fault as fault:
+        return str(fault)
+    return None
+
+
+def wrong_faults(wanted):
+    """Works on a copy, since a store that is opened may be written."""
+    copies = shutil.copytree(wanted, wanted + ".audited")
+    found = {name: audited(os.path.join(copies, name)) for name, (_, files) in CASES.items() if not is_of_first_version(files)}
+    return [f"{name}: {fault} by plain Python, and not {CASES[name][0]}" for name, fault in found.items() if fault != CASES[name][0]]
+
+
+def write(wanted):
+    for path in differences(wanted):
+        target = os.path.join(FOLDERS, path)
+        if os.path.exists(os.path.join(wanted, path)):
+            os.makedirs(os.path.dirname(target), exist_ok=True)
+            shutil.copyfile(os.path.join(wanted, path), target)
+        else:
+            os.remove(target)
+
+
+def main():
+    if sys.argv[1:] not in ([], ["--check"]):
+        sys.exit(__doc__)
+    with tempfile.TemporaryDirectory() as room:
+        wanted = make(room)
+        other = wrong_faults(wanted)
+        if sys.argv[1:]:
+            other += [f"not as made: {path}" for path in differences(wanted)]
+        else:
+            write(wanted)
+    sys.exit("\n".join(other) if other else 0)
+
+
+if __name__ == "__main__":
+    main()
