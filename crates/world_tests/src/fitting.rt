@@ -1,16 +1,45 @@
 // What a request may come to, where something fails in it: each question is answered for itself.
+use crate::fuses::{Fusing, SYNCED};
 use crate::pictures::{Picture, StorePicture};
 use crate::scenes::Scene;
-use crate::stops::{Comes, Found, Whole, whole};
+use crate::stops::{Comes, Found, OverFiles, left, over_files};
 use package_tables::fault::Fault;
 use std::alloc::Global;
 use test_values::Checked;
+use test_worlds::asked;
 
 /// The number of the reply that a store failed, below zero as those of faults are here.
 pub const STORE_FAULT: i64 = -25;
 
 /// The number of the reply that memory was wanting.
 pub const OUT_OF_MEMORY: i64 = -24;
+
+/// What came of a request where nothing fails, and what the stores of the world read as when they are opened again.
+#[derive(Drop)]
+pub struct Whole {
+    pub found: Found,
+    pub stores: Vec<StorePicture>,
+}
+
+// Whether memory was refused: a file in memory that cannot grow is one that fails.
+fn is_lost(found: &Found) -> bool {
+    found.reply.number == OUT_OF_MEMORY
+        || found.has_failed
+        || found.was_unshelved
+        || found.live.is_none()
+}
+
+fn whole(alloc: Global, scene: &Scene, comes: Comes) -> Result<Whole, Fault> {
+    let ended = over_files(alloc, &Fusing::Nothing, scene, comes)?;
+    let Some(OverFiles { found, files }) = ended else {
+        return Err(Fault::OutOfMemory);
+    };
+    if is_lost(&found) {
+        return Err(Fault::OutOfMemory);
+    }
+    let stores = left(alloc, &files, SYNCED, asked(scene.step().number))?;
+    Ok(Whole { found, stores })
+}
 
 /// The worlds before and after the request, where nothing fails.
 #[derive(Drop)]
@@ -21,18 +50,10 @@ pub struct Both {
 
 /// It ends with `OutOfMemory` where memory is refused.
 pub fn both_worlds(alloc: Global, scene: &Scene) -> Result<Both, Fault> {
-    let before = whole(alloc, scene, Comes::Never)?;
-    let after = whole(alloc, scene, Comes::Once)?;
-    let (Some(before), Some(after)) = (before, after) else {
-        return Err(Fault::OutOfMemory);
-    };
-    if after.found.reply.number == OUT_OF_MEMORY
-        || before.found.live.is_none()
-        || after.found.live.is_none()
-    {
-        return Err(Fault::OutOfMemory);
-    }
-    Ok(Both { before, after })
+    Ok(Both {
+        before: whole(alloc, scene, Comes::Never)?,
+        after: whole(alloc, scene, Comes::Once)?,
+    })
 }
 
 fn is_same(picture: &Picture, other: &Picture) -> bool {

@@ -80,6 +80,18 @@ impl<'a, S: Alter> Change<S> for Put<'a> {
     }
 }
 
+fn lifted<S: Alter>(
+    alloc: Global,
+    conn: &mut Connection<S>,
+    selection: &Selection,
+) -> Result<Parcel, Fault> {
+    at_rest(conn)?;
+    match lift(conn, alloc, selection) {
+        Ok(parcel) => Ok(parcel),
+        Err(_) => Err(Fault::StoreFault),
+    }
+}
+
 // A parcel of it all is put into the target.
 fn put_over<S: Alter>(
     alloc: Global,
@@ -87,11 +99,8 @@ fn put_over<S: Alter>(
     target: &mut Connection<S>,
 ) -> Result<bool, Fault> {
     let selection = all_of_it(alloc)?;
-    at_rest(source)?;
-    match lift(source, alloc, &selection) {
-        Ok(parcel) => committed(target, &Put(&parcel)),
-        Err(_) => Ok(false),
-    }
+    let parcel = lifted(alloc, source, &selection)?;
+    committed(target, &Put(&parcel))
 }
 
 // The first page of it all, which has six things, comes into the target.
@@ -139,17 +148,16 @@ fn wrong_of_stores<S: Alter + Drop>(
 }
 
 fn wrong<S: Alter + Drop, H: Shelf<S>>(alloc: Global, shelf: &mut H) -> Result<String, Fault> {
-    let stores = (
-        shelf.blank(package(A)),
-        shelf.blank(package(B)),
-        shelf.blank(package(C)),
-    );
-    match stores {
-        (Ok(mut source), Ok(mut one), Ok(mut other)) => {
-            wrong_of_stores(alloc, &mut source, &mut one, &mut other)
-        }
-        _ => Err(Fault::StoreFault),
-    }
+    let Ok(mut source) = shelf.blank(package(A)) else {
+        return Err(Fault::StoreFault);
+    };
+    let Ok(mut one) = shelf.blank(package(B)) else {
+        return Err(Fault::StoreFault);
+    };
+    let Ok(mut other) = shelf.blank(package(C)) else {
+        return Err(Fault::StoreFault);
+    };
+    wrong_of_stores(alloc, &mut source, &mut one, &mut other)
 }
 
 #[test]

@@ -1,5 +1,5 @@
 // One request in a world whose stores are files of which one may stop, with what a crash leaves then.
-use crate::fuses::{FusedShelf, Fusing, Left, Remains, SYNCED, Store};
+use crate::fuses::{FusedShelf, Fusing, Left, Remains, Store};
 use crate::pictures::{Picture, StorePicture, reply_in_full, world_picture};
 use crate::scenes::{Before, ITEMS, LOANS, Scene};
 use package_tables::fault::Fault;
@@ -203,21 +203,4 @@ pub fn left(
         stores.push(remains.picture(alloc, way, id)?)?;
     }
     Ok(stores)
-}
-
-/// What came of a request where nothing stops, and what the stores of the world read as when they are opened again.
-#[derive(Drop)]
-pub struct Whole {
-    pub found: Found,
-    pub stores: Vec<StorePicture>,
-}
-
-/// `None` where memory was refused before the request.
-pub fn whole(alloc: Global, scene: &Scene, comes: Comes) -> Result<Option<Whole>, Fault> {
-    let Some(ended) = over_files(alloc, &Fusing::Nothing, scene, comes)? else {
-        return Ok(None);
-    };
-    let stores = left(alloc, &ended.files, SYNCED, asked(scene.step().number))?;
-    let OverFiles { found, .. } = ended;
-    Ok(Some(Whole { found, stores }))
 }
