@@ -122,7 +122,7 @@ def tile_sizes():
 
 
 def many_packages():
-    """256 rows, 255 loans of one each: with the archive these are the 256 packages that may live; one more is refused."""
+    """256 rows, 255 loans of one each: with the archive these are the 256 packages that may live; one more is refused, where nothing else refuses it."""
     def child(k):
         return f"c0000000-0000-4000-8000-{k:012}"
 
@@ -134,7 +134,12 @@ def many_packages():
     for k in range(256):
         reply = "refusal 23" if k == 255 else f"seq {257 + k}, A to {child(k)}, rows 1"
         lines.append(f"q{257 + k},T,split,A,,{child(k)},strict,0,{k},0,{k},0,,,,,, -> {reply}")
-    lines += ["package A", holding(255)]
+    # of several reasons this one comes last; and an item still comes in
+    lines.append(f"q513,T,split,A,,{child(255)},strict,0,256,0,256,0,,,,,, -> refusal 15")
+    lines.append("q514,T,add,A,i256,,row,,,,,,0,65536,0,,, -> refusal 6")
+    lines.append(f"q515,T,add,A,i257,,row,,,,,,{256 * 255},65535,0,,, -> seq 512")
+    text = f"row {256 * 255} 65535 0\n".encode().hex()
+    lines += ["package A", holding(255), f"row,i257,,,,,{256 * 255},65535,0,0,<hex {text}>,"]
     for k in range(255):
         lines += [f"package {child(k)}", holding(k)]
     yield "two hundred and fifty-six packages", WIDE_FRAME, lines

@@ -7,7 +7,7 @@
 An edit counts for the public function in whose body it stands, and for each public function of the same file that calls the function in which it
 stands, directly or through others of the file. A test counts where it, or a helper, names the function before a bracket; a helper is a function, an
 impl or a constant of the test's file, of a module of its crate that the file uses, or of the crates of test values. The sessions of crates/sheetdesk count as a test of what
-the command line calls, directly or through others of a few crates above the world.
+the command line calls, directly or through others of the crates down to the stores of packages.
 A law needs neither: a function with an empty body, or one with no result, no `&mut` and no handle, whose call can only give the fact of its clause.
 """
 import os
@@ -17,7 +17,10 @@ import sys
 ROOT = os.path.dirname(os.path.dirname(os.path.abspath(__file__)))
 TEST_VALUES = ["test_values", "test_worlds"]
 # The crates that a line of a session goes through (crates/sheetdesk), from the words of the program on.
-OF_SESSIONS = ["command_line", "command_words", "commands", "folder_worlds", "manifest_csv", "views", "world_views", "cli"]
+OF_SESSIONS = [
+    "command_line", "command_words", "commands", "folder_worlds", "manifest_csv", "views", "world_views", "cli",
+    "world", "deciding", "due_loans", "carrying", "asking", "lending",
+]
 CONST = re.compile(r"^(?:pub(?:\(crate\))? )?const (?P<name>\w+): .*?;$", re.M | re.S)
 HEAD = re.compile(r"^(?P<indent>\s*)(?P<pub>pub(?:\((?:crate|super)\))? )?fn (?P<name>\w+)", re.M)
 

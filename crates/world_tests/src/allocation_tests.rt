@@ -1,9 +1,10 @@
-// One request of each kind in a world in memory, a split and a merge among them. Run by
-// `bench/failing_allocations.sh`, which refuses each allocation in turn: the world is that before the request or the
-// one after it, and the reply fits.
-use crate::fitting::{both_worlds, check_both, fits, left_fits, which_stands};
+// One request of each kind in a world, a split and a merge among them. Run by `bench/failing_allocations.sh`, which
+// refuses each allocation in turn: a crash leaves the world before the request or the one after it, and the reply fits.
+use crate::crashes::{Counts, check_crashes};
+use crate::fitting::{both_worlds, check_both, fits};
+use crate::fuses::Fusing;
 use crate::scenes::{ADDS, COMES_AGAIN, DELETES, IS_REFUSED, LENDS, LINKS, Scene, TAKES_HOME};
-use crate::stops::{Comes, in_memory};
+use crate::stops::{Comes, over_files};
 use package_tables::fault::Fault;
 use std::alloc::Global;
 use std::test::Fail;
@@ -14,19 +15,12 @@ fn wrong(alloc: Global, scene: &Scene) -> Result<String, Fault> {
     let mut checked = Checked::new(alloc);
     let both = both_worlds(alloc, scene)?;
     check_both(alloc, &both, scene, &mut checked)?;
-    let Some(ended) = in_memory(alloc, scene, Comes::Again)? else {
+    let Some(ended) = over_files(alloc, &Fusing::Nothing, scene, Comes::Again)? else {
         return Err(Fault::OutOfMemory);
     };
+    let mut counts = Counts::new();
     checked.is(fits(&ended.found, &both), "fits");
-    let stands = which_stands(&ended.stores, &both);
-    checked.is(
-        if left_fits(&ended.found, stands) {
-            "fits"
-        } else {
-            "left between"
-        },
-        "fits",
-    );
+    check_crashes(alloc, &ended, scene, &both, &mut counts, &mut checked)?;
     Ok(String::from_str(alloc, checked.wrong())?)
 }
 

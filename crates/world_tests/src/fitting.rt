@@ -1,10 +1,12 @@
 // What a request may come to, where something fails in it: each question is answered for itself.
+use crate::fuses::{Fusing, SYNCED};
 use crate::pictures::{Picture, StorePicture};
 use crate::scenes::Scene;
-use crate::stops::{Comes, Found, InMemory, in_memory};
+use crate::stops::{Comes, Found, OverFiles, left, over_files};
 use package_tables::fault::Fault;
 use std::alloc::Global;
 use test_values::Checked;
+use test_worlds::asked;
 
 /// The number of the reply that a store failed, below zero as those of faults are here.
 pub const STORE_FAULT: i64 = -25;
@@ -12,34 +14,53 @@ pub const STORE_FAULT: i64 = -25;
 /// The number of the reply that memory was wanting.
 pub const OUT_OF_MEMORY: i64 = -24;
 
+/// What came of a request where nothing fails, and what the stores of the world read as when they are opened again.
+#[derive(Drop)]
+pub struct Whole {
+    pub found: Found,
+    pub stores: Vec<StorePicture>,
+}
+
+// Whether memory was refused: a file in memory that cannot grow is one that fails.
+fn is_lost(found: &Found) -> bool {
+    found.reply.number == OUT_OF_MEMORY
+        || found.has_failed
+        || found.was_unshelved
+        || found.live.is_none()
+}
+
+fn whole(alloc: Global, scene: &Scene, comes: Comes) -> Result<Whole, Fault> {
+    let ended = over_files(alloc, &Fusing::Nothing, scene, comes)?;
+    let Some(OverFiles { found, files }) = ended else {
+        return Err(Fault::OutOfMemory);
+    };
+    if is_lost(&found) {
+        return Err(Fault::OutOfMemory);
+    }
+    let stores = left(alloc, &files, SYNCED, asked(scene.step().number))?;
+    Ok(Whole { found, stores })
+}
+
 /// The worlds before and after the request, where nothing fails.
 #[derive(Drop)]
 pub struct Both {
-    pub before: InMemory,
-    pub after: InMemory,
+    pub before: Whole,
+    pub after: Whole,
 }
 
-/// In memory. It ends with `OutOfMemory` where memory is refused.
+/// It ends with `OutOfMemory` where memory is refused.
 pub fn both_worlds(alloc: Global, scene: &Scene) -> Result<Both, Fault> {
-    let before = in_memory(alloc, scene, Comes::Never)?;
-    let after = in_memory(alloc, scene, Comes::Once)?;
-    let (Some(before), Some(after)) = (before, after) else {
-        return Err(Fault::OutOfMemory);
-    };
-    if after.found.reply.number == OUT_OF_MEMORY
-        || before.found.live.is_none()
-        || after.found.live.is_none()
-    {
-        return Err(Fault::OutOfMemory);
-    }
-    Ok(Both { before, after })
+    Ok(Both {
+        before: whole(alloc, scene, Comes::Never)?,
+        after: whole(alloc, scene, Comes::Once)?,
+    })
 }
 
 fn is_same(picture: &Picture, other: &Picture) -> bool {
     picture.held.as_str() == other.held.as_str() && picture.text.as_str() == other.text.as_str()
 }
 
-fn is_live(found: &Picture, world: &InMemory) -> bool {
+fn is_live(found: &Picture, world: &Whole) -> bool {
     match &world.found.live {
         Some(live) => is_same(found, live),
         None => false,
@@ -49,7 +70,7 @@ fn is_live(found: &Picture, world: &InMemory) -> bool {
 // Where all stands, as the world says that is told, and as its stores say.
 fn check_world(
     alloc: Global,
-    world: &InMemory,
+    world: &Whole,
     stands: &str,
     checked: &mut Checked,
 ) -> Result<(), Fault> {
@@ -135,12 +156,20 @@ pub fn which_stands(left: &[StorePicture], both: &Both) -> Stands {
     }
 }
 
+// Whether the request got its receipt, at once or as it came again.
+fn is_carried_out(found: &Found) -> bool {
+    match &found.again {
+        Some(again) => found.reply.number > 0 || again.number > 0,
+        None => found.reply.number > 0,
+    }
+}
+
 /// The stores that a crash leaves are those of after where the request got its receipt, of before where it got none
 /// and the world goes on, and else those of before or after.
 pub fn left_fits(found: &Found, stands: Stands) -> bool {
     match stands {
-        Stands::Before => found.reply.number <= 0,
-        Stands::After => found.reply.number > 0 || found.has_failed,
+        Stands::Before => !is_carried_out(found),
+        Stands::After => is_carried_out(found) || found.has_failed,
         Stands::Both => true,
         Stands::Between => false,
     }
@@ -157,12 +186,13 @@ fn reply_fits(found: &Found, both: &Both) -> bool {
     }
 }
 
-// A request that comes again after its receipt gets it again; a world that failed answers by a fault.
-fn again_fits(found: &Found) -> bool {
+// A request that comes again gets its receipt, for the first time where the shelf had no store before; a world that
+// failed answers by a fault.
+fn again_fits(found: &Found, both: &Both) -> bool {
     match &found.again {
         Some(again) if found.has_failed => again.number == STORE_FAULT,
         Some(again) => {
-            again.text.as_str() == found.reply.text.as_str()
+            again.text.as_str() == both.after.found.reply.text.as_str()
                 || again.number == STORE_FAULT
                 || again.number == OUT_OF_MEMORY
         }
@@ -188,7 +218,7 @@ fn live_fits(found: &Found, both: &Both) -> bool {
 pub fn fits(found: &Found, both: &Both) -> &'static str {
     if !reply_fits(found, both) {
         "the reply is another"
-    } else if !again_fits(found) {
+    } else if !again_fits(found, both) {
         "the reply that came again is another"
     } else if !live_fits(found, both) {
         "the world is between"

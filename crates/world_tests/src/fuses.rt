@@ -1,6 +1,7 @@
 // Files in memory that stop after so many calls, what is left of them, and a shelf of stores over them.
 ghost use Rattle.std.specs.Prelude.{◌≡◌, [], IsTrue, IfOk};
 
+use crate::pictures::{StorePicture, store_picture};
 use memory_files::open_blank;
 use package_tables::fault::Fault;
 use shelves::shelf::{Shelf, ShelfFault};
@@ -10,40 +11,32 @@ use std::alloc::Global;
 use test_worlds::package;
 use uuid::Uuid;
 
-/// A file in memory that stops after so many calls, and comes back after a crash.
-pub trait Revive: Crash {
-    /// Empty.
-    fn fresh(alloc: Global, calls: u64) -> Self
-        ensures usable { IsTrue (Self.Disk.is_usable result) }
-        ensures empty { Self.Disk.seen result ≡ [] };
+/// A file in memory that stops after so many calls.
+pub type File = Fuse<Memory>;
 
-    /// With these bytes, all of them synced; it does not stop.
-    fn holding(alloc: Global, bytes: &[u8]) -> Result<Self, Fault>
-        ensures { IfOk result (λ file. IsTrue (Self.Disk.is_usable file)) };
+/// A store over two such files.
+pub type Store = FileStore<File>;
 
-    /// All that was written.
-    fn written(&self) -> &[u8];
+/// Empty.
+fn fresh(alloc: Global, calls: u64) -> File
+    ensures usable { IsTrue (⟦<Fuse<Memory> as Disk>⟧.is_usable result) }
+    ensures empty { ⟦<Fuse<Memory> as Disk>⟧.seen result ≡ [] }
+{
+    Fuse::new(Memory::new(alloc), calls)
 }
 
-impl Revive for Fuse<Memory> {
-    fn fresh(alloc: Global, calls: u64) -> Fuse<Memory> {
-        Fuse::new(Memory::new(alloc), calls)
+/// With these bytes, all of them synced; it does not stop.
+fn holding(alloc: Global, bytes: &[u8]) -> Result<File, Fault>
+    ensures { IfOk result (λ file. IsTrue (⟦<Fuse<Memory> as Disk>⟧.is_usable file)) }
+{
+    let mut file = Memory::new(alloc);
+    if file.write_at(0, bytes).is_err() {
+        return Err(Fault::OutOfMemory);
     }
-
-    fn holding(alloc: Global, bytes: &[u8]) -> Result<Fuse<Memory>, Fault> {
-        let mut file = Memory::new(alloc);
-        if file.write_at(0, bytes).is_err() {
-            return Err(Fault::OutOfMemory);
-        }
-        if file.sync().is_err() {
-            return Err(Fault::OutOfMemory);
-        }
-        Ok(Fuse::new(file, u64::MAX))
+    if file.sync().is_err() {
+        return Err(Fault::OutOfMemory);
     }
-
-    fn written(&self) -> &[u8] {
-        self.inner().bytes()
-    }
+    Ok(Fuse::new(file, u64::MAX))
 }
 
 /// What is left of a file: what was synced, as after a stop of the machine, or all that was written, as after the end
@@ -92,10 +85,10 @@ struct FileRemains {
 }
 
 impl FileRemains {
-    fn of<D: Revive + Drop>(alloc: Global, mut file: D) -> Result<FileRemains, Fault> {
-        let written = Vec::from_slice(alloc, file.written())?;
+    fn of(alloc: Global, mut file: File) -> Result<FileRemains, Fault> {
+        let written = Vec::from_slice(alloc, file.inner().bytes())?;
         file.crash();
-        let synced = Vec::from_slice(alloc, file.written())?;
+        let synced = Vec::from_slice(alloc, file.inner().bytes())?;
         Ok(FileRemains { synced, written })
     }
 
@@ -120,29 +113,22 @@ pub struct Remains {
 
 impl Remains {
     /// The store is gone.
-    pub fn of<D: Revive + Drop>(
-        alloc: Global,
-        conn: Connection<FileStore<D>>,
-    ) -> Result<Remains, Fault> {
-        let Files { log, db } = conn.into_store().close();
+    pub fn of(alloc: Global, files: Files<File>) -> Result<Remains, Fault> {
+        let Files { log, db } = files;
         Ok(Remains {
             log: FileRemains::of(alloc, log)?,
             db: FileRemains::of(alloc, db)?,
         })
     }
 
-    /// The files come back, and are opened again.
-    pub fn reopened<D: Revive + Drop>(
-        &self,
-        alloc: Global,
-        left: Left,
-    ) -> Result<Connection<FileStore<D>>, Fault> {
+    /// What the store reads as when the files come back and are opened again.
+    pub fn picture(&self, alloc: Global, left: Left, id: Uuid) -> Result<StorePicture, Fault> {
         let files = Files {
-            log: D::holding(alloc, self.log.left(left.log))?,
-            db: D::holding(alloc, self.db.left(left.db))?,
+            log: holding(alloc, self.log.left(left.log))?,
+            db: holding(alloc, self.db.left(left.db))?,
         };
         match Connection::open_files(alloc, files, Options::new(7)) {
-            Ok(conn) => Ok(conn),
+            Ok(mut conn) => store_picture(alloc, &mut conn, id),
             Err((error, _)) => Err(Fault::from(error)),
         }
     }
@@ -182,25 +168,6 @@ fn options() -> Options {
     }
 }
 
-/// The store of which package has a file that stops, which file, and after how many calls.
-#[derive(Clone, Copy)]
-pub struct Fusing {
-    pub package: Uuid,
-    pub stops: Stops,
-    pub calls: u64,
-}
-
-impl Fusing {
-    /// The package goes by its first digit.
-    pub fn of(digit: u8, stops: Stops, calls: u64) -> Fusing {
-        Fusing {
-            package: package(digit),
-            stops,
-            calls,
-        }
-    }
-}
-
 // A store that does not stop keeps more pages, and is faster.
 fn roomy() -> Options {
     Options {
@@ -211,7 +178,49 @@ fn roomy() -> Options {
     }
 }
 
-/// Gives each package two empty files, of which one may stop.
+/// What fails: nothing; a file of the store of this package after so many calls; or the shelf, which has no store for it
+/// the first time.
+#[derive(Clone, Copy)]
+pub enum Fusing {
+    Nothing,
+    File(Uuid, Stops, u64),
+    Shelf(Uuid, ShelfFault),
+}
+
+impl Fusing {
+    /// The package goes by its first digit.
+    pub fn file(digit: u8, stops: Stops, calls: u64) -> Fusing {
+        Fusing::File(package(digit), stops, calls)
+    }
+
+    /// The same.
+    pub fn shelf(digit: u8, why: ShelfFault) -> Fusing {
+        Fusing::Shelf(package(digit), why)
+    }
+
+    // After how many calls the log and the database file of a package stop, and which pages its store keeps.
+    fn calls(&self, of: Uuid) -> (u64, u64, Options) {
+        match *self {
+            Fusing::File(package, Stops::Log, calls) if package == of => {
+                (calls, u64::MAX, options())
+            }
+            Fusing::File(package, Stops::Db, calls) if package == of => {
+                (u64::MAX, calls, options())
+            }
+            _ => (u64::MAX, u64::MAX, roomy()),
+        }
+    }
+
+    // Why there is no store for a package.
+    fn lacks(&self, of: Uuid) -> Option<ShelfFault> {
+        match *self {
+            Fusing::Shelf(package, why) if package == of => Some(why),
+            _ => None,
+        }
+    }
+}
+
+/// Gives each package two empty files.
 #[derive(Drop)]
 pub struct FusedShelf {
     alloc: Global,
@@ -228,24 +237,28 @@ impl FusedShelf {
             failures: 0,
         }
     }
+
+    fn fault(&self, package: Uuid) -> Option<ShelfFault> {
+        if self.failures == 0 {
+            self.fusing.lacks(package)
+        } else {
+            None
+        }
+    }
 }
 
-impl<D: Revive + Drop> Shelf<FileStore<D>> for FusedShelf {
+impl Shelf<Store> for FusedShelf {
     ghost failures_of = { λ shelf. shelf.failures };
 
-    fn blank(&mut self, package: Uuid) -> Result<Connection<FileStore<D>>, ShelfFault> {
-        let (calls, options) = if package == self.fusing.package {
-            (self.fusing.calls, options())
-        } else {
-            (u64::MAX, roomy())
-        };
-        let (log_calls, db_calls) = match self.fusing.stops {
-            Stops::Log => (calls, u64::MAX),
-            Stops::Db => (u64::MAX, calls),
-        };
+    fn blank(&mut self, package: Uuid) -> Result<Connection<Store>, ShelfFault> {
+        if let Some(why) = self.fault(package) {
+            self.failures = self.failures.saturating_add(1);
+            return Err(why);
+        }
+        let (log_calls, db_calls, options) = self.fusing.calls(package);
         let files = Files {
-            log: D::fresh(self.alloc, log_calls),
-            db: D::fresh(self.alloc, db_calls),
+            log: fresh(self.alloc, log_calls),
+            db: fresh(self.alloc, db_calls),
         };
         match open_blank(self.alloc, files, options) {
             Ok(conn) => Ok(conn),

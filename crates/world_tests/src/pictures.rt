@@ -1,6 +1,5 @@
 // What a store or a world reads as, as texts that can be compared.
-use crate::told::{end, number, sums_text};
-use crate::worlds::sights_text;
+use crate::told::{end, number, sights_text, sums_text};
 use custody::keeping::kept;
 use identity_register::whole::holdings;
 use package_tables::fault::Fault;
@@ -144,7 +143,8 @@ pub struct Picture {
     pub text: String,
 }
 
-fn held_by<S: Alter>(alloc: Global, conn: &mut Connection<S>) -> Result<Picture, Fault> {
+/// Of one store: the items, with the digests of their contents, and the links.
+pub fn held_by<S: Alter>(alloc: Global, conn: &mut Connection<S>) -> Result<Picture, Fault> {
     at_rest(conn)?;
     let (items, links) = holdings(conn, alloc)?;
     Ok(Picture {

@@ -1,31 +1,19 @@
 // One request of each kind, once for each call of a file that stops in it. A crash leaves the world before the
 // request or the one after it, and the reply fits.
-use crate::fitting::{
-    Both, STORE_FAULT, Stands, both_worlds, check_both, fits, left_fits, went_through, which_stands,
-};
-use crate::fuses::{Fusing, Left, Revive, Stops, WAYS, leaves_other};
+use crate::crashes::{Counts, add_one, check_crashes};
+use crate::fitting::{Both, both_worlds, check_both, fits, went_through};
+use crate::fuses::{Fusing, Stops};
 use crate::scenes::{
     ADDS, COMES_AGAIN, DELETES, IS_HOME_AGAIN, IS_NOT_LENT, IS_REFUSED, LENDS, LENDS_ALONG_LINKS,
     LENDS_ON, Scene, TAKES_HOME, UNLINKS,
 };
-use crate::stops::{Comes, OverFiles, left, over_files};
+use crate::stops::{Comes, Found, over_files};
 use package_tables::fault::Fault;
-use sqlite_disk::{Fuse, Memory};
+use shelves::shelf::ShelfFault;
 use std::alloc::Global;
 use std::test::Fail;
 use test_values::{Checked, answered};
-use test_worlds::{A, B, C, asked};
-
-// How many runs a file stopped, in the request or as the world was read after it; how many a request answered by a
-// fault of its own; how many crashes of these left which world; and for how many runs the shelf had no store.
-#[derive(Clone, Copy)]
-struct Counts {
-    stopped: u64,
-    faults: u64,
-    before: u64,
-    after: u64,
-    unshelved: u64,
-}
+use test_worlds::{A, B, C};
 
 // What the counts of a file that stops are to show.
 #[derive(Clone, Copy)]
@@ -56,78 +44,15 @@ fn are_shown(counts: Counts, shows: Shows) -> bool {
     }
 }
 
-fn add_one(count: &mut u64) {
-    *count = count.saturating_add(1);
-}
-
-// A crash in this way.
-fn count_crash<D: Revive + Drop>(
-    alloc: Global,
-    ended: &OverFiles,
-    way: Left,
-    scene: &Scene,
-    both: &Both,
-    counts: &mut Counts,
-    checked: &mut Checked,
-) -> Result<(), Fault> {
-    let found = &ended.found;
-    let is_fault = found.reply.number == STORE_FAULT && !found.was_unshelved;
-    let left = left::<D>(alloc, &ended.files, way, asked(scene.step().number))?;
-    let stands = which_stands(&left, both);
-    checked.is(
-        if left_fits(found, stands) {
-            "fits"
-        } else {
-            "left between"
-        },
-        "fits",
-    );
-    match stands {
-        Stands::Before if is_fault => add_one(&mut counts.before),
-        Stands::After if is_fault => add_one(&mut counts.after),
-        _ => (),
-    }
-    Ok(())
-}
-
-// A crash in each way. One that leaves the same bytes as another would be the same, and is left out.
-fn count_crashes<D: Revive + Drop>(
-    alloc: Global,
-    ended: &OverFiles,
-    scene: &Scene,
-    both: &Both,
-    counts: &mut Counts,
-    checked: &mut Checked,
-) -> Result<(), Fault> {
-    let found = &ended.found;
-    for way in WAYS {
-        if leaves_other(&ended.files, way) {
-            count_crash::<D>(alloc, ended, way, scene, both, counts, checked)?;
-        }
-    }
-    if found.reply.number == STORE_FAULT && !found.was_unshelved {
-        add_one(&mut counts.faults);
-    }
-    if found.was_unshelved {
-        add_one(&mut counts.unshelved);
-    }
-    Ok(())
-}
-
 // With so few calls, and no fewer, the file stops after the requests before.
-fn calls_before<D: Revive + Drop>(
-    alloc: Global,
-    of: u8,
-    stops: Stops,
-    scene: &Scene,
-) -> Result<u64, Fault> {
+fn calls_before(alloc: Global, of: u8, stops: Stops, scene: &Scene) -> Result<u64, Fault> {
     let mut low = 0u64;
     let mut high = 65_536u64;
     for _ in 0..17 {
         let calls = low.saturating_add(high) / 2;
         if low < high {
-            let fusing = Fusing::of(of, stops, calls);
-            if over_files::<D>(alloc, &fusing, scene, Comes::Never)?.is_some() {
+            let fusing = Fusing::file(of, stops, calls);
+            if over_files(alloc, &fusing, scene, Comes::Never)?.is_some() {
                 high = calls;
             } else {
                 low = calls.saturating_add(1);
@@ -138,7 +63,7 @@ fn calls_before<D: Revive + Drop>(
 }
 
 // With one call more each time, up to the run that goes through.
-fn count_stops<D: Revive + Drop>(
+fn count_stops(
     alloc: Global,
     of: u8,
     stops: Stops,
@@ -146,21 +71,15 @@ fn count_stops<D: Revive + Drop>(
     both: &Both,
     checked: &mut Checked,
 ) -> Result<Counts, Fault> {
-    let mut counts = Counts {
-        stopped: 0,
-        faults: 0,
-        before: 0,
-        after: 0,
-        unshelved: 0,
-    };
-    let first = calls_before::<D>(alloc, of, stops, scene)?;
+    let mut counts = Counts::new();
+    let first = calls_before(alloc, of, stops, scene)?;
     for calls in first..first.saturating_add(5_000) {
-        let fusing = Fusing::of(of, stops, calls);
-        let Some(ended) = over_files::<D>(alloc, &fusing, scene, Comes::Again)? else {
+        let fusing = Fusing::file(of, stops, calls);
+        let Some(ended) = over_files(alloc, &fusing, scene, Comes::Again)? else {
             return Err(Fault::StoreFault);
         };
         checked.is(fits(&ended.found, both), "fits");
-        count_crashes::<D>(alloc, &ended, scene, both, &mut counts, checked)?;
+        check_crashes(alloc, &ended, scene, both, &mut counts, checked)?;
         if went_through(&ended.found, both) {
             return Ok(counts);
         }
@@ -173,23 +92,15 @@ fn count_stops<D: Revive + Drop>(
 #[derive(Clone, Copy)]
 struct Stopped(u8, Stops, Shows);
 
-fn wrong_with<D: Revive + Drop>(
-    alloc: Global,
-    scene: &Scene,
-    stopped: &[Stopped],
-) -> Result<String, Fault> {
+fn wrong(alloc: Global, scene: &Scene, stopped: &[Stopped]) -> Result<String, Fault> {
     let mut checked = Checked::new(alloc);
     let both = both_worlds(alloc, scene)?;
     check_both(alloc, &both, scene, &mut checked)?;
     for stops in stopped {
-        let counts = count_stops::<D>(alloc, stops.0, stops.1, scene, &both, &mut checked)?;
+        let counts = count_stops(alloc, stops.0, stops.1, scene, &both, &mut checked)?;
         checked.told(answered(alloc, are_shown(counts, stops.2)), "yes");
     }
     Ok(String::from_str(alloc, checked.wrong())?)
-}
-
-fn wrong(alloc: Global, scene: &Scene, stopped: &[Stopped]) -> Result<String, Fault> {
-    wrong_with::<Fuse<Memory>>(alloc, scene, stopped)
 }
 
 #[test]
@@ -387,5 +298,49 @@ fn a_merge_comes_again_while_the_archive_stops(rt: HostRuntime) -> Result<(), Fa
         ],
     )?;
     assert_eq!(rt; wrong.as_str(), "");
+    Ok(())
+}
+
+// The shelf has no store the first time, and the world goes on as before; then it has one, and the request gets its receipt.
+fn wrong_of_shelf(
+    alloc: Global,
+    scene: &Scene,
+    of: u8,
+    why: ShelfFault,
+    told: &str,
+) -> Result<String, Fault> {
+    let mut checked = Checked::new(alloc);
+    let both = both_worlds(alloc, scene)?;
+    let fusing = Fusing::shelf(of, why);
+    let Some(ended) = over_files(alloc, &fusing, scene, Comes::Again)? else {
+        return Err(Fault::StoreFault);
+    };
+    let mut counts = Counts::new();
+    checked.is(ended.found.reply.text.as_str(), told);
+    checked.is(fits(&ended.found, &both), "fits");
+    check_crashes(alloc, &ended, scene, &both, &mut counts, &mut checked)?;
+    checked.told(answered(alloc, goes_on(&ended.found, scene.told)), "yes");
+    Ok(String::from_str(alloc, checked.wrong())?)
+}
+
+// Whether the world could be read after the shelf had no store, and the request was told this number as it came again.
+fn goes_on(found: &Found, told: i64) -> bool {
+    let is_told = match &found.again {
+        Some(again) => again.number == told,
+        None => false,
+    };
+    is_told && found.was_unshelved && !found.has_failed && found.live.is_some()
+}
+
+#[test]
+fn a_cut_is_lent_when_the_shelf_has_a_store(rt: HostRuntime) -> Result<(), Fail> {
+    let alloc = rt.alloc();
+    for (why, told) in [
+        (ShelfFault::StoreFault, "StoreFault"),
+        (ShelfFault::OutOfMemory, "OutOfMemory"),
+    ] {
+        let wrong = wrong_of_shelf(alloc, &LENDS, B, why, told)?;
+        assert_eq!(rt; wrong.as_str(), "");
+    }
     Ok(())
 }

@@ -1,35 +1,60 @@
-// One request in a world whose stores are files of which one may stop, with what a crash leaves then, or in memory.
-use crate::fuses::{FusedShelf, Fusing, Left, Remains, Revive};
-use crate::pictures::{Picture, StorePicture, reply_in_full, store_picture, world_picture};
+// One request in a world whose stores are files of which one may stop, with what a crash leaves then.
+use crate::fuses::{FusedShelf, Fusing, Left, Remains, Store};
+use crate::pictures::{Picture, StorePicture, reply_in_full, world_picture};
 use crate::scenes::{Before, ITEMS, LOANS, Scene};
-use crate::worlds::world_of;
 use package_tables::fault::Fault;
-use shelves::memory::MemoryShelf;
+use sheet_types::command::Request;
 use shelves::shelf::Shelf;
-use sqlite::{Alter, Connection, FileStore, MemStore};
+use sqlite::{Alter, Connection};
 use std::alloc::Global;
-use test_values::told;
-use test_worlds::{LoanStep, Wish, asked};
+use test_values::{BEGUN, FRAME, told};
+use test_worlds::{A, LoanStep, Wish, asked, package};
 use uuid::Uuid;
 use world::world::World;
+
+// The requests of the numbers from 1 on.
+fn requests(alloc: Global, wishes: &[Wish], count: usize) -> Result<Vec<Request>, Fault> {
+    let mut number = 0u32;
+    let mut requests = Vec::new(alloc);
+    for wish in wishes.iter().take(count) {
+        number = number.saturating_add(1);
+        requests.push(LoanStep::now(number, *wish).request(alloc)?)?;
+    }
+    Ok(requests)
+}
+
+fn requests_before(alloc: Global, before: Before) -> Result<Vec<Request>, Fault> {
+    match before {
+        Before::Items => requests(alloc, ITEMS.as_slice(), 4),
+        Before::Loans(count) => requests(alloc, LOANS.as_slice(), count),
+    }
+}
 
 // Whether each is told a receipt.
 fn are_accepted<S: Alter + Drop, H: Shelf<S>>(
     alloc: Global,
     world: &mut World<S>,
     shelf: &mut H,
-    wishes: &[Wish],
-    count: usize,
-) -> Result<bool, Fault> {
-    let mut number = 0u32;
-    for wish in wishes.iter().take(count) {
-        number = number.saturating_add(1);
-        let request = LoanStep::now(number, *wish).request(alloc)?;
-        if world.apply(alloc, &request, shelf).is_err() {
-            return Ok(false);
+    requests: &[Request],
+) -> bool {
+    match world.run(alloc, requests, shelf) {
+        Ok(replies) => {
+            let mut are_accepted = true;
+            for reply in &replies {
+                are_accepted = are_accepted && reply.is_ok();
+            }
+            are_accepted
         }
+        Err(_) => false,
     }
-    Ok(true)
+}
+
+// The world of the archive A, whose store is one of the shelf's.
+fn new_world<S: Alter + Drop, H: Shelf<S>>(alloc: Global, shelf: &mut H) -> Option<World<S>> {
+    let Ok(conn) = shelf.blank(package(A)) else {
+        return None;
+    };
+    World::create(alloc, conn, package(A), BEGUN, &FRAME).ok()
 }
 
 // A world that was asked what comes before, or `None` where a disk stopped or memory was refused.
@@ -38,17 +63,16 @@ fn prepared<S: Alter + Drop, H: Shelf<S>>(
     shelf: &mut H,
     before: Before,
 ) -> Result<Option<World<S>>, Fault> {
-    let Ok(mut world) = world_of(alloc, shelf) else {
+    let requests = requests_before(alloc, before)?;
+    let Some(mut world) = new_world(alloc, shelf) else {
         return Ok(None);
     };
-    let is_accepted = match before {
-        Before::Items => are_accepted(alloc, &mut world, shelf, ITEMS.as_slice(), 4)?,
-        Before::Loans(count) => { are_accepted(alloc, &mut world, shelf, LOANS.as_slice(), count)? }
-    };
-    Ok(if is_accepted { Some(world) } else { None })
+    let is_ready = are_accepted(alloc, &mut world, shelf, requests.as_slice());
+    Ok(if is_ready { Some(world) } else { None })
 }
 
-/// How often the request comes: never, once, or again after a receipt and in a world that failed.
+/// How often the request comes: never, once, or again after a receipt, in a world that failed, and where the shelf had
+/// no store.
 #[derive(Clone, Copy)]
 pub enum Comes {
     Never,
@@ -106,7 +130,7 @@ fn asked_once_or_again<S: Alter + Drop, H: Shelf<S>>(
     let was_unshelved = shelf.failures() > 0;
     let live = world_picture(alloc, world, asked(step.number)).ok();
     let again = match comes {
-        Comes::Again if reply.number > 0 || has_failed => {
+        Comes::Again if reply.number > 0 || has_failed || was_unshelved => {
             Some(replied(alloc, world, shelf, step)?)
         }
         Comes::Never | Comes::Once | Comes::Again => None,
@@ -141,36 +165,6 @@ fn carried_out<S: Alter + Drop, H: Shelf<S>>(
     Ok(Some(Ended { found, stores }))
 }
 
-fn pictures<S: Alter + Drop>(
-    alloc: Global,
-    stores: Vec<Connection<S>>,
-    id: Uuid,
-) -> Result<Vec<StorePicture>, Fault> {
-    let mut pictures = Vec::new(alloc);
-    for mut conn in stores {
-        pictures.push(store_picture(alloc, &mut conn, id)?)?;
-    }
-    Ok(pictures)
-}
-
-/// What came of a request, and the stores of the world.
-#[derive(Drop)]
-pub struct InMemory {
-    pub found: Found,
-    pub stores: Vec<StorePicture>,
-}
-
-/// In memory, since a store reads the same wherever it is; `None` where memory was refused before the request.
-pub fn in_memory(alloc: Global, scene: &Scene, comes: Comes) -> Result<Option<InMemory>, Fault> {
-    let mut shelf = MemoryShelf::new(alloc);
-    let ended: Option<Ended<MemStore>> = carried_out(alloc, &mut shelf, scene, comes)?;
-    let Some(Ended { found, stores }) = ended else {
-        return Ok(None);
-    };
-    let stores = pictures(alloc, stores, asked(scene.step().number))?;
-    Ok(Some(InMemory { found, stores }))
-}
-
 /// What came of a request, and what remains of the files of each store.
 #[derive(Drop)]
 pub struct OverFiles {
@@ -178,35 +172,27 @@ pub struct OverFiles {
     pub files: Vec<Remains>,
 }
 
-fn remains<D: Revive + Drop>(
-    alloc: Global,
-    stores: Vec<Connection<FileStore<D>>>,
-) -> Result<Vec<Remains>, Fault> {
-    let mut files = Vec::new(alloc);
-    for conn in stores {
-        files.push(Remains::of(alloc, conn)?)?;
-    }
-    Ok(files)
-}
-
-/// `None` where a file stopped before the request.
-pub fn over_files<D: Revive + Drop>(
+/// `None` where a file stopped, or memory was refused, before the request.
+pub fn over_files(
     alloc: Global,
     fusing: &Fusing,
     scene: &Scene,
     comes: Comes,
 ) -> Result<Option<OverFiles>, Fault> {
     let mut shelf = FusedShelf::new(alloc, fusing);
-    let ended: Option<Ended<FileStore<D>>> = carried_out(alloc, &mut shelf, scene, comes)?;
+    let ended: Option<Ended<Store>> = carried_out(alloc, &mut shelf, scene, comes)?;
     let Some(Ended { found, stores }) = ended else {
         return Ok(None);
     };
-    let files = remains(alloc, stores)?;
+    let mut files = Vec::new(alloc);
+    for conn in stores {
+        files.push(Remains::of(alloc, conn.into_store().close())?)?;
+    }
     Ok(Some(OverFiles { found, files }))
 }
 
 /// What a crash leaves of the stores in one way.
-pub fn left<D: Revive + Drop>(
+pub fn left(
     alloc: Global,
     files: &[Remains],
     way: Left,
@@ -214,8 +200,7 @@ pub fn left<D: Revive + Drop>(
 ) -> Result<Vec<StorePicture>, Fault> {
     let mut stores = Vec::new(alloc);
     for remains in files {
-        let mut again = remains.reopened::<D>(alloc, way)?;
-        stores.push(store_picture(alloc, &mut again, id)?)?;
+        stores.push(remains.picture(alloc, way, id)?)?;
     }
     Ok(stores)
 }
