@@ -7,56 +7,24 @@ mod asks;
 #[cfg(test)]
 mod change_tests;
 #[cfg(test)]
-mod cut_tests;
+mod changes;
 #[cfg(test)]
 mod cuts;
-#[cfg(test)]
-mod dating_tests;
-#[cfg(test)]
-mod entries;
-#[cfg(test)]
-mod fixed_asks;
 #[cfg(test)]
 mod form_tests;
 #[cfg(test)]
 mod forms;
 #[cfg(test)]
-mod holdings_tests;
-#[cfg(test)]
-mod items;
-#[cfg(test)]
-mod look_up_tests;
-#[cfg(test)]
-mod new_package_tests;
-#[cfg(test)]
-mod new_tables_tests;
-#[cfg(test)]
-mod noted;
-#[cfg(test)]
-mod number_tests;
-#[cfg(test)]
-mod range_tests;
+mod lines;
 #[cfg(test)]
 mod reach_tests;
 #[cfg(test)]
-mod reading;
-#[cfg(test)]
 mod receipt_tests;
-#[cfg(test)]
-mod schema_tests;
 #[cfg(test)]
 mod select_tests;
 #[cfg(test)]
-mod span_tests;
-#[cfg(test)]
 mod steps;
 #[cfg(test)]
-mod stored_receipt_tests;
-#[cfg(test)]
-mod tables;
-#[cfg(test)]
-mod user_rows_tests;
-#[cfg(test)]
-mod values;
+mod table_tests;
 #[cfg(test)]
 mod version_tests;
