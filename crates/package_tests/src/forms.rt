@@ -36,7 +36,8 @@ fn small(number: u64) -> i64 {
 
 // The package, its parent, its depth and its loan.
 fn head_told(a: Global, found: Result<Option<StoreHead>, Fault>) -> Result<String, Fault> {
-    match &found? {
+    let found = found?;
+    match &found {
         Some(head) => {
             let ends = (number_at(Some(head.uuid)), number_at(head.parent));
             let numbers = [ends.0, ends.1, small(head.depth), small(head.loan)];
@@ -62,7 +63,8 @@ fn frame_text(a: Global, f: &Frame) -> Result<String, AllocError> {
 }
 
 fn frame_told(a: Global, found: Result<Option<Frame>, Fault>) -> Result<String, Fault> {
-    match &found? {
+    let found = found?;
+    match &found {
         Some(frame) => Ok(frame_text(a, frame)?),
         None => Ok(String::from_str(a, "-")?),
     }

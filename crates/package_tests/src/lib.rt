@@ -1,5 +1,5 @@
 //! Tests of what holds one package: `package_tables`, `identity_register`, `custody`, `cut`, `store_forms`, `stored_receipts` and
-//! `first_version`. There is nothing here but tests.
+//! `first_version`; and of the example of `sql_meaning`. There is nothing here but tests.
 #![tactic(auto)]
 
 #[cfg(test)]
@@ -16,6 +16,8 @@ mod form_tests;
 mod forms;
 #[cfg(test)]
 mod lines;
+#[cfg(test)]
+mod note_tests;
 #[cfg(test)]
 mod reach_tests;
 #[cfg(test)]

@@ -85,10 +85,8 @@ fn told_of_cut(alloc: Global, reach: &mut Noted) -> Result<String, Fault> {
     }
     let taken = select_over(reach, &FRAME, &CORNER, Mode::Follow, alloc);
     let mut told = selection_told(alloc, taken)?;
-    for asked in [&reach.tiles, &reach.rows, &reach.links].as_slice() {
-        told.push('|')?;
-        told.push_str(asked.as_str())?;
-    }
+    let (tiles, rows, links) = (reach.tiles.as_str(), reach.rows.as_str(), reach.links.as_str());
+    told.push_str(format!(in alloc; "|{tiles}|{rows}|{links}")?.as_str())?;
     Ok(told)
 }
 

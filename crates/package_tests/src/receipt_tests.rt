@@ -218,11 +218,11 @@ enter of 3 13 23";
 
 const FOURTH: &str = "enter of 4 14 24";
 
-const THREE_ALONE: &str = "rows SELECT '' || count(*) FROM sheet_receipts => [3;]
-rows SELECT '' || count(*) FROM sheet_items => [3;]";
+const THREE_ALONE: &str = "rows SELECT '' || seq FROM sheet_receipts ORDER BY seq => [1;2;3;]
+rows SELECT '' || seq FROM sheet_items ORDER BY seq => [1;2;3;]";
 
-const FOUR: &str = "rows SELECT '' || count(*) FROM sheet_receipts => [4;]
-rows SELECT '' || count(*) FROM sheet_items => [4;]";
+const FOUR: &str = "rows SELECT '' || seq FROM sheet_receipts ORDER BY seq => [1;2;3;4;]
+rows SELECT '' || seq FROM sheet_items ORDER BY seq => [1;2;3;4;]";
 
 // Enters the fourth. Where memory is refused to it, what is there is as it was, and it then comes in.
 fn enter_fourth<S: Alter>(

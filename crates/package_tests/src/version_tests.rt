@@ -24,7 +24,7 @@ rows SELECT version || ' ' || package || ' ' || created FROM sheet_package => [2
 rows SELECT mapping_table_name FROM gpkgext_relations ORDER BY id => [tiles_media;rows_media;rows_tiles;]
 form are_free => [no]
 cut none => [1;2;3;tile-medium 1 2;row-medium 3 2;]
-rows SELECT '' || count(*) FROM sheet_receipts => [1;]
+rows SELECT '' || seq FROM sheet_receipts => [1;]
 # a row and a tile come to be linked, which the first version had no table for
 link rows_tiles 3 1
 cut none => [1;2;3;tile-medium 1 2;row-medium 3 2;row-tile 3 1;]
