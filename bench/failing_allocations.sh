@@ -3,7 +3,7 @@
 #
 # Usage: failing_allocations.sh [TEST [CRATE [FIRST [LAST]]]]
 #
-# TEST is the full name of a test, new_tables_tests::a_receipt_comes_whole_or_not_at_all of package_tables if left out. That one
+# TEST is the full name of a test, receipt_tests::a_receipt_comes_whole_or_not_at_all of package_tables if left out. That one
 # enters a receipt; where memory is refused, it sees that the table is as it was, and enters it again. Those of world_tests,
 # as allocation_tests::a_tile_is_added_or_not, send a request to a world in memory. Needs the program that `rt test` leaves in
 # crates/CRATE/out, and a C compiler, for a library that stands before malloc and realloc and refuses one call. FIRST is the
@@ -16,7 +16,7 @@
 # Status 0: none is wrong. 1: some are. 2: the script could not run.
 set -euo pipefail
 
-test=${1:-new_tables_tests::a_receipt_comes_whole_or_not_at_all}
+test=${1:-receipt_tests::a_receipt_comes_whole_or_not_at_all}
 crate=${2:-package_tests}
 program=$(cd "$(dirname "$0")/.." && pwd)/crates/$crate/out/${crate}_tests
 if [ ! -x "$program" ]; then

@@ -1,192 +1,219 @@
-// What stores in memory say of themselves. The expected values follow from the rows that each test puts in: the package 2 is a loan of package 1, one level below it, made by the split 7.
+// What stores in memory say of themselves. The expected values follow from the rows that each test puts in: the package 2 is a loan of
+// package 1, one level below it, made by the split 7.
 
-use crate::reading::Table;
-use crate::steps::{wrong_after, wrong_in_nothing, wrong_in_package};
-use crate::values::loan;
-use package_tables::fault::Fault;
-use sheet_types::frame::Frame;
-use std::alloc::{AllocError, Global};
+use crate::steps::wrong;
 use std::test::Fail;
-use test_values::FRAME;
 
-// The same ground in tiles of 512 by 128 pixels, zooms 5 and 6, under one of the three reference systems that each package has.
-const STANDARD: Frame = Frame {
-    srs_id: 4326,
-    min_x: -2048,
-    min_y: -2048,
-    max_x: 2048,
-    max_y: 2048,
-    tile_width: 512,
-    tile_height: 128,
-    first_zoom: 5,
-    levels: 2,
-    matrix_width: 2,
-    matrix_height: 4,
-};
-
-const NEW: Table = Table(
-    3,
-    "form has_form => [yes]
-form head => [2 1 1 7]
+// Each way in which a table can be another one.
+const FORMS: &str =
+    "new loan
+form has_form => [yes]
+form head => [2;1;1;7;]
 form claims => []
-",
-);
+form in_range => [yes]
+form are_dated => [yes]
+# what else a store has is no part of the form
+alter CREATE TABLE notes (n INTEGER); CREATE INDEX by_code ON sheet_rows (code); DROP INDEX by_xy
+form has_form => [yes]
 
-const WITH_NULL: Table = Table(
-    2,
-    "alter UPDATE gpkg_contents SET srs_id = NULL
+new loan
+# a NULL beside the rowid
+alter UPDATE gpkg_contents SET srs_id = NULL
 form has_form => [no]
-",
-);
+form head => [2;1;1;7;]
 
-const LACKING: Table = Table(
-    3,
-    "alter DROP TABLE rows_tiles; CREATE TABLE rows_tiles (base_id INTEGER NOT NULL) STRICT
+new loan
+alter UPDATE gpkg_spatial_ref_sys SET description = NULL WHERE srs_id = 0
 form has_form => [no]
-form head => [2 1 1 7]
-",
-);
+form head => [2;1;1;7;]
 
-const NOTHING: Table = Table(
-    3,
-    "form has_form => [no]
+new loan
+# a table that is not there
+alter DROP TABLE sheet_items
+form has_form => [no]
+form head => [2;1;1;7;]
+
+new loan
+# one with a column less, with one more, with another type, without NOT NULL, without its UNIQUE
+alter DROP TABLE rows_tiles; CREATE TABLE rows_tiles (base_id INTEGER NOT NULL) STRICT
+form has_form => [no]
+form head => [2;1;1;7;]
+
+new loan
+alter DROP TABLE rows_tiles; CREATE TABLE rows_tiles (base_id INTEGER NOT NULL, related_id INTEGER NOT NULL, x INTEGER NOT \
+    NULL, UNIQUE (base_id, related_id)) STRICT
+form has_form => [no]
+form head => [2;1;1;7;]
+
+new loan
+alter DROP TABLE rows_tiles; CREATE TABLE rows_tiles (base_id INTEGER NOT NULL, related_id TEXT NOT NULL, UNIQUE (base_id, \
+    related_id)) STRICT
+form has_form => [no]
+form head => [2;1;1;7;]
+
+new loan
+alter DROP TABLE rows_tiles; CREATE TABLE rows_tiles (base_id INTEGER NOT NULL, related_id INTEGER, UNIQUE (base_id, \
+    related_id)) STRICT
+form has_form => [no]
+form head => [2;1;1;7;]
+
+new loan
+alter DROP TABLE rows_tiles; CREATE TABLE rows_tiles (base_id INTEGER NOT NULL, related_id INTEGER NOT NULL) STRICT
+form has_form => [no]
+form head => [2;1;1;7;]
+
+new loan
+# one that is not STRICT, and one with a DEFAULT, a CHECK and a reference
+alter DROP TABLE rows_tiles; CREATE TABLE rows_tiles (base_id INTEGER NOT NULL, related_id INTEGER NOT NULL, UNIQUE (base_id, \
+    related_id))
+form has_form => [no]
+form head => [2;1;1;7;]
+
+new loan
+alter DROP TABLE rows_tiles; CREATE TABLE rows_tiles (base_id INTEGER NOT NULL DEFAULT 1, related_id INTEGER NOT NULL, UNIQUE \
+    (base_id, related_id)) STRICT
+form has_form => [no]
+form head => [2;1;1;7;]
+
+new loan
+alter DROP TABLE rows_tiles; CREATE TABLE rows_tiles (base_id INTEGER NOT NULL, related_id INTEGER NOT NULL CHECK (related_id > \
+    0), UNIQUE (base_id, related_id)) STRICT
+form has_form => [no]
+form head => [2;1;1;7;]
+
+new loan
+alter DROP TABLE rows_tiles; CREATE TABLE rows_tiles (base_id INTEGER NOT NULL, related_id INTEGER NOT NULL REFERENCES \
+    sheet_tiles (id), UNIQUE (base_id, related_id)) STRICT
+form has_form => [no]
+form head => [2;1;1;7;]
+
+new loan
+# one whose numbers are not counted
+alter DROP TABLE sheet_media; CREATE TABLE sheet_media (id INTEGER PRIMARY KEY, data BLOB NOT NULL, content_type TEXT NOT NULL) \
+    STRICT
+form has_form => [no]
+form head => [2;1;1;7;]
+
+new nothing
+form has_form => [no]
 form head => [-]
-form claims => []
-",
-);
+form claims => []";
 
-const THIRD_VERSION: Table = Table(
-    2,
-    "alter UPDATE sheet_package SET version = 3
+// Each takes the head away.
+const HEADS: &str =
+    "new loan
+alter UPDATE sheet_package SET version = 3
 form head => [-]
-",
-);
 
-const TWO_HEADS: Table = Table(
-    2,
-    "alter INSERT INTO sheet_package SELECT 2, version, package, parent, depth, loan, created FROM sheet_package
+new loan
+alter INSERT INTO sheet_package SELECT 2, version, package, parent, depth, loan, created FROM sheet_package
 form head => [-]
-",
-);
 
-const MOMENTS: Table = Table(
-    3,
-    "form are_dated => [yes]
+new loan
+alter DELETE FROM sheet_package
+form head => [-]
+
+new loan
+alter UPDATE sheet_package SET package = 'X'
+form head => [-]
+
+new loan
+alter UPDATE sheet_package SET parent = '00000000-0000-0000-0000-00000000000A'
+form head => [-]
+
+new loan
+alter UPDATE sheet_package SET depth = -1
+form head => [-]
+
+new loan
+alter UPDATE sheet_package SET depth = 5
+form head => [-]
+
+new loan
+alter UPDATE sheet_package SET loan = -1
+form head => [-]";
+
+// A moment that is none, and receipts in the order of their numbers, those that are none behind.
+const SAID: &str =
+    "new loan
+form are_dated => [yes]
 alter UPDATE gpkg_contents SET last_change = '2026-11-22T24:00:00.000Z' WHERE table_name = 'sheet_rows'
 form are_dated => [no]
-",
-);
 
-const CLAIMS: Table = Table(
-    2,
-    "alter INSERT INTO sheet_receipts VALUES (3, 'c', 'x', 'three', '', 'T', 0, 0, 0, 0, 0); INSERT INTO \
-    sheet_receipts VALUES (-5, 'e', '', 'five', 'S', '', 0, 0, 0, 0, 0); INSERT INTO sheet_receipts VALUES (1, \
-    'a', '', 'one', 'S', 'T', -1, 0, 0, 0, 0)
-form claims => [1 one S T|3 three  T|-5 five S |]
-",
-);
+new loan
+alter INSERT INTO sheet_receipts VALUES (3, 'c', 'x', 'three', '', 'T', 0, 0, 0, 0, 0)
+alter INSERT INTO sheet_receipts VALUES (-5, 'e', '', 'five', 'S', '', 0, 0, 0, 0, 0)
+alter INSERT INTO sheet_receipts VALUES (1, 'a', '', 'one', 'S', 'T', -1, 0, 0, 0, 0)
+form claims => [1 one S T;3 three  T;-5 five S ;]";
 
-// The moment is no part of the frame.
-const OWN_FRAME: Table = Table(
-    3,
-    "form frame => [25832 0 0 4096 4096 256 256 0 3 1 1]
+// The second is of the same ground in other tiles, under one of the three reference systems that each package has; each of the others
+// takes the frame away.
+const FRAMES: &str =
+    "new loan
+form frame => [25832;0;0;4096;4096;256;256;0;3;1;1;]
+# the moment is no part of the frame
 alter UPDATE gpkg_contents SET last_change = ''
-form frame => [25832 0 0 4096 4096 256 256 0 3 1 1]
-",
-);
+form frame => [25832;0;0;4096;4096;256;256;0;3;1;1;]
 
-const STANDARD_FRAME: Table = Table(
-    1,
-    "form frame => [4326 -2048 -2048 2048 2048 512 128 5 2 2 4]
-",
-);
+new loan 4326 -2048 -2048 2048 2048 512 128 5 2 2 4
+form frame => [4326;-2048;-2048;2048;2048;512;128;5;2;2;4;]
 
-// Each takes the frame away.
-const NO_FRAME: &str = "UPDATE gpkg_spatial_ref_sys SET description = 'x' WHERE srs_id = 0
-INSERT INTO gpkg_spatial_ref_sys VALUES ('srs 7', 7, 'EPSG', 7, 'profile', '')
-UPDATE gpkg_contents SET data_type = 'tiles' WHERE table_name = 'sheet_rows'
-UPDATE gpkg_tile_matrix_set SET min_x = -4096
-DELETE FROM gpkg_tile_matrix_set
-UPDATE gpkg_tile_matrix SET pixel_x_size = 5 WHERE zoom_level = 1
-DELETE FROM gpkg_tile_matrix WHERE zoom_level = 1
-DELETE FROM gpkg_tile_matrix
-UPDATE gpkgext_relations SET relation_name = 'media' WHERE id = 3
-";
+new loan
+alter UPDATE gpkg_spatial_ref_sys SET description = 'x' WHERE srs_id = 0
+form frame => [-]
+
+new loan
+alter INSERT INTO gpkg_spatial_ref_sys VALUES ('srs 7', 7, 'EPSG', 7, 'profile', '')
+form frame => [-]
+
+new loan
+alter UPDATE gpkg_contents SET data_type = 'tiles' WHERE table_name = 'sheet_rows'
+form frame => [-]
+
+new loan
+alter UPDATE gpkg_tile_matrix_set SET min_x = -4096
+form frame => [-]
+
+new loan
+alter DELETE FROM gpkg_tile_matrix_set
+form frame => [-]
+
+new loan
+alter UPDATE gpkg_tile_matrix SET pixel_x_size = 5 WHERE zoom_level = 1
+form frame => [-]
+
+new loan
+alter DELETE FROM gpkg_tile_matrix WHERE zoom_level = 1
+form frame => [-]
+
+new loan
+alter DELETE FROM gpkg_tile_matrix
+form frame => [-]
+
+new loan
+alter UPDATE gpkgext_relations SET relation_name = 'media' WHERE id = 3
+form frame => [-]";
 
 #[test]
-fn new_package(rt: HostRuntime) -> Result<(), Fail> {
-    let wrong = wrong_in_package(rt.alloc(), &FRAME, &loan(), NEW)?;
-    assert_eq!(rt; wrong.as_str(), "");
+fn a_store_has_the_form_of_a_package_or_not(rt: HostRuntime) -> Result<(), Fail> {
+    assert_eq!(rt; wrong(rt.alloc(), FORMS)?.as_str(), "");
     Ok(())
 }
 
 #[test]
-fn no_form(rt: HostRuntime) -> Result<(), Fail> {
-    let wrong = wrong_in_package(rt.alloc(), &FRAME, &loan(), WITH_NULL)?;
-    assert_eq!(rt; wrong.as_str(), "");
-    let wrong = wrong_in_package(rt.alloc(), &FRAME, &loan(), LACKING)?;
-    assert_eq!(rt; wrong.as_str(), "");
-    let wrong = wrong_in_nothing(rt.alloc(), NOTHING)?;
-    assert_eq!(rt; wrong.as_str(), "");
+fn a_store_has_a_head_or_none(rt: HostRuntime) -> Result<(), Fail> {
+    assert_eq!(rt; wrong(rt.alloc(), HEADS)?.as_str(), "");
     Ok(())
 }
 
 #[test]
-fn no_head(rt: HostRuntime) -> Result<(), Fail> {
-    let wrong = wrong_in_package(rt.alloc(), &FRAME, &loan(), THIRD_VERSION)?;
-    assert_eq!(rt; wrong.as_str(), "");
-    let wrong = wrong_in_package(rt.alloc(), &FRAME, &loan(), TWO_HEADS)?;
-    assert_eq!(rt; wrong.as_str(), "");
+fn a_store_says_moments_and_claims(rt: HostRuntime) -> Result<(), Fail> {
+    assert_eq!(rt; wrong(rt.alloc(), SAID)?.as_str(), "");
     Ok(())
 }
 
 #[test]
-fn moments(rt: HostRuntime) -> Result<(), Fail> {
-    let wrong = wrong_in_package(rt.alloc(), &FRAME, &loan(), MOMENTS)?;
-    assert_eq!(rt; wrong.as_str(), "");
-    Ok(())
-}
-
-#[test]
-fn claims_in_order(rt: HostRuntime) -> Result<(), Fail> {
-    let wrong = wrong_in_package(rt.alloc(), &FRAME, &loan(), CLAIMS)?;
-    assert_eq!(rt; wrong.as_str(), "");
-    Ok(())
-}
-
-#[test]
-fn frames_of_new_packages(rt: HostRuntime) -> Result<(), Fail> {
-    let wrong = wrong_in_package(rt.alloc(), &FRAME, &loan(), OWN_FRAME)?;
-    assert_eq!(rt; wrong.as_str(), "");
-    let wrong = wrong_in_package(rt.alloc(), &STANDARD, &loan(), STANDARD_FRAME)?;
-    assert_eq!(rt; wrong.as_str(), "");
-    Ok(())
-}
-
-const NO_FRAME_LEFT: Table = Table(1, "form frame => [-]");
-
-// The statements after which something is wrong, each in a package of its own, one a line, and what it is.
-fn wrong_without(a: Global, all: &str) -> Result<String, Fault> {
-    let mut told = String::new(a);
-    for statements in all.lines() {
-        let wrong = wrong_after(a, &FRAME, &loan(), statements, NO_FRAME_LEFT)?;
-        put_wrong(&mut told, statements, wrong.as_str())?;
-    }
-    Ok(told)
-}
-
-fn put_wrong(told: &mut String, statements: &str, wrong: &str) -> Result<(), AllocError> {
-    if wrong.is_empty() {
-        return Ok(());
-    }
-    told.push_str(statements)?;
-    told.push('\n')?;
-    told.push_str(wrong)
-}
-
-#[test]
-fn no_frame(rt: HostRuntime) -> Result<(), Fail> {
-    assert_eq!(rt; NO_FRAME.lines().count(), 9);
-    assert_eq!(rt; wrong_without(rt.alloc(), NO_FRAME)?.as_str(), "");
+fn a_store_has_the_frame_of_its_rows_or_none(rt: HostRuntime) -> Result<(), Fail> {
+    assert_eq!(rt; wrong(rt.alloc(), FRAMES)?.as_str(), "");
     Ok(())
 }

@@ -1,160 +1,263 @@
-// A receipt that comes into a new package in memory. The expected rows follow from the columns of the profile.
+// Rows of receipts: as a store has them, in their ranges or not, and as they come in. What is expected follows from the columns of the
+// profile.
 
-use crate::reading::Table;
-use crate::steps::{wrong, wrong_in_package};
-use crate::values::archive;
-use custody::homing::bring_home;
+use crate::changes::Entered;
+use crate::lines::read_line;
+use crate::steps::{new_store, take_steps, wrong};
 use package_tables::fault::Fault;
-use package_tables::package::begin;
-use sqlite::{Alter, Connection, MemStore};
+use sqlite::{Alter, Connection};
 use std::alloc::Global;
 use std::test::Fail;
-use test_values::{FRAME, at_rest, in_memory, new_package};
+use test_values::{Checked, committed};
 
-const NAMED: Table = Table(
-    6,
-    "custody names 2 => [no]
-enter loan
-receipts of 00000000-0000-0000-0000-000000000009 => [7 00000000-0000-0000-0000-000000000009 \
-    2026-11-22T09:00:00.000Z the line 00000000-0000-0000-0000-000000000001  0 1 0 1 5]
-receipts moved 7 => [7 0 2 00000000-0000-0000-0000-000000000002  5 \
-    abababababababababababababababababababababababababababababababab;7 1 4 00000000-0000-0000-0000-000000000003 \
-    00000000-0000-0000-0000-000000000002 0 ;]
-custody names 2 => [yes]
-custody names 3 => [no]
-",
-);
+// Each but the first two has a row out of its ranges.
+const RANGES: &str =
+    "new archive
+alter INSERT INTO sheet_receipts VALUES (4, '00000000-0000-0000-0000-00000000000f', '2026-11-22T09:00:00.000Z', '', '', '', 1, \
+    0, 0, 0, 5)
+alter INSERT INTO sheet_items VALUES (4, 0, 1, '00000000-0000-0000-0000-000000000006', '', 5, \
+    'abababababababababababababababababababababababababababababababab')
+form in_range => [yes]
 
-const KEPT: Table = Table(
-    6,
-    "custody keeps_for 9 => [no]
-enter loan
-enter back
-custody keeps loan => [yes]
-custody keeps back => [yes]
-custody keeps_for 11 => [no]
-",
-);
+new archive
+# two things, of which the link's row is stored first
+alter INSERT INTO sheet_receipts VALUES (30, '00000000-0000-0000-0000-00000000000e', '2026-11-22T09:00:00.000Z', '', \
+    '00000000-0000-0000-0000-000000000001', '', 0, 1, 0, 1, 7)
+alter INSERT INTO sheet_items VALUES (30, 1, 4, '00000000-0000-0000-0000-000000000006', '00000000-0000-0000-0000-0000000000a2', \
+    0, ''), (30, 0, 2, '00000000-0000-0000-0000-0000000000a2', '', 7, \
+    'cdcdcdcdcdcdcdcdcdcdcdcdcdcdcdcdcdcdcdcdcdcdcdcdcdcdcdcdcdcdcdcd')
+form in_range => [yes]
 
-const OF_THE_CHILD: Table = Table(
-    3,
-    "enter empty 300 21
-enter loan
-enter empty 0 20
-",
-);
+new archive
+# a moment that is none
+alter INSERT INTO sheet_receipts VALUES (4, '00000000-0000-0000-0000-00000000000f', '2026-11-22T24:00:00.000Z', '', '', '', 1, \
+    0, 0, 0, 5)
+alter INSERT INTO sheet_items VALUES (4, 0, 1, '00000000-0000-0000-0000-000000000006', '', 5, \
+    'abababababababababababababababababababababababababababababababab')
+form in_range => [no]
 
-const OF_THE_PARENT: Table = Table(
-    1,
-    "enter back
-",
-);
+new archive
+# a request that is no stored UUID
+alter INSERT INTO sheet_receipts VALUES (4, '00000000-0000-0000-0000-00000000000F', '2026-11-22T09:00:00.000Z', '', '', '', 1, \
+    0, 0, 0, 5)
+alter INSERT INTO sheet_items VALUES (4, 0, 1, '00000000-0000-0000-0000-000000000006', '', 5, \
+    'abababababababababababababababababababababababababababababababab')
+form in_range => [no]
 
-const COME_HOME: Table = Table(
-    5,
-    "custody keeps back => [yes]
-custody keeps loan => [yes]
-custody keeps empty 0 20 => [yes]
-custody keeps empty 300 21 => [yes]
-receipts moved 7 => [7 0 2 00000000-0000-0000-0000-000000000002  5 \
-    abababababababababababababababababababababababababababababababab;7 1 4 00000000-0000-0000-0000-000000000003 \
-    00000000-0000-0000-0000-000000000002 0 ;]
-",
-);
+new archive
+alter INSERT INTO sheet_receipts VALUES (4, '', '2026-11-22T09:00:00.000Z', '', '', '', 1, 0, 0, 0, 5)
+alter INSERT INTO sheet_items VALUES (4, 0, 1, '00000000-0000-0000-0000-000000000006', '', 5, \
+    'abababababababababababababababababababababababababababababababab')
+form in_range => [no]
 
-const LEFT: Table = Table(
-    2,
-    "custody keeps loan => [yes]
-custody keeps_for 10 => [no]
-",
-);
+new archive
+# an end that is none
+alter INSERT INTO sheet_receipts VALUES (4, '00000000-0000-0000-0000-00000000000f', '2026-11-22T09:00:00.000Z', '', 'x', '', 1, \
+    0, 0, 0, 5)
+alter INSERT INTO sheet_items VALUES (4, 0, 1, '00000000-0000-0000-0000-000000000006', '', 5, \
+    'abababababababababababababababababababababababababababababababab')
+form in_range => [no]
 
-const LENT: Table = Table(
-    8,
-    "custody was_lent 1 => [no]
-enter line 3 split 00000000-0000-0000-0000-000000000005
-enter line 2 merge 00000000-0000-0000-0000-000000000005 00000000-0000-0000-0000-000000000001 1
-custody was_lent 1 => [no]
-enter line 9 split 00000000-0000-0000-0000-000000000005 00000000-0000-0000-0000-000000000001 strict 2 0 3 0 3
-custody was_lent 1 => [yes]
-custody was_lent 5 => [no]
-custody was_lent 6 => [no]
-",
-);
+new archive
+alter INSERT INTO sheet_receipts VALUES (4, '00000000-0000-0000-0000-00000000000f', '2026-11-22T09:00:00.000Z', '', '', 'x', 1, \
+    0, 0, 0, 5)
+alter INSERT INTO sheet_items VALUES (4, 0, 1, '00000000-0000-0000-0000-000000000006', '', 5, \
+    'abababababababababababababababababababababababababababababababab')
+form in_range => [no]
+
+new archive
+# a number that is none
+alter INSERT INTO sheet_receipts VALUES (-4, '00000000-0000-0000-0000-00000000000f', '2026-11-22T09:00:00.000Z', '', '', '', 1, \
+    0, 0, 0, 5)
+alter INSERT INTO sheet_items VALUES (-4, 0, 1, '00000000-0000-0000-0000-000000000006', '', 5, \
+    'abababababababababababababababababababababababababababababababab')
+form in_range => [no]
+
+new archive
+alter INSERT INTO sheet_receipts VALUES (0, '00000000-0000-0000-0000-00000000000f', '2026-11-22T09:00:00.000Z', '', '', '', 1, \
+    0, 0, 0, 5)
+alter INSERT INTO sheet_items VALUES (0, 0, 1, '00000000-0000-0000-0000-000000000006', '', 5, \
+    'abababababababababababababababababababababababababababababababab')
+form in_range => [no]
+
+new archive
+# a count below nothing
+alter INSERT INTO sheet_receipts VALUES (4, '00000000-0000-0000-0000-00000000000f', '2026-11-22T09:00:00.000Z', '', '', '', -1, \
+    0, 0, 0, 5)
+alter INSERT INTO sheet_items VALUES (4, 0, 1, '00000000-0000-0000-0000-000000000006', '', 5, \
+    'abababababababababababababababababababababababababababababababab')
+form in_range => [no]
+
+new archive
+alter INSERT INTO sheet_receipts VALUES (4, '00000000-0000-0000-0000-00000000000f', '2026-11-22T09:00:00.000Z', '', '', '', 1, \
+    0, 0, 0, -5)
+alter INSERT INTO sheet_items VALUES (4, 0, 1, '00000000-0000-0000-0000-000000000006', '', 5, \
+    'abababababababababababababababababababababababababababababababab')
+form in_range => [no]
+
+new archive
+# the thing at the second place
+alter INSERT INTO sheet_receipts VALUES (4, '00000000-0000-0000-0000-00000000000f', '2026-11-22T09:00:00.000Z', '', '', '', 1, \
+    0, 0, 0, 5)
+alter INSERT INTO sheet_items VALUES (4, 1, 1, '00000000-0000-0000-0000-000000000006', '', 5, \
+    'abababababababababababababababababababababababababababababababab')
+form in_range => [no]
+
+new archive
+# that of another receipt
+alter INSERT INTO sheet_receipts VALUES (4, '00000000-0000-0000-0000-00000000000f', '2026-11-22T09:00:00.000Z', '', '', '', 1, \
+    0, 0, 0, 5)
+alter INSERT INTO sheet_items VALUES (5, 0, 1, '00000000-0000-0000-0000-000000000006', '', 5, \
+    'abababababababababababababababababababababababababababababababab')
+form in_range => [no]
+
+new archive
+# a kind that is none
+alter INSERT INTO sheet_receipts VALUES (4, '00000000-0000-0000-0000-00000000000f', '2026-11-22T09:00:00.000Z', '', '', '', 1, \
+    0, 0, 0, 5)
+alter INSERT INTO sheet_items VALUES (4, 0, 0, '00000000-0000-0000-0000-000000000006', '', 5, \
+    'abababababababababababababababababababababababababababababababab')
+form in_range => [no]
+
+new archive
+alter INSERT INTO sheet_receipts VALUES (4, '00000000-0000-0000-0000-00000000000f', '2026-11-22T09:00:00.000Z', '', '', '', 1, \
+    0, 0, 0, 5)
+alter INSERT INTO sheet_items VALUES (4, 0, 7, '00000000-0000-0000-0000-000000000006', '', 5, \
+    'abababababababababababababababababababababababababababababababab')
+form in_range => [no]
+
+new archive
+alter INSERT INTO sheet_receipts VALUES (4, '00000000-0000-0000-0000-00000000000f', '2026-11-22T09:00:00.000Z', '', '', '', 1, \
+    0, 0, 0, 5)
+alter INSERT INTO sheet_items VALUES (4, 0, 257, '00000000-0000-0000-0000-000000000006', '', 5, \
+    'abababababababababababababababababababababababababababababababab')
+form in_range => [no]
+
+new archive
+# a thing that is no stored UUID
+alter INSERT INTO sheet_receipts VALUES (4, '00000000-0000-0000-0000-00000000000f', '2026-11-22T09:00:00.000Z', '', '', '', 1, \
+    0, 0, 0, 5)
+alter INSERT INTO sheet_items VALUES (4, 0, 1, '6', '', 5, 'abababababababababababababababababababababababababababababababab')
+form in_range => [no]
+
+new archive
+# an item with another end
+alter INSERT INTO sheet_receipts VALUES (4, '00000000-0000-0000-0000-00000000000f', '2026-11-22T09:00:00.000Z', '', '', '', 1, \
+    0, 0, 0, 5)
+alter INSERT INTO sheet_items VALUES (4, 0, 1, '00000000-0000-0000-0000-000000000006', '00000000-0000-0000-0000-0000000000a2', \
+    5, 'abababababababababababababababababababababababababababababababab')
+form in_range => [no]
+
+new archive
+# a size below nothing
+alter INSERT INTO sheet_receipts VALUES (4, '00000000-0000-0000-0000-00000000000f', '2026-11-22T09:00:00.000Z', '', '', '', 1, \
+    0, 0, 0, 5)
+alter INSERT INTO sheet_items VALUES (4, 0, 1, '00000000-0000-0000-0000-000000000006', '', -5, \
+    'abababababababababababababababababababababababababababababababab')
+form in_range => [no]
+
+new archive
+# a digest that is none
+alter INSERT INTO sheet_receipts VALUES (4, '00000000-0000-0000-0000-00000000000f', '2026-11-22T09:00:00.000Z', '', '', '', 1, \
+    0, 0, 0, 5)
+alter INSERT INTO sheet_items VALUES (4, 0, 1, '00000000-0000-0000-0000-000000000006', '', 5, \
+    'abababababababababababababababababababababababababababababababa')
+form in_range => [no]
+
+new archive
+alter INSERT INTO sheet_receipts VALUES (4, '00000000-0000-0000-0000-00000000000f', '2026-11-22T09:00:00.000Z', '', '', '', 1, \
+    0, 0, 0, 5)
+alter INSERT INTO sheet_items VALUES (4, 0, 1, '00000000-0000-0000-0000-000000000006', '', 5, \
+    'ABABABABABABABABABABABABABABABABABABABABABABABABABABABABABABABAB')
+form in_range => [no]
+
+new archive
+# a link that has a size
+alter INSERT INTO sheet_receipts VALUES (4, '00000000-0000-0000-0000-00000000000f', '2026-11-22T09:00:00.000Z', '', '', '', 1, \
+    0, 0, 0, 5)
+alter INSERT INTO sheet_items VALUES (4, 0, 4, '00000000-0000-0000-0000-000000000006', '00000000-0000-0000-0000-0000000000a2', \
+    5, 'abababababababababababababababababababababababababababababababab')
+form in_range => [no]
+
+new archive
+# a link without its other end
+alter INSERT INTO sheet_receipts VALUES (4, '00000000-0000-0000-0000-00000000000f', '2026-11-22T09:00:00.000Z', '', '', '', 1, \
+    0, 0, 0, 5)
+alter INSERT INTO sheet_items VALUES (4, 0, 4, '00000000-0000-0000-0000-000000000006', '', 0, '')
+form in_range => [no]";
+
+// Two receipts of a medium each.
+const ENTERED: &str =
+    "new archive
+enter of 7 9 2
+enter of 8 10 3
+rows SELECT seq || ' ' || request || ' ' || at || ' ' || line || ' ' || source || ' ' || target || ' ' || n_tiles || ' ' || \
+    n_media || ' ' || n_rows || ' ' || n_links || ' ' || n_bytes FROM sheet_receipts ORDER BY seq => [7 \
+    00000000-0000-0000-0000-000000000009 2026-11-22T09:00:00.000Z the line  00000000-0000-0000-0000-000000000001 0 1 0 0 3;8 \
+    00000000-0000-0000-0000-00000000000a 2026-11-22T09:00:00.000Z the line  00000000-0000-0000-0000-000000000001 0 1 0 0 3;]
+rows SELECT seq || ' ' || position || ' ' || kind || ' ' || base || ' ' || other || ' ' || size || ' ' || fingerprint FROM \
+    sheet_items ORDER BY seq, position => [7 0 2 00000000-0000-0000-0000-000000000002  3 ;8 0 2 \
+    00000000-0000-0000-0000-000000000003  3 ;]";
 
 #[test]
-fn a_receipt_is_entered_and_names_its_items(rt: HostRuntime) -> Result<(), Fail> {
-    let wrong = wrong_in_package(rt.alloc(), &FRAME, &archive(), NAMED)?;
-    assert_eq!(rt; wrong.as_str(), "");
+fn a_row_out_of_its_ranges_is_seen(rt: HostRuntime) -> Result<(), Fail> {
+    assert_eq!(rt; wrong(rt.alloc(), RANGES)?.as_str(), "");
     Ok(())
 }
 
 #[test]
-fn a_receipt_is_kept_for_its_request(rt: HostRuntime) -> Result<(), Fail> {
-    let wrong = wrong_in_package(rt.alloc(), &FRAME, &archive(), KEPT)?;
-    assert_eq!(rt; wrong.as_str(), "");
+fn receipts_come_in(rt: HostRuntime) -> Result<(), Fail> {
+    assert_eq!(rt; wrong(rt.alloc(), ENTERED)?.as_str(), "");
     Ok(())
 }
 
-// Brings the receipts of one package home to another, in a transaction of its own. Tells whether no other stood in its way.
-fn brought_home<S: Alter>(
-    child: &mut Connection<S>,
+// Three receipts, and what is there before and after the fourth.
+const THREE: &str = "enter of 1 11 21
+enter of 2 12 22
+enter of 3 13 23";
+
+const FOURTH: &str = "enter of 4 14 24";
+
+const THREE_ALONE: &str = "rows SELECT '' || seq FROM sheet_receipts ORDER BY seq => [1;2;3;]
+rows SELECT '' || seq FROM sheet_items ORDER BY seq => [1;2;3;]";
+
+const FOUR: &str = "rows SELECT '' || seq FROM sheet_receipts ORDER BY seq => [1;2;3;4;]
+rows SELECT '' || seq FROM sheet_items ORDER BY seq => [1;2;3;4;]";
+
+// Enters the fourth. Where memory is refused to it, what is there is as it was, and it then comes in.
+fn enter_fourth<S: Alter>(
+    a: Global,
     conn: &mut Connection<S>,
-) -> Result<bool, Fault> {
-    at_rest(child)?;
-    if !conn.is_autocommit() {
-        return Ok(false);
+    checked: &mut Checked,
+) -> Result<(), Fault> {
+    match committed(conn, &Entered(a, read_line(FOURTH))) {
+        Ok(_) => Ok(()),
+        Err(Fault::OutOfMemory) => {
+            take_steps(a, conn, THREE_ALONE, checked);
+            take_steps(a, conn, FOURTH, checked);
+            Ok(())
+        }
+        Err(Fault::StoreFault) => Err(Fault::StoreFault),
     }
-    let mut tx = begin(conn);
-    bring_home(child, &mut tx)?;
-    tx.commit()?;
-    Ok(true)
 }
 
-// What the steps of both packages told that was not expected.
-fn wrong_of_both<S: Alter>(
+fn wrong_of_four<S: Alter + Drop>(
     a: Global,
-    child: &mut Connection<S>,
-    of_child: Table,
-    parent: &mut Connection<S>,
-    of_parent: Table,
+    made: Result<Connection<S>, Fault>,
 ) -> Result<String, Fault> {
-    let mut told = wrong(a, child, of_child)?;
-    told.push_str(wrong(a, parent, of_parent)?.as_str())?;
-    Ok(told)
+    let mut conn = made?;
+    let mut checked = Checked::new(a);
+    take_steps(a, &mut conn, THREE, &mut checked);
+    enter_fourth(a, &mut conn, &mut checked)?;
+    take_steps(a, &mut conn, FOUR, &mut checked);
+    Ok(String::from_str(a, checked.wrong())?)
 }
 
-// Takes both by value and over any store, so that they are let go at a type that costs no proof.
-fn wrong_after_homecoming<S: Alter + Drop>(
-    a: Global,
-    mut child: Connection<S>,
-    mut parent: Connection<S>,
-) -> Result<String, Fault> {
-    let (of_child, of_parent) = (OF_THE_CHILD, OF_THE_PARENT);
-    let mut told = wrong_of_both(a, &mut child, of_child, &mut parent, of_parent)?;
-    if !brought_home(&mut child, &mut parent)? {
-        return Err(Fault::StoreFault);
-    }
-    let (of_child, of_parent) = (LEFT, COME_HOME);
-    told.push_str(wrong_of_both(a, &mut child, of_child, &mut parent, of_parent)?.as_str())?;
-    Ok(told)
-}
-
-fn new_archive(a: Global) -> Result<Connection<MemStore>, Fault> {
-    new_package(a, in_memory(a)?, &FRAME, &archive())
-}
-
+// `bench/failing_allocations.sh` runs this test with each allocation refused in turn.
 #[test]
-fn all_receipts_come_home(rt: HostRuntime) -> Result<(), Fail> {
+fn a_receipt_comes_whole_or_not_at_all(rt: HostRuntime) -> Result<(), Fail> {
     let alloc = rt.alloc();
-    let wrong = wrong_after_homecoming(alloc, new_archive(alloc)?, new_archive(alloc)?)?;
-    assert_eq!(rt; wrong.as_str(), "");
-    Ok(())
-}
-
-#[test]
-fn a_split_alone_lends(rt: HostRuntime) -> Result<(), Fail> {
-    let wrong = wrong_in_package(rt.alloc(), &FRAME, &archive(), LENT)?;
+    let wrong = wrong_of_four(alloc, new_store(alloc, read_line("new archive")))?;
     assert_eq!(rt; wrong.as_str(), "");
     Ok(())
 }
