@@ -57,8 +57,8 @@ fn rows_told(alloc: Global, words: &str) -> Result<String, OutOfMemory> {
     }
 }
 
-fn point_told(alloc: Global, srs_id: i64, x: i64, y: i64) -> Result<String, OutOfMemory> {
-    let bytes = point(alloc, srs_id, x, y)?;
+fn point_told(alloc: Global, srs_id: i32, x: i64, y: i64) -> Result<String, OutOfMemory> {
+    let bytes = point(alloc, i64::from(srs_id), x, y)?;
     Ok(hex::encode(alloc, bytes.as_slice())?)
 }
 
@@ -102,7 +102,10 @@ fn frame_told(alloc: Global, asks: &str, words: &str) -> Result<String, OutOfMem
 fn numbers_told(alloc: Global, asks: &str, n: [i64; 8]) -> Result<String, OutOfMemory> {
     match asks {
         "thousandths" => Ok(format!(in alloc; "{}", Thousandths(n[0]))?),
-        _ => point_told(alloc, n[0], n[1], n[2]),
+        _ => match i32::try_from(n[0]) {
+            Ok(srs_id) => point_told(alloc, srs_id, n[1], n[2]),
+            Err(_) => unread(alloc, asks),
+        },
     }
 }
 
