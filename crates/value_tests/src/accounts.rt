@@ -219,7 +219,8 @@ sound 1.1.tile_linked.-.a.link => [yes]
 flow_a 1.1.tile_linked.-.a.link => [0;1;0;0;0;0;]
 sound 1.1.tile_linked.-.a.link,2.2.tile_unlinked.a.-.link => [yes]
 sound 1.1.tile_linked.-.a.link,2.2.tile_unlinked.a.-.link,3.3.linked.-.a.link => [no]
-# in the place of the merge: from the archive, misnumbered, of another size, without its line, to another end, added and lent again
+# in the place of the merge: from the archive, misnumbered, of another size, without its line, to another \
+    end, added and lent again
 sound addition,split,3.3.deleted.a.-.tile => [no]
 sound addition,split,4.4.returned.b.a.tile => [no]
 sound addition,split,3.3.returned.b.a.grown => [no]

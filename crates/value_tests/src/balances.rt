@@ -188,7 +188,8 @@ const WORLDS: Table = Table(
     22,
     "parts a.-.0.none:addition,split b.a.2.tile: => [+++++++]
 # brought back through two, and at once
-parts a.-.0.tile:addition,split,3.3.lent_on.b.c.tile,4.4.back_to_loan.c.b.tile,5.5.returned.b.a.tile => [+++++++]
+parts a.-.0.tile:addition,split,3.3.lent_on.b.c.tile,4.4.back_to_loan.c.b.tile,5.5.returned.b.a.tile => \
+    [+++++++]
 parts a.-.0.tile:addition,split,merge => [+++++++]
 # one request twice
 parts a.-.0.none:addition,2.1.lent.a.b.tile b.a.2.tile: => [-+++++-]

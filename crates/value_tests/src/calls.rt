@@ -212,7 +212,8 @@ all GET /receipts/x/y HTTP/1.1~~ => [NoSuchPath]
 all GET /Packages HTTP/1.1~~ => [NoSuchPath]
 all GET /packages/A0000000-0000-4000-8000-00000000000a/manifest?x HTTP/1.1~~ => \
     [manifest a0000000-0000-4000-8000-00000000000a]
-all GET /receipts/90000000-0000-4000-8000-000000000001 HTTP/1.0~~ => [receipt 90000000-0000-4000-8000-000000000001]
+all GET /receipts/90000000-0000-4000-8000-000000000001 HTTP/1.0~~ => [receipt \
+    90000000-0000-4000-8000-000000000001]
 # what is no UUID
 all GET /packages/x/manifest HTTP/1.1~~ => [manifest ]
 all GET /packages/a000000000004000800000000000000a/manifest HTTP/1.1~~ => [manifest ]

@@ -165,7 +165,8 @@ rows 1 tile => [INSERT INTO sheet_tiles VALUES (1,2,3,3,X'41');^\
 rows 12 media image/jpeg|JP => [INSERT INTO sheet_media VALUES \
     (12,X'4a50','image/jpeg','00000000-0000-4000-8000-000000000001');^]
 rows 2 row 7|gate => [INSERT INTO sheet_rows VALUES (2,\
-    X'47500001e864000001010000000000000000000000fca9f1d24d621040',7,'gate','00000000-0000-4000-8000-000000000001');^]
+    X'47500001e864000001010000000000000000000000fca9f1d24d621040',7,'gate',\
+    '00000000-0000-4000-8000-000000000001');^]
 number_of 5 => [1]
 number_of 9 => [2]
 number_of 3 => [1]

@@ -170,63 +170,82 @@ pub(crate) fn reply_of(alloc: Global, question: &str) -> Result<String, OutOfMem
 
 const REPLIES: Table = Table(
     25,
-    "receipt body => [{`at`:`2024-05-01T08:00:00.000Z`,`bytes`:1,`from`:``,`items`:1,`line`:`add a0000000-0000-4000-8000-000000000000 \
+    "receipt body => [{`at`:`2024-05-01T08:00:00.000Z`,`bytes`:1,`from`:``,`items`:1,`line`:`add \
+    a0000000-0000-4000-8000-000000000000 \
     00000000-0000-4000-8000-000000000001 tile 1 c20eb71e63f0260834960dcfbffbdf9e96eadc0b8946db35a34b9382dc301848`,\
     `links`:0,`media`:0,`request`:`90000000-0000-4000-8000-000000000001`,`rows`:0,`seq`:1,`tiles`:1,\
     `to`:`a0000000-0000-4000-8000-000000000000`}]
-quoted => [{`at`:`\\`\\n\\u0001\u{e9}`,`bytes`:1,`from`:``,`items`:1,`line`:`add a0000000-0000-4000-8000-000000000000 \
+quoted => [{`at`:`\\`\\n\\u0001\u{e9}`,`bytes`:1,`from`:``,`items`:1,`line`:`add \
+    a0000000-0000-4000-8000-000000000000 \
     00000000-0000-4000-8000-000000000001 tile 1 c20eb71e63f0260834960dcfbffbdf9e96eadc0b8946db35a34b9382dc301848`,\
     `links`:0,`media`:0,`request`:`90000000-0000-4000-8000-000000000001`,`rows`:0,`seq`:1,`tiles`:1,\
     `to`:`a0000000-0000-4000-8000-000000000000`}]
 receipt response => [HTTP/1.1 200 OK~content-type: application/json~content-length: 362~connection: close~~\
-    {`at`:`2024-05-01T08:00:00.000Z`,`bytes`:1,`from`:``,`items`:1,`line`:`add a0000000-0000-4000-8000-000000000000 \
+    {`at`:`2024-05-01T08:00:00.000Z`,`bytes`:1,`from`:``,`items`:1,`line`:`add \
+    a0000000-0000-4000-8000-000000000000 \
     00000000-0000-4000-8000-000000000001 tile 1 c20eb71e63f0260834960dcfbffbdf9e96eadc0b8946db35a34b9382dc301848`,\
     `links`:0,`media`:0,`request`:`90000000-0000-4000-8000-000000000001`,`rows`:0,`seq`:1,`tiles`:1,\
     `to`:`a0000000-0000-4000-8000-000000000000`}]
 receipt sent => [HTTP/1.1 200 OK~content-type: application/json~content-length: 362~connection: close~~\
-    {`at`:`2024-05-01T08:00:00.000Z`,`bytes`:1,`from`:``,`items`:1,`line`:`add a0000000-0000-4000-8000-000000000000 \
+    {`at`:`2024-05-01T08:00:00.000Z`,`bytes`:1,`from`:``,`items`:1,`line`:`add \
+    a0000000-0000-4000-8000-000000000000 \
     00000000-0000-4000-8000-000000000001 tile 1 c20eb71e63f0260834960dcfbffbdf9e96eadc0b8946db35a34b9382dc301848`,\
     `links`:0,`media`:0,`request`:`90000000-0000-4000-8000-000000000001`,`rows`:0,`seq`:1,`tiles`:1,\
     `to`:`a0000000-0000-4000-8000-000000000000`}]
 replied => [HTTP/1.1 200 OK~content-type: application/json~content-length: 362~connection: close~~\
-    {`at`:`2024-05-01T08:00:00.000Z`,`bytes`:1,`from`:``,`items`:1,`line`:`add a0000000-0000-4000-8000-000000000000 \
+    {`at`:`2024-05-01T08:00:00.000Z`,`bytes`:1,`from`:``,`items`:1,`line`:`add \
+    a0000000-0000-4000-8000-000000000000 \
     00000000-0000-4000-8000-000000000001 tile 1 c20eb71e63f0260834960dcfbffbdf9e96eadc0b8946db35a34b9382dc301848`,\
     `links`:0,`media`:0,`request`:`90000000-0000-4000-8000-000000000001`,`rows`:0,`seq`:1,`tiles`:1,\
     `to`:`a0000000-0000-4000-8000-000000000000`}]
 refusal_body PlaceTaken => [{`name`:`PlaceTaken`,`refusal`:11}]
 refusal_body CutLink => [{`detail`:`00000000-0000-4000-8000-000000000003`,`name`:`CutLink`,`refusal`:18}]
 refusal_body Stale => [{`detail`:`5`,`name`:`Stale`,`refusal`:20}]
-conflict PlaceTaken => [HTTP/1.1 409 Conflict~content-type: application/json~content-length: 34~connection: close~~\
+conflict PlaceTaken => [HTTP/1.1 409 Conflict~content-type: application/json~content-length: 34~connection: \
+    close~~\
     {`name`:`PlaceTaken`,`refusal`:11}]
-refusal_sent PlaceTaken => [HTTP/1.1 409 Conflict~content-type: application/json~content-length: 34~connection: close~~\
+refusal_sent PlaceTaken => [HTTP/1.1 409 Conflict~content-type: application/json~content-length: \
+    34~connection: close~~\
     {`name`:`PlaceTaken`,`refusal`:11}]
-refused StoreFault => [HTTP/1.1 500 Internal Server Error~content-type: application/json~content-length: 34~connection: close~~\
+refused StoreFault => [HTTP/1.1 500 Internal Server Error~content-type: application/json~content-length: \
+    34~connection: close~~\
     {`name`:`StoreFault`,`refusal`:25}]
-refused OutOfMemory => [HTTP/1.1 507 Insufficient Storage~content-type: application/json~content-length: 35~connection: close~~\
+refused OutOfMemory => [HTTP/1.1 507 Insufficient Storage~content-type: application/json~content-length: \
+    35~connection: close~~\
     {`name`:`OutOfMemory`,`refusal`:24}]
-fixed BadRequest => [HTTP/1.1 400 Bad Request~content-type: application/json~content-length: 23~connection: close~~\
+fixed BadRequest => [HTTP/1.1 400 Bad Request~content-type: application/json~content-length: 23~connection: \
+    close~~\
     {`fault`:`bad request`}]
-fixed NoSuchPath => [HTTP/1.1 404 Not Found~content-type: application/json~content-length: 24~connection: close~~\
+fixed NoSuchPath => [HTTP/1.1 404 Not Found~content-type: application/json~content-length: 24~connection: \
+    close~~\
     {`fault`:`no such path`}]
-fixed NoSuchPackage => [HTTP/1.1 404 Not Found~content-type: application/json~content-length: 27~connection: close~~\
+fixed NoSuchPackage => [HTTP/1.1 404 Not Found~content-type: application/json~content-length: 27~connection: \
+    close~~\
     {`fault`:`no such package`}]
-fixed NoSuchReceipt => [HTTP/1.1 404 Not Found~content-type: application/json~content-length: 27~connection: close~~\
+fixed NoSuchReceipt => [HTTP/1.1 404 Not Found~content-type: application/json~content-length: 27~connection: \
+    close~~\
     {`fault`:`no such receipt`}]
-fixed BadMethod => [HTTP/1.1 405 Method Not Allowed~content-type: application/json~content-length: 22~connection: close~~\
+fixed BadMethod => [HTTP/1.1 405 Method Not Allowed~content-type: application/json~content-length: \
+    22~connection: close~~\
     {`fault`:`bad method`}]
-fixed NoLength => [HTTP/1.1 411 Length Required~content-type: application/json~content-length: 21~connection: close~~\
+fixed NoLength => [HTTP/1.1 411 Length Required~content-type: application/json~content-length: 21~connection: \
+    close~~\
     {`fault`:`no length`}]
-fixed TooLarge => [HTTP/1.1 413 Payload Too Large~content-type: application/json~content-length: 21~connection: close~~\
+fixed TooLarge => [HTTP/1.1 413 Payload Too Large~content-type: application/json~content-length: \
+    21~connection: close~~\
     {`fault`:`too large`}]
-fixed AskAgain => [HTTP/1.1 507 Insufficient Storage~content-type: application/json~content-length: 21~connection: close~~\
+fixed AskAgain => [HTTP/1.1 507 Insufficient Storage~content-type: application/json~content-length: \
+    21~connection: close~~\
     {`fault`:`ask again`}]
 manifest kind,identity^ => [HTTP/1.1 200 OK~content-type: text/csv~content-length: 14~connection: close~~\
     kind,identity^]
 good {} => [HTTP/1.1 200 OK~content-type: application/json~content-length: 2~connection: close~~\
     {}]
 packages loans => [1]
-packages list => [[{`bytes`:4,`depth`:0,`links`:1,`loans`:1,`media`:1,`package`:`a0000000-0000-4000-8000-000000000000`,\
-    `parent`:``,`rows`:0,`ticket`:7,`tiles`:2},{`bytes`:18446744073709551615,`depth`:1,`links`:0,`loans`:0,`media`:0,\
+packages list => [[{`bytes`:4,`depth`:0,`links`:1,`loans`:1,`media`:1,\
+    `package`:`a0000000-0000-4000-8000-000000000000`,\
+    `parent`:``,`rows`:0,`ticket`:7,`tiles`:2},{`bytes`:18446744073709551615,`depth`:1,`links`:0,`loans`:0,\
+    `media`:0,\
     `package`:`b0000000-0000-4000-8000-000000000000`,`parent`:`a0000000-0000-4000-8000-000000000000`,`rows`:3,\
     `ticket`:7,`tiles`:0}]]
 packages none => [HTTP/1.1 200 OK~content-type: application/json~content-length: 2~connection: close~~\
