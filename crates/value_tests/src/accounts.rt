@@ -1,10 +1,7 @@
 //! A tile that is added, lent and brought back; and ledgers each of which breaks one rule.
 
-use crate::receipts::{
-    ADDED, ADDITION, ARCHIVE, Entry, LENT, LOAN, MERGE, RETURNED, SPLIT, TILE, Thing, package,
-    package_text, package_word, receipts, tile,
-};
-use crate::steps::{Checked, answered, said, uuid};
+use crate::receipts::{ARCHIVE, LOAN, line_of, package_text, package_word, receipts, tile};
+use crate::steps::{Of, Table, answered, cut, in_brackets, said, unread, uuid, wrong_of};
 use ledger::accounting::account;
 use ledger::agreeing::agree;
 use ledger::entering::{are_entered, is_entered};
@@ -20,26 +17,6 @@ use ledger::soundness::is_sound;
 use sheet_types::error::OutOfMemory;
 use sheet_types::receipt::Receipt;
 use std::alloc::Global;
-use uuid::Uuid;
-
-const DELETED: &str =
-    "delete a0000000-0000-4000-8000-000000000000 00000000-0000-4000-8000-000000000001";
-
-const LINKED: &str =
-    "link rows_media a0000000-0000-4000-8000-000000000000 00000000-0000-4000-8000-000000000001 00000000-0000-4000-8000-000000000002";
-
-const UNLINKED: &str =
-    "unlink rows_media a0000000-0000-4000-8000-000000000000 00000000-0000-4000-8000-000000000001 00000000-0000-4000-8000-000000000002";
-
-const TILE_LINKED: &str =
-    "link rows_tiles a0000000-0000-4000-8000-000000000000 00000000-0000-4000-8000-000000000001 00000000-0000-4000-8000-000000000002";
-
-const TILE_UNLINKED: &str =
-    "unlink rows_tiles a0000000-0000-4000-8000-000000000000 00000000-0000-4000-8000-000000000001 00000000-0000-4000-8000-000000000002";
-
-// A line, as it is read.
-#[derive(Clone, Copy)]
-struct Line(&'static str);
 
 fn entry_word(alloc: Global, entry: &LineEntry) -> Result<String, OutOfMemory> {
     match entry {
@@ -52,132 +29,71 @@ fn entry_word(alloc: Global, entry: &LineEntry) -> Result<String, OutOfMemory> {
     }
 }
 
-fn push_packages(text: &mut String, ends: &[Option<Uuid>]) -> Result<(), OutOfMemory> {
-    for end in ends {
+fn entry_told(alloc: Global, entry: &LineEntry) -> Result<String, OutOfMemory> {
+    let mut text = entry_word(alloc, entry)?;
+    for end in [entry.source(), entry.target(), Some(entry.stands_in())] {
         text.push_str(" ")?;
-        text.push_str(package_word(*end))?;
+        text.push_str(package_word(end))?;
     }
-    Ok(())
+    Ok(text)
 }
 
-impl Line {
-    fn told(&self, alloc: Global) -> Result<String, OutOfMemory> {
-        let Some(entry) = read_line(self.0) else {
-            return said(alloc, "-");
-        };
-        let mut text = entry_word(alloc, &entry)?;
-        let ends = [entry.source(), entry.target(), Some(entry.stands_in())];
-        push_packages(&mut text, ends.as_slice())?;
-        Ok(text)
+/// A line in brackets, or its name, as it is read.
+pub(crate) fn line_told(alloc: Global, question: &str) -> Result<String, OutOfMemory> {
+    match in_brackets(question) {
+        Some(text) => match read_line(line_of(text)) {
+            Some(entry) => entry_told(alloc, &entry),
+            None => said(alloc, "-"),
+        },
+        None => unread(alloc, question),
     }
-}
-
-fn wrong(alloc: Global, steps: &[(Line, &'static str)]) -> Checked {
-    let mut checked = Checked::new(alloc);
-    for step in steps {
-        checked.told(step.0.told(alloc), step.1);
-    }
-    checked
 }
 
 // What stands in each line, and the package that it comes from, goes to and stands in.
-const LINES: [(Line, &str); 16] = [
-    (Line(ADDED), "add tile 1 - a a"),
-    (Line(DELETED), "delete a - a"),
-    (Line(LINKED), "link rows_media - a a"),
-    (Line(UNLINKED), "unlink rows_media a - a"),
-    (Line(TILE_LINKED), "link rows_tiles - a a"),
-    (Line(TILE_UNLINKED), "unlink rows_tiles a - a"),
-    (Line(LENT), "split strict a b a"),
-    (Line(RETURNED), "merge 2 b a a"),
-    (Line(""), "-"),
-    (Line("delete"), "-"),
-    (
-        Line("delete a0000000-0000-4000-8000-000000000000 00000000-0000-4000-8000-000000000001 "),
-        "-",
-    ),
-    (
-        Line("delete A0000000-0000-4000-8000-000000000000 00000000-0000-4000-8000-000000000001"),
-        "-",
-    ),
-    (
-        Line("merge b0000000-0000-4000-8000-000000000000 a0000000-0000-4000-8000-000000000000 02"),
-        "-",
-    ),
-    (
-        Line(
-            "split a0000000-0000-4000-8000-000000000000 b0000000-0000-4000-8000-000000000000 loose 1 0 0 0 0",
-        ),
-        "-",
-    ),
-    (
-        Line(
-            "add a0000000-0000-4000-8000-000000000000 00000000-0000-4000-8000-000000000001 tile -1 c20eb71e63f0260834960dcfbffbdf9e96eadc0b8946db35a34b9382dc301848",
-        ),
-        "-",
-    ),
-    (
-        Line(
-            "add a0000000-0000-4000-8000-000000000000 00000000-0000-4000-8000-000000000001 rows_media 0 0000000000000000000000000000000000000000000000000000000000000000",
-        ),
-        "-",
-    ),
-];
+const LINES: Table = Table(
+    14,
+    "[added] => [add tile 1 - a a]
+[deleted] => [delete a - a]
+[linked] => [link rows_media - a a]
+[tile_linked] => [link rows_tiles - a a]
+[tile_unlinked] => [unlink rows_tiles a - a]
+[lent] => [split strict a b a]
+[returned] => [merge 2 b a a]
+[] => [-]
+[delete] => [-]
+[delete a0000000-0000-4000-8000-000000000000 00000000-0000-4000-8000-000000000001 ] => [-]
+[delete A0000000-0000-4000-8000-000000000000 00000000-0000-4000-8000-000000000001] => [-]
+[merge b0000000-0000-4000-8000-000000000000 a0000000-0000-4000-8000-000000000000 02] => [-]
+[split a0000000-0000-4000-8000-000000000000 b0000000-0000-4000-8000-000000000000 loose 1 0 0 0 0] => [-]
+[add a0000000-0000-4000-8000-000000000000 00000000-0000-4000-8000-000000000001 tile -1 \
+    c20eb71e63f0260834960dcfbffbdf9e96eadc0b8946db35a34b9382dc301848] => [-]
+",
+);
 
 #[test]
 fn lines_are_read(rt: HostRuntime) {
-    assert_eq!(rt; wrong(rt.alloc(), LINES.as_slice()).wrong(), "");
+    assert_eq!(rt; wrong_of(rt.alloc(), Of::Lines, LINES).wrong(), "");
 }
 
 // A part of the rule for ledgers, or all of it.
-#[derive(Clone, Copy)]
-enum Part {
-    Sound,
-    Entered,
-    Things,
-    InOrder,
-    Counted,
-    Numbered,
-    NewRequests,
-    StartWhereEnded,
-    AddNew,
-    LendNew,
-    Agree,
-}
-
-fn holds(alloc: Global, part: Part, all: &[Receipt]) -> Result<bool, OutOfMemory> {
+fn holds(alloc: Global, part: &str, all: &[Receipt]) -> Result<Option<bool>, OutOfMemory> {
     match part {
-        Part::Sound => is_sound(alloc, uuid(ARCHIVE, 0), all),
-        Part::Entered => Ok(are_entered(all)),
-        Part::Things => Ok(have_things(all)),
-        Part::InOrder => Ok(are_in_order(all)),
-        Part::Counted => Ok(are_counted(all)),
-        Part::Numbered => Ok(are_numbered(all)),
-        Part::NewRequests => have_new_requests(alloc, all),
-        Part::StartWhereEnded => start_where_they_ended(alloc, all),
-        Part::AddNew => add_what_is_new(alloc, all),
-        Part::LendNew => lend_new_packages(alloc, uuid(ARCHIVE, 0), all),
-        Part::Agree => agree(alloc, all),
+        "sound" => Ok(Some(is_sound(alloc, uuid(ARCHIVE, 0), all)?)),
+        "entered" => Ok(Some(are_entered(all))),
+        "things" => Ok(Some(have_things(all))),
+        "in_order" => Ok(Some(are_in_order(all))),
+        "counted" => Ok(Some(are_counted(all))),
+        "numbered" => Ok(Some(are_numbered(all))),
+        "new_requests" => Ok(Some(have_new_requests(alloc, all)?)),
+        "start_where_ended" => Ok(Some(start_where_they_ended(alloc, all)?)),
+        "add_new" => Ok(Some(add_what_is_new(alloc, all)?)),
+        "lend_new" => Ok(Some(lend_new_packages(alloc, uuid(ARCHIVE, 0), all)?)),
+        "agree" => Ok(Some(agree(alloc, all)?)),
+        _ => Ok(None),
     }
 }
 
-#[derive(Clone, Copy)]
-enum OfLedger {
-    Is(Part),
-    // Where the tile stands, by the places and by the account.
-    Place,
-    PlaceInAccount,
-    // The loans that are open, each with its number.
-    Loans,
-    // Whether a split of this number into a package is open.
-    IsOpen(u8, u64),
-    // The tiles, links and bytes that came to a package, and that left it, by the flows and by the account.
-    Flow(u8),
-    FlowInAccount(u8),
-    // Whether the last receipt adds, splits and merges, and has its line.
-    Last,
-}
-
+// The loans that are open, each with its number.
 fn loans_told(alloc: Global, all: &[Receipt]) -> Result<String, OutOfMemory> {
     let mut text = String::new(alloc);
     let loans = open_loans(alloc, all)?;
@@ -188,6 +104,7 @@ fn loans_told(alloc: Global, all: &[Receipt]) -> Result<String, OutOfMemory> {
     Ok(text)
 }
 
+// The tiles, links and bytes that came to a package, and that left it.
 fn flow_text(alloc: Global, flow: Flow) -> Result<String, OutOfMemory> {
     let (came, left) = (flow.came, flow.left);
     Ok(format!(in alloc;
@@ -196,187 +113,127 @@ fn flow_text(alloc: Global, flow: Flow) -> Result<String, OutOfMemory> {
     )?)
 }
 
-fn last_told(alloc: Global, all: &[Receipt]) -> Result<String, OutOfMemory> {
-    let Some(last) = all.last() else {
-        return said(alloc, "-");
-    };
-    let word = match (is_add(last), is_split(last), is_merge(last)) {
+fn account_told(alloc: Global, all: &[Receipt], asks: &str) -> Result<String, OutOfMemory> {
+    let found = account(alloc, all)?;
+    match asks {
+        "account_flow_a" => flow_text(alloc, flow_of(&found.flows, uuid(ARCHIVE, 0))),
+        "account_flow_b" => flow_text(alloc, flow_of(&found.flows, uuid(LOAN, 0))),
+        _ => package_text(alloc, place_of(&found.places, &tile(1, 1))),
+    }
+}
+
+// Whether a split of this number into a package is open.
+fn open_told(alloc: Global, all: &[Receipt], of: u8, seq: u64) -> Result<String, OutOfMemory> {
+    let merges = last_merges(alloc, all)?;
+    answered(alloc, is_open(&merges, uuid(of, 0), seq))
+}
+
+// What the last receipt does, and whether it has its line.
+fn last_word(last: &Receipt) -> &'static str {
+    if !is_entered(last) {
+        return "not entered";
+    }
+    match (is_add(last), is_split(last), is_merge(last)) {
         (true, false, false) => "add",
         (false, true, false) => "split",
         (false, false, true) => "merge",
         _ => "another",
-    };
-    said(
-        alloc,
-        if is_entered(last) {
-            word
-        } else {
-            "not entered"
-        },
-    )
+    }
 }
 
-fn ledger_told(alloc: Global, all: &[Receipt], asks: OfLedger) -> Result<String, OutOfMemory> {
+// Of the clone of the first receipt its number and its line, and whether it moved the same.
+fn clone_told(alloc: Global, first: &Receipt) -> Result<String, OutOfMemory> {
+    let copy = first.try_clone()?;
+    let is_same = copy.items.as_slice() == first.items.as_slice();
+    let word = if is_same { "the same" } else { "other things" };
+    Ok(format!(in alloc; "{} {} {word}", copy.seq, copy.line.as_str())?)
+}
+
+fn part_told(alloc: Global, all: &[Receipt], asks: &str) -> Result<String, OutOfMemory> {
+    match (asks, all.first(), all.last()) {
+        ("clone", Some(first), _) => clone_told(alloc, first),
+        ("last", _, Some(last)) => said(alloc, last_word(last)),
+        _ => match holds(alloc, asks, all)? {
+            Some(answer) => answered(alloc, answer),
+            None => unread(alloc, asks),
+        },
+    }
+}
+
+fn ledger_told(alloc: Global, all: &[Receipt], asks: &str) -> Result<String, OutOfMemory> {
     match asks {
-        OfLedger::Is(part) => answered(alloc, holds(alloc, part, all)?),
-        OfLedger::Place => {
+        "place" => {
             let found = places(alloc, all)?;
             package_text(alloc, place_of(&found, &tile(1, 1)))
         }
-        OfLedger::PlaceInAccount => {
-            let found = account(alloc, all)?;
-            package_text(alloc, place_of(&found.places, &tile(1, 1)))
-        }
-        OfLedger::Loans => loans_told(alloc, all),
-        OfLedger::IsOpen(target, seq) => {
-            let merges = last_merges(alloc, all)?;
-            answered(alloc, is_open(&merges, uuid(target, 0), seq))
-        }
-        OfLedger::Flow(of) => {
+        "account_place" | "account_flow_a" | "account_flow_b" => account_told(alloc, all, asks),
+        "loans" => loans_told(alloc, all),
+        "open_b_2" => open_told(alloc, all, LOAN, 2),
+        "open_b_3" => open_told(alloc, all, LOAN, 3),
+        "open_a_0" => open_told(alloc, all, ARCHIVE, 0),
+        "flow_a" => {
             let found = flows(alloc, all)?;
-            flow_text(alloc, flow_of(&found, uuid(of, 0)))
+            flow_text(alloc, flow_of(&found, uuid(ARCHIVE, 0)))
         }
-        OfLedger::FlowInAccount(of) => {
-            let found = account(alloc, all)?;
-            flow_text(alloc, flow_of(&found.flows, uuid(of, 0)))
-        }
-        OfLedger::Last => last_told(alloc, all),
+        asks => part_told(alloc, all, asks),
     }
 }
 
-// What the ledger of these entries told that was not expected.
-fn noted(
-    alloc: Global,
-    checked: &mut Checked,
-    entries: &[Entry],
-    steps: &[(OfLedger, &str)],
-) -> Result<(), OutOfMemory> {
-    let all = receipts(alloc, entries)?;
-    for step in steps {
-        checked.told(ledger_told(alloc, all.as_slice(), step.0), step.1);
-    }
-    Ok(())
+/// What is asked of a ledger, and its receipts.
+pub(crate) fn ledger_of(alloc: Global, question: &str) -> Result<String, OutOfMemory> {
+    let (asks, words) = cut(question);
+    ledger_told(alloc, receipts(alloc, words)?.as_slice(), asks)
 }
 
-fn note(alloc: Global, checked: &mut Checked, entries: &[Entry], steps: &[(OfLedger, &str)]) {
-    if noted(alloc, checked, entries, steps).is_err() {
-        checked.told(Err(OutOfMemory), "memory");
-    }
-}
-
-fn wrong_in(alloc: Global, entries: &[Entry], steps: &[(OfLedger, &str)]) -> Checked {
-    let mut checked = Checked::new(alloc);
-    note(alloc, &mut checked, entries, steps);
-    checked
-}
-
-const STORY: [Entry; 3] = [ADDITION, SPLIT, MERGE];
-
-const OF_THE_STORY: [(OfLedger, &str); 20] = [
-    (OfLedger::Is(Part::Sound), "yes"),
-    (OfLedger::Is(Part::Entered), "yes"),
-    (OfLedger::Is(Part::Things), "yes"),
-    (OfLedger::Is(Part::InOrder), "yes"),
-    (OfLedger::Is(Part::Counted), "yes"),
-    (OfLedger::Is(Part::Numbered), "yes"),
-    (OfLedger::Is(Part::NewRequests), "yes"),
-    (OfLedger::Is(Part::StartWhereEnded), "yes"),
-    (OfLedger::Is(Part::AddNew), "yes"),
-    (OfLedger::Is(Part::LendNew), "yes"),
-    (OfLedger::Is(Part::Agree), "yes"),
-    (OfLedger::Place, "a"),
-    (OfLedger::PlaceInAccount, "a"),
-    (OfLedger::Loans, ""),
-    (OfLedger::IsOpen(LOAN, 2), "no"),
-    (OfLedger::IsOpen(LOAN, 3), "yes"),
-    (OfLedger::IsOpen(ARCHIVE, 0), "yes"),
-    // it came twice and left once, and the other way round
-    (OfLedger::FlowInAccount(ARCHIVE), "2;0;2;1;0;1;"),
-    (OfLedger::FlowInAccount(LOAN), "1;0;1;1;0;1;"),
-    (OfLedger::Last, "merge"),
-];
+const LEDGERS: Table = Table(
+    36,
+    "# a tile that is lent and brought back
+sound addition,split,merge => [yes]
+entered addition,split,merge => [yes]
+things addition,split,merge => [yes]
+in_order addition,split,merge => [yes]
+counted addition,split,merge => [yes]
+numbered addition,split,merge => [yes]
+new_requests addition,split,merge => [yes]
+start_where_ended addition,split,merge => [yes]
+add_new addition,split,merge => [yes]
+lend_new addition,split,merge => [yes]
+agree addition,split,merge => [yes]
+place addition,split,merge => [a]
+account_place addition,split,merge => [a]
+loans addition,split,merge => []
+open_b_2 addition,split,merge => [no]
+open_b_3 addition,split,merge => [yes]
+open_a_0 addition,split,merge => [yes]
+# it came twice and left once, and the other way round
+account_flow_a addition,split,merge => [2;0;2;1;0;1;]
+account_flow_b addition,split,merge => [1;0;1;1;0;1;]
+last addition,split,merge => [merge]
+# while it is lent
+place addition,split => [b]
+loans addition,split => [b 2;]
+last addition,split => [split]
+account_flow_b addition,split => [1;0;1;0;0;0;]
+# links of a row to a tile, of which the last is not what its line says
+sound 1.1.tile_linked.-.a.link => [yes]
+flow_a 1.1.tile_linked.-.a.link => [0;1;0;0;0;0;]
+sound 1.1.tile_linked.-.a.link,2.2.tile_unlinked.a.-.link => [yes]
+sound 1.1.tile_linked.-.a.link,2.2.tile_unlinked.a.-.link,3.3.linked.-.a.link => [no]
+# in the place of the merge: from the archive, misnumbered, of another size, without its line, to another \
+    end, added and lent again
+sound addition,split,3.3.deleted.a.-.tile => [no]
+sound addition,split,4.4.returned.b.a.tile => [no]
+sound addition,split,3.3.returned.b.a.grown => [no]
+sound addition,split,3.3.merge.b.a.tile => [no]
+sound addition,split,3.3.returned.b.-.tile => [no]
+sound addition,split,3.3.added.-.a.tile => [no]
+sound addition,split,3.3.lent.a.b.tile => [no]
+# its copy is the same
+clone 1.1.line.-.a.tile => [1 line the same]
+",
+);
 
 #[test]
-fn a_tile_lent_and_brought_back(rt: HostRuntime) {
-    assert_eq!(rt;
-        wrong_in(rt.alloc(), STORY.as_slice(), OF_THE_STORY.as_slice()).wrong(),
-        ""
-    );
-}
-
-const LENT_ONLY: [Entry; 2] = [ADDITION, SPLIT];
-
-const OF_THE_LOAN: [(OfLedger, &str); 4] = [
-    (OfLedger::Place, "b"),
-    (OfLedger::Loans, "b 2;"),
-    (OfLedger::Last, "split"),
-    (OfLedger::FlowInAccount(LOAN), "1;0;1;0;0;0;"),
-];
-
-#[test]
-fn a_tile_lent(rt: HostRuntime) {
-    assert_eq!(rt;
-        wrong_in(rt.alloc(), LENT_ONLY.as_slice(), OF_THE_LOAN.as_slice()).wrong(),
-        ""
-    );
-}
-
-// Links of an attributes row to a tile, of which the last is not what its line says.
-const LINKS: [Entry; 3] = [
-    Entry(1, 1, TILE_LINKED, 0, ARCHIVE, Thing::Link),
-    Entry(2, 2, TILE_UNLINKED, ARCHIVE, 0, Thing::Link),
-    Entry(3, 3, LINKED, 0, ARCHIVE, Thing::Link),
-];
-
-const LINKED_ONCE: [(OfLedger, &str); 2] = [
-    (OfLedger::Is(Part::Sound), "yes"),
-    (OfLedger::Flow(ARCHIVE), "0;1;0;0;0;0;"),
-];
-
-const SOUND: [(OfLedger, &str); 1] = [(OfLedger::Is(Part::Sound), "yes")];
-
-const NOT_SOUND: [(OfLedger, &str); 1] = [(OfLedger::Is(Part::Sound), "no")];
-
-#[test]
-fn a_row_linked_to_a_tile(rt: HostRuntime) {
-    let alloc = rt.alloc();
-    let links = LINKS.as_slice();
-    let mut checked = Checked::new(alloc);
-    note(alloc, &mut checked, &links[..1], LINKED_ONCE.as_slice());
-    note(alloc, &mut checked, &links[..2], SOUND.as_slice());
-    note(alloc, &mut checked, links, NOT_SOUND.as_slice());
-    assert_eq!(rt; checked.wrong(), "");
-}
-
-// In the place of the merge: from the archive, misnumbered, of another size, without its line, to another end, added and lent again.
-const BROKEN: [Entry; 7] = [
-    Entry(3, 3, DELETED, ARCHIVE, 0, TILE),
-    Entry(4, 4, RETURNED, LOAN, ARCHIVE, TILE),
-    Entry(3, 3, RETURNED, LOAN, ARCHIVE, Thing::Tile(1, 2)),
-    Entry(3, 3, "merge", LOAN, ARCHIVE, TILE),
-    Entry(3, 3, RETURNED, LOAN, 0, TILE),
-    Entry(3, 3, ADDED, 0, ARCHIVE, TILE),
-    Entry(3, 3, LENT, ARCHIVE, LOAN, TILE),
-];
-
-// A ledger that ends in this entry.
-#[derive(Clone, Copy)]
-struct EndsIn(Entry);
-
-impl EndsIn {
-    fn told(&self, alloc: Global) -> Result<String, OutOfMemory> {
-        let all = receipts(alloc, &[ADDITION, SPLIT, self.0])?;
-        ledger_told(alloc, all.as_slice(), OfLedger::Is(Part::Sound))
-    }
-}
-
-#[test]
-fn broken_ledgers(rt: HostRuntime) {
-    let alloc = rt.alloc();
-    let mut checked = Checked::new(alloc);
-    checked.told(EndsIn(MERGE).told(alloc), "yes");
-    for last in BROKEN.as_slice() {
-        checked.told(EndsIn(*last).told(alloc), "no");
-    }
-    assert_eq!(rt; checked.wrong(), "");
+fn ledgers(rt: HostRuntime) {
+    assert_eq!(rt; wrong_of(rt.alloc(), Of::Ledgers, LEDGERS).wrong(), "");
 }

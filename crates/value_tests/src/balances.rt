@@ -1,11 +1,10 @@
-//! A tile that is added to an archive, lent, lent on and brought back; and worlds in which one part alone is broken.
+//! A tile that is added to an archive, lent, lent on and brought back; and worlds in which one part alone is broken. What packages hold, and
+//! the last receipt of each.
 
 use crate::receipts::{
-    ADDITION, ARCHIVE, Entry, LENT, LOAN, MERGE, RETURNED, SECOND_LOAN, SPLIT, TILE, Thing,
-    package, package_text, package_word, receipts, things,
+    ARCHIVE, LOAN, package, package_byte, package_text, package_word, receipts, things,
 };
-use crate::steps::{Checked, said, uuid};
-use crate::values::signs;
+use crate::steps::{Of, Table, answered, cut, said, unread, uuid, wrong_of};
 use balance::holding::holds_what_is_kept;
 use balance::homes::are_at_home;
 use balance::judging::judge;
@@ -15,196 +14,97 @@ use balance::sights::{Sight, archive_of, ledger_of};
 use balance::splits::{lents_of, splits_of};
 use balance::sums::sums_add_up;
 use ledger::soundness::is_sound;
-use sheet_types::collections::MovedList;
+use opening::altered::least_altered;
 use sheet_types::error::OutOfMemory;
-use sheet_types::receipt::Receipt;
+use sheet_types::receipt::{Receipt, Sums};
 use std::alloc::Global;
+use tallies::holdings::sums_of;
+use tallies::tickets::{last_receipts, ticket_of};
 
-const LENT_ON: &str =
-    "split b0000000-0000-4000-8000-000000000000 c0000000-0000-4000-8000-000000000000 strict 1 0 0 0 0";
-
-const BACK_TO_LOAN: &str =
-    "merge c0000000-0000-4000-8000-000000000000 b0000000-0000-4000-8000-000000000000 3";
-
-const PAST_THE_LOAN: &str =
-    "merge c0000000-0000-4000-8000-000000000000 a0000000-0000-4000-8000-000000000000 3";
-
-const SPLIT_ON: Entry = Entry(3, 3, LENT_ON, LOAN, SECOND_LOAN, TILE);
-
-/// A package: the byte that its UUID begins with, that of its parent, the number of the split that made it, and what it holds.
+// A package: the byte that its UUID begins with, that of its parent, the number of the split that made it, and what it holds.
 #[derive(Clone, Copy)]
-pub(crate) struct Package(pub u8, pub u8, pub u64, pub Thing);
+struct Package<'a>(u8, u8, u64, &'a str);
 
-/// The package with these receipts.
-pub(crate) fn sight(alloc: Global, seen: Package, entries: &[Entry]) -> Result<Sight, OutOfMemory> {
+fn package_of(words: &str) -> Option<Package<'_>> {
+    let mut parts = words.split('.');
+    let (first, parent) = (package_byte(parts.next()?)?, package_byte(parts.next()?)?);
+    Some(Package(
+        first,
+        parent,
+        parts.next()?.parse::<u64>().ok()?,
+        parts.next()?,
+    ))
+}
+
+fn sight(alloc: Global, seen: Package<'_>, entries: &str) -> Result<Sight, OutOfMemory> {
+    let (item, link) = if seen.3 == "link" {
+        ("none", "link")
+    } else {
+        (seen.3, "none")
+    };
     Ok(Sight {
         uuid: uuid(seen.0, 0),
         parent: package(seen.1),
         loan: seen.2,
-        items: things(alloc, seen.3)?,
-        links: MovedList::from_vec(Vec::new(alloc)),
+        items: things(alloc, item)?,
+        links: things(alloc, link)?,
         receipts: receipts(alloc, entries)?,
     })
 }
 
-/// Puts it behind the others. A list of its own in a caller costs a proof seconds at each exit.
-pub(crate) fn push(
-    alloc: Global,
-    seen: &mut Vec<Sight>,
-    package: Package,
-    entries: &[Entry],
-) -> Result<(), OutOfMemory> {
-    seen.push(sight(alloc, package, entries)?)?;
-    Ok(())
+/// A package as a text, and its receipts behind a colon.
+pub(crate) fn sight_of(alloc: Global, words: &str) -> Result<Sight, OutOfMemory> {
+    match words.split_once(':') {
+        Some((seen, entries)) => match package_of(seen) {
+            Some(seen) => sight(alloc, seen, entries),
+            None => Err(OutOfMemory),
+        },
+        None => Err(OutOfMemory),
+    }
 }
 
-// What is asked of a world: whether its ledger is sound; whether custody, sums, loans, homes and merges are in order; and what the judge
-// says.
-#[derive(Clone, Copy)]
-enum Part {
-    Sound,
-    Holds,
-    Sums,
-    Loans,
-    Homes,
-    Merges,
-    Judged,
+fn sights(alloc: Global, words: &str) -> Result<Vec<Sight>, OutOfMemory> {
+    let mut seen = Vec::new(alloc);
+    for word in words.split(' ') {
+        if !word.is_empty() {
+            seen.push(sight_of(alloc, word)?)?;
+        }
+    }
+    Ok(seen)
 }
 
-const PARTS: [Part; 7] = [
-    Part::Sound,
-    Part::Holds,
-    Part::Sums,
-    Part::Loans,
-    Part::Homes,
-    Part::Merges,
-    Part::Judged,
-];
-
+// Whether the ledger of a world is sound; whether custody, sums, loans, homes and merges are in order; and what the judge says.
 fn holds(
     alloc: Global,
-    part: Part,
+    part: &str,
     ledger: &[Receipt],
     seen: &[Sight],
 ) -> Result<bool, OutOfMemory> {
     match part {
-        Part::Sound => is_sound(alloc, uuid(ARCHIVE, 0), ledger),
-        Part::Holds => holds_what_is_kept(alloc, ledger, seen),
-        Part::Sums => sums_add_up(alloc, ledger, seen),
-        Part::Loans => are_loans(alloc, ledger, seen),
-        Part::Homes => are_at_home(alloc, ledger, seen),
-        Part::Merges => are_together(alloc, seen),
-        Part::Judged => judge(alloc, seen),
+        "sound" => is_sound(alloc, uuid(ARCHIVE, 0), ledger),
+        "holds" => holds_what_is_kept(alloc, ledger, seen),
+        "sums" => sums_add_up(alloc, ledger, seen),
+        "loans" => are_loans(alloc, ledger, seen),
+        "homes" => are_at_home(alloc, ledger, seen),
+        "merges" => are_together(alloc, seen),
+        _ => judge(alloc, seen),
     }
 }
 
-fn verdicts(alloc: Global, seen: &[Sight]) -> Result<String, OutOfMemory> {
+fn parts_told(alloc: Global, seen: &[Sight]) -> Result<String, OutOfMemory> {
     let ledger = ledger_of(alloc, seen)?;
     let mut text = String::new(alloc);
-    for part in PARTS.as_slice() {
-        let answer = holds(alloc, *part, ledger.as_slice(), seen)?;
-        text.push_str(signs(alloc, &[answer])?.as_str())?;
+    for part in "sound holds sums loans homes merges judged".split(' ') {
+        let answer = holds(alloc, part, ledger.as_slice(), seen)?;
+        text.push_str(if answer { "+" } else { "-" })?;
     }
     Ok(text)
 }
 
-// The verdicts over an archive with these receipts that holds this.
-fn alone(alloc: Global, entries: &[Entry], held: Thing) -> Result<String, OutOfMemory> {
-    let mut seen = Vec::new(alloc);
-    push(alloc, &mut seen, Package(ARCHIVE, 0, 0, held), entries)?;
-    verdicts(alloc, seen.as_slice())
-}
-
-// The archive and its loan, with the receipts of each.
-fn both(
-    alloc: Global,
-    entries: &[Entry],
-    held: Thing,
-    loan: Package,
-    its: &[Entry],
-) -> Result<Vec<Sight>, OutOfMemory> {
-    let mut seen = Vec::new(alloc);
-    push(alloc, &mut seen, Package(ARCHIVE, 0, 0, held), entries)?;
-    push(alloc, &mut seen, loan, its)?;
-    Ok(seen)
-}
-
-fn with_loan(
-    alloc: Global,
-    entries: &[Entry],
-    held: Thing,
-    loan: Package,
-    its: &[Entry],
-) -> Result<String, OutOfMemory> {
-    let seen = both(alloc, entries, held, loan, its)?;
-    verdicts(alloc, seen.as_slice())
-}
-
-// A tile that was added and lent; the loan of this number, with what it holds.
-fn lent(alloc: Global, number: u64, held: Thing) -> Result<String, OutOfMemory> {
-    let loan = Package(LOAN, ARCHIVE, number, held);
-    with_loan(alloc, &[ADDITION, SPLIT], Thing::Nothing, loan, &[])
-}
-
-const EMPTY_LOAN: Package = Package(LOAN, ARCHIVE, 2, Thing::Nothing);
-
-const FULL_LOAN: Package = Package(LOAN, ARCHIVE, 2, TILE);
-
-const BACK_THROUGH_TWO: [Entry; 5] = [
-    ADDITION,
-    SPLIT,
-    SPLIT_ON,
-    Entry(4, 4, BACK_TO_LOAN, SECOND_LOAN, LOAN, TILE),
-    Entry(5, 5, RETURNED, LOAN, ARCHIVE, TILE),
-];
-
-const ONE_REQUEST_TWICE: [Entry; 2] = [ADDITION, Entry(2, 1, LENT, ARCHIVE, LOAN, TILE)];
-
-const PAST: [Entry; 3] = [
-    ADDITION,
-    SPLIT,
-    Entry(4, 4, PAST_THE_LOAN, SECOND_LOAN, ARCHIVE, TILE),
-];
-
-const RETURNED_AT_ONCE: [Entry; 3] = [ADDITION, SPLIT, MERGE];
-
-#[test]
-fn worlds_and_parts_that_are_broken(rt: HostRuntime) {
-    let alloc = rt.alloc();
-    let mut checked = Checked::new(alloc);
-    checked.told(lent(alloc, 2, TILE), "+++++++");
-    checked.told(alone(alloc, BACK_THROUGH_TWO.as_slice(), TILE), "+++++++");
-    checked.told(alone(alloc, RETURNED_AT_ONCE.as_slice(), TILE), "+++++++");
-    // one request twice
-    let twice = ONE_REQUEST_TWICE.as_slice();
-    checked.told(
-        with_loan(alloc, twice, Thing::Nothing, FULL_LOAN, &[]),
-        "-+++++-",
-    );
-    // another tile is held, and more bytes
-    checked.told(lent(alloc, 2, Thing::Tile(2, 1)), "+-++++-");
-    checked.told(lent(alloc, 2, Thing::Tile(1, 2)), "++-+++-");
-    // a loan of another number, and one that was brought back
-    checked.told(lent(alloc, 1, TILE), "+++-++-");
-    let back = RETURNED_AT_ONCE.as_slice();
-    checked.told(with_loan(alloc, back, TILE, EMPTY_LOAN, &[]), "+++-++-");
-    // a receipt away from home
-    checked.told(
-        with_loan(alloc, &[SPLIT], Thing::Nothing, FULL_LOAN, &[ADDITION]),
-        "++++-+-",
-    );
-    // a merge past the loan
-    checked.told(
-        with_loan(alloc, PAST.as_slice(), TILE, EMPTY_LOAN, &[SPLIT_ON]),
-        "+++++--",
-    );
-    assert_eq!(rt; checked.wrong(), "");
-}
-
 // The archive that is seen, and the numbers of the ledger in their order.
 fn ledger_told(alloc: Global, seen: &[Sight]) -> Result<String, OutOfMemory> {
-    let mut text = package_text(alloc, archive_of(seen))?;
     let ledger = ledger_of(alloc, seen)?;
+    let mut text = package_text(alloc, archive_of(seen))?;
     for receipt in ledger.iter() {
         text.push_str(format!(in alloc; " {}", receipt.seq)?.as_str())?;
     }
@@ -222,33 +122,107 @@ fn lents_told(alloc: Global, seen: &[Sight], of: u8) -> Result<String, OutOfMemo
     Ok(text)
 }
 
-fn note_a_world(alloc: Global, checked: &mut Checked) -> Result<(), OutOfMemory> {
-    let seen = both(alloc, &[SPLIT], Thing::Nothing, FULL_LOAN, &[ADDITION])?;
-    checked.told(ledger_told(alloc, seen.as_slice()), "a 1 2");
-    checked.told(lents_told(alloc, seen.as_slice(), LOAN), "2 in a;");
-    checked.told(lents_told(alloc, seen.as_slice(), ARCHIVE), "");
-    Ok(())
+fn sums_text(alloc: Global, sums: Sums) -> Result<String, OutOfMemory> {
+    Ok(format!(in alloc;
+        "{};{};{};{};{};",
+        sums.tiles, sums.media, sums.rows, sums.links, sums.bytes
+    )?)
 }
 
-#[test]
-fn ledgers_and_splits_of_worlds(rt: HostRuntime) {
-    let alloc = rt.alloc();
-    let mut checked = Checked::new(alloc);
-    if note_a_world(alloc, &mut checked).is_err() {
-        checked.told(Err(OutOfMemory), "memory");
+// The tiles, media, rows, links and bytes of the first package.
+fn sums_told(alloc: Global, seen: &[Sight]) -> Result<String, OutOfMemory> {
+    match seen.first() {
+        Some(first) => match sums_of(first) {
+            Some(sums) => sums_text(alloc, sums),
+            None => said(alloc, "-"),
+        },
+        None => said(alloc, "no package"),
     }
-    // no archive is seen
-    let judged = judge(alloc, &[]);
-    checked.told(
-        said(
-            alloc,
-            if matches!(judged, Ok(false)) {
-                "no"
-            } else {
-                "yes"
-            },
-        ),
-        "no",
-    );
-    assert_eq!(rt; checked.wrong(), "");
+}
+
+// The number of the last receipt of the first package that names one.
+fn ticket_told(alloc: Global, all: &[Receipt], of: u8) -> Result<String, OutOfMemory> {
+    let last = last_receipts(alloc, all)?;
+    Ok(format!(in alloc; "{}", ticket_of(&last, uuid(of, 0)))?)
+}
+
+fn first_ticket(alloc: Global, seen: &[Sight], of: u8) -> Result<String, OutOfMemory> {
+    match seen.first() {
+        Some(first) => ticket_told(alloc, first.receipts.as_slice(), of),
+        None => said(alloc, "no package"),
+    }
+}
+
+fn told(alloc: Global, seen: &[Sight], asks: &str) -> Result<String, OutOfMemory> {
+    match asks {
+        "parts" => parts_told(alloc, seen),
+        "judged" => answered(alloc, judge(alloc, seen)?),
+        "ledger" => ledger_told(alloc, seen),
+        "lents_a" => lents_told(alloc, seen, ARCHIVE),
+        "lents_b" => lents_told(alloc, seen, LOAN),
+        "sums" => sums_told(alloc, seen),
+        "ticket_a" => first_ticket(alloc, seen, ARCHIVE),
+        "ticket_b" => first_ticket(alloc, seen, LOAN),
+        "ticket_c" => first_ticket(alloc, seen, 0xc0),
+        asks => unread(alloc, asks),
+    }
+}
+
+// The least item that no addition says, where the addition of the tile is all that there is.
+fn altered_told(alloc: Global, seen: &[Sight]) -> Result<String, OutOfMemory> {
+    let ledger = receipts(alloc, "addition")?;
+    package_text(alloc, least_altered(alloc, ledger.as_slice(), seen)?)
+}
+
+/// What is asked of packages, and they.
+pub(crate) fn world_of(alloc: Global, question: &str) -> Result<String, OutOfMemory> {
+    let (asks, words) = cut(question);
+    let seen = sights(alloc, words)?;
+    match asks {
+        "altered" => altered_told(alloc, seen.as_slice()),
+        asks => told(alloc, seen.as_slice(), asks),
+    }
+}
+
+const WORLDS: Table = Table(
+    22,
+    "parts a.-.0.none:addition,split b.a.2.tile: => [+++++++]
+# brought back through two, and at once
+parts a.-.0.tile:addition,split,3.3.lent_on.b.c.tile,4.4.back_to_loan.c.b.tile,5.5.returned.b.a.tile => \
+    [+++++++]
+parts a.-.0.tile:addition,split,merge => [+++++++]
+# one request twice
+parts a.-.0.none:addition,2.1.lent.a.b.tile b.a.2.tile: => [-+++++-]
+# another tile is held, and more bytes
+parts a.-.0.none:addition,split b.a.2.other: => [+-++++-]
+parts a.-.0.none:addition,split b.a.2.grown: => [++-+++-]
+# a loan of another number, and one that was brought back
+parts a.-.0.none:addition,split b.a.1.tile: => [+++-++-]
+parts a.-.0.tile:addition,split,merge b.a.2.none: => [+++-++-]
+# a receipt away from home
+parts a.-.0.none:split b.a.2.tile:addition => [++++-+-]
+# a merge past the loan
+parts a.-.0.tile:addition,split,4.4.past_the_loan.c.a.tile b.a.2.none:3.3.lent_on.b.c.tile => [+++++--]
+ledger a.-.0.none:split b.a.2.tile:addition => [a 1 2]
+lents_b a.-.0.none:split b.a.2.tile:addition => [2 in a;]
+lents_a a.-.0.none:split b.a.2.tile:addition => []
+# no archive is seen
+judged  => [no]
+# what a package holds
+sums a.-.0.grown: => [1;0;0;0;2;]
+sums a.-.0.link: => [0;0;0;1;0;]
+sums a.-.0.none: => [0;0;0;0;0;]
+# the last receipt that names a package
+ticket_a a.-.0.none:1.1.add.-.a.none,2.2.add.a.b.none,3.3.add.-.a.none => [3]
+ticket_b a.-.0.none:1.1.add.-.a.none,2.2.add.a.b.none,3.3.add.-.a.none => [2]
+ticket_c a.-.0.none:1.1.add.-.a.none,2.2.add.a.b.none,3.3.add.-.a.none => [0]
+# an item that grew is altered
+altered a.-.0.tile: a.-.0.tile: => [-]
+altered a.-.0.tile: a.-.0.grown: => [tile]
+",
+);
+
+#[test]
+fn worlds_and_parts_that_are_broken(rt: HostRuntime) {
+    assert_eq!(rt; wrong_of(rt.alloc(), Of::Worlds, WORLDS).wrong(), "");
 }

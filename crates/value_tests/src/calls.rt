@@ -1,6 +1,6 @@
 //! What the bytes of connections ask, worked out by hand.
 
-use crate::steps::{Checked, said};
+use crate::steps::{Of, Table, cut, said, unescaped, unread, wrong_of};
 use desk_calls::calls::{Call, CallFault, Flaw};
 use desk_calls::reading::read_call;
 use desk_calls::source::{Memory, Outer, Source};
@@ -16,13 +16,14 @@ use uuid::Uuid;
 
 // A body of 251 bytes, by Python's `len`.
 const ADD: &str =
-    "{\"at\":\"2024-05-01T08:00:00.000Z\",\"command\":\"add\",\"data\":\"41\",\"identity\":\"00000000-0000-4000-8000-000000000001\",\"kind\":\"tile\",\"package\":\"a0000000-0000-4000-8000-000000000000\",\"request\":\"90000000-0000-4000-8000-000000000001\",\"column\":3,\"row\":3,\"zoom\":2}";
+    "{`at`:`2024-05-01T08:00:00.000Z`,`command`:`add`,`data`:`41`,`identity`:`00000000-0000-4000-8000-000000000001`,\
+    `kind`:`tile`,`package`:`a0000000-0000-4000-8000-000000000000`,`request`:`90000000-0000-4000-8000-000000000001`,\
+    `column`:3,`row`:3,`zoom`:2}";
 
 // Its digest is that of `tile 2 3 3`, a line feed and `A`, by Python's `hashlib`.
 const LINE: &str =
-    "add a0000000-0000-4000-8000-000000000000 00000000-0000-4000-8000-000000000001 tile 1 b363ee0ecc9cf61b12ecdafd75dca2779729b4fcc5f1bd718c33aad2c94af4f8";
-
-const HEAD: &str = "POST /requests HTTP/1.1\r\nContent-Length: 251\r\n\r\n";
+    "add a0000000-0000-4000-8000-000000000000 00000000-0000-4000-8000-000000000001 tile 1 \
+    b363ee0ecc9cf61b12ecdafd75dca2779729b4fcc5f1bd718c33aad2c94af4f8";
 
 fn flaw_name(flaw: Flaw) -> &'static str {
     match flaw {
@@ -34,13 +35,16 @@ fn flaw_name(flaw: Flaw) -> &'static str {
     }
 }
 
-// The line of a request under its own identity.
+// Whether it is the request of the body, or the line of another.
 fn request_text(alloc: Global, request: &Request) -> Result<String, OutOfMemory> {
-    if read_uuid("90000000-0000-4000-8000-000000000001") == Some(request.id) {
-        line(alloc, &request.command)
-    } else {
-        said(alloc, "another request")
+    if read_uuid("90000000-0000-4000-8000-000000000001") != Some(request.id) {
+        return said(alloc, "another request");
     }
+    let text = line(alloc, &request.command)?;
+    if text.as_str() == LINE {
+        return said(alloc, "the addition");
+    }
+    Ok(text)
 }
 
 fn named(alloc: Global, word: &str, found: Option<Uuid>) -> Result<String, OutOfMemory> {
@@ -89,285 +93,172 @@ impl<'a> Read for Failing<'a> {
     }
 }
 
-// The bytes that are sent: a text; a head and a body behind it; a POST with these fields and an empty object; the first bytes of a
-// request; a request of so many fields, and one whose head has so many bytes, and more than 29.
-#[derive(Clone, Copy)]
-enum Sent {
-    Text(&'static str),
-    Both(&'static str, &'static str),
-    Fields(&'static str),
-    Front(usize),
-    Many(usize),
-    Long(usize),
-    // A head and a body cut behind so many bytes, by a reader that fails.
-    Failing(&'static str, &'static str, usize),
-}
-
-fn joined(alloc: Global, head: &str, body: &str) -> Result<String, OutOfMemory> {
-    let mut text = said(alloc, head)?;
-    text.push_str(body)?;
-    Ok(text)
-}
-
-fn repeated(
-    alloc: Global,
-    front: &str,
-    middle: &str,
-    count: usize,
-    back: &str,
-) -> Result<String, OutOfMemory> {
-    let mut text = said(alloc, front)?;
-    text.push_str(middle.repeat(alloc, count)?.as_str())?;
-    text.push_str(back)?;
-    Ok(text)
-}
-
-fn sent_text(alloc: Global, bytes: Sent) -> Result<String, OutOfMemory> {
-    match bytes {
-        Sent::Text(text) => said(alloc, text),
-        Sent::Both(head, body) | Sent::Failing(head, body, _) => joined(alloc, head, body),
-        Sent::Fields(fields) => {
-            Ok(format!(in alloc; "POST /requests HTTP/1.1\r\n{fields}\r\n{{}}")?)
-        }
-        Sent::Front(_) => said(alloc, "GET /nothing HTTP/1.1\r\n\r\n"),
-        Sent::Many(count) => {
-            repeated(
-                alloc,
-                "GET /nothing HTTP/1.1\r\n",
-                "a: b\r\n",
-                count,
-                "\r\n",
-            )
-        }
-        Sent::Long(size) => repeated(
-            alloc,
-            "GET /nothing HTTP/1.1\r\na:",
-            "b",
-            size.saturating_sub(29),
-            "\r\n\r\n",
-        ),
-    }
-}
-
-fn cut(text: &[u8], count: usize) -> &[u8] {
+fn first(text: &[u8], count: usize) -> &[u8] {
     &text[..text.len().min(count)]
 }
 
-impl Sent {
-    fn told(&self, alloc: Global) -> Result<String, OutOfMemory> {
-        let text = sent_text(alloc, *self)?;
-        match *self {
-            Sent::Front(count) => asked(alloc, &mut Memory(cut(text.as_bytes(), count))),
-            Sent::Failing(_, _, count) => asked(
+// The first bytes of a text; by a reader that fails behind them, or one that ends.
+fn cut_told(alloc: Global, text: &str, count: usize, fails: bool) -> Result<String, OutOfMemory> {
+    let text = first(text.as_bytes(), count);
+    if fails {
+        let failing = Failing {
+            text,
+            is_ready: true,
+        };
+        return asked(alloc, &mut Outer(failing));
+    }
+    asked(alloc, &mut Memory(text))
+}
+
+// What stands between bars, the second as often as is said.
+fn repeated(alloc: Global, words: &str, count: usize) -> Result<String, OutOfMemory> {
+    let (front, rest) = words.split_once('|').unwrap_or((words, ""));
+    let (unit, back) = rest.split_once('|').unwrap_or((rest, ""));
+    let many = unit.repeat(alloc, count)?;
+    Ok(format!(in alloc; "{front}{}{back}", many.as_str())?)
+}
+
+// The bytes that are sent: `@` stands for the body.
+fn sent(alloc: Global, words: &str) -> Result<String, OutOfMemory> {
+    match words.split_once('@') {
+        Some((front, back)) => unescaped(alloc, format!(in alloc; "{front}{ADD}{back}")?.as_str()),
+        None => unescaped(alloc, words),
+    }
+}
+
+fn sent_told(alloc: Global, kind: &str, count: usize, words: &str) -> Result<String, OutOfMemory> {
+    match kind {
+        "all" => cut_told(alloc, sent(alloc, words)?.as_str(), usize::MAX, false),
+        "cut" => cut_told(alloc, sent(alloc, words)?.as_str(), count, false),
+        "failing" => cut_told(alloc, sent(alloc, words)?.as_str(), count, true),
+        "repeated" => {
+            let many = repeated(alloc, words, count)?;
+            cut_told(
                 alloc,
-                &mut Outer(Failing {
-                    text: cut(text.as_bytes(), count),
-                    is_ready: true,
-                }),
-            ),
-            Sent::Long(size) => {
-                if text.len() != size {
-                    return said(alloc, "another size");
-                }
-                asked(alloc, &mut Memory(text.as_bytes()))
-            }
-            _ => asked(alloc, &mut Memory(text.as_bytes())),
+                sent(alloc, many.as_str())?.as_str(),
+                usize::MAX,
+                false,
+            )
         }
+        kind => unread(alloc, kind),
     }
 }
 
-fn wrong(alloc: Global, steps: &[(Sent, &'static str)]) -> Checked {
-    let mut checked = Checked::new(alloc);
-    for step in steps {
-        checked.told(step.0.told(alloc), step.1);
+/// What is sent, and how much of it: all, so many bytes, those by a reader that then fails, or with a part that comes as often.
+pub(crate) fn call_of(alloc: Global, question: &str) -> Result<String, OutOfMemory> {
+    let (kind, rest) = cut(question);
+    if kind == "all" {
+        return sent_told(alloc, kind, 0, rest);
     }
-    checked
-}
-
-#[test]
-fn each_beginning_of_a_request(rt: HostRuntime) {
-    let alloc = rt.alloc();
-    let mut checked = Checked::new(alloc);
-    for count in 1..25usize {
-        checked.told(Sent::Front(count).told(alloc), "BadRequest");
+    let (count, words) = cut(rest);
+    match count.parse::<usize>() {
+        Ok(count) => sent_told(alloc, kind, count, words),
+        Err(_) => unread(alloc, question),
     }
-    checked.told(Sent::Front(0).told(alloc), "nothing");
-    checked.told(Sent::Front(25).told(alloc), "NoSuchPath");
-    checked.told(asked(alloc, &mut Memory(b"\xff")), "BadRequest");
-    assert_eq!(rt; checked.wrong(), "");
 }
 
-const HEADS: [(Sent, &str); 27] = [
-    // blank lines before the request line, a line feed alone at the ends of lines, the older version
-    (
-        Sent::Text("\r\n\nGET /packages HTTP/1.1\r\n\r\n"),
-        "packages",
-    ),
-    (Sent::Text("GET /packages HTTP/1.1\n\n"), "packages"),
-    (Sent::Text("GET /packages HTTP/1.0\r\n\r\n"), "packages"),
-    (
-        Sent::Text("GET /packages?x=1?y HTTP/1.1\r\nHost: desk\r\n\r\n"),
-        "packages",
-    ),
-    // a body of a GET is not looked at
-    (
-        Sent::Text(
-            "GET /packages HTTP/1.1\r\nContent-Length: x\r\nTransfer-Encoding: chunked\r\n\r\n",
-        ),
-        "packages",
-    ),
-    (Sent::Text("GET /packages HTTP/2.0\r\n\r\n"), "BadRequest"),
-    (Sent::Text("GET  /packages HTTP/1.1\r\n\r\n"), "BadRequest"),
-    (Sent::Text("GET /packages\r\n\r\n"), "BadRequest"),
-    (
-        Sent::Text("GET /packages HTTP/1.1\r\nno colon\r\n\r\n"),
-        "BadRequest",
-    ),
-    (Sent::Text("\r\n"), "BadRequest"),
-    (Sent::Text("GET /requests HTTP/1.1\r\n\r\n"), "BadMethod"),
-    (Sent::Text("POST /packages HTTP/1.1\r\n\r\n"), "BadMethod"),
-    (Sent::Text("post /requests HTTP/1.1\r\n\r\n"), "BadMethod"),
-    // a wrong method is seen before a wrong length, an unknown path before a wrong method
-    (
-        Sent::Text("PUT /requests HTTP/1.1\r\nContent-Length: x\r\n\r\n"),
-        "BadMethod",
-    ),
-    (Sent::Text("PUT /request HTTP/1.1\r\n\r\n"), "NoSuchPath"),
-    (Sent::Text("GET /packages/ HTTP/1.1\r\n\r\n"), "NoSuchPath"),
-    (
-        Sent::Text("GET /packages//manifest HTTP/1.1\r\n\r\n"),
-        "NoSuchPath",
-    ),
-    (
-        Sent::Text("GET /packages/x/manifest/ HTTP/1.1\r\n\r\n"),
-        "NoSuchPath",
-    ),
-    (Sent::Text("GET /receipts/ HTTP/1.1\r\n\r\n"), "NoSuchPath"),
-    (
-        Sent::Text("GET /receipts/x/y HTTP/1.1\r\n\r\n"),
-        "NoSuchPath",
-    ),
-    (Sent::Text("GET /Packages HTTP/1.1\r\n\r\n"), "NoSuchPath"),
-    (
-        Sent::Text(
-            "GET /packages/A0000000-0000-4000-8000-00000000000a/manifest?x HTTP/1.1\r\n\r\n",
-        ),
-        "manifest a0000000-0000-4000-8000-00000000000a",
-    ),
-    (
-        Sent::Text("GET /receipts/90000000-0000-4000-8000-000000000001 HTTP/1.0\r\n\r\n"),
-        "receipt 90000000-0000-4000-8000-000000000001",
-    ),
-    // what is no UUID
-    (
-        Sent::Text("GET /packages/x/manifest HTTP/1.1\r\n\r\n"),
-        "manifest ",
-    ),
-    (
-        Sent::Text("GET /packages/a000000000004000800000000000000a/manifest HTTP/1.1\r\n\r\n"),
-        "manifest ",
-    ),
-    (
-        Sent::Text(
-            "GET /packages/%610000000-0000-4000-8000-00000000000a/manifest HTTP/1.1\r\n\r\n",
-        ),
-        "manifest ",
-    ),
-    (
-        Sent::Text("GET /receipts/{90000000-0000-4000-8000-000000000001} HTTP/1.1\r\n\r\n"),
-        "receipt ",
-    ),
-];
+const CALLS: Table = Table(
+    84,
+    "# each beginning of a request
+cut 1 GET /nothing HTTP/1.1~~ => [BadRequest]
+cut 2 GET /nothing HTTP/1.1~~ => [BadRequest]
+cut 3 GET /nothing HTTP/1.1~~ => [BadRequest]
+cut 4 GET /nothing HTTP/1.1~~ => [BadRequest]
+cut 5 GET /nothing HTTP/1.1~~ => [BadRequest]
+cut 6 GET /nothing HTTP/1.1~~ => [BadRequest]
+cut 7 GET /nothing HTTP/1.1~~ => [BadRequest]
+cut 8 GET /nothing HTTP/1.1~~ => [BadRequest]
+cut 9 GET /nothing HTTP/1.1~~ => [BadRequest]
+cut 10 GET /nothing HTTP/1.1~~ => [BadRequest]
+cut 11 GET /nothing HTTP/1.1~~ => [BadRequest]
+cut 12 GET /nothing HTTP/1.1~~ => [BadRequest]
+cut 13 GET /nothing HTTP/1.1~~ => [BadRequest]
+cut 14 GET /nothing HTTP/1.1~~ => [BadRequest]
+cut 15 GET /nothing HTTP/1.1~~ => [BadRequest]
+cut 16 GET /nothing HTTP/1.1~~ => [BadRequest]
+cut 17 GET /nothing HTTP/1.1~~ => [BadRequest]
+cut 18 GET /nothing HTTP/1.1~~ => [BadRequest]
+cut 19 GET /nothing HTTP/1.1~~ => [BadRequest]
+cut 20 GET /nothing HTTP/1.1~~ => [BadRequest]
+cut 21 GET /nothing HTTP/1.1~~ => [BadRequest]
+cut 22 GET /nothing HTTP/1.1~~ => [BadRequest]
+cut 23 GET /nothing HTTP/1.1~~ => [BadRequest]
+cut 24 GET /nothing HTTP/1.1~~ => [BadRequest]
+cut 25 GET /nothing HTTP/1.1~~ => [NoSuchPath]
+cut 0 GET /nothing HTTP/1.1~~ => [nothing]
+# blank lines before the request line, a line feed alone at the ends of lines, the older version
+all ~^GET /packages HTTP/1.1~~ => [packages]
+all GET /packages HTTP/1.1^^ => [packages]
+all GET /packages HTTP/1.0~~ => [packages]
+all GET /packages?x=1?y HTTP/1.1~Host: desk~~ => [packages]
+# a body of a GET is not looked at
+all GET /packages HTTP/1.1~Content-Length: x~Transfer-Encoding: chunked~~ => [packages]
+all GET /packages HTTP/2.0~~ => [BadRequest]
+all GET  /packages HTTP/1.1~~ => [BadRequest]
+all GET /packages~~ => [BadRequest]
+all GET /packages HTTP/1.1~no colon~~ => [BadRequest]
+all ~ => [BadRequest]
+all GET /requests HTTP/1.1~~ => [BadMethod]
+all POST /packages HTTP/1.1~~ => [BadMethod]
+all post /requests HTTP/1.1~~ => [BadMethod]
+# a wrong method is seen before a wrong length, an unknown path before a wrong method
+all PUT /requests HTTP/1.1~Content-Length: x~~ => [BadMethod]
+all PUT /request HTTP/1.1~~ => [NoSuchPath]
+all GET /packages/ HTTP/1.1~~ => [NoSuchPath]
+all GET /packages//manifest HTTP/1.1~~ => [NoSuchPath]
+all GET /packages/x/manifest/ HTTP/1.1~~ => [NoSuchPath]
+all GET /receipts/ HTTP/1.1~~ => [NoSuchPath]
+all GET /receipts/x/y HTTP/1.1~~ => [NoSuchPath]
+all GET /Packages HTTP/1.1~~ => [NoSuchPath]
+all GET /packages/A0000000-0000-4000-8000-00000000000a/manifest?x HTTP/1.1~~ => \
+    [manifest a0000000-0000-4000-8000-00000000000a]
+all GET /receipts/90000000-0000-4000-8000-000000000001 HTTP/1.0~~ => [receipt \
+    90000000-0000-4000-8000-000000000001]
+# what is no UUID
+all GET /packages/x/manifest HTTP/1.1~~ => [manifest ]
+all GET /packages/a000000000004000800000000000000a/manifest HTTP/1.1~~ => [manifest ]
+all GET /packages/%610000000-0000-4000-8000-00000000000a/manifest HTTP/1.1~~ => [manifest ]
+all GET /receipts/{90000000-0000-4000-8000-000000000001} HTTP/1.1~~ => [receipt ]
+all POST /requests HTTP/1.1~Content-Length: 2200000~~{} => [BadRequest]
+all POST /requests HTTP/1.1~content-length: 2200001~~{} => [TooLarge]
+all POST /requests HTTP/1.1~CONTENT-LENGTH: 999999999~~{} => [TooLarge]
+all POST /requests HTTP/1.1~Content-Length: 0000000001~~{} => [BadRequest]
+all POST /requests HTTP/1.1~Content-Length: +1~~{} => [BadRequest]
+all POST /requests HTTP/1.1~Content-Length: 1 1~~{} => [BadRequest]
+all POST /requests HTTP/1.1~Content-Length:~~{} => [BadRequest]
+all POST /requests HTTP/1.1~Content-Length: 5~Content-Length: 5~~{} => [BadRequest]
+all POST /requests HTTP/1.1~~{} => [NoLength]
+all POST /requests HTTP/1.1~Content-Length: 2200001~Transfer-Encoding: chunked~~{} => [BadRequest]
+all POST /requests HTTP/1.1~transfer-encoding:~~{} => [BadRequest]
+all POST /requests HTTP/1.1~Content-Length: 2~~{} => [BadRequest]
+all POST /requests HTTP/1.1~Content-Length: 251~~@ => [the addition]
+# nine digits, and what follows the body is not looked at
+all POST /requests HTTP/1.0~content-length:  000000251 ~~@} => [the addition]
+# one byte shorter than it says, and cut in its last byte
+all POST /requests HTTP/1.1~Content-Length: 252~~@ => [BadRequest]
+all POST /requests HTTP/1.1~Content-Length: 250~~@ => [BadRequest]
+all POST /requests HTTP/1.1~Content-Length: 0~~ => [BadRequest]
+all POST /requests HTTP/1.1~Content-Length: 2~~[] => [BadRequest]
+all POST /requests HTTP/1.1~Content-Length: 7~~nothing => [BadRequest]
+# limits of heads
+repeated 64 GET /nothing HTTP/1.1~|a: b~|~ => [NoSuchPath]
+repeated 65 GET /nothing HTTP/1.1~|a: b~|~ => [BadRequest]
+repeated 16355 GET /nothing HTTP/1.1~a:|b|~~ => [NoSuchPath]
+repeated 16356 GET /nothing HTTP/1.1~a:|b|~~ => [BadRequest]
+# a reader that fails
+failing 0 POST /requests HTTP/1.1~Content-Length: 251~~@ => [failed]
+failing 1 POST /requests HTTP/1.1~Content-Length: 251~~@ => [failed]
+failing 30 POST /requests HTTP/1.1~Content-Length: 251~~@ => [failed]
+failing 60 POST /requests HTTP/1.1~Content-Length: 251~~@ => [failed]
+failing 200 POST /requests HTTP/1.1~Content-Length: 251~~@ => [failed]
+# only where nothing is asked of it any more, and after a check that fails nothing is taken
+failing 1000 POST /requests HTTP/1.1~Content-Length: 251~~@ => [the addition]
+failing 1000 POST /requests HTTP/1.1~Content-Length: 251~~ => [failed]
+failing 1000 POST /packages HTTP/1.1~Content-Length: 5~~ => [BadMethod]
+",
+);
 
 #[test]
-fn heads_paths_and_methods(rt: HostRuntime) {
-    assert_eq!(rt; wrong(rt.alloc(), HEADS.as_slice()).wrong(), "");
-}
-
-const BODIES: [(Sent, &str); 31] = [
-    (Sent::Fields("Content-Length: 2200000\r\n"), "BadRequest"),
-    (Sent::Fields("content-length: 2200001\r\n"), "TooLarge"),
-    (Sent::Fields("CONTENT-LENGTH: 999999999\r\n"), "TooLarge"),
-    (Sent::Fields("Content-Length: 0000000001\r\n"), "BadRequest"),
-    (Sent::Fields("Content-Length: +1\r\n"), "BadRequest"),
-    (Sent::Fields("Content-Length: 1 1\r\n"), "BadRequest"),
-    (Sent::Fields("Content-Length:\r\n"), "BadRequest"),
-    (
-        Sent::Fields("Content-Length: 5\r\nContent-Length: 5\r\n"),
-        "BadRequest",
-    ),
-    (Sent::Fields(""), "NoLength"),
-    (
-        Sent::Fields("Content-Length: 2200001\r\nTransfer-Encoding: chunked\r\n"),
-        "BadRequest",
-    ),
-    (Sent::Fields("transfer-encoding:\r\n"), "BadRequest"),
-    (Sent::Fields("Content-Length: 2\r\n"), "BadRequest"),
-    (Sent::Both(HEAD, ADD), LINE),
-    // nine digits, and what follows the body is not looked at
-    (
-        Sent::Both(
-            "POST /requests HTTP/1.0\r\ncontent-length:  000000251 \r\n\r\n",
-            MORE,
-        ),
-        LINE,
-    ),
-    // one byte shorter than it says, and cut in its last byte
-    (
-        Sent::Both(
-            "POST /requests HTTP/1.1\r\nContent-Length: 252\r\n\r\n",
-            ADD,
-        ),
-        "BadRequest",
-    ),
-    (
-        Sent::Both(
-            "POST /requests HTTP/1.1\r\nContent-Length: 250\r\n\r\n",
-            ADD,
-        ),
-        "BadRequest",
-    ),
-    (
-        Sent::Text("POST /requests HTTP/1.1\r\nContent-Length: 0\r\n\r\n"),
-        "BadRequest",
-    ),
-    (
-        Sent::Text("POST /requests HTTP/1.1\r\nContent-Length: 2\r\n\r\n[]"),
-        "BadRequest",
-    ),
-    (
-        Sent::Text("POST /requests HTTP/1.1\r\nContent-Length: 7\r\n\r\nnothing"),
-        "BadRequest",
-    ),
-    // limits of heads
-    (Sent::Many(64), "NoSuchPath"),
-    (Sent::Many(65), "BadRequest"),
-    (Sent::Long(16_384), "NoSuchPath"),
-    (Sent::Long(16_385), "BadRequest"),
-    // a reader that fails
-    (Sent::Failing(HEAD, ADD, 0), "failed"),
-    (Sent::Failing(HEAD, ADD, 1), "failed"),
-    (Sent::Failing(HEAD, ADD, 30), "failed"),
-    (Sent::Failing(HEAD, ADD, 60), "failed"),
-    (Sent::Failing(HEAD, ADD, 200), "failed"),
-    // only where nothing is asked of it any more, and after a check that fails nothing is taken
-    (Sent::Failing(HEAD, ADD, 1000), LINE),
-    (Sent::Failing(HEAD, "", 1000), "failed"),
-    (
-        Sent::Failing(
-            "POST /packages HTTP/1.1\r\nContent-Length: 5\r\n\r\n",
-            "",
-            1000,
-        ),
-        "BadMethod",
-    ),
-];
-
-// The body with one byte behind it.
-const MORE: &str =
-    "{\"at\":\"2024-05-01T08:00:00.000Z\",\"command\":\"add\",\"data\":\"41\",\"identity\":\"00000000-0000-4000-8000-000000000001\",\"kind\":\"tile\",\"package\":\"a0000000-0000-4000-8000-000000000000\",\"request\":\"90000000-0000-4000-8000-000000000001\",\"column\":3,\"row\":3,\"zoom\":2}}";
-
-#[test]
-fn lengths_bodies_and_readers_that_fail(rt: HostRuntime) {
-    assert_eq!(rt; wrong(rt.alloc(), BODIES.as_slice()).wrong(), "");
+fn heads_bodies_and_readers_that_fail(rt: HostRuntime) {
+    assert_eq!(rt; wrong_of(rt.alloc(), Of::Calls, CALLS).wrong(), "");
 }

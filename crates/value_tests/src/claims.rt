@@ -1,20 +1,17 @@
 //! An archive that added a tile and lent a package, and that package, told by hand: found, missing, copied, brought back, in the wrong
 //! place, torn and altered. Stores are written as words.
 
-use crate::balances::{Package, push, sight};
-use crate::receipts::{
-    ADDED, ADDITION, ARCHIVE, Entry, LENT, LOAN, RETURNED, TILE, Thing, package, package_text,
-    package_word, receipts,
-};
-use crate::steps::{Checked, answered, uuid};
-use crate::values::{signs, text};
-use opening::altered::least_altered;
+use crate::balances::sight_of;
+use crate::receipts::{ARCHIVE, LOAN, line_of, package, package_text, package_word};
+use crate::steps::{Of, Table, answered, cut, signs, unread, uuid, wrong_of};
+use crate::values::text;
 use opening::archives::{has_no_archive, has_two_archives};
 use opening::faults::RecoverFault;
 use opening::foreign::least_foreign;
 use opening::least::{least_copied, least_missing};
 use opening::reaching::reach;
 use opening::sights::{Sight, StoreClaim, StoreHead};
+use opening::splits::Reached;
 use opening::unfit::least_unfit;
 use sheet_types::error::OutOfMemory;
 use sheet_types::frame::Frame;
@@ -50,19 +47,31 @@ fn claim(
 ) -> Result<StoreClaim, OutOfMemory> {
     Ok(StoreClaim {
         seq,
-        line: text(alloc, line)?,
+        line: text(alloc, line_of(line))?,
         source: text(alloc, source)?,
         target: text(alloc, target)?,
     })
 }
 
-// An archive with these claims.
-fn lender(claims: Vec<StoreClaim>) -> Sight {
+// What an archive claims that lent a package, and maybe took it back.
+fn claims(alloc: Global, is_returned: bool) -> Result<Vec<StoreClaim>, OutOfMemory> {
+    let mut list = Vec::new(alloc);
+    list.push(claim(alloc, 1, "added", "", A)?)?;
+    list.push(claim(alloc, 2, "lent", A, B)?)?;
+    if is_returned {
+        list.push(claim(alloc, 3, "returned", B, A)?)?;
+    }
+    Ok(list)
+}
+
+// An archive, or the package that it lent, at this depth; and what it claims.
+fn store_of(depth: u64, claims: Vec<StoreClaim>) -> Sight {
+    let is_loan = depth > 0;
     let head = StoreHead {
-        uuid: uuid(ARCHIVE, 0),
-        parent: None,
-        depth: 0,
-        loan: 0,
+        uuid: uuid(if is_loan { LOAN } else { ARCHIVE }, 0),
+        parent: package(if is_loan { ARCHIVE } else { 0 }),
+        depth,
+        loan: if is_loan { 2 } else { 0 },
     };
     Sight {
         head: Some(head),
@@ -71,38 +80,12 @@ fn lender(claims: Vec<StoreClaim>) -> Sight {
     }
 }
 
-// The package that it lent, at this depth.
-fn loan(alloc: Global, depth: u64) -> Sight {
-    let head = StoreHead {
-        uuid: uuid(LOAN, 0),
-        parent: package(ARCHIVE),
-        depth,
-        loan: 2,
-    };
-    Sight {
-        head: Some(head),
-        claims: Vec::new(alloc),
-        frame: SHEET,
-    }
-}
-
-// An archive that lent a package, and maybe took it back.
-fn claims(alloc: Global, is_returned: bool) -> Result<Vec<StoreClaim>, OutOfMemory> {
-    let mut list = Vec::new(alloc);
-    list.push(claim(alloc, 1, ADDED, "", A)?)?;
-    list.push(claim(alloc, 2, LENT, A, B)?)?;
-    if is_returned {
-        list.push(claim(alloc, 3, RETURNED, B, A)?)?;
-    }
-    Ok(list)
-}
-
 fn store(alloc: Global, word: &str) -> Result<Sight, OutOfMemory> {
     match word {
-        "lender" => Ok(lender(claims(alloc, false)?)),
-        "returned" => Ok(lender(claims(alloc, true)?)),
-        "deep" => Ok(loan(alloc, 2)),
-        _ => Ok(loan(alloc, 1)),
+        "lender" => Ok(store_of(0, claims(alloc, false)?)),
+        "returned" => Ok(store_of(0, claims(alloc, true)?)),
+        "deep" => Ok(store_of(2, Vec::new(alloc))),
+        _ => Ok(store_of(1, Vec::new(alloc))),
     }
 }
 
@@ -114,149 +97,91 @@ fn stores(alloc: Global, words: &str) -> Result<Vec<Sight>, OutOfMemory> {
     Ok(list)
 }
 
-// What is asked of stores.
-#[derive(Clone, Copy)]
-enum Asks {
-    // Which are live.
-    Live,
-    // How many splits are open.
-    Splits,
-    Missing,
-    Copied,
-    Foreign,
-    HasNoArchive,
-    HasTwoArchives,
-    // Of two live stores, or of a first that alone is, the least that is not fit, where the first is fit and the second is not.
-    Unfit,
-    UnfitOfOne,
+// Of two live stores, or of a first that alone is, the least that is not fit, where the first is fit and the second is not.
+fn unfit_told(alloc: Global, seen: &[Sight], is_live: bool) -> Result<String, OutOfMemory> {
+    let found = least_unfit(alloc, seen, &[true, is_live], &[true, false])?;
+    package_text(alloc, found)
 }
 
-fn claims_told(alloc: Global, seen: &[Sight], asks: Asks) -> Result<String, OutOfMemory> {
-    let reached = reach(alloc, seen)?;
+// Which are live, how many splits are open, and the least package of a fault.
+fn reached_told(
+    alloc: Global,
+    seen: &[Sight],
+    reached: &Reached,
+    asks: &str,
+) -> Result<String, OutOfMemory> {
     match asks {
-        Asks::Live => signs(alloc, reached.live.as_slice()),
-        Asks::Splits => Ok(format!(in alloc; "{}", reached.splits.len())?),
-        Asks::Missing => package_text(alloc, least_missing(alloc, seen, &reached.splits)?),
-        Asks::Copied => package_text(alloc, least_copied(alloc, seen, &reached.splits)?),
-        Asks::Foreign => package_text(alloc, least_foreign(alloc, seen, &reached.splits)?),
-        Asks::HasNoArchive => answered(alloc, has_no_archive(seen)),
-        Asks::HasTwoArchives => answered(alloc, has_two_archives(seen)),
-        Asks::Unfit => {
-            package_text(
-                alloc,
-                least_unfit(alloc, seen, &[true, true], &[true, false])?,
-            )
+        "live" => signs(alloc, reached.live.as_slice()),
+        "splits" => Ok(format!(in alloc; "{}", reached.splits.len())?),
+        "missing" => package_text(alloc, least_missing(alloc, seen, &reached.splits)?),
+        "copied" => package_text(alloc, least_copied(alloc, seen, &reached.splits)?),
+        "foreign" => package_text(alloc, least_foreign(alloc, seen, &reached.splits)?),
+        asks => unread(alloc, asks),
+    }
+}
+
+fn claims_told(alloc: Global, seen: &[Sight], asks: &str) -> Result<String, OutOfMemory> {
+    match asks {
+        "has_no_archive" => answered(alloc, has_no_archive(seen)),
+        "has_two_archives" => answered(alloc, has_two_archives(seen)),
+        "unfit" => unfit_told(alloc, seen, true),
+        "unfit_of_one" => unfit_told(alloc, seen, false),
+        asks => {
+            let reached = reach(alloc, seen)?;
+            reached_told(alloc, seen, &reached, asks)
         }
-        Asks::UnfitOfOne => {
-            package_text(
-                alloc,
-                least_unfit(alloc, seen, &[true, false], &[true, false])?,
-            )
-        }
     }
 }
 
-#[derive(Clone, Copy)]
-struct Of(&'static str, Asks);
-
-impl Of {
-    fn told(&self, alloc: Global) -> Result<String, OutOfMemory> {
-        let seen = stores(alloc, self.0)?;
-        claims_told(alloc, seen.as_slice(), self.1)
-    }
+/// What is asked of stores, and they.
+pub(crate) fn claims_of(alloc: Global, question: &str) -> Result<String, OutOfMemory> {
+    let (asks, words) = cut(question);
+    claims_told(alloc, stores(alloc, words)?.as_slice(), asks)
 }
 
-fn wrong_claims(alloc: Global, steps: &[(Of, &'static str)]) -> Checked {
-    let mut checked = Checked::new(alloc);
-    for step in steps {
-        checked.told(step.0.told(alloc), step.1);
-    }
-    checked
-}
-
-const CLAIMS: [(Of, &str); 16] = [
-    (Of("loan lender", Asks::Live), "++"),
-    (Of("loan lender", Asks::Splits), "1"),
-    (Of("loan lender", Asks::Missing), "-"),
-    (Of("loan lender", Asks::Copied), "-"),
-    (Of("loan lender", Asks::Foreign), "-"),
-    (Of("loan lender", Asks::HasNoArchive), "no"),
-    (Of("loan lender", Asks::HasTwoArchives), "no"),
-    (Of("lender", Asks::Missing), "b"),
-    (Of("lender loan loan", Asks::Copied), "b"),
-    (Of("returned loan", Asks::Live), "+-"),
-    (Of("returned loan", Asks::Splits), "0"),
-    (Of("lender deep", Asks::Foreign), "b"),
-    (Of("loan", Asks::HasNoArchive), "yes"),
-    (Of("loan lender lender", Asks::HasTwoArchives), "yes"),
-    (Of("lender loan", Asks::Unfit), "b"),
-    (Of("lender loan", Asks::UnfitOfOne), "-"),
-];
+const CLAIMS: Table = Table(
+    16,
+    "live loan lender => [++]
+splits loan lender => [1]
+missing loan lender => [-]
+copied loan lender => [-]
+foreign loan lender => [-]
+has_no_archive loan lender => [no]
+has_two_archives loan lender => [no]
+missing lender => [b]
+copied lender loan loan => [b]
+live returned loan => [+-]
+splits returned loan => [0]
+foreign lender deep => [b]
+has_no_archive loan => [yes]
+has_two_archives loan lender lender => [yes]
+unfit lender loan => [b]
+unfit_of_one lender loan => [-]
+",
+);
 
 #[test]
 fn what_stores_claim(rt: HostRuntime) {
-    assert_eq!(rt; wrong_claims(rt.alloc(), CLAIMS.as_slice()).wrong(), "");
+    assert_eq!(rt; wrong_of(rt.alloc(), Of::Claims, CLAIMS).wrong(), "");
 }
 
-// The least item that no addition says, of archives that hold a tile of these sizes.
-#[derive(Clone, Copy)]
-struct Holders(u64, u64);
-
-impl Holders {
-    fn told(&self, alloc: Global) -> Result<String, OutOfMemory> {
-        let ledger = receipts(alloc, &[ADDITION])?;
-        let mut seen = Vec::new(alloc);
-        push(
-            alloc,
-            &mut seen,
-            Package(ARCHIVE, 0, 0, Thing::Tile(1, self.0)),
-            &[],
-        )?;
-        push(
-            alloc,
-            &mut seen,
-            Package(ARCHIVE, 0, 0, Thing::Tile(1, self.1)),
-            &[],
-        )?;
-        package_text(alloc, least_altered(alloc, &ledger, &seen)?)
-    }
-}
-
-fn wrong_holders(alloc: Global, steps: &[(Holders, &'static str)]) -> Checked {
-    let mut checked = Checked::new(alloc);
-    for step in steps {
-        checked.told(step.0.told(alloc), step.1);
-    }
-    checked
-}
-
-const HOLDERS: [(Holders, &str); 2] = [(Holders(1, 1), "-"), (Holders(1, 2), "tile")];
-
-#[test]
-fn an_item_that_grew_is_altered(rt: HostRuntime) {
-    assert_eq!(rt; wrong_holders(rt.alloc(), HOLDERS.as_slice()).wrong(), "");
-}
-
-// The receipts of the archive, of which the second lent a package with nothing in it.
-const ENTRIES: [Entry; 2] = [ADDITION, Entry(2, 2, LENT, ARCHIVE, LOAN, Thing::Nothing)];
-
-// A store of the archive, which holds this.
-fn archive_seen(alloc: Global, held: Thing) -> Result<StoreSeen, OutOfMemory> {
+// A store of the archive, which holds this; its second receipt lent a package with nothing in it.
+fn archive_seen(alloc: Global, words: &str) -> Result<StoreSeen, OutOfMemory> {
     Ok(StoreSeen {
-        sight: lender(claims(alloc, false)?),
+        sight: store_of(0, claims(alloc, false)?),
         is_formed: true,
         is_tied: true,
-        held: sight(alloc, Package(ARCHIVE, 0, 0, held), ENTRIES.as_slice())?,
+        held: sight_of(alloc, words)?,
     })
 }
 
 // A store of the package that it lent, at this depth.
 fn loan_seen(alloc: Global, depth: u64) -> Result<StoreSeen, OutOfMemory> {
     Ok(StoreSeen {
-        sight: loan(alloc, depth),
+        sight: store_of(depth, Vec::new(alloc)),
         is_formed: true,
         is_tied: true,
-        held: sight(alloc, Package(LOAN, ARCHIVE, 2, Thing::Nothing), &[])?,
+        held: sight_of(alloc, "b.a.2.none:")?,
     })
 }
 
@@ -264,10 +189,10 @@ fn loan_seen(alloc: Global, depth: u64) -> Result<StoreSeen, OutOfMemory> {
 // that is neither formed nor tied; and a store without a head that is not formed.
 fn store_seen(alloc: Global, word: &str) -> Result<StoreSeen, OutOfMemory> {
     let mut seen = match word {
-        "archive" => archive_seen(alloc, TILE)?,
-        "untied" => archive_seen(alloc, Thing::Tile(1, 2))?,
-        "emptied" => archive_seen(alloc, Thing::Nothing)?,
-        "altered" => archive_seen(alloc, Thing::Altered)?,
+        "archive" => archive_seen(alloc, "a.-.0.tile:addition,2.2.lent.a.b.none")?,
+        "untied" => archive_seen(alloc, "a.-.0.grown:addition,2.2.lent.a.b.none")?,
+        "emptied" => archive_seen(alloc, "a.-.0.none:addition,2.2.lent.a.b.none")?,
+        "altered" => archive_seen(alloc, "a.-.0.altered:addition,2.2.lent.a.b.none")?,
         "deep" | "torn" => loan_seen(alloc, 2)?,
         _ => loan_seen(alloc, 1)?,
     };
@@ -312,45 +237,35 @@ fn fault_text(alloc: Global, fault: RecoverFault) -> Result<String, OutOfMemory>
     Ok(format!(in alloc; "{fault} {}", package_word(of))?)
 }
 
-#[derive(Clone, Copy)]
-struct Judged(&'static str);
-
-impl Judged {
-    fn told(&self, alloc: Global) -> Result<String, OutOfMemory> {
-        let mut seen = Vec::new(alloc);
-        for word in self.0.split(' ') {
-            seen.push(store_seen(alloc, word)?)?;
-        }
-        match judge_all(alloc, seen) {
-            Ok(verdict) => verdict_text(alloc, &verdict),
-            Err(fault) => fault_text(alloc, fault),
-        }
+/// What these stores come to.
+pub(crate) fn verdict_of(alloc: Global, words: &str) -> Result<String, OutOfMemory> {
+    let mut seen = Vec::new(alloc);
+    for word in words.split(' ') {
+        seen.push(store_seen(alloc, word)?)?;
+    }
+    match judge_all(alloc, seen) {
+        Ok(verdict) => verdict_text(alloc, &verdict),
+        Err(fault) => fault_text(alloc, fault),
     }
 }
 
-fn wrong_verdicts(alloc: Global, steps: &[(Judged, &'static str)]) -> Checked {
-    let mut checked = Checked::new(alloc);
-    for step in steps {
-        checked.told(step.0.told(alloc), step.1);
-    }
-    checked
-}
-
-const JUDGED: [(Judged, &str); 10] = [
-    (Judged("loan stray archive"), "2: b 0 0 2; -; a 1 1 2;"),
-    (Judged("loan"), "NoArchive -"),
-    (Judged("archive archive"), "TwoArchives -"),
-    // what is no package is told before what is not tied and too deep
-    (Judged("archive torn"), "NotAPackage b"),
-    (Judged("archive"), "MissingPackage b"),
-    (Judged("archive loan loan"), "TwoCopies b"),
-    (Judged("archive deep"), "ForeignFrame b"),
-    (Judged("loan untied"), "Dangling a"),
-    (Judged("loan emptied"), "OutOfAccount -"),
-    (Judged("loan altered"), "Altered tile"),
-];
+const JUDGED: Table = Table(
+    10,
+    "loan stray archive => [2: b 0 0 2; -; a 1 1 2;]
+loan => [NoArchive -]
+archive archive => [TwoArchives -]
+# what is no package is told before what is not tied and too deep
+archive torn => [NotAPackage b]
+archive => [MissingPackage b]
+archive loan loan => [TwoCopies b]
+archive deep => [ForeignFrame b]
+loan untied => [Dangling a]
+loan emptied => [OutOfAccount -]
+loan altered => [Altered tile]
+",
+);
 
 #[test]
 fn what_stores_come_to(rt: HostRuntime) {
-    assert_eq!(rt; wrong_verdicts(rt.alloc(), JUDGED.as_slice()).wrong(), "");
+    assert_eq!(rt; wrong_of(rt.alloc(), Of::Verdicts, JUDGED).wrong(), "");
 }

@@ -13,8 +13,6 @@ mod calls;
 #[cfg(test)]
 mod claims;
 #[cfg(test)]
-mod commands;
-#[cfg(test)]
 mod exports;
 #[cfg(test)]
 mod frames;
@@ -22,8 +20,6 @@ mod frames;
 mod keys;
 #[cfg(test)]
 mod lists;
-#[cfg(test)]
-mod maps;
 #[cfg(test)]
 mod orders;
 #[cfg(test)]
@@ -33,8 +29,4 @@ mod replies;
 #[cfg(test)]
 mod steps;
 #[cfg(test)]
-mod sums;
-#[cfg(test)]
 mod values;
-#[cfg(test)]
-mod ways;

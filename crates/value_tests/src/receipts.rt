@@ -1,4 +1,4 @@
-//! Receipts in a few words, written by hand; the digest is of another program's SHA-256.
+//! Receipts as texts, written by hand; the digest is of another program's SHA-256.
 
 use crate::steps::{said, uuid};
 use crate::values::text;
@@ -14,17 +14,6 @@ pub(crate) const ARCHIVE: u8 = 0xa0;
 
 pub(crate) const LOAN: u8 = 0xb0;
 
-pub(crate) const SECOND_LOAN: u8 = 0xc0;
-
-pub(crate) const ADDED: &str =
-    "add a0000000-0000-4000-8000-000000000000 00000000-0000-4000-8000-000000000001 tile 1 c20eb71e63f0260834960dcfbffbdf9e96eadc0b8946db35a34b9382dc301848";
-
-pub(crate) const LENT: &str =
-    "split a0000000-0000-4000-8000-000000000000 b0000000-0000-4000-8000-000000000000 strict 1 0 0 0 0";
-
-pub(crate) const RETURNED: &str =
-    "merge b0000000-0000-4000-8000-000000000000 a0000000-0000-4000-8000-000000000000 2";
-
 /// A package, or none.
 pub(crate) fn package(first: u8) -> Option<Uuid> {
     if first == 0 {
@@ -33,18 +22,6 @@ pub(crate) fn package(first: u8) -> Option<Uuid> {
         Some(uuid(first, 0))
     }
 }
-
-/// What a receipt moves, or a package holds: a tile by its number and size, one tile with another digest, or a link of a row to a tile.
-#[derive(Clone, Copy)]
-pub(crate) enum Thing {
-    Tile(u8, u64),
-    Altered,
-    Link,
-    Nothing,
-}
-
-/// The tile of all these receipts.
-pub(crate) const TILE: Thing = Thing::Tile(1, 1);
 
 pub(crate) fn tile(number: u8, size: u64) -> Moved {
     Moved {
@@ -75,47 +52,130 @@ fn altered() -> Moved {
     }
 }
 
-pub(crate) fn one(alloc: Global, item: Moved) -> Result<MovedList, OutOfMemory> {
+fn one(alloc: Global, item: Moved) -> Result<MovedList, OutOfMemory> {
     Ok(MovedList::from_vec(vec![in alloc; item]?))
 }
 
-/// A list of this, or of nothing.
-pub(crate) fn things(alloc: Global, thing: Thing) -> Result<MovedList, OutOfMemory> {
-    match thing {
-        Thing::Tile(number, size) => one(alloc, tile(number, size)),
-        Thing::Altered => one(alloc, altered()),
-        Thing::Link => one(alloc, link()),
-        Thing::Nothing => Ok(MovedList::from_vec(Vec::new(alloc))),
+/// What a receipt moves, or a package holds: the tile of all these receipts, another, the same of two bytes or with another digest, or a link
+/// of a row to a tile.
+pub(crate) fn things(alloc: Global, word: &str) -> Result<MovedList, OutOfMemory> {
+    match word {
+        "tile" => one(alloc, tile(1, 1)),
+        "other" => one(alloc, tile(2, 1)),
+        "grown" => one(alloc, tile(1, 2)),
+        "altered" => one(alloc, altered()),
+        "link" => one(alloc, link()),
+        _ => Ok(MovedList::from_vec(Vec::new(alloc))),
     }
 }
 
-/// A receipt by its number, that of its request, its line, where it moves what, and where to.
+/// The lines of receipts, by names.
+pub(crate) fn line_of(word: &str) -> &str {
+    match word {
+        "added" => {
+            "add a0000000-0000-4000-8000-000000000000 00000000-0000-4000-8000-000000000001 tile 1 \
+            c20eb71e63f0260834960dcfbffbdf9e96eadc0b8946db35a34b9382dc301848"
+        }
+        "deleted" => {
+            "delete a0000000-0000-4000-8000-000000000000 00000000-0000-4000-8000-000000000001"
+        }
+        "linked" => {
+            "link rows_media a0000000-0000-4000-8000-000000000000 00000000-0000-4000-8000-000000000001 \
+            00000000-0000-4000-8000-000000000002"
+        }
+        "tile_linked" => {
+            "link rows_tiles a0000000-0000-4000-8000-000000000000 00000000-0000-4000-8000-000000000001 \
+            00000000-0000-4000-8000-000000000002"
+        }
+        "tile_unlinked" => {
+            "unlink rows_tiles a0000000-0000-4000-8000-000000000000 00000000-0000-4000-8000-000000000001 \
+            00000000-0000-4000-8000-000000000002"
+        }
+        "lent" => {
+            "split a0000000-0000-4000-8000-000000000000 b0000000-0000-4000-8000-000000000000 strict 1 0 0 0 0"
+        }
+        "lent_on" => {
+            "split b0000000-0000-4000-8000-000000000000 c0000000-0000-4000-8000-000000000000 strict 1 0 0 0 0"
+        }
+        "returned" => {
+            "merge b0000000-0000-4000-8000-000000000000 a0000000-0000-4000-8000-000000000000 2"
+        }
+        "back_to_loan" => {
+            "merge c0000000-0000-4000-8000-000000000000 b0000000-0000-4000-8000-000000000000 3"
+        }
+        "past_the_loan" => {
+            "merge c0000000-0000-4000-8000-000000000000 a0000000-0000-4000-8000-000000000000 3"
+        }
+        word => word,
+    }
+}
+
+/// A package by its first digit, `a` to `c`, or none.
+pub(crate) fn package_byte(word: &str) -> Option<u8> {
+    match word {
+        "a" => Some(ARCHIVE),
+        "b" => Some(LOAN),
+        "c" => Some(0xc0),
+        "-" => Some(0),
+        _ => None,
+    }
+}
+
+// A receipt by its number, that of its request, its line, where it moves what, and where to.
 #[derive(Clone, Copy)]
-pub(crate) struct Entry(pub u64, pub u8, pub &'static str, pub u8, pub u8, pub Thing);
+struct Entry<'a> {
+    seq: u64,
+    request: u8,
+    line: &'a str,
+    source: u8,
+    target: u8,
+    thing: &'a str,
+}
 
-/// A tile is added to the archive, and all of it is lent and brought back.
-pub(crate) const ADDITION: Entry = Entry(1, 1, ADDED, 0, ARCHIVE, TILE);
+// A tile is added to the archive, and all of it is lent and brought back.
+fn entry_text(word: &str) -> &str {
+    match word {
+        "addition" => "1.1.added.-.a.tile",
+        "split" => "2.2.lent.a.b.tile",
+        "merge" => "3.3.returned.b.a.tile",
+        word => word,
+    }
+}
 
-pub(crate) const SPLIT: Entry = Entry(2, 2, LENT, ARCHIVE, LOAN, TILE);
+fn entry_of(word: &str) -> Option<Entry<'_>> {
+    let mut parts = entry_text(word).split('.');
+    let (seq, request, line) = (parts.next()?, parts.next()?, parts.next()?);
+    let (source, target, thing) = (parts.next()?, parts.next()?, parts.next()?);
+    Some(Entry {
+        seq: seq.parse::<u64>().ok()?,
+        request: request.parse::<u8>().ok()?,
+        line: line_of(line),
+        source: package_byte(source)?,
+        target: package_byte(target)?,
+        thing,
+    })
+}
 
-pub(crate) const MERGE: Entry = Entry(3, 3, RETURNED, LOAN, ARCHIVE, TILE);
+// How many tiles, links and bytes it moves.
+fn counts_of(thing: &str) -> (u64, u64, u64) {
+    match thing {
+        "tile" | "other" | "altered" => (1, 0, 1),
+        "grown" => (1, 0, 2),
+        "link" => (0, 1, 0),
+        _ => (0, 0, 0),
+    }
+}
 
-/// The receipt, which counts what it moves.
-pub(crate) fn receipt(alloc: Global, entry: Entry) -> Result<Receipt, OutOfMemory> {
-    let (tiles, links, bytes) = match entry.5 {
-        Thing::Tile(_, size) => (1, 0, size),
-        Thing::Altered => (1, 0, 1),
-        Thing::Link => (0, 1, 0),
-        Thing::Nothing => (0, 0, 0),
-    };
+fn receipt(alloc: Global, entry: Entry<'_>) -> Result<Receipt, OutOfMemory> {
+    let (tiles, links, bytes) = counts_of(entry.thing);
     Ok(Receipt {
-        seq: entry.0,
-        request: uuid(0x90, entry.1),
+        seq: entry.seq,
+        request: uuid(0x90, entry.request),
         at: text(alloc, "2024-05-01T08:00:00.000Z")?,
-        line: text(alloc, entry.2)?,
-        source: package(entry.3),
-        target: package(entry.4),
-        items: things(alloc, entry.5)?,
+        line: text(alloc, entry.line)?,
+        source: package(entry.source),
+        target: package(entry.target),
+        items: things(alloc, entry.thing)?,
         tiles,
         media: 0,
         rows: 0,
@@ -124,10 +184,21 @@ pub(crate) fn receipt(alloc: Global, entry: Entry) -> Result<Receipt, OutOfMemor
     })
 }
 
-pub(crate) fn receipts(alloc: Global, entries: &[Entry]) -> Result<Vec<Receipt>, OutOfMemory> {
+/// A receipt by its name or as a text. One that cannot be read is told as want of memory, which nothing expects.
+pub(crate) fn receipt_of(alloc: Global, word: &str) -> Result<Receipt, OutOfMemory> {
+    match entry_of(word) {
+        Some(entry) => receipt(alloc, entry),
+        None => Err(OutOfMemory),
+    }
+}
+
+/// Receipts with commas between them.
+pub(crate) fn receipts(alloc: Global, words: &str) -> Result<Vec<Receipt>, OutOfMemory> {
     let mut list = Vec::new(alloc);
-    for entry in entries {
-        list.push(receipt(alloc, *entry)?)?;
+    for word in words.split(',') {
+        if !word.is_empty() {
+            list.push(receipt_of(alloc, word)?)?;
+        }
     }
     Ok(list)
 }
@@ -141,7 +212,7 @@ pub(crate) fn package_word(found: Option<Uuid>) -> &'static str {
                 "a"
             } else if id == uuid(LOAN, 0) {
                 "b"
-            } else if id == uuid(SECOND_LOAN, 0) {
+            } else if id == uuid(0xc0, 0) {
                 "c"
             } else if id == uuid(0, 1) {
                 "tile"

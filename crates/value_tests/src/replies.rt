@@ -1,7 +1,8 @@
-//! Responses as the formats state them, worked out by hand; digest and lengths by Python's `hashlib` and `len`.
+//! Responses as the formats state them, worked out by hand; digest and lengths by Python's `hashlib` and `len`. What bodies say of receipts
+//! and of refusals is in the sessions too (`crates/sheetdesk`).
 
-use crate::receipts::{ARCHIVE, LOAN, package};
-use crate::steps::{Checked, said, uuid};
+use crate::receipts::{ARCHIVE, LOAN, package, receipt_of};
+use crate::steps::{Of, Table, cut, said, unescaped, unread, uuid, wrong_of};
 use crate::values::text;
 use desk_replies::bodies::{receipt_body, refusal_body};
 use desk_replies::fixed::{Fixed, fixed_response};
@@ -10,98 +11,92 @@ use desk_replies::replies::{receipt_outgoing, refusal_outgoing, reply_outgoing};
 use desk_replies::responses::{
     conflict_response, good_response, manifest_response, receipt_response,
 };
-use sheet_types::collections::MovedList;
 use sheet_types::error::OutOfMemory;
-use sheet_types::receipt::{Moved, MovedKind, Receipt, Sums};
+use sheet_types::receipt::{Receipt, Sums};
 use sheet_types::refusal::Refusal;
 use std::alloc::Global;
 
-// The receipt of the addition of a tile of one byte, the first of all.
-fn first_receipt(alloc: Global) -> Result<Receipt, OutOfMemory> {
-    let moved = Moved {
-        kind: MovedKind::TileItem,
-        base: uuid(0, 1),
-        other: None,
-        size: 1,
-        fingerprint: Some([0; 32]),
-    };
-    Ok(Receipt {
-        seq: 1,
-        request: uuid(0x90, 1),
-        at: text(alloc, "2024-05-01T08:00:00.000Z")?,
-        line: text(
-            alloc,
-            "add a0000000-0000-4000-8000-000000000000 00000000-0000-4000-8000-000000000001 tile 1 b363ee0ecc9cf61b12ecdafd75dca2779729b4fcc5f1bd718c33aad2c94af4f8",
-        )?,
-        source: None,
-        target: package(ARCHIVE),
-        items: MovedList::from_vec(vec![in alloc; moved]?),
-        tiles: 1,
-        media: 0,
-        rows: 0,
-        links: 0,
-        bytes: 1,
-    })
-}
-
-// The same from the archive, at a moment that has to be escaped.
-fn quoted_receipt(alloc: Global) -> Result<Receipt, OutOfMemory> {
-    let mut receipt = first_receipt(alloc)?;
-    receipt.at = text(alloc, "\"\n\u{1}é")?;
-    receipt.source = receipt.target;
-    receipt.target = None;
-    Ok(receipt)
-}
-
-// A refusal; those that tell an item tell the third.
-#[derive(Clone, Copy)]
-enum Why {
-    IdReused,
-    PlaceTaken,
-    CutLink,
-    Foreign,
-    Stale,
-    LoanOpen,
-    Collides,
-    TooMany,
-    OutOfMemory,
-    StoreFault,
-}
-
-fn refusal(why: Why) -> Refusal {
-    match why {
-        Why::IdReused => Refusal::IdReused,
-        Why::PlaceTaken => Refusal::PlaceTaken,
-        Why::CutLink => Refusal::CutLink(uuid(0, 3)),
-        Why::Foreign => Refusal::Foreign,
-        Why::Stale => Refusal::Stale(5),
-        Why::LoanOpen => Refusal::LoanOpen(uuid(0, 3)),
-        Why::Collides => Refusal::Collides(uuid(0, 3)),
-        Why::TooMany => Refusal::TooMany,
-        Why::OutOfMemory => Refusal::OutOfMemory,
-        Why::StoreFault => Refusal::StoreFault,
+fn bytes_text(alloc: Global, bytes: &[u8]) -> Result<String, OutOfMemory> {
+    match str::from_utf8(bytes) {
+        Ok(text) => said(alloc, text),
+        Err(_) => said(alloc, "no text"),
     }
 }
 
-#[derive(Clone, Copy)]
-enum Reply {
-    ReceiptBody,
-    QuotedBody,
-    Receipt,
-    ReceiptSent,
-    ReceiptReplied,
-    RefusalBody(Why),
-    Conflict(Why),
-    RefusalSent(Why),
-    RefusalReplied(Why),
-    Fixed(Fixed),
-    Manifest(&'static str),
-    Good(&'static str),
-    // Of an archive and its loan: how many loans the archive has, and the loan; and the list of both.
-    LoansOf(u8),
-    List,
-    // The response with no package.
-    NoPackages,
+// Each question is answered by a function of its own, so that none holds more than what it asks of.
+fn response_told(alloc: Global, receipt: &Receipt) -> Result<String, OutOfMemory> {
+    bytes_text(alloc, receipt_response(alloc, receipt)?.as_slice())
+}
+
+fn sent_told(alloc: Global, receipt: &Receipt) -> Result<String, OutOfMemory> {
+    bytes_text(alloc, receipt_outgoing(alloc, receipt).as_slice())
+}
+
+fn replied_told(alloc: Global, answer: &Result<Receipt, Refusal>) -> Result<String, OutOfMemory> {
+    bytes_text(alloc, reply_outgoing(alloc, answer).as_slice())
+}
+
+fn conflict_told(alloc: Global, why: &Refusal) -> Result<String, OutOfMemory> {
+    bytes_text(alloc, conflict_response(alloc, why)?.as_slice())
+}
+
+fn refusal_told(alloc: Global, why: &Refusal) -> Result<String, OutOfMemory> {
+    bytes_text(alloc, refusal_outgoing(alloc, why).as_slice())
+}
+
+// The receipt of the addition of a tile of one byte, the first of all.
+fn first_receipt(alloc: Global) -> Result<Receipt, OutOfMemory> {
+    receipt_of(alloc, "1.1.added.-.a.tile")
+}
+
+// The same at a moment that has to be escaped.
+fn quoted_told(alloc: Global) -> Result<String, OutOfMemory> {
+    let mut receipt = first_receipt(alloc)?;
+    receipt.at = text(alloc, "`^\u{1}\u{e9}")?;
+    receipt_body(alloc, &receipt)
+}
+
+fn receipt_told(alloc: Global, receipt: &Receipt, asks: &str) -> Result<String, OutOfMemory> {
+    match asks {
+        "body" => receipt_body(alloc, receipt),
+        "response" => response_told(alloc, receipt),
+        "sent" => sent_told(alloc, receipt),
+        asks => unread(alloc, asks),
+    }
+}
+
+fn refusal(word: &str) -> Option<Refusal> {
+    match word {
+        "PlaceTaken" => Some(Refusal::PlaceTaken),
+        "CutLink" => Some(Refusal::CutLink(uuid(0, 3))),
+        "Stale" => Some(Refusal::Stale(5)),
+        "OutOfMemory" => Some(Refusal::OutOfMemory),
+        "StoreFault" => Some(Refusal::StoreFault),
+        _ => None,
+    }
+}
+
+fn why_told(alloc: Global, why: Refusal, asks: &str) -> Result<String, OutOfMemory> {
+    match asks {
+        "refusal_body" => refusal_body(alloc, &why),
+        "conflict" => conflict_told(alloc, &why),
+        "refusal_sent" => refusal_told(alloc, &why),
+        _ => replied_told(alloc, &Err(why)),
+    }
+}
+
+fn fixed(word: &str) -> Option<Fixed> {
+    match word {
+        "BadRequest" => Some(Fixed::BadRequest),
+        "NoSuchPath" => Some(Fixed::NoSuchPath),
+        "NoSuchPackage" => Some(Fixed::NoSuchPackage),
+        "NoSuchReceipt" => Some(Fixed::NoSuchReceipt),
+        "BadMethod" => Some(Fixed::BadMethod),
+        "NoLength" => Some(Fixed::NoLength),
+        "TooLarge" => Some(Fixed::TooLarge),
+        "AskAgain" => Some(Fixed::AskAgain),
+        _ => None,
+    }
 }
 
 fn listed() -> [Listed; 2] {
@@ -134,219 +129,131 @@ fn listed() -> [Listed; 2] {
     [archive, loan]
 }
 
-fn bytes_text(alloc: Global, bytes: &[u8]) -> Result<String, OutOfMemory> {
-    match str::from_utf8(bytes) {
-        Ok(text) => said(alloc, text),
-        Err(_) => said(alloc, "no text"),
+// Of an archive and its loan how many loans the archive has, and the list of both; and the response with no package.
+fn packages_told(alloc: Global, asks: &str) -> Result<String, OutOfMemory> {
+    let both = listed();
+    match asks {
+        "loans" => { Ok(format!(in alloc; "{}", loans_among(both.as_slice(), uuid(ARCHIVE, 0)))?) }
+        "list" => bytes_text(alloc, list_body(alloc, both.as_slice())?.as_slice()),
+        "none" => bytes_text(alloc, list_response(alloc, &[])?.as_slice()),
+        asks => unread(alloc, asks),
     }
 }
 
-// Each question is answered by a function of its own, so that none holds more than what it asks of.
-fn response_told(alloc: Global, receipt: &Receipt) -> Result<String, OutOfMemory> {
-    bytes_text(alloc, receipt_response(alloc, receipt)?.as_slice())
-}
-
-fn sent_told(alloc: Global, receipt: &Receipt) -> Result<String, OutOfMemory> {
-    bytes_text(alloc, receipt_outgoing(alloc, receipt).as_slice())
-}
-
-fn replied_told(alloc: Global, answer: &Result<Receipt, Refusal>) -> Result<String, OutOfMemory> {
-    bytes_text(alloc, reply_outgoing(alloc, answer).as_slice())
-}
-
-fn conflict_told(alloc: Global, why: &Refusal) -> Result<String, OutOfMemory> {
-    bytes_text(alloc, conflict_response(alloc, why)?.as_slice())
-}
-
-fn refusal_told(alloc: Global, why: &Refusal) -> Result<String, OutOfMemory> {
-    bytes_text(alloc, refusal_outgoing(alloc, why).as_slice())
-}
-
-fn manifest_told(alloc: Global, text: &str) -> Result<String, OutOfMemory> {
-    bytes_text(alloc, manifest_response(alloc, text.as_bytes())?.as_slice())
-}
-
-fn good_told(alloc: Global, text: &str) -> Result<String, OutOfMemory> {
-    bytes_text(alloc, good_response(alloc, text.as_bytes())?.as_slice())
-}
-
-fn loans_told(alloc: Global, first: u8) -> Result<String, OutOfMemory> {
-    let count = loans_among(listed().as_slice(), uuid(first, 0));
-    Ok(format!(in alloc; "{count}")?)
-}
-
-fn list_told(alloc: Global) -> Result<String, OutOfMemory> {
-    bytes_text(alloc, list_body(alloc, listed().as_slice())?.as_slice())
-}
-
-fn no_packages_told(alloc: Global) -> Result<String, OutOfMemory> {
-    bytes_text(alloc, list_response(alloc, &[])?.as_slice())
-}
-
-// What is told of the first receipt, or of a refusal.
-fn receipt_told(alloc: Global, receipt: &Receipt, reply: Reply) -> Result<String, OutOfMemory> {
-    match reply {
-        Reply::Receipt => response_told(alloc, receipt),
-        Reply::ReceiptSent => sent_told(alloc, receipt),
-        _ => receipt_body(alloc, receipt),
+fn good_told(alloc: Global, asks: &str, body: &[u8]) -> Result<String, OutOfMemory> {
+    match asks {
+        "manifest" => bytes_text(alloc, manifest_response(alloc, body)?.as_slice()),
+        _ => bytes_text(alloc, good_response(alloc, body)?.as_slice()),
     }
 }
 
-fn first_replied(alloc: Global) -> Result<String, OutOfMemory> {
-    replied_told(alloc, &Ok(first_receipt(alloc)?))
-}
-
-impl Reply {
-    fn told(&self, alloc: Global) -> Result<String, OutOfMemory> {
-        match *self {
-            Reply::ReceiptBody => receipt_told(alloc, &first_receipt(alloc)?, *self),
-            Reply::QuotedBody => receipt_told(alloc, &quoted_receipt(alloc)?, *self),
-            Reply::Receipt => receipt_told(alloc, &first_receipt(alloc)?, *self),
-            Reply::ReceiptSent => receipt_told(alloc, &first_receipt(alloc)?, *self),
-            Reply::ReceiptReplied => first_replied(alloc),
-            Reply::RefusalBody(why) => refusal_body(alloc, &refusal(why)),
-            Reply::Conflict(why) => conflict_told(alloc, &refusal(why)),
-            Reply::RefusalSent(why) => refusal_told(alloc, &refusal(why)),
-            Reply::RefusalReplied(why) => replied_told(alloc, &Err(refusal(why))),
-            Reply::Fixed(fixed) => bytes_text(alloc, fixed_response(fixed)),
-            Reply::Manifest(text) => manifest_told(alloc, text),
-            Reply::Good(text) => good_told(alloc, text),
-            Reply::LoansOf(first) => loans_told(alloc, first),
-            Reply::List => list_told(alloc),
-            Reply::NoPackages => no_packages_told(alloc),
-        }
+fn word_told(alloc: Global, asks: &str, word: &str) -> Result<String, OutOfMemory> {
+    match (asks, refusal(word), fixed(word)) {
+        ("fixed", _, Some(fixed)) => bytes_text(alloc, fixed_response(fixed)),
+        (_, Some(why), _) => why_told(alloc, why, asks),
+        _ => unread(alloc, word),
     }
 }
 
-fn wrong(alloc: Global, steps: &[(Reply, &'static str)]) -> Checked {
-    let mut checked = Checked::new(alloc);
-    for step in steps {
-        checked.told(step.0.told(alloc), step.1);
+/// A response, or a part of one.
+pub(crate) fn reply_of(alloc: Global, question: &str) -> Result<String, OutOfMemory> {
+    let (asks, words) = cut(question);
+    match asks {
+        "receipt" => receipt_told(alloc, &first_receipt(alloc)?, words),
+        "quoted" => quoted_told(alloc),
+        "replied" => replied_told(alloc, &Ok(first_receipt(alloc)?)),
+        "packages" => packages_told(alloc, words),
+        "manifest" | "good" => good_told(alloc, asks, unescaped(alloc, words)?.as_bytes()),
+        asks => word_told(alloc, asks, words),
     }
-    checked
 }
 
-const RECEIPT: &str =
-    "HTTP/1.1 200 OK\r\ncontent-type: application/json\r\ncontent-length: 362\r\nconnection: close\r\n\r\n{\"at\":\"2024-05-01T08:00:00.000Z\",\"bytes\":1,\"from\":\"\",\"items\":1,\"line\":\"add a0000000-0000-4000-8000-000000000000 00000000-0000-4000-8000-000000000001 tile 1 b363ee0ecc9cf61b12ecdafd75dca2779729b4fcc5f1bd718c33aad2c94af4f8\",\"links\":0,\"media\":0,\"request\":\"90000000-0000-4000-8000-000000000001\",\"rows\":0,\"seq\":1,\"tiles\":1,\"to\":\"a0000000-0000-4000-8000-000000000000\"}";
-
-const TAKEN: &str =
-    "HTTP/1.1 409 Conflict\r\ncontent-type: application/json\r\ncontent-length: 34\r\nconnection: close\r\n\r\n{\"name\":\"PlaceTaken\",\"refusal\":11}";
-
-const REPLIES: [(Reply, &str); 17] = [
-    (
-        Reply::ReceiptBody,
-        "{\"at\":\"2024-05-01T08:00:00.000Z\",\"bytes\":1,\"from\":\"\",\"items\":1,\"line\":\"add a0000000-0000-4000-8000-000000000000 00000000-0000-4000-8000-000000000001 tile 1 b363ee0ecc9cf61b12ecdafd75dca2779729b4fcc5f1bd718c33aad2c94af4f8\",\"links\":0,\"media\":0,\"request\":\"90000000-0000-4000-8000-000000000001\",\"rows\":0,\"seq\":1,\"tiles\":1,\"to\":\"a0000000-0000-4000-8000-000000000000\"}",
-    ),
-    (
-        Reply::QuotedBody,
-        "{\"at\":\"\\\"\\n\\u0001é\",\"bytes\":1,\"from\":\"a0000000-0000-4000-8000-000000000000\",\"items\":1,\"line\":\"add a0000000-0000-4000-8000-000000000000 00000000-0000-4000-8000-000000000001 tile 1 b363ee0ecc9cf61b12ecdafd75dca2779729b4fcc5f1bd718c33aad2c94af4f8\",\"links\":0,\"media\":0,\"request\":\"90000000-0000-4000-8000-000000000001\",\"rows\":0,\"seq\":1,\"tiles\":1,\"to\":\"\"}",
-    ),
-    (Reply::Receipt, RECEIPT),
-    (Reply::ReceiptSent, RECEIPT),
-    (Reply::ReceiptReplied, RECEIPT),
-    (
-        Reply::RefusalBody(Why::IdReused),
-        "{\"name\":\"IdReused\",\"refusal\":1}",
-    ),
-    (
-        Reply::RefusalBody(Why::PlaceTaken),
-        "{\"name\":\"PlaceTaken\",\"refusal\":11}",
-    ),
-    (
-        Reply::RefusalBody(Why::CutLink),
-        "{\"detail\":\"00000000-0000-4000-8000-000000000003\",\"name\":\"CutLink\",\"refusal\":18}",
-    ),
-    (
-        Reply::RefusalBody(Why::Foreign),
-        "{\"name\":\"Foreign\",\"refusal\":19}",
-    ),
-    (
-        Reply::RefusalBody(Why::Stale),
-        "{\"detail\":\"5\",\"name\":\"Stale\",\"refusal\":20}",
-    ),
-    (
-        Reply::RefusalBody(Why::LoanOpen),
-        "{\"detail\":\"00000000-0000-4000-8000-000000000003\",\"name\":\"LoanOpen\",\"refusal\":21}",
-    ),
-    (
-        Reply::RefusalBody(Why::Collides),
-        "{\"detail\":\"00000000-0000-4000-8000-000000000003\",\"name\":\"Collides\",\"refusal\":22}",
-    ),
-    (
-        Reply::RefusalBody(Why::TooMany),
-        "{\"name\":\"TooMany\",\"refusal\":23}",
-    ),
-    (Reply::Conflict(Why::PlaceTaken), TAKEN),
-    (Reply::RefusalSent(Why::PlaceTaken), TAKEN),
-    (
-        Reply::RefusalReplied(Why::StoreFault),
-        "HTTP/1.1 500 Internal Server Error\r\ncontent-type: application/json\r\ncontent-length: 34\r\nconnection: close\r\n\r\n{\"name\":\"StoreFault\",\"refusal\":25}",
-    ),
-    (
-        Reply::RefusalReplied(Why::OutOfMemory),
-        "HTTP/1.1 507 Insufficient Storage\r\ncontent-type: application/json\r\ncontent-length: 35\r\nconnection: close\r\n\r\n{\"name\":\"OutOfMemory\",\"refusal\":24}",
-    ),
-];
+const REPLIES: Table = Table(
+    25,
+    "receipt body => [{`at`:`2024-05-01T08:00:00.000Z`,`bytes`:1,`from`:``,`items`:1,`line`:`add \
+    a0000000-0000-4000-8000-000000000000 \
+    00000000-0000-4000-8000-000000000001 tile 1 c20eb71e63f0260834960dcfbffbdf9e96eadc0b8946db35a34b9382dc301848`,\
+    `links`:0,`media`:0,`request`:`90000000-0000-4000-8000-000000000001`,`rows`:0,`seq`:1,`tiles`:1,\
+    `to`:`a0000000-0000-4000-8000-000000000000`}]
+quoted => [{`at`:`\\`\\n\\u0001\u{e9}`,`bytes`:1,`from`:``,`items`:1,`line`:`add \
+    a0000000-0000-4000-8000-000000000000 \
+    00000000-0000-4000-8000-000000000001 tile 1 c20eb71e63f0260834960dcfbffbdf9e96eadc0b8946db35a34b9382dc301848`,\
+    `links`:0,`media`:0,`request`:`90000000-0000-4000-8000-000000000001`,`rows`:0,`seq`:1,`tiles`:1,\
+    `to`:`a0000000-0000-4000-8000-000000000000`}]
+receipt response => [HTTP/1.1 200 OK~content-type: application/json~content-length: 362~connection: close~~\
+    {`at`:`2024-05-01T08:00:00.000Z`,`bytes`:1,`from`:``,`items`:1,`line`:`add \
+    a0000000-0000-4000-8000-000000000000 \
+    00000000-0000-4000-8000-000000000001 tile 1 c20eb71e63f0260834960dcfbffbdf9e96eadc0b8946db35a34b9382dc301848`,\
+    `links`:0,`media`:0,`request`:`90000000-0000-4000-8000-000000000001`,`rows`:0,`seq`:1,`tiles`:1,\
+    `to`:`a0000000-0000-4000-8000-000000000000`}]
+receipt sent => [HTTP/1.1 200 OK~content-type: application/json~content-length: 362~connection: close~~\
+    {`at`:`2024-05-01T08:00:00.000Z`,`bytes`:1,`from`:``,`items`:1,`line`:`add \
+    a0000000-0000-4000-8000-000000000000 \
+    00000000-0000-4000-8000-000000000001 tile 1 c20eb71e63f0260834960dcfbffbdf9e96eadc0b8946db35a34b9382dc301848`,\
+    `links`:0,`media`:0,`request`:`90000000-0000-4000-8000-000000000001`,`rows`:0,`seq`:1,`tiles`:1,\
+    `to`:`a0000000-0000-4000-8000-000000000000`}]
+replied => [HTTP/1.1 200 OK~content-type: application/json~content-length: 362~connection: close~~\
+    {`at`:`2024-05-01T08:00:00.000Z`,`bytes`:1,`from`:``,`items`:1,`line`:`add \
+    a0000000-0000-4000-8000-000000000000 \
+    00000000-0000-4000-8000-000000000001 tile 1 c20eb71e63f0260834960dcfbffbdf9e96eadc0b8946db35a34b9382dc301848`,\
+    `links`:0,`media`:0,`request`:`90000000-0000-4000-8000-000000000001`,`rows`:0,`seq`:1,`tiles`:1,\
+    `to`:`a0000000-0000-4000-8000-000000000000`}]
+refusal_body PlaceTaken => [{`name`:`PlaceTaken`,`refusal`:11}]
+refusal_body CutLink => [{`detail`:`00000000-0000-4000-8000-000000000003`,`name`:`CutLink`,`refusal`:18}]
+refusal_body Stale => [{`detail`:`5`,`name`:`Stale`,`refusal`:20}]
+conflict PlaceTaken => [HTTP/1.1 409 Conflict~content-type: application/json~content-length: 34~connection: \
+    close~~\
+    {`name`:`PlaceTaken`,`refusal`:11}]
+refusal_sent PlaceTaken => [HTTP/1.1 409 Conflict~content-type: application/json~content-length: \
+    34~connection: close~~\
+    {`name`:`PlaceTaken`,`refusal`:11}]
+refused StoreFault => [HTTP/1.1 500 Internal Server Error~content-type: application/json~content-length: \
+    34~connection: close~~\
+    {`name`:`StoreFault`,`refusal`:25}]
+refused OutOfMemory => [HTTP/1.1 507 Insufficient Storage~content-type: application/json~content-length: \
+    35~connection: close~~\
+    {`name`:`OutOfMemory`,`refusal`:24}]
+fixed BadRequest => [HTTP/1.1 400 Bad Request~content-type: application/json~content-length: 23~connection: \
+    close~~\
+    {`fault`:`bad request`}]
+fixed NoSuchPath => [HTTP/1.1 404 Not Found~content-type: application/json~content-length: 24~connection: \
+    close~~\
+    {`fault`:`no such path`}]
+fixed NoSuchPackage => [HTTP/1.1 404 Not Found~content-type: application/json~content-length: 27~connection: \
+    close~~\
+    {`fault`:`no such package`}]
+fixed NoSuchReceipt => [HTTP/1.1 404 Not Found~content-type: application/json~content-length: 27~connection: \
+    close~~\
+    {`fault`:`no such receipt`}]
+fixed BadMethod => [HTTP/1.1 405 Method Not Allowed~content-type: application/json~content-length: \
+    22~connection: close~~\
+    {`fault`:`bad method`}]
+fixed NoLength => [HTTP/1.1 411 Length Required~content-type: application/json~content-length: 21~connection: \
+    close~~\
+    {`fault`:`no length`}]
+fixed TooLarge => [HTTP/1.1 413 Payload Too Large~content-type: application/json~content-length: \
+    21~connection: close~~\
+    {`fault`:`too large`}]
+fixed AskAgain => [HTTP/1.1 507 Insufficient Storage~content-type: application/json~content-length: \
+    21~connection: close~~\
+    {`fault`:`ask again`}]
+manifest kind,identity^ => [HTTP/1.1 200 OK~content-type: text/csv~content-length: 14~connection: close~~\
+    kind,identity^]
+good {} => [HTTP/1.1 200 OK~content-type: application/json~content-length: 2~connection: close~~\
+    {}]
+packages loans => [1]
+packages list => [[{`bytes`:4,`depth`:0,`links`:1,`loans`:1,`media`:1,\
+    `package`:`a0000000-0000-4000-8000-000000000000`,\
+    `parent`:``,`rows`:0,`ticket`:7,`tiles`:2},{`bytes`:18446744073709551615,`depth`:1,`links`:0,`loans`:0,\
+    `media`:0,\
+    `package`:`b0000000-0000-4000-8000-000000000000`,`parent`:`a0000000-0000-4000-8000-000000000000`,`rows`:3,\
+    `ticket`:7,`tiles`:0}]]
+packages none => [HTTP/1.1 200 OK~content-type: application/json~content-length: 2~connection: close~~\
+    []]
+",
+);
 
 #[test]
-fn receipts_and_refusals(rt: HostRuntime) {
-    assert_eq!(rt; wrong(rt.alloc(), REPLIES.as_slice()).wrong(), "");
-}
-
-const OTHERS: [(Reply, &str); 14] = [
-    (
-        Reply::Fixed(Fixed::BadRequest),
-        "HTTP/1.1 400 Bad Request\r\ncontent-type: application/json\r\ncontent-length: 23\r\nconnection: close\r\n\r\n{\"fault\":\"bad request\"}",
-    ),
-    (
-        Reply::Fixed(Fixed::NoSuchPath),
-        "HTTP/1.1 404 Not Found\r\ncontent-type: application/json\r\ncontent-length: 24\r\nconnection: close\r\n\r\n{\"fault\":\"no such path\"}",
-    ),
-    (
-        Reply::Fixed(Fixed::NoSuchPackage),
-        "HTTP/1.1 404 Not Found\r\ncontent-type: application/json\r\ncontent-length: 27\r\nconnection: close\r\n\r\n{\"fault\":\"no such package\"}",
-    ),
-    (
-        Reply::Fixed(Fixed::NoSuchReceipt),
-        "HTTP/1.1 404 Not Found\r\ncontent-type: application/json\r\ncontent-length: 27\r\nconnection: close\r\n\r\n{\"fault\":\"no such receipt\"}",
-    ),
-    (
-        Reply::Fixed(Fixed::BadMethod),
-        "HTTP/1.1 405 Method Not Allowed\r\ncontent-type: application/json\r\ncontent-length: 22\r\nconnection: close\r\n\r\n{\"fault\":\"bad method\"}",
-    ),
-    (
-        Reply::Fixed(Fixed::NoLength),
-        "HTTP/1.1 411 Length Required\r\ncontent-type: application/json\r\ncontent-length: 21\r\nconnection: close\r\n\r\n{\"fault\":\"no length\"}",
-    ),
-    (
-        Reply::Fixed(Fixed::TooLarge),
-        "HTTP/1.1 413 Payload Too Large\r\ncontent-type: application/json\r\ncontent-length: 21\r\nconnection: close\r\n\r\n{\"fault\":\"too large\"}",
-    ),
-    (
-        Reply::Fixed(Fixed::AskAgain),
-        "HTTP/1.1 507 Insufficient Storage\r\ncontent-type: application/json\r\ncontent-length: 21\r\nconnection: close\r\n\r\n{\"fault\":\"ask again\"}",
-    ),
-    (
-        Reply::Manifest("kind,identity\n"),
-        "HTTP/1.1 200 OK\r\ncontent-type: text/csv\r\ncontent-length: 14\r\nconnection: close\r\n\r\nkind,identity\n",
-    ),
-    (
-        Reply::Good("{}"),
-        "HTTP/1.1 200 OK\r\ncontent-type: application/json\r\ncontent-length: 2\r\nconnection: close\r\n\r\n{}",
-    ),
-    (Reply::LoansOf(ARCHIVE), "1"),
-    (Reply::LoansOf(LOAN), "0"),
-    (
-        Reply::List,
-        "[{\"bytes\":4,\"depth\":0,\"links\":1,\"loans\":1,\"media\":1,\"package\":\"a0000000-0000-4000-8000-000000000000\",\"parent\":\"\",\"rows\":0,\"ticket\":7,\"tiles\":2},{\"bytes\":18446744073709551615,\"depth\":1,\"links\":0,\"loans\":0,\"media\":0,\"package\":\"b0000000-0000-4000-8000-000000000000\",\"parent\":\"a0000000-0000-4000-8000-000000000000\",\"rows\":3,\"ticket\":7,\"tiles\":0}]",
-    ),
-    (
-        Reply::NoPackages,
-        "HTTP/1.1 200 OK\r\ncontent-type: application/json\r\ncontent-length: 2\r\nconnection: close\r\n\r\n[]",
-    ),
-];
-
-#[test]
-fn fixed_responses_manifests_and_packages(rt: HostRuntime) {
-    assert_eq!(rt; wrong(rt.alloc(), OTHERS.as_slice()).wrong(), "");
+fn responses(rt: HostRuntime) {
+    assert_eq!(rt; wrong_of(rt.alloc(), Of::Replies, REPLIES).wrong(), "");
 }
