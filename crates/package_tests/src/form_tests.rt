@@ -1,5 +1,5 @@
-// What stores in memory say of themselves. The expected values follow from the rows that each test puts in: the package 2 is a loan of
-// package 1, one level below it, made by the split 7.
+// What stores in memory say of themselves. The expected values follow from the rows that each test
+// puts in: the package 2 is a loan of package 1, one level below it, made by the split 7.
 
 use crate::steps::wrong;
 use std::test::Fail;
@@ -40,57 +40,58 @@ form has_form => [no]
 form head => [2;1;1;7;]
 
 new loan
-alter DROP TABLE rows_tiles; CREATE TABLE rows_tiles (base_id INTEGER NOT NULL, related_id INTEGER NOT NULL, x INTEGER NOT \
-    NULL, UNIQUE (base_id, related_id)) STRICT
+alter DROP TABLE rows_tiles; CREATE TABLE rows_tiles (base_id INTEGER NOT NULL, related_id INTEGER NOT \
+    NULL, x INTEGER NOT NULL, UNIQUE (base_id, related_id)) STRICT
 form has_form => [no]
 form head => [2;1;1;7;]
 
 new loan
-alter DROP TABLE rows_tiles; CREATE TABLE rows_tiles (base_id INTEGER NOT NULL, related_id TEXT NOT NULL, UNIQUE (base_id, \
-    related_id)) STRICT
+alter DROP TABLE rows_tiles; CREATE TABLE rows_tiles (base_id INTEGER NOT NULL, related_id TEXT NOT NULL, \
+    UNIQUE (base_id, related_id)) STRICT
 form has_form => [no]
 form head => [2;1;1;7;]
 
 new loan
-alter DROP TABLE rows_tiles; CREATE TABLE rows_tiles (base_id INTEGER NOT NULL, related_id INTEGER, UNIQUE (base_id, \
-    related_id)) STRICT
-form has_form => [no]
-form head => [2;1;1;7;]
-
-new loan
-alter DROP TABLE rows_tiles; CREATE TABLE rows_tiles (base_id INTEGER NOT NULL, related_id INTEGER NOT NULL) STRICT
-form has_form => [no]
-form head => [2;1;1;7;]
-
-new loan
-# one that is not STRICT, and one with a DEFAULT, a CHECK and a reference
-alter DROP TABLE rows_tiles; CREATE TABLE rows_tiles (base_id INTEGER NOT NULL, related_id INTEGER NOT NULL, UNIQUE (base_id, \
-    related_id))
-form has_form => [no]
-form head => [2;1;1;7;]
-
-new loan
-alter DROP TABLE rows_tiles; CREATE TABLE rows_tiles (base_id INTEGER NOT NULL DEFAULT 1, related_id INTEGER NOT NULL, UNIQUE \
+alter DROP TABLE rows_tiles; CREATE TABLE rows_tiles (base_id INTEGER NOT NULL, related_id INTEGER, UNIQUE \
     (base_id, related_id)) STRICT
 form has_form => [no]
 form head => [2;1;1;7;]
 
 new loan
-alter DROP TABLE rows_tiles; CREATE TABLE rows_tiles (base_id INTEGER NOT NULL, related_id INTEGER NOT NULL CHECK (related_id > \
-    0), UNIQUE (base_id, related_id)) STRICT
+alter DROP TABLE rows_tiles; CREATE TABLE rows_tiles (base_id INTEGER NOT NULL, related_id INTEGER NOT \
+    NULL) STRICT
 form has_form => [no]
 form head => [2;1;1;7;]
 
 new loan
-alter DROP TABLE rows_tiles; CREATE TABLE rows_tiles (base_id INTEGER NOT NULL, related_id INTEGER NOT NULL REFERENCES \
-    sheet_tiles (id), UNIQUE (base_id, related_id)) STRICT
+# one that is not STRICT, and one with a DEFAULT, a CHECK and a reference
+alter DROP TABLE rows_tiles; CREATE TABLE rows_tiles (base_id INTEGER NOT NULL, related_id INTEGER NOT \
+    NULL, UNIQUE (base_id, related_id))
+form has_form => [no]
+form head => [2;1;1;7;]
+
+new loan
+alter DROP TABLE rows_tiles; CREATE TABLE rows_tiles (base_id INTEGER NOT NULL DEFAULT 1, related_id \
+    INTEGER NOT NULL, UNIQUE (base_id, related_id)) STRICT
+form has_form => [no]
+form head => [2;1;1;7;]
+
+new loan
+alter DROP TABLE rows_tiles; CREATE TABLE rows_tiles (base_id INTEGER NOT NULL, related_id INTEGER NOT \
+    NULL CHECK (related_id > 0), UNIQUE (base_id, related_id)) STRICT
+form has_form => [no]
+form head => [2;1;1;7;]
+
+new loan
+alter DROP TABLE rows_tiles; CREATE TABLE rows_tiles (base_id INTEGER NOT NULL, related_id INTEGER NOT \
+    NULL REFERENCES sheet_tiles (id), UNIQUE (base_id, related_id)) STRICT
 form has_form => [no]
 form head => [2;1;1;7;]
 
 new loan
 # one whose numbers are not counted
-alter DROP TABLE sheet_media; CREATE TABLE sheet_media (id INTEGER PRIMARY KEY, data BLOB NOT NULL, content_type TEXT NOT NULL) \
-    STRICT
+alter DROP TABLE sheet_media; CREATE TABLE sheet_media (id INTEGER PRIMARY KEY, data BLOB NOT NULL, \
+    content_type TEXT NOT NULL) STRICT
 form has_form => [no]
 form head => [2;1;1;7;]
 
@@ -146,8 +147,8 @@ alter INSERT INTO sheet_receipts VALUES (-5, 'e', '', 'five', 'S', '', 0, 0, 0, 
 alter INSERT INTO sheet_receipts VALUES (1, 'a', '', 'one', 'S', 'T', -1, 0, 0, 0, 0)
 form claims => [1 one S T;3 three  T;-5 five S ;]";
 
-// The second is of the same ground in other tiles, under one of the three reference systems that each package has; each of the others
-// takes the frame away.
+// The second is of the same ground in other tiles, under one of the three reference systems that
+// each package has; each of the others takes the frame away.
 const FRAMES: &str =
     "new loan
 form frame => [25832;0;0;4096;4096;256;256;0;3;1;1;]

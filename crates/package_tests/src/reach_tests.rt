@@ -1,4 +1,5 @@
-// What a cut asks for, over a stand-in that notes it. It says of no package that it shows it, so what it answers needs no proof.
+// What a cut asks for, over a stand-in that notes it. It says of no package that it shows it, so
+// what it answers needs no proof.
 ghost use Rattle.std.specs.Prelude.{⊤, ⊥};
 
 use crate::cuts::selection_told;
@@ -24,7 +25,8 @@ const CORNER: Rect = Rect {
     last_row: 0,
 };
 
-// The tile 1 in the corner and the tile 2 elsewhere have the medium 3, and the tile 2 has the medium 4.
+// The tile 1 in the corner and the tile 2 elsewhere have the medium 3, and the tile 2 has the
+// medium 4.
 const LINKS: [(u8, u8); 3] = [(1, 3), (2, 3), (2, 4)];
 
 fn links_at(number: u8, alloc: Global) -> Result<Vec<Relation>, Fault> {
