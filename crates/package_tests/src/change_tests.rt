@@ -5,8 +5,7 @@ use crate::steps::wrong;
 use std::test::Fail;
 
 // The first tile and the second medium have the same local number.
-const CHANGES: &str =
-    "new archive
+const CHANGES: &str = "new archive
 alter INSERT INTO sheet_tiles VALUES (7, 2, 3, 1, x'6162'), (9, 2, 0, 0, x'63')
 alter INSERT INTO sheet_media VALUES (4, x'706e67', 'image/png'), (7, x'', 'image/jpeg')
 alter INSERT INTO sheet_rows VALUES (3, 100, -7, 31, 'well')
@@ -52,8 +51,7 @@ rows SELECT kind || ' ' || local_id || ' ' || uuid FROM sheet_identity ORDER BY 
     00000000-0000-0000-0000-000000000002;2 4 00000000-0000-0000-0000-000000000003;]";
 
 // A medium of 3 bytes has the last number that may be.
-const NUMBERS: &str =
-    "new archive
+const NUMBERS: &str = "new archive
 alter INSERT INTO sheet_media VALUES (1000000, x'746966', 'image/tiff')
 alter INSERT INTO sheet_identity VALUES (2, 1000000, '00000000-0000-0000-0000-000000000003')
 add medium 6 image/png png
@@ -71,8 +69,7 @@ rows SELECT kind || ' ' || local_id || ' ' || uuid FROM sheet_identity ORDER BY 
 
 // The least and the greatest numbers, nothing for bytes and for texts, and a label whose last
 // characters are of two bytes.
-const ENDS: &str =
-    "new archive
+const ENDS: &str = "new archive
 add row 1 -9223372036854775808 9223372036854775807 -1 A well at the old mill, dry since the spring; see \
     the sheet to the west. A well at the old mill, dry since the spring; see the sheet to the west. A well \
     at the old mill, dry since the spring; see the sheet to the west. A well at the old mill, dry since \

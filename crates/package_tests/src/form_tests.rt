@@ -5,8 +5,7 @@ use crate::steps::wrong;
 use std::test::Fail;
 
 // Each way in which a table can be another one.
-const FORMS: &str =
-    "new loan
+const FORMS: &str = "new loan
 form has_form => [yes]
 form head => [2;1;1;7;]
 form claims => []
@@ -101,8 +100,7 @@ form head => [-]
 form claims => []";
 
 // Each takes the head away.
-const HEADS: &str =
-    "new loan
+const HEADS: &str = "new loan
 alter UPDATE sheet_package SET version = 3
 form head => [-]
 
@@ -135,8 +133,7 @@ alter UPDATE sheet_package SET loan = -1
 form head => [-]";
 
 // A moment that is none, and receipts in the order of their numbers, those that are none behind.
-const SAID: &str =
-    "new loan
+const SAID: &str = "new loan
 form are_dated => [yes]
 alter UPDATE gpkg_contents SET last_change = '2026-11-22T24:00:00.000Z' WHERE table_name = 'sheet_rows'
 form are_dated => [no]
@@ -149,8 +146,7 @@ form claims => [1 one S T;3 three  T;-5 five S ;]";
 
 // The second is of the same ground in other tiles, under one of the three reference systems that
 // each package has; each of the others takes the frame away.
-const FRAMES: &str =
-    "new loan
+const FRAMES: &str = "new loan
 form frame => [25832;0;0;4096;4096;256;256;0;3;1;1;]
 # the moment is no part of the frame
 alter UPDATE gpkg_contents SET last_change = ''

@@ -75,7 +75,8 @@ impl Reach for Noted {
 
     fn links_of(&mut self, identity: Uuid, alloc: Global) -> Result<Vec<Relation>, Fault> {
         let number = number_of(identity);
-        self.links.push_str(format!(in alloc; "{number};")?.as_str())?;
+        self.links
+            .push_str(format!(in alloc; "{number};")?.as_str())?;
         links_at(number, alloc)
     }
 }
@@ -87,7 +88,11 @@ fn told_of_cut(alloc: Global, reach: &mut Noted) -> Result<String, Fault> {
     }
     let taken = select_over(reach, &FRAME, &CORNER, Mode::Follow, alloc);
     let mut told = selection_told(alloc, taken)?;
-    let (tiles, rows, links) = (reach.tiles.as_str(), reach.rows.as_str(), reach.links.as_str());
+    let (tiles, rows, links) = (
+        reach.tiles.as_str(),
+        reach.rows.as_str(),
+        reach.links.as_str(),
+    );
     told.push_str(format!(in alloc; "|{tiles}|{rows}|{links}")?.as_str())?;
     Ok(told)
 }

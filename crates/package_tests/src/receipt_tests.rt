@@ -11,8 +11,7 @@ use std::test::Fail;
 use test_values::{Checked, committed};
 
 // Each but the first two has a row out of its ranges.
-const RANGES: &str =
-    "new archive
+const RANGES: &str = "new archive
 alter INSERT INTO sheet_receipts VALUES (4, '00000000-0000-0000-0000-00000000000f', \
     '2026-11-22T09:00:00.000Z', '', '', '', 1, 0, 0, 0, 5)
 alter INSERT INTO sheet_items VALUES (4, 0, 1, '00000000-0000-0000-0000-000000000006', '', 5, \
@@ -190,8 +189,7 @@ alter INSERT INTO sheet_items VALUES (4, 0, 4, '00000000-0000-0000-0000-00000000
 form in_range => [no]";
 
 // Two receipts of a medium each.
-const ENTERED: &str =
-    "new archive
+const ENTERED: &str = "new archive
 enter of 7 9 2
 enter of 8 10 3
 rows SELECT seq || ' ' || request || ' ' || at || ' ' || line || ' ' || source || ' ' || target || ' ' || \

@@ -6,8 +6,7 @@ use crate::steps::wrong;
 use std::test::Fail;
 
 // `1 0 0 0 0` is the upper left of the four tiles of zoom 1.
-const CUTS: &str =
-    "new archive
+const CUTS: &str = "new archive
 add tile 1 0 0 0 A
 add tile 2 1 0 0 A
 add tile 3 2 0 0 A
@@ -69,8 +68,7 @@ cut follow 1 0 0 0 0 => [1;2;row-tile 1 2;]";
 
 // A tile at each place of three zooms, numbered by columns: of each zoom all places within the
 // ground are taken, and of a coarser zoom those alone that lie inside as a whole.
-const FULL_MATRIX: &str =
-    "new archive
+const FULL_MATRIX: &str = "new archive
 add tile 1 0 0 0 A
 add tile 2 1 0 0 A
 add tile 3 1 0 1 A

@@ -77,7 +77,11 @@ fn info_of(kind: &str) -> Info<'static> {
     let is_loan = kind == "loan";
     Info {
         package: Uuid::from_u128(if is_loan { 2 } else { 1 }),
-        parent: if is_loan { Some(Uuid::from_u128(1)) } else { None },
+        parent: if is_loan {
+            Some(Uuid::from_u128(1))
+        } else {
+            None
+        },
         depth: if is_loan { 1 } else { 0 },
         loan: if is_loan { 7 } else { 0 },
         created: AT,

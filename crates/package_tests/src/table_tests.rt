@@ -6,8 +6,7 @@ use std::test::Fail;
 
 // The objects are as stock SQLite 3.40.1 lists them after the same statements, the rows those of
 // the GeoPackage standard and of the profile.
-const NEW: &str =
-    "new archive
+const NEW: &str = "new archive
 rows SELECT type || ' ' || name || ' ' || tbl_name FROM sqlite_schema ORDER BY name => [index \
     by_rows_media rows_media;index by_rows_tiles rows_tiles;index by_tiles_media tiles_media;index by_xy \
     sheet_rows;table gpkg_contents gpkg_contents;table gpkg_spatial_ref_sys gpkg_spatial_ref_sys;table \
@@ -51,8 +50,7 @@ rows SELECT id || ' ' || version || ' ' || package || ' ' || parent || ' ' || de
 cut none => []";
 
 // The moment of a change is that of the three tables, and the package was made when it was.
-const DATED: &str =
-    "new archive 3857 -4096 -2048 4096 2048 256 256 0 1 2 1
+const DATED: &str = "new archive 3857 -4096 -2048 4096 2048 256 256 0 1 2 1
 date at 2027-01-02T03:04:05.006Z
 rows SELECT table_name || ' ' || last_change || ' ' || min_x || ' ' || min_y || ' ' || max_x || ' ' || \
     max_y || ' ' || srs_id FROM gpkg_contents ORDER BY table_name => [sheet_media 2027-01-02T03:04:05.006Z \
@@ -61,8 +59,7 @@ rows SELECT table_name || ' ' || last_change || ' ' || min_x || ' ' || min_y || 
 rows SELECT created FROM sheet_package => [2026-11-22T09:00:00.000Z;]";
 
 // Numbers below and above each other's, and rows at each edge.
-const LOOK_UPS: &str =
-    "new archive
+const LOOK_UPS: &str = "new archive
 alter INSERT INTO sheet_tiles VALUES (8, 2, 1, 1, x'61'), (-3, 2, 3, 2, x'62'), (1, 2, 4, 1, x'63'), (3, \
     2, 2, 3, x'64')
 alter INSERT INTO sheet_media VALUES (5, x'706e67', 'image/png')

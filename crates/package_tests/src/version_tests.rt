@@ -4,8 +4,7 @@ use crate::steps::wrong;
 use std::test::Fail;
 
 // A package of the second version with a tile, a medium, a row, two links and a receipt.
-const BROUGHT: &str =
-    "new archive
+const BROUGHT: &str = "new archive
 add tile 1 2 3 1 ab
 add medium 2 image/png png
 add row 3 100 200 31 well
