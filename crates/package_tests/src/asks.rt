@@ -1,4 +1,5 @@
-// What is asked of the tables of a package at rest: any statement's rows, and the look-ups that no command of the program makes.
+// What is asked of the tables of a package at rest: any statement's rows, and the look-ups that no
+// command of the program makes.
 
 use crate::lines::Line;
 use package_tables::attributes::{attributes_within, has_attribute};

@@ -1,4 +1,5 @@
-// What is done to the items and links of a package, and the receipts that come into it. An identity is a small number here.
+// What is done to the items and links of a package, and the receipts that come into it. An identity
+// is a small number here.
 
 use crate::lines::{Line, text_of, two_texts};
 use custody::enter;
@@ -22,7 +23,8 @@ fn id(number: i64) -> Uuid {
     Uuid::from_u128(u128::from(natural(number)))
 }
 
-// Of a tile its zoom, column and row, and its bytes; of a medium the type of its bytes, and they; of a row its point, code and label.
+// Of a tile its zoom, column and row, and its bytes; of a medium the type of its bytes, and they;
+// of a row its point, code and label.
 fn content(a: Global, line: Line) -> Result<Content, Fault> {
     let n = line.n;
     match line.kind {

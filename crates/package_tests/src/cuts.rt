@@ -66,10 +66,15 @@ fn rect_of(n: [i64; 11]) -> Rect {
 }
 
 fn mode_of(kind: &str) -> Mode {
-    if kind == "strict" { Mode::Strict } else { Mode::Follow }
+    if kind == "strict" {
+        Mode::Strict
+    } else {
+        Mode::Follow
+    }
 }
 
-/// The items that are selected and then the links, or why nothing is; `cut none` selects nothing and tells all that is there.
+/// The items that are selected and then the links, or why nothing is; `cut none` selects nothing
+/// and tells all that is there.
 pub(crate) fn cut_told<S: Alter>(
     a: Global,
     conn: &mut Connection<S>,

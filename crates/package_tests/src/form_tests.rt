@@ -1,12 +1,11 @@
-// What stores in memory say of themselves. The expected values follow from the rows that each test puts in: the package 2 is a loan of
-// package 1, one level below it, made by the split 7.
+// What stores in memory say of themselves. The expected values follow from the rows that each test
+// puts in: the package 2 is a loan of package 1, one level below it, made by the split 7.
 
 use crate::steps::wrong;
 use std::test::Fail;
 
 // Each way in which a table can be another one.
-const FORMS: &str =
-    "new loan
+const FORMS: &str = "new loan
 form has_form => [yes]
 form head => [2;1;1;7;]
 form claims => []
@@ -40,57 +39,58 @@ form has_form => [no]
 form head => [2;1;1;7;]
 
 new loan
-alter DROP TABLE rows_tiles; CREATE TABLE rows_tiles (base_id INTEGER NOT NULL, related_id INTEGER NOT NULL, x INTEGER NOT \
-    NULL, UNIQUE (base_id, related_id)) STRICT
+alter DROP TABLE rows_tiles; CREATE TABLE rows_tiles (base_id INTEGER NOT NULL, related_id INTEGER NOT \
+    NULL, x INTEGER NOT NULL, UNIQUE (base_id, related_id)) STRICT
 form has_form => [no]
 form head => [2;1;1;7;]
 
 new loan
-alter DROP TABLE rows_tiles; CREATE TABLE rows_tiles (base_id INTEGER NOT NULL, related_id TEXT NOT NULL, UNIQUE (base_id, \
-    related_id)) STRICT
+alter DROP TABLE rows_tiles; CREATE TABLE rows_tiles (base_id INTEGER NOT NULL, related_id TEXT NOT NULL, \
+    UNIQUE (base_id, related_id)) STRICT
 form has_form => [no]
 form head => [2;1;1;7;]
 
 new loan
-alter DROP TABLE rows_tiles; CREATE TABLE rows_tiles (base_id INTEGER NOT NULL, related_id INTEGER, UNIQUE (base_id, \
-    related_id)) STRICT
-form has_form => [no]
-form head => [2;1;1;7;]
-
-new loan
-alter DROP TABLE rows_tiles; CREATE TABLE rows_tiles (base_id INTEGER NOT NULL, related_id INTEGER NOT NULL) STRICT
-form has_form => [no]
-form head => [2;1;1;7;]
-
-new loan
-# one that is not STRICT, and one with a DEFAULT, a CHECK and a reference
-alter DROP TABLE rows_tiles; CREATE TABLE rows_tiles (base_id INTEGER NOT NULL, related_id INTEGER NOT NULL, UNIQUE (base_id, \
-    related_id))
-form has_form => [no]
-form head => [2;1;1;7;]
-
-new loan
-alter DROP TABLE rows_tiles; CREATE TABLE rows_tiles (base_id INTEGER NOT NULL DEFAULT 1, related_id INTEGER NOT NULL, UNIQUE \
+alter DROP TABLE rows_tiles; CREATE TABLE rows_tiles (base_id INTEGER NOT NULL, related_id INTEGER, UNIQUE \
     (base_id, related_id)) STRICT
 form has_form => [no]
 form head => [2;1;1;7;]
 
 new loan
-alter DROP TABLE rows_tiles; CREATE TABLE rows_tiles (base_id INTEGER NOT NULL, related_id INTEGER NOT NULL CHECK (related_id > \
-    0), UNIQUE (base_id, related_id)) STRICT
+alter DROP TABLE rows_tiles; CREATE TABLE rows_tiles (base_id INTEGER NOT NULL, related_id INTEGER NOT \
+    NULL) STRICT
 form has_form => [no]
 form head => [2;1;1;7;]
 
 new loan
-alter DROP TABLE rows_tiles; CREATE TABLE rows_tiles (base_id INTEGER NOT NULL, related_id INTEGER NOT NULL REFERENCES \
-    sheet_tiles (id), UNIQUE (base_id, related_id)) STRICT
+# one that is not STRICT, and one with a DEFAULT, a CHECK and a reference
+alter DROP TABLE rows_tiles; CREATE TABLE rows_tiles (base_id INTEGER NOT NULL, related_id INTEGER NOT \
+    NULL, UNIQUE (base_id, related_id))
+form has_form => [no]
+form head => [2;1;1;7;]
+
+new loan
+alter DROP TABLE rows_tiles; CREATE TABLE rows_tiles (base_id INTEGER NOT NULL DEFAULT 1, related_id \
+    INTEGER NOT NULL, UNIQUE (base_id, related_id)) STRICT
+form has_form => [no]
+form head => [2;1;1;7;]
+
+new loan
+alter DROP TABLE rows_tiles; CREATE TABLE rows_tiles (base_id INTEGER NOT NULL, related_id INTEGER NOT \
+    NULL CHECK (related_id > 0), UNIQUE (base_id, related_id)) STRICT
+form has_form => [no]
+form head => [2;1;1;7;]
+
+new loan
+alter DROP TABLE rows_tiles; CREATE TABLE rows_tiles (base_id INTEGER NOT NULL, related_id INTEGER NOT \
+    NULL REFERENCES sheet_tiles (id), UNIQUE (base_id, related_id)) STRICT
 form has_form => [no]
 form head => [2;1;1;7;]
 
 new loan
 # one whose numbers are not counted
-alter DROP TABLE sheet_media; CREATE TABLE sheet_media (id INTEGER PRIMARY KEY, data BLOB NOT NULL, content_type TEXT NOT NULL) \
-    STRICT
+alter DROP TABLE sheet_media; CREATE TABLE sheet_media (id INTEGER PRIMARY KEY, data BLOB NOT NULL, \
+    content_type TEXT NOT NULL) STRICT
 form has_form => [no]
 form head => [2;1;1;7;]
 
@@ -100,8 +100,7 @@ form head => [-]
 form claims => []";
 
 // Each takes the head away.
-const HEADS: &str =
-    "new loan
+const HEADS: &str = "new loan
 alter UPDATE sheet_package SET version = 3
 form head => [-]
 
@@ -134,8 +133,7 @@ alter UPDATE sheet_package SET loan = -1
 form head => [-]";
 
 // A moment that is none, and receipts in the order of their numbers, those that are none behind.
-const SAID: &str =
-    "new loan
+const SAID: &str = "new loan
 form are_dated => [yes]
 alter UPDATE gpkg_contents SET last_change = '2026-11-22T24:00:00.000Z' WHERE table_name = 'sheet_rows'
 form are_dated => [no]
@@ -146,10 +144,9 @@ alter INSERT INTO sheet_receipts VALUES (-5, 'e', '', 'five', 'S', '', 0, 0, 0, 
 alter INSERT INTO sheet_receipts VALUES (1, 'a', '', 'one', 'S', 'T', -1, 0, 0, 0, 0)
 form claims => [1 one S T;3 three  T;-5 five S ;]";
 
-// The second is of the same ground in other tiles, under one of the three reference systems that each package has; each of the others
-// takes the frame away.
-const FRAMES: &str =
-    "new loan
+// The second is of the same ground in other tiles, under one of the three reference systems that
+// each package has; each of the others takes the frame away.
+const FRAMES: &str = "new loan
 form frame => [25832;0;0;4096;4096;256;256;0;3;1;1;]
 # the moment is no part of the frame
 alter UPDATE gpkg_contents SET last_change = ''

@@ -1,4 +1,5 @@
-// What a store says of itself: its form, its head, its moments, its frame, its claims, and whether its receipts are in their ranges.
+// What a store says of itself: its form, its head, its moments, its frame, its claims, and whether
+// its receipts are in their ranges.
 
 use first_version::migration::migrate;
 use first_version::names::are_free;
@@ -110,7 +111,8 @@ pub(crate) fn forms_told<S: Alter>(
     }
 }
 
-/// Brings a store from the first version to the second, or takes it back. Tells that it did, or why not.
+/// Brings a store from the first version to the second, or takes it back. Tells that it did, or why
+/// not.
 pub(crate) fn turned<S: Alter>(
     a: Global,
     conn: &mut Connection<S>,

@@ -1,5 +1,6 @@
-//! Tests of what holds one package: `package_tables`, `identity_register`, `custody`, `cut`, `store_forms`, `stored_receipts` and
-//! `first_version`; and of the example of `sql_meaning`. There is nothing here but tests.
+//! Tests of what holds one package: `package_tables`, `identity_register`, `custody`, `cut`,
+//! `store_forms`, `stored_receipts` and `first_version`; and of the example of `sql_meaning`. There
+//! is nothing here but tests.
 #![tactic(auto)]
 
 #[cfg(test)]

@@ -1,9 +1,12 @@
-// A step of a test as a line of a text. What it says is read at run time, so a further line costs no proof.
+// A step of a test as a line of a text. What it says is read at run time, so a further line costs
+// no proof.
 
-/// What a line says: two words, numbers, a text, and behind ` => [` what is to be told, in brackets.
+/// What a line says: two words, numbers, a text, and behind ` => [` what is to be told, in
+/// brackets.
 ///
-/// Words and numbers stand one space apart. The numbers end before the first word that is none, and what is left is the text; `-` is
-/// a text of nothing. Behind `alter` and `rows` all is text: it is SQL. A line that says nothing of what it is to tell is to be `done`.
+/// Words and numbers stand one space apart. The numbers end before the first word that is none, and
+/// what is left is the text; `-` is a text of nothing. Behind `alter` and `rows` all is text: it is
+/// SQL. A line that says nothing of what it is to tell is to be `done`.
 #[derive(Clone, Copy)]
 pub(crate) struct Line {
     pub name: &'static str,

@@ -43,7 +43,8 @@ fn enter<S: Alter>(tx: &mut Transaction<'_, S>) -> Result<(), Error> {
     insert_all(tx, TWO.as_slice())
 }
 
-// How many notes are the newest of place 7, the newest of place 6, and those of place 7 before the newest.
+// How many notes are the newest of place 7, the newest of place 6, and those of place 7 before the
+// newest.
 fn ask<S: Alter>(tx: &mut Transaction<'_, S>) -> Result<[usize; 3], Error> {
     let newest = newest_note(tx, 7)?.len();
     let of_none = newest_note(tx, 6)?.len();
@@ -60,7 +61,8 @@ fn stepped<S: Alter>(conn: &mut Connection<S>) -> Result<[usize; 3], Fault> {
     Ok(told)
 }
 
-// Whether two notes are refused after two came in: the second's number is taken, so the first is not entered either.
+// Whether two notes are refused after two came in: the second's number is taken, so the first is
+// not entered either.
 fn turned<S: Alter>(conn: &mut Connection<S>) -> Result<bool, Fault> {
     at_rest(conn)?;
     change_in_turn(conn, 30, 50, 7, "one", "two")?;

@@ -1,4 +1,5 @@
-// What a cut asks for, over a stand-in that notes it. It says of no package that it shows it, so what it answers needs no proof.
+// What a cut asks for, over a stand-in that notes it. It says of no package that it shows it, so
+// what it answers needs no proof.
 ghost use Rattle.std.specs.Prelude.{⊤, ⊥};
 
 use crate::cuts::selection_told;
@@ -24,7 +25,8 @@ const CORNER: Rect = Rect {
     last_row: 0,
 };
 
-// The tile 1 in the corner and the tile 2 elsewhere have the medium 3, and the tile 2 has the medium 4.
+// The tile 1 in the corner and the tile 2 elsewhere have the medium 3, and the tile 2 has the
+// medium 4.
 const LINKS: [(u8, u8); 3] = [(1, 3), (2, 3), (2, 4)];
 
 fn links_at(number: u8, alloc: Global) -> Result<Vec<Relation>, Fault> {
@@ -73,7 +75,8 @@ impl Reach for Noted {
 
     fn links_of(&mut self, identity: Uuid, alloc: Global) -> Result<Vec<Relation>, Fault> {
         let number = number_of(identity);
-        self.links.push_str(format!(in alloc; "{number};")?.as_str())?;
+        self.links
+            .push_str(format!(in alloc; "{number};")?.as_str())?;
         links_at(number, alloc)
     }
 }
@@ -85,7 +88,11 @@ fn told_of_cut(alloc: Global, reach: &mut Noted) -> Result<String, Fault> {
     }
     let taken = select_over(reach, &FRAME, &CORNER, Mode::Follow, alloc);
     let mut told = selection_told(alloc, taken)?;
-    let (tiles, rows, links) = (reach.tiles.as_str(), reach.rows.as_str(), reach.links.as_str());
+    let (tiles, rows, links) = (
+        reach.tiles.as_str(),
+        reach.rows.as_str(),
+        reach.links.as_str(),
+    );
     told.push_str(format!(in alloc; "|{tiles}|{rows}|{links}")?.as_str())?;
     Ok(told)
 }

@@ -1,12 +1,12 @@
-// Selections in stores, worked out by hand. The first rectangle is the upper left quarter of a frame of 4096 by 4096: x from 0 to 2048
-// and y from 2048 to 4096. What a cut takes is the same without the four indexes that ranges and ends are found by.
+// Selections in stores, worked out by hand. The first rectangle is the upper left quarter of a
+// frame of 4096 by 4096: x from 0 to 2048 and y from 2048 to 4096. What a cut takes is the same
+// without the four indexes that ranges and ends are found by.
 
 use crate::steps::wrong;
 use std::test::Fail;
 
 // `1 0 0 0 0` is the upper left of the four tiles of zoom 1.
-const CUTS: &str =
-    "new archive
+const CUTS: &str = "new archive
 add tile 1 0 0 0 A
 add tile 2 1 0 0 A
 add tile 3 2 0 0 A
@@ -66,10 +66,9 @@ alter DROP INDEX by_xy; DROP INDEX by_tiles_media; DROP INDEX by_rows_media; DRO
 cut strict 1 0 0 0 0 => [cuts a link of 1]
 cut follow 1 0 0 0 0 => [1;2;row-tile 1 2;]";
 
-// A tile at each place of three zooms, numbered by columns: of each zoom all places within the ground are taken, and of a coarser zoom
-// those alone that lie inside as a whole.
-const FULL_MATRIX: &str =
-    "new archive
+// A tile at each place of three zooms, numbered by columns: of each zoom all places within the
+// ground are taken, and of a coarser zoom those alone that lie inside as a whole.
+const FULL_MATRIX: &str = "new archive
 add tile 1 0 0 0 A
 add tile 2 1 0 0 A
 add tile 3 1 0 1 A

@@ -1,4 +1,5 @@
-// A test as data: packages in memory, what is done to each in turn, and what it is asked. One function carries a step out.
+// A test as data: packages in memory, what is done to each in turn, and what it is asked. One
+// function carries a step out.
 
 use crate::asks::{asked, rows_told};
 use crate::changes::{Done, Entered};
@@ -35,7 +36,8 @@ fn step_told<S: Alter>(a: Global, conn: &mut Connection<S>, line: Line) -> Resul
     }
 }
 
-// Carries the lines out, and notes what each told. One that begins with `#` says something of those below it.
+// Carries the lines out, and notes what each told. One that begins with `#` says something of those
+// below it.
 pub(crate) fn take_steps<S: Alter>(
     a: Global,
     conn: &mut Connection<S>,
@@ -75,14 +77,19 @@ fn info_of(kind: &str) -> Info<'static> {
     let is_loan = kind == "loan";
     Info {
         package: Uuid::from_u128(if is_loan { 2 } else { 1 }),
-        parent: if is_loan { Some(Uuid::from_u128(1)) } else { None },
+        parent: if is_loan {
+            Some(Uuid::from_u128(1))
+        } else {
+            None
+        },
         depth: if is_loan { 1 } else { 0 },
         loan: if is_loan { 7 } else { 0 },
         created: AT,
     }
 }
 
-/// A store in memory: `new nothing` one that nothing is in, `new archive` and `new loan` a package, of a frame if one is said.
+/// A store in memory: `new nothing` one that nothing is in, `new archive` and `new loan` a package,
+/// of a frame if one is said.
 pub(crate) fn new_store(a: Global, line: Line) -> Result<Connection<MemStore>, Fault> {
     let conn = in_memory(a)?;
     if line.kind == "nothing" {
@@ -110,7 +117,8 @@ fn take_part(a: Global, part: &'static str, checked: &mut Checked) -> Result<(),
     take_in(a, new_store(a, head), steps, checked)
 }
 
-/// What the steps told that was not expected, one a line. Each part of the text, behind an empty line, has a store of its own.
+/// What the steps told that was not expected, one a line. Each part of the text, behind an empty
+/// line, has a store of its own.
 pub(crate) fn wrong(a: Global, steps: &'static str) -> Result<String, Fault> {
     let mut checked = Checked::new(a);
     for part in steps.split("\n\n") {
