@@ -17,7 +17,7 @@ import sys
 ROOT = os.path.dirname(os.path.dirname(os.path.abspath(__file__)))
 TEST_VALUES = ["test_values", "test_worlds"]
 # The crates that a line of a session goes through (crates/sheetdesk), from the words of the program on.
-OF_SESSIONS = ["command_line", "commands", "views", "world_views", "cli"]
+OF_SESSIONS = ["sheetdesk", "commands", "views", "world_views", "cli"]
 CONST = re.compile(r"^(?:pub(?:\(crate\))? )?const (?P<name>\w+): .*?;$", re.M | re.S)
 HEAD = re.compile(r"^(?P<indent>\s*)(?P<pub>pub(?:\((?:crate|super)\))? )?fn (?P<name>\w+)", re.M)
 

@@ -1,0 +1,18 @@
+-- The stores that are handed on are those of the world as it was left.
+use Rattle.std.proofs.Common.{refl}
+use Rattle.views.proofs.looking.look_in.Goals as goal
+
+pub returns-in-Receipt : goal.returns-in-Receipt
+returns-in-Receipt g c = (c.receipt_in-ending.new.world, c.into_stores.ensures, c.receipt_in-ending.ensures)
+
+pub returns-in-Manifest : goal.returns-in-Manifest
+returns-in-Manifest g c = (c.manifest_in-told.new.world, c.manifest_in-told.result, c.into_stores-2.ensures, refl, c.manifest_in-told.ensures)
+
+pub returns-in-Export : goal.returns-in-Export
+returns-in-Export g c = (c.export_in-told.new.world, c.export_in-told.result, c.into_stores-3.ensures, refl, c.export_in-told.ensures)
+
+pub returns-in-Map : goal.returns-in-Map
+returns-in-Map g c = (c.map_in-ending.new.world, c.into_stores-4.ensures, c.map_in-ending.ensures)
+
+pub returns-in-Audit : goal.returns-in-Audit
+returns-in-Audit g c = (c.audit_in-told.result, c.into_stores-5.ensures, refl, c.audit_in-told.ensures)
