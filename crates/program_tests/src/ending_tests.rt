@@ -10,7 +10,6 @@ use std::alloc::Global;
 use test_values::Checked;
 use uuid::Uuid;
 use views::endings::Ending as ViewEnding;
-use views::map_endings::MapEnding;
 
 fn wrong(alloc: Global, cases: &[(End, &str)]) -> Result<String, Fault> {
     let mut checked = Checked::new(alloc);
@@ -108,18 +107,17 @@ fn so_has_each_ending_of_a_map_and_a_view(rt: HostRuntime) {
     let number = Ending::Usual(Outcome::Refused(What::BadNumber));
     let no_archive = OpenFault::Fault(RecoverFault::NoArchive);
     let cases = [
-        (End::Map(MapEnding::Usual(DONE)), "0 ||"),
-        (End::Map(MapEnding::NoSuchZoom), "1 refused: zoom\n||"),
-        (End::Map(MapEnding::Usual(number)), "1 refused: number\n||"),
+        (End::View(ViewEnding::Usual(DONE)), "0 ||"),
+        (End::View(ViewEnding::NoSuchZoom), "1 refused: zoom\n||"),
+        (End::View(ViewEnding::Usual(number)), "1 refused: number\n||"),
         (
-            End::Map(MapEnding::Usual(FAILED)),
+            End::View(ViewEnding::Usual(FAILED)),
             "3 |store: StoreFault\n|",
         ),
         (
-            End::Map(MapEnding::Usual(Ending::Unopened(busy()))),
+            End::View(ViewEnding::Usual(Ending::Unopened(busy()))),
             "3 |store: StoreFault\n|7",
         ),
-        (End::View(ViewEnding::Usual(DONE)), "0 ||"),
         (
             End::View(ViewEnding::NoSuchRequest),
             "1 refused: no such request\n||",
@@ -131,10 +129,6 @@ fn so_has_each_ending_of_a_map_and_a_view(rt: HostRuntime) {
         (
             End::View(ViewEnding::Usual(Ending::Unopened(no_archive))),
             "3 |store: NoArchive\n|",
-        ),
-        (
-            End::View(ViewEnding::Usual(Ending::Unopened(busy()))),
-            "3 |store: StoreFault\n|7",
         ),
     ];
     passes(&rt, wrong(rt.alloc(), cases.as_slice()));

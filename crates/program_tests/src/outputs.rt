@@ -105,7 +105,7 @@ fn ended<S: Alter + Drop, H: Shelf<S>>(
             let ending = export_in(alloc, world, package(digit), out);
             end_text(alloc, &End::Command(ending))
         }
-        What::Map(zoom) => end_text(alloc, &End::Map(map_in(alloc, world, zoom, out))),
+        What::Map(zoom) => end_text(alloc, &End::View(map_in(alloc, world, zoom, out))),
         What::Applies(body, reads) => {
             let ending = apply_in(alloc, world, shelf, Giving::new(body, reads), out);
             end_text(alloc, &End::Command(ending))
