@@ -1,7 +1,8 @@
 -- What is done over a folder, what is made of its world, and how the program ends. Profile.
 use Rattle.std.specs.Prelude.{◌≡◌, ◌⊎◌, ℕ, List, Option}
+use Rattle.sqlite.specs.Held.{Held}
 use Rattle.sqlite.specs.Store.{Ghosts}
-use Rattle.world.specs.Worlds.{Seen}
+use Rattle.world.specs.Worlds.{Seen, held}
 use Rattle.command_words.specs.Arguments.{AsksDesk}
 use Rattle.command_words.specs.declared.statuses.Outcome.TheVariants.{Refused}
 use Rattle.command_words.specs.declared.statuses.What.TheVariants.{BadNumber}
@@ -33,6 +34,11 @@ module _ {S : Type 0} (g : Ghosts S) (text : Option (List ℕ)) where
     Worked Apply ending = Applies g text old new writer writer' before after ending
     Worked (Import file) ending = ImportsFile g old new writer writer' before after ending
     Worked (Serve desk) ending = ServesOn g desk.count old new ending × (writer' ≡ writer)
+
+  -- The same of a world that ended with it, and of which these stores are left.
+  abbrev pub EndsWork : {W : Type 0} → Seen S → List (Held S) → W → W → Option (List ℕ) → Option (List ℕ) → Work → Ending → Type 0
+  EndsWork old stores writer writer' before after work ending =
+      (new : Seen S) × (stores ≡ held g new) × Worked old new writer writer' before after work ending
 
   module _ {W : Type 0} where
     -- The folder was not opened, and nothing was written; or its world was, and this was done over it.

@@ -1,7 +1,7 @@
 //! What is done over a folder: the words, and the one place in which its stores are opened for it.
 //! All that is made of a world stands in functions over any store.
 ghost use Rattle.std.specs.Prelude.{IfNone, IfSome};
-ghost use Rattle.commands.specs.Works.{Asks, IsUnread, OpensFor, Worked, Works};
+ghost use Rattle.commands.specs.Works.{Asks, EndsWork, IsUnread, OpensFor, Worked, Works};
 
 use crate::applying::apply_in;
 use crate::importing::import_file;
@@ -15,7 +15,7 @@ use folder_worlds::endings::Ending;
 use folder_worlds::folders::open_folder;
 use manifest_csv::progress::Teller;
 use shelves::shelf::Shelf;
-use sqlite::Alter;
+use sqlite::{Alter, Connection};
 use sqlite_trees::store::Store;
 use std::io::{Read, Write};
 use world::world::World;
@@ -55,7 +55,7 @@ fn read_asked(asked: Asked<'_>) -> Option<Work<'_>>
 }
 
 /// Does it over a world and a shelf. The teller is told of each request of a list that is done.
-fn work_in<S: Alter + Drop, H: Shelf<S>, R: Read + Drop, W: Write, T: Teller>(
+fn worked<S: Alter + Drop, H: Shelf<S>, R: Read + Drop, W: Write, T: Teller>(
     rt: &HostRuntime,
     world: &mut World<S>,
     shelf: &mut H,
@@ -73,9 +73,25 @@ fn work_in<S: Alter + Drop, H: Shelf<S>, R: Read + Drop, W: Write, T: Teller>(
     }
 }
 
+/// The same of a world that ends with it: its stores are handed on.
+fn work_in<S: Alter + Drop, H: Shelf<S>, R: Read + Drop, W: Write, T: Teller>(
+    rt: &HostRuntime,
+    mut world: World<S>,
+    shelf: &mut H,
+    work: Work<'_>,
+    reader: R,
+    writer: &mut W,
+    teller: &mut T,
+) -> (Ending, Vec<Connection<S>>)
+    ensures { EndsWork S.Store (R.remaining reader) world result.1.items writer.old writer.new (W.contents writer.old) (W.contents writer.new) work.entry result.0 }
+{
+    let ending = worked(rt, &mut world, shelf, work, reader, writer, teller);
+    (ending, world.into_stores())
+}
+
 /// Opens a folder, and does it over its world.
 ///
-/// The one function in which a folder's stores live: the check pays for their type in each such function anew.
+/// The one place where a folder's stores are handed to a function over any store: the check pays for their type at each such call anew.
 fn work_at<R: Read + Drop, W: Write, T: Teller>(
     rt: &HostRuntime,
     folder: &str,
@@ -87,10 +103,10 @@ fn work_at<R: Read + Drop, W: Write, T: Teller>(
     ensures { OpensFor ⟦<FolderStore as Store>⟧ (R.remaining reader) work.entry writer.old writer.new (W.contents writer.old) (W.contents writer.new) result }
 {
     match open_folder(rt, folder) {
-        Ok(mut world) => {
+        Ok(world) => {
             let mut shelf = FolderShelf::new(rt, folder);
-            let ending = work_in(rt, &mut world, &mut shelf, work, reader, writer, teller);
-            close_stores(world.into_stores());
+            let (ending, stores) = work_in(rt, world, &mut shelf, work, reader, writer, teller);
+            close_stores(stores);
             ending
         }
         Err(fault) => Ending::Unopened(fault),

@@ -132,7 +132,7 @@ fn unopened(look: Look, fault: OpenFault) -> Ending
 
 /// Opens a folder, and prints what is looked at of its world.
 ///
-/// The one function in which a folder's stores live: the check pays for their type in each such function anew.
+/// The one place where a folder's stores are handed to a function over any store: the check pays for their type at each such call anew.
 fn look_at<W: Write>(rt: &HostRuntime, folder: &str, look: Look, writer: &mut W) -> Ending
     ensures { OpensFor ⟦<FolderStore as Store>⟧ look writer.old writer.new (W.contents writer.old) (W.contents writer.new) result }
 {
@@ -147,12 +147,7 @@ fn look_at<W: Write>(rt: &HostRuntime, folder: &str, look: Look, writer: &mut W)
 }
 
 /// Prints what words ask to look at of the packages of a folder. The words are read first: where they cannot be, nothing is opened and nothing is written.
-pub fn look<W: Write>(
-    rt: &HostRuntime,
-    folder: &str,
-    asked: Asked<'_>,
-    writer: &mut W,
-) -> Ending
+pub fn look<W: Write>(rt: &HostRuntime, folder: &str, asked: Asked<'_>, writer: &mut W) -> Ending
     ensures { Looks ⟦<FolderStore as Store>⟧ asked.entry writer.old writer.new (W.contents writer.old) (W.contents writer.new) result }
 {
     match read_asked(asked) {
