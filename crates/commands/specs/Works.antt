@@ -24,11 +24,13 @@ Asks words work = ⊥
 
 -- A number that the words name is none, or out of its range.
 abbrev pub IsUnread : Asked → Type 0
-IsUnread (asked.Serve words) = (port count : ℕ) → ¬ AsksDesk words.port.now words.count.now port count
+IsUnread (asked.Serve words) =
+    (port count : ℕ) → ¬ AsksDesk words.port.now words.count.now port count
 IsUnread words = ⊥
 
 module _ {S : Type 0} (g : Ghosts S) (text : Option (List ℕ)) where
-  module _ {W : Type 0} (old new : Seen S) (writer writer' : W) (before after : Option (List ℕ)) where
+  module _ {W : Type 0} (old new : Seen S) (writer writer' : W)
+      (before after : Option (List ℕ)) where
     -- what is made of a world, and how the program ends then
     abbrev pub Worked : Work → Ending → Type 0
     Worked Apply ending = Applies g text old new writer writer' before after ending
@@ -36,17 +38,21 @@ module _ {S : Type 0} (g : Ghosts S) (text : Option (List ℕ)) where
     Worked (Serve desk) ending = ServesOn g desk.count old new ending × (writer' ≡ writer)
 
   -- The same of a world that ended with it, and of which these stores are left.
-  abbrev pub EndsWork : {W : Type 0} → Seen S → List (Held S) → W → W → Option (List ℕ) → Option (List ℕ) → Work → Ending → Type 0
+  abbrev pub EndsWork : {W : Type 0} → Seen S → List (Held S) → W → W
+      → Option (List ℕ) → Option (List ℕ) → Work → Ending → Type 0
   EndsWork old stores writer writer' before after work ending =
-      (new : Seen S) × (stores ≡ held g new) × Worked old new writer writer' before after work ending
+      (new : Seen S) × (stores ≡ held g new)
+      × Worked old new writer writer' before after work ending
 
   module _ {W : Type 0} where
-    -- The folder was not opened, and nothing was written; or its world was, and this was done over it.
+    -- The folder was not opened, and nothing was written; or its world was, and this was made of it.
     abbrev pub OpensFor : Work → W → W → Option (List ℕ) → Option (List ℕ) → Ending → Type 0
     OpensFor work writer writer' before after ending =
-        OpensThen g Unopened (λ old new. Worked old new writer writer' before after work ending) writer writer' ending
+        OpensThen g Unopened (λ old new. Worked old new writer writer' before after work ending)
+        writer writer' ending
 
-    -- The words could not be read, and nothing was opened or written; or the folder was opened for what they ask.
+    -- The words could not be read, and nothing was written; or the folder was opened for what they
+    -- ask.
     abbrev pub Works : Asked → W → W → Option (List ℕ) → Option (List ℕ) → Ending → Type 0
     Works words writer writer' before after ending =
         (IsUnread words × (ending ≡ Usual (Refused BadNumber)) × (writer' ≡ writer))

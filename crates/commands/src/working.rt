@@ -64,7 +64,8 @@ fn worked<S: Alter + Drop, H: Shelf<S>, R: Read + Drop, W: Write, T: Teller>(
     writer: &mut W,
     teller: &mut T,
 ) -> Ending
-    ensures { Worked S.Store (R.remaining reader) world.old world.new writer.old writer.new (W.contents writer.old) (W.contents writer.new) work.entry result }
+    ensures { Worked S.Store (R.remaining reader) world.old world.new
+        writer.old writer.new (W.contents writer.old) (W.contents writer.new) work.entry result }
 {
     match work {
         Work::Apply => apply_in(rt.alloc(), world, shelf, reader, writer),
@@ -83,7 +84,8 @@ fn work_in<S: Alter + Drop, H: Shelf<S>, R: Read + Drop, W: Write, T: Teller>(
     writer: &mut W,
     teller: &mut T,
 ) -> (Ending, Vec<Connection<S>>)
-    ensures { EndsWork S.Store (R.remaining reader) world result.1.items writer.old writer.new (W.contents writer.old) (W.contents writer.new) work.entry result.0 }
+    ensures { EndsWork S.Store (R.remaining reader) world result.1.items
+        writer.old writer.new (W.contents writer.old) (W.contents writer.new) work.entry result.0 }
 {
     let ending = worked(rt, &mut world, shelf, work, reader, writer, teller);
     (ending, world.into_stores())
@@ -91,7 +93,8 @@ fn work_in<S: Alter + Drop, H: Shelf<S>, R: Read + Drop, W: Write, T: Teller>(
 
 /// Opens a folder, and does it over its world.
 ///
-/// The one place where a folder's stores are handed to a function over any store: the check pays for their type at each such call anew.
+/// The one place where a folder's stores are handed to a function over any store: the check pays
+/// for their type at each such call anew.
 fn work_at<R: Read + Drop, W: Write, T: Teller>(
     rt: &HostRuntime,
     folder: &str,
@@ -100,7 +103,8 @@ fn work_at<R: Read + Drop, W: Write, T: Teller>(
     writer: &mut W,
     teller: &mut T,
 ) -> Ending
-    ensures { OpensFor ⟦<FolderStore as Store>⟧ (R.remaining reader) work.entry writer.old writer.new (W.contents writer.old) (W.contents writer.new) result }
+    ensures { OpensFor ⟦<FolderStore as Store>⟧ (R.remaining reader) work.entry
+        writer.old writer.new (W.contents writer.old) (W.contents writer.new) result }
 {
     match open_folder(rt, folder) {
         Ok(world) => {
@@ -113,9 +117,10 @@ fn work_at<R: Read + Drop, W: Write, T: Teller>(
     }
 }
 
-/// Does what words ask for over the packages of a folder. The words are read first: where they cannot be, nothing is opened and nothing is written.
+/// Does what words ask for over the packages of a folder. The words are read first: where they
+/// cannot be, nothing is opened and nothing is written.
 /// The folder is opened before anything is read.
-pub fn work<R: Read + Drop, W: Write, T: Teller>(
+pub fn work_for<R: Read + Drop, W: Write, T: Teller>(
     rt: &HostRuntime,
     folder: &str,
     asked: Asked<'_>,
@@ -123,7 +128,8 @@ pub fn work<R: Read + Drop, W: Write, T: Teller>(
     writer: &mut W,
     teller: &mut T,
 ) -> Ending
-    ensures { Works ⟦<FolderStore as Store>⟧ (R.remaining reader) asked.entry writer.old writer.new (W.contents writer.old) (W.contents writer.new) result }
+    ensures { Works ⟦<FolderStore as Store>⟧ (R.remaining reader) asked.entry
+        writer.old writer.new (W.contents writer.old) (W.contents writer.new) result }
 {
     match read_asked(asked) {
         Some(work) => work_at(rt, folder, work, reader, writer, teller),

@@ -14,7 +14,8 @@ use sqlite_trees::store::Store;
 use std::alloc::Global;
 use world::world::World;
 
-/// The world that these stores stand for, each just opened, or why there is none; and the stores that are not of it, to be closed. The watcher is told how many are read.
+/// The world that these stores stand for, each just opened, or why there is none; and the stores
+/// that are not of it. The watcher is told how many are read.
 fn world_of<S: Alter + Drop, W: Watcher>(
     alloc: Global,
     stores: Vec<Connection<S>>,
@@ -29,12 +30,14 @@ fn world_of<S: Alter + Drop, W: Watcher>(
     }
 }
 
-/// The world that the packages of a folder stand for: of all files whose name is that of a package's file. Those of packages that are not live are closed, and all of them where there is no world.
+/// The world that the packages of a folder stand for: of all files whose name is that of a package's
+/// file. Those of packages that are not live are closed, and all of them where there is no world.
 /// Standard error is told how many are read, where it is a terminal.
 ///
 /// # Errors
 ///
-/// A folder or a file that cannot be had, `Busy` where another process has it; want of memory; or the first fault whose condition holds of the stores.
+/// A folder or a file that cannot be had, `Busy` where another process has it; want of memory; or
+/// the first fault whose condition holds of the stores.
 pub fn open_folder(rt: &HostRuntime, folder: &str) -> Result<World<FolderStore>, OpenFault>
     ensures { IfOk result (IsFolderWorld ⟦<FolderStore as Store>⟧) }
 {

@@ -7,7 +7,7 @@ use command_words::arguments::{DeskWords, Words};
 use command_words::progress::{Progress, Silent, Teller};
 use command_words::statuses::Outcome;
 use commands::init::init;
-use commands::working::{Asked, work};
+use commands::working::{Asked, work_for};
 use folder_worlds::endings::{
     Ending, FAILED, NO_MEMORY, busy_package, error_of, output_of, status_of,
 };
@@ -17,7 +17,7 @@ use std::io;
 use std::io::{IsTerminal, Read};
 use uuid::Uuid;
 use views::endings as seen;
-use views::looking::{Asked as AskedLook, look};
+use views::looking::{Asked as AskedLook, look_for};
 
 /// Prints a text on standard error. Where that fails too, the status alone says how the program ended.
 pub(crate) fn print_error(rt: &HostRuntime, text: &str) {
@@ -156,7 +156,7 @@ fn changed<R: Read + Drop, T: Teller>(
     teller: &mut T,
 ) -> Ending {
     match asked_work(name, given) {
-        Some(asked) => work(
+        Some(asked) => work_for(
             rt,
             text_of(given, "folder"),
             asked,
@@ -194,7 +194,7 @@ pub(crate) fn carried_out<R: Read + Drop>(
     let folder = text_of(given, "folder");
     let mut writer = io::writer(rt);
     if let Some(asked) = asked_look(name, given) {
-        return looked(rt, &look(rt, folder, asked, &mut writer));
+        return looked(rt, &look_for(rt, folder, asked, &mut writer));
     }
     let ending = match name {
         "init" => init(rt, &archive_words(given), folder, &mut writer),

@@ -47,23 +47,33 @@ IsUnread (asked.Explain word) what = IsNoUuid word.now what
 IsUnread (asked.Receipt word) what = IsNoUuid word.now what
 IsUnread (asked.Manifest word) what = IsNoUuid word.now what
 IsUnread (asked.Export word) what = IsNoUuid word.now what
-IsUnread (asked.Map word) what = ((zoom : Option ℤ) → ¬ AsksZoom (option_map (λ text. text.now) word) zoom) × (what ≡ BadNumber)
+IsUnread (asked.Map word) what =
+    ((zoom : Option ℤ) → ¬ AsksZoom (option_map (λ text. text.now) word) zoom) × (what ≡ BadNumber)
 IsUnread asked.Audit what = ⊥
 
 -- ---- what is made of a world
 
-module _ {S : Type 0} (g : Ghosts S) {W : Type 0} (old : Seen S) (stores : List (Held S)) (writer writer' : W) (before after : Option (List ℕ)) where
+module _ {S : Type 0} (g : Ghosts S) {W : Type 0} (old : Seen S) (stores : List (Held S))
+    (writer writer' : W) (before after : Option (List ℕ)) where
   -- What is looked at was printed, the program ends so, and these stores are left of the world.
   abbrev pub Looked : Look → Ending → Type 0
   Looked Status ending = ShowsStatus g old stores writer writer' before after ending
   Looked (Explain id) ending = ShowsWay g id old stores writer writer' before after ending
-  Looked (Receipt id) ending = (new : Seen S) × (stores ≡ held g new) × ShowsReceipt g id old new writer writer' before after ending
+  Looked (Receipt id) ending =
+      (new : Seen S) × (stores ≡ held g new)
+      × ShowsReceipt g id old new writer writer' before after ending
   Looked (Manifest p) ending =
-      (new : Seen S) × (told : CommandEnding) × (stores ≡ held g new) × (ending ≡ Usual told) × EndsManifest g p old new writer writer' before after told
+      (new : Seen S) × (told : CommandEnding) × (stores ≡ held g new) × (ending ≡ Usual told)
+      × EndsManifest g p old new writer writer' before after told
   Looked (Export p) ending =
-      (new : Seen S) × (told : CommandEnding) × (stores ≡ held g new) × (ending ≡ Usual told) × EndsExport g p old new writer writer' before after told
-  Looked (Map zoom) ending = (new : Seen S) × (stores ≡ held g new) × EndsMap g zoom old new writer writer' before after ending
-  Looked Audit ending = (told : CommandEnding) × (stores ≡ held g old) × (ending ≡ Usual told) × Audits g old writer writer' before after told
+      (new : Seen S) × (told : CommandEnding) × (stores ≡ held g new) × (ending ≡ Usual told)
+      × EndsExport g p old new writer writer' before after told
+  Looked (Map zoom) ending =
+      (new : Seen S) × (stores ≡ held g new)
+      × EndsMap g zoom old new writer writer' before after ending
+  Looked Audit ending =
+      (told : CommandEnding) × (stores ≡ held g old) × (ending ≡ Usual told)
+      × Audits g old writer writer' before after told
 
 -- ---- and of a folder
 
@@ -73,14 +83,17 @@ unopened Audit fault = Usual (usual.Faulted fault)
 unopened look fault = Usual (usual.Unopened fault)
 
 module _ {S : Type 0} (g : Ghosts S) {W : Type 0} where
-  -- The folder was not opened, and nothing was printed; or its world was, and this was looked at of it.
+  -- The folder was not opened, and nothing was printed; or its world was, and this was made of it.
   abbrev pub OpensFor : Look → W → W → Option (List ℕ) → Option (List ℕ) → Ending → Type 0
   OpensFor look writer writer' before after ending =
       ((fault : OpenFault) × (ending ≡ unopened look fault) × (writer' ≡ writer))
-      ⊎ ((old : Seen S) × (stores : List (Held S)) × IsFolderWorld g old × Looked g old stores writer writer' before after look ending)
+      ⊎ ((old : Seen S) × (stores : List (Held S)) × IsFolderWorld g old
+      × Looked g old stores writer writer' before after look ending)
 
-  -- The words could not be read, and nothing was opened or printed; or the folder was opened for what they ask.
+  -- The words could not be read, and nothing was printed; or the folder was opened for what they
+  -- ask.
   abbrev pub Looks : Asked → W → W → Option (List ℕ) → Option (List ℕ) → Ending → Type 0
   Looks words writer writer' before after ending =
-      ((what : What) × IsUnread words what × (ending ≡ Usual (usual.Usual (Refused what))) × (writer' ≡ writer))
+      ((what : What) × IsUnread words what × (ending ≡ Usual (usual.Usual (Refused what)))
+      × (writer' ≡ writer))
       ⊎ ((look : Look) × Asks words look × OpensFor look writer writer' before after ending)

@@ -1,4 +1,4 @@
-//! What is looked at in a folder: the words, and the one place in which its stores are opened for it.
+//! What is looked at in a folder: the words, and the one place where its stores are opened for it.
 //! All that is made of a world stands in functions over any store.
 ghost use Rattle.std.specs.Prelude.{◌≡◌, MatchResult, Some};
 ghost use Rattle.uuid.specs.Text.{parsed_hyphenated};
@@ -59,7 +59,8 @@ pub enum Look {
 
 /// The UUID of a word.
 fn uuid_of(word: &str) -> Result<Uuid, What>
-    ensures { MatchResult result (λ uuid. parsed_hyphenated word.now ≡ Some uuid) (IsNoUuid word.now) }
+    ensures { MatchResult result
+        (λ uuid. parsed_hyphenated word.now ≡ Some uuid) (IsNoUuid word.now) }
 {
     match read_uuid(word) {
         Some(uuid) => Ok(uuid),
@@ -92,7 +93,8 @@ pub fn look_in<S: Alter + Drop, W: Write>(
     look: Look,
     writer: &mut W,
 ) -> (Ending, Vec<Connection<S>>)
-    ensures { Looked S.Store world result.1.items writer.old writer.new (W.contents writer.old) (W.contents writer.new) look result.0 }
+    ensures { Looked S.Store world result.1.items
+        writer.old writer.new (W.contents writer.old) (W.contents writer.new) look result.0 }
 {
     match look {
         Look::Status => status_in(alloc, world, writer),
@@ -132,9 +134,11 @@ fn unopened(look: Look, fault: OpenFault) -> Ending
 
 /// Opens a folder, and prints what is looked at of its world.
 ///
-/// The one place where a folder's stores are handed to a function over any store: the check pays for their type at each such call anew.
+/// The one place where a folder's stores are handed to a function over any store: the check pays
+/// for their type at each such call anew.
 fn look_at<W: Write>(rt: &HostRuntime, folder: &str, look: Look, writer: &mut W) -> Ending
-    ensures { OpensFor ⟦<FolderStore as Store>⟧ look writer.old writer.new (W.contents writer.old) (W.contents writer.new) result }
+    ensures { OpensFor ⟦<FolderStore as Store>⟧ look
+        writer.old writer.new (W.contents writer.old) (W.contents writer.new) result }
 {
     match open_folder(rt, folder) {
         Ok(world) => {
@@ -146,9 +150,11 @@ fn look_at<W: Write>(rt: &HostRuntime, folder: &str, look: Look, writer: &mut W)
     }
 }
 
-/// Prints what words ask to look at of the packages of a folder. The words are read first: where they cannot be, nothing is opened and nothing is written.
-pub fn look<W: Write>(rt: &HostRuntime, folder: &str, asked: Asked<'_>, writer: &mut W) -> Ending
-    ensures { Looks ⟦<FolderStore as Store>⟧ asked.entry writer.old writer.new (W.contents writer.old) (W.contents writer.new) result }
+/// Prints what words ask to look at of the packages of a folder. The words are read first: where
+/// they cannot be, nothing is opened and nothing is written.
+pub fn look_for<W: Write>(rt: &HostRuntime, folder: &str, asked: Asked<'_>, writer: &mut W) -> Ending
+    ensures { Looks ⟦<FolderStore as Store>⟧ asked.entry
+        writer.old writer.new (W.contents writer.old) (W.contents writer.new) result }
 {
     match read_asked(asked) {
         Ok(look) => look_at(rt, folder, look, writer),

@@ -1,5 +1,5 @@
 use Rattle.std.proofs.Common.{inl, inr, refl}
-use Rattle.views.proofs.looking.look.Goals as goal
+use Rattle.views.proofs.looking.look_for.Goals as goal
 
 pub returns-in-Ok : goal.returns-in-Ok
 returns-in-Ok g c = inr (c.in-Ok.look, c.in-Ok.ensures, c.look_at.ensures)

@@ -1,5 +1,5 @@
 use Rattle.std.proofs.Common.{inl, inr, refl}
-use Rattle.commands.proofs.working.work.Goals as goal
+use Rattle.commands.proofs.working.work_for.Goals as goal
 
 pub returns-in-Some : goal.returns-in-Some
 returns-in-Some g c = inr (c.in-Some.work, c.in-Some.ensures.some, c.work_at.ensures)
