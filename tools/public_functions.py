@@ -18,7 +18,7 @@ ROOT = os.path.dirname(os.path.dirname(os.path.abspath(__file__)))
 TEST_VALUES = ["test_values", "test_worlds"]
 # The crates that a line of a session goes through (crates/sheetdesk), from the words of the program on.
 OF_SESSIONS = [
-    "command_line", "command_words", "commands", "folder_worlds", "manifest_csv", "views", "world_views", "view_lines", "sheet_maps", "cli",
+    "sheetdesk", "command_words", "commands", "folder_worlds", "manifest_csv", "views", "world_views", "view_lines", "sheet_maps", "cli",
     "world", "deciding", "due_loans", "carrying", "asking", "lending",
 ]
 CONST = re.compile(r"^(?:pub(?:\(crate\))? )?const (?P<name>\w+): .*?;$", re.M | re.S)

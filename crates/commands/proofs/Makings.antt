@@ -1,13 +1,10 @@
 -- What was made of a world, in the words of the subcommands.
-use Rattle.std.proofs.Common.{◌≡◌, ℕ, List, Option, inr, subst}
+use Rattle.std.proofs.Common.{ℕ, List, Option, inr}
 use Rattle.sqlite.specs.Store.{Ghosts}
 use Rattle.world.specs.Worlds.{Seen}
-use Rattle.commands.specs.Subcommands.{EndsImport, ImportsFile, ServesAt}
+use Rattle.commands.specs.Subcommands.{EndsImport, ImportsFile}
 use Rattle.folder_worlds.specs.declared.endings.Ending.{Ending}
 
 pub imports_of : {S W : Type 0} (g : Ghosts S) (text : Option (List ℕ)) (old new : Seen S) (faults more : ℕ) (writer writer' : W) (before after : Option (List ℕ)) (ending : Ending)
     → EndsImport g text old new faults more writer writer' before after ending → ImportsFile g old new writer writer' before after ending
 imports_of g text old new faults more writer writer' before after ending it = inr (text, faults, more, it)
-
-pub serves_same : {S : Type 0} (g : Ghosts S) (m n : ℕ) (ending : Ending) → m ≡ n → ServesAt g m ending → ServesAt g n ending
-serves_same g m n ending same it = subst (λ k. ServesAt g k ending) same it

@@ -13,7 +13,6 @@ use Rattle.command_words.specs.Endings.{import_outcome}
 use Rattle.command_words.specs.declared.statuses.Failure.{Failure}
 use Rattle.command_words.specs.declared.statuses.Outcome.TheVariants.{Refused, Stopped}
 use Rattle.command_words.specs.declared.statuses.What.TheVariants.{BadList}
-use Rattle.folder_worlds.specs.Folders.{IsFolderWorld}
 use Rattle.folder_worlds.specs.Endings.{done, failed, no_memory}
 use Rattle.folder_worlds.specs.Printing.{Prints}
 use Rattle.commands.specs.Printing.{PrintsReply, archive_line}
@@ -84,9 +83,3 @@ module _ {S : Type 0} (g : Ghosts S) where
   -- So many connections were served; or the port could not be had, and nothing was.
   abbrev pub ServesOn : ℕ → Seen S → Seen S → Ending → Type 0
   ServesOn count old new ending = ((ending ≡ done) × IsServedBy g count old new) ⊎ ((ending ≡ failed) × (new ≡ old))
-
-  -- The same over the world of a folder; or that was not opened.
-  abbrev pub ServesAt : ℕ → Ending → Type 0
-  ServesAt count ending =
-      ((fault : OpenFault) × (ending ≡ Unopened fault))
-      ⊎ ((old new : Seen S) × IsFolderWorld g old × ServesOn count old new ending)

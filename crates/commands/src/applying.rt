@@ -1,22 +1,16 @@
-//! One request as JSON, carried out over a folder of packages.
+//! One request as JSON, carried out in a world.
 ghost use Rattle.std.specs.Prelude.{◌≡◌, Ok, Err, take, IfOk, IfErr, IfSome, MatchResult, OnOk, OnErr};
 ghost use Rattle.std.specs.Io.KnownBytes.{Appends};
 ghost use Rattle.manifest_csv.specs.Sent.{WentOut};
 ghost use Rattle.request_json.specs.Requests.{IsRequestText};
 ghost use Rattle.sheet_types.specs.declared.refusal.Refusal.TheVariants as refusal;
 ghost use Rattle.desk_replies.specs.Bodies.{refusal_text};
-ghost use Rattle.folder_worlds.specs.Folders.{OpensThen};
 ghost use Rattle.folder_worlds.specs.Printing.{Prints};
 ghost use Rattle.commands.specs.Printing.{PrintsReply, ask_again, refusal_ending, with_end};
 ghost use Rattle.commands.specs.Subcommands.{Applies, IsUnread, IsWhyUnasked};
-ghost use Rattle.folder_worlds.specs.declared.endings.Ending.TheVariants.{Unopened};
 
 use desk_replies::bodies::{receipt_body, refusal_body};
-use folder::opening::close_stores;
-use folder::shelf::FolderShelf;
-use folder::start::FolderStore;
 use folder_worlds::endings::{DONE, Ending, FAILED, NO_MEMORY};
-use folder_worlds::folders::open_folder;
 use manifest_csv::sending::{WriteFault, send};
 use request_json::requests::read_request;
 use sheet_types::command::Request;
@@ -24,7 +18,6 @@ use sheet_types::receipt::Receipt;
 use sheet_types::refusal::Refusal;
 use shelves::shelf::Shelf;
 use sqlite::Alter;
-use sqlite_trees::store::Store;
 use std::alloc::Global;
 use std::io::{ErrorKind, Read, Write};
 use world::world::World;
@@ -181,27 +174,5 @@ pub fn apply_in<S: Alter + Drop, H: Shelf<S>, R: Read + Drop, W: Write>(
     match world.apply(alloc, &request, shelf) {
         Ok(receipt) => tell_receipt(alloc, &receipt, writer),
         Err(why) => tell_refusal(alloc, &why, writer),
-    }
-}
-
-/// Reads one request, carries it out over the packages of a folder, and writes the reply as JSON, on a line. The folder is opened before anything is read.
-pub fn apply<R: Read + Drop, W: Write>(
-    rt: &HostRuntime,
-    folder: &str,
-    reader: R,
-    writer: &mut W,
-) -> Ending
-    ensures { OpensThen ⟦<FolderStore as Store>⟧ Unopened
-        (λ old new. Applies ⟦<FolderStore as Store>⟧ (R.remaining reader) old new writer.old writer.new (W.contents writer.old) (W.contents writer.new) result)
-        writer.old writer.new result }
-{
-    match open_folder(rt, folder) {
-        Ok(mut world) => {
-            let mut shelf = FolderShelf::new(rt, folder);
-            let ending = apply_in(rt.alloc(), &mut world, &mut shelf, reader, writer);
-            close_stores(world.into_stores());
-            ending
-        }
-        Err(fault) => Ending::Unopened(fault),
     }
 }

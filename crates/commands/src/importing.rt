@@ -1,22 +1,15 @@
-//! A request list, carried out over a folder of packages.
+//! A request list, carried out in a world.
 ghost use Rattle.std.specs.Prelude.{◌≡◌, IfErr};
 ghost use Rattle.command_words.specs.Endings.{import_outcome};
-ghost use Rattle.folder_worlds.specs.Folders.{OpensThen};
 ghost use Rattle.commands.specs.Subcommands.{EndsImport, ImportsFile, IsUnlisted};
-ghost use Rattle.folder_worlds.specs.declared.endings.Ending.TheVariants.{Unopened};
 
 use command_words::statuses::{Failure, Outcome, What};
-use folder::opening::close_stores;
-use folder::shelf::FolderShelf;
-use folder::start::FolderStore;
 use folder_worlds::endings::{DONE, Ending, NO_MEMORY};
-use folder_worlds::folders::open_folder;
 use manifest_csv::importing::{ImportFault, import as import_list};
 use manifest_csv::progress::Teller;
 use request_csv::lists::ReadFault;
 use shelves::shelf::Shelf;
 use sqlite::Alter;
-use sqlite_trees::store::Store;
 use std::alloc::Global;
 use std::fs::File;
 use std::io::{ErrorKind, Read, Write};
@@ -70,42 +63,19 @@ fn open_list(rt: &HostRuntime, file: &str) -> Result<File, Ending>
 }
 
 /// The same of the list of a file. A file that cannot be opened is no list.
-fn import_file<W: Write, T: Teller>(
+pub(crate) fn import_file<S: Alter + Drop, H: Shelf<S>, W: Write, T: Teller>(
     rt: &HostRuntime,
-    world: &mut World<FolderStore>,
-    folder: &str,
+    world: &mut World<S>,
+    shelf: &mut H,
     file: &str,
     writer: &mut W,
     teller: &mut T,
 ) -> Ending
-    ensures { ImportsFile ⟦<FolderStore as Store>⟧ world.old world.new writer.old writer.new (W.contents writer.old) (W.contents writer.new) result }
+    ensures { ImportsFile S.Store world.old world.new writer.old writer.new (W.contents writer.old) (W.contents writer.new) result }
 {
     let reader = match open_list(rt, file) {
         Ok(reader) => reader,
         Err(ending) => return ending,
     };
-    let mut shelf = FolderShelf::new(rt, folder);
-    import_in(rt.alloc(), world, &mut shelf, reader, writer, teller)
-}
-
-/// Carries out the request list of a file over the packages of a folder, and writes its report. The teller is told of each request that is done.
-pub fn import<W: Write, T: Teller>(
-    rt: &HostRuntime,
-    folder: &str,
-    file: &str,
-    writer: &mut W,
-    teller: &mut T,
-) -> Ending
-    ensures { OpensThen ⟦<FolderStore as Store>⟧ Unopened
-        (λ old new. ImportsFile ⟦<FolderStore as Store>⟧ old new writer.old writer.new (W.contents writer.old) (W.contents writer.new) result)
-        writer.old writer.new result }
-{
-    match open_folder(rt, folder) {
-        Ok(mut world) => {
-            let ending = import_file(rt, &mut world, folder, file, writer, teller);
-            close_stores(world.into_stores());
-            ending
-        }
-        Err(fault) => Ending::Unopened(fault),
-    }
+    import_in(rt.alloc(), world, shelf, reader, writer, teller)
 }

@@ -47,6 +47,18 @@ fn new_world<S: Alter + Drop>(
     Ok(made?)
 }
 
+/// The stores of the same world.
+fn new_stores<S: Alter + Drop>(
+    alloc: Global,
+    rehearsal: &Rehearsal<'_>,
+    conn: Connection<S>,
+) -> Result<Vec<Connection<S>>, Failure>
+    requires { HasCleanDisk (state S.Store conn) → IsBlank no_schema (state S.Store conn).now }
+{
+    let world = new_world(alloc, rehearsal, conn)?;
+    Ok(world.into_stores())
+}
+
 /// The line that names an archive.
 fn archive_line(alloc: Global, archive: Uuid) -> Result<String, AllocError>
     ensures { IfOk result (λ line. string_bytes line ≡ archive_line archive) }
@@ -62,9 +74,13 @@ fn make_whole(rt: &HostRuntime, rehearsal: &Rehearsal<'_>, folder: &str) -> Resu
         Ok(conn) => conn,
         Err(fault) => return Err(unopened(fault)),
     };
-    let made: Result<World<FolderStore>, Failure> = new_world(rt.alloc(), rehearsal, conn);
+    let made: Result<Vec<Connection<FolderStore>>, Failure> = new_stores(
+        rt.alloc(),
+        rehearsal,
+        conn,
+    );
     match made {
-        Ok(world) => match finish(rt, folder, rehearsal.archive, world.into_stores()) {
+        Ok(stores) => match finish(rt, folder, rehearsal.archive, stores) {
             Ok(()) => Ok(()),
             Err(fault) => Err(unopened(fault)),
         },

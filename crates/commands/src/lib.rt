@@ -4,4 +4,5 @@
 pub mod applying;
 pub mod importing;
 pub mod init;
-pub mod serving;
+mod serving;
+pub mod working;

@@ -8,44 +8,43 @@ use folder::listing::list;
 use folder::opening::{close_stores, open_stores};
 use folder::start::FolderStore;
 use recovery::recovering::{Recovered, Unopened, recover};
-use sqlite::Connection;
+use recovery::watching::Watcher;
+use sqlite::{Alter, Connection};
 use sqlite_trees::store::Store;
+use std::alloc::Global;
 use world::world::World;
 
-/// The world that these stores stand for, each just opened. Those of packages that are not live are closed, and all of them where there is no world. Standard error is told how many are read, where it is a terminal.
-///
-/// # Errors
-///
-/// The first fault whose condition holds, or what gave out.
-fn world_of(
-    rt: &HostRuntime,
-    stores: Vec<Connection<FolderStore>>,
-) -> Result<World<FolderStore>, OpenFault>
-    requires { AreJustOpened ⟦<FolderStore as Store>⟧ stores.items }
-    ensures { IfOk result (IsFolderWorld ⟦<FolderStore as Store>⟧) }
+/// The world that these stores stand for, each just opened, or why there is none; and the stores
+/// that are not of it. The watcher is told how many are read.
+fn world_of<S: Alter + Drop, W: Watcher>(
+    alloc: Global,
+    stores: Vec<Connection<S>>,
+    watcher: &mut W,
+) -> (Result<World<S>, OpenFault>, Vec<Connection<S>>)
+    requires { AreJustOpened S.Store stores.items }
+    ensures { IfOk result.0 (IsFolderWorld S.Store) }
 {
-    let mut line = opening_line(rt);
-    match recover(rt.alloc(), stores, &mut line) {
-        Ok(Recovered { world, strays }) => {
-            close_stores(strays);
-            Ok(world)
-        }
-        Err(Unopened { fault, stores }) => {
-            close_stores(stores);
-            Err(OpenFault::Fault(fault))
-        }
+    match recover(alloc, stores, watcher) {
+        Ok(Recovered { world, strays }) => (Ok(world), strays),
+        Err(Unopened { fault, stores }) => (Err(OpenFault::Fault(fault)), stores),
     }
 }
 
-/// The world that the packages of a folder stand for: of all files whose name is that of a package's file.
+/// The world that the packages of a folder stand for: of all files whose name is that of a package's
+/// file. Those of packages that are not live are closed, and all of them where there is no world.
+/// Standard error is told how many are read, where it is a terminal.
 ///
 /// # Errors
 ///
-/// A folder or a file that cannot be had, `Busy` where another process has it; want of memory; or why the stores stand for no world.
+/// A folder or a file that cannot be had, `Busy` where another process has it; want of memory; or
+/// the first fault whose condition holds of the stores.
 pub fn open_folder(rt: &HostRuntime, folder: &str) -> Result<World<FolderStore>, OpenFault>
     ensures { IfOk result (IsFolderWorld ⟦<FolderStore as Store>⟧) }
 {
     let listing = list(rt, folder)?;
     let stores = open_stores(rt, folder, &listing.packages)?;
-    world_of(rt, stores)
+    let mut line = opening_line(rt);
+    let (found, rest) = world_of(rt.alloc(), stores, &mut line);
+    close_stores(rest);
+    found
 }

@@ -11,7 +11,6 @@ use std::alloc::Global;
 use test_values::Checked;
 use uuid::Uuid;
 use views::endings::Ending as ViewEnding;
-use views::map_endings::MapEnding;
 
 fn wrong(alloc: Global, cases: &[(End, &str)]) -> Result<String, Fault> {
     let mut checked = Checked::new(alloc);
@@ -33,12 +32,12 @@ fn busy() -> OpenFault {
     OpenFault::from(FolderFault::Busy(Uuid::from_u128(7)))
 }
 
-// Of a rehearsal, a command, a map and a view.
+// Of a rehearsal, a command and a view.
 #[test]
 fn each_ending_has_its_status_and_its_lines(rt: HostRuntime) {
     let list = Outcome::Refused(What::BadList);
     let no_memory = Outcome::Stopped(Failure::OutOfMemory);
-    let of_map = MapEnding::Usual(Ending::Unopened(busy()));
+    let of_busy = ViewEnding::Usual(Ending::Unopened(busy()));
     let of_view = ViewEnding::Usual(Ending::Unopened(missing()));
     let cases = [
         (End::Of(Outcome::Done), "0 ||"),
@@ -61,8 +60,8 @@ fn each_ending_has_its_status_and_its_lines(rt: HostRuntime) {
             "3 |store: StoreFault\n|7",
         ),
         (End::Command(Ending::Faulted(busy())), "3 StoreFault\n||7"),
-        (End::Map(MapEnding::NoSuchZoom), "1 refused: zoom\n||"),
-        (End::Map(of_map), "3 |store: StoreFault\n|7"),
+        (End::View(ViewEnding::NoSuchZoom), "1 refused: zoom\n||"),
+        (End::View(of_busy), "3 |store: StoreFault\n|7"),
         (
             End::View(ViewEnding::NoSuchIdentity),
             "1 refused: no such identity\n||",

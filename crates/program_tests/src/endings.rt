@@ -6,14 +6,12 @@ use std::alloc::{AllocError, Global};
 use test_values::number_of;
 use uuid::Uuid;
 use views::endings::{self as of_views, Ending as ViewEnding};
-use views::map_endings::{self as of_maps, MapEnding};
 
-// How a rehearsal, a command, a map or a view ended.
+// How a rehearsal, a command or a view ended.
 #[derive(Clone, Copy)]
 pub(crate) enum End {
     Of(Outcome),
     Command(Ending),
-    Map(MapEnding),
     View(ViewEnding),
 }
 
@@ -21,7 +19,6 @@ fn status_of(end: &End) -> u8 {
     match end {
         End::Of(end) => statuses::status_of(*end),
         End::Command(end) => of_commands::status_of(*end),
-        End::Map(end) => of_maps::status_of(*end),
         End::View(end) => of_views::status_of(*end),
     }
 }
@@ -30,7 +27,6 @@ fn output_of(end: &End) -> &'static str {
     match end {
         End::Of(end) => statuses::output_of(*end),
         End::Command(end) => of_commands::output_of(*end),
-        End::Map(end) => of_maps::output_of(*end),
         End::View(end) => of_views::output_of(*end),
     }
 }
@@ -39,7 +35,6 @@ fn error_of(end: &End) -> &'static str {
     match end {
         End::Of(end) => statuses::error_of(*end),
         End::Command(end) => of_commands::error_of(*end),
-        End::Map(end) => of_maps::error_of(*end),
         End::View(end) => of_views::error_of(*end),
     }
 }
@@ -48,7 +43,6 @@ fn busy_package(end: &End) -> Option<Uuid> {
     match end {
         End::Of(_) => None,
         End::Command(end) => of_commands::busy_package(*end),
-        End::Map(end) => of_maps::busy_package(*end),
         End::View(end) => of_views::busy_package(*end),
     }
 }

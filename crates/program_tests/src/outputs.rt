@@ -106,7 +106,7 @@ fn ended<S: Alter + Drop, H: Shelf<S>>(
             let ending = export_in(alloc, world, archive(), out);
             end_text(alloc, &End::Command(ending))
         }
-        What::Map => end_text(alloc, &End::Map(map_in(alloc, world, None, out))),
+        What::Map => end_text(alloc, &End::View(map_in(alloc, world, None, out))),
         What::Applies(body, reads) => {
             let ending = apply_in(alloc, world, shelf, Giving::new(body, reads), out);
             end_text(alloc, &End::Command(ending))

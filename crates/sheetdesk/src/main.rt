@@ -1,8 +1,11 @@
 //! The program `sheetdesk`: the words that it is called with, and the exit status.
 #![tactic(auto)]
 
-use command_line::running::out_of_memory;
-use command_line::sessions::run;
+mod running;
+mod sessions;
+
+use crate::running::out_of_memory;
+use crate::sessions::run;
 use std::io;
 use std::process::ExitCode;
 

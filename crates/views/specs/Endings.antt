@@ -3,27 +3,31 @@ use Rattle.std.specs.Prelude.{ℕ, List, [], codes, Option, None}
 use Rattle.command_words.specs.Endings.{line_of}
 use Rattle.folder_worlds.specs.Endings.{ending_status as usual_status, output_text as usual_output, error_text as usual_error, busy_package as usual_package}
 use Rattle.views.specs.declared.endings.Ending.{Ending}
-use Rattle.views.specs.declared.endings.Ending.TheVariants.{Usual, NoSuchRequest, NoSuchIdentity}
+use Rattle.views.specs.declared.endings.Ending.TheVariants.{Usual, NoSuchRequest, NoSuchIdentity, NoSuchZoom}
 
 abbrev pub ending_status : Ending → ℕ
 ending_status (Usual ending) = usual_status ending
 ending_status NoSuchRequest = 1
 ending_status NoSuchIdentity = 1
+ending_status NoSuchZoom = 1
 
 -- on standard output, behind what was printed before
 abbrev pub output_text : Ending → List ℕ
 output_text (Usual ending) = usual_output ending
 output_text NoSuchRequest = line_of (codes "refused") (codes "no such request")
 output_text NoSuchIdentity = line_of (codes "refused") (codes "no such identity")
+output_text NoSuchZoom = line_of (codes "refused") (codes "zoom")
 
 -- on standard error
 abbrev pub error_text : Ending → List ℕ
 error_text (Usual ending) = usual_error ending
 error_text NoSuchRequest = []
 error_text NoSuchIdentity = []
+error_text NoSuchZoom = []
 
 -- the package whose file is busy, where that is why a folder was not opened
 abbrev pub busy_package : Ending → Option (List ℕ)
 busy_package (Usual ending) = usual_package ending
 busy_package NoSuchRequest = None
 busy_package NoSuchIdentity = None
+busy_package NoSuchZoom = None

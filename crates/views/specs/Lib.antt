@@ -1,6 +1,6 @@
 pub mod Endings
 pub mod ExportEndings
-pub mod Folders
+pub mod Looks
 pub mod MapEndings
 pub mod Printed
 pub mod Reports

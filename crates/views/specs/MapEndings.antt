@@ -1,25 +1,30 @@
--- How a call that prints a map ends: its exit status, and the lines that it prints before (profile).
-use Rattle.std.specs.Prelude.{ℕ, List, [], codes, Option, None}
-use Rattle.command_words.specs.Endings.{line_of}
-use Rattle.folder_worlds.specs.Endings as usual
-use Rattle.views.specs.declared.map_endings.MapEnding.{MapEnding}
-use Rattle.views.specs.declared.map_endings.MapEnding.TheVariants.{Usual, NoSuchZoom}
+-- What `map` prints of a world, and how it ends. Profile.
+use Rattle.std.specs.Prelude.{◌≡◌, ℕ, ℤ, List, Option, Result, Ok, Err}
+use Rattle.sqlite.specs.Store.{Ghosts}
+use Rattle.world.specs.Worlds.{Seen}
+use Rattle.command_words.specs.Failures.{of_fault}
+use Rattle.command_words.specs.declared.statuses.Outcome.TheVariants.{Stopped}
+use Rattle.folder_worlds.specs.Endings.{done, failed}
+use Rattle.folder_worlds.specs.declared.endings.Ending.TheVariants as usual
+use Rattle.views.specs.Printed.{IsPrinted, IsUntouched, LeavesUnprinted}
+use Rattle.views.specs.declared.endings.Ending.{Ending}
+use Rattle.views.specs.declared.endings.Ending.TheVariants as ending
+use Rattle.views.specs.declared.printing.MapFault.{MapFault}
+use Rattle.views.specs.declared.printing.MapFault.TheVariants.{NoSuchZoom, Failed, Unwritten}
 
-abbrev pub ending_status : MapEnding → ℕ
-ending_status (Usual ending) = usual.ending_status ending
-ending_status NoSuchZoom = 1
+-- how the program ends after a map
+abbrev pub map_ending : Result (Unit {0}) MapFault → Ending
+map_ending (Ok x) = ending.Usual done
+map_ending (Err NoSuchZoom) = ending.NoSuchZoom
+map_ending (Err (Failed fault)) = ending.Usual (usual.Usual (Stopped (of_fault fault)))
+map_ending (Err Unwritten) = ending.Usual failed
 
--- on standard output, behind what was printed before
-abbrev pub output_text : MapEnding → List ℕ
-output_text (Usual ending) = usual.output_text ending
-output_text NoSuchZoom = line_of (codes "refused") (codes "zoom")
-
--- on standard error
-abbrev pub error_text : MapEnding → List ℕ
-error_text (Usual ending) = usual.error_text ending
-error_text NoSuchZoom = []
-
--- the package whose file is busy, where that is why a folder was not opened
-abbrev pub busy_package : MapEnding → Option (List ℕ)
-busy_package (Usual ending) = usual.busy_package ending
-busy_package NoSuchZoom = None
+module _ {S : Type 0} (g : Ghosts S) where
+  -- The map of a world was printed, which was only read, if at all; and the program ends so.
+  pub record EndsMap {W : Type 0} (asked : Option ℤ) (old new : Seen S) (writer writer' : W)
+      (before after : Option (List ℕ)) (is : Ending) : Type 0 where
+    pub outcome : Result (Unit {0}) MapFault
+    pub ends : is ≡ map_ending outcome
+    pub read : IsUntouched g old new
+    pub printed : IsPrinted g asked old new before after outcome
+    pub unprinted : LeavesUnprinted writer writer' outcome

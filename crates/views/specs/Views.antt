@@ -1,17 +1,14 @@
 -- What the subcommands that look print of a world, and how they end. Profile.
-use Rattle.std.specs.Prelude.{◌≡◌, ◌⊎◌, ℕ, List, Option, Result}
+use Rattle.std.specs.Prelude.{◌≡◌, ℕ, List, Option, Result}
 use Rattle.sqlite.specs.Held.{Held}
 use Rattle.sqlite.specs.Store.{Ghosts}
 use Rattle.package_tables.specs.declared.fault.Fault.{Fault}
 use Rattle.world.specs.Worlds.{IsRead, Seen, TellsOf}
 use Rattle.world_views.specs.Looks.{LooksInto}
 use Rattle.world_views.specs.Told.{receipt_line, status_text, way_answer}
-use Rattle.folder_worlds.specs.Folders.{IsFolderWorld}
-use Rattle.folder_worlds.specs.declared.endings.Ending.TheVariants.{Unopened}
-use Rattle.folder_worlds.specs.declared.endings.OpenFault.{OpenFault}
 use Rattle.views.specs.Showing.{Shows, ShowsText}
 use Rattle.views.specs.declared.endings.Ending.{Ending}
-use Rattle.views.specs.declared.endings.Ending.TheVariants.{Usual, NoSuchRequest, NoSuchIdentity}
+use Rattle.views.specs.declared.endings.Ending.TheVariants.{NoSuchRequest, NoSuchIdentity}
 
 module _ {S : Type 0} (g : Ghosts S) where
   -- The table of the packages was printed; the stores were only read.
@@ -32,9 +29,3 @@ module _ {S : Type 0} (g : Ghosts S) where
     pub told : TellsOf g (λ w text. text ≡ receipt_line w id) old new found
     pub read : IsRead g old new
     pub shown : Shows found NoSuchRequest writer writer' before after ending
-
-  -- The folder was not opened, and nothing was printed; or its world was, and this was made of it.
-  abbrev pub OpensThen : {W : Type 0} → (Seen S → Type 0) → W → W → Ending → Type 0
-  OpensThen Makes writer writer' ending =
-      ((fault : OpenFault) × (ending ≡ Usual (Unopened fault)) × (writer' ≡ writer))
-      ⊎ ((old : Seen S) × IsFolderWorld g old × Makes old)

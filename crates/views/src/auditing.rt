@@ -1,22 +1,17 @@
-//! Whether the packages of a folder stand for a world, and how many receipts it has.
+//! How many receipts a world has.
 ghost use Rattle.std.specs.Prelude.{◌≡◌, IfOk, fold, max, string_bytes};
 ghost use Rattle.sheet_types.specs.World.{World as ModelWorld};
 ghost use Rattle.world.specs.Worlds.{StandsFor};
-ghost use Rattle.folder_worlds.specs.Folders.{OpensThen};
 ghost use Rattle.views.specs.Reports.{good_line, last_receipt};
 ghost use Rattle.views.specs.Reports.{Audits};
 ghost use Rattle.folder_worlds.specs.declared.endings.Ending.TheVariants.{Faulted};
 ghost use Rattle.folder_worlds.specs.declared.endings.OpenFault.TheVariants as unopened;
 
-use folder::opening::close_stores;
-use folder::start::FolderStore;
 use folder_worlds::endings::{DONE, Ending, FAILED, OpenFault};
-use folder_worlds::folders::open_folder;
 use manifest_csv::sending::send;
 use opening::faults::RecoverFault;
 use package_tables::fault::Fault;
 use sqlite::Alter;
-use sqlite_trees::store::Store;
 use std::alloc::{AllocError, Global};
 use std::io::Write;
 use world::reading::PackageSight;
@@ -72,21 +67,5 @@ pub fn audit_in<S: Alter + Drop, W: Write>(
     match send(writer, line.as_bytes()) {
         Ok(()) => DONE,
         Err(_) => FAILED,
-    }
-}
-
-/// Opens a folder and writes how many receipts its world has; or ends with the fault by which it is none.
-pub fn audit<W: Write>(rt: &HostRuntime, folder: &str, writer: &mut W) -> Ending
-    ensures { OpensThen ⟦<FolderStore as Store>⟧ Faulted
-        (λ old new. Audits ⟦<FolderStore as Store>⟧ old writer.old writer.new (W.contents writer.old) (W.contents writer.new) result)
-        writer.old writer.new result }
-{
-    match open_folder(rt, folder) {
-        Ok(world) => {
-            let ending = audit_in(rt.alloc(), &world, writer);
-            close_stores(world.into_stores());
-            ending
-        }
-        Err(fault) => Ending::Faulted(fault),
     }
 }

@@ -17,6 +17,8 @@ pub enum Ending {
     NoSuchRequest,
     /// No receipt names the identity.
     NoSuchIdentity,
+    /// The frame has no such zoom.
+    NoSuchZoom,
 }
 
 /// The exit status: 0 done, 1 refused, 3 stopped.
@@ -25,7 +27,7 @@ pub fn status_of(ending: Ending) -> u8
 {
     match ending {
         Ending::Usual(ending) => usual_status(ending),
-        Ending::NoSuchRequest | Ending::NoSuchIdentity => 1,
+        Ending::NoSuchRequest | Ending::NoSuchIdentity | Ending::NoSuchZoom => 1,
     }
 }
 
@@ -37,6 +39,7 @@ pub fn output_of(ending: Ending) -> &'static str
         Ending::Usual(ending) => usual_output(ending),
         Ending::NoSuchRequest => "refused: no such request\n",
         Ending::NoSuchIdentity => "refused: no such identity\n",
+        Ending::NoSuchZoom => "refused: zoom\n",
     }
 }
 
@@ -46,7 +49,7 @@ pub fn error_of(ending: Ending) -> &'static str
 {
     match ending {
         Ending::Usual(ending) => usual_error(ending),
-        Ending::NoSuchRequest | Ending::NoSuchIdentity => "",
+        Ending::NoSuchRequest | Ending::NoSuchIdentity | Ending::NoSuchZoom => "",
     }
 }
 
@@ -56,6 +59,6 @@ pub fn busy_package(ending: Ending) -> Option<Uuid>
 {
     match ending {
         Ending::Usual(ending) => usual_package(ending),
-        Ending::NoSuchRequest | Ending::NoSuchIdentity => None,
+        Ending::NoSuchRequest | Ending::NoSuchIdentity | Ending::NoSuchZoom => None,
     }
 }

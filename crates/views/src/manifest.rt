@@ -1,22 +1,12 @@
-//! The manifest of a package of a folder.
-ghost use Rattle.std.specs.Prelude.{◌≡◌, ℕ, List, Some, None, Err};
-ghost use Rattle.uuid.specs.Text.{parsed_hyphenated};
-ghost use Rattle.command_words.specs.declared.statuses.Outcome.TheVariants.{Refused};
-ghost use Rattle.command_words.specs.declared.statuses.What.TheVariants.{BadUuid};
-ghost use Rattle.folder_worlds.specs.Folders.{OpensThen};
+//! The manifest of a package of a world.
+ghost use Rattle.std.specs.Prelude.{◌≡◌, Err};
 ghost use Rattle.folder_worlds.specs.Endings.{manifest_ending};
 ghost use Rattle.views.specs.Reports.{EndsManifest};
-ghost use Rattle.folder_worlds.specs.declared.endings.Ending.TheVariants.{Unopened, Usual};
 
-use command_words::statuses::{Failure, Outcome, What};
-use folder::opening::close_stores;
-use folder::start::FolderStore;
+use command_words::statuses::{Failure, Outcome};
 use folder_worlds::endings::{DONE, Ending};
-use folder_worlds::folders::open_folder;
 use manifest_csv::package_manifests::{ManifestFault, write_manifest};
-use sheet_types::reading::read_uuid;
 use sqlite::Alter;
-use sqlite_trees::store::Store;
 use std::alloc::Global;
 use std::io::Write;
 use uuid::Uuid;
@@ -46,35 +36,5 @@ pub fn manifest_in<S: Alter + Drop, W: Write>(
     match write_manifest(alloc, world, package, writer) {
         Ok(()) => DONE,
         Err(fault) => end_of_manifest(fault),
-    }
-}
-
-/// The same of a package of a folder.
-fn manifest_of<W: Write>(rt: &HostRuntime, folder: &str, package: Uuid, writer: &mut W) -> Ending
-    ensures { OpensThen ⟦<FolderStore as Store>⟧ Unopened
-        (λ old new. EndsManifest ⟦<FolderStore as Store>⟧ «package» old new writer.old writer.new (W.contents writer.old) (W.contents writer.new) result)
-        writer.old writer.new result }
-{
-    match open_folder(rt, folder) {
-        Ok(mut world) => {
-            let ending = manifest_in(rt.alloc(), &mut world, package, writer);
-            close_stores(world.into_stores());
-            ending
-        }
-        Err(fault) => Ending::Unopened(fault),
-    }
-}
-
-/// Writes the manifest of the package that a word names, of those of a folder. The word is read first.
-pub fn manifest<W: Write>(rt: &HostRuntime, folder: &str, package: &str, writer: &mut W) -> Ending
-    ensures refused { parsed_hyphenated «package».now ≡ None → result ≡ Usual (Refused BadUuid) }
-    ensures unwritten { parsed_hyphenated «package».now ≡ None → writer.new ≡ writer.old }
-    ensures told { (uuid : List ℕ) → parsed_hyphenated «package».now ≡ Some uuid → OpensThen ⟦<FolderStore as Store>⟧ Unopened
-        (λ old new. EndsManifest ⟦<FolderStore as Store>⟧ uuid old new writer.old writer.new (W.contents writer.old) (W.contents writer.new) result)
-        writer.old writer.new result }
-{
-    match read_uuid(package) {
-        Some(package) => manifest_of(rt, folder, package, writer),
-        None => Ending::Usual(Outcome::Refused(What::BadUuid)),
     }
 }

@@ -120,7 +120,7 @@ fn session<R: Read + Drop>(rt: &HostRuntime, file: &str, reader: &mut R) -> u8 {
 
 /// Carries out a command line, the program's name first, over a reader in place of standard input, and answers the exit status.
 /// What it prints goes to standard output and standard error. A subcommand is required.
-pub fn run<W: AsStr, R: Read + Drop>(rt: &HostRuntime, words: &[W], reader: &mut R) -> u8 {
+pub(crate) fn run<W: AsStr, R: Read + Drop>(rt: &HostRuntime, words: &[W], reader: &mut R) -> u8 {
     let matches = match matched(rt, words) {
         Ok(matches) => matches,
         Err(error) => return answered(rt, &error),

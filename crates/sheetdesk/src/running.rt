@@ -6,10 +6,8 @@ use cli::serving::rehearse_and_serve;
 use command_words::arguments::{DeskWords, Words};
 use command_words::progress::{Progress, Silent, Teller};
 use command_words::statuses::Outcome;
-use commands::applying::apply;
-use commands::importing::import;
 use commands::init::init;
-use commands::serving::serve;
+use commands::working::{Asked, work_for};
 use folder_worlds::endings::{
     Ending, FAILED, NO_MEMORY, busy_package, error_of, output_of, status_of,
 };
@@ -18,14 +16,8 @@ use std::convert::AsStr;
 use std::io;
 use std::io::{IsTerminal, Read};
 use uuid::Uuid;
-use views::auditing::audit;
-use views::explaining::explain;
-use views::exporting::export;
-use views::manifest::manifest;
-use views::maps::map;
-use views::receipts::receipt;
-use views::status::status;
-use views::{endings as seen, map_endings as drawn};
+use views::endings as seen;
+use views::looking::{Asked as AskedLook, look_for};
 
 /// Prints a text on standard error. Where that fails too, the status alone says how the program ended.
 pub(crate) fn print_error(rt: &HostRuntime, text: &str) {
@@ -82,17 +74,6 @@ fn looked(rt: &HostRuntime, ending: &seen::Ending) -> u8 {
     )
 }
 
-/// Tells the ending of a command that prints a map.
-fn mapped(rt: &HostRuntime, ending: &drawn::MapEnding) -> u8 {
-    told(
-        rt,
-        drawn::output_of(*ending),
-        drawn::error_of(*ending),
-        drawn::busy_package(*ending),
-        drawn::status_of(*ending),
-    )
-}
-
 /// Prints what the command line is answered with where it names nothing to be done: a usage fault, or help.
 pub(crate) fn answered(rt: &HostRuntime, error: &Error) -> u8 {
     if error.kind() == ErrorKind::OutOfMemory {
@@ -139,28 +120,56 @@ fn rehearsed<R: Read + Drop, T: Teller>(
         .unwrap_or(Outcome::Done)
 }
 
-/// What a command comes to that carries out a list.
-fn listed<R: Read + Drop, T: Teller>(
+/// What a command asks to be done over the packages of a folder, if it does.
+fn asked_work<'m>(name: &str, given: &ArgMatches<'m>) -> Option<Asked<'m>> {
+    match name {
+        "apply" => Some(Asked::Apply),
+        "import" => Some(Asked::Import(text_of(given, "file"))),
+        "serve" => Some(Asked::Serve(DeskWords {
+            port: text_of(given, "port"),
+            count: text_of(given, "count"),
+        })),
+        _ => None,
+    }
+}
+
+/// What a command asks to look at, if it looks at a folder.
+fn asked_look<'m>(name: &str, given: &ArgMatches<'m>) -> Option<AskedLook<'m>> {
+    match name {
+        "status" => Some(AskedLook::Status),
+        "explain" => Some(AskedLook::Explain(text_of(given, "identity"))),
+        "receipt" => Some(AskedLook::Receipt(text_of(given, "request"))),
+        "manifest" => Some(AskedLook::Manifest(text_of(given, "package"))),
+        "export" => Some(AskedLook::Export(text_of(given, "package"))),
+        "map" => Some(AskedLook::Map(given.get_str("zoom"))),
+        "audit" => Some(AskedLook::Audit),
+        _ => None,
+    }
+}
+
+/// Carries out a command that may change what is in a folder that holds packages, or has no folder.
+fn changed<R: Read + Drop, T: Teller>(
     rt: &HostRuntime,
     name: &str,
     given: &ArgMatches<'_>,
     reader: R,
     teller: &mut T,
 ) -> Ending {
-    match name {
-        "import" => import(
+    match asked_work(name, given) {
+        Some(asked) => work_for(
             rt,
             text_of(given, "folder"),
-            text_of(given, "file"),
+            asked,
+            reader,
             &mut io::writer(rt),
             teller,
         ),
-        _ => Ending::Usual(rehearsed(rt, given, reader, teller)),
+        None => Ending::Usual(rehearsed(rt, given, reader, teller)),
     }
 }
 
-/// The same. How far the list is, standard error is told where it is a terminal.
-fn listed_and_told<R: Read + Drop>(
+/// The same. How far a list is, standard error is told where it is a terminal.
+fn changed_and_told<R: Read + Drop>(
     rt: &HostRuntime,
     name: &str,
     given: &ArgMatches<'_>,
@@ -169,69 +178,29 @@ fn listed_and_told<R: Read + Drop>(
     let terminal = rt.stderr();
     if terminal.is_terminal() {
         let mut progress = Progress { writer: terminal };
-        listed(rt, name, given, reader, &mut progress)
+        changed(rt, name, given, reader, &mut progress)
     } else {
-        listed(rt, name, given, reader, &mut Silent)
+        changed(rt, name, given, reader, &mut Silent)
     }
 }
 
-/// A desk over a folder.
-fn served(rt: &HostRuntime, given: &ArgMatches<'_>) -> Ending {
-    let desk = DeskWords {
-        port: text_of(given, "port"),
-        count: text_of(given, "count"),
-    };
-    serve(rt, text_of(given, "folder"), &desk)
-}
-
-/// Carries out a command that may change what is in a folder, or has none.
-fn changed<R: Read + Drop>(
-    rt: &HostRuntime,
-    name: &str,
-    given: &ArgMatches<'_>,
-    reader: R,
-) -> Ending {
-    let folder = text_of(given, "folder");
-    let mut writer = io::writer(rt);
-    match name {
-        "init" => init(rt, &archive_words(given), folder, &mut writer),
-        "apply" => apply(rt, folder, reader, &mut writer),
-        "serve" => served(rt, given),
-        _ => listed_and_told(rt, name, given, reader),
-    }
-}
-
-/// Carries out the command of this name over a folder, if it has one, and answers the exit status.
+/// Carries out the command of this name, and answers the exit status.
 pub(crate) fn carried_out<R: Read + Drop>(
     rt: &HostRuntime,
     name: &str,
     given: &ArgMatches<'_>,
     reader: R,
 ) -> u8 {
-    let folder = given.get_str("folder").unwrap_or("");
+    let folder = text_of(given, "folder");
     let mut writer = io::writer(rt);
-    match name {
-        "status" => looked(rt, &status(rt, folder, &mut writer)),
-        "explain" => looked(
-            rt,
-            &explain(rt, folder, text_of(given, "identity"), &mut writer),
-        ),
-        "receipt" => looked(
-            rt,
-            &receipt(rt, folder, text_of(given, "request"), &mut writer),
-        ),
-        "manifest" => ended(
-            rt,
-            &manifest(rt, folder, text_of(given, "package"), &mut writer),
-        ),
-        "export" => ended(
-            rt,
-            &export(rt, folder, text_of(given, "package"), &mut writer),
-        ),
-        "map" => mapped(rt, &map(rt, folder, given.get_str("zoom"), &mut writer)),
-        "audit" => ended(rt, &audit(rt, folder, &mut writer)),
-        _ => ended(rt, &changed(rt, name, given, reader)),
+    if let Some(asked) = asked_look(name, given) {
+        return looked(rt, &look_for(rt, folder, asked, &mut writer));
     }
+    let ending = match name {
+        "init" => init(rt, &archive_words(given), folder, &mut writer),
+        _ => changed_and_told(rt, name, given, reader),
+    };
+    ended(rt, &ending)
 }
 
 /// What these words ask for; an error where they are no use of the program, or ask for help.
@@ -243,6 +212,6 @@ pub(crate) fn matched<'a, W: AsStr>(
 }
 
 /// Says that memory gave out, and answers the exit status.
-pub fn out_of_memory(rt: &HostRuntime) -> u8 {
+pub(crate) fn out_of_memory(rt: &HostRuntime) -> u8 {
     ended(rt, &NO_MEMORY)
 }

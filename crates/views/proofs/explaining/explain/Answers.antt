@@ -1,7 +1,0 @@
--- The word names one item.
-use Rattle.std.proofs.Common.{◌∙◌}
-use Rattle.sheet_types.proofs.Basics.{some_same}
-use Rattle.views.proofs.explaining.explain.Goals as goal
-
-pub returns-in-Some-clause-told : goal.returns-in-Some-clause-told
-returns-in-Some-clause-told g c = λ uuid named. rw (← some_same (c.in-Some.ensures ∙ named)) c.explain_of.ensures

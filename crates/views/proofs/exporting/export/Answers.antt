@@ -1,7 +1,0 @@
--- The word names one package.
-use Rattle.std.proofs.Common.{◌∙◌}
-use Rattle.sheet_types.proofs.Basics.{some_same}
-use Rattle.views.proofs.exporting.export.Goals as goal
-
-pub returns-in-Some-clause-told : goal.returns-in-Some-clause-told
-returns-in-Some-clause-told g c = λ uuid named. rw (← some_same (c.in-Some.ensures ∙ named)) c.export_of.ensures

@@ -1,0 +1,163 @@
+//! What is looked at in a folder: the words, and the one place where its stores are opened for it.
+//! All that is made of a world stands in functions over any store.
+ghost use Rattle.std.specs.Prelude.{◌≡◌, MatchResult, Some};
+ghost use Rattle.uuid.specs.Text.{parsed_hyphenated};
+ghost use Rattle.views.specs.Looks.{Asks, IsNoUuid, IsUnread, Looked, Looks, OpensFor, unopened};
+
+use crate::auditing::audit_in;
+use crate::endings::Ending;
+use crate::explaining::explain_in;
+use crate::exporting::export_in;
+use crate::manifest::manifest_in;
+use crate::maps::map_in;
+use crate::receipts::receipt_in;
+use crate::status::status_in;
+use crate::zooms::asked_zoom;
+use command_words::statuses::{Outcome, What};
+use folder::opening::close_stores;
+use folder::start::FolderStore;
+use folder_worlds::endings::{Ending as CommandEnding, OpenFault};
+use folder_worlds::folders::open_folder;
+use sheet_types::reading::read_uuid;
+use sqlite::{Alter, Connection};
+use sqlite_trees::store::Store;
+use std::alloc::Global;
+use std::io::Write;
+use uuid::Uuid;
+use world::world::World;
+
+/// What is looked at, by its words as they were typed.
+#[derive(Clone, Copy)]
+pub enum Asked<'t> {
+    /// A line of headings, and a line for each live package, by UUID.
+    Status,
+    /// A line for each receipt that names this identity, by number, and where the item stands now.
+    Explain(&'t str),
+    /// The kept receipt of this request, as the desk has it, on a line.
+    Receipt(&'t str),
+    /// The manifest of this package.
+    Manifest(&'t str),
+    /// The SQL of this package.
+    Export(&'t str),
+    /// The map of this zoom; or of the one that is drawn where there is no word.
+    Map(Option<&'t str>),
+    /// How many receipts there are; or the fault by which the folder is no world.
+    Audit,
+}
+
+/// The same, the words read.
+#[derive(Clone, Copy)]
+pub enum Look {
+    Status,
+    Explain(Uuid),
+    Receipt(Uuid),
+    Manifest(Uuid),
+    Export(Uuid),
+    Map(Option<i64>),
+    Audit,
+}
+
+/// The UUID of a word.
+fn uuid_of(word: &str) -> Result<Uuid, What>
+    ensures { MatchResult result
+        (λ uuid. parsed_hyphenated word.now ≡ Some uuid) (IsNoUuid word.now) }
+{
+    match read_uuid(word) {
+        Some(uuid) => Ok(uuid),
+        None => Err(What::BadUuid),
+    }
+}
+
+/// What words ask to look at; or why they cannot be read.
+fn read_asked(asked: Asked<'_>) -> Result<Look, What>
+    ensures { MatchResult result (Asks asked.entry) (IsUnread asked.entry) }
+{
+    match asked {
+        Asked::Status => Ok(Look::Status),
+        Asked::Explain(identity) => Ok(Look::Explain(uuid_of(identity)?)),
+        Asked::Receipt(request) => Ok(Look::Receipt(uuid_of(request)?)),
+        Asked::Manifest(package) => Ok(Look::Manifest(uuid_of(package)?)),
+        Asked::Export(package) => Ok(Look::Export(uuid_of(package)?)),
+        Asked::Map(zoom) => match asked_zoom(zoom) {
+            Some(zoom) => Ok(Look::Map(zoom)),
+            None => Err(What::BadNumber),
+        },
+        Asked::Audit => Ok(Look::Audit),
+    }
+}
+
+/// Prints what is looked at of a world, whose stores are handed on.
+pub fn look_in<S: Alter + Drop, W: Write>(
+    alloc: Global,
+    mut world: World<S>,
+    look: Look,
+    writer: &mut W,
+) -> (Ending, Vec<Connection<S>>)
+    ensures { Looked S.Store world result.1.items
+        writer.old writer.new (W.contents writer.old) (W.contents writer.new) look result.0 }
+{
+    match look {
+        Look::Status => status_in(alloc, world, writer),
+        Look::Explain(identity) => explain_in(alloc, world, identity, writer),
+        Look::Receipt(request) => {
+            let ending = receipt_in(alloc, &mut world, request, writer);
+            (ending, world.into_stores())
+        }
+        Look::Manifest(package) => {
+            let told = manifest_in(alloc, &mut world, package, writer);
+            (Ending::Usual(told), world.into_stores())
+        }
+        Look::Export(package) => {
+            let told = export_in(alloc, &mut world, package, writer);
+            (Ending::Usual(told), world.into_stores())
+        }
+        Look::Map(zoom) => {
+            let ending = map_in(alloc, &mut world, zoom, writer);
+            (ending, world.into_stores())
+        }
+        Look::Audit => {
+            let told = audit_in(alloc, &world, writer);
+            (Ending::Usual(told), world.into_stores())
+        }
+    }
+}
+
+/// How a folder that is not opened ends the program: an audit tells its fault.
+fn unopened(look: Look, fault: OpenFault) -> Ending
+    ensures { result ≡ unopened look fault }
+{
+    match look {
+        Look::Audit => Ending::Usual(CommandEnding::Faulted(fault)),
+        _ => Ending::Usual(CommandEnding::Unopened(fault)),
+    }
+}
+
+/// Opens a folder, and prints what is looked at of its world.
+///
+/// The one place where a folder's stores are handed to a function over any store: the check pays
+/// for their type at each such call anew.
+fn look_at<W: Write>(rt: &HostRuntime, folder: &str, look: Look, writer: &mut W) -> Ending
+    ensures { OpensFor ⟦<FolderStore as Store>⟧ look
+        writer.old writer.new (W.contents writer.old) (W.contents writer.new) result }
+{
+    match open_folder(rt, folder) {
+        Ok(world) => {
+            let (ending, stores) = look_in(rt.alloc(), world, look, writer);
+            close_stores(stores);
+            ending
+        }
+        Err(fault) => unopened(look, fault),
+    }
+}
+
+/// Prints what words ask to look at of the packages of a folder. The words are read first: where
+/// they cannot be, nothing is opened and nothing is written.
+pub fn look_for<W: Write>(rt: &HostRuntime, folder: &str, asked: Asked<'_>, writer: &mut W) -> Ending
+    ensures { Looks ⟦<FolderStore as Store>⟧ asked.entry
+        writer.old writer.new (W.contents writer.old) (W.contents writer.new) result }
+{
+    match read_asked(asked) {
+        Ok(look) => look_at(rt, folder, look, writer),
+        Err(what) => Ending::Usual(CommandEnding::Usual(Outcome::Refused(what))),
+    }
+}
