@@ -1,7 +1,7 @@
 // Files in memory that stop after so many calls, what is left of them, and a shelf of stores over them.
 ghost use Rattle.std.specs.Prelude.{◌≡◌, [], IsTrue, IfOk};
 
-use crate::pictures::{StorePicture, store_picture};
+use crate::pictures::{StorePicture, last_picture};
 use memory_files::open_blank;
 use package_tables::fault::Fault;
 use shelves::shelf::{Shelf, ShelfFault};
@@ -128,7 +128,7 @@ impl Remains {
             db: holding(alloc, self.db.left(left.db))?,
         };
         match Connection::open_files(alloc, files, Options::new(7)) {
-            Ok(mut conn) => store_picture(alloc, &mut conn, id),
+            Ok(conn) => last_picture(alloc, conn, id),
             Err((error, _)) => Err(Fault::from(error)),
         }
     }

@@ -167,7 +167,7 @@ pub struct StorePicture {
 }
 
 /// Each row of each table, the items, the links, and the receipt of a request.
-pub fn store_picture<S: Alter>(
+fn store_picture<S: Alter>(
     alloc: Global,
     conn: &mut Connection<S>,
     id: Uuid,
@@ -181,6 +181,17 @@ pub fn store_picture<S: Alter>(
             .push_str(table_text(alloc, conn, table)?.as_str())?;
     }
     Ok(StorePicture { package, picture })
+}
+
+/// The same of a store that is gone then. Where its type is known, a function that drops it costs a minute and more to
+/// prove.
+pub fn last_picture<S: Alter + Drop>(
+    alloc: Global,
+    conn: Connection<S>,
+    id: Uuid,
+) -> Result<StorePicture, Fault> {
+    let mut conn = conn;
+    store_picture(alloc, &mut conn, id)
 }
 
 fn held_in<S: Alter + Drop>(
