@@ -152,7 +152,12 @@ fn look_at<W: Write>(rt: &HostRuntime, folder: &str, look: Look, writer: &mut W)
 
 /// Prints what words ask to look at of the packages of a folder. The words are read first: where
 /// they cannot be, nothing is opened and nothing is written.
-pub fn look_for<W: Write>(rt: &HostRuntime, folder: &str, asked: Asked<'_>, writer: &mut W) -> Ending
+pub fn look_for<W: Write>(
+    rt: &HostRuntime,
+    folder: &str,
+    asked: Asked<'_>,
+    writer: &mut W,
+) -> Ending
     ensures { Looks ⟦<FolderStore as Store>⟧ asked.entry
         writer.old writer.new (W.contents writer.old) (W.contents writer.new) result }
 {
