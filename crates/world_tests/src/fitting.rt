@@ -29,7 +29,7 @@ fn is_lost(found: &Found) -> bool {
         || found.live.is_none()
 }
 
-fn whole(alloc: Global, scene: &Scene, comes: Comes) -> Result<Whole, Fault> {
+fn undisturbed(alloc: Global, scene: &Scene, comes: Comes) -> Result<Whole, Fault> {
     let ended = over_files(alloc, &Fusing::Nothing, scene, comes)?;
     let Some(OverFiles { found, files }) = ended else {
         return Err(Fault::OutOfMemory);
@@ -51,8 +51,8 @@ pub struct Both {
 /// It ends with `OutOfMemory` where memory is refused.
 pub fn both_worlds(alloc: Global, scene: &Scene) -> Result<Both, Fault> {
     Ok(Both {
-        before: whole(alloc, scene, Comes::Never)?,
-        after: whole(alloc, scene, Comes::Once)?,
+        before: undisturbed(alloc, scene, Comes::Never)?,
+        after: undisturbed(alloc, scene, Comes::Once)?,
     })
 }
 
