@@ -1,5 +1,6 @@
 //! An archive that added a tile and lent a package, and that package, told by hand: found, missing, copied, brought back, in the wrong
 //! place, torn and altered. Stores are written as words.
+ghost use Rattle.opening.specs.Splits.{AreOpenSplits};
 
 use crate::balances::sight_of;
 use crate::receipts::{ARCHIVE, LOAN, line_of, package, package_text, package_word};
@@ -109,7 +110,9 @@ fn reached_told(
     seen: &[Sight],
     reached: &Reached,
     asks: &str,
-) -> Result<String, OutOfMemory> {
+) -> Result<String, OutOfMemory>
+    requires { AreOpenSplits seen.now reached.now.splits.items }
+{
     match asks {
         "live" => signs(alloc, reached.live.as_slice()),
         "splits" => Ok(format!(in alloc; "{}", reached.splits.len())?),
