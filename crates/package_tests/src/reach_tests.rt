@@ -1,6 +1,6 @@
 // What a cut asks for, over a stand-in that notes it. It says of no package that it shows it, so
 // what it answers needs no proof.
-ghost use Rattle.std.specs.Prelude.{⊤, ⊥};
+ghost use Rattle.std.specs.Prelude.{⊤};
 
 use crate::cuts::selection_told;
 use cut::select::select_over;
