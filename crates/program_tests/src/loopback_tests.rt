@@ -36,7 +36,7 @@ struct Visited<'a, N: Net<Listener = TcpListener, Stream = TcpStream>> {
 }
 
 // A client of a port of this machine that has sent all of its bytes.
-fn client<N: Net<Listener = TcpListener, Stream = TcpStream>>(
+fn connected<N: Net<Listener = TcpListener, Stream = TcpStream>>(
     net: &N,
     port: u16,
     bytes: &[u8],
@@ -52,7 +52,7 @@ impl<'a, N: Net<Listener = TcpListener, Stream = TcpStream>> Visited<'a, N> {
         let Ok(text) = sent_text(self.alloc, sent.0) else {
             return Err(Error::from(ErrorKind::OutOfMemory));
         };
-        let stream = client(self.net, self.port, text.as_bytes())?;
+        let stream = connected(self.net, self.port, text.as_bytes())?;
         match self.streams.push((stream, sent.1)) {
             Ok(()) => Ok(()),
             Err(_) => Err(Error::from(ErrorKind::OutOfMemory)),
