@@ -27,7 +27,7 @@ use package_tables::rows::{MovedRow, ReceiptRow};
 use sheet_types::collections::MovedList;
 use sheet_types::fingerprints::read_fingerprint;
 use sheet_types::reading::read_stored_optional;
-use sheet_types::receipt::{Moved, Receipt};
+use sheet_types::receipt::{Moved, Receipt, Sums};
 use sqlite::{Alter, Connection};
 use std::alloc::Global;
 use uuid::Uuid;
@@ -141,6 +141,62 @@ fn items_of<S: Alter>(conn: &mut Connection<S>, alloc: Global, seq: i64) -> Resu
     Ok(things)
 }
 
+/// The number of a receipt, its request and its ends.
+#[derive(Clone, Copy)]
+struct Named {
+    seq: u64,
+    request: Uuid,
+    source: Option<Uuid>,
+    target: Option<Uuid>,
+}
+
+/// What a row names.
+// What is read of a row stands in values that need no drop, so that the row and its things are alive at two exits alone.
+fn named_by(row: &ReceiptRow) -> Result<Named, Fault>
+    ensures seq { IfOk result (λ named. row.now.seq ≡ pos named.seq) }
+    ensures request { IfOk result (λ named. row.now.request ≡ uuid_text named.request) }
+    ensures source { IfOk result (λ named. row.now.source ≡ optional_uuid_text named.source) }
+    ensures target { IfOk result (λ named. row.now.target ≡ optional_uuid_text named.target) }
+    ensures request_fit { IfOk result (λ named. IsUuid named.request) }
+    ensures source_fit { IfOk result (λ named. is_fit_end named.source ≡ true) }
+    ensures target_fit { IfOk result (λ named. is_fit_end named.target ≡ true) }
+    ensures none { IfErr result (λ _. (receipt : Receipt) → IsFitReceipt receipt → receipt_row receipt ≢ row.now) }
+{
+    let seq = counted(row.seq)?;
+    let request = stored_uuid(row.request.as_str())?;
+    let source = end_of(row.source.as_str())?;
+    let target = end_of(row.target.as_str())?;
+    Ok(Named {
+        seq,
+        request,
+        source,
+        target,
+    })
+}
+
+/// How much a row says was moved.
+fn sums_of(row: &ReceiptRow) -> Result<Sums, Fault>
+    ensures tiles { IfOk result (λ sums. row.now.n_tiles ≡ pos sums.tiles) }
+    ensures media { IfOk result (λ sums. row.now.n_media ≡ pos sums.media) }
+    ensures rows { IfOk result (λ sums. row.now.n_rows ≡ pos sums.rows) }
+    ensures links { IfOk result (λ sums. row.now.n_links ≡ pos sums.links) }
+    ensures bytes { IfOk result (λ sums. row.now.n_bytes ≡ pos sums.bytes) }
+    ensures none { IfErr result (λ _. (receipt : Receipt) → receipt_row receipt ≢ row.now) }
+{
+    let tiles = counted(row.n_tiles)?;
+    let media = counted(row.n_media)?;
+    let rows = counted(row.n_rows)?;
+    let links = counted(row.n_links)?;
+    let bytes = counted(row.n_bytes)?;
+    Ok(Sums {
+        tiles,
+        media,
+        rows,
+        links,
+        bytes,
+    })
+}
+
 /// The receipt of a row, which moved these things.
 fn receipt_of(row: ReceiptRow, items: MovedList) -> Result<Receipt, Fault>
     requires { AllByRecursion (λ m. is_fit_moved m ≡ true) items }
@@ -149,28 +205,21 @@ fn receipt_of(row: ReceiptRow, items: MovedList) -> Result<Receipt, Fault>
     ensures fit { IfOk result IsFitReceipt }
     ensures none { IfErr result (λ _. (receipt : Receipt) → IsFitReceipt receipt → receipt_row receipt ≢ row) }
 {
-    let seq = counted(row.seq)?;
-    let request = stored_uuid(row.request.as_str())?;
-    let source = end_of(row.source.as_str())?;
-    let target = end_of(row.target.as_str())?;
-    let tiles = counted(row.n_tiles)?;
-    let media = counted(row.n_media)?;
-    let rows = counted(row.n_rows)?;
-    let links = counted(row.n_links)?;
-    let bytes = counted(row.n_bytes)?;
+    let named = named_by(&row)?;
+    let sums = sums_of(&row)?;
     Ok(Receipt {
-        seq,
-        request,
+        seq: named.seq,
+        request: named.request,
         at: row.at,
         line: row.line,
-        source,
-        target,
+        source: named.source,
+        target: named.target,
         items,
-        tiles,
-        media,
-        rows,
-        links,
-        bytes,
+        tiles: sums.tiles,
+        media: sums.media,
+        rows: sums.rows,
+        links: sums.links,
+        bytes: sums.bytes,
     })
 }
 

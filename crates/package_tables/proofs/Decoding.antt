@@ -3,7 +3,7 @@ use Rattle.std.proofs.Common.{◌≡◌, ◌∙◌, ℕ, ℤ, zero, suc, List, [
 use Rattle.std.specs.Prelude.{◌≢◌, slice_get, IsUtf8, IfOk, IfErr, IsErrAnd}
 use Rattle.std.specs.List.{AllByRecursion}
 use Rattle.sqlite.specs.Order.{Row, column}
-use Rattle.sqlite.specs.declared.types.Value.TheVariants.{Int, Text}
+use Rattle.sqlite.specs.declared.types.Value.TheVariants.{Int, Text, Blob}
 use Rattle.package_tables.specs.Shown.{AreTexts}
 use Rattle.package_tables.specs.declared.fault.Fault.{Fault}
 use Rattle.package_tables.specs.declared.fault.Fault.TheVariants.{StoreFault}
@@ -47,3 +47,6 @@ module _ {T V : Type 0} (shown : T → Row) (at : ℕ) (row : Row) (result : Res
 
   pub no_text : (fault ≡ StoreFault → (text : List ℕ) → IsUtf8 text → column row at ≢ Text text) → (text : T → List ℕ) → ((x : T) → column (shown x) at ≡ Text (text x)) → ShowsNone result
   no_text none text says = by_fault (λ store texts value same. let is = ap (λ r. column r at) same ∙ says value in none store (text value) (texts at (text value) is) is)
+
+  pub no_bytes : (fault ≡ StoreFault → (bytes : List ℕ) → column row at ≢ Blob bytes) → (bytes : T → List ℕ) → ((x : T) → column (shown x) at ≡ Blob (bytes x)) → ShowsNone result
+  no_bytes none bytes says = by_fault (λ store texts value same. none store (bytes value) (ap (λ r. column r at) same ∙ says value))

@@ -1,5 +1,5 @@
 -- From what a statement makes of a database to what a call makes of the tables.
-use Rattle.std.proofs.Common.{◌≡◌, ℕ, List, Bool, true, Result, Ok, Err, ap, ◌∙◌}
+use Rattle.std.proofs.Common.{◌≡◌, ℕ, List, Bool, true, Result, Ok, Err, ap, subst, ◌∙◌}
 use Rattle.std.specs.Prelude.{IsOk, MatchResult}
 use Rattle.sqlite.specs.Order.{Row}
 use Rattle.sqlite.specs.Effect.{Database}
@@ -47,13 +47,14 @@ module _ {R : Type 0} {list : Listed R} (is : IsListed list) where
       let both = is.written here.placed.tree old new (deletes here.placed.at here.placed.tree here.placed.has formed.quiet).spares formed did.0 in
       (both.0, rw (is.lists old) (both.1 ∙ ap (λ l. list.with_rows l (tables_of old)) did.1))
 
--- a row comes in by an INSERT, and rows go by a DELETE, inside a transaction
+-- A row comes in by an INSERT, and rows go by a DELETE, inside a transaction. What the parameters are is said of them alone: a rewriting in
+-- all that an execution says costs seconds.
 module _ {R : Type 0} {list : Listed R} (is : IsListed list) where
   pub enters : {Y : Type 0} {text : List ℕ} {params : Row} {row : List Row → Row} (x : R) → ((tree : ℕ) → IsInsert text (list.shape.table tree)) → ((tree : ℕ) (there : List Row) → IsRow (list.shape.table tree) params there (row there))
       → ((there : List Row) → (v : Value) × (is_int v ≡ true) × (row there ≡ list.shape.stored v x)) → (old new : State) (r : Result ℕ Error) (s : Result Y Fault) → MatchResult r (λ _. IsOk s) (λ e. s ≡ Err (fault_of e))
-      → ExecutesInside 0 text params old new r → MakesInside (Adds list x) old new s
-  enters {Y} {text} {params} {row} x inserts given laid old new r s settled ran =
-      makes (Inserts list.shape.table row) (Adds list x) old new r s (λ formed. puts is row x old.now new.now formed laid) settled (inserted_inside text list.shape.table inserts params row given old new r ran)
+      → (told : Row) → told ≡ params → ExecutesInside 0 text told old new r → MakesInside (Adds list x) old new s
+  enters {Y} {text} {params} {row} x inserts given laid old new r s settled told are ran =
+      makes (Inserts list.shape.table row) (Adds list x) old new r s (λ formed. puts is row x old.now new.now formed laid) settled (inserted_inside text list.shape.table inserts params row given old new r (subst (λ ps. ExecutesInside 0 text ps old new r) are ran))
 
   pub leaves : {Y : Type 0} {text : List ℕ} {by : Test} (goes : Row → Bool) (test : R → Bool) → ((v : Value) (x : R) → goes (list.shape.stored v x) ≡ test x) → ((tree : ℕ) → IsDelete text (list.shape.table tree) by)
       → ((tree : ℕ) → IsPlannedDelete (list.shape.table tree) by) → (params : Row) → are_given by params ≡ true → ((tree : ℕ) → ◌≡◌ {A = Row → Bool} (λ r. passes (list.shape.table tree) by params r) goes) → (old new : State) (r : Result ℕ Error) (s : Result Y Fault)

@@ -175,10 +175,10 @@ impl FromRow for SpatialRefSysRow {
             return Err(Fault::StoreFault);
         }
         Ok(SpatialRefSysRow {
-            srs_name: text_at(row, 0)?,
             srs_id: number_at(row, 1)?,
-            organization: text_at(row, 2)?,
             organization_coordsys_id: number_at(row, 3)?,
+            srs_name: text_at(row, 0)?,
+            organization: text_at(row, 2)?,
             definition: text_at(row, 4)?,
             description: text_at(row, 5)?,
         })
@@ -209,16 +209,16 @@ impl FromRow for ContentsRow {
             return Err(Fault::StoreFault);
         }
         Ok(ContentsRow {
-            table_name: text_at(row, 0)?,
-            data_type: text_at(row, 1)?,
-            identifier: text_at(row, 2)?,
-            description: text_at(row, 3)?,
-            last_change: text_at(row, 4)?,
             min_x: number_at(row, 5)?,
             min_y: number_at(row, 6)?,
             max_x: number_at(row, 7)?,
             max_y: number_at(row, 8)?,
             srs_id: number_at(row, 9)?,
+            table_name: text_at(row, 0)?,
+            data_type: text_at(row, 1)?,
+            identifier: text_at(row, 2)?,
+            description: text_at(row, 3)?,
+            last_change: text_at(row, 4)?,
         })
     }
 }
@@ -247,12 +247,12 @@ impl FromRow for TileMatrixSetRow {
             return Err(Fault::StoreFault);
         }
         Ok(TileMatrixSetRow {
-            table_name: text_at(row, 0)?,
             srs_id: number_at(row, 1)?,
             min_x: number_at(row, 2)?,
             min_y: number_at(row, 3)?,
             max_x: number_at(row, 4)?,
             max_y: number_at(row, 5)?,
+            table_name: text_at(row, 0)?,
         })
     }
 }
@@ -284,7 +284,6 @@ impl FromRow for TileMatrixRow {
             return Err(Fault::StoreFault);
         }
         Ok(TileMatrixRow {
-            table_name: text_at(row, 0)?,
             zoom_level: number_at(row, 1)?,
             matrix_width: number_at(row, 2)?,
             matrix_height: number_at(row, 3)?,
@@ -292,6 +291,7 @@ impl FromRow for TileMatrixRow {
             tile_height: number_at(row, 5)?,
             pixel_x_size: number_at(row, 6)?,
             pixel_y_size: number_at(row, 7)?,
+            table_name: text_at(row, 0)?,
         })
     }
 }

@@ -6,7 +6,7 @@ ghost use Rattle.sql_meaning.specs.Transactions.{Steps};
 ghost use Rattle.package_tables.specs.Calls.{OnTables};
 ghost use Rattle.package_tables.specs.Listed.{contents, matrix_sets, relations, systems};
 ghost use Rattle.package_tables.specs.Changes.{Adds, ListBecomes};
-ghost use Rattle.package_tables.specs.Fixed.{is_standard, standard_systems, systems_of, content, contents_of, matrix_set, mapping_relations};
+ghost use Rattle.package_tables.specs.Fixed.{is_standard, standard_systems, systems_of, content, contents_of, matrix_set, mapping_relations, relation};
 ghost use Rattle.package_tables.specs.Creation.{TablesBecome, no_rows, fixed_tables};
 
 use crate::fault::Fault;
@@ -116,41 +116,29 @@ fn insert_matrix_set<S: Alter>(tx: &mut Transaction<'_, S>, frame: &Frame) -> Re
     insert_tile_matrix_set(tx, "sheet_tiles", srs_id, min_x, min_y, max_x, max_y)
 }
 
+/// A mapping table, by the tables of its two ends and the name of what the other end is.
+fn insert_mapping<S: Alter>(
+    tx: &mut Transaction<'_, S>,
+    id: i64,
+    base: &str,
+    related: &str,
+    name: &str,
+    mapping: &str,
+) -> Result<(), Fault>
+    ensures same_reference { tx.new.conn.ghost_name ≡ tx.old.conn.ghost_name }
+    ensures steps { Steps (λ _. OnTables (Adds relations (relation id base.now related.now name.now mapping.now))) (state S.Store tx.old.conn.now) (state S.Store tx.new.conn.now) result }
+{
+    insert_relation(tx, id, base, "id", related, "id", name, mapping)
+}
+
 /// Which tables each mapping table relates (OGC 18-000, relations).
 fn insert_relations<S: Alter>(tx: &mut Transaction<'_, S>) -> Result<(), Fault>
     ensures same_reference { tx.new.conn.ghost_name ≡ tx.old.conn.ghost_name }
     ensures steps { Steps (λ _. OnTables (ListBecomes relations [] mapping_relations)) (state S.Store tx.old.conn.now) (state S.Store tx.new.conn.now) result }
 {
-    insert_relation(
-        tx,
-        1,
-        "sheet_tiles",
-        "id",
-        "sheet_media",
-        "id",
-        "media",
-        "tiles_media",
-    )?;
-    insert_relation(
-        tx,
-        2,
-        "sheet_rows",
-        "id",
-        "sheet_media",
-        "id",
-        "media",
-        "rows_media",
-    )?;
-    insert_relation(
-        tx,
-        3,
-        "sheet_rows",
-        "id",
-        "sheet_tiles",
-        "id",
-        "tiles",
-        "rows_tiles",
-    )
+    insert_mapping(tx, 1, "sheet_tiles", "sheet_media", "media", "tiles_media")?;
+    insert_mapping(tx, 2, "sheet_rows", "sheet_media", "media", "rows_media")?;
+    insert_mapping(tx, 3, "sheet_rows", "sheet_tiles", "tiles", "rows_tiles")
 }
 
 /// All fixed rows of a frame, with the moment of the last change.

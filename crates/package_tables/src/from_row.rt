@@ -13,6 +13,7 @@ use sqlite::{Error, Row};
 use std::alloc::Global;
 
 /// A value that a row of a table stands for, a field a column.
+// Numbers are read first: a text that was read is dropped at each exit that follows. `tools/decoding.py` writes the answers.
 pub(crate) trait FromRow: Drop {
     ghost use Rattle.sqlite.specs.Order.{Row as Shown};
 

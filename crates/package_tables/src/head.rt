@@ -47,10 +47,10 @@ impl FromRow for HeadRow {
         Ok(HeadRow {
             id: number_at(row, 0)?,
             version: number_at(row, 1)?,
-            package: text_at(row, 2)?,
-            parent: text_at(row, 3)?,
             depth: number_at(row, 4)?,
             loan: number_at(row, 5)?,
+            package: text_at(row, 2)?,
+            parent: text_at(row, 3)?,
             created: text_at(row, 6)?,
         })
     }

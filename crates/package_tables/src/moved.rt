@@ -48,9 +48,9 @@ impl FromRow for MovedRow {
             seq: number_at(row, 0)?,
             position: number_at(row, 1)?,
             kind: number_at(row, 2)?,
+            size: number_at(row, 5)?,
             base: text_at(row, 3)?,
             other: text_at(row, 4)?,
-            size: number_at(row, 5)?,
             fingerprint: text_at(row, 6)?,
         })
     }

@@ -52,16 +52,16 @@ impl FromRow for ReceiptRow {
         }
         Ok(ReceiptRow {
             seq: number_at(row, 0)?,
-            request: text_at(row, 1)?,
-            at: text_at(row, 2)?,
-            line: text_at(row, 3)?,
-            source: text_at(row, 4)?,
-            target: text_at(row, 5)?,
             n_tiles: number_at(row, 6)?,
             n_media: number_at(row, 7)?,
             n_rows: number_at(row, 8)?,
             n_links: number_at(row, 9)?,
             n_bytes: number_at(row, 10)?,
+            request: text_at(row, 1)?,
+            at: text_at(row, 2)?,
+            line: text_at(row, 3)?,
+            source: text_at(row, 4)?,
+            target: text_at(row, 5)?,
         })
     }
 }

@@ -479,8 +479,9 @@ def insert_answer(t):
         "returns-clause-wrote g c clean begun =",
     ] + STATES + [
         "    let row : %s = record { %s } in" % (t["row"], fields),
-        "    enters %s_listed row insert_text (insert_row row) (λ there. %s) old new c.execute.result _ c.settled.ensures" % (t["list"], laid),
-        "    %s" % ran(t, names),
+        "    enters %s_listed row insert_text (insert_row row) (λ there. %s) old new c.execute.result _ c.settled.ensures _" % (t["list"], laid),
+        "    %s" % given(t, names),
+        "    (c.execute.ensures.runs clean begun)",
     ]
 
 

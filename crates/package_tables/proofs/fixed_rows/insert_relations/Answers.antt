@@ -3,7 +3,7 @@ use Rattle.sql_meaning.proofs.Transactions.{steps_failed}
 use Rattle.package_tables.specs.Fixed.{relation, mapping_relations}
 use Rattle.package_tables.specs.declared.rows.RelationRow.{RelationRow}
 use Rattle.package_tables.proofs.Written.{relations_listed}
-use Rattle.package_tables.proofs.InTurn.{entered_by, made_then}
+use Rattle.package_tables.proofs.InTurn.{made_by, made_then}
 use Rattle.package_tables.proofs.fixed_rows.insert_relations.Goals as goal
 
 abbrev first : RelationRow
@@ -17,21 +17,16 @@ third = relation (pos 3) (codes "sheet_rows") (codes "sheet_tiles") (codes "tile
 
 pub returns-clause-steps : goal.returns-clause-steps
 returns-clause-steps g c =
-    let one = c.in_ok-insert_relation.ensures in
-    let two = c.in_ok-insert_relation-2.ensures in
-    let three = c.insert_relation-3.ensures in
     made_then relations_listed [] (first ∷ second ∷ []) mapping_relations
-    (made_then relations_listed [] (first ∷ []) (first ∷ second ∷ []) (entered_by relations_listed first [] (first ∷ []) refl refl one.wrote one.survives)
-    (entered_by relations_listed second (first ∷ []) (first ∷ second ∷ []) refl refl two.wrote two.survives))
-    (entered_by relations_listed third (first ∷ second ∷ []) mapping_relations refl refl three.wrote three.survives)
+    (made_then relations_listed [] (first ∷ []) (first ∷ second ∷ []) (made_by relations_listed first [] (first ∷ []) refl refl c.in_ok-insert_mapping.ensures.steps)
+    (made_by relations_listed second (first ∷ []) (first ∷ second ∷ []) refl refl c.in_ok-insert_mapping-2.ensures.steps))
+    (made_by relations_listed third (first ∷ second ∷ []) mapping_relations refl refl c.insert_mapping-3.ensures.steps)
 
-pub returns-in_err-insert_relation-clause-steps : goal.returns-in_err-insert_relation-clause-steps
-returns-in_err-insert_relation-clause-steps g c = steps_failed _ c.from_residual.ensures.0 (entered_by relations_listed first [] (first ∷ []) refl refl c.insert_relation.ensures.wrote c.insert_relation.ensures.survives)
+pub returns-in_err-insert_mapping-clause-steps : goal.returns-in_err-insert_mapping-clause-steps
+returns-in_err-insert_mapping-clause-steps g c = steps_failed _ c.from_residual.ensures.0 c.insert_mapping.ensures.steps
 
-pub returns-in_err-insert_relation-2-clause-steps : goal.returns-in_err-insert_relation-2-clause-steps
-returns-in_err-insert_relation-2-clause-steps g c =
-    let one = c.in_ok-insert_relation.ensures in
-    let two = c.insert_relation-2.ensures in
-    steps_failed _ c.from_residual-in_err-insert_relation-2.ensures.0
-    (made_then relations_listed [] (first ∷ []) (first ∷ second ∷ []) (entered_by relations_listed first [] (first ∷ []) refl refl one.wrote one.survives)
-    (entered_by relations_listed second (first ∷ []) (first ∷ second ∷ []) refl refl two.wrote two.survives))
+pub returns-in_err-insert_mapping-2-clause-steps : goal.returns-in_err-insert_mapping-2-clause-steps
+returns-in_err-insert_mapping-2-clause-steps g c =
+    steps_failed _ c.from_residual-in_err-insert_mapping-2.ensures.0
+    (made_then relations_listed [] (first ∷ []) (first ∷ second ∷ []) (made_by relations_listed first [] (first ∷ []) refl refl c.in_ok-insert_mapping.ensures.steps)
+    (made_by relations_listed second (first ∷ []) (first ∷ second ∷ []) refl refl c.insert_mapping-2.ensures.steps))
