@@ -16,7 +16,7 @@ use crate::said::read_first_said;
 use opening::sights::StoreHead;
 use package_copies::copies::{copy, is_in_order};
 use package_copies::package_rows::PackageRows;
-use package_tables::create::Info;
+use new_packages::create::Info;
 use package_tables::fault::Fault;
 use sheet_types::frame::Frame;
 use sqlite::{Alter, Connection};

@@ -3,7 +3,6 @@
 
 pub mod additions;
 pub mod changes;
-pub mod creation;
 pub mod dating;
 pub mod fitting;
 pub mod kinds;

@@ -13,7 +13,7 @@ ghost use Rattle.package_copies.specs.Copies.{AreInOrder, Fills, IsCopy};
 
 use crate::entering::{are_in_order, are_pairs_in_order, enter_all, enter_pairs};
 use crate::package_rows::PackageRows;
-use package_tables::create::{Info, create};
+use new_packages::create::{Info, create};
 use package_tables::fault::Fault;
 use sheet_types::command::Mapping;
 use sheet_types::frame::Frame;

@@ -23,13 +23,9 @@ pub mod ReceiptStatements
 pub mod MovedStatements
 pub mod HeadStatements
 pub mod FixedStatements
-pub mod SchemaMakes
-pub mod Texts
-pub mod NewPackage
 pub mod Stepping
 pub mod InTurn
 pub mod FixedRows
-pub mod Creating
 pub mod Columns
 pub mod Decoding
 pub mod Ranked

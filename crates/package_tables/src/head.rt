@@ -15,7 +15,7 @@ use sqlite::{Alter, Connection, Row, Transaction, params};
 use std::alloc::Global;
 
 /// Enters the head of the package.
-pub(crate) fn insert_head<S: Alter>(
+pub fn insert_head<S: Alter>(
     tx: &mut Transaction<'_, S>,
     id: i64,
     version: i64,

@@ -6,7 +6,7 @@ use crate::changes::{Done, Entered};
 use crate::cuts::cut_told;
 use crate::forms::{forms_told, turned};
 use crate::lines::{Line, read_line};
-use package_tables::create::Info;
+use new_packages::create::Info;
 use package_tables::fault::Fault;
 use sheet_types::frame::Frame;
 use sqlite::{Alter, Connection, MemStore};

@@ -4,7 +4,7 @@ ghost use Rattle.sqlite.specs.Held.{state};
 ghost use Rattle.sql_meaning.specs.Transactions.{Rests};
 
 use package_tables::fault::Fault;
-use package_tables::package::begin;
+use new_packages::package::begin;
 use sql_meaning::resting::is_at_rest;
 use sqlite::{Alter, Connection, MemStore, Transaction};
 use std::alloc::Global;

@@ -7,9 +7,9 @@ use crate::changes::committed;
 use crate::rows::{Row, Tables};
 use crate::values::FRAME;
 use matrix_rules::check::FrameRules;
-use package_tables::create::{Info, create};
+use new_packages::create::{Info, create};
 use package_tables::fault::Fault;
-use package_tables::package::Package;
+use new_packages::package::Package;
 use sheet_types::checks::GREATEST_DEPTH;
 use sheet_types::command::Mapping;
 use sheet_types::frame::Frame;
@@ -60,7 +60,7 @@ pub fn new_package<S: Alter + Drop>(
     if !is_at_rest(&conn) || !can_be_made(frame, info) {
         return Err(Fault::StoreFault);
     }
-    identity_register::creation::create(alloc, conn, frame, info)
+    new_packages::creation::create(alloc, conn, frame, info)
 }
 
 /// A package with nothing in it, without parent.

@@ -8,7 +8,7 @@ use package_tables::mappings::{delete_pair, insert_pair};
 use package_tables::media::{delete_medium, insert_medium};
 use package_tables::moved::insert_moved;
 use package_tables::receipts::insert_receipt;
-use package_tables::schema::create_schema;
+use new_packages::schema::create_schema;
 use package_tables::tiles::{delete_tile, insert_tile};
 use sheet_types::command::Mapping;
 use sqlite::{Alter, Transaction};

@@ -1,0 +1,4 @@
+pub mod SchemaMakes
+pub mod Texts
+pub mod NewPackage
+pub mod Creating
