@@ -3,9 +3,11 @@
 
 mod running;
 mod sessions;
+mod streams;
 
 use crate::running::out_of_memory;
 use crate::sessions::run;
+use crate::streams::Input;
 use std::io;
 use std::process::ExitCode;
 
@@ -26,7 +28,7 @@ fn unread(rt: &HostRuntime, error: &io::Error) -> u8 {
 
 fn main(rt: HostRuntime) -> ExitCode {
     let status = match words_given(&rt) {
-        Ok(words) => run(&rt, words.as_slice(), &mut rt.reader()),
+        Ok(words) => run(&rt, words.as_slice(), &mut Input::Standard(rt.reader())),
         Err(error) => unread(&rt, &error),
     };
     ExitCode::from(status)

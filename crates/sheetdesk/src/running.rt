@@ -1,10 +1,10 @@
 //! A command, carried out: what it asks for is done in `cli`, `commands` and `views`.
+use crate::streams::{Input, Onlooker};
 use clap::error::ErrorKind;
 use clap::{ArgMatches, Error};
 use cli::rehearse::rehearse;
 use cli::serving::rehearse_and_serve;
 use command_words::arguments::{DeskWords, Words};
-use command_words::progress::{Progress, Silent, Teller};
 use command_words::statuses::Outcome;
 use commands::init::init;
 use commands::working::{Asked, work_for};
@@ -14,7 +14,6 @@ use folder_worlds::endings::{
 use program_words::words::sheetdesk;
 use std::convert::AsStr;
 use std::io;
-use std::io::{IsTerminal, Read};
 use uuid::Uuid;
 use views::endings as seen;
 use views::looking::{Asked as AskedLook, look_for};
@@ -100,11 +99,11 @@ fn archive_words<'m>(given: &ArgMatches<'m>) -> Words<'m> {
 }
 
 /// What `rehearse` comes to, over a reader and standard output. Where a port is given, the world of the list is served.
-fn rehearsed<R: Read + Drop, T: Teller>(
+fn rehearsed(
     rt: &HostRuntime,
     given: &ArgMatches<'_>,
-    reader: R,
-    teller: &mut T,
+    reader: &mut Input<'_>,
+    teller: &mut Onlooker,
 ) -> Outcome {
     let words = archive_words(given);
     let mut writer = io::writer(rt);
@@ -147,14 +146,10 @@ fn asked_look<'m>(name: &str, given: &ArgMatches<'m>) -> Option<AskedLook<'m>> {
     }
 }
 
-/// Carries out a command that may change what is in a folder that holds packages, or has no folder.
-fn changed<R: Read + Drop, T: Teller>(
-    rt: &HostRuntime,
-    name: &str,
-    given: &ArgMatches<'_>,
-    reader: R,
-    teller: &mut T,
-) -> Ending {
+/// Carries out a command that may change what is in a folder that holds packages, or has no folder. How far a list is, standard error is told where it is
+/// a terminal.
+fn changed(rt: &HostRuntime, name: &str, given: &ArgMatches<'_>, reader: &mut Input<'_>) -> Ending {
+    let mut teller = Onlooker::new(rt);
     match asked_work(name, given) {
         Some(asked) => work_for(
             rt,
@@ -162,34 +157,18 @@ fn changed<R: Read + Drop, T: Teller>(
             asked,
             reader,
             &mut io::writer(rt),
-            teller,
+            &mut teller,
         ),
-        None => Ending::Usual(rehearsed(rt, given, reader, teller)),
-    }
-}
-
-/// The same. How far a list is, standard error is told where it is a terminal.
-fn changed_and_told<R: Read + Drop>(
-    rt: &HostRuntime,
-    name: &str,
-    given: &ArgMatches<'_>,
-    reader: R,
-) -> Ending {
-    let terminal = rt.stderr();
-    if terminal.is_terminal() {
-        let mut progress = Progress { writer: terminal };
-        changed(rt, name, given, reader, &mut progress)
-    } else {
-        changed(rt, name, given, reader, &mut Silent)
+        None => Ending::Usual(rehearsed(rt, given, reader, &mut teller)),
     }
 }
 
 /// Carries out the command of this name, and answers the exit status.
-pub(crate) fn carried_out<R: Read + Drop>(
+pub(crate) fn carried_out(
     rt: &HostRuntime,
     name: &str,
     given: &ArgMatches<'_>,
-    reader: R,
+    reader: &mut Input<'_>,
 ) -> u8 {
     let folder = text_of(given, "folder");
     let mut writer = io::writer(rt);
@@ -198,7 +177,7 @@ pub(crate) fn carried_out<R: Read + Drop>(
     }
     let ending = match name {
         "init" => init(rt, &archive_words(given), folder, &mut writer),
-        _ => changed_and_told(rt, name, given, reader),
+        _ => changed(rt, name, given, reader),
     };
     ended(rt, &ending)
 }

@@ -1,7 +1,7 @@
 //! Sessions: commands as a person types them, a line each, carried out one after the other.
 use crate::running::{answered, carried_out, matched, out_of_memory, output_failed, print_error};
-use std::convert::AsStr;
-use std::io::{ErrorKind, Read};
+use crate::streams::Input;
+use std::io::ErrorKind;
 use std::{fs, io};
 
 /// Says on standard error why a line was not carried out, and answers the status that a shell has for it.
@@ -14,7 +14,7 @@ fn failed(rt: &HostRuntime, what: &str, error: &io::Error) -> u8 {
 }
 
 /// Carries out a command of a session, the program's name first. A session has none in it.
-fn carried_out_once<R: Read + Drop>(rt: &HostRuntime, words: &[&str], reader: &mut R) -> u8 {
+fn carried_out_once(rt: &HostRuntime, words: &[&str], reader: &mut Input<'_>) -> u8 {
     let matches = match matched(rt, words) {
         Ok(matches) => matches,
         Err(error) => return answered(rt, &error),
@@ -29,7 +29,7 @@ fn carried_out_once<R: Read + Drop>(rt: &HostRuntime, words: &[&str], reader: &m
 }
 
 /// Carries out a typed command over what it reads.
-fn command<R: Read + Drop>(rt: &HostRuntime, typed: &str, reader: &mut R) -> u8 {
+fn command(rt: &HostRuntime, typed: &str, reader: &mut Input<'_>) -> u8 {
     match typed.split(' ').collect::<Vec<&str>>(rt.alloc()) {
         Ok(words) => carried_out_once(rt, words.as_slice(), reader),
         Err(_) => out_of_memory(rt),
@@ -39,13 +39,13 @@ fn command<R: Read + Drop>(rt: &HostRuntime, typed: &str, reader: &mut R) -> u8 
 /// Carries out a command over what is in a file.
 fn command_over(rt: &HostRuntime, typed: &str, path: &str) -> u8 {
     match fs::read(rt, path) {
-        Ok(input) => command(rt, typed, &mut input.as_slice()),
+        Ok(input) => command(rt, typed, &mut Input::File(input.as_slice())),
         Err(error) => failed(rt, path, &error),
     }
 }
 
 /// Carries one line out, and answers its status.
-fn line_carried_out<R: Read + Drop>(rt: &HostRuntime, line: &str, reader: &mut R) -> u8 {
+fn line_carried_out(rt: &HostRuntime, line: &str, reader: &mut Input<'_>) -> u8 {
     if let Some(folder) = line.strip_prefix("mkdir ") {
         return match fs::create_dir(rt, folder) {
             Ok(()) => 0,
@@ -63,7 +63,7 @@ fn line_carried_out<R: Read + Drop>(rt: &HostRuntime, line: &str, reader: &mut R
 }
 
 /// Prints a line, what it prints itself, and its status where that is not 0. A comment is printed alone.
-fn typed<R: Read + Drop>(rt: &HostRuntime, line: &str, reader: &mut R) -> io::Result<()> {
+fn typed(rt: &HostRuntime, line: &str, reader: &mut Input<'_>) -> io::Result<()> {
     if line.is_empty() || line.starts_with('#') {
         return println!(rt; "{line}");
     }
@@ -75,11 +75,7 @@ fn typed<R: Read + Drop>(rt: &HostRuntime, line: &str, reader: &mut R) -> io::Re
 }
 
 /// Carries out the lines of a text, whatever the status of each is.
-fn each_carried_out<R: Read + Drop>(
-    rt: &HostRuntime,
-    text: &str,
-    reader: &mut R,
-) -> io::Result<()> {
+fn each_carried_out(rt: &HostRuntime, text: &str, reader: &mut Input<'_>) -> io::Result<()> {
     for line in text.lines() {
         typed(rt, line, reader)?;
     }
@@ -107,7 +103,7 @@ fn refused(rt: &HostRuntime) -> u8 {
 }
 
 /// Carries out what stands in a file, a line each, and answers the exit status: 0 where the last line was reached.
-fn session<R: Read + Drop>(rt: &HostRuntime, file: &str, reader: &mut R) -> u8 {
+fn session(rt: &HostRuntime, file: &str, reader: &mut Input<'_>) -> u8 {
     let text = match lines_of(rt, file) {
         Ok(text) => text,
         Err(status) => return status,
@@ -118,9 +114,9 @@ fn session<R: Read + Drop>(rt: &HostRuntime, file: &str, reader: &mut R) -> u8 {
     }
 }
 
-/// Carries out a command line, the program's name first, over a reader in place of standard input, and answers the exit status.
+/// Carries out a command line, the program's name first, over what it reads, and answers the exit status.
 /// What it prints goes to standard output and standard error. A subcommand is required.
-pub(crate) fn run<W: AsStr, R: Read + Drop>(rt: &HostRuntime, words: &[W], reader: &mut R) -> u8 {
+pub(crate) fn run(rt: &HostRuntime, words: &[String], reader: &mut Input<'_>) -> u8 {
     let matches = match matched(rt, words) {
         Ok(matches) => matches,
         Err(error) => return answered(rt, &error),
