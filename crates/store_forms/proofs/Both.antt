@@ -43,6 +43,11 @@ two {A} {B} a b f g = (there a b f g, λ all. back a b (f.1 all.0) (g.1 all.1))
     back true b x y = y
     back false b x y = absurd (false≢true x)
 
+pub five : {A B C D E : Type 0} (a b c d e : Bool) → (IsTrue a ↔ A) → (IsTrue b ↔ B) → (IsTrue c ↔ C) → (IsTrue d ↔ D) → (IsTrue e ↔ E) → (IsTrue ((((a && b) && c) && d) && e) ↔ A × B × C × D × E)
+five a b c d e f g h k l =
+    let both = two (((a && b) && c) && d) e (four a b c d f g h k) l in
+    (λ all. let x = both.0 all in (x.0.0, x.0.1, x.0.2, x.0.3, x.1), λ all. both.1 ((all.0, all.1, all.2, all.3), all.4))
+
 -- tests that agree, and what they test
 pub alike : {A B : Type 0} {a b : Bool} → (IsTrue a ↔ A) → (IsTrue b ↔ B) → {P : Type 0} → (P ↔ (IsTrue a ↔ IsTrue b)) → P ↔ (A ↔ B)
 alike f g h = (λ p. let e = h.0 p in (λ x. g.0 (e.0 (f.1 x)), λ y. f.0 (e.1 (g.1 y))), λ e. h.1 (λ x. g.1 (e.0 (f.0 x)), λ y. f.1 (e.1 (g.0 y))))

@@ -13,6 +13,7 @@ use sqlite::{Error, Row};
 use std::alloc::Global;
 
 /// A value that a row of a table stands for, a field a column.
+// Numbers are read first, where they are many by a function of their own: a text that was read is dropped at each exit that follows.
 pub(crate) trait FromRow: Drop {
     ghost use Rattle.sqlite.specs.Order.{Row as Shown};
 
@@ -46,13 +47,36 @@ impl FromRow for HeadRow {
         Ok(HeadRow {
             id: number_at(row, 0)?,
             version: number_at(row, 1)?,
-            package: text_at(row, 2)?,
-            parent: text_at(row, 3)?,
             depth: number_at(row, 4)?,
             loan: number_at(row, 5)?,
+            package: text_at(row, 2)?,
+            parent: text_at(row, 3)?,
             created: text_at(row, 6)?,
         })
     }
+}
+
+/// How much a row of receipts says was moved.
+#[derive(Clone, Copy)]
+struct Counts {
+    n_tiles: i64,
+    n_media: i64,
+    n_rows: i64,
+    n_links: i64,
+    n_bytes: i64,
+}
+
+/// The last five columns of a row of receipts.
+fn counts_of(row: &Row) -> Result<Counts, Fault>
+    ensures { IfOk result (λ counts. (column row.now 6 ≡ Int counts.n_tiles) × (column row.now 7 ≡ Int counts.n_media) × (column row.now 8 ≡ Int counts.n_rows) × (column row.now 9 ≡ Int counts.n_links) × (column row.now 10 ≡ Int counts.n_bytes)) }
+{
+    Ok(Counts {
+        n_tiles: number_at(row, 6)?,
+        n_media: number_at(row, 7)?,
+        n_rows: number_at(row, 8)?,
+        n_links: number_at(row, 9)?,
+        n_bytes: number_at(row, 10)?,
+    })
 }
 
 impl FromRow for ReceiptRow {
@@ -64,18 +88,19 @@ impl FromRow for ReceiptRow {
         if row.column_count() != 11 {
             return Err(Fault::StoreFault);
         }
+        let counts = counts_of(row)?;
         Ok(ReceiptRow {
             seq: number_at(row, 0)?,
+            n_tiles: counts.n_tiles,
+            n_media: counts.n_media,
+            n_rows: counts.n_rows,
+            n_links: counts.n_links,
+            n_bytes: counts.n_bytes,
             request: text_at(row, 1)?,
             at: text_at(row, 2)?,
             line: text_at(row, 3)?,
             source: text_at(row, 4)?,
             target: text_at(row, 5)?,
-            n_tiles: number_at(row, 6)?,
-            n_media: number_at(row, 7)?,
-            n_rows: number_at(row, 8)?,
-            n_links: number_at(row, 9)?,
-            n_bytes: number_at(row, 10)?,
         })
     }
 }
@@ -90,14 +115,35 @@ impl FromRow for SpatialRefSysRow {
             return Err(Fault::StoreFault);
         }
         Ok(SpatialRefSysRow {
-            srs_name: text_at(row, 0)?,
             srs_id: number_at(row, 1)?,
-            organization: text_at(row, 2)?,
             organization_coordsys_id: number_at(row, 3)?,
+            srs_name: text_at(row, 0)?,
+            organization: text_at(row, 2)?,
             definition: text_at(row, 4)?,
             description: text_at(row, 5)?,
         })
     }
+}
+
+/// The bounds that a row of contents says.
+#[derive(Clone, Copy)]
+struct Bounds {
+    min_x: i64,
+    min_y: i64,
+    max_x: i64,
+    max_y: i64,
+}
+
+/// Four columns of a row of contents.
+fn bounds_of(row: &Row) -> Result<Bounds, Fault>
+    ensures { IfOk result (λ bounds. (column row.now 5 ≡ Int bounds.min_x) × (column row.now 6 ≡ Int bounds.min_y) × (column row.now 7 ≡ Int bounds.max_x) × (column row.now 8 ≡ Int bounds.max_y)) }
+{
+    Ok(Bounds {
+        min_x: number_at(row, 5)?,
+        min_y: number_at(row, 6)?,
+        max_x: number_at(row, 7)?,
+        max_y: number_at(row, 8)?,
+    })
 }
 
 impl FromRow for ContentsRow {
@@ -109,17 +155,18 @@ impl FromRow for ContentsRow {
         if row.column_count() != 10 {
             return Err(Fault::StoreFault);
         }
+        let bounds = bounds_of(row)?;
         Ok(ContentsRow {
+            min_x: bounds.min_x,
+            min_y: bounds.min_y,
+            max_x: bounds.max_x,
+            max_y: bounds.max_y,
+            srs_id: number_at(row, 9)?,
             table_name: text_at(row, 0)?,
             data_type: text_at(row, 1)?,
             identifier: text_at(row, 2)?,
             description: text_at(row, 3)?,
             last_change: text_at(row, 4)?,
-            min_x: number_at(row, 5)?,
-            min_y: number_at(row, 6)?,
-            max_x: number_at(row, 7)?,
-            max_y: number_at(row, 8)?,
-            srs_id: number_at(row, 9)?,
         })
     }
 }
@@ -134,12 +181,12 @@ impl FromRow for TileMatrixSetRow {
             return Err(Fault::StoreFault);
         }
         Ok(TileMatrixSetRow {
-            table_name: text_at(row, 0)?,
             srs_id: number_at(row, 1)?,
             min_x: number_at(row, 2)?,
             min_y: number_at(row, 3)?,
             max_x: number_at(row, 4)?,
             max_y: number_at(row, 5)?,
+            table_name: text_at(row, 0)?,
         })
     }
 }
@@ -154,7 +201,6 @@ impl FromRow for TileMatrixRow {
             return Err(Fault::StoreFault);
         }
         Ok(TileMatrixRow {
-            table_name: text_at(row, 0)?,
             zoom_level: number_at(row, 1)?,
             matrix_width: number_at(row, 2)?,
             matrix_height: number_at(row, 3)?,
@@ -162,6 +208,7 @@ impl FromRow for TileMatrixRow {
             tile_height: number_at(row, 5)?,
             pixel_x_size: number_at(row, 6)?,
             pixel_y_size: number_at(row, 7)?,
+            table_name: text_at(row, 0)?,
         })
     }
 }
@@ -200,9 +247,9 @@ impl FromRow for MovedRow {
             seq: number_at(row, 0)?,
             position: number_at(row, 1)?,
             kind: number_at(row, 2)?,
+            size: number_at(row, 5)?,
             base: text_at(row, 3)?,
             other: text_at(row, 4)?,
-            size: number_at(row, 5)?,
             fingerprint: text_at(row, 6)?,
         })
     }

@@ -27,44 +27,48 @@ fn has_table(schema: &Schema, form: &TableForm<'_>) -> bool
     find_table(schema, form).is_some()
 }
 
+/// Whether the schema has the tables that OGC GeoPackage 1.3 and OGC 18-000 name.
 fn are_named_placed(schema: &Schema) -> bool
     ensures { IsTrue result ↔ AreNamedPlaced schema.now }
 {
-    has_table(schema, &SPATIAL_REFERENCE_SYSTEMS)
-        && has_table(schema, &CONTENTS)
-        && has_table(schema, &TILE_MATRIX_SETS)
-        && has_table(schema, &TILE_MATRICES)
-        && has_table(schema, &RELATIONS)
+    let systems = has_table(schema, &SPATIAL_REFERENCE_SYSTEMS);
+    let contents = has_table(schema, &CONTENTS);
+    let sets = has_table(schema, &TILE_MATRIX_SETS);
+    let levels = has_table(schema, &TILE_MATRICES);
+    let relations = has_table(schema, &RELATIONS);
+    systems & contents & sets & levels & relations
 }
 
-fn are_users_placed(schema: &Schema) -> bool
-    ensures { IsTrue result ↔ AreUsersPlaced schema.now }
-{
-    has_table(schema, &TILES)
-        && has_table(schema, &MEDIA)
-        && has_table(schema, &ROWS)
-        && has_table(schema, &TILES_MEDIA)
-        && has_table(schema, &ROWS_MEDIA)
-        && has_table(schema, &ROWS_TILES)
-}
-
+/// Whether it has the user tables and the mapping tables of the first version.
 fn are_first_users_placed(schema: &Schema) -> bool
     ensures { IsTrue result ↔ AreFirstUsersPlaced schema.now }
 {
-    has_table(schema, &TILES)
-        && has_table(schema, &MEDIA)
-        && has_table(schema, &ROWS)
-        && has_table(schema, &TILES_MEDIA)
-        && has_table(schema, &ROWS_MEDIA)
+    let tiles = has_table(schema, &TILES);
+    let media = has_table(schema, &MEDIA);
+    let rows = has_table(schema, &ROWS);
+    let tiles_media = has_table(schema, &TILES_MEDIA);
+    let rows_media = has_table(schema, &ROWS_MEDIA);
+    tiles & media & rows & tiles_media & rows_media
 }
 
+/// Whether it has those of the second version.
+fn are_users_placed(schema: &Schema) -> bool
+    ensures { IsTrue result ↔ AreUsersPlaced schema.now }
+{
+    let first = are_first_users_placed(schema);
+    let rows_tiles = has_table(schema, &ROWS_TILES);
+    first & rows_tiles
+}
+
+/// Whether it has the tables of this profile.
 fn are_own_placed(schema: &Schema) -> bool
     ensures { IsTrue result ↔ AreOwnPlaced schema.now }
 {
-    has_table(schema, &HEADS)
-        && has_table(schema, &IDENTITIES)
-        && has_table(schema, &RECEIPTS)
-        && has_table(schema, &MOVED)
+    let heads = has_table(schema, &HEADS);
+    let identities = has_table(schema, &IDENTITIES);
+    let receipts = has_table(schema, &RECEIPTS);
+    let moved = has_table(schema, &MOVED);
+    heads & identities & receipts & moved
 }
 
 /// Whether the schema has all fifteen tables, and no foreign key that acts.

@@ -1,5 +1,5 @@
 -- Answers of yes or no from those of several calls.
-use Rattle.std.proofs.Common.{◌≡◌, ℕ, zero, suc, ◌+◌, ◌<◌, List, [], ◌∷◌, length, take, get_or, arith, Bool, true, false, Result, Ok, Err, IsTrue, IsErr, refl, sym, subst}
+use Rattle.std.proofs.Common.{◌≡◌, ℕ, ◌+◌, ◌<◌, List, length, take, get_or, Bool, true, false, Result, Ok, Err, IsTrue, refl, sym, subst}
 use Rattle.std.specs.Prelude.{◌&&◌, IsPermutation}
 use Rattle.std.specs.List.{AllByRecursion}
 use Rattle.std.proofs.lemmas.List.{take_more}

@@ -1,6 +1,5 @@
 //! The rows of the user tables one after the other, so that no more than one content is in memory.
-ghost use Rattle.std.specs.Prelude.{◌≡◌, true, filter};
-ghost use Rattle.std.specs.Ordering.{int_cmp, is_gt};
+ghost use Rattle.std.specs.Prelude.{◌≡◌, filter};
 ghost use Rattle.sqlite.specs.Held.{state};
 ghost use Rattle.sql_meaning.specs.Transactions.{Rests};
 ghost use Rattle.identity_register.specs.Gathered.{tile_placed, medium_placed, attributes_placed};
@@ -16,26 +15,7 @@ use package_tables::rows::{AttributeRow, MediaRow, TileRow};
 use sheet_types::command::Content;
 use sqlite::{Alter, Connection, params};
 
-/// The tile of the least number.
-fn first_tile<S: Alter>(conn: &mut Connection<S>) -> Result<Option<TileRow>, Fault>
-    requires { Rests (state S.Store conn.old) }
-    ensures { LooksUp (λ t. IsLeast (λ x. x.id) (filter (λ x. true) t.tiles)) (state S.Store conn.old) (state S.Store conn.new) result }
-{
-    first_of(conn.query_all("SELECT * FROM sheet_tiles ORDER BY id LIMIT 1", &[]))
-}
-
-/// The tile of the least number above another.
-fn tile_after<S: Alter>(conn: &mut Connection<S>, id: i64) -> Result<Option<TileRow>, Fault>
-    requires { Rests (state S.Store conn.old) }
-    ensures { LooksUp (λ t. IsLeast (λ x. x.id) (filter (λ x. is_gt (int_cmp x.id id)) t.tiles)) (state S.Store conn.old) (state S.Store conn.new) result }
-{
-    first_of(conn.query_all(
-        "SELECT * FROM sheet_tiles WHERE id > ?1 ORDER BY id LIMIT 1",
-        params![id],
-    ))
-}
-
-/// The tile of the least number after the last one.
+/// The tile of the least number after the last one; the first, where there is no last one.
 fn tile_past<S: Alter>(
     conn: &mut Connection<S>,
     last: Option<i64>,
@@ -44,31 +24,15 @@ fn tile_past<S: Alter>(
     ensures { LooksUp (λ t. IsLeast (λ x. x.id) (filter (λ x. is_past last x.id) t.tiles)) (state S.Store conn.old) (state S.Store conn.new) result }
 {
     match last {
-        None => first_tile(conn),
-        Some(id) => tile_after(conn, id),
+        None => first_of(conn.query_all("SELECT * FROM sheet_tiles ORDER BY id LIMIT 1", &[])),
+        Some(id) => first_of(conn.query_all(
+            "SELECT * FROM sheet_tiles WHERE id > ?1 ORDER BY id LIMIT 1",
+            params![id],
+        )),
     }
 }
 
-/// The medium of the least number.
-fn first_medium<S: Alter>(conn: &mut Connection<S>) -> Result<Option<MediaRow>, Fault>
-    requires { Rests (state S.Store conn.old) }
-    ensures { LooksUp (λ t. IsLeast (λ x. x.id) (filter (λ x. true) t.media)) (state S.Store conn.old) (state S.Store conn.new) result }
-{
-    first_of(conn.query_all("SELECT * FROM sheet_media ORDER BY id LIMIT 1", &[]))
-}
-
-/// The medium of the least number above another.
-fn medium_after<S: Alter>(conn: &mut Connection<S>, id: i64) -> Result<Option<MediaRow>, Fault>
-    requires { Rests (state S.Store conn.old) }
-    ensures { LooksUp (λ t. IsLeast (λ x. x.id) (filter (λ x. is_gt (int_cmp x.id id)) t.media)) (state S.Store conn.old) (state S.Store conn.new) result }
-{
-    first_of(conn.query_all(
-        "SELECT * FROM sheet_media WHERE id > ?1 ORDER BY id LIMIT 1",
-        params![id],
-    ))
-}
-
-/// The medium of the least number after the last one.
+/// The medium of the least number after the last one; the first, where there is no last one.
 fn medium_past<S: Alter>(
     conn: &mut Connection<S>,
     last: Option<i64>,
@@ -77,34 +41,15 @@ fn medium_past<S: Alter>(
     ensures { LooksUp (λ t. IsLeast (λ x. x.id) (filter (λ x. is_past last x.id) t.media)) (state S.Store conn.old) (state S.Store conn.new) result }
 {
     match last {
-        None => first_medium(conn),
-        Some(id) => medium_after(conn, id),
+        None => first_of(conn.query_all("SELECT * FROM sheet_media ORDER BY id LIMIT 1", &[])),
+        Some(id) => first_of(conn.query_all(
+            "SELECT * FROM sheet_media WHERE id > ?1 ORDER BY id LIMIT 1",
+            params![id],
+        )),
     }
 }
 
-/// The attributes row of the least number.
-fn first_attributes<S: Alter>(conn: &mut Connection<S>) -> Result<Option<AttributeRow>, Fault>
-    requires { Rests (state S.Store conn.old) }
-    ensures { LooksUp (λ t. IsLeast (λ x. x.id) (filter (λ x. true) t.rows)) (state S.Store conn.old) (state S.Store conn.new) result }
-{
-    first_of(conn.query_all("SELECT * FROM sheet_rows ORDER BY id LIMIT 1", &[]))
-}
-
-/// The attributes row of the least number above another.
-fn attributes_after<S: Alter>(
-    conn: &mut Connection<S>,
-    id: i64,
-) -> Result<Option<AttributeRow>, Fault>
-    requires { Rests (state S.Store conn.old) }
-    ensures { LooksUp (λ t. IsLeast (λ x. x.id) (filter (λ x. is_gt (int_cmp x.id id)) t.rows)) (state S.Store conn.old) (state S.Store conn.new) result }
-{
-    first_of(conn.query_all(
-        "SELECT * FROM sheet_rows WHERE id > ?1 ORDER BY id LIMIT 1",
-        params![id],
-    ))
-}
-
-/// The attributes row of the least number after the last one.
+/// The attributes row of the least number after the last one; the first, where there is no last one.
 fn attributes_past<S: Alter>(
     conn: &mut Connection<S>,
     last: Option<i64>,
@@ -113,8 +58,11 @@ fn attributes_past<S: Alter>(
     ensures { LooksUp (λ t. IsLeast (λ x. x.id) (filter (λ x. is_past last x.id) t.rows)) (state S.Store conn.old) (state S.Store conn.new) result }
 {
     match last {
-        None => first_attributes(conn),
-        Some(id) => attributes_after(conn, id),
+        None => first_of(conn.query_all("SELECT * FROM sheet_rows ORDER BY id LIMIT 1", &[])),
+        Some(id) => first_of(conn.query_all(
+            "SELECT * FROM sheet_rows WHERE id > ?1 ORDER BY id LIMIT 1",
+            params![id],
+        )),
     }
 }
 

@@ -1,13 +1,12 @@
 -- Lists in order: cut where a number ends, and two that have the same elements.
-use Rattle.std.proofs.Common.{◌≡◌, ◌∙◌, ℕ, ℤ, ◌+◌, ◌≤◌, ◌≤ℤ◌, ◌<ℤ◌, List, [], ◌∷◌, ◌++◌, Bool, true, false, refl, sym, ap, subst, arith}
-use Rattle.std.specs.Prelude.{filter, count_by, cond, IsPermutation, sum_by}
+use Rattle.std.proofs.Common.{◌≡◌, ℤ, ◌≤◌, ◌≤ℤ◌, List, [], ◌∷◌, ◌++◌, Bool, true, false, refl, sym, ap, subst, arith}
+use Rattle.std.specs.Prelude.{filter, count_by, cond, IsPermutation}
 use Rattle.std.specs.List.{AllByRecursion}
 use Rattle.std.specs.Ordering.{int_eq}
 use Rattle.std.specs.Cmp.{signed_Decides}
 use Rattle.std.proofs.lemmas.Int.{ints}
 use Rattle.std.proofs.lemmas.List.Sorted.{sum_by-IsPermutation}
 use Rattle.sqlite_trees.specs.Tree.{IsAscending}
-use Rattle.sheet_types.proofs.Every.{All-weaker}
 use Rattle.sheet_types.proofs.Sums.{count-cons}
 
 pub ascending-right : {A : Type 0} (R : A → A → Type 0) (xs ys : List A) → IsAscending R (xs ++ ys) → IsAscending R ys

@@ -1,5 +1,5 @@
 -- What a row says, where it is in its ranges.
-use Rattle.std.proofs.Common.{◌≡◌, ◌∙◌, ℕ, zero, suc, ℤ, pos, negsuc, ◌<◌, ◌≤◌, ◌≤ℤ◌, ◌*◌, length, get_or, List, [], Option, Some, None, Bool, true, false, refl, sym, ap, subst, inl, inr, ⊎_elim, is_some, FitsSigned, w64, rules, arith, true≢false}
+use Rattle.std.proofs.Common.{◌≡◌, ◌∙◌, ℕ, zero, suc, ℤ, pos, negsuc, ◌<◌, ◌≤◌, ◌≤ℤ◌, ◌*◌, length, get_or, List, [], Option, Some, None, Bool, true, false, refl, sym, ap, subst, inl, inr, is_some, FitsSigned, w64, rules, arith, true≢false}
 use Rattle.std.specs.Prelude.{int_le, ◌==◌, nat_lt}
 use Rattle.std.specs.List.{list_all}
 use Rattle.std.specs.Option.{option_map_or}

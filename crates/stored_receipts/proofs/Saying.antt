@@ -1,12 +1,10 @@
 -- Tables whose rows are in their ranges say receipts.
-use Rattle.std.proofs.Common.{◌≡◌, ◌∙◌, ◌⊎◌, ℕ, suc, zero, ℤ, pos, negsuc, ◌+◌, ◌-◌, ◌<◌, ◌≤◌, ◌≤ℤ◌, ◌<ℤ◌, List, [], ◌∷◌, ◌++◌, map, length, get_or, Bool, true, false, refl, sym, ap, subst, inl, inr, Result, Ok, Err, Option, Some, None, IfOk, IfSome, IfNone, IsTrue, is_some, ◌↔◌, arith}
+use Rattle.std.proofs.Common.{◌≡◌, ◌∙◌, ℕ, suc, zero, ℤ, pos, negsuc, ◌+◌, ◌-◌, ◌<◌, ◌≤◌, ◌≤ℤ◌, ◌<ℤ◌, List, [], ◌∷◌, ◌++◌, map, length, get_or, Bool, true, false, refl, sym, ap, subst, inl, inr, Result, Ok, Err, Option, Some, None, IfOk, IfSome, IfNone, IsTrue, is_some, ◌↔◌, arith}
 use Rattle.std.specs.Prelude.{flat_map, IsPermutation, bytes_eq, ◌==◌, MatchOption}
 use Rattle.std.specs.List.{AllByRecursion, enumerate_from, list_any, IsDistinct}
 use Rattle.std.specs.Ordering.{int_cmp, int_eq, on, is_lt, ordering_then, nat_cmp}
-use Rattle.std.specs.Cmp.Lexicographic.{slice_cmp}
-use Rattle.std.specs.declared.cmp.Ordering.{Ordering}
 use Rattle.std.specs.declared.cmp.Ordering.TheVariants.{Less, Equal, Greater}
-use Rattle.std.proofs.lemmas.Bool.{and_parts, false≢true, true≢false, ltb-true, lt-ltb}
+use Rattle.std.proofs.lemmas.Bool.{false≢true, true≢false, ltb-true, lt-ltb}
 use Rattle.std.proofs.lemmas.Cmp.{int_ranked}
 use borrow.Author.Tests.{eqb-true}
 use Rattle.std.proofs.lemmas.Int.{ints}
@@ -24,21 +22,21 @@ use Rattle.sheet_types.specs.World.{receipt_key}
 use Rattle.sheet_types.specs.declared.receipt.Moved.{Moved}
 use Rattle.sheet_types.specs.declared.receipt.Receipt.{Receipt}
 use Rattle.sheet_types.proofs.Distinct.{counts_distinct}
-use Rattle.sheet_types.proofs.Every.{All-weaker, All-append, All-of_map, All-map}
+use Rattle.sheet_types.proofs.Every.{All-weaker, All-append, All-of_map}
 use Rattle.sheet_types.proofs.Order.{counts_arranged, before_numbers}
-use Rattle.sheet_types.proofs.Same.{In, any_at, any_in, same_list}
+use Rattle.sheet_types.proofs.Same.{any_at, any_in, same_list}
 use Rattle.package_tables.proofs.Reading.{arranged_permutation}
 use Rattle.package_tables.specs.Calls.{Answers}
-use Rattle.package_tables.specs.Package.{Tables, tables_of, AreFormed}
+use Rattle.package_tables.specs.Package.{Tables, tables_of}
 use Rattle.package_tables.specs.Shape.{stored_rows}
-use Rattle.package_tables.specs.Shapes.{receipt_shape, moved_shape, number_key, pair_key}
+use Rattle.package_tables.specs.Shapes.{receipt_shape, moved_shape, number_key}
 use Rattle.package_tables.specs.declared.rows.MovedRow.{MovedRow}
 use Rattle.package_tables.specs.declared.rows.ReceiptRow.{ReceiptRow}
-use Rattle.identity_register.specs.Reads.{IsFitReceipt, SaysReceipts, receipt_row, moved_row, moved_rows}
+use Rattle.identity_register.specs.Reads.{receipt_row, moved_row, moved_rows}
 use Rattle.identity_register.proofs.Finding.{moved, in_arranged}
 use Rattle.identity_register.proofs.OnePackage.{to_arranged, distinct_arranged}
-use Rattle.stored_receipts.specs.Ranges.{IsMovedInRange, IsReceiptInRange, AreReceiptsInRange, HavePlaces, moved_under, places, is_seq}
-use Rattle.stored_receipts.specs.Read.{IsEarlier, InTurn, AreReceipts, AreReadAs, AreSaid}
+use Rattle.stored_receipts.specs.Ranges.{IsMovedInRange, IsReceiptInRange, AreReceiptsInRange, HavePlaces, moved_under, places}
+use Rattle.stored_receipts.specs.Read.{IsEarlier, InTurn, AreReadAs, AreSaid}
 use Rattle.stored_receipts.proofs.Ranges.{seq_counted}
 
 -- ---- arranged lists

@@ -1,19 +1,19 @@
 -- Why a walk over all rows in order finds the receipts that they say, where they are in their ranges.
-use Rattle.std.proofs.Common.{◌≡◌, ◌∙◌, ◌⊎◌, ℕ, suc, zero, ℤ, pos, ◌+◌, ◌<◌, ◌≤◌, ◌≤ℤ◌, ◌<ℤ◌, List, [], ◌∷◌, ◌++◌, map, length, take, drop, get_or, Option, Some, None, IfSome, IfNone, Bool, true, false, refl, sym, ap, subst, inl, inr, arith, append_assoc}
-use Rattle.std.specs.Prelude.{filter, flat_map, cond, not, IsPermutation, ◌||◌, ◌==◌}
+use Rattle.std.proofs.Common.{◌≡◌, ◌∙◌, ℕ, suc, zero, ℤ, pos, ◌+◌, ◌<◌, ◌≤◌, ◌≤ℤ◌, ◌<ℤ◌, List, [], ◌∷◌, ◌++◌, map, length, take, drop, get_or, Option, Some, None, IfSome, IfNone, true, false, refl, sym, ap, subst, inl, inr, arith, append_assoc}
+use Rattle.std.specs.Prelude.{filter, flat_map, cond, not, ◌||◌, ◌==◌}
 use Rattle.std.specs.List.{AllByRecursion, enumerate_from, list_any}
 use Rattle.std.specs.Ordering.{int_eq}
 use Rattle.std.proofs.lemmas.Bool.{false≢true, true≢false}
 use borrow.Author.Tests.{eqb-true}
 use Rattle.std.proofs.lemmas.Int.{ints}
-use Rattle.std.proofs.lemmas.List.{take_more, take_all, length-take, length_push, map-append, length-map}
+use Rattle.std.proofs.lemmas.List.{take_more, take_all, length-take, length_push, map-append}
 use Rattle.std.proofs.lemmas.List.Concat.{flat_map-append}
 use Rattle.sqlite_trees.specs.Tree.{IsAscending}
-use Rattle.sqlite_trees.proofs.ListLemmas.{filter_all, filter_none, filter-filter, all-filter, ascending-filter, IsPermutation-same, IsPermutation-filter}
+use Rattle.sqlite_trees.proofs.ListLemmas.{filter_all, filter_none, filter-filter, all-filter, ascending-filter, IsPermutation-same}
 use Rattle.sheet_types.specs.declared.receipt.Moved.{Moved}
 use Rattle.sheet_types.specs.declared.receipt.Receipt.{Receipt}
 use Rattle.sheet_types.proofs.Basics.{or-true}
-use Rattle.sheet_types.proofs.Every.{All-weaker, All-both, All-append, All-snoc, All-taken, All-right}
+use Rattle.sheet_types.proofs.Every.{All-weaker, All-both, All-append, All-snoc, All-taken}
 use Rattle.package_tables.specs.declared.rows.MovedRow.{MovedRow}
 use Rattle.package_tables.specs.declared.rows.ReceiptRow.{ReceiptRow}
 use Rattle.identity_register.specs.Reads.{IsFitReceipt, is_fit_moved, receipt_row, moved_rows}

@@ -5,7 +5,7 @@ ghost use Rattle.std.specs.Option.{option_map_or};
 ghost use Rattle.hex.specs.Hex.{encode_lower};
 ghost use Rattle.sheet_types.specs.Lines.{IsUuid, is_bytes};
 ghost use Rattle.sheet_types.specs.Reading.{optional_uuid_text};
-ghost use Rattle.sheet_types.specs.Texts.{uuid_text};
+ghost use Rattle.sheet_types.specs.Texts.{is_moment, uuid_text};
 ghost use Rattle.identity_register.specs.Reads.{IsFitReceipt, is_fit_end, is_fit_moved, receipt_row};
 ghost use Rattle.stored_receipts.specs.Ranges.{AreCounts, IsUuidText, IsEndText, IsDigestText, IsReceiptInRange, IsMovedInRange, is_item_number, is_seq};
 ghost use Rattle.stored_receipts.specs.Read.{HasSums, IsThingOf, has_parts};
@@ -171,14 +171,28 @@ fn sums_of(row: &ReceiptRow) -> Option<Sums>
     })
 }
 
-/// The receipt of a row, which moved these things; `None` where the row is out of its ranges.
-pub(crate) fn receipt_of(row: ReceiptRow, items: MovedList) -> Option<Receipt>
-    requires { AllByRecursion (λ m. is_fit_moved m ≡ true) items }
-    ensures row { IfSome result (λ receipt. receipt_row receipt ≡ row) }
-    ensures fit { IfSome result IsFitReceipt }
-    ensures items { IfSome result (λ receipt. receipt.items ≡ items) }
-    ensures range { IfSome result (λ _. IsReceiptInRange row) }
-    ensures none { IfNone result (IsReceiptInRange row → ⊥) }
+/// The number of a receipt, its request and its ends.
+#[derive(Clone, Copy)]
+struct Named {
+    seq: u64,
+    request: Uuid,
+    source: Option<Uuid>,
+    target: Option<Uuid>,
+}
+
+/// What a row names; `None` where its number, its moment or a name is out of its range.
+// What is read of a row stands in values that need no drop, so that the row and its things are alive at two exits alone.
+fn named_by(row: &ReceiptRow) -> Option<Named>
+    ensures seq { IfSome result (λ named. row.now.seq ≡ pos named.seq) }
+    ensures request { IfSome result (λ named. row.now.request ≡ uuid_text named.request) }
+    ensures source { IfSome result (λ named. row.now.source ≡ optional_uuid_text named.source) }
+    ensures target { IfSome result (λ named. row.now.target ≡ optional_uuid_text named.target) }
+    ensures request_fit { IfSome result (λ named. IsUuid named.request) }
+    ensures source_fit { IfSome result (λ named. is_fit_end named.source ≡ true) }
+    ensures target_fit { IfSome result (λ named. is_fit_end named.target ≡ true) }
+    ensures low { IfSome result (λ _. is_seq row.now.seq ≡ true) }
+    ensures at { IfSome result (λ _. is_moment row.now.at ≡ true) }
+    ensures none { IfNone result (IsReceiptInRange row.now → ⊥) }
 {
     if !is_seq(row.seq) || !is_moment(row.at.as_str()) {
         return None;
@@ -195,16 +209,36 @@ pub(crate) fn receipt_of(row: ReceiptRow, items: MovedList) -> Option<Receipt>
     let Some(target) = end_of(row.target.as_str()) else {
         return None;
     };
+    Some(Named {
+        seq,
+        request,
+        source,
+        target,
+    })
+}
+
+/// The receipt of a row, which moved these things; `None` where the row is out of its ranges.
+pub(crate) fn receipt_of(row: ReceiptRow, items: MovedList) -> Option<Receipt>
+    requires { AllByRecursion (λ m. is_fit_moved m ≡ true) items }
+    ensures row { IfSome result (λ receipt. receipt_row receipt ≡ row) }
+    ensures fit { IfSome result IsFitReceipt }
+    ensures items { IfSome result (λ receipt. receipt.items ≡ items) }
+    ensures range { IfSome result (λ _. IsReceiptInRange row) }
+    ensures none { IfNone result (IsReceiptInRange row → ⊥) }
+{
+    let Some(named) = named_by(&row) else {
+        return None;
+    };
     let Some(sums) = sums_of(&row) else {
         return None;
     };
     Some(Receipt {
-        seq,
-        request,
+        seq: named.seq,
+        request: named.request,
         at: row.at,
         line: row.line,
-        source,
-        target,
+        source: named.source,
+        target: named.target,
         items,
         tiles: sums.tiles,
         media: sums.media,

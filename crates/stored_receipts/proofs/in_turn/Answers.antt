@@ -1,4 +1,4 @@
-use Rattle.std.proofs.Common.{◌≡◌, ℤ, rules}
+use Rattle.std.proofs.Common.{ℤ, rules}
 use Rattle.std.proofs.lemmas.List.Sorted.{answers_always}
 use Rattle.package_tables.specs.declared.rows.MovedRow.{MovedRow}
 use Rattle.stored_receipts.proofs.Saying.{turned}

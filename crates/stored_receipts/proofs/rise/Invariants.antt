@@ -1,4 +1,3 @@
-use Rattle.std.proofs.Common.{take}
 use Rattle.stored_receipts.proofs.Saying.{Risen}
 use Rattle.stored_receipts.proofs.rise.Given as goal
 

@@ -21,6 +21,12 @@ returns g c =
     (λ db told formed. record { systems = told.0.0.0.0 formed.spatial_ref_sys; listed = told.0.0.0.1 formed.contents; sets = told.0.0.1 formed.tile_matrix_set; levels = told.0.1 formed.tile_matrix; related = told.1 formed.relations })
 
 -- a look that failed leaves the store as it was too
+pub returns-in_err-systems : goal.returns-in_err-systems
+returns-in_err-systems g c = fails c.from_residual.result c.from_residual.ensures.0 (looks_stays c.read_systems.ensures)
+
+pub returns-in_err-listed : goal.returns-in_err-listed
+returns-in_err-listed g c = fails c.from_residual-in_err-listed.result c.from_residual-in_err-listed.ensures.0 (stays_then (looks_stays c.read_systems.ensures) (looks_stays c.read_contents.ensures))
+
 pub returns-in_err-sets : goal.returns-in_err-sets
 returns-in_err-sets g c = fails _ c.from_residual-in_err-sets.ensures.0 (stays_then (stays_then (looks_stays c.read_systems.ensures) (looks_stays c.read_contents.ensures)) (looks_stays c.read_sets.ensures))
 

@@ -18,6 +18,12 @@ returns g c =
     (λ db told formed. record { systems = told.0.0.0.0 formed; listed = told.0.0.0.1 formed; sets = told.0.0.1 formed; levels = told.0.1 formed; related = told.1 formed })
 
 -- a look that failed leaves the store as it was too
+pub returns-in_err-systems : goal.returns-in_err-systems
+returns-in_err-systems g c = fails c.from_residual.result c.from_residual.ensures.0 (looks_stays c.all_spatial_ref_sys.ensures)
+
+pub returns-in_err-listed : goal.returns-in_err-listed
+returns-in_err-listed g c = fails c.from_residual-in_err-listed.result c.from_residual-in_err-listed.ensures.0 (stays_then (looks_stays c.all_spatial_ref_sys.ensures) (looks_stays c.all_contents.ensures))
+
 pub returns-in_err-sets : goal.returns-in_err-sets
 returns-in_err-sets g c = fails _ c.from_residual-in_err-sets.ensures.0 (stays_then (stays_then (looks_stays c.all_spatial_ref_sys.ensures) (looks_stays c.all_contents.ensures)) (looks_stays c.all_tile_matrix_sets.ensures))
 

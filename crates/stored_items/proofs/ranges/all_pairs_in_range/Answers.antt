@@ -1,7 +1,8 @@
 -- Yes where each part says yes; no where one says no.
 use Rattle.std.proofs.Common.{◌∙◌, Ok, ap}
+use Rattle.sql_meaning.proofs.Staying.{looks_stays, stays_then}
 use Rattle.package_tables.specs.Package.{Tables}
-use Rattle.identity_register.proofs.Looking.{looked, looked_then}
+use Rattle.identity_register.proofs.Looking.{looked, looked_then, fails}
 use Rattle.stored_items.specs.Answers.{Decides}
 use Rattle.stored_items.proofs.Deciding.{says_no, says_no_then, says_last}
 use Rattle.sheet_types.specs.declared.command.Mapping.TheVariants.{TilesMedia, RowsMedia, RowsTiles}
@@ -16,3 +17,10 @@ returns-then-not-branch-2 g c = says_no_then {P = λ (t : Tables). ArePairsIn Ro
 
 pub returns : goal.returns
 returns g c = says_last {P = λ (t : Tables). ArePairsIn RowsTiles t} {Q = λ (t : Tables). ArePairsInRange t} c.pairs_in_range-3.result (looked_then (λ t. Decides (ArePairsIn RowsMedia t)) (looked (λ t. Decides (ArePairsIn TilesMedia t)) (c.in_ok-pairs_in_range.was ∙ ap Ok c.if-not-branch.false) c.pairs_in_range.ensures) (c.in_ok-pairs_in_range-2.was ∙ ap Ok c.if-not-branch-2.false) c.pairs_in_range-2.ensures) c.pairs_in_range-3.ensures (λ t h p. record { tiles_media = h.0; rows_media = h.1; rows_tiles = p }) (λ t q. q.rows_tiles)
+
+-- a look that failed leaves the store as it was too
+pub returns-in_err-pairs_in_range : goal.returns-in_err-pairs_in_range
+returns-in_err-pairs_in_range g c = fails c.from_residual.result c.from_residual.ensures.0 (looks_stays c.pairs_in_range.ensures)
+
+pub returns-in_err-pairs_in_range-2 : goal.returns-in_err-pairs_in_range-2
+returns-in_err-pairs_in_range-2 g c = fails c.from_residual-in_err-pairs_in_range-2.result c.from_residual-in_err-pairs_in_range-2.ensures.0 (stays_then (looks_stays c.pairs_in_range.ensures) (looks_stays c.pairs_in_range-2.ensures))

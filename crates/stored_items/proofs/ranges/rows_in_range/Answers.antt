@@ -1,8 +1,10 @@
 -- One row more is in its ranges.
 use Rattle.std.proofs.Common.{◌≡◌, ◌∙◌, Ok, true, false, true≢false, sym, ap, to_z-of_z, rules, FitsSigned, w64}
+use Rattle.sql_meaning.proofs.Staying.{looks_stays, stays_then}
 use Rattle.identity_register.proofs.Reaching.{stays_itself, goes_from, goes_on}
 use Rattle.stored_items.specs.Answers.{Decides}
 use Rattle.stored_items.specs.Walks.{IsNextRow, AreRowsInRange, placed_in, is_placed_in_range}
+use Rattle.identity_register.proofs.Looking.{fails}
 use Rattle.stored_items.proofs.Deciding.{goes_tell, with_numbers, opened}
 use Rattle.stored_items.proofs.Ranging.{InRange, rows_in, in_rows}
 use Rattle.stored_items.proofs.Walking.{none_met, one_met, all_met, not_all}
@@ -39,3 +41,7 @@ loop-preserved g c =
     let inside : true ≡ is_placed_in_range f c.in-Some.row = c.if-not-is_row_in_range.ensures in
     simp (to_z-of_z, number) (goes_on (λ t x. IsNextRow table c.loop.last t x) c.loop.invariant (c.in_ok-next_row.was ∙ ap Ok c.in-Some.is) c.next_row.ensures
     (λ t sofar next numbers. one_met (InRange f) c.loop.last (placed_in table t) c.in-Some.row (numbers table) next (sym inside) (sofar numbers)))
+
+-- a look that failed leaves the store as it was too
+pub returns-in_err-next_row : goal.returns-in_err-next_row
+returns-in_err-next_row g c = fails c.from_residual.result c.from_residual.ensures.0 (stays_then c.loop.invariant.stays (looks_stays c.next_row.ensures))

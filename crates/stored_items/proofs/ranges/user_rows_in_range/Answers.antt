@@ -1,7 +1,8 @@
 -- Yes where each part says yes; no where one says no.
 use Rattle.std.proofs.Common.{◌∙◌, Ok, ap}
+use Rattle.sql_meaning.proofs.Staying.{looks_stays, stays_then}
 use Rattle.package_tables.specs.Package.{Tables}
-use Rattle.identity_register.proofs.Looking.{looked, looked_then}
+use Rattle.identity_register.proofs.Looking.{looked, looked_then, fails}
 use Rattle.stored_items.specs.Answers.{Decides}
 use Rattle.stored_items.proofs.Deciding.{says_no, says_no_then, says_last}
 use Rattle.stored_items.specs.Walks.{AreRowsInRange, AreUserRowsInRange}
@@ -16,3 +17,10 @@ returns-then-not-branch-2 g c = says_no_then {P = λ (t : Tables). AreRowsInRang
 
 pub returns : goal.returns
 returns g c = says_last {P = λ (t : Tables). AreRowsInRange c.args.frame.now RowTable t} {Q = λ (t : Tables). AreUserRowsInRange c.args.frame.now t} c.rows_in_range-3.result (looked_then (λ t. Decides (AreRowsInRange c.args.frame.now MediaTable t)) (looked (λ t. Decides (AreRowsInRange c.args.frame.now TileTable t)) (c.in_ok-rows_in_range.was ∙ ap Ok c.if-not-branch.false) c.rows_in_range.ensures) (c.in_ok-rows_in_range-2.was ∙ ap Ok c.if-not-branch-2.false) c.rows_in_range-2.ensures) c.rows_in_range-3.ensures (λ t h p. record { tiles = h.0; media = h.1; rows = p }) (λ t q. q.rows)
+
+-- a look that failed leaves the store as it was too
+pub returns-in_err-rows_in_range : goal.returns-in_err-rows_in_range
+returns-in_err-rows_in_range g c = fails c.from_residual.result c.from_residual.ensures.0 (looks_stays c.rows_in_range.ensures)
+
+pub returns-in_err-rows_in_range-2 : goal.returns-in_err-rows_in_range-2
+returns-in_err-rows_in_range-2 g c = fails c.from_residual-in_err-rows_in_range-2.result c.from_residual-in_err-rows_in_range-2.ensures.0 (stays_then (looks_stays c.rows_in_range.ensures) (looks_stays c.rows_in_range-2.ensures))

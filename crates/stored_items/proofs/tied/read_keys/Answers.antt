@@ -40,3 +40,10 @@ returns g c =
     let second = looked_then (λ t x. ArePairs RowsMedia t x.items) first c.in_ok-rows_media.was c.all_pairs-2.ensures in
     tells AreKeysOf (looked_then (λ t x. ArePairs RowsTiles t x.items) second c.in_ok-rows_tiles.was c.all_pairs-3.ensures)
     (λ t h. record { names = h.0.0.0.0; rows = h.0.0.0.1; tiles_media = h.0.0.1.0; rows_media = h.0.1.0; rows_tiles = h.1.0 })
+
+-- a look that failed leaves the store as it was too
+pub returns-in_err-names : goal.returns-in_err-names
+returns-in_err-names g c = fails c.from_residual.result c.from_residual.ensures.0 (looks_stays c.read_names.ensures)
+
+pub returns-in_err-rows : goal.returns-in_err-rows
+returns-in_err-rows g c = fails c.from_residual-in_err-rows.result c.from_residual-in_err-rows.ensures.0 (stays_then (looks_stays c.read_names.ensures) (looks_stays c.read_rows.ensures))

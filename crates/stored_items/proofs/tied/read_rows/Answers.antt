@@ -29,3 +29,10 @@ returns g c =
     (λ t keys h is.
     let all : (map {B = ℤ × ℤ} (λ i. (pos 1, i)) tiles ++ map {B = ℤ × ℤ} (λ i. (pos 2, i)) media) ++ map {B = ℤ × ℤ} (λ i. (pos 3, i)) rows ≡ row_keys t = λ n. (with_kind (pos 1) (λ r. r.id) t.tiles tiles h.0.0 n ++ with_kind (pos 2) (λ r. r.id) t.media media h.0.1 n) ++ with_kind (pos 3) (λ r. r.id) t.rows rows h.1 n in
     subst (IsPermutation (row_keys t)) (sym (is ∙ all)) (IsPermutation-refl (row_keys t)))
+
+-- a look that failed leaves the store as it was too
+pub returns-in_err-tiles : goal.returns-in_err-tiles
+returns-in_err-tiles g c = fails c.from_residual.result c.from_residual.ensures.0 (looks_stays c.tile_ids.ensures)
+
+pub returns-in_err-media : goal.returns-in_err-media
+returns-in_err-media g c = fails c.from_residual-in_err-media.result c.from_residual-in_err-media.ensures.0 (stays_then (looks_stays c.tile_ids.ensures) (looks_stays c.medium_ids.ensures))

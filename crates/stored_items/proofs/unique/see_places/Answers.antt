@@ -43,3 +43,7 @@ loop-preserved g c =
     simp (to_z-of_z, number) (goes_on (λ t x. IsNextRow TileTable c.loop.last t x) c.loop.invariant (c.in_ok-next_row.was ∙ ap Ok c.in-Some.is) c.next_row.ensures
     (λ t sofar next numbers. one_met (IsNoted new) c.loop.last (placed_in TileTable t) tile (numbers TileTable) next (subst (In (spot_at tile)) (sym more) (noted_now old tile))
     (All-weaker (λ x. is_past c.loop.last x.number ≡ false → IsNoted old x) (λ x. is_past c.loop.last x.number ≡ false → IsNoted new x) (λ x h low. subst (In (spot_at x)) (sym more) (still_noted old (spot_at tile) x (h low))) (placed_in TileTable t) (sofar numbers))))
+
+-- a look that failed leaves the store as it was too
+pub returns-in_err-next_row : goal.returns-in_err-next_row
+returns-in_err-next_row g c = fails c.from_residual.result c.from_residual.ensures.0 (stays_then c.loop.invariant.stays (looks_stays c.next_row.ensures))

@@ -1,16 +1,17 @@
-use Rattle.std.proofs.Common.{sym, subst, FitsSigned, w64, to_z-of_z, rules}
-use Rattle.stored_receipts.specs.Ranges.{IsUuidText, IsEndText}
-use Rattle.stored_receipts.proofs.Ranges.{seq_counted}
+-- Each part of the row was read.
+use Rattle.stored_receipts.proofs.Ranges.{end_text}
 use Rattle.stored_receipts.proofs.rows.receipt_of.Goals as goal
 
-pub returns-in_default-clause-none : goal.returns-in_default-clause-none
-returns-in_default-clause-none c = let fits : FitsSigned w64 c.args.row.seq = search rules in λ r. c.in_default.ensures.none (simp (to_z-of_z, fits) (seq_counted c.args.row.seq r.seq))
-
-pub returns-in_default-uuid_of-clause-none : goal.returns-in_default-uuid_of-clause-none
-returns-in_default-uuid_of-clause-none c = λ r. c.in_default-uuid_of.ensures.none (subst IsUuidText (sym c.as_str-2.ensures) r.request)
-
-pub returns-in_default-end_of-clause-none : goal.returns-in_default-end_of-clause-none
-returns-in_default-end_of-clause-none c = λ r. c.in_default-end_of.ensures.none (subst IsEndText (sym c.as_str-3.ensures) r.source)
-
-pub returns-in_default-end_of-2-clause-none : goal.returns-in_default-end_of-2-clause-none
-returns-in_default-end_of-2-clause-none c = λ r. c.in_default-end_of-2.ensures.none (subst IsEndText (sym c.as_str-4.ensures) r.target)
+pub returns-clause-range : goal.returns-clause-range
+returns-clause-range c =
+    let row = c.args.row in
+    let named = c.in-Some.named in
+    let is = c.in-Some.ensures in
+    record {
+      seq = is.low;
+      request = record { id = named.request; uuid = is.request_fit; is = is.request };
+      at = is.at;
+      source = end_text row.source named.source is.source is.source_fit;
+      target = end_text row.target named.target is.target is.target_fit;
+      counts = c.in-Some-sums_of.ensures.some.range;
+    }

@@ -1,8 +1,8 @@
-use Rattle.std.proofs.Common.{◌≡◌, ◌∙◌, ◌+◌, sym, ap, subst, take, length, to_z-of_z, true≢false, IsTrue}
+use Rattle.std.proofs.Common.{◌∙◌, ◌+◌, sym, ap, subst, take, length, to_z-of_z, true≢false, IsTrue}
 use Rattle.stored_receipts.specs.Ranges.{IsUuidText, IsEndText}
-use Rattle.stored_receipts.specs.Read.{AreThingsOf, IsThingOf}
+use Rattle.stored_receipts.specs.Read.{AreThingsOf}
 use Rattle.stored_receipts.proofs.Ranges.{moved_end}
-use Rattle.stored_receipts.proofs.Walking.{no_things, one_thing, all_things, standing, pushed}
+use Rattle.stored_receipts.proofs.Walking.{one_thing, all_things, standing, pushed}
 use Rattle.stored_receipts.proofs.walk.things_of.Goals as goal
 
 pub returns-then-not-stands_at-clause-none : goal.returns-then-not-stands_at-clause-none
