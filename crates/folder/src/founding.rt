@@ -5,6 +5,7 @@ ghost use Rattle.sqlite.specs.State.{HasCleanDisk};
 ghost use Rattle.sql_meaning.specs.Blank.{IsBlank, no_schema};
 ghost use Rattle.folder.specs.Names.{unfinished_name};
 
+use crate::closing::close_all;
 use crate::fault::{FolderFault, fault_of};
 use crate::names::{file_name, path_of};
 use crate::removing::remove_files;
@@ -47,12 +48,10 @@ pub fn remove_unfinished(rt: &HostRuntime, folder: &str, package: Uuid) -> Resul
 
 /// Copies each log into its database, and closes both. A log that cannot be copied is a fault.
 fn close_whole(package: Uuid, conns: Vec<Connection<FolderStore>>) -> Result<(), FolderFault> {
-    for conn in conns {
-        if let Err(error) = conn.close() {
-            return Err(fault_of(package, error));
-        }
+    match close_all(conns) {
+        Ok(()) => Ok(()),
+        Err(error) => Err(fault_of(package, error)),
     }
-    Ok(())
 }
 
 /// Has the system write down which names the files of a folder have.
