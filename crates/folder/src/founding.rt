@@ -62,6 +62,14 @@ fn sync_names(rt: &HostRuntime, folder: &str) -> Result<(), FolderFault> {
     Ok(())
 }
 
+/// Gives a file of a folder another name.
+fn rename(rt: &HostRuntime, folder: &str, from: &str, to: &str) -> Result<(), FolderFault> {
+    let from = path_of(rt.alloc(), folder, from)?;
+    let to = path_of(rt.alloc(), folder, to)?;
+    fs::rename(rt, from.as_str(), to.as_str())?;
+    Ok(())
+}
+
 /// Closes the store of a package, which is whole now, and gives its file the package's name: all at once, so that whoever looks finds the
 /// package or none. What stands beside the file, an empty log, goes.
 ///
@@ -76,10 +84,8 @@ pub fn finish(
 ) -> Result<(), FolderFault> {
     close_whole(package, conns)?;
     let unfinished = unfinished_name(rt.alloc(), package)?;
-    let from = path_of(rt.alloc(), folder, unfinished.as_str())?;
     let name = file_name(rt.alloc(), package)?;
-    let to = path_of(rt.alloc(), folder, name.as_str())?;
-    fs::rename(rt, from.as_str(), to.as_str())?;
+    rename(rt, folder, unfinished.as_str(), name.as_str())?;
     sync_names(rt, folder)?;
     remove_files(rt, folder, unfinished.as_str())
 }
