@@ -1,4 +1,4 @@
--- A connection over files that was just opened shows each table in the order of its rowids: the pages of its last commit are those of a sound file.
+-- A connection over files that was just opened holds what it shows, each table in the order of its rowids: the pages of its last commit are those of a sound file.
 use Rattle.std.proofs.Common.{◌≡◌, ◌∙◌, refl, sym, ap, subst, true, false, List, IsTrue}
 use Rattle.std.proofs.Math.Logic.{∥∥₁_elim}
 use Rattle.sqlite_disk.specs.declared.Disk.{Ghosts}
@@ -14,12 +14,15 @@ use Rattle.sqlite_store.specs.FileStore as store
 use Rattle.sqlite_store.specs.Saved.{kept_schema}
 use Rattle.sqlite_store.specs.Listing.{file_trees, all_shapes, all_reals}
 use Rattle.sqlite_store.specs.Listed.{catalog_rows, is_listed}
+use Rattle.sqlite_store.specs.Laws.{settled_at, shut_if_dirty_at}
 use Rattle.sqlite_store.proofs.ListingLemmas.{all_ordered}
 use Rattle.sqlite.specs.Effect.{Database}
-use Rattle.sqlite.specs.Files.{file_state, IsOpened}
+use Rattle.sqlite.specs.Files.{file_state, over_files, IsOpened}
 use Rattle.sqlite.specs.Held.{Held}
+use Rattle.sql_meaning.specs.Transactions.{Holds, Rests}
 use Rattle.sql_meaning.specs.Writing.{AreKeyed}
 use Rattle.sql_meaning.proofs.Opened.{tables_keyed}
+use Rattle.sql_meaning.proofs.Transactions.{at_rest}
 
 module _ {D : Type 0} {g : Ghosts D} where
   abbrev schema_of : FileStore D g → List Wanted
@@ -49,3 +52,9 @@ module _ {D : Type 0} {g : Ghosts D} where
       let sound = (opened.1 is_open).0 in
       subst (λ (trees : Trees). AreKeyed (record { schema = c.schema; trees = trees })) same
       (tables_keyed (seen it) c.schema refl refl (subst (λ (trees : Trees). IsSound c.schema trees) (sym same) sound) (listed it) (ordered it is_open))
+
+  -- `stays` is the law of a disk that a crash may leave what a read returns
+  pub files_held : (stays : (file : D) → g.may_leave file (g.seen file)) → (c : Held (FileStore D g)) → IsOpened c → Holds (file_state c) (file_state c).now
+  files_held stays c opened =
+      let rests : Rests (file_state c) = record { autocommit = opened.0.autocommit; settled = λ _. opened.0.clean } in
+      at_rest over_files shut_if_dirty_at (λ it. settled_at it stays) c rests opened.0.is_open

@@ -5,6 +5,7 @@ ghost use Rattle.sqlite.specs.State.{HasCleanDisk};
 ghost use Rattle.sql_meaning.specs.Blank.{IsBlank, no_schema};
 ghost use Rattle.folder.specs.Names.{unfinished_name};
 
+use crate::closing::close_all;
 use crate::fault::{FolderFault, fault_of};
 use crate::names::{file_name, path_of};
 use crate::removing::remove_files;
@@ -47,12 +48,10 @@ pub fn remove_unfinished(rt: &HostRuntime, folder: &str, package: Uuid) -> Resul
 
 /// Copies each log into its database, and closes both. A log that cannot be copied is a fault.
 fn close_whole(package: Uuid, conns: Vec<Connection<FolderStore>>) -> Result<(), FolderFault> {
-    for conn in conns {
-        if let Err(error) = conn.close() {
-            return Err(fault_of(package, error));
-        }
+    match close_all(conns) {
+        Ok(()) => Ok(()),
+        Err(error) => Err(fault_of(package, error)),
     }
-    Ok(())
 }
 
 /// Has the system write down which names the files of a folder have.
@@ -60,6 +59,14 @@ fn sync_names(rt: &HostRuntime, folder: &str) -> Result<(), FolderFault> {
     let path = path_of(rt.alloc(), folder, "")?;
     let open = File::open(rt, path.as_str())?;
     open.sync_all()?;
+    Ok(())
+}
+
+/// Gives a file of a folder another name.
+fn rename(rt: &HostRuntime, folder: &str, from: &str, to: &str) -> Result<(), FolderFault> {
+    let from = path_of(rt.alloc(), folder, from)?;
+    let to = path_of(rt.alloc(), folder, to)?;
+    fs::rename(rt, from.as_str(), to.as_str())?;
     Ok(())
 }
 
@@ -77,10 +84,8 @@ pub fn finish(
 ) -> Result<(), FolderFault> {
     close_whole(package, conns)?;
     let unfinished = unfinished_name(rt.alloc(), package)?;
-    let from = path_of(rt.alloc(), folder, unfinished.as_str())?;
     let name = file_name(rt.alloc(), package)?;
-    let to = path_of(rt.alloc(), folder, name.as_str())?;
-    fs::rename(rt, from.as_str(), to.as_str())?;
+    rename(rt, folder, unfinished.as_str(), name.as_str())?;
     sync_names(rt, folder)?;
     remove_files(rt, folder, unfinished.as_str())
 }

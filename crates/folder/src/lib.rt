@@ -1,6 +1,7 @@
 //! Packages in a folder of the file system, a file each: their names, a shelf that makes their stores, and the opening of all of them.
 #![tactic(auto)]
 
+mod closing;
 pub mod fault;
 pub mod founding;
 pub mod listing;

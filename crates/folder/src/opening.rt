@@ -1,21 +1,14 @@
 //! The stores of a folder, opened.
 ghost use Rattle.std.specs.Prelude.{◌≡◌, ◌++◌, ◌∷◌, [], IfOk, OnOk, All, length};
 ghost use Rattle.sqlite.specs.Files.{file_state};
-ghost use Rattle.sqlite.specs.Held.{state};
-ghost use Rattle.sqlite.specs.State.{HasCleanDisk, Opens};
-ghost use Rattle.sql_meaning.specs.Transactions.{Holds};
 ghost use Rattle.folder.specs.Opened.{IsJustOpened};
 
+use crate::closing::close_all;
 use crate::fault::{FolderFault, fault_of};
 use crate::names::{file_name, path_of};
 use crate::start::{Empty, FolderStore};
-use sqlite::{Alter, Connection};
+use sqlite::Connection;
 use uuid::Uuid;
-
-/// A law: a connection that was just opened holds what it shows, and a crash leaves that. Does nothing.
-fn rests_as_opened<S: Alter>(conn: &Connection<S>)
-    ensures { Opens (state S.Store conn.now) → Holds (state S.Store conn.now) (state S.Store conn.now).now }
-{}
 
 /// The store of a package, just opened: at rest, and adopted.
 ///
@@ -32,10 +25,7 @@ pub fn open_store(
     let name = file_name(rt.alloc(), package)?;
     let path = path_of(rt.alloc(), folder, name.as_str())?;
     match Connection::open_from(rt, path.as_str(), false, Empty) {
-        Ok(conn) => {
-            rests_as_opened(&conn);
-            Ok(conn)
-        }
+        Ok(conn) => Ok(conn),
         Err((error, _)) => Err(fault_of(package, error)),
     }
 }
@@ -48,6 +38,49 @@ fn push<T: Drop>(list: &mut Vec<T>, item: T) -> Result<(), FolderFault>
         Ok(()) => Ok(()),
         Err(_) => Err(FolderFault::OutOfMemory),
     }
+}
+
+/// What a folder has one of for each package.
+// A loop over any such thing is proved for less than one over stores of a folder.
+trait InFolder: Drop {
+    /// What is known of it when it was just opened.
+    ghost is_just_opened: { Self → Type 0 };
+
+    /// Opens that of one package.
+    fn open(rt: &HostRuntime, folder: &str, package: Uuid) -> Result<Self, FolderFault>
+        ensures { IfOk result is_just_opened };
+}
+
+impl InFolder for Connection<FolderStore> {
+    ghost use Rattle.sqlite.specs.Files.{file_state};
+    ghost use Rattle.folder.specs.Opened.{IsJustOpened};
+
+    ghost is_just_opened = { λ conn. IsJustOpened (file_state conn) };
+
+    fn open(
+        rt: &HostRuntime,
+        folder: &str,
+        package: Uuid,
+    ) -> Result<Connection<FolderStore>, FolderFault> {
+        open_store(rt, folder, package)
+    }
+}
+
+/// That of each of these packages, in their order, or the first fault.
+fn open_each<T: InFolder>(
+    rt: &HostRuntime,
+    folder: &str,
+    packages: &[Uuid],
+) -> Result<Vec<T>, FolderFault>
+    ensures opened { IfOk result (λ stores. All T.is_just_opened stores.items) }
+    ensures each { IfOk result (λ stores. length stores.items ≡ length packages.now) }
+{
+    let mut stores = Vec::with_capacity(rt.alloc(), packages.len())?;
+    for package in packages {
+        let store = T::open(rt, folder, *package)?;
+        push(&mut stores, store)?;
+    }
+    Ok(stores)
 }
 
 /// The stores of these packages, in their order, each just opened.
@@ -63,17 +96,10 @@ pub fn open_stores(
     ensures opened { IfOk result (λ conns. All (λ conn. IsJustOpened (file_state conn)) conns.items) }
     ensures each { IfOk result (λ conns. length conns.items ≡ length packages.now) }
 {
-    let mut conns = Vec::with_capacity(rt.alloc(), packages.len())?;
-    for package in packages {
-        let conn = open_store(rt, folder, *package)?;
-        push(&mut conns, conn)?;
-    }
-    Ok(conns)
+    open_each(rt, folder, packages)
 }
 
 /// Copies the logs of these stores into their databases, so that each is whole in its one file, and closes them. What a log holds that cannot be copied stays in it, and counts.
 pub fn close_stores(conns: Vec<Connection<FolderStore>>) {
-    for conn in conns {
-        let _copied = conn.close();
-    }
+    let _copied = close_all(conns);
 }

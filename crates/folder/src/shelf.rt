@@ -1,6 +1,6 @@
 //! A shelf of stores in the files of a folder.
-ghost use Rattle.std.specs.Prelude.{◌≡◌, IfOk};
-ghost use Rattle.sqlite_disk.specs.Disk.{CountsFault};
+ghost use Rattle.std.specs.Prelude.{◌≡◌, ◌≤◌, IfOk};
+ghost use Rattle.sqlite_disk.specs.Disk.{CountsFault, MoreFaults};
 ghost use Rattle.sqlite.specs.Files.{file_state};
 ghost use Rattle.sqlite.specs.State.{HasCleanDisk};
 ghost use Rattle.sql_meaning.specs.Blank.{IsBlank, no_schema};
@@ -41,8 +41,10 @@ impl<'f> Shelf<FolderStore> for FolderShelf<'f> {
         ensures blank { IfOk result (λ conn. HasCleanDisk (file_state conn) → IsBlank no_schema (file_state conn).now) }
         ensures counts { CountsFault result self.old.failures self.new.failures }
     {
-        let made = blank_in_folder(self.rt, self.folder, package);
-        counted(made, &mut self.failures)
+        match blank_in_folder(self.rt, self.folder, package) {
+            Ok(store) => Ok(store),
+            Err(fault) => Err(counted(fault, &mut self.failures)),
+        }
     }
 
     fn failures(&self) -> u64 {
@@ -50,20 +52,13 @@ impl<'f> Shelf<FolderStore> for FolderShelf<'f> {
     }
 }
 
-/// What was made, or the fault, which is counted.
-fn counted<T>(made: Result<T, FolderFault>, failures: &mut u64) -> Result<T, ShelfFault>
-where
-    T: Drop,
-    ensures made { IfOk result (λ store. made ≡ Ok store) }
-    ensures counts { CountsFault result failures.old failures.new }
+/// The fault, which is counted.
+fn counted(fault: FolderFault, failures: &mut u64) -> ShelfFault
+    ensures rises { MoreFaults failures.old failures.new }
+    ensures more { failures.old ≤ failures.new }
 {
-    match made {
-        Ok(store) => Ok(store),
-        Err(fault) => {
-            *failures = failures.saturating_add(1);
-            Err(fault.into())
-        }
-    }
+    *failures = failures.saturating_add(1);
+    fault.into()
 }
 
 /// An empty store in the file of a package, in place of whatever stood there. That it is empty is known under the premise of `Empty`, since its files were removed before.
