@@ -1,7 +1,7 @@
 //! A tile that is added, lent and brought back; and ledgers each of which breaks one rule.
 
-use crate::receipts::{ARCHIVE, LOAN, line_of, package_text, package_word, receipts, tile};
-use crate::steps::{Of, Table, answered, cut, in_brackets, said, unread, uuid, wrong_of};
+use crate::receipts::{ARCHIVE, LOAN, line_of, package_word, receipts, tile};
+use crate::steps::{Of, Table, Told, cut, in_brackets, uuid, wrong_of};
 use ledger::accounting::account;
 use ledger::agreeing::agree;
 use ledger::entering::{are_entered, is_entered};
@@ -18,34 +18,32 @@ use sheet_types::error::OutOfMemory;
 use sheet_types::receipt::Receipt;
 use std::alloc::Global;
 
-fn entry_word(alloc: Global, entry: &LineEntry) -> Result<String, OutOfMemory> {
+fn tell_entry(entry: &LineEntry, told: &mut Told) {
     match entry {
-        LineEntry::Add { kind, size, .. } => Ok(format!(in alloc; "add {kind} {size}")?),
-        LineEntry::Delete { .. } => said(alloc, "delete"),
-        LineEntry::Link { mapping, .. } => Ok(format!(in alloc; "link {mapping}")?),
-        LineEntry::Unlink { mapping, .. } => Ok(format!(in alloc; "unlink {mapping}")?),
-        LineEntry::Split { mode, .. } => Ok(format!(in alloc; "split {mode}")?),
-        LineEntry::Merge { ticket, .. } => Ok(format!(in alloc; "merge {ticket}")?),
+        LineEntry::Add { kind, size, .. } => {
+            told.worded("add ", kind);
+            told.worded(" ", size);
+        }
+        LineEntry::Delete { .. } => told.word("delete"),
+        LineEntry::Link { mapping, .. } => told.worded("link ", mapping),
+        LineEntry::Unlink { mapping, .. } => told.worded("unlink ", mapping),
+        LineEntry::Split { mode, .. } => told.worded("split ", mode),
+        LineEntry::Merge { ticket, .. } => told.worded("merge ", ticket),
     }
-}
-
-fn entry_told(alloc: Global, entry: &LineEntry) -> Result<String, OutOfMemory> {
-    let mut text = entry_word(alloc, entry)?;
     for end in [entry.source(), entry.target(), Some(entry.stands_in())] {
-        text.push_str(" ")?;
-        text.push_str(package_word(end))?;
+        told.word(" ");
+        told.word(package_word(end));
     }
-    Ok(text)
 }
 
 /// A line in brackets, or its name, as it is read.
-pub(crate) fn line_told(alloc: Global, question: &str) -> Result<String, OutOfMemory> {
-    match in_brackets(question) {
-        Some(text) => match read_line(line_of(text)) {
-            Some(entry) => entry_told(alloc, &entry),
-            None => said(alloc, "-"),
-        },
-        None => unread(alloc, question),
+pub(crate) fn line_told(question: &str, told: &mut Told) {
+    let Some(text) = in_brackets(question) else {
+        return told.unread(question);
+    };
+    match read_line(line_of(text)) {
+        Some(entry) => tell_entry(&entry, told),
+        None => told.word("-"),
     }
 }
 
@@ -76,113 +74,135 @@ fn lines_are_read(rt: HostRuntime) {
 }
 
 // A part of the rule for ledgers, or all of it.
-fn holds(alloc: Global, part: &str, all: &[Receipt]) -> Result<Option<bool>, OutOfMemory> {
+fn tell_part(
+    alloc: Global,
+    part: &str,
+    all: &[Receipt],
+    told: &mut Told,
+) -> Result<(), OutOfMemory> {
     match part {
-        "sound" => Ok(Some(is_sound(alloc, uuid(ARCHIVE, 0), all)?)),
-        "entered" => Ok(Some(are_entered(all))),
-        "things" => Ok(Some(have_things(all))),
-        "in_order" => Ok(Some(are_in_order(all))),
-        "counted" => Ok(Some(are_counted(all))),
-        "numbered" => Ok(Some(are_numbered(all))),
-        "new_requests" => Ok(Some(have_new_requests(alloc, all)?)),
-        "start_where_ended" => Ok(Some(start_where_they_ended(alloc, all)?)),
-        "add_new" => Ok(Some(add_what_is_new(alloc, all)?)),
-        "lend_new" => Ok(Some(lend_new_packages(alloc, uuid(ARCHIVE, 0), all)?)),
-        "agree" => Ok(Some(agree(alloc, all)?)),
-        _ => Ok(None),
+        "sound" => told.answer(is_sound(alloc, uuid(ARCHIVE, 0), all)?),
+        "entered" => told.answer(are_entered(all)),
+        "things" => told.answer(have_things(all)),
+        "in_order" => told.answer(are_in_order(all)),
+        "counted" => told.answer(are_counted(all)),
+        "numbered" => told.answer(are_numbered(all)),
+        "new_requests" => told.answer(have_new_requests(alloc, all)?),
+        "start_where_ended" => told.answer(start_where_they_ended(alloc, all)?),
+        "add_new" => told.answer(add_what_is_new(alloc, all)?),
+        "lend_new" => told.answer(lend_new_packages(alloc, uuid(ARCHIVE, 0), all)?),
+        "agree" => told.answer(agree(alloc, all)?),
+        part => told.unread(part),
     }
+    Ok(())
 }
 
 // The loans that are open, each with its number.
-fn loans_told(alloc: Global, all: &[Receipt]) -> Result<String, OutOfMemory> {
-    let mut text = String::new(alloc);
+fn tell_loans(alloc: Global, all: &[Receipt], told: &mut Told) -> Result<(), OutOfMemory> {
     let loans = open_loans(alloc, all)?;
     for (loan, seq) in loans.iter() {
-        let word = package_word(Some(*loan));
-        text.push_str(format!(in alloc; "{word} {seq};")?.as_str())?;
+        told.word(package_word(Some(*loan)));
+        told.worded(" ", seq);
+        told.word(";");
     }
-    Ok(text)
+    Ok(())
 }
 
 // The tiles, links and bytes that came to a package, and that left it.
-fn flow_text(alloc: Global, flow: Flow) -> Result<String, OutOfMemory> {
-    let (came, left) = (flow.came, flow.left);
-    Ok(format!(in alloc;
-        "{};{};{};{};{};{};",
-        came.tiles, came.links, came.bytes, left.tiles, left.links, left.bytes
-    )?)
-}
-
-fn account_told(alloc: Global, all: &[Receipt], asks: &str) -> Result<String, OutOfMemory> {
-    let found = account(alloc, all)?;
-    match asks {
-        "account_flow_a" => flow_text(alloc, flow_of(&found.flows, uuid(ARCHIVE, 0))),
-        "account_flow_b" => flow_text(alloc, flow_of(&found.flows, uuid(LOAN, 0))),
-        _ => package_text(alloc, place_of(&found.places, &tile(1, 1))),
+fn tell_flow(flow: Flow, told: &mut Told) {
+    for sums in [flow.came, flow.left] {
+        told.numbers(&[sums.tiles, sums.links, sums.bytes]);
     }
 }
 
-// Whether a split of this number into a package is open.
-fn open_told(alloc: Global, all: &[Receipt], of: u8, seq: u64) -> Result<String, OutOfMemory> {
-    let merges = last_merges(alloc, all)?;
-    answered(alloc, is_open(&merges, uuid(of, 0), seq))
+fn tell_account(
+    alloc: Global,
+    all: &[Receipt],
+    asks: &str,
+    told: &mut Told,
+) -> Result<(), OutOfMemory> {
+    let found = account(alloc, all)?;
+    match asks {
+        "account_flow_a" => tell_flow(flow_of(&found.flows, uuid(ARCHIVE, 0)), told),
+        "account_flow_b" => tell_flow(flow_of(&found.flows, uuid(LOAN, 0)), told),
+        _ => told.word(package_word(place_of(&found.places, &tile(1, 1)))),
+    }
+    Ok(())
+}
+
+// Where the tile is, what came to the archive and left it, and whether a split of this number into a package is open.
+fn tell_moves(
+    alloc: Global,
+    all: &[Receipt],
+    asks: &str,
+    told: &mut Told,
+) -> Result<(), OutOfMemory> {
+    match asks {
+        "place" => told.word(package_word(place_of(&places(alloc, all)?, &tile(1, 1)))),
+        "flow_a" => tell_flow(flow_of(&flows(alloc, all)?, uuid(ARCHIVE, 0)), told),
+        "open_b_2" => told.answer(is_open(&last_merges(alloc, all)?, uuid(LOAN, 0), 2)),
+        "open_b_3" => told.answer(is_open(&last_merges(alloc, all)?, uuid(LOAN, 0), 3)),
+        _ => told.answer(is_open(&last_merges(alloc, all)?, uuid(ARCHIVE, 0), 0)),
+    }
+    Ok(())
 }
 
 // What the last receipt does, and whether it has its line.
-fn last_word(last: &Receipt) -> &'static str {
+fn tell_last(last: &Receipt, told: &mut Told) {
     if !is_entered(last) {
-        return "not entered";
+        told.word("not entered");
     }
-    match (is_add(last), is_split(last), is_merge(last)) {
-        (true, false, false) => "add",
-        (false, true, false) => "split",
-        (false, false, true) => "merge",
-        _ => "another",
+    for (is_so, word) in [
+        (is_add(last), "add"),
+        (is_split(last), "split"),
+        (is_merge(last), "merge"),
+    ] {
+        if is_so {
+            told.word(word);
+        }
     }
 }
 
 // Of the clone of the first receipt its number and its line, and whether it moved the same.
-fn clone_told(alloc: Global, first: &Receipt) -> Result<String, OutOfMemory> {
+fn tell_clone(first: &Receipt, told: &mut Told) -> Result<(), OutOfMemory> {
     let copy = first.try_clone()?;
     let is_same = copy.items.as_slice() == first.items.as_slice();
-    let word = if is_same { "the same" } else { "other things" };
-    Ok(format!(in alloc; "{} {} {word}", copy.seq, copy.line.as_str())?)
+    told.value(&copy.seq);
+    told.word(" ");
+    told.word(copy.line.as_str());
+    told.word(if is_same {
+        " the same"
+    } else {
+        " other things"
+    });
+    Ok(())
 }
 
-fn part_told(alloc: Global, all: &[Receipt], asks: &str) -> Result<String, OutOfMemory> {
+fn tell_ledger(
+    alloc: Global,
+    all: &[Receipt],
+    asks: &str,
+    told: &mut Told,
+) -> Result<(), OutOfMemory> {
     match (asks, all.first(), all.last()) {
-        ("clone", Some(first), _) => clone_told(alloc, first),
-        ("last", _, Some(last)) => said(alloc, last_word(last)),
-        _ => match holds(alloc, asks, all)? {
-            Some(answer) => answered(alloc, answer),
-            None => unread(alloc, asks),
-        },
-    }
-}
-
-fn ledger_told(alloc: Global, all: &[Receipt], asks: &str) -> Result<String, OutOfMemory> {
-    match asks {
-        "place" => {
-            let found = places(alloc, all)?;
-            package_text(alloc, place_of(&found, &tile(1, 1)))
+        ("clone", Some(first), _) => tell_clone(first, told)?,
+        ("last", _, Some(last)) => tell_last(last, told),
+        ("loans", ..) => tell_loans(alloc, all, told)?,
+        ("account_place" | "account_flow_a" | "account_flow_b", ..) => {
+            tell_account(alloc, all, asks, told)?;
         }
-        "account_place" | "account_flow_a" | "account_flow_b" => account_told(alloc, all, asks),
-        "loans" => loans_told(alloc, all),
-        "open_b_2" => open_told(alloc, all, LOAN, 2),
-        "open_b_3" => open_told(alloc, all, LOAN, 3),
-        "open_a_0" => open_told(alloc, all, ARCHIVE, 0),
-        "flow_a" => {
-            let found = flows(alloc, all)?;
-            flow_text(alloc, flow_of(&found, uuid(ARCHIVE, 0)))
+        ("place" | "flow_a" | "open_b_2" | "open_b_3" | "open_a_0", ..) => {
+            tell_moves(alloc, all, asks, told)?;
         }
-        asks => part_told(alloc, all, asks),
+        _ => tell_part(alloc, asks, all, told)?,
     }
+    Ok(())
 }
 
 /// What is asked of a ledger, and its receipts.
-pub(crate) fn ledger_of(alloc: Global, question: &str) -> Result<String, OutOfMemory> {
+pub(crate) fn ledger_of(alloc: Global, question: &str, told: &mut Told) -> Result<(), OutOfMemory> {
     let (asks, words) = cut(question);
-    ledger_told(alloc, receipts(alloc, words)?.as_slice(), asks)
+    tell_ledger(alloc, receipts(alloc, words)?.as_slice(), asks, told)
 }
 
 const LEDGERS: Table = Table(

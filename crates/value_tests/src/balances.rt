@@ -1,10 +1,8 @@
 //! A tile that is added to an archive, lent, lent on and brought back; and worlds in which one part alone is broken. What packages hold, and
 //! the last receipt of each.
 
-use crate::receipts::{
-    ARCHIVE, LOAN, package, package_byte, package_text, package_word, receipts, things,
-};
-use crate::steps::{Of, Table, answered, cut, said, unread, uuid, wrong_of};
+use crate::receipts::{ARCHIVE, package, package_byte, package_word, receipts, things};
+use crate::steps::{Of, Table, Told, cut, points, uuid, wrong_of};
 use balance::holding::holds_what_is_kept;
 use balance::homes::are_at_home;
 use balance::judging::judge;
@@ -20,47 +18,32 @@ use sheet_types::receipt::{Receipt, Sums};
 use std::alloc::Global;
 use tallies::holdings::sums_of;
 use tallies::tickets::{last_receipts, ticket_of};
+use uuid::Uuid;
 
-// A package: the byte that its UUID begins with, that of its parent, the number of the split that made it, and what it holds.
-#[derive(Clone, Copy)]
-struct Package<'a>(u8, u8, u64, &'a str);
-
-fn package_of(words: &str) -> Option<Package<'_>> {
-    let mut parts = words.split('.');
-    let (first, parent) = (package_byte(parts.next()?)?, package_byte(parts.next()?)?);
-    Some(Package(
-        first,
-        parent,
-        parts.next()?.parse::<u64>().ok()?,
-        parts.next()?,
-    ))
-}
-
-fn sight(alloc: Global, seen: Package<'_>, entries: &str) -> Result<Sight, OutOfMemory> {
-    let (item, link) = if seen.3 == "link" {
+/// A package: its letter, that of its parent, the number of the split that made it and what it holds; and its receipts behind a colon.
+pub(crate) fn sight_of(alloc: Global, words: &str) -> Result<Sight, OutOfMemory> {
+    let (seen, entries) = words.split_once(':').unwrap_or((words, "none"));
+    let [own, parent, loan, held, _, _] = points(seen);
+    let (Some(own), Some(parent), Ok(loan)) = (
+        package_byte(own),
+        package_byte(parent),
+        loan.parse::<u64>(),
+    ) else {
+        return Err(OutOfMemory);
+    };
+    let (item, link) = if held == "link" {
         ("none", "link")
     } else {
-        (seen.3, "none")
+        (held, "none")
     };
     Ok(Sight {
-        uuid: uuid(seen.0, 0),
-        parent: package(seen.1),
-        loan: seen.2,
+        uuid: uuid(own, 0),
+        parent: package(parent),
+        loan,
         items: things(alloc, item)?,
         links: things(alloc, link)?,
         receipts: receipts(alloc, entries)?,
     })
-}
-
-/// A package as a text, and its receipts behind a colon.
-pub(crate) fn sight_of(alloc: Global, words: &str) -> Result<Sight, OutOfMemory> {
-    match words.split_once(':') {
-        Some((seen, entries)) => match package_of(seen) {
-            Some(seen) => sight(alloc, seen, entries),
-            None => Err(OutOfMemory),
-        },
-        None => Err(OutOfMemory),
-    }
 }
 
 fn sights(alloc: Global, words: &str) -> Result<Vec<Sight>, OutOfMemory> {
@@ -74,114 +57,100 @@ fn sights(alloc: Global, words: &str) -> Result<Vec<Sight>, OutOfMemory> {
 }
 
 // Whether the ledger of a world is sound; whether custody, sums, loans, homes and merges are in order; and what the judge says.
-fn holds(
+fn tell_parts(
     alloc: Global,
-    part: &str,
     ledger: &[Receipt],
     seen: &[Sight],
-) -> Result<bool, OutOfMemory> {
-    match part {
-        "sound" => is_sound(alloc, uuid(ARCHIVE, 0), ledger),
-        "holds" => holds_what_is_kept(alloc, ledger, seen),
-        "sums" => sums_add_up(alloc, ledger, seen),
-        "loans" => are_loans(alloc, ledger, seen),
-        "homes" => are_at_home(alloc, ledger, seen),
-        "merges" => are_together(alloc, seen),
-        _ => judge(alloc, seen),
-    }
-}
-
-fn parts_told(alloc: Global, seen: &[Sight]) -> Result<String, OutOfMemory> {
-    let ledger = ledger_of(alloc, seen)?;
-    let mut text = String::new(alloc);
-    for part in "sound holds sums loans homes merges judged".split(' ') {
-        let answer = holds(alloc, part, ledger.as_slice(), seen)?;
-        text.push_str(if answer { "+" } else { "-" })?;
-    }
-    Ok(text)
+    told: &mut Told,
+) -> Result<(), OutOfMemory> {
+    told.sign(is_sound(alloc, uuid(ARCHIVE, 0), ledger)?);
+    told.sign(holds_what_is_kept(alloc, ledger, seen)?);
+    told.sign(sums_add_up(alloc, ledger, seen)?);
+    told.sign(are_loans(alloc, ledger, seen)?);
+    told.sign(are_at_home(alloc, ledger, seen)?);
+    told.sign(are_together(alloc, seen)?);
+    told.sign(judge(alloc, seen)?);
+    Ok(())
 }
 
 // The archive that is seen, and the numbers of the ledger in their order.
-fn ledger_told(alloc: Global, seen: &[Sight]) -> Result<String, OutOfMemory> {
-    let ledger = ledger_of(alloc, seen)?;
-    let mut text = package_text(alloc, archive_of(seen))?;
-    for receipt in ledger.iter() {
-        text.push_str(format!(in alloc; " {}", receipt.seq)?.as_str())?;
+fn tell_ledger(ledger: &[Receipt], seen: &[Sight], told: &mut Told) {
+    told.word(package_word(archive_of(seen)));
+    for receipt in ledger {
+        told.worded(" ", &receipt.seq);
     }
-    Ok(text)
 }
 
 // The splits that made a package: the number of each, and where its receipt is.
-fn lents_told(alloc: Global, seen: &[Sight], of: u8) -> Result<String, OutOfMemory> {
+fn tell_lents(alloc: Global, seen: &[Sight], of: Uuid, told: &mut Told) -> Result<(), OutOfMemory> {
     let splits = splits_of(alloc, seen)?;
-    let mut text = String::new(alloc);
-    for lent in lents_of(&splits, uuid(of, 0)) {
-        let home = package_word(Some(lent.home));
-        text.push_str(format!(in alloc; "{} in {home};", lent.seq)?.as_str())?;
+    for lent in lents_of(&splits, of) {
+        told.worded("", &lent.seq);
+        told.word(" in ");
+        told.word(package_word(Some(lent.home)));
+        told.word(";");
     }
-    Ok(text)
+    Ok(())
 }
 
-fn sums_text(alloc: Global, sums: Sums) -> Result<String, OutOfMemory> {
-    Ok(format!(in alloc;
-        "{};{};{};{};{};",
-        sums.tiles, sums.media, sums.rows, sums.links, sums.bytes
-    )?)
-}
-
-// The tiles, media, rows, links and bytes of the first package.
-fn sums_told(alloc: Global, seen: &[Sight]) -> Result<String, OutOfMemory> {
-    match seen.first() {
-        Some(first) => match sums_of(first) {
-            Some(sums) => sums_text(alloc, sums),
-            None => said(alloc, "-"),
-        },
-        None => said(alloc, "no package"),
+// The tiles, media, rows, links and bytes of a package.
+fn tell_sums(sums: Option<Sums>, told: &mut Told) {
+    match sums {
+        Some(s) => told.numbers(&[s.tiles, s.media, s.rows, s.links, s.bytes]),
+        None => told.word("-"),
     }
 }
 
-// The number of the last receipt of the first package that names one.
-fn ticket_told(alloc: Global, all: &[Receipt], of: u8) -> Result<String, OutOfMemory> {
-    let last = last_receipts(alloc, all)?;
-    Ok(format!(in alloc; "{}", ticket_of(&last, uuid(of, 0)))?)
-}
-
-fn first_ticket(alloc: Global, seen: &[Sight], of: u8) -> Result<String, OutOfMemory> {
-    match seen.first() {
-        Some(first) => ticket_told(alloc, first.receipts.as_slice(), of),
-        None => said(alloc, "no package"),
-    }
-}
-
-fn told(alloc: Global, seen: &[Sight], asks: &str) -> Result<String, OutOfMemory> {
+// Of the first package what it holds, or the number of its last receipt that names a package.
+fn tell_first(
+    alloc: Global,
+    first: &Sight,
+    asks: &str,
+    of: Uuid,
+    told: &mut Told,
+) -> Result<(), OutOfMemory> {
     match asks {
-        "parts" => parts_told(alloc, seen),
-        "judged" => answered(alloc, judge(alloc, seen)?),
-        "ledger" => ledger_told(alloc, seen),
-        "lents_a" => lents_told(alloc, seen, ARCHIVE),
-        "lents_b" => lents_told(alloc, seen, LOAN),
-        "sums" => sums_told(alloc, seen),
-        "ticket_a" => first_ticket(alloc, seen, ARCHIVE),
-        "ticket_b" => first_ticket(alloc, seen, LOAN),
-        "ticket_c" => first_ticket(alloc, seen, 0xc0),
-        asks => unread(alloc, asks),
+        "sums" => tell_sums(sums_of(first), told),
+        "ticket" => {
+            let last = last_receipts(alloc, first.receipts.as_slice())?;
+            told.value(&ticket_of(&last, of));
+        }
+        asks => told.unread(asks),
     }
+    Ok(())
 }
 
 // The least item that no addition says, where the addition of the tile is all that there is.
-fn altered_told(alloc: Global, seen: &[Sight]) -> Result<String, OutOfMemory> {
+fn tell_altered(alloc: Global, seen: &[Sight], told: &mut Told) -> Result<(), OutOfMemory> {
     let ledger = receipts(alloc, "addition")?;
-    package_text(alloc, least_altered(alloc, ledger.as_slice(), seen)?)
+    told.word(package_word(least_altered(alloc, ledger.as_slice(), seen)?));
+    Ok(())
+}
+
+fn tell_seen(
+    alloc: Global,
+    seen: &[Sight],
+    asks: &str,
+    told: &mut Told,
+) -> Result<(), OutOfMemory> {
+    let (asks, of) = asks.split_once('_').unwrap_or((asks, "-"));
+    let of = uuid(package_byte(of).unwrap_or(0), 0);
+    match (asks, seen.first()) {
+        ("parts", _) => tell_parts(alloc, ledger_of(alloc, seen)?.as_slice(), seen, told)?,
+        ("judged", _) => told.answer(judge(alloc, seen)?),
+        ("ledger", _) => tell_ledger(ledger_of(alloc, seen)?.as_slice(), seen, told),
+        ("lents", _) => tell_lents(alloc, seen, of, told)?,
+        ("altered", _) => tell_altered(alloc, seen, told)?,
+        (_, Some(first)) => tell_first(alloc, first, asks, of, told)?,
+        (_, None) => told.unread("no package"),
+    }
+    Ok(())
 }
 
 /// What is asked of packages, and they.
-pub(crate) fn world_of(alloc: Global, question: &str) -> Result<String, OutOfMemory> {
+pub(crate) fn world_of(alloc: Global, question: &str, told: &mut Told) -> Result<(), OutOfMemory> {
     let (asks, words) = cut(question);
-    let seen = sights(alloc, words)?;
-    match asks {
-        "altered" => altered_told(alloc, seen.as_slice()),
-        asks => told(alloc, seen.as_slice(), asks),
-    }
+    tell_seen(alloc, sights(alloc, words)?.as_slice(), asks, told)
 }
 
 const WORLDS: Table = Table(

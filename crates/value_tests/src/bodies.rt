@@ -1,6 +1,6 @@
 //! Requests as JSON, worked out by hand; lines as the formats state them, digests by Python's `hashlib`.
 
-use crate::steps::{Checked, Of, Table, ask_all, cut, said, unescaped, unread};
+use crate::steps::{Of, Table, Told, cut, unescaped, wrong_of};
 use request_json::requests::read_request;
 use sheet_types::command::{Command, Request};
 use sheet_types::error::OutOfMemory;
@@ -9,70 +9,87 @@ use sheet_types::words::OrEmpty;
 use std::alloc::Global;
 
 // The line of a request of the moment, where it moves something from, and where to.
-fn request_text(alloc: Global, request: &Request) -> Result<String, OutOfMemory> {
-    let words = line(alloc, &request.command)?;
-    let (from, to) = (request.command.source(), request.command.target());
-    let at = request.at.as_str();
-    Ok(format!(in alloc; "{at} {words} {} {}", OrEmpty(from), OrEmpty(to))?)
+fn tell_request(alloc: Global, request: &Request, told: &mut Told) -> Result<(), OutOfMemory> {
+    told.word(request.at.as_str());
+    told.worded(" ", &line(alloc, &request.command)?);
+    told.worded(" ", &OrEmpty(request.command.source()));
+    told.worded(" ", &OrEmpty(request.command.target()));
+    Ok(())
 }
 
 // How many bytes are added.
-fn added_size(request: &Request) -> usize {
+fn tell_size(request: &Request, told: &mut Told) {
     match &request.command {
-        Command::Add { content, .. } => content.size(),
-        _ => usize::MAX,
+        Command::Add { content, .. } => told.value(&content.size()),
+        _ => told.word("no addition"),
     }
 }
 
-fn read_told(alloc: Global, text: &[u8], is_sized: bool) -> Result<String, OutOfMemory> {
+fn tell_read(
+    alloc: Global,
+    text: &[u8],
+    is_sized: bool,
+    told: &mut Told,
+) -> Result<(), OutOfMemory> {
     match read_request(alloc, text)? {
-        Some(request) => {
-            if is_sized {
-                return Ok(format!(in alloc; "{}", added_size(&request))?);
-            }
-            request_text(alloc, &request)
-        }
-        None => said(alloc, "-"),
+        Some(request) if is_sized => tell_size(&request, told),
+        Some(request) => tell_request(alloc, &request, told)?,
+        None => told.word("-"),
     }
+    Ok(())
 }
 
 // The members that every request has, but for its command; and the other members of the addition of a tile, but for its zoom and data.
-fn front_of(kind: &str) -> Option<&'static str> {
+fn front_of(kind: &str) -> &'static str {
     match kind {
-        "whole" => Some(""),
         "rest" => {
-            Some(
-                "{`request`:`90000000-0000-4000-8000-000000000001`,`at`:`2024-05-01T08:00:00.000Z`,\
-                `package`:`a0000000-0000-4000-8000-000000000000`,`command`:",
-            )
+            "{`request`:`90000000-0000-4000-8000-000000000001`,`at`:`2024-05-01T08:00:00.000Z`,\
+            `package`:`a0000000-0000-4000-8000-000000000000`,`command`:"
         }
         "tile" | "size" => {
-            Some(
-                "{`request`:`90000000-0000-4000-8000-000000000001`,`at`:`2024-05-01T08:00:00.000Z`,\
-                `package`:`a0000000-0000-4000-8000-000000000000`,`command`:`add`,`kind`:`tile`,\
-                `identity`:`00000000-0000-4000-8000-000000000001`,`column`:3,`row`:3,",
-            )
+            "{`request`:`90000000-0000-4000-8000-000000000001`,`at`:`2024-05-01T08:00:00.000Z`,\
+            `package`:`a0000000-0000-4000-8000-000000000000`,`command`:`add`,`kind`:`tile`,\
+            `identity`:`00000000-0000-4000-8000-000000000001`,`column`:3,`row`:3,"
         }
-        _ => None,
+        _ => "",
     }
 }
 
+// Two hundred lists, one in the other.
+fn deep(alloc: Global) -> Result<String, OutOfMemory> {
+    let mut text = "[".repeat(alloc, 200)?;
+    text.push_str("]".repeat(alloc, 200)?.as_str())?;
+    Ok(text)
+}
+
+// All of a text, or what comes behind the front that its kind says.
+fn body(alloc: Global, kind: &str, rest: &str) -> Result<String, OutOfMemory> {
+    if kind == "deep" {
+        return deep(alloc);
+    }
+    let words = format!(in alloc; "{}{rest}", front_of(kind))?;
+    unescaped(alloc, words.as_str())
+}
+
 /// A text as JSON: all of it, or what comes behind the members that every request has, or behind those of a tile too, where the size of its
-/// data may be asked.
-pub(crate) fn body_of(alloc: Global, question: &str) -> Result<String, OutOfMemory> {
+/// data may be asked; and bytes that are none.
+pub(crate) fn body_of(alloc: Global, question: &str, told: &mut Told) -> Result<(), OutOfMemory> {
     let (kind, rest) = cut(question);
-    match front_of(kind) {
-        Some(front) => {
-            let words = format!(in alloc; "{front}{rest}")?;
-            let text = unescaped(alloc, words.as_str())?;
-            read_told(alloc, text.as_bytes(), kind == "size")
+    match kind {
+        "broken" => tell_read(alloc, b"\xff", false, told),
+        "whole" | "rest" | "tile" | "size" | "deep" => {
+            let text = body(alloc, kind, rest)?;
+            tell_read(alloc, text.as_bytes(), kind == "size", told)
         }
-        None => unread(alloc, question),
+        _ => {
+            told.unread(question);
+            Ok(())
+        }
     }
 }
 
 const REQUESTS: Table = Table(
-    12,
+    38,
     "whole {`at`:`2024-05-01T08:00:00.000Z`,`command`:`add`,`data`:`41`,`identity`:\
     `00000000-0000-4000-8000-000000000001`,`kind`:`tile`,`package`:`a0000000-0000-4000-8000-000000000000`,\
     `request`:`90000000-0000-4000-8000-000000000001`,`column`:3,`row`:3,`zoom`:2} => [2024-05-01T08:00:00.000Z \
@@ -116,12 +133,8 @@ rest `merge`,`ticket`:`x`,`other`:`b0000000-0000-4000-8000-000000000000`,`ticket
 size `zoom`:2,`data`:`aBcD`} => [2]
 size `zoom`:2,`data`:``} => [0]
 whole {`request` => [-]
-",
-);
-
-const NO_REQUESTS: Table = Table(
-    24,
-    "tile `zoom`:2.0,`data`:`41`} => [-]
+# what is no request
+tile `zoom`:2.0,`data`:`41`} => [-]
 tile `zoom`:2e0,`data`:`41`} => [-]
 tile `zoom`:-0,`data`:`41`} => [-]
 tile `zoom`:9223372036854775808,`data`:`41`} => [-]
@@ -147,23 +160,13 @@ rest `merge`,`other`:`b0000000-0000-4000-8000-000000000000`,`ticket`:1,`kind`:`s
 whole [] => [-]
 whole {} => [-]
 whole null => [-]
+# what is no text, and two hundred lists, one in the other
+broken => [-]
+deep => [-]
 ",
 );
 
-// Two hundred lists, one in the other.
-fn deep_told(alloc: Global) -> Result<String, OutOfMemory> {
-    let mut deep = "[".repeat(alloc, 200)?;
-    deep.push_str("]".repeat(alloc, 200)?.as_str())?;
-    read_told(alloc, deep.as_bytes(), false)
-}
-
 #[test]
 fn requests_and_what_is_none(rt: HostRuntime) {
-    let alloc = rt.alloc();
-    let mut checked = Checked::new(alloc);
-    ask_all(alloc, Of::Bodies, REQUESTS, &mut checked);
-    ask_all(alloc, Of::Bodies, NO_REQUESTS, &mut checked);
-    checked.told(read_told(alloc, b"\xff", false), "-");
-    checked.told(deep_told(alloc), "-");
-    assert_eq!(rt; checked.wrong(), "");
+    assert_eq!(rt; wrong_of(rt.alloc(), Of::Bodies, REQUESTS).wrong(), "");
 }

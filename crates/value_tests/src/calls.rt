@@ -1,7 +1,7 @@
 //! What the bytes of connections ask, worked out by hand.
 
-use crate::steps::{Of, Table, cut, said, unescaped, unread, wrong_of};
-use desk_calls::calls::{Call, CallFault, Flaw};
+use crate::steps::{Of, Table, Told, cut, unescaped, wrong_of};
+use desk_calls::calls::{Call, CallFault};
 use desk_calls::reading::read_call;
 use desk_calls::source::{Memory, Outer, Source};
 use sheet_types::command::Request;
@@ -12,7 +12,6 @@ use sheet_types::words::OrEmpty;
 use std::alloc::Global;
 use std::io;
 use std::io::{ErrorKind, Read};
-use uuid::Uuid;
 
 // A body of 251 bytes, by Python's `len`.
 const ADD: &str =
@@ -25,49 +24,43 @@ const LINE: &str =
     "add a0000000-0000-4000-8000-000000000000 00000000-0000-4000-8000-000000000001 tile 1 \
     b363ee0ecc9cf61b12ecdafd75dca2779729b4fcc5f1bd718c33aad2c94af4f8";
 
-fn flaw_name(flaw: Flaw) -> &'static str {
-    match flaw {
-        Flaw::BadRequest => "BadRequest",
-        Flaw::NoSuchPath => "NoSuchPath",
-        Flaw::BadMethod => "BadMethod",
-        Flaw::NoLength => "NoLength",
-        Flaw::TooLarge => "TooLarge",
-    }
-}
-
 // Whether it is the request of the body, or the line of another.
-fn request_text(alloc: Global, request: &Request) -> Result<String, OutOfMemory> {
+fn tell_request(alloc: Global, request: &Request, told: &mut Told) -> Result<(), OutOfMemory> {
     if read_uuid("90000000-0000-4000-8000-000000000001") != Some(request.id) {
-        return said(alloc, "another request");
+        told.word("another request");
     }
     let text = line(alloc, &request.command)?;
-    if text.as_str() == LINE {
-        return said(alloc, "the addition");
-    }
-    Ok(text)
+    told.word(if text.as_str() == LINE {
+        "the addition"
+    } else {
+        text.as_str()
+    });
+    Ok(())
 }
 
-fn named(alloc: Global, word: &str, found: Option<Uuid>) -> Result<String, OutOfMemory> {
-    Ok(format!(in alloc; "{word} {}", OrEmpty(found))?)
-}
-
-fn call_text(alloc: Global, call: &Call) -> Result<String, OutOfMemory> {
+fn tell_call(alloc: Global, call: &Call, told: &mut Told) -> Result<(), OutOfMemory> {
     match call {
-        Call::Refused(flaw) => said(alloc, flaw_name(*flaw)),
-        Call::Apply(request) => request_text(alloc, request),
-        Call::Packages => said(alloc, "packages"),
-        Call::Manifest(found) => named(alloc, "manifest", *found),
-        Call::Receipt(found) => named(alloc, "receipt", *found),
+        Call::Refused(flaw) => told.name(flaw),
+        Call::Apply(request) => tell_request(alloc, request, told)?,
+        Call::Packages => told.word("packages"),
+        Call::Manifest(found) => told.worded("manifest ", &OrEmpty(*found)),
+        Call::Receipt(found) => told.worded("receipt ", &OrEmpty(*found)),
     }
+    Ok(())
 }
 
-fn asked<R: Source>(alloc: Global, source: &mut R) -> Result<String, OutOfMemory> {
+fn tell_asked<R: Source>(
+    alloc: Global,
+    source: &mut R,
+    told: &mut Told,
+) -> Result<(), OutOfMemory> {
     match read_call(alloc, source) {
-        Ok(Some(call)) => call_text(alloc, &call),
-        Ok(None) => said(alloc, "nothing"),
-        Err(CallFault::Failed) => said(alloc, "failed"),
-        Err(CallFault::Memory) => Err(OutOfMemory),
+        Ok(Some(call)) => return tell_call(alloc, &call, told),
+        Ok(None) => told.word("nothing"),
+        Err(CallFault::Failed) => told.word("failed"),
+        Err(CallFault::Memory) => return Err(OutOfMemory),
     }
+    Ok(())
 }
 
 // A reader that is interrupted before each byte, gives it then, and fails after the last.
@@ -97,17 +90,24 @@ fn first(text: &[u8], count: usize) -> &[u8] {
     &text[..text.len().min(count)]
 }
 
-// The first bytes of a text; by a reader that fails behind them, or one that ends.
-fn cut_told(alloc: Global, text: &str, count: usize, fails: bool) -> Result<String, OutOfMemory> {
-    let text = first(text.as_bytes(), count);
+// The first bytes of a text, by a reader that then ends or fails.
+fn tell_sent(
+    alloc: Global,
+    words: &str,
+    count: usize,
+    fails: bool,
+    told: &mut Told,
+) -> Result<(), OutOfMemory> {
+    let bytes = unescaped(alloc, words)?;
+    let text = first(bytes.as_bytes(), count);
     if fails {
         let failing = Failing {
             text,
             is_ready: true,
         };
-        return asked(alloc, &mut Outer(failing));
+        return tell_asked(alloc, &mut Outer(failing), told);
     }
-    asked(alloc, &mut Memory(text))
+    tell_asked(alloc, &mut Memory(text), told)
 }
 
 // What stands between bars, the second as often as is said.
@@ -118,43 +118,37 @@ fn repeated(alloc: Global, words: &str, count: usize) -> Result<String, OutOfMem
     Ok(format!(in alloc; "{front}{}{back}", many.as_str())?)
 }
 
-// The bytes that are sent: `@` stands for the body.
-fn sent(alloc: Global, words: &str) -> Result<String, OutOfMemory> {
-    match words.split_once('@') {
-        Some((front, back)) => unescaped(alloc, format!(in alloc; "{front}{ADD}{back}")?.as_str()),
-        None => unescaped(alloc, words),
+// The words that are sent: `@` stands for the body.
+fn sent(alloc: Global, kind: &str, count: usize, words: &str) -> Result<String, OutOfMemory> {
+    if kind == "repeated" {
+        return repeated(alloc, words, count);
     }
-}
-
-fn sent_told(alloc: Global, kind: &str, count: usize, words: &str) -> Result<String, OutOfMemory> {
-    match kind {
-        "all" => cut_told(alloc, sent(alloc, words)?.as_str(), usize::MAX, false),
-        "cut" => cut_told(alloc, sent(alloc, words)?.as_str(), count, false),
-        "failing" => cut_told(alloc, sent(alloc, words)?.as_str(), count, true),
-        "repeated" => {
-            let many = repeated(alloc, words, count)?;
-            cut_told(
-                alloc,
-                sent(alloc, many.as_str())?.as_str(),
-                usize::MAX,
-                false,
-            )
-        }
-        kind => unread(alloc, kind),
-    }
+    Ok(words.replace(alloc, '@', ADD)?)
 }
 
 /// What is sent, and how much of it: all, so many bytes, those by a reader that then fails, or with a part that comes as often.
-pub(crate) fn call_of(alloc: Global, question: &str) -> Result<String, OutOfMemory> {
+pub(crate) fn call_of(alloc: Global, question: &str, told: &mut Told) -> Result<(), OutOfMemory> {
     let (kind, rest) = cut(question);
-    if kind == "all" {
-        return sent_told(alloc, kind, 0, rest);
-    }
-    let (count, words) = cut(rest);
-    match count.parse::<usize>() {
-        Ok(count) => sent_told(alloc, kind, count, words),
-        Err(_) => unread(alloc, question),
-    }
+    let (count, words) = if kind == "all" {
+        ("0", rest)
+    } else {
+        cut(rest)
+    };
+    let Ok(count) = count.parse::<usize>() else {
+        told.unread(question);
+        return Ok(());
+    };
+    let (taken, fails) = match kind {
+        "all" | "repeated" => (usize::MAX, false),
+        "cut" => (count, false),
+        "failing" => (count, true),
+        _ => {
+            told.unread(kind);
+            return Ok(());
+        }
+    };
+    let text = sent(alloc, kind, count, words)?;
+    tell_sent(alloc, text.as_str(), taken, fails, told)
 }
 
 const CALLS: Table = Table(

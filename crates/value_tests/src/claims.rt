@@ -3,8 +3,8 @@
 ghost use Rattle.opening.specs.Splits.{AreOpenSplits};
 
 use crate::balances::sight_of;
-use crate::receipts::{ARCHIVE, LOAN, line_of, package, package_text, package_word};
-use crate::steps::{Of, Table, answered, cut, signs, unread, uuid, wrong_of};
+use crate::receipts::{ARCHIVE, LOAN, line_of, package, package_word};
+use crate::steps::{Of, Table, Told, cut, uuid, wrong_of};
 use crate::values::text;
 use opening::archives::{has_no_archive, has_two_archives};
 use opening::faults::RecoverFault;
@@ -54,13 +54,17 @@ fn claim(
     })
 }
 
-// What an archive claims that lent a package, and maybe took it back.
-fn claims(alloc: Global, is_returned: bool) -> Result<Vec<StoreClaim>, OutOfMemory> {
+// What an archive claims that added a tile, lent a package and took it back, up to this number.
+fn claims(alloc: Global, last: i64) -> Result<Vec<StoreClaim>, OutOfMemory> {
     let mut list = Vec::new(alloc);
-    list.push(claim(alloc, 1, "added", "", A)?)?;
-    list.push(claim(alloc, 2, "lent", A, B)?)?;
-    if is_returned {
-        list.push(claim(alloc, 3, "returned", B, A)?)?;
+    for (seq, line, source, target) in [
+        (1, "added", "", A),
+        (2, "lent", A, B),
+        (3, "returned", B, A),
+    ] {
+        if seq <= last {
+            list.push(claim(alloc, seq, line, source, target)?)?;
+        }
     }
     Ok(list)
 }
@@ -81,13 +85,15 @@ fn store_of(depth: u64, claims: Vec<StoreClaim>) -> Sight {
     }
 }
 
+// An archive that lent, or that took back too; a package that was lent, at its depth or one below.
 fn store(alloc: Global, word: &str) -> Result<Sight, OutOfMemory> {
-    match word {
-        "lender" => Ok(store_of(0, claims(alloc, false)?)),
-        "returned" => Ok(store_of(0, claims(alloc, true)?)),
-        "deep" => Ok(store_of(2, Vec::new(alloc))),
-        _ => Ok(store_of(1, Vec::new(alloc))),
-    }
+    let (depth, last) = match word {
+        "lender" => (0, 2),
+        "returned" => (0, 3),
+        "deep" => (2, 0),
+        _ => (1, 0),
+    };
+    Ok(store_of(depth, claims(alloc, last)?))
 }
 
 fn stores(alloc: Global, words: &str) -> Result<Vec<Sight>, OutOfMemory> {
@@ -98,48 +104,61 @@ fn stores(alloc: Global, words: &str) -> Result<Vec<Sight>, OutOfMemory> {
     Ok(list)
 }
 
-// Of two live stores, or of a first that alone is, the least that is not fit, where the first is fit and the second is not.
-fn unfit_told(alloc: Global, seen: &[Sight], is_live: bool) -> Result<String, OutOfMemory> {
-    let found = least_unfit(alloc, seen, &[true, is_live], &[true, false])?;
-    package_text(alloc, found)
-}
-
 // Which are live, how many splits are open, and the least package of a fault.
-fn reached_told(
+fn tell_reached(
     alloc: Global,
     seen: &[Sight],
     reached: &Reached,
     asks: &str,
-) -> Result<String, OutOfMemory>
+    told: &mut Told,
+) -> Result<(), OutOfMemory>
     requires { AreOpenSplits seen.now reached.now.splits.items }
 {
-    match asks {
-        "live" => signs(alloc, reached.live.as_slice()),
-        "splits" => Ok(format!(in alloc; "{}", reached.splits.len())?),
-        "missing" => package_text(alloc, least_missing(alloc, seen, &reached.splits)?),
-        "copied" => package_text(alloc, least_copied(alloc, seen, &reached.splits)?),
-        "foreign" => package_text(alloc, least_foreign(alloc, seen, &reached.splits)?),
-        asks => unread(alloc, asks),
-    }
+    let found = match asks {
+        "missing" => least_missing(alloc, seen, &reached.splits)?,
+        "copied" => least_copied(alloc, seen, &reached.splits)?,
+        "foreign" => least_foreign(alloc, seen, &reached.splits)?,
+        "splits" => {
+            told.value(&reached.splits.len());
+            return Ok(());
+        }
+        _ => {
+            for is_live in reached.live.iter() {
+                told.sign(*is_live);
+            }
+            return Ok(());
+        }
+    };
+    told.word(package_word(found));
+    Ok(())
 }
 
-fn claims_told(alloc: Global, seen: &[Sight], asks: &str) -> Result<String, OutOfMemory> {
+// Of two live stores, or of a first that alone is, the least that is not fit, where the first is fit and the second is not.
+fn tell_claims(
+    alloc: Global,
+    seen: &[Sight],
+    asks: &str,
+    told: &mut Told,
+) -> Result<(), OutOfMemory> {
+    let fit = [true, false];
     match asks {
-        "has_no_archive" => answered(alloc, has_no_archive(seen)),
-        "has_two_archives" => answered(alloc, has_two_archives(seen)),
-        "unfit" => unfit_told(alloc, seen, true),
-        "unfit_of_one" => unfit_told(alloc, seen, false),
-        asks => {
+        "has_no_archive" => told.answer(has_no_archive(seen)),
+        "has_two_archives" => told.answer(has_two_archives(seen)),
+        "unfit" => told.word(package_word(least_unfit(alloc, seen, &[true, true], &fit)?)),
+        "unfit_of_one" => told.word(package_word(least_unfit(alloc, seen, &[true, false], &fit)?)),
+        "missing" | "copied" | "foreign" | "splits" | "live" => {
             let reached = reach(alloc, seen)?;
-            reached_told(alloc, seen, &reached, asks)
+            return tell_reached(alloc, seen, &reached, asks, told);
         }
+        asks => told.unread(asks),
     }
+    Ok(())
 }
 
 /// What is asked of stores, and they.
-pub(crate) fn claims_of(alloc: Global, question: &str) -> Result<String, OutOfMemory> {
+pub(crate) fn claims_of(alloc: Global, question: &str, told: &mut Told) -> Result<(), OutOfMemory> {
     let (asks, words) = cut(question);
-    claims_told(alloc, stores(alloc, words)?.as_slice(), asks)
+    tell_claims(alloc, stores(alloc, words)?.as_slice(), asks, told)
 }
 
 const CLAIMS: Table = Table(
@@ -168,66 +187,55 @@ fn what_stores_claim(rt: HostRuntime) {
     assert_eq!(rt; wrong_of(rt.alloc(), Of::Claims, CLAIMS).wrong(), "");
 }
 
-// A store of the archive, which holds this; its second receipt lent a package with nothing in it.
-fn archive_seen(alloc: Global, words: &str) -> Result<StoreSeen, OutOfMemory> {
-    Ok(StoreSeen {
-        sight: store_of(0, claims(alloc, false)?),
-        is_formed: true,
-        is_tied: true,
-        held: sight_of(alloc, words)?,
-    })
-}
-
-// A store of the package that it lent, at this depth.
-fn loan_seen(alloc: Global, depth: u64) -> Result<StoreSeen, OutOfMemory> {
-    Ok(StoreSeen {
-        sight: store_of(depth, Vec::new(alloc)),
-        is_formed: true,
-        is_tied: true,
-        held: sight_of(alloc, "b.a.2.none:")?,
-    })
-}
-
-// An archive that has a tile of one byte, none, or another; one with a tile of two bytes, whose rows are not tied; a loan at its depth, one too deep, one
-// that is neither formed nor tied; and a store without a head that is not formed.
-fn store_seen(alloc: Global, word: &str) -> Result<StoreSeen, OutOfMemory> {
-    let mut seen = match word {
-        "archive" => archive_seen(alloc, "a.-.0.tile:addition,2.2.lent.a.b.none")?,
-        "untied" => archive_seen(alloc, "a.-.0.grown:addition,2.2.lent.a.b.none")?,
-        "emptied" => archive_seen(alloc, "a.-.0.none:addition,2.2.lent.a.b.none")?,
-        "altered" => archive_seen(alloc, "a.-.0.altered:addition,2.2.lent.a.b.none")?,
-        "deep" | "torn" => loan_seen(alloc, 2)?,
-        _ => loan_seen(alloc, 1)?,
-    };
-    seen.is_tied = word != "untied" && word != "torn";
-    seen.is_formed = word != "torn" && word != "stray";
-    if word == "stray" {
-        seen.sight.head = None;
+// How deep a store is, and what it holds with its receipts: an archive that has a tile of one byte, none, another, or one of two bytes,
+// and whose second receipt lent a package with nothing in it; or that package, at its depth or one below.
+fn held_by(word: &str) -> (u64, &'static str) {
+    match word {
+        "archive" => (0, "a.-.0.tile:addition,2.2.lent.a.b.none"),
+        "untied" => (0, "a.-.0.grown:addition,2.2.lent.a.b.none"),
+        "emptied" => (0, "a.-.0.none:addition,2.2.lent.a.b.none"),
+        "altered" => (0, "a.-.0.altered:addition,2.2.lent.a.b.none"),
+        "deep" | "torn" => (2, "b.a.2.none:"),
+        _ => (1, "b.a.2.none:"),
     }
-    Ok(seen)
+}
+
+// Such a store; one is not tied, one neither formed nor tied, and a stray has no head and is not formed.
+fn store_seen(alloc: Global, word: &str) -> Result<StoreSeen, OutOfMemory> {
+    let (depth, words) = held_by(word);
+    let held = sight_of(alloc, words)?;
+    let mut sight = store_of(depth, claims(alloc, if depth == 0 { 2 } else { 0 })?);
+    if word == "stray" {
+        sight.head = None;
+    }
+    Ok(StoreSeen {
+        sight,
+        is_formed: word != "torn" && word != "stray",
+        is_tied: word != "untied" && word != "torn",
+        held,
+    })
 }
 
 // How many receipts there are; and of each store that is live its package, the tiles and bytes of it, and its ticket.
-fn verdict_text(alloc: Global, verdict: &Verdict) -> Result<String, OutOfMemory> {
-    let mut text = format!(in alloc; "{}:", verdict.count)?;
+fn tell_verdict(verdict: &Verdict, told: &mut Told) {
+    told.value(&verdict.count);
+    told.word(":");
     for kept in verdict.kept.iter() {
-        match kept {
-            Some(live) => {
-                let word = package_word(Some(live.head.uuid));
-                let (sums, ticket) = (live.sums, live.ticket);
-                text.push_str(format!(in alloc;
-                    " {word} {} {} {ticket};",
-                    sums.tiles, sums.bytes
-                )?.as_str())?;
-            }
-            None => text.push_str(" -;")?,
+        told.word(" ");
+        if let Some(live) = kept {
+            told.word(package_word(Some(live.head.uuid)));
+            told.worded(" ", &live.sums.tiles);
+            told.worded(" ", &live.sums.bytes);
+            told.worded(" ", &live.ticket);
+        } else {
+            told.word("-");
         }
+        told.word(";");
     }
-    Ok(text)
 }
 
 // The name of a fault, and what it tells.
-fn fault_text(alloc: Global, fault: RecoverFault) -> Result<String, OutOfMemory> {
+fn tell_fault(fault: RecoverFault, told: &mut Told) {
     let of = match fault {
         RecoverFault::NotAPackage(id)
         | RecoverFault::TwoCopies(id)
@@ -237,19 +245,22 @@ fn fault_text(alloc: Global, fault: RecoverFault) -> Result<String, OutOfMemory>
         | RecoverFault::Altered(id) => Some(id),
         _ => None,
     };
-    Ok(format!(in alloc; "{fault} {}", package_word(of))?)
+    told.value(&fault);
+    told.word(" ");
+    told.word(package_word(of));
 }
 
 /// What these stores come to.
-pub(crate) fn verdict_of(alloc: Global, words: &str) -> Result<String, OutOfMemory> {
+pub(crate) fn verdict_of(alloc: Global, words: &str, told: &mut Told) -> Result<(), OutOfMemory> {
     let mut seen = Vec::new(alloc);
     for word in words.split(' ') {
         seen.push(store_seen(alloc, word)?)?;
     }
     match judge_all(alloc, seen) {
-        Ok(verdict) => verdict_text(alloc, &verdict),
-        Err(fault) => fault_text(alloc, fault),
+        Ok(verdict) => tell_verdict(&verdict, told),
+        Err(fault) => tell_fault(fault, told),
     }
+    Ok(())
 }
 
 const JUDGED: Table = Table(

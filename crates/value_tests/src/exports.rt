@@ -1,6 +1,6 @@
 //! Statements that were written by hand from OGC GeoPackage 1.3 and OGC 18-000; the bytes of doubles are those of Python's `struct`.
 
-use crate::steps::{Of, Table, cut, numbers, said, signs, unread, uuid, wrong_of};
+use crate::steps::{Of, Table, Told, cut, numbers, uuid, wrong_of};
 use crate::values::item;
 use export_sql::lines::{item_rows, link_row};
 use export_sql::literals::{Thousandths, text_literal};
@@ -14,121 +14,128 @@ use sheet_types::error::OutOfMemory;
 use sheet_types::frame::Frame;
 use sheet_types::reading::read_frame;
 use std::alloc::Global;
+use std::collections::BTreeMap;
+use uuid::Uuid;
 
 // Two tiles, a medium and a row, by the last bytes of their UUIDs: the second tile is 2, the medium and the row are 1.
 fn items(alloc: Global) -> Result<Vec<Item>, OutOfMemory> {
     let mut list = Vec::new(alloc);
-    list.push(item(alloc, uuid(0, 5), "tile")?)?;
-    list.push(item(alloc, uuid(0, 9), "tile")?)?;
-    list.push(item(alloc, uuid(0, 3), "media image/jpeg|JP")?)?;
-    list.push(item(alloc, uuid(0, 4), "row 7|gate")?)?;
+    for (name, words) in [
+        (5, "tile"),
+        (9, "tile"),
+        (3, "media image/jpeg|JP"),
+        (4, "row 7|gate"),
+    ] {
+        list.push(item(alloc, uuid(0, name), words)?)?;
+    }
     Ok(list)
 }
 
-// The number of an item among those.
-fn number_told(alloc: Global, name: u8) -> Result<String, OutOfMemory> {
+// The numbers of those.
+fn all_numbers(alloc: Global) -> Result<BTreeMap<Uuid, u64>, OutOfMemory> {
     let list = items(alloc)?;
-    let numbers = numbers_of(alloc, list.as_slice())?;
-    Ok(format!(in alloc; "{}", number_of(&numbers, uuid(0, name)))?)
+    numbers_of(alloc, list.as_slice())
 }
 
 // The row of a link of the row to the second tile.
-fn link_told(alloc: Global) -> Result<String, OutOfMemory> {
-    let list = items(alloc)?;
-    let numbers = numbers_of(alloc, list.as_slice())?;
+fn tell_link(alloc: Global, told: &mut Told) -> Result<(), OutOfMemory> {
+    let numbers = all_numbers(alloc)?;
     let link = Relation::new(Mapping::RowsTiles, uuid(0, 4), uuid(0, 9));
-    Ok(link_row(alloc, &numbers, &link)?)
+    told.value(&link_row(alloc, &numbers, &link)?);
+    Ok(())
 }
 
-// How many of its kind there are after it was counted.
-fn count_told(alloc: Global, given: &Item) -> Result<String, OutOfMemory> {
-    let count = Counts::none()
-        .counted(&given.content)
-        .of_kind(&given.content);
-    Ok(format!(in alloc; "{count}")?)
-}
-
-// The rows of an item that has this number.
-fn rows_told(alloc: Global, words: &str) -> Result<String, OutOfMemory> {
-    let (number, words) = cut(words);
-    match number.parse::<u64>() {
-        Ok(number) => Ok(item_rows(alloc, 25832, number, &item(alloc, uuid(0, 1), words)?)?),
-        Err(_) => unread(alloc, number),
+// Of an item its rows under a number; or how many of its kind there are after it was counted.
+fn tell_item(
+    alloc: Global,
+    given: &Item,
+    number: Option<u64>,
+    told: &mut Told,
+) -> Result<(), OutOfMemory> {
+    let content = &given.content;
+    match number {
+        Some(number) => told.value(&item_rows(alloc, 25832, number, given)?),
+        None => told.value(&Counts::none().counted(content).of_kind(content)),
     }
+    Ok(())
 }
 
-fn point_told(alloc: Global, srs_id: i32, x: i64, y: i64) -> Result<String, OutOfMemory> {
-    let bytes = point(alloc, i64::from(srs_id), x, y)?;
-    Ok(hex::encode(alloc, bytes.as_slice())?)
+fn tell_rows(
+    alloc: Global,
+    number: Option<u64>,
+    words: &str,
+    told: &mut Told,
+) -> Result<(), OutOfMemory> {
+    let given = item(alloc, uuid(0, 1), words)?;
+    tell_item(alloc, &given, number, told)
+}
+
+fn tell_point(alloc: Global, n: [i64; 8], told: &mut Told) -> Result<(), OutOfMemory> {
+    match i32::try_from(n[0]) {
+        Ok(srs_id) => {
+            let bytes = point(alloc, i64::from(srs_id), n[1], n[2])?;
+            told.value(&hex::encode(alloc, bytes.as_slice())?);
+        }
+        Err(_) => told.unread("point"),
+    }
+    Ok(())
 }
 
 // Whether an opening begins so, has these, ends so, and names a system of its own.
-fn parts(alloc: Global, text: &str) -> Result<String, OutOfMemory> {
-    signs(
-        alloc,
-        &[
-            text.starts_with(FRONT),
-            text.contains(SYSTEM),
-            text.contains(CONTENTS),
-            text.ends_with(BACK),
-            text.contains("'EPSG:"),
-        ],
-    )
+fn tell_opening(text: &str, told: &mut Told) {
+    told.sign(text.starts_with(FRONT));
+    told.sign(text.contains(SYSTEM));
+    told.sign(text.contains(CONTENTS));
+    told.sign(text.ends_with(BACK));
+    told.sign(text.contains("'EPSG:"));
 }
 
-fn opening_told(alloc: Global, frame: &Frame) -> Result<String, OutOfMemory> {
+fn tell_frame(
+    alloc: Global,
+    frame: &Frame,
+    asks: &str,
+    told: &mut Told,
+) -> Result<(), OutOfMemory> {
     if frame.check().is_err() {
-        return said(alloc, "no frame");
+        told.unread("no frame");
+    } else if asks == "matrices" {
+        told.value(&matrices(alloc, frame)?);
+    } else {
+        tell_opening(opening(alloc, frame, uuid(0, 10))?.as_str(), told);
     }
-    let text = opening(alloc, frame, uuid(0, 10))?;
-    parts(alloc, text.as_str())
+    Ok(())
 }
 
-fn matrices_told(alloc: Global, frame: &Frame) -> Result<String, OutOfMemory> {
-    if frame.check().is_err() {
-        return said(alloc, "no frame");
+// A part of an export that goes by numbers or by a frame.
+fn tell_numbered(
+    alloc: Global,
+    asks: &str,
+    words: &str,
+    told: &mut Told,
+) -> Result<(), OutOfMemory> {
+    match (asks, numbers(words), read_frame(words)) {
+        ("thousandths", Some(n), _) => told.value(&Thousandths(n[0])),
+        ("point", Some(n), _) => tell_point(alloc, n, told)?,
+        ("matrices" | "opening", _, Some(frame)) => tell_frame(alloc, &frame, asks, told)?,
+        _ => told.unread(asks),
     }
-    Ok(matrices(alloc, frame)?)
-}
-
-fn frame_told(alloc: Global, asks: &str, words: &str) -> Result<String, OutOfMemory> {
-    match (asks, read_frame(words)) {
-        ("matrices", Some(frame)) => matrices_told(alloc, &frame),
-        (_, Some(frame)) => opening_told(alloc, &frame),
-        _ => unread(alloc, words),
-    }
-}
-
-fn numbers_told(alloc: Global, asks: &str, n: [i64; 8]) -> Result<String, OutOfMemory> {
-    match asks {
-        "thousandths" => Ok(format!(in alloc; "{}", Thousandths(n[0]))?),
-        _ => match i32::try_from(n[0]) {
-            Ok(srs_id) => point_told(alloc, srs_id, n[1], n[2]),
-            Err(_) => unread(alloc, asks),
-        },
-    }
+    Ok(())
 }
 
 /// A part of an export.
-pub(crate) fn export_of(alloc: Global, question: &str) -> Result<String, OutOfMemory> {
+pub(crate) fn export_of(alloc: Global, question: &str, told: &mut Told) -> Result<(), OutOfMemory> {
     let (asks, words) = cut(question);
-    match asks {
-        "thousandths" | "point" => match numbers(words) {
-            Some(n) => numbers_told(alloc, asks, n),
-            None => unread(alloc, question),
-        },
-        "literal" => Ok(text_literal(alloc, words)?),
-        "rows" => rows_told(alloc, words),
-        "count" => count_told(alloc, &item(alloc, uuid(0, 1), words)?),
-        "number_of" => match words.parse::<u8>() {
-            Ok(name) => number_told(alloc, name),
-            Err(_) => unread(alloc, question),
-        },
-        "link" => link_told(alloc),
-        "matrices" | "opening" => frame_told(alloc, asks, words),
-        "closing" => said(alloc, closing()),
-        _ => unread(alloc, question),
+    let (number, rest) = cut(words);
+    match (asks, number.parse::<u8>()) {
+        ("literal", _) => told.value(&text_literal(alloc, words)?),
+        ("rows", Ok(number)) => tell_rows(alloc, Some(u64::from(number)), rest, told)?,
+        ("count", _) => tell_rows(alloc, None, words, told)?,
+        ("number_of", Ok(name)) => told.value(&number_of(&all_numbers(alloc)?, uuid(0, name))),
+        ("link", _) => tell_link(alloc, told)?,
+        ("closing", _) => told.word(closing()),
+        _ => tell_numbered(alloc, asks, words, told)?,
     }
+    Ok(())
 }
 
 // What the opening of an export begins with, what it contains, and what it ends with.

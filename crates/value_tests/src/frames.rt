@@ -1,7 +1,7 @@
 //! Frames, grounds, edges and spans whose values were worked out by hand and by a second program. A frame is written as a text, and a
 //! rectangle by its zoom, its first and last column and its first and last row.
 
-use crate::steps::{Of, Table, answered, cut, numbers, numbers_text, said, unread, wrong_of};
+use crate::steps::{Of, Table, Told, cut, numbers, wrong_of};
 use matrix_rules::axis::axes_at;
 use matrix_rules::check::FrameRules;
 use matrix_rules::ground::{
@@ -9,10 +9,8 @@ use matrix_rules::ground::{
 };
 use matrix_rules::levels::{level_count, zoom_at};
 use matrix_rules::reach::span;
-use sheet_types::error::OutOfMemory;
 use sheet_types::frame::{Frame, FrameFault, Ground, Rect};
 use sheet_types::reading::read_frame;
-use std::alloc::Global;
 
 fn fault_name(fault: FrameFault) -> &'static str {
     match fault {
@@ -26,87 +24,53 @@ fn fault_name(fault: FrameFault) -> &'static str {
 }
 
 // West, south, east and north.
-fn ground_text(alloc: Global, found: Ground) -> Result<String, OutOfMemory> {
-    numbers_text(alloc, &[found.west, found.south, found.east, found.north])
+fn tell_ground(found: Ground, told: &mut Told) {
+    told.numbers(&[found.west, found.south, found.east, found.north]);
 }
 
 // The columns and rows of a zoom, and the width and height of its pixels.
-fn axes_told(alloc: Global, frame: &Frame, zoom: i64) -> Result<String, OutOfMemory> {
+fn tell_axes(frame: &Frame, zoom: i64, told: &mut Told) {
     if frame.check().is_err() || !has_place(frame, zoom, 0, 0) {
-        return said(alloc, "no zoom");
+        return told.unread("no zoom");
     }
     let axes = axes_at(frame, zoom);
     let (across, down) = (axes.across, axes.down);
-    numbers_text(
-        alloc,
-        &[across.tiles, down.tiles, across.pixel_size, down.pixel_size],
-    )
+    told.numbers(&[across.tiles, down.tiles, across.pixel_size, down.pixel_size]);
 }
 
-fn zoom_told(alloc: Global, frame: &Frame, level: i64) -> Result<String, OutOfMemory> {
+fn tell_zoom(frame: &Frame, level: i64, told: &mut Told) {
     if frame.check().is_err() {
-        return said(alloc, "no frame");
+        return told.unread("no frame");
     }
     match u64::try_from(level) {
-        Ok(level) if level < level_count(frame) => numbers_text(alloc, &[zoom_at(frame, level)]),
-        _ => said(alloc, "-"),
-    }
-}
-
-fn tile_told(
-    alloc: Global,
-    frame: &Frame,
-    rect: &Rect,
-    at: [i64; 3],
-) -> Result<String, OutOfMemory> {
-    if frame.check().is_err() || !is_good(frame, rect) {
-        return said(alloc, "no rectangle");
-    }
-    let [zoom, column, row] = at;
-    if !has_place(frame, zoom, column, row) {
-        return said(alloc, "no place");
-    }
-    answered(alloc, tile_inside(frame, rect, zoom, column, row))
-}
-
-fn span_told(alloc: Global, frame: &Frame, rect: &Rect, zoom: i64) -> Result<String, OutOfMemory> {
-    if frame.check().is_err() || !is_good(frame, rect) {
-        return said(alloc, "no rectangle");
-    }
-    match span(frame, rect, zoom) {
-        Some(s) => numbers_text(alloc, &[s.column, s.last_column, s.row, s.last_row]),
-        None => said(alloc, "-"),
+        Ok(level) if level < level_count(frame) => told.numbers(&[zoom_at(frame, level)]),
+        _ => told.word("-"),
     }
 }
 
 // A rectangle, and three numbers behind it.
-fn rect_told(
-    alloc: Global,
-    frame: &Frame,
-    asks: &str,
-    rect: &Rect,
-    at: [i64; 3],
-) -> Result<String, OutOfMemory> {
+fn tell_rect(frame: &Frame, asks: &str, rect: &Rect, at: [i64; 3], told: &mut Told) {
     if frame.check().is_err() || !is_good(frame, rect) {
-        return said(alloc, "no rectangle");
+        return told.unread("no rectangle");
     }
+    let [zoom, column, row] = at;
     match asks {
-        "block" => ground_text(alloc, block(frame, rect)),
-        "point_inside" => answered(alloc, point_inside(frame, rect, at[0], at[1])),
-        "span" => span_told(alloc, frame, rect, at[0]),
-        "tile_inside" => tile_told(alloc, frame, rect, at),
-        asks => unread(alloc, asks),
+        "block" => tell_ground(block(frame, rect), told),
+        "point_inside" => told.answer(point_inside(frame, rect, at[0], at[1])),
+        "span" => match span(frame, rect, zoom) {
+            Some(s) => told.numbers(&[s.column, s.last_column, s.row, s.last_row]),
+            None => told.word("-"),
+        },
+        "tile_inside" if has_place(frame, zoom, column, row) => {
+            told.answer(tile_inside(frame, rect, zoom, column, row));
+        }
+        asks => told.unread(asks),
     }
 }
 
-fn frame_told(
-    alloc: Global,
-    frame: &Frame,
-    asks: &str,
-    n: [i64; 8],
-) -> Result<String, OutOfMemory> {
+fn tell_frame(frame: &Frame, asks: &str, n: [i64; 8], told: &mut Told) {
     if let Err(fault) = frame.check() {
-        return said(alloc, fault_name(fault));
+        return told.word(fault_name(fault));
     }
     let rect = Rect {
         zoom: n[0],
@@ -116,18 +80,18 @@ fn frame_told(
         last_row: n[4],
     };
     match asks {
-        "check" => said(alloc, "good"),
-        "axes" => axes_told(alloc, frame, n[0]),
+        "check" => told.word("good"),
+        "axes" => tell_axes(frame, n[0], told),
         "ground" => match ground(frame, n[0], n[1], n[2]) {
-            Some(found) => ground_text(alloc, found),
-            None => said(alloc, "-"),
+            Some(found) => tell_ground(found, told),
+            None => told.word("-"),
         },
-        "is_good" => answered(alloc, is_good(frame, &rect)),
-        "has_place" => answered(alloc, has_place(frame, n[0], n[1], n[2])),
-        "in_frame" => answered(alloc, in_frame(frame, n[0], n[1])),
-        "level_count" => Ok(format!(in alloc; "{}", level_count(frame))?),
-        "zoom_at" => zoom_told(alloc, frame, n[0]),
-        asks => rect_told(alloc, frame, asks, &rect, [n[5], n[6], n[7]]),
+        "is_good" => told.answer(is_good(frame, &rect)),
+        "has_place" => told.answer(has_place(frame, n[0], n[1], n[2])),
+        "in_frame" => told.answer(in_frame(frame, n[0], n[1])),
+        "level_count" => told.value(&level_count(frame)),
+        "zoom_at" => tell_zoom(frame, n[0], told),
+        asks => tell_rect(frame, asks, &rect, [n[5], n[6], n[7]], told),
     }
 }
 
@@ -147,12 +111,12 @@ fn frame_text(word: &str) -> &str {
 }
 
 /// A frame by its name or as a text, what is asked of it, and numbers.
-pub(crate) fn frame_of(alloc: Global, question: &str) -> Result<String, OutOfMemory> {
+pub(crate) fn frame_of(question: &str, told: &mut Told) {
     let (name, rest) = cut(question);
     let (asks, left) = cut(rest);
     match (read_frame(frame_text(name)), numbers(left)) {
-        (Some(frame), Some(n)) => frame_told(alloc, &frame, asks, n),
-        _ => unread(alloc, question),
+        (Some(frame), Some(n)) => tell_frame(&frame, asks, n, told),
+        _ => told.unread(question),
     }
 }
 

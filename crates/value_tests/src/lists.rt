@@ -1,7 +1,7 @@
 //! Request lists, worked out by hand; the digests are Python's `hashlib`. What else is a list, and what is none, is in the sessions
 //! (`crates/sheetdesk`).
 
-use crate::steps::{Checked, Of, Table, ask_all, cut, said, unescaped, unread};
+use crate::steps::{Of, Table, Told, cut, unescaped, wrong_of};
 use request_csv::lists::{ReadFault, read_requests};
 use sheet_types::command::Request;
 use sheet_types::error::OutOfMemory;
@@ -11,25 +11,26 @@ use std::io::Read;
 use test_lists::{FIRST_TILE, Failing, HEADER};
 
 // How many requests there are, and the moment and the line of the last.
-fn requests_text(alloc: Global, requests: &[Request]) -> Result<String, OutOfMemory> {
-    match requests.last() {
-        Some(last) => {
-            let words = line(alloc, &last.command)?;
-            Ok(format!(in alloc; "{} {} {words}", requests.len(), last.at.as_str())?)
-        }
-        None => said(alloc, "0"),
+fn tell_requests(alloc: Global, requests: &[Request], told: &mut Told) -> Result<(), OutOfMemory> {
+    told.value(&requests.len());
+    if let Some(last) = requests.last() {
+        told.word(" ");
+        told.word(last.at.as_str());
+        told.worded(" ", &line(alloc, &last.command)?);
     }
+    Ok(())
 }
 
 // The requests that a reader gives, or the fault of its list, with the number of the record that it tells.
-fn outcome<R: Read + Drop>(alloc: Global, reader: R) -> Result<String, OutOfMemory> {
+fn tell_read<R: Read + Drop>(alloc: Global, reader: R, told: &mut Told) -> Result<(), OutOfMemory> {
     match read_requests(alloc, reader) {
-        Ok(requests) => requests_text(alloc, requests.as_slice()),
-        Err(ReadFault::Header) => said(alloc, "Header"),
-        Err(ReadFault::Record(number)) => Ok(format!(in alloc; "Record {number}")?),
-        Err(ReadFault::Read) => said(alloc, "Read"),
-        Err(ReadFault::Memory) => Err(OutOfMemory),
+        Ok(requests) => return tell_requests(alloc, requests.as_slice(), told),
+        Err(ReadFault::Header) => told.word("Header"),
+        Err(ReadFault::Record(number)) => told.worded("Record ", &number),
+        Err(ReadFault::Read) => told.word("Read"),
+        Err(ReadFault::Memory) => return Err(OutOfMemory),
     }
+    Ok(())
 }
 
 // A text: `@` is the header, `%` the addition of a first tile, `$` a deletion, and `#` seventeen commas.
@@ -51,19 +52,30 @@ const DELETION: &str =
     "90000000-0000-4000-8000-000000000002,T,delete,a0000000-0000-4000-8000-000000000000,\
     00000000-0000-4000-8000-000000000001,,,,,,,,,,,,,";
 
-/// A text, by a reader that ends or one that then fails.
-pub(crate) fn list_of(alloc: Global, question: &str) -> Result<String, OutOfMemory> {
-    let (kind, words) = cut(question);
-    let text = whole(alloc, words)?;
+fn tell_text(alloc: Global, kind: &str, text: &[u8], told: &mut Told) -> Result<(), OutOfMemory> {
     match kind {
-        "all" => outcome(alloc, text.as_bytes()),
-        "failing" => outcome(alloc, Failing::new(text.as_bytes())),
-        kind => unread(alloc, kind),
+        "all" | "greatest" => tell_read(alloc, text, told),
+        "failing" => tell_read(alloc, Failing::new(text), told),
+        "broken" => tell_read(alloc, b"request,\xff\n".as_slice(), told),
+        kind => {
+            told.unread(kind);
+            Ok(())
+        }
     }
 }
 
+/// A text, by a reader that ends or one that then fails; the greatest data behind it; or bytes that are none.
+pub(crate) fn list_of(alloc: Global, question: &str, told: &mut Told) -> Result<(), OutOfMemory> {
+    let (kind, words) = cut(question);
+    let mut text = whole(alloc, words)?;
+    if kind == "greatest" {
+        text.push_str("a5".repeat(alloc, 1_048_576)?.as_str())?;
+    }
+    tell_text(alloc, kind, text.as_bytes(), told)
+}
+
 const LISTS: Table = Table(
-    57,
+    59,
     "# headers
 all @ => [0]
 all `request`,at,command,package,identity,other,kind,zoom,column,row,last_column,last_row,x,y,code,ticket,text,\
@@ -166,30 +178,16 @@ failing request^ => [Header]
 failing @^ => [Read]
 failing @^%^$^ => [Read]
 failing @^%^#^$^ => [Record 2]
+# what is no text, and a tile of the greatest size
+broken => [Read]
+greatest @^90000000-0000-4000-8000-000000000001,T,add,a0000000-0000-4000-8000-000000000000,\
+    00000000-0000-4000-8000-000000000001,,tile,2,3,3,,,,,,,, => [1 T add a0000000-0000-4000-8000-000000000000 \
+    00000000-0000-4000-8000-000000000001 tile 1048576 \
+    bfa5590c5ef51b89416f3d888ef6ade3742a1c9f64b293a4d11a6a88afdebced]
 ",
 );
 
-// The line of a tile of the greatest size.
-fn greatest_told(alloc: Global) -> Result<String, OutOfMemory> {
-    let mut text = whole(
-        alloc,
-        "@^90000000-0000-4000-8000-000000000001,T,add,a0000000-0000-4000-8000-000000000000,\
-        00000000-0000-4000-8000-000000000001,,tile,2,3,3,,,,,,,,",
-    )?;
-    text.push_str("a5".repeat(alloc, 1_048_576)?.as_str())?;
-    outcome(alloc, text.as_bytes())
-}
-
 #[test]
 fn lists(rt: HostRuntime) {
-    let alloc = rt.alloc();
-    let mut checked = Checked::new(alloc);
-    ask_all(alloc, Of::Lists, LISTS, &mut checked);
-    checked.told(outcome(alloc, b"request,\xff\n".as_slice()), "Read");
-    checked.told(
-        greatest_told(alloc),
-        "1 T add a0000000-0000-4000-8000-000000000000 00000000-0000-4000-8000-000000000001 tile 1048576 \
-        bfa5590c5ef51b89416f3d888ef6ade3742a1c9f64b293a4d11a6a88afdebced",
-    );
-    assert_eq!(rt; checked.wrong(), "");
+    assert_eq!(rt; wrong_of(rt.alloc(), Of::Lists, LISTS).wrong(), "");
 }

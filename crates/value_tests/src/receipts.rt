@@ -1,6 +1,6 @@
 //! Receipts as texts, written by hand; the digest is of another program's SHA-256.
 
-use crate::steps::{said, uuid};
+use crate::steps::{points, uuid};
 use crate::values::text;
 use sheet_types::collections::MovedList;
 use sheet_types::error::OutOfMemory;
@@ -121,17 +121,6 @@ pub(crate) fn package_byte(word: &str) -> Option<u8> {
     }
 }
 
-// A receipt by its number, that of its request, its line, where it moves what, and where to.
-#[derive(Clone, Copy)]
-struct Entry<'a> {
-    seq: u64,
-    request: u8,
-    line: &'a str,
-    source: u8,
-    target: u8,
-    thing: &'a str,
-}
-
 // A tile is added to the archive, and all of it is lent and brought back.
 fn entry_text(word: &str) -> &str {
     match word {
@@ -140,20 +129,6 @@ fn entry_text(word: &str) -> &str {
         "merge" => "3.3.returned.b.a.tile",
         word => word,
     }
-}
-
-fn entry_of(word: &str) -> Option<Entry<'_>> {
-    let mut parts = entry_text(word).split('.');
-    let (seq, request, line) = (parts.next()?, parts.next()?, parts.next()?);
-    let (source, target, thing) = (parts.next()?, parts.next()?, parts.next()?);
-    Some(Entry {
-        seq: seq.parse::<u64>().ok()?,
-        request: request.parse::<u8>().ok()?,
-        line: line_of(line),
-        source: package_byte(source)?,
-        target: package_byte(target)?,
-        thing,
-    })
 }
 
 // How many tiles, links and bytes it moves.
@@ -166,30 +141,31 @@ fn counts_of(thing: &str) -> (u64, u64, u64) {
     }
 }
 
-fn receipt(alloc: Global, entry: Entry<'_>) -> Result<Receipt, OutOfMemory> {
-    let (tiles, links, bytes) = counts_of(entry.thing);
+/// A receipt by its name, or by its number, that of its request, its line, where it moves what, and where to. One that cannot be read is told
+/// as want of memory, which nothing expects.
+pub(crate) fn receipt_of(alloc: Global, word: &str) -> Result<Receipt, OutOfMemory> {
+    let [seq, request, line, source, target, thing] = points(entry_text(word));
+    let (Ok(seq), Ok(request)) = (seq.parse::<u64>(), request.parse::<u8>()) else {
+        return Err(OutOfMemory);
+    };
+    let (Some(source), Some(target)) = (package_byte(source), package_byte(target)) else {
+        return Err(OutOfMemory);
+    };
+    let (tiles, links, bytes) = counts_of(thing);
     Ok(Receipt {
-        seq: entry.seq,
-        request: uuid(0x90, entry.request),
+        seq,
+        request: uuid(0x90, request),
         at: text(alloc, "2024-05-01T08:00:00.000Z")?,
-        line: text(alloc, entry.line)?,
-        source: package(entry.source),
-        target: package(entry.target),
-        items: things(alloc, entry.thing)?,
+        line: text(alloc, line_of(line))?,
+        source: package(source),
+        target: package(target),
+        items: things(alloc, thing)?,
         tiles,
         media: 0,
         rows: 0,
         links,
         bytes,
     })
-}
-
-/// A receipt by its name or as a text. One that cannot be read is told as want of memory, which nothing expects.
-pub(crate) fn receipt_of(alloc: Global, word: &str) -> Result<Receipt, OutOfMemory> {
-    match entry_of(word) {
-        Some(entry) => receipt(alloc, entry),
-        None => Err(OutOfMemory),
-    }
 }
 
 /// Receipts with commas between them.
@@ -207,23 +183,10 @@ pub(crate) fn receipts(alloc: Global, words: &str) -> Result<Vec<Receipt>, OutOf
 pub(crate) fn package_word(found: Option<Uuid>) -> &'static str {
     match found {
         None => "-",
-        Some(id) => {
-            if id == uuid(ARCHIVE, 0) {
-                "a"
-            } else if id == uuid(LOAN, 0) {
-                "b"
-            } else if id == uuid(0xc0, 0) {
-                "c"
-            } else if id == uuid(0, 1) {
-                "tile"
-            } else {
-                "?"
-            }
-        }
+        Some(id) if id == uuid(ARCHIVE, 0) => "a",
+        Some(id) if id == uuid(LOAN, 0) => "b",
+        Some(id) if id == uuid(0xc0, 0) => "c",
+        Some(id) if id == uuid(0, 1) => "tile",
+        Some(_) => "?",
     }
-}
-
-/// The same as a text.
-pub(crate) fn package_text(alloc: Global, found: Option<Uuid>) -> Result<String, OutOfMemory> {
-    said(alloc, package_word(found))
 }

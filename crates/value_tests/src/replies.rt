@@ -2,7 +2,7 @@
 //! and of refusals is in the sessions too (`crates/sheetdesk`).
 
 use crate::receipts::{ARCHIVE, LOAN, package, receipt_of};
-use crate::steps::{Of, Table, cut, said, unescaped, unread, uuid, wrong_of};
+use crate::steps::{Of, Table, Told, cut, unescaped, uuid, wrong_of};
 use crate::values::text;
 use desk_replies::bodies::{receipt_body, refusal_body};
 use desk_replies::fixed::{Fixed, fixed_response};
@@ -16,53 +16,32 @@ use sheet_types::receipt::{Receipt, Sums};
 use sheet_types::refusal::Refusal;
 use std::alloc::Global;
 
-fn bytes_text(alloc: Global, bytes: &[u8]) -> Result<String, OutOfMemory> {
-    match str::from_utf8(bytes) {
-        Ok(text) => said(alloc, text),
-        Err(_) => said(alloc, "no text"),
+// The receipt of the addition of a tile of one byte, the first of all; where it is to be quoted, at a moment that has to be escaped.
+fn first_receipt(alloc: Global, asks: &str) -> Result<Receipt, OutOfMemory> {
+    let mut receipt = receipt_of(alloc, "1.1.added.-.a.tile")?;
+    if asks == "quoted" {
+        receipt.at = text(alloc, "`^\u{1}\u{e9}")?;
     }
+    Ok(receipt)
 }
 
-// Each question is answered by a function of its own, so that none holds more than what it asks of.
-fn response_told(alloc: Global, receipt: &Receipt) -> Result<String, OutOfMemory> {
-    bytes_text(alloc, receipt_response(alloc, receipt)?.as_slice())
-}
-
-fn sent_told(alloc: Global, receipt: &Receipt) -> Result<String, OutOfMemory> {
-    bytes_text(alloc, receipt_outgoing(alloc, receipt).as_slice())
-}
-
-fn replied_told(alloc: Global, answer: &Result<Receipt, Refusal>) -> Result<String, OutOfMemory> {
-    bytes_text(alloc, reply_outgoing(alloc, answer).as_slice())
-}
-
-fn conflict_told(alloc: Global, why: &Refusal) -> Result<String, OutOfMemory> {
-    bytes_text(alloc, conflict_response(alloc, why)?.as_slice())
-}
-
-fn refusal_told(alloc: Global, why: &Refusal) -> Result<String, OutOfMemory> {
-    bytes_text(alloc, refusal_outgoing(alloc, why).as_slice())
-}
-
-// The receipt of the addition of a tile of one byte, the first of all.
-fn first_receipt(alloc: Global) -> Result<Receipt, OutOfMemory> {
-    receipt_of(alloc, "1.1.added.-.a.tile")
-}
-
-// The same at a moment that has to be escaped.
-fn quoted_told(alloc: Global) -> Result<String, OutOfMemory> {
-    let mut receipt = first_receipt(alloc)?;
-    receipt.at = text(alloc, "`^\u{1}\u{e9}")?;
-    receipt_body(alloc, &receipt)
-}
-
-fn receipt_told(alloc: Global, receipt: &Receipt, asks: &str) -> Result<String, OutOfMemory> {
+fn tell_receipt(
+    alloc: Global,
+    receipt: &Receipt,
+    asks: &str,
+    told: &mut Told,
+) -> Result<(), OutOfMemory> {
     match asks {
-        "body" => receipt_body(alloc, receipt),
-        "response" => response_told(alloc, receipt),
-        "sent" => sent_told(alloc, receipt),
-        asks => unread(alloc, asks),
+        "body" | "quoted" => told.value(&receipt_body(alloc, receipt)?),
+        "response" => told.bytes(receipt_response(alloc, receipt)?.as_slice()),
+        "sent" => told.bytes(receipt_outgoing(alloc, receipt).as_slice()),
+        asks => told.unread(asks),
     }
+    Ok(())
+}
+
+fn tell_reply(alloc: Global, reply: &Result<Receipt, Refusal>, told: &mut Told) {
+    told.bytes(reply_outgoing(alloc, reply).as_slice());
 }
 
 fn refusal(word: &str) -> Option<Refusal> {
@@ -76,13 +55,20 @@ fn refusal(word: &str) -> Option<Refusal> {
     }
 }
 
-fn why_told(alloc: Global, why: Refusal, asks: &str) -> Result<String, OutOfMemory> {
+fn tell_refusal(
+    alloc: Global,
+    why: Refusal,
+    asks: &str,
+    told: &mut Told,
+) -> Result<(), OutOfMemory> {
     match asks {
-        "refusal_body" => refusal_body(alloc, &why),
-        "conflict" => conflict_told(alloc, &why),
-        "refusal_sent" => refusal_told(alloc, &why),
-        _ => replied_told(alloc, &Err(why)),
+        "refusal_body" => told.value(&refusal_body(alloc, &why)?),
+        "conflict" => told.bytes(conflict_response(alloc, &why)?.as_slice()),
+        "refusal_sent" => told.bytes(refusal_outgoing(alloc, &why).as_slice()),
+        "refused" => tell_reply(alloc, &Err(why), told),
+        asks => told.unread(asks),
     }
+    Ok(())
 }
 
 fn fixed(word: &str) -> Option<Fixed> {
@@ -130,41 +116,47 @@ fn listed() -> [Listed; 2] {
 }
 
 // Of an archive and its loan how many loans the archive has, and the list of both; and the response with no package.
-fn packages_told(alloc: Global, asks: &str) -> Result<String, OutOfMemory> {
+fn tell_packages(alloc: Global, asks: &str, told: &mut Told) -> Result<(), OutOfMemory> {
     let both = listed();
     match asks {
-        "loans" => { Ok(format!(in alloc; "{}", loans_among(both.as_slice(), uuid(ARCHIVE, 0)))?) }
-        "list" => bytes_text(alloc, list_body(alloc, both.as_slice())?.as_slice()),
-        "none" => bytes_text(alloc, list_response(alloc, &[])?.as_slice()),
-        asks => unread(alloc, asks),
+        "loans" => told.value(&loans_among(both.as_slice(), uuid(ARCHIVE, 0))),
+        "list" => told.bytes(list_body(alloc, both.as_slice())?.as_slice()),
+        "none" => told.bytes(list_response(alloc, &[])?.as_slice()),
+        asks => told.unread(asks),
     }
+    Ok(())
 }
 
-fn good_told(alloc: Global, asks: &str, body: &[u8]) -> Result<String, OutOfMemory> {
+fn tell_good(alloc: Global, asks: &str, body: &[u8], told: &mut Told) -> Result<(), OutOfMemory> {
     match asks {
-        "manifest" => bytes_text(alloc, manifest_response(alloc, body)?.as_slice()),
-        _ => bytes_text(alloc, good_response(alloc, body)?.as_slice()),
+        "manifest" => told.bytes(manifest_response(alloc, body)?.as_slice()),
+        _ => told.bytes(good_response(alloc, body)?.as_slice()),
     }
+    Ok(())
 }
 
-fn word_told(alloc: Global, asks: &str, word: &str) -> Result<String, OutOfMemory> {
+fn tell_word(alloc: Global, asks: &str, word: &str, told: &mut Told) -> Result<(), OutOfMemory> {
     match (asks, refusal(word), fixed(word)) {
-        ("fixed", _, Some(fixed)) => bytes_text(alloc, fixed_response(fixed)),
-        (_, Some(why), _) => why_told(alloc, why, asks),
-        _ => unread(alloc, word),
+        ("fixed", _, Some(fixed)) => told.bytes(fixed_response(fixed)),
+        (_, Some(why), _) => tell_refusal(alloc, why, asks, told)?,
+        _ => told.unread(word),
     }
+    Ok(())
 }
 
 /// A response, or a part of one.
-pub(crate) fn reply_of(alloc: Global, question: &str) -> Result<String, OutOfMemory> {
+pub(crate) fn reply_of(alloc: Global, question: &str, told: &mut Told) -> Result<(), OutOfMemory> {
     let (asks, words) = cut(question);
     match asks {
-        "receipt" => receipt_told(alloc, &first_receipt(alloc)?, words),
-        "quoted" => quoted_told(alloc),
-        "replied" => replied_told(alloc, &Ok(first_receipt(alloc)?)),
-        "packages" => packages_told(alloc, words),
-        "manifest" | "good" => good_told(alloc, asks, unescaped(alloc, words)?.as_bytes()),
-        asks => word_told(alloc, asks, words),
+        "receipt" => tell_receipt(alloc, &first_receipt(alloc, words)?, words, told),
+        "quoted" => tell_receipt(alloc, &first_receipt(alloc, asks)?, asks, told),
+        "replied" => {
+            tell_reply(alloc, &Ok(first_receipt(alloc, asks)?), told);
+            Ok(())
+        }
+        "packages" => tell_packages(alloc, words, told),
+        "manifest" | "good" => { tell_good(alloc, asks, unescaped(alloc, words)?.as_bytes(), told) }
+        asks => tell_word(alloc, asks, words, told),
     }
 }
 

@@ -8,93 +8,105 @@ use crate::calls::call_of;
 use crate::claims::{claims_of, verdict_of};
 use crate::exports::export_of;
 use crate::frames::frame_of;
+use crate::keys::keys_of;
 use crate::lists::list_of;
 use crate::orders::order_of;
 use crate::replies::reply_of;
 use crate::values::{content_of, words_of};
 use sheet_types::error::OutOfMemory;
 use std::alloc::Global;
+use std::fmt::{Debug, Display};
 use uuid::Uuid;
 
-/// Notes each answer that is not the one that was expected, by its number from 1 on. It has no clause and no exit, so what it is given is
-/// straight code, and a test asserts once that nothing is wrong.
+/// What a question is told, a word after the other. It has no clause and no exit, so that what tells is straight code: want of memory is
+/// noted.
 #[derive(Drop)]
-pub(crate) struct Checked {
-    alloc: Global,
-    number: u32,
+pub(crate) struct Told {
+    text: String,
     is_lost: bool,
-    wrong: String,
 }
 
-impl Checked {
+impl Told {
     /// With nothing told.
-    pub(crate) fn new(alloc: Global) -> Checked {
-        Checked {
-            alloc,
-            number: 0,
+    fn new(alloc: Global) -> Told {
+        Told {
+            text: String::new(alloc),
             is_lost: false,
-            wrong: String::new(alloc),
         }
     }
 
-    fn note(&mut self, found: &str, expected: &str) -> Result<(), OutOfMemory> {
-        let line = format!(in self.alloc; "{}: {found}, not {expected}\n", self.number)?;
-        self.wrong.push_str(line.as_str())?;
-        Ok(())
-    }
-
-    /// An answer in words.
-    pub(crate) fn is(&mut self, found: &str, expected: &str) {
-        self.number = self.number.saturating_add(1);
-        if found != expected && self.note(found, expected).is_err() {
+    /// A word, or a text.
+    pub(crate) fn word(&mut self, word: &str) {
+        if self.text.push_str(word).is_err() {
             self.is_lost = true;
         }
     }
 
-    /// What a call told, and what it was to tell.
-    pub(crate) fn told(&mut self, found: Result<String, OutOfMemory>, expected: &str) {
-        match &found {
-            Ok(text) => self.is(text.as_str(), expected),
-            Err(OutOfMemory) => self.is("no memory", expected),
+    /// A value as it prints.
+    pub(crate) fn value<T: Display>(&mut self, value: &T) {
+        if write!(self.text, "{value}").is_err() {
+            self.is_lost = true;
         }
     }
 
-    /// The answers that were wrong, one a line, each with its number.
+    /// The name of a value.
+    pub(crate) fn name<T: Debug>(&mut self, value: &T) {
+        if write!(self.text, "{value:?}").is_err() {
+            self.is_lost = true;
+        }
+    }
+
+    /// A word, and a value behind it.
+    pub(crate) fn worded<T: Display>(&mut self, word: &str, value: &T) {
+        self.word(word);
+        self.value(value);
+    }
+
+    /// A value, or that there is none.
+    pub(crate) fn some<T: Display>(&mut self, found: &Option<T>) {
+        match found {
+            Some(value) => self.value(value),
+            None => self.word("-"),
+        }
+    }
+
+    /// Numbers, each with an end behind it.
+    pub(crate) fn numbers<T: Display>(&mut self, numbers: &[T]) {
+        for number in numbers {
+            self.value(number);
+            self.word(";");
+        }
+    }
+
+    /// Yes or no.
+    pub(crate) fn answer(&mut self, is_so: bool) {
+        self.word(if is_so { "yes" } else { "no" });
+    }
+
+    /// A plus or a minus.
+    pub(crate) fn sign(&mut self, is_so: bool) {
+        self.word(if is_so { "+" } else { "-" });
+    }
+
+    /// Bytes that are a text.
+    pub(crate) fn bytes(&mut self, bytes: &[u8]) {
+        self.word(str::from_utf8(bytes).unwrap_or("no text"));
+    }
+
+    /// That a question cannot be read, which nothing expects.
+    pub(crate) fn unread(&mut self, question: &str) {
+        self.word("no question: ");
+        self.word(question);
+    }
+
+    /// Of a table, what was not told as expected.
     pub(crate) fn wrong(&self) -> &str {
         if self.is_lost {
             "an answer was wrong, and there was no memory to note it"
         } else {
-            self.wrong.as_str()
+            self.text.as_str()
         }
     }
-}
-
-/// A text of its own.
-pub(crate) fn said(alloc: Global, words: &str) -> Result<String, OutOfMemory> {
-    Ok(String::from_str(alloc, words)?)
-}
-
-/// Yes or no.
-pub(crate) fn answered(alloc: Global, answer: bool) -> Result<String, OutOfMemory> {
-    said(alloc, if answer { "yes" } else { "no" })
-}
-
-/// A plus or a minus for each.
-pub(crate) fn signs(alloc: Global, answers: &[bool]) -> Result<String, OutOfMemory> {
-    let mut text = String::new(alloc);
-    for answer in answers {
-        text.push_str(if *answer { "+" } else { "-" })?;
-    }
-    Ok(text)
-}
-
-/// Numbers, each with an end behind it.
-pub(crate) fn numbers_text(alloc: Global, numbers: &[i64]) -> Result<String, OutOfMemory> {
-    let mut text = String::new(alloc);
-    for number in numbers {
-        text.push_str(format!(in alloc; "{number};")?.as_str())?;
-    }
-    Ok(text)
 }
 
 /// A UUID by its first byte and its last.
@@ -127,30 +139,29 @@ pub(crate) enum Of {
     Bodies,
     Lists,
     Exports,
+    // Free keys, and what a link becomes.
+    Keys,
 }
 
-fn told(alloc: Global, of: Of, question: &str) -> Result<String, OutOfMemory> {
+fn tell(alloc: Global, of: Of, question: &str, told: &mut Told) -> Result<(), OutOfMemory> {
     match of {
-        Of::Frames => frame_of(alloc, question),
-        Of::Words => words_of(alloc, question),
-        Of::Contents => content_of(alloc, question),
-        Of::Orders => order_of(alloc, question),
-        Of::Lines => line_told(alloc, question),
-        Of::Ledgers => ledger_of(alloc, question),
-        Of::Worlds => world_of(alloc, question),
-        Of::Claims => claims_of(alloc, question),
-        Of::Verdicts => verdict_of(alloc, question),
-        Of::Calls => call_of(alloc, question),
-        Of::Replies => reply_of(alloc, question),
-        Of::Bodies => body_of(alloc, question),
-        Of::Lists => list_of(alloc, question),
-        Of::Exports => export_of(alloc, question),
+        Of::Frames => frame_of(question, told),
+        Of::Words => words_of(question, told),
+        Of::Lines => line_told(question, told),
+        Of::Contents => content_of(alloc, question, told)?,
+        Of::Orders => order_of(alloc, question, told)?,
+        Of::Ledgers => ledger_of(alloc, question, told)?,
+        Of::Worlds => world_of(alloc, question, told)?,
+        Of::Claims => claims_of(alloc, question, told)?,
+        Of::Verdicts => verdict_of(alloc, question, told)?,
+        Of::Calls => call_of(alloc, question, told)?,
+        Of::Replies => reply_of(alloc, question, told)?,
+        Of::Bodies => body_of(alloc, question, told)?,
+        Of::Lists => list_of(alloc, question, told)?,
+        Of::Exports => export_of(alloc, question, told)?,
+        Of::Keys => keys_of(alloc, question, told)?,
     }
-}
-
-/// What a question that cannot be read is told, which nothing expects.
-pub(crate) fn unread(alloc: Global, question: &str) -> Result<String, OutOfMemory> {
-    Ok(format!(in alloc; "no question: {question}")?)
+    Ok(())
 }
 
 /// What stands in brackets.
@@ -167,43 +178,61 @@ fn parts(row: &str) -> Option<(&str, &str)> {
     Some((question, in_brackets(answer)?))
 }
 
-fn ask(alloc: Global, of: Of, row: &str, checked: &mut Checked) {
-    match parts(row) {
-        Some((question, expected)) => match unescaped(alloc, expected) {
-            Ok(text) => checked.told(told(alloc, of, question), text.as_str()),
-            Err(OutOfMemory) => checked.is("no memory", expected),
-        },
-        None => checked.is(row, "a row"),
+// Notes a row whose question was not told what was expected, with what it was told.
+fn ask(alloc: Global, of: Of, row: &str, wrong: &mut Told) -> Result<(), OutOfMemory> {
+    let (question, answer) = parts(row).unwrap_or((row, "no row"));
+    let expected = unescaped(alloc, answer)?;
+    let mut told = Told::new(alloc);
+    let has_memory = tell(alloc, of, question, &mut told).is_ok() && !told.is_lost;
+    if !has_memory || told.text.as_str() != expected.as_str() {
+        wrong.word(row);
+        wrong.worded(
+            if has_memory {
+                ", told "
+            } else {
+                ", no memory "
+            },
+            &told.text,
+        );
+        wrong.word("\n");
     }
+    Ok(())
 }
 
-/// Asks all of a table.
-pub(crate) fn ask_all(alloc: Global, of: Of, table: Table, checked: &mut Checked) {
+/// What a table told that was not expected.
+pub(crate) fn wrong_of(alloc: Global, of: Of, table: Table) -> Told {
+    let mut wrong = Told::new(alloc);
     let mut found = 0usize;
     for row in table.1.lines() {
         if !row.starts_with('#') {
-            ask(alloc, of, row, checked);
+            if ask(alloc, of, row, &mut wrong).is_err() {
+                wrong.unread(row);
+            }
             found = found.saturating_add(1);
         }
     }
     if found != table.0 {
-        checked.is("another number of rows", "all rows");
+        wrong.word("another number of rows");
     }
-}
-
-/// What a table told that was not expected.
-pub(crate) fn wrong_of(alloc: Global, of: Of, table: Table) -> Checked {
-    let mut checked = Checked::new(alloc);
-    ask_all(alloc, of, table, &mut checked);
-    checked
+    wrong
 }
 
 /// The first word of a question, and what is left.
 pub(crate) fn cut(words: &str) -> (&str, &str) {
-    match words.split_once(' ') {
-        Some(parts) => parts,
-        None => (words, ""),
+    words.split_once(' ').unwrap_or((words, ""))
+}
+
+/// The parts of a word between points, six at most; those that it has not are empty.
+pub(crate) fn points(word: &str) -> [&str; 6] {
+    let mut found = [""; 6];
+    let mut count = 0usize;
+    for part in word.split('.') {
+        if let Some(place) = found.get_mut(count) {
+            *place = part;
+        }
+        count = count.saturating_add(1);
     }
+    found
 }
 
 /// The numbers of a question, eight at most; those that it has not are 0.

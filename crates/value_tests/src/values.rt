@@ -1,12 +1,10 @@
 //! Values against vectors from outside: digests by another program's SHA-256, and texts as the formats state them.
 
 use crate::receipts::ARCHIVE;
-use crate::steps::{
-    Of, Table, answered, cut, in_brackets, said, signs, unescaped, unread, uuid, wrong_of,
-};
+use crate::steps::{Of, Table, Told, cut, in_brackets, unescaped, uuid, wrong_of};
 use sheet_types::checks::{has_bad_text, has_good_size, is_too_large};
 use sheet_types::collections::{Bytes, Text};
-use sheet_types::command::{Command, Content, Item};
+use sheet_types::command::{Command, Content, Item, Mapping};
 use sheet_types::error::OutOfMemory;
 use sheet_types::fingerprints::{Spelled, fingerprint, read_fingerprint, spell};
 use sheet_types::frame::Frame;
@@ -28,15 +26,6 @@ fn bytes(alloc: Global, content: &str) -> Result<Bytes, OutOfMemory> {
     Ok(Bytes::from_vec(Vec::from_slice(alloc, content.as_bytes())?))
 }
 
-fn tile(alloc: Global) -> Result<Content, OutOfMemory> {
-    Ok(Content::Tile {
-        zoom: 2,
-        column: 3,
-        row: 3,
-        bytes: bytes(alloc, "A")?,
-    })
-}
-
 fn medium(alloc: Global, content_type: &str, data: &str) -> Result<Content, OutOfMemory> {
     Ok(Content::Media {
         content_type: text(alloc, content_type)?,
@@ -44,25 +33,24 @@ fn medium(alloc: Global, content_type: &str, data: &str) -> Result<Content, OutO
     })
 }
 
-fn row(alloc: Global, code: i64, label: &str) -> Result<Content, OutOfMemory> {
-    Ok(Content::Row {
-        x: 0,
-        y: 4096,
-        code,
-        label: text(alloc, label)?,
-    })
-}
-
 /// The content of an item: a tile of one byte, a medium by its type and its bytes, a row by its code and its label.
 fn content(alloc: Global, words: &str) -> Result<Content, OutOfMemory> {
     let (kind, rest) = cut(words);
-    match (kind, rest.split_once('|')) {
-        ("tile", _) => tile(alloc),
-        ("media", Some((content_type, data))) => medium(alloc, content_type, data),
-        ("row", Some((code, label))) => match code.parse::<i64>() {
-            Ok(code) => row(alloc, code, label),
-            Err(_) => Err(OutOfMemory),
-        },
+    let (front, back) = rest.split_once('|').unwrap_or((rest, ""));
+    match (kind, front.parse::<i64>()) {
+        ("tile", _) => Ok(Content::Tile {
+            zoom: 2,
+            column: 3,
+            row: 3,
+            bytes: bytes(alloc, "A")?,
+        }),
+        ("media", _) => medium(alloc, front, back),
+        ("row", Ok(code)) => Ok(Content::Row {
+            x: 0,
+            y: 4096,
+            code,
+            label: text(alloc, back)?,
+        }),
         _ => Err(OutOfMemory),
     }
 }
@@ -75,67 +63,73 @@ pub(crate) fn item(alloc: Global, name: Uuid, words: &str) -> Result<Item, OutOf
     })
 }
 
-fn spelled(alloc: Global, given: &Content) -> Result<String, OutOfMemory> {
+fn tell_digest(given: &Content, told: &mut Told) {
     let mut digits = [0; 64];
-    said(alloc, spell(&fingerprint(given), &mut digits))
+    told.word(spell(&fingerprint(given), &mut digits));
 }
 
 // Whether it has a good size, is too large, and has a bad text.
-fn limits_told(alloc: Global, given: Content) -> Result<String, OutOfMemory> {
-    let is_good = has_good_size(&given);
+fn tell_limits(given: Content, told: &mut Told) {
+    told.sign(has_good_size(&given));
     let command = Command::Add {
         package: uuid(ARCHIVE, 0),
         identity: uuid(0, 1),
         content: given,
     };
-    signs(
-        alloc,
-        &[is_good, is_too_large(&command), has_bad_text(&command)],
-    )
+    told.sign(is_too_large(&command));
+    told.sign(has_bad_text(&command));
 }
 
-fn clone_told(alloc: Global, given: &Content) -> Result<String, OutOfMemory> {
+fn tell_clone(given: &Content, told: &mut Told) -> Result<(), OutOfMemory> {
     let copy = given.try_clone()?;
-    if copy.kind() == given.kind() {
-        spelled(alloc, &copy)
-    } else {
-        said(alloc, "another kind")
+    if copy.kind() != given.kind() {
+        told.word("another kind");
     }
+    tell_digest(&copy, told);
+    Ok(())
 }
 
-fn clone_of_item_told(alloc: Global, given: &Item) -> Result<String, OutOfMemory> {
+fn tell_clone_of_item(given: &Item, told: &mut Told) -> Result<(), OutOfMemory> {
     let copy = given.try_clone()?;
-    if copy.identity == given.identity {
-        spelled(alloc, &copy.content)
-    } else {
-        said(alloc, "another item")
+    if copy.identity != given.identity {
+        told.word("another item");
     }
+    tell_digest(&copy.content, told);
+    Ok(())
 }
 
-fn item_told(alloc: Global, given: &Item, asks: &str) -> Result<String, OutOfMemory> {
+fn tell_item(alloc: Global, given: &Item, asks: &str, told: &mut Told) -> Result<(), OutOfMemory> {
     let content = &given.content;
     match asks {
-        "fingerprint" => spelled(alloc, content),
-        "kind" => Ok(format!(in alloc; "{} {}", content.kind(), content.size())?),
+        "fingerprint" => tell_digest(content, told),
+        "kind" => {
+            told.value(&content.kind());
+            told.worded(" ", &content.size());
+        }
         // the line of its addition
-        "moved" => add_line(
-            alloc,
-            uuid(ARCHIVE, 0),
-            &Moved::of_content(given.identity, content),
-        ),
-        "clone" => clone_told(alloc, content),
-        "clone_of_item" => clone_of_item_told(alloc, given),
-        asks => unread(alloc, asks),
+        "moved" => {
+            let moved = Moved::of_content(given.identity, content);
+            told.value(&add_line(alloc, uuid(ARCHIVE, 0), &moved)?);
+        }
+        "clone" => tell_clone(content, told)?,
+        "clone_of_item" => tell_clone_of_item(given, told)?,
+        asks => told.unread(asks),
     }
+    Ok(())
 }
 
 /// What is asked of a content, and it.
-pub(crate) fn content_of(alloc: Global, question: &str) -> Result<String, OutOfMemory> {
+pub(crate) fn content_of(
+    alloc: Global,
+    question: &str,
+    told: &mut Told,
+) -> Result<(), OutOfMemory> {
     let (asks, words) = cut(question);
-    match asks {
-        "limits" => limits_told(alloc, content(alloc, words)?),
-        asks => item_told(alloc, &item(alloc, uuid(0, 2), words)?, asks),
+    if asks == "limits" {
+        tell_limits(content(alloc, words)?, told);
+        return Ok(());
     }
+    tell_item(alloc, &item(alloc, uuid(0, 2), words)?, asks, told)
 }
 
 const CONTENTS: Table = Table(
@@ -186,113 +180,89 @@ const FRAME: Frame = Frame {
     matrix_height: 1,
 };
 
-fn frame_told(alloc: Global, words: &str) -> Result<String, OutOfMemory> {
+fn tell_frame(words: &str, told: &mut Told) {
     match read_frame(words) {
-        Some(found) => said(
-            alloc,
-            if found == FRAME {
-                "the frame"
-            } else {
-                "another"
-            },
-        ),
-        None => said(alloc, "-"),
+        Some(found) => told.word(if found == FRAME {
+            "the frame"
+        } else {
+            "another"
+        }),
+        None => told.word("-"),
     }
 }
 
-fn fingerprint_told(alloc: Global, words: &str) -> Result<String, OutOfMemory> {
-    match read_fingerprint(words) {
-        Some(digest) => Ok(format!(in alloc; "{}", Spelled(digest))?),
-        None => said(alloc, "-"),
-    }
-}
-
-fn uuid_told(alloc: Global, found: Option<Uuid>) -> Result<String, OutOfMemory> {
+// A UUID as a row has it.
+fn tell_uuid(found: Option<Uuid>, told: &mut Told) {
+    let mut buffer = Uuid::encode_buffer();
     match found {
-        Some(_) => {
-            // as a row has it
-            let mut buffer = Uuid::encode_buffer();
-            said(alloc, OrEmpty(found).encode_lower(&mut buffer))
-        }
-        None => said(alloc, "-"),
+        Some(_) => told.word(OrEmpty(found).encode_lower(&mut buffer)),
+        None => told.word("-"),
     }
 }
 
-fn optional_told(alloc: Global, words: &str) -> Result<String, OutOfMemory> {
+fn tell_optional(words: &str, told: &mut Told) {
     match read_stored_optional(words) {
-        Some(found) => Ok(format!(in alloc; "[{}]", OrEmpty(found))?),
-        None => said(alloc, "-"),
-    }
-}
-
-fn number_told(alloc: Global, words: &str) -> Result<String, OutOfMemory> {
-    match read_number(words) {
-        Some(number) => Ok(format!(in alloc; "{number}")?),
-        None => said(alloc, "-"),
-    }
-}
-
-fn kind_of_told(alloc: Global, words: &str) -> Result<String, OutOfMemory> {
-    match read_kind(words) {
-        Some(kind) => Ok(format!(in alloc; "{} {kind}", kind.number())?),
-        None => said(alloc, "-"),
-    }
-}
-
-fn mapping_of_told(alloc: Global, words: &str) -> Result<String, OutOfMemory> {
-    match read_mapping(words) {
-        Some(mapping) => {
-            let (base, other) = (mapping.base_kind(), mapping.other_kind());
-            Ok(format!(in alloc; "{mapping} {} {base} {other}", mapping.link_kind())?)
+        Some(found) => {
+            told.worded("[", &OrEmpty(found));
+            told.word("]");
         }
-        None => said(alloc, "-"),
+        None => told.word("-"),
     }
 }
 
-fn mode_told(alloc: Global, words: &str) -> Result<String, OutOfMemory> {
-    match read_mode(words) {
-        Some(mode) => Ok(format!(in alloc; "{mode}")?),
-        None => said(alloc, "-"),
+// The number of a kind and its word.
+fn tell_kind(found: Option<MovedKind>, told: &mut Told) {
+    match found {
+        Some(kind) => {
+            told.value(&kind.number());
+            told.worded(" ", &kind);
+        }
+        None => told.word("-"),
     }
 }
 
-fn kind_told(alloc: Global, words: &str) -> Result<String, OutOfMemory> {
-    let kind = match words.parse::<u8>() {
-        Ok(number) => MovedKind::from_number(number),
-        Err(_) => None,
-    };
-    match kind {
-        Some(kind) => Ok(format!(in alloc; "{kind}")?),
-        None => said(alloc, "-"),
+// A mapping, the kind of its links, and of both ends.
+fn tell_mapping(found: Option<Mapping>, told: &mut Told) {
+    match found {
+        Some(mapping) => {
+            told.value(&mapping);
+            told.worded(" ", &mapping.link_kind());
+            told.worded(" ", &mapping.base_kind());
+            told.worded(" ", &mapping.other_kind());
+        }
+        None => told.word("-"),
     }
 }
 
-fn read_told(alloc: Global, reads: &str, words: &str) -> Result<String, OutOfMemory> {
+fn tell_read(reads: &str, words: &str, told: &mut Told) {
     match reads {
-        "fingerprint" => fingerprint_told(alloc, words),
-        "uuid" => uuid_told(alloc, read_uuid(words)),
-        "stored_uuid" => uuid_told(alloc, read_stored_uuid(words)),
-        "stored_optional" => optional_told(alloc, words),
-        "number" => number_told(alloc, words),
-        "frame" => frame_told(alloc, words),
-        "moment" => answered(alloc, is_moment(words)),
-        // the number of the kind and its word
-        "kind" => kind_of_told(alloc, words),
-        // the kind of a number
-        "kind_of_number" => kind_told(alloc, words),
-        // the mapping, the kind of its links, and of both ends
-        "mapping" => mapping_of_told(alloc, words),
-        "mode" => mode_told(alloc, words),
-        reads => unread(alloc, reads),
+        "fingerprint" => match read_fingerprint(words) {
+            Some(digest) => told.value(&Spelled(digest)),
+            None => told.word("-"),
+        },
+        "uuid" => tell_uuid(read_uuid(words), told),
+        "stored_uuid" => tell_uuid(read_stored_uuid(words), told),
+        "stored_optional" => tell_optional(words, told),
+        "number" => told.some(&read_number(words)),
+        "frame" => tell_frame(words, told),
+        "moment" => told.answer(is_moment(words)),
+        "kind" => tell_kind(read_kind(words), told),
+        "kind_of_number" => match words.parse::<u8>() {
+            Ok(number) => told.some(&MovedKind::from_number(number)),
+            Err(_) => told.unread(words),
+        },
+        "mapping" => tell_mapping(read_mapping(words), told),
+        "mode" => told.some(&read_mode(words)),
+        reads => told.unread(reads),
     }
 }
 
 /// What a text is read as, and the text in brackets.
-pub(crate) fn words_of(alloc: Global, question: &str) -> Result<String, OutOfMemory> {
+pub(crate) fn words_of(question: &str, told: &mut Told) {
     let (reads, left) = cut(question);
     match in_brackets(left) {
-        Some(text) => read_told(alloc, reads, text),
-        None => unread(alloc, question),
+        Some(text) => tell_read(reads, text, told),
+        None => told.unread(question),
     }
 }
 
