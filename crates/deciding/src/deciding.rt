@@ -186,7 +186,7 @@ fn refused_before<S: Alter + Drop>(
     refusal_at(members, at, frame, &request.command)
 }
 
-/// What a package holds after a command that moved so much, if that can be counted and leaves not too many: the package is that of the member at a place, and so many receipts are there so far.
+/// What the package of the member at a place then holds, if that can be counted and leaves not too many.
 fn sums_within<S: Alter + Drop>(
     members: &[Member<S>],
     at: usize,
@@ -196,7 +196,8 @@ fn sums_within<S: Alter + Drop>(
     held: Sums,
 ) -> Option<Sums>
     ensures { SomeIff result
-        (CanCount command.now some held × (leaves_too_many members.now at (sums_after command.now some held) count ≡ false))
+        (CanCount command.now some held
+        × (leaves_too_many members.now at (sums_after command.now some held) count ≡ false))
         (sums_after command.now some held) }
 {
     let Some(sums) = sums_after(command, some, held) else {

@@ -287,7 +287,7 @@ fn has_types(child: Uuid, into: Uuid, ticket: i64)
     fits(into);
 }
 
-/// What a package holds that held so much and gets so much more, if that can be counted and leaves not too many: the package is that of the member at a place, and so many receipts are there so far.
+/// What the package of the member at a place then holds, if that can be counted and leaves not too many.
 fn sums_within<S: Alter + Drop>(
     members: &[Member<S>],
     at: usize,
@@ -295,7 +295,10 @@ fn sums_within<S: Alter + Drop>(
     some: Sums,
     held: Sums,
 ) -> Option<Sums>
-    ensures { SomeIff result (IsCounted (sums_more some held) × (leaves_too_many members.now at (sums_more some held) count ≡ false)) (sums_more some held) }
+    ensures { SomeIff result
+        (IsCounted (sums_more some held)
+        × (leaves_too_many members.now at (sums_more some held) count ≡ false))
+        (sums_more some held) }
 {
     let Some(sums) = more(some, held) else {
         return None;
@@ -364,7 +367,10 @@ fn decide_whole<S: Alter + Drop>(
     requires within { at < length members.now }
     requires two { from ≡ at → ⊥ }
     requires small { count ≤ greatest_receipts }
-    ensures decides { (w : World) → AreMembers S.Store members.now count w → (is : IsMergeAt count from at request.now w) → refusal_by_held w request.now ≡ None → items.now ≡ (holdings w is.child).items → links.items ≡ (holdings w is.child).links → IfOk result (λ decision. Decides w request.now decision) }
+    ensures decides { (w : World) → AreMembers S.Store members.now count w
+        → (is : IsMergeAt count from at request.now w) → refusal_by_held w request.now ≡ None
+        → items.now ≡ (holdings w is.child).items → links.items ≡ (holdings w is.child).links
+        → IfOk result (λ decision. Decides w request.now decision) }
     ensures place { IfOk result (λ decision. HasPlace members.now count decision) }
 {
     let receipt = receipt_of_all(alloc, count + 1, request, items, &links)?;
@@ -389,7 +395,9 @@ fn decide_held<S: Alter + Drop>(
     requires rests { AllRest S.Store members.old.items }
     requires small { count ≤ greatest_receipts }
     ensures asks { AsksAll S.Store
-        (λ w decision. (is : IsMergeAt count from at request.now w) → items.now ≡ (holdings w is.child).items → links.items ≡ (holdings w is.child).links → refusal_by_kept w request.now ≡ None → Decides w request.now decision)
+        (λ w decision. (is : IsMergeAt count from at request.now w)
+        → items.now ≡ (holdings w is.child).items → links.items ≡ (holdings w is.child).links
+        → refusal_by_kept w request.now ≡ None → Decides w request.now decision)
         members.old.items members.new.items result }
     ensures place { IfOk result (λ decision. HasPlace members.new.items count decision) }
 {
@@ -465,8 +473,12 @@ fn places_of<S: Alter + Drop>(
     child: Uuid,
     into: Uuid,
 ) -> Option<(usize, usize)>
-    ensures some { IfSome result (λ places. StandsAt S.Store members.now child places.0 × StandsAt S.Store members.now into places.1) }
-    ensures none { IfNone result ((w : World) (count : ℕ) → AreMembers S.Store members.now count w → (is_live w child && is_live w into) ≡ false) }
+    ensures some { IfSome result
+        (λ places. StandsAt S.Store members.now child places.0
+        × StandsAt S.Store members.now into places.1) }
+    ensures none { IfNone result
+        ((w : World) (count : ℕ) → AreMembers S.Store members.now count w
+        → (is_live w child && is_live w into) ≡ false) }
 {
     let Some(from) = place_of(members, child) else {
         return None;
