@@ -1,6 +1,7 @@
 -- What a request comes to, by what the members and the request tell.
-use Rattle.std.proofs.Common.{◌≡◌, not, refl, sym, ap, subst, ◌∙◌, ℕ, ◌+◌, List, [], ◌∷◌, Bool, true, false, cond, length, get_or, slice_get, Option, Some, None, Ok, Err, bytes_eq}
-use Rattle.std.specs.Prelude.{unwrap_or}
+use Rattle.std.proofs.Common.{◌≡◌, ◌≤◌, not, refl, sym, ap, subst, ◌∙◌, ℕ, ◌+◌, List, [], ◌∷◌, Bool, true, false, cond, length, get_or, slice_get, Option, Some, None, Result, Ok, Err, bytes_eq}
+use Rattle.std.specs.Prelude.{unwrap_or, IfOk, nat_lt, ◌||◌}
+use Rattle.std.specs.List.{list_any}
 use Rattle.std.specs.Bool.{then_some}
 use Rattle.std.specs.Option.{option_or}
 use Rattle.sqlite.specs.Store.{Ghosts}
@@ -8,7 +9,7 @@ use Rattle.sheet_types.specs.Answers.{sums_held}
 use Rattle.sheet_types.specs.Custody.{kept}
 use Rattle.sheet_types.specs.Lines.{IsUuid, HasTypes}
 use Rattle.sheet_types.specs.Matrix.{first_row}
-use Rattle.sheet_types.specs.Refuse.{refusal, identity_used, too_many, bad_text}
+use Rattle.sheet_types.specs.Refuse.{refusal, identity_used, too_many, bad_text, greatest_packages, greatest_receipts}
 use Rattle.sheet_types.specs.Register.{IsRegister}
 use Rattle.sheet_types.specs.Step.{accepted, outcome, receipt_of, receipt_over, moved}
 use Rattle.sheet_types.specs.Texts.{line, is_moment}
@@ -24,18 +25,18 @@ use Rattle.sheet_types.specs.declared.refusal.Refusal.{Refusal}
 use Rattle.sheet_types.specs.declared.refusal.Refusal.TheVariants.{IdReused, UnknownPackage, IdentityUsed, TooMany}
 use Rattle.sheet_types.proofs.Basics.{None≢Some, not_false}
 use Rattle.ledger_laws.proofs.Accepting.{rows_fail}
-use Rattle.std.proofs.lemmas.Bool.{or_parts}
+use Rattle.std.proofs.lemmas.Bool.{or_parts, ltb-false}
 use Rattle.sheet_types.proofs.Every.{All-each}
 use Rattle.ledger_laws.proofs.Packages.{at_all}
-use Rattle.asking.specs.Asking.{StandsAt}
+use Rattle.asking.specs.Asking.{AsksAll, StandsAt}
 use Rattle.members.specs.Carrying.{Fits}
 use Rattle.deciding.specs.Deciding.{IsAskedOf, IsPlaced, refusal_before, Decides}
 use Rattle.members.specs.Laws.{package_of}
 use Rattle.members.specs.Members.{IsMember, AreMembers}
 use Rattle.members.specs.Reasons.{text_reasons, package_reasons}
-use Rattle.members.specs.Steps.{IsAddedBy, NothingAgainst, sums_moved, sums_after}
+use Rattle.members.specs.Steps.{IsAddedBy, NothingAgainst, is_past_limits, sums_moved, sums_after}
 use Rattle.asking.specs.Sums.{CanCount}
-use Rattle.asking.specs.TooMany.{leaves_too_many}
+use Rattle.asking.specs.TooMany.{sums_with, leaves_too_many}
 use Rattle.members.specs.Turning.{IsDue, world_after}
 use Rattle.deciding.specs.declared.deciding.Change.{Change}
 use Rattle.deciding.specs.declared.deciding.Decision.TheVariants.{Answered, ChangeDue}
@@ -45,6 +46,7 @@ use Rattle.members.proofs.Fitting.{fits_where_accepted, refused_in_turn, refused
 use Rattle.members.proofs.Outcomes.{kept_outcome, reused_outcome, refused_outcome, accepted_outcome}
 use Rattle.asking.proofs.Overfull.{member_holds, members_tell_too_many, members_tell_uncounted}
 use Rattle.asking.proofs.Placed.{stands_named}
+use Rattle.asking.proofs.Questions.{asks_answer, asks_failed}
 use Rattle.members.proofs.Standing.{zip_at}
 
 -- ---- a request that came before
@@ -167,22 +169,43 @@ module _ {S : Type 0} (g : Ghosts S) where
     own_fits : Fits (receipt_of w q) q.command (holdings w (package_of q.command))
     own_fits = fits_there w.frame count at q w are.register uuid types placed before
 
+    abbrev after : Sums
+    after = sums_after q.command (sums_moved (receipt_of w q)) was.sums
+
+    same_after : (some held : Sums) → some ≡ sums_moved (receipt_of w q) → held ≡ was.sums → sums_after q.command some held ≡ after
+    same_after some held moved here = ap (λ s. sums_after q.command s held) moved ∙ ap (sums_after q.command (sums_moved (receipt_of w q))) here
+
     -- where the sums after it cannot be counted, it is refused
-    pub limited_uncounted : (CanCount q.command (sums_moved (receipt_of w q)) was.sums → ⊥) → Decides w q (Answered (Err TooMany))
+    limited_uncounted : (CanCount q.command (sums_moved (receipt_of w q)) was.sums → ⊥) → Decides w q (Answered (Err TooMany))
     limited_uncounted cannot =
         decides_too_many w.frame count at q w placed before (members_tell_uncounted g members count at w q was are stands place own_fits (no_texts w q before) cannot)
 
     -- where the members tell that it leaves too many, too
-    pub limited_past : (sums : Sums) → sums ≡ sums_after q.command (sums_moved (receipt_of w q)) was.sums → leaves_too_many members at sums count ≡ true → Decides w q (Answered (Err TooMany))
-    limited_past sums is past =
-        decides_too_many w.frame count at q w placed before (sym (members_tell_too_many g members count at w q was are stands place own_fits) ∙ ap (λ s. leaves_too_many members at s count) (sym is) ∙ past)
+    limited_past : leaves_too_many members at after count ≡ true → Decides w q (Answered (Err TooMany))
+    limited_past past = decides_too_many w.frame count at q w placed before (sym (members_tell_too_many g members count at w q was are stands place own_fits) ∙ past)
+
+    -- so it is refused where the one or the other is so
+    pub limited_over : (some held : Sums) → some ≡ sums_moved (receipt_of w q) → held ≡ was.sums
+        → ((CanCount q.command some held × (leaves_too_many members at (sums_after q.command some held) count ≡ false)) → ⊥) → Decides w q (Answered (Err TooMany))
+    limited_over some held moved here cannot =
+        elim (leaves_too_many members at after count) as (λ v. leaves_too_many members at after count ≡ v → Decides w q (Answered (Err TooMany))) [
+          | true ↦ λ past. limited_past past
+          | false ↦ λ few.
+              limited_uncounted
+              (λ can. cannot (
+                subst (λ s. CanCount q.command s held) (sym moved) (subst (CanCount q.command (sums_moved (receipt_of w q))) (sym here) can),
+                ap (λ s. leaves_too_many members at s count) (same_after some held moved here) ∙ few,
+              ))
+        ] refl
 
     -- and else its change is due
-    pub limited_due : (sums : Sums) (receipt : Receipt) → sums ≡ sums_after q.command (sums_moved (receipt_of w q)) was.sums → leaves_too_many members at sums count ≡ false → receipt ≡ receipt_of w q → Decides w q (ChangeDue (record { at = at; receipt = receipt; sums = sums }))
-    limited_due sums receipt is within made =
-        let few : too_many (accepted w q) ≡ false = sym (members_tell_too_many g members count at w q was are stands place own_fits) ∙ ap (λ s. leaves_too_many members at s count) (sym is) ∙ within in
-        let held : was.sums ≡ sums_held (holdings w (package_of q.command)) = member_holds g members count at w (package_of q.command) was are stands place in
-        decides_due w.frame count at q w (record { at = at; receipt = receipt; sums = sums }) are.register uuid types placed before few refl made (is ∙ ap (sums_after q.command (sums_moved (receipt_of w q))) held)
+    pub limited_due : (some held sums : Sums) (receipt : Receipt) → some ≡ sums_moved (receipt_of w q) → held ≡ was.sums → sums ≡ sums_after q.command some held
+        → leaves_too_many members at (sums_after q.command some held) count ≡ false → receipt ≡ receipt_of w q → Decides w q (ChangeDue (record { at = at; receipt = receipt; sums = sums }))
+    limited_due some held sums receipt moved here is within made =
+        let same : sums_after q.command some held ≡ after = same_after some held moved here in
+        let few : too_many (accepted w q) ≡ false = sym (members_tell_too_many g members count at w q was are stands place own_fits) ∙ ap (λ s. leaves_too_many members at s count) (sym same) ∙ within in
+        let own : was.sums ≡ sums_held (holdings w (package_of q.command)) = member_holds g members count at w (package_of q.command) was are stands place in
+        decides_due w.frame count at q w (record { at = at; receipt = receipt; sums = sums }) are.register uuid types placed before few refl made (is ∙ same ∙ ap (sums_after q.command (sums_moved (receipt_of w q))) own)
 
 -- ---- what the parts ask
 
@@ -207,3 +230,14 @@ module _ {S : Type 0} (g : Ghosts S) where
   -- the members by the number of receipts that is known
   pub counted_so : (members : List (Member S)) (n count : ℕ) (w : World) → AreMembers g members n w → count ≡ length (receipts_of w) → AreMembers g members count w
   counted_so members n count w are counted = record { each = are.each; counted = counted; register = are.register }
+
+  -- an answer that is worked out from another, and may fail
+  pub asks_worked : {X Y E E' : Type 0} {A : World → X → Type 0} {B : World → Y → Type 0} {old new : List (Member S)} {r : Result X E} {x : X} (q : Result Y E') → r ≡ Ok x
+      → ((w : World) (count : ℕ) → AreMembers g old count w → A w x → IfOk q (B w)) → AsksAll g {X = X} {E = E} A old new r → AsksAll g {X = Y} {E = E'} B old new q
+  asks_worked (Ok y) is so it = asks_answer g is so it
+  asks_worked (Err e) is so it = asks_failed g (Err e) refl it
+
+-- where it leaves not too many, one receipt more is not too many
+pub one_more_within : {S : Type 0} (members : List (Member S)) (at : ℕ) (sums : Sums) (count : ℕ) → leaves_too_many members at sums count ≡ false → count + 1 ≤ greatest_receipts
+one_more_within members at sums count few =
+    ltb-false greatest_receipts (count + 1) (or_parts (list_any is_past_limits (sums_with members at sums) || nat_lt greatest_packages (length members)) (nat_lt greatest_receipts (count + 1)) few).1

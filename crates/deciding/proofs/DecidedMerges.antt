@@ -1,7 +1,9 @@
 -- What a merge comes to, by what the members and its request tell.
-use Rattle.std.proofs.Common.{◌≡◌, refl, sym, ap, subst, ◌∙◌, ℕ, ℤ, ◌+◌, List, [], ◌∷◌, Bool, true, false, length, slice_get, Option, Some, None, Ok, Err, bytes_eq}
-use Rattle.std.specs.Prelude.{not, ◌||◌, ◌&&◌, is_some, unwrap_or, option_map, filter, find, map}
+use Rattle.std.proofs.Common.{◌≡◌, ◌≤◌, refl, sym, ap, subst, ◌∙◌, ℕ, ℤ, ◌+◌, ◌-◌, List, [], ◌∷◌, Bool, true, false, length, slice_get, Option, Some, None, Ok, Err, bytes_eq}
+use Rattle.std.specs.Prelude.{not, ◌||◌, ◌&&◌, nat_lt, is_some, unwrap_or, option_map, filter, find, map}
 use Rattle.std.specs.Bool.{then_some}
+use Rattle.std.specs.List.{list_any}
+use Rattle.std.proofs.lemmas.Bool.{or_parts, ltb-false}
 use Rattle.std.specs.Option.{option_or, option_and_then}
 use Rattle.sqlite.specs.Store.{Ghosts}
 use Rattle.sheet_types.specs.Answers.{sums_held}
@@ -10,7 +12,7 @@ use Rattle.sheet_types.specs.Cut.{moved_of}
 use Rattle.sheet_types.specs.Lines.{IsUuid, HasTypes}
 use Rattle.sheet_types.specs.Matrix.{first_row}
 use Rattle.sheet_types.specs.Ordered.{arranged, least, IsArranged}
-use Rattle.sheet_types.specs.Refuse.{refusal, bad_text, foreign, stale, loan_open, collides, too_many, takes_place, place_key}
+use Rattle.sheet_types.specs.Refuse.{refusal, bad_text, foreign, stale, loan_open, collides, too_many, takes_place, place_key, greatest_packages, greatest_receipts}
 use Rattle.sheet_types.specs.Register.{IsRegister}
 use Rattle.sheet_types.specs.Step.{accepted, outcome, outcome_by, refuses, receipt_of, receipt_over, moved}
 use Rattle.sheet_types.specs.Texts.{line, is_moment}
@@ -32,12 +34,15 @@ use Rattle.deciding.specs.DecidingMerges.{IsMergeAt, kept_reasons, refusal_by_ke
 use Rattle.deciding.specs.declared.deciding_merges.Clash.{Clash}
 use Rattle.members.specs.Members.{AreMembers}
 use Rattle.members.specs.Reasons.{text_reasons}
-use Rattle.members.specs.Steps.{sums_moved, sums_more}
+use Rattle.members.specs.Steps.{is_past_limits, sums_moved, sums_more}
+use Rattle.asking.specs.Asking.{StandsAt}
 use Rattle.asking.specs.Sums.{IsCounted}
+use Rattle.asking.specs.TooMany.{sums_with}
 use Rattle.deciding.specs.declared.deciding.Decision.TheVariants.{Answered, MergeDue}
 use Rattle.members.specs.declared.members.Member.{Member}
 use Rattle.due_loans.proofs.DueMerges.{returned_where_accepted}
-use Rattle.deciding.proofs.MergeLimits.{as_request, held, members_tell, members_tell_uncounted}
+use Rattle.deciding.proofs.MergeLimits as MergeLimits
+use Rattle.deciding.proofs.MergeLimits.{as_request, members_tell, members_tell_uncounted}
 use Rattle.due_loans.proofs.MergeReasons.{merge_refused_in_turn, merge_refused_as_unknown}
 use Rattle.members.proofs.Outcomes.{refused_outcome}
 
@@ -122,24 +127,70 @@ module _ {S : Type 0} (g : Ghosts S) (members : List (Member S)) (count from at 
   abbrev left : Sums
   left = sums_more (sums_moved (receipt_of w q)) was.sums
 
+  same_left : (some held : Sums) → some ≡ sums_moved (receipt_of w q) → held ≡ was.sums → sums_more some held ≡ left
+  same_left some held moved here = ap (λ s. sums_more s held) moved ∙ ap (sums_more (sums_moved (receipt_of w q))) here
+
   -- what cannot be counted is too many
-  pub weighed_uncounted : (IsCounted left → ⊥) → Decides w q (Answered (Err TooMany))
+  weighed_uncounted : (IsCounted left → ⊥) → Decides w q (Answered (Err TooMany))
   weighed_uncounted cannot = decides_too_many count from at q w is before (members_tell_uncounted count from at q w are.register is before g members are was place cannot)
 
   -- and so is what the members tell to be
-  pub weighed_past : (sums : Sums) → sums ≡ left → leaves_too_many members at sums count ≡ true → Decides w q (Answered (Err TooMany))
-  weighed_past sums same past =
-      decides_too_many count from at q w is before (sym (members_tell count from at q w are.register is before g members are was place) ∙ ap (λ s. leaves_too_many members at s count) (sym same) ∙ past)
+  weighed_past : leaves_too_many members at left count ≡ true → Decides w q (Answered (Err TooMany))
+  weighed_past past = decides_too_many count from at q w is before (sym (members_tell count from at q w are.register is before g members are was place) ∙ past)
+
+  -- so it is refused where the one or the other is so
+  pub weighed_over : (some held : Sums) → some ≡ sums_moved (receipt_of w q) → held ≡ was.sums → ((IsCounted (sums_more some held) × (leaves_too_many members at (sums_more some held) count ≡ false)) → ⊥) → Decides w q (Answered (Err TooMany))
+  weighed_over some held moved here cannot =
+      let none : (IsCounted left × (leaves_too_many members at left count ≡ false)) → ⊥ = subst (λ s. (IsCounted s × (leaves_too_many members at s count ≡ false)) → ⊥) (same_left some held moved here) cannot in
+      elim (leaves_too_many members at left count) as (λ v. leaves_too_many members at left count ≡ v → Decides w q (Answered (Err TooMany))) [
+        | true ↦ λ past. weighed_past past
+        | false ↦ λ few. weighed_uncounted (λ can. none (can, few))
+      ] refl
 
   -- else it is due
-  pub weighed_due : (sums : Sums) (selection : Selection) (receipt : Receipt) → sums ≡ left → leaves_too_many members at sums count ≡ false → receipt ≡ receipt_of w q → IsSelectionOf (all_of (holdings w is.child)) selection
+  pub weighed_due : (some held sums : Sums) (selection : Selection) (receipt : Receipt) → some ≡ sums_moved (receipt_of w q) → held ≡ was.sums → sums ≡ sums_more some held
+      → leaves_too_many members at (sums_more some held) count ≡ false → receipt ≡ receipt_of w q → IsSelectionOf (all_of (holdings w is.child)) selection
       → Decides w q (MergeDue (record { from = from; into = at; selection = selection; receipt = receipt; sums = sums }))
-  weighed_due sums selection receipt same within made selected =
-      let few : too_many (accepted w q) ≡ false = sym (members_tell count from at q w are.register is before g members are was place) ∙ ap (λ s. leaves_too_many members at s count) (sym same) ∙ within in
+  weighed_due some held sums selection receipt moved here same within made selected =
+      let own : sums_more some held ≡ left = same_left some held moved here in
+      let few : too_many (accepted w q) ≡ false = sym (members_tell count from at q w are.register is before g members are was place) ∙ ap (λ s. leaves_too_many members at s count) (sym own) ∙ within in
       let none : refusal w (accepted w q) q ≡ None = refused_so count from at q w is ∙ ap (λ o. option_or o (then_some (too_many (accepted w q)) TooMany)) before ∙ ap (λ b. then_some b TooMany) few in
       subst (DueOf w from at is.child is.into selection receipt sums) (sym (as_request q is.child is.into is.number is.merges))
       (due_of w from at is.child is.into selection receipt sums q.id q.at is.number are.register is.uuid is.types is.child_at is.into_at selected)
-      is.new none made (same ∙ ap (sums_more (sums_moved (receipt_of w q))) (held count from at q w are.register is before g members are was place))
+      is.new none made (same ∙ own ∙ ap (sums_more (sums_moved (receipt_of w q))) (MergeLimits.held count from at q w are.register is before g members are was place))
+
+-- where it leaves not too many, one receipt more is not too many
+pub one_more_within : {S : Type 0} (members : List (Member S)) (at : ℕ) (sums : Sums) (count : ℕ) → leaves_too_many members at sums count ≡ false → count + 1 ≤ greatest_receipts
+one_more_within members at sums count few =
+    ltb-false greatest_receipts (count + 1) (or_parts (list_any is_past_limits (sums_with members at sums) || nat_lt greatest_packages (length members - 1)) (nat_lt greatest_receipts (count + 1)) few).1
+
+-- ---- its members
+
+module _ {S : Type 0} (g : Ghosts S) (members : List (Member S)) (child into : List ℕ) (from at : ℕ) (here : StandsAt g members child from) (there : StandsAt g members into at) where
+  -- packages that are two have two places
+  pub stand_apart : (child ≡ into → ⊥) → from ≡ at → ⊥
+  stand_apart apart same =
+      let e : Some here.member ≡ Some there.member = sym here.place ∙ ap (slice_get members) same ∙ there.place in
+      let one : here.member ≡ there.member = cc in
+      apart (sym here.named ∙ ap (λ m. m.uuid) one ∙ there.named)
+
+  -- a new merge whose packages have these members
+  pub merge_placed : (count n : ℕ) (q : Request) (w : World) (number : ℤ) → AreMembers g members n w → count ≡ length (receipts_of w) → kept w q.id ≡ None → IsUuid q.id → HasTypes (Merge child into number) → q.command ≡ Merge child into number
+      → IsMergeAt count from at q w
+  merge_placed count n q w number are counted new uuid types merges = record {
+    counted = counted;
+    new = new;
+    uuid = uuid;
+    child = child;
+    into = into;
+    number = number;
+    merges = merges;
+    types = types;
+    child_live = here.live w n are;
+    into_live = there.live w n are;
+    child_at = here.holds w n are;
+    into_at = there.holds w n are;
+  }
 
 -- the receipt that was made of all that the child holds is that of the world
 pub receipt_made : (count from at : ℕ) (q : Request) (w : World) (is : IsMergeAt count from at q w) (items : List Item) (links : List Relation) (things : List Moved) (receipt : Receipt)

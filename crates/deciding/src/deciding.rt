@@ -1,6 +1,6 @@
 //! What a request comes to before anything is written: the reply, or the change that is due. The members are read in the order in which the reasons are told, and no further than the first that holds.
 ghost use Rattle.std.specs.Prelude.{◌≡◌, ◌<◌, ◌≤◌, ◌+◌, IsTrue, None, Ok, Err, IfOk, length, bytes_eq, false, if◌then◌else◌};
-ghost use Rattle.std.specs.Option.{option_map_or};
+ghost use Rattle.std.specs.Option.{SomeIff, option_map_or};
 ghost use Rattle.sheet_types.specs.Custody.{is_used};
 ghost use Rattle.sheet_types.specs.Lines.{HasTypes};
 ghost use Rattle.sheet_types.specs.Matrix.{is_good_frame};
@@ -11,9 +11,12 @@ ghost use Rattle.sheet_types.specs.World.{World};
 ghost use Rattle.sheet_types.specs.declared.refusal.Refusal.TheVariants.{IdReused};
 ghost use Rattle.known_uuids.specs.Known.{Knows};
 ghost use Rattle.asking.specs.Asking.{AsksAll};
+ghost use Rattle.asking.specs.Sums.{CanCount};
+ghost use Rattle.asking.specs.TooMany.{leaves_too_many};
 ghost use Rattle.deciding.specs.Deciding.{IsOf, IsNewTo, IsNewChange, HasAt, IsPlaced, refusal_before, Decides, DecidesWhere, HasPlace};
 ghost use Rattle.members.specs.Laws.{ChangesOnePackage, package_of};
 ghost use Rattle.members.specs.Members.{AllRest, AreMembers};
+ghost use Rattle.members.specs.Steps.{sums_after};
 
 use crate::deciding_merges::decide_merge;
 use crate::deciding_splits::{Asked, decide_split};
@@ -183,6 +186,29 @@ fn refused_before<S: Alter + Drop>(
     refusal_at(members, at, frame, &request.command)
 }
 
+/// What the package of the member at a place then holds, if that can be counted and leaves not too many.
+fn sums_within<S: Alter + Drop>(
+    members: &[Member<S>],
+    at: usize,
+    count: u64,
+    command: &Command,
+    some: Sums,
+    held: Sums,
+) -> Option<Sums>
+    ensures { SomeIff result
+        (CanCount command.now some held
+        × (leaves_too_many members.now at (sums_after command.now some held) count ≡ false))
+        (sums_after command.now some held) }
+{
+    let Some(sums) = sums_after(command, some, held) else {
+        return None;
+    };
+    if is_too_many(members, at, sums, count) {
+        return None;
+    }
+    Some(sums)
+}
+
 /// What a request that is not refused before comes to by what it would leave: too many, or the change is due with this receipt.
 fn limited<S: Alter + Drop>(
     members: &[Member<S>],
@@ -199,11 +225,16 @@ fn limited<S: Alter + Drop>(
 {
     fits(request.id);
     has_types(&request.command);
-    match sums_after(&request.command, sums_moved(&receipt), members[at].sums) {
+    let moved = sums_moved(&receipt);
+    match sums_within(
+        members,
+        at,
+        count,
+        &request.command,
+        moved,
+        members[at].sums,
+    ) {
         None => Decision::Answered(Err(Refusal::TooMany)),
-        Some(sums) if is_too_many(members, at, sums, count) => {
-            Decision::Answered(Err(Refusal::TooMany))
-        }
         Some(sums) => Decision::ChangeDue(Change { at, receipt, sums }),
     }
 }

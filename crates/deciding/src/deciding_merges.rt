@@ -1,19 +1,22 @@
 //! What a merge comes to that did not come before. What is kept of the members is looked at first, then what the child holds, once, and of each of its tiles whether the place is taken in the parent.
-ghost use Rattle.std.specs.Prelude.{◌≡◌, ◌<◌, ◌≤◌, ◌+◌, ◌||◌, ℕ, pos, true, not, bytes_eq, IfOk, IfNone, Some, None, length, map, slice_get};
+ghost use Rattle.std.specs.Prelude.{◌≡◌, ◌<◌, ◌≤◌, ◌+◌, ◌||◌, ◌&&◌, ℕ, pos, true, false, not, bytes_eq, IfOk, IfSome, IfNone, Some, None, length, map, slice_get};
 ghost use Rattle.std.specs.Bool.{then_some};
 ghost use Rattle.std.specs.List.{list_any};
+ghost use Rattle.std.specs.Option.{SomeIff};
 ghost use Rattle.sheet_types.specs.Custody.{ends_at, kept};
 ghost use Rattle.sheet_types.specs.Cut.{moved_of, identities};
 ghost use Rattle.sheet_types.specs.Lines.{HasTypes};
 ghost use Rattle.sheet_types.specs.Matrix.{is_within};
 ghost use Rattle.sheet_types.specs.Ordered.{is_before};
 ghost use Rattle.sheet_types.specs.Refuse.{is_at, takes_place, greatest_receipts};
-ghost use Rattle.sheet_types.specs.Step.{receipt_of};
+ghost use Rattle.sheet_types.specs.Step.{receipt_of, receipt_over};
 ghost use Rattle.sheet_types.specs.World.{World, Package, is_live, holdings, receipts_of, item_moved, link_moved};
 ghost use Rattle.sheet_types.specs.declared.command.Command.TheVariants.{Merge};
 ghost use Rattle.sheet_types.specs.declared.command.Request.{Request as ModelRequest};
 ghost use Rattle.lending.specs.Selecting.{IsSelectionOf};
-ghost use Rattle.asking.specs.Asking.{AsksAll};
+ghost use Rattle.asking.specs.Asking.{AsksAll, StandsAt};
+ghost use Rattle.asking.specs.Sums.{IsCounted};
+ghost use Rattle.members.specs.Steps.{sums_more};
 ghost use Rattle.deciding.specs.Deciding.{Decides, HasPlace};
 ghost use Rattle.deciding.specs.DecidingMerges.{IsMergeAt, refusal_by_kept, refusal_by_held, first_loan, clash_of, first_clash, nearer_clash, all_of, leaves_too_many};
 ghost use Rattle.members.specs.Members.{AllRest, AreMembers};
@@ -284,6 +287,28 @@ fn has_types(child: Uuid, into: Uuid, ticket: i64)
     fits(into);
 }
 
+/// What the package of the member at a place then holds, if that can be counted and leaves not too many.
+fn sums_within<S: Alter + Drop>(
+    members: &[Member<S>],
+    at: usize,
+    count: u64,
+    some: Sums,
+    held: Sums,
+) -> Option<Sums>
+    ensures { SomeIff result
+        (IsCounted (sums_more some held)
+        × (leaves_too_many members.now at (sums_more some held) count ≡ false))
+        (sums_more some held) }
+{
+    let Some(sums) = more(some, held) else {
+        return None;
+    };
+    if leaves_too_many(members, at, sums, count) {
+        return None;
+    }
+    Some(sums)
+}
+
 /// What a merge that nothing speaks against comes to by what it would leave: too many, or it is due.
 fn weighed<S: Alter + Drop>(
     members: &[Member<S>],
@@ -300,11 +325,9 @@ fn weighed<S: Alter + Drop>(
     ensures decides { (w : World) → (q : ModelRequest) → AreMembers S.Store members.now count w → (is : IsMergeAt count from at q w) → refusal_by_held w q ≡ None → receipt ≡ receipt_of w q → IsSelectionOf (all_of (holdings w is.child)) selection → Decides w q result }
     ensures place { HasPlace members.now count result }
 {
-    match more(sums_moved(&receipt), members[at].sums) {
+    let moved = sums_moved(&receipt);
+    match sums_within(members, at, count, moved, members[at].sums) {
         None => Decision::Answered(Err(Refusal::TooMany)),
-        Some(sums) if leaves_too_many(members, at, sums, count) => {
-            Decision::Answered(Err(Refusal::TooMany))
-        }
         Some(sums) => Decision::MergeDue(Returning {
             from,
             into: at,
@@ -315,8 +338,86 @@ fn weighed<S: Alter + Drop>(
     }
 }
 
-/// What a merge comes to that is not refused by what is kept: what the child holds is read, and looked for in its parent.
+/// The receipt of this number for a merge that moves all of these items and links.
+fn receipt_of_all(
+    alloc: Global,
+    seq: u64,
+    request: &Request,
+    items: &[Item],
+    links: &[Relation],
+) -> Result<Receipt, Fault>
+    ensures { IfOk result (λ receipt. receipt ≡ receipt_over seq request.now (moved_of items.now links.now)) }
+{
+    let things = things_of(alloc, items, links)?;
+    receipt_of_things(alloc, seq, request, things)
+}
+
+/// What a merge comes to that nothing speaks against but what it would leave: the child holds these items and links.
+fn decide_whole<S: Alter + Drop>(
+    members: &[Member<S>],
+    from: usize,
+    at: usize,
+    count: u64,
+    alloc: Global,
+    request: &Request,
+    items: &[Item],
+    links: Vec<Relation>,
+) -> Result<Decision, Fault>
+    requires from { from < length members.now }
+    requires within { at < length members.now }
+    requires two { from ≡ at → ⊥ }
+    requires small { count ≤ greatest_receipts }
+    ensures decides { (w : World) → AreMembers S.Store members.now count w
+        → (is : IsMergeAt count from at request.now w) → refusal_by_held w request.now ≡ None
+        → items.now ≡ (holdings w is.child).items → links.items ≡ (holdings w is.child).links
+        → IfOk result (λ decision. Decides w request.now decision) }
+    ensures place { IfOk result (λ decision. HasPlace members.now count decision) }
+{
+    let receipt = receipt_of_all(alloc, count + 1, request, items, &links)?;
+    let selection = selection_of(alloc, items, links)?;
+    Ok(weighed(members, from, at, count, receipt, selection))
+}
+
+/// What a merge comes to that is not refused by what is kept, whose child holds these items and links: the places of its tiles are looked for in its parent.
 fn decide_held<S: Alter + Drop>(
+    members: &mut Vec<Member<S>>,
+    from: usize,
+    at: usize,
+    count: u64,
+    alloc: Global,
+    request: &Request,
+    items: &[Item],
+    links: Vec<Relation>,
+) -> Result<Decision, Fault>
+    requires from { from < length members.old.items }
+    requires within { at < length members.old.items }
+    requires two { from ≡ at → ⊥ }
+    requires rests { AllRest S.Store members.old.items }
+    requires small { count ≤ greatest_receipts }
+    ensures asks { AsksAll S.Store
+        (λ w decision. (is : IsMergeAt count from at request.now w)
+        → items.now ≡ (holdings w is.child).items → links.items ≡ (holdings w is.child).links
+        → refusal_by_kept w request.now ≡ None → Decides w request.now decision)
+        members.old.items members.new.items result }
+    ensures place { IfOk result (λ decision. HasPlace members.new.items count decision) }
+{
+    match first_taken(members, at, items)? {
+        Some(clash) => Ok(Decision::Answered(Err(Refusal::Collides(clash.identity)))),
+        None => decide_whole(
+            members.as_slice(),
+            from,
+            at,
+            count,
+            alloc,
+            request,
+            items,
+            links,
+        ),
+    }
+}
+
+/// What a merge comes to that is not refused by what is kept: what the child holds is read, and looked for in its parent.
+fn decide_read<S: Alter + Drop>(
     members: &mut Vec<Member<S>>,
     from: usize,
     at: usize,
@@ -335,13 +436,57 @@ fn decide_held<S: Alter + Drop>(
     ensures place { IfOk result (λ decision. HasPlace members.new.items count decision) }
 {
     let (items, links) = holdings_at(members, from, alloc)?;
-    if let Some(clash) = first_taken(members, at, &items)? {
-        return Ok(Decision::Answered(Err(Refusal::Collides(clash.identity))));
+    decide_held(members, from, at, count, alloc, request, &items, links)
+}
+
+/// What a merge comes to whose packages have these members.
+fn decide_placed<S: Alter + Drop>(
+    members: &mut Vec<Member<S>>,
+    from: usize,
+    at: usize,
+    count: u64,
+    alloc: Global,
+    request: &Request,
+    child: Uuid,
+    into: Uuid,
+    ticket: i64,
+) -> Result<Decision, Fault>
+    requires from { StandsAt S.Store members.old.items child from }
+    requires at { StandsAt S.Store members.old.items into at }
+    requires rests { AllRest S.Store members.old.items }
+    requires small { count ≤ greatest_receipts }
+    requires merges { request.now.command ≡ Merge child into ticket }
+    ensures asks { AsksAll S.Store
+        (λ w decision. IsMergeAt count from at request.now w → Decides w request.now decision)
+        members.old.items members.new.items result }
+    ensures place { IfOk result (λ decision. HasPlace members.new.items count decision) }
+{
+    match kept_refusal(members.as_slice(), from, request, child, into, ticket) {
+        Some(why) => Ok(Decision::Answered(Err(why))),
+        None => decide_read(members, from, at, count, alloc, request),
     }
-    let things = things_of(alloc, &items, &links)?;
-    let receipt = receipt_of_things(alloc, count + 1, request, things)?;
-    let selection = selection_of(alloc, &items, links)?;
-    Ok(weighed(members.as_slice(), from, at, count, receipt, selection))
+}
+
+/// Where the members of two packages stand, if both have one.
+fn places_of<S: Alter + Drop>(
+    members: &[Member<S>],
+    child: Uuid,
+    into: Uuid,
+) -> Option<(usize, usize)>
+    ensures some { IfSome result
+        (λ places. StandsAt S.Store members.now child places.0
+        × StandsAt S.Store members.now into places.1) }
+    ensures none { IfNone result
+        ((w : World) (count : ℕ) → AreMembers S.Store members.now count w
+        → (is_live w child && is_live w into) ≡ false) }
+{
+    let Some(from) = place_of(members, child) else {
+        return None;
+    };
+    let Some(at) = place_of(members, into) else {
+        return None;
+    };
+    Some((from, at))
 }
 
 /// What a merge comes to that did not come before.
@@ -368,14 +513,10 @@ pub(crate) fn decide_merge<S: Alter + Drop>(
 {
     fits(request.id);
     has_types(child, into, ticket);
-    let Some(from) = place_of(members.as_slice(), child) else {
-        return Ok(Decision::Answered(Err(Refusal::UnknownPackage)));
-    };
-    let Some(at) = place_of(members.as_slice(), into) else {
-        return Ok(Decision::Answered(Err(Refusal::UnknownPackage)));
-    };
-    if let Some(why) = kept_refusal(members.as_slice(), from, request, child, into, ticket) {
-        return Ok(Decision::Answered(Err(why)));
+    match places_of(members.as_slice(), child, into) {
+        None => Ok(Decision::Answered(Err(Refusal::UnknownPackage))),
+        Some((from, at)) => decide_placed(
+            members, from, at, count, alloc, request, child, into, ticket,
+        ),
     }
-    decide_held(members, from, at, count, alloc, request)
 }

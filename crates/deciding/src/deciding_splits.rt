@@ -5,13 +5,17 @@ ghost use Rattle.sheet_types.specs.Lines.{HasTypes, is_rect};
 ghost use Rattle.sheet_types.specs.Matrix.{is_good_frame, is_good_rect, first_row};
 ghost use Rattle.sheet_types.specs.Ordered.{is_before};
 ghost use Rattle.sheet_types.specs.Refuse.{greatest_depth, greatest_receipts};
+ghost use Rattle.sheet_types.specs.Cut.{Cut, moved_of};
+ghost use Rattle.sheet_types.specs.Step.{receipt_over};
 ghost use Rattle.sheet_types.specs.World.{World, Package};
+ghost use Rattle.lending.specs.Selecting.{IsSelectionOf, IsPart};
 ghost use Rattle.sheet_types.specs.declared.command.Request.{Request};
 ghost use Rattle.known_uuids.specs.Known.{Knows};
 ghost use Rattle.asking.specs.Asking.{AsksAll};
 ghost use Rattle.deciding.specs.Deciding.{IsNewTo, Decides, DecidesWhere, HasPlace};
 ghost use Rattle.deciding.specs.DecidingSplits.{command_of, IsPlacedSplit, IsAskedSplit, IsLender, uuid_used, reasons_before_cut, place_reasons, value_reasons, IsCutOut, IsSelectedFor, leaves_too_many, IsMadeOf};
 ghost use Rattle.members.specs.Members.{AllRest, AreMembers};
+ghost use Rattle.members.specs.Steps.{sums_moved, sums_less};
 ghost use Rattle.deciding.specs.declared.deciding_splits.Asked.{Asked};
 
 use crate::deciding::Decision;
@@ -31,7 +35,7 @@ use members::members::Member;
 use package_tables::fault::Fault;
 use sheet_types::command::{Mode, Request};
 use sheet_types::frame::{Frame, Rect};
-use sheet_types::receipt::Sums;
+use sheet_types::receipt::{Receipt, Sums};
 use sheet_types::refusal::Refusal;
 use sheet_types::sorting::uuid_is_before;
 use sqlite::Alter;
@@ -228,7 +232,41 @@ fn limited<S: Alter + Drop>(members: &[Member<S>], count: u64, due: Lending) -> 
     Decision::SplitDue(due)
 }
 
-/// What a split comes to whose cut is selected. A store that has less than it is to lend has failed.
+/// What a package is left with of which so much is lent. A store that has less than it is to lend has failed.
+fn left_of(lent: Sums, held: Sums) -> Result<Sums, Fault>
+    ensures { IfOk result (λ left. left ≡ sums_less lent held) }
+{
+    match less(lent, held) {
+        Some(left) => Ok(left),
+        None => Err(Fault::StoreFault),
+    }
+}
+
+/// The receipt of this number for what is selected of the package of the member that lends, and what the package is left with.
+fn parted_at<S: Alter + Drop>(
+    members: &mut Vec<Member<S>>,
+    lender: Lender,
+    seq: u64,
+    alloc: Global,
+    request: &Request,
+    selection: &Selection,
+) -> Result<(Receipt, Sums), Fault>
+    requires within { lender.at < length members.old.items }
+    requires rests { AllRest S.Store members.old.items }
+    ensures asks { AsksAll S.Store
+        (λ w parted. (p : Package) (c : Cut) → slice_get w.packages lender.at ≡ Some p → IsSelectionOf c selection.now
+        → IsPart c p → parted.0 ≡ receipt_over seq request.now (moved_of c.items c.links))
+        members.old.items members.new.items result }
+    ensures left { IfOk result (λ parted. parted.1 ≡ sums_less (sums_moved parted.0) lender.held) }
+    ensures number { IfOk result (λ parted. parted.0.seq ≡ seq) }
+{
+    let things = things_at(members, lender.at, alloc, selection)?;
+    let receipt = receipt_of_things(alloc, seq, request, things)?;
+    let left = left_of(sums_moved(&receipt), lender.held)?;
+    Ok((receipt, left))
+}
+
+/// What a split comes to whose cut is selected.
 fn prepared<S: Alter + Drop>(
     members: &mut Vec<Member<S>>,
     lender: Lender,
@@ -247,12 +285,8 @@ fn prepared<S: Alter + Drop>(
         members.old.items members.new.items result }
     ensures place { IfOk result (λ decision. HasPlace members.new.items count decision) }
 {
-    let things = things_at(members, lender.at, alloc, &selection)?;
-    let receipt = receipt_of_things(alloc, count + 1, request, things)?;
+    let (receipt, left) = parted_at(members, lender, count + 1, alloc, request, &selection)?;
     let lent = sums_moved(&receipt);
-    let Some(left) = less(lent, lender.held) else {
-        return Err(Fault::StoreFault);
-    };
     let due = Lending {
         at: lender.at,
         child_at: place_for(members.as_slice(), asked.child),

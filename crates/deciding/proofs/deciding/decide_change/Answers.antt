@@ -1,5 +1,5 @@
 -- Its package has a member or has none.
-use Rattle.std.proofs.Common.{◌≡◌, subst, sym, Some, false, true, slice_get}
+use Rattle.std.proofs.Common.{◌≡◌, ◌<◌, length, subst, sym, Some, false, true, slice_get}
 use Rattle.sheet_types.specs.World.{is_live, holdings}
 use Rattle.members.specs.Members.{AreMembers}
 use Rattle.deciding.proofs.Decided.{decides_unknown}
@@ -24,3 +24,6 @@ returns-in-Some-clause-asks g c =
       live = subst (λ p. is_live w p ≡ true) c.package_of.ensures (c.in-Some.ensures.live w count there);
       place = subst (λ p. slice_get w.packages c.in-Some.at ≡ Some (holdings w p)) c.package_of.ensures (c.in-Some.ensures.holds w count there);
     })) c.decide_at.ensures.asks
+
+pub decide_at-requires-clause-within : goal.decide_at-requires-clause-within
+decide_at-requires-clause-within g c = subst (λ ms. c.in-Some.at < length ms) c.as_slice.ensures.value c.in-Some.ensures.within

@@ -1,43 +1,22 @@
 -- The members tell whether it leaves too many, as the sums after it are counted or not.
-use Rattle.std.proofs.Common.{◌≡◌, ◌∙◌, refl, sym, ap, subst, Some, slice_get, ◌+◌, ◌-◌, ◌||◌, length}
-use Rattle.std.specs.Prelude.{nat_lt}
-use Rattle.std.specs.List.{list_any}
-use Rattle.std.proofs.lemmas.Bool.{or_parts, ltb-false}
+use Rattle.std.proofs.Common.{◌≡◌, ◌∙◌, refl, sym, ap, Some, slice_get}
 use Rattle.std.proofs.lemmas.Option.{slice_get_read}
-use Rattle.sheet_types.specs.Refuse.{greatest_packages, greatest_receipts}
-use Rattle.sheet_types.specs.Step.{receipt_of}
-use Rattle.sheet_types.specs.declared.receipt.Sums.{Sums}
-use Rattle.members.specs.Steps.{is_past_limits, sums_moved, sums_more}
-use Rattle.asking.specs.Sums.{IsCounted}
-use Rattle.asking.specs.TooMany.{sums_with}
+use Rattle.members.specs.Steps.{sums_moved}
 use Rattle.members.specs.declared.members.Member.{Member}
-use Rattle.deciding.proofs.DecidedMerges.{weighed_uncounted, weighed_past, weighed_due}
+use Rattle.deciding.proofs.DecidedMerges.{weighed_over, weighed_due, one_more_within}
 use Rattle.deciding.proofs.deciding_merges.weighed.Goals as goal
 
 pub returns-in-None-clause-decides : goal.returns-in-None-clause-decides
 returns-in-None-clause-decides g c = λ w q are is before made selected.
     let place : slice_get c.args.members.now c.args.at ≡ Some c.index-members-at.result = slice_get_read _ _ _ _ refl c.requires.within c.index-members-at.is in
-    let some : c.sums_moved.result ≡ sums_moved (receipt_of w q) = c.sums_moved.ensures ∙ ap sums_moved made in
-    weighed_uncounted g.S.Store c.args.members.now c.args.count c.args.from c.args.at q w c.index-members-at.result are is before place
-    (λ can. c.in-None.ensures (subst (λ (m : Member g.row.S.Denot). IsCounted (sums_more c.sums_moved.result m.sums)) c.index-members-at.is (subst (λ (s : Sums). IsCounted (sums_more s c.index-members-at.result.sums)) (sym some) can)))
+    weighed_over g.S.Store c.args.members.now c.args.count c.args.from c.args.at q w c.index-members-at.result are is before place _ _
+    (c.sums_moved-moved.ensures ∙ ap sums_moved made) (ap (λ (m : Member g.row.S.Denot). m.sums) (sym c.index-members-at.is)) c.in-None.ensures
 
 pub returns-in-Some-clause-decides : goal.returns-in-Some-clause-decides
 returns-in-Some-clause-decides g c = λ w q are is before made selected.
     let place : slice_get c.args.members.now c.args.at ≡ Some c.index-members-at.result = slice_get_read _ _ _ _ refl c.requires.within c.index-members-at.is in
-    let some : c.sums_moved.result ≡ sums_moved (receipt_of w q) = c.sums_moved.ensures ∙ ap sums_moved made in
-    weighed_past g.S.Store c.args.members.now c.args.count c.args.from c.args.at q w c.index-members-at.result are is before place c.in-Some.sums
-    (c.in-Some.ensures.1 ∙ ap (λ (m : Member g.row.S.Denot). sums_more c.sums_moved.result m.sums) (sym c.index-members-at.is)
-    ∙ ap (λ (s : Sums). sums_more s c.index-members-at.result.sums) some) (sym c.leaves_too_many.ensures ∙ c.if-leaves_too_many.true)
+    weighed_due g.S.Store c.args.members.now c.args.count c.args.from c.args.at q w c.index-members-at.result are is before place _ _ c.in-Some.sums c.args.selection c.args.receipt
+    (c.sums_moved-moved.ensures ∙ ap sums_moved made) (ap (λ (m : Member g.row.S.Denot). m.sums) (sym c.index-members-at.is)) c.in-Some.ensures.1 c.in-Some.ensures.0.1 made selected
 
-pub returns-in-Some-2-clause-decides : goal.returns-in-Some-2-clause-decides
-returns-in-Some-2-clause-decides g c = λ w q are is before made selected.
-    let place : slice_get c.args.members.now c.args.at ≡ Some c.index-members-at.result = slice_get_read _ _ _ _ refl c.requires.within c.index-members-at.is in
-    let some : c.sums_moved.result ≡ sums_moved (receipt_of w q) = c.sums_moved.ensures ∙ ap sums_moved made in
-    weighed_due g.S.Store c.args.members.now c.args.count c.args.from c.args.at q w c.index-members-at.result are is before place c.in-Some.sums c.args.selection c.args.receipt
-    (c.in-Some.ensures.1 ∙ ap (λ (m : Member g.row.S.Denot). sums_more c.sums_moved.result m.sums) (sym c.index-members-at.is)
-    ∙ ap (λ (s : Sums). sums_more s c.index-members-at.result.sums) some) (sym c.leaves_too_many.ensures ∙ c.if-leaves_too_many.false) made selected
-
-pub returns-in-Some-2-clause-place : goal.returns-in-Some-2-clause-place
-returns-in-Some-2-clause-place g c =
-    let over = or_parts (list_any is_past_limits (sums_with c.args.members.now c.args.at c.in-Some.sums) || nat_lt greatest_packages (length c.args.members.now - 1)) (nat_lt greatest_receipts (c.args.count + 1)) (sym c.leaves_too_many.ensures ∙ c.if-leaves_too_many.false) in
-    record { from = c.requires.from; into = c.requires.within; two = c.requires.two; number = c.requires.number; counted = ltb-false greatest_receipts (c.args.count + 1) over.1 }
+pub returns-in-Some-clause-place : goal.returns-in-Some-clause-place
+returns-in-Some-clause-place g c = record { from = c.requires.from; into = c.requires.within; two = c.requires.two; number = c.requires.number; counted = one_more_within c.args.members.now c.args.at _ c.args.count c.in-Some.ensures.0.1 }

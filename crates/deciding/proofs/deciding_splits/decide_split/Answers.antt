@@ -1,5 +1,5 @@
 -- Its package has a member or has none.
-use Rattle.std.proofs.Common.{subst, sym}
+use Rattle.std.proofs.Common.{◌<◌, length, subst, sym}
 use Rattle.members.specs.Members.{AreMembers}
 use Rattle.asking.proofs.Questions.{asks_weaker, asks_still}
 use Rattle.deciding.proofs.SplitDecided.{split_of_unknown}
@@ -26,3 +26,6 @@ returns-in-Some-clause-asks g c =
       };
       place = c.in-Some.ensures.holds w count there;
     })) c.decide_at.ensures.asks
+
+pub decide_at-requires-clause-within : goal.decide_at-requires-clause-within
+decide_at-requires-clause-within g c = subst (λ ms. c.in-Some.at < length ms) c.as_slice.ensures.value c.in-Some.ensures.within
