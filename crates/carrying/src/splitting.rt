@@ -25,13 +25,13 @@ ghost use Rattle.carrying.specs.Splits.{Splits, KeepsLoan, DropsUnfilled, DropsC
 
 use crate::taking_turns::lend_at;
 use due_loans::loans::{Lending, ServeFault};
-use new_packages::creation::create;
 use identity_register::selection::Selection;
 use lending::lending::fill;
 use lending::turn_fault::TurnFault;
 use members::members::Member;
 use members::reserving::{insert_reserved, push_reserved};
 use new_packages::create::Info;
+use new_packages::creation::create;
 use package_tables::fault::Fault;
 use sheet_types::frame::Frame;
 use sheet_types::receipt::Receipt;

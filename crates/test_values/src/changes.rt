@@ -3,8 +3,8 @@ ghost use Rattle.std.specs.Prelude.{IfOk};
 ghost use Rattle.sqlite.specs.Held.{state};
 ghost use Rattle.sql_meaning.specs.Transactions.{Rests};
 
-use package_tables::fault::Fault;
 use new_packages::package::begin;
+use package_tables::fault::Fault;
 use sql_meaning::resting::is_at_rest;
 use sqlite::{Alter, Connection, MemStore, Transaction};
 use std::alloc::Global;

@@ -1,6 +1,7 @@
 //! Rows of the tables of a package as data: each call that puts one in stands here once, so what a test puts in costs no proof of a call.
 
 use crate::changes::Change;
+use new_packages::schema::create_schema;
 use package_tables::attributes::{delete_attribute, insert_attribute};
 use package_tables::fault::Fault;
 use package_tables::identities::{delete_identity, insert_identity};
@@ -8,7 +9,6 @@ use package_tables::mappings::{delete_pair, insert_pair};
 use package_tables::media::{delete_medium, insert_medium};
 use package_tables::moved::insert_moved;
 use package_tables::receipts::insert_receipt;
-use new_packages::schema::create_schema;
 use package_tables::tiles::{delete_tile, insert_tile};
 use sheet_types::command::Mapping;
 use sqlite::{Alter, Transaction};

@@ -8,11 +8,11 @@ ghost use Rattle.sheet_types.specs.World.{new_world};
 ghost use Rattle.sql_meaning.specs.Blank.{IsBlank, no_schema};
 ghost use Rattle.members.specs.Members.{AllRest, AllClean, AllMadeAt, AreMembers};
 
-use new_packages::creation::create;
 use identity_register::fitting::fits;
 use members::members::Member;
 use members::reserving::push_reserved;
 use new_packages::create::Info;
+use new_packages::creation::create;
 use package_tables::fault::Fault;
 use sheet_types::frame::{Frame, FrameFault};
 use sheet_types::receipt::Sums;

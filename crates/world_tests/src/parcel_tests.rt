@@ -4,8 +4,8 @@
 use crate::fuses::{FusedShelf, Fusing, Store};
 use crate::pictures::{Picture, held_by};
 use identity_register::selection::Selection;
-use package_tables::fault::Fault;
 use new_packages::package::begin;
+use package_tables::fault::Fault;
 use sheet_types::command::{Mapping, Relation};
 use shelves::shelf::Shelf;
 use sqlite::{Alter, Connection, Transaction};
