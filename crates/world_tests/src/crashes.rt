@@ -1,12 +1,12 @@
-// What crashes leave after a run: each way in which the files come back, judged and counted.
-use crate::fitting::{Both, STORE_FAULT, Stands, left_fits, which_stands};
-use crate::fuses::{Left, WAYS, leaves_other};
+// A run in which something fails, judged and counted with what each crash after it leaves.
+use crate::fitting::{Both, STORE_FAULT, Stands, fits, left_fits, which_stands};
+use crate::fuses::Fusing;
 use crate::scenes::Scene;
-use crate::stops::{OverFiles, left};
+use crate::stops::{Comes, Found, over_files};
 use package_tables::fault::Fault;
 use std::alloc::Global;
+use std::test::Fail;
 use test_values::Checked;
-use test_worlds::asked;
 
 /// How many runs a file stopped, in the request or as the world was read after it; how many a request answered by a
 /// fault of its own; how many crashes of these left which world; and for how many runs the shelf had no store.
@@ -37,56 +37,65 @@ pub fn add_one(count: &mut u64) {
     *count = count.saturating_add(1);
 }
 
-// A crash in this way.
-fn check_crash(
-    alloc: Global,
-    ended: &OverFiles,
-    way: Left,
-    scene: &Scene,
-    both: &Both,
-    counts: &mut Counts,
-    checked: &mut Checked,
-) -> Result<(), Fault> {
-    let found = &ended.found;
-    let is_fault = found.reply.number == STORE_FAULT && !found.was_unshelved;
-    let left = left(alloc, &ended.files, way, asked(scene.step().number))?;
-    let stands = which_stands(&left, both);
-    checked.is(
-        if left_fits(found, stands) {
-            "fits"
-        } else {
-            "left between"
-        },
-        "fits",
-    );
-    match stands {
-        Stands::Before if is_fault => add_one(&mut counts.before),
-        Stands::After if is_fault => add_one(&mut counts.after),
-        _ => (),
-    }
-    Ok(())
+fn is_own_fault(found: &Found) -> bool {
+    found.number == STORE_FAULT && !found.was_unshelved
 }
 
-/// A crash in each way. One that leaves the same bytes as another would be the same, and is left out.
-pub fn check_crashes(
-    alloc: Global,
-    ended: &OverFiles,
-    scene: &Scene,
+// What a crash left.
+fn check_crash(
+    left: &[String],
+    found: &Found,
     both: &Both,
     counts: &mut Counts,
     checked: &mut Checked,
-) -> Result<(), Fault> {
-    let found = &ended.found;
-    for way in WAYS {
-        if leaves_other(&ended.files, way) {
-            check_crash(alloc, ended, way, scene, both, counts, checked)?;
-        }
+) {
+    let stands = which_stands(left, both);
+    let fits = left_fits(found, stands);
+    checked.is(if fits { "fits" } else { "left between" }, "fits");
+    match stands {
+        Stands::Before if is_own_fault(found) => add_one(&mut counts.before),
+        Stands::After if is_own_fault(found) => add_one(&mut counts.after),
+        _ => (),
     }
-    if found.reply.number == STORE_FAULT && !found.was_unshelved {
+}
+
+fn check_found(found: &Found, both: &Both, counts: &mut Counts, checked: &mut Checked) {
+    checked.is(fits(found, both), "fits");
+    for left in &found.left {
+        check_crash(left, found, both, counts, checked);
+    }
+    if is_own_fault(found) {
         add_one(&mut counts.faults);
     }
     if found.was_unshelved {
         add_one(&mut counts.unshelved);
     }
-    Ok(())
+}
+
+/// What comes of the request of a scene, which comes again, where this fails. It ends with `OutOfMemory` where a file
+/// stopped, or memory was refused, before the request.
+pub fn checked_run(
+    alloc: Global,
+    fusing: &Fusing,
+    scene: &Scene,
+    both: &Both,
+    counts: &mut Counts,
+    checked: &mut Checked,
+) -> Result<Found, Fault> {
+    let found = over_files(alloc, fusing, scene, Comes::Again)?;
+    if !found.is_prepared {
+        return Err(Fault::OutOfMemory);
+    }
+    check_found(&found, both, counts, checked);
+    Ok(found)
+}
+
+/// A test holds where nothing is wrong; else what is wrong is told.
+pub fn nothing_wrong(alloc: Global, checked: &Checked) -> Result<(), Fail> {
+    let wrong = String::from_str(alloc, checked.wrong())?;
+    if wrong.is_empty() {
+        Ok(())
+    } else {
+        Err(Fail::new(wrong))
+    }
 }

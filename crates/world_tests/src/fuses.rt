@@ -1,11 +1,10 @@
 // Files in memory that stop after so many calls, what is left of them, and a shelf of stores over them.
 ghost use Rattle.std.specs.Prelude.{◌≡◌, [], IsTrue, IfOk};
 
-use crate::pictures::{StorePicture, last_picture};
 use memory_files::open_blank;
 use package_tables::fault::Fault;
 use shelves::shelf::{Shelf, ShelfFault};
-use sqlite::{Connection, FileStore, Files, Options};
+use sqlite::{Alter, Connection, FileStore, Files, Options};
 use sqlite_disk::{Crash, Disk, Fuse, Memory};
 use std::alloc::Global;
 use test_worlds::package;
@@ -112,23 +111,36 @@ pub struct Remains {
 }
 
 impl Remains {
-    /// The store is gone.
-    pub fn of(alloc: Global, files: Files<File>) -> Result<Remains, Fault> {
+    fn of(alloc: Global, files: Files<File>) -> Result<Remains, Fault> {
         let Files { log, db } = files;
+        let log = FileRemains::of(alloc, log)?;
         Ok(Remains {
-            log: FileRemains::of(alloc, log)?,
+            log,
             db: FileRemains::of(alloc, db)?,
         })
     }
+}
 
-    /// What the store reads as when the files come back and are opened again.
-    pub fn picture(&self, alloc: Global, left: Left, id: Uuid) -> Result<StorePicture, Fault> {
-        let files = Files {
-            log: holding(alloc, self.log.left(left.log))?,
-            db: holding(alloc, self.db.left(left.db))?,
-        };
-        match Connection::open_files(alloc, files, Options::new(7)) {
-            Ok(conn) => last_picture(alloc, conn, id),
+/// A shelf whose stores can be taken apart, and opened again from what a crash leaves. What a run is, is written over
+/// any such shelf: a function in which a store of a known type lives costs a minute and more to prove.
+pub trait Reopens<S: Alter> {
+    /// What remains of the files of a store, which is gone.
+    fn remains(&self, store: S) -> Result<Remains, Fault>;
+
+    /// The store when its files come back.
+    fn opened(&self, remains: &Remains, left: Left) -> Result<Connection<S>, Fault>;
+}
+
+impl Reopens<Store> for FusedShelf {
+    fn remains(&self, store: Store) -> Result<Remains, Fault> {
+        Remains::of(self.alloc, store.close())
+    }
+
+    fn opened(&self, remains: &Remains, left: Left) -> Result<Connection<Store>, Fault> {
+        let log = holding(self.alloc, remains.log.left(left.log))?;
+        let db = holding(self.alloc, remains.db.left(left.db))?;
+        match Connection::open_files(self.alloc, Files { log, db }, Options::new(7)) {
+            Ok(conn) => Ok(conn),
             Err((error, _)) => Err(Fault::from(error)),
         }
     }

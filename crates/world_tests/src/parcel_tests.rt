@@ -1,13 +1,14 @@
 // What no request leads to: a parcel that is lifted out of a package and put into another, whose last number is taken, so
 // that lower ones are looked for; and one page of a selection. Tiles and media are linked crosswise. The digests are those
 // of `tile 1 0 0`, LF and `A` and so on by another program's SHA-256.
-use crate::fuses::{FusedShelf, Fusing, Store};
-use crate::pictures::{Picture, held_by};
+use crate::crashes::nothing_wrong;
+use crate::fuses::{FusedShelf, Fusing};
+use crate::pictures::push_held_by;
 use identity_register::selection::Selection;
 use new_packages::package::begin;
 use package_tables::fault::Fault;
 use sheet_types::command::{Mapping, Relation};
-use shelves::shelf::Shelf;
+use shelves::shelf::{Shelf, ShelfFault};
 use sqlite::{Alter, Connection, Transaction};
 use std::alloc::Global;
 use std::test::Fail;
@@ -38,7 +39,7 @@ const LAST_NUMBER: [Row; 2] = [
     Row::Identity(1, 1_000_000, "00000000-0000-0000-0000-000000000009"),
 ];
 
-const PUT: &str = "1;2;9;3;4;tile-medium 1 4;tile-medium 2 3;|
+const PUT: &str = "held 1;2;9;3;4;tile-medium 1 4;tile-medium 2 3;|
 1 1 0 1 c20eb71e63f0260834960dcfbffbdf9e96eadc0b8946db35a34b9382dc301848
 1 2 0 1 0423fc3e54f853b9dce666c13128ce73b7dc27c87f589aa05949fb97ac89fea1
 1 9 0 1 e84e4b9694a3d1bc2bf503f8e24d919b83b779163b44fcd30b7682aad92ebdce
@@ -46,7 +47,7 @@ const PUT: &str = "1;2;9;3;4;tile-medium 1 4;tile-medium 2 3;|
 2 4 0 1 2635914449363a8b98595ce9900d7052940cd77459b641ec717f5683873f0c39
 ";
 
-const CARRIED: &str = "1;2;3;4;tile-medium 1 4;tile-medium 2 3;|
+const CARRIED: &str = "held 1;2;3;4;tile-medium 1 4;tile-medium 2 3;|
 1 1 0 1 c20eb71e63f0260834960dcfbffbdf9e96eadc0b8946db35a34b9382dc301848
 1 2 0 1 0423fc3e54f853b9dce666c13128ce73b7dc27c87f589aa05949fb97ac89fea1
 2 3 0 1 71b85635cb1f545d6843ac133fa58347322d99f2165b2c1d2ce373540c739bce
@@ -126,17 +127,18 @@ fn paged<S: Alter>(
 
 // The items by their numbers and the links, and the digests of all items.
 fn told<S: Alter>(alloc: Global, conn: &mut Connection<S>) -> Result<String, Fault> {
-    let Picture { held, text } = held_by(alloc, conn)?;
-    Ok(format!(in alloc; "{}\n{}", held.as_str(), text.as_str())?)
+    let mut text = String::new(alloc);
+    push_held_by(alloc, conn, &mut text)?;
+    Ok(text)
 }
 
-fn wrong_of_stores<S: Alter + Drop>(
+fn check_stores<S: Alter + Drop>(
     alloc: Global,
     source: &mut Connection<S>,
     one: &mut Connection<S>,
     other: &mut Connection<S>,
-) -> Result<String, Fault> {
-    let mut checked = Checked::new(alloc);
+    checked: &mut Checked,
+) {
     checked.holds(committed(source, &Tables(CROSSWISE.as_slice())));
     checked.holds(committed(one, &Tables(LAST_NUMBER.as_slice())));
     checked.holds(committed(other, &Tables(&[])));
@@ -144,27 +146,25 @@ fn wrong_of_stores<S: Alter + Drop>(
     checked.holds(paged(alloc, source, other));
     checked.told(told(alloc, one), PUT);
     checked.told(told(alloc, other), CARRIED);
-    Ok(String::from_str(alloc, checked.wrong())?)
 }
 
-fn wrong<S: Alter + Drop, H: Shelf<S>>(alloc: Global, shelf: &mut H) -> Result<String, Fault> {
-    let Ok(mut source) = shelf.blank(package(A)) else {
-        return Err(Fault::StoreFault);
-    };
-    let Ok(mut one) = shelf.blank(package(B)) else {
-        return Err(Fault::StoreFault);
-    };
-    let Ok(mut other) = shelf.blank(package(C)) else {
-        return Err(Fault::StoreFault);
-    };
-    wrong_of_stores(alloc, &mut source, &mut one, &mut other)
+fn check<S: Alter + Drop, H: Shelf<S>>(
+    alloc: Global,
+    shelf: &mut H,
+    checked: &mut Checked,
+) -> Result<(), ShelfFault> {
+    let mut source = shelf.blank(package(A))?;
+    let mut one = shelf.blank(package(B))?;
+    let mut other = shelf.blank(package(C))?;
+    check_stores(alloc, &mut source, &mut one, &mut other, checked);
+    Ok(())
 }
 
 #[test]
 fn a_parcel_and_a_page(rt: HostRuntime) -> Result<(), Fail> {
     let alloc = rt.alloc();
     let mut shelf = FusedShelf::new(alloc, &Fusing::Nothing);
-    let wrong = wrong::<Store, FusedShelf>(alloc, &mut shelf)?;
-    assert_eq!(rt; wrong.as_str(), "");
-    Ok(())
+    let mut checked = Checked::new(alloc);
+    check(alloc, &mut shelf, &mut checked)?;
+    nothing_wrong(alloc, &checked)
 }

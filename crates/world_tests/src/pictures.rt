@@ -1,5 +1,6 @@
-// What a store or a world reads as, as texts that can be compared.
-use crate::told::{end, number, sights_text, sums_text};
+// What a store or a world reads as, as one text that can be compared. A line that begins with `held` says where things stand.
+// Each function puts its lines behind those that are there, so that none holds a text of its own when it fails.
+use crate::told::{end, number, push_sights, push_sums};
 use custody::keeping::kept;
 use identity_register::whole::holdings;
 use package_tables::fault::Fault;
@@ -10,7 +11,7 @@ use sheet_types::receipt::{Moved, Receipt};
 use sheet_types::refusal::Refusal;
 use sqlite::{Alter, Connection, Row};
 use std::alloc::{AllocError, Global};
-use test_values::{at_rest, counts, links_text};
+use test_values::{at_rest, counts, links_text, told};
 use uuid::Uuid;
 use world::world::World;
 
@@ -33,206 +34,197 @@ const TABLES: [&str; 16] = [
     "SELECT * FROM tiles_media",
 ];
 
-fn digest_text(alloc: Global, digest: Option<[u8; 32]>) -> Result<String, AllocError> {
+fn push_digest(digest: Option<[u8; 32]>, text: &mut String) -> Result<(), AllocError> {
     match digest {
         Some(digest) => {
             let mut digits = [0; 64];
-            String::from_str(alloc, spell(&digest, &mut digits))
+            text.push_str(spell(&digest, &mut digits))
         }
-        None => String::from_str(alloc, "-"),
+        None => text.push('-'),
     }
 }
 
-fn thing_in_full(alloc: Global, thing: &Moved) -> Result<String, AllocError> {
+fn push_thing(alloc: Global, thing: &Moved, text: &mut String) -> Result<(), AllocError> {
     let (kind, base, other) = (thing.kind.number(), number(thing.base), end(thing.other));
-    let digest = digest_text(alloc, thing.fingerprint)?;
-    format!(in alloc;
-        "{kind} {base} {other} {} {}\n",
-        thing.size,
-        digest.as_str()
-    )
+    text.push_str(format!(in alloc; "{kind} {base} {other} {} ", thing.size)?.as_str())?;
+    push_digest(thing.fingerprint, text)?;
+    text.push('\n')
 }
 
-fn receipt_in_full(alloc: Global, receipt: &Receipt) -> Result<String, AllocError> {
+fn push_ends(alloc: Global, receipt: &Receipt, text: &mut String) -> Result<(), AllocError> {
     let (source, target) = (end(receipt.source), end(receipt.target));
-    let sums = sums_text(alloc, counts(receipt))?;
-    let mut buffer = Uuid::encode_buffer();
-    let request = receipt.request.hyphenated().encode_lower(&mut buffer);
-    let (at, line) = (receipt.at.as_str(), receipt.line.as_str());
-    let mut text = format!(in alloc;
-        "{} {source} {target} {} {request} {at} {line}\n",
-        receipt.seq,
-        sums.as_str()
-    )?;
-    for thing in receipt.items.as_slice() {
-        text.push_str(thing_in_full(alloc, thing)?.as_str())?;
-    }
-    Ok(text)
+    text.push_str(format!(in alloc; "{} {source} {target} ", receipt.seq)?.as_str())
 }
 
-/// The receipt, or the name of the reason.
-pub fn reply_in_full(
+fn push_words(receipt: &Receipt, text: &mut String) -> Result<(), AllocError> {
+    let mut buffer = Uuid::encode_buffer();
+    text.push_str(receipt.request.hyphenated().encode_lower(&mut buffer))?;
+    text.push(' ')?;
+    text.push_str(receipt.at.as_str())?;
+    text.push(' ')?;
+    text.push_str(receipt.line.as_str())?;
+    text.push('\n')
+}
+
+fn push_receipt(alloc: Global, receipt: &Receipt, text: &mut String) -> Result<(), AllocError> {
+    push_ends(alloc, receipt, text)?;
+    push_sums(alloc, counts(receipt), text)?;
+    push_words(receipt, text)?;
+    for thing in receipt.items.as_slice() {
+        push_thing(alloc, thing, text)?;
+    }
+    Ok(())
+}
+
+/// The receipt, or the name of the reason. Answers the number of the receipt, or below zero that of the reason.
+pub fn push_reply(
     alloc: Global,
     reply: &Result<Receipt, Refusal>,
-) -> Result<String, AllocError> {
+    text: &mut String,
+) -> Result<i64, Fault> {
     match reply {
-        Ok(receipt) => receipt_in_full(alloc, receipt),
-        Err(why) => String::from_str(alloc, why.name()),
+        Ok(receipt) => push_receipt(alloc, receipt, text)?,
+        Err(why) => text.push_str(why.name())?,
     }
+    Ok(told(reply))
 }
 
-fn kept_in_full(alloc: Global, kept: &Option<Receipt>) -> Result<String, AllocError> {
+fn push_kept(alloc: Global, kept: &Option<Receipt>, text: &mut String) -> Result<(), Fault> {
     match kept {
-        Some(receipt) => receipt_in_full(alloc, receipt),
-        None => String::from_str(alloc, "-"),
+        Some(receipt) => Ok(push_receipt(alloc, receipt, text)?),
+        None => Ok(text.push('-')?),
     }
 }
 
-// The items by their numbers and the links of a package.
-fn held_text(alloc: Global, items: &[Item], links: &[Relation]) -> Result<String, AllocError> {
-    let mut text = String::new(alloc);
+// The items by their numbers and the links of a package, in one line.
+fn push_held(
+    alloc: Global,
+    items: &[Item],
+    links: &[Relation],
+    text: &mut String,
+) -> Result<(), AllocError> {
+    text.push_str("held ")?;
     for item in items {
         text.push_str(format!(in alloc; "{};", number(item.identity))?.as_str())?;
     }
     text.push_str(links_text(alloc, links)?.as_str())?;
-    text.push('|')?;
-    Ok(text)
+    text.push_str("|\n")
 }
 
-// The items with the digests of their contents.
-fn items_in_full(alloc: Global, items: &[Item]) -> Result<String, AllocError> {
-    let mut text = String::new(alloc);
+// The same, and the items with the digests of their contents.
+fn push_holdings(
+    alloc: Global,
+    items: &[Item],
+    links: &[Relation],
+    text: &mut String,
+) -> Result<(), Fault> {
+    push_held(alloc, items, links, text)?;
     for item in items {
-        text.push_str(thing_in_full(alloc, &Moved::of_item(item))?.as_str())?;
+        push_thing(alloc, &Moved::of_item(item), text)?;
     }
-    Ok(text)
+    Ok(())
 }
 
-fn row_text(alloc: Global, row: &Row) -> Result<String, Fault> {
-    match format!(in alloc; "{row:?}\n") {
-        Ok(text) => Ok(text),
-        Err(_) => Err(Fault::OutOfMemory),
-    }
+fn push_row(alloc: Global, row: &Row, text: &mut String) -> Result<(), AllocError> {
+    text.push_str(format!(in alloc; "{row:?}\n")?.as_str())
 }
 
-fn table_text<S: Alter>(
+fn push_table<S: Alter>(
     alloc: Global,
     conn: &mut Connection<S>,
     table: &str,
-) -> Result<String, Fault> {
-    let mut text = String::new(alloc);
+    text: &mut String,
+) -> Result<(), Fault> {
     for row in &conn.query_all(table, &[])? {
-        text.push_str(row_text(alloc, row)?.as_str())?;
+        push_row(alloc, row, text)?;
     }
-    Ok(text)
+    Ok(())
 }
 
-fn head_text<S: Alter>(alloc: Global, conn: &mut Connection<S>) -> Result<String, Fault> {
+fn push_package<S: Alter>(
+    alloc: Global,
+    conn: &mut Connection<S>,
+    text: &mut String,
+) -> Result<(), Fault> {
     at_rest(conn)?;
-    let mut text = String::new(alloc);
     for head in &all_heads(conn, alloc)? {
         text.push_str(head.package.as_str())?;
     }
-    Ok(text)
-}
-
-/// Where all stands: the items by their numbers, and the links; and everything in full.
-#[derive(Drop)]
-pub struct Picture {
-    pub held: String,
-    pub text: String,
+    Ok(text.push('\n')?)
 }
 
 /// Of one store: the items, with the digests of their contents, and the links.
-pub fn held_by<S: Alter>(alloc: Global, conn: &mut Connection<S>) -> Result<Picture, Fault> {
+pub fn push_held_by<S: Alter>(
+    alloc: Global,
+    conn: &mut Connection<S>,
+    text: &mut String,
+) -> Result<(), Fault> {
     at_rest(conn)?;
     let (items, links) = holdings(conn, alloc)?;
-    Ok(Picture {
-        held: held_text(alloc, &items, &links)?,
-        text: items_in_full(alloc, &items)?,
-    })
+    push_holdings(alloc, &items, &links, text)
 }
 
-fn kept_by<S: Alter>(alloc: Global, conn: &mut Connection<S>, id: Uuid) -> Result<String, Fault> {
-    at_rest(conn)?;
-    let kept = kept(conn, alloc, id)?;
-    Ok(kept_in_full(alloc, &kept)?)
-}
-
-/// A store of a world: its package, and what it reads as.
-#[derive(Drop)]
-pub struct StorePicture {
-    pub package: String,
-    pub picture: Picture,
-}
-
-/// Each row of each table, the items, the links, and the receipt of a request.
-fn store_picture<S: Alter>(
+fn push_kept_by<S: Alter>(
     alloc: Global,
     conn: &mut Connection<S>,
     id: Uuid,
-) -> Result<StorePicture, Fault> {
-    let package = head_text(alloc, conn)?;
-    let mut picture = held_by(alloc, conn)?;
-    picture.text.push_str(kept_by(alloc, conn, id)?.as_str())?;
-    for table in TABLES.as_slice() {
-        picture
-            .text
-            .push_str(table_text(alloc, conn, table)?.as_str())?;
-    }
-    Ok(StorePicture { package, picture })
+    text: &mut String,
+) -> Result<(), Fault> {
+    at_rest(conn)?;
+    let kept = kept(conn, alloc, id)?;
+    push_kept(alloc, &kept, text)
 }
 
-/// The same of a store that is gone then. Where its type is known, a function that drops it costs a minute and more to
-/// prove.
-pub fn last_picture<S: Alter + Drop>(
+/// A store of a world: its package in the first line; the items, the links, the receipt of a request, and each row of each
+/// table.
+pub fn push_store<S: Alter>(
     alloc: Global,
-    conn: Connection<S>,
+    conn: &mut Connection<S>,
     id: Uuid,
-) -> Result<StorePicture, Fault> {
-    let mut conn = conn;
-    store_picture(alloc, &mut conn, id)
+    text: &mut String,
+) -> Result<(), Fault> {
+    push_package(alloc, conn, text)?;
+    push_held_by(alloc, conn, text)?;
+    push_kept_by(alloc, conn, id, text)?;
+    for table in TABLES.as_slice() {
+        push_table(alloc, conn, table, text)?;
+    }
+    Ok(())
 }
 
-fn held_in<S: Alter + Drop>(
+fn push_held_in<S: Alter + Drop>(
     alloc: Global,
     world: &mut World<S>,
     package: Uuid,
-) -> Result<Picture, Fault> {
+    text: &mut String,
+) -> Result<(), Fault> {
     match world.holdings(alloc, package)? {
-        Some((items, links)) => Ok(Picture {
-            held: held_text(alloc, &items, &links)?,
-            text: items_in_full(alloc, &items)?,
-        }),
+        Some((items, links)) => push_holdings(alloc, &items, &links, text),
         None => Err(Fault::StoreFault),
     }
 }
 
-fn kept_in<S: Alter + Drop>(
+fn push_kept_in<S: Alter + Drop>(
     alloc: Global,
     world: &mut World<S>,
     id: Uuid,
-) -> Result<String, Fault> {
+    text: &mut String,
+) -> Result<(), Fault> {
     let kept = world.receipt(alloc, id)?;
-    Ok(kept_in_full(alloc, &kept)?)
+    push_kept(alloc, &kept, text)
 }
 
 /// Each live package with its parent and its ticket, the items, the links, and the receipt of a request.
-pub fn world_picture<S: Alter + Drop>(
+pub fn push_world<S: Alter + Drop>(
     alloc: Global,
     world: &mut World<S>,
     id: Uuid,
-) -> Result<Picture, Fault> {
+    text: &mut String,
+) -> Result<(), Fault> {
     let sights = world.packages(alloc)?;
-    let mut picture = Picture {
-        held: String::new(alloc),
-        text: sights_text(alloc, &sights)?,
-    };
+    push_sights(alloc, &sights, text)?;
     for sight in &sights {
-        let package = held_in(alloc, world, sight.uuid)?;
-        picture.held.push_str(package.held.as_str())?;
-        picture.text.push_str(package.text.as_str())?;
+        push_held_in(alloc, world, sight.uuid, text)?;
     }
-    picture.text.push_str(kept_in(alloc, world, id)?.as_str())?;
-    Ok(picture)
+    push_kept_in(alloc, world, id, text)
 }

@@ -1,13 +1,15 @@
 // One request in a world whose stores are files of which one may stop, with what a crash leaves then.
-use crate::fuses::{FusedShelf, Fusing, Left, Remains, Store};
-use crate::pictures::{Picture, StorePicture, reply_in_full, world_picture};
+use crate::fuses::{FusedShelf, Fusing, Left, Remains, Reopens, WAYS, leaves_other};
+use crate::pictures::{push_reply, push_store, push_world};
 use crate::scenes::{Before, ITEMS, LOANS, Scene};
 use package_tables::fault::Fault;
 use sheet_types::command::Request;
+use sheet_types::receipt::Receipt;
+use sheet_types::refusal::Refusal;
 use shelves::shelf::Shelf;
 use sqlite::{Alter, Connection};
 use std::alloc::Global;
-use test_values::{BEGUN, FRAME, told};
+use test_values::{BEGUN, FRAME};
 use test_worlds::{A, LoanStep, Wish, asked, package};
 use uuid::Uuid;
 use world::world::World;
@@ -30,22 +32,26 @@ fn requests_before(alloc: Global, before: Before) -> Result<Vec<Request>, Fault>
     }
 }
 
-// Whether each is told a receipt.
-fn are_accepted<S: Alter + Drop, H: Shelf<S>>(
+fn are_accepted(replies: &[Result<Receipt, Refusal>]) -> bool {
+    for reply in replies {
+        if reply.is_err() {
+            return false;
+        }
+    }
+    true
+}
+
+// Whether the world is told a receipt for each request that comes before.
+fn is_prepared<S: Alter + Drop, H: Shelf<S>>(
     alloc: Global,
     world: &mut World<S>,
     shelf: &mut H,
-    requests: &[Request],
-) -> bool {
-    match world.run(alloc, requests, shelf) {
-        Ok(replies) => {
-            let mut are_accepted = true;
-            for reply in &replies {
-                are_accepted = are_accepted && reply.is_ok();
-            }
-            are_accepted
-        }
-        Err(_) => false,
+    before: Before,
+) -> Result<bool, Fault> {
+    let requests = requests_before(alloc, before)?;
+    match world.run(alloc, &requests, shelf) {
+        Ok(replies) => Ok(are_accepted(&replies)),
+        Err(_) => Ok(false),
     }
 }
 
@@ -57,20 +63,6 @@ fn new_world<S: Alter + Drop, H: Shelf<S>>(alloc: Global, shelf: &mut H) -> Opti
     World::create(alloc, conn, package(A), BEGUN, &FRAME).ok()
 }
 
-// A world that was asked what comes before, or `None` where a disk stopped or memory was refused.
-fn prepared<S: Alter + Drop, H: Shelf<S>>(
-    alloc: Global,
-    shelf: &mut H,
-    before: Before,
-) -> Result<Option<World<S>>, Fault> {
-    let requests = requests_before(alloc, before)?;
-    let Some(mut world) = new_world(alloc, shelf) else {
-        return Ok(None);
-    };
-    let is_ready = are_accepted(alloc, &mut world, shelf, requests.as_slice());
-    Ok(if is_ready { Some(world) } else { None })
-}
-
 /// How often the request comes: never, once, or again after a receipt, in a world that failed, and where the shelf had
 /// no store.
 #[derive(Clone, Copy)]
@@ -80,127 +72,200 @@ pub enum Comes {
     Again,
 }
 
-/// The number of a receipt, or below zero that of the reason; and all of it.
-#[derive(Drop)]
-pub struct Reply {
-    pub number: i64,
-    pub text: String,
-}
-
-/// What came of a request: the reply, whether the world failed, and whether the shelf; what the world reads as then,
-/// where it can be read; and the reply to the request that came again.
+/// What came of a request. Of a reply there is the number of the receipt, or below zero that of the reason, 0 of none;
+/// and all of it as a text.
 #[derive(Drop)]
 pub struct Found {
-    pub reply: Reply,
+    /// Whether the world came to the request: before it no file stopped, and no memory was refused.
+    pub is_prepared: bool,
+    pub number: i64,
+    pub reply: String,
+    /// Whether the world failed, and whether the shelf.
     pub has_failed: bool,
     pub was_unshelved: bool,
-    pub live: Option<Picture>,
-    pub again: Option<Reply>,
+    /// What the world reads as then, where it can be read.
+    pub is_read: bool,
+    pub live: String,
+    /// The reply to the request that came again.
+    pub number_again: i64,
+    pub reply_again: String,
+    /// What a crash leaves, in each way that leaves other bytes: how each store reads that is opened again.
+    pub left: Vec<Vec<String>>,
 }
 
+impl Found {
+    fn new(alloc: Global) -> Found {
+        Found {
+            is_prepared: false,
+            number: 0,
+            reply: String::new(alloc),
+            has_failed: false,
+            was_unshelved: false,
+            is_read: false,
+            live: String::new(alloc),
+            number_again: 0,
+            reply_again: String::new(alloc),
+            left: Vec::new(alloc),
+        }
+    }
+
+    /// Whether the request got its receipt, at once or as it came again.
+    pub fn is_carried_out(&self) -> bool {
+        self.number > 0 || self.number_again > 0
+    }
+
+    // Whether the request is to come again.
+    fn wants_again(&self, comes: Comes) -> bool {
+        match comes {
+            Comes::Never | Comes::Once => false,
+            Comes::Again => self.number > 0 || self.has_failed || self.was_unshelved,
+        }
+    }
+}
+
+// The number of the reply, which is written out too.
 fn replied<S: Alter + Drop, H: Shelf<S>>(
     alloc: Global,
     world: &mut World<S>,
     shelf: &mut H,
     step: &LoanStep,
-) -> Result<Reply, Fault> {
+    text: &mut String,
+) -> Result<i64, Fault> {
     let request = step.request(alloc)?;
     let reply = world.apply(alloc, &request, shelf);
-    Ok(Reply {
-        number: told(&reply),
-        text: reply_in_full(alloc, &reply)?,
-    })
+    push_reply(alloc, &reply, text)
 }
 
-fn asked_once_or_again<S: Alter + Drop, H: Shelf<S>>(
+// What the world is told, and what it reads as then.
+fn ask<S: Alter + Drop, H: Shelf<S>>(
     alloc: Global,
     world: &mut World<S>,
     shelf: &mut H,
     step: &LoanStep,
     comes: Comes,
-) -> Result<Found, Fault> {
-    let reply = match comes {
-        Comes::Never => Reply {
-            number: 0,
-            text: String::new(alloc),
-        },
-        Comes::Once | Comes::Again => replied(alloc, world, shelf, step)?,
-    };
-    let has_failed = world.has_failed();
-    let was_unshelved = shelf.failures() > 0;
-    let live = world_picture(alloc, world, asked(step.number)).ok();
-    let again = match comes {
-        Comes::Again if reply.number > 0 || has_failed || was_unshelved => {
-            Some(replied(alloc, world, shelf, step)?)
-        }
-        Comes::Never | Comes::Once | Comes::Again => None,
-    };
-    Ok(Found {
-        reply,
-        has_failed,
-        was_unshelved,
-        live,
-        again,
-    })
+    found: &mut Found,
+) -> Result<(), Fault> {
+    if !matches!(comes, Comes::Never) {
+        found.number = replied(alloc, world, shelf, step, &mut found.reply)?;
+    }
+    found.has_failed = world.has_failed();
+    found.was_unshelved = shelf.failures() > 0;
+    found.is_read = push_world(alloc, world, asked(step.number), &mut found.live).is_ok();
+    if found.wants_again(comes) {
+        found.number_again = replied(alloc, world, shelf, step, &mut found.reply_again)?;
+    }
+    Ok(())
 }
 
-// What came of a request, and the stores of the world.
-#[derive(Drop)]
-struct Ended<S: Alter + Drop> {
-    found: Found,
+// How one store reads when its files come back.
+fn picture<S: Alter + Drop, H: Reopens<S>>(
+    alloc: Global,
+    shelf: &H,
+    remains: &Remains,
+    way: Left,
+    id: Uuid,
+) -> Result<String, Fault> {
+    let mut text = String::new(alloc);
+    let mut conn = shelf.opened(remains, way)?;
+    push_store(alloc, &mut conn, id, &mut text)?;
+    Ok(text)
+}
+
+fn pictures<S: Alter + Drop, H: Reopens<S>>(
+    alloc: Global,
+    shelf: &H,
+    files: &[Remains],
+    way: Left,
+    id: Uuid,
+) -> Result<Vec<String>, Fault> {
+    let mut stores = Vec::new(alloc);
+    for remains in files {
+        stores.push(picture(alloc, shelf, remains, way, id)?)?;
+    }
+    Ok(stores)
+}
+
+// What remains of a store, which is gone.
+fn keep_files<S: Alter + Drop, H: Reopens<S>>(
+    shelf: &H,
+    conn: Connection<S>,
+    files: &mut Vec<Remains>,
+) -> Result<(), Fault> {
+    let remains = shelf.remains(conn.into_store())?;
+    Ok(files.push(remains)?)
+}
+
+fn keep_all_files<S: Alter + Drop, H: Reopens<S>>(
+    shelf: &H,
     stores: Vec<Connection<S>>,
+    files: &mut Vec<Remains>,
+) -> Result<(), Fault> {
+    for conn in stores {
+        keep_files(shelf, conn, files)?;
+    }
+    Ok(())
 }
 
-fn carried_out<S: Alter + Drop, H: Shelf<S>>(
+// A crash in each way. One that leaves the same bytes as another would be the same, and is left out.
+fn crash<S: Alter + Drop, H: Reopens<S>>(
+    alloc: Global,
+    shelf: &H,
+    stores: Vec<Connection<S>>,
+    id: Uuid,
+    left: &mut Vec<Vec<String>>,
+) -> Result<(), Fault> {
+    let mut files = Vec::new(alloc);
+    keep_all_files(shelf, stores, &mut files)?;
+    for way in WAYS {
+        if leaves_other(&files, way) {
+            left.push(pictures(alloc, shelf, &files, way, id)?)?;
+        }
+    }
+    Ok(())
+}
+
+// What becomes of a world that is asked.
+fn go_on<S: Alter + Drop, H: Shelf<S> + Reopens<S>>(
+    alloc: Global,
+    world: World<S>,
+    shelf: &mut H,
+    scene: &Scene,
+    comes: Comes,
+    found: &mut Found,
+) -> Result<(), Fault> {
+    let mut world = world;
+    found.is_prepared = is_prepared(alloc, &mut world, shelf, scene.before)?;
+    if !found.is_prepared {
+        return Ok(());
+    }
+    ask(alloc, &mut world, shelf, &scene.step(), comes, found)?;
+    let id = asked(scene.step().number);
+    crash(alloc, shelf, world.into_stores(), id, &mut found.left)
+}
+
+// The same, over any store: a call at a store of a known type costs a proof half a minute, so there is one.
+fn over_any_store<S: Alter + Drop, H: Shelf<S> + Reopens<S>>(
     alloc: Global,
     shelf: &mut H,
     scene: &Scene,
     comes: Comes,
-) -> Result<Option<Ended<S>>, Fault> {
-    let Some(mut world) = prepared(alloc, shelf, scene.before)? else {
-        return Ok(None);
-    };
-    let found = asked_once_or_again(alloc, &mut world, shelf, &scene.step(), comes)?;
-    let stores = world.into_stores();
-    Ok(Some(Ended { found, stores }))
+    found: &mut Found,
+) -> Result<(), Fault> {
+    match new_world(alloc, shelf) {
+        Some(world) => go_on(alloc, world, shelf, scene, comes, found),
+        None => Ok(()),
+    }
 }
 
-/// What came of a request, and what remains of the files of each store.
-#[derive(Drop)]
-pub struct OverFiles {
-    pub found: Found,
-    pub files: Vec<Remains>,
-}
-
-/// `None` where a file stopped, or memory was refused, before the request.
+/// What comes of the request of a scene where this fails.
 pub fn over_files(
     alloc: Global,
     fusing: &Fusing,
     scene: &Scene,
     comes: Comes,
-) -> Result<Option<OverFiles>, Fault> {
+) -> Result<Found, Fault> {
     let mut shelf = FusedShelf::new(alloc, fusing);
-    let ended: Option<Ended<Store>> = carried_out(alloc, &mut shelf, scene, comes)?;
-    let Some(Ended { found, stores }) = ended else {
-        return Ok(None);
-    };
-    let mut files = Vec::new(alloc);
-    for conn in stores {
-        files.push(Remains::of(alloc, conn.into_store().close())?)?;
-    }
-    Ok(Some(OverFiles { found, files }))
-}
-
-/// What a crash leaves of the stores in one way.
-pub fn left(
-    alloc: Global,
-    files: &[Remains],
-    way: Left,
-    id: Uuid,
-) -> Result<Vec<StorePicture>, Fault> {
-    let mut stores = Vec::new(alloc);
-    for remains in files {
-        stores.push(remains.picture(alloc, way, id)?)?;
-    }
-    Ok(stores)
+    let mut found = Found::new(alloc);
+    over_any_store(alloc, &mut shelf, scene, comes, &mut found)?;
+    Ok(found)
 }

@@ -25,23 +25,28 @@ pub fn end(identity: Option<Uuid>) -> u8 {
 }
 
 // So many tiles, media, rows, links and bytes.
-pub fn sums_text(alloc: Global, sums: Sums) -> Result<String, AllocError> {
-    format!(in alloc;
-        "{} {} {} {} {}",
+pub fn push_sums(alloc: Global, sums: Sums, text: &mut String) -> Result<(), AllocError> {
+    let told = format!(in alloc;
+        "{} {} {} {} {} ",
         sums.tiles, sums.media, sums.rows, sums.links, sums.bytes
-    )
+    )?;
+    text.push_str(told.as_str())
 }
 
-fn sight_text(alloc: Global, sight: &PackageSight) -> Result<String, AllocError> {
+fn push_sight(alloc: Global, sight: &PackageSight, text: &mut String) -> Result<(), AllocError> {
     let (uuid, parent) = (number(sight.uuid), end(sight.parent));
-    format!(in alloc; "{uuid} of {parent}, {} {};", sight.depth, sight.ticket)
+    let told = format!(in alloc; "{uuid} of {parent}, {} {};", sight.depth, sight.ticket)?;
+    text.push_str(told.as_str())
 }
 
-// Each with an end behind it.
-pub fn sights_text(alloc: Global, sights: &[PackageSight]) -> Result<String, AllocError> {
-    let mut text = String::new(alloc);
+// Each with an end behind it, in one line.
+pub fn push_sights(
+    alloc: Global,
+    sights: &[PackageSight],
+    text: &mut String,
+) -> Result<(), AllocError> {
     for sight in sights {
-        text.push_str(sight_text(alloc, sight)?.as_str())?;
+        push_sight(alloc, sight, text)?;
     }
-    Ok(text)
+    text.push('\n')
 }
