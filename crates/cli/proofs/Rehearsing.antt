@@ -10,8 +10,8 @@ use Rattle.sheet_types.specs.Step.{Run}
 use Rattle.sheet_types.specs.World.{World}
 use Rattle.sheet_types.specs.declared.command.Request.{Request}
 use Rattle.sheet_types.specs.declared.frame.Frame.{Frame}
-use Rattle.carrying.specs.Leaving.{AreClean}
-use Rattle.members.specs.Members.{AllClean}
+use Rattle.world_changes.specs.Leaving.{AreClean}
+use Rattle.world_members.specs.Members.{AllClean}
 use Rattle.world.specs.Worlds.{Seen, StandsFor}
 use Rattle.manifest_csv.specs.Imports.{Imports, IsImported, IsWhyUnread}
 use Rattle.request_csv.specs.RequestLists.{IsList}

@@ -13,7 +13,7 @@ use Rattle.sheet_types.specs.World.{World, package_key}
 use Rattle.sheet_types.specs.declared.command.Request.{Request}
 use Rattle.sheet_types.specs.declared.receipt.Receipt.{Receipt}
 use Rattle.sheet_types.specs.declared.refusal.Refusal.{Refusal}
-use Rattle.members.specs.Members.{AllClean}
+use Rattle.world_members.specs.Members.{AllClean}
 use Rattle.world.specs.Worlds.{Seen, StandsFor}
 use Rattle.manifest_csv.specs.Imports.{AreStopped, GoesOn, IsWhyUnread, report_before}
 use Rattle.manifest_csv.specs.PackageManifests.{manifest}

@@ -16,16 +16,17 @@ use desk_http::connections::serve_each;
 use desk_http::listening::listen;
 use manifest_csv::importing::ImportFault;
 use manifest_csv::progress::Teller;
-use memory_files::MemoryFile;
 use request_csv::lists::read_requests;
 use sheet_types::command::Request;
-use shelves::file_memory::MemoryFileShelf;
-use shelves::memory::MemoryShelf;
-use shelves::shelf::Shelf;
 use sqlite::{Alter, FileStore, MemStore};
 use std::alloc::Global;
 use std::io::{Read, Write};
 use std::net::{Net, TcpListener, TcpStream};
+use std::rt::Clock;
+use store_memory::MemoryFile;
+use store_shelf::file_memory::MemoryFileShelf;
+use store_shelf::memory::MemoryShelf;
+use store_shelf::shelf::Shelf;
 use world::world::World;
 
 /// The world that connections left, by where its stores are.
@@ -44,7 +45,7 @@ pub enum LeftWorld {
 ///
 /// How the program ended where nothing was served: a word or the list that was refused, or what gave out.
 pub fn rehearse_and_serve<
-    N: Net<Listener = TcpListener, Stream = TcpStream>,
+    N: Net<Listener = TcpListener, Stream = TcpStream> + Clock,
     R: Read + Drop,
     W: Write,
     T: Teller,
@@ -70,7 +71,7 @@ pub fn rehearse_and_serve<
         Err(_) => return Err(Outcome::Stopped(Failure::StoreFault)),
     };
     served(
-        alloc, &rehearsal, &listener, desk.count, reader, writer, teller,
+        net, alloc, &rehearsal, &listener, desk.count, reader, writer, teller,
     )
 }
 
@@ -80,7 +81,8 @@ pub fn rehearse_and_serve<
 /// # Errors
 ///
 /// How the rehearsal ended where it was not done. Nothing was served.
-pub fn served<R: Read + Drop, W: Write, T: Teller>(
+pub fn served<C: Clock, R: Read + Drop, W: Write, T: Teller>(
+    clock: &C,
     alloc: Global,
     rehearsal: &Rehearsal<'_>,
     listener: &TcpListener,
@@ -93,6 +95,7 @@ pub fn served<R: Read + Drop, W: Write, T: Teller>(
 {
     match read_requests(alloc, reader) {
         Ok(requests) => served_by_either(
+            clock,
             alloc,
             rehearsal,
             listener,
@@ -106,7 +109,8 @@ pub fn served<R: Read + Drop, W: Write, T: Teller>(
 }
 
 // In the engine's arrays, or in files in memory.
-fn served_by_either<W: Write, T: Teller>(
+fn served_by_either<C: Clock, W: Write, T: Teller>(
+    clock: &C,
     alloc: Global,
     rehearsal: &Rehearsal<'_>,
     listener: &TcpListener,
@@ -119,16 +123,16 @@ fn served_by_either<W: Write, T: Teller>(
 {
     if are_few(requests, u64::from(count)) {
         let mut shelf = MemoryShelf::new(alloc);
-        match served_over::<MemStore, MemoryShelf, W, T>(
-            alloc, rehearsal, listener, count, &mut shelf, requests, writer, teller,
+        match served_over::<MemStore, MemoryShelf, C, W, T>(
+            clock, alloc, rehearsal, listener, count, &mut shelf, requests, writer, teller,
         ) {
             Ok(world) => Ok(LeftWorld::Arrays(world)),
             Err(outcome) => Err(outcome),
         }
     } else {
         let mut shelf = MemoryFileShelf::new(alloc);
-        match served_over::<FileStore<MemoryFile>, MemoryFileShelf, W, T>(
-            alloc, rehearsal, listener, count, &mut shelf, requests, writer, teller,
+        match served_over::<FileStore<MemoryFile>, MemoryFileShelf, C, W, T>(
+            clock, alloc, rehearsal, listener, count, &mut shelf, requests, writer, teller,
         ) {
             Ok(world) => Ok(LeftWorld::Files(world)),
             Err(outcome) => Err(outcome),
@@ -137,7 +141,8 @@ fn served_by_either<W: Write, T: Teller>(
 }
 
 // Over the stores of this shelf, which are in memory.
-fn served_over<S: Alter + Drop, H: Shelf<S>, W: Write, T: Teller>(
+fn served_over<S: Alter + Drop, H: Shelf<S>, C: Clock, W: Write, T: Teller>(
+    clock: &C,
     alloc: Global,
     rehearsal: &Rehearsal<'_>,
     listener: &TcpListener,
@@ -150,6 +155,6 @@ fn served_over<S: Alter + Drop, H: Shelf<S>, W: Write, T: Teller>(
     ensures { IsInMemory S.Store → IsListOf requests.now (λ text. RehearsesAndServes S.Store (new_world rehearsal.now.archive rehearsal.now.frame) count text writer.old writer.new (W.contents writer.old) (W.contents writer.new) result) }
 {
     let mut world = handed_on::<S, H, W, T>(alloc, rehearsal, shelf, requests, writer, teller)?;
-    serve_each(alloc, &mut world, shelf, listener, count);
+    serve_each(clock, alloc, &mut world, shelf, listener, count);
     Ok(world)
 }

@@ -5,8 +5,8 @@ ghost use Rattle.command_words.specs.Endings.{outcome_status, output_text, error
 use manifest_csv::package_manifests::ManifestFault;
 use manifest_csv::sending::WriteFault;
 use package_tables::fault::Fault;
-use shelves::shelf::ShelfFault;
 use std::alloc::AllocError;
+use store_shelf::shelf::ShelfFault;
 use thiserror::Error;
 use world::creating::CreateFault;
 

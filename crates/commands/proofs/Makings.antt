@@ -3,7 +3,7 @@ use Rattle.std.proofs.Common.{ℕ, List, Option, inr}
 use Rattle.sqlite.specs.Store.{Ghosts}
 use Rattle.world.specs.Worlds.{Seen}
 use Rattle.commands.specs.Subcommands.{EndsImport, ImportsFile}
-use Rattle.folder_worlds.specs.declared.endings.Ending.{Ending}
+use Rattle.command_folder.specs.declared.endings.Ending.{Ending}
 
 pub imports_of : {S W : Type 0} (g : Ghosts S) (text : Option (List ℕ)) (old new : Seen S) (faults more : ℕ) (writer writer' : W) (before after : Option (List ℕ)) (ending : Ending)
     → EndsImport g text old new faults more writer writer' before after ending → ImportsFile g old new writer writer' before after ending

@@ -5,10 +5,10 @@ use Rattle.sheet_types.specs.declared.receipt.Receipt.{Receipt}
 use Rattle.sheet_types.specs.declared.refusal.Refusal.{Refusal}
 use Rattle.sheet_types.specs.declared.refusal.Refusal.TheVariants as refusal
 use Rattle.desk_replies.specs.Bodies.{receipt_text, refusal_text}
-use Rattle.folder_worlds.specs.Endings.{done, failed, no_memory}
-use Rattle.folder_worlds.specs.Printing.{Prints}
-use Rattle.folder_worlds.specs.declared.endings.Ending.{Ending}
-use Rattle.folder_worlds.specs.declared.endings.Ending.TheVariants.{Declined}
+use Rattle.command_folder.specs.Endings.{done, failed, no_memory}
+use Rattle.command_folder.specs.Printing.{Prints}
+use Rattle.command_folder.specs.declared.endings.Ending.{Ending}
+use Rattle.command_folder.specs.declared.endings.Ending.TheVariants.{Declined}
 
 abbrev pub with_end : List ℕ → List ℕ
 with_end text = text ++ (10 ∷ [])

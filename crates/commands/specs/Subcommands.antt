@@ -13,23 +13,23 @@ use Rattle.command_words.specs.Endings.{import_outcome}
 use Rattle.command_words.specs.declared.statuses.Failure.{Failure}
 use Rattle.command_words.specs.declared.statuses.Outcome.TheVariants.{Refused, Stopped}
 use Rattle.command_words.specs.declared.statuses.What.TheVariants.{BadList}
-use Rattle.folder_worlds.specs.Endings.{done, failed, no_memory}
-use Rattle.folder_worlds.specs.Printing.{Prints}
+use Rattle.command_folder.specs.Endings.{done, failed, no_memory}
+use Rattle.command_folder.specs.Printing.{Prints}
 use Rattle.commands.specs.Printing.{PrintsReply, archive_line}
-use Rattle.folder_worlds.specs.declared.endings.Ending.{Ending}
-use Rattle.folder_worlds.specs.declared.endings.Ending.TheVariants.{Usual, BadBody, HoldsPackages, Unopened}
-use Rattle.folder_worlds.specs.declared.endings.OpenFault.{OpenFault}
+use Rattle.command_folder.specs.declared.endings.Ending.{Ending}
+use Rattle.command_folder.specs.declared.endings.Ending.TheVariants.{Usual, BadBody, HoldsPackages, Unopened}
+use Rattle.command_folder.specs.declared.endings.OpenFault.{OpenFault}
 
 -- ---- init
 
--- why no archive was made
+-- why no archive was made, or none that is known to last
 abbrev pub IsUnmade : Ending → Type 0
 IsUnmade ending =
     (ending ≡ HoldsPackages)
     ⊎ ((fault : OpenFault) × (ending ≡ Unopened fault))
     ⊎ ((failure : Failure) × (ending ≡ Usual (Stopped failure)))
 
--- The line that names the archive is printed; or it was not made, and nothing was written.
+-- The line that names the archive is printed; or it was not made, or is not known to last, and nothing was written.
 abbrev pub Inits : {W : Type 0} → List ℕ → W → W → Option (List ℕ) → Option (List ℕ) → Ending → Type 0
 Inits uuid writer writer' before after ending =
     Prints (archive_line uuid) done before after ending ⊎ (IsUnmade ending × (writer' ≡ writer))

@@ -6,9 +6,9 @@ use Rattle.world.specs.Worlds.{Seen, held}
 use Rattle.command_words.specs.Arguments.{AsksDesk}
 use Rattle.command_words.specs.declared.statuses.Outcome.TheVariants.{Refused}
 use Rattle.command_words.specs.declared.statuses.What.TheVariants.{BadNumber}
-use Rattle.folder_worlds.specs.Folders.{OpensThen}
-use Rattle.folder_worlds.specs.declared.endings.Ending.{Ending}
-use Rattle.folder_worlds.specs.declared.endings.Ending.TheVariants.{Unopened, Usual}
+use Rattle.command_folder.specs.Folders.{OpensThen}
+use Rattle.command_folder.specs.declared.endings.Ending.{Ending}
+use Rattle.command_folder.specs.declared.endings.Ending.TheVariants.{Unopened, Usual}
 use Rattle.commands.specs.Subcommands.{Applies, ImportsFile, ServesOn}
 use Rattle.commands.specs.declared.working.Asked.{Asked}
 use Rattle.commands.specs.declared.working.Asked.TheVariants as asked

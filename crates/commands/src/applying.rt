@@ -5,21 +5,21 @@ ghost use Rattle.manifest_csv.specs.Sent.{WentOut};
 ghost use Rattle.request_json.specs.Requests.{IsRequestText};
 ghost use Rattle.sheet_types.specs.declared.refusal.Refusal.TheVariants as refusal;
 ghost use Rattle.desk_replies.specs.Bodies.{refusal_text};
-ghost use Rattle.folder_worlds.specs.Printing.{Prints};
+ghost use Rattle.command_folder.specs.Printing.{Prints};
 ghost use Rattle.commands.specs.Printing.{PrintsReply, ask_again, refusal_ending, with_end};
 ghost use Rattle.commands.specs.Subcommands.{Applies, IsUnread, IsWhyUnasked};
 
+use command_folder::endings::{DONE, Ending, FAILED, NO_MEMORY};
 use desk_replies::bodies::{receipt_body, refusal_body};
-use folder_worlds::endings::{DONE, Ending, FAILED, NO_MEMORY};
 use manifest_csv::sending::{WriteFault, send};
 use request_json::requests::read_request;
 use sheet_types::command::Request;
 use sheet_types::receipt::Receipt;
 use sheet_types::refusal::Refusal;
-use shelves::shelf::Shelf;
 use sqlite::Alter;
 use std::alloc::Global;
 use std::io::{ErrorKind, Read, Write};
+use store_shelf::shelf::Shelf;
 use world::world::World;
 
 /// The most bytes of a body, as of one that the desk takes over HTTP.

@@ -3,16 +3,16 @@ ghost use Rattle.std.specs.Prelude.{◌≡◌, IfErr};
 ghost use Rattle.command_words.specs.Endings.{import_outcome};
 ghost use Rattle.commands.specs.Subcommands.{EndsImport, ImportsFile, IsUnlisted};
 
+use command_folder::endings::{DONE, Ending, NO_MEMORY};
 use command_words::statuses::{Failure, Outcome, What};
-use folder_worlds::endings::{DONE, Ending, NO_MEMORY};
 use manifest_csv::importing::{ImportFault, import as import_list};
 use manifest_csv::progress::Teller;
 use request_csv::lists::ReadFault;
-use shelves::shelf::Shelf;
 use sqlite::Alter;
 use std::alloc::Global;
 use std::fs::File;
 use std::io::{ErrorKind, Read, Write};
+use store_shelf::shelf::Shelf;
 use world::world::World;
 
 /// How an import ends the program, unless it went through.

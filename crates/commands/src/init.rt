@@ -4,27 +4,28 @@ ghost use Rattle.sqlite.specs.Held.{state};
 ghost use Rattle.sqlite.specs.State.{HasCleanDisk};
 ghost use Rattle.sheet_types.specs.World.{new_world};
 ghost use Rattle.sheet_types.specs.declared.frame.Frame.{Frame};
-ghost use Rattle.sql_meaning.specs.Blank.{IsBlank, no_schema};
-ghost use Rattle.members.specs.Members.{AllClean};
+ghost use Rattle.store_sql.specs.Blank.{IsBlank, no_schema};
+ghost use Rattle.world_members.specs.Members.{AllClean};
 ghost use Rattle.world.specs.Worlds.{StandsFor};
 ghost use Rattle.command_words.specs.Arguments.{Asks, IsFirstUnread};
 ghost use Rattle.command_words.specs.declared.statuses.What.{What};
 ghost use Rattle.command_words.specs.declared.statuses.Outcome.TheVariants.{Refused};
 ghost use Rattle.commands.specs.Printing.{archive_line};
 ghost use Rattle.commands.specs.Subcommands.{Inits, IsUnmade};
-ghost use Rattle.folder_worlds.specs.declared.endings.Ending.TheVariants.{Usual};
+ghost use Rattle.command_folder.specs.declared.endings.Ending.TheVariants.{Usual};
 
+use command_folder::endings::{DONE, Ending, FAILED, NO_MEMORY, OpenFault};
 use command_words::arguments::{Rehearsal, Words, read_rehearsal};
 use command_words::statuses::{Failure, Outcome};
-use folder::fault::FolderFault;
-use folder::founding::{blank_unfinished, finish, remove_unfinished};
-use folder::listing::list;
-use folder::start::FolderStore;
-use folder_worlds::endings::{DONE, Ending, FAILED, NO_MEMORY, OpenFault};
 use manifest_csv::sending::send;
 use sqlite::{Alter, Connection};
 use std::alloc::{AllocError, Global};
 use std::io::Write;
+use store_folder::fault::FolderFault;
+use store_folder::founding::{blank_unfinished, finish, remove_unfinished};
+use store_folder::listing::list;
+use store_folder::locking::lock_folder;
+use store_folder::start::FolderStore;
 use uuid::Uuid;
 use world::world::World;
 
@@ -100,6 +101,21 @@ fn make(rt: &HostRuntime, rehearsal: &Rehearsal<'_>, folder: &str) -> Result<(),
     made
 }
 
+/// Makes the archive in a folder that holds no packages, while no other process works in it.
+fn make_alone(rt: &HostRuntime, rehearsal: &Rehearsal<'_>, folder: &str) -> Result<(), Ending>
+    ensures { IfErr result IsUnmade }
+{
+    let _lock = match lock_folder(rt, folder) {
+        Ok(lock) => lock,
+        Err(fault) => return Err(unopened(fault)),
+    };
+    match list(rt, folder) {
+        Ok(listing) if listing.holds_packages => Err(Ending::HoldsPackages),
+        Ok(_) => make(rt, rehearsal, folder),
+        Err(fault) => Err(unopened(fault)),
+    }
+}
+
 /// How a folder that fails ends the program.
 fn unopened(fault: FolderFault) -> Ending
     ensures { IsUnmade result }
@@ -120,12 +136,7 @@ fn made<W: Write>(
         Ok(line) => line,
         Err(_) => return NO_MEMORY,
     };
-    match list(rt, folder) {
-        Ok(listing) if listing.holds_packages => return Ending::HoldsPackages,
-        Ok(_) => {}
-        Err(fault) => return unopened(fault),
-    }
-    if let Err(ending) = make(rt, rehearsal, folder) {
+    if let Err(ending) = make_alone(rt, rehearsal, folder) {
         return ending;
     }
     match send(writer, line.as_bytes()) {

@@ -1,12 +1,12 @@
 //! A world, served to connections of this machine.
 ghost use Rattle.commands.specs.Subcommands.{ServesOn};
 
+use command_folder::endings::{DONE, Ending, FAILED};
 use command_words::arguments::Desk;
 use desk_http::connections::serve_each;
 use desk_http::listening::listen;
-use folder_worlds::endings::{DONE, Ending, FAILED};
-use shelves::shelf::Shelf;
 use sqlite::Alter;
+use store_shelf::shelf::Shelf;
 use world::world::World;
 
 /// Serves so many connections of a port over a world, one after the other. Where the port cannot be had, nothing is served.
@@ -21,6 +21,6 @@ pub(crate) fn serve_world<S: Alter + Drop, H: Shelf<S>>(
     let Ok(listener) = listen(rt, desk.port) else {
         return FAILED;
     };
-    serve_each(rt.alloc(), world, shelf, &listener, desk.count);
+    serve_each(rt, rt.alloc(), world, shelf, &listener, desk.count);
     DONE
 }

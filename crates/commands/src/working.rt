@@ -6,18 +6,18 @@ ghost use Rattle.commands.specs.Works.{Asks, EndsWork, IsUnread, OpensFor, Worke
 use crate::applying::apply_in;
 use crate::importing::import_file;
 use crate::serving::serve_world;
+use command_folder::endings::Ending;
+use command_folder::folders::{OpenFolder, open_folder};
 use command_words::arguments::{Desk, DeskWords, read_desk};
 use command_words::statuses::{Outcome, What};
-use folder::opening::close_stores;
-use folder::shelf::FolderShelf;
-use folder::start::FolderStore;
-use folder_worlds::endings::Ending;
-use folder_worlds::folders::open_folder;
 use manifest_csv::progress::Teller;
-use shelves::shelf::Shelf;
 use sqlite::{Alter, Connection};
 use sqlite_trees::store::Store;
 use std::io::{Read, Write};
+use store_folder::opening::close_stores;
+use store_folder::shelf::FolderShelf;
+use store_folder::start::FolderStore;
+use store_shelf::shelf::Shelf;
 use world::world::World;
 
 /// What is done, by its words as they were typed.
@@ -107,7 +107,13 @@ fn work_at<R: Read + Drop, W: Write, T: Teller>(
         writer.old writer.new (W.contents writer.old) (W.contents writer.new) result }
 {
     match open_folder(rt, folder) {
-        Ok(world) => {
+        Ok(
+            OpenFolder {
+                world,
+                lock: _lock,
+                ..
+            },
+        ) => {
             let mut shelf = FolderShelf::new(rt, folder);
             let (ending, stores) = work_in(rt, world, &mut shelf, work, reader, writer, teller);
             close_stores(stores);

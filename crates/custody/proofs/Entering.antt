@@ -9,9 +9,9 @@ use Rattle.std.proofs.lemmas.List.{take_more, take_all}
 use Rattle.std.proofs.lemmas.Slice.Eq.{bytes_eq-Decides}
 use Rattle.sqlite.specs.Effect.{Database}
 use Rattle.sqlite.specs.State.{State, Survives}
-use Rattle.sql_meaning.specs.Transactions.{Steps}
-use Rattle.sql_meaning.specs.Writing.{EachChained}
-use Rattle.sql_meaning.proofs.Transactions.{steps_then, steps_weaker}
+use Rattle.store_sql.specs.Transactions.{Steps}
+use Rattle.store_sql.specs.Writing.{EachChained}
+use Rattle.store_sql.proofs.Transactions.{steps_then, steps_weaker}
 use Rattle.sheet_types.specs.Ordered.{arranged, put, has}
 use Rattle.sheet_types.specs.World.{Package, kind_number, receipt_key, with_receipt}
 use Rattle.sheet_types.specs.Reading.{optional_uuid_text}
@@ -33,6 +33,8 @@ use Rattle.package_tables.specs.declared.rows.MovedRow.{MovedRow}
 use Rattle.package_tables.specs.declared.rows.ReceiptRow.{ReceiptRow}
 use Rattle.identity_register.specs.Reads.{Says, Reads, IsFitReceipt, receipt_row, moved_row, moved_rows}
 use Rattle.identity_register.specs.Calls.{Becomes}
+use Rattle.identity_register.specs.LocalNumbers.{KeepRows, KeepsNumbers}
+use Rattle.identity_register.proofs.KeptNumbers.{entries_beside}
 use Rattle.custody.specs.Receipts.{IsNewReceipt}
 use Rattle.custody.specs.Entries.{Enters, rows_from}
 
@@ -156,7 +158,7 @@ module _ (f : Frame) (p : Package) (t : Tables) (says : Says f p t) (r : Receipt
 
 -- Of the receipts that are there, only the number must be free.
 pub comes_in : (r : Receipt) (old mid new : Database) → OnTables (Adds receipts (receipt_row r)) old mid → EachChained Enters (moved_rows r) mid new → (f : Frame) (p : Package) → Reads f p old → has receipt_key (receipt_key r) p.receipts ≡ false → IsFitReceipt r
-    → Reads f (with_receipt r p) new
+    → Reads f (with_receipt r p) new × KeepsNumbers old new
 comes_in r old mid new head items f p reads number fit =
     let says = reads.says in
     let one = head reads.formed in
@@ -165,10 +167,10 @@ comes_in r old mid new head items f p reads number fit =
     let there : (tables_of mid).moved ≡ arranged key base = ap (λ (t : Tables). t.moved) put_in ∙ says.moved in
     let all = come (moved_rows r) base mid new one.0 there (rows_free f p (tables_of old) says r number fit) (positions r.seq 0 r.items) items in
     let are : with_entry r base (tables_of old) ≡ tables_of new = sym (all.are ∙ ap (λ (t : Tables). record t { moved = arranged key (moved_rows r ++ base) }) put_in) in
-    record { formed = all.formed; says = subst (Says f (with_receipt r p)) are (enters f p (tables_of old) says r number fit) }
+    (record { formed = all.formed; says = subst (Says f (with_receipt r p)) are (enters f p (tables_of old) says r number fit) }, subst (KeepRows (tables_of old)) are (entries_beside (put receipt_shape.key (receipt_row r) (tables_of old).receipts) (arranged key (moved_rows r ++ base)) (tables_of old)))
 
 receipt_entered : (r : Receipt) (old mid new : Database) → OnTables (Adds receipts (receipt_row r)) old mid → EachChained Enters (moved_rows r) mid new → Becomes (IsNewReceipt r) (with_receipt r) old new
-receipt_entered r old mid new head items f p reads fits = comes_in r old mid new head items f p reads fits.number fits.fit
+receipt_entered r old mid new head items f p reads fits = (comes_in r old mid new head items f p reads fits.number fits.fit).0
 
 -- the row of the receipt comes in, and then those of the things that it moved
 pub receipt_steps : {E F : Type 0} (r : Receipt) {old mid new : State} {x : Unit {0}} {q : Result (Unit {0}) F} → Steps {E = E} (λ _. OnTables (Adds receipts (receipt_row r))) old mid (Ok x) → Steps (λ _. EachChained Enters (moved_rows r)) mid new q

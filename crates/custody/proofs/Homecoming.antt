@@ -10,9 +10,9 @@ use Rattle.std.proofs.lemmas.Cmp.{int_cmp_total}
 use Rattle.std.proofs.lemmas.List.{append-nil}
 use Rattle.sqlite.specs.Effect.{Database}
 use Rattle.sqlite.specs.State.{State, HasCleanDisk}
-use Rattle.sql_meaning.specs.Staying.{Stays}
-use Rattle.sql_meaning.specs.Transactions.{Steps}
-use Rattle.sql_meaning.proofs.Transactions.{steps_answer, steps_then, steps_weaker}
+use Rattle.store_sql.specs.Staying.{Stays}
+use Rattle.store_sql.specs.Transactions.{Steps}
+use Rattle.store_sql.proofs.Transactions.{steps_answer, steps_then, steps_weaker}
 use Rattle.sheet_types.specs.Ordered.{arranged, put, has, is_before, IsArranged}
 use Rattle.sheet_types.specs.World.{Package, receipt_key, with_receipt}
 use Rattle.sheet_types.specs.declared.frame.Frame.{Frame}
@@ -28,8 +28,10 @@ use Rattle.package_tables.specs.Listed.{receipts}
 use Rattle.package_tables.specs.Package.{Tables, tables_of}
 use Rattle.package_tables.specs.Shapes.{receipt_shape}
 use Rattle.package_tables.specs.declared.rows.ReceiptRow.{ReceiptRow}
+use Rattle.identity_register.specs.LocalNumbers.{KeepsNumbers}
 use Rattle.identity_register.specs.Reads.{Says, Reads, IsFitReceipt, receipt_row}
 use Rattle.identity_register.proofs.Finding.{contained, in_arranged}
+use Rattle.identity_register.proofs.KeptNumbers.{kept_same, kept_then}
 use Rattle.identity_register.proofs.Looking.{Looked}
 use Rattle.identity_register.proofs.OnePackage.{to_arranged, distinct_arranged}
 use Rattle.sheet_types.proofs.Same.{Contains-In}
@@ -194,14 +196,15 @@ abbrev pub with_done : List Receipt → Package → Package
 with_done done p = record p { receipts = arranged receipt_key (done ++ p.receipts) }
 
 -- what has come home, as far as a loop has come
-pub record HomeSoFar (last : ℤ) (f : Frame) (from p : Package) (new : Database) : Type 0 where
+pub record HomeSoFar (last : ℤ) (f : Frame) (from p : Package) (old new : Database) : Type 0 where
   pub done : List Receipt
   pub rest : List Receipt
   pub parted : AreParted last from.receipts done rest
   pub reads : Reads f (with_done done p) new
+  pub keeps : KeepsNumbers old new
 
 abbrev pub ReceiptsSoFar : ℤ → Database → Database → Database → Type 0
-ReceiptsSoFar last source old new = (f : Frame) (from p : Package) → Reads f from source → Reads f p old → AreApart from p → HomeSoFar last f from p new
+ReceiptsSoFar last source old new = (f : Frame) (from p : Package) → Reads f from source → Reads f p old → AreApart from p → HomeSoFar last f from p old new
 
 pub none_home : (source old : Database) → ReceiptsSoFar (negsuc 0) source old old
 none_home source old f from p reads reads_p apart = record {
@@ -209,6 +212,7 @@ none_home source old f from p reads reads_p apart = record {
   rest = from.receipts;
   parted = record { whole = refl; before = tt; behind = All-each _ (λ r. refl) from.receipts };
   reads = subst (λ rs. Reads f (record p { receipts = rs }) old) (sym (arranged_again receipt_key p.receipts (receipts_arranged f p (tables_of old) reads_p.says))) reads_p;
+  keeps = kept_same old;
 }
 
 -- an element of a list has what each of them has
@@ -243,14 +247,15 @@ receipt_more {E} {F} last row s0 s1 s2 s3 {t0} {t1} {t2} {x} stays looked again 
         let free : has receipt_key (receipt_key h) (with_done so.done p).receipts ≡ false =
         list_any-arranged receipt_key (λ e. bytes_eq (receipt_key e) (receipt_key h)) (so.done ++ p.receipts)
         ∙ none_any (λ e. bytes_eq (receipt_key e) (receipt_key h)) (so.done ++ p.receipts) (All-append (λ e. bytes_eq (receipt_key e) (receipt_key h) ≡ false) so.done p.receipts from_done from_own) in
-        let came : Reads f (with_receipt h (with_done so.done p)) t2.now = it.2 clean f from (subst (Reads f from) (sym same) reads) h (Contains-In h from.receipts there) at.3 f (with_done so.done p) so.reads free in
+        let came : Reads f (with_receipt h (with_done so.done p)) t2.now × KeepsNumbers it.0 t2.now = it.2 clean f from (subst (Reads f from) (sym same) reads) h (Contains-In h from.receipts there) at.3 f (with_done so.done p) so.reads free in
         let receipts_are : put receipt_key h (arranged receipt_key (so.done ++ p.receipts)) ≡ arranged receipt_key ((so.done ++ h ∷ []) ++ p.receipts) =
         sym (arranged-insert receipt_key so.done p.receipts h from_done) ∙ ap (arranged receipt_key) (snoc_append so.done h p.receipts) in
         record {
           done = so.done ++ h ∷ [];
           rest = tl;
           parted = parted_more f from t reads.says last so.done so.rest so.parted row h tl at.2 at.3;
-          reads = subst (λ rs. Reads f (record p { receipts = rs }) t2.now) receipts_are came;
+          reads = subst (λ rs. Reads f (record p { receipts = rs }) t2.now) receipts_are came.0;
+          keeps = kept_then t0.now it.0 t2.now so.keeps came.1;
         }
 
 pub all_home : {E F : Type 0} (last : ℤ) (s0 s1 s2 : State) {t0 t1 : State} → Stays s0 s1 → Looked (λ t. IsLeast (λ y. y.seq) (filter (is_after last) t.receipts) None) s1 s2
@@ -263,4 +268,4 @@ all_home {E} {F} last s0 s1 s2 {t0} {t1} stays looked before = steps_answer {X =
         let found = found_in s0 s1 s2 stays looked clean reads.formed in
         let empty = no_next f from (tables_of s0.now) reads.says last so.done so.rest so.parted found in
         let whole : so.done ≡ from.receipts = sym (so.parted.whole ∙ ap (λ l. so.done ++ l) empty ∙ append-nil so.done) in
-        subst (λ rs. Reads f (record p { receipts = arranged receipt_key (rs ++ p.receipts) }) t1.now) whole so.reads
+        (subst (λ rs. Reads f (record p { receipts = arranged receipt_key (rs ++ p.receipts) }) t1.now) whole so.reads, so.keeps)

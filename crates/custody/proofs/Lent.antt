@@ -6,9 +6,9 @@ use Rattle.std.specs.Ordering.{int_cmp, is_gt}
 use Rattle.std.proofs.lemmas.Bool.{true≢false, and_parts}
 use Rattle.uuid.proofs.TextLemmas.{by_index_length}
 use Rattle.sqlite.specs.State.{State, HasCleanDisk}
-use Rattle.sql_meaning.specs.Staying.{Stays}
-use Rattle.sql_meaning.specs.Transactions.{Looks}
-use Rattle.sql_meaning.proofs.Staying.{stays_then}
+use Rattle.store_sql.specs.Staying.{Stays}
+use Rattle.store_sql.specs.Transactions.{Looks}
+use Rattle.store_sql.proofs.Staying.{stays_then}
 use Rattle.sheet_types.specs.Custody.{is_split, is_split_line, ends_at}
 use Rattle.sheet_types.specs.Lines.{uuid_in}
 use Rattle.sheet_types.specs.Ordered.{is_before, IsArranged}

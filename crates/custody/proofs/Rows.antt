@@ -9,10 +9,10 @@ use Rattle.std.proofs.lemmas.List.{append-nil}
 use borrow.Author.Tests.{eq-eqb}
 use Rattle.sqlite.specs.Effect.{Database}
 use Rattle.sqlite.specs.State.{State, HasCleanDisk}
-use Rattle.sql_meaning.specs.Staying.{Stays}
-use Rattle.sql_meaning.specs.Transactions.{Steps}
-use Rattle.sql_meaning.specs.Writing.{EachChained}
-use Rattle.sql_meaning.proofs.Transactions.{steps_answer, steps_then}
+use Rattle.store_sql.specs.Staying.{Stays}
+use Rattle.store_sql.specs.Transactions.{Steps}
+use Rattle.store_sql.specs.Writing.{EachChained}
+use Rattle.store_sql.proofs.Transactions.{steps_answer, steps_then}
 use Rattle.sheet_types.specs.World.{Package, receipt_key}
 use Rattle.sheet_types.specs.declared.frame.Frame.{Frame}
 use Rattle.sheet_types.specs.declared.receipt.Moved.{Moved}

@@ -2,8 +2,8 @@
 ghost use Rattle.std.specs.Prelude.{◌≡◌, IsTrue, OnOk};
 ghost use Rattle.sqlite.specs.Held.{state};
 ghost use Rattle.sqlite.specs.State.{HasCleanDisk};
-ghost use Rattle.sql_meaning.specs.Staying.{Stays};
-ghost use Rattle.sql_meaning.specs.Transactions.{Rests, Steps};
+ghost use Rattle.store_sql.specs.Staying.{Stays};
+ghost use Rattle.store_sql.specs.Transactions.{Rests, Steps};
 ghost use Rattle.package_tables.specs.Calls.{OnTables};
 ghost use Rattle.package_tables.specs.Changes.{Adds};
 ghost use Rattle.package_tables.specs.Listed.{receipts};

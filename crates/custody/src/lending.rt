@@ -2,7 +2,7 @@
 ghost use Rattle.std.specs.Prelude.{◌≡◌, ◌&&◌, bytes_eq, filter};
 ghost use Rattle.std.specs.Ordering.{int_cmp, is_gt};
 ghost use Rattle.sqlite.specs.Held.{state};
-ghost use Rattle.sql_meaning.specs.Transactions.{Rests, Looks};
+ghost use Rattle.store_sql.specs.Transactions.{Rests, Looks};
 ghost use Rattle.sheet_types.specs.Custody.{is_split_line};
 ghost use Rattle.sheet_types.specs.Lines.{uuid_in};
 ghost use Rattle.sheet_types.specs.Texts.{uuid_text};
@@ -10,10 +10,10 @@ ghost use Rattle.package_tables.specs.Calls.{LooksUp, IsLeast};
 ghost use Rattle.identity_register.specs.Calls.{Sees};
 ghost use Rattle.custody.specs.Receipts.{was_lent};
 
-use ledger::entries::{LineEntry, read_line};
 use package_tables::fault::Fault;
 use package_tables::receipts::receipt_to_after;
 use package_tables::rows::ReceiptRow;
+use sheet_ledger::entries::{LineEntry, read_line};
 use sqlite::{Alter, Connection};
 use uuid::Uuid;
 

@@ -16,7 +16,7 @@ use Rattle.sheet_types.proofs.Basics.{bytes_eq_itself, or-true}
 use Rattle.sheet_types.proofs.Every.{All-weaker}
 use Rattle.sheet_types.proofs.Found.{filter_passes}
 use Rattle.sheet_types.proofs.Same.{In, In-all, In-map, In-filter, In-flat_map, All-In, any_at, any_in}
-use Rattle.ledger_laws.proofs.Follow.{follow_is_least}
+use Rattle.sheet_laws.proofs.Follow.{follow_is_least}
 use Rattle.identity_register.specs.Reach.{links_of}
 use Rattle.cut.specs.Gathering.{HasStart}
 use Rattle.cut.proofs.Testing.{both_ways, all_from}

@@ -4,9 +4,9 @@ use Rattle.sqlite.specs.Effect.{Database}
 use Rattle.sqlite.specs.Held.{Held, state}
 use Rattle.sqlite.specs.State.{HasCleanDisk}
 use Rattle.sqlite.specs.Store.{Ghosts}
-use Rattle.sql_meaning.specs.Staying.{Stays}
-use Rattle.sql_meaning.specs.Transactions.{Looks, Rests}
-use Rattle.sql_meaning.proofs.Staying.{stays_then}
+use Rattle.store_sql.specs.Staying.{Stays}
+use Rattle.store_sql.specs.Transactions.{Looks, Rests}
+use Rattle.store_sql.proofs.Staying.{stays_then}
 use Rattle.sheet_types.specs.World.{Package}
 use Rattle.package_tables.specs.Calls.{Answers}
 use Rattle.package_tables.specs.Package.{Tables}

@@ -17,7 +17,7 @@ use Rattle.sheet_types.specs.declared.command.Mode.TheVariants.{Strict, Follow}
 use Rattle.sheet_types.proofs.Basics.{or-false, or-true}
 use Rattle.sheet_types.proofs.Every.{All-weaker}
 use Rattle.sheet_types.proofs.Same.{In, any_at, All-In}
-use Rattle.ledger_laws.proofs.Follow.{follow_is_least}
+use Rattle.sheet_laws.proofs.Follow.{follow_is_least}
 use Rattle.identity_register.specs.Reach.{links_of}
 use Rattle.cut.specs.Gathering.{AreSame, IsLeast, torn_end, torn_ends, brought_along, HasStart, leads_to_media}
 use Rattle.cut.proofs.Following.{item_there, among_all}

@@ -1,8 +1,8 @@
 //! The cut of a package.
 ghost use Rattle.std.specs.Prelude.{◌≡◌, IfOk, IsTrue};
 ghost use Rattle.sqlite.specs.Held.{state};
-ghost use Rattle.sql_meaning.specs.Staying.{Stays};
-ghost use Rattle.sql_meaning.specs.Transactions.{Rests, Looks};
+ghost use Rattle.store_sql.specs.Staying.{Stays};
+ghost use Rattle.store_sql.specs.Transactions.{Rests, Looks};
 ghost use Rattle.sheet_types.specs.Matrix.{is_good_frame, is_good_rect};
 ghost use Rattle.sheet_types.specs.Ordered.{IsArranged};
 ghost use Rattle.sheet_types.specs.World.{link_key};

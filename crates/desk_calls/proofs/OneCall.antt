@@ -7,7 +7,7 @@ use Rattle.httparse.proofs.GrammarLemmas.{request_unique}
 use Rattle.httparse.specs.Grammar.{RequestHead}
 use Rattle.request_json.proofs.OneRequest.{one_request}
 use Rattle.sheet_types.proofs.Basics.{None≢Some}
-use Rattle.desk_calls.specs.Calls.{BodyAsks, HeadAsks, IsCall, MethodAsks, NamesBetween, PathAsks, RestAsks, RouteAsks, method_of}
+use Rattle.desk_calls.specs.Calls.{BodyAsks, HeadAsks, IsCall, MethodAsks, NamesBetween, OriginAsks, PathAsks, RestAsks, RouteAsks, method_of, origins_of, origins_pass}
 use Rattle.desk_calls.specs.Heads.{path_of, route_of}
 use Rattle.desk_calls.specs.declared.calls.Asked.{Asked}
 use Rattle.desk_calls.specs.declared.calls.Asked.TheVariants.{Now, Body}
@@ -40,8 +40,12 @@ by_path : (to : Option Route) (h : RequestHead) (a b : Asked) → PathAsks to h 
 by_path None h a b x y = x ∙ sym y
 by_path (Some to) h a b x y = by_method (bytes_eq h.method (method_of to)) to h a b x y
 
-one_asked : (h : RequestHead) (a b : Asked) → HeadAsks h a → HeadAsks h b → a ≡ b
-one_asked h a b x y = by_path (route_of (path_of h.target)) h a b x y
+by_origin : (passes : Bool) (h : RequestHead) (a b : Asked) → OriginAsks passes h a → OriginAsks passes h b → a ≡ b
+by_origin true h a b x y = by_path (route_of (path_of h.target)) h a b x y
+by_origin false h a b x y = x ∙ sym y
+
+one_asked : (own : List ℕ) (h : RequestHead) (a b : Asked) → HeadAsks own h a → HeadAsks own h b → a ≡ b
+one_asked own h a b x y = by_origin (origins_pass own (origins_of h)) h a b x y
 
 one_of_body : (body : List ℕ) (a b : Call) → BodyAsks body a → BodyAsks body b → a ≡ b
 one_of_body body (Refused flaw) (Refused other) (is, none) (also, nor) = ap Refused (is ∙ sym also)
@@ -65,11 +69,11 @@ one_of_rest (Body size) rest a b (inl (short, is)) (inr (enough, asks)) = absurd
 one_of_rest (Body size) rest a b (inr (enough, asks)) (inl (short, is)) = absurd (omega arith)
 one_of_rest (Body size) rest a b (inr (enough, asks)) (inr (again, also)) = one_of_body (take size rest) a b asks also
 
-pub one_call : (xs : List ℕ) (a b : Call) → IsCall xs a → IsCall xs b → a ≡ b
-one_call xs a b (inl (some, none, is)) (inl (more, nor, also)) = is ∙ sym also
-one_call xs a b (inl (some, none, is)) (inr (h, rest, head, asked, asks, tail)) = absurd (none h rest head)
-one_call xs a b (inr (h, rest, head, asked, asks, tail)) (inl (some, none, is)) = absurd (none h rest head)
-one_call xs a b (inr (h, rest, head, asked, asks, more)) (inr (k, tail, front, other, also, then_)) =
+pub one_call : (own xs : List ℕ) (a b : Call) → IsCall own xs a → IsCall own xs b → a ≡ b
+one_call own xs a b (inl (some, none, is)) (inl (more, nor, also)) = is ∙ sym also
+one_call own xs a b (inl (some, none, is)) (inr (h, rest, head, asked, asks, tail)) = absurd (none h rest head)
+one_call own xs a b (inr (h, rest, head, asked, asks, tail)) (inl (some, none, is)) = absurd (none h rest head)
+one_call own xs a b (inr (h, rest, head, asked, asks, more)) (inr (k, tail, front, other, also, then_)) =
     let same = request_unique xs h k rest tail head.reads front.reads in
-    let one : asked ≡ other = one_asked k asked other (rw same.0 at asks) also in
+    let one : asked ≡ other = one_asked own k asked other (rw same.0 at asks) also in
     one_of_rest other tail a b (rw (one, same.1) at more) then_

@@ -12,7 +12,7 @@ use Rattle.request_json.specs.Requests.{IsRequestText}
 use Rattle.desk_calls.specs.Heads.{HeadIs, HasNoHead, path_of, route_of}
 use Rattle.desk_calls.specs.declared.routes.Route.{Route}
 use Rattle.desk_calls.specs.declared.routes.Route.TheVariants as route
-use Rattle.desk_calls.specs.declared.calls.Flaw.TheVariants.{BadRequest, NoSuchPath, BadMethod, NoLength, TooLarge}
+use Rattle.desk_calls.specs.declared.calls.Flaw.TheVariants.{BadOrigin, BadRequest, NoSuchPath, BadMethod, NoLength, TooLarge}
 use Rattle.desk_calls.specs.declared.calls.Call.{Call}
 use Rattle.desk_calls.specs.declared.calls.Call.TheVariants.{Refused, Apply, Packages, Manifest, Receipt}
 use Rattle.desk_calls.specs.declared.calls.Asked.{Asked}
@@ -99,9 +99,25 @@ abbrev pub PathAsks : Option Route → RequestHead → Asked → Type 0
 PathAsks None h asked = asked ≡ Now (Refused NoSuchPath)
 PathAsks (Some to) h asked = MethodAsks (bytes_eq h.method (method_of to)) to h asked
 
--- what a head asks
-abbrev pub HeadAsks : RequestHead → Asked → Type 0
-HeadAsks h asked = PathAsks (route_of (path_of h.target)) h asked
+-- Whether the Origin fields of a request let it pass (RFC 6454, section 7): it has none, as that of a program that is no
+-- browser, or the only one is the desk's own address.
+abbrev pub origins_pass : List ℕ → List (List ℕ) → Bool
+origins_pass own [] = true
+origins_pass own (origin ∷ []) = bytes_eq origin own
+origins_pass own (origin ∷ other ∷ more) = false
+
+-- what a head asks, by whether its origin lets it pass
+abbrev pub OriginAsks : Bool → RequestHead → Asked → Type 0
+OriginAsks true h asked = PathAsks (route_of (path_of h.target)) h asked
+OriginAsks false h asked = asked ≡ Now (Refused BadOrigin)
+
+-- the values of its Origin fields
+abbrev pub origins_of : RequestHead → List (List ℕ)
+origins_of h = values_of (codes "origin") (map name_and_value h.fields)
+
+-- what a head asks of a desk with this address
+abbrev pub HeadAsks : List ℕ → RequestHead → Asked → Type 0
+HeadAsks own h asked = OriginAsks (origins_pass own (origins_of h)) h asked
 
 -- ---- bodies
 
@@ -120,16 +136,17 @@ RestAsks (Body size) rest asked = ((length rest < size) × (asked ≡ Refused Ba
 
 -- ---- all of it
 
--- a head and what follows it ask this
-abbrev pub WholeAsks : List ℕ → Call → Type 0
-WholeAsks xs call = (h : RequestHead) × (rest : List ℕ) × HeadIs xs h rest × (asked : Asked) × HeadAsks h asked × RestAsks asked rest call
+-- a head and what follows it ask this of a desk with this address
+abbrev pub WholeAsks : List ℕ → List ℕ → Call → Type 0
+WholeAsks own xs call = (h : RequestHead) × (rest : List ℕ) × HeadIs xs h rest × (asked : Asked) × HeadAsks own h asked
+    × RestAsks asked rest call
 
 -- what all the bytes of a connection ask, where there is one
-abbrev pub IsCall : List ℕ → Call → Type 0
-IsCall xs call = ((xs ≢ []) × HasNoHead xs × (call ≡ Refused BadRequest)) ⊎ WholeAsks xs call
+abbrev pub IsCall : List ℕ → List ℕ → Call → Type 0
+IsCall own xs call = ((xs ≢ []) × HasNoHead xs × (call ≡ Refused BadRequest)) ⊎ WholeAsks own xs call
 
 -- ---- a law
 
 -- the bytes of a connection ask one call at most
 abbrev pub IsOneCall : Type 0
-IsOneCall = (xs : List ℕ) (one other : Call) → IsCall xs one → IsCall xs other → one ≡ other
+IsOneCall = (own xs : List ℕ) (one other : Call) → IsCall own xs one → IsCall own xs other → one ≡ other

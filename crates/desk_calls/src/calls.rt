@@ -9,6 +9,8 @@ use uuid::Uuid;
 /// The first check that fails, where one does before the world is asked.
 #[derive(Clone, Copy, Debug, PartialEq, Eq)]
 pub enum Flaw {
+    /// A page of another address asks, by the Origin field (RFC 6454, section 7).
+    BadOrigin,
     /// The head, a field, or the body is not as it has to be.
     BadRequest,
     /// The path has no route.

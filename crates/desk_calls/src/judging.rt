@@ -2,11 +2,12 @@
 ghost use Rattle.std.specs.Prelude.{◌≡◌, IfOk, All, length, map};
 ghost use Rattle.httparse.specs.Grammar.{RequestHead};
 ghost use Rattle.httparse.specs.Spans.{IsHeaderWithin, IsRequestAt, IsRequestWithin, header_bytes, name_and_value};
-ghost use Rattle.desk_calls.specs.Calls.{HeadAsks, IsSmall, NamesBetween, RouteAsks, method_of};
-ghost use Rattle.desk_calls.specs.Heads.{path_of};
+ghost use Rattle.desk_calls.specs.Calls.{HeadAsks, IsSmall, NamesBetween, PathAsks, RouteAsks, method_of};
+ghost use Rattle.desk_calls.specs.Heads.{path_of, route_of};
 
 use crate::calls::{Asked, Call, Flaw};
 use crate::lengths::fields_ask;
+use crate::origins::origins_pass;
 use crate::routes::{Route, desk_routes, path_of, route_of};
 use httparse::spans::{HeaderSpan, RequestSpans};
 use sheet_types::error::OutOfMemory;
@@ -61,7 +62,7 @@ fn path_asks(
     path: &str,
 ) -> Result<Asked, OutOfMemory>
     requires { All (IsHeaderWithin (length input.now)) headers.now }
-    ensures asks { IfOk result (λ asked. (h : RequestHead) → method.now ≡ h.method → path.now ≡ path_of h.target → map (header_bytes input.now) headers.now ≡ map name_and_value h.fields → HeadAsks h asked) }
+    ensures asks { IfOk result (λ asked. (h : RequestHead) → method.now ≡ h.method → path.now ≡ path_of h.target → map (header_bytes input.now) headers.now ≡ map name_and_value h.fields → PathAsks (route_of (path_of h.target)) h asked) }
     ensures small { IfOk result IsSmall }
 {
     let Ok(routes) = desk_routes(alloc) else {
@@ -76,19 +77,15 @@ fn path_asks(
     Ok(route_asks(input, headers, route, path))
 }
 
-/// What a head asks that was found in the input.
-///
-/// # Errors
-///
-/// Want of memory for the routes.
-pub fn head_asks(
+/// What a head asks that was found in the input, by its path.
+fn target_asks(
     alloc: Global,
     input: &[u8],
     headers: &[HeaderSpan],
     head: RequestSpans,
 ) -> Result<Asked, OutOfMemory>
     requires { IsRequestWithin input.now headers.now head }
-    ensures asks { IfOk result (λ asked. (h : RequestHead) → IsRequestAt input.now headers.now head h → HeadAsks h asked) }
+    ensures asks { IfOk result (λ asked. (h : RequestHead) → IsRequestAt input.now headers.now head h → PathAsks (route_of (path_of h.target)) h asked) }
     ensures small { IfOk result IsSmall }
 {
     let Ok(target) = str::from_utf8(head.path.of(input)) else {
@@ -101,4 +98,26 @@ pub fn head_asks(
         head.method.of(input),
         path_of(target),
     )
+}
+
+/// What a head asks that was found in the input. A page of another address than the desk's own is refused before anything else is looked at.
+///
+/// # Errors
+///
+/// Want of memory for the routes.
+pub fn head_asks(
+    alloc: Global,
+    own: &[u8],
+    input: &[u8],
+    headers: &[HeaderSpan],
+    head: RequestSpans,
+) -> Result<Asked, OutOfMemory>
+    requires { IsRequestWithin input.now headers.now head }
+    ensures asks { IfOk result (λ asked. (h : RequestHead) → IsRequestAt input.now headers.now head h → HeadAsks own.now h asked) }
+    ensures small { IfOk result IsSmall }
+{
+    if !origins_pass(own, input, &headers[..head.headers]) {
+        return Ok(Asked::Now(Call::Refused(Flaw::BadOrigin)));
+    }
+    target_asks(alloc, input, headers, head)
 }

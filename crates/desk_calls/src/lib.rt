@@ -7,6 +7,7 @@ pub mod calls;
 mod heads;
 mod judging;
 mod lengths;
+mod origins;
 pub mod reading;
 mod routes;
 pub mod source;

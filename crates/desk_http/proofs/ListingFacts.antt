@@ -9,7 +9,7 @@ use Rattle.sheet_types.specs.Answers.{PackageSight, package_sights, sums_held, s
 use Rattle.sheet_types.specs.Custody.{ticket}
 use Rattle.sheet_types.specs.Ordered.{IsArranged}
 use Rattle.sheet_types.specs.World.{World, Package, holdings, is_live, no_package, package_key}
-use Rattle.ledger_laws.proofs.Packages.{at_uuid, each_found}
+use Rattle.sheet_laws.proofs.Packages.{at_uuid, each_found}
 use Rattle.world.specs.Reading.{sight_of}
 use Rattle.world.specs.declared.reading.PackageSight.{PackageSight as Sight}
 use Rattle.desk_replies.specs.declared.packages.Listed.{Listed}

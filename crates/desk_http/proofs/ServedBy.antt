@@ -7,9 +7,9 @@ use Rattle.sheet_types.specs.World.{World}
 use Rattle.sheet_types.specs.declared.command.Request.{Request}
 use Rattle.sheet_types.specs.declared.receipt.Receipt.{Receipt}
 use Rattle.sheet_types.specs.declared.refusal.Refusal.{Refusal}
-use Rattle.carrying.specs.Leaving.{AreClean}
+use Rattle.world_changes.specs.Leaving.{AreClean}
 use Rattle.world.specs.Worlds.{IsRead, RunsOverRegisters, Seen}
-use Rattle.carrying.proofs.HeldStores.{left_clean, right_clean}
+use Rattle.world_changes.proofs.HeldStores.{left_clean, right_clean}
 use Rattle.desk_calls.specs.declared.calls.Call.TheVariants as call
 use Rattle.desk_http.specs.Served.{Applies, IsDue, Serving, Tells}
 use Rattle.desk_http.specs.declared.serving.Served.{Served}
@@ -55,20 +55,22 @@ module _ {S : Type 0} (g : Ghosts S) where
         (is.0, (stands.members.register, (is.0, is.1, (refl, applies.step.register is.0 is.2))), is.2);
   }
 
-  due_by : (text : Option (List ℕ)) (old new : Seen S) (out : List ℕ) (before after : ℕ) → IsDue g text old out new before after → IsServedBy g 1 old new
-  due_by known old new out before after (inl (call.Refused flaw, is, (same, text))) = same_by old new same
-  due_by known old new out before after (inl (call.Apply q, is, (reply, applies, text))) = applied_by q old new reply before after applies
-  due_by known old new out before after (inl (call.Packages, is, tells)) = told_by old new tells.read
-  due_by known old new out before after (inl (call.Manifest id, is, tells)) = told_by old new tells.read
-  due_by known old new out before after (inl (call.Receipt id, is, tells)) = told_by old new tells.read
-  due_by known old new out before after (inr (some, text, same)) = same_by old new same
+  due_by : (own : List ℕ) (text : Option (List ℕ)) (old new : Seen S) (out : List ℕ) (before after : ℕ)
+      → IsDue g own text old out new before after → IsServedBy g 1 old new
+  due_by own known old new out before after (inl (call.Refused flaw, is, (same, text))) = same_by old new same
+  due_by own known old new out before after (inl (call.Apply q, is, (reply, applies, text))) = applied_by q old new reply before after applies
+  due_by own known old new out before after (inl (call.Packages, is, tells)) = told_by old new tells.read
+  due_by own known old new out before after (inl (call.Manifest id, is, tells)) = told_by old new tells.read
+  due_by own known old new out before after (inl (call.Receipt id, is, tells)) = told_by old new tells.read
+  due_by own known old new out before after (inr (some, text, same)) = same_by old new same
 
   -- what came of one connection, whether its bytes are known or not
-  pub served_by : (text : Option (List ℕ)) (old new : Seen S) (before after : ℕ) (held holds : Option (List ℕ)) (r : Result Served ServeFault) → Serving g text old new before after held holds r → IsServedBy g 1 old new
-  served_by known old new before after held holds (Ok Nothing) (none, same) = same_by old new same
-  served_by known old new before after held holds (Ok Answered) (out, due, sent) = due_by known old new out before after due
-  served_by known old new before after held holds (Err Read) same = same_by old new same
-  served_by known old new before after held holds (Err Write) (out, due, sent) = due_by known old new out before after due
+  pub served_by : (own : List ℕ) (text : Option (List ℕ)) (old new : Seen S) (before after : ℕ) (held holds : Option (List ℕ))
+      (r : Result Served ServeFault) → Serving g own text old new before after held holds r → IsServedBy g 1 old new
+  served_by own known old new before after held holds (Ok Nothing) (none, same) = same_by old new same
+  served_by own known old new before after held holds (Ok Answered) (out, due, sent) = due_by own known old new out before after due
+  served_by own known old new before after held holds (Err Read) same = same_by old new same
+  served_by own known old new before after held holds (Err Write) (out, due, sent) = due_by own known old new out before after due
 
   -- some connections, and others behind them
   pub served_then : (m n : ℕ) (old mid new : Seen S) → IsServedBy g m old mid → IsServedBy g n mid new → IsServedBy g (m + n) old new
@@ -82,4 +84,15 @@ module _ {S : Type 0} (g : Ghosts S) where
         let was = first.run (next.clean clean (right_clean g first.gone next.gone gone)) (left_clean g first.gone next.gone gone) w stands in
         let is = next.run clean (right_clean g first.gone next.gone gone) was.0 was.2 in
         (is.0, runs_then w was.0 is.0 first.requests next.requests first.replies next.replies was.1 is.1, is.2);
+  }
+
+  -- nobody was served of so many
+  pub served_up_to : (most : ℕ) (seen : Seen S) → IsServedBy g most seen seen
+  served_up_to most seen = record {
+    requests = [];
+    few = omega arith;
+    replies = [];
+    gone = [];
+    clean = λ clean gone. clean;
+    run = λ clean gone w stands. (w, (refl, stands.members.register), stands);
   }

@@ -6,8 +6,8 @@ use Rattle.sheet_types.specs.World.{World}
 use Rattle.sheet_types.specs.declared.command.Request.{Request}
 use Rattle.sheet_types.specs.declared.receipt.Receipt.{Receipt}
 use Rattle.sheet_types.specs.declared.refusal.Refusal.{Refusal}
-use Rattle.carrying.specs.Leaving.{AreClean}
-use Rattle.members.specs.Members.{AllClean}
+use Rattle.world_changes.specs.Leaving.{AreClean}
+use Rattle.world_members.specs.Members.{AllClean}
 use Rattle.world.specs.Worlds.{RunsOverRegisters, Seen, StandsFor}
 
 module _ {S : Type 0} (g : Ghosts S) where

@@ -11,8 +11,8 @@ use Rattle.sheet_types.specs.declared.command.Request.{Request}
 use Rattle.sheet_types.specs.declared.receipt.Receipt.{Receipt}
 use Rattle.sheet_types.specs.declared.refusal.Refusal.{Refusal}
 use Rattle.sheet_types.specs.declared.refusal.Refusal.TheVariants.{StoreFault}
-use Rattle.carrying.specs.Leaving.{AreClean}
-use Rattle.members.specs.Members.{AllClean}
+use Rattle.world_changes.specs.Leaving.{AreClean}
+use Rattle.world_members.specs.Members.{AllClean}
 use Rattle.world.specs.Worlds.{IsRead, IsStep, LeavesNoTrace, Seen, StandsFor, StandsStill}
 use Rattle.manifest_csv.specs.PackageManifests.{manifest}
 use Rattle.manifest_csv.specs.Sent.{WentOut}
@@ -33,6 +33,7 @@ use Rattle.desk_http.specs.declared.serving.ServeFault.TheVariants.{Read, Write}
 
 -- the response to a check that failed
 abbrev pub fixed_of : Flaw → Fixed
+fixed_of flaw.BadOrigin = fixed.BadOrigin
 fixed_of flaw.BadRequest = fixed.BadRequest
 fixed_of flaw.NoSuchPath = fixed.NoSuchPath
 fixed_of flaw.BadMethod = fixed.BadMethod
@@ -71,11 +72,12 @@ Serves w call.Packages out next = (next ≡ w) × (IsAnswer w call.Packages out 
 Serves w (call.Manifest id) out next = (next ≡ w) × (IsAnswer w (call.Manifest id) out ⊎ IsFaultText out)
 Serves w (call.Receipt id) out next = (next ≡ w) × (IsAnswer w (call.Receipt id) out ⊎ IsFaultText out)
 
--- The bytes of a connection in a world, the bytes that go out, and the world afterwards. Any input but the empty one may find no memory, and then nothing has changed.
-abbrev pub IsServed : World → List ℕ → List ℕ → World → Type 0
-IsServed w xs out next =
+-- A desk's own address, the bytes of a connection in a world, the bytes that go out, and the world afterwards. Any input
+-- but the empty one may find no memory, and then nothing has changed.
+abbrev pub IsServed : List ℕ → World → List ℕ → List ℕ → World → Type 0
+IsServed own w xs out next =
     ((xs ≡ []) × (out ≡ []) × (next ≡ w))
-    ⊎ ((asked : Call) × IsCall xs asked × Serves w asked out next)
+    ⊎ ((asked : Call) × IsCall own xs asked × Serves w asked out next)
     ⊎ ((xs ≢ []) × (out ≡ fixed_response fixed.OutOfMemory) × (next ≡ w))
 
 -- Nothing is written where there was no byte or the reader failed.
@@ -112,22 +114,24 @@ module _ {S : Type 0} (g : Ghosts S) where
   Answers (call.Receipt id) old out new before after = Tells (call.Receipt id) old out new
 
   -- the bytes due for those of a connection, where these are known
-  abbrev pub IsDue : Option (List ℕ) → Seen S → List ℕ → Seen S → ℕ → ℕ → Type 0
-  IsDue text old out new before after =
-      ((asked : Call) × IfSome text (λ xs. IsCall xs asked) × Answers asked old out new before after)
+  abbrev pub IsDue : List ℕ → Option (List ℕ) → Seen S → List ℕ → Seen S → ℕ → ℕ → Type 0
+  IsDue own text old out new before after =
+      ((asked : Call) × IfSome text (λ xs. IsCall own xs asked) × Answers asked old out new before after)
       ⊎ (IfSome text (λ xs. xs ≢ []) × (out ≡ fixed_response fixed.OutOfMemory) × (new ≡ old))
 
-  -- What was made of a connection. text is all the bytes of its reader; held and holds are what its writer has before and after.
-  abbrev pub Serving : Option (List ℕ) → Seen S → Seen S → ℕ → ℕ → Option (List ℕ) → Option (List ℕ) → Result Served ServeFault → Type 0
-  Serving text old new before after held holds (Ok Nothing) = IfSome text (λ xs. xs ≡ []) × (new ≡ old)
-  Serving text old new before after held holds (Ok Answered) = (out : List ℕ) × IsDue text old out new before after × Appends held holds out
-  Serving text old new before after held holds (Err Read) = new ≡ old
-  Serving text old new before after held holds (Err Write) = (out : List ℕ) × IsDue text old out new before after × WentOut held holds out
+  -- What was made of a connection. own is the desk's address, text all the bytes of the connection's reader; held and
+  -- holds are what its writer has before and after.
+  abbrev pub Serving : List ℕ → Option (List ℕ) → Seen S → Seen S → ℕ → ℕ → Option (List ℕ) → Option (List ℕ)
+      → Result Served ServeFault → Type 0
+  Serving own text old new before after held holds (Ok Nothing) = IfSome text (λ xs. xs ≡ []) × (new ≡ old)
+  Serving own text old new before after held holds (Ok Answered) = (out : List ℕ) × IsDue own text old out new before after × Appends held holds out
+  Serving own text old new before after held holds (Err Read) = new ≡ old
+  Serving own text old new before after held holds (Err Write) = (out : List ℕ) × IsDue own text old out new before after × WentOut held holds out
 
   -- ---- a law
 
   -- What is due is what is served, in each world that the value stood for, where each disk has given back what was written, those of dropped connections (gone) too.
   abbrev pub DueIsServed : Type 0
-  DueIsServed = (xs : List ℕ) (old new : Seen S) (out : List ℕ) (before after : ℕ) → IsDue (Some xs) old out new before after
-      → (gone : List (Held S)) × (AllClean g new.members → AreClean g gone → (w : World) → StandsFor g old w
-      → (next : World) × IsServed w xs out next × StandsFor g new next)
+  DueIsServed = (own xs : List ℕ) (old new : Seen S) (out : List ℕ) (before after : ℕ)
+      → IsDue own (Some xs) old out new before after → (gone : List (Held S)) × (AllClean g new.members → AreClean g gone → (w : World) → StandsFor g old w
+      → (next : World) × IsServed own w xs out next × StandsFor g new next)

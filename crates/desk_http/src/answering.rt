@@ -14,9 +14,9 @@ use manifest_csv::manifests::manifest_text;
 use package_tables::fault::Fault;
 use sheet_types::command::{Item, Relation, Request};
 use sheet_types::error::OutOfMemory;
-use shelves::shelf::Shelf;
 use sqlite::Alter;
 use std::alloc::Global;
+use store_shelf::shelf::Shelf;
 use uuid::Uuid;
 use world::world::World;
 
@@ -25,6 +25,7 @@ fn fixed_of(flaw: Flaw) -> Fixed
     ensures { result ≡ fixed_of flaw }
 {
     match flaw {
+        Flaw::BadOrigin => Fixed::BadOrigin,
         Flaw::BadRequest => Fixed::BadRequest,
         Flaw::NoSuchPath => Fixed::NoSuchPath,
         Flaw::BadMethod => Fixed::BadMethod,

@@ -1,29 +1,22 @@
 //! Connections served one after the other.
 ghost use Rattle.desk_http.specs.Connections.{IsServedBy};
 
+use crate::deadline::Timed;
+use crate::listening::own_address;
 use crate::serving::{Served, serve_one};
 use desk_calls::source::Outer;
-use shelves::shelf::Shelf;
 use sqlite::Alter;
 use std::alloc::Global;
 use std::io;
 use std::io::Read;
 use std::net::{Shutdown, TcpListener, TcpStream};
-use std::time::Duration;
+use std::rt::Clock;
+use std::time::{Duration, Instant};
+use store_shelf::shelf::Shelf;
 use world::world::World;
-
-/// How long a read or a write waits for the other side, in seconds.
-const PATIENCE: u64 = 10;
 
 /// How long it waits for more where something was sent after what was read, in seconds.
 const FAREWELL: u64 = 1;
-
-/// Lets no read and no write of a connection wait for longer.
-fn set_patience(stream: &TcpStream) -> io::Result<()> {
-    let limit = Some(Duration::from_secs(PATIENCE));
-    stream.set_read_timeout(limit)?;
-    stream.set_write_timeout(limit)
-}
 
 /// Lets each read wait again, and for a short time only.
 fn set_farewell(stream: &TcpStream) -> io::Result<()> {
@@ -68,30 +61,34 @@ fn let_go(kept: Option<TcpStream>) {
 }
 
 /// Serves one connection, whatever becomes of it. Tells whether it was answered and its other side has not closed it yet.
-fn serve_stream<S: Alter + Drop, H: Shelf<S>>(
+fn serve_stream<S: Alter + Drop, H: Shelf<S>, C: Clock>(
+    clock: &C,
     alloc: Global,
     world: &mut World<S>,
     shelf: &mut H,
+    own: &[u8],
     stream: &TcpStream,
 ) -> bool
     ensures { IsServedBy S.Store 1 world.old world.new }
 {
-    if set_patience(stream).is_err() {
+    let Ok(begun) = Instant::now(clock) else {
         return false;
-    }
-    let mut reader = Outer(stream);
-    let mut writer = stream;
-    match serve_one(alloc, world, shelf, &mut reader, &mut writer) {
+    };
+    let mut reader = Outer(Timed::new(stream, clock, begun));
+    let mut writer = Timed::new(stream, clock, begun);
+    match serve_one(alloc, world, shelf, own, &mut reader, &mut writer) {
         Ok(Served::Answered) => stays_open(stream).unwrap_or(false),
         Ok(Served::Nothing) | Err(_) => false,
     }
 }
 
 /// Serves the next connection of a listener, if one comes, and lets go of the one that was kept. Gives the next to be kept.
-fn serve_next<S: Alter + Drop, H: Shelf<S>>(
+fn serve_next<S: Alter + Drop, H: Shelf<S>, C: Clock>(
+    clock: &C,
     alloc: Global,
     world: &mut World<S>,
     shelf: &mut H,
+    own: &[u8],
     listener: &TcpListener,
     kept: Option<TcpStream>,
 ) -> Option<TcpStream>
@@ -99,7 +96,7 @@ fn serve_next<S: Alter + Drop, H: Shelf<S>>(
 {
     match listener.accept() {
         Ok((stream, _)) => {
-            let stays = serve_stream(alloc, world, shelf, &stream);
+            let stays = serve_stream(clock, alloc, world, shelf, own, &stream);
             let_go(kept);
             if stays { Some(stream) } else { None }
         }
@@ -107,8 +104,9 @@ fn serve_next<S: Alter + Drop, H: Shelf<S>>(
     }
 }
 
-/// Serves so many connections of a listener over a world, one after the other. One that fails, or whose client lets a read or a write wait for ten seconds, is dropped and counts as served.
-pub fn serve_each<S: Alter + Drop, H: Shelf<S>>(
+/// Serves so many connections of a listener over a world, one after the other. One that fails, or that has taken twenty seconds in all, is dropped and counts as served. A page of another address than the listener's own is refused. Where the system cannot tell that address, nobody is served.
+pub fn serve_each<S: Alter + Drop, H: Shelf<S>, C: Clock>(
+    clock: &C,
     alloc: Global,
     world: &mut World<S>,
     shelf: &mut H,
@@ -117,9 +115,12 @@ pub fn serve_each<S: Alter + Drop, H: Shelf<S>>(
 )
     ensures { IsServedBy S.Store count world.old world.new }
 {
+    let Ok(own) = own_address(alloc, listener) else {
+        return;
+    };
     let mut kept = None;
     'connections: for turn in 0..count {
-        kept = serve_next(alloc, world, shelf, listener, kept);
+        kept = serve_next(clock, alloc, world, shelf, own.as_bytes(), listener, kept);
     }
     let_go(kept);
 }

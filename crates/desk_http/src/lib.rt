@@ -3,6 +3,7 @@
 
 mod answering;
 pub mod connections;
+mod deadline;
 pub mod listening;
 mod packages;
 pub mod serving;

@@ -1,4 +1,7 @@
 //! Where connections come from: the loopback address alone.
+ghost use Rattle.std.specs.Prelude.{◌≡◌, ◌++◌, IfOk, codes, decimal, string_bytes};
+
+use std::alloc::{AllocError, Global};
 use std::io;
 use std::net::{Ipv4Addr, Net, TcpListener, TcpStream};
 
@@ -12,4 +15,21 @@ pub fn listen<N: Net<Listener = TcpListener, Stream = TcpStream>>(
     port: u16,
 ) -> io::Result<TcpListener> {
     TcpListener::bind(net, (Ipv4Addr::LOCALHOST, port))
+}
+
+/// The address of a desk at a port, as a browser names it in an Origin field (RFC 6454, section 6.2).
+fn address_at(alloc: Global, port: u16) -> Result<String, AllocError>
+    ensures { IfOk result (λ text. string_bytes text ≡ codes "http://127.0.0.1:" ++ decimal port) }
+{
+    format!(in alloc; "http://127.0.0.1:{port}")
+}
+
+/// The address of the desk that listens here, as a browser names it.
+///
+/// # Errors
+///
+/// The system's, where it cannot tell the port, and want of memory.
+pub fn own_address(alloc: Global, listener: &TcpListener) -> io::Result<String> {
+    let address = listener.local_addr()?;
+    Ok(address_at(alloc, address.port())?)
 }

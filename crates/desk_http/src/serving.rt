@@ -9,10 +9,10 @@ use desk_calls::reading::read_call;
 use desk_calls::source::Source;
 use desk_replies::fixed::{Fixed, fixed_response};
 use manifest_csv::sending::{WriteFault, send};
-use shelves::shelf::Shelf;
 use sqlite::Alter;
 use std::alloc::Global;
 use std::io::Write;
+use store_shelf::shelf::Shelf;
 use thiserror::Error;
 use world::world::World;
 
@@ -46,7 +46,7 @@ impl From<WriteFault> for ServeFault {
     }
 }
 
-/// Reads one request and writes one response. It stops reading once head and body are there or a check has failed.
+/// Reads one request and writes one response. `own` is the desk's address, as `http://127.0.0.1:8080`: a page of another address is refused. It stops reading once head and body are there or a check has failed.
 ///
 /// # Errors
 ///
@@ -55,14 +55,15 @@ pub fn serve_one<S: Alter + Drop, H: Shelf<S>, R: Source, W: Write>(
     alloc: Global,
     world: &mut World<S>,
     shelf: &mut H,
+    own: &[u8],
     reader: &mut R,
     writer: &mut W,
 ) -> Result<Served, ServeFault>
-    ensures served { Serving S.Store (R.remaining reader.old) world.old world.new (H.failures_of shelf.old) (H.failures_of shelf.new) (W.contents writer.old) (W.contents writer.new) result }
+    ensures served { Serving S.Store own.now (R.remaining reader.old) world.old world.new (H.failures_of shelf.old) (H.failures_of shelf.new) (W.contents writer.old) (W.contents writer.new) result }
     ensures nothing { WritesNothing writer.old writer.new result }
     ensures sound { R.never_fails reader.old → result ≢ Err Read }
 {
-    match read_call(alloc, reader) {
+    match read_call(alloc, own, reader) {
         Ok(None) => Ok(Served::Nothing),
         Ok(Some(asked)) => {
             let out = answer(alloc, world, shelf, &asked);

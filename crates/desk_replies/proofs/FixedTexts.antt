@@ -3,11 +3,15 @@ use Rattle.std.specs.Prelude.{◌≡◌, refl, codes}
 use Rattle.std.specs.Fmt.{digits}
 use Rattle.serde_json.proofs.OnLiterals.{serde_json_on_literals}
 use Rattle.desk_replies.specs.Responses.{fixed_response}
-use Rattle.desk_replies.specs.declared.fixed.Fixed.TheVariants.{BadRequest, NoSuchPath, NoSuchPackage, NoSuchReceipt, BadMethod, NoLength, TooLarge, StoreFault, OutOfMemory, AskAgain}
+use Rattle.desk_replies.specs.declared.fixed.Fixed.TheVariants.{BadOrigin, BadRequest, NoSuchPath, NoSuchPackage, NoSuchReceipt, BadMethod, NoLength, TooLarge, StoreFault, OutOfMemory, AskAgain}
 
 pub bad_request_is : codes "HTTP/1.1 400 Bad Request\r\ncontent-type: application/json\r\ncontent-length: 23\r\nconnection: close\r\n\r\n{\"fault\":\"bad request\"}" ≡ fixed_response BadRequest
 unfolding digits
 bad_request_is = refl
+
+pub bad_origin_is : codes "HTTP/1.1 403 Forbidden\r\ncontent-type: application/json\r\ncontent-length: 22\r\nconnection: close\r\n\r\n{\"fault\":\"bad origin\"}" ≡ fixed_response BadOrigin
+unfolding digits
+bad_origin_is = refl
 
 pub no_such_path_is : codes "HTTP/1.1 404 Not Found\r\ncontent-type: application/json\r\ncontent-length: 24\r\nconnection: close\r\n\r\n{\"fault\":\"no such path\"}" ≡ fixed_response NoSuchPath
 unfolding digits

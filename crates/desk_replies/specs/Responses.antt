@@ -6,7 +6,7 @@ use Rattle.sheet_types.specs.declared.refusal.Refusal.{Refusal}
 use Rattle.sheet_types.specs.declared.refusal.Refusal.TheVariants as refusal
 use Rattle.desk_replies.specs.Bodies.{list_text, packages_text, receipt_text, refusal_text}
 use Rattle.desk_replies.specs.declared.fixed.Fixed.{Fixed}
-use Rattle.desk_replies.specs.declared.fixed.Fixed.TheVariants.{BadRequest, NoSuchPath, NoSuchPackage, NoSuchReceipt, BadMethod, NoLength, TooLarge, StoreFault, OutOfMemory, AskAgain}
+use Rattle.desk_replies.specs.declared.fixed.Fixed.TheVariants.{BadOrigin, BadRequest, NoSuchPath, NoSuchPackage, NoSuchReceipt, BadMethod, NoLength, TooLarge, StoreFault, OutOfMemory, AskAgain}
 use Rattle.desk_replies.specs.declared.packages.Listed.{Listed}
 use Rattle.desk_replies.specs.declared.replies.Outgoing.{Outgoing}
 use Rattle.desk_replies.specs.declared.replies.Outgoing.TheVariants as outgoing
@@ -30,6 +30,7 @@ good_response body = json_response 200 (codes "OK") body
 -- responses that are the same each time
 abbrev pub fixed_response : Fixed → List ℕ
 fixed_response BadRequest = json_response 400 (codes "Bad Request") (codes "{\"fault\":\"bad request\"}")
+fixed_response BadOrigin = json_response 403 (codes "Forbidden") (codes "{\"fault\":\"bad origin\"}")
 fixed_response NoSuchPath = json_response 404 (codes "Not Found") (codes "{\"fault\":\"no such path\"}")
 fixed_response NoSuchPackage = json_response 404 (codes "Not Found") (codes "{\"fault\":\"no such package\"}")
 fixed_response NoSuchReceipt = json_response 404 (codes "Not Found") (codes "{\"fault\":\"no such receipt\"}")

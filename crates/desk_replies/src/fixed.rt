@@ -6,6 +6,8 @@ ghost use Rattle.desk_replies.specs.declared.fixed.Fixed.TheVariants as fixed;
 /// What a response without any value in it says.
 #[derive(Clone, Copy, Debug, PartialEq, Eq)]
 pub enum Fixed {
+    /// A page of another address asks: 403.
+    BadOrigin,
     /// The head, a field, or the body is not as it has to be: 400.
     BadRequest,
     /// The path has no route: 404.
@@ -32,6 +34,12 @@ fn bad_request() -> &'static [u8]
     ensures { result.now ≡ fixed_response fixed.BadRequest }
 {
     b"HTTP/1.1 400 Bad Request\r\ncontent-type: application/json\r\ncontent-length: 23\r\nconnection: close\r\n\r\n{\"fault\":\"bad request\"}"
+}
+
+fn bad_origin() -> &'static [u8]
+    ensures { result.now ≡ fixed_response fixed.BadOrigin }
+{
+    b"HTTP/1.1 403 Forbidden\r\ncontent-type: application/json\r\ncontent-length: 22\r\nconnection: close\r\n\r\n{\"fault\":\"bad origin\"}"
 }
 
 fn no_such_path() -> &'static [u8]
@@ -93,6 +101,7 @@ pub fn fixed_response(fixed: Fixed) -> &'static [u8]
     ensures { result.now ≡ fixed_response fixed }
 {
     match fixed {
+        Fixed::BadOrigin => bad_origin(),
         Fixed::BadRequest => bad_request(),
         Fixed::NoSuchPath => no_such_path(),
         Fixed::NoSuchPackage => no_such_package(),

@@ -5,7 +5,7 @@ use Rattle.std.specs.Ordering.{int_eq}
 use Rattle.std.specs.Result.{result_ok}
 use Rattle.std.proofs.lemmas.Slice.Eq.{bytes_eq-Decides}
 use Rattle.sqlite.specs.State.{State}
-use Rattle.sql_meaning.specs.Transactions.{Looks}
+use Rattle.store_sql.specs.Transactions.{Looks}
 use Rattle.sheet_types.specs.Texts.{uuid_text, kind_of}
 use Rattle.sheet_types.specs.World.{Package, kind_number, item_of}
 use Rattle.sheet_types.specs.Lines.{IsUuid}

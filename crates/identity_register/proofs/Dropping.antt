@@ -4,8 +4,8 @@ use Rattle.std.specs.Prelude.{bytes_eq}
 use Rattle.std.proofs.lemmas.Slice.Eq.{bytes_eq-Decides}
 use Rattle.sqlite.specs.Effect.{Database}
 use Rattle.sqlite.specs.State.{State, Survives}
-use Rattle.sql_meaning.specs.Transactions.{Steps}
-use Rattle.sql_meaning.proofs.Transactions.{steps_then, steps_weaker}
+use Rattle.store_sql.specs.Transactions.{Steps}
+use Rattle.store_sql.proofs.Transactions.{steps_then, steps_weaker}
 use Rattle.package_tables.specs.Package.{Tables, tables_of, AreFormed}
 use Rattle.package_tables.specs.Calls.{Makes, Answers, OnTables}
 use Rattle.package_tables.specs.Changes.{DropsIdentity}
@@ -18,11 +18,12 @@ use Rattle.sheet_types.specs.Lines.{IsUuid}
 use Rattle.sheet_types.proofs.Same.{All-In}
 use Rattle.identity_register.specs.Numbering.{without_content, without_identity, DropsContent, DropsRows, IsRowOf}
 use Rattle.identity_register.specs.Reads.{Says}
-use Rattle.identity_register.specs.Calls.{Becomes}
+use Rattle.identity_register.specs.LocalNumbers.{KeepRows, Shrinks}
 use Rattle.std.specs.List.{list_any}
 use Rattle.identity_register.specs.Changes.{IsLooseItem, item_deleted}
 use Rattle.identity_register.proofs.Deleting.{deletes}
 use Rattle.identity_register.proofs.Finding.{row_of_uuid}
+use Rattle.identity_register.proofs.KeptNumbers.{others_left}
 use Rattle.identity_register.proofs.Linking.{numbered_item}
 
 -- ---- the rows
@@ -45,7 +46,7 @@ rows_steps kind number {old} {mid} {new} first makes survives =
 
 -- ---- the item
 
-item_dropped : (id : List ℕ) (row : IdentityRow) (old mid new : Database) → Answers (IsRowOf id) row old mid → OnTables (DropsRows row.kind row.local_id) mid new → Becomes (IsLooseItem id) (item_deleted id) old new
+item_dropped : (id : List ℕ) (row : IdentityRow) (old mid new : Database) → Answers (IsRowOf id) row old mid → OnTables (DropsRows row.kind row.local_id) mid new → Shrinks (IsLooseItem id) (item_deleted id) old new
 item_dropped id row old mid new found dropped f p reads fits =
     let formed_mid = subst AreFormed (sym found.0) reads.formed in
     let did = dropped formed_mid in
@@ -58,14 +59,16 @@ item_dropped id row old mid new found dropped f p reads fits =
     let less : without_identity kind n.0.number (without_content kind n.0.number (tables_of old)) ≡ tables_of new =
     ap (λ r. without_identity r.kind r.local_id (without_content r.kind r.local_id (tables_of old))) n.2
     ∙ ap (λ d. without_identity row.kind row.local_id (without_content row.kind row.local_id (tables_of d))) (sym found.0)
-    ∙ sym did.1 in
-    record { formed = did.0; says = subst (Says f (item_deleted id p)) less (subst (λ i. Says f (item_deleted i p) (without_identity kind n.0.number (without_content kind n.0.number (tables_of old)))) n.3 says) }
+    ∙ sym did.1 in (
+      record { formed = did.0; says = subst (Says f (item_deleted id p)) less (subst (λ i. Says f (item_deleted i p) (without_identity kind n.0.number (without_content kind n.0.number (tables_of old)))) n.3 says) },
+      subst (λ t. KeepRows t (tables_of old)) less (others_left kind n.0.number (tables_of old)),
+    )
 
 -- an item is found and its rows are dropped
 pub item_steps : {E F : Type 0} (id : List ℕ) (row : IdentityRow) {old mid new : State} {r : Result (Unit {0}) F} → Steps {E = E} (Answers (IsRowOf id)) old mid (Ok row) → Steps (λ _. OnTables (DropsRows row.kind row.local_id)) mid new r
-    → Steps (λ _. Becomes (IsLooseItem id) (item_deleted id)) old new r
+    → Steps (λ _. Shrinks (IsLooseItem id) (item_deleted id)) old new r
 item_steps id row {old} {mid} {new} first next =
-    steps_weaker (λ _. Becomes (IsLooseItem id) (item_deleted id)) (λ _ chain. item_dropped id row old.now chain.0 new.now chain.1 chain.2) (steps_then first next)
+    steps_weaker (λ _. Shrinks (IsLooseItem id) (item_deleted id)) (λ _ chain. item_dropped id row old.now chain.0 new.now chain.1 chain.2) (steps_then first next)
 
 -- a number that was compared with a literal
 pub compared : (z : ℤ) (n : ℕ) → FitsSigned w64 z → of_z w64 z ≡ n → z ≡ to_z w64 n

@@ -2,12 +2,12 @@
 use Rattle.std.proofs.Common.{◌≡◌, ℕ, suc, ◌+◌, ◌<◌, pos, List, [], ◌∷◌, ◌++◌, map, length, get_or, take, true, Result, Ok, Err, refl, sym, ap, subst, ◌∙◌, inl, inr, arith}
 use Rattle.std.specs.Prelude.{bytes_eq, flat_map, unsigned_abs, Contains, IsPermutation}
 use Rattle.std.specs.List.{AllByRecursion, AllZip, AllAdjacentBelow}
-use Rattle.std.proofs.lemmas.List.{take_more}
+use Rattle.std.proofs.lemmas.List.{append-nil, take_more}
 use Rattle.std.proofs.lemmas.List.Elements.{All-contains_itself, recursion_from_All}
 use Rattle.std.proofs.lemmas.Slice.Zip.{all_zipped_more}
 use Rattle.std.proofs.lemmas.List.Sorted.{IsPermutation-sym, Contains-permutation, All-permutation}
 use Rattle.sqlite.specs.State.{State}
-use Rattle.sql_meaning.specs.Transactions.{Looks}
+use Rattle.store_sql.specs.Transactions.{Looks}
 use Rattle.sheet_types.specs.Ordered.{has, is_before, IsArranged}
 use Rattle.sheet_types.specs.Texts.{uuid_text, kind_of}
 use Rattle.sheet_types.specs.World.{Package, item_key, link_key, kind_number, base_kind, other_kind, all_mappings}
@@ -218,13 +218,9 @@ by_mapping tiles_media rows_media rows_tiles TilesMedia = tiles_media
 by_mapping tiles_media rows_media rows_tiles RowsMedia = rows_media
 by_mapping tiles_media rows_media rows_tiles RowsTiles = rows_tiles
 
-and_nothing : {X : Type 0} (a : List X) → a ++ [] ≡ a
-and_nothing [] = refl
-and_nothing (x ∷ xs) = ap (λ l. x ∷ l) (and_nothing xs)
-
 in_turn : {X : Type 0} (a b c : List X) → (a ++ b) ++ c ≡ a ++ (b ++ c)
 in_turn [] b c = refl
 in_turn (x ∷ xs) b c = ap (λ l. x ∷ l) (in_turn xs b c)
 
 pub joined_lists : {X : Type 0} (a b c : List X) → (a ++ b) ++ c ≡ flat_map (by_mapping a b c) all_mappings
-joined_lists a b c = in_turn a b c ∙ ap (λ l. a ++ (b ++ l)) (sym (and_nothing c))
+joined_lists a b c = in_turn a b c ∙ ap (λ l. a ++ (b ++ l)) (sym (append-nil c))

@@ -6,8 +6,8 @@ use Rattle.std.specs.Ordering.{int_eq}
 use Rattle.std.proofs.lemmas.Bool.{or_from}
 use Rattle.sqlite.specs.Effect.{Database}
 use Rattle.sqlite.specs.State.{State, Survives}
-use Rattle.sql_meaning.specs.Transactions.{Steps}
-use Rattle.sql_meaning.proofs.Transactions.{steps_then, steps_weaker, steps_answer}
+use Rattle.store_sql.specs.Transactions.{Steps}
+use Rattle.store_sql.proofs.Transactions.{steps_then, steps_weaker, steps_answer}
 use Rattle.package_tables.specs.Package.{Tables, tables_of, AreFormed}
 use Rattle.package_tables.specs.Mappings.{mapping_rows}
 use Rattle.package_tables.specs.Calls.{Makes, Answers, OnTables}
@@ -29,10 +29,11 @@ use Rattle.sheet_types.proofs.Order.{list_any-arranged}
 use Rattle.identity_register.specs.Numbering.{number_of, mapping_row, rows_in, with_link, without_link, IsRowOf, AreRowsOfEnds}
 use Rattle.identity_register.specs.declared.changes.EndRows.{EndRows}
 use Rattle.identity_register.specs.Reads.{Says}
-use Rattle.identity_register.specs.Calls.{Becomes}
+use Rattle.identity_register.specs.LocalNumbers.{KeepRows, Grows, Shrinks}
 use Rattle.identity_register.specs.Changes.{IsNewLink, link_added, IsLink, link_removed}
 use Rattle.identity_register.proofs.Deleting.{same_number}
 use Rattle.identity_register.proofs.Finding.{in_range, row_of_uuid}
+use Rattle.identity_register.proofs.KeptNumbers.{link_beside, links_left}
 use Rattle.identity_register.proofs.Linking.{links, unlinks, pair_same, end_of, number_is}
 use Rattle.identity_register.proofs.Ends.{ends_there}
 use Rattle.identity_register.proofs.MappingTables.{rows_there, pair_key, table_says}
@@ -104,36 +105,40 @@ ends_steps {E} {F} a b base other {old} {mid} {new} one two =
     (λ chain. (chain.2.0 ∙ chain.1.0, λ formed. (chain.1.1 formed, subst (λ d. IsRowOf b (tables_of d) other) chain.1.0 (chain.2.1 (subst AreFormed (sym chain.1.0) formed)))))
     (steps_then {F = F} one two)
 
-joined : (l : Relation) (ends : EndRows) (old mid new : Database) → Answers (AreRowsOfEnds l.base l.other) ends old mid → OnTables (Adds (pairs l.mapping) (record { base_id = ends.base.local_id; related_id = ends.other.local_id })) mid new → Becomes (IsNewLink l) (link_added l) old new
+joined : (l : Relation) (ends : EndRows) (old mid new : Database) → Answers (AreRowsOfEnds l.base l.other) ends old mid → OnTables (Adds (pairs l.mapping) (record { base_id = ends.base.local_id; related_id = ends.other.local_id })) mid new → Grows (IsNewLink l) (link_added l) old new
 joined l ends old mid new found added f p reads fits =
     let rows = found.1 reads.formed in
     let did = added (subst AreFormed (sym found.0) reads.formed) in
     let is_base = found_number f p (tables_of old) reads.says l.base fits.base ends.base rows.0 in
     let is_other = found_number f p (tables_of old) reads.says l.other fits.other ends.other rows.1 in
-    let after = link_put f p (tables_of old) reads.says l ends.base.local_id ends.other.local_id (tables_of new) is_base is_other fits (subst (λ d. Adds (pairs l.mapping) (record { base_id = ends.base.local_id; related_id = ends.other.local_id }) (tables_of d) (tables_of new)) found.0 did.1) in
-    record { formed = did.0; says = subst (Says f (link_added l p)) (sym after) (links f p (tables_of old) l reads.says fits.new fits.ends) }
+    let after = link_put f p (tables_of old) reads.says l ends.base.local_id ends.other.local_id (tables_of new) is_base is_other fits (subst (λ d. Adds (pairs l.mapping) (record { base_id = ends.base.local_id; related_id = ends.other.local_id }) (tables_of d) (tables_of new)) found.0 did.1) in (
+      record { formed = did.0; says = subst (Says f (link_added l p)) (sym after) (links f p (tables_of old) l reads.says fits.new fits.ends) },
+      subst (KeepRows (tables_of old)) (sym after) (link_beside l.mapping (mapping_row reads.says.numbered l) (tables_of old)),
+    )
 
-parted : (l : Relation) (ends : EndRows) (old mid new : Database) → Answers (AreRowsOfEnds l.base l.other) ends old mid → OnTables (DropsPair l.mapping ends.base.local_id ends.other.local_id) mid new → Becomes (IsLink l) (link_removed l) old new
+parted : (l : Relation) (ends : EndRows) (old mid new : Database) → Answers (AreRowsOfEnds l.base l.other) ends old mid → OnTables (DropsPair l.mapping ends.base.local_id ends.other.local_id) mid new → Shrinks (IsLink l) (link_removed l) old new
 parted l ends old mid new found dropped f p reads fits =
     let rows = found.1 reads.formed in
     let did = dropped (subst AreFormed (sym found.0) reads.formed) in
     let is_base = found_number f p (tables_of old) reads.says l.base fits.base ends.base rows.0 in
     let is_other = found_number f p (tables_of old) reads.says l.other fits.other ends.other rows.1 in
-    let after = link_taken f p (tables_of old) reads.says l ends.base.local_id ends.other.local_id (tables_of new) is_base is_other (subst (λ d. DropsPair l.mapping ends.base.local_id ends.other.local_id (tables_of d) (tables_of new)) found.0 did.1) in
-    record { formed = did.0; says = subst (Says f (link_removed l p)) (sym after) (unlinks f p (tables_of old) reads.says l (ends_there f p (tables_of old) reads.says l fits.base fits.there)) }
+    let after = link_taken f p (tables_of old) reads.says l ends.base.local_id ends.other.local_id (tables_of new) is_base is_other (subst (λ d. DropsPair l.mapping ends.base.local_id ends.other.local_id (tables_of d) (tables_of new)) found.0 did.1) in (
+      record { formed = did.0; says = subst (Says f (link_removed l p)) (sym after) (unlinks f p (tables_of old) reads.says l (ends_there f p (tables_of old) reads.says l fits.base fits.there)) },
+      subst (λ t. KeepRows t (tables_of old)) (sym after) (links_left l.mapping (mapping_row reads.says.numbered l) (tables_of old)),
+    )
 
 -- both ends are found, and the link comes in
 pub link_steps : {E F : Type 0} (l : Relation) (ends : EndRows) {old mid new : State} {r : Result (Unit {0}) F} → Steps {E = E} (Answers (AreRowsOfEnds l.base l.other)) old mid (Ok ends)
     → Makes (Adds (pairs l.mapping) (record { base_id = ends.base.local_id; related_id = ends.other.local_id })) mid new r → Survives mid new (λ _. ⊥)
-    → Steps (λ _. Becomes (IsNewLink l) (link_added l)) old new r
+    → Steps (λ _. Grows (IsNewLink l) (link_added l)) old new r
 link_steps l ends {old} {mid} {new} first makes survives =
-    steps_weaker (λ _. Becomes (IsNewLink l) (link_added l)) (λ _ chain. joined l ends old.now chain.0 new.now chain.1 chain.2)
+    steps_weaker (λ _. Grows (IsNewLink l) (link_added l)) (λ _ chain. joined l ends old.now chain.0 new.now chain.1 chain.2)
     (steps_then first (makes_steps (Adds (pairs l.mapping) (record { base_id = ends.base.local_id; related_id = ends.other.local_id })) makes survives))
 
 -- both ends are found, and the link goes
 pub unlink_steps : {E F : Type 0} (l : Relation) (ends : EndRows) {old mid new : State} {r : Result (Unit {0}) F} → Steps {E = E} (Answers (AreRowsOfEnds l.base l.other)) old mid (Ok ends)
     → Makes (DropsPair l.mapping ends.base.local_id ends.other.local_id) mid new r → Survives mid new (λ _. ⊥)
-    → Steps (λ _. Becomes (IsLink l) (link_removed l)) old new r
+    → Steps (λ _. Shrinks (IsLink l) (link_removed l)) old new r
 unlink_steps l ends {old} {mid} {new} first makes survives =
-    steps_weaker (λ _. Becomes (IsLink l) (link_removed l)) (λ _ chain. parted l ends old.now chain.0 new.now chain.1 chain.2)
+    steps_weaker (λ _. Shrinks (IsLink l) (link_removed l)) (λ _ chain. parted l ends old.now chain.0 new.now chain.1 chain.2)
     (steps_then first (makes_steps (DropsPair l.mapping ends.base.local_id ends.other.local_id) makes survives))

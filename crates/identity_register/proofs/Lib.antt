@@ -2,6 +2,7 @@ pub mod Adding
 pub mod Deleting
 pub mod Linking
 pub mod Finding
+pub mod KeptNumbers
 pub mod Dropping
 pub mod Joining
 pub mod Numbers

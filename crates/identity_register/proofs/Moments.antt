@@ -3,8 +3,8 @@ use Rattle.std.proofs.Common.{◌≡◌, ℕ, List, Result, refl, sym, ap, subst
 use Rattle.std.specs.Prelude.{true}
 use Rattle.sqlite.specs.Effect.{Database}
 use Rattle.sqlite.specs.State.{State, Survives}
-use Rattle.sql_meaning.specs.Transactions.{Steps}
-use Rattle.sql_meaning.proofs.Transactions.{steps_weaker}
+use Rattle.store_sql.specs.Transactions.{Steps}
+use Rattle.store_sql.proofs.Transactions.{steps_weaker}
 use Rattle.sheet_types.specs.Texts.{is_moment}
 use Rattle.sheet_types.specs.World.{Package}
 use Rattle.sheet_types.specs.declared.frame.Frame.{Frame}

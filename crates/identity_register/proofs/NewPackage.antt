@@ -3,7 +3,7 @@ use Rattle.std.proofs.Common.{◌≡◌, ℕ, List, [], ◌∷◌, map, true, Op
 use Rattle.std.specs.List.{IsDistinct}
 use Rattle.sqlite.specs.Effect.{Database}
 use Rattle.sqlite.specs.State.{State}
-use Rattle.sql_meaning.specs.Transactions.{Holds}
+use Rattle.store_sql.specs.Transactions.{Holds}
 use Rattle.sheet_types.specs.Lines.{IsUuid}
 use Rattle.sheet_types.specs.Matrix.{is_good_frame}
 use Rattle.sheet_types.specs.Texts.{is_moment}

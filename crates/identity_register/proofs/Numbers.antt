@@ -10,8 +10,8 @@ use Rattle.std.proofs.lemmas.List.Elements.{recursion_from_All}
 use Rattle.std.proofs.lemmas.Int.{ints}
 use Rattle.sqlite.specs.Effect.{Database}
 use Rattle.sqlite.specs.State.{State, Survives}
-use Rattle.sql_meaning.specs.Transactions.{Steps}
-use Rattle.sql_meaning.proofs.Transactions.{steps_then, steps_weaker, steps_answer}
+use Rattle.store_sql.specs.Transactions.{Steps}
+use Rattle.store_sql.proofs.Transactions.{steps_then, steps_weaker, steps_answer}
 use Rattle.package_tables.specs.Package.{Tables, tables_of, AreFormed}
 use Rattle.package_tables.specs.Shapes.{tile_shape, medium_shape, attribute_shape, identity_shape}
 use Rattle.package_tables.specs.Calls.{Makes, Tells, Answers, OnTables, IsOneOf, IsGreatest}
@@ -31,9 +31,10 @@ use Rattle.sheet_types.proofs.Every.{All-weaker, All-both, All-map, All-of_map, 
 use Rattle.sheet_types.proofs.Order.{list_any-arranged}
 use Rattle.identity_register.specs.Numbering.{Numbered, greatest_number, place_in_tables, identity_row, tile_rows, media_rows, attribute_rows, puts, with_item, IsTaken, IsGap, FindsGap, AddsContent, number_after}
 use Rattle.identity_register.specs.Reads.{Says}
-use Rattle.identity_register.specs.Calls.{Becomes}
+use Rattle.identity_register.specs.LocalNumbers.{KeepRows, Grows}
 use Rattle.identity_register.specs.Changes.{IsNewItem, item_added}
 use Rattle.identity_register.proofs.Adding.{adds}
+use Rattle.identity_register.proofs.KeptNumbers.{item_beside}
 use Rattle.identity_register.proofs.Deleting.{same_row}
 use Rattle.identity_register.proofs.Answering.{one_tells, any_flat_map}
 
@@ -113,7 +114,7 @@ module _ (f : Frame) (p : Package) (t : Tables) (says : Says f p t) where
       sym (identity free ∙ ap {A = Tables} (λ x. record x { identities = put identity_shape.key (identity_row n) x.identities }) e)
 
 item_in : (n : Numbered) (old mid last new : Database) → Answers (IsGap (identity_row n).kind) n.number old mid → OnTables (AddsContent n.number n.item.content) mid last → OnTables (Adds identities (identity_row n)) last new
-    → Becomes (IsNewItem n.item.identity) (item_added n.item) old new
+    → Grows (IsNewItem n.item.identity) (item_added n.item) old new
 item_in n old mid last new found content identity f p reads fits =
     let formed_mid = subst AreFormed (sym found.0) reads.formed in
     let gap = found.1 reads.formed in
@@ -122,13 +123,13 @@ item_in n old mid last new found content identity f p reads fits =
     let apart = apart_of f p (tables_of old) reads.says n gap.0 gap.1 in
     let e = both_in f p (tables_of old) reads.says n (tables_of last) (tables_of new) apart (subst (λ d. AddsContent n.number n.item.content (tables_of d) (tables_of last)) found.0 one.1) two.1 in
     let says = adds f p (tables_of old) n reads.says fits.new fits.uuid gap.0 (identity_free f p (tables_of old) reads.says (kind_number (kind_of n.item.content)) n.number apart) in
-    record { formed = two.0; says = subst (Says f (item_added n.item p)) e says }
+    (record { formed = two.0; says = subst (Says f (item_added n.item p)) e says }, subst (KeepRows (tables_of old)) e (item_beside n (tables_of old)))
 
 -- a free number is found, and the rows are put under it
 pub add_steps : {E F G : Type 0} (n : Numbered) {old mid last new : State} {x : Unit {0}} {r : Result (Unit {0}) G} → Steps {E = E} (Answers (IsGap (identity_row n).kind)) old mid (Ok n.number) → Steps {E = F} (λ _. OnTables (AddsContent n.number n.item.content)) mid last (Ok x)
-    → Makes (Adds identities (identity_row n)) last new r → Survives last new (λ _. ⊥) → Steps (λ _. Becomes (IsNewItem n.item.identity) (item_added n.item)) old new r
+    → Makes (Adds identities (identity_row n)) last new r → Survives last new (λ _. ⊥) → Steps (λ _. Grows (IsNewItem n.item.identity) (item_added n.item)) old new r
 add_steps n {old} {mid} {last} {new} one two makes survives =
-    steps_weaker (λ _. Becomes (IsNewItem n.item.identity) (item_added n.item))
+    steps_weaker (λ _. Grows (IsNewItem n.item.identity) (item_added n.item))
     (λ _ chain. item_in n old.now chain.0 chain.2.0 new.now chain.1 chain.2.1 chain.2.2)
     (steps_then one (steps_then two (makes_steps (Adds identities (identity_row n)) makes survives)))
 

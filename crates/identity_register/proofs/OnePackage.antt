@@ -30,7 +30,7 @@ use Rattle.sheet_types.proofs.Every.{All-weaker, All-of_map, All-map}
 use Rattle.sheet_types.proofs.LineReading.{uuid_length, small_bytes, small_at, same_uuid}
 use Rattle.sheet_types.proofs.Order.{put_arranged, All-arranged}
 use Rattle.sheet_types.proofs.Same.{In, In-all, In-map, In-of_map, In-flat_map, In-of_flat_map, All-In, Contains-In, any_in, same_list}
-use Rattle.sql_meaning.proofs.Schemas.{sound_alone}
+use Rattle.store_sql.proofs.Schemas.{sound_alone}
 use Rattle.package_tables.specs.Package.{Tables, tables_of}
 use Rattle.package_tables.specs.Shapes.{tile_shape, medium_shape, attribute_shape, identity_shape, receipt_shape, moved_shape}
 use Rattle.package_tables.specs.declared.rows.AttributeRow.{AttributeRow}

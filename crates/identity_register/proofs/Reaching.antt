@@ -11,10 +11,10 @@ use Rattle.std.proofs.Math.Nat.{le_refl}
 use Rattle.sqlite.specs.Held.{Held, state}
 use Rattle.sqlite.specs.Store.{Ghosts}
 use Rattle.sqlite.specs.State.{State, HasCleanDisk}
-use Rattle.sql_meaning.specs.Staying.{Stays}
-use Rattle.sql_meaning.specs.Transactions.{Looks, Rests}
-use Rattle.sql_meaning.proofs.Staying.{looks_stays, stays_then}
-use Rattle.sql_meaning.proofs.Transactions.{Shuts, Settles, at_rest}
+use Rattle.store_sql.specs.Staying.{Stays}
+use Rattle.store_sql.specs.Transactions.{Looks, Rests}
+use Rattle.store_sql.proofs.Staying.{looks_stays, stays_then}
+use Rattle.store_sql.proofs.Transactions.{Shuts, Settles, at_rest}
 use Rattle.sheet_types.specs.Cut.{identities, has_end}
 use Rattle.sheet_types.specs.Lines.{IsUuid}
 use Rattle.sheet_types.specs.Ordered.{arranged, is_before, IsArranged}

@@ -12,8 +12,8 @@ use Rattle.std.specs.List.{AllByRecursion, IsDistinct, list_any}
 use Rattle.std.specs.Ordering.{int_eq}
 use Rattle.sqlite.specs.Effect.{Database}
 use Rattle.sqlite.specs.State.{State}
-use Rattle.sql_meaning.specs.Transactions.{Steps}
-use Rattle.sql_meaning.proofs.Transactions.{steps_answer, steps_then}
+use Rattle.store_sql.specs.Transactions.{Steps}
+use Rattle.store_sql.proofs.Transactions.{steps_answer, steps_then}
 use Rattle.package_tables.specs.Calls.{Answers}
 use Rattle.package_tables.specs.Package.{Tables, tables_of, AreFormed}
 use Rattle.package_tables.specs.Shapes.{identity_shape}
@@ -31,9 +31,9 @@ use Rattle.sheet_types.proofs.Same.{In, All-In, In-map, In-of_map, In-filter, an
 use Rattle.sheet_types.proofs.Sums.{sum_by-map}
 use Rattle.identity_register.specs.Numbering.{Numbered, greatest_number, identity_row, is_taken, IsTaken, IsGap, AreTaken, FindsGap}
 use Rattle.identity_register.specs.Reads.{Says}
-use Rattle.identity_register.specs.Calls.{Becomes}
 use Rattle.identity_register.specs.Changes.{IsNewItem, item_added}
 use Rattle.identity_register.specs.Room.{IsFull, ComesIn}
+use Rattle.identity_register.specs.LocalNumbers.{Grows}
 
 -- ---- as many numbers as there are up to one
 
@@ -143,5 +143,5 @@ pub no_room : {E F : Type 0} (i : Item) (found : Option ℤ) {old new : State} �
 no_room {E} {F} i found {old} {new} is steps =
     steps_answer {E = E} {F = F} (ComesIn i) false (λ it. (it.0, full_of (kind_of i.content) old.now (λ formed. subst (FindsGap (pos (kind_number (kind_of i.content))) (tables_of old.now)) is (it.1 formed)))) steps
 
-pub came : {E F : Type 0} (i : Item) (there : Bool) {old new : State} → there ≡ true → Steps {E = E} (ComesIn i) old new (Ok there) → Steps {X = Unit {0}} {E = F} (λ _. Becomes (IsNewItem i.identity) (item_added i)) old new (Ok tt)
-came {E} {F} i there {old} {new} is steps = steps_answer {E = E} {F = F} (λ _. Becomes (IsNewItem i.identity) (item_added i)) tt (λ it. subst (λ b. ComesIn i b old.now new.now) is it) steps
+pub came : {E F : Type 0} (i : Item) (there : Bool) {old new : State} → there ≡ true → Steps {E = E} (ComesIn i) old new (Ok there) → Steps {X = Unit {0}} {E = F} (λ _. Grows (IsNewItem i.identity) (item_added i)) old new (Ok tt)
+came {E} {F} i there {old} {new} is steps = steps_answer {E = E} {F = F} (λ _. Grows (IsNewItem i.identity) (item_added i)) tt (λ it. subst (λ b. ComesIn i b old.now new.now) is it) steps

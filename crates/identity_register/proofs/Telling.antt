@@ -1,7 +1,8 @@
 -- What was told of all identity rows is what receipts tell of the items of the package.
-use Rattle.std.proofs.Common.{◌≡◌, ℕ, List, [], ◌∷◌, ◌++◌, map, true, refl, sym, ap, subst, ◌∙◌}
+use Rattle.std.proofs.Common.{◌≡◌, List, [], ◌∷◌, map, true, sym, ap, subst, ◌∙◌}
 use Rattle.std.specs.Prelude.{bytes_eq, Contains, IsPermutation, Some}
 use Rattle.std.specs.List.{AllZip}
+use Rattle.std.proofs.lemmas.List.{append-nil}
 use Rattle.std.proofs.lemmas.List.Sorted.{IsPermutation-sym}
 use Rattle.sheet_types.specs.Ordered.{is_before, IsArranged}
 use Rattle.sheet_types.specs.Texts.{uuid_text}
@@ -23,13 +24,9 @@ use Rattle.identity_register.proofs.Finding.{contained, in_arranged, moved}
 use Rattle.identity_register.proofs.Gathering.{zip_left, zip_right, row_item, one_row}
 use Rattle.identity_register.proofs.OnePackage.{to_arranged, row_stored, items_arranged}
 
-nothing_behind : (a : List ℕ) → a ++ [] ≡ a
-nothing_behind [] = refl
-nothing_behind (x ∷ xs) = ap (λ l. x ∷ l) (nothing_behind xs)
-
 -- a receipt tells of an item under the item's key
 same_key : (i : Item) → moved_key (item_moved i) ≡ item_key i
-same_key i = ap (λ l. item_key (record { identity = l; content = i.content })) (nothing_behind i.identity)
+same_key i = ap (λ l. item_key (record { identity = l; content = i.content })) (append-nil i.identity)
 
 -- so what is told of items in their order is in its order
 pub told_arranged : (items : List Item) → IsArranged item_key items → IsArranged moved_key (map item_moved items)

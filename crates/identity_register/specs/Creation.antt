@@ -2,7 +2,7 @@
 use Rattle.std.specs.Prelude.{◌≡◌, ℕ, List, [], ◌∷◌, map, Option}
 use Rattle.sqlite.specs.Tree.{Trees}
 use Rattle.sqlite.specs.State.{State}
-use Rattle.sql_meaning.specs.Transactions.{Holds}
+use Rattle.store_sql.specs.Transactions.{Holds}
 use Rattle.sheet_types.specs.World.{Package, no_package}
 use Rattle.sheet_types.specs.declared.frame.Frame.{Frame}
 use Rattle.package_tables.specs.Package.{tables_of}

@@ -9,3 +9,4 @@ pub mod Creation
 pub mod Gathered
 pub mod Told
 pub mod Room
+pub mod LocalNumbers

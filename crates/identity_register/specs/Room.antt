@@ -7,9 +7,9 @@ use Rattle.sheet_types.specs.World.{Package, kind_is}
 use Rattle.sheet_types.specs.declared.command.Item.{Item}
 use Rattle.sheet_types.specs.declared.frame.Frame.{Frame}
 use Rattle.sheet_types.specs.declared.receipt.MovedKind.{MovedKind}
-use Rattle.identity_register.specs.Calls.{Becomes}
 use Rattle.identity_register.specs.Changes.{IsNewItem, item_added}
 use Rattle.identity_register.specs.Reads.{Reads}
+use Rattle.identity_register.specs.LocalNumbers.{Grows}
 
 -- the package of a store has as many items of this kind as may be
 abbrev pub IsFull : MovedKind → Database → Type 0
@@ -17,5 +17,5 @@ IsFull kind db = (f : Frame) (p : Package) → Reads f p db → greatest_items �
 
 -- the item comes in, or there is no room for it and nothing is changed
 abbrev pub ComesIn : Item → Bool → Database → Database → Type 0
-ComesIn i true old new = Becomes (IsNewItem i.identity) (item_added i) old new
+ComesIn i true old new = Grows (IsNewItem i.identity) (item_added i) old new
 ComesIn i false old new = (new ≡ old) × IsFull (kind_of i.content) old

@@ -1,14 +1,14 @@
 //! An item that comes into a package inside a transaction.
 ghost use Rattle.std.specs.Prelude.{◌≡◌, pos, true};
 ghost use Rattle.sqlite.specs.Held.{state};
-ghost use Rattle.sql_meaning.specs.Transactions.{Steps};
+ghost use Rattle.store_sql.specs.Transactions.{Steps};
 ghost use Rattle.sheet_types.specs.Texts.{kind_of};
 ghost use Rattle.sheet_types.specs.World.{kind_number};
 ghost use Rattle.package_tables.specs.Calls.{OnTables, Answers};
-ghost use Rattle.identity_register.specs.Calls.{Becomes};
 ghost use Rattle.identity_register.specs.Changes.{IsNewItem, item_added};
 ghost use Rattle.identity_register.specs.Numbering.{IsTaken, FindsGap, AddsContent, number_after};
 ghost use Rattle.identity_register.specs.Room.{ComesIn};
+ghost use Rattle.identity_register.specs.LocalNumbers.{Grows};
 
 use package_tables::attributes::insert_attribute;
 use package_tables::fault::Fault;
@@ -139,7 +139,7 @@ pub fn add<S: Alter>(
     content: &Content,
 ) -> Result<(), Fault>
     ensures same_reference { tx.new.conn.ghost_name ≡ tx.old.conn.ghost_name }
-    ensures steps { Steps (λ _. Becomes (IsNewItem identity) (item_added (record { identity = identity; content = content.now }))) (state S.Store tx.old.conn.now) (state S.Store tx.new.conn.now) result }
+    ensures steps { Steps (λ _. Grows (IsNewItem identity) (item_added (record { identity = identity; content = content.now }))) (state S.Store tx.old.conn.now) (state S.Store tx.new.conn.now) result }
 {
     let came = add_if_room(tx, identity, content)?;
     if came { Ok(()) } else { Err(Fault::StoreFault) }

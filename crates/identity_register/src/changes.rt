@@ -1,11 +1,11 @@
 //! What is changed of a package inside a transaction, one item or link at a time.
 ghost use Rattle.std.specs.Prelude.{◌≡◌};
 ghost use Rattle.sqlite.specs.Held.{state};
-ghost use Rattle.sql_meaning.specs.Transactions.{Steps};
+ghost use Rattle.store_sql.specs.Transactions.{Steps};
 ghost use Rattle.package_tables.specs.Calls.{OnTables, Answers};
-ghost use Rattle.identity_register.specs.Calls.{Becomes};
 ghost use Rattle.identity_register.specs.Changes.{IsLooseItem, item_deleted, IsNewLink, link_added, IsLink, link_removed};
 ghost use Rattle.identity_register.specs.Numbering.{IsRowOf, AreRowsOfEnds, DropsContent, DropsRows};
+ghost use Rattle.identity_register.specs.LocalNumbers.{Grows, Shrinks};
 
 use crate::kinds::{MEDIUM, ROW, TILE};
 use package_tables::attributes::delete_attribute;
@@ -84,7 +84,7 @@ fn drop_rows<S: Alter>(tx: &mut Transaction<'_, S>, kind: i64, number: i64) -> R
 /// Want of memory, a store that failed, or no such item. Nothing is committed; the transaction has to be dropped.
 pub fn delete<S: Alter>(tx: &mut Transaction<'_, S>, identity: Uuid) -> Result<(), Fault>
     ensures same_reference { tx.new.conn.ghost_name ≡ tx.old.conn.ghost_name }
-    ensures steps { Steps (λ _. Becomes (IsLooseItem identity) (item_deleted identity)) (state S.Store tx.old.conn.now) (state S.Store tx.new.conn.now) result }
+    ensures steps { Steps (λ _. Shrinks (IsLooseItem identity) (item_deleted identity)) (state S.Store tx.old.conn.now) (state S.Store tx.new.conn.now) result }
 {
     let row = row_of_item(tx, identity)?;
     drop_rows(tx, row.kind, row.local_id)
@@ -97,7 +97,7 @@ pub fn delete<S: Alter>(tx: &mut Transaction<'_, S>, identity: Uuid) -> Result<(
 /// Want of memory, a store that failed, or no such item. Nothing is committed; the transaction has to be dropped.
 pub fn link<S: Alter>(tx: &mut Transaction<'_, S>, relation: Relation) -> Result<(), Fault>
     ensures same_reference { tx.new.conn.ghost_name ≡ tx.old.conn.ghost_name }
-    ensures steps { Steps (λ _. Becomes (IsNewLink relation) (link_added relation)) (state S.Store tx.old.conn.now) (state S.Store tx.new.conn.now) result }
+    ensures steps { Steps (λ _. Grows (IsNewLink relation) (link_added relation)) (state S.Store tx.old.conn.now) (state S.Store tx.new.conn.now) result }
 {
     let EndRows { base, other } = rows_of_ends(tx, relation.base, relation.other)?;
     insert_pair(tx, relation.mapping, base.local_id, other.local_id)
@@ -110,7 +110,7 @@ pub fn link<S: Alter>(tx: &mut Transaction<'_, S>, relation: Relation) -> Result
 /// Want of memory, a store that failed, or no such item. Nothing is committed; the transaction has to be dropped.
 pub fn unlink<S: Alter>(tx: &mut Transaction<'_, S>, relation: Relation) -> Result<(), Fault>
     ensures same_reference { tx.new.conn.ghost_name ≡ tx.old.conn.ghost_name }
-    ensures steps { Steps (λ _. Becomes (IsLink relation) (link_removed relation)) (state S.Store tx.old.conn.now) (state S.Store tx.new.conn.now) result }
+    ensures steps { Steps (λ _. Shrinks (IsLink relation) (link_removed relation)) (state S.Store tx.old.conn.now) (state S.Store tx.new.conn.now) result }
 {
     let EndRows { base, other } = rows_of_ends(tx, relation.base, relation.other)?;
     delete_pair(tx, relation.mapping, base.local_id, other.local_id)

@@ -2,7 +2,7 @@
 ghost use Rattle.std.specs.Prelude.{◌≡◌, true};
 ghost use Rattle.sqlite.specs.Held.{state};
 ghost use Rattle.sheet_types.specs.Texts.{is_moment};
-ghost use Rattle.sql_meaning.specs.Transactions.{Steps};
+ghost use Rattle.store_sql.specs.Transactions.{Steps};
 ghost use Rattle.identity_register.specs.Calls.{Becomes, Dates};
 
 use package_tables::fault::Fault;

@@ -4,7 +4,7 @@ ghost use Rattle.std.specs.Prelude.{◌≡◌, true, bytes_eq, IfOk};
 ghost use Rattle.std.specs.Bool.{then_some};
 ghost use Rattle.std.specs.List.{list_any};
 ghost use Rattle.sqlite.specs.Held.{state};
-ghost use Rattle.sql_meaning.specs.Transactions.{Rests, Looks};
+ghost use Rattle.store_sql.specs.Transactions.{Rests, Looks};
 ghost use Rattle.sheet_types.specs.Cut.{has_end};
 ghost use Rattle.sheet_types.specs.Ordered.{has};
 ghost use Rattle.sheet_types.specs.Lines.{IsUuid};

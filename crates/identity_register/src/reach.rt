@@ -4,8 +4,8 @@ ghost use Rattle.std.specs.Prelude.{◌≡◌, pos, true, map, IfOk, IsTrue, IsP
 ghost use Rattle.std.specs.List.{AllZip};
 ghost use Rattle.sqlite.specs.State.{HasCleanDisk};
 ghost use Rattle.sqlite.specs.Held.{state};
-ghost use Rattle.sql_meaning.specs.Staying.{Stays};
-ghost use Rattle.sql_meaning.specs.Transactions.{Rests, Looks};
+ghost use Rattle.store_sql.specs.Staying.{Stays};
+ghost use Rattle.store_sql.specs.Transactions.{Rests, Looks};
 ghost use Rattle.sheet_types.specs.Ordered.{IsArranged};
 ghost use Rattle.sheet_types.specs.World.{Package, base_kind, kind_number, other_kind};
 ghost use Rattle.package_tables.specs.Calls.{Answers, LooksUp};
@@ -265,8 +265,8 @@ pub fn links_of<S: Alter>(
 /// A connection at rest, which shows a package where its disk is clean and it reads as that.
 impl<S: Alter> Reach for Connection<S> {
     ghost use Rattle.sqlite.specs.Held.{state};
-    ghost use Rattle.sql_meaning.specs.Staying.{Stays};
-    ghost use Rattle.sql_meaning.specs.Transactions.{Rests};
+    ghost use Rattle.store_sql.specs.Staying.{Stays};
+    ghost use Rattle.store_sql.specs.Transactions.{Rests};
     ghost use Rattle.identity_register.specs.Reach.{ShowsPackage};
 
     ghost can_ask = { λ conn. Rests (state S.Store conn) };

@@ -4,7 +4,7 @@
 ghost use Rattle.std.specs.Prelude.{◌≡◌, ◌++◌, map, bytes_eq, IfOk, IfErr, IsTrue, IsPermutation};
 ghost use Rattle.std.specs.List.{AllByRecursion, AllZip, IsDistinct};
 ghost use Rattle.sqlite.specs.Held.{state};
-ghost use Rattle.sql_meaning.specs.Transactions.{Rests, Looks};
+ghost use Rattle.store_sql.specs.Transactions.{Rests, Looks};
 ghost use Rattle.sheet_types.specs.Lines.{IsUuid};
 ghost use Rattle.sheet_types.specs.Ordered.{IsArranged};
 ghost use Rattle.sheet_types.specs.Texts.{uuid_text};

@@ -11,7 +11,7 @@ use Rattle.sheet_types.specs.declared.command.Request.{Request}
 use Rattle.sheet_types.specs.declared.receipt.Receipt.{Receipt}
 use Rattle.sheet_types.specs.declared.refusal.Refusal.{Refusal}
 use Rattle.sheet_types.proofs.Every.{All-snoc}
-use Rattle.lending.specs.Faults.{fault_refusal}
+use Rattle.register_lending.specs.Faults.{fault_refusal}
 use Rattle.world.specs.Worlds.{Seen, IsRun}
 use Rattle.world.proofs.Running.{IsApplied, run_none, run_more}
 use Rattle.manifest_csv.specs.Imports.{GoesOn, IsReported, IsImported, Imports, lines_before, report_before}

@@ -8,7 +8,7 @@ use Rattle.sheet_types.specs.Step.{IsFault}
 use Rattle.sheet_types.specs.declared.command.Request.{Request}
 use Rattle.sheet_types.specs.declared.receipt.Receipt.{Receipt}
 use Rattle.sheet_types.specs.declared.refusal.Refusal.{Refusal}
-use Rattle.lending.specs.Faults.{fault_refusal}
+use Rattle.register_lending.specs.Faults.{fault_refusal}
 use Rattle.world.specs.Worlds.{Seen, IsRun}
 use Rattle.request_csv.specs.RequestLists.{IsList, MeetsFirst}
 use Rattle.request_csv.specs.declared.lists.ReadFault.{ReadFault}

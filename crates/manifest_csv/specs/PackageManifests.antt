@@ -3,7 +3,7 @@ use Rattle.std.specs.Prelude.{◌≡◌, ℕ, true, false, List, Option, Result,
 use Rattle.std.specs.Io.KnownBytes.{Appends}
 use Rattle.sqlite.specs.Store.{Ghosts}
 use Rattle.sheet_types.specs.World.{World, is_live, holdings}
-use Rattle.members.specs.Members.{AllClean}
+use Rattle.world_members.specs.Members.{AllClean}
 use Rattle.world.specs.Worlds.{Seen, StandsFor}
 use Rattle.manifest_csv.specs.Manifests.{manifest_of}
 use Rattle.manifest_csv.specs.Sent.{WentOut}

@@ -13,10 +13,10 @@ use sheet_types::command::Request;
 use sheet_types::error::OutOfMemory;
 use sheet_types::receipt::Receipt;
 use sheet_types::refusal::Refusal;
-use shelves::shelf::Shelf;
 use sqlite::Alter;
 use std::alloc::Global;
 use std::io::{Read, Write};
+use store_shelf::shelf::Shelf;
 use world::world::World;
 
 /// Why an import did not go through.

@@ -1,11 +1,1 @@
-pub mod Sights
-pub mod Frames
-pub mod Standings
-pub mod Merges
-pub mod Splits
-pub mod Turns
-pub mod Copies
-pub mod Least
-pub mod Foreign
-pub mod Unfit
-pub mod Altered
+pub mod Recovered

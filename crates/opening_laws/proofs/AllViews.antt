@@ -7,13 +7,13 @@ use Rattle.sqlite.specs.Store.{Ghosts}
 use Rattle.sheet_types.specs.Register.{IsKeptPackage}
 use Rattle.sheet_types.specs.World.{World, Package}
 use Rattle.sheet_types.proofs.Every.{All-both}
-use Rattle.ledger_laws.specs.Laws.{StoreSight}
-use Rattle.ledger_laws.proofs.OneWorld.{one_world}
-use Rattle.first_stores.specs.Either.{IsViewAtEither}
-use Rattle.register_views.specs.Beside.{IsViewOfPackage, IsStrayView}
-use Rattle.register_views.specs.Timely.{IsInBounds}
-use Rattle.register_views.proofs.Bounds.{packages_are_in_bounds}
-use Rattle.register_views.proofs.Stands as standing
+use Rattle.sheet_laws.specs.Laws.{StoreSight}
+use Rattle.sheet_laws.proofs.OneWorld.{one_world}
+use Rattle.opening_v1.specs.Either.{IsViewAtEither}
+use Rattle.opening_laws_model.specs.Beside.{IsViewOfPackage, IsStrayView}
+use Rattle.opening_laws_model.specs.Timely.{IsInBounds}
+use Rattle.opening_laws_model.proofs.Bounds.{packages_are_in_bounds}
+use Rattle.opening_laws_model.proofs.Stands as standing
 use Rattle.opening_laws.specs.Laws.{ViewsOfStores, OneRegisterOfStores}
 use Rattle.opening_laws.specs.Stores.{IsStoreOf, IsStrayStore}
 use Rattle.opening_laws.proofs.OneView.{view_of_kept, view_of_stray}

@@ -10,13 +10,13 @@ use Rattle.sheet_types.proofs.Every.{All-both}
 use Rattle.sheet_types.proofs.Same.{In, All-In, In-of_append}
 use Rattle.identity_register.specs.Reads.{Reads}
 use Rattle.identity_register.proofs.Finding.{contained}
-use Rattle.ledger_laws.specs.Laws.{StoreSight}
-use Rattle.recovery.specs.Recovered.{IsApart, IsOpened, IsReadOf}
-use Rattle.register_views.specs.Beside.{AreViewsOfWorld}
-use Rattle.register_views.specs.Timely.{IsInBounds}
-use Rattle.register_views.proofs.Bounds.{packages_are_in_bounds}
-use Rattle.register_views.proofs.Found.{member_found}
-use Rattle.register_views.proofs.Seen.{In-permuted, zip_left}
+use Rattle.sheet_laws.specs.Laws.{StoreSight}
+use Rattle.opening.specs.Recovered.{IsApart, IsOpened, IsReadOf}
+use Rattle.opening_laws_model.specs.Beside.{AreViewsOfWorld}
+use Rattle.opening_laws_model.specs.Timely.{IsInBounds}
+use Rattle.opening_laws_model.proofs.Bounds.{packages_are_in_bounds}
+use Rattle.opening_laws_model.proofs.Found.{member_found}
+use Rattle.opening_laws_model.proofs.Seen.{In-permuted, zip_left}
 use Rattle.opening_laws.specs.Laws.{StraysAreTold, IsKeptWorld}
 use Rattle.opening_laws.specs.Stores.{IsStoreOf, IsStrayStore, SaysUnknown, AreStoresOf}
 use Rattle.opening_laws.proofs.AllViews.{views_of_stores}

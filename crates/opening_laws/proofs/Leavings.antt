@@ -1,8 +1,8 @@
 -- The stores of a world at rest, and those that are opened from what a crash left.
 use Rattle.std.specs.Prelude.{◌≡◌, false, List, [], ◌∷◌, ◌++◌, map, refl, is_some, ◌==◌, bytes_eq, IsPermutation, Contains}
-use Rattle.std.proofs.Common.{sym, ap, subst, ◌∙◌, inl, inr}
+use Rattle.std.proofs.Common.{sym, ap, subst, ◌∙◌, inl, inr, append_assoc}
 use Rattle.std.proofs.lemmas.Bool.{true≢false}
-use Rattle.std.proofs.lemmas.List.Sorted.{IsPermutation-append_comm}
+use Rattle.std.proofs.lemmas.List.Sorted.{IsPermutation-append_comm, IsPermutation-append_left, IsPermutation-trans}
 use Rattle.std.specs.List.{AllByRecursion, AllZip}
 use Rattle.sqlite.specs.Held.{Held, state}
 use Rattle.sqlite.specs.State.{State}
@@ -20,23 +20,23 @@ use Rattle.sheet_types.specs.declared.frame.Frame.{Frame}
 use Rattle.sheet_types.specs.declared.receipt.Receipt.{Receipt}
 use Rattle.sheet_types.proofs.Basics.{bytes_eq_itself}
 use Rattle.sheet_types.proofs.Same.{All-In}
-use Rattle.sheet_types.proofs.Every.{All-each, none_any}
-use Rattle.ledger_laws.proofs.Accepting.{keeps}
-use Rattle.ledger_laws.proofs.Running.{step_keeps_register}
-use Rattle.sql_meaning.specs.Transactions.{IsAdopted}
-use Rattle.sql_meaning.proofs.Schemas.{sound_alone}
+use Rattle.sheet_types.proofs.Every.{All-append, All-each, none_any}
+use Rattle.sheet_laws.proofs.Accepting.{keeps}
+use Rattle.sheet_laws.proofs.Running.{step_keeps_register}
+use Rattle.store_sql.specs.Transactions.{IsAdopted}
+use Rattle.store_sql.proofs.Schemas.{sound_alone}
 use Rattle.identity_register.specs.Reads.{Reads}
 use Rattle.identity_register.proofs.Finding.{contained}
 use Rattle.identity_register.proofs.OnePackage.{reads_alone}
-use Rattle.kept_stores.proofs.Headed.{head_is_known, lent_head_is_low}
-use Rattle.register_views.proofs.Timed.{step_keeps_timely}
-use Rattle.carrying.specs.Leaving.{IsBeside, StandsAmong}
-use Rattle.members.specs.Members.{IsMember}
-use Rattle.members.specs.Turning.{LeftAs}
+use Rattle.opening_laws_store.proofs.Headed.{head_is_known, lent_head_is_low}
+use Rattle.opening_laws_model.proofs.Timed.{step_keeps_timely}
+use Rattle.world_changes.specs.Leaving.{IsBeside, StandsAmong}
+use Rattle.world_members.specs.Members.{IsMember}
+use Rattle.world_members.specs.Turning.{LeftAs}
 use Rattle.world.specs.Worlds.{held}
-use Rattle.members.specs.declared.members.Member.{Member}
+use Rattle.world_members.specs.declared.members.Member.{Member}
 use Rattle.opening_laws.specs.Laws.{RestIsStores, RestIsOpened, LeftIsStores, CrashIsOpened, IsKeptWorld}
-use Rattle.opening_laws.specs.Stores.{SaysUnknown, IsStoreOf, IsStrayStore, ReadsAsNone, AreStoresOf}
+use Rattle.opening_laws.specs.Stores.{SaysUnknown, IsStoreOf, IsStrayStore, ReadsAsNone, AreStoresOf, AreWithStrays}
 use Rattle.opening_laws.proofs.OneView.{not_first}
 use Rattle.opening_laws.proofs.Openings.{opens_again, meets_no_fault}
 use Rattle.opening_laws.proofs.Zipped.{zip_permuted, zip_parts, zip_through, zip_all}
@@ -82,7 +82,7 @@ frame_carried w r (Unlink p mapping base other) = refl
 frame_carried w r (Split p child mode rect) = refl
 frame_carried w r (Merge child into ticket) = refl
 
-same_frame : (w : World) (q : Request) → (outcome w q).1.frame ≡ w.frame
+pub same_frame : (w : World) (q : Request) → (outcome w q).1.frame ≡ w.frame
 same_frame w q = keeps (λ v. v.frame ≡ w.frame) w q refl (λ _ _. frame_carried w (receipt_of w q) q.command)
 
 module _ {S : Type 0} (g : Ghosts S) where
@@ -107,11 +107,22 @@ module _ {S : Type 0} (g : Ghosts S) where
         subst (AllByRecursion (ReadsAsNone g w)) (sym (is_held.none usable)) tt,
       )
 
+  -- stores of a world, with strays of it
+  pub with_strays : (w : World) (these stores : List (Held S)) → AreWithStrays g w these stores → AreStoresOf g these w → AreStoresOf g stores w
+  with_strays w these stores more of = record {
+    members = of.members;
+    others = of.others ++ more.further;
+    all = IsPermutation-trans stores (these ++ more.further) (of.members ++ (of.others ++ more.further)) more.all
+        (subst (IsPermutation (these ++ more.further)) (append_assoc of.members of.others more.further) (IsPermutation-append_left more.further these (of.members ++ of.others) of.all));
+    each = of.each;
+    beside = All-append (IsStrayStore g w) of.others more.further of.beside more.strays;
+  }
+
   pub rest_is_opened : RestIsOpened g
-  rest_is_opened seen w is_held usable stands timely =
-      let of : AreStoresOf g (held g seen) w = (rest_is_stores seen w is_held usable stands).0 in
+  rest_is_opened seen w stores is_held usable stands timely more =
+      let of : AreStoresOf g stores w = with_strays w (held g seen) stores more (rest_is_stores seen w is_held usable stands).0 in
       let kept : IsKeptWorld w = (stands.members.register, timely) in
-      ((λ found is clean. opens_again g w (held g seen) found kept of is clean), (λ refused is clean. meets_no_fault g w (held g seen) refused kept of is clean))
+      ((λ found is clean. opens_again g w stores found kept of is clean), (λ refused is clean. meets_no_fault g w stores refused kept of is clean))
 
   -- ---- what a crash left
 
@@ -142,16 +153,16 @@ module _ {S : Type 0} (g : Ghosts S) where
       )
 
   pub crash_is_opened : CrashIsOpened g
-  crash_is_opened q old reply new w contents again step fault usable stands is_open types timely clean left opened =
+  crash_is_opened q old reply new w contents again stores step fault usable stands is_open types timely clean left opened more_before more_after =
       let register : IsRegister w = stands.members.register in
       elim (step.crash fault usable w stands is_open clean contents left) [
         | inl before ↦
-            let of : AreStoresOf g again w = (left_is_stores w contents again before opened).0 in
-            ((λ found is clean'. inl (opens_again g w again found (register, timely) of is clean')), (λ refused is clean'. meets_no_fault g w again refused (register, timely) of is clean'))
+            let of : AreStoresOf g stores w = with_strays w again stores more_before (left_is_stores w contents again before opened).0 in
+            ((λ found is clean'. inl (opens_again g w stores found (register, timely) of is clean')), (λ refused is clean'. meets_no_fault g w stores refused (register, timely) of is clean'))
         | inr after ↦
             let next : World = (outcome w q).1 in
             let kept : IsKeptWorld next = (step_keeps_register w q (outcome w q).0 next types register (inl (refl, refl)), step_keeps_timely w q (outcome w q).0 next types register timely (inl (refl, refl))) in
             let frame : w.frame ≡ next.frame = sym (same_frame w q) in
-            let of : AreStoresOf g again next = (left_is_stores next contents again (subst (λ f. StandsAmong f next.packages contents) frame after) opened).0 in
-            ((λ found is clean'. inr (opens_again g next again found kept of is clean')), (λ refused is clean'. meets_no_fault g next again refused kept of is clean'))
+            let of : AreStoresOf g stores next = with_strays next again stores more_after (left_is_stores next contents again (subst (λ f. StandsAmong f next.packages contents) frame after) opened).0 in
+            ((λ found is clean'. inr (opens_again g next stores found kept of is clean')), (λ refused is clean'. meets_no_fault g next stores refused kept of is clean'))
       ]

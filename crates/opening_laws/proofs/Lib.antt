@@ -2,6 +2,7 @@ mod Zipped
 mod OneView
 mod AllViews
 mod Openings
-mod Leavings
+pub mod Leavings
 mod Apart
 mod Surviving
+mod OpenedTimely

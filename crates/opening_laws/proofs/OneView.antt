@@ -8,19 +8,19 @@ use Rattle.sheet_types.specs.World.{World, Package}
 use Rattle.sheet_types.specs.declared.frame.Frame.{Frame}
 use Rattle.identity_register.specs.Reads.{Reads}
 use Rattle.identity_register.proofs.OnePackage.{reads_alone}
-use Rattle.ledger_laws.specs.Laws.{StoreSight}
+use Rattle.sheet_laws.specs.Laws.{StoreSight}
 use Rattle.package_tables.specs.declared.rows.HeadRow.{HeadRow}
-use Rattle.store_forms.specs.Heads.{IsHead, IsHeadAt, ReadsHead, ReadsHeadAt}
-use Rattle.first_stores.specs.Either.{IsViewAtEither, SaysFirst}
+use Rattle.package_schema.specs.Heads.{IsHead, IsHeadAt, ReadsHead, ReadsHeadAt}
+use Rattle.opening_v1.specs.Either.{IsViewAtEither, SaysFirst}
 use Rattle.opening_laws.specs.Stores.{SaysUnknown}
-use Rattle.stored_items.specs.Answers.{Decides}
-use Rattle.surveys.specs.Views.{IsViewOf, IsWhole}
-use Rattle.register_views.specs.Beside.{IsViewOfPackage, IsStrayView, IsUnknown}
-use Rattle.register_views.specs.Timely.{IsInBounds}
-use Rattle.register_views.proofs.Bounds.{unknown_is_stray}
-use Rattle.kept_stores.specs.Kept.{IsWholeAs}
-use Rattle.kept_stores.proofs.Headed.{head_is_known}
-use Rattle.kept_stores.proofs.Whole.{kept_store_is_whole}
+use Rattle.package_items.specs.Answers.{Decides}
+use Rattle.opening_survey.specs.Views.{IsViewOf, IsWhole}
+use Rattle.opening_laws_model.specs.Beside.{IsViewOfPackage, IsStrayView, IsUnknown}
+use Rattle.opening_laws_model.specs.Timely.{IsInBounds}
+use Rattle.opening_laws_model.proofs.Bounds.{unknown_is_stray}
+use Rattle.opening_laws_store.specs.Kept.{IsWholeAs}
+use Rattle.opening_laws_store.proofs.Headed.{head_is_known}
+use Rattle.opening_laws_store.proofs.Whole.{kept_store_is_whole}
 
 -- what holds is decided so
 decided : (Holds : Type 0) (b : Bool) → Decides Holds b → Holds → b ≡ true

@@ -2,15 +2,15 @@
 use Rattle.std.specs.Prelude.{◌≡◌, true, List, refl}
 use Rattle.std.proofs.Common.{subst, inl, inr}
 use Rattle.sqlite.specs.Store.{Ghosts}
-use Rattle.ledger_laws.specs.Laws.{StoreSight, StoresStandFor, HasNoFault}
-use Rattle.ledger_laws.proofs.OneWorld.{one_world}
-use Rattle.opening.specs.declared.faults.RecoverFault.{RecoverFault}
-use Rattle.opening.specs.declared.faults.RecoverFault.TheVariants.{NoArchive, TwoArchives, NotAPackage, TwoCopies, MissingPackage, ForeignFrame, Dangling, OutOfAccount, Altered, OutOfMemory, StoreFault}
-use Rattle.verdicts.specs.Views.{IsFaultOf}
+use Rattle.sheet_laws.specs.Laws.{StoreSight, StoresStandFor, HasNoFault}
+use Rattle.sheet_laws.proofs.OneWorld.{one_world}
+use Rattle.opening_faults.specs.declared.faults.RecoverFault.{RecoverFault}
+use Rattle.opening_faults.specs.declared.faults.RecoverFault.TheVariants.{NoArchive, TwoArchives, NotAPackage, TwoCopies, MissingPackage, ForeignFrame, Dangling, OutOfAccount, Altered, OutOfMemory, StoreFault}
+use Rattle.opening_verdict.specs.Views.{IsFaultOf}
 use Rattle.world.specs.Worlds.{StandsFor}
-use Rattle.judged_stores.specs.Judged.{IsWant}
-use Rattle.recovery.specs.Recovered.{IsOpened}
-use Rattle.register_views.proofs.Stands as standing
+use Rattle.opening_stores.specs.Judged.{IsWant}
+use Rattle.opening.specs.Recovered.{IsOpened}
+use Rattle.opening_laws_model.proofs.Stands as standing
 use Rattle.opening_laws.specs.Laws.{OpensAgain, MeetsNoFault}
 use Rattle.opening_laws.proofs.AllViews.{views_of_stores}
 

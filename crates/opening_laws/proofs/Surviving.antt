@@ -11,12 +11,12 @@ use Rattle.sqlite.specs.Tree.{Trees}
 use Rattle.sqlite_catalog.specs.Listing.{IsSound}
 use Rattle.sqlite_trees.proofs.ListLemmas.{IsPermutation-same}
 use Rattle.sheet_types.specs.World.{World, Package}
-use Rattle.sql_meaning.specs.Transactions.{IsAdopted, Rests}
-use Rattle.sql_meaning.proofs.Schemas.{sound_alone}
-use Rattle.sql_meaning.proofs.Transactions.{Settles}
+use Rattle.store_sql.specs.Transactions.{IsAdopted, Rests}
+use Rattle.store_sql.proofs.Schemas.{sound_alone}
+use Rattle.store_sql.proofs.Transactions.{Settles}
 use Rattle.identity_register.specs.Reads.{Reads}
-use Rattle.members.specs.Members.{IsMember}
-use Rattle.members.specs.declared.members.Member.{Member}
+use Rattle.world_members.specs.Members.{IsMember}
+use Rattle.world_members.specs.declared.members.Member.{Member}
 use Rattle.opening_laws.specs.Laws.{RestSurvives}
 use Rattle.opening_laws.specs.Stores.{IsStoreOf}
 

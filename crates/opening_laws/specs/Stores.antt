@@ -7,10 +7,10 @@ use Rattle.sqlite.specs.Store.{Ghosts}
 use Rattle.sqlite.specs.Tree.{Trees}
 use Rattle.sheet_types.specs.Opening.{Head}
 use Rattle.sheet_types.specs.World.{World, Package}
-use Rattle.sql_meaning.specs.Transactions.{IsAdopted}
+use Rattle.store_sql.specs.Transactions.{IsAdopted}
 use Rattle.identity_register.specs.Reads.{Reads}
-use Rattle.store_forms.specs.Heads.{IsHead, IsHeadAt}
-use Rattle.register_views.specs.Beside.{IsUnknown}
+use Rattle.package_schema.specs.Heads.{IsHead, IsHeadAt}
+use Rattle.opening_laws_model.specs.Beside.{IsUnknown}
 
 -- the head of a store, of the first version or of the second
 abbrev pub IsHeadAtEither : Database → Head → Type 0
@@ -46,3 +46,9 @@ module _ {S : Type 0} (g : Ghosts S) where
   -- each was opened from these contents, in turn
   abbrev pub AreReopened : List (Held S) → List Trees → Type 0
   AreReopened stores contents = AllZip (λ h trees. IsAdopted (state g h) trees) stores contents
+
+  -- The stores are these and further ones, in any order, and the further ones are strays of the world.
+  pub record AreWithStrays (w : World) (these stores : List (Held S)) : Type 0 where
+    pub further : List (Held S)
+    pub all : IsPermutation stores (these ++ further)
+    pub strays : AllByRecursion (IsStrayStore w) further

@@ -1,5 +1,5 @@
 //! Laws of the opening of a register's stores, each the contract of a function that does nothing.
-ghost use Rattle.opening_laws.specs.Laws.{ViewsOfStores, OpensAgain, MeetsNoFault, StraysAreTold, RestIsStores, RestIsOpened, RestSurvives, LeftIsStores, CrashIsOpened, OneRegisterOfStores};
+ghost use Rattle.opening_laws.specs.Laws.{ViewsOfStores, OpensAgain, MeetsNoFault, StraysAreTold, OpenedIsTimely, RestIsStores, RestIsOpened, RestSurvives, LeftIsStores, CrashIsOpened, OneRegisterOfStores};
 
 use sqlite::Alter;
 
@@ -21,6 +21,11 @@ pub fn meets_no_fault<S: Alter + Drop>()
 /// What `recover` hands out beside the world are the strays.
 pub fn strays_are_told<S: Alter + Drop>()
     ensures { StraysAreTold S.Store }
+{}
+
+/// The receipts of a world that was opened say moments.
+pub fn opened_is_timely<S: Alter + Drop>()
+    ensures { OpenedIsTimely S.Store }
 {}
 
 /// The stores that a usable world holds are those of the register that it stands for.

@@ -8,12 +8,13 @@ use Rattle.sqlite.specs.Order.{Row}
 use Rattle.sqlite.specs.Term.{col}
 use Rattle.sqlite.specs.declared.types.Value.TheVariants.{Int, Null, Text}
 use Rattle.sqlite_tied.specs.Compute.{everything}
-use Rattle.sql_meaning.specs.Resolving.{resolving}
-use Rattle.sql_meaning.specs.Reading.{always, equals, compares, both, ascending}
-use Rattle.sql_meaning.proofs.Insert.{IsInsert, IsRow}
-use Rattle.sql_meaning.proofs.Delete.{IsDelete, IsPlannedDelete}
-use Rattle.sql_meaning.proofs.Resolve.{one_table, over_table, all_rows}
-use Rattle.sql_meaning.proofs.Select.{IsSelect, IsPlannedSelect, IsNamed, IsPlannedNamed, asked_named}
+use Rattle.store_sql.specs.Resolving.{resolving}
+use Rattle.store_sql.specs.Reading.{always, equals, compares, both, ascending}
+use Rattle.store_sql.specs.Spelling.{Spelling, spelled}
+use Rattle.store_sql.proofs.Insert.{IsInsert, IsRow}
+use Rattle.store_sql.proofs.Delete.{IsDelete, IsPlannedDelete}
+use Rattle.store_sql.proofs.Resolve.{one_table, over_table, all_rows}
+use Rattle.store_sql.proofs.Select.{IsSelect, IsPlannedSelect, IsNamed, IsPlannedNamed, asked_named}
 use Rattle.package_tables.specs.Tables.{sheet_rows}
 use Rattle.package_tables.specs.Shapes.{attribute_shape, int_at, text_at}
 use Rattle.package_tables.specs.Listed.{attributes}
@@ -25,28 +26,28 @@ use Rattle.package_tables.proofs.Ranking.{one_number}
 use Rattle.package_tables.proofs.Values.{same_number, at_least, at_most, above, below, both_same}
 use Rattle.package_tables.proofs.Written.{attributes_listed}
 
-pub insert_text : (tree : ℕ) → IsInsert (codes "INSERT INTO sheet_rows VALUES (?1, ?2, ?3, ?4, ?5)") (sheet_rows tree)
+pub insert_text : (spelling : Spelling) → IsInsert (codes "INSERT INTO sheet_rows VALUES (?1, ?2, ?3, ?4, ?5)") (spelled sheet_rows spelling)
 unfolding everything
-insert_text tree = record { parse = _; rows = _; parsed = refl; statement = refl; formats = refl; named = refl; unstamped = refl; source = λ schema. refl }
+insert_text spelling = record { parse = _; rows = _; parsed = refl; statement = refl; formats = refl; named = refl; unstamped = refl; source = λ schema. refl }
 
-pub insert_row : (row : AttributeRow) (tree : ℕ) (there : List Row)
-    → IsRow (sheet_rows tree) (Int row.id ∷ Int row.x ∷ Int row.y ∷ Int row.code ∷ Text row.label ∷ []) there (attribute_shape.stored Null row)
-insert_row row tree there = record { source = _; laid = refl; kinds = refl; placed = λ top. refl }
+pub insert_row : (row : AttributeRow) (spelling : Spelling) (there : List Row)
+    → IsRow (spelled sheet_rows spelling) (Int row.id ∷ Int row.x ∷ Int row.y ∷ Int row.code ∷ Text row.label ∷ []) there (attribute_shape.stored Null row)
+insert_row row spelling there = record { source = _; laid = refl; kinds = refl; placed = λ top. refl }
 
-pub delete_text : (tree : ℕ) → IsDelete (codes "DELETE FROM sheet_rows WHERE id = ?1") (sheet_rows tree) (equals 0 0)
+pub delete_text : (spelling : Spelling) → IsDelete (codes "DELETE FROM sheet_rows WHERE id = ?1") (spelled sheet_rows spelling) (equals 0 0)
 unfolding everything
-delete_text tree = record { parse = _; where' = _; parsed = refl; statement = refl; formats = refl; named = refl; condition = (_, refl, (_, _, _, _, refl, refl, refl, refl, refl, refl, refl)); enough = refl }
+delete_text spelling = record { parse = _; where' = _; parsed = refl; statement = refl; formats = refl; named = refl; condition = (_, refl, (_, _, _, _, refl, refl, refl, refl, refl, refl, refl)); enough = refl }
 
-pub delete_plan : (tree : ℕ) → IsPlannedDelete (sheet_rows tree) (equals 0 0)
+pub delete_plan : (spelling : Spelling) → IsPlannedDelete (spelled sheet_rows spelling) (equals 0 0)
 unfolding resolving
-delete_plan tree schema at h = rw (h.stored, h.by_tree) refl
+delete_plan spelling schema at h = rw (h.stored, h.by_tree) refl
 
 pub known : IsKnown attributes attribute_shown
 known = record { is = attributes_listed; back = λ r. record { id = int_at r 0; x = int_at r 1; y = int_at r 2; code = int_at r 3; label = text_at r 4 }; returns = λ x. refl }
 
-attribute_by_id_text : (tree : ℕ) → IsSelect (codes "SELECT * FROM sheet_rows WHERE id = ?1") (sheet_rows tree) (equals 0 0) []
+attribute_by_id_text : (spelling : Spelling) → IsSelect (codes "SELECT * FROM sheet_rows WHERE id = ?1") (spelled sheet_rows spelling) (equals 0 0) []
 unfolding everything
-attribute_by_id_text tree = record {
+attribute_by_id_text spelling = record {
   parse = _;
   asks = _;
   src = _;
@@ -62,16 +63,16 @@ attribute_by_id_text tree = record {
   sorted = λ schema at. (_, refl, refl);
 }
 
-attribute_by_id_plan : (tree : ℕ) → IsPlannedSelect (sheet_rows tree) (equals 0 0) []
+attribute_by_id_plan : (spelling : Spelling) → IsPlannedSelect (spelled sheet_rows spelling) (equals 0 0) []
 unfolding resolving
-attribute_by_id_plan tree schema at h = rw (h.stored, h.by_tree) refl
+attribute_by_id_plan spelling schema at h = rw (h.stored, h.by_tree) refl
 
 pub attribute_by_id : (id : ℤ) → IsLookUp attribute_shape attribute_shown (codes "SELECT * FROM sheet_rows WHERE id = ?1") (Int id ∷ []) (λ x. int_eq x.id id)
-attribute_by_id id = record { test = _; by = _; selects = attribute_by_id_text; planned = attribute_by_id_plan; given = refl; listing = _; is = λ tree. refl; shows = λ v x. refl; passing = λ v x. (same_number x.id id) }
+attribute_by_id id = record { test = _; by = _; selects = attribute_by_id_text; planned = attribute_by_id_plan; given = refl; listing = _; is = λ spelling. refl; shows = λ v x. refl; passing = λ v x. (same_number x.id id) }
 
-attributes_within_text : (tree : ℕ) → IsSelect (codes "SELECT * FROM sheet_rows WHERE x >= ?1 AND x < ?2 AND y > ?3 AND y <= ?4") (sheet_rows tree) (both (both (both (compares Ge 1 0) (compares Lt 1 1)) (compares Gt 2 2)) (compares Le 2 3)) []
+attributes_within_text : (spelling : Spelling) → IsSelect (codes "SELECT * FROM sheet_rows WHERE x >= ?1 AND x < ?2 AND y > ?3 AND y <= ?4") (spelled sheet_rows spelling) (both (both (both (compares Ge 1 0) (compares Lt 1 1)) (compares Gt 2 2)) (compares Le 2 3)) []
 unfolding everything
-attributes_within_text tree = record {
+attributes_within_text spelling = record {
   parse = _;
   asks = _;
   src = _;
@@ -87,16 +88,16 @@ attributes_within_text tree = record {
   sorted = λ schema at. (_, refl, refl);
 }
 
-attributes_within_plan : (tree : ℕ) → IsPlannedSelect (sheet_rows tree) (both (both (both (compares Ge 1 0) (compares Lt 1 1)) (compares Gt 2 2)) (compares Le 2 3)) []
+attributes_within_plan : (spelling : Spelling) → IsPlannedSelect (spelled sheet_rows spelling) (both (both (both (compares Ge 1 0) (compares Lt 1 1)) (compares Gt 2 2)) (compares Le 2 3)) []
 unfolding resolving
-attributes_within_plan tree schema at h = rw (h.stored, h.by_tree) refl
+attributes_within_plan spelling schema at h = rw (h.stored, h.by_tree) refl
 
 pub attributes_within : (west : ℤ) (east : ℤ) (south : ℤ) (north : ℤ) → IsLookUp attribute_shape attribute_shown (codes "SELECT * FROM sheet_rows WHERE x >= ?1 AND x < ?2 AND y > ?3 AND y <= ?4") (Int west ∷ Int east ∷ Int south ∷ Int north ∷ []) (λ x. int_le west x.x && int_lt x.x east && int_lt south x.y && int_le x.y north)
-attributes_within west east south north = record { test = _; by = _; selects = attributes_within_text; planned = attributes_within_plan; given = refl; listing = _; is = λ tree. refl; shows = λ v x. refl; passing = λ v x. (both_same (both_same (both_same (at_least x.x west) (below x.x east)) (above x.y south)) (at_most x.y north)) }
+attributes_within west east south north = record { test = _; by = _; selects = attributes_within_text; planned = attributes_within_plan; given = refl; listing = _; is = λ spelling. refl; shows = λ v x. refl; passing = λ v x. (both_same (both_same (both_same (at_least x.x west) (below x.x east)) (above x.y south)) (at_most x.y north)) }
 
-all_text : (tree : ℕ) → IsSelect (codes "SELECT * FROM sheet_rows ORDER BY id") (sheet_rows tree) always ((col 1 0, ascending) ∷ [])
+all_text : (spelling : Spelling) → IsSelect (codes "SELECT * FROM sheet_rows ORDER BY id") (spelled sheet_rows spelling) always ((col 1 0, ascending) ∷ [])
 unfolding everything
-all_text tree = record {
+all_text spelling = record {
   parse = _;
   asks = _;
   src = _;
@@ -112,20 +113,20 @@ all_text tree = record {
   sorted = λ schema at. (_, refl, refl);
 }
 
-all_plan : (tree : ℕ) → IsPlannedSelect (sheet_rows tree) always ((col 1 0, ascending) ∷ [])
+all_plan : (spelling : Spelling) → IsPlannedSelect (spelled sheet_rows spelling) always ((col 1 0, ascending) ∷ [])
 unfolding resolving
-all_plan tree schema at h = rw (h.stored, h.by_tree) refl
+all_plan spelling schema at h = rw (h.stored, h.by_tree) refl
 
 pub all : IsLookUp attribute_shape attribute_shown (codes "SELECT * FROM sheet_rows ORDER BY id") [] (λ x. true)
-all = record { test = _; by = _; selects = all_text; planned = all_plan; given = refl; listing = _; is = λ tree. refl; shows = λ v x. refl; passing = λ v x. refl }
+all = record { test = _; by = _; selects = all_text; planned = all_plan; given = refl; listing = _; is = λ spelling. refl; shows = λ v x. refl; passing = λ v x. refl }
 
 pub all_ranked : IsRanked all (on (λ x. x.id) int_cmp)
 unfolding all
 all_ranked = record { keys = λ x. Int x.id ∷ []; keyed = λ v x. refl; total = (on_total (λ x. x.id) int_cmp_total); alike = λ x y. one_number x.id y.id }
 
-ids_text : (tree : ℕ) → IsNamed (codes "SELECT id FROM sheet_rows") (sheet_rows tree) (0 ∷ []) always [] all_rows
+ids_text : (spelling : Spelling) → IsNamed (codes "SELECT id FROM sheet_rows") (spelled sheet_rows spelling) (0 ∷ []) always [] all_rows
 unfolding everything
-ids_text tree = record {
+ids_text spelling = record {
   parse = _;
   asks = _;
   src = _;
@@ -141,16 +142,16 @@ ids_text tree = record {
   enough = refl;
 }
 
-ids_plan : (tree : ℕ) → IsPlannedNamed (sheet_rows tree) (0 ∷ []) always [] all_rows
+ids_plan : (spelling : Spelling) → IsPlannedNamed (spelled sheet_rows spelling) (0 ∷ []) always [] all_rows
 unfolding resolving
-ids_plan tree schema at h = rw (h.stored, h.by_tree) refl
+ids_plan spelling schema at h = rw (h.stored, h.by_tree) refl
 
 pub ids : IsNumbering attribute_shape (λ x. x.id) (codes "SELECT id FROM sheet_rows") [] (λ x. true)
-ids = record { test = _; project = _; by = _; asked = λ tree. asked_named (ids_text tree) (ids_plan tree); given = refl; listing = _; is = λ tree. refl; shows = λ v x. refl; passing = λ v x. refl }
+ids = record { test = _; project = _; by = _; asked = λ spelling. asked_named (ids_text spelling) (ids_plan spelling); given = refl; listing = _; is = λ spelling. refl; shows = λ v x. refl; passing = λ v x. refl }
 
-has_attribute_text : (tree : ℕ) → IsNamed (codes "SELECT id FROM sheet_rows WHERE id = ?1") (sheet_rows tree) (0 ∷ []) (equals 0 0) [] all_rows
+has_attribute_text : (spelling : Spelling) → IsNamed (codes "SELECT id FROM sheet_rows WHERE id = ?1") (spelled sheet_rows spelling) (0 ∷ []) (equals 0 0) [] all_rows
 unfolding everything
-has_attribute_text tree = record {
+has_attribute_text spelling = record {
   parse = _;
   asks = _;
   src = _;
@@ -166,16 +167,16 @@ has_attribute_text tree = record {
   enough = refl;
 }
 
-has_attribute_plan : (tree : ℕ) → IsPlannedNamed (sheet_rows tree) (0 ∷ []) (equals 0 0) [] all_rows
+has_attribute_plan : (spelling : Spelling) → IsPlannedNamed (spelled sheet_rows spelling) (0 ∷ []) (equals 0 0) [] all_rows
 unfolding resolving
-has_attribute_plan tree schema at h = rw (h.stored, h.by_tree) refl
+has_attribute_plan spelling schema at h = rw (h.stored, h.by_tree) refl
 
 pub has_attribute : (id : ℤ) → IsNumbering attribute_shape (λ x. x.id) (codes "SELECT id FROM sheet_rows WHERE id = ?1") (Int id ∷ []) (λ x. int_eq x.id id)
-has_attribute id = record { test = _; project = _; by = _; asked = λ tree. asked_named (has_attribute_text tree) (has_attribute_plan tree); given = refl; listing = _; is = λ tree. refl; shows = λ v x. refl; passing = λ v x. (same_number x.id id) }
+has_attribute id = record { test = _; project = _; by = _; asked = λ spelling. asked_named (has_attribute_text spelling) (has_attribute_plan spelling); given = refl; listing = _; is = λ spelling. refl; shows = λ v x. refl; passing = λ v x. (same_number x.id id) }
 
-attribute_ids_within_text : (tree : ℕ) → IsNamed (codes "SELECT id FROM sheet_rows WHERE x >= ?1 AND x < ?2 AND y > ?3 AND y <= ?4") (sheet_rows tree) (0 ∷ []) (both (both (both (compares Ge 1 0) (compares Lt 1 1)) (compares Gt 2 2)) (compares Le 2 3)) [] all_rows
+attribute_ids_within_text : (spelling : Spelling) → IsNamed (codes "SELECT id FROM sheet_rows WHERE x >= ?1 AND x < ?2 AND y > ?3 AND y <= ?4") (spelled sheet_rows spelling) (0 ∷ []) (both (both (both (compares Ge 1 0) (compares Lt 1 1)) (compares Gt 2 2)) (compares Le 2 3)) [] all_rows
 unfolding everything
-attribute_ids_within_text tree = record {
+attribute_ids_within_text spelling = record {
   parse = _;
   asks = _;
   src = _;
@@ -191,9 +192,9 @@ attribute_ids_within_text tree = record {
   enough = refl;
 }
 
-attribute_ids_within_plan : (tree : ℕ) → IsPlannedNamed (sheet_rows tree) (0 ∷ []) (both (both (both (compares Ge 1 0) (compares Lt 1 1)) (compares Gt 2 2)) (compares Le 2 3)) [] all_rows
+attribute_ids_within_plan : (spelling : Spelling) → IsPlannedNamed (spelled sheet_rows spelling) (0 ∷ []) (both (both (both (compares Ge 1 0) (compares Lt 1 1)) (compares Gt 2 2)) (compares Le 2 3)) [] all_rows
 unfolding resolving
-attribute_ids_within_plan tree schema at h = rw (h.stored, h.by_tree) refl
+attribute_ids_within_plan spelling schema at h = rw (h.stored, h.by_tree) refl
 
 pub attribute_ids_within : (west : ℤ) (east : ℤ) (south : ℤ) (north : ℤ) → IsNumbering attribute_shape (λ x. x.id) (codes "SELECT id FROM sheet_rows WHERE x >= ?1 AND x < ?2 AND y > ?3 AND y <= ?4") (Int west ∷ Int east ∷ Int south ∷ Int north ∷ []) (λ x. int_le west x.x && int_lt x.x east && int_lt south x.y && int_le x.y north)
-attribute_ids_within west east south north = record { test = _; project = _; by = _; asked = λ tree. asked_named (attribute_ids_within_text tree) (attribute_ids_within_plan tree); given = refl; listing = _; is = λ tree. refl; shows = λ v x. refl; passing = λ v x. (both_same (both_same (both_same (at_least x.x west) (below x.x east)) (above x.y south)) (at_most x.y north)) }
+attribute_ids_within west east south north = record { test = _; project = _; by = _; asked = λ spelling. asked_named (attribute_ids_within_text spelling) (attribute_ids_within_plan spelling); given = refl; listing = _; is = λ spelling. refl; shows = λ v x. refl; passing = λ v x. (both_same (both_same (both_same (at_least x.x west) (below x.x east)) (above x.y south)) (at_most x.y north)) }

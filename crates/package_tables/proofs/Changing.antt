@@ -13,9 +13,10 @@ use Rattle.sqlite.specs.declared.types.Value.{Value}
 use Rattle.sqlite.specs.Effect.{Database}
 use Rattle.sqlite_trees.specs.View.{is_int}
 use Rattle.sheet_types.specs.Ordered.{is_before, arranged, put}
-use Rattle.sql_meaning.specs.Known.{IsQuiet}
-use Rattle.sql_meaning.specs.Kinds.{has_kinds}
-use Rattle.sql_meaning.specs.Writing.{Updates, IsKeyed}
+use Rattle.store_sql.specs.Known.{IsQuiet}
+use Rattle.store_sql.specs.Kinds.{has_kinds}
+use Rattle.store_sql.specs.Writing.{Updates, IsKeyed}
+use Rattle.store_sql.specs.Spelling.{Spelling, spelled}
 use Rattle.package_tables.specs.Shape.{Shape, IsShape, IsFormed, IsStored, stored_rows, rows_of}
 use Rattle.package_tables.specs.Package.{tables_of, AreFormed}
 use Rattle.package_tables.specs.Listed.{Listed}
@@ -94,16 +95,16 @@ module _ {R : Type 0} (shape : Shape R) (laws : IsShape shape) where
   pub changed : (change : Row → Row) (make : R → R) (old new : Database) → Updates shape.table (λ _. true) change old new → IsQuiet old.schema → IsFormed shape old
       → ((v : Value) (x : R) → change (shape.stored v x) ≡ shape.stored v (make x))
       → ((x : R) → shape.key (make x) ≡ shape.key x) → ((v : Value) (x : R) → rowid (shape.stored v (make x)) ≡ rowid (shape.stored v x))
-      → ((tree : ℕ) (v : Value) (x : R) → is_int v ≡ true → has_kinds (shape.table tree) (shape.stored v x) ≡ true)
+      → ((spelling : Spelling) (v : Value) (x : R) → is_int v ≡ true → has_kinds (spelled shape.table spelling) (shape.stored v x) ≡ true)
       → IsFormed shape new × (rows_of shape new ≡ map make (rows_of shape old))
   changed change make old new updates quiet formed makes keys rowids kinds =
       let p = formed.placed in
-      let did = updates p.at p.tree p.has quiet in
+      let did = updates p.at p.spelling p.has quiet in
       let there = stored_rows shape old in
       let table = standing shape laws old new p did.spares.schema in
-      let fit = all_of_kinds shape (shape.table p.tree) change make (kinds p.tree) makes there formed.stored formed.keyed.ints in
+      let fit = all_of_kinds shape (spelled shape.table p.spelling) change make (kinds p.spelling) makes there formed.stored formed.keyed.ints in
       let rows : stored_rows shape new ≡ map change there = table.after
-      ∙ did.rows (subst IsKeyed (sym table.before) formed.keyed) (subst (AllByRecursion (λ r. has_kinds (shape.table p.tree) (change r) ≡ true)) (sym table.before) fit)
+      ∙ did.rows (subst IsKeyed (sym table.before) formed.keyed) (subst (AllByRecursion (λ r. has_kinds (spelled shape.table p.spelling) (change r) ≡ true)) (sym table.before) fit)
       ∙ ap (map change) table.before in (
         record {
           placed = table.placed;
@@ -121,10 +122,10 @@ module _ {R : Type 0} (shape : Shape R) (laws : IsShape shape) where
 module _ {R : Type 0} {list : Listed R} (is : IsListed list) where
   pub changes : (change : Row → Row) (make : R → R) (old new : Database) → AreFormed old → ((v : Value) (x : R) → change (list.shape.stored v x) ≡ list.shape.stored v (make x))
       → ((x : R) → list.shape.key (make x) ≡ list.shape.key x) → ((v : Value) (x : R) → rowid (list.shape.stored v (make x)) ≡ rowid (list.shape.stored v x))
-      → ((tree : ℕ) (v : Value) (x : R) → is_int v ≡ true → has_kinds (list.shape.table tree) (list.shape.stored v x) ≡ true) → Updates list.shape.table (λ _. true) change old new
+      → ((spelling : Spelling) (v : Value) (x : R) → is_int v ≡ true → has_kinds (spelled list.shape.table spelling) (list.shape.stored v x) ≡ true) → Updates list.shape.table (λ _. true) change old new
       → AreFormed new × (tables_of new ≡ list.with_rows (map make (list.rows (tables_of old))) (tables_of old))
   changes change make old new formed makes keys rowids kinds updates =
       let here = is.formed old formed in
       let did = changed list.shape is.laws change make old new updates formed.quiet here makes keys rowids kinds in
-      let both = is.written here.placed.tree old new (updates here.placed.at here.placed.tree here.placed.has formed.quiet).spares formed did.0 in
+      let both = is.written here.placed.spelling old new (updates here.placed.at here.placed.spelling here.placed.has formed.quiet).spares formed did.0 in
       (both.0, rw (is.lists old) (both.1 ∙ ap (λ l. list.with_rows l (tables_of old)) did.1))

@@ -2,8 +2,8 @@
 use Rattle.std.proofs.Common.{◌≡◌, List, [], false, Result, Ok, ap, sym, ◌∙◌}
 use Rattle.sqlite.specs.State.{State, Survives}
 use Rattle.sheet_types.specs.Ordered.{put, has}
-use Rattle.sql_meaning.specs.Transactions.{Steps}
-use Rattle.sql_meaning.proofs.Transactions.{steps_then, steps_none, steps_weaker}
+use Rattle.store_sql.specs.Transactions.{Steps}
+use Rattle.store_sql.proofs.Transactions.{steps_then, steps_none, steps_weaker}
 use Rattle.package_tables.specs.Package.{Tables, tables_of}
 use Rattle.package_tables.specs.Listed.{Listed}
 use Rattle.package_tables.specs.Calls.{Makes, OnTables}

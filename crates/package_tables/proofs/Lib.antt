@@ -30,3 +30,4 @@ pub mod Columns
 pub mod Decoding
 pub mod Ranked
 pub mod FixedKept
+pub mod Placed

@@ -13,14 +13,15 @@ use Rattle.sqlite.specs.declared.error.Error.{Error}
 use Rattle.sqlite.specs.declared.types.Value.{Value}
 use Rattle.sqlite.specs.State.{State, HasCleanDisk, IsUnchanged, Survives, Shown, FailsToQuery, IsTooLate, CommitsShowing}
 use Rattle.sqlite_value.specs.declared.keys.Key.{Key}
-use Rattle.sql_meaning.specs.Known.{HasTable}
-use Rattle.sql_meaning.specs.Reading.{Test, Listing, IsListing, Finds}
-use Rattle.sql_meaning.specs.Transactions.{Rests}
-use Rattle.sql_meaning.proofs.Where.{are_given}
-use Rattle.sql_meaning.proofs.Resolve.{all_rows}
-use Rattle.sql_meaning.proofs.Select.{IsSelect, IsPlannedSelect, IsAsked, asked_all, all_listed, shown_terms, listing_of, listing_showing}
-use Rattle.sql_meaning.proofs.Answering.{shown_unchanged, failed_unchanged, asked_looks}
-use Rattle.sql_meaning.proofs.Transactions.{Shuts, Settles}
+use Rattle.store_sql.specs.Known.{HasTable}
+use Rattle.store_sql.specs.Reading.{Test, Listing, IsListing, Finds}
+use Rattle.store_sql.specs.Transactions.{Rests}
+use Rattle.store_sql.specs.Spelling.{Spelling, spelled, unspelled}
+use Rattle.store_sql.proofs.Where.{are_given}
+use Rattle.store_sql.proofs.Resolve.{all_rows}
+use Rattle.store_sql.proofs.Select.{IsSelect, IsPlannedSelect, IsAsked, asked_all, all_listed, shown_terms, listing_of, listing_showing}
+use Rattle.store_sql.proofs.Answering.{shown_unchanged, failed_unchanged, asked_looks}
+use Rattle.store_sql.proofs.Transactions.{Shuts, Settles}
 use Rattle.sqlite_trees.proofs.ListLemmas.{all_of, filter_all}
 use Rattle.package_tables.specs.Shape.{Shape}
 use Rattle.package_tables.specs.Package.{Tables, tables_of, AreFormed}
@@ -44,22 +45,22 @@ pub record IsKnown {R : Type 0} (list : Listed R) (shown : R → Row) : Type 0 w
 pub record IsLookUp {R : Type 0} (shape : Shape R) (shown : R → Row) (text : List ℕ) (params : Row) (keeps : R → Bool) : Type 0 where
   pub test : Test
   pub by : List (Term × Key)
-  pub selects : (tree : ℕ) → IsSelect text (shape.table tree) test by
-  pub planned : (tree : ℕ) → IsPlannedSelect (shape.table tree) test by
+  pub selects : (spelling : Spelling) → IsSelect text (spelled shape.table spelling) test by
+  pub planned : (spelling : Spelling) → IsPlannedSelect (spelled shape.table spelling) test by
   pub given : are_given test params ≡ true
   pub listing : Listing
-  pub is : (tree : ℕ) → listing_of (shape.table tree) test by params ≡ listing
+  pub is : (spelling : Spelling) → listing_of (spelled shape.table spelling) test by params ≡ listing
   pub shows : (v : Value) (x : R) → listing.shown (shape.stored v x) ≡ shown x
   pub passing : (v : Value) (x : R) → listing.keeps (shape.stored v x) ≡ keeps x
 
 -- with these parameters the text is a query of the table, and this is its listing
 pub record IsQuery (table : ℕ → Table) (text : List ℕ) (params : Row) (listing : Listing) : Type 0 where
   pub test : Test
-  pub project : ℕ → List Term
+  pub project : Spelling → List Term
   pub by : List (Term × Key)
-  pub asked : (tree : ℕ) → IsAsked text (table tree) test (project tree) by all_rows
+  pub asked : (spelling : Spelling) → IsAsked text (spelled table spelling) test (project spelling) by all_rows
   pub given : are_given test params ≡ true
-  pub is : (tree : ℕ) → listing_showing (project tree) (table tree) test by params ≡ listing
+  pub is : (spelling : Spelling) → listing_showing (project spelling) (spelled table spelling) test by params ≡ listing
 
 -- the rows come by these keys, which order the values so
 pub record IsRanked {R : Type 0} {shape : Shape R} {shown : R → Row} {text : List ℕ} {params : Row} {keeps : R → Bool} (read : IsLookUp shape shown text params keeps) (cmp : R → R → Ordering) : Type 0 where
@@ -80,7 +81,7 @@ AreShown shown rows xs = rows ≡ map shown xs
 
 -- the rows are this listing of a table, wherever it is
 abbrev pub AreRows : (ℕ → Table) → Listing → Database → List Row → Type 0
-AreRows table l db rows = (at tree : ℕ) → HasTable db.schema at (table tree) → IsListing l.key l.shown l.by (filter l.keeps (db.trees (table tree).tree)) rows
+AreRows table l db rows = (at : ℕ) (spelling : Spelling) → HasTable db.schema at (spelled table spelling) → IsListing l.key l.shown l.by (filter l.keeps (db.trees (spelled table spelling).tree)) rows
 
 -- what the rows of a query say of the tables is an answer at rest; the parameters are those that were bound
 module _ {table : ℕ → Table} {text : List ℕ} {params : Row} {listing : Listing} (query : IsQuery table text params listing) {X Y : Type 0} (items : Y → List Row) (Says : List Row → X → Type 0) (Answer : Tables → X → Type 0)
@@ -123,9 +124,9 @@ module _ {R : Type 0} {list : Listed R} {shown : R → Row} (known : IsKnown lis
   query : IsQuery list.shape.table text params read.listing
   query = record {
     test = read.test;
-    project = λ tree. shown_terms (list.shape.table tree);
+    project = λ spelling. shown_terms (spelled list.shape.table spelling);
     by = read.by;
-    asked = λ tree. asked_all (read.selects tree) (read.planned tree);
+    asked = λ spelling. asked_all (read.selects spelling) (read.planned spelling);
     given = read.given;
     is = read.is;
   }
@@ -156,13 +157,13 @@ module _ {R : Type 0} {list : Listed R} {shown : R → Row} (known : IsKnown lis
   -- all rows that pass, in the order of a number
   module _ (number : R → ℤ) (rank : (there rows : List Row) → IsListing read.listing.key read.listing.shown read.listing.by there rows → (xs : List R) → AreShown shown rows xs → Rises number xs) where
     ranked_mean : Means (AreShown shown) (λ t xs. AreThose keeps (list.rows t) xs × Rises number xs)
-    ranked_mean db formed rows listing xs are = let p = (known.is.formed db formed).placed in (all_mean db formed rows listing xs are, rank (filter read.listing.keeps (db.trees (list.shape.table p.tree).tree)) rows (listing p.at p.tree p.has) xs are)
+    ranked_mean db formed rows listing xs are = let p = (known.is.formed db formed).placed in (all_mean db formed rows listing xs are, rank (filter read.listing.keeps (db.trees (spelled list.shape.table p.spelling).tree)) rows (listing p.at p.spelling p.has) xs are)
 
   module _ {X Y : Type 0} (items : Y → List Row) (Says : List Row → X → Type 0) (Answer : Tables → X → Type 0) (means : Means Says Answer) where
     -- inside a transaction
     tells : (old new : State) (answer : Result Y Error) (result : Result X Fault) → (HasCleanDisk new → IfOk answer (λ y. Shown text params old new (items y)))
         → (HasCleanDisk new → IfErr answer (λ e. FailsToQuery text params old new e ⊎ IsTooLate text params old new e)) → AreSaid items Says answer result → Tells Answer old new result
-    tells old new = told (query.asked 0) params items Says Answer old new (λ formed rows shows. means old.now formed rows (λ at tree has. (all_listed query.asked params query.given read.listing query.is old new rows shows at tree has).0))
+    tells old new = told (query.asked unspelled) params items Says Answer old new (λ formed rows shows. means old.now formed rows (λ at spelling has. (all_listed list.shape.table query.asked params query.given read.listing query.is old new rows shows at spelling has).0))
 
   -- ---- one row, or all; the parameters as they are bound
 

@@ -7,11 +7,12 @@ use Rattle.sqlite.specs.declared.error.Error.{Error}
 use Rattle.sqlite.specs.declared.types.Value.{Value}
 use Rattle.sqlite.specs.State.{State, ExecutesInside}
 use Rattle.sqlite_trees.specs.View.{is_int}
-use Rattle.sql_meaning.specs.Reading.{Test, passes}
-use Rattle.sql_meaning.proofs.Where.{are_given}
-use Rattle.sql_meaning.proofs.Insert.{IsInsert, IsRow, inserted_inside}
-use Rattle.sql_meaning.proofs.Delete.{IsDelete, IsPlannedDelete, removed_inside}
-use Rattle.sql_meaning.specs.Writing.{Inserts, Deletes, WritesInside}
+use Rattle.store_sql.specs.Reading.{Test, passes}
+use Rattle.store_sql.proofs.Where.{are_given}
+use Rattle.store_sql.proofs.Insert.{IsInsert, IsRow, inserted_inside}
+use Rattle.store_sql.proofs.Delete.{IsDelete, IsPlannedDelete, removed_inside}
+use Rattle.store_sql.specs.Writing.{Inserts, Deletes, WritesInside}
+use Rattle.store_sql.specs.Spelling.{Spelling, spelled}
 use Rattle.package_tables.specs.Package.{Tables, tables_of, AreFormed}
 use Rattle.package_tables.specs.Listed.{Listed}
 use Rattle.package_tables.specs.Calls.{MakesInside}
@@ -36,7 +37,7 @@ module _ {R : Type 0} {list : Listed R} (is : IsListed list) where
   puts row x old new formed laid inserts =
       let here = is.formed old formed in
       let did = inserted list.shape is.laws row x old new inserts formed.quiet here laid in
-      let both = is.written here.placed.tree old new (inserts here.placed.at here.placed.tree here.placed.has formed.quiet).spares formed did.0 in
+      let both = is.written here.placed.spelling old new (inserts here.placed.at here.placed.spelling here.placed.has formed.quiet).spares formed did.0 in
       (both.0, rw (is.lists old) (λ fresh. both.1 ∙ ap (λ l. list.with_rows l (tables_of old)) (did.1 fresh)))
 
   drops : (goes : Row → Bool) (test : R → Bool) (old new : Database) → AreFormed old → ((v : Value) (x : R) → goes (list.shape.stored v x) ≡ test x) → Deletes list.shape.table goes old new
@@ -44,20 +45,20 @@ module _ {R : Type 0} {list : Listed R} (is : IsListed list) where
   drops goes test old new formed same deletes =
       let here = is.formed old formed in
       let did = deleted list.shape is.laws goes test old new deletes formed.quiet here same in
-      let both = is.written here.placed.tree old new (deletes here.placed.at here.placed.tree here.placed.has formed.quiet).spares formed did.0 in
+      let both = is.written here.placed.spelling old new (deletes here.placed.at here.placed.spelling here.placed.has formed.quiet).spares formed did.0 in
       (both.0, rw (is.lists old) (both.1 ∙ ap (λ l. list.with_rows l (tables_of old)) did.1))
 
 -- A row comes in by an INSERT, and rows go by a DELETE, inside a transaction. What the parameters are is said of them alone: a rewriting in
 -- all that an execution says costs seconds.
 module _ {R : Type 0} {list : Listed R} (is : IsListed list) where
-  pub enters : {Y : Type 0} {text : List ℕ} {params : Row} {row : List Row → Row} (x : R) → ((tree : ℕ) → IsInsert text (list.shape.table tree)) → ((tree : ℕ) (there : List Row) → IsRow (list.shape.table tree) params there (row there))
+  pub enters : {Y : Type 0} {text : List ℕ} {params : Row} {row : List Row → Row} (x : R) → ((spelling : Spelling) → IsInsert text (spelled list.shape.table spelling)) → ((spelling : Spelling) (there : List Row) → IsRow (spelled list.shape.table spelling) params there (row there))
       → ((there : List Row) → (v : Value) × (is_int v ≡ true) × (row there ≡ list.shape.stored v x)) → (old new : State) (r : Result ℕ Error) (s : Result Y Fault) → MatchResult r (λ _. IsOk s) (λ e. s ≡ Err (fault_of e))
       → (told : Row) → told ≡ params → ExecutesInside 0 text told old new r → MakesInside (Adds list x) old new s
   enters {Y} {text} {params} {row} x inserts given laid old new r s settled told are ran =
       makes (Inserts list.shape.table row) (Adds list x) old new r s (λ formed. puts is row x old.now new.now formed laid) settled (inserted_inside text list.shape.table inserts params row given old new r (subst (λ ps. ExecutesInside 0 text ps old new r) are ran))
 
-  pub leaves : {Y : Type 0} {text : List ℕ} {by : Test} (goes : Row → Bool) (test : R → Bool) → ((v : Value) (x : R) → goes (list.shape.stored v x) ≡ test x) → ((tree : ℕ) → IsDelete text (list.shape.table tree) by)
-      → ((tree : ℕ) → IsPlannedDelete (list.shape.table tree) by) → (params : Row) → are_given by params ≡ true → ((tree : ℕ) → ◌≡◌ {A = Row → Bool} (λ r. passes (list.shape.table tree) by params r) goes) → (old new : State) (r : Result ℕ Error) (s : Result Y Fault)
+  pub leaves : {Y : Type 0} {text : List ℕ} {by : Test} (goes : Row → Bool) (test : R → Bool) → ((v : Value) (x : R) → goes (list.shape.stored v x) ≡ test x) → ((spelling : Spelling) → IsDelete text (spelled list.shape.table spelling) by)
+      → ((spelling : Spelling) → IsPlannedDelete (spelled list.shape.table spelling) by) → (params : Row) → are_given by params ≡ true → ((spelling : Spelling) → ◌≡◌ {A = Row → Bool} (λ r. passes (spelled list.shape.table spelling) by params r) goes) → (old new : State) (r : Result ℕ Error) (s : Result Y Fault)
       → MatchResult r (λ _. IsOk s) (λ e. s ≡ Err (fault_of e)) → ExecutesInside 0 text params old new r → MakesInside (Drops list test) old new s
   leaves {Y} {text} {by} goes test same deletes planned params given passing old new r s settled ran =
       makes (Deletes list.shape.table goes) (Drops list test) old new r s (λ formed. drops is goes test old.now new.now formed same) settled (removed_inside text list.shape.table by deletes planned params given goes passing old new r ran)

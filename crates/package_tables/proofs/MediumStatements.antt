@@ -6,12 +6,13 @@ use Rattle.sqlite.specs.Order.{Row}
 use Rattle.sqlite.specs.Term.{col}
 use Rattle.sqlite.specs.declared.types.Value.TheVariants.{Int, Null, Text, Blob}
 use Rattle.sqlite_tied.specs.Compute.{everything}
-use Rattle.sql_meaning.specs.Resolving.{resolving}
-use Rattle.sql_meaning.specs.Reading.{always, equals, ascending}
-use Rattle.sql_meaning.proofs.Insert.{IsInsert, IsRow}
-use Rattle.sql_meaning.proofs.Delete.{IsDelete, IsPlannedDelete}
-use Rattle.sql_meaning.proofs.Resolve.{one_table, over_table, all_rows}
-use Rattle.sql_meaning.proofs.Select.{IsSelect, IsPlannedSelect, IsNamed, IsPlannedNamed, asked_named}
+use Rattle.store_sql.specs.Resolving.{resolving}
+use Rattle.store_sql.specs.Reading.{always, equals, ascending}
+use Rattle.store_sql.specs.Spelling.{Spelling, spelled}
+use Rattle.store_sql.proofs.Insert.{IsInsert, IsRow}
+use Rattle.store_sql.proofs.Delete.{IsDelete, IsPlannedDelete}
+use Rattle.store_sql.proofs.Resolve.{one_table, over_table, all_rows}
+use Rattle.store_sql.proofs.Select.{IsSelect, IsPlannedSelect, IsNamed, IsPlannedNamed, asked_named}
 use Rattle.package_tables.specs.Tables.{sheet_media}
 use Rattle.package_tables.specs.Shapes.{medium_shape, int_at, text_at, blob_at}
 use Rattle.package_tables.specs.Listed.{media}
@@ -23,28 +24,28 @@ use Rattle.package_tables.proofs.Ranking.{one_number}
 use Rattle.package_tables.proofs.Values.{same_number}
 use Rattle.package_tables.proofs.Written.{media_listed}
 
-pub insert_text : (tree : ℕ) → IsInsert (codes "INSERT INTO sheet_media VALUES (?1, ?2, ?3)") (sheet_media tree)
+pub insert_text : (spelling : Spelling) → IsInsert (codes "INSERT INTO sheet_media VALUES (?1, ?2, ?3)") (spelled sheet_media spelling)
 unfolding everything
-insert_text tree = record { parse = _; rows = _; parsed = refl; statement = refl; formats = refl; named = refl; unstamped = refl; source = λ schema. refl }
+insert_text spelling = record { parse = _; rows = _; parsed = refl; statement = refl; formats = refl; named = refl; unstamped = refl; source = λ schema. refl }
 
-pub insert_row : (row : MediaRow) (tree : ℕ) (there : List Row)
-    → IsRow (sheet_media tree) (Int row.id ∷ Blob row.data ∷ Text row.content_type ∷ []) there (medium_shape.stored Null row)
-insert_row row tree there = record { source = _; laid = refl; kinds = refl; placed = λ top. refl }
+pub insert_row : (row : MediaRow) (spelling : Spelling) (there : List Row)
+    → IsRow (spelled sheet_media spelling) (Int row.id ∷ Blob row.data ∷ Text row.content_type ∷ []) there (medium_shape.stored Null row)
+insert_row row spelling there = record { source = _; laid = refl; kinds = refl; placed = λ top. refl }
 
-pub delete_text : (tree : ℕ) → IsDelete (codes "DELETE FROM sheet_media WHERE id = ?1") (sheet_media tree) (equals 0 0)
+pub delete_text : (spelling : Spelling) → IsDelete (codes "DELETE FROM sheet_media WHERE id = ?1") (spelled sheet_media spelling) (equals 0 0)
 unfolding everything
-delete_text tree = record { parse = _; where' = _; parsed = refl; statement = refl; formats = refl; named = refl; condition = (_, refl, (_, _, _, _, refl, refl, refl, refl, refl, refl, refl)); enough = refl }
+delete_text spelling = record { parse = _; where' = _; parsed = refl; statement = refl; formats = refl; named = refl; condition = (_, refl, (_, _, _, _, refl, refl, refl, refl, refl, refl, refl)); enough = refl }
 
-pub delete_plan : (tree : ℕ) → IsPlannedDelete (sheet_media tree) (equals 0 0)
+pub delete_plan : (spelling : Spelling) → IsPlannedDelete (spelled sheet_media spelling) (equals 0 0)
 unfolding resolving
-delete_plan tree schema at h = rw (h.stored, h.by_tree) refl
+delete_plan spelling schema at h = rw (h.stored, h.by_tree) refl
 
 pub known : IsKnown media medium_shown
 known = record { is = media_listed; back = λ r. record { id = int_at r 0; «data» = blob_at r 1; content_type = text_at r 2 }; returns = λ x. refl }
 
-medium_by_id_text : (tree : ℕ) → IsSelect (codes "SELECT * FROM sheet_media WHERE id = ?1") (sheet_media tree) (equals 0 0) []
+medium_by_id_text : (spelling : Spelling) → IsSelect (codes "SELECT * FROM sheet_media WHERE id = ?1") (spelled sheet_media spelling) (equals 0 0) []
 unfolding everything
-medium_by_id_text tree = record {
+medium_by_id_text spelling = record {
   parse = _;
   asks = _;
   src = _;
@@ -60,16 +61,16 @@ medium_by_id_text tree = record {
   sorted = λ schema at. (_, refl, refl);
 }
 
-medium_by_id_plan : (tree : ℕ) → IsPlannedSelect (sheet_media tree) (equals 0 0) []
+medium_by_id_plan : (spelling : Spelling) → IsPlannedSelect (spelled sheet_media spelling) (equals 0 0) []
 unfolding resolving
-medium_by_id_plan tree schema at h = rw (h.stored, h.by_tree) refl
+medium_by_id_plan spelling schema at h = rw (h.stored, h.by_tree) refl
 
 pub medium_by_id : (id : ℤ) → IsLookUp medium_shape medium_shown (codes "SELECT * FROM sheet_media WHERE id = ?1") (Int id ∷ []) (λ x. int_eq x.id id)
-medium_by_id id = record { test = _; by = _; selects = medium_by_id_text; planned = medium_by_id_plan; given = refl; listing = _; is = λ tree. refl; shows = λ v x. refl; passing = λ v x. (same_number x.id id) }
+medium_by_id id = record { test = _; by = _; selects = medium_by_id_text; planned = medium_by_id_plan; given = refl; listing = _; is = λ spelling. refl; shows = λ v x. refl; passing = λ v x. (same_number x.id id) }
 
-all_text : (tree : ℕ) → IsSelect (codes "SELECT * FROM sheet_media ORDER BY id") (sheet_media tree) always ((col 1 0, ascending) ∷ [])
+all_text : (spelling : Spelling) → IsSelect (codes "SELECT * FROM sheet_media ORDER BY id") (spelled sheet_media spelling) always ((col 1 0, ascending) ∷ [])
 unfolding everything
-all_text tree = record {
+all_text spelling = record {
   parse = _;
   asks = _;
   src = _;
@@ -85,20 +86,20 @@ all_text tree = record {
   sorted = λ schema at. (_, refl, refl);
 }
 
-all_plan : (tree : ℕ) → IsPlannedSelect (sheet_media tree) always ((col 1 0, ascending) ∷ [])
+all_plan : (spelling : Spelling) → IsPlannedSelect (spelled sheet_media spelling) always ((col 1 0, ascending) ∷ [])
 unfolding resolving
-all_plan tree schema at h = rw (h.stored, h.by_tree) refl
+all_plan spelling schema at h = rw (h.stored, h.by_tree) refl
 
 pub all : IsLookUp medium_shape medium_shown (codes "SELECT * FROM sheet_media ORDER BY id") [] (λ x. true)
-all = record { test = _; by = _; selects = all_text; planned = all_plan; given = refl; listing = _; is = λ tree. refl; shows = λ v x. refl; passing = λ v x. refl }
+all = record { test = _; by = _; selects = all_text; planned = all_plan; given = refl; listing = _; is = λ spelling. refl; shows = λ v x. refl; passing = λ v x. refl }
 
 pub all_ranked : IsRanked all (on (λ x. x.id) int_cmp)
 unfolding all
 all_ranked = record { keys = λ x. Int x.id ∷ []; keyed = λ v x. refl; total = (on_total (λ x. x.id) int_cmp_total); alike = λ x y. one_number x.id y.id }
 
-ids_text : (tree : ℕ) → IsNamed (codes "SELECT id FROM sheet_media") (sheet_media tree) (0 ∷ []) always [] all_rows
+ids_text : (spelling : Spelling) → IsNamed (codes "SELECT id FROM sheet_media") (spelled sheet_media spelling) (0 ∷ []) always [] all_rows
 unfolding everything
-ids_text tree = record {
+ids_text spelling = record {
   parse = _;
   asks = _;
   src = _;
@@ -114,16 +115,16 @@ ids_text tree = record {
   enough = refl;
 }
 
-ids_plan : (tree : ℕ) → IsPlannedNamed (sheet_media tree) (0 ∷ []) always [] all_rows
+ids_plan : (spelling : Spelling) → IsPlannedNamed (spelled sheet_media spelling) (0 ∷ []) always [] all_rows
 unfolding resolving
-ids_plan tree schema at h = rw (h.stored, h.by_tree) refl
+ids_plan spelling schema at h = rw (h.stored, h.by_tree) refl
 
 pub ids : IsNumbering medium_shape (λ x. x.id) (codes "SELECT id FROM sheet_media") [] (λ x. true)
-ids = record { test = _; project = _; by = _; asked = λ tree. asked_named (ids_text tree) (ids_plan tree); given = refl; listing = _; is = λ tree. refl; shows = λ v x. refl; passing = λ v x. refl }
+ids = record { test = _; project = _; by = _; asked = λ spelling. asked_named (ids_text spelling) (ids_plan spelling); given = refl; listing = _; is = λ spelling. refl; shows = λ v x. refl; passing = λ v x. refl }
 
-has_medium_text : (tree : ℕ) → IsNamed (codes "SELECT id FROM sheet_media WHERE id = ?1") (sheet_media tree) (0 ∷ []) (equals 0 0) [] all_rows
+has_medium_text : (spelling : Spelling) → IsNamed (codes "SELECT id FROM sheet_media WHERE id = ?1") (spelled sheet_media spelling) (0 ∷ []) (equals 0 0) [] all_rows
 unfolding everything
-has_medium_text tree = record {
+has_medium_text spelling = record {
   parse = _;
   asks = _;
   src = _;
@@ -139,9 +140,9 @@ has_medium_text tree = record {
   enough = refl;
 }
 
-has_medium_plan : (tree : ℕ) → IsPlannedNamed (sheet_media tree) (0 ∷ []) (equals 0 0) [] all_rows
+has_medium_plan : (spelling : Spelling) → IsPlannedNamed (spelled sheet_media spelling) (0 ∷ []) (equals 0 0) [] all_rows
 unfolding resolving
-has_medium_plan tree schema at h = rw (h.stored, h.by_tree) refl
+has_medium_plan spelling schema at h = rw (h.stored, h.by_tree) refl
 
 pub has_medium : (id : ℤ) → IsNumbering medium_shape (λ x. x.id) (codes "SELECT id FROM sheet_media WHERE id = ?1") (Int id ∷ []) (λ x. int_eq x.id id)
-has_medium id = record { test = _; project = _; by = _; asked = λ tree. asked_named (has_medium_text tree) (has_medium_plan tree); given = refl; listing = _; is = λ tree. refl; shows = λ v x. refl; passing = λ v x. (same_number x.id id) }
+has_medium id = record { test = _; project = _; by = _; asked = λ spelling. asked_named (has_medium_text spelling) (has_medium_plan spelling); given = refl; listing = _; is = λ spelling. refl; shows = λ v x. refl; passing = λ v x. (same_number x.id id) }

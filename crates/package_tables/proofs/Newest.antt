@@ -25,11 +25,12 @@ use Rattle.sqlite.specs.State.{State, HasCleanDisk, Shown, FailsToQuery, IsTooLa
 use Rattle.sqlite_trees.proofs.ListLemmas.{map-map}
 use Rattle.sheet_types.specs.Ordered.{arranged}
 use Rattle.sheet_types.proofs.Order.{All-arranged}
-use Rattle.sql_meaning.specs.Reading.{Test, Listing, ShowsFirst, FindsFirst, descending}
-use Rattle.sql_meaning.proofs.Select.{IsAsked, listing_showing}
-use Rattle.sql_meaning.proofs.First.{one_row, asked_first}
-use Rattle.sql_meaning.proofs.Where.{are_given}
-use Rattle.sql_meaning.proofs.Greatest.{greatest_of}
+use Rattle.store_sql.specs.Reading.{Test, Listing, ShowsFirst, FindsFirst, descending}
+use Rattle.store_sql.specs.Spelling.{Spelling, spelled, unspelled}
+use Rattle.store_sql.proofs.Select.{IsAsked, listing_showing}
+use Rattle.store_sql.proofs.First.{one_row, asked_first}
+use Rattle.store_sql.proofs.Where.{are_given}
+use Rattle.store_sql.proofs.Greatest.{greatest_of}
 use Rattle.package_tables.specs.Shape.{Shape, IsStored, stored_rows}
 use Rattle.package_tables.specs.Package.{tables_of, AreFormed}
 use Rattle.package_tables.specs.Listed.{Listed}
@@ -84,14 +85,14 @@ module _ {R : Type 0} (shape : Shape R) (number : R → ℤ) (shown : Row → Ro
 -- what the text is with these parameters, and how the rows carry their numbers
 pub record IsNewest {R : Type 0} (shape : Shape R) (number : R → ℤ) (text : List ℕ) (params : Row) (keeps : R → Bool) : Type 0 where
   pub test : Test
-  pub project : ℕ → List Term
+  pub project : Spelling → List Term
   pub by : List (Term × Key)
-  pub asked : (tree : ℕ) → IsAsked text (shape.table tree) test (project tree) by one_row
+  pub asked : (spelling : Spelling) → IsAsked text (spelled shape.table spelling) test (project spelling) by one_row
   pub given : are_given test params ≡ true
   pub pass : Row → Bool
   pub shown : Row → Row
   pub place : ℕ
-  pub is : (tree : ℕ) → listing_showing (project tree) (shape.table tree) test by params ≡ record { keeps = pass; key = λ r. column r place ∷ []; shown = shown; by = descending ∷ [] }
+  pub is : (spelling : Spelling) → listing_showing (project spelling) (spelled shape.table spelling) test by params ≡ record { keeps = pass; key = λ r. column r place ∷ []; shown = shown; by = descending ∷ [] }
   pub passing : (v : Value) (x : R) → pass (shape.stored v x) ≡ keeps x
   pub begins : (v : Value) (x : R) → column (shown (shape.stored v x)) 0 ≡ Int (number x)
   pub keyed : (v : Value) (x : R) → column (shape.stored v x) place ≡ Int (number x)
@@ -109,8 +110,8 @@ module _ {R : Type 0} {list : Listed R} {shown' : R → Row} (known : IsKnown li
       let f = known.is.formed db formed in
       let p = f.placed in
       let there = stored_rows list.shape db in
-      let same : filter newest.pass (db.trees (list.shape.table p.tree).tree) ≡ filter newest.pass there = ap (filter newest.pass) (sym (rows_placed list.shape known.is.laws db p.at p.tree p.has)) in
-      let shows = subst (λ k. ShowsFirst (λ r. column r newest.place ∷ []) newest.shown (descending ∷ []) k rows) same (finds.first p.at p.tree p.has) in
+      let same : filter newest.pass (db.trees (spelled list.shape.table p.spelling).tree) ≡ filter newest.pass there = ap (filter newest.pass) (sym (rows_placed list.shape known.is.laws db p.at p.spelling p.has)) in
+      let shows = subst (λ k. ShowsFirst (λ r. column r newest.place ∷ []) newest.shown (descending ∷ []) k rows) same (finds.first p.at p.spelling p.has) in
       let kept = arranged-filter list.shape.key list.shape.typed keeps newest.pass there (tested there f.stored) in
       subst (λ k. IsGreatest number k found) (kept ∙ ap (filter keeps) (sym (known.is.lists db)))
       (greatest_in list.shape number newest.shown newest.place newest.begins newest.keyed (filter newest.pass there) rows (All-filter (IsStored list.shape) newest.pass there f.stored) found head shows)
@@ -120,6 +121,6 @@ module _ {R : Type 0} {list : Listed R} {shown' : R → Row} (known : IsKnown li
       → (HasCleanDisk new → IfErr answer (λ e. FailsToQuery text given old new e ⊎ IsTooLate text given old new e)) → (result : Result (Option ℤ) Fault) → AreSaid items BeginsWith answer result
       → Tells (λ t. IsGreatest number (filter keeps (list.rows t))) old new result
   tells_greatest items given same old new answer ok err result said =
-      told (newest.asked 0) params items BeginsWith (λ t. IsGreatest number (filter keeps (list.rows t))) old new
+      told (newest.asked unspelled) params items BeginsWith (λ t. IsGreatest number (filter keeps (list.rows t))) old new
       (λ formed rows shows. answered old.now new.now formed rows (asked_first newest.asked params newest.given listing newest.is old new rows shows)) answer result
       (subst (λ (p : Row). HasCleanDisk new → IfOk answer (λ y. Shown text p old new (items y))) same ok) (subst (λ (p : Row). HasCleanDisk new → IfErr answer (λ e. FailsToQuery text p old new e ⊎ IsTooLate text p old new e)) same err) said

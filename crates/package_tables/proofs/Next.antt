@@ -20,13 +20,14 @@ use Rattle.sqlite.specs.State.{HasCleanDisk, Shown, FailsToQuery, Survives, Comm
 use Rattle.sheet_types.specs.Ordered.{arranged}
 use Rattle.sheet_types.proofs.Order.{All-arranged}
 use Rattle.sheet_types.proofs.Every.{All-filter}
-use Rattle.sql_meaning.specs.Reading.{Test, Listing, ShowsFirst, FindsFirst, ascending}
-use Rattle.sql_meaning.specs.Transactions.{Rests}
-use Rattle.sql_meaning.proofs.Answering.{read_looks}
-use Rattle.sql_meaning.proofs.Select.{listing_of}
-use Rattle.sql_meaning.proofs.First.{IsFirst, IsPlannedFirst, first_found}
-use Rattle.sql_meaning.proofs.Transactions.{Shuts, Settles}
-use Rattle.sql_meaning.proofs.Where.{are_given}
+use Rattle.store_sql.specs.Reading.{Test, Listing, ShowsFirst, FindsFirst, ascending}
+use Rattle.store_sql.specs.Transactions.{Rests}
+use Rattle.store_sql.specs.Spelling.{Spelling, spelled, unspelled}
+use Rattle.store_sql.proofs.Answering.{read_looks}
+use Rattle.store_sql.proofs.Select.{listing_of}
+use Rattle.store_sql.proofs.First.{IsFirst, IsPlannedFirst, first_found}
+use Rattle.store_sql.proofs.Transactions.{Shuts, Settles}
+use Rattle.store_sql.proofs.Where.{are_given}
 use Rattle.package_tables.specs.Shape.{Shape, IsStored, stored_rows}
 use Rattle.package_tables.specs.Package.{tables_of, AreFormed}
 use Rattle.package_tables.specs.Listed.{Listed}
@@ -69,12 +70,12 @@ module _ {R : Type 0} (shape : Shape R) (number : R → ℤ) (shown : R → Row)
 pub record IsNext {R : Type 0} (shape : Shape R) (shown : R → Row) (number : R → ℤ) (text : List ℕ) (params : Row) (keeps : R → Bool) : Type 0 where
   pub test : Test
   pub by : List (Term × Key)
-  pub selects : (tree : ℕ) → IsFirst text (shape.table tree) test by
-  pub planned : (tree : ℕ) → IsPlannedFirst (shape.table tree) test by
+  pub selects : (spelling : Spelling) → IsFirst text (spelled shape.table spelling) test by
+  pub planned : (spelling : Spelling) → IsPlannedFirst (spelled shape.table spelling) test by
   pub given : are_given test params ≡ true
   pub pass : Row → Bool
   pub listed : Row → Row
-  pub is : (tree : ℕ) → listing_of (shape.table tree) test by params ≡ record { keeps = pass; key = λ r. column r 0 ∷ []; shown = listed; by = ascending ∷ [] }
+  pub is : (spelling : Spelling) → listing_of (spelled shape.table spelling) test by params ≡ record { keeps = pass; key = λ r. column r 0 ∷ []; shown = listed; by = ascending ∷ [] }
   pub shows : (v : Value) (x : R) → listed (shape.stored v x) ≡ shown x
   pub passing : (v : Value) (x : R) → pass (shape.stored v x) ≡ keeps x
   pub keyed : (v : Value) (x : R) → column (shape.stored v x) 0 ≡ Int (number x)
@@ -92,8 +93,8 @@ module _ {R : Type 0} {list : Listed R} {shown : R → Row} (known : IsKnown lis
       let f = known.is.formed db formed in
       let p = f.placed in
       let there = stored_rows list.shape db in
-      let same : filter next.pass (db.trees (list.shape.table p.tree).tree) ≡ filter next.pass there = ap (filter next.pass) (sym (rows_placed list.shape known.is.laws db p.at p.tree p.has)) in
-      let shows = subst (λ k. ShowsFirst (λ r. column r 0 ∷ []) next.listed (ascending ∷ []) k rows) same (finds.first p.at p.tree p.has) in
+      let same : filter next.pass (db.trees (spelled list.shape.table p.spelling).tree) ≡ filter next.pass there = ap (filter next.pass) (sym (rows_placed list.shape known.is.laws db p.at p.spelling p.has)) in
+      let shows = subst (λ k. ShowsFirst (λ r. column r 0 ∷ []) next.listed (ascending ∷ []) k rows) same (finds.first p.at p.spelling p.has) in
       let kept = arranged-filter list.shape.key list.shape.typed keeps next.pass there (tested there f.stored) in
       subst (λ k. IsLeast number k found) (kept ∙ ap (filter keeps) (sym (known.is.lists db)))
       (least_in list.shape number shown known.back known.returns next.listed next.shows next.keyed (filter next.pass there) rows (All-filter (IsStored list.shape) next.pass there f.stored) found head shows)
@@ -104,7 +105,7 @@ module _ {R : Type 0} {list : Listed R} {shown : R → Row} (known : IsKnown lis
       (mode : old.in_transaction ≡ false → new.in_transaction ≡ false) (survives : Survives (state g old) (state g new) (CommitsShowing text given (state g old))) where
     pub looks_next : (result : Result (Option R) Fault) → AreSaid items (HasHead shown) answer result → LooksUp (λ t. IsLeast number (filter keeps (list.rows t))) (state g old) (state g new) result
     looks_next result said =
-        let found = read_looks text (next.selects 0).parse (next.selects 0).asks (next.selects 0).parsed (next.selects 0).statement g shuts settles items params old new rests answer (λ y. FindsFirst list.shape.table listing (items y))
+        let found = read_looks text (next.selects unspelled).parse (next.selects unspelled).asks (next.selects unspelled).parsed (next.selects unspelled).statement g shuts settles items params old new rests answer (λ y. FindsFirst list.shape.table listing (items y))
         (λ y shown. first_found text list.shape.table next.test next.by next.selects next.planned params next.given listing next.is (state g old) (state g new) (items y) shown)
         (subst (λ p. HasCleanDisk (state g new) → IfOk answer (λ y. Shown text p (state g old) (state g new) (items y))) same ok)
         (subst (λ p. HasCleanDisk (state g new) → IfErr answer (FailsToQuery text p (state g old) (state g new))) same err) mode

@@ -21,12 +21,13 @@ use Rattle.sqlite.specs.declared.error.Error.{Error}
 use Rattle.sqlite.specs.declared.types.Value.{Value}
 use Rattle.sqlite.specs.declared.types.Value.TheVariants.{Int}
 use Rattle.sheet_types.specs.Ordered.{arranged}
-use Rattle.sql_meaning.specs.Reading.{Test, Listing}
-use Rattle.sql_meaning.specs.Transactions.{Rests}
-use Rattle.sql_meaning.proofs.Where.{are_given}
-use Rattle.sql_meaning.proofs.Resolve.{all_rows}
-use Rattle.sql_meaning.proofs.Select.{IsAsked, listing_showing}
-use Rattle.sql_meaning.proofs.Transactions.{Shuts, Settles}
+use Rattle.store_sql.specs.Reading.{Test, Listing}
+use Rattle.store_sql.specs.Transactions.{Rests}
+use Rattle.store_sql.specs.Spelling.{Spelling, spelled}
+use Rattle.store_sql.proofs.Where.{are_given}
+use Rattle.store_sql.proofs.Resolve.{all_rows}
+use Rattle.store_sql.proofs.Select.{IsAsked, listing_showing}
+use Rattle.store_sql.proofs.Transactions.{Shuts, Settles}
 use Rattle.package_tables.specs.Shape.{Shape, IsStored, stored_rows}
 use Rattle.package_tables.specs.Shapes.{int_at, number_key}
 use Rattle.package_tables.specs.Shown.{number_shown, InSize, AreInSize}
@@ -42,12 +43,12 @@ use Rattle.package_tables.proofs.Sizes.{same_sizes, arranged_rises, map_arranged
 -- with these parameters the text shows the number, and nothing else, of each row whose values pass
 pub record IsNumbering {R : Type 0} (shape : Shape R) (number : R → ℤ) (text : List ℕ) (params : Row) (keeps : R → Bool) : Type 0 where
   pub test : Test
-  pub project : ℕ → List Term
+  pub project : Spelling → List Term
   pub by : List (Term × Key)
-  pub asked : (tree : ℕ) → IsAsked text (shape.table tree) test (project tree) by all_rows
+  pub asked : (spelling : Spelling) → IsAsked text (spelled shape.table spelling) test (project spelling) by all_rows
   pub given : are_given test params ≡ true
   pub listing : Listing
-  pub is : (tree : ℕ) → listing_showing (project tree) (shape.table tree) test by params ≡ listing
+  pub is : (spelling : Spelling) → listing_showing (project spelling) (spelled shape.table spelling) test by params ≡ listing
   pub shows : (v : Value) (x : R) → listing.shown (shape.stored v x) ≡ number_shown (number x)
   pub passing : (v : Value) (x : R) → listing.keeps (shape.stored v x) ≡ keeps x
 

@@ -5,9 +5,10 @@ use Rattle.std.specs.Ordering.{int_eq, int_cmp, on, then_cmp}
 use Rattle.sqlite.specs.Order.{Row, column}
 use Rattle.sqlite.specs.Edit.{next_rowid}
 use Rattle.sqlite.specs.declared.types.Value.TheVariants.{Int}
-use Rattle.sql_meaning.specs.Reading.{equals, both, is_same, passes}
-use Rattle.sql_meaning.proofs.Insert.{IsInsert, IsRow}
-use Rattle.sql_meaning.proofs.Delete.{IsDelete, IsPlannedDelete}
+use Rattle.store_sql.specs.Reading.{equals, both, is_same, passes}
+use Rattle.store_sql.specs.Spelling.{Spelling, spelled}
+use Rattle.store_sql.proofs.Insert.{IsInsert, IsRow}
+use Rattle.store_sql.proofs.Delete.{IsDelete, IsPlannedDelete}
 use Rattle.sheet_types.specs.declared.command.Mapping.{Mapping}
 use Rattle.sheet_types.specs.declared.command.Mapping.TheVariants.{TilesMedia, RowsMedia, RowsTiles}
 use Rattle.package_tables.specs.Listed.{pairs}
@@ -21,32 +22,32 @@ use Rattle.package_tables.proofs.RowsTilesStatements as rows_tiles
 
 -- ---- writes
 
-pub inserts : (m : Mapping) (tree : ℕ) → IsInsert (insert_text m) (mapping_table m tree)
+pub inserts : (m : Mapping) (spelling : Spelling) → IsInsert (insert_text m) (spelled (mapping_table m) spelling)
 inserts TilesMedia = tiles_media.insert_text
 inserts RowsMedia = rows_media.insert_text
 inserts RowsTiles = rows_tiles.insert_text
 
-pub inserts_row : (m : Mapping) (row : MappingRow) (tree : ℕ) (there : List Row) → IsRow (mapping_table m tree) (Int row.base_id ∷ Int row.related_id ∷ []) there ((pair_shape m).stored (Int (next_rowid there)) row)
+pub inserts_row : (m : Mapping) (row : MappingRow) (spelling : Spelling) (there : List Row) → IsRow (spelled (mapping_table m) spelling) (Int row.base_id ∷ Int row.related_id ∷ []) there ((pair_shape m).stored (Int (next_rowid there)) row)
 inserts_row TilesMedia = tiles_media.insert_row
 inserts_row RowsMedia = rows_media.insert_row
 inserts_row RowsTiles = rows_tiles.insert_row
 
-pub deletes : (m : Mapping) (tree : ℕ) → IsDelete (delete_text m) (mapping_table m tree) (both (equals 0 0) (equals 1 1))
+pub deletes : (m : Mapping) (spelling : Spelling) → IsDelete (delete_text m) (spelled (mapping_table m) spelling) (both (equals 0 0) (equals 1 1))
 deletes TilesMedia = tiles_media.delete_text
 deletes RowsMedia = rows_media.delete_text
 deletes RowsTiles = rows_tiles.delete_text
 
-pub deletes_planned : (m : Mapping) (tree : ℕ) → IsPlannedDelete (mapping_table m tree) (both (equals 0 0) (equals 1 1))
+pub deletes_planned : (m : Mapping) (spelling : Spelling) → IsPlannedDelete (spelled (mapping_table m) spelling) (both (equals 0 0) (equals 1 1))
 deletes_planned TilesMedia = tiles_media.delete_plan
 deletes_planned RowsMedia = rows_media.delete_plan
 deletes_planned RowsTiles = rows_tiles.delete_plan
 
 -- the rows that the DELETE tests for are those of the two numbers
-pub deletes_rows : (m : Mapping) (base_id related_id : ℤ) (tree : ℕ)
-    → ◌≡◌ {A = Row → Bool} (λ r. passes (mapping_table m tree) (both (equals 0 0) (equals 1 1)) (Int base_id ∷ Int related_id ∷ []) r) (λ r. is_same (column r 1) (Int base_id) && is_same (column r 2) (Int related_id))
-deletes_rows TilesMedia base_id related_id tree = refl
-deletes_rows RowsMedia base_id related_id tree = refl
-deletes_rows RowsTiles base_id related_id tree = refl
+pub deletes_rows : (m : Mapping) (base_id related_id : ℤ) (spelling : Spelling)
+    → ◌≡◌ {A = Row → Bool} (λ r. passes (spelled (mapping_table m) spelling) (both (equals 0 0) (equals 1 1)) (Int base_id ∷ Int related_id ∷ []) r) (λ r. is_same (column r 1) (Int base_id) && is_same (column r 2) (Int related_id))
+deletes_rows TilesMedia base_id related_id spelling = refl
+deletes_rows RowsMedia base_id related_id spelling = refl
+deletes_rows RowsTiles base_id related_id spelling = refl
 
 -- ---- look-ups
 

@@ -14,7 +14,7 @@ use Rattle.sqlite_value.proofs.OrderLemmas.{value_cmp-Int, then-Equal}
 use Rattle.sqlite.specs.Order.{Row, column}
 use Rattle.sqlite.specs.Query.{key_cmp}
 use Rattle.sqlite.specs.declared.types.Value.TheVariants.{Int}
-use Rattle.sql_meaning.specs.Reading.{IsListing, ascending}
+use Rattle.store_sql.specs.Reading.{IsListing, ascending}
 use Rattle.package_tables.specs.Calls.{Rises}
 use Rattle.package_tables.proofs.Newest.{not_above}
 

@@ -19,8 +19,9 @@ use Rattle.sqlite.specs.Tree.{rowid}
 use Rattle.sqlite.specs.Effect.{Database}
 use Rattle.sqlite.specs.declared.types.Value.{Value}
 use Rattle.sqlite.specs.declared.types.Value.TheVariants.{Int}
-use Rattle.sql_meaning.specs.Known.{HasTable}
-use Rattle.sql_meaning.specs.Reading.{Listing, IsListing, ascending}
+use Rattle.store_sql.specs.Known.{HasTable}
+use Rattle.store_sql.specs.Reading.{Listing, IsListing, ascending}
+use Rattle.store_sql.specs.Spelling.{Spelling, spelled}
 use Rattle.package_tables.specs.Shape.{Shape, IsShape, IsFormed, IsStored, stored_rows}
 use Rattle.package_tables.proofs.Shapes.{rows_placed}
 use Rattle.package_tables.proofs.Reading.{read_back}
@@ -72,13 +73,13 @@ module _ {R : Type 0} (shape : Shape R) (laws : IsShape shape) (shown : R → Ro
       each [] of most = tt
       each (z ∷ zs) of most = (same_order o z are.0 of.0 most.0, each zs of.1 most.1)
 
-  pub in_order : (db : Database) (formed : IsFormed shape db) (rows : List Row) → ((at tree : ℕ) → HasTable db.schema at (shape.table tree) → IsListing l.key l.shown l.by (filter l.keeps (db.trees (shape.table tree).tree)) rows)
+  pub in_order : (db : Database) (formed : IsFormed shape db) (rows : List Row) → ((at : ℕ) (spelling : Spelling) → HasTable db.schema at (spelled shape.table spelling) → IsListing l.key l.shown l.by (filter l.keeps (db.trees (spelled shape.table spelling).tree)) rows)
       → (xs : List R) → rows ≡ map shown xs → IsSorted cmp xs
   in_order db formed rows listed xs read =
       let p = formed.placed in
       let there = stored_rows shape db in
-      let same : db.trees (shape.table p.tree).tree ≡ there = sym (rows_placed shape laws db p.at p.tree p.has) in
-      let listing = subst (λ t. IsListing l.key l.shown l.by (filter l.keeps t) rows) same (listed p.at p.tree p.has) in
+      let same : db.trees (spelled shape.table p.spelling).tree ≡ there = sym (rows_placed shape laws db p.at p.spelling p.has) in
+      let listing = subst (λ t. IsListing l.key l.shown l.by (filter l.keeps t) rows) same (listed p.at p.spelling p.has) in
       let pairs = map (λ r. (l.key r, l.shown r)) (filter l.keeps there) in
       let are = recursion_from_All IsOf listing.ordered (All-permutation IsOf pairs listing.ordered listing.same (All-from_recursion IsOf pairs (all_of_rows there formed.stored))) in
       let up = ascending_from_sorted (on (λ (o : Row × Row). o.0) (key_cmp 0 l.by)) (on_total (λ (o : Row × Row). o.0) (key_cmp_total l.by 0)) listing.ordered listing.sorted in

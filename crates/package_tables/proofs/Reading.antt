@@ -11,9 +11,10 @@ use Rattle.sqlite.specs.Effect.{Database}
 use Rattle.sqlite.specs.declared.types.Value.{Value}
 use Rattle.sheet_types.specs.Ordered.{arranged, put, is_before}
 use Rattle.sheet_types.proofs.Every.{none_any}
-use Rattle.sql_meaning.specs.Known.{HasTable}
-use Rattle.sql_meaning.specs.Reading.{Listing, IsListing}
-use Rattle.sql_meaning.proofs.Changed.{none_kept}
+use Rattle.store_sql.specs.Known.{HasTable}
+use Rattle.store_sql.specs.Reading.{Listing, IsListing}
+use Rattle.store_sql.specs.Spelling.{Spelling, spelled}
+use Rattle.store_sql.proofs.Changed.{none_kept}
 use Rattle.package_tables.specs.Shape.{Shape, IsShape, IsFormed, IsStored, stored_rows, rows_of}
 use Rattle.package_tables.specs.Calls.{IsOneOf, AreThose}
 use Rattle.package_tables.proofs.Shapes.{rows_placed}
@@ -71,13 +72,13 @@ module _ {R V : Type 0} (shape : Shape R) (laws : IsShape shape) (take : R → V
       one false e more = rw (same, e) more
 
   -- the answer, as what is taken, is what passes of the table
-  pub taken : (db : Database) (formed : IsFormed shape db) (rows : List Row) (listed : (at tree : ℕ) → HasTable db.schema at (shape.table tree) → IsListing l.key l.shown l.by (filter l.keeps (db.trees (shape.table tree).tree)) rows)
+  pub taken : (db : Database) (formed : IsFormed shape db) (rows : List Row) (listed : (at : ℕ) (spelling : Spelling) → HasTable db.schema at (spelled shape.table spelling) → IsListing l.key l.shown l.by (filter l.keeps (db.trees (spelled shape.table spelling).tree)) rows)
       → IsPermutation (map take (filter keeps (rows_of shape db))) (map back rows)
   taken db formed rows listed =
       let p = formed.placed in
       let there = stored_rows shape db in
-      let same : db.trees (shape.table p.tree).tree ≡ there = sym (rows_placed shape laws db p.at p.tree p.has) in
-      let listing = subst (λ k. IsListing l.key l.shown l.by (filter l.keeps k) rows) same (listed p.at p.tree p.has) in
+      let same : db.trees (spelled shape.table p.spelling).tree ≡ there = sym (rows_placed shape laws db p.at p.spelling p.has) in
+      let listing = subst (λ k. IsListing l.key l.shown l.by (filter l.keeps k) rows) same (listed p.at p.spelling p.has) in
       let moved : IsPermutation (map l.shown (filter l.keeps there)) rows =
       subst (IsPermutation (map l.shown (filter l.keeps there))) (sym listing.shows)
       (subst (λ k. IsPermutation k (map (λ (o : Row × Row). o.1) listing.ordered)) (map-map (λ (o : Row × Row). o.1) (λ r. (l.key r, l.shown r)) (filter l.keeps there)) (IsPermutation-map (λ (o : Row × Row). o.1) _ _ listing.same)) in
@@ -88,7 +89,7 @@ module _ {R V : Type 0} (shape : Shape R) (laws : IsShape shape) (take : R → V
 -- `shown` is the row that a SELECT * shows of a value, and `back` reads it
 module _ {R : Type 0} (shape : Shape R) (laws : IsShape shape) (shown : R → Row) (back : Row → R) (returns : (x : R) → back (shown x) ≡ x)
     (l : Listing) (keeps : R → Bool) (shows : (v : Value) (x : R) → l.shown (shape.stored v x) ≡ shown x) (passing : (v : Value) (x : R) → l.keeps (shape.stored v x) ≡ keeps x) where
-  module _ (db : Database) (formed : IsFormed shape db) (rows : List Row) (listed : (at tree : ℕ) → HasTable db.schema at (shape.table tree) → IsListing l.key l.shown l.by (filter l.keeps (db.trees (shape.table tree).tree)) rows) where
+  module _ (db : Database) (formed : IsFormed shape db) (rows : List Row) (listed : (at : ℕ) (spelling : Spelling) → HasTable db.schema at (spelled shape.table spelling) → IsListing l.key l.shown l.by (filter l.keeps (db.trees (spelled shape.table spelling).tree)) rows) where
     -- the answer, as values, is what passes of the table
     answered : IsPermutation (filter keeps (rows_of shape db)) (map back rows)
     answered = subst (λ k. IsPermutation k (map back rows)) (map-id (filter keeps (rows_of shape db))) (taken shape laws (λ x. x) shown back returns l keeps shows passing db formed rows listed)

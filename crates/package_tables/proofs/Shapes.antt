@@ -18,8 +18,9 @@ use Rattle.sheet_types.specs.Ordered.{arranged, put, has}
 use Rattle.sheet_types.proofs.Arranging.{put_put, filter-arranged}
 use Rattle.sheet_types.proofs.Every.{All-filter, none_pass}
 use Rattle.sheet_types.proofs.Order.{list_any-arranged}
-use Rattle.sql_meaning.specs.Known.{HasTable, IsQuiet, is_other, sequence_name}
-use Rattle.sql_meaning.specs.Writing.{Inserts, Deletes, Spares, IsKeyed}
+use Rattle.store_sql.specs.Known.{HasTable, IsQuiet, is_other, sequence_name}
+use Rattle.store_sql.specs.Writing.{Inserts, Deletes, Spares, IsKeyed}
+use Rattle.store_sql.specs.Spelling.{Spelling, spelled}
 use Rattle.package_tables.specs.Form.{IsPlaced, tree_named}
 use Rattle.package_tables.specs.Shape.{Shape, IsShape, IsFormed, IsStored, stored_rows, rows_of}
 
@@ -29,22 +30,22 @@ tree_placed schema at t h = rw (h.named, h.there) refl
 
 module _ {R : Type 0} (shape : Shape R) (laws : IsShape shape) where
   -- the rows of a table that is placed
-  pub rows_placed : (db : Database) (at tree : ℕ) → HasTable db.schema at (shape.table tree) → stored_rows shape db ≡ db.trees (shape.table tree).tree
-  rows_placed db at tree h =
-      let same : tree_named db.schema (shape.table 0).name ≡ (shape.table tree).tree = ap (tree_named db.schema) (sym (laws.named tree)) ∙ tree_placed db.schema at (shape.table tree) h in
+  pub rows_placed : (db : Database) (at : ℕ) (spelling : Spelling) → HasTable db.schema at (spelled shape.table spelling) → stored_rows shape db ≡ db.trees (spelled shape.table spelling).tree
+  rows_placed db at spelling h =
+      let same : tree_named db.schema (shape.table 0).name ≡ (spelled shape.table spelling).tree = ap (tree_named db.schema) (sym (laws.named spelling.tree)) ∙ tree_placed db.schema at (spelled shape.table spelling) h in
       ap db.trees same
 
 -- a table that stands where it stood, and what its tree held and holds
 pub record Standing {R : Type 0} (shape : Shape R) (old new : Database) (p : IsPlaced old.schema shape.table) : Type 0 where
   pub placed : IsPlaced new.schema shape.table
-  pub before : old.trees (shape.table p.tree).tree ≡ stored_rows shape old
-  pub after : stored_rows shape new ≡ new.trees (shape.table p.tree).tree
+  pub before : old.trees (spelled shape.table p.spelling).tree ≡ stored_rows shape old
+  pub after : stored_rows shape new ≡ new.trees (spelled shape.table p.spelling).tree
 
 -- where the schema stays each table does
 pub standing : {R : Type 0} (shape : Shape R) (laws : IsShape shape) (old new : Database) (p : IsPlaced old.schema shape.table) → new.schema ≡ old.schema → Standing shape old new p
 standing shape laws old new p same =
-    let has = subst (λ s. HasTable s p.at (shape.table p.tree)) (sym same) p.has in
-    record { placed = record { at = p.at; tree = p.tree; has = has }; before = sym (rows_placed shape laws old p.at p.tree p.has); after = rows_placed shape laws new p.at p.tree has }
+    let has = subst (λ s. HasTable s p.at (spelled shape.table p.spelling)) (sym same) p.has in
+    record { placed = record { at = p.at; spelling = p.spelling; meant = p.meant; has = has }; before = sym (rows_placed shape laws old p.at p.spelling p.has); after = rows_placed shape laws new p.at p.spelling has }
 
 -- ---- rows as lists
 
@@ -116,10 +117,10 @@ module _ {R : Type 0} (shape : Shape R) (laws : IsShape shape) where
       → IsFormed shape new × (has shape.key (shape.key x) (rows_of shape old) ≡ false → rows_of shape new ≡ put shape.key x (rows_of shape old))
   inserted row x old new inserts quiet formed laid =
       let p = formed.placed in
-      let did = inserts p.at p.tree p.has quiet in
+      let did = inserts p.at p.spelling p.has quiet in
       let there = stored_rows shape old in
       let table = standing shape laws old new p did.spares.schema in
-      let mine = laid (old.trees (shape.table p.tree).tree) in
+      let mine = laid (old.trees (spelled shape.table p.spelling).tree) in
       let r = shape.stored mine.0 x in
       let rows : stored_rows shape new ≡ put_row r there = table.after ∙ did.rows ∙ rw (mine.2, table.before) refl in
       let free : is_taken there r ≡ false = rw (← table.before, ← mine.2) did.free in
@@ -143,7 +144,7 @@ module _ {R : Type 0} (shape : Shape R) (laws : IsShape shape) where
       → IsFormed shape new × (rows_of shape new ≡ filter (λ x. not (test x)) (rows_of shape old))
   deleted goes test old new deletes quiet formed same =
       let p = formed.placed in
-      let did = deletes p.at p.tree p.has quiet in
+      let did = deletes p.at p.spelling p.has quiet in
       let there = stored_rows shape old in
       let table = standing shape laws old new p did.spares.schema in
       let rows : stored_rows shape new ≡ filter (λ r. not (goes r)) there = table.after ∙ did.rows (subst IsKeyed (sym table.before) formed.keyed) ∙ ap (filter (λ r. not (goes r))) table.before in (
@@ -166,8 +167,8 @@ module _ {R : Type 0} (shape : Shape R) (laws : IsShape shape) where
   spared t old new spares other counted formed =
       let p = formed.placed in
       let table = standing shape laws old new p spares.schema in
-      let named = laws.named p.tree in
-      let kept = spares.others p.at (shape.table p.tree) p.has (ap (λ n. is_other n t.name) named ∙ other) (ap (λ n. is_other n sequence_name) named ∙ counted) in
+      let named = laws.named p.spelling.tree in
+      let kept = spares.others p.at (spelled shape.table p.spelling) p.has (ap (λ n. is_other n t.name) named ∙ other) (ap (λ n. is_other n sequence_name) named ∙ counted) in
       let rows : stored_rows shape new ≡ stored_rows shape old = table.after ∙ kept ∙ table.before in (
         record { placed = table.placed; keyed = subst IsKeyed (sym rows) formed.keyed; stored = subst (AllByRecursion (IsStored shape)) (sym rows) formed.stored },
         ap (λ l. arranged shape.key (map shape.typed l)) rows,

@@ -4,7 +4,7 @@ use Rattle.std.specs.Prelude.{IsOk, MatchResult}
 use Rattle.sqlite.specs.Effect.{Database}
 use Rattle.sqlite.specs.declared.error.Error.{Error}
 use Rattle.sqlite.specs.State.{State, Survives}
-use Rattle.sql_meaning.specs.Transactions.{Made, Steps}
+use Rattle.store_sql.specs.Transactions.{Made, Steps}
 use Rattle.sqlite.proofs.InsideLemmas.{unchanged_keeps}
 use Rattle.package_tables.specs.Package.{Tables}
 use Rattle.package_tables.specs.Faults.{fault_of}

@@ -8,12 +8,13 @@ use Rattle.sqlite.specs.Term.{col}
 use Rattle.sqlite.specs.Edit.{next_rowid}
 use Rattle.sqlite.specs.declared.types.Value.TheVariants.{Int}
 use Rattle.sqlite_tied.specs.Compute.{everything}
-use Rattle.sql_meaning.specs.Resolving.{resolving}
-use Rattle.sql_meaning.specs.Reading.{always, equals, both, ascending}
-use Rattle.sql_meaning.proofs.Insert.{IsInsert, IsRow}
-use Rattle.sql_meaning.proofs.Delete.{IsDelete, IsPlannedDelete}
-use Rattle.sql_meaning.proofs.Resolve.{one_table}
-use Rattle.sql_meaning.proofs.Select.{IsSelect, IsPlannedSelect}
+use Rattle.store_sql.specs.Resolving.{resolving}
+use Rattle.store_sql.specs.Reading.{always, equals, both, ascending}
+use Rattle.store_sql.specs.Spelling.{Spelling, spelled}
+use Rattle.store_sql.proofs.Insert.{IsInsert, IsRow}
+use Rattle.store_sql.proofs.Delete.{IsDelete, IsPlannedDelete}
+use Rattle.store_sql.proofs.Resolve.{one_table}
+use Rattle.store_sql.proofs.Select.{IsSelect, IsPlannedSelect}
 use Rattle.package_tables.specs.Tables.{tiles_media}
 use Rattle.package_tables.specs.Shapes.{tiles_media_shape, int_at}
 use Rattle.sheet_types.specs.declared.command.Mapping.TheVariants.{TilesMedia}
@@ -25,28 +26,28 @@ use Rattle.package_tables.proofs.Ranking.{two_numbers}
 use Rattle.package_tables.proofs.Values.{same_number, both_same}
 use Rattle.package_tables.proofs.Written.{pairs_listed}
 
-pub insert_text : (tree : ℕ) → IsInsert (codes "INSERT INTO tiles_media VALUES (?1, ?2)") (tiles_media tree)
+pub insert_text : (spelling : Spelling) → IsInsert (codes "INSERT INTO tiles_media VALUES (?1, ?2)") (spelled tiles_media spelling)
 unfolding everything
-insert_text tree = record { parse = _; rows = _; parsed = refl; statement = refl; formats = refl; named = refl; unstamped = refl; source = λ schema. refl }
+insert_text spelling = record { parse = _; rows = _; parsed = refl; statement = refl; formats = refl; named = refl; unstamped = refl; source = λ schema. refl }
 
-pub insert_row : (row : MappingRow) (tree : ℕ) (there : List Row)
-    → IsRow (tiles_media tree) (Int row.base_id ∷ Int row.related_id ∷ []) there (tiles_media_shape.stored (Int (next_rowid there)) row)
-insert_row row tree there = record { source = _; laid = refl; kinds = refl; placed = λ top. refl }
+pub insert_row : (row : MappingRow) (spelling : Spelling) (there : List Row)
+    → IsRow (spelled tiles_media spelling) (Int row.base_id ∷ Int row.related_id ∷ []) there (tiles_media_shape.stored (Int (next_rowid there)) row)
+insert_row row spelling there = record { source = _; laid = refl; kinds = refl; placed = λ top. refl }
 
-pub delete_text : (tree : ℕ) → IsDelete (codes "DELETE FROM tiles_media WHERE base_id = ?1 AND related_id = ?2") (tiles_media tree) (both (equals 0 0) (equals 1 1))
+pub delete_text : (spelling : Spelling) → IsDelete (codes "DELETE FROM tiles_media WHERE base_id = ?1 AND related_id = ?2") (spelled tiles_media spelling) (both (equals 0 0) (equals 1 1))
 unfolding everything
-delete_text tree = record { parse = _; where' = _; parsed = refl; statement = refl; formats = refl; named = refl; condition = (_, refl, (_, _, refl, (_, _, _, _, refl, refl, refl, refl, refl, refl, refl), (_, _, _, _, refl, refl, refl, refl, refl, refl, refl))); enough = refl }
+delete_text spelling = record { parse = _; where' = _; parsed = refl; statement = refl; formats = refl; named = refl; condition = (_, refl, (_, _, refl, (_, _, _, _, refl, refl, refl, refl, refl, refl, refl), (_, _, _, _, refl, refl, refl, refl, refl, refl, refl))); enough = refl }
 
-pub delete_plan : (tree : ℕ) → IsPlannedDelete (tiles_media tree) (both (equals 0 0) (equals 1 1))
+pub delete_plan : (spelling : Spelling) → IsPlannedDelete (spelled tiles_media spelling) (both (equals 0 0) (equals 1 1))
 unfolding resolving
-delete_plan tree schema at h = rw (h.stored, h.by_tree) refl
+delete_plan spelling schema at h = rw (h.stored, h.by_tree) refl
 
 pub known : IsKnown (pairs TilesMedia) mapping_shown
 known = record { is = pairs_listed TilesMedia; back = λ r. record { base_id = int_at r 0; related_id = int_at r 1 }; returns = λ x. refl }
 
-of_ends_text : (tree : ℕ) → IsSelect (codes "SELECT * FROM tiles_media WHERE base_id = ?1 AND related_id = ?2") (tiles_media tree) (both (equals 0 0) (equals 1 1)) []
+of_ends_text : (spelling : Spelling) → IsSelect (codes "SELECT * FROM tiles_media WHERE base_id = ?1 AND related_id = ?2") (spelled tiles_media spelling) (both (equals 0 0) (equals 1 1)) []
 unfolding everything
-of_ends_text tree = record {
+of_ends_text spelling = record {
   parse = _;
   asks = _;
   src = _;
@@ -62,16 +63,16 @@ of_ends_text tree = record {
   sorted = λ schema at. (_, refl, refl);
 }
 
-of_ends_plan : (tree : ℕ) → IsPlannedSelect (tiles_media tree) (both (equals 0 0) (equals 1 1)) []
+of_ends_plan : (spelling : Spelling) → IsPlannedSelect (spelled tiles_media spelling) (both (equals 0 0) (equals 1 1)) []
 unfolding resolving
-of_ends_plan tree schema at h = rw (h.stored, h.by_tree) refl
+of_ends_plan spelling schema at h = rw (h.stored, h.by_tree) refl
 
 pub of_ends : (base_id : ℤ) (related_id : ℤ) → IsLookUp tiles_media_shape mapping_shown (codes "SELECT * FROM tiles_media WHERE base_id = ?1 AND related_id = ?2") (Int base_id ∷ Int related_id ∷ []) (λ x. int_eq x.base_id base_id && int_eq x.related_id related_id)
-of_ends base_id related_id = record { test = _; by = _; selects = of_ends_text; planned = of_ends_plan; given = refl; listing = _; is = λ tree. refl; shows = λ v x. refl; passing = λ v x. (both_same (same_number x.base_id base_id) (same_number x.related_id related_id)) }
+of_ends base_id related_id = record { test = _; by = _; selects = of_ends_text; planned = of_ends_plan; given = refl; listing = _; is = λ spelling. refl; shows = λ v x. refl; passing = λ v x. (both_same (same_number x.base_id base_id) (same_number x.related_id related_id)) }
 
-of_base_text : (tree : ℕ) → IsSelect (codes "SELECT * FROM tiles_media WHERE base_id = ?1") (tiles_media tree) (equals 0 0) []
+of_base_text : (spelling : Spelling) → IsSelect (codes "SELECT * FROM tiles_media WHERE base_id = ?1") (spelled tiles_media spelling) (equals 0 0) []
 unfolding everything
-of_base_text tree = record {
+of_base_text spelling = record {
   parse = _;
   asks = _;
   src = _;
@@ -87,16 +88,16 @@ of_base_text tree = record {
   sorted = λ schema at. (_, refl, refl);
 }
 
-of_base_plan : (tree : ℕ) → IsPlannedSelect (tiles_media tree) (equals 0 0) []
+of_base_plan : (spelling : Spelling) → IsPlannedSelect (spelled tiles_media spelling) (equals 0 0) []
 unfolding resolving
-of_base_plan tree schema at h = rw (h.stored, h.by_tree) refl
+of_base_plan spelling schema at h = rw (h.stored, h.by_tree) refl
 
 pub of_base : (base_id : ℤ) → IsLookUp tiles_media_shape mapping_shown (codes "SELECT * FROM tiles_media WHERE base_id = ?1") (Int base_id ∷ []) (λ x. int_eq x.base_id base_id)
-of_base base_id = record { test = _; by = _; selects = of_base_text; planned = of_base_plan; given = refl; listing = _; is = λ tree. refl; shows = λ v x. refl; passing = λ v x. (same_number x.base_id base_id) }
+of_base base_id = record { test = _; by = _; selects = of_base_text; planned = of_base_plan; given = refl; listing = _; is = λ spelling. refl; shows = λ v x. refl; passing = λ v x. (same_number x.base_id base_id) }
 
-of_related_text : (tree : ℕ) → IsSelect (codes "SELECT * FROM tiles_media WHERE related_id = ?1") (tiles_media tree) (equals 1 0) []
+of_related_text : (spelling : Spelling) → IsSelect (codes "SELECT * FROM tiles_media WHERE related_id = ?1") (spelled tiles_media spelling) (equals 1 0) []
 unfolding everything
-of_related_text tree = record {
+of_related_text spelling = record {
   parse = _;
   asks = _;
   src = _;
@@ -112,16 +113,16 @@ of_related_text tree = record {
   sorted = λ schema at. (_, refl, refl);
 }
 
-of_related_plan : (tree : ℕ) → IsPlannedSelect (tiles_media tree) (equals 1 0) []
+of_related_plan : (spelling : Spelling) → IsPlannedSelect (spelled tiles_media spelling) (equals 1 0) []
 unfolding resolving
-of_related_plan tree schema at h = rw (h.stored, h.by_tree) refl
+of_related_plan spelling schema at h = rw (h.stored, h.by_tree) refl
 
 pub of_related : (related_id : ℤ) → IsLookUp tiles_media_shape mapping_shown (codes "SELECT * FROM tiles_media WHERE related_id = ?1") (Int related_id ∷ []) (λ x. int_eq x.related_id related_id)
-of_related related_id = record { test = _; by = _; selects = of_related_text; planned = of_related_plan; given = refl; listing = _; is = λ tree. refl; shows = λ v x. refl; passing = λ v x. (same_number x.related_id related_id) }
+of_related related_id = record { test = _; by = _; selects = of_related_text; planned = of_related_plan; given = refl; listing = _; is = λ spelling. refl; shows = λ v x. refl; passing = λ v x. (same_number x.related_id related_id) }
 
-all_text : (tree : ℕ) → IsSelect (codes "SELECT * FROM tiles_media ORDER BY base_id, related_id") (tiles_media tree) always ((col 1 1, ascending) ∷ (col 1 2, ascending) ∷ [])
+all_text : (spelling : Spelling) → IsSelect (codes "SELECT * FROM tiles_media ORDER BY base_id, related_id") (spelled tiles_media spelling) always ((col 1 1, ascending) ∷ (col 1 2, ascending) ∷ [])
 unfolding everything
-all_text tree = record {
+all_text spelling = record {
   parse = _;
   asks = _;
   src = _;
@@ -137,12 +138,12 @@ all_text tree = record {
   sorted = λ schema at. (_, refl, refl);
 }
 
-all_plan : (tree : ℕ) → IsPlannedSelect (tiles_media tree) always ((col 1 1, ascending) ∷ (col 1 2, ascending) ∷ [])
+all_plan : (spelling : Spelling) → IsPlannedSelect (spelled tiles_media spelling) always ((col 1 1, ascending) ∷ (col 1 2, ascending) ∷ [])
 unfolding resolving
-all_plan tree schema at h = rw (h.stored, h.by_tree) refl
+all_plan spelling schema at h = rw (h.stored, h.by_tree) refl
 
 pub all : IsLookUp tiles_media_shape mapping_shown (codes "SELECT * FROM tiles_media ORDER BY base_id, related_id") [] (λ x. true)
-all = record { test = _; by = _; selects = all_text; planned = all_plan; given = refl; listing = _; is = λ tree. refl; shows = λ v x. refl; passing = λ v x. refl }
+all = record { test = _; by = _; selects = all_text; planned = all_plan; given = refl; listing = _; is = λ spelling. refl; shows = λ v x. refl; passing = λ v x. refl }
 
 pub all_ranked : IsRanked all (then_cmp (on (λ x. x.base_id) int_cmp) (on (λ x. x.related_id) int_cmp))
 unfolding all

@@ -9,7 +9,7 @@ use Rattle.sqlite.specs.declared.types.Value.TheVariants.{Int, Text}
 use Rattle.sqlite.specs.Ops.{test}
 use Rattle.sqlite_sql.specs.declared.ops.CompareOp.{CompareOp}
 use Rattle.sqlite_sql.specs.declared.ops.CompareOp.TheVariants.{Ge, Le, Gt, Lt}
-use Rattle.sql_meaning.specs.Reading.{is_same, stands}
+use Rattle.store_sql.specs.Reading.{is_same, stands}
 
 pub same_number : (a b : ℤ) → is_same (Int a) (Int b) ≡ int_eq a b
 same_number a b = ap is_eq (value_cmp-Int a b) ∙ refl

@@ -4,8 +4,9 @@ use Rattle.std.specs.Prelude.{◌&&◌, ⊤}
 use Rattle.std.proofs.lemmas.Bool.{and_parts}
 use Rattle.sqlite.specs.Effect.{Database, IsDatabase}
 use Rattle.sqlite.specs.Table.{Table}
-use Rattle.sql_meaning.specs.Known.{IsQuiet, is_other, sequence_name}
-use Rattle.sql_meaning.specs.Writing.{Spares}
+use Rattle.store_sql.specs.Known.{IsQuiet, is_other, sequence_name}
+use Rattle.store_sql.specs.Writing.{Spares}
+use Rattle.store_sql.specs.Spelling.{Spelling, spelled}
 use Rattle.sheet_types.specs.declared.command.Mapping.{Mapping}
 use Rattle.sheet_types.specs.declared.command.Mapping.TheVariants.{TilesMedia, RowsMedia, RowsTiles}
 use Rattle.package_tables.specs.Shape.{Shape, IsShape, IsFormed, rows_of}
@@ -206,51 +207,51 @@ are_formed db sound quiet f = record {
 abbrev ShapeAt : (place : ℕ) → Shape (RowOf (get_or all place Moved))
 ShapeAt place = shape_of (get_or all place Moved)
 
-written : (place tree : ℕ) (old new : Database) → others_apart ((ShapeAt place).table tree).name all place ≡ true → Spares ((ShapeAt place).table tree) old new → AreFormed old → IsFormed (ShapeAt place) new
+written : (place : ℕ) (spelling : Spelling) (old new : Database) → others_apart (spelled (ShapeAt place).table spelling).name all place ≡ true → Spares (spelled (ShapeAt place).table spelling) old new → AreFormed old → IsFormed (ShapeAt place) new
     → AreFormed new × (tables_of new ≡ as_tables (put_at all place (rows_of (ShapeAt place) new) (lists_of all old)))
-written place tree old new apart spares formed here =
-    let did = others_kept ((ShapeAt place).table tree) old new spares all place apart (each_formed old formed) here in
+written place spelling old new apart spares formed here =
+    let did = others_kept (spelled (ShapeAt place).table spelling) old new spares all place apart (each_formed old formed) here in
     (are_formed new spares.sound (subst IsQuiet (sym spares.schema) formed.quiet) did.0, λ i. as_tables (did.1 i))
 
 -- ---- each list
 
 pub systems_listed : IsListed systems
-systems_listed = record { laws = shape_of_is SpatialRefSys; formed = λ db f. f.spatial_ref_sys; lists = λ db. refl; written = λ tree old new. written 0 tree old new refl; reads = λ l t. refl; again = λ k l t. refl; same = λ t. refl }
+systems_listed = record { laws = shape_of_is SpatialRefSys; formed = λ db f. f.spatial_ref_sys; lists = λ db. refl; written = λ spelling old new. written 0 spelling old new refl; reads = λ l t. refl; again = λ k l t. refl; same = λ t. refl }
 
 pub contents_listed : IsListed contents
-contents_listed = record { laws = shape_of_is Contents; formed = λ db f. f.contents; lists = λ db. refl; written = λ tree old new. written 1 tree old new refl; reads = λ l t. refl; again = λ k l t. refl; same = λ t. refl }
+contents_listed = record { laws = shape_of_is Contents; formed = λ db f. f.contents; lists = λ db. refl; written = λ spelling old new. written 1 spelling old new refl; reads = λ l t. refl; again = λ k l t. refl; same = λ t. refl }
 
 pub matrix_sets_listed : IsListed matrix_sets
-matrix_sets_listed = record { laws = shape_of_is TileMatrixSet; formed = λ db f. f.tile_matrix_set; lists = λ db. refl; written = λ tree old new. written 2 tree old new refl; reads = λ l t. refl; again = λ k l t. refl; same = λ t. refl }
+matrix_sets_listed = record { laws = shape_of_is TileMatrixSet; formed = λ db f. f.tile_matrix_set; lists = λ db. refl; written = λ spelling old new. written 2 spelling old new refl; reads = λ l t. refl; again = λ k l t. refl; same = λ t. refl }
 
 pub matrices_listed : IsListed matrices
-matrices_listed = record { laws = shape_of_is TileMatrix; formed = λ db f. f.tile_matrix; lists = λ db. refl; written = λ tree old new. written 3 tree old new refl; reads = λ l t. refl; again = λ k l t. refl; same = λ t. refl }
+matrices_listed = record { laws = shape_of_is TileMatrix; formed = λ db f. f.tile_matrix; lists = λ db. refl; written = λ spelling old new. written 3 spelling old new refl; reads = λ l t. refl; again = λ k l t. refl; same = λ t. refl }
 
 pub relations_listed : IsListed relations
-relations_listed = record { laws = shape_of_is Relations; formed = λ db f. f.relations; lists = λ db. refl; written = λ tree old new. written 4 tree old new refl; reads = λ l t. refl; again = λ k l t. refl; same = λ t. refl }
+relations_listed = record { laws = shape_of_is Relations; formed = λ db f. f.relations; lists = λ db. refl; written = λ spelling old new. written 4 spelling old new refl; reads = λ l t. refl; again = λ k l t. refl; same = λ t. refl }
 
 pub tiles_listed : IsListed tiles
-tiles_listed = record { laws = shape_of_is Tiles; formed = λ db f. f.tiles; lists = λ db. refl; written = λ tree old new. written 5 tree old new refl; reads = λ l t. refl; again = λ k l t. refl; same = λ t. refl }
+tiles_listed = record { laws = shape_of_is Tiles; formed = λ db f. f.tiles; lists = λ db. refl; written = λ spelling old new. written 5 spelling old new refl; reads = λ l t. refl; again = λ k l t. refl; same = λ t. refl }
 
 pub media_listed : IsListed media
-media_listed = record { laws = shape_of_is Media; formed = λ db f. f.media; lists = λ db. refl; written = λ tree old new. written 6 tree old new refl; reads = λ l t. refl; again = λ k l t. refl; same = λ t. refl }
+media_listed = record { laws = shape_of_is Media; formed = λ db f. f.media; lists = λ db. refl; written = λ spelling old new. written 6 spelling old new refl; reads = λ l t. refl; again = λ k l t. refl; same = λ t. refl }
 
 pub attributes_listed : IsListed attributes
-attributes_listed = record { laws = shape_of_is Rows; formed = λ db f. f.rows; lists = λ db. refl; written = λ tree old new. written 7 tree old new refl; reads = λ l t. refl; again = λ k l t. refl; same = λ t. refl }
+attributes_listed = record { laws = shape_of_is Rows; formed = λ db f. f.rows; lists = λ db. refl; written = λ spelling old new. written 7 spelling old new refl; reads = λ l t. refl; again = λ k l t. refl; same = λ t. refl }
 
 pub pairs_listed : (m : Mapping) → IsListed (pairs m)
-pairs_listed TilesMedia = record { laws = shape_of_is (Pairs TilesMedia); formed = λ db f. f.tiles_media; lists = λ db. refl; written = λ tree old new. written 8 tree old new refl; reads = λ l t. refl; again = λ k l t. refl; same = λ t. refl }
-pairs_listed RowsMedia = record { laws = shape_of_is (Pairs RowsMedia); formed = λ db f. f.rows_media; lists = λ db. refl; written = λ tree old new. written 9 tree old new refl; reads = λ l t. refl; again = λ k l t. refl; same = λ t. refl }
-pairs_listed RowsTiles = record { laws = shape_of_is (Pairs RowsTiles); formed = λ db f. f.rows_tiles; lists = λ db. refl; written = λ tree old new. written 10 tree old new refl; reads = λ l t. refl; again = λ k l t. refl; same = λ t. refl }
+pairs_listed TilesMedia = record { laws = shape_of_is (Pairs TilesMedia); formed = λ db f. f.tiles_media; lists = λ db. refl; written = λ spelling old new. written 8 spelling old new refl; reads = λ l t. refl; again = λ k l t. refl; same = λ t. refl }
+pairs_listed RowsMedia = record { laws = shape_of_is (Pairs RowsMedia); formed = λ db f. f.rows_media; lists = λ db. refl; written = λ spelling old new. written 9 spelling old new refl; reads = λ l t. refl; again = λ k l t. refl; same = λ t. refl }
+pairs_listed RowsTiles = record { laws = shape_of_is (Pairs RowsTiles); formed = λ db f. f.rows_tiles; lists = λ db. refl; written = λ spelling old new. written 10 spelling old new refl; reads = λ l t. refl; again = λ k l t. refl; same = λ t. refl }
 
 pub heads_listed : IsListed heads
-heads_listed = record { laws = shape_of_is Heads; formed = λ db f. f.heads; lists = λ db. refl; written = λ tree old new. written 11 tree old new refl; reads = λ l t. refl; again = λ k l t. refl; same = λ t. refl }
+heads_listed = record { laws = shape_of_is Heads; formed = λ db f. f.heads; lists = λ db. refl; written = λ spelling old new. written 11 spelling old new refl; reads = λ l t. refl; again = λ k l t. refl; same = λ t. refl }
 
 pub identities_listed : IsListed identities
-identities_listed = record { laws = shape_of_is Identities; formed = λ db f. f.identities; lists = λ db. refl; written = λ tree old new. written 12 tree old new refl; reads = λ l t. refl; again = λ k l t. refl; same = λ t. refl }
+identities_listed = record { laws = shape_of_is Identities; formed = λ db f. f.identities; lists = λ db. refl; written = λ spelling old new. written 12 spelling old new refl; reads = λ l t. refl; again = λ k l t. refl; same = λ t. refl }
 
 pub receipts_listed : IsListed receipts
-receipts_listed = record { laws = shape_of_is Receipts; formed = λ db f. f.receipts; lists = λ db. refl; written = λ tree old new. written 13 tree old new refl; reads = λ l t. refl; again = λ k l t. refl; same = λ t. refl }
+receipts_listed = record { laws = shape_of_is Receipts; formed = λ db f. f.receipts; lists = λ db. refl; written = λ spelling old new. written 13 spelling old new refl; reads = λ l t. refl; again = λ k l t. refl; same = λ t. refl }
 
 pub moved_listed : IsListed moved
-moved_listed = record { laws = shape_of_is Moved; formed = λ db f. f.moved; lists = λ db. refl; written = λ tree old new. written 14 tree old new refl; reads = λ l t. refl; again = λ k l t. refl; same = λ t. refl }
+moved_listed = record { laws = shape_of_is Moved; formed = λ db f. f.moved; lists = λ db. refl; written = λ spelling old new. written 14 spelling old new refl; reads = λ l t. refl; again = λ k l t. refl; same = λ t. refl }

@@ -4,7 +4,7 @@ use Rattle.std.specs.declared.cmp.Ordering.{Ordering}
 use Rattle.std.specs.List.{list_any, AllByRecursion}
 use Rattle.sqlite.specs.Effect.{Database}
 use Rattle.sqlite.specs.State.{State, HasCleanDisk, Shows, IsUnchanged, IsRolledBack}
-use Rattle.sql_meaning.specs.Transactions.{Looks}
+use Rattle.store_sql.specs.Transactions.{Looks}
 use Rattle.package_tables.specs.Package.{Tables, tables_of, AreFormed}
 
 -- ---- inside a transaction: an error changed nothing, or the transaction is rolled back

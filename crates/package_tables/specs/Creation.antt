@@ -1,7 +1,7 @@
 -- A new package: its head, and what its tables say.
 use Rattle.std.specs.Prelude.{◌≡◌, ℕ, ◌≤◌, pos, List, [], ◌∷◌, Option}
 use Rattle.sqlite.specs.Effect.{Database}
-use Rattle.sql_meaning.specs.Blank.{IsBlank, no_schema}
+use Rattle.store_sql.specs.Blank.{IsBlank, no_schema}
 use Rattle.sheet_types.specs.Reading.{optional_uuid_text}
 use Rattle.sheet_types.specs.Texts.{uuid_text}
 use Rattle.sheet_types.specs.Refuse.{greatest_depth, greatest_receipts}

@@ -1,7 +1,7 @@
 -- What is read of a store that may be damaged: nothing is asked of its database. Profile, over the tables of GeoPackage 1.3 and OGC 18-000.
 use Rattle.std.specs.Prelude.{◌≡◌, Bool, true, ◌≤◌, List, [], ◌∷◌, map, Option, Some, None, MatchOption, ℤ, pos, ⊤}
 use Rattle.sqlite.specs.Effect.{Database}
-use Rattle.sql_meaning.specs.Known.{IsQuiet}
+use Rattle.store_sql.specs.Known.{IsQuiet}
 use Rattle.sheet_types.specs.Matrix.{is_within}
 use Rattle.sheet_types.specs.Lines.{IsUuid}
 use Rattle.sheet_types.specs.Reading.{optional_uuid_text}

@@ -1,7 +1,7 @@
 -- A package's tables, all of them, as lists of values in the order of their keys.
 use Rattle.std.specs.Prelude.{List}
 use Rattle.sqlite.specs.Effect.{Database, IsDatabase}
-use Rattle.sql_meaning.specs.Known.{IsQuiet}
+use Rattle.store_sql.specs.Known.{IsQuiet}
 use Rattle.package_tables.specs.Shape.{rows_of, IsFormed}
 use Rattle.package_tables.specs.Shapes.{spatial_ref_sys_shape, contents_shape, tile_matrix_set_shape, tile_matrix_shape, relation_shape, tile_shape, medium_shape, attribute_shape, tiles_media_shape, rows_media_shape, rows_tiles_shape, head_shape, identity_shape, receipt_shape, moved_shape}
 use Rattle.package_tables.specs.declared.rows.AttributeRow.{AttributeRow}

@@ -7,9 +7,9 @@ use Rattle.sqlite.specs.Effect.{Database, IsDatabase}
 use Rattle.sqlite.specs.Change.{automatics}
 use Rattle.sqlite_schema.specs.declared.schema.Index.{Index}
 use Rattle.sqlite_value.specs.Keys.{plain}
-use Rattle.sql_meaning.specs.Known.{counters}
-use Rattle.sql_meaning.specs.Writing.{AreKeyed}
-use Rattle.sql_meaning.specs.Blank.{IsBlank, no_schema}
+use Rattle.store_sql.specs.Known.{counters}
+use Rattle.store_sql.specs.Writing.{AreKeyed}
+use Rattle.store_sql.specs.Blank.{IsBlank, no_schema}
 use Rattle.package_tables.specs.Tables.{gpkg_spatial_ref_sys, gpkg_contents, gpkg_tile_matrix_set, gpkg_tile_matrix, gpkgext_relations, sheet_tiles, sheet_media, sheet_rows, tiles_media, rows_media, rows_tiles, sheet_package, sheet_identity, sheet_receipts, sheet_items}
 use Rattle.package_tables.specs.Form.{HasForm, rows_named}
 use Rattle.package_tables.specs.Package.{Tables, tables_of, AreFormed}

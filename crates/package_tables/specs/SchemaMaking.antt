@@ -9,10 +9,10 @@ use Rattle.sqlite.specs.State.{State, Shows, HasCause, store_error}
 use Rattle.sqlite.specs.declared.error.Error.{Error}
 use Rattle.sqlite_trees.specs.declared.error.StoreError.{StoreError}
 use Rattle.sqlite_trees.specs.View.{Tells}
-use Rattle.sql_meaning.specs.Known.{HasTable}
-use Rattle.sql_meaning.specs.Blank.{MakesText, IsFree, IsBlank, grown}
-use Rattle.sql_meaning.specs.Certain.{FitsGrown, FitsIndex}
-use Rattle.sql_meaning.specs.Index.{MakesIndexText}
+use Rattle.store_sql.specs.Known.{HasTable}
+use Rattle.store_sql.specs.Blank.{MakesText, IsFree, IsBlank, grown}
+use Rattle.store_sql.specs.Certain.{FitsGrown, FitsIndex}
+use Rattle.store_sql.specs.Index.{MakesIndexText}
 
 -- the text makes the second schema of the first: a table of a free name, or an index of a free name on a table that is there; and nothing refuses it
 abbrev pub Extends : List ℕ → Schema → Schema → Type 0

@@ -8,7 +8,7 @@ use Rattle.sqlite.specs.declared.types.Value.{Value}
 use Rattle.sqlite.specs.Effect.{Database}
 use Rattle.sqlite_trees.specs.View.{is_int}
 use Rattle.sheet_types.specs.Ordered.{arranged}
-use Rattle.sql_meaning.specs.Writing.{IsKeyed}
+use Rattle.store_sql.specs.Writing.{IsKeyed}
 use Rattle.package_tables.specs.Form.{IsPlaced, rows_named}
 
 -- the table, what a row says, how a value is stored under a rowid (a table whose key is the rowid does not look at it), and the key by which the values are arranged

@@ -4,7 +4,7 @@ ghost use Rattle.std.specs.Prelude.{◌≡◌, true};
 ghost use Rattle.std.specs.Ordering.{on, int_cmp};
 ghost use Rattle.sqlite.specs.State.{Survives};
 ghost use Rattle.sqlite.specs.Held.{state};
-ghost use Rattle.sql_meaning.specs.Transactions.{Rests};
+ghost use Rattle.store_sql.specs.Transactions.{Rests};
 ghost use Rattle.package_tables.specs.Calls.{Makes, LooksUp, AreThose, AreAll};
 ghost use Rattle.package_tables.specs.Changes.{SetsLastChange};
 

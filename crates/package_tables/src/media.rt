@@ -4,7 +4,7 @@ ghost use Rattle.std.specs.List.{list_any};
 ghost use Rattle.std.specs.Ordering.{int_eq, int_cmp, on};
 ghost use Rattle.sqlite.specs.State.{Survives};
 ghost use Rattle.sqlite.specs.Held.{state};
-ghost use Rattle.sql_meaning.specs.Transactions.{Rests};
+ghost use Rattle.store_sql.specs.Transactions.{Rests};
 ghost use Rattle.package_tables.specs.Calls.{Makes, LooksUp, IsOneOf, AreAll};
 ghost use Rattle.package_tables.specs.Listed.{media};
 ghost use Rattle.package_tables.specs.Changes.{Adds, DropsMedium};

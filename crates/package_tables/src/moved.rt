@@ -3,7 +3,7 @@ ghost use Rattle.std.specs.Prelude.{◌≡◌, ◌&&◌, bytes_eq};
 ghost use Rattle.std.specs.Ordering.{int_cmp, int_eq, on};
 ghost use Rattle.sqlite.specs.State.{Survives};
 ghost use Rattle.sqlite.specs.Held.{state};
-ghost use Rattle.sql_meaning.specs.Transactions.{Rests};
+ghost use Rattle.store_sql.specs.Transactions.{Rests};
 ghost use Rattle.package_tables.specs.Calls.{Makes, LooksUp, IsOneOf, AreThose, Rises, AreAll};
 ghost use Rattle.package_tables.specs.Listed.{moved};
 ghost use Rattle.package_tables.specs.Changes.{Adds};

@@ -119,23 +119,23 @@ def arguments(t, columns):
 def text_of(name, text, t, test, by, head):
     return [
         "",
-        "%s_text : (tree : ℕ) → IsSelect (codes \"%s\") (%s tree) %s %s" % (name, text, t["table"], test, by),
+        "%s_text : (spelling : Spelling) → IsSelect (codes \"%s\") (spelled %s spelling) %s %s" % (name, text, t["table"], test, by),
         "unfolding everything",
-        "%s_text tree = record {" % name,
+        "%s_text spelling = record {" % name,
         "  parse = _;", "  asks = _;", "  src = _;", "  item = _;", "  parsed = refl;", "  statement = refl;", "  formats = refl;",
         "  one = one_table %s;" % " ".join(["refl"] * 15),
         "  condition = %s;" % head,
         "  enough = refl;", "  few = λ at. refl;", "  some = λ at. refl;", "  sorted = λ schema at. (_, refl, refl);",
         "}",
         "",
-        "%s_plan : (tree : ℕ) → IsPlannedSelect (%s tree) %s %s" % (name, t["table"], test, by),
+        "%s_plan : (spelling : Spelling) → IsPlannedSelect (spelled %s spelling) %s %s" % (name, t["table"], test, by),
         "unfolding resolving",
-        "%s_plan tree schema at h = rw (h.stored, h.by_tree) refl" % name,
+        "%s_plan spelling schema at h = rw (h.stored, h.by_tree) refl" % name,
     ]
 
 
 def read_record(name, passing):
-    return "record { test = _; by = _; selects = %s_text; planned = %s_plan; given = refl; listing = _; is = λ tree. refl; shows = λ v x. refl; passing = %s }" % (name, name, passing)
+    return "record { test = _; by = _; selects = %s_text; planned = %s_plan; given = refl; listing = _; is = λ spelling. refl; shows = λ v x. refl; passing = %s }" % (name, name, passing)
 
 
 def select_text(t, columns):
@@ -220,9 +220,9 @@ def ids_facts(t, name, tests):
     over = "".join("(%s : ℤ) " % p for p in parameters)
     return [
         "",
-        "%s_text : (tree : ℕ) → IsNamed (codes \"%s\") (%s tree) (0 ∷ []) %s [] all_rows" % (name, text, t["table"], test),
+        "%s_text : (spelling : Spelling) → IsNamed (codes \"%s\") (spelled %s spelling) (0 ∷ []) %s [] all_rows" % (name, text, t["table"], test),
         "unfolding everything",
-        "%s_text tree = record {" % name,
+        "%s_text spelling = record {" % name,
         "  parse = _;", "  asks = _;", "  src = _;", "  items = _;", "  parsed = refl;", "  statement = refl;", "  formats = refl;",
         "  one = over_table %s;" % " ".join(["refl"] * 12),
         "  paged = λ schema. refl;",
@@ -232,13 +232,13 @@ def ids_facts(t, name, tests):
         "  enough = refl;",
         "}",
         "",
-        "%s_plan : (tree : ℕ) → IsPlannedNamed (%s tree) (0 ∷ []) %s [] all_rows" % (name, t["table"], test),
+        "%s_plan : (spelling : Spelling) → IsPlannedNamed (spelled %s spelling) (0 ∷ []) %s [] all_rows" % (name, t["table"], test),
         "unfolding resolving",
-        "%s_plan tree schema at h = rw (h.stored, h.by_tree) refl" % name,
+        "%s_plan spelling schema at h = rw (h.stored, h.by_tree) refl" % name,
         "",
         "pub %s : %sIsNumbering %s (λ x. x.%s) (codes \"%s\") %s (λ x. %s)"
         % (name, over + "→ " if tests else "", t["shape"], key, text, "(%s[])" % "".join("Int %s ∷ " % p for p in parameters) if tests else "[]", kept),
-        "%s = record { test = _; project = _; by = _; asked = λ tree. asked_named (%s_text tree) (%s_plan tree); given = refl; listing = _; is = λ tree. refl; shows = λ v x. refl; passing = λ v x. %s }"
+        "%s = record { test = _; project = _; by = _; asked = λ spelling. asked_named (%s_text spelling) (%s_plan spelling); given = refl; listing = _; is = λ spelling. refl; shows = λ v x. refl; passing = λ v x. %s }"
         % (" ".join([name] + parameters), name, name, alike),
     ]
 
@@ -295,9 +295,9 @@ def newest_facts(t):
     by = "((col 1 %d, descending) ∷ [])" % place(t, column)
     return [
         "",
-        "newest_text : (tree : ℕ) → IsNamed (codes \"%s\") (%s tree) %s %s %s one_row" % (newest_text(t), t["table"], shown, test, by),
+        "newest_text : (spelling : Spelling) → IsNamed (codes \"%s\") (spelled %s spelling) %s %s %s one_row" % (newest_text(t), t["table"], shown, test, by),
         "unfolding everything",
-        "newest_text tree = record {",
+        "newest_text spelling = record {",
         "  parse = _;", "  asks = _;", "  src = _;", "  items = _;", "  parsed = refl;", "  statement = refl;", "  formats = refl;",
         "  one = over_table %s;" % " ".join(["refl"] * 12),
         "  paged = λ schema. refl;",
@@ -307,12 +307,12 @@ def newest_facts(t):
         "  enough = refl;",
         "}",
         "",
-        "newest_plan : (tree : ℕ) → IsPlannedNamed (%s tree) %s %s %s one_row" % (t["table"], shown, test, by),
+        "newest_plan : (spelling : Spelling) → IsPlannedNamed (spelled %s spelling) %s %s %s one_row" % (t["table"], shown, test, by),
         "unfolding resolving",
-        "newest_plan tree schema at h = rw (h.stored, h.by_tree) refl",
+        "newest_plan spelling schema at h = rw (h.stored, h.by_tree) refl",
         "",
         "pub newest : %s → IsNewest %s (λ x. x.%s) (codes \"%s\") (%s) (λ x. %s)" % (arguments(t, columns), t["shape"], column, newest_text(t), bound(t, columns), keeps(t, columns, "x")),
-        "newest %s = record { test = _; project = _; by = _; asked = λ tree. asked_named (newest_text tree) (newest_plan tree); given = refl; pass = _; shown = _; place = %d; is = λ tree. refl; passing = λ v x. %s; begins = λ v x. refl; keyed = λ v x. refl }"
+        "newest %s = record { test = _; project = _; by = _; asked = λ spelling. asked_named (newest_text spelling) (newest_plan spelling); given = refl; pass = _; shown = _; place = %d; is = λ spelling. refl; passing = λ v x. %s; begins = λ v x. refl; keyed = λ v x. refl }"
         % (" ".join(columns), place(t, column), same(t, columns, "x")),
     ]
 
@@ -359,13 +359,13 @@ def statements(t):
         "use Rattle.sqlite.specs.Edit.{next_rowid}",
         "use Rattle.sqlite.specs.declared.types.Value.TheVariants.{Int, Null, Text, Blob}",
         "use Rattle.sqlite_tied.specs.Compute.{everything}",
-        "use Rattle.sql_meaning.specs.Resolving.{resolving}",
-        "use Rattle.sql_meaning.specs.Reading.{always, equals, compares, both, ascending, descending}",
-        "use Rattle.sql_meaning.proofs.Insert.{IsInsert, IsRow}",
-        "use Rattle.sql_meaning.proofs.Delete.{IsDelete, IsPlannedDelete}",
-        "use Rattle.sql_meaning.proofs.Resolve.{one_table, over_table, all_rows}",
-        "use Rattle.sql_meaning.proofs.Select.{IsSelect, IsPlannedSelect, IsNamed, IsPlannedNamed, asked_named}",
-        "use Rattle.sql_meaning.proofs.First.{one_row}",
+        "use Rattle.store_sql.specs.Resolving.{resolving}",
+        "use Rattle.store_sql.specs.Reading.{always, equals, compares, both, ascending, descending}",
+        "use Rattle.store_sql.proofs.Insert.{IsInsert, IsRow}",
+        "use Rattle.store_sql.proofs.Delete.{IsDelete, IsPlannedDelete}",
+        "use Rattle.store_sql.proofs.Resolve.{one_table, over_table, all_rows}",
+        "use Rattle.store_sql.proofs.Select.{IsSelect, IsPlannedSelect, IsNamed, IsPlannedNamed, asked_named}",
+        "use Rattle.store_sql.proofs.First.{one_row}",
         "use Rattle.package_tables.specs.Tables.{%s}" % t["table"],
         "use Rattle.package_tables.specs.Shapes.{%s, int_at, text_at, blob_at}" % t["shape"],
         "use Rattle.sheet_types.specs.declared.command.Mapping.TheVariants.{TilesMedia, RowsMedia, RowsTiles}",
@@ -379,24 +379,24 @@ def statements(t):
         "use Rattle.package_tables.proofs.Values.{same_number, same_text, at_least, at_most, above, below, both_same}",
         "use Rattle.package_tables.proofs.Written.{%s}" % listed(t)[1].split()[0],
         "",
-        "pub insert_text : (tree : ℕ) → IsInsert (codes \"%s\") (%s tree)" % (insert_text(t), t["table"]),
+        "pub insert_text : (spelling : Spelling) → IsInsert (codes \"%s\") (spelled %s spelling)" % (insert_text(t), t["table"]),
         "unfolding everything",
-        "insert_text tree = record { parse = _; rows = _; parsed = refl; statement = refl; formats = refl; named = refl; unstamped = refl; source = λ schema. refl }",
+        "insert_text spelling = record { parse = _; rows = _; parsed = refl; statement = refl; formats = refl; named = refl; unstamped = refl; source = λ schema. refl }",
         "",
-        "pub insert_row : (row : %s) (tree : ℕ) (there : List Row)" % t["row"],
-        "    → IsRow (%s tree) (%s[]) there (%s)" % (t["table"], "".join("%s row.%s ∷ " % (VALUE[k], c) for c, k in t["columns"]), stored(t)),
-        "insert_row row tree there = record { source = _; laid = refl; kinds = refl; placed = λ top. refl }",
+        "pub insert_row : (row : %s) (spelling : Spelling) (there : List Row)" % t["row"],
+        "    → IsRow (spelled %s spelling) (%s[]) there (%s)" % (t["table"], "".join("%s row.%s ∷ " % (VALUE[k], c) for c, k in t["columns"]), stored(t)),
+        "insert_row row spelling there = record { source = _; laid = refl; kinds = refl; placed = λ top. refl }",
     ]
     _, columns = t["delete"]
     out += [
         "",
-        "pub delete_text : (tree : ℕ) → IsDelete (codes \"%s\") (%s tree) %s" % (delete_text(t, columns), t["table"], test_of(t, columns)),
+        "pub delete_text : (spelling : Spelling) → IsDelete (codes \"%s\") (spelled %s spelling) %s" % (delete_text(t, columns), t["table"], test_of(t, columns)),
         "unfolding everything",
-        "delete_text tree = record { parse = _; where' = _; parsed = refl; statement = refl; formats = refl; named = refl; condition = %s; enough = refl }" % condition(columns),
+        "delete_text spelling = record { parse = _; where' = _; parsed = refl; statement = refl; formats = refl; named = refl; condition = %s; enough = refl }" % condition(columns),
         "",
-        "pub delete_plan : (tree : ℕ) → IsPlannedDelete (%s tree) %s" % (t["table"], test_of(t, columns)),
+        "pub delete_plan : (spelling : Spelling) → IsPlannedDelete (spelled %s spelling) %s" % (t["table"], test_of(t, columns)),
         "unfolding resolving",
-        "delete_plan tree schema at h = rw (h.stored, h.by_tree) refl",
+        "delete_plan spelling schema at h = rw (h.stored, h.by_tree) refl",
         "",
         "pub known : IsKnown %s %s" % (listed(t)[0], t["shown"]),
         "known = record { is = %s; back = λ r. record { %s }; returns = λ x. refl }"
@@ -497,7 +497,7 @@ def delete_answer(t):
         "use Rattle.sqlite.specs.Held.{state}",
         "use Rattle.sqlite.specs.Order.{column}",
         "use Rattle.sqlite.specs.declared.types.Value.TheVariants.{Int, Text}",
-        "use Rattle.sql_meaning.specs.Reading.{is_same}",
+        "use Rattle.store_sql.specs.Reading.{is_same}",
         "use Rattle.package_tables.proofs.Making.{leaves}",
         "use Rattle.package_tables.proofs.%s.{delete_text, delete_plan}" % t["file"],
         "use Rattle.package_tables.proofs.Written.{%s_listed}" % t["list"],
@@ -507,7 +507,7 @@ def delete_answer(t):
         "pub returns-clause-wrote : goal.returns-clause-wrote",
         "returns-clause-wrote g c clean begun =",
     ] + STATES + [
-        "    leaves %s_listed (%s) (%s) (λ v x. %s) delete_text delete_plan _ refl (λ tree. refl) old new c.execute.result _ c.settled.ensures" % (t["list"], goes, tested, alike),
+        "    leaves %s_listed (%s) (%s) (λ v x. %s) delete_text delete_plan _ refl (λ spelling. refl) old new c.execute.result _ c.settled.ensures" % (t["list"], goes, tested, alike),
         "    %s" % ran(t, columns),
     ]
 

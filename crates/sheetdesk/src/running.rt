@@ -4,17 +4,17 @@ use clap::error::ErrorKind;
 use clap::{ArgMatches, Error};
 use cli::rehearse::rehearse;
 use cli::serving::rehearse_and_serve;
+use command_folder::endings::{
+    Ending, FAILED, NO_MEMORY, error_of, folder_fault, output_of, status_of,
+};
+use command_help::words::sheetdesk;
 use command_words::arguments::{DeskWords, Words};
 use command_words::statuses::Outcome;
 use commands::init::init;
 use commands::working::{Asked, work_for};
-use folder_worlds::endings::{
-    Ending, FAILED, NO_MEMORY, busy_package, error_of, output_of, status_of,
-};
-use program_words::words::sheetdesk;
 use std::convert::AsStr;
 use std::io;
-use uuid::Uuid;
+use store_folder::fault::{FolderFault, cause_text};
 use views::endings as seen;
 use views::looking::{Asked as AskedLook, look_for};
 
@@ -23,10 +23,16 @@ pub(crate) fn print_error(rt: &HostRuntime, text: &str) {
     let _printed = eprint!(rt; "{text}");
 }
 
-/// Says that another process may hold a package, where that is why the program ended.
-fn print_busy(rt: &HostRuntime, busy: Option<Uuid>) {
-    if let Some(package) = busy {
-        let _printed = eprintln!(rt; "another process may hold the package {package}");
+/// Says what is known of a fault of a folder, where that is why the program ended.
+fn print_cause(rt: &HostRuntime, fault: Option<FolderFault>) {
+    let Some(fault) = fault else {
+        return;
+    };
+    match cause_text(rt.alloc(), fault) {
+        Ok(text) if !text.is_empty() => {
+            let _printed = eprintln!(rt; "{text}");
+        }
+        Ok(_) | Err(_) => {}
     }
 }
 
@@ -42,12 +48,12 @@ pub(crate) fn output_failed(rt: &HostRuntime) -> u8 {
 }
 
 /// Prints the two lines of an ending, and answers its status. Where standard output fails, that is the ending.
-fn told(rt: &HostRuntime, output: &str, error: &str, busy: Option<Uuid>, status: u8) -> u8 {
+fn told(rt: &HostRuntime, output: &str, error: &str, cause: Option<FolderFault>, status: u8) -> u8 {
     if !is_printed(rt, output) {
         return output_failed(rt);
     }
     print_error(rt, error);
-    print_busy(rt, busy);
+    print_cause(rt, cause);
     status
 }
 
@@ -57,7 +63,7 @@ fn ended(rt: &HostRuntime, ending: &Ending) -> u8 {
         rt,
         output_of(*ending),
         error_of(*ending),
-        busy_package(*ending),
+        folder_fault(*ending),
         status_of(*ending),
     )
 }
@@ -68,7 +74,7 @@ fn looked(rt: &HostRuntime, ending: &seen::Ending) -> u8 {
         rt,
         seen::output_of(*ending),
         seen::error_of(*ending),
-        seen::busy_package(*ending),
+        seen::folder_fault(*ending),
         seen::status_of(*ending),
     )
 }

@@ -1,13 +1,13 @@
 //! What a change and a look-up of a package ask for, tested first.
 ghost use Rattle.std.specs.Prelude.{IfOk};
 ghost use Rattle.sqlite.specs.Held.{state};
-ghost use Rattle.sql_meaning.specs.Transactions.{Rests};
+ghost use Rattle.store_sql.specs.Transactions.{Rests};
 
-use new_packages::package::begin;
+use package_creation::package::begin;
 use package_tables::fault::Fault;
-use sql_meaning::resting::is_at_rest;
 use sqlite::{Alter, Connection, MemStore, Transaction};
 use std::alloc::Global;
+use store_sql::resting::is_at_rest;
 
 /// A change of a package, inside a transaction.
 pub trait Change<S: Alter> {

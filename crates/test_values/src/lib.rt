@@ -4,27 +4,21 @@
 mod changes;
 mod checked;
 mod contents;
-mod lists;
 mod packages;
 mod receipts;
 mod requests;
 mod rows;
-mod streams;
 mod texts;
 mod values;
 
 pub use crate::changes::{Change, altered, at_rest, committed, in_memory};
 pub use crate::checked::Checked;
 pub use crate::contents::{medium_content, row_content, tile_content};
-pub use crate::lists::{
-    FIRST_TILE, HEADER, MANIFEST_OF_THE_FIRST, NO_REQUEST, SEVENTEEN, list, list_ended,
-};
 pub use crate::packages::{
     WITH_A_LINK, can_be_made, empty_package, fill_with_a_link, is_good, new_package, new_tables,
 };
 pub use crate::receipts::{counts, moved_medium, receipt_of, sums};
 pub use crate::requests::{Asks, BEGUN, Step, archive, item, question, told};
 pub use crate::rows::{Row, Rows, Tables};
-pub use crate::streams::{Failing, Narrow};
 pub use crate::texts::{answered, identities_text, links_text, number_of};
 pub use crate::values::{AT, FRAME, NOTHING, ONE_MEDIUM, text};

@@ -7,15 +7,15 @@ use crate::changes::committed;
 use crate::rows::{Row, Tables};
 use crate::values::FRAME;
 use matrix_rules::check::FrameRules;
-use new_packages::create::{Info, create};
-use new_packages::package::Package;
+use package_creation::create::{Info, create};
+use package_creation::package::Package;
 use package_tables::fault::Fault;
 use sheet_types::checks::GREATEST_DEPTH;
 use sheet_types::command::Mapping;
 use sheet_types::frame::Frame;
-use sql_meaning::resting::is_at_rest;
 use sqlite::{Alter, Connection};
 use std::alloc::Global;
+use store_sql::resting::is_at_rest;
 use uuid::Uuid;
 
 /// Whether packages can be made of a frame.
@@ -60,7 +60,7 @@ pub fn new_package<S: Alter + Drop>(
     if !is_at_rest(&conn) || !can_be_made(frame, info) {
         return Err(Fault::StoreFault);
     }
-    new_packages::creation::create(alloc, conn, frame, info)
+    package_creation::creation::create(alloc, conn, frame, info)
 }
 
 /// A package with nothing in it, without parent.

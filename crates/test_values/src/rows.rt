@@ -1,7 +1,7 @@
 //! Rows of the tables of a package as data: each call that puts one in stands here once, so what a test puts in costs no proof of a call.
 
 use crate::changes::Change;
-use new_packages::schema::create_schema;
+use package_creation::schema::create_schema;
 use package_tables::attributes::{delete_attribute, insert_attribute};
 use package_tables::fault::Fault;
 use package_tables::identities::{delete_identity, insert_identity};

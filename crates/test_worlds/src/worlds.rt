@@ -3,13 +3,13 @@ ghost use Rattle.std.specs.Prelude.{IfOk};
 ghost use Rattle.sqlite.specs.Held.{state};
 ghost use Rattle.sqlite.specs.State.{HasCleanDisk};
 ghost use Rattle.sqlite.specs.Steps.{over_memory};
-ghost use Rattle.sql_meaning.specs.Blank.{IsBlank, no_schema};
+ghost use Rattle.store_sql.specs.Blank.{IsBlank, no_schema};
 
 use package_tables::fault::Fault;
-use shelves::memory::MemoryShelf;
-use shelves::shelf::Shelf;
 use sqlite::{Connection, MemStore};
 use std::alloc::Global;
+use store_shelf::memory::MemoryShelf;
+use store_shelf::shelf::Shelf;
 use test_values::{BEGUN, FRAME, archive};
 use world::world::World;
 

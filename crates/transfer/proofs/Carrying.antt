@@ -10,10 +10,10 @@ use Rattle.std.proofs.Math.ListN.{drop_of_length-le}
 use Rattle.std.specs.List.{filter_map, cons_option}
 use Rattle.sqlite.specs.Effect.{Database}
 use Rattle.sqlite.specs.State.{State, HasCleanDisk}
-use Rattle.sql_meaning.specs.Staying.{Stays}
-use Rattle.sql_meaning.specs.Transactions.{Steps, Holds}
-use Rattle.sql_meaning.specs.Writing.{Chained, EachChained}
-use Rattle.sql_meaning.proofs.Transactions.{steps_answer, steps_then, steps_weaker, same_survives}
+use Rattle.store_sql.specs.Staying.{Stays}
+use Rattle.store_sql.specs.Transactions.{Steps, Holds}
+use Rattle.store_sql.specs.Writing.{Chained, EachChained}
+use Rattle.store_sql.proofs.Transactions.{steps_answer, steps_then, steps_weaker, same_survives}
 use Rattle.package_tables.specs.declared.fault.Fault.{Fault}
 use Rattle.sheet_types.specs.Cut.{Cut}
 use Rattle.sheet_types.specs.World.{Package, item_of}

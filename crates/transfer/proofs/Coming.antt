@@ -6,7 +6,7 @@ use Rattle.std.proofs.lemmas.List.Sums.{sum_by-append, sum_by-cons}
 use Rattle.std.proofs.lemmas.Map.Keys.{IsDistinct-head, IsDistinct-tail}
 use Rattle.std.specs.List.{AllByRecursion, IsDistinct, list_any}
 use Rattle.sqlite.specs.Effect.{Database}
-use Rattle.sql_meaning.specs.Writing.{EachChained}
+use Rattle.store_sql.specs.Writing.{EachChained}
 use Rattle.sheet_types.specs.Ordered.{put, arranged, has, IsArranged}
 use Rattle.sheet_types.specs.Cut.{Cut, identities}
 use Rattle.sheet_types.specs.Refuse.{is_overfull, greatest_items, greatest_links}
@@ -22,8 +22,10 @@ use Rattle.sheet_types.proofs.Every.{All-weaker, All-both, All-of_map, none_pass
 use Rattle.sheet_types.proofs.Order.{list_any-put, sum_by-arranged}
 use Rattle.sheet_types.proofs.Basics.{bytes_eq_swap, or-true}
 use Rattle.identity_register.specs.Changes.{item_added, link_added}
+use Rattle.identity_register.specs.LocalNumbers.{KeepsNumbers}
 use Rattle.identity_register.specs.Reads.{Reads}
 use Rattle.identity_register.specs.Room.{IsFull}
+use Rattle.identity_register.proofs.KeptNumbers.{kept_same, kept_then}
 use Rattle.identity_register.proofs.OnePackage.{items_arranged, distinct_arranged}
 use Rattle.package_tables.specs.Package.{tables_of}
 use Rattle.transfer.specs.Parcels.{IsNewCut, with_cut}
@@ -79,31 +81,40 @@ module _ (i : Item) (items : List Item) (q : Package) (distinct : IsDistinct byt
 -- ---- items, and links
 
 pub items_in : (f : Frame) (items : List Item) (q : Package) (old new : Database) → Reads f q old → IsDistinct bytes_eq (identities items) → AllByRecursion (λ i. has_item q i.identity ≡ false) items → EachChained PutsItem items old new
-    → Reads f (record q { items = arranged item_key (items ++ q.items) }) new
-items_in f [] q old new reads distinct fresh chain =
-    subst (λ xs. Reads f (record q { items = xs }) new) (sym (arranged_itself item_key q.items (items_in_order f q old reads))) (subst (Reads f q) (sym chain) reads)
+    → Reads f (record q { items = arranged item_key (items ++ q.items) }) new × KeepsNumbers old new
+items_in f [] q old new reads distinct fresh chain = (
+  subst (λ xs. Reads f (record q { items = xs }) new) (sym (arranged_itself item_key q.items (items_in_order f q old reads))) (subst (Reads f q) (sym chain) reads),
+  subst (KeepsNumbers old) (sym chain) (kept_same old),
+)
 items_in f (i ∷ items) q old new reads distinct fresh chain =
-    subst (λ xs. Reads f (record q { items = xs }) new) (item_later i items q distinct (items_in_order f q old reads) fresh.0)
-    (items_in f items (item_added i q) chain.0 new (chain.1 f q reads fresh.0) (rest i items q distinct) (new_still i items q distinct fresh.1) chain.2)
+    let one = chain.1 f q reads fresh.0 in
+    let others = items_in f items (item_added i q) chain.0 new one.0 (rest i items q distinct) (new_still i items q distinct fresh.1) chain.2 in
+    (subst (λ xs. Reads f (record q { items = xs }) new) (item_later i items q distinct (items_in_order f q old reads) fresh.0) others.0, kept_then old chain.0 new one.1 others.1)
 
 pub links_in : (f : Frame) (links : List Relation) (q : Package) (old new : Database) → Reads f q old → IsDistinct bytes_eq (map link_key links) → AllByRecursion (λ l. has link_key (link_key l) q.links ≡ false) links → AllByRecursion (HasEnds q) links
-    → EachChained PutsLink links old new → Reads f (record q { links = arranged link_key (links ++ q.links) }) new
-links_in f [] q old new reads distinct fresh ends chain =
-    subst (λ xs. Reads f (record q { links = xs }) new) (sym (arranged_itself link_key q.links (links_in_order f q old reads))) (subst (Reads f q) (sym chain) reads)
+    → EachChained PutsLink links old new → Reads f (record q { links = arranged link_key (links ++ q.links) }) new × KeepsNumbers old new
+links_in f [] q old new reads distinct fresh ends chain = (
+  subst (λ xs. Reads f (record q { links = xs }) new) (sym (arranged_itself link_key q.links (links_in_order f q old reads))) (subst (Reads f q) (sym chain) reads),
+  subst (KeepsNumbers old) (sym chain) (kept_same old),
+)
 links_in f (l ∷ links) q old new reads distinct fresh ends chain =
     let others : AllByRecursion (λ m. bytes_eq (link_key l) (link_key m) ≡ false) links = All-of_map (λ k. bytes_eq (link_key l) k ≡ false) link_key links (IsDistinct-head bytes_eq (link_key l) (map link_key links) distinct) in
     let absent : AllByRecursion (λ m. has link_key (link_key m) (link_added l q).links ≡ false) links =
     All-both (λ m. has link_key (link_key m) q.links ≡ false) (λ m. bytes_eq (link_key l) (link_key m) ≡ false) (λ m. has link_key (link_key m) (link_added l q).links ≡ false) (λ m none other. still_absent q l m none other) links fresh.1 others in
-    subst (λ xs. Reads f (record q { links = xs }) new)
-    (arranged_later link_key links q.links l (links_in_order f q old reads) (none_pass (λ y. bytes_eq (link_key y) (link_key l)) q.links fresh.0)
-    (All-weaker (λ m. bytes_eq (link_key l) (link_key m) ≡ false) (λ m. bytes_eq (link_key m) (link_key l) ≡ false) (λ m h. bytes_eq_swap (link_key m) (link_key l) ∙ h) links others))
-    (links_in f links (link_added l q) chain.0 new (chain.1 f q reads (record { new = fresh.0; ends = ends.0 })) (IsDistinct-tail bytes_eq (link_key l) (map link_key links) distinct) absent ends.1 chain.2)
+    let one = chain.1 f q reads (record { new = fresh.0; ends = ends.0 }) in
+    let rest = links_in f links (link_added l q) chain.0 new one.0 (IsDistinct-tail bytes_eq (link_key l) (map link_key links) distinct) absent ends.1 chain.2 in (
+      subst (λ xs. Reads f (record q { links = xs }) new)
+          (arranged_later link_key links q.links l (links_in_order f q old reads) (none_pass (λ y. bytes_eq (link_key y) (link_key l)) q.links fresh.0)
+          (All-weaker (λ m. bytes_eq (link_key l) (link_key m) ≡ false) (λ m. bytes_eq (link_key m) (link_key l) ≡ false) (λ m h. bytes_eq_swap (link_key m) (link_key l) ∙ h) links others)) rest.0,
+      kept_then old chain.0 new one.1 rest.1,
+    )
 
 -- a cut comes in
 pub cut_in : (c : Cut) (old new : Database) → PutsEach c old new → Takes c old new
 cut_in c old new chain f q reads new_cut =
     let with_items = items_in f c.items q old chain.0 reads new_cut.distinct_items new_cut.items chain.1 in
-    links_in f c.links (record q { items = arranged item_key (c.items ++ q.items) }) chain.0 new with_items new_cut.distinct_links new_cut.links new_cut.ends chain.2
+    let with_links = links_in f c.links (record q { items = arranged item_key (c.items ++ q.items) }) chain.0 new with_items.0 new_cut.distinct_links new_cut.links new_cut.ends chain.2 in
+    (with_links.0, kept_then old chain.0 new with_items.1 with_links.1)
 
 -- ---- no room
 
@@ -145,7 +156,7 @@ too_much_in (i ∷ items) links q f old reads distinct fresh over_it = elim over
   | inl full ↦ over q (arranged item_key ((i ∷ items) ++ q.items)) links i.content (one_more i items q (full f q reads))
   | inr next ↦
       subst (λ xs. is_overfull (record q { items = xs; links = links }) ≡ true) (item_later i items q distinct (items_in_order f q old reads) fresh.0)
-      (too_much_in items links (item_added i q) f next.0 (next.1 f q reads fresh.0) (rest i items q distinct) (new_still i items q distinct fresh.1) next.2)
+      (too_much_in items links (item_added i q) f next.0 (next.1 f q reads fresh.0).0 (rest i items q distinct) (new_still i items q distinct fresh.1) next.2)
 ]
 
 pub too_much : (c : Cut) (old : Database) → Overfills c.items old → IsTooMuch c old

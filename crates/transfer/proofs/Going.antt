@@ -6,7 +6,7 @@ use Rattle.std.proofs.lemmas.Map.Keys.{IsDistinct-head, IsDistinct-tail}
 use Rattle.std.proofs.lemmas.Slice.Eq.{bytes_eq-Decides}
 use Rattle.std.specs.List.{AllByRecursion, IsDistinct, list_any}
 use Rattle.sqlite.specs.Effect.{Database}
-use Rattle.sql_meaning.specs.Writing.{Chained, EachChained}
+use Rattle.store_sql.specs.Writing.{Chained, EachChained}
 use Rattle.sheet_types.specs.Ordered.{without, has, is_among}
 use Rattle.sheet_types.specs.Cut.{has_end, touches}
 use Rattle.sheet_types.specs.World.{Package, link_key, has_item}
@@ -18,9 +18,10 @@ use Rattle.sheet_types.proofs.Every.{All-weaker, All-both, All-of_map, All-taken
 use Rattle.sheet_types.proofs.Found.{any_filter}
 use Rattle.sheet_types.proofs.Same.{In, In-all, any_in}
 use Rattle.sheet_types.proofs.Without.{is_one}
-use Rattle.identity_register.specs.Calls.{Becomes}
 use Rattle.identity_register.specs.Changes.{item_deleted, link_removed}
+use Rattle.identity_register.specs.LocalNumbers.{KeepsNumbers, Shrinks}
 use Rattle.identity_register.specs.Reads.{Reads}
+use Rattle.identity_register.proofs.KeptNumbers.{kept_same, kept_then}
 use Rattle.transfer.specs.Parcels.{Names, IsSelection, without_names}
 use Rattle.transfer.specs.Removals.{DropsItem, DropsLink}
 
@@ -49,23 +50,27 @@ module _ {X : Type 0} (key : X → List ℕ) where
 -- ---- links, and items
 
 pub links_out : (f : Frame) (links : List Relation) (p : Package) (old new : Database) → Reads f p old → IsDistinct bytes_eq (map link_key links) → AllByRecursion (λ l. has link_key (link_key l) p.links ≡ true) links → EachChained DropsLink links old new
-    → Reads f (record p { links = without link_key (map link_key links) p.links }) new
-links_out f [] p old new reads distinct there chain = subst (λ xs. Reads f (record p { links = xs }) new) (sym (without_nothing link_key p.links)) (subst (Reads f p) (sym chain) reads)
+    → Reads f (record p { links = without link_key (map link_key links) p.links }) new × KeepsNumbers new old
+links_out f [] p old new reads distinct there chain =
+    (subst (λ xs. Reads f (record p { links = xs }) new) (sym (without_nothing link_key p.links)) (subst (Reads f p) (sym chain) reads), subst (λ (d : Database). KeepsNumbers d old) (sym chain) (kept_same old))
 links_out f (l ∷ links) p old new reads distinct there chain =
     let others : AllByRecursion (λ m. bytes_eq (link_key l) (link_key m) ≡ false) links = All-of_map (λ k. bytes_eq (link_key l) k ≡ false) link_key links (IsDistinct-head bytes_eq (link_key l) (map link_key links) distinct) in
     let still : AllByRecursion (λ m. has link_key (link_key m) (link_removed l p).links ≡ true) links =
     All-both (λ m. has link_key (link_key m) p.links ≡ true) (λ m. bytes_eq (link_key l) (link_key m) ≡ false) (λ m. has link_key (link_key m) (link_removed l p).links ≡ true) (λ m is apart. still_there link_key (link_key l) (link_key m) p.links apart is) links there.1 others in
-    subst (λ xs. Reads f (record p { links = xs }) new) (without_both link_key (link_key l) (map link_key links) p.links)
-    (links_out f links (link_removed l p) chain.0 new (chain.1 f p reads there.0) (IsDistinct-tail bytes_eq (link_key l) (map link_key links) distinct) still chain.2)
+    let one = chain.1 f p reads there.0 in
+    let rest = links_out f links (link_removed l p) chain.0 new one.0 (IsDistinct-tail bytes_eq (link_key l) (map link_key links) distinct) still chain.2 in
+    (subst (λ xs. Reads f (record p { links = xs }) new) (without_both link_key (link_key l) (map link_key links) p.links) rest.0, kept_then new chain.0 old rest.1 one.1)
 
 pub items_out : (f : Frame) (ids : List (List ℕ)) (p : Package) (old new : Database) → Reads f p old → IsDistinct bytes_eq ids → AllByRecursion (λ id. has_item p id ≡ true) ids → AllByRecursion (λ id. list_any (has_end id) p.links ≡ false) ids
-    → EachChained DropsItem ids old new → Reads f (record p { items = without (λ i. i.identity) ids p.items }) new
-items_out f [] p old new reads distinct there loose chain = subst (λ xs. Reads f (record p { items = xs }) new) (sym (without_nothing (λ i. i.identity) p.items)) (subst (Reads f p) (sym chain) reads)
+    → EachChained DropsItem ids old new → Reads f (record p { items = without (λ i. i.identity) ids p.items }) new × KeepsNumbers new old
+items_out f [] p old new reads distinct there loose chain =
+    (subst (λ xs. Reads f (record p { items = xs }) new) (sym (without_nothing (λ i. i.identity) p.items)) (subst (Reads f p) (sym chain) reads), subst (λ (d : Database). KeepsNumbers d old) (sym chain) (kept_same old))
 items_out f (id ∷ ids) p old new reads distinct there loose chain =
     let still : AllByRecursion (λ k. has_item (item_deleted id p) k ≡ true) ids =
     All-both (λ k. has_item p k ≡ true) (λ k. bytes_eq id k ≡ false) (λ k. has_item (item_deleted id p) k ≡ true) (λ k is apart. still_there (λ i. i.identity) id k p.items apart is) ids there.1 (IsDistinct-head bytes_eq id ids distinct) in
-    subst (λ xs. Reads f (record p { items = xs }) new) (without_both (λ i. i.identity) id ids p.items)
-    (items_out f ids (item_deleted id p) chain.0 new (chain.1 f p reads (there.0, loose.0)) (IsDistinct-tail bytes_eq id ids distinct) still loose.1 chain.2)
+    let one = chain.1 f p reads (there.0, loose.0) in
+    let rest = items_out f ids (item_deleted id p) chain.0 new one.0 (IsDistinct-tail bytes_eq id ids distinct) still loose.1 chain.2 in
+    (subst (λ xs. Reads f (record p { items = xs }) new) (without_both (λ i. i.identity) id ids p.items) rest.0, kept_then new chain.0 old rest.1 one.1)
 
 -- ---- a selection
 
@@ -94,7 +99,8 @@ loose n p it = All-weaker (λ id. In id n.identities) (λ id. list_any (has_end 
     (λ l whole out. false_from_ne_true (has_end id l) (λ ends. true≢false (sym out ∙ ap not (whole (end_touches id n.identities l i ends))))) p.links it.whole)))
     n.identities (In-all n.identities)
 
-pub selection_out : (n : Names) (old new : Database) → Chained (EachChained DropsLink n.links) (EachChained DropsItem n.identities) old new → Becomes (IsSelection n) (without_names n) old new
+pub selection_out : (n : Names) (old new : Database) → Chained (EachChained DropsLink n.links) (EachChained DropsItem n.identities) old new → Shrinks (IsSelection n) (without_names n) old new
 selection_out n old new chain f p reads it =
     let unlinked = links_out f n.links p old chain.0 reads it.distinct_links it.links chain.1 in
-    items_out f n.identities (record p { links = without link_key (map link_key n.links) p.links }) chain.0 new unlinked it.distinct_items it.items (loose n p it) chain.2
+    let gone = items_out f n.identities (record p { links = without link_key (map link_key n.links) p.links }) chain.0 new unlinked.0 it.distinct_items it.items (loose n p it) chain.2 in
+    (gone.0, kept_then new chain.0 old gone.1 unlinked.1)

@@ -3,15 +3,15 @@ use Rattle.std.specs.Prelude.{◌≡◌, ℕ, ◌+◌, ◌<◌, List, [], ◌∷
 use Rattle.std.proofs.Common.{sym, ap, subst, ◌∙◌, arith, get_or}
 use Rattle.std.specs.List.{filter_map, cons_option}
 use Rattle.sqlite.specs.State.{State, HasCleanDisk}
-use Rattle.sql_meaning.specs.Staying.{Stays}
-use Rattle.sql_meaning.specs.Transactions.{Looks, Rests, Holds}
-use Rattle.sql_meaning.proofs.Staying.{looks_stays, stays_then}
+use Rattle.store_sql.specs.Staying.{Stays}
+use Rattle.store_sql.specs.Transactions.{Looks, Rests, Holds}
+use Rattle.store_sql.proofs.Staying.{looks_stays, stays_then}
 use Rattle.sheet_types.specs.World.{Package, item_of}
 use Rattle.sheet_types.specs.declared.frame.Frame.{Frame}
 use Rattle.sheet_types.specs.declared.command.Item.{Item}
 use Rattle.identity_register.specs.Calls.{Sees}
 use Rattle.identity_register.specs.Reads.{Reads}
-use Rattle.sql_meaning.proofs.Transactions.{same_survives}
+use Rattle.store_sql.proofs.Transactions.{same_survives}
 use Rattle.transfer.specs.Moves.{OfSource}
 
 -- what some reads have told of the package so far, the store left as it was

@@ -4,9 +4,9 @@ use Rattle.std.proofs.Common.{inl, inr, sym, ap, subst, ◌∙◌, get_or, appen
 use Rattle.std.proofs.lemmas.List.{take_more, take_all, take-append-drop}
 use Rattle.sqlite.specs.Effect.{Database}
 use Rattle.sqlite.specs.State.{State, HasCleanDisk}
-use Rattle.sql_meaning.specs.Transactions.{Steps, EachStep}
-use Rattle.sql_meaning.specs.Writing.{Chained, EachChained}
-use Rattle.sql_meaning.proofs.Transactions.{steps_answer, steps_then, steps_failed, steps_weaker}
+use Rattle.store_sql.specs.Transactions.{Steps, EachStep}
+use Rattle.store_sql.specs.Writing.{Chained, EachChained}
+use Rattle.store_sql.proofs.Transactions.{steps_answer, steps_then, steps_failed, steps_weaker}
 use Rattle.sheet_types.specs.Texts.{kind_of}
 use Rattle.sheet_types.specs.Cut.{Cut}
 use Rattle.sheet_types.specs.Lines.{IsUuid}

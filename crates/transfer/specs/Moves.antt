@@ -2,7 +2,7 @@
 use Rattle.std.specs.Prelude.{◌≡◌, Bool, true, false, List, [], ◌∷◌, IsTrue, ◌⊎◌}
 use Rattle.sqlite.specs.Effect.{Database}
 use Rattle.sqlite.specs.State.{State}
-use Rattle.sql_meaning.specs.Writing.{Chained, EachChained}
+use Rattle.store_sql.specs.Writing.{Chained, EachChained}
 use Rattle.sheet_types.specs.Ordered.{has}
 use Rattle.sheet_types.specs.Cut.{Cut}
 use Rattle.sheet_types.specs.Refuse.{is_overfull}
@@ -12,8 +12,8 @@ use Rattle.sheet_types.specs.World.{Package, has_item, link_key}
 use Rattle.sheet_types.specs.declared.command.Item.{Item}
 use Rattle.sheet_types.specs.declared.command.Relation.{Relation}
 use Rattle.sheet_types.specs.declared.frame.Frame.{Frame}
-use Rattle.identity_register.specs.Calls.{Becomes}
 use Rattle.identity_register.specs.Changes.{item_added, link_added}
+use Rattle.identity_register.specs.LocalNumbers.{Grows}
 use Rattle.identity_register.specs.Reads.{Reads}
 use Rattle.identity_register.specs.Room.{IsFull}
 use Rattle.transfer.specs.Parcels.{IsNewCut, with_cut, Names, selected}
@@ -21,7 +21,7 @@ use Rattle.transfer.specs.Parcels.{IsNewCut, with_cut, Names, selected}
 -- ---- one by one
 
 abbrev pub PutsItem : Item → Database → Database → Type 0
-PutsItem i = Becomes (λ p. has_item p i.identity ≡ false) (item_added i)
+PutsItem i = Grows (λ p. has_item p i.identity ≡ false) (item_added i)
 
 -- the package has not this link, and has both its ends
 pub record IsAbsent (l : Relation) (p : Package) : Type 0 where
@@ -29,7 +29,7 @@ pub record IsAbsent (l : Relation) (p : Package) : Type 0 where
   pub ends : HasEnds p l
 
 abbrev pub PutsLink : Relation → Database → Database → Type 0
-PutsLink l = Becomes (IsAbsent l) (link_added l)
+PutsLink l = Grows (IsAbsent l) (link_added l)
 
 -- an item comes in, or there is no room for it
 abbrev pub TriesItem : Item → Bool → Database → Database → Type 0
@@ -55,9 +55,9 @@ TriesEach c false old new = Overfills c.items old
 
 -- ---- all at once
 
--- a store that reads as a package without these items and links reads as the package with them
+-- A store that reads as a package without these items and links reads as the package with them, and what stood keeps its number.
 abbrev pub Takes : Cut → Database → Database → Type 0
-Takes c = Becomes (IsNewCut c) (with_cut c)
+Takes c = Grows (IsNewCut c) (with_cut c)
 
 -- with them it would hold too much
 abbrev pub IsTooMuch : Cut → Database → Type 0

@@ -3,8 +3,8 @@ ghost use Rattle.std.specs.Prelude.{◌≡◌, ◌≤◌, [], ◌∷◌, IfOk, I
 ghost use Rattle.std.specs.List.{filter_map};
 ghost use Rattle.sqlite.specs.Held.{state};
 ghost use Rattle.sqlite.specs.State.{HasCleanDisk};
-ghost use Rattle.sql_meaning.specs.Staying.{Stays};
-ghost use Rattle.sql_meaning.specs.Transactions.{Rests, Steps};
+ghost use Rattle.store_sql.specs.Staying.{Stays};
+ghost use Rattle.store_sql.specs.Transactions.{Rests, Steps};
 ghost use Rattle.sheet_types.specs.World.{item_of};
 ghost use Rattle.sheet_types.specs.declared.refusal.Refusal.TheVariants.{TooMany};
 ghost use Rattle.transfer.specs.Refusals.{IsReason};

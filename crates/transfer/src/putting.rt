@@ -2,8 +2,8 @@
 ghost use Rattle.std.specs.Prelude.{◌≡◌, IfErr, IsTrue};
 ghost use Rattle.sqlite.specs.Held.{state};
 ghost use Rattle.sqlite.specs.State.{HasCleanDisk};
-ghost use Rattle.sql_meaning.specs.Transactions.{Steps};
-ghost use Rattle.sql_meaning.specs.Writing.{EachChained};
+ghost use Rattle.store_sql.specs.Transactions.{Steps};
+ghost use Rattle.store_sql.specs.Writing.{EachChained};
 ghost use Rattle.sheet_types.specs.declared.refusal.Refusal.TheVariants.{TooMany};
 ghost use Rattle.transfer.specs.Refusals.{IsReason};
 ghost use Rattle.transfer.specs.Parcels.{cut_of};

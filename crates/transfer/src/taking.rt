@@ -1,9 +1,9 @@
 //! A selection that goes out of a package inside a transaction: first its links, then its items.
 ghost use Rattle.std.specs.Prelude.{◌≡◌, IfErr};
 ghost use Rattle.sqlite.specs.Held.{state};
-ghost use Rattle.sql_meaning.specs.Transactions.{Steps};
-ghost use Rattle.sql_meaning.specs.Writing.{Chained, EachChained};
-ghost use Rattle.identity_register.specs.Calls.{Becomes};
+ghost use Rattle.store_sql.specs.Transactions.{Steps};
+ghost use Rattle.store_sql.specs.Writing.{Chained, EachChained};
+ghost use Rattle.identity_register.specs.LocalNumbers.{Shrinks};
 ghost use Rattle.transfer.specs.Refusals.{IsFault};
 ghost use Rattle.transfer.specs.Parcels.{names_of, IsSelection, without_names};
 ghost use Rattle.transfer.specs.Removals.{DropsItem, DropsLink};
@@ -66,7 +66,7 @@ fn drop_each<S: Alter>(tx: &mut Transaction<'_, S>, selection: &Selection) -> Re
 /// Want of memory, or a store that failed. Nothing is committed; the transaction has to be dropped.
 pub fn take<S: Alter>(tx: &mut Transaction<'_, S>, selection: &Selection) -> Result<(), Refusal>
     ensures same_reference { tx.new.conn.ghost_name ≡ tx.old.conn.ghost_name }
-    ensures steps { Steps (λ _. Becomes (IsSelection (names_of selection.now)) (without_names (names_of selection.now))) (state S.Store tx.old.conn.now) (state S.Store tx.new.conn.now) result }
+    ensures steps { Steps (λ _. Shrinks (IsSelection (names_of selection.now)) (without_names (names_of selection.now))) (state S.Store tx.old.conn.now) (state S.Store tx.new.conn.now) result }
     ensures refused { IfErr result IsFault }
 {
     match drop_each(tx, selection) {

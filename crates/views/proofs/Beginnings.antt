@@ -3,7 +3,7 @@ use Rattle.std.proofs.Common.{◌≡◌, ◌<◌, ◌≤◌, ◌+◌, ◌++◌, 
 use Rattle.std.proofs.lemmas.List.{take-append-le}
 use Rattle.std.proofs.KnownBytes.{Appends-nil, Appends-trans}
 use Rattle.std.specs.Io.KnownBytes.{Appends}
-use Rattle.export_sql.specs.Exports.{closing}
+use Rattle.view_export.specs.Exports.{closing}
 use Rattle.manifest_csv.specs.Sent.{WentOut}
 use Rattle.manifest_csv.proofs.SentFacts.{went_out_after, went_out_of}
 use Rattle.views.specs.Written.{Began}

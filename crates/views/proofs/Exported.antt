@@ -7,8 +7,8 @@ use Rattle.sheet_types.specs.World.{World, is_live, holdings}
 use Rattle.sheet_types.specs.declared.command.Item.{Item}
 use Rattle.sheet_types.specs.declared.command.Relation.{Relation}
 use Rattle.sheet_types.specs.declared.frame.Frame.{Frame}
-use Rattle.export_sql.specs.Exports.{export_text, items_behind, link_row, opening}
-use Rattle.export_sql.specs.Numbers.{no_counts}
+use Rattle.view_export.specs.Exports.{export_text, items_behind, link_row, opening}
+use Rattle.view_export.specs.Numbers.{no_counts}
 use Rattle.manifest_csv.specs.Sent.{WentOut}
 use Rattle.manifest_csv.specs.declared.package_manifests.ManifestFault.{ManifestFault}
 use Rattle.manifest_csv.specs.declared.package_manifests.ManifestFault.TheVariants.{Unknown, Failed, Unwritten}

@@ -7,9 +7,9 @@ use Rattle.sheet_types.specs.Answers.{holdings_answer, package_sights}
 use Rattle.sheet_types.specs.World.{World, holdings, is_live}
 use Rattle.sheet_types.specs.declared.command.Item.{Item}
 use Rattle.sheet_types.specs.declared.command.Relation.{Relation}
-use Rattle.sheet_maps.specs.Worlds.{AreHolders, IsHolder, places_of}
-use Rattle.sheet_maps.specs.declared.holders.Holder.{Holder}
-use Rattle.sheet_maps.specs.declared.holders.Place.{Place}
+use Rattle.view_map.specs.Worlds.{AreHolders, IsHolder, places_of}
+use Rattle.view_map.specs.declared.holders.Holder.{Holder}
+use Rattle.view_map.specs.declared.holders.Place.{Place}
 use Rattle.sqlite.specs.Store.{Ghosts}
 use Rattle.world.specs.Reading.{sight_of}
 use Rattle.world.specs.Worlds.{Seen, StandsFor}

@@ -4,9 +4,9 @@ use Rattle.std.specs.Prelude.{true}
 use Rattle.sheet_types.specs.Matrix.{has_level}
 use Rattle.sheet_types.specs.World.{World}
 use Rattle.sheet_types.specs.declared.frame.Frame.{Frame}
-use Rattle.sheet_maps.specs.Maps.{map_text}
-use Rattle.sheet_maps.specs.Worlds.{AreHolders, IsWorldMap}
-use Rattle.sheet_maps.specs.declared.holders.Holder.{Holder}
+use Rattle.view_map.specs.Maps.{map_text}
+use Rattle.view_map.specs.Worlds.{AreHolders, IsWorldMap}
+use Rattle.view_map.specs.declared.holders.Holder.{Holder}
 use Rattle.views.specs.Printed.{HasZoom, IsMap}
 use Rattle.views.specs.Zooms.{drawn_zoom}
 

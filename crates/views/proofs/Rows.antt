@@ -6,10 +6,10 @@ use Rattle.sheet_types.specs.declared.command.Content.{Content}
 use Rattle.sheet_types.specs.declared.command.Content.TheVariants.{Tile, Media, Row}
 use Rattle.sheet_types.specs.declared.command.Item.{Item}
 use Rattle.sheet_types.specs.declared.command.Relation.{Relation}
-use Rattle.export_sql.specs.Exports.{item_rows, items_behind, link_row}
-use Rattle.export_sql.specs.Numbers.{counted, next_number, no_counts}
-use Rattle.export_sql.specs.declared.numbers.Counts.{Counts}
-use Rattle.ledger.proofs.Walking.{one_more}
+use Rattle.view_export.specs.Exports.{item_rows, items_behind, link_row}
+use Rattle.view_export.specs.Numbers.{counted, next_number, no_counts}
+use Rattle.view_export.specs.declared.numbers.Counts.{Counts}
+use Rattle.sheet_ledger.proofs.Walking.{one_more}
 
 -- what is counted behind some items
 abbrev pub counts_behind : Counts → List Item → Counts

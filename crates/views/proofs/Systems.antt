@@ -7,7 +7,7 @@ use Rattle.sheet_types.specs.declared.frame.Frame.{Frame}
 use Rattle.sheet_types.specs.declared.frame.FrameFault.{FrameFault}
 use Rattle.sheet_types.specs.declared.frame.FrameFault.TheVariants.{BadSrs, BadBounds, BadTile, BadZoom, BadMatrix, Uneven}
 use Rattle.sheet_types.specs.Matrix.{first_row, is_within, is_good_bound, is_good_frame, divides, width_at, height_at, last_level, ten_to_12}
-use Rattle.export_sql.specs.Points.{FitsHeader}
+use Rattle.view_export.specs.Points.{FitsHeader}
 
 -- the rules of a frame behind the first
 abbrev other_rules : Frame → List (Bool × FrameFault)

@@ -6,7 +6,7 @@ use Rattle.sqlite.specs.Store.{Ghosts}
 use Rattle.package_tables.specs.declared.fault.Fault.{Fault}
 use Rattle.sheet_types.specs.World.{World}
 use Rattle.world.specs.Worlds.{Seen, TellsOf}
-use Rattle.world_views.specs.Looks.{LooksInto}
+use Rattle.view_world.specs.Looks.{LooksInto}
 use Rattle.views.specs.Showing.{told, told_if}
 
 module _ {S : Type 0} (g : Ghosts S) {T : Type 0} (bytes : T → List ℕ) where

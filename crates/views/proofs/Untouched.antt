@@ -3,7 +3,7 @@ use Rattle.std.proofs.Common.{◌∙◌, ap, sym, subst, inl, inr}
 use Rattle.sqlite.specs.Store.{Ghosts}
 use Rattle.sheet_types.specs.World.{World}
 use Rattle.world.specs.Worlds.{IsRead, Seen, StandsFor}
-use Rattle.members.proofs.Standing.{all_stay_then}
+use Rattle.world_members.proofs.Standing.{all_stay_then}
 use Rattle.views.specs.Printed.{IsUntouched}
 
 module _ {S : Type 0} (g : Ghosts S) where

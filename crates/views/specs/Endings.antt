@@ -1,7 +1,8 @@
 -- How a call that looks at a folder ends: its exit status, and the lines that it prints before (profile).
 use Rattle.std.specs.Prelude.{ℕ, List, [], codes, Option, None}
+use Rattle.store_folder.specs.declared.fault.FolderFault.{FolderFault}
 use Rattle.command_words.specs.Endings.{line_of}
-use Rattle.folder_worlds.specs.Endings.{ending_status as usual_status, output_text as usual_output, error_text as usual_error, busy_package as usual_package}
+use Rattle.command_folder.specs.Endings.{ending_status as usual_status, output_text as usual_output, error_text as usual_error, folder_fault as usual_fault}
 use Rattle.views.specs.declared.endings.Ending.{Ending}
 use Rattle.views.specs.declared.endings.Ending.TheVariants.{Usual, NoSuchRequest, NoSuchIdentity, NoSuchZoom}
 
@@ -25,9 +26,9 @@ error_text NoSuchRequest = []
 error_text NoSuchIdentity = []
 error_text NoSuchZoom = []
 
--- the package whose file is busy, where that is why a folder was not opened
-abbrev pub busy_package : Ending → Option (List ℕ)
-busy_package (Usual ending) = usual_package ending
-busy_package NoSuchRequest = None
-busy_package NoSuchIdentity = None
-busy_package NoSuchZoom = None
+-- the fault of the folder, where that is why it was not opened
+abbrev pub folder_fault : Ending → Option FolderFault
+folder_fault (Usual ending) = usual_fault ending
+folder_fault NoSuchRequest = None
+folder_fault NoSuchIdentity = None
+folder_fault NoSuchZoom = None

@@ -3,8 +3,8 @@ use Rattle.std.specs.Prelude.{◌≡◌, ℕ, List, Option, Result}
 use Rattle.sqlite.specs.Store.{Ghosts}
 use Rattle.world.specs.Worlds.{IsRead, Seen}
 use Rattle.manifest_csv.specs.declared.package_manifests.ManifestFault.{ManifestFault}
-use Rattle.folder_worlds.specs.Endings.{manifest_ending}
-use Rattle.folder_worlds.specs.declared.endings.Ending.{Ending}
+use Rattle.command_folder.specs.Endings.{manifest_ending}
+use Rattle.command_folder.specs.declared.endings.Ending.{Ending}
 use Rattle.views.specs.Written.{IsExport, LeavesUnknown}
 
 module _ {S : Type 0} (g : Ghosts S) {W : Type 0} (p : List ℕ) (old new : Seen S) (writer writer' : W) where

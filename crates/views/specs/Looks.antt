@@ -7,10 +7,10 @@ use Rattle.world.specs.Worlds.{Seen, held}
 use Rattle.command_words.specs.declared.statuses.Outcome.TheVariants.{Refused}
 use Rattle.command_words.specs.declared.statuses.What.{What}
 use Rattle.command_words.specs.declared.statuses.What.TheVariants.{BadNumber, BadUuid}
-use Rattle.folder_worlds.specs.Folders.{IsFolderWorld}
-use Rattle.folder_worlds.specs.declared.endings.Ending.{Ending as CommandEnding}
-use Rattle.folder_worlds.specs.declared.endings.Ending.TheVariants as usual
-use Rattle.folder_worlds.specs.declared.endings.OpenFault.{OpenFault}
+use Rattle.command_folder.specs.Folders.{IsFolderWorld}
+use Rattle.command_folder.specs.declared.endings.Ending.{Ending as CommandEnding}
+use Rattle.command_folder.specs.declared.endings.Ending.TheVariants as usual
+use Rattle.command_folder.specs.declared.endings.OpenFault.{OpenFault}
 use Rattle.views.specs.ExportEndings.{EndsExport}
 use Rattle.views.specs.MapEndings.{EndsMap}
 use Rattle.views.specs.Reports.{Audits, EndsManifest}

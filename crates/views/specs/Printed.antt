@@ -4,8 +4,8 @@ use Rattle.std.specs.Io.KnownBytes.{Appends}
 use Rattle.sqlite.specs.Store.{Ghosts}
 use Rattle.sheet_types.specs.Matrix.{has_level}
 use Rattle.sheet_types.specs.World.{World}
-use Rattle.sheet_maps.specs.Worlds.{IsWorldMap}
-use Rattle.members.specs.Members.{AllClean}
+use Rattle.view_map.specs.Worlds.{IsWorldMap}
+use Rattle.world_members.specs.Members.{AllClean}
 use Rattle.world.specs.Worlds.{IsRead, Seen, StandsFor}
 use Rattle.manifest_csv.specs.Sent.{WentOut}
 use Rattle.views.specs.Zooms.{drawn_zoom}

@@ -3,15 +3,15 @@ use Rattle.std.specs.Prelude.{◌≡◌, ◌⊎◌, ◌++◌, ℕ, List, codes, 
 use Rattle.sqlite.specs.Store.{Ghosts}
 use Rattle.sheet_types.specs.Answers.{PackageSight, package_sights}
 use Rattle.sheet_types.specs.World.{World}
-use Rattle.opening.specs.declared.faults.RecoverFault.TheVariants as fault
+use Rattle.opening_faults.specs.declared.faults.RecoverFault.TheVariants as fault
 use Rattle.world.specs.Worlds.{IsRead, Seen, StandsFor}
 use Rattle.manifest_csv.specs.PackageManifests.{IsManifest, WritesNothing}
 use Rattle.manifest_csv.specs.declared.package_manifests.ManifestFault.{ManifestFault}
-use Rattle.folder_worlds.specs.Endings.{done, manifest_ending}
-use Rattle.folder_worlds.specs.Printing.{Prints}
-use Rattle.folder_worlds.specs.declared.endings.Ending.{Ending}
-use Rattle.folder_worlds.specs.declared.endings.Ending.TheVariants.{Faulted}
-use Rattle.folder_worlds.specs.declared.endings.OpenFault.TheVariants.{Fault}
+use Rattle.command_folder.specs.Endings.{done, manifest_ending}
+use Rattle.command_folder.specs.Printing.{Prints}
+use Rattle.command_folder.specs.declared.endings.Ending.{Ending}
+use Rattle.command_folder.specs.declared.endings.Ending.TheVariants.{Faulted}
+use Rattle.command_folder.specs.declared.endings.OpenFault.TheVariants.{Fault}
 
 abbrev pub good_line : ℕ → List ℕ
 good_line receipts = codes "good " ++ (decimal receipts ++ codes "\n")

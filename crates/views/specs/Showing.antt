@@ -5,8 +5,8 @@ use Rattle.manifest_csv.specs.Sent.{WentOut}
 use Rattle.package_tables.specs.declared.fault.Fault.{Fault}
 use Rattle.command_words.specs.Failures.{of_fault}
 use Rattle.command_words.specs.declared.statuses.Outcome.TheVariants.{Stopped}
-use Rattle.folder_worlds.specs.Endings.{done, failed}
-use Rattle.folder_worlds.specs.declared.endings.Ending.TheVariants as usual
+use Rattle.command_folder.specs.Endings.{done, failed}
+use Rattle.command_folder.specs.declared.endings.Ending.TheVariants as usual
 use Rattle.views.specs.declared.endings.Ending.{Ending}
 use Rattle.views.specs.declared.endings.Ending.TheVariants.{Usual}
 

@@ -4,8 +4,8 @@ use Rattle.sqlite.specs.Held.{Held}
 use Rattle.sqlite.specs.Store.{Ghosts}
 use Rattle.package_tables.specs.declared.fault.Fault.{Fault}
 use Rattle.world.specs.Worlds.{IsRead, Seen, TellsOf}
-use Rattle.world_views.specs.Looks.{LooksInto}
-use Rattle.world_views.specs.Told.{receipt_line, status_text, way_answer}
+use Rattle.view_world.specs.Looks.{LooksInto}
+use Rattle.view_world.specs.Told.{receipt_line, status_text, way_answer}
 use Rattle.views.specs.Showing.{Shows, ShowsText}
 use Rattle.views.specs.declared.endings.Ending.{Ending}
 use Rattle.views.specs.declared.endings.Ending.TheVariants.{NoSuchRequest, NoSuchIdentity}

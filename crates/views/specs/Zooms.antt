@@ -3,7 +3,7 @@ use Rattle.std.specs.Prelude.{◌≡◌, ℕ, ℤ, List, Option, Some, None, Fit
 use Rattle.std.specs.Fmt.{signed_decimal}
 use Rattle.std.specs.Int.{w64}
 use Rattle.sheet_types.specs.declared.frame.Frame.{Frame}
-use Rattle.sheet_maps.specs.Zooms.{default_zoom}
+use Rattle.view_map.specs.Zooms.{default_zoom}
 
 -- Which zoom a word asks for: where there is no word, none in particular; else the word is its plain decimal, and it
 -- fits 64 bits.

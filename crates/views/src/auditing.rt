@@ -4,12 +4,12 @@ ghost use Rattle.sheet_types.specs.World.{World as ModelWorld};
 ghost use Rattle.world.specs.Worlds.{StandsFor};
 ghost use Rattle.views.specs.Reports.{good_line, last_receipt};
 ghost use Rattle.views.specs.Reports.{Audits};
-ghost use Rattle.folder_worlds.specs.declared.endings.Ending.TheVariants.{Faulted};
-ghost use Rattle.folder_worlds.specs.declared.endings.OpenFault.TheVariants as unopened;
+ghost use Rattle.command_folder.specs.declared.endings.Ending.TheVariants.{Faulted};
+ghost use Rattle.command_folder.specs.declared.endings.OpenFault.TheVariants as unopened;
 
-use folder_worlds::endings::{DONE, Ending, FAILED, OpenFault};
+use command_folder::endings::{DONE, Ending, FAILED, OpenFault};
 use manifest_csv::sending::send;
-use opening::faults::RecoverFault;
+use opening_faults::faults::RecoverFault;
 use package_tables::fault::Fault;
 use sqlite::Alter;
 use std::alloc::{AllocError, Global};

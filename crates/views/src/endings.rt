@@ -1,12 +1,12 @@
 //! How a call that looks at a folder ends: its exit status, and the lines that it prints before.
 ghost use Rattle.std.specs.Prelude.{◌≡◌};
-ghost use Rattle.views.specs.Endings.{busy_package, ending_status, error_text, output_text};
+ghost use Rattle.views.specs.Endings.{ending_status, error_text, folder_fault, output_text};
 
-use folder_worlds::endings::{
-    Ending as CommandEnding, busy_package as usual_package, error_of as usual_error,
+use command_folder::endings::{
+    Ending as CommandEnding, error_of as usual_error, folder_fault as usual_fault,
     output_of as usual_output, status_of as usual_status,
 };
-use uuid::Uuid;
+use store_folder::fault::FolderFault;
 
 /// The end of a call that looks at a folder.
 #[derive(Clone, Copy, Debug, PartialEq, Eq)]
@@ -53,12 +53,12 @@ pub fn error_of(ending: Ending) -> &'static str
     }
 }
 
-/// The package whose file another process may hold, where that is why the program ended. Standard error is told so in a line of its own.
-pub fn busy_package(ending: Ending) -> Option<Uuid>
-    ensures { result ≡ busy_package ending }
+/// The fault of the folder or of a file in it, where that is why the program ended. Standard error is told what is known of it in a line of its own.
+pub fn folder_fault(ending: Ending) -> Option<FolderFault>
+    ensures { result ≡ folder_fault ending }
 {
     match ending {
-        Ending::Usual(ending) => usual_package(ending),
+        Ending::Usual(ending) => usual_fault(ending),
         Ending::NoSuchRequest | Ending::NoSuchIdentity | Ending::NoSuchZoom => None,
     }
 }

@@ -7,8 +7,8 @@ use sqlite::{Alter, Connection};
 use std::alloc::Global;
 use std::io::Write;
 use uuid::Uuid;
+use view_world::ways::way_of;
 use world::world::World;
-use world_views::ways::way_of;
 
 /// Writes the way of an item through the packages of a world, whose stores are handed on.
 pub fn explain_in<S: Alter + Drop, W: Write>(

@@ -1,11 +1,11 @@
 //! The export of a package of a world.
 ghost use Rattle.std.specs.Prelude.{◌≡◌, Err};
-ghost use Rattle.folder_worlds.specs.Endings.{manifest_ending};
+ghost use Rattle.command_folder.specs.Endings.{manifest_ending};
 ghost use Rattle.views.specs.ExportEndings.{EndsExport};
 
 use crate::writing::write_export;
+use command_folder::endings::{DONE, Ending};
 use command_words::statuses::{Failure, Outcome};
-use folder_worlds::endings::{DONE, Ending};
 use manifest_csv::package_manifests::ManifestFault;
 use sqlite::Alter;
 use std::alloc::Global;

@@ -1,17 +1,17 @@
 //! What is drawn of the packages of a world.
 ghost use Rattle.std.specs.List.{AllZip};
 ghost use Rattle.std.specs.Prelude.{map};
-ghost use Rattle.sheet_maps.specs.Worlds.{AreHolders, IsHolder};
+ghost use Rattle.view_map.specs.Worlds.{AreHolders, IsHolder};
 ghost use Rattle.world.specs.Reading.{sight_of};
 ghost use Rattle.world.specs.Worlds.{IsRead, TellsOf};
 ghost use Rattle.views.specs.Printed.{IsUntouched};
 
 use package_tables::fault::Fault;
-use sheet_maps::holders::{Holder, Place};
-use sheet_maps::places::places_of;
 use sqlite::Alter;
 use std::alloc::Global;
 use uuid::Uuid;
+use view_map::holders::{Holder, Place};
+use view_map::places::places_of;
 use world::reading::PackageSight;
 use world::world::World;
 

@@ -13,16 +13,16 @@ use crate::maps::map_in;
 use crate::receipts::receipt_in;
 use crate::status::status_in;
 use crate::zooms::asked_zoom;
+use command_folder::endings::{Ending as CommandEnding, OpenFault};
+use command_folder::folders::{OpenFolder, open_folder};
 use command_words::statuses::{Outcome, What};
-use folder::opening::close_stores;
-use folder::start::FolderStore;
-use folder_worlds::endings::{Ending as CommandEnding, OpenFault};
-use folder_worlds::folders::open_folder;
 use sheet_types::reading::read_uuid;
 use sqlite::{Alter, Connection};
 use sqlite_trees::store::Store;
 use std::alloc::Global;
 use std::io::Write;
+use store_folder::opening::close_stores;
+use store_folder::start::FolderStore;
 use uuid::Uuid;
 use world::world::World;
 
@@ -141,7 +141,13 @@ fn look_at<W: Write>(rt: &HostRuntime, folder: &str, look: Look, writer: &mut W)
         writer.old writer.new (W.contents writer.old) (W.contents writer.new) result }
 {
     match open_folder(rt, folder) {
-        Ok(world) => {
+        Ok(
+            OpenFolder {
+                world,
+                lock: _lock,
+                ..
+            },
+        ) => {
             let (ending, stores) = look_in(rt.alloc(), world, look, writer);
             close_stores(stores);
             ending

@@ -1,10 +1,10 @@
 //! The manifest of a package of a world.
 ghost use Rattle.std.specs.Prelude.{◌≡◌, Err};
-ghost use Rattle.folder_worlds.specs.Endings.{manifest_ending};
+ghost use Rattle.command_folder.specs.Endings.{manifest_ending};
 ghost use Rattle.views.specs.Reports.{EndsManifest};
 
+use command_folder::endings::{DONE, Ending};
 use command_words::statuses::{Failure, Outcome};
-use folder_worlds::endings::{DONE, Ending};
 use manifest_csv::package_manifests::{ManifestFault, write_manifest};
 use sqlite::Alter;
 use std::alloc::Global;

@@ -4,8 +4,8 @@ ghost use Rattle.views.specs.MapEndings.{EndsMap, map_ending};
 
 use crate::endings::Ending;
 use crate::printing::{MapFault, print_map};
+use command_folder::endings::{DONE, Ending as CommandEnding, FAILED};
 use command_words::statuses::{Failure, Outcome};
-use folder_worlds::endings::{DONE, Ending as CommandEnding, FAILED};
 use sqlite::Alter;
 use std::alloc::Global;
 use std::io::Write;

@@ -1,7 +1,7 @@
 //! The map of a world, made whole and then written.
 ghost use Rattle.std.specs.Prelude.{◌≡◌, IsTrue, string_bytes};
 ghost use Rattle.sheet_types.specs.Matrix.{has_level, is_good_frame};
-ghost use Rattle.sheet_maps.specs.Worlds.{IsWorldMap};
+ghost use Rattle.view_map.specs.Worlds.{IsWorldMap};
 ghost use Rattle.world.specs.Worlds.{TellsOf};
 ghost use Rattle.views.specs.Printed.{IsPrinted, IsUntouched, LeavesUnprinted};
 
@@ -10,11 +10,11 @@ use crate::zooms::zoom_of;
 use manifest_csv::sending::send;
 use matrix_rules::check::FrameRules;
 use package_tables::fault::Fault;
-use sheet_maps::maps::map_text;
 use sheet_types::frame::Frame;
 use sqlite::Alter;
 use std::alloc::Global;
 use std::io::Write;
+use view_map::maps::map_text;
 use world::world::World;
 
 /// Why a map was not printed.

@@ -7,8 +7,8 @@ use sqlite::Alter;
 use std::alloc::Global;
 use std::io::Write;
 use uuid::Uuid;
+use view_world::receipts::receipt_line;
 use world::world::World;
-use world_views::receipts::receipt_line;
 
 /// Writes the kept receipt of a request to a world, as the desk has it, on a line.
 pub fn receipt_in<S: Alter + Drop, W: Write>(

@@ -3,8 +3,8 @@ ghost use Rattle.std.specs.Prelude.{◌≡◌, string_bytes};
 ghost use Rattle.views.specs.Showing.{PrintsAll, Shows, ShowsText, stopped, told, told_if};
 
 use crate::endings::Ending;
+use command_folder::endings::{DONE, Ending as CommandEnding, FAILED};
 use command_words::statuses::{Failure, Outcome};
-use folder_worlds::endings::{DONE, Ending as CommandEnding, FAILED};
 use manifest_csv::sending::send;
 use package_tables::fault::Fault;
 use std::io::Write;

@@ -6,8 +6,8 @@ use crate::showing::show;
 use sqlite::{Alter, Connection};
 use std::alloc::Global;
 use std::io::Write;
+use view_world::packages::status_of;
 use world::world::World;
-use world_views::packages::status_of;
 
 /// Writes the table of the packages of a world, whose stores are handed on.
 pub fn status_in<S: Alter + Drop, W: Write>(

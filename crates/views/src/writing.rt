@@ -4,15 +4,12 @@ ghost use Rattle.sheet_types.specs.Matrix.{is_good_frame};
 ghost use Rattle.sheet_types.specs.declared.command.Item.{Item as ModelItem};
 ghost use Rattle.std.specs.Io.KnownBytes.{Appends};
 ghost use Rattle.world.specs.Worlds.{IsRead};
-ghost use Rattle.export_sql.specs.Exports.{export_text, items_behind, link_row};
-ghost use Rattle.export_sql.specs.Numbers.{AreNumbersOf, no_counts};
-ghost use Rattle.export_sql.specs.Points.{FitsHeader};
+ghost use Rattle.view_export.specs.Exports.{export_text, items_behind, link_row};
+ghost use Rattle.view_export.specs.Numbers.{AreNumbersOf, no_counts};
+ghost use Rattle.view_export.specs.Points.{FitsHeader};
 ghost use Rattle.manifest_csv.specs.Sent.{WentOut};
 ghost use Rattle.views.specs.Written.{Began, IsExport, IsOfLive, LeavesUnknown};
 
-use export_sql::lines::{item_rows, link_row};
-use export_sql::numbers::{Counts, numbers_of};
-use export_sql::opening::{closing, opening};
 use manifest_csv::package_manifests::ManifestFault;
 use manifest_csv::sending::send;
 use matrix_rules::check::FrameRules;
@@ -24,6 +21,9 @@ use std::alloc::Global;
 use std::collections::BTreeMap;
 use std::io::Write;
 use uuid::Uuid;
+use view_export::lines::{item_rows, link_row};
+use view_export::numbers::{Counts, numbers_of};
+use view_export::opening::{closing, opening};
 use world::world::World;
 
 /// Writes the rows of items, each under the next number of its kind.

@@ -3,9 +3,9 @@ ghost use Rattle.std.specs.Prelude.{◌≡◌, ℤ, false, IfNone, IfSome, IsTru
 ghost use Rattle.sheet_types.specs.Matrix.{has_level, is_good_frame};
 ghost use Rattle.views.specs.Zooms.{AsksZoom, drawn_zoom};
 
-use sheet_maps::zooms::{default_zoom, has_level};
 use sheet_types::frame::Frame;
 use sheet_types::reading::read_number;
+use view_map::zooms::{default_zoom, has_level};
 
 /// The zoom that a text names, in plain decimal within 64 bits; `None` where the text is no number.
 fn read_zoom(text: &str) -> Option<Option<i64>>

@@ -3,7 +3,7 @@ use Rattle.std.proofs.Common.{◌≡◌, ◌≤◌, refl, ℕ, List, [], ◌∷�
 use Rattle.std.proofs.Common.{sym, subst}
 use Rattle.std.specs.List.{AllByRecursion}
 use Rattle.std.proofs.lemmas.List.Elements.{All-from_recursion}
-use Rattle.sql_meaning.specs.Transactions.{Rests}
+use Rattle.store_sql.specs.Transactions.{Rests}
 use Rattle.sqlite.specs.Store.{Ghosts}
 use Rattle.sqlite.specs.Held.{Held, state}
 use Rattle.sheet_types.specs.Lines.{IsUuid}
@@ -11,11 +11,11 @@ use Rattle.sheet_types.specs.Matrix.{is_good_frame}
 use Rattle.sheet_types.specs.Refuse.{greatest_receipts}
 use Rattle.sheet_types.specs.World.{new_world, no_package}
 use Rattle.sheet_types.specs.declared.frame.Frame.{Frame}
-use Rattle.ledger_laws.proofs.First.{new_world_is_register}
+use Rattle.sheet_laws.proofs.First.{new_world_is_register}
 use Rattle.identity_register.specs.Creation.{new_package, Keeps}
-use Rattle.members.specs.Members.{AllRest, AllClean, IsMember, AreMembers}
+use Rattle.world_members.specs.Members.{AllRest, AllClean, IsMember, AreMembers}
 use Rattle.world.specs.Worlds.{StandsFor, StandsBeside, IsHeld, seen_of}
-use Rattle.members.specs.declared.members.Member.{Member}
+use Rattle.world_members.specs.declared.members.Member.{Member}
 
 module _ {S : Type 0} (g : Ghosts S) where
   -- the archive's own member

@@ -1,6 +1,6 @@
 -- What is due is carried out among the members of a world that can be used.
-use Rattle.std.specs.Prelude.{◌≡◌, ℕ, ◌+◌, List, [], ◌∷◌, ◌++◌, map, refl, Ok, Err, IsTrue}
-use Rattle.std.proofs.Common.{sym, ap, subst, ◌∙◌, inl, inr}
+use Rattle.std.specs.Prelude.{◌≡◌, ◌≤◌, ℕ, length, ◌+◌, List, [], ◌∷◌, ◌++◌, map, refl, Ok, Err, IsTrue}
+use Rattle.std.proofs.Common.{arith, sym, ap, subst, ◌∙◌, inl, inr}
 use Rattle.std.specs.List.{AllByRecursion}
 use Rattle.std.proofs.lemmas.List.{append-nil}
 use Rattle.std.proofs.lemmas.List.Elements.{All-from_recursion}
@@ -13,30 +13,31 @@ use Rattle.sqlite.specs.State.{HasCleanDisk}
 use Rattle.sheet_types.specs.World.{World, Package}
 use Rattle.sheet_types.specs.declared.frame.Frame.{Frame}
 use Rattle.sheet_types.specs.declared.receipt.Receipt.{Receipt}
-use Rattle.sql_meaning.specs.Transactions.{Rests}
-use Rattle.sql_meaning.proofs.Transactions.{Shuts, Settles}
-use Rattle.sql_meaning.proofs.StoreLemmas.{same_world}
+use Rattle.store_sql.specs.Transactions.{Rests}
+use Rattle.store_sql.proofs.Transactions.{Shuts, Settles}
+use Rattle.store_sql.proofs.StoreLemmas.{same_world}
 use Rattle.package_tables.specs.declared.fault.Fault.TheVariants as fault
-use Rattle.carrying.specs.Carries.{Carries, IsBeforeCommit}
-use Rattle.carrying.specs.Leaving.{IsBeside, AreAtRest, AreBeside, LeavesOneOf}
-use Rattle.due_loans.specs.Loans.{IsLent, IsReturned}
-use Rattle.members.specs.Members.{AllRest, AllClean, AllOpen, AllStay, AreMembers}
-use Rattle.carrying.specs.Merges.{Merges}
-use Rattle.due_loans.specs.ServeFaults.{IsLastingFault}
-use Rattle.carrying.specs.Turns.{IsUncommitted}
-use Rattle.carrying.specs.Splits.{Splits, KeepsLoan}
-use Rattle.members.specs.Turning.{LeftAs, LeavesAsBefore}
-use Rattle.lending.specs.declared.turn_fault.TurnFault.{TurnFault}
-use Rattle.lending.specs.declared.turn_fault.TurnFault.TheVariants.{Before, Committing}
-use Rattle.due_loans.specs.declared.loans.Lending.{Lending}
-use Rattle.due_loans.specs.declared.loans.Returning.{Returning}
-use Rattle.due_loans.specs.declared.loans.ServeFault.{ServeFault}
-use Rattle.due_loans.specs.declared.loans.ServeFault.TheVariants.{Turn}
-use Rattle.members.specs.declared.members.Member.{Member}
-use Rattle.members.proofs.Changing.{stay_leaves}
-use Rattle.carrying.proofs.HeldStores.{held_clean, members_left}
-use Rattle.carrying.proofs.Lent.{child_left, is_beside, none_beside}
-use Rattle.members.proofs.Standing.{members_stay, clean_before}
+use Rattle.world_changes.specs.Carries.{Carries, IsBeforeCommit}
+use Rattle.world_changes.specs.Leaving.{IsBeside, AreAtRest, AreBeside, LeavesOneOf}
+use Rattle.world_loans.specs.Loans.{IsLent, IsReturned}
+use Rattle.world_members.specs.Members.{AllRest, AllClean, AllOpen, AllStay, AreMembers}
+use Rattle.world_changes.specs.Merges.{Merges}
+use Rattle.world_loans.specs.ServeFaults.{IsLastingFault}
+use Rattle.world_changes.specs.Turns.{IsUncommitted}
+use Rattle.world_changes.specs.Splits.{Splits, KeepsLoan}
+use Rattle.world_members.specs.Turning.{LeftAs, LeavesAsBefore}
+use Rattle.register_lending.specs.declared.turn_fault.TurnFault.{TurnFault}
+use Rattle.register_lending.specs.declared.turn_fault.TurnFault.TheVariants.{Before, Committing}
+use Rattle.world_loans.specs.declared.loans.Lending.{Lending}
+use Rattle.world_loans.specs.declared.loans.Returning.{Returning}
+use Rattle.world_loans.specs.declared.loans.ServeFault.{ServeFault}
+use Rattle.world_loans.specs.declared.loans.ServeFault.TheVariants.{Turn}
+use Rattle.world_members.specs.declared.members.Member.{Member}
+use Rattle.world_members.proofs.Changing.{stay_leaves}
+use Rattle.world_changes.proofs.Surviving.{stay_survive, survive_then}
+use Rattle.world_changes.proofs.HeldStores.{held_clean, members_left}
+use Rattle.world_changes.proofs.Lent.{child_left, is_beside, none_beside}
+use Rattle.world_members.proofs.Standing.{members_stay, clean_before}
 
 module _ {S : Type 0} (g : Ghosts S) where
   -- ---- the stores that are held
@@ -59,11 +60,15 @@ module _ {S : Type 0} (g : Ghosts S) where
   module _ (shuts : Shuts g) (settles : Settles g) where
     -- ---- nothing was begun
 
-    pub carries_unbegun : (Due : World → World → Type 0) (due : Receipt) (old mid : List (Member S)) (strays : List (Held S)) (count : ℕ) (why : ServeFault) → strays ≡ [] → AllRest g old → AllRest g mid → AllStay g old mid → IsBeforeCommit why → (left_over : List (Held S)) → (AllClean g mid → (w next : World) → AreMembers g old count w → Due w next → AllOpen g old → AreBeside g w.frame w.packages left_over)
+    pub carries_unbegun : (Due : World → World → Type 0) (due : Receipt) (old mid : List (Member S)) (strays : List (Held S)) (count : ℕ) (why : ServeFault) → strays ≡ [] → AllRest g old → AllRest g mid → AllStay g old mid → IsBeforeCommit why → (left_over : List (Held S)) → length left_over ≤ 1 → (AllClean g mid → (w next : World) → AreMembers g old count w → Due w next → AllOpen g old → AreBeside g w.frame w.packages left_over)
         → Carries g Due due old mid strays count count (Err why)
-    carries_unbegun Due due old mid strays count why none at_rest rests stay early left_over beside = record {
+    carries_unbegun Due due old mid strays count why none at_rest rests stay early left_over few beside = record {
       gone = [];
       left_over = left_over;
+      few = few;
+      unlent = λ receipt is. absurd (let e = is in cc);
+      read = tt;
+      survive = λ other is. stay_survive g old mid stay;
       beside_before = λ clean gone w next are is_due was. beside clean w next are is_due was;
       rests = rests;
       stray_rests = All-from_recursion (λ h. Rests (state g h)) strays (no_held (λ h. Rests (state g h)) strays none);
@@ -92,6 +97,10 @@ module _ {S : Type 0} (g : Ghosts S) where
           record {
             gone = [];
             left_over = [];
+            few = omega arith;
+            unlent = λ x is. refl;
+            read = tt;
+            survive = λ why is. absurd (let e = is in cc);
             beside_before = λ clean gone w next are is_due was. none_beside g w.frame w.packages;
             rests = it.rests;
             stray_rests = All-from_recursion (λ h. Rests (state g h)) strays (no_held (λ h. Rests (state g h)) strays done.1);
@@ -145,6 +154,11 @@ module _ {S : Type 0} (g : Ghosts S) where
         left_behind (Before fault.StoreFault) = []
         left_behind (Committing x) = []
 
+        one_at_most : (x : TurnFault) → length (left_behind x) ≤ 1
+        one_at_most (Before fault.OutOfMemory) = omega arith
+        one_at_most (Before fault.StoreFault) = omega arith
+        one_at_most (Committing x) = omega arith
+
         dropped_beside : (w next : World) (count : ℕ) → AreMembers g old count w → f ≡ w.frame → IsLent w next due → AllClean g mid → (x : TurnFault) → AreBeside g w.frame w.packages (left_behind x)
         dropped_beside w next count are same is clean (Before fault.OutOfMemory) =
             All-from_recursion (λ h. HasCleanDisk (state g h) → (trees : Trees) → (state g h).may_leave trees → IsBeside w.frame w.packages trees) (child ∷ [])
@@ -156,6 +170,10 @@ module _ {S : Type 0} (g : Ghosts S) where
         carries_unlent = record {
           gone = [];
           left_over = left_behind why;
+          few = one_at_most why;
+          unlent = λ receipt is. absurd (let e = is in cc);
+          read = tt;
+          survive = λ other is. survive_then g old mid new (stay_survive g old mid stay) (it.survive why refl);
           beside_before = λ clean gone w next are is_due was. dropped_beside w next before are is_due.0 is_due.1 (it.clean clean) why;
           rests = it.rests;
           stray_rests = kept_or_dropped (AreAtRest g) (λ early none. All-from_recursion (λ h. Rests (state g h)) strays (no_held (λ h. Rests (state g h)) strays none)) (All-from_recursion (λ h. Rests (state g h)) (child ∷ []) (child_rests, tt));
@@ -178,19 +196,23 @@ module _ {S : Type 0} (g : Ghosts S) where
     -- ---- a merge
 
     module _ (due : Returning) (old new : List (Member S)) (before : ℕ) where
-      pub carries_returned : (after : ℕ) (receipt : Receipt) → after ≡ before + 1 → Merges g due old new (Ok receipt) → Carries g (λ w next. IsReturned w next due) due.receipt old new [] before after (Ok receipt)
-      carries_returned after receipt counted it =
-          let done = it.done receipt refl in
+      pub carries_returned : (after : ℕ) (receipt : Receipt) (child : Held S) → after ≡ before + 1 → Merges g due old new (Ok (receipt, child)) → Carries g (λ w next. IsReturned w next due) due.receipt old new [] before after (Ok receipt)
+      carries_returned after receipt child counted it =
+          let done = it.done (receipt, child) refl in
           record {
-            gone = it.gone;
+            gone = child ∷ [];
             left_over = [];
+            few = omega arith;
+            unlent = λ x is. refl;
+            read = it.read;
+            survive = λ why is. absurd (let e = is in cc);
             beside_before = λ clean gone w next are is_due was. none_beside g w.frame w.packages;
             rests = it.rests;
             stray_rests = All-from_recursion (λ h. Rests (state g h)) [] tt;
             clean = it.clean;
             ok = λ x is. (let same : receipt ≡ x = cc in sym same ∙ done.0, counted, refl, λ w next clean gone are is_due. subst (λ n. AreMembers g new n next) (sym counted) (done.2 w next before clean gone are is_due));
             opens = it.opens;
-            beside = λ x is w next are is_due was. it.beside receipt refl w next before are is_due was;
+            beside = λ x is w next are is_due was. it.beside (receipt, child) refl w next before are is_due was;
             kept = λ why is. absurd (let e = is in cc);
             err = λ why is. absurd (let e = is in cc);
             usable = λ why is. absurd (let e = is in cc);
@@ -200,8 +222,12 @@ module _ {S : Type 0} (g : Ghosts S) where
 
       pub carries_unreturned : (why : TurnFault) → Merges g due old new (Err why) → Carries g (λ w next. IsReturned w next due) due.receipt old new [] before before (Err (Turn why))
       carries_unreturned why it = record {
-        gone = it.gone;
+        gone = [];
         left_over = [];
+        few = omega arith;
+        unlent = λ receipt is. absurd (let e = is in cc);
+        read = tt;
+        survive = λ other is. it.survive why refl;
         beside_before = λ clean gone w next are is_due was. none_beside g w.frame w.packages;
         rests = it.rests;
         stray_rests = All-from_recursion (λ h. Rests (state g h)) [] tt;
@@ -209,7 +235,7 @@ module _ {S : Type 0} (g : Ghosts S) where
         ok = λ receipt is. absurd (let e = is in cc);
         opens = λ clean gone. tt;
         beside = λ receipt is. absurd (let e = is in cc);
-        kept = λ other is. it.kept why refl;
+        kept = λ other is. refl;
         err = λ other is. (refl, λ w are. (it.failed why refl).1 w before are);
         usable = λ other is usable. refl;
         unharmed = λ other is early. it.unharmed (elim why as (λ t. IsBeforeCommit (Turn t) → IsUncommitted {X = Receipt} (Err t)) [ Before y ↦ λ e. tt | Committing y ↦ λ e. absurd e ] (subst IsBeforeCommit (let same : other ≡ Turn why = cc in same) early));

@@ -4,16 +4,17 @@ use Rattle.sqlite.specs.Store.{Ghosts}
 use Rattle.sheet_types.specs.World.{World}
 use Rattle.sheet_types.specs.declared.command.Command.{Command}
 use Rattle.sheet_types.specs.declared.receipt.Receipt.{Receipt}
-use Rattle.sql_meaning.specs.Stores.{LeavesEither}
-use Rattle.members.specs.Members.{AllRest, AllClean, AllOpen, AreMembers}
+use Rattle.store_sql.specs.Stores.{LeavesEither}
+use Rattle.world_members.specs.Members.{AllRest, AllClean, AllOpen, AreMembers}
 use Rattle.package_tables.specs.declared.fault.Fault.{Fault}
 use Rattle.world.specs.Changes.{Changes}
-use Rattle.carrying.specs.Turns.{IsUncommitted}
-use Rattle.members.specs.Turning.{IsDue, LeavesAsBefore, LeftAs, world_after}
-use Rattle.lending.specs.declared.turn_fault.TurnFault.{TurnFault}
-use Rattle.lending.specs.declared.turn_fault.TurnFault.TheVariants.{Before, Committing}
-use Rattle.deciding.specs.declared.deciding.Change.{Change}
-use Rattle.members.specs.declared.members.Member.{Member}
+use Rattle.world_changes.specs.Leaving.{AllSurvive}
+use Rattle.world_changes.specs.Turns.{IsUncommitted}
+use Rattle.world_members.specs.Turning.{IsDue, LeavesAsBefore, LeftAs, world_after}
+use Rattle.register_lending.specs.declared.turn_fault.TurnFault.{TurnFault}
+use Rattle.register_lending.specs.declared.turn_fault.TurnFault.TheVariants.{Before, Committing}
+use Rattle.world_decisions.specs.declared.deciding.Change.{Change}
+use Rattle.world_members.specs.declared.members.Member.{Member}
 
 -- an error that was handed on, or turned into another
 pub turned_into : {X E : Type 0} (r : Result X E) (e : E) → IsErrAnd r (λ why. why ≡ e) → r ≡ Err e
@@ -27,9 +28,10 @@ module _ {S : Type 0} (g : Ghosts S) where
       → LeavesEither g (λ m. m.conn) (LeftAs w.frame) new w.packages (world_after change.receipt command w).packages
 
   -- a change that failed
-  pub changes_failed : (change : Change) (command : Command) (old new : List (Member S)) (count : ℕ) (e : TurnFault) (r : Result Receipt TurnFault) → r ≡ Err e → AllRest g new → (AllClean g new → AllClean g old)
+  pub changes_failed : (change : Change) (command : Command) (old new : List (Member S)) (count : ℕ) (e : TurnFault) (r : Result Receipt TurnFault) → r ≡ Err e → AllSurvive g old new → AllRest g new → (AllClean g new → AllClean g old)
       → ((w : World) (n : ℕ) → AreMembers g old n w → AreMembers g new n w) → MayCrash change command old new → ((fault : Fault) → e ≡ Before fault → LeavesAsBefore g old new) → Changes g change command old new count count r
-  changes_failed change command old new count e r failed rests clean undone crash unharmed = subst (Changes g change command old new count count) (sym failed) (record {
+  changes_failed change command old new count e r failed survive rests clean undone crash unharmed = subst (Changes g change command old new count count) (sym failed) (record {
+    survive = survive;
     rests = rests;
     clean = clean;
     crash = λ w are due opened. crash w count are due opened;
@@ -43,10 +45,11 @@ module _ {S : Type 0} (g : Ghosts S) where
   })
 
   -- and one that was carried out
-  pub changes_done : (change : Change) (command : Command) (old new : List (Member S)) (before after : ℕ) → AllRest g new → (AllClean g new → AllClean g old) → after ≡ before + 1
+  pub changes_done : (change : Change) (command : Command) (old new : List (Member S)) (before after : ℕ) → AllSurvive g old new → AllRest g new → (AllClean g new → AllClean g old) → after ≡ before + 1
       → ((w : World) (n : ℕ) → AreMembers g old n w → IsDue w change.at change.receipt command change.sums → AreMembers g new (n + 1) (world_after change.receipt command w))
       → MayCrash change command old new → (AllClean g new → AllOpen g old → AllOpen g new) → Changes g change command old new before after (Ok change.receipt)
-  changes_done change command old new before after rests clean counted done crash opens = record {
+  changes_done change command old new before after survive rests clean counted done crash opens = record {
+    survive = survive;
     rests = rests;
     clean = clean;
     crash = λ w are due opened. crash w before are due opened;

@@ -9,29 +9,33 @@ use Rattle.sheet_types.specs.declared.frame.Frame.{Frame}
 use Rattle.sheet_types.specs.declared.receipt.Receipt.{Receipt}
 use Rattle.sheet_types.specs.declared.refusal.Refusal.{Refusal}
 use Rattle.package_tables.specs.declared.fault.Fault.TheVariants as fault
-use Rattle.sql_meaning.proofs.Transactions.{Shuts, Settles}
+use Rattle.store_sql.proofs.Transactions.{Shuts, Settles}
 use Rattle.sheet_types.specs.declared.refusal.Refusal.TheVariants.{StoreFault}
-use Rattle.members.proofs.Changing.{each_leaves}
-use Rattle.members.specs.Members.{AllRest, AllClean, AllOpen, AreMembers}
+use Rattle.world_members.proofs.Changing.{each_leaves}
+use Rattle.world_members.specs.Members.{AllRest, AllClean, AllOpen, AreMembers}
 use Rattle.world.specs.Creating.{HasRoomFor}
-use Rattle.known_uuids.specs.Known.{Knows}
-use Rattle.known_uuids.proofs.Remembering.{knows_more}
-use Rattle.carrying.specs.Carries.{ServesAll, IsServedAs, IsSeenBy, IsBeforeCommit, IsUntouched}
-use Rattle.carrying.specs.Leaving.{AreClean, AreAtRest}
-use Rattle.due_loans.specs.ServeFaults.{IsLastingFault, told_refusal, CountsShelf}
+use Rattle.world_known.specs.Known.{Knows}
+use Rattle.world_known.proofs.Remembering.{knows_more}
+use Rattle.world_changes.specs.Carries.{HasNoReceipt, ServesAll, OfEachSeen, IsServedAs, IsSeenBy, IsBeforeCommit, IsUntouched}
+use Rattle.world_changes.specs.Leaving.{AllSurvive, AreClean, AreAtRest, WereRead}
+use Rattle.world_loans.specs.ServeFaults.{IsLastingFault, told_refusal, CountsShelf}
 use Rattle.sqlite_disk.specs.Disk.{MoreFaults}
 use Rattle.std.specs.Prelude.{◌⊎◌}
 use Rattle.std.proofs.Common.{arith}
-use Rattle.due_loans.specs.declared.loans.ServeFault.{ServeFault}
-use Rattle.due_loans.specs.declared.loans.ServeFault.TheVariants.{Unshelved, Turn}
+use Rattle.world_loans.specs.declared.loans.ServeFault.{ServeFault}
+use Rattle.world_loans.specs.declared.loans.ServeFault.TheVariants.{Unshelved, Turn}
+use Rattle.world.proofs.Faults.{fault_is_err}
 use Rattle.world.proofs.CarriedOut.{leaves_before}
-use Rattle.carrying.proofs.HeldStores.{left_clean, right_clean}
-use Rattle.carrying.proofs.Lent.{none_beside}
+use Rattle.world_changes.proofs.Surviving.{same_survive}
+use Rattle.world_changes.proofs.HeldStores.{left_clean, right_clean}
+use Rattle.world_changes.proofs.Lent.{none_beside}
 use Rattle.sqlite.specs.Held.{Held}
-use Rattle.std.specs.Prelude.{[], ◌++◌, IsErr}
-use Rattle.world.specs.Worlds.{Seen, StandsFor, IsHeld, IsStep, StandsStill, LeavesNoTrace, LeftAsItStands}
-use Rattle.lending.specs.declared.turn_fault.TurnFault.TheVariants.{Before, Committing}
-use Rattle.members.specs.declared.members.Member.{Member}
+use Rattle.std.specs.Prelude.{[], ◌++◌, Option}
+use Rattle.world.specs.Asked.{AsksFor, IsNewTo, IsNoPackage}
+use Rattle.world.proofs.Asks.{asks_weaker}
+use Rattle.world.specs.Worlds.{Seen, StandsFor, IsHeld, IsAccepted, IsStep, StandsStill, LeavesNoTrace, LeftAsItStands}
+use Rattle.register_lending.specs.declared.turn_fault.TurnFault.TheVariants.{Before, Committing}
+use Rattle.world_members.specs.declared.members.Member.{Member}
 
 -- a fault is told as a fault
 is_fault : (e : ServeFault) → IsFault (Err (told_refusal e))
@@ -41,12 +45,6 @@ is_fault (Turn (Committing fault.OutOfMemory)) = inl refl
 is_fault (Turn (Committing fault.StoreFault)) = inr refl
 is_fault (Unshelved fault.OutOfMemory) = inl refl
 is_fault (Unshelved fault.StoreFault) = inr refl
-
--- and is an error
-fault_is_err : (reply : Result Receipt Refusal) → IsFault reply → IsErr reply
-fault_is_err (Ok receipt) (inl e) = absurd (let f = e in cc)
-fault_is_err (Ok receipt) (inr e) = absurd (let f = e in cc)
-fault_is_err (Err why) fault = refl
 
 pub told_as_fault : (e : ServeFault) (why : Refusal) → why ≡ told_refusal e → IsFault (Err why)
 told_as_fault e why told = subst (λ x. IsFault (Err x)) (sym told) (is_fault e)
@@ -90,6 +88,11 @@ module _ {S : Type 0} (g : Ghosts S) where
     left_over = [];
     beside_before = λ clean gone w stands opened. none_beside g w.frame w.packages;
     register = λ w stands. stands.members.register;
+    survive = λ refused. same_survive g seen.members;
+    dropped = λ refused. refl;
+    read = tt;
+    few = omega arith;
+    unlent = λ accepted. refl;
     clean = λ clean gone. clean;
     step = λ clean gone w stands. (w, inr (inr refl, refl), stands);
     opens = λ clean gone no_fault. absurd (no_fault (inr refl));
@@ -115,11 +118,22 @@ module _ {S : Type 0} (g : Ghosts S) where
     were_open : AllOpen g was.members → AllOpen g old
     were_open opened = subst (AllOpen g) (sym (ap (λ s. s.members) seen)) opened
 
+    were_there : AllSurvive g old new → AllSurvive g was.members new
+    were_there survive = subst (λ ms. AllSurvive g ms new) (ap (λ s. s.members) seen) survive
+
+    were_read : WereRead g was.members it.gone
+    were_read = subst (λ ms. WereRead g ms it.gone) (ap (λ s. s.members) seen) it.read
+
     -- a reply is a step
     pub step_replied : (reply : Result Receipt Refusal) → r ≡ Ok reply → IsStep g q was reply now_seen
     step_replied reply is = record {
       gone = it.gone;
       left_over = it.left_over;
+      few = it.few;
+      unlent = λ accepted. it.unlent reply is;
+      read = were_read;
+      dropped = λ refused. it.dropped (subst HasNoReceipt (sym is) refused);
+      survive = λ refused. were_there (it.survive (subst HasNoReceipt (sym is) refused));
       beside_before = λ clean gone w stands opened. it.beside_before clean gone w (stood w stands).0 (stood w stands).1 (were_open opened);
       register = λ w stands. stands.members.register;
       clean = were_clean;
@@ -137,6 +151,11 @@ module _ {S : Type 0} (g : Ghosts S) where
     step_failed e is why told = record {
       gone = it.gone;
       left_over = it.left_over;
+      few = it.few;
+      unlent = λ accepted. absurd (let x = accepted in cc);
+      read = were_read;
+      dropped = λ refused. it.dropped (subst HasNoReceipt (sym is) tt);
+      survive = λ refused. were_there (it.survive (subst HasNoReceipt (sym is) tt));
       beside_before = λ clean gone w stands opened. it.beside_before clean gone w (stood w stands).0 (stood w stands).1 (were_open opened);
       register = λ w stands. stands.members.register;
       clean = were_clean;
@@ -160,6 +179,18 @@ module _ {S : Type 0} (g : Ghosts S) where
 
     pub still_failed : (e : ServeFault) → r ≡ Err e → (why : Refusal) → StandsStill g was (Err why) now_seen
     still_failed e is why refused w stands = record { frame = (stood w stands).0.0; members = it.failed e is w (stood w stands).1; known = knows_more known noted w it.grows (stood w stands).0.1 }
+
+    -- what was asked of a shelf
+    pub asks_seen : {H : Type 0} (Asks : List ℕ → H → H → Type 0) (child : Option (List ℕ)) (s t : H) → AsksFor Asks child (λ x. AllClean g new → OfEachSeen g f known old before (λ w. IsNoPackage w x)) s t → AsksFor Asks child (IsNewTo g was now_seen) s t
+    asks_seen Asks child s t asked = asks_weaker Asks child (λ x. AllClean g new → OfEachSeen g f known old before (λ w. IsNoPackage w x)) (IsNewTo g was now_seen) s t (λ x told clean w stands. told clean w (stood w stands).0 (stood w stands).1) asked
+
+    -- it has failed by a fault of a store, or by a request that was to be carried out
+    pub rises_failed : (X : Type 0) (shelf_before shelf_after : ℕ) (e : ServeFault) → r ≡ Err e → (why : Refusal) → why ≡ told_refusal e → (reply : Result Receipt Refusal) → reply ≡ Err why → (IsTrue has_failed ↔ IsLastingFault e) → CountsShelf {X = X} (Err e) shelf_before shelf_after → has_failed ≡ true
+        → (shelf_after ≡ shelf_before) × ((reply ≡ Err StoreFault) ⊎ IsAccepted g q was now_seen)
+    rises_failed X m n (Unshelved x) is why told reply replied lasting counts failed = absurd (lasting.0 failed)
+    rises_failed X m n (Turn (Before fault.OutOfMemory)) is why told reply replied lasting counts failed = absurd (lasting.0 failed refl)
+    rises_failed X m n (Turn (Before fault.StoreFault)) is why told reply replied lasting counts failed = (counts, inl (replied ∙ ap Err told))
+    rises_failed X m n (Turn (Committing x)) is why told reply replied lasting counts failed = (counts, inr (λ clean w stands. it.tried x is clean w (stood w stands).0 (stood w stands).1))
 
     -- a world that can be used has no stray
     pub none_failed : (e : ServeFault) → r ≡ Err e → (IsTrue has_failed ↔ IsLastingFault e) → has_failed ≡ false → strays ≡ []

@@ -3,7 +3,9 @@ pub mod ChangesMade
 pub mod Keeping
 pub mod Beginning
 pub mod Running
+mod Faults
 pub mod WorldsRead
 pub mod Sights
 mod CarriedOut
 mod ServedAll
+mod Asks

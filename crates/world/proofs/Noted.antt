@@ -1,12 +1,12 @@
 -- What a request comes to names nothing that is not known, once the receipt is noted.
-use Rattle.std.proofs.Common.{◌≡◌, sym, ap, subst, ◌∙◌, ℕ, List, Option, Some, None, Result, Ok, Err}
+use Rattle.std.proofs.Common.{◌≡◌, sym, ap, subst, ℕ, List, Option, Some, None, Result, Ok, Err}
 use Rattle.sheet_types.specs.Step.{outcome, outcome_by, kept_reply, refuses, receipt_of, accepted}
 use Rattle.sheet_types.specs.World.{World}
 use Rattle.sheet_types.specs.declared.command.Request.{Request}
 use Rattle.sheet_types.specs.declared.receipt.Receipt.{Receipt}
 use Rattle.sheet_types.specs.declared.refusal.Refusal.{Refusal}
-use Rattle.known_uuids.specs.Known.{Grows, Knows, Notes}
-use Rattle.known_uuids.proofs.Remembering.{knows_more, knows_next}
+use Rattle.world_known.specs.Known.{Grows, Knows, Notes}
+use Rattle.world_known.proofs.Remembering.{knows_more, knows_next}
 
 -- a reply that is one receipt is no other
 same_receipt : (a b : Receipt) (v u : World) → ◌≡◌ {A = Result Receipt Refusal × World} (Ok a, v) (Ok b, u) → a ≡ b

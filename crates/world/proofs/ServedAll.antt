@@ -1,6 +1,6 @@
 -- What serving a request says in each of the ways in which it ends, for all commands.
-use Rattle.std.specs.Prelude.{◌≡◌, ◌≤◌, ℕ, ◌+◌, List, [], ◌++◌, map, refl, Result, Ok, Err}
-use Rattle.std.proofs.Common.{sym, ap, subst, ◌∙◌, inl, inr}
+use Rattle.std.specs.Prelude.{◌≡◌, ◌≤◌, ℕ, ◌+◌, List, [], ◌++◌, map, refl, Result, Ok, Err, IsOk}
+use Rattle.std.proofs.Common.{arith, sym, ap, subst, ◌∙◌, inl, inr}
 use Rattle.std.specs.List.{AllByRecursion}
 use Rattle.std.proofs.lemmas.List.{append-nil}
 use Rattle.std.proofs.lemmas.List.Elements.{All-from_recursion}
@@ -17,37 +17,39 @@ use Rattle.sheet_types.specs.declared.command.Request.{Request}
 use Rattle.sheet_types.specs.declared.frame.Frame.{Frame}
 use Rattle.sheet_types.specs.declared.receipt.Receipt.{Receipt}
 use Rattle.sheet_types.specs.declared.refusal.Refusal.{Refusal}
-use Rattle.sql_meaning.specs.Transactions.{Rests}
-use Rattle.sql_meaning.specs.Stores.{LeavesEither}
-use Rattle.sql_meaning.proofs.Transactions.{Shuts, Settles}
-use Rattle.asking.specs.Asking.{AsksAll}
-use Rattle.known_uuids.specs.Known.{Grows, Notes}
-use Rattle.known_uuids.proofs.Remembering.{knows_more}
-use Rattle.carrying.specs.Carries.{Carries, ServesAll, IsSeenBy, IsBeforeCommit}
-use Rattle.deciding.specs.Deciding.{IsOf, Decides, DecidesWhere}
-use Rattle.carrying.specs.Leaving.{AreAtRest, AreClean, AreBeside, LeavesOneOf}
-use Rattle.members.specs.Members.{AllRest, AllClean, AllOpen, AreMembers}
-use Rattle.due_loans.specs.ServeFaults.{IsLastingFault, CountsShelf}
+use Rattle.store_sql.specs.Transactions.{Rests}
+use Rattle.store_sql.specs.Stores.{LeavesEither}
+use Rattle.store_sql.proofs.Transactions.{Shuts, Settles}
+use Rattle.world_queries.specs.Asking.{AsksAll}
+use Rattle.world_known.specs.Known.{Grows, Notes}
+use Rattle.world_known.proofs.Remembering.{knows_more}
+use Rattle.world_changes.specs.Carries.{Carries, ServesAll, IsSeenBy, IsBeforeCommit}
+use Rattle.world_decisions.specs.Deciding.{IsOf, Decides, DecidesWhere}
+use Rattle.world_changes.specs.Leaving.{AreAtRest, AreClean, AreBeside, LeavesOneOf}
+use Rattle.world_members.specs.Members.{AllRest, AllClean, AllOpen, AreMembers}
+use Rattle.world_loans.specs.ServeFaults.{IsLastingFault, CountsShelf}
 use Rattle.world.specs.Changes.{Changes}
-use Rattle.carrying.specs.Turns.{IsUncommitted}
-use Rattle.members.specs.Turning.{IsDue, LeftAs, world_after}
-use Rattle.lending.specs.declared.turn_fault.TurnFault.{TurnFault}
-use Rattle.lending.specs.declared.turn_fault.TurnFault.TheVariants.{Before, Committing}
-use Rattle.deciding.specs.declared.deciding.Change.{Change}
-use Rattle.deciding.specs.declared.deciding.Decision.{Decision}
-use Rattle.deciding.specs.declared.deciding.Decision.TheVariants.{Answered, ChangeDue, SplitDue, MergeDue}
-use Rattle.due_loans.specs.declared.loans.Lending.{Lending}
-use Rattle.due_loans.specs.declared.loans.Returning.{Returning}
-use Rattle.due_loans.specs.Loans.{IsLent, IsReturned}
-use Rattle.due_loans.specs.declared.loans.ServeFault.{ServeFault}
-use Rattle.due_loans.specs.declared.loans.ServeFault.TheVariants.{Unshelved, Turn}
-use Rattle.members.specs.declared.members.Member.{Member}
+use Rattle.world_changes.specs.Turns.{IsUncommitted}
+use Rattle.world_members.specs.Turning.{IsDue, LeftAs, world_after}
+use Rattle.register_lending.specs.declared.turn_fault.TurnFault.{TurnFault}
+use Rattle.register_lending.specs.declared.turn_fault.TurnFault.TheVariants.{Before, Committing}
+use Rattle.world_decisions.specs.declared.deciding.Change.{Change}
+use Rattle.world_decisions.specs.declared.deciding.Decision.{Decision}
+use Rattle.world_decisions.specs.declared.deciding.Decision.TheVariants.{Answered, ChangeDue, SplitDue, MergeDue}
+use Rattle.world_loans.specs.declared.loans.Lending.{Lending}
+use Rattle.world_loans.specs.declared.loans.Returning.{Returning}
+use Rattle.world_loans.specs.Loans.{IsLent, IsReturned}
+use Rattle.world_loans.specs.declared.loans.ServeFault.{ServeFault}
+use Rattle.world_loans.specs.declared.loans.ServeFault.TheVariants.{Unshelved, Turn}
+use Rattle.world_members.specs.declared.members.Member.{Member}
+use Rattle.world.specs.Asked.{IsNoPackage}
 use Rattle.world.proofs.CarriedOut.{leaves_before}
-use Rattle.carrying.proofs.HeldStores.{held_clean, members_left}
-use Rattle.carrying.proofs.Lent.{none_beside}
+use Rattle.world_changes.proofs.Surviving.{read_before, stay_survive, survive_then}
+use Rattle.world_changes.proofs.HeldStores.{held_clean, members_left}
+use Rattle.world_changes.proofs.Lent.{none_beside}
 use Rattle.world.proofs.Noted.{knows_after}
-use Rattle.members.proofs.Changing.{stay_leaves}
-use Rattle.members.proofs.Standing.{members_stay, clean_before}
+use Rattle.world_members.proofs.Changing.{stay_leaves}
+use Rattle.world_members.proofs.Standing.{members_stay, clean_before}
 
 module _ {S : Type 0} (g : Ghosts S) (shuts : Shuts g) (settles : Settles g) where
   -- ---- a change of one package
@@ -62,6 +64,10 @@ module _ {S : Type 0} (g : Ghosts S) (shuts : Shuts g) (settles : Settles g) whe
         record {
           gone = [];
           left_over = [];
+          few = omega arith;
+          unlent = λ x is. refl;
+          read = tt;
+          survive = λ why is. absurd (let e = is in cc);
           beside_before = λ clean gone w next are is_due was. none_beside g w.frame w.packages;
           rests = it.rests;
           stray_rests = All-from_recursion (λ h. Rests (state g h)) [] tt;
@@ -95,6 +101,10 @@ module _ {S : Type 0} (g : Ghosts S) (shuts : Shuts g) (settles : Settles g) whe
         record {
           gone = [];
           left_over = [];
+          few = omega arith;
+          unlent = λ receipt is. absurd (let e = is in cc);
+          read = tt;
+          survive = λ other is. it.survive;
           beside_before = λ clean gone w next are is_due was. none_beside g w.frame w.packages;
           rests = it.rests;
           stray_rests = All-from_recursion (λ h. Rests (state g h)) [] tt;
@@ -131,6 +141,12 @@ module _ {S : Type 0} (g : Ghosts S) (shuts : Shuts g) (settles : Settles g) whe
     all_undecided strays why none early = record {
       gone = [];
       left_over = [];
+      few = omega arith;
+      unlent = λ reply is. refl;
+      read = tt;
+      dropped = λ none. refl;
+      survive = λ none. stay_survive g old mid it.stay;
+      tried = λ x is. absurd (subst IsBeforeCommit (let same : why ≡ Turn (Committing x) = cc in same) early);
       beside_before = λ clean gone w same are was. none_beside g w.frame w.packages;
       rests = it.rests;
       stray_rests = none_rest strays none;
@@ -153,6 +169,12 @@ module _ {S : Type 0} (g : Ghosts S) (shuts : Shuts g) (settles : Settles g) whe
     all_answered strays answer none is = record {
       gone = [];
       left_over = [];
+      few = omega arith;
+      unlent = λ reply is'. refl;
+      read = tt;
+      dropped = λ none. refl;
+      survive = λ none. stay_survive g old mid it.stay;
+      tried = λ x is'. absurd (let e = is' in cc);
       beside_before = λ clean gone w same are was. none_beside g w.frame w.packages;
       rests = it.rests;
       stray_rests = none_rest strays none;
@@ -187,6 +209,12 @@ module _ {S : Type 0} (g : Ghosts S) (shuts : Shuts g) (settles : Settles g) whe
           record {
             gone = made.gone;
             left_over = made.left_over;
+            few = made.few;
+            unlent = λ reply is'. made.unlent receipt refl;
+            read = read_before g old mid made.gone it.stay made.read;
+            dropped = λ none. absurd (let e = none in cc);
+            survive = λ none. absurd (let e = none in cc);
+            tried = λ x is'. absurd (let e = is' in cc);
             beside_before = λ clean gone w same are was.
                 let x = so (made.clean clean gone) w same are in
                 made.beside_before clean gone w x.0 (members_stay g old mid before w it.stay are) x.3 (decided_opens decision is (made.clean clean gone) was);
@@ -222,6 +250,14 @@ module _ {S : Type 0} (g : Ghosts S) (shuts : Shuts g) (settles : Settles g) whe
       all_failed why made = record {
         gone = made.gone;
         left_over = made.left_over;
+        few = made.few;
+        unlent = λ reply is'. absurd (let e = is' in cc);
+        read = read_before g old mid made.gone it.stay made.read;
+        dropped = λ none. made.kept why refl;
+        survive = λ none. survive_then g old mid new (stay_survive g old mid it.stay) (made.survive why refl);
+        tried = λ x is' clean w same are.
+            let due_is = so (was_clean clean) w same are in
+            subst (λ o. IsOk o.0) (sym due_is.1) refl;
         beside_before = λ clean gone w same are was.
             let x = so (made.clean clean gone) w same are in
             made.beside_before clean gone w x.0 (members_stay g old mid before w it.stay are) x.3 (decided_opens decision is (made.clean clean gone) was);
@@ -262,6 +298,12 @@ module _ {S : Type 0} (g : Ghosts S) (shuts : Shuts g) (settles : Settles g) (f 
   split_so due is clean w same are =
       let d : Decides w q (SplitDue due) = decided g shuts settles f q old mid known noted grows at_rest before low it (SplitDue due) is clean w same are in
       (d.0, d.1, d.2.after.frame, (same.0, d.2))
+
+  -- no package of the world has the child's UUID
+  pub split_apart : (due : Lending) → r ≡ Ok (SplitDue due) → AllClean g mid → (w : World) → IsSeenBy f known w → AreMembers g old before w → IsNoPackage w due.child
+  split_apart due is clean w same are =
+      let d : Decides w q (SplitDue due) = decided g shuts settles f q old mid known noted grows at_rest before low it (SplitDue due) is clean w same are in
+      d.2.apart
 
   merge_so : (due : Returning) → r ≡ Ok (MergeDue due) → So (λ w next. IsReturned w next due) due.receipt
   merge_so due is clean w same are =

@@ -6,13 +6,13 @@ use Rattle.sqlite_trees.proofs.ListLemmas.{map-map}
 use Rattle.sheet_types.specs.Answers.{PackageSight, sums_held, sums_of, package_sights}
 use Rattle.sheet_types.specs.Custody.{ticket}
 use Rattle.sheet_types.specs.World.{World, Package, holdings}
-use Rattle.asking.specs.Asking.{StandsAt, StandsNowhere}
-use Rattle.members.specs.Members.{IsMember, AreMembers}
+use Rattle.world_queries.specs.Asking.{StandsAt, StandsNowhere}
+use Rattle.world_members.specs.Members.{IsMember, AreMembers}
 use Rattle.world.specs.Reading.{sight_of, member_sight}
 use Rattle.world.specs.Worlds.{Seen, StandsFor}
-use Rattle.members.specs.declared.members.Member.{Member}
+use Rattle.world_members.specs.declared.members.Member.{Member}
 use Rattle.world.specs.declared.reading.PackageSight.{PackageSight as Listed}
-use Rattle.members.proofs.Standing.{zip_at, zip_map}
+use Rattle.world_members.proofs.Standing.{zip_at, zip_map}
 
 module _ {S : Type 0} (g : Ghosts S) where
   abbrev sight : World → Package → PackageSight

@@ -1,16 +1,16 @@
 -- A world whose stores were only read stands for what it stood for, and what its members told is told of it.
-use Rattle.std.proofs.Common.{◌≡◌, refl, subst, ℕ, Bool, List, Result, Ok, Err}
+use Rattle.std.proofs.Common.{◌≡◌, refl, sym, ap, subst, ℕ, Bool, List, Result, Ok, Err, OnOk}
 use Rattle.sqlite.specs.Store.{Ghosts}
 use Rattle.sqlite.specs.Held.{Held}
 use Rattle.sheet_types.specs.World.{World}
 use Rattle.sheet_types.specs.declared.frame.Frame.{Frame}
-use Rattle.known_uuids.specs.Known.{Knows}
-use Rattle.asking.specs.Asking.{AsksAll}
-use Rattle.members.specs.Members.{AllStay}
+use Rattle.world_known.specs.Known.{Knows}
+use Rattle.world_queries.specs.Asking.{AsksAll}
+use Rattle.world_members.specs.Members.{AllStay, AllClean, AllOpen}
 use Rattle.world.specs.Worlds.{Seen, StandsFor, IsHeld, IsRead, TellsOf}
-use Rattle.members.specs.declared.members.Member.{Member}
-use Rattle.asking.proofs.Questions.{asks_weaker}
-use Rattle.members.proofs.Standing.{members_stay, clean_before}
+use Rattle.world_members.specs.declared.members.Member.{Member}
+use Rattle.world_queries.proofs.Questions.{asks_weaker}
+use Rattle.world_members.proofs.Standing.{members_stay, clean_before}
 
 module _ {S : Type 0} (g : Ghosts S) where
   -- what rests on no UUID that is known
@@ -34,6 +34,10 @@ module _ {S : Type 0} (g : Ghosts S) where
     tells_members (Ok x) it = λ clean w stands. it.told clean w count stands.members stands.known
     tells_members (Err e) it = λ clean. tt
 
+    opens_members : {X E : Type 0} {Answer : World → X → Type 0} (r : Result X E) → AsksAll g {X = X} {E = E} Answer old new r → {Was : Type 0} → (Was → AllOpen g old) → AllClean g new → OnOk r (Was → AllOpen g new)
+    opens_members (Ok x) it so clean = λ was. it.stays_open clean (so was)
+    opens_members (Err e) it so clean = tt
+
     module _ {X E : Type 0} {Answer : World → X → Type 0} (r : Result X E) (it : AsksAll g {X = X} {E = E} (λ w x. Knows known w → Answer w x) old new r) where
       -- what the members told is told of the world
       pub world_tells : (was : Seen S) → before ≡ was → TellsOf g {X = X} {E = E} Answer was after r
@@ -42,6 +46,10 @@ module _ {S : Type 0} (g : Ghosts S) where
       -- which was only read
       pub world_is_read : (was : Seen S) → before ≡ was → IsRead g was after
       world_is_read was seen = subst (λ s. IsRead g s after) seen (read_members it.stay)
+
+      -- and open stores are still open where there was an answer
+      pub world_opens : (was : Seen S) → before ≡ was → AllClean g new → OnOk r (AllOpen g was.members → AllOpen g new)
+      world_opens was seen clean = opens_members r it (subst (AllOpen g) (sym (ap (λ s. s.members) seen))) clean
 
       -- and keeps what each world keeps
       pub world_is_held : IsHeld g before → IsHeld g after

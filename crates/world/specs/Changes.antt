@@ -4,13 +4,14 @@ use Rattle.sqlite.specs.Store.{Ghosts}
 use Rattle.sheet_types.specs.World.{World}
 use Rattle.sheet_types.specs.declared.command.Command.{Command}
 use Rattle.sheet_types.specs.declared.receipt.Receipt.{Receipt}
-use Rattle.sql_meaning.specs.Stores.{LeavesEither}
-use Rattle.members.specs.Members.{AllRest, AllClean, AllOpen, AreMembers}
-use Rattle.members.specs.Turning.{IsDue, LeavesAsBefore, LeftAs, world_after}
-use Rattle.lending.specs.declared.turn_fault.TurnFault.{TurnFault}
-use Rattle.carrying.specs.Turns.{IsUncommitted}
-use Rattle.deciding.specs.declared.deciding.Change.{Change}
-use Rattle.members.specs.declared.members.Member.{Member}
+use Rattle.store_sql.specs.Stores.{LeavesEither}
+use Rattle.world_members.specs.Members.{AllRest, AllClean, AllOpen, AreMembers}
+use Rattle.world_members.specs.Turning.{IsDue, LeavesAsBefore, LeftAs, world_after}
+use Rattle.register_lending.specs.declared.turn_fault.TurnFault.{TurnFault}
+use Rattle.world_changes.specs.Leaving.{AllSurvive}
+use Rattle.world_changes.specs.Turns.{IsUncommitted}
+use Rattle.world_decisions.specs.declared.deciding.Change.{Change}
+use Rattle.world_members.specs.declared.members.Member.{Member}
 
 module _ {S : Type 0} (g : Ghosts S) where
   -- A change that is due was carried out: the receipt is the reply and its number the new count. Or it failed, and
@@ -18,6 +19,7 @@ module _ {S : Type 0} (g : Ghosts S) where
   pub record Changes (change : Change) (command : Command) (old new : List (Member S)) (before after : ℕ)
       (r : Result Receipt TurnFault) : Type 0 where
     pub rests : AllRest g new
+    pub survive : AllSurvive g old new
     pub clean : AllClean g new → AllClean g old
     pub ok : (receipt : Receipt) → r ≡ Ok receipt → (receipt ≡ change.receipt) × (after ≡ before + 1)
         × ((w : World) → AreMembers g old before w → IsDue w change.at change.receipt command change.sums

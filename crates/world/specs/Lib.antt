@@ -2,3 +2,4 @@ pub mod Changes
 pub mod Worlds
 pub mod Creating
 pub mod Reading
+pub mod Asked

@@ -1,6 +1,6 @@
 -- What the list of packages says of one. Profile.
 use Rattle.sheet_types.specs.Answers.{PackageSight as ModelSight}
-use Rattle.members.specs.declared.members.Member.{Member}
+use Rattle.world_members.specs.declared.members.Member.{Member}
 use Rattle.world.specs.declared.reading.PackageSight.{PackageSight}
 
 -- in the words of the model

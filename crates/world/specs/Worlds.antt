@@ -1,9 +1,9 @@
 -- What a clause sees of a value of `World`, and the world of the model that it stands for. Profile.
-use Rattle.std.specs.Prelude.{◌≡◌, ◌≤◌, ℕ, ℤ, Bool, false, List, [], ◌∷◌, ◌++◌, map, Option, Result, Err, IsTrue, IfOk, IsErr, refl}
+use Rattle.std.specs.Prelude.{◌≡◌, ◌⊎◌, ◌≤◌, ℕ, ℤ, Bool, true, false, List, [], ◌∷◌, ◌++◌, map, length, Option, Result, Err, IsTrue, IsOk, IfOk, IsErr, refl}
 use Rattle.std.specs.List.{AllByRecursion}
 use Rattle.std.specs.Coded.{Coded, code_by, coded×, coded_bool, coded_list, coded_option, coded_ℕ, coded_ℤ}
 use Rattle.sqlite.specs.Store.{Ghosts}
-use Rattle.sqlite.specs.Held.{Held, held_code}
+use Rattle.sqlite.specs.Held.{Held, held_code, state}
 use Rattle.sheet_types.specs.Matrix.{is_good_frame}
 use Rattle.sheet_types.specs.Refuse.{greatest_receipts}
 use Rattle.sheet_types.specs.Register.{IsRegister}
@@ -16,12 +16,12 @@ use Rattle.sheet_types.specs.declared.receipt.Sums.{Sums}
 use Rattle.sheet_types.specs.declared.refusal.Refusal.{Refusal}
 use Rattle.sheet_types.specs.declared.refusal.Refusal.TheVariants.{StoreFault}
 use Rattle.sqlite_disk.specs.Disk.{MoreFaults}
-use Rattle.known_uuids.specs.Known.{Knows}
-use Rattle.sql_meaning.specs.Stores.{EachLeaves}
-use Rattle.carrying.specs.Leaving.{AreClean, AreAtRest, AreBeside, LeavesOneOf}
-use Rattle.members.specs.Turning.{LeftAs}
-use Rattle.members.specs.Members.{AllOpen, AllRest, AllClean, AllStay, AreMembers}
-use Rattle.members.specs.declared.members.Member.{Member}
+use Rattle.world_known.specs.Known.{Knows}
+use Rattle.store_sql.specs.Stores.{EachLeaves}
+use Rattle.world_changes.specs.Leaving.{AllSurvive, AreClean, AreAtRest, AreBeside, LeavesOneOf, WereRead}
+use Rattle.world_members.specs.Turning.{LeftAs}
+use Rattle.world_members.specs.Members.{AllOpen, AllRest, AllClean, AllStay, AreMembers}
+use Rattle.world_members.specs.declared.members.Member.{Member}
 
 -- the frame, the members in the order of their UUIDs, the number of all receipts, whether the world has failed, the
 -- stores of children that a split which failed left, and the UUIDs that are known
@@ -203,6 +203,13 @@ module _ {S : Type 0} (g : Ghosts S) where
         → AllOpen g old.members → AreBeside g w.frame w.packages left_over
     -- What it stands for afterwards is a register, balanced.
     pub register : (w : World) → StandsFor new w → IsRegister w
+    -- After a refusal or a fault nothing but a failure of its disk has shut a store that was open.
+    pub survive : IsErr reply → AllSurvive g old.members new.members
+    -- Nothing was dropped but, where a receipt is the reply, the store of one member, which was only read.
+    pub dropped : IsErr reply → gone ≡ []
+    pub read : WereRead g old.members gone
+    pub few : length left_over ≤ 1
+    pub unlent : IsOk reply → left_over ≡ []
 
   -- After a refusal or a fault that leaves the world usable, whatever a crash leaves of stores that were open reads
   -- as the world before. So a world of which a commit may have gone through has failed.
@@ -214,6 +221,62 @@ module _ {S : Type 0} (g : Ghosts S) where
   abbrev pub LeftAsItStands : Type 0
   LeftAsItStands = (seen : Seen S) (w : World) → IsHeld seen → StandsFor seen w → AllOpen g seen.members
       → EachLeaves g (λ m. m.conn) (LeftAs w.frame) seen.members w.packages
+
+  -- The request is to be carried out in each world that it stands for, where each disk has given back what was
+  -- written.
+  abbrev pub IsAccepted : Request → Seen S → Seen S → Type 0
+  IsAccepted q old new = AllClean g new.members → (w : World) → StandsFor old w → IsOk (outcome w q).0
+
+  -- After a refusal it stands for each world that it stood for, whatever the disks do.
+  abbrev pub StandsStill : Seen S → Result Receipt Refusal → Seen S → Type 0
+  StandsStill old reply new = IsErr reply → (w : World) → StandsFor old w → StandsFor new w
+
+  -- One request, with a shelf that had failed so often before and after.
+  pub record IsApplied (q : Request) (old : Seen S) (reply : Result Receipt Refusal) (new : Seen S)
+      (before after : ℕ) : Type 0 where
+    pub step : IsStep q old reply new
+    pub still : StandsStill old reply new
+    pub unharmed : LeavesNoTrace old reply new
+    -- A world that has failed answers so to every request, and stays as it is.
+    pub failed : old.has_failed ≡ true → (reply ≡ Err StoreFault) × (new ≡ old) × (after ≡ before)
+    -- Where it is told that a store failed, the world has failed, or the shelf had none.
+    pub cause : reply ≡ Err StoreFault → (new.has_failed ≡ true) ⊎ MoreFaults before after
+    pub usable : ¬ IsFault reply → new.has_failed ≡ old.has_failed
+    -- It has failed by nothing but a fault of a store that is told, or a request that was to be carried out; the shelf
+    -- has no part in it.
+    pub rises : old.has_failed ≡ false → new.has_failed ≡ true
+        → (after ≡ before) × ((reply ≡ Err StoreFault) ⊎ IsAccepted q old new)
+    pub shelf : before ≤ after
+
+  -- Requests one after the other, each in the world that the one before left.
+  abbrev pub AreApplied : List Request → Seen S → List (Result Receipt Refusal) → Seen S → ℕ → ℕ → Type 0
+  AreApplied [] old [] new before after = (new ≡ old) × (after ≡ before)
+  AreApplied (q ∷ qs) old (reply ∷ replies) new before after = (mid : Seen S) × (between : ℕ)
+      × IsApplied q old reply mid before between × AreApplied qs mid replies new between after
+  AreApplied [] old (reply ∷ replies) new before after = ⊥
+  AreApplied (q ∷ qs) old [] new before after = ⊥
+
+  -- The disks of these stores cannot fail, as those in memory, or no reply told a fault: so no store was shut.
+  abbrev pub NoneShut : List (Result Receipt Refusal) → Type 0
+  NoneShut replies = ((h : Held S) → (state g h).faults ≡ 0) ⊎ AllByRecursion (λ reply. ¬ IsFault reply) replies
+
+  -- Where a run was stopped: the requests before were carried out, this one ended in a fault, and each after it was
+  -- told that a store failed. A crash of stores that were open leaves the world before or the one that the request is
+  -- to make, whole.
+  pub record IsStopped (qs : List Request) (replies : List (Result Receipt Refusal)) (w : World)
+      (new : Seen S) : Type 0 where
+    pub done : List Request
+    pub at : Request
+    pub rest : List Request
+    pub told : List (Result Receipt Refusal)
+    pub reply : Result Receipt Refusal
+    pub requests : qs ≡ done ++ at ∷ rest
+    pub replied : replies ≡ told ++ reply ∷ map (λ q. Err StoreFault) rest
+    pub fault : IsFault reply
+    pub mid : World
+    pub ran : Run w done told mid
+    pub stands : StandsFor new mid
+    pub crash : NoneShut told → LeavesOneOf g mid.frame (held new) mid.packages (outcome mid at).1.packages
 
   -- The replies and the world afterwards are a run of the whole list, with a shelf that had failed so often before
   -- and after.
@@ -235,10 +298,21 @@ module _ {S : Type 0} (g : Ghosts S) where
         → AllByRecursion (λ reply. ¬ (reply ≡ Err StoreFault)) replies
     pub usable : AllByRecursion (λ reply. ¬ IsFault reply) replies → new.has_failed ≡ old.has_failed
     pub shelf : before ≤ after
-
-  -- After a refusal it stands for each world that it stood for, whatever the disks do.
-  abbrev pub StandsStill : Seen S → Result Receipt Refusal → Seen S → Type 0
-  StandsStill old reply new = IsErr reply → (w : World) → StandsFor old w → StandsFor new w
+    -- It has all that a step has, request by request.
+    pub each : AreApplied qs old replies new before after
+    -- A world that had failed told each request that a store failed, and stayed as it was.
+    pub failed : old.has_failed ≡ true → AllByRecursion (λ reply. reply ≡ Err StoreFault) replies × (new ≡ old)
+    -- Open stores are still open where it can be used, unless a disk failed where memory was wanting.
+    pub stays_open : AllClean g new.members → AreClean g gone → new.has_failed ≡ false → NoneShut replies
+        → AllOpen g old.members → AllOpen g new.members
+    -- Where it has failed on the way, a crash leaves one of the two worlds at which it was stopped.
+    pub stops : AllClean g new.members → AreClean g gone → old.has_failed ≡ false → new.has_failed ≡ true → (w : World)
+        → StandsFor old w → AllOpen g old.members → IsStopped qs replies w new
+    -- Where the last reply is a refusal, or a fault that leaves it usable, a crash leaves the world that it stands for.
+    pub unharmed : (told : List (Result Receipt Refusal)) (why : Refusal) → replies ≡ told ++ Err why ∷ []
+        → new.has_failed ≡ false → AllClean g new.members → AreClean g gone → NoneShut told → (w : World)
+        → StandsFor old w → AllOpen g old.members → (next : World) × Run w qs replies next × StandsFor new next
+        × EachLeaves g (λ m. m.conn) (LeftAs next.frame) new.members next.packages
 
   -- The stores were only read, if at all, and nothing else has changed, so that it stands for what it stood for.
   pub record IsRead (old new : Seen S) : Type 0 where

@@ -1,33 +1,35 @@
 //! One request over the members of a world: what it comes to is decided, and where a change is due it is carried out.
-ghost use Rattle.std.specs.Prelude.{◌≡◌, ℕ, ◌≤◌, ◌<◌, ◌+◌, [], IsTrue, OnOk, length, vec_len, vec_capacity};
+ghost use Rattle.std.specs.Prelude.{◌≡◌, ◌⊎◌, ℕ, ◌≤◌, ◌<◌, ◌+◌, [], IsTrue, OnOk, length, vec_len, vec_capacity};
 ghost use Rattle.sheet_types.specs.Matrix.{is_good_frame};
 ghost use Rattle.sheet_types.specs.Refuse.{greatest_receipts};
-ghost use Rattle.deciding.specs.Deciding.{HasPlace};
-ghost use Rattle.members.specs.Members.{AllRest};
-ghost use Rattle.carrying.specs.Carries.{Carries, ServesAll};
+ghost use Rattle.world_decisions.specs.Deciding.{HasPlace};
+ghost use Rattle.world_members.specs.Members.{AllRest, AllClean};
+ghost use Rattle.world_changes.specs.Carries.{Carries, ServesAll, OfEachSeen};
 ghost use Rattle.world.specs.Creating.{HasRoomFor};
-ghost use Rattle.due_loans.specs.Loans.{HasLendingPlace, HasReturnPlace, IsLent, IsReturned};
-ghost use Rattle.due_loans.specs.ServeFaults.{CountsShelf};
+ghost use Rattle.world_loans.specs.Loans.{HasLendingPlace, HasReturnPlace, IsLent, IsReturned};
+ghost use Rattle.world_loans.specs.ServeFaults.{CountsShelf};
 ghost use Rattle.world.specs.Changes.{Changes};
-ghost use Rattle.deciding.specs.declared.deciding.Decision.TheVariants.{ChangeDue};
+ghost use Rattle.world.specs.Asked.{AsksFor, IsNoPackage};
+ghost use Rattle.world_decisions.specs.Deciding.{child_asked};
+ghost use Rattle.world_decisions.specs.declared.deciding.Decision.TheVariants.{ChangeDue};
 
 use crate::noting::decide_and_note;
-use carrying::merging::merge_at;
-use carrying::splitting::{child_store, lend_and_place};
-use carrying::turning::turn_at;
-use deciding::deciding::{Change, Decision};
-use due_loans::loans::{Lending, Returning, ServeFault};
-use known_uuids::known::Known;
-use lending::turn_fault::TurnFault;
-use members::members::Member;
 use package_tables::fault::Fault;
+use register_lending::turn_fault::TurnFault;
 use sheet_types::command::{Command, Request};
 use sheet_types::frame::Frame;
 use sheet_types::receipt::Receipt;
 use sheet_types::refusal::Refusal;
-use shelves::shelf::Shelf;
 use sqlite::{Alter, Connection};
 use std::alloc::Global;
+use store_shelf::shelf::Shelf;
+use world_changes::merging::merge_at;
+use world_changes::splitting::{child_store, lend_and_place};
+use world_changes::turning::turn_at;
+use world_decisions::deciding::{Change, Decision};
+use world_known::known::Known;
+use world_loans::loans::{Lending, Returning, ServeFault};
+use world_members::members::Member;
 
 /// Makes room for one more member and its store.
 fn make_room<S: Alter + Drop>(
@@ -65,6 +67,8 @@ fn carry_out_split<S: Alter + Drop, H: Shelf<S>>(
         members.old.items members.new.items strays.new.items count.old count.new result }
     ensures room { HasRoomFor members.new.items strays.new }
     ensures shelf { CountsShelf result (H.failures_of shelf.old) (H.failures_of shelf.new) }
+    ensures clean { AllClean S.Store members.new.items → AllClean S.Store members.old.items }
+    ensures asks { (shelf.new ≡ shelf.old) ⊎ H.asks due.child shelf.old shelf.new }
 {
     make_room(members, strays)?;
     let child = child_store(members, shelf, alloc, frame, &due)?;
@@ -86,7 +90,8 @@ fn carry_out_merge<S: Alter + Drop>(
     ensures shorter { length members.new.items ≤ length members.old.items }
     ensures shelf { (failures : ℕ) → CountsShelf result failures failures }
 {
-    let receipt = merge_at(members, due)?;
+    // The child's connection is dropped here, and nothing is asked of it.
+    let (receipt, _child) = merge_at(members, due)?;
     *count = receipt.seq;
     Ok(receipt)
 }
@@ -129,6 +134,9 @@ pub(crate) fn serve<S: Alter + Drop, H: Shelf<S>>(
         members.old.items members.new.items strays.new.items known.old known.new count.old count.new result }
     ensures room { HasRoomFor members.new.items strays.new }
     ensures shelf { CountsShelf result (H.failures_of shelf.old) (H.failures_of shelf.new) }
+    ensures asks { AsksFor H.asks (child_asked request.now.command)
+        (λ child. AllClean S.Store members.new.items → OfEachSeen S.Store frame.now known.old members.old.items count.old (λ w. IsNoPackage w child))
+        shelf.old shelf.new }
 {
     match decide_and_note(members, known, frame, *count, alloc, request)? {
         Decision::Answered(reply) => Ok(reply),

@@ -5,21 +5,21 @@ ghost use Rattle.sqlite.specs.State.{HasCleanDisk};
 ghost use Rattle.sheet_types.specs.Matrix.{is_good_frame};
 ghost use Rattle.sheet_types.specs.Texts.{is_moment};
 ghost use Rattle.sheet_types.specs.World.{new_world};
-ghost use Rattle.sql_meaning.specs.Blank.{IsBlank, no_schema};
-ghost use Rattle.members.specs.Members.{AllRest, AllClean, AllMadeAt, AreMembers};
+ghost use Rattle.store_sql.specs.Blank.{IsBlank, no_schema};
+ghost use Rattle.world_members.specs.Members.{AllRest, AllClean, AllOpen, AllMadeAt, AreMembers};
 
 use identity_register::fitting::fits;
-use members::members::Member;
-use members::reserving::push_reserved;
-use new_packages::create::Info;
-use new_packages::creation::create;
+use package_creation::create::Info;
+use package_creation::creation::create;
 use package_tables::fault::Fault;
 use sheet_types::frame::{Frame, FrameFault};
 use sheet_types::receipt::Sums;
-use sql_meaning::resting::is_at_rest;
 use sqlite::{Alter, Connection};
 use std::alloc::Global;
+use store_sql::resting::is_at_rest;
 use uuid::Uuid;
+use world_members::members::Member;
+use world_members::reserving::push_reserved;
 
 /// Why no world was made.
 #[derive(Clone, Copy, PartialEq, Eq)]
@@ -58,6 +58,7 @@ pub(crate) fn archive_alone<S: Alter + Drop>(
     ensures clean { IfOk result (λ members. AllClean S.Store members.items → HasCleanDisk (state S.Store conn)) }
     ensures made { IfOk result (λ members. AllClean S.Store members.items → AreMembers S.Store members.items 0 (new_world archive frame.now)) }
     ensures dated { IfOk result (λ members. AllClean S.Store members.items → AllMadeAt S.Store frame.now at.now members.items) }
+    ensures opens { IfOk result (λ members. AllClean S.Store members.items → AllOpen S.Store members.items) }
 {
     if !is_at_rest(&conn) {
         return Err(Fault::StoreFault);

@@ -2,19 +2,19 @@
 ghost use Rattle.std.specs.Prelude.{◌≤◌, IsTrue, IfOk, OnOk};
 ghost use Rattle.sheet_types.specs.Matrix.{is_good_frame};
 ghost use Rattle.sheet_types.specs.Refuse.{greatest_receipts};
-ghost use Rattle.known_uuids.specs.Known.{Grows};
-ghost use Rattle.asking.specs.Asking.{AsksAll};
-ghost use Rattle.deciding.specs.Deciding.{IsOf, IsNoted, DecidesWhere, HasPlace};
-ghost use Rattle.members.specs.Members.{AllRest};
+ghost use Rattle.world_known.specs.Known.{Grows};
+ghost use Rattle.world_queries.specs.Asking.{AsksAll};
+ghost use Rattle.world_decisions.specs.Deciding.{IsOf, IsNoted, DecidesWhere, HasPlace, child_asked, Makes};
+ghost use Rattle.world_members.specs.Members.{AllRest};
 
-use deciding::deciding::{Decision, decide, package_of};
-use known_uuids::known::Known;
-use members::members::Member;
 use package_tables::fault::Fault;
 use sheet_types::command::{Command, Request};
 use sheet_types::frame::Frame;
 use sqlite::Alter;
 use std::alloc::{AllocError, Global};
+use world_decisions::deciding::{Decision, decide, package_of};
+use world_known::known::Known;
+use world_members::members::Member;
 
 /// Notes what the receipt of what is due names. It is entered in the package that the command changes.
 fn note_due(known: &mut Known, command: &Command, decision: &Decision) -> Result<(), AllocError>
@@ -48,6 +48,7 @@ pub(crate) fn decide_and_note<S: Alter + Drop>(
     ensures asks { AsksAll S.Store (DecidesWhere known.old (IsOf frame.now count) request.now)
         members.old.items members.new.items result }
     ensures place { IfOk result (λ decision. HasPlace members.new.items count decision) }
+    ensures makes { IfOk result (λ decision. Makes (child_asked request.now.command) decision) }
     ensures grows { Grows known.old known.new }
     ensures noted { IfOk result (λ decision. IsNoted known.new decision) }
 {

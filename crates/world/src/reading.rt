@@ -1,25 +1,25 @@
 //! What a world is asked for without changing it: the packages, what one of them holds and how much, and a kept receipt.
-ghost use Rattle.std.specs.Prelude.{◌≡◌, ◌<◌, ◌≤◌, ◌+◌, ◌++◌, ℕ, Some, IfOk, map, length, slice_get, vec_len, vec_capacity};
+ghost use Rattle.std.specs.Prelude.{◌≡◌, ◌<◌, ◌≤◌, ◌+◌, ◌++◌, ℕ, Some, IfOk, OnOk, map, length, slice_get, vec_len, vec_capacity};
 ghost use Rattle.std.specs.Option.{option_map};
 ghost use Rattle.sheet_types.specs.Answers.{sums_of, package_sights, holdings_answer, receipt_answer};
 ghost use Rattle.sheet_types.specs.World.{World as ModelWorld, Package};
-ghost use Rattle.asking.specs.Asking.{AsksAll};
-ghost use Rattle.members.specs.Members.{AllRest, AreMembers};
+ghost use Rattle.world_queries.specs.Asking.{AsksAll};
+ghost use Rattle.world_members.specs.Members.{AllRest, AllClean, AllOpen, AreMembers};
 ghost use Rattle.world.specs.Reading.{sight_of, member_sight};
 ghost use Rattle.world.specs.Worlds.{StandsFor, IsRead, TellsOf, held};
 
 use crate::world::World;
-use asking::asking::place_of;
-use asking::asking_one::holdings_at;
-use asking::recalling::find_kept;
-use members::members::Member;
-use members::reserving::push_reserved;
 use package_tables::fault::Fault;
 use sheet_types::command::{Item, Relation};
 use sheet_types::receipt::{Receipt, Sums};
 use sqlite::{Alter, Connection};
 use std::alloc::Global;
 use uuid::Uuid;
+use world_members::members::Member;
+use world_members::reserving::push_reserved;
+use world_queries::asking::place_of;
+use world_queries::asking_one::holdings_at;
+use world_queries::recalling::find_kept;
 
 /// What the list of packages says of a live one: its parent, where it is a loan, how many loans it is below the archive, and the number of the last receipt of it, 0 where there is none.
 #[derive(Clone, Copy, PartialEq, Eq)]
@@ -132,6 +132,7 @@ impl<S: Alter + Drop> World<S> {
     ) -> Result<Option<(Vec<Item>, Vec<Relation>)>, Fault>
         ensures told { TellsOf S.Store (λ w found. option_map (λ held. (held.0.items, held.1.items)) found ≡ holdings_answer w «package») self.old self.new result }
         ensures read { IsRead S.Store self.old self.new }
+        ensures opens { AllClean S.Store self.new.members → OnOk result (AllOpen S.Store self.old.members → AllOpen S.Store self.new.members) }
     {
         holdings_in(&mut self.members, alloc, package)
     }
@@ -144,6 +145,7 @@ impl<S: Alter + Drop> World<S> {
     pub fn receipt(&mut self, alloc: Global, id: Uuid) -> Result<Option<Receipt>, Fault>
         ensures told { TellsOf S.Store (λ w found. found ≡ receipt_answer w id) self.old self.new result }
         ensures read { IsRead S.Store self.old self.new }
+        ensures opens { AllClean S.Store self.new.members → OnOk result (AllOpen S.Store self.old.members → AllOpen S.Store self.new.members) }
     {
         find_kept(&mut self.members, &self.known, alloc, id)
     }

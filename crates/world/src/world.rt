@@ -6,30 +6,32 @@ ghost use Rattle.sheet_types.specs.Step.{IsFault};
 ghost use Rattle.sheet_types.specs.Matrix.{is_good_frame};
 ghost use Rattle.sheet_types.specs.Refuse.{greatest_receipts};
 ghost use Rattle.sheet_types.specs.World.{new_world};
-ghost use Rattle.sql_meaning.specs.Blank.{IsBlank, no_schema};
+ghost use Rattle.store_sql.specs.Blank.{IsBlank, no_schema};
 ghost use Rattle.world.specs.Creating.{IsCreatedOrRefused, HasRoom};
-ghost use Rattle.members.specs.Members.{AllRest, AllClean, AllMadeAt};
+ghost use Rattle.world_members.specs.Members.{AllRest, AllClean, AllOpen, AllMadeAt};
 ghost use Rattle.sheet_types.specs.declared.refusal.Refusal.TheVariants.{StoreFault};
 ghost use Rattle.sqlite_disk.specs.Disk.{MoreFaults};
-ghost use Rattle.world.specs.Worlds.{StandsFor, StandsBeside, seen_of, IsStep, IsRun, StandsStill, LeavesNoTrace};
+ghost use Rattle.world.specs.Worlds.{IsAccepted, IsHeld, IsRun, IsStep, LeavesNoTrace, StandsFor, StandsBeside, StandsStill, seen_of};
+ghost use Rattle.world.specs.Asked.{AsksFor, AsksForEach, IsNewTo};
+ghost use Rattle.world_decisions.specs.Deciding.{child_asked};
 
 use crate::applying::serve;
 use crate::creating::{CreateFault, archive_alone};
-use known_uuids::known::Known;
 use matrix_rules::check::FrameRules;
-use members::members::Member;
-use members::reserving::{push_reserved, room_for_one};
 use sheet_types::command::Request;
 use sheet_types::error::OutOfMemory;
 use sheet_types::frame::Frame;
 use sheet_types::moments::is_moment;
 use sheet_types::receipt::Receipt;
 use sheet_types::refusal::Refusal;
-use shelves::shelf::Shelf;
 use sqlite::{Alter, Connection};
 use std::alloc::Global;
 use std::marker::Model;
+use store_shelf::shelf::Shelf;
 use uuid::Uuid;
+use world_known::known::Known;
+use world_members::members::Member;
+use world_members::reserving::{push_reserved, room_for_one};
 
 /// An archive and its loans: their stores, all of them open, with what is kept of each so that nothing is counted again.
 #[derive(Drop)]
@@ -73,6 +75,7 @@ impl<S: Alter + Drop> World<S> {
         requires blank { HasCleanDisk (state S.Store conn) → IsBlank no_schema (state S.Store conn).now }
         ensures made { IfOk result (λ world. AllClean S.Store world.members → StandsFor S.Store world (new_world archive frame.now)) }
         ensures dated { IfOk result (λ world. AllClean S.Store world.members → AllMadeAt S.Store frame.now at.now world.members) }
+        ensures opens { IfOk result (λ world. AllClean S.Store world.members → AllOpen S.Store world.members) }
         ensures clean { IfOk result (λ world. AllClean S.Store world.members → HasCleanDisk (state S.Store conn)) }
         ensures usable { IfOk result (λ world. world.has_failed ≡ false) }
         ensures refused { IsCreatedOrRefused frame.now at.now result }
@@ -128,16 +131,17 @@ impl<S: Alter + Drop> World<S> {
         self.frame
     }
 
-    /// Whether the world has failed: from then on it answers `StoreFault` to every request.
+    /// Whether the world has failed: from then on it answers `StoreFault` to every request. Whoever asks also learns what each world keeps.
     pub fn has_failed(&self) -> bool
-        ensures { result ≡ self.now.has_failed }
+        ensures told { result ≡ self.now.has_failed }
+        ensures held { IsHeld S.Store self.now }
     {
         self.has_failed
     }
 
     /// Carries one request out, or tells why not. A request that comes again, with its line, gets the receipt that it got, and nothing is changed.
     ///
-    /// The shelf gives the store of the package that a split makes.
+    /// The shelf gives the store of the package that a split makes. It is asked for no other, once at most, and for none that a package of the world has.
     ///
     /// # Errors
     ///
@@ -154,7 +158,12 @@ impl<S: Alter + Drop> World<S> {
         ensures failed { self.old.has_failed ≡ true → (result ≡ Err StoreFault) × (self.new ≡ self.old) × (H.failures_of shelf.new ≡ H.failures_of shelf.old) }
         ensures cause { result ≡ Err StoreFault → (self.new.has_failed ≡ true) ⊎ MoreFaults (H.failures_of shelf.old) (H.failures_of shelf.new) }
         ensures usable { ¬ IsFault result → self.new.has_failed ≡ self.old.has_failed }
+        ensures rises { self.old.has_failed ≡ false → self.new.has_failed ≡ true
+            → (H.failures_of shelf.new ≡ H.failures_of shelf.old)
+            × ((result ≡ Err StoreFault) ⊎ IsAccepted S.Store request.now self.old self.new) }
         ensures shelf { H.failures_of shelf.old ≤ H.failures_of shelf.new }
+        ensures asks { AsksFor H.asks (child_asked request.now.command) (IsNewTo S.Store self.old self.new) shelf.old shelf.new }
+        ensures unasked { self.old.has_failed ≡ true → shelf.new ≡ shelf.old }
     {
         if self.has_failed {
             return Err(Refusal::StoreFault);
@@ -193,6 +202,8 @@ impl<S: Alter + Drop> World<S> {
     ) -> Result<Vec<Result<Receipt, Refusal>>, OutOfMemory>
         ensures ran { IfOk result (λ replies. IsRun S.Store requests.now self.old replies.items self.new (H.failures_of shelf.old) (H.failures_of shelf.new)) }
         ensures refused { OnErr result ((self.new ≡ self.old) × (H.failures_of shelf.new ≡ H.failures_of shelf.old)) }
+        ensures asks { IfOk result (λ replies. AsksForEach H.asks requests.now shelf.old shelf.new) }
+        ensures unasked { OnErr result (shelf.new ≡ shelf.old) }
     {
         let mut replies = Vec::with_capacity(alloc, requests.len())?;
         for request in requests {

@@ -1,8 +1,8 @@
 use Rattle.std.proofs.Common.{◌≤◌, ◌<◌, ◌∙◌, refl, sym, subst, length, arith}
 use Rattle.sqlite.specs.Held.{state}
-use Rattle.sql_meaning.specs.Transactions.{EachStep}
-use Rattle.sql_meaning.specs.Writing.{EachChained}
-use Rattle.sql_meaning.proofs.Transactions.{each_begins, each_goes_on, steps_answer}
+use Rattle.store_sql.specs.Transactions.{EachStep}
+use Rattle.store_sql.specs.Writing.{EachChained}
+use Rattle.store_sql.proofs.Transactions.{each_begins, each_goes_on, steps_answer}
 use Rattle.custody.specs.Entries.{Enters, rows_from}
 use Rattle.custody.proofs.Entering.{rows_more, rows_all}
 use Rattle.custody.proofs.enter_things.Goals as goal

@@ -1,6 +1,6 @@
 use Rattle.std.proofs.Common.{◌≡◌, take}
 use Rattle.sqlite.specs.Held.{state}
-use Rattle.sql_meaning.specs.Transactions.{EachStep}
+use Rattle.store_sql.specs.Transactions.{EachStep}
 use Rattle.custody.specs.Entries.{Enters, rows_from}
 use Rattle.custody.proofs.enter_things.Given as goal
 

@@ -1,7 +1,7 @@
 use Rattle.std.proofs.Common.{◌≡◌, ◌∙◌, pos}
 use Rattle.std.specs.Prelude.{◌||◌}
 use Rattle.std.specs.List.{list_any}
-use Rattle.sql_meaning.proofs.Staying.{looks_stays, stays_then}
+use Rattle.store_sql.proofs.Staying.{looks_stays, stays_then}
 use Rattle.custody.specs.Entries.{is_of}
 use Rattle.identity_register.proofs.Looking.{looked, looked_then, sees, fails}
 use Rattle.custody.proofs.Naming.{named_by_rows}

@@ -1,6 +1,6 @@
 -- Both kinds of stores are in memory, and so always clean.
 use Rattle.std.proofs.Common.{refl}
-use Rattle.memory_files.proofs.Cleanness.{always_clean}
+use Rattle.store_memory.proofs.Cleanness.{always_clean}
 use Rattle.cli.proofs.Rehearsing.{arrays_clean}
 use Rattle.cli.proofs.rehearse.over_either.Goals as goal
 

@@ -2,7 +2,7 @@
 use Rattle.std.proofs.Common.{take}
 use Rattle.std.specs.Io.KnownBytes.{Appends}
 use Rattle.sheet_types.specs.World.{World}
-use Rattle.members.specs.Members.{AllClean}
+use Rattle.world_members.specs.Members.{AllClean}
 use Rattle.world.specs.Worlds.{StandsFor}
 use Rattle.cli.specs.Rehearsals.{StandsOn}
 use Rattle.cli.proofs.Pieces.{listed_text}

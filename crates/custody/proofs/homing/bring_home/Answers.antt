@@ -1,8 +1,8 @@
 use Rattle.std.proofs.Common.{◌∙◌, Ok, refl, ap, to_z, to_z-of_z, rules, FitsSigned, w64, negsuc}
 use Rattle.std.specs.Prelude.{filter}
 use Rattle.sqlite.specs.Held.{state}
-use Rattle.sql_meaning.proofs.Staying.{looks_stays, stays_then}
-use Rattle.sql_meaning.proofs.Transactions.{at_rest, same_survives, steps_failed, steps_none, steps_then}
+use Rattle.store_sql.proofs.Staying.{looks_stays, stays_then}
+use Rattle.store_sql.proofs.Transactions.{at_rest, same_survives, steps_failed, steps_none, steps_then}
 use Rattle.package_tables.specs.Calls.{IsLeast}
 use Rattle.package_tables.specs.declared.fault.Fault.{Fault}
 use Rattle.identity_register.proofs.Looking.{looked}

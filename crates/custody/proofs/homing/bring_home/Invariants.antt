@@ -1,7 +1,7 @@
 use Rattle.std.proofs.Common.{◌≡◌, Ok}
 use Rattle.sqlite.specs.Held.{state}
-use Rattle.sql_meaning.specs.Staying.{Stays}
-use Rattle.sql_meaning.specs.Transactions.{Steps}
+use Rattle.store_sql.specs.Staying.{Stays}
+use Rattle.store_sql.specs.Transactions.{Steps}
 use Rattle.package_tables.specs.declared.fault.Fault.{Fault}
 use Rattle.custody.specs.Homing.{FromClean}
 use Rattle.custody.proofs.Homecoming.{ReceiptsSoFar}

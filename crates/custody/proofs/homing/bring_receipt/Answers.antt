@@ -1,6 +1,6 @@
 use Rattle.std.proofs.Common.{rules, to_z-of_z, FitsSigned, w64}
 use Rattle.sqlite.specs.Held.{state}
-use Rattle.sql_meaning.proofs.Transactions.{at_rest, same_survives}
+use Rattle.store_sql.proofs.Transactions.{at_rest, same_survives}
 use Rattle.custody.proofs.Homecoming.{receipt_brought}
 use Rattle.custody.proofs.homing.bring_receipt.Goals as goal
 

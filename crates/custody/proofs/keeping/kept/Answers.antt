@@ -3,7 +3,7 @@ use Rattle.std.proofs.Common.{◌∙◌, sym, ap, subst, Ok, to_z-of_z, rules}
 use mir.Syntax.{w64}
 use mir.Val.{SFits}
 use Rattle.std.specs.Ordering.{int_eq}
-use Rattle.sql_meaning.proofs.Staying.{looks_stays, stays_then}
+use Rattle.store_sql.proofs.Staying.{looks_stays, stays_then}
 use Rattle.package_tables.specs.Calls.{AreThose}
 use Rattle.identity_register.proofs.Looking.{looked, looked_then, sees, fails}
 use Rattle.custody.specs.Entries.{rows_at}

@@ -1,7 +1,7 @@
 use Rattle.std.proofs.Common.{◌∙◌, Ok, ap, sym, to_z, to_z-of_z, rules, FitsSigned, w64}
 use Rattle.sqlite.specs.Held.{state}
-use Rattle.sql_meaning.proofs.Staying.{looks_stays, stays_then}
-use Rattle.sql_meaning.proofs.Transactions.{at_rest, same_survives}
+use Rattle.store_sql.proofs.Staying.{looks_stays, stays_then}
+use Rattle.store_sql.proofs.Transactions.{at_rest, same_survives}
 use Rattle.identity_register.proofs.Looking.{looked, fails}
 use Rattle.sheet_types.specs.Custody.{is_split_line}
 use Rattle.custody.proofs.Lent.{IsNextTo, none_yet, one_more, answers_none, answers_split}

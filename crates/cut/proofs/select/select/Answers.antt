@@ -3,7 +3,7 @@ use Rattle.std.proofs.Common.{pos}
 use Rattle.std.specs.Prelude.{◌&&◌}
 use Rattle.std.specs.Ordering.{int_eq}
 use Rattle.package_tables.specs.Calls.{IsOneOf}
-use Rattle.sql_meaning.proofs.Staying.{looks_stays, stays_then}
+use Rattle.store_sql.proofs.Staying.{looks_stays, stays_then}
 use Rattle.identity_register.proofs.Looking.{fails}
 use Rattle.identity_register.proofs.Reaching.{stays_itself}
 use Rattle.cut.specs.Taken.{IsCutOf}

@@ -4,7 +4,7 @@ use Rattle.package_tables.specs.declared.fault.Fault.{Fault}
 use Rattle.sheet_types.specs.Texts.{kind_of, uuid_text}
 use Rattle.sheet_types.specs.World.{kind_number}
 use Rattle.sheet_types.specs.declared.command.Item.{Item}
-use Rattle.sql_meaning.proofs.Transactions.{steps_then, steps_failed, steps_answer}
+use Rattle.store_sql.proofs.Transactions.{steps_then, steps_failed, steps_answer}
 use Rattle.identity_register.specs.Room.{ComesIn}
 use Rattle.identity_register.proofs.Numbers.{add_steps, identity_makes}
 use Rattle.identity_register.proofs.Rooms.{gap_found, no_room}

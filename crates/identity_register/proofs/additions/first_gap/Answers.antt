@@ -2,7 +2,7 @@ use Rattle.std.proofs.Common.{◌≡◌, ℤ, ◌∙◌, ◌+ℤ◌, pos, true, 
 use Rattle.std.proofs.lemmas.Int.{ints}
 use Rattle.sheet_types.specs.Matrix.{is_within}
 use Rattle.sqlite.specs.Held.{state}
-use Rattle.sql_meaning.proofs.Transactions.{steps_none, steps_answer}
+use Rattle.store_sql.proofs.Transactions.{steps_none, steps_answer}
 use Rattle.package_tables.specs.Calls.{Answers}
 use Rattle.package_tables.specs.declared.fault.Fault.{Fault}
 use Rattle.identity_register.specs.Numbering.{IsTaken, FindsGap, greatest_number}

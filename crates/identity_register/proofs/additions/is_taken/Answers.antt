@@ -1,6 +1,6 @@
 use Rattle.std.proofs.Common.{to_z-of_z, subst, sym, Ok}
 use Rattle.sqlite.specs.Held.{state}
-use Rattle.sql_meaning.specs.Transactions.{Steps}
+use Rattle.store_sql.specs.Transactions.{Steps}
 use Rattle.package_tables.specs.Calls.{Answers}
 use Rattle.package_tables.specs.declared.fault.Fault.{Fault}
 use Rattle.identity_register.specs.Numbering.{IsTaken}

@@ -1,4 +1,4 @@
-use Rattle.sql_meaning.proofs.Transactions.{steps_then, steps_failed}
+use Rattle.store_sql.proofs.Transactions.{steps_then, steps_failed}
 use Rattle.identity_register.proofs.Joining.{ends_steps}
 use Rattle.identity_register.proofs.changes.rows_of_ends.Goals as goal
 

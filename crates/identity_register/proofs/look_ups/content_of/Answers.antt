@@ -1,7 +1,7 @@
 -- The kind says which table has the row, and the row that was found holds the content.
 use Rattle.std.proofs.Common.{◌≡◌, pos, arith}
 use Rattle.std.proofs.lemmas.Int.{to_z-of_z, ints}
-use Rattle.sql_meaning.proofs.Staying.{looks_stays}
+use Rattle.store_sql.proofs.Staying.{looks_stays}
 use Rattle.identity_register.proofs.Looking.{fails}
 use Rattle.identity_register.proofs.Contents.{content_found}
 use Rattle.identity_register.proofs.look_ups.content_of.Goals as goal

@@ -3,7 +3,7 @@ use Rattle.std.proofs.Common.{◌∙◌, sym, ap, Ok, rules}
 use mir.Syntax.{w64}
 use mir.Val.{SFits}
 use Rattle.std.proofs.lemmas.Int.{to_z-of_z}
-use Rattle.sql_meaning.proofs.Staying.{looks_stays, stays_then}
+use Rattle.store_sql.proofs.Staying.{looks_stays, stays_then}
 use Rattle.identity_register.specs.Answers.{IsContentOf}
 use Rattle.identity_register.proofs.Looking.{looked, looked_then, sees, fails}
 use Rattle.identity_register.proofs.Answering.{IsRowFor, no_item}

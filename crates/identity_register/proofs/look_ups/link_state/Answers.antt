@@ -3,7 +3,7 @@ use Rattle.std.proofs.Common.{◌≡◌, ◌∙◌, ap, sym, Ok, rules, true, fa
 use mir.Syntax.{w64}
 use mir.Val.{SFits}
 use Rattle.std.proofs.lemmas.Int.{to_z-of_z}
-use Rattle.sql_meaning.proofs.Staying.{looks_stays, stays_then}
+use Rattle.store_sql.proofs.Staying.{looks_stays, stays_then}
 use Rattle.package_tables.specs.Calls.{IsOneOf}
 use Rattle.package_tables.specs.Mappings.{mapping_rows}
 use Rattle.package_tables.specs.declared.rows.MappingRow.{MappingRow}

@@ -2,7 +2,7 @@
 use Rattle.std.proofs.Common.{◌≡◌, ◌∙◌, ap}
 use Rattle.std.specs.Prelude.{◌||◌}
 use Rattle.std.proofs.lemmas.Int.{to_z-of_z}
-use Rattle.sql_meaning.proofs.Staying.{looks_stays, stays_then}
+use Rattle.store_sql.proofs.Staying.{looks_stays, stays_then}
 use Rattle.identity_register.specs.Answers.{is_named_by, is_linked_row, AreMappingsOf}
 use Rattle.identity_register.proofs.Looking.{looked, looked_then, tells, fails}
 use Rattle.identity_register.proofs.Ends.{second_end, linked_by}

@@ -6,7 +6,7 @@ use mir.Val.{SFits}
 use Rattle.std.specs.List.{AllZip}
 use Rattle.std.specs.Ordering.{int_eq}
 use Rattle.std.proofs.lemmas.Int.{to_z-of_z}
-use Rattle.sql_meaning.proofs.Staying.{looks_stays, stays_then}
+use Rattle.store_sql.proofs.Staying.{looks_stays, stays_then}
 use Rattle.sheet_types.specs.World.{kind_number, base_kind, other_kind}
 use Rattle.package_tables.specs.Calls.{AreThose}
 use Rattle.package_tables.specs.Mappings.{mapping_rows}

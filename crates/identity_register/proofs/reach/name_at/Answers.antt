@@ -5,7 +5,7 @@ use Rattle.std.specs.Ordering.{int_eq}
 use Rattle.std.specs.Result.{result_ok}
 use Rattle.std.proofs.lemmas.Bool.{and_parts}
 use Rattle.std.proofs.lemmas.Int.{to_z-of_z}
-use Rattle.sql_meaning.proofs.Staying.{looks_stays}
+use Rattle.store_sql.proofs.Staying.{looks_stays}
 use Rattle.sheet_types.specs.Lines.{IsUuid}
 use Rattle.sheet_types.specs.Texts.{uuid_text}
 use Rattle.package_tables.specs.Calls.{IsOneOf}

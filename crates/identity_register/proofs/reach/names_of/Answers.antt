@@ -7,7 +7,7 @@ use Rattle.std.proofs.ResultArms.{chosen}
 use Rattle.std.proofs.lemmas.Int.{to_z-of_z}
 use Rattle.std.proofs.lemmas.List.{take_all}
 use Rattle.sqlite.specs.Held.{state}
-use Rattle.sql_meaning.proofs.Staying.{looks_stays, stays_then}
+use Rattle.store_sql.proofs.Staying.{looks_stays, stays_then}
 use Rattle.package_tables.specs.Package.{tables_of}
 use Rattle.identity_register.specs.Gathered.{IsNamed}
 use Rattle.identity_register.proofs.Gathering.{zip_more}

@@ -5,7 +5,7 @@ use mir.Val.{SFits}
 use Rattle.std.specs.Prelude.{IsPermutation}
 use Rattle.std.specs.List.{AllZip}
 use Rattle.std.proofs.lemmas.Int.{to_z-of_z}
-use Rattle.sql_meaning.proofs.Staying.{looks_stays, stays_then}
+use Rattle.store_sql.proofs.Staying.{looks_stays, stays_then}
 use Rattle.sheet_types.specs.Ordered.{IsArranged}
 use Rattle.package_tables.specs.Calls.{AreNumbersOf}
 use Rattle.identity_register.specs.Gathered.{IsNamed}

@@ -4,7 +4,7 @@ use Rattle.std.specs.List.{AllZip}
 use Rattle.std.proofs.ResultArms.{chosen}
 use Rattle.std.proofs.lemmas.List.{take_all}
 use Rattle.sqlite.specs.Held.{state}
-use Rattle.sql_meaning.proofs.Staying.{looks_stays, stays_then}
+use Rattle.store_sql.proofs.Staying.{looks_stays, stays_then}
 use Rattle.package_tables.specs.Package.{tables_of}
 use Rattle.identity_register.specs.Told.{IsToldOf}
 use Rattle.identity_register.proofs.Gathering.{zip_more}

@@ -2,7 +2,7 @@
 use Rattle.std.proofs.Common.{sym, subst}
 use Rattle.std.specs.List.{AllByRecursion}
 use Rattle.std.specs.Ordering.{int_cmp, on}
-use Rattle.sql_meaning.proofs.Staying.{looks_stays, stays_then}
+use Rattle.store_sql.proofs.Staying.{looks_stays, stays_then}
 use Rattle.package_tables.specs.Calls.{AreAll}
 use Rattle.identity_register.specs.Gathered.{IsPlaced}
 use Rattle.identity_register.proofs.Looking.{looked, looked_then, fails}

@@ -2,7 +2,7 @@
 use Rattle.std.proofs.Common.{subst, IfOk}
 use Rattle.std.specs.Prelude.{IsPermutation}
 use Rattle.std.specs.List.{AllByRecursion}
-use Rattle.sql_meaning.proofs.Staying.{looks_stays}
+use Rattle.store_sql.proofs.Staying.{looks_stays}
 use Rattle.sheet_types.specs.Ordered.{IsArranged}
 use Rattle.sheet_types.specs.World.{item_key}
 use Rattle.identity_register.specs.Gathered.{IsPlaced, AreItemsBy}

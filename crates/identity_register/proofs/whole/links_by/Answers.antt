@@ -2,7 +2,7 @@
 use Rattle.std.proofs.Common.{◌≡◌, ◌∙◌, ◌++◌, List, ap, subst, is_ok, IfOk}
 use Rattle.std.specs.Prelude.{IsPermutation, flat_map}
 use Rattle.std.proofs.ResultArms.{chosen}
-use Rattle.sql_meaning.proofs.Staying.{looks_stays, stays_then}
+use Rattle.store_sql.proofs.Staying.{looks_stays, stays_then}
 use Rattle.sheet_types.specs.Ordered.{IsArranged}
 use Rattle.sheet_types.specs.World.{link_key, all_mappings}
 use Rattle.sheet_types.specs.declared.command.Mapping.{Mapping}

@@ -3,9 +3,9 @@ use Rattle.sqlite.specs.Effect.{Database}
 use Rattle.package_tables.specs.Calls.{OnTables}
 use Rattle.sqlite.specs.Held.{state}
 use Rattle.sqlite.specs.declared.types.Value.TheVariants.{Text}
-use Rattle.sql_meaning.specs.Reading.{always}
-use Rattle.sql_meaning.specs.Writing.{Updates}
-use Rattle.sql_meaning.proofs.Update.{changed_inside, change_by}
+use Rattle.store_sql.specs.Reading.{always}
+use Rattle.store_sql.specs.Writing.{Updates}
+use Rattle.store_sql.proofs.Update.{changed_inside, change_by}
 use Rattle.package_tables.specs.Tables.{gpkg_contents}
 use Rattle.package_tables.specs.Changes.{SetsLastChange}
 use Rattle.package_tables.proofs.Making.{makes}
@@ -26,5 +26,5 @@ returns-clause-wrote g c clean begun =
     let new = state g.S.Store c.execute.new.self.conn.now in
     let params = Text a.at.now ∷ [] in
     makes (Updates gpkg_contents (λ _. true) (change_by change_terms params)) (SetsLastChange a.at.now) old new c.execute.result _ (λ formed updates. dated a.at.now old.now new.now updates formed) c.settled.ensures
-    (changed_inside _ gpkg_contents always 0 change_terms change_text change_plan params (record { found = λ r. refl; new = λ r. refl }) refl (λ _. true) (λ tree. refl) old new c.execute.result
+    (changed_inside _ gpkg_contents always 0 change_terms change_text change_plan params (record { found = λ r. refl; new = λ r. refl }) refl (λ _. true) (λ spelling. refl) old new c.execute.result
     (rw c.params-to_sql.ensures at (c.execute.ensures.runs clean begun)))

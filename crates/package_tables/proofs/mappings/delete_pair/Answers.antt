@@ -4,7 +4,7 @@ use Rattle.std.specs.Ordering.{int_eq}
 use Rattle.sqlite.specs.Held.{state}
 use Rattle.sqlite.specs.Order.{Row, column}
 use Rattle.sqlite.specs.declared.types.Value.TheVariants.{Int}
-use Rattle.sql_meaning.specs.Reading.{is_same}
+use Rattle.store_sql.specs.Reading.{is_same}
 use Rattle.package_tables.proofs.Making.{leaves}
 use Rattle.package_tables.proofs.Written.{pairs_listed}
 use Rattle.package_tables.proofs.Pairs.{deletes, deletes_planned, deletes_rows}

@@ -1,6 +1,6 @@
 use Rattle.std.proofs.Common.{◌≡◌, ◌∙◌, sym}
 use Rattle.sheet_types.specs.World.{item_of}
-use Rattle.sql_meaning.proofs.Staying.{looks_stays}
+use Rattle.store_sql.proofs.Staying.{looks_stays}
 use Rattle.transfer.proofs.Telling.{told_by}
 use Rattle.transfer.proofs.lifting.item_in.Goals as goal
 

@@ -1,6 +1,6 @@
 use Rattle.std.proofs.Common.{◌≡◌, ◌≤◌, ◌∙◌, arith}
 use Rattle.sqlite.specs.Held.{state}
-use Rattle.sql_meaning.proofs.Staying.{stays_then}
+use Rattle.store_sql.proofs.Staying.{stays_then}
 use Rattle.transfer.specs.Parcels.{names_of, things}
 use Rattle.transfer.proofs.Carrying.{whole_more, whole_stop, whole_all}
 use Rattle.transfer.proofs.pages.carry_each.Goals as goal

@@ -3,8 +3,8 @@ use Rattle.std.specs.List.{filter_map}
 use Rattle.std.proofs.lemmas.List.{take_all}
 use Rattle.sqlite.specs.Held.{state}
 use Rattle.sheet_types.specs.World.{item_of}
-use Rattle.sql_meaning.specs.Writing.{EachChained}
-use Rattle.sql_meaning.proofs.Staying.{stays_then}
+use Rattle.store_sql.specs.Writing.{EachChained}
+use Rattle.store_sql.proofs.Staying.{stays_then}
 use Rattle.transfer.specs.Moves.{PutsItem}
 use Rattle.transfer.proofs.Carrying.{ItemsFrom, from_so, carried_more, carried_stop}
 use Rattle.transfer.proofs.Trying.{take_one, whole_of}

@@ -1,6 +1,6 @@
 use Rattle.std.proofs.Common.{◌≡◌, subst, Ok}
 use Rattle.sqlite.specs.Held.{state}
-use Rattle.sql_meaning.specs.Transactions.{Steps}
+use Rattle.store_sql.specs.Transactions.{Steps}
 use Rattle.package_tables.specs.declared.fault.Fault.{Fault}
 use Rattle.transfer.specs.Parcels.{names_of, part, page}
 use Rattle.transfer.proofs.Carrying.{From, CutFrom, taken_from, too_much_from}

@@ -1,8 +1,8 @@
 use Rattle.std.proofs.Common.{◌≡◌, ◌-◌, ℕ, List, length, subst, arith, min, Ok, ◌∙◌}
 use Rattle.std.specs.Prelude.{slice_range}
 use Rattle.sqlite.specs.Held.{state}
-use Rattle.sql_meaning.specs.Transactions.{Steps}
-use Rattle.sql_meaning.specs.Writing.{EachChained}
+use Rattle.store_sql.specs.Transactions.{Steps}
+use Rattle.store_sql.specs.Writing.{EachChained}
 use Rattle.package_tables.specs.declared.fault.Fault.{Fault}
 use Rattle.transfer.specs.Moves.{PutsLink}
 use Rattle.transfer.specs.Parcels.{names_of, part}

@@ -1,8 +1,8 @@
 use Rattle.std.proofs.Common.{◌≡◌, ◌∙◌, sym, subst, take, true, false, ap}
 use Rattle.std.proofs.lemmas.Bool.{true≢false}
 use Rattle.sqlite.specs.Held.{state}
-use Rattle.sql_meaning.specs.Transactions.{EachStep, Steps}
-use Rattle.sql_meaning.proofs.Transactions.{each_goes_on}
+use Rattle.store_sql.specs.Transactions.{EachStep, Steps}
+use Rattle.store_sql.proofs.Transactions.{each_goes_on}
 use Rattle.package_tables.specs.declared.fault.Fault.{Fault}
 use Rattle.transfer.specs.Moves.{PutsItem, TriesItems}
 use Rattle.transfer.proofs.Trying.{came_in, stopped, take_one, whole_of}

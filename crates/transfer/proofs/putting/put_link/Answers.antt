@@ -1,4 +1,4 @@
-use Rattle.sql_meaning.proofs.Transactions.{steps_weaker}
+use Rattle.store_sql.proofs.Transactions.{steps_weaker}
 use Rattle.transfer.specs.Moves.{PutsLink}
 use Rattle.transfer.proofs.putting.put_link.Goals as goal
 

@@ -1,7 +1,7 @@
 use Rattle.std.proofs.Common.{◌≡◌, ◌∙◌, sym, subst, take}
 use Rattle.sqlite.specs.Held.{state}
-use Rattle.sql_meaning.specs.Transactions.{EachStep}
-use Rattle.sql_meaning.proofs.Transactions.{each_goes_on}
+use Rattle.store_sql.specs.Transactions.{EachStep}
+use Rattle.store_sql.proofs.Transactions.{each_goes_on}
 use Rattle.transfer.specs.Moves.{PutsLink}
 use Rattle.transfer.proofs.Trying.{take_one}
 use Rattle.transfer.proofs.putting.put_links.Goals as goal

@@ -1,4 +1,4 @@
-use Rattle.sql_meaning.proofs.Transactions.{steps_weaker}
+use Rattle.store_sql.proofs.Transactions.{steps_weaker}
 use Rattle.transfer.specs.Removals.{DropsLink}
 use Rattle.transfer.proofs.taking.drop_link.Goals as goal
 

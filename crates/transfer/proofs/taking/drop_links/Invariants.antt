@@ -1,6 +1,6 @@
 use Rattle.std.proofs.Common.{◌≡◌, take}
 use Rattle.sqlite.specs.Held.{state}
-use Rattle.sql_meaning.specs.Transactions.{EachStep}
+use Rattle.store_sql.specs.Transactions.{EachStep}
 use Rattle.transfer.specs.Removals.{DropsLink}
 use Rattle.transfer.proofs.taking.drop_links.Given as goal
 

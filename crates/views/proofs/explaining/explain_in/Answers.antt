@@ -1,5 +1,5 @@
 use Rattle.std.specs.Prelude.{string_bytes}
-use Rattle.world_views.specs.Told.{way_answer}
+use Rattle.view_world.specs.Told.{way_answer}
 use Rattle.views.specs.Showing.{told_if}
 use Rattle.views.proofs.ToldTexts.{looks_told_if}
 use Rattle.views.proofs.explaining.explain_in.Goals as goal

@@ -2,7 +2,7 @@
 use Rattle.std.proofs.Common.{take}
 use Rattle.std.specs.List.{AllZip}
 use Rattle.sheet_types.specs.World.{World}
-use Rattle.members.specs.Members.{AllClean}
+use Rattle.world_members.specs.Members.{AllClean}
 use Rattle.world.specs.Worlds.{StandsFor}
 use Rattle.views.specs.Printed.{IsUntouched}
 use Rattle.views.proofs.Gathered.{IsDrawn}

@@ -1,6 +1,6 @@
 -- The text that was made went out, or a beginning of it.
 use Rattle.std.proofs.Common.{◌∙◌, FitsSigned, rules, subst, sym, to_z-of_z, w64}
-use Rattle.sheet_maps.specs.Worlds.{IsWorldMap}
+use Rattle.view_map.specs.Worlds.{IsWorldMap}
 use Rattle.views.proofs.Printed.{has_zoom, is_map}
 use Rattle.views.proofs.printing.print_map.Goals as goal
 

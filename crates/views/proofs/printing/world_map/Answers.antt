@@ -1,6 +1,6 @@
 -- The frame is that of the world.
 use Rattle.std.proofs.Common.{◌∙◌, ap, to_z-of_z}
-use Rattle.sheet_maps.specs.Maps.{map_text}
+use Rattle.view_map.specs.Maps.{map_text}
 use Rattle.views.proofs.Printed.{made_of}
 use Rattle.views.proofs.printing.world_map.Goals as goal
 

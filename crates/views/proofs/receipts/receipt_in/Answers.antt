@@ -1,5 +1,5 @@
 use Rattle.std.specs.Prelude.{string_bytes}
-use Rattle.world_views.specs.Told.{receipt_line}
+use Rattle.view_world.specs.Told.{receipt_line}
 use Rattle.views.specs.Showing.{told_if}
 use Rattle.views.proofs.ToldTexts.{tells_told_if}
 use Rattle.views.proofs.receipts.receipt_in.Goals as goal

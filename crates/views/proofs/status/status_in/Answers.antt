@@ -1,5 +1,5 @@
 use Rattle.std.specs.Prelude.{string_bytes}
-use Rattle.world_views.specs.Told.{status_text}
+use Rattle.view_world.specs.Told.{status_text}
 use Rattle.views.specs.Showing.{told}
 use Rattle.views.proofs.ToldTexts.{looks_told}
 use Rattle.views.proofs.status.status_in.Goals as goal

@@ -1,8 +1,8 @@
 -- The text goes out in four pieces: its head, the rows of items, those of links, and its end.
 use Rattle.std.proofs.Common.{◌∙◌, flat_map, subst, to_z-of_z}
 use Rattle.std.specs.Io.KnownBytes.{Appends}
-use Rattle.export_sql.specs.Exports.{items_behind, link_row, opening}
-use Rattle.export_sql.specs.Numbers.{no_counts}
+use Rattle.view_export.specs.Exports.{items_behind, link_row, opening}
+use Rattle.view_export.specs.Numbers.{no_counts}
 use Rattle.manifest_csv.specs.Sent.{WentOut}
 use Rattle.views.proofs.Beginnings.{all_sent, end_begun, head_begun, links_begun, none_sent, on_err, rows_begun}
 use Rattle.views.proofs.Systems.{fits_header, fits_word}

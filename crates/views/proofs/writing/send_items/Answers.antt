@@ -1,7 +1,7 @@
 -- The rows so far went out, then those of the item.
 use Rattle.std.proofs.Common.{◌≡◌, ◌∙◌, ◌+◌, ◌≤◌, ap, subst, sym, to_z-of_z}
-use Rattle.export_sql.specs.Exports.{item_rows}
-use Rattle.export_sql.specs.Numbers.{count_of, next_number}
+use Rattle.view_export.specs.Exports.{item_rows}
+use Rattle.view_export.specs.Numbers.{count_of, next_number}
 use Rattle.views.proofs.Beginnings.{began_before, began_within, on_err, sent_too}
 use Rattle.views.proofs.Rows.{counted_more, counted_within, items_left, items_more, items_split}
 use Rattle.views.proofs.writing.send_items.Goals as goal

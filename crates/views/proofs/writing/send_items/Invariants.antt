@@ -1,8 +1,8 @@
 -- The rows of the items so far went out, and they are counted.
 use Rattle.std.proofs.Common.{◌≡◌, ◌≤◌, take}
 use Rattle.std.specs.Io.KnownBytes.{Appends}
-use Rattle.export_sql.specs.Exports.{items_behind}
-use Rattle.export_sql.specs.Numbers.{no_counts}
+use Rattle.view_export.specs.Exports.{items_behind}
+use Rattle.view_export.specs.Numbers.{no_counts}
 use Rattle.views.proofs.Rows.{counts_behind}
 use Rattle.views.proofs.writing.send_items.Given as goal
 

@@ -1,8 +1,8 @@
 -- The rows so far went out, then that of the link.
 use Rattle.std.proofs.Common.{◌∙◌, ◌+◌, List, drop, flat_map}
 use Rattle.sheet_types.specs.declared.command.Item.{Item}
-use Rattle.export_sql.specs.Exports.{link_row}
-use Rattle.export_sql.specs.Numbers.{AreNumbersOf}
+use Rattle.view_export.specs.Exports.{link_row}
+use Rattle.view_export.specs.Numbers.{AreNumbersOf}
 use Rattle.views.specs.Written.{Began}
 use Rattle.views.proofs.Beginnings.{began_before, began_within, on_err, sent_too}
 use Rattle.views.proofs.Rows.{links_more, links_split}

@@ -3,8 +3,8 @@ use Rattle.std.proofs.Common.{List, take}
 use Rattle.std.specs.Prelude.{flat_map}
 use Rattle.std.specs.Io.KnownBytes.{Appends}
 use Rattle.sheet_types.specs.declared.command.Item.{Item}
-use Rattle.export_sql.specs.Exports.{link_row}
-use Rattle.export_sql.specs.Numbers.{AreNumbersOf}
+use Rattle.view_export.specs.Exports.{link_row}
+use Rattle.view_export.specs.Numbers.{AreNumbersOf}
 use Rattle.views.proofs.writing.send_links.Given as goal
 
 abbrev pub invariant-loop-link : goal.invariant-loop-link

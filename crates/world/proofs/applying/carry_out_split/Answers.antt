@@ -1,16 +1,16 @@
 -- Room is made, the child's store is filled, and then the parent lends.
-use Rattle.std.proofs.Common.{◌≡◌, refl, subst, sym, ap, ◌∙◌, arith, [], length, vec_len, Ok, Err}
+use Rattle.std.proofs.Common.{◌≡◌, inl, inr, refl, subst, sym, ap, ◌∙◌, arith, [], length, vec_len, Ok, Err}
 use Rattle.sheet_types.specs.declared.receipt.Receipt.{Receipt}
-use Rattle.carrying.specs.Carries.{Carries}
-use Rattle.due_loans.specs.Loans.{IsLent}
-use Rattle.members.specs.Members.{AllOpen, AllStay, AreMembers}
-use Rattle.carrying.specs.Splits.{Splits}
-use Rattle.lending.specs.declared.turn_fault.TurnFault.TheVariants.{Before}
-use Rattle.due_loans.specs.declared.loans.ServeFault.TheVariants.{Turn}
+use Rattle.world_changes.specs.Carries.{Carries}
+use Rattle.world_loans.specs.Loans.{IsLent}
+use Rattle.world_members.specs.Members.{AllOpen, AllClean, AllStay, AreMembers}
+use Rattle.world_changes.specs.Splits.{Splits}
+use Rattle.register_lending.specs.declared.turn_fault.TurnFault.TheVariants.{Before}
+use Rattle.world_loans.specs.declared.loans.ServeFault.TheVariants.{Turn}
 use Rattle.world.proofs.CarriedOut.{carries_unbegun, carries_lent, carries_unlent}
 use Rattle.world.proofs.ChangesMade.{turned_into}
-use Rattle.carrying.proofs.Lent.{none_beside}
-use Rattle.members.proofs.Standing.{all_still, stay_length}
+use Rattle.world_changes.proofs.Lent.{none_beside}
+use Rattle.world_members.proofs.Standing.{all_still, stay_length, clean_before}
 use Rattle.world.proofs.applying.carry_out_split.Goals as goal
 
 pub returns-in_err-make_room-clause-carries : goal.returns-in_err-make_room-clause-carries
@@ -18,14 +18,14 @@ returns-in_err-make_room-clause-carries g c =
     subst (Carries g.S.Store (λ w next. (c.args.frame.now ≡ w.frame) × IsLent w next c.args.due) c.args.due.receipt c.args.members.now.items c.make_room.new.members.items c.make_room.new.strays.items c.args.count.now c.args.count.now) (sym (turned_into _ _ c.from_residual.ensures.1))
     (subst (λ ms. Carries g.S.Store (λ w next. (c.args.frame.now ≡ w.frame) × IsLent w next c.args.due) c.args.due.receipt c.args.members.now.items ms c.make_room.new.strays.items c.args.count.now c.args.count.now (Err (Turn (Before c.in_err-make_room.field-0.0)))) (sym c.make_room.ensures.members)
     (carries_unbegun g.S.Store g.met.S.Store.shut_if_dirty g.met.S.Store.settled _ c.args.due.receipt c.args.members.now.items c.args.members.now.items c.make_room.new.strays.items c.args.count.now (Turn (Before c.in_err-make_room.field-0.0)) (c.make_room.ensures.strays ∙ c.requires.none) c.requires.rests c.requires.rests
-    (all_still g.S.Store g.met.S.Store.shut_if_dirty g.met.S.Store.settled c.args.members.now.items c.requires.rests) tt [] (λ clean w next are is_due was. none_beside g.S.Store w.frame w.packages)))
+    (all_still g.S.Store g.met.S.Store.shut_if_dirty g.met.S.Store.settled c.args.members.now.items c.requires.rests) tt [] (omega arith) (λ clean w next are is_due was. none_beside g.S.Store w.frame w.packages)))
 
 pub returns-in_err-child-clause-carries : goal.returns-in_err-child-clause-carries
 returns-in_err-child-clause-carries g c =
     let stay : AllStay g.S.Store c.args.members.now.items c.child_store.new.members.items = subst (λ ms. AllStay g.S.Store ms c.child_store.new.members.items) c.make_room.ensures.members c.child_store.ensures.stay in
     subst (Carries g.S.Store (λ w next. (c.args.frame.now ≡ w.frame) × IsLent w next c.args.due) c.args.due.receipt c.args.members.now.items c.child_store.new.members.items c.make_room.new.strays.items c.args.count.now c.args.count.now) (sym (turned_into _ _ c.from_residual-in_err-child.ensures.1))
     (carries_unbegun g.S.Store g.met.S.Store.shut_if_dirty g.met.S.Store.settled _ c.args.due.receipt c.args.members.now.items c.child_store.new.members.items c.make_room.new.strays.items c.args.count.now _ (c.make_room.ensures.strays ∙ c.requires.none) c.requires.rests c.child_store.ensures.rests stay c.in_err-child.ensures.early
-    c.in_err-child.ensures.dropped.left_over (λ clean w next are is_due was. c.in_err-child.ensures.dropped.beside clean w next c.args.count.now is_due.0 (subst (λ ms. AreMembers g.S.Store ms c.args.count.now w) (sym c.make_room.ensures.members) are) is_due.1 (subst (AllOpen g.S.Store) (sym c.make_room.ensures.members) was)))
+    c.in_err-child.ensures.dropped.left_over c.in_err-child.ensures.dropped.few (λ clean w next are is_due was. c.in_err-child.ensures.dropped.beside clean w next c.args.count.now is_due.0 (subst (λ ms. AreMembers g.S.Store ms c.args.count.now w) (sym c.make_room.ensures.members) are) is_due.1 (subst (AllOpen g.S.Store) (sym c.make_room.ensures.members) was)))
 
 pub returns-in_err-child-clause-room : goal.returns-in_err-child-clause-room
 returns-in_err-child-clause-room g c = omega (arith, c.make_room.ensures.still, stay_length g.S.Store _ _ c.child_store.ensures.stay)
@@ -72,3 +72,27 @@ returns-clause-room g c =
     let strays : length c.make_room.new.strays.items ≡ vec_len c.make_room.new.strays = omega (arith, c.make_room.new.strays.ok.0) in
     let none : length c.lend_and_place.new.strays.items ≡ length c.make_room.new.strays.items = ap length (c.in_ok-receipt.ensures.splits.done c.in_ok-receipt.receipt refl).1 in
     omega (arith, long, strays, none, c.in_ok-make_room.ensures.stray, c.lend_and_place.ensures.stray_capacity, stay_length g.S.Store _ _ c.child_store.ensures.stay, (c.in_ok-receipt.ensures.splits.done c.in_ok-receipt.receipt refl).2)
+
+pub returns-in_err-make_room-clause-clean : goal.returns-in_err-make_room-clause-clean
+returns-in_err-make_room-clause-clean g c clean = subst (AllClean g.S.Store) c.make_room.ensures.members clean
+
+pub returns-in_err-child-clause-clean : goal.returns-in_err-child-clause-clean
+returns-in_err-child-clause-clean g c clean = subst (AllClean g.S.Store) c.make_room.ensures.members (clean_before g.S.Store _ _ c.child_store.ensures.stay clean)
+
+pub returns-in_err-receipt-clause-clean : goal.returns-in_err-receipt-clause-clean
+returns-in_err-receipt-clause-clean g c clean = subst (AllClean g.S.Store) c.make_room.ensures.members (clean_before g.S.Store _ _ c.child_store.ensures.stay (c.in_err-receipt.ensures.splits.clean clean))
+
+pub returns-clause-clean : goal.returns-clause-clean
+returns-clause-clean g c clean = subst (AllClean g.S.Store) c.make_room.ensures.members (clean_before g.S.Store _ _ c.child_store.ensures.stay (c.in_ok-receipt.ensures.splits.clean clean))
+
+pub returns-in_err-make_room-clause-asks : goal.returns-in_err-make_room-clause-asks
+returns-in_err-make_room-clause-asks g c = inl refl
+
+pub returns-in_err-child-clause-asks : goal.returns-in_err-child-clause-asks
+returns-in_err-child-clause-asks g c = inr c.child_store.ensures.asks
+
+pub returns-in_err-receipt-clause-asks : goal.returns-in_err-receipt-clause-asks
+returns-in_err-receipt-clause-asks g c = inr c.child_store.ensures.asks
+
+pub returns-clause-asks : goal.returns-clause-asks
+returns-clause-asks g c = inr c.child_store.ensures.asks

@@ -1,14 +1,18 @@
 -- What was decided, and where something was due what became of it.
-use Rattle.std.proofs.Common.{◌∙◌, sym, ap, subst, arith, Result, Ok}
+use Rattle.std.proofs.Common.{◌∙◌, refl, sym, ap, subst, arith, Result, Ok}
 use Rattle.sheet_types.specs.declared.receipt.Receipt.{Receipt}
 use Rattle.sheet_types.specs.declared.refusal.Refusal.{Refusal}
-use Rattle.carrying.specs.Carries.{ServesAll}
-use Rattle.deciding.specs.Deciding.{HasPlace, IsNoted}
-use Rattle.lending.specs.declared.turn_fault.TurnFault.TheVariants.{Before}
-use Rattle.due_loans.specs.declared.loans.ServeFault.TheVariants.{Turn}
-use Rattle.world.proofs.ServedAll.{all_undecided, all_answered, change_served, change_failed, split_served, split_failed, merge_served, merge_failed, counts_turn, counts_handed}
+use Rattle.world_changes.specs.Carries.{ServesAll, OfEachSeen}
+use Rattle.world_members.specs.Members.{AllClean}
+use Rattle.world.specs.Asked.{IsNoPackage}
+use Rattle.world_decisions.specs.Deciding.{HasPlace, IsNoted}
+use Rattle.register_lending.specs.declared.turn_fault.TurnFault.TheVariants.{Before}
+use Rattle.world_loans.specs.declared.loans.ServeFault.TheVariants.{Turn}
+use Rattle.world_decisions.specs.Deciding.{child_asked, Makes}
+use Rattle.world.proofs.Asks.{asks_nothing, asks_due}
+use Rattle.world.proofs.ServedAll.{split_apart, all_undecided, all_answered, change_served, change_failed, split_served, split_failed, merge_served, merge_failed, counts_turn, counts_handed}
 use Rattle.world.proofs.ChangesMade.{turned_into}
-use Rattle.members.proofs.Standing.{stay_length}
+use Rattle.world_members.proofs.Standing.{stay_length}
 use Rattle.world.proofs.applying.serve.Goals as goal
 
 pub returns-in_err-reply-clause-serves : goal.returns-in_err-reply-clause-serves
@@ -97,3 +101,31 @@ returns-in_err-reply-clause-shelf g c =
 
 pub returns-in_err-receipt-in-MergeDue-clause-shelf : goal.returns-in_err-receipt-in-MergeDue-clause-shelf
 returns-in_err-receipt-in-MergeDue-clause-shelf g c = counts_handed Receipt (Result Receipt Refusal) _ c.in_err-receipt-in-MergeDue.field-0.0 _ _ (turned_into _ _ c.from_residual-in_err-receipt-in-MergeDue.ensures.1) (c.in_err-receipt-in-MergeDue.ensures.shelf _)
+
+pub returns-in_err-reply-clause-asks : goal.returns-in_err-reply-clause-asks
+returns-in_err-reply-clause-asks g c = asks_nothing g.H.Shelf.asks _ _ _ _ refl
+
+pub returns-in-Answered-clause-asks : goal.returns-in-Answered-clause-asks
+returns-in-Answered-clause-asks g c = asks_nothing g.H.Shelf.asks _ _ _ _ refl
+
+pub returns-in_err-receipt-in-ChangeDue-clause-asks : goal.returns-in_err-receipt-in-ChangeDue-clause-asks
+returns-in_err-receipt-in-ChangeDue-clause-asks g c = asks_nothing g.H.Shelf.asks _ _ _ _ refl
+
+pub returns-in_ok-receipt-in-ChangeDue-clause-asks : goal.returns-in_ok-receipt-in-ChangeDue-clause-asks
+returns-in_ok-receipt-in-ChangeDue-clause-asks g c = asks_nothing g.H.Shelf.asks _ _ _ _ refl
+
+pub returns-in_err-receipt-in-MergeDue-clause-asks : goal.returns-in_err-receipt-in-MergeDue-clause-asks
+returns-in_err-receipt-in-MergeDue-clause-asks g c = asks_nothing g.H.Shelf.asks _ _ _ _ refl
+
+pub returns-in_ok-receipt-in-MergeDue-clause-asks : goal.returns-in_ok-receipt-in-MergeDue-clause-asks
+returns-in_ok-receipt-in-MergeDue-clause-asks g c = asks_nothing g.H.Shelf.asks _ _ _ _ refl
+
+pub returns-in_err-receipt-in-SplitDue-clause-asks : goal.returns-in_err-receipt-in-SplitDue-clause-asks
+returns-in_err-receipt-in-SplitDue-clause-asks g c =
+    asks_due g.H.Shelf.asks (child_asked c.args.request.now.command) c.in-SplitDue.due.child (λ child. AllClean g.S.Store c.carry_out_split.new.members.items → OfEachSeen g.S.Store c.args.frame.now c.args.known.now c.args.members.now.items c.args.count.now (λ w. IsNoPackage w child)) _ _ (subst (Makes (child_asked c.args.request.now.command)) c.in-SplitDue.is c.in_ok-reply.ensures.makes)
+    (λ clean w same are. split_apart g.S.Store g.met.S.Store.shut_if_dirty g.met.S.Store.settled c.args.frame.now c.args.request.now c.args.members.now.items c.decide_and_note.new.members.items c.args.known.now c.decide_and_note.new.known c.decide_and_note.ensures.grows c.requires.rests c.args.count.now c.requires.counted c.decide_and_note.ensures.asks c.in-SplitDue.due (c.in_ok-reply.was ∙ ap Ok c.in-SplitDue.is) (c.carry_out_split.ensures.clean clean) w same are) c.carry_out_split.ensures.asks
+
+pub returns-in_ok-receipt-in-SplitDue-clause-asks : goal.returns-in_ok-receipt-in-SplitDue-clause-asks
+returns-in_ok-receipt-in-SplitDue-clause-asks g c =
+    asks_due g.H.Shelf.asks (child_asked c.args.request.now.command) c.in-SplitDue.due.child (λ child. AllClean g.S.Store c.carry_out_split.new.members.items → OfEachSeen g.S.Store c.args.frame.now c.args.known.now c.args.members.now.items c.args.count.now (λ w. IsNoPackage w child)) _ _ (subst (Makes (child_asked c.args.request.now.command)) c.in-SplitDue.is c.in_ok-reply.ensures.makes)
+    (λ clean w same are. split_apart g.S.Store g.met.S.Store.shut_if_dirty g.met.S.Store.settled c.args.frame.now c.args.request.now c.args.members.now.items c.decide_and_note.new.members.items c.args.known.now c.decide_and_note.new.known c.decide_and_note.ensures.grows c.requires.rests c.args.count.now c.requires.counted c.decide_and_note.ensures.asks c.in-SplitDue.due (c.in_ok-reply.was ∙ ap Ok c.in-SplitDue.is) (c.carry_out_split.ensures.clean clean) w same are) c.carry_out_split.ensures.asks

@@ -1,5 +1,5 @@
 -- What was decided, whatever is noted.
-use Rattle.asking.proofs.Questions.{asks_answer, asks_failed}
+use Rattle.world_queries.proofs.Questions.{asks_answer, asks_failed}
 use Rattle.world.proofs.noting.decide_and_note.Goals as goal
 
 pub returns-in_err-decision-clause-asks : goal.returns-in_err-decision-clause-asks

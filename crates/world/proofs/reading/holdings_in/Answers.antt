@@ -5,8 +5,8 @@ use Rattle.sheet_types.specs.Answers.{holdings_answer}
 use Rattle.sheet_types.specs.World.{World, is_live, holdings}
 use Rattle.sheet_types.specs.declared.command.Item.{Item}
 use Rattle.sheet_types.specs.declared.command.Relation.{Relation}
-use Rattle.members.specs.Members.{AreMembers}
-use Rattle.asking.proofs.Questions.{asks_answer, asks_failed, asks_still}
+use Rattle.world_members.specs.Members.{AreMembers}
+use Rattle.world_queries.proofs.Questions.{asks_answer, asks_failed, asks_still}
 use Rattle.world.proofs.reading.holdings_in.Goals as goal
 
 live_answer : (w : World) (id : List ℕ) (items : List Item) (links : List Relation) → is_live w id ≡ true → items ≡ (holdings w id).items → links ≡ (holdings w id).links → Some (items, links) ≡ holdings_answer w id

@@ -1,7 +1,7 @@
 -- Its package has a member, of which the sums are kept, or has none.
 use Rattle.std.proofs.Common.{◌≡◌, ◌∙◌, refl, sym, ap, Some, slice_get}
 use Rattle.std.proofs.lemmas.Option.{slice_get_read}
-use Rattle.members.specs.declared.members.Member.{Member}
+use Rattle.world_members.specs.declared.members.Member.{Member}
 use Rattle.world.proofs.Sights.{sums_there, sums_nowhere}
 use Rattle.world.proofs.reading.sums_in.Goals as goal
 

@@ -4,7 +4,8 @@ use Rattle.sheet_types.specs.declared.refusal.Refusal.{Refusal}
 use Rattle.sheet_types.specs.declared.refusal.Refusal.TheVariants.{StoreFault}
 use Rattle.sheet_types.specs.declared.receipt.Receipt.{Receipt}
 use Rattle.world.specs.Worlds.{IsStep}
-use Rattle.world.proofs.Keeping.{held_after, step_unserved, step_replied, step_failed, still_replied, still_failed, no_trace_replied, no_trace_failed, none_failed, told_as_fault, usable_after, cause_failed, counts_grow}
+use Rattle.world.proofs.Asks.{asks_nothing}
+use Rattle.world.proofs.Keeping.{asks_seen, held_after, step_unserved, step_replied, step_failed, still_replied, still_failed, no_trace_replied, no_trace_failed, none_failed, told_as_fault, rises_failed, usable_after, cause_failed, counts_grow}
 use Rattle.world.proofs.world.World.apply.Goals as goal
 
 pub serve-requires-clause-none : goal.serve-requires-clause-none
@@ -60,3 +61,18 @@ returns-in-Err-clause-usable g c = λ no_fault. absurd (no_fault (told_as_fault 
 
 pub returns-then-self-clause-usable : goal.returns-then-self-clause-usable
 returns-then-self-clause-usable g c = λ no_fault. absurd (no_fault (inr refl))
+
+pub returns-in-Ok-clause-asks : goal.returns-in-Ok-clause-asks
+returns-in-Ok-clause-asks g c = asks_seen g.S.Store _ _ _ _ _ _ _ _ _ _ c.serve.ensures.serves c.self.inside.has_failed c.is_store_fault-self-inside.result _ _ c.self.view_is g.H.Shelf.asks _ _ _ c.serve.ensures.asks
+
+pub returns-in-Err-clause-asks : goal.returns-in-Err-clause-asks
+returns-in-Err-clause-asks g c = asks_seen g.S.Store _ _ _ _ _ _ _ _ _ _ c.serve.ensures.serves c.self.inside.has_failed c.is_lasting-self-inside.result _ _ c.self.view_is g.H.Shelf.asks _ _ _ c.serve.ensures.asks
+
+pub returns-then-self-clause-asks : goal.returns-then-self-clause-asks
+returns-then-self-clause-asks g c = asks_nothing g.H.Shelf.asks _ _ _ _ refl
+
+pub returns-in-Ok-clause-rises : goal.returns-in-Ok-clause-rises
+returns-in-Ok-clause-rises g c = λ usable failed. (c.in-Ok.ensures.shelf, inl (c.is_store_fault-self-inside.ensures.0 failed))
+
+pub returns-in-Err-clause-rises : goal.returns-in-Err-clause-rises
+returns-in-Err-clause-rises g c = λ usable failed. rises_failed g.S.Store _ _ _ _ _ _ _ _ _ _ c.serve.ensures.serves c.self.inside.has_failed c.is_lasting-self-inside.result _ _ c.self.view_is (Result Receipt Refusal) _ _ c.in-Err.fault c.in-Err.is c.refusal.result c.refusal.ensures (Err c.refusal.result) refl c.is_lasting-self-inside.ensures c.in-Err.ensures.shelf failed

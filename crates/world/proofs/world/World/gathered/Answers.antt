@@ -1,5 +1,5 @@
 -- Members that stand for a world are one.
-use Rattle.std.proofs.Common.{refl, ap, length, arith}
+use Rattle.std.proofs.Common.{ap, length, arith}
 use Rattle.world.specs.Worlds.{seen_of}
 use Rattle.world.proofs.Beginning.{held_gathered}
 use Rattle.world.proofs.world.World.gathered.Goals as goal

@@ -1,8 +1,8 @@
 -- What the members tell is told of the world.
 use Rattle.std.proofs.Common.{sym}
 use Rattle.world.proofs.Keeping.{room_stays}
-use Rattle.members.proofs.Standing.{stay_length}
-use Rattle.world.proofs.WorldsRead.{world_is_held, world_is_read, world_tells}
+use Rattle.world_members.proofs.Standing.{stay_length}
+use Rattle.world.proofs.WorldsRead.{world_is_held, world_is_read, world_opens, world_tells}
 use Rattle.world.proofs.world.World.receipt.Goals as goal
 
 pub invariant_of-self : goal.invariant_of-self
@@ -13,3 +13,6 @@ returns-clause-told g c = world_tells g.S.Store _ _ _ c.self.inside.count c.self
 
 pub returns-clause-read : goal.returns-clause-read
 returns-clause-read g c = world_is_read g.S.Store _ _ _ c.self.inside.count c.self.inside.has_failed c.self.inside.strays.items c.self.inside.known c.find_kept.result c.find_kept.ensures c.args.self.now c.self.view_is
+
+pub returns-clause-opens : goal.returns-clause-opens
+returns-clause-opens g c = world_opens g.S.Store _ _ _ c.self.inside.count c.self.inside.has_failed c.self.inside.strays.items c.self.inside.known c.find_kept.result c.find_kept.ensures c.args.self.now c.self.view_is

@@ -1,6 +1,6 @@
 -- The members are those of the world.
 use Rattle.std.proofs.Common.{◌∙◌, sym, ap, subst}
-use Rattle.members.specs.Members.{AreMembers}
+use Rattle.world_members.specs.Members.{AreMembers}
 use Rattle.world.proofs.world.World.sums.Goals as goal
 
 pub returns : goal.returns

@@ -1,6 +1,0 @@
--- The lemma says it.
-use Rattle.asking.proofs.Overfull.{members_hold_next}
-use Rattle.asking.proofs.too_many.members_hold_next.Goals as goal
-
-pub returns : goal.returns
-returns g c = members_hold_next g.S.Store

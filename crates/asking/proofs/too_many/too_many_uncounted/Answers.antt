@@ -1,6 +1,0 @@
--- The lemma says it.
-use Rattle.asking.proofs.Overfull.{too_many_uncounted}
-use Rattle.asking.proofs.too_many.too_many_uncounted.Goals as goal
-
-pub returns : goal.returns
-returns c = too_many_uncounted

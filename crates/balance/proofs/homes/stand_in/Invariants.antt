@@ -1,8 +1,0 @@
-use Rattle.std.proofs.Common.{take}
-use Rattle.std.specs.List.{AllByRecursion}
-use Rattle.balance.specs.Homes.{StandsBy}
-use Rattle.balance.proofs.homes.stand_in.Given as goal
-
--- each so far
-abbrev pub invariant-loop-receipt : goal.invariant-loop-receipt
-invariant-loop-receipt l = AllByRecursion (StandsBy l.homes l.fn.package) (take l.receipt-index l.receipts)

@@ -1,6 +1,0 @@
--- Field by field; the parent of a loan is live since the split stands there.
-use Rattle.balance.proofs.Fitness.{register_parts}
-use Rattle.balance.proofs.laws.register_is_balanced_and_fit.Goals as goal
-
-pub returns : goal.returns
-returns c = register_parts

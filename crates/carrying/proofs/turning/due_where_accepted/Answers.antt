@@ -1,6 +1,0 @@
--- The lemma says it.
-use Rattle.members.proofs.Due.{due_where_accepted}
-use Rattle.carrying.proofs.turning.due_where_accepted.Goals as goal
-
-pub returns : goal.returns
-returns c = due_where_accepted

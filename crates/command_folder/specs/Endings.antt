@@ -1,0 +1,105 @@
+-- How a call of the program on a folder ends: its exit status, and the lines that it prints before (profile).
+use Rattle.std.specs.Prelude.{ℕ, List, [], ◌∷◌, ◌++◌, codes, Option, Some, None, Result, Ok, Err}
+use Rattle.command_words.specs.Endings.{outcome_status, line_of, output_text as outcome_output, error_text as outcome_error}
+use Rattle.command_words.specs.Failures.{of_fault}
+use Rattle.command_words.specs.declared.statuses.Failure.TheVariants as failure
+use Rattle.command_words.specs.declared.statuses.Outcome.TheVariants.{Done, Stopped}
+use Rattle.manifest_csv.specs.declared.package_manifests.ManifestFault.{ManifestFault}
+use Rattle.manifest_csv.specs.declared.package_manifests.ManifestFault.TheVariants as manifest
+use Rattle.store_folder.specs.declared.fault.FolderFault.{FolderFault}
+use Rattle.store_folder.specs.declared.fault.FolderFault.TheVariants as folder
+use Rattle.opening_faults.specs.declared.faults.RecoverFault.{RecoverFault}
+use Rattle.opening_faults.specs.declared.faults.RecoverFault.TheVariants.{NoArchive, TwoArchives, NotAPackage, TwoCopies, MissingPackage, ForeignFrame, Dangling, OutOfAccount, Altered, OutOfMemory, StoreFault}
+use Rattle.command_folder.specs.declared.endings.OpenFault.{OpenFault}
+use Rattle.command_folder.specs.declared.endings.OpenFault.TheVariants.{Folder, Fault}
+use Rattle.command_folder.specs.declared.endings.Ending.{Ending}
+use Rattle.command_folder.specs.declared.endings.Ending.TheVariants.{Usual, BadBody, HoldsPackages, NoSuchPackage, Declined, Unopened, Faulted}
+
+-- all was done; a file or a stream gave out; a growth was refused
+abbrev pub done : Ending
+done = Usual Done
+
+abbrev pub failed : Ending
+failed = Usual (Stopped failure.StoreFault)
+
+abbrev pub no_memory : Ending
+no_memory = Usual (Stopped failure.OutOfMemory)
+
+-- what was written of a package, or why it was not
+abbrev pub manifest_ending : Result (Unit {0}) ManifestFault → Ending
+manifest_ending (Ok x) = done
+manifest_ending (Err manifest.Unknown) = NoSuchPackage
+manifest_ending (Err (manifest.Failed fault)) = Usual (Stopped (of_fault fault))
+manifest_ending (Err manifest.Unwritten) = failed
+
+abbrev pub ending_status : Ending → ℕ
+ending_status (Usual outcome) = outcome_status outcome
+ending_status BadBody = 1
+ending_status HoldsPackages = 1
+ending_status NoSuchPackage = 1
+ending_status Declined = 1
+ending_status (Unopened fault) = 3
+ending_status (Faulted fault) = 3
+
+abbrev pub fault_word : RecoverFault → List ℕ
+fault_word NoArchive = codes "NoArchive"
+fault_word TwoArchives = codes "TwoArchives"
+fault_word (NotAPackage uuid) = codes "NotAPackage"
+fault_word (TwoCopies uuid) = codes "TwoCopies"
+fault_word (MissingPackage uuid) = codes "MissingPackage"
+fault_word (ForeignFrame uuid) = codes "ForeignFrame"
+fault_word (Dangling uuid) = codes "Dangling"
+fault_word OutOfAccount = codes "OutOfAccount"
+fault_word (Altered uuid) = codes "Altered"
+fault_word OutOfMemory = codes "OutOfMemory"
+fault_word StoreFault = codes "StoreFault"
+
+-- the fault by which a folder that is not opened is told: a cause that is known is told beside it
+abbrev pub told_folder : FolderFault → RecoverFault
+told_folder folder.OutOfMemory = OutOfMemory
+told_folder fault = StoreFault
+
+abbrev pub told_as : OpenFault → RecoverFault
+told_as (Folder fault) = told_folder fault
+told_as (Fault fault) = fault
+
+-- the name of a fault alone, and behind a word
+abbrev pub fault_line : RecoverFault → List ℕ
+fault_line fault = fault_word fault ++ (10 ∷ [])
+
+abbrev pub store_line : RecoverFault → List ℕ
+store_line fault = line_of (codes "store") (fault_word fault)
+
+-- on standard output, behind what was printed before
+abbrev pub output_text : Ending → List ℕ
+output_text (Usual outcome) = outcome_output outcome
+output_text BadBody = line_of (codes "refused") (codes "body")
+output_text HoldsPackages = line_of (codes "refused") (codes "folder holds packages")
+output_text NoSuchPackage = line_of (codes "refused") (codes "no such package")
+output_text Declined = []
+output_text (Unopened fault) = []
+output_text (Faulted fault) = fault_line (told_as fault)
+
+-- on standard error
+abbrev pub error_text : Ending → List ℕ
+error_text (Usual outcome) = outcome_error outcome
+error_text BadBody = []
+error_text HoldsPackages = []
+error_text NoSuchPackage = []
+error_text Declined = []
+error_text (Unopened fault) = store_line (told_as fault)
+error_text (Faulted fault) = []
+
+-- the fault of the folder, where that is why it was not opened
+abbrev pub folder_part : OpenFault → Option FolderFault
+folder_part (Folder fault) = Some fault
+folder_part (Fault fault) = None
+
+abbrev pub folder_fault : Ending → Option FolderFault
+folder_fault (Usual outcome) = None
+folder_fault BadBody = None
+folder_fault HoldsPackages = None
+folder_fault NoSuchPackage = None
+folder_fault Declined = None
+folder_fault (Unopened fault) = folder_part fault
+folder_fault (Faulted fault) = folder_part fault

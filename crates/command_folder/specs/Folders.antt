@@ -1,0 +1,39 @@
+-- A folder of packages, opened. Profile.
+use Rattle.std.specs.Prelude.{◌≡◌, ◌⊎◌, List, All}
+use Rattle.sqlite.specs.Held.{Held, state}
+use Rattle.sqlite.specs.Store.{Ghosts}
+use Rattle.store_folder.specs.Opened.{IsJustOpened}
+use Rattle.world.specs.Worlds.{Seen}
+use Rattle.opening_faults.specs.declared.faults.RecoverFault.{RecoverFault}
+use Rattle.opening.specs.Recovered.{IsRecovered, IsUnopened}
+use Rattle.opening.specs.declared.recovering.Recovered.{Recovered}
+use Rattle.opening.specs.declared.recovering.Unopened.{Unopened}
+use Rattle.command_folder.specs.declared.endings.Ending.{Ending}
+use Rattle.command_folder.specs.declared.endings.OpenFault.{OpenFault}
+use Rattle.command_folder.specs.declared.endings.OpenFault.TheVariants.{Fault}
+
+module _ {S : Type 0} (g : Ghosts S) where
+  -- This is the world that stores came to, each just opened.
+  pub record IsWorldOf (stores : List (Held S)) (seen : Seen S) : Type 0 where
+    pub found : Recovered S
+    pub is : IsRecovered g stores found
+    pub same : found.world ≡ seen
+
+  -- This is the fault by which stores came to no world.
+  pub record IsFaultOfStores (stores : List (Held S)) (fault : RecoverFault) : Type 0 where
+    pub refused : Unopened S
+    pub is : IsUnopened g stores refused
+    pub same : refused.fault ≡ fault
+
+  abbrev pub AreJustOpened : List (Held S) → Type 0
+  AreJustOpened stores = All (λ h. IsJustOpened (state g h)) stores
+
+  -- the world of some stores that were just opened
+  abbrev pub IsFolderWorld : Seen S → Type 0
+  IsFolderWorld seen = (stores : List (Held S)) × AreJustOpened stores × IsWorldOf stores seen
+
+  -- The folder was not opened, the program ends with that, and nothing was written; or its world was, and this was made of it.
+  abbrev pub OpensThen : {W : Type 0} → (OpenFault → Ending) → (Seen S → Seen S → Type 0) → W → W → Ending → Type 0
+  OpensThen unopened Makes writer writer' ending =
+      ((fault : OpenFault) × (ending ≡ unopened fault) × (writer' ≡ writer))
+      ⊎ ((old new : Seen S) × IsFolderWorld old × Makes old new)

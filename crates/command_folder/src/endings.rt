@@ -1,0 +1,179 @@
+//! How a call of the program on a folder ends: its exit status, and the lines that it prints before.
+ghost use Rattle.std.specs.Prelude.{◌≡◌};
+ghost use Rattle.command_folder.specs.Endings.{ending_status, error_text, fault_line, folder_fault, folder_part, output_text, store_line, told_as, told_folder};
+
+use command_words::statuses::{
+    Failure, Outcome, error_of as outcome_error, output_of as outcome_output,
+    status_of as outcome_status,
+};
+use opening_faults::faults::RecoverFault;
+use store_folder::fault::FolderFault;
+
+/// Why the files of a folder are no world.
+#[derive(Clone, Copy, Debug, PartialEq, Eq)]
+pub enum OpenFault {
+    /// The folder or a file in it could not be had.
+    Folder(FolderFault),
+    /// The stores stand for no world, or memory or a file gave out.
+    Fault(RecoverFault),
+}
+
+impl From<FolderFault> for OpenFault {
+    ghost use Rattle.command_folder.specs.declared.endings.OpenFault.TheVariants.{Folder};
+
+    ghost from_gives = { λ fault met. met ≡ Folder fault };
+
+    fn from(fault: FolderFault) -> OpenFault {
+        OpenFault::Folder(fault)
+    }
+}
+
+/// The end of a call of the program on a folder.
+#[derive(Clone, Copy, Debug, PartialEq, Eq)]
+pub enum Ending {
+    /// As a rehearsal ends too: all was done, a word or a list was refused, or memory or a store gave out.
+    Usual(Outcome),
+    /// The body is no request. Nothing was done.
+    BadBody,
+    /// The name of a file in the folder ends in `.gpkg`. Nothing was done.
+    HoldsPackages,
+    /// The package is not live.
+    NoSuchPackage,
+    /// The request was refused, and the refusal is printed.
+    Declined,
+    /// The folder could not be opened. Nothing was done.
+    Unopened(OpenFault),
+    /// An audit met this fault.
+    Faulted(OpenFault),
+}
+
+/// All was done, and what it prints is printed.
+pub const DONE: Ending = Ending::Usual(Outcome::Done);
+
+/// A file or a stream gave out.
+pub const FAILED: Ending = Ending::Usual(Outcome::Stopped(Failure::StoreFault));
+
+/// A growth was refused.
+pub const NO_MEMORY: Ending = Ending::Usual(Outcome::Stopped(Failure::OutOfMemory));
+
+/// The exit status: 0 done, 1 refused, 3 stopped. A wrong usage, which ends before there is an ending, has 2.
+pub fn status_of(ending: Ending) -> u8
+    ensures { result ≡ ending_status ending }
+{
+    match ending {
+        Ending::Usual(outcome) => outcome_status(outcome),
+        Ending::BadBody | Ending::HoldsPackages | Ending::NoSuchPackage | Ending::Declined => 1,
+        Ending::Unopened(_) | Ending::Faulted(_) => 3,
+    }
+}
+
+/// The fault by which a folder that could not be had is told: what is known of the cause is told beside it.
+fn told_folder(fault: FolderFault) -> RecoverFault
+    ensures { result ≡ told_folder fault }
+{
+    match fault {
+        FolderFault::OutOfMemory => RecoverFault::OutOfMemory,
+        _ => RecoverFault::StoreFault,
+    }
+}
+
+/// The fault by which a folder that is not opened is told.
+fn told_fault(fault: OpenFault) -> RecoverFault
+    ensures { result ≡ told_as fault }
+{
+    match fault {
+        OpenFault::Folder(fault) => told_folder(fault),
+        OpenFault::Fault(fault) => fault,
+    }
+}
+
+/// The name of a fault as a line.
+fn fault_line(fault: RecoverFault) -> &'static str
+    ensures { result.now ≡ fault_line fault }
+{
+    match fault {
+        RecoverFault::NoArchive => "NoArchive\n",
+        RecoverFault::TwoArchives => "TwoArchives\n",
+        RecoverFault::NotAPackage(_) => "NotAPackage\n",
+        RecoverFault::TwoCopies(_) => "TwoCopies\n",
+        RecoverFault::MissingPackage(_) => "MissingPackage\n",
+        RecoverFault::ForeignFrame(_) => "ForeignFrame\n",
+        RecoverFault::Dangling(_) => "Dangling\n",
+        RecoverFault::OutOfAccount => "OutOfAccount\n",
+        RecoverFault::Altered(_) => "Altered\n",
+        RecoverFault::OutOfMemory => "OutOfMemory\n",
+        RecoverFault::StoreFault => "StoreFault\n",
+    }
+}
+
+/// The line `store: ` and the name of a fault.
+fn store_line(fault: RecoverFault) -> &'static str
+    ensures { result.now ≡ store_line fault }
+{
+    match fault {
+        RecoverFault::NoArchive => "store: NoArchive\n",
+        RecoverFault::TwoArchives => "store: TwoArchives\n",
+        RecoverFault::NotAPackage(_) => "store: NotAPackage\n",
+        RecoverFault::TwoCopies(_) => "store: TwoCopies\n",
+        RecoverFault::MissingPackage(_) => "store: MissingPackage\n",
+        RecoverFault::ForeignFrame(_) => "store: ForeignFrame\n",
+        RecoverFault::Dangling(_) => "store: Dangling\n",
+        RecoverFault::OutOfAccount => "store: OutOfAccount\n",
+        RecoverFault::Altered(_) => "store: Altered\n",
+        RecoverFault::OutOfMemory => "store: OutOfMemory\n",
+        RecoverFault::StoreFault => "store: StoreFault\n",
+    }
+}
+
+/// What goes to standard output at the end, behind what was printed before: a line, or nothing.
+pub fn output_of(ending: Ending) -> &'static str
+    ensures { result.now ≡ output_text ending }
+{
+    match ending {
+        Ending::Usual(outcome) => outcome_output(outcome),
+        Ending::BadBody => "refused: body\n",
+        Ending::HoldsPackages => "refused: folder holds packages\n",
+        Ending::NoSuchPackage => "refused: no such package\n",
+        Ending::Faulted(fault) => fault_line(told_fault(fault)),
+        Ending::Declined | Ending::Unopened(_) => "",
+    }
+}
+
+/// What goes to standard error at the end: a line, or nothing.
+pub fn error_of(ending: Ending) -> &'static str
+    ensures { result.now ≡ error_text ending }
+{
+    match ending {
+        Ending::Usual(outcome) => outcome_error(outcome),
+        Ending::Unopened(fault) => store_line(told_fault(fault)),
+        Ending::BadBody
+        | Ending::HoldsPackages
+        | Ending::NoSuchPackage
+        | Ending::Declined
+        | Ending::Faulted(_) => "",
+    }
+}
+
+/// The fault of the folder, if that is why.
+fn folder_part(fault: OpenFault) -> Option<FolderFault>
+    ensures { result ≡ folder_part fault }
+{
+    match fault {
+        OpenFault::Folder(fault) => Some(fault),
+        OpenFault::Fault(_) => None,
+    }
+}
+
+/// The fault of the folder or of a file in it, where that is why the program ended. Standard error is told what is known of it in a line of its own.
+pub fn folder_fault(ending: Ending) -> Option<FolderFault>
+    ensures { result ≡ folder_fault ending }
+{
+    match ending {
+        Ending::Unopened(fault) | Ending::Faulted(fault) => folder_part(fault),
+        Ending::Usual(_)
+        | Ending::BadBody
+        | Ending::HoldsPackages
+        | Ending::NoSuchPackage
+        | Ending::Declined => None,
+    }
+}

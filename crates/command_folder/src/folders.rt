@@ -1,0 +1,83 @@
+//! A folder of packages, opened as the world that its stores stand for.
+ghost use Rattle.std.specs.Prelude.{IfOk, IfErr};
+ghost use Rattle.command_folder.specs.Folders.{AreJustOpened, IsFolderWorld};
+
+use crate::endings::OpenFault;
+use crate::watching::opening_line;
+use opening::recovering::{Recovered, Unopened, recover};
+use opening_stores::watching::Watcher;
+use sqlite::{Alter, Connection};
+use sqlite_trees::store::Store;
+use std::alloc::Global;
+use store_folder::listing::list;
+use store_folder::locking::{FolderLock, lock_folder};
+use store_folder::opening::{close_stores, open_stores};
+use store_folder::start::FolderStore;
+use uuid::Uuid;
+use world::world::World;
+
+/// The world that these stores stand for, each just opened, or why there is none; and the stores
+/// that are not of it. The watcher is told how many are read.
+fn world_of<S: Alter + Drop, W: Watcher>(
+    alloc: Global,
+    stores: Vec<Connection<S>>,
+    watcher: &mut W,
+) -> (Result<World<S>, OpenFault>, Vec<Connection<S>>)
+    requires { AreJustOpened S.Store stores.items }
+    ensures { IfOk result.0 (IsFolderWorld S.Store) }
+{
+    match recover(alloc, stores, watcher) {
+        Ok(Recovered { world, strays }) => (Ok(world), strays),
+        Err(Unopened { fault, stores }) => (Err(OpenFault::Fault(fault)), stores),
+    }
+}
+
+/// A folder that is open.
+#[derive(Drop)]
+pub struct OpenFolder {
+    /// The world that its packages stand for.
+    pub world: World<FolderStore>,
+    /// How many stores are of no live package.
+    pub strays: usize,
+    /// While it is held, no other process works in the folder.
+    pub lock: FolderLock,
+}
+
+/// The world that these packages of a folder stand for, and how many of their stores are not of it.
+/// Those are closed, and all of them where there is no world.
+fn world_at(
+    rt: &HostRuntime,
+    folder: &str,
+    packages: &[Uuid],
+) -> Result<(World<FolderStore>, usize), OpenFault>
+    ensures { IfOk result (λ found. IsFolderWorld ⟦<FolderStore as Store>⟧ found.0) }
+{
+    let stores = open_stores(rt, folder, packages)?;
+    let mut line = opening_line(rt);
+    let (found, rest) = world_of(rt.alloc(), stores, &mut line);
+    let strays = rest.len();
+    close_stores(rest);
+    Ok((found?, strays))
+}
+
+/// The world that the packages of a folder stand for: of all files whose name is that of a package's
+/// file. Those of packages that are not live are closed, and all of them where there is no world.
+/// The lock of the folder is taken before anything is looked at. Standard error is told how many are
+/// read, where it is a terminal.
+///
+/// # Errors
+///
+/// A folder or a file that cannot be had, also since another process has it; want of memory; or the
+/// first fault whose condition holds of the stores.
+pub fn open_folder(rt: &HostRuntime, folder: &str) -> Result<OpenFolder, OpenFault>
+    ensures { IfOk result (λ opened. IsFolderWorld ⟦<FolderStore as Store>⟧ opened.world) }
+{
+    let lock = lock_folder(rt, folder)?;
+    let listing = list(rt, folder)?;
+    let (world, strays) = world_at(rt, folder, &listing.packages)?;
+    Ok(OpenFolder {
+        world,
+        strays,
+        lock,
+    })
+}

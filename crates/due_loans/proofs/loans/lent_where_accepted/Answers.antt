@@ -1,6 +1,0 @@
--- The lemma says it.
-use Rattle.due_loans.proofs.DueSplits.{lent_where_accepted}
-use Rattle.due_loans.proofs.loans.lent_where_accepted.Goals as goal
-
-pub returns : goal.returns
-returns c = lent_where_accepted

@@ -1,6 +1,0 @@
--- The lemma says it.
-use Rattle.due_loans.proofs.SplitReasons.{split_refused_as_unknown}
-use Rattle.due_loans.proofs.loans.split_refused_as_unknown.Goals as goal
-
-pub returns : goal.returns
-returns c = split_refused_as_unknown

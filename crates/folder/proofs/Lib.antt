@@ -1,2 +1,0 @@
-pub mod NameFacts
-pub mod Adopted

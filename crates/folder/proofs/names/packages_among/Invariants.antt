@@ -1,6 +1,0 @@
-use Rattle.std.proofs.Common.{map, take}
-use Rattle.folder.specs.Names.{HaveFiles}
-use Rattle.folder.proofs.names.packages_among.Given as goal
-
-abbrev pub invariant-loop-name : goal.invariant-loop-name
-invariant-loop-name l = HaveFiles (map (λ name. name.now) (take l.name-index l.names)) l.packages.items

@@ -1,5 +1,0 @@
-use Rattle.std.proofs.Common.{◌≡◌, All, length}
-use Rattle.folder.proofs.opening.open_each.Given as goal
-
-abbrev pub invariant-loop-package : goal.invariant-loop-package
-invariant-loop-package g l = record { opened : All g.T.InFolder.is_just_opened l.stores.items; each : length l.stores.items ≡ l.package-index }

@@ -1,7 +1,0 @@
--- A store that was just opened.
-use Rattle.sqlite.specs.State.{State, HasCleanDisk}
-use Rattle.sql_meaning.specs.Transactions.{IsAdopted}
-
--- at rest, and what it shows obeys its schema, with each table in the order of its rowids
-abbrev pub IsJustOpened : State → Type 0
-IsJustOpened s = HasCleanDisk s → IsAdopted s s.committed.trees

@@ -1,9 +1,0 @@
-mod Frames
-pub mod LookedAt
-pub mod Judged
-pub mod Brought
-pub mod Turning
-pub mod Least
-pub mod Members
-pub mod HandedIn
-pub mod SharedOut

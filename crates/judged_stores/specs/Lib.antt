@@ -1,5 +1,0 @@
-pub mod Stores
-pub mod Judged
-pub mod Waiting
-pub mod Brought
-pub mod Sharing

@@ -1,8 +1,0 @@
-use Rattle.std.proofs.Common.{take}
-use Rattle.std.specs.List.{AllByRecursion}
-use Rattle.known_uuids.specs.Known.{Grows, Notes}
-use Rattle.known_uuids.proofs.known.Known.note_all.Given as goal
-
--- each so far
-abbrev pub invariant-loop-receipt : goal.invariant-loop-receipt
-invariant-loop-receipt l = record { notes : AllByRecursion (Notes l.self) (take l.receipt-index l.receipts); grows : Grows l.fn.self l.self }

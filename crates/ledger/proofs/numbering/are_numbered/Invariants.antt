@@ -1,7 +1,0 @@
-use Rattle.std.proofs.Common.{take, []}
-use Rattle.ledger.specs.Parts.{EachAfter, HasNextNumber}
-use Rattle.ledger.proofs.numbering.are_numbered.Given as goal
-
--- those so far are numbered in turn
-abbrev pub invariant-loop-at : goal.invariant-loop-at
-invariant-loop-at l = EachAfter HasNextNumber [] (take l.at l.receipts)

@@ -1,5 +1,0 @@
-use Rattle.ledger_laws.proofs.laws.add_keeps_register.Goals as goal
-use Rattle.ledger_laws.proofs.AddRegister.{add_keeps_register}
-
-pub returns : goal.returns
-returns c = add_keeps_register

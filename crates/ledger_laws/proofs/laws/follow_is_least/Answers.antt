@@ -1,5 +1,0 @@
-use Rattle.ledger_laws.proofs.laws.follow_is_least.Goals as goal
-use Rattle.ledger_laws.proofs.Follow.{follow_is_least}
-
-pub returns : goal.returns
-returns c = follow_is_least

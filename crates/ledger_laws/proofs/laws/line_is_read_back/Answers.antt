@@ -1,5 +1,0 @@
-use Rattle.ledger_laws.proofs.laws.line_is_read_back.Goals as goal
-use Rattle.ledger_laws.proofs.Running.{line_is_read_back}
-
-pub returns : goal.returns
-returns c = line_is_read_back

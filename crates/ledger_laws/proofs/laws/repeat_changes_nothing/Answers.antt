@@ -1,5 +1,0 @@
-use Rattle.ledger_laws.proofs.laws.repeat_changes_nothing.Goals as goal
-use Rattle.ledger_laws.proofs.Running.{repeat_changes_nothing}
-
-pub returns : goal.returns
-returns c = repeat_changes_nothing

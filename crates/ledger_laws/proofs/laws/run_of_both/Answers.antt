@@ -1,5 +1,0 @@
-use Rattle.ledger_laws.proofs.laws.run_of_both.Goals as goal
-use Rattle.ledger_laws.proofs.Running.{run_of_both}
-
-pub returns : goal.returns
-returns c = run_of_both

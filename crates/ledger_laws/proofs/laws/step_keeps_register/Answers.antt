@@ -1,5 +1,0 @@
-use Rattle.ledger_laws.proofs.laws.step_keeps_register.Goals as goal
-use Rattle.ledger_laws.proofs.Running.{step_keeps_register}
-
-pub returns : goal.returns
-returns c = step_keeps_register

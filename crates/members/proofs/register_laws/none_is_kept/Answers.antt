@@ -1,6 +1,0 @@
--- The lemma says it.
-use Rattle.members.proofs.EachPackage.{none_is_kept}
-use Rattle.members.proofs.register_laws.none_is_kept.Goals as goal
-
-pub returns : goal.returns
-returns c = none_is_kept

@@ -1,6 +1,0 @@
--- The lemma says it.
-use Rattle.members.proofs.EachPackage.{number_is_count}
-use Rattle.members.proofs.register_laws.number_is_count.Goals as goal
-
-pub returns : goal.returns
-returns c = number_is_count

@@ -1,6 +1,0 @@
--- The lemma says it.
-use Rattle.members.proofs.EachPackage.{used_is_named}
-use Rattle.members.proofs.register_laws.used_is_named.Goals as goal
-
-pub returns : goal.returns
-returns c = used_is_named

@@ -1,6 +1,0 @@
--- The lemma says it.
-use Rattle.members.proofs.Counting.{bytes_within}
-use Rattle.members.proofs.step_laws.bytes_within.Goals as goal
-
-pub returns : goal.returns
-returns c = bytes_within

@@ -1,6 +1,0 @@
--- The lemma says it.
-use Rattle.members.proofs.Outcomes.{kept_outcome}
-use Rattle.members.proofs.step_laws.kept_outcome.Goals as goal
-
-pub returns : goal.returns
-returns c = kept_outcome

@@ -1,6 +1,0 @@
--- The lemma says it.
-use Rattle.members.proofs.Fitting.{nothing_against_accepted}
-use Rattle.members.proofs.step_laws.nothing_against_accepted.Goals as goal
-
-pub returns : goal.returns
-returns c = nothing_against_accepted

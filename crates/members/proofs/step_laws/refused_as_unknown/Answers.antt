@@ -1,6 +1,0 @@
--- The lemma says it.
-use Rattle.members.proofs.Fitting.{refused_as_unknown}
-use Rattle.members.proofs.step_laws.refused_as_unknown.Goals as goal
-
-pub returns : goal.returns
-returns c = refused_as_unknown

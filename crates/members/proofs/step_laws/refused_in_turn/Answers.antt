@@ -1,6 +1,0 @@
--- The lemma says it.
-use Rattle.members.proofs.Fitting.{refused_in_turn}
-use Rattle.members.proofs.step_laws.refused_in_turn.Goals as goal
-
-pub returns : goal.returns
-returns c = refused_in_turn

@@ -1,6 +1,0 @@
--- The lemma says it.
-use Rattle.members.proofs.Outcomes.{refused_outcome}
-use Rattle.members.proofs.step_laws.refused_outcome.Goals as goal
-
-pub returns : goal.returns
-returns c = refused_outcome

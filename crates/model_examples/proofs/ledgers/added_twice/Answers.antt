@@ -1,5 +1,0 @@
-use Rattle.model_examples.proofs.ledgers.added_twice.Goals as goal
-use Rattle.model_examples.proofs.Soundness.{added_twice}
-
-pub returns : goal.returns
-returns c = added_twice

@@ -1,5 +1,0 @@
-use Rattle.model_examples.proofs.ledgers.altered_then_deleted.Goals as goal
-use Rattle.model_examples.proofs.Soundness.{altered_then_deleted}
-
-pub returns : goal.returns
-returns c = altered_then_deleted

@@ -1,5 +1,0 @@
-use Rattle.model_examples.proofs.ledgers.no_register.Goals as goal
-use Rattle.model_examples.proofs.Soundness.{no_register}
-
-pub returns : goal.returns
-returns c = no_register

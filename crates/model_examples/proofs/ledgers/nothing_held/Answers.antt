@@ -1,5 +1,0 @@
-use Rattle.model_examples.proofs.ledgers.nothing_held.Goals as goal
-use Rattle.model_examples.proofs.Soundness.{nothing_held}
-
-pub returns : goal.returns
-returns c = nothing_held

@@ -1,5 +1,0 @@
-use Rattle.std.specs.Prelude.{refl}
-use Rattle.model_examples.proofs.ledgers.short_names.Goals as goal
-
-pub returns : goal.returns
-returns c = (refl, refl, refl, refl)

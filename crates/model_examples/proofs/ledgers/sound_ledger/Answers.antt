@@ -1,5 +1,0 @@
-use Rattle.model_examples.proofs.ledgers.sound_ledger.Goals as goal
-use Rattle.model_examples.proofs.Soundness.{sound_ledger}
-
-pub returns : goal.returns
-returns c = sound_ledger

@@ -1,5 +1,0 @@
-use Rattle.model_examples.proofs.ledgers.taken_key.Goals as goal
-use Rattle.model_examples.proofs.Soundness.{taken_key}
-
-pub returns : goal.returns
-returns c = taken_key

@@ -1,5 +1,0 @@
-use Rattle.model_examples.proofs.ledgers.wrong_lines.Goals as goal
-use Rattle.model_examples.proofs.Soundness.{wrong_lines}
-
-pub returns : goal.returns
-returns c = wrong_lines

@@ -1,5 +1,0 @@
-use Rattle.model_examples.proofs.ledgers.wrong_sums.Goals as goal
-use Rattle.model_examples.proofs.Soundness.{wrong_sums}
-
-pub returns : goal.returns
-returns c = wrong_sums

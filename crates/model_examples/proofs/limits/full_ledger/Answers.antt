@@ -1,5 +1,0 @@
-use Rattle.model_examples.proofs.limits.full_ledger.Goals as goal
-use Rattle.model_examples.proofs.Full.{full_ledger}
-
-pub returns : goal.returns
-returns c = full_ledger

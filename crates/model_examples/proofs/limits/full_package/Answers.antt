@@ -1,5 +1,0 @@
-use Rattle.model_examples.proofs.limits.full_package.Goals as goal
-use Rattle.model_examples.proofs.Full.{full_package}
-
-pub returns : goal.returns
-returns c = full_package

@@ -1,5 +1,0 @@
-use Rattle.model_examples.proofs.opening.answers_foreign_frame.Goals as goal
-use Rattle.model_examples.proofs.Stores.{foreign_frame}
-
-pub returns : goal.returns
-returns c = foreign_frame

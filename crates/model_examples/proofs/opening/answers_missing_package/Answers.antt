@@ -1,5 +1,0 @@
-use Rattle.model_examples.proofs.opening.answers_missing_package.Goals as goal
-use Rattle.model_examples.proofs.Stores.{missing_package}
-
-pub returns : goal.returns
-returns c = missing_package

@@ -1,5 +1,0 @@
-use Rattle.model_examples.proofs.opening.answers_not_a_package.Goals as goal
-use Rattle.model_examples.proofs.Stores.{not_a_package}
-
-pub returns : goal.returns
-returns c = not_a_package

@@ -1,5 +1,0 @@
-use Rattle.model_examples.proofs.opening.answers_two_copies.Goals as goal
-use Rattle.model_examples.proofs.Stores.{two_copies}
-
-pub returns : goal.returns
-returns c = two_copies

@@ -1,4 +1,0 @@
-use Rattle.model_examples.proofs.steps.one_reply_each.Goals as goal
-
-pub returns : goal.returns
-returns c = λ w next q reply. ((λ h. h), (λ h. h))

@@ -1,5 +1,0 @@
-use Rattle.model_examples.proofs.Replies.{refused_changes_nothing}
-use Rattle.model_examples.proofs.steps.refused_changes_nothing.Goals as goal
-
-pub returns : goal.returns
-returns c = refused_changes_nothing

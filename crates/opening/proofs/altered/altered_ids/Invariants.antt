@@ -1,8 +1,0 @@
-use Rattle.std.proofs.Common.{[], take}
-use Rattle.opening.specs.Altered.{IsAlteredIn}
-use Rattle.opening.specs.Foreign.{Adds}
-use Rattle.opening.proofs.altered.altered_ids.Given as goal
-
--- those of the sights so far
-abbrev pub invariant-loop-sight : goal.invariant-loop-sight
-invariant-loop-sight l = Adds (IsAlteredIn l.added (take l.sight-index l.sights)) [] l.ids.items

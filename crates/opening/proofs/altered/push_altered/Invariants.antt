@@ -1,8 +1,0 @@
-use Rattle.std.proofs.Common.{take}
-use Rattle.opening.specs.Altered.{IsAlteredAmong}
-use Rattle.opening.specs.Foreign.{Adds}
-use Rattle.opening.proofs.altered.push_altered.Given as goal
-
--- those of the items so far
-abbrev pub invariant-loop-moved : goal.invariant-loop-moved
-invariant-loop-moved l = Adds (IsAlteredAmong l.added (take l.moved-index l.items)) l.initial.ids.items l.ids.items

@@ -1,7 +1,0 @@
-use Rattle.std.proofs.Common.{take}
-use Rattle.opening.specs.Foreign.{Adds, IsForeignIn}
-use Rattle.opening.proofs.foreign.push_foreign.Given as goal
-
--- those of the stores so far
-abbrev pub invariant-loop-sight : goal.invariant-loop-sight
-invariant-loop-sight l = Adds (IsForeignIn l.root (take l.sight-index l.sights) l.split) l.initial.ids.items l.ids.items

@@ -1,8 +1,0 @@
-use Rattle.std.proofs.Common.{take}
-use Rattle.opening.specs.Copies.{copies_of}
-use Rattle.opening.specs.Least.{AreWanted, is_wanted}
-use Rattle.opening.proofs.least.wanted_among.Given as goal
-
--- those so far
-abbrev pub invariant-loop-split : goal.invariant-loop-split
-invariant-loop-split l = AreWanted (λ split. is_wanted l.fn.wanted (copies_of l.counts split)) (take l.split-index l.splits) l.ids.items

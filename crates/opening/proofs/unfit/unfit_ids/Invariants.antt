@@ -1,8 +1,0 @@
-use Rattle.std.proofs.Common.{[]}
-use Rattle.opening.specs.Foreign.{Adds}
-use Rattle.opening.specs.Unfit.{IsUnfitBelow}
-use Rattle.opening.proofs.unfit.unfit_ids.Given as goal
-
--- those of the places so far
-abbrev pub invariant-loop-place : goal.invariant-loop-place
-invariant-loop-place l = Adds (IsUnfitBelow l.live l.fit l.sights l.place) [] l.ids.items

@@ -1,0 +1,14 @@
+pub mod Members
+pub mod SameFrames
+pub mod Carried
+pub mod Listing
+pub mod Noting
+pub mod Growing
+pub mod Turning
+pub mod Beside
+pub mod Counting
+pub mod Choosing
+pub mod Apart
+pub mod Unfitting
+pub mod ItemOrder
+pub mod Altering

@@ -1,0 +1,11 @@
+pub mod Sights
+pub mod Frames
+pub mod Standings
+pub mod Merges
+pub mod Splits
+pub mod Turns
+pub mod Copies
+pub mod Least
+pub mod Foreign
+pub mod Unfit
+pub mod Altered

@@ -1,0 +1,4 @@
+//! Which stores beside a world, its strays, the register can do without.
+#![tactic(auto)]
+
+pub mod spent;

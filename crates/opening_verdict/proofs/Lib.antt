@@ -1,0 +1,11 @@
+pub mod Lasting
+pub mod Lists
+pub mod Sorting
+pub mod Keeping
+pub mod Parting
+pub mod InAccount
+pub mod Doubled
+pub mod Viewed
+pub mod FirstFaults
+pub mod LiveWorld
+pub mod Whole

@@ -1,0 +1,15 @@
+use Rattle.std.proofs.Common.{rules, to_z-of_z, FitsSigned, w64}
+use Rattle.package_tables.specs.Changes.{Adds}
+use Rattle.package_tables.specs.Listed.{moved}
+use Rattle.package_tables.proofs.Stepping.{makes_steps}
+use Rattle.package_copy.proofs.entering.MovedRowEntered.enter.Goals as goal
+
+pub returns-clause-steps : goal.returns-clause-steps
+returns-clause-steps g c =
+    let row = c.args.self.now in
+    let seq : FitsSigned w64 row.seq = search rules in
+    let position : FitsSigned w64 row.position = search rules in
+    let kind : FitsSigned w64 row.kind = search rules in
+    let size : FitsSigned w64 row.size = search rules in
+    makes_steps (Adds moved row)
+    (simp (to_z-of_z, seq, position, kind, size) at (rw (c.as_str.ensures, c.as_str-2.ensures, c.as_str-3.ensures) at c.insert_moved.ensures.wrote)) c.insert_moved.ensures.survives

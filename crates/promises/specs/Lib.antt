@@ -1,0 +1,4 @@
+pub mod Clean
+pub mod Calls
+pub mod Promises
+pub mod Openings

@@ -1,0 +1,8 @@
+//! What a register keeps, as five closed statements, each the contract of a small function that a caller would write.
+#![tactic(auto)]
+
+pub mod reopening;
+pub mod repeating;
+pub mod running;
+pub mod stopping;
+pub mod typing;

@@ -1,0 +1,59 @@
+//! The opening of whatever a crash left, and of stores of which nothing is known.
+ghost use Rattle.std.specs.Prelude.{IfOk, IfErr, IfSome};
+ghost use Rattle.opening_stores.specs.Stores.{AreAllKeyed};
+ghost use Rattle.promises.specs.Openings.{OpensCertified, RefusesWithCause, OpensAgain};
+
+use crate::running::Begun;
+use crate::typing::have_types;
+use opening::recovering::{Recovered, Unopened, recover};
+use opening_laws::laws::{left_is_stores, opened_is_timely, opens_again};
+use opening_stores::watching::Watcher;
+use sheet_types::command::Request;
+use sqlite::{Alter, Connection};
+use std::alloc::Global;
+use store_shelf::shelf::Shelf;
+
+/// Stores of which nothing is known come to a world, or to a fault.
+pub fn open<S: Alter + Drop, W: Watcher>(
+    alloc: Global,
+    stores: Vec<Connection<S>>,
+    watcher: &mut W,
+) -> Result<Recovered<S>, Unopened<S>>
+    requires { AreAllKeyed S.Store stores.items }
+    ensures certified { IfOk result (OpensCertified S.Store stores.items) }
+    ensures refused { IfErr result (RefusesWithCause S.Store stores.items) }
+{
+    opened_is_timely::<S>();
+    match recover(alloc, stores, watcher) {
+        Ok(found) => {
+            found.world.has_failed();
+            Ok(found)
+        }
+        Err(refused) => Err(refused),
+    }
+}
+
+/// Stores that a crash left are opened, and requests go on. None where no world was opened, or there was no room for the replies.
+pub fn open_and_run<S: Alter + Drop, H: Shelf<S>, W: Watcher>(
+    alloc: Global,
+    stores: Vec<Connection<S>>,
+    requests: &[Request],
+    watcher: &mut W,
+    shelf: &mut H,
+) -> Option<Begun<S>>
+    requires { AreAllKeyed S.Store stores.items }
+    ensures { IfSome result (OpensAgain S.Store stores.items requests.now) }
+{
+    have_types(requests);
+    opens_again::<S>();
+    left_is_stores::<S>();
+    let Ok(found) = recover(alloc, stores, watcher) else {
+        return None;
+    };
+    let Recovered { world, strays: _ } = found;
+    let mut world = world;
+    match world.run(alloc, requests, shelf) {
+        Ok(replies) => Some(Begun { world, replies }),
+        Err(_) => None,
+    }
+}

@@ -1,5 +1,0 @@
-use Rattle.register_views.proofs.laws.register_has_no_fault.Goals as goal
-use Rattle.register_views.proofs.Stands.{no_faults}
-
-pub returns : goal.returns
-returns c = λ w views register of. no_faults w register views of

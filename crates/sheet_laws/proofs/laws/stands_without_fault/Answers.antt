@@ -1,0 +1,7 @@
+use Rattle.std.specs.Prelude.{◌≡◌, true}
+use Rattle.sheet_laws.proofs.laws.stands_without_fault.Goals as goal
+use Rattle.sheet_laws.specs.Laws.{StoreSight}
+use Rattle.sheet_laws.proofs.Faults.{no_fault}
+
+pub returns : goal.returns
+returns c = λ stores w stands. no_fault StoreSight (λ s. s.head) (λ s. s.claims) (λ s. s.is_formed ≡ true) (λ s. s.is_tied ≡ true) (λ s. s.frame) (λ s. s.reads_as) stores w stands

@@ -1,0 +1,10 @@
+-- No such part stands before a space, where there is no space or where another text stands there.
+use Rattle.sheet_ledger.specs.Slots.{OfNumber}
+use Rattle.sheet_ledger.proofs.Slots.{no_front_uncut, no_front_cut}
+use Rattle.sheet_ledger.proofs.entries.next_number.Goals as goal
+
+pub returns-in_default-clause-none : goal.returns-in_default-clause-none
+returns-in_default-clause-none c = no_front_uncut OfNumber c.args.text.now c.in_default.ensures.none
+
+pub returns-in-None-clause-none : goal.returns-in-None-clause-none
+returns-in-None-clause-none c = no_front_cut OfNumber c.args.text.now c.in-Some.front.now c.in-Some.rest.now c.in-Some.ensures.some c.in-Some.ensures.lacks c.in-None.ensures.none

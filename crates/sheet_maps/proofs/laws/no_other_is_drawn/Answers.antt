@@ -1,5 +1,0 @@
-use Rattle.sheet_maps.proofs.Counting.{no_other_is_drawn}
-use Rattle.sheet_maps.proofs.laws.no_other_is_drawn.Goals as goal
-
-pub returns : goal.returns
-returns c = no_other_is_drawn

@@ -1,4 +1,0 @@
-use Rattle.sheet_maps.proofs.pieces.shape_box.Goals as goal
-
-pub returns : goal.returns
-returns c = rw (c.column_left.ensures.left, c.row_top.ensures.top) at c.box_text.ensures

@@ -1,6 +1,0 @@
-use Rattle.std.proofs.Common.{◌≡◌, map, take}
-use Rattle.sql_meaning.specs.Forms.{reference_of}
-use Rattle.sql_meaning.proofs.forms.are_references.Given as goal
-
-abbrev pub invariant-loop-i : goal.invariant-loop-i
-invariant-loop-i l = take l.i l.references ≡ map reference_of (take l.i l.forms)

@@ -1,0 +1,113 @@
+//! What stands in a folder beside no package: logs without their database, and what was left of archives that were never whole.
+ghost use Rattle.std.specs.Prelude.{◌≡◌, ◌++◌, IfSome};
+ghost use Rattle.store_folder.specs.Names.{file_name};
+
+use crate::fault::FolderFault;
+use crate::listing::{folder_bytes, listing_of};
+use crate::names::{file_name, names_in, package_of, path_of};
+use std::alloc::{AllocError, Global};
+use std::fs;
+use uuid::Uuid;
+
+/// The package of a name that begins as its file's does, and ends so.
+fn package_before(name: &[u8], end: &[u8]) -> Option<Uuid>
+    ensures { IfSome result (λ id. name.now ≡ file_name id ++ end.now) }
+{
+    match name.strip_suffix(end) {
+        Some(file) => package_of(file),
+        None => None,
+    }
+}
+
+/// The package beside whose file a file of this name stands: the log, the journal, and what is not whole yet, with its own.
+pub fn package_beside(name: &[u8]) -> Option<Uuid> {
+    package_before(name, b"-wal".as_slice())
+        .or(package_before(name, b"-shm".as_slice()))
+        .or(package_before(name, b"-journal".as_slice()))
+        .or(package_before(name, b"-new".as_slice()))
+        .or(package_before(name, b"-new-wal".as_slice()))
+        .or(package_before(name, b"-new-journal".as_slice()))
+}
+
+/// Whether a name stands beside no package of these.
+fn is_leftover(name: &[u8], packages: &[Uuid]) -> bool {
+    match package_beside(name) {
+        Some(package) => !packages.contains(&package),
+        None => false,
+    }
+}
+
+/// The names that stand beside no package of these.
+fn leftovers_among<'n>(
+    alloc: Global,
+    names: &[&'n [u8]],
+    packages: &[Uuid],
+) -> Result<Vec<&'n [u8]>, AllocError> {
+    let mut found = Vec::new(alloc);
+    for name in names {
+        if is_leftover(name, packages) {
+            found.push(*name)?;
+        }
+    }
+    Ok(found)
+}
+
+/// Puts a name behind others, as a text. One that is no UTF-8 is left out.
+fn push_text(alloc: Global, texts: &mut Vec<String>, name: &[u8]) -> Result<(), AllocError> {
+    if let Ok(text) = str::from_utf8(name) {
+        texts.push(String::from_str(alloc, text)?)?;
+    }
+    Ok(())
+}
+
+/// The same of the bytes of a folder, as texts in their order. A name that is no UTF-8 is none of them.
+fn leftovers_in(alloc: Global, bytes: &[u8]) -> Result<Vec<String>, FolderFault> {
+    let listing = listing_of(alloc, bytes)?;
+    let names = names_in(alloc, bytes)?;
+    let mut texts = Vec::new(alloc);
+    for name in leftovers_among(alloc, names.as_slice(), &listing.packages)? {
+        push_text(alloc, &mut texts, name)?;
+    }
+    texts.sort_unstable();
+    Ok(texts)
+}
+
+/// The names of the files of a folder that stand beside no package.
+///
+/// # Errors
+///
+/// A folder that cannot be read, or want of memory.
+pub fn leftovers(rt: &HostRuntime, folder: &str) -> Result<Vec<String>, FolderFault> {
+    let bytes = folder_bytes(rt, folder)?;
+    leftovers_in(rt.alloc(), bytes.as_slice())
+}
+
+/// The size of the page that the engine writes of a database in which nothing is.
+const PAGE: usize = 4096;
+
+/// Whether these bytes are none, or a database of one page that names no table: the page is a leaf without cells (SQLite's file format, sections
+/// 1.3 and 1.6).
+fn says_nothing(bytes: &[u8]) -> bool {
+    bytes.is_empty()
+        || bytes.len() == PAGE
+            && bytes.starts_with(b"SQLite format 3\0".as_slice())
+            && bytes[100] == 13
+            && bytes[103] == 0
+            && bytes[104] == 0
+}
+
+/// Whether the file of a package is there, and nothing is in it.
+///
+/// # Errors
+///
+/// A file that is not there or cannot be read, or want of memory.
+pub fn is_empty_file(rt: &HostRuntime, folder: &str, package: Uuid) -> Result<bool, FolderFault> {
+    let file = file_name(rt.alloc(), package)?;
+    let path = path_of(rt.alloc(), folder, file.as_str())?;
+    let found = fs::symlink_metadata(rt, path.as_str())?;
+    if !found.is_file() || found.len() > PAGE as u64 {
+        return Ok(false);
+    }
+    let bytes = fs::read(rt, path.as_str())?;
+    Ok(says_nothing(bytes.as_slice()))
+}

@@ -1,0 +1,98 @@
+//! A shelf of stores in the files of a folder.
+ghost use Rattle.std.specs.Prelude.{◌≡◌, ◌≤◌, ⊤, IfOk};
+ghost use Rattle.sqlite_disk.specs.Disk.{CountsFault, MoreFaults};
+ghost use Rattle.sqlite.specs.Files.{file_state};
+ghost use Rattle.sqlite.specs.State.{HasCleanDisk};
+ghost use Rattle.store_sql.specs.Blank.{IsBlank, no_schema};
+
+use crate::fault::{FolderFault, fault_of};
+use crate::names::{file_name, path_of};
+use crate::removing::remove_store;
+use crate::start::{Empty, FolderStore};
+use sqlite::Connection;
+use store_shelf::shelf::{Shelf, ShelfFault};
+use uuid::Uuid;
+
+/// Makes each store in the file of its package, in place of whatever stood there under its name. The folder is there already.
+#[derive(Drop)]
+pub struct FolderShelf<'f> {
+    rt: &'f HostRuntime,
+    folder: &'f str,
+    failures: u64,
+}
+
+impl<'f> FolderShelf<'f> {
+    /// A shelf over this folder that has not failed.
+    pub fn new(rt: &'f HostRuntime, folder: &'f str) -> FolderShelf<'f>
+        ensures { ⟦<FolderShelf<'f> as Shelf<FolderStore>>⟧.failures_of result ≡ 0 }
+    {
+        FolderShelf {
+            rt,
+            folder,
+            failures: 0,
+        }
+    }
+}
+
+impl<'f> Shelf<FolderStore> for FolderShelf<'f> {
+    ghost failures_of = { λ shelf. shelf.failures };
+
+    // No clause can speak of the files of a folder. That a register asks for no package but the one that it promises is proved over all shelves.
+    ghost asks = { λ uuid old new. ⊤ };
+
+    fn blank(&mut self, package: Uuid) -> Result<Connection<FolderStore>, ShelfFault>
+        ensures blank { IfOk result (λ conn. HasCleanDisk (file_state conn) → IsBlank no_schema (file_state conn).now) }
+        ensures counts { CountsFault result self.old.failures self.new.failures }
+    {
+        match blank_in_folder(self.rt, self.folder, package) {
+            Ok(store) => Ok(store),
+            Err(fault) => Err(counted(fault.into(), &mut self.failures)),
+        }
+    }
+
+    fn failures(&self) -> u64 {
+        self.failures
+    }
+}
+
+/// The fault, which is counted.
+fn counted(fault: ShelfFault, failures: &mut u64) -> ShelfFault
+    ensures rises { MoreFaults failures.old failures.new }
+    ensures more { failures.old ≤ failures.new }
+{
+    *failures = failures.saturating_add(1);
+    fault
+}
+
+/// An empty store in the file of a package, in place of whatever stood there. That it is empty is known under the premise of `Empty`, since its files were removed before.
+///
+/// # Errors
+///
+/// What `remove_store` and the opening of a new file answer.
+pub fn blank_in_folder(
+    rt: &HostRuntime,
+    folder: &str,
+    package: Uuid,
+) -> Result<Connection<FolderStore>, FolderFault>
+    ensures { IfOk result (λ conn. HasCleanDisk (file_state conn) → IsBlank no_schema (file_state conn).now) }
+{
+    remove_store(rt, folder, package)?;
+    let name = file_name(rt.alloc(), package)?;
+    blank_named(rt, folder, package, name.as_str())
+}
+
+/// An empty store of a package in the file of this name, which is not there.
+pub(crate) fn blank_named(
+    rt: &HostRuntime,
+    folder: &str,
+    package: Uuid,
+    name: &str,
+) -> Result<Connection<FolderStore>, FolderFault>
+    ensures { IfOk result (λ conn. HasCleanDisk (file_state conn) → IsBlank no_schema (file_state conn).now) }
+{
+    let path = path_of(rt.alloc(), folder, name)?;
+    match Connection::open_from(rt, path.as_str(), false, Empty) {
+        Ok(conn) => Ok(conn),
+        Err((error, _)) => Err(fault_of(package, error)),
+    }
+}

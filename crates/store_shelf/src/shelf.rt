@@ -1,0 +1,63 @@
+//! A shelf, as a register asks it for the store of a new package.
+ghost use Rattle.std.specs.Prelude.{◌≡◌, ℕ, List, Ok, IfOk, IfErr};
+ghost use Rattle.sqlite_disk.specs.Disk.{CountsFault};
+ghost use Rattle.sqlite.specs.Held.{state};
+ghost use Rattle.sqlite.specs.State.{HasCleanDisk};
+ghost use Rattle.store_sql.specs.Blank.{IsBlank, no_schema};
+ghost use Rattle.store_shelf.specs.declared.shelf.ShelfFault.TheVariants.{OutOfMemory};
+
+use sqlite::{Alter, Connection};
+use std::fmt;
+use thiserror::Error;
+use uuid::Uuid;
+
+/// Why a shelf has no store.
+#[derive(Clone, Copy, PartialEq, Eq, Debug, Error)]
+pub enum ShelfFault {
+    /// A growth was refused.
+    #[error("OutOfMemory")]
+    OutOfMemory,
+    /// The shelf itself failed.
+    #[error("StoreFault")]
+    StoreFault,
+}
+
+/// Makes the stores of packages, one a UUID, and counts how often it could not.
+pub trait Shelf<S: Alter> {
+    /// How often it has failed.
+    ghost failures_of: { Self → ℕ };
+
+    /// It was asked once for the store of the package of this UUID, between these two states, and for
+    /// no other. Each shelf says what that is. A register knows nothing of it but that `blank` does
+    /// it, so where it promises this of a package it asked for that one and for no other.
+    ghost asks: { List ℕ → Self → Self → Type 0 };
+
+    /// An empty store in place of whatever stood under this UUID. Each fault is counted, of either
+    /// kind, and nothing else is. A count of 2^64 - 1 stays, and counts as risen.
+    fn blank(&mut self, package: Uuid) -> Result<Connection<S>, ShelfFault>
+        ensures blank { IfOk result (λ conn. HasCleanDisk (state S.Store conn) → IsBlank no_schema (state S.Store conn).now) }
+        ensures counts { CountsFault result (failures_of self.old) (failures_of self.new) }
+        ensures asks { asks «package» self.old self.new };
+
+    /// How often `blank` has answered a fault.
+    fn failures(&self) -> u64
+        ensures { result ≡ failures_of self.now };
+}
+
+// The store that was made in memory. Nothing but memory can have been wanting where none was, which is counted.
+pub(crate) fn counted<T, E>(made: Result<T, E>, failures: &mut u64) -> Result<T, ShelfFault>
+where
+    T: Drop,
+    E: Drop,
+    ensures made { IfOk result (λ store. made ≡ Ok store) }
+    ensures counts { CountsFault result failures.old failures.new }
+    ensures fault { IfErr result (λ fault. fault ≡ OutOfMemory) }
+{
+    match made {
+        Ok(store) => Ok(store),
+        Err(_) => {
+            *failures = failures.saturating_add(1);
+            Err(ShelfFault::OutOfMemory)
+        }
+    }
+}

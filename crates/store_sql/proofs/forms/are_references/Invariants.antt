@@ -1,0 +1,6 @@
+use Rattle.std.proofs.Common.{◌≡◌, map, take}
+use Rattle.store_sql.specs.Forms.{reference_of}
+use Rattle.store_sql.proofs.forms.are_references.Given as goal
+
+abbrev pub invariant-loop-i : goal.invariant-loop-i
+invariant-loop-i l = take l.i l.references ≡ map reference_of (take l.i l.forms)

@@ -1,0 +1,14 @@
+pub mod Resolving
+pub mod Known
+pub mod Spelling
+pub mod Kinds
+pub mod Writing
+pub mod Reading
+pub mod Blank
+pub mod Transactions
+pub mod Notes
+pub mod Stores
+pub mod Index
+pub mod Certain
+pub mod Forms
+pub mod Staying

@@ -1,6 +1,0 @@
--- The lemma says it.
-use Rattle.stored_items.proofs.Holding.{says_what_it_holds}
-use Rattle.stored_items.proofs.laws.says_what_it_holds.Goals as goal
-
-pub returns : goal.returns
-returns c = says_what_it_holds

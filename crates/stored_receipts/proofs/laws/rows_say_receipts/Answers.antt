@@ -1,5 +1,0 @@
-use Rattle.stored_receipts.proofs.Walking.{receipts_there}
-use Rattle.stored_receipts.proofs.laws.rows_say_receipts.Goals as goal
-
-pub returns : goal.returns
-returns c = receipts_there

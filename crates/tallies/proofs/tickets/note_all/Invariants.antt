@@ -1,7 +1,0 @@
-use Rattle.std.proofs.Common.{take}
-use Rattle.tallies.specs.Tickets.{TellsLast}
-use Rattle.tallies.proofs.tickets.note_all.Given as goal
-
--- the last of the receipts so far
-abbrev pub invariant-loop-receipt : goal.invariant-loop-receipt
-invariant-loop-receipt l = TellsLast l.last (take l.receipt-index l.ledger)

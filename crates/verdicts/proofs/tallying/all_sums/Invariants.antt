@@ -1,8 +1,0 @@
-use Rattle.std.proofs.Common.{take}
-use Rattle.std.specs.List.{AllZip}
-use Rattle.verdicts.specs.Tallies.{TellsSums}
-use Rattle.verdicts.proofs.tallying.all_sums.Given as goal
-
--- of each so far
-abbrev pub invariant-loop-sight : goal.invariant-loop-sight
-invariant-loop-sight l = AllZip TellsSums (take l.sight-index l.held) l.all.items

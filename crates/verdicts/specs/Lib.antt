@@ -1,5 +1,0 @@
-pub mod Parts
-pub mod Views
-pub mod Checks
-pub mod Accounts
-pub mod Tallies

@@ -1,0 +1,173 @@
+//! The rows that say what the tables of an export are.
+ghost use Rattle.std.specs.Prelude.{◌≡◌, IfOk, IsTrue, string_bytes};
+ghost use Rattle.sheet_types.specs.Matrix.{is_good_frame};
+ghost use Rattle.view_export.specs.FixedRows.{bounds, contents, contents_row, extensions, fixed_rows, geometry_column, is_standard, matrix_set, numbered_system, own_system, reference_systems, relations, undefined_cartesian, undefined_geographic, wgs_84};
+
+use crate::literals::Thousandths;
+use crate::matrices::matrices;
+use sheet_types::frame::Frame;
+use std::alloc::{AllocError, Global};
+use uuid::Uuid;
+
+fn undefined_cartesian() -> &'static str
+    ensures { result.now ≡ undefined_cartesian }
+{
+    "INSERT INTO gpkg_spatial_ref_sys VALUES ('Undefined Cartesian SRS',-1,'NONE',-1,'undefined','undefined Cartesian coordinate reference system');\n"
+}
+
+fn undefined_geographic() -> &'static str
+    ensures { result.now ≡ undefined_geographic }
+{
+    "INSERT INTO gpkg_spatial_ref_sys VALUES ('Undefined geographic SRS',0,'NONE',0,'undefined','undefined geographic coordinate reference system');\n"
+}
+
+fn wgs_84() -> &'static str
+    ensures { result.now ≡ wgs_84 }
+{
+    "INSERT INTO gpkg_spatial_ref_sys VALUES ('WGS 84 geodetic',4326,'EPSG',4326,'GEOGCS[\"WGS 84\",DATUM[\"WGS_1984\",SPHEROID[\"WGS 84\",6378137,298.257223563,AUTHORITY[\"EPSG\",\"7030\"]],AUTHORITY[\"EPSG\",\"6326\"]],PRIMEM[\"Greenwich\",0,AUTHORITY[\"EPSG\",\"8901\"]],UNIT[\"degree\",0.0174532925199433,AUTHORITY[\"EPSG\",\"9122\"]],AUTHORITY[\"EPSG\",\"4326\"]]','longitude/latitude coordinates in decimal degrees on the WGS 84 spheroid');\n"
+}
+
+/// Whether each GeoPackage has the reference system of this frame.
+fn is_standard(frame: &Frame) -> bool
+    ensures { result ≡ is_standard frame.now.srs_id }
+{
+    let srs_id = frame.srs_id;
+    srs_id == -1 || srs_id == 0 || srs_id == 4326
+}
+
+/// A reference system that the register knows by its number alone.
+fn numbered_system(alloc: Global, frame: &Frame) -> Result<String, AllocError>
+    ensures { IfOk result (λ text. string_bytes text ≡ numbered_system frame.now.srs_id) }
+{
+    let srs_id = frame.srs_id;
+    let name = format!(in alloc; "'EPSG:{srs_id}'")?;
+    format!(in alloc;
+        "INSERT INTO gpkg_spatial_ref_sys VALUES ({name},{srs_id},'EPSG',{srs_id},'undefined',NULL);\n"
+    )
+}
+
+/// The reference system of the frame, where it is none that each GeoPackage has.
+fn own_system(alloc: Global, frame: &Frame) -> Result<String, AllocError>
+    ensures { IfOk result (λ text. string_bytes text ≡ own_system frame.now.srs_id) }
+{
+    if is_standard(frame) {
+        Ok(String::new(alloc))
+    } else {
+        numbered_system(alloc, frame)
+    }
+}
+
+/// The reference systems (OGC GeoPackage 1.3, 1.1.2).
+fn reference_systems(alloc: Global, frame: &Frame) -> Result<String, AllocError>
+    ensures { IfOk result (λ text. string_bytes text ≡ reference_systems frame.now.srs_id) }
+{
+    let cartesian = undefined_cartesian();
+    let geographic = undefined_geographic();
+    let wgs_84 = wgs_84();
+    let own = own_system(alloc, frame)?;
+    format!(in alloc; "{cartesian}{geographic}{wgs_84}{own}")
+}
+
+/// A frame's bounds and reference system, with commas between them.
+fn bounds(alloc: Global, frame: &Frame) -> Result<String, AllocError>
+    ensures { IfOk result (λ text. string_bytes text ≡ bounds frame.now) }
+{
+    let west = Thousandths(frame.min_x);
+    let south = Thousandths(frame.min_y);
+    let east = Thousandths(frame.max_x);
+    let north = Thousandths(frame.max_y);
+    let srs_id = frame.srs_id;
+    format!(in alloc; "{west},{south},{east},{north},{srs_id}")
+}
+
+/// A table of this type, both between apostrophes, with its bounds (1.1.3).
+fn contents_row(
+    alloc: Global,
+    name: &str,
+    kind: &str,
+    package: Uuid,
+    bounds: &str,
+) -> Result<String, AllocError>
+    ensures { IfOk result (λ text. string_bytes text ≡ contents_row name.now kind.now «package» bounds.now) }
+{
+    let description = format!(in alloc; "'package {package}'")?;
+    format!(in alloc;
+        "INSERT INTO gpkg_contents (table_name,data_type,identifier,description,min_x,min_y,max_x,max_y,srs_id) VALUES ({name},{kind},{name},{description},{bounds});\n"
+    )
+}
+
+/// The tables that hold a package.
+fn contents(alloc: Global, frame: &Frame, package: Uuid) -> Result<String, AllocError>
+    ensures { IfOk result (λ text. string_bytes text ≡ contents frame.now «package») }
+{
+    let ends = bounds(alloc, frame)?;
+    let none = "NULL,NULL,NULL,NULL,NULL";
+    let tiles = contents_row(alloc, "'sheet_tiles'", "'tiles'", package, ends.as_str())?;
+    let rows = contents_row(alloc, "'sheet_rows'", "'features'", package, ends.as_str())?;
+    let media = contents_row(alloc, "'sheet_media'", "'attributes'", package, none)?;
+    let identities = contents_row(
+        alloc,
+        "'sheet_tile_identity'",
+        "'attributes'",
+        package,
+        none,
+    )?;
+    format!(in alloc; "{tiles}{rows}{media}{identities}")
+}
+
+/// The geometries: points without height and measure (2.1.5).
+fn geometry_column(alloc: Global, frame: &Frame) -> Result<String, AllocError>
+    ensures { IfOk result (λ text. string_bytes text ≡ geometry_column frame.now.srs_id) }
+{
+    let srs_id = frame.srs_id;
+    format!(in alloc;
+        "INSERT INTO gpkg_geometry_columns VALUES ('sheet_rows','geom','POINT',{srs_id},0,0);\n"
+    )
+}
+
+/// The tile matrix set (2.2.6).
+fn matrix_set(alloc: Global, frame: &Frame) -> Result<String, AllocError>
+    ensures { IfOk result (λ text. string_bytes text ≡ matrix_set frame.now) }
+{
+    let srs_id = frame.srs_id;
+    let west = Thousandths(frame.min_x);
+    let south = Thousandths(frame.min_y);
+    let east = Thousandths(frame.max_x);
+    let north = Thousandths(frame.max_y);
+    format!(in alloc;
+        "INSERT INTO gpkg_tile_matrix_set VALUES ('sheet_tiles',{srs_id},{west},{south},{east},{north});\n"
+    )
+}
+
+/// The tables that the extension of related tables speaks of (2.3.2; OGC 18-000).
+fn extensions() -> &'static str
+    ensures { result.now ≡ extensions }
+{
+    "INSERT INTO gpkg_extensions VALUES ('gpkgext_relations',NULL,'gpkg_related_tables','http://www.geopackage.org/18-000.html','read-write');\nINSERT INTO gpkg_extensions VALUES ('tiles_media',NULL,'gpkg_related_tables','http://www.geopackage.org/18-000.html','read-write');\nINSERT INTO gpkg_extensions VALUES ('rows_media',NULL,'gpkg_related_tables','http://www.geopackage.org/18-000.html','read-write');\nINSERT INTO gpkg_extensions VALUES ('rows_tiles',NULL,'gpkg_related_tables','http://www.geopackage.org/18-000.html','read-write');\n"
+}
+
+/// What each mapping table relates (OGC 18-000).
+fn relations() -> &'static str
+    ensures { result.now ≡ relations }
+{
+    "INSERT INTO gpkgext_relations VALUES (1,'sheet_tiles','id','sheet_media','id','media','tiles_media');\nINSERT INTO gpkgext_relations VALUES (2,'sheet_rows','id','sheet_media','id','media','rows_media');\nINSERT INTO gpkgext_relations VALUES (3,'sheet_rows','id','sheet_tiles','id','tiles','rows_tiles');\n"
+}
+
+/// The fixed rows of a package of this frame.
+///
+/// # Errors
+///
+/// Want of memory.
+pub fn fixed_rows(alloc: Global, frame: &Frame, package: Uuid) -> Result<String, AllocError>
+    requires { IsTrue (is_good_frame frame.now) }
+    ensures { IfOk result (λ text. string_bytes text ≡ fixed_rows frame.now «package») }
+{
+    let systems = reference_systems(alloc, frame)?;
+    let contents = contents(alloc, frame, package)?;
+    let column = geometry_column(alloc, frame)?;
+    let set = matrix_set(alloc, frame)?;
+    let matrices = matrices(alloc, frame)?;
+    let extensions = extensions();
+    let relations = relations();
+    format!(in alloc; "{systems}{contents}{column}{set}{matrices}{extensions}{relations}")
+}

@@ -1,5 +1,0 @@
-use Rattle.view_lines.proofs.Standing.{stands_where_told}
-use Rattle.view_lines.proofs.laws.stands_where_told.Goals as goal
-
-pub returns : goal.returns
-returns c = stands_where_told

@@ -1,8 +1,0 @@
-use Rattle.std.proofs.Common.{◌≡◌, take}
-use Rattle.std.specs.Prelude.{string_bytes}
-use Rattle.view_lines.specs.Packages.{status_of}
-use Rattle.view_lines.proofs.packages.status_text.Given as goal
-
--- the headings, and the lines of the packages so far
-abbrev pub invariant-loop-row : goal.invariant-loop-row
-invariant-loop-row l = string_bytes l.text ≡ status_of (take l.row-index l.rows)

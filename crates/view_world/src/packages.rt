@@ -1,0 +1,157 @@
+//! A table of the live packages of a world.
+ghost use Rattle.std.specs.Prelude.{◌≡◌, length, map, string_bytes, IfOk, MatchResult, OnOk, Some};
+ghost use Rattle.sheet_types.specs.World.{World as ModelWorld};
+ghost use Rattle.sheet_types.specs.Answers.{sums_of};
+ghost use Rattle.view_history.specs.Stores.{AreAtRest, AsksStores};
+ghost use Rattle.world.specs.Worlds.{StandsFor};
+ghost use Rattle.view_world.specs.Kept.{AreAsked, AreKept};
+ghost use Rattle.view_world.specs.Looks.{Asks, LooksInto};
+ghost use Rattle.view_world.specs.Told.{package_rows, status_text};
+
+use crate::usable::{are_ready, usable};
+use package_tables::fault::Fault;
+use sheet_types::collections::Text;
+use sheet_types::error::OutOfMemory;
+use sheet_types::receipt::Sums;
+use sqlite::{Alter, Connection};
+use std::alloc::{AllocError, Global};
+use view_history::loans::loans_of;
+use view_history::moments::moments_of;
+use view_text::packages::{PackageRow, status_text};
+use world::reading::PackageSight;
+use world::world::World;
+
+/// What a world keeps of its packages.
+#[derive(Drop)]
+struct Kept {
+    sights: Vec<PackageSight>,
+    sums: Vec<Sums>,
+}
+
+/// How much each of these packages holds.
+fn sums_of<S: Alter + Drop>(
+    alloc: Global,
+    world: &World<S>,
+    sights: &[PackageSight],
+) -> Result<Vec<Sums>, Fault>
+    ensures { IfOk result (λ sums. (w : ModelWorld) → StandsFor S.Store world.now w → map (λ x. Some x) sums.items ≡ map (λ s. sums_of w s.uuid) sights.now) }
+{
+    let mut all = Vec::new(alloc);
+    for at in 0..sights.len() {
+        let Some(sums) = world.sums(sights[at].uuid) else {
+            return Err(Fault::StoreFault);
+        };
+        all.push(sums)?;
+    }
+    Ok(all)
+}
+
+/// What a world that has not failed keeps of its packages.
+fn kept_of<S: Alter + Drop>(alloc: Global, world: &World<S>) -> Result<Kept, Fault>
+    ensures { IfOk result (λ kept. (w : ModelWorld) → StandsFor S.Store world.now w → AreKept w kept.sights.items kept.sums.items) }
+{
+    usable(world)?;
+    let sights = world.packages(alloc)?;
+    let sums = sums_of(alloc, world, &sights)?;
+    Ok(Kept { sights, sums })
+}
+
+/// The numbers of the last receipts of packages.
+fn tickets_of(alloc: Global, sights: &[PackageSight]) -> Result<Vec<u64>, AllocError>
+    ensures { IfOk result (λ tickets. tickets.items ≡ map (λ s. s.ticket) sights.now) }
+{
+    sights.iter().map(|sight| sight.ticket).collect(alloc)
+}
+
+/// A moment that may be none, on its own.
+fn moment_of(moment: &Option<Text>) -> Result<Option<Text>, OutOfMemory>
+    ensures { IfOk result (λ own. own ≡ moment.now) }
+{
+    match moment {
+        Some(at) => Ok(Some(at.try_clone()?)),
+        None => Ok(None),
+    }
+}
+
+/// What the table says of each package.
+fn rows_of(
+    alloc: Global,
+    sights: &[PackageSight],
+    sums: &[Sums],
+    loans: &[u64],
+    moments: &[Option<Text>],
+) -> Result<Vec<PackageRow>, Fault>
+    ensures { IfOk result (λ rows. (w : ModelWorld) → AreKept w sights.now sums.now → AreAsked w loans.now moments.now → rows.items ≡ package_rows w) }
+{
+    let count = sights.len();
+    if sums.len() != count || loans.len() != count || moments.len() != count {
+        return Err(Fault::StoreFault);
+    }
+    let mut rows = Vec::new(alloc);
+    for at in 0..count {
+        let sight = sights[at];
+        let Ok(changed) = moment_of(&moments[at]) else {
+            return Err(Fault::OutOfMemory);
+        };
+        rows.push(PackageRow {
+            uuid: sight.uuid,
+            parent: sight.parent,
+            depth: sight.depth,
+            loan: loans[at],
+            sums: sums[at],
+            changed,
+        })?;
+    }
+    Ok(rows)
+}
+
+/// The table of the packages of these stores.
+fn table_by<S: Alter + Drop>(
+    kept: &Kept,
+    stores: &mut Vec<Connection<S>>,
+    alloc: Global,
+) -> Result<String, Fault>
+    requires { AreAtRest S.Store stores.old.items }
+    ensures { AsksStores S.Store (λ packages text. (w : ModelWorld) → packages ≡ w.packages → AreKept w kept.now.sights.items kept.now.sums.items → string_bytes text ≡ status_text w) stores.old.items stores.new.items result }
+{
+    let loans = loans_of(stores, alloc)?;
+    let tickets = tickets_of(alloc, &kept.sights)?;
+    let moments = moments_of(stores, alloc, &tickets)?;
+    let rows = rows_of(alloc, &kept.sights, &kept.sums, &loans, &moments)?;
+    let text = status_text(alloc, &rows)?;
+    Ok(text)
+}
+
+/// The same, where there are as many stores as packages.
+fn table_of<S: Alter + Drop>(
+    kept: Result<Kept, Fault>,
+    stores: &mut Vec<Connection<S>>,
+    alloc: Global,
+) -> Result<String, Fault>
+    ensures counted { OnOk result (MatchResult kept (λ k. length k.sights.items ≡ length stores.old.items) (λ fault. ⊥)) }
+    ensures asked { Asks S.Store (λ packages text. (w : ModelWorld) → packages ≡ w.packages → IfOk kept (λ k. AreKept w k.sights.items k.sums.items) → string_bytes text ≡ status_text w) stores.old.items stores.new.items result }
+{
+    let kept = kept?;
+    if !are_ready(stores, kept.sights.len()) {
+        return Err(Fault::StoreFault);
+    }
+    let text = table_by(&kept, stores, alloc)?;
+    Ok(text)
+}
+
+/// A line of headings, and a line for each live package by UUID. The world ends with it; its stores are handed on.
+///
+/// # Errors
+///
+/// Want of memory, a store that failed, or a world that has.
+pub fn status_of<S: Alter + Drop>(
+    alloc: Global,
+    world: World<S>,
+) -> (Result<String, Fault>, Vec<Connection<S>>)
+    ensures { LooksInto S.Store (λ w text. string_bytes text ≡ status_text w) world result.1.items result.0 }
+{
+    let kept = kept_of(alloc, &world);
+    let mut stores = world.into_stores();
+    let text = table_of(kept, &mut stores, alloc);
+    (text, stores)
+}

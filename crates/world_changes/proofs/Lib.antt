@@ -1,0 +1,7 @@
+pub mod StayingOpen
+pub mod HeldStores
+mod Turned
+pub mod Surviving
+mod Placing
+pub mod Lent
+mod Returned

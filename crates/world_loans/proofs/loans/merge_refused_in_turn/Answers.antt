@@ -1,0 +1,6 @@
+-- The lemma says it.
+use Rattle.world_loans.proofs.MergeReasons.{merge_refused_in_turn}
+use Rattle.world_loans.proofs.loans.merge_refused_in_turn.Goals as goal
+
+pub returns : goal.returns
+returns c = merge_refused_in_turn

@@ -1,7 +1,0 @@
-use Rattle.std.specs.List.{AllWithin}
-use Rattle.sqlite.specs.Held.{Held, state}
-use Rattle.sql_meaning.specs.Transactions.{Rests}
-use Rattle.world_views.proofs.usable.are_at_rest.Given as goal
-
-abbrev pub invariant-loop-at : goal.invariant-loop-at
-invariant-loop-at g l = record { each : AllWithin (λ (h : Held g.row.S.Denot). Rests (state g.S.Store h)) l.stores 0 l.at }
