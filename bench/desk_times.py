@@ -31,11 +31,10 @@ sys.dont_write_bytecode = True
 
 from desk_requests import body_of
 from machine.lists import read_requests
+from program import program
 from timed_lists import ARCHIVE, AT, FRAME, HEADER, additions
 
-PROGRAM = os.path.join(HERE, "..", "crates", "sheetdesk", "out", "sheetdesk")
-
-
+PROGRAM = None
 PLAIN_FOLDER = [sys.executable, os.path.join(HERE, "plain_folder.py")]
 MAKE = ["--archive", ARCHIVE, "--at", AT, "--frame", FRAME]
 
@@ -175,12 +174,12 @@ def main():
     global PROGRAM
     words = argparse.ArgumentParser(description=__doc__, formatter_class=argparse.RawDescriptionHelpFormatter)
     words.add_argument("--files", metavar="FOLDER")
-    words.add_argument("--program", default=PROGRAM)
+    words.add_argument("--program")
     words.add_argument("--clients", type=int, default=1)
     words.add_argument("rounds", type=int, nargs="?", default=3)
     words.add_argument("count", type=int, nargs="?", default=3000)
     said = words.parse_args()
-    PROGRAM, texts = said.program, list(posts(said.count))
+    PROGRAM, texts = said.program or program(), list(posts(said.count))
     measured = {"sheetdesk": [], "Python": []}
     print(f"load {os.getloadavg()[0]:.1f} at the start, {said.rounds} rounds of {said.count} additions by {said.clients} at once, packages in {said.files or 'memory'}")
     for _ in range(said.rounds):

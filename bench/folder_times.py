@@ -32,11 +32,12 @@ import tempfile
 import time
 from collections import deque, namedtuple
 
+from program import program
 from timed_lists import ARCHIVE, AT, FRAME, HEADER, MOST_LOANS, List, additions
 
 HERE = os.path.dirname(os.path.abspath(__file__))
-PROGRAM = os.path.join(HERE, "..", "crates", "sheetdesk", "out", "sheetdesk")
-SIDES = {"sheetdesk": [PROGRAM], "Python": [sys.executable, os.path.join(HERE, "plain_folder.py")]}
+# The first is filled in when words are read.
+SIDES = {"sheetdesk": [], "Python": [sys.executable, os.path.join(HERE, "plain_folder.py")]}
 MEMORY = "/dev/shm" if os.path.isdir("/dev/shm") else None
 
 # What stands before, the words of what is timed, a list for it or None, and how many things that is.
@@ -213,7 +214,7 @@ def measure_memory(said, memory):
 def main():
     words = argparse.ArgumentParser(description=__doc__, formatter_class=argparse.RawDescriptionHelpFormatter)
     words.add_argument("--folder")
-    words.add_argument("--program", default=PROGRAM)
+    words.add_argument("--program")
     words.add_argument("--memory", action="store_true")
     words.add_argument("--case", action="append", choices=CASES, dest="cases")
     words.add_argument("--side", action="append", choices=SIDES, dest="sides")
@@ -221,7 +222,7 @@ def main():
     said = words.parse_args()
     said.sides = said.sides or list(SIDES)
     said.rounds, said.counts = (3, said.numbers) if said.memory else ([*said.numbers, 3][0], said.numbers[1:])
-    SIDES["sheetdesk"] = [said.program]
+    SIDES["sheetdesk"] = [said.program or program()]
     print(f"load {os.getloadavg()[0]:.1f} at the start" + ("" if said.memory else f", {said.rounds} rounds"))
     with tempfile.TemporaryDirectory(dir=said.folder) as place, tempfile.TemporaryDirectory(dir=MEMORY) as memory:
         if said.memory:

@@ -11,7 +11,7 @@ Usage: lending_times.py [--program PROGRAM] [ROUNDS [QUESTION..]]      (3; all o
 A list is run with so many of the requests in question at its end, and without them: the difference of the times of the processor,
 divided by how many they are. Each is run ROUNDS times in turn; printed are the median, the least and the greatest of the differences
 within a round, in microseconds a request (a split with its merge counts as one). What is printed is held against the second machine
-once for each list of at most 20,000 requests. PROGRAM is the built sheetdesk where none is named; it may be bench/plain_rehearse.py.
+once for each list of at most 20,000 requests. PROGRAM is the proved one, or SHEETDESK, where none is named; it may be bench/plain_rehearse.py.
 """
 
 import argparse
@@ -27,9 +27,9 @@ sys.path.insert(0, os.path.join(HERE, "..", "samples"))
 sys.dont_write_bytecode = True
 
 import reference
+from program import program as named_or_proved
 from timed_lists import ARCHIVE, AT, FRAME, HEADER, List
 
-PROGRAM = os.path.join(HERE, "..", "crates", "sheetdesk", "out", "sheetdesk")
 WORDS = ["rehearse", "--archive", ARCHIVE, "--at", AT, "--frame", FRAME]
 WIDTH = 32
 ZOOM = 12
@@ -187,17 +187,15 @@ def tell(program, name, asked, case, rounds):
 
 def main():
     words = argparse.ArgumentParser(description=__doc__, formatter_class=argparse.RawDescriptionHelpFormatter)
-    words.add_argument("--program", default=PROGRAM)
+    words.add_argument("--program")
     words.add_argument("rounds", type=int, nargs="?", default=3)
     words.add_argument("questions", nargs="*")
     said = words.parse_args()
-    if said.program == PROGRAM:
-        # This builds the program where it is old.
-        subprocess.run([os.path.join(HERE, "..", "sheetdesk"), "--help"], stdout=subprocess.DEVNULL, check=True)
+    ours = said.program or named_or_proved()
     print(f"load {os.getloadavg()[0]:.1f} at the start, {said.rounds} rounds")
     for question in said.questions or CASES:
         for name, asked, case in CASES[question]:
-            tell(said.program, name, asked, case, said.rounds)
+            tell(ours, name, asked, case, said.rounds)
     print(f"load {os.getloadavg()[0]:.1f} at the end")
 
 

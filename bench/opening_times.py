@@ -28,7 +28,8 @@ import statistics
 import sys
 import tempfile
 
-from folder_times import MEMORY, PROGRAM, SIDES, made_of, run
+from folder_times import MEMORY, SIDES, made_of, run
+from program import program
 from timed_lists import List
 
 WIDTH = 400
@@ -132,7 +133,7 @@ def measure(count, rounds, place, before):
 def main():
     words = argparse.ArgumentParser(description=__doc__, formatter_class=argparse.RawDescriptionHelpFormatter)
     words.add_argument("--folder")
-    words.add_argument("--program", default=PROGRAM)
+    words.add_argument("--program")
     words.add_argument("--read", metavar="FOLDER")
     words.add_argument("numbers", type=int, nargs="*")
     said = words.parse_args()
@@ -140,7 +141,7 @@ def main():
         items, receipts, digest = read(said.read)
         print(f"{items} items, {receipts} receipts, {digest:064x}")
         return
-    SIDES["sheetdesk"] = [said.program]
+    SIDES["sheetdesk"] = [said.program or program()]
     SIDES["reading"] = [sys.executable, os.path.abspath(__file__)]
     rounds, counts = [*said.numbers, 5][0], said.numbers[1:] or [10000, 100000]
     print(f"load {os.getloadavg()[0]:.1f} at the start, {rounds} rounds")

@@ -19,12 +19,14 @@ import statistics
 import subprocess
 import sys
 
+from program import program
 from timed_lists import ARCHIVE, AT, FRAME, HEADER, LISTS
 
 HERE = os.path.dirname(os.path.abspath(__file__))
 WORDS = ["rehearse", "--archive", ARCHIVE, "--at", AT, "--frame", FRAME]
 SIDES = {
-    "sheetdesk": [os.path.join(HERE, "..", "crates", "sheetdesk", "out", "sheetdesk"), *WORDS],
+    # Filled in when words are read.
+    "sheetdesk": [],
     "Python": [sys.executable, os.path.join(HERE, "plain_rehearse.py"), *WORDS],
 }
 
@@ -92,8 +94,7 @@ def main():
     sides = said.sides or list(SIDES)
     lists = {(name, count): LISTS[name](count) for name in said.names or LISTS for count in said.counts or [100, 1000, 10000]}
     if "sheetdesk" in sides:
-        # This builds the program where it is old.
-        subprocess.run([os.path.join(HERE, "..", "sheetdesk"), "--help"], stdout=subprocess.DEVNULL, check=True)
+        SIDES["sheetdesk"] = [program(), *WORDS]
     print(f"load {os.getloadavg()[0]:.1f} at the start, {said.rounds} rounds")
     tell([one_round(sides, lists) for _ in range(said.rounds)], sides, lists)
     print(f"load {os.getloadavg()[0]:.1f} at the end")

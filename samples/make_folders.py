@@ -4,7 +4,7 @@
 Usage: make_folders.py           writes the files that are not as they would be made, and takes away any other
        make_folders.py --check   writes nothing; status 1 where a file is not what would be made, or plain Python has another fault
 
-An archive A takes in the first six requests of the worked example `loan that is opened again` (bench/worked_lists.txt), by which it lends
+An archive A takes in the first six requests of the worked example `loan that is opened again` (torture/worked_lists.txt), by which it lends
 B; bench/plain_folder.py carries them out over stock SQLite. A folder is a copy of the two files, of one, or of some under other names,
 and a file may be changed by SQL. Files stand below crates/sheetdesk/data/folders, small ones: pages of 512 bytes, and no log.
 Two files are the same where SQLite's dumps of them are, since its releases number themselves in a file. Of each folder whose files are
@@ -23,7 +23,7 @@ from collections import namedtuple
 HERE = os.path.dirname(os.path.abspath(__file__))
 FOLDERS = os.path.join(HERE, "..", "crates", "sheetdesk", "data", "folders")
 
-sys.path.insert(0, os.path.join(HERE, "..", "bench"))
+sys.path[:0] = [os.path.join(HERE, "..", name) for name in ("bench", "torture")]
 sys.dont_write_bytecode = True
 
 import plain_audit
@@ -41,6 +41,37 @@ BAD_CODE = "UPDATE sheet_rows SET code = -1"
 TORN = "DELETE FROM sheet_identity WHERE kind = 3"
 LOST = ["DELETE FROM sheet_rows", TORN]
 CHANGED = "UPDATE sheet_tiles SET tile_data = X'7a'"
+
+
+
+def in_other_words(table, columns):
+    """The table with its rows, whose columns and keys are written so."""
+    return [
+        f"ALTER TABLE {table} RENAME TO worn",
+        f"CREATE TABLE {table} ({columns}) STRICT",
+        f"INSERT INTO {table} SELECT * FROM worn",
+        "DROP TABLE worn",
+    ]
+
+
+# The same keys: a UNIQUE behind the primary key, a key from behind, references without a column and in another order.
+SAME_KEYS = [
+    *in_other_words(
+        "sheet_identity",
+        "kind INTEGER NOT NULL, local_id INTEGER NOT NULL, uuid TEXT NOT NULL, PRIMARY KEY (kind, local_id), UNIQUE (uuid)",
+    ),
+    *in_other_words(
+        "gpkg_tile_matrix_set",
+        "table_name TEXT NOT NULL, srs_id INTEGER NOT NULL REFERENCES gpkg_spatial_ref_sys, min_x INTEGER NOT NULL,"
+        " min_y INTEGER NOT NULL, max_x INTEGER NOT NULL, max_y INTEGER NOT NULL, PRIMARY KEY (table_name),"
+        " FOREIGN KEY (table_name) REFERENCES gpkg_contents",
+    ),
+    *in_other_words(
+        "sheet_items",
+        "seq INTEGER NOT NULL, position INTEGER NOT NULL, kind INTEGER NOT NULL, base TEXT NOT NULL, other TEXT NOT NULL,"
+        " size INTEGER NOT NULL, fingerprint TEXT NOT NULL, PRIMARY KEY (position DESC, seq)",
+    ),
+]
 
 # A file of a folder: the package that it is a copy of, and what is done to it.
 Copy = namedtuple("Copy", "package statements")
@@ -74,6 +105,7 @@ CASES = {
     "dangling": ("Dangling", {ARCHIVE: lent(TORN), LOAN: loan()}),
     "out_of_account": ("OutOfAccount", {ARCHIVE: lent(*LOST), LOAN: loan()}),
     "altered": ("Altered", {ARCHIVE: lent(CHANGED), LOAN: loan()}),
+    "same_keys": (None, {ARCHIVE: lent(*SAME_KEYS), LOAN: loan(*SAME_KEYS)}),
     "no_database": ("StoreFault", {ARCHIVE: lent(), LOAN: NO_DATABASE}),
     "first": (None, {ARCHIVE: lent(*FIRST_VERSION), LOAN: loan(*FIRST_VERSION), OTHER: NO_BYTES}),
     "mixed": (None, {ARCHIVE: lent(*FIRST_VERSION), LOAN: loan()}),

@@ -2,16 +2,16 @@
 """Writes the sessions that the gate carries out: their lines, the files that these name, and what each line prints.
 
 Usage: make_sessions.py           writes first.csv, first_session.txt, and the run that the gate makes of crates/sheetdesk
-       make_sessions.py --check   writes nothing; status 1 where a file is not what would be written, or the README does not show the first session
+       make_sessions.py --check   writes nothing; status 1 where a file is not what would be written, or the README shows it otherwise
 
 First the sample is rehearsed, from standard input (make_sample.py). Then comes the session of the README: an archive is made in a folder,
 takes in three sheets, a survey mark and a photograph, lends a sheet to a crew, which adds a mark of its own; then it is looked at, and
 exported. What its lines print is worked out by the second machine of reference.py.
 
-Then the worked examples of bench/worked_lists.txt, which has what they must print, written out by hand. Each list is rehearsed. An
+Then the worked examples of torture/worked_lists.txt, which has what they must print, written out by hand. Each list is rehearsed. An
 example that lends, and tells more than one reply whole or has manifests in between, is carried out in a folder too: requests of which more
 is told go in one by one, as JSON, and the others as lists. Such a reply's whole text, and the table of the packages, are the second
-machine's, once that agrees with all that the example tells (bench/worked_lists.py).
+machine's, once that agrees with all that the example tells (torture/worked_lists.py).
 
 Last the sessions of refusals.txt and folders.txt, written out by hand as they stand there. The folders of packages that the latter opens
 are make_folders.py's. Nothing here runs the program.
@@ -37,7 +37,7 @@ BY_HAND = [os.path.join(HERE, name) for name in ("refusals.txt", "folders.txt")]
 # The packages that make_folders.py makes.
 FOLDERS = os.path.join(DATA, "folders")
 
-sys.path.insert(0, os.path.join(HERE, "..", "bench"))
+sys.path[:0] = [os.path.join(HERE, "..", name) for name in ("bench", "torture")]
 sys.dont_write_bytecode = True
 
 import worked_lists
@@ -341,18 +341,44 @@ def is_as_wanted(path, wanted):
         return found.read() == wanted
 
 
-def missing_lines():
-    """The lines of the first session that the README does not show."""
+def by_command(lines):
+    """What each command of some lines prints, by the command. A command stands behind `$ `."""
+    found, printed = {}, None
+    for line in lines:
+        if line.startswith("$ "):
+            printed = found.setdefault(line, [])
+        elif printed is not None:
+            printed.append(line)
+    return found
+
+
+def shown():
+    """The commands of the first session that the README shows, with what it says that they print."""
     with open(README, encoding="utf-8") as found:
-        lines = {line.strip() for line in found}
-    return [line.strip() for line in first_session().typed if line.strip() not in lines]
+        lines = [line.removeprefix("    ").rstrip() for line in found if line.startswith("    ")]
+    return by_command(lines)
+
+
+def is_shown_right(said, printed):
+    """Whether these are the lines that are printed, where `..` stands for any of them."""
+    wanted = "".join(r"(?:.*\n)*" if line == ".." else re.escape(f"{line}\n") for line in said)
+    return re.fullmatch(wanted, "".join(f"{line}\n" for line in printed)) is not None
+
+
+def shown_otherwise():
+    """What the README shows of the first session, and is not so."""
+    printed = by_command([line.rstrip("\n") for line in "".join(first_session().printed).splitlines()])
+    said = shown()
+    if not said:
+        return ["nothing of the first session"]
+    return [command for command, lines in said.items() if command not in printed or not is_shown_right(lines, printed[command])]
 
 
 def check():
     """What is not as it should be, a line each."""
     other = [f"not as made: {os.path.relpath(path)}" for path, wanted in files().items() if not is_as_wanted(path, wanted)]
     other += [f"named by no session: {os.path.relpath(path)}" for path in strays()]
-    return other + [f"not in the README: {line}" for line in missing_lines()]
+    return other + [f"the README shows otherwise: {line}" for line in shown_otherwise()]
 
 
 def write():

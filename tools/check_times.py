@@ -1,7 +1,7 @@
 #!/usr/bin/env python3
 """Runs a command, as a check or the gate, and tells which functions its checks spent their time on.
 
-Usage: tools/check_times.py [--rows N] COMMAND..        e.g. tools/check_times.py rt ci value_tests
+Usage: tools/check_times.py [--rows N] COMMAND..        e.g. tools/check_times.py rt ci test_pure
 
 It needs strace, and leave to trace what else the user runs. A check writes down each module as soon as it is checked, with its name: the
 time from one to the next is taken as what the second cost. So the first module of a crate has the loading of the libraries below it, and a

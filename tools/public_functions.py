@@ -18,8 +18,8 @@ ROOT = os.path.dirname(os.path.dirname(os.path.abspath(__file__)))
 TEST_VALUES = ["test_values", "test_worlds"]
 # The crates that a line of a session goes through (crates/sheetdesk), from the words of the program on.
 OF_SESSIONS = [
-    "sheetdesk", "command_words", "commands", "folder_worlds", "manifest_csv", "views", "world_views", "view_lines", "sheet_maps", "cli",
-    "world", "deciding", "due_loans", "carrying", "asking", "lending",
+    "sheetdesk", "command_words", "commands", "command_folder", "manifest_csv", "views", "view_world", "view_text", "view_map", "cli",
+    "world", "world_decisions", "world_loans", "world_changes", "world_queries", "register_lending",
 ]
 CONST = re.compile(r"^(?:pub(?:\(crate\))? )?const (?P<name>\w+): .*?;$", re.M | re.S)
 HEAD = re.compile(r"^(?P<indent>\s*)(?P<pub>pub(?:\((?:crate|super)\))? )?fn (?P<name>\w+)", re.M)

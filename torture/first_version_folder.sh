@@ -4,10 +4,11 @@
 # manifest is byte for byte what it was. Where a package taken back has lost a link that a receipt names, the fault is
 # told and no package is changed.
 #
-#     bench/first_version_folder.sh PROGRAM
+#     torture/first_version_folder.sh [PROGRAM]     the proved one, or SHEETDESK, where none is named
 set -euo pipefail
 cd "$(dirname "$0")/.."
-program=$(realpath "${1:?the program}")
+program=${1:-${SHEETDESK:-$(./sheetdesk --built)}}
+program=$(realpath "$program")
 room=$(mktemp -d)
 trap 'rm -rf "$room"' EXIT
 

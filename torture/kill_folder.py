@@ -3,7 +3,7 @@
 
 Usage: kill_folder.py [--program PROGRAM] [--step N] [--flips N] [PART..]      (1; 400; all of import init first disk space readonly damage flips)
 
-PROGRAM is the built sheetdesk, or a Python file as bench/plain_folder.py. The list is that of samples/archive.csv: a hundred requests
+PROGRAM is the proved one, or SHEETDESK, where none is named; it may be a Python file as bench/plain_folder.py. The list is that of samples/archive.csv: a hundred requests
 with loans of loans and merges. All that must come is worked out by the second machine (samples/reference.py) or by hand.
 
 - import: `strace` kills the program right before the Nth of all calls that write, sync, cut, make or remove a file, for each N (each
@@ -19,7 +19,7 @@ with loans of loans and merges. All that must come is worked out by the second m
 - space: the same in a file system in memory that is too small, for several sizes (where it may be mounted).
 - readonly: a folder that cannot be written: StoreFault, and no file is changed.
 - damage: files replaced by rubbish, cut, renamed, exchanged, old, or other than files: the fault by its name, or the world as before.
-  (bench/folder_session.sh makes each of the nine faults by SQL.)
+  (torture/folder_session.sh makes each of the nine faults by SQL.)
 - flips: one bit of a file is turned, at random places: a fault by its name, or a world whose packages are as before. Told are which.
 
 No file of a package is changed by an opening that finds a fault. Status 0 where all is as it must be; else 1, with the first that is not.
@@ -42,10 +42,11 @@ from functools import lru_cache
 
 HERE = os.path.dirname(os.path.abspath(__file__))
 TOP = os.path.dirname(HERE)
-sys.path.insert(0, os.path.join(TOP, "samples"))
+sys.path[:0] = [os.path.join(TOP, "samples"), os.path.join(TOP, "bench")]
 sys.dont_write_bytecode = True
 
 import reference
+from program import program as named_or_proved
 
 ARCHIVE = "6f0d3a52-9c1e-4b7a-8f24-1d5be07c9a10"
 SURVEY = "9e87f694-2da1-502c-b23b-ebc6916abeb6"
@@ -56,7 +57,6 @@ FAULTS = "NoArchive TwoArchives NotAPackage TwoCopies MissingPackage ForeignFram
 WRITES = "write pwrite64 writev pwritev pwritev2 fsync fdatasync sync_file_range ftruncate fallocate unlink unlinkat rename renameat renameat2".split()
 MAKES = ["openat", "open", "creat"]
 LIST = os.path.join(TOP, "samples", "archive.csv")
-PROGRAM = os.environ.get("SHEETDESK", os.path.join(TOP, "crates", "sheetdesk", "out", "sheetdesk"))
 LIMIT = 120
 work = None
 program = []
@@ -290,7 +290,7 @@ def part_init(said):
             expect(["import", path, LIST], 0, REPORT)
         else:
             expect(words(path), 0, f"archive {ARCHIVE}\n")
-            left = [name for name in os.listdir(path) if not name.startswith(f"{ARCHIVE}.gpkg") or "-new" in name]
+            left = [name for name in os.listdir(path) if name != "sheetdesk.lock" and (not name.startswith(f"{ARCHIVE}.gpkg") or "-new" in name)]
             right(not left, f"init, killed at {call}, then whole: {left}")
             expect(["audit", path], 0, "good 0\n")
     print(f"init: {len(calls)} calls, killed at each: {dict(said_of)}", flush=True)
@@ -619,12 +619,12 @@ PARTS = {name[5:]: part for name, part in list(globals().items()) if name.starts
 def main():
     global work
     words = argparse.ArgumentParser(description=__doc__, formatter_class=argparse.RawDescriptionHelpFormatter)
-    words.add_argument("--program", default=PROGRAM)
+    words.add_argument("--program")
     words.add_argument("--step", type=int, default=1)
     words.add_argument("--flips", type=int, default=400)
     words.add_argument("parts", nargs="*", choices=[[], *PARTS])
     said = words.parse_args()
-    use(said.program)
+    use(said.program or named_or_proved())
     status = 0
     with room() as work:
         os.mkdir(os.path.join(work, "empty"))

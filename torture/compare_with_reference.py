@@ -8,8 +8,8 @@ modes, merges with right and wrong tickets, clashes of places, torn links, few i
 values at and past each limit. Then BROKEN short lists, most of them no request list at all, and as many command lines, for what the
 program refuses to read. Standard output and the exit status must agree byte for byte; at the first difference the list and both
 outputs are kept in /tmp/sheetdesk-difference-SEED, and the status is 1. The second machine's world is held against its receipts after
-each list. At the end it says how many requests were compared, by command and by reply. PROGRAM is ./sheetdesk where none is named; it
-may be bench/plain_rehearse.py.
+each list. At the end it says how many requests were compared, by command and by reply. PROGRAM is the proved one, or
+SHEETDESK, where none is named; it may be bench/plain_rehearse.py.
 """
 
 import argparse
@@ -19,13 +19,14 @@ import subprocess
 import sys
 
 TOP = os.path.join(os.path.dirname(os.path.abspath(__file__)), "..")
-sys.path.insert(0, os.path.join(TOP, "samples"))
+sys.path[:0] = [os.path.join(TOP, "samples"), os.path.join(TOP, "bench")]
 sys.dont_write_bytecode = True
 
 import reference
 from broken_lists import BrokenLists
 from machine.lists import HEADER
 from machine.world import audit
+from program import program
 from random_lists import ARCHIVE
 from random_values import FRAMES
 
@@ -85,11 +86,11 @@ def told(counter):
 
 def main():
     words = argparse.ArgumentParser(description=__doc__, formatter_class=argparse.RawDescriptionHelpFormatter)
-    words.add_argument("--program", default=os.path.join(TOP, "sheetdesk"))
+    words.add_argument("--program")
     for name, number in [("seed", 1), ("lists", 12), ("requests", 3000), ("broken", 300)]:
         words.add_argument(name, type=int, nargs="?", default=number)
     said = words.parse_args()
-    made, comparison = BrokenLists(said.seed), Comparison(said.program, said.seed)
+    made, comparison = BrokenLists(said.seed), Comparison(said.program or program(), said.seed)
     for number in range(said.lists):
         frame = FRAMES[number % len(FRAMES)]
         if len(comparison.compare(frame, made.long_list(frame, said.requests))) != said.requests:

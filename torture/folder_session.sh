@@ -1,17 +1,16 @@
 #!/usr/bin/env bash
 # A first session over a folder of packages: an archive is made, lends and gets back, is read, audited and served; then it is damaged.
 #
-#     bench/folder_session.sh               over the proved program
-#     bench/folder_session.sh --unproved    over the same code, interpreted: minutes for each of some sixty calls
-#     SHEETDESK=PROGRAM bench/folder_session.sh    over another program
+#     torture/folder_session.sh               over the proved program
+#     torture/folder_session.sh --unproved    over the same code, before any proof
+#     SHEETDESK=PROGRAM torture/folder_session.sh    over another program
 #
 # What must come was made without the program: reports and manifests by samples/archive.expected.txt, replies and the list of packages
 # by the second machine of samples/reference.py, refusals, faults and their statuses by hand. Status 0 where everything came to the byte,
 # with its status; else 1, with what was wanted and what came, at the first difference. It needs curl, Python and sqlite3 from 3.37 on,
 # which finds each file whole, and does the damage.
 set -euo pipefail
-bench=$(cd "$(dirname "$(readlink -f "${BASH_SOURCE[0]}")")" && pwd)
-top=$(dirname "$bench")
+top=$(cd "$(dirname "$(readlink -f "${BASH_SOURCE[0]}")")/.." && pwd)
 archive=6f0d3a52-9c1e-4b7a-8f24-1d5be07c9a10
 at=2026-03-02T07:30:00.000Z
 frame=25832,500000000,5900000000,540960000,5961440000,256,256,4,3,2,3
@@ -124,7 +123,7 @@ a0000000-0000-4000-8000-000000000004,2026-03-03T08:01:30.000Z,add,$survey,a00000
 END
 { cat "$work/twice.csv" "$work/more"; } >"$work/long.csv"
 second --replies "$work/long.csv" | tail -n 4 >"$work/replies"
-{ echo "$header"; cat "$work/more"; } | python3 "$bench/desk_requests.py" >"$work/requests"
+{ echo "$header"; cat "$work/more"; } | python3 "$top/bench/desk_requests.py" >"$work/requests"
 number=0
 while IFS= read -r request <&3 && IFS= read -r reply <&4; do
   number=$((number + 1))
@@ -173,10 +172,9 @@ printf '%s' "$(cat "$work/reply.3")" >"$work/reply.3.body"
 second --packages "$work/long.csv" | tr -d '\n' >"$work/packages"
 open_desk 3
 came "$work/packages" "http://127.0.0.1:$port/packages"
-# While the desk has the folder, no other process gets it: of the live packages the archive is the first that another one meets.
-busy=$archive
-expect 3 "StoreFault$nl" "another process may hold the package $busy$nl" audit "$maps" </dev/null
-expect 3 '' "store: StoreFault${nl}another process may hold the package $busy$nl" apply "$maps" <"$work/request.3"
+# While the desk has the folder, no other process gets it.
+expect 3 "StoreFault$nl" "another process may hold the folder$nl" audit "$maps" </dev/null
+expect 3 '' "store: StoreFault${nl}another process may hold the folder$nl" apply "$maps" <"$work/request.3"
 came "$work/reply.3.body" --data-binary "@$work/request.3" "http://127.0.0.1:$port/requests"
 { cat "$work/twice.csv"; head -n 3 "$work/more"; } >"$work/long.csv"
 python3 "$top/samples/reference.py" "$archive" "$frame" <"$work/long.csv" >"$work/printed"
@@ -195,7 +193,7 @@ a0000000-0000-4000-8000-000000000005,2026-03-03T08:02:00.000Z,merge,$other,,$arc
 END
 cat "$work/last" >>"$work/long.csv"
 second --replies "$work/long.csv" | tail -n 1 | tr -d '\n' >"$work/reply"
-{ echo "$header"; cat "$work/last"; } | python3 "$bench/desk_requests.py" | tr -d '\n' >"$work/request"
+{ echo "$header"; cat "$work/last"; } | python3 "$top/bench/desk_requests.py" | tr -d '\n' >"$work/request"
 open_desk 100
 came "$work/reply" --data-binary "@$work/request" "http://127.0.0.1:$port/requests"
 kill -KILL -- "-$desk"

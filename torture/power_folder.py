@@ -3,7 +3,7 @@
 
 Usage: power_folder.py [--program PROGRAM] [--opener PROGRAM] [--keep FOLDER] [--seed N] [STATES]      (1; 400)
 
-PROGRAM is the built sheetdesk, or a Python file as bench/plain_folder.py, or "./sheetdesk --unproved" with an opener. One import of
+PROGRAM is the proved one, or SHEETDESK, where none is named; it may be a Python file as bench/plain_folder.py, or "./sheetdesk --unproved" with an opener. One import of
 samples/archive.csv is run under `strace`, which writes down each call that makes, writes, cuts, syncs or removes a file, with all its
 bytes. Each state is one that a disk may be left in after the first so many of these calls:
 
@@ -13,7 +13,7 @@ bytes. Each state is one that a disk may be left in after the first so many of t
 Where all later changes are kept, that is what a killed program leaves. Then the program opens what is left, or the opener where one is
 named: with bench/plain_folder.py stock SQLite reads what the program wrote. Every request whose line was reported must stand, and at
 most one more; each live package is to the byte as it was then; a second import of the list goes on from there (as in kill_folder.py).
---keep copies the folder that the import itself made, for bench/stock_folder.sh. What must come is worked out by the second
+--keep copies the folder that the import itself made, for torture/stock_folder.sh. What must come is worked out by the second
 machine. Status 0 where all is as it must be; else 1, with the first state that is not.
 """
 
@@ -27,7 +27,7 @@ import sys
 from collections import Counter
 
 import kill_folder
-from kill_folder import ARCHIVE, AT, FRAME, LIST, PROGRAM, REPORT, Wrong, begun, expect, folder_of, program, right, stands
+from kill_folder import ARCHIVE, AT, FRAME, LIST, REPORT, Wrong, begun, expect, folder_of, named_or_proved, program, right, stands
 
 CALLS = "openat,open,creat,pwrite64,write,fsync,fdatasync,ftruncate,unlink,unlinkat,rename,renameat,renameat2,pwritev,writev,fallocate"
 CALL = re.compile(r"(\d+) +(\w+)\((.*)\) += (-?\d+)(?:<.*?>(?:\(deleted\))?)?[^>]*$")
@@ -193,12 +193,13 @@ FOLDER = ""
 def main():
     global FOLDER
     words = argparse.ArgumentParser(description=__doc__, formatter_class=argparse.RawDescriptionHelpFormatter)
-    words.add_argument("--program", default=PROGRAM)
+    words.add_argument("--program")
     words.add_argument("--opener")
     words.add_argument("--keep", metavar="FOLDER")
     words.add_argument("--seed", type=int, default=1)
     words.add_argument("states", type=int, nargs="?", default=400)
     said = words.parse_args()
+    said.program = said.program or named_or_proved()
     draw, told, status = random.Random(said.seed), Counter(), 0
     with kill_folder.room() as kill_folder.work:
         try:

@@ -1,15 +1,15 @@
 #!/usr/bin/env bash
 # A desk and its clients: curl posts each request of the sample, gets each route and asks for each fault; jq reads each body that is JSON.
 #
-#     bench/desk_curl.sh               over the proved program
-#     bench/desk_curl.sh --unproved    over the same code, interpreted
+#     torture/desk_curl.sh               over the proved program
+#     torture/desk_curl.sh --unproved    over the same code, before any proof
+#     SHEETDESK=PROGRAM torture/desk_curl.sh    over another program
 #
 # What must come was made without the program: replies, receipts and packages by the second machine of samples/reference.py, manifests
 # by samples/archive.expected.txt, faults by hand. Status 0 where everything came to the byte, with its status and its content type, and
 # the program ended with 0; else 1, with what was wanted and what came, at the first difference. It needs curl, jq and Python.
 set -euo pipefail
-bench=$(cd "$(dirname "$(readlink -f "${BASH_SOURCE[0]}")")" && pwd)
-top=$(dirname "$bench")
+top=$(cd "$(dirname "$(readlink -f "${BASH_SOURCE[0]}")")/.." && pwd)
 archive=6f0d3a52-9c1e-4b7a-8f24-1d5be07c9a10
 at=2026-03-02T07:30:00.000Z
 frame=25832,500000000,5900000000,540960000,5961440000,256,256,4,3,2,3
@@ -38,7 +38,7 @@ port=$(python3 -c 'import socket; s = socket.socket(); s.bind(("127.0.0.1", 0));
 desk=http://127.0.0.1:$port
 
 # Each request of the sample, and its reply: a receipt, or a refusal.
-python3 "$bench/desk_requests.py" <"$top/samples/archive.csv" >"$work/requests"
+python3 "$top/bench/desk_requests.py" <"$top/samples/archive.csv" >"$work/requests"
 python3 "$top/samples/reference.py" --replies "$archive" "$frame" <"$top/samples/archive.csv" >"$work/replies"
 number=0
 while IFS= read -r request <&3 && IFS= read -r reply <&4; do
@@ -87,7 +87,7 @@ fault 413 'too large' -H 'Expect:' --data-binary "@$work/large" "$desk/requests"
 # The desk, over an archive with nothing in it.
 head -n 1 "$top/samples/archive.csv" >"$work/list"
 printf 'line,request,seq,refusal\npackage %s\nkind,identity,other,zoom,column,row,x,y,code,size,fingerprint,text\n' "$archive" >"$work/printed.wanted"
-setsid "$top/sheetdesk" "$@" rehearse --archive "$archive" --at "$at" --frame "$frame" --serve "$port" --count "$count" <"$work/list" >"$work/printed" &
+setsid "${SHEETDESK:-$top/sheetdesk}" "$@" rehearse --archive "$archive" --at "$at" --frame "$frame" --serve "$port" --count "$count" <"$work/list" >"$work/printed" &
 program=$!
 
 differs() {

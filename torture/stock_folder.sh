@@ -1,10 +1,10 @@
 #!/usr/bin/env bash
 # Whether stock SQLite takes each file of a folder of packages, and finds in it what the requests must have left there.
 #
-#     bench/stock_folder.sh               of a folder that the proved program makes of samples/archive.csv
-#     bench/stock_folder.sh --unproved    the same by the same code, interpreted: minutes for each of two calls
-#     SHEETDESK=PROGRAM bench/stock_folder.sh    by another program
-#     bench/stock_folder.sh FOLDER LIST ARCHIVE FRAME    of a folder that is there, in which LIST was carried out
+#     torture/stock_folder.sh               of a folder that the proved program makes of samples/archive.csv
+#     torture/stock_folder.sh --unproved    the same by the same code, before any proof
+#     SHEETDESK=PROGRAM torture/stock_folder.sh    by another program
+#     torture/stock_folder.sh FOLDER LIST ARCHIVE FRAME    of a folder that is there, in which LIST was carried out
 #
 # Of each live package: PRAGMA integrity_check and foreign_key_check of `sqlite3`; the rows of every table, counted; its head; the sums of
 # its items and links; and all items, links and receipts, contents too, as bench/plain_audit.py and plain_folder.py read them by Python's
@@ -12,8 +12,7 @@
 # machine (samples/reference.py) from the list alone. Works on a copy. It needs sqlite3 from 3.37 on, and Python. Status 0 where all is
 # as it must be, 1 where not.
 set -euo pipefail
-bench=$(cd "$(dirname "$(readlink -f "${BASH_SOURCE[0]}")")" && pwd)
-top=$(dirname "$bench")
+top=$(cd "$(dirname "$(readlink -f "${BASH_SOURCE[0]}")")/.." && pwd)
 work=$(mktemp -d)
 trap 'rm -rf "$work"' EXIT
 if [ $# = 4 ]; then
@@ -98,11 +97,11 @@ done <"$work/due"
 echo "$files files, integrity_check and foreign_key_check of each; $values counts, heads and sums of live packages"
 
 # All items, links and receipts, read by Python over stock SQLite.
-found "good $(sed -n 's/^- receipts //p' "$work/due")" "$(python3 "$bench/plain_folder.py" audit "$work/copy" || true)" 'audit by plain Python'
+found "good $(sed -n 's/^- receipts //p' "$work/due")" "$(python3 "$top/bench/plain_folder.py" audit "$work/copy" || true)" 'audit by plain Python'
 python3 "$top/samples/reference.py" "$archive" "$frame" <"$list" >"$work/printed"
 for package in $(sed -n 's/^package //p' "$work/printed"); do
   sed -n "/^package $package\$/,/^package /{/^package /d;p}" "$work/printed" >"$work/manifest.due"
-  python3 "$bench/plain_folder.py" manifest "$work/copy" "$package" >"$work/manifest" || true
+  python3 "$top/bench/plain_folder.py" manifest "$work/copy" "$package" >"$work/manifest" || true
   cmp "$work/manifest.due" "$work/manifest" || failed=1
 done
 echo "audit and manifests by plain Python: $(grep -c '^package ' "$work/printed") packages"

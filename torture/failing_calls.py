@@ -1,9 +1,9 @@
 #!/usr/bin/env python3
 """Lets each allocation, each read of standard input and each write to standard output of a whole rehearsal of the sample fail in turn, alone and with all after it, and looks at what comes out.
 
-    bench/failing_calls.py [--step N] [--first N] [--last N] [--jobs N] [PROGRAM]
+    torture/failing_calls.py [--step N] [--first N] [--last N] [--jobs N] [PROGRAM]
 
-The program is crates/sheetdesk/out/sheetdesk where none is named; status 0 where all is as it must be. With a step each Nth allocation alone is
+The program is the proved one, or SHEETDESK, where none is named; status 0 where all is as it must be. With a step each Nth allocation alone is
 refused (each read and each write still is): all of them are 140,000 runs. --first and --last part them: those allocations alone are refused, from the
 one to the other. So many runs at once as --jobs says (1).
 
@@ -23,6 +23,11 @@ from collections import Counter
 from concurrent.futures import ThreadPoolExecutor
 
 ROOT = os.path.dirname(os.path.dirname(os.path.abspath(__file__)))
+sys.path.insert(0, os.path.join(ROOT, "bench"))
+sys.dont_write_bytecode = True
+
+from program import program as named_or_proved
+
 WORDS = "rehearse --archive 6f0d3a52-9c1e-4b7a-8f24-1d5be07c9a10 --at 2026-03-02T07:30:00.000Z --frame 25832,500000000,5900000000,540960000,5961440000,256,256,4,3,2,3".split()
 LIBRARY = r"""
 #define _GNU_SOURCE
@@ -127,9 +132,9 @@ def main():
     words.add_argument("--first", type=int, default=1)
     words.add_argument("--last", type=int)
     words.add_argument("--jobs", type=int, default=1)
-    words.add_argument("program", nargs="?", default=os.path.join(ROOT, "crates/sheetdesk/out/sheetdesk"))
+    words.add_argument("program", nargs="?", )
     said = words.parse_args()
-    program = said.program
+    program = said.program or named_or_proved()
     with open(os.path.join(ROOT, "samples/archive.csv"), "rb") as it:
         listed = it.read()
     with open(os.path.join(ROOT, "samples/archive.expected.txt"), "rb") as it:

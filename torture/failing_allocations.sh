@@ -4,10 +4,10 @@
 # Usage: failing_allocations.sh [TEST [CRATE [FIRST [LAST]]]]
 #
 # TEST is the full name of a test, receipt_tests::a_receipt_comes_whole_or_not_at_all of package_tables if left out. That one
-# enters a receipt; where memory is refused, it sees that the table is as it was, and enters it again. Those of world_tests,
+# enters a receipt; where memory is refused, it sees that the table is as it was, and enters it again. Those of test_worlds,
 # as allocation_tests::a_tile_is_added_or_not, send a request to a world in memory. Needs the program that `rt test` leaves in
 # crates/CRATE/out, and a C compiler, for a library that stands before malloc and realloc and refuses one call. FIRST is the
-# first allocation that is refused, 1 if left out: a test of world_tests makes two worlds before the one that counts. LAST is
+# first allocation that is refused, 1 if left out: a test of test_worlds makes two worlds before the one that counts. LAST is
 # the last one; all that follow, if left out.
 # A run ends well where the test passes, or where it ends with the error OutOfMemory. The last line counts:
 #   passed   the refusal was met inside the test, which found every answer as it is without it
@@ -17,7 +17,7 @@
 set -euo pipefail
 
 test=${1:-receipt_tests::a_receipt_comes_whole_or_not_at_all}
-crate=${2:-package_tests}
+crate=${2:-test_packages}
 program=$(cd "$(dirname "$0")/.." && pwd)/crates/$crate/out/${crate}_tests
 if [ ! -x "$program" ]; then
   echo "no $program: run rt test in crates/$crate" >&2

@@ -1,18 +1,17 @@
 #!/usr/bin/env bash
 # A package of a folder as a GeoPackage for other programs: exported, made by stock sqlite3, opened by GDAL.
 #
-#     bench/export_files.sh                    a folder made of the sample, by the proved program
-#     bench/export_files.sh --unproved         the same by the code, interpreted
-#     SHEETDESK=PROGRAM bench/export_files.sh  the same by another program
-#     SQL=FILE bench/export_files.sh           a text of SQL that was printed before
+#     torture/export_files.sh                    a folder made of the sample, by the proved program
+#     torture/export_files.sh --unproved         the same by the code before any proof
+#     SHEETDESK=PROGRAM torture/export_files.sh  the same by another program
+#     SQL=FILE torture/export_files.sh           a text of SQL that was printed before
 #
 # It compares the rows of each table with the statements of the text, asks GDAL for features, a coordinate, corners and pixel sizes, and
 # that a text without its end makes nothing. Tiles of the sample are no images; where the first tile is a PNG, a picture is made of the
 # pyramid too. Status 0 where everything holds. It needs sqlite3, and of GDAL ogrinfo, gdalinfo and gdal_translate
 # (apt-get install gdal-bin).
 set -euo pipefail
-bench=$(cd "$(dirname "$(readlink -f "${BASH_SOURCE[0]}")")" && pwd)
-top=$(dirname "$bench")
+top=$(cd "$(dirname "$(readlink -f "${BASH_SOURCE[0]}")")/.." && pwd)
 archive=6f0d3a52-9c1e-4b7a-8f24-1d5be07c9a10
 work=$(mktemp -d)
 trap 'rm -rf "$work"' EXIT
