@@ -15,7 +15,8 @@ import sys
 from importlib.machinery import SourceFileLoader
 from importlib.util import module_from_spec, spec_from_loader
 
-# The part of the memory that `rt ci` plans for a check which one takes at most, as measured over all crates.
+# The part of its plan that is reckoned with. Most checks that were measured took under two thirds; `store_folder` took 95 hundredths of
+# its plan and `store_shelf` 80. So this holds for several checks together, and not for each.
 PART = 0.7
 
 

@@ -9,7 +9,8 @@ each result by the checksums of all that it read: a later run tries only what ch
 
 The outcomes:
 
-    refused        a clause does not hold of the edited body
+    refused        the prover refuses: at a clause, or at an answer that was written for the right body. Which one, its line tells; only the
+                   first says that a clause is false
     by a name      a proof file names what the edit took away: this says little of the clauses
     at a limit     the prover gave no verdict in its limits
     let through    the crate is still proved: a clause is missing
@@ -103,7 +104,7 @@ def show_open(rows, there):
             if outcome not in ("refused", "at a limit"):
                 print(f"{crate} {name}: {outcome}")
                 count += 1
-    print(f"{sum(map(len, there.values()))} edits, {count} not seen refused by a clause")
+    print(f"{sum(map(len, there.values()))} edits, {count} not seen refused")
     return count
 
 
