@@ -89,6 +89,16 @@ def right(width, text):
     return str(text).rjust(width) + "  "
 
 
+# Whether the file of a loan stays in the folder after its merge.
+FILES_STAY = True
+
+
+def strays_of(world):
+    """The last line of a status, where files are of no live package: those of loans that came home."""
+    count = sum(receipt.line.startswith("merge ") for receipt in world.receipts) if FILES_STAY else 0
+    return f"strays {count}\n" if count else ""
+
+
 def status_of(world):
     """A line of headings, and a line for each package, in columns of fixed widths."""
     counted = [("tiles", 7), ("media", 7), ("rows", 7), ("links", 7), ("bytes", 13)]
@@ -228,7 +238,7 @@ class InFolder:
             else:
                 told = (at for at in range(self.at, len(check.records)) if tells_more(check, at))
                 self.import_to(check, next(told, len(check.records)))
-        self.session.run(f"status {self.folder}", status_of(done.world))
+        self.session.run(f"status {self.folder}", status_of(done.world) + strays_of(done.world))
         for part in check.manifests.split("package ")[1:]:
             uuid, manifest = part.split("\n", 1)
             self.session.run(f"manifest {self.folder} {uuid}", manifest)

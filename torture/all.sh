@@ -21,6 +21,7 @@ each random_lists - "$torture/compare_with_reference.py" "${lists[@]}"
 each session 'curl sqlite3' "$torture/folder_session.sh"
 each desk 'curl jq' "$torture/desk_curl.sh"
 each stock_package - "$torture/stock_sqlite3.sh" --init "$program"
+each many_loans - "$torture/many_loans.py" $((quick ? 30 : 400))
 each stock_folder sqlite3 "$torture/stock_folder.sh"
 each first_version - "$torture/first_version_folder.sh" "$program"
 each export 'sqlite3 ogrinfo gdalinfo gdal_translate' "$torture/export_files.sh"

@@ -1,6 +1,6 @@
 //! A folder of packages, opened as the world that its stores stand for.
-ghost use Rattle.std.specs.Prelude.{IfOk, IfErr};
-ghost use Rattle.command_folder.specs.Folders.{AreJustOpened, IsFolderWorld};
+ghost use Rattle.std.specs.Prelude.{IfOk, length};
+ghost use Rattle.command_folder.specs.Folders.{AreJustOpened, IsFolderBeside};
 
 use crate::endings::OpenFault;
 use crate::watching::opening_line;
@@ -24,7 +24,7 @@ fn world_of<S: Alter + Drop, W: Watcher>(
     watcher: &mut W,
 ) -> (Result<World<S>, OpenFault>, Vec<Connection<S>>)
     requires { AreJustOpened S.Store stores.items }
-    ensures { IfOk result.0 (IsFolderWorld S.Store) }
+    ensures { IfOk result.0 (IsFolderBeside S.Store (length result.1.items)) }
 {
     match recover(alloc, stores, watcher) {
         Ok(Recovered { world, strays }) => (Ok(world), strays),
@@ -50,7 +50,7 @@ fn world_at(
     folder: &str,
     packages: &[Uuid],
 ) -> Result<(World<FolderStore>, usize), OpenFault>
-    ensures { IfOk result (λ found. IsFolderWorld ⟦<FolderStore as Store>⟧ found.0) }
+    ensures { IfOk result (λ found. IsFolderBeside ⟦<FolderStore as Store>⟧ found.1 found.0) }
 {
     let stores = open_stores(rt, folder, packages)?;
     let mut line = opening_line(rt);
@@ -70,7 +70,7 @@ fn world_at(
 /// A folder or a file that cannot be had, also since another process has it; want of memory; or the
 /// first fault whose condition holds of the stores.
 pub fn open_folder(rt: &HostRuntime, folder: &str) -> Result<OpenFolder, OpenFault>
-    ensures { IfOk result (λ opened. IsFolderWorld ⟦<FolderStore as Store>⟧ opened.world) }
+    ensures { IfOk result (λ opened. IsFolderBeside ⟦<FolderStore as Store>⟧ opened.strays opened.world) }
 {
     let lock = lock_folder(rt, folder)?;
     let listing = list(rt, folder)?;

@@ -122,6 +122,9 @@ pub const EXPORT_ABOUT: &str = "Prints a package as SQL that makes a GeoPackage 
 /// What `map` is for.
 pub const MAP_ABOUT: &str = "Prints a drawing of who holds which sheets, as SVG";
 
+/// What `tidy` is for.
+pub const TIDY_ABOUT: &str = "Removes files that the register can do without";
+
 /// What `session` is for.
 pub const SESSION_ABOUT: &str =
     "Carries out the commands of a file, and prints each with its answer";
@@ -170,6 +173,7 @@ A first session, from the archive on:
   sheetdesk map maps > maps.svg
   sheetdesk audit maps
   sheetdesk serve maps 8080 100
+  sheetdesk tidy maps
 The form of list.csv is told by `sheetdesk rehearse --help`; request.json is an object with the same
 fields, of which its command uses.
 
@@ -177,7 +181,7 @@ Standard output:
   init      archive UUID
   apply     the receipt of the request, or its refusal, as JSON on a line
   import    the report, a line for each request
-  status    a line of headings, and a line for each package
+  status    a line of headings, a line for each package, and how many files are of none, if any
   explain   a line for each receipt that names the item, as an item or as an end of a link; and where it is
   receipt   the receipt, as JSON on a line
   manifest  the records of the package
@@ -185,6 +189,8 @@ Standard output:
   map       SVG; who holds which sheets of one zoom, each package in its colour
   audit     good and the number of receipts; or the name of what is wrong, as OutOfAccount
   serve     nothing
+  tidy      removed and the name, a line for each file: of loans that came home, of splits that were
+            stopped, and what stands beside no package
 
 Exit status:
   0  done; of a list whatever its report says

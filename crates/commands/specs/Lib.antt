@@ -1,3 +1,4 @@
 pub mod Printing
 pub mod Subcommands
+pub mod Tidies
 pub mod Works

@@ -142,7 +142,7 @@ fn refusal_ending(why: &Refusal) -> Ending
     match why {
         Refusal::OutOfMemory => NO_MEMORY,
         Refusal::StoreFault => FAILED,
-        _ => Ending::Declined,
+        _ => Ending::Declined(*why),
     }
 }
 

@@ -5,4 +5,5 @@ pub mod applying;
 pub mod importing;
 pub mod init;
 mod serving;
+pub mod tidying;
 pub mod working;

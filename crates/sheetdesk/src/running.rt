@@ -5,16 +5,17 @@ use clap::{ArgMatches, Error};
 use cli::rehearse::rehearse;
 use cli::serving::rehearse_and_serve;
 use command_folder::endings::{
-    Ending, FAILED, NO_MEMORY, error_of, folder_fault, output_of, status_of,
+    Ending, FAILED, NO_MEMORY, error_of, note_of, output_of, status_of,
 };
 use command_help::words::sheetdesk;
 use command_words::arguments::{DeskWords, Words};
 use command_words::statuses::Outcome;
 use commands::init::init;
+use commands::tidying::tidy;
 use commands::working::{Asked, work_for};
+use std::alloc::AllocError;
 use std::convert::AsStr;
 use std::io;
-use store_folder::fault::{FolderFault, cause_text};
 use views::endings as seen;
 use views::looking::{Asked as AskedLook, look_for};
 
@@ -23,12 +24,9 @@ pub(crate) fn print_error(rt: &HostRuntime, text: &str) {
     let _printed = eprint!(rt; "{text}");
 }
 
-/// Says what is known of a fault of a folder, where that is why the program ended.
-fn print_cause(rt: &HostRuntime, fault: Option<FolderFault>) {
-    let Some(fault) = fault else {
-        return;
-    };
-    match cause_text(rt.alloc(), fault) {
+/// Says on standard error what is known of an ending beside its lines: where a fault is, or what was refused.
+fn print_note(rt: &HostRuntime, note: Result<String, AllocError>) {
+    match note {
         Ok(text) if !text.is_empty() => {
             let _printed = eprintln!(rt; "{text}");
         }
@@ -47,13 +45,19 @@ pub(crate) fn output_failed(rt: &HostRuntime) -> u8 {
     status_of(FAILED)
 }
 
-/// Prints the two lines of an ending, and answers its status. Where standard output fails, that is the ending.
-fn told(rt: &HostRuntime, output: &str, error: &str, cause: Option<FolderFault>, status: u8) -> u8 {
+/// Prints the two lines of an ending and what is known beside them, and answers its status. Where standard output fails, that is the ending.
+fn told(
+    rt: &HostRuntime,
+    output: &str,
+    error: &str,
+    note: Result<String, AllocError>,
+    status: u8,
+) -> u8 {
     if !is_printed(rt, output) {
         return output_failed(rt);
     }
     print_error(rt, error);
-    print_cause(rt, cause);
+    print_note(rt, note);
     status
 }
 
@@ -63,7 +67,7 @@ fn ended(rt: &HostRuntime, ending: &Ending) -> u8 {
         rt,
         output_of(*ending),
         error_of(*ending),
-        folder_fault(*ending),
+        note_of(rt.alloc(), *ending),
         status_of(*ending),
     )
 }
@@ -74,7 +78,7 @@ fn looked(rt: &HostRuntime, ending: &seen::Ending) -> u8 {
         rt,
         seen::output_of(*ending),
         seen::error_of(*ending),
-        seen::folder_fault(*ending),
+        seen::note_of(rt.alloc(), *ending),
         seen::status_of(*ending),
     )
 }
@@ -183,6 +187,7 @@ pub(crate) fn carried_out(
     }
     let ending = match name {
         "init" => init(rt, &archive_words(given), folder, &mut writer),
+        "tidy" => tidy(rt, folder, &mut writer),
         _ => changed(rt, name, given, reader),
     };
     ended(rt, &ending)

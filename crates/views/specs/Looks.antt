@@ -7,7 +7,7 @@ use Rattle.world.specs.Worlds.{Seen, held}
 use Rattle.command_words.specs.declared.statuses.Outcome.TheVariants.{Refused}
 use Rattle.command_words.specs.declared.statuses.What.{What}
 use Rattle.command_words.specs.declared.statuses.What.TheVariants.{BadNumber, BadUuid}
-use Rattle.command_folder.specs.Folders.{IsFolderWorld}
+use Rattle.command_folder.specs.Folders.{IsFolderBeside}
 use Rattle.command_folder.specs.declared.endings.Ending.{Ending as CommandEnding}
 use Rattle.command_folder.specs.declared.endings.Ending.TheVariants as usual
 use Rattle.command_folder.specs.declared.endings.OpenFault.{OpenFault}
@@ -53,11 +53,11 @@ IsUnread asked.Audit what = ⊥
 
 -- ---- what is made of a world
 
-module _ {S : Type 0} (g : Ghosts S) {W : Type 0} (old : Seen S) (stores : List (Held S))
+module _ {S : Type 0} (g : Ghosts S) {W : Type 0} (strays : ℕ) (old : Seen S) (stores : List (Held S))
     (writer writer' : W) (before after : Option (List ℕ)) where
-  -- What is looked at was printed, the program ends so, and these stores are left of the world.
+  -- What is looked at was printed, the program ends so, and these stores are left of the world. So many are beside it.
   abbrev pub Looked : Look → Ending → Type 0
-  Looked Status ending = ShowsStatus g old stores writer writer' before after ending
+  Looked Status ending = ShowsStatus g strays old stores writer writer' before after ending
   Looked (Explain id) ending = ShowsWay g id old stores writer writer' before after ending
   Looked (Receipt id) ending =
       (new : Seen S) × (stores ≡ held g new)
@@ -87,8 +87,8 @@ module _ {S : Type 0} (g : Ghosts S) {W : Type 0} where
   abbrev pub OpensFor : Look → W → W → Option (List ℕ) → Option (List ℕ) → Ending → Type 0
   OpensFor look writer writer' before after ending =
       ((fault : OpenFault) × (ending ≡ unopened look fault) × (writer' ≡ writer))
-      ⊎ ((old : Seen S) × (stores : List (Held S)) × IsFolderWorld g old
-      × Looked g old stores writer writer' before after look ending)
+      ⊎ ((strays : ℕ) × (old : Seen S) × (stores : List (Held S)) × IsFolderBeside g strays old
+      × Looked g strays old stores writer writer' before after look ending)
 
   -- The words could not be read, and nothing was printed; or the folder was opened for what they
   -- ask.

@@ -86,18 +86,19 @@ fn read_asked(asked: Asked<'_>) -> Result<Look, What>
     }
 }
 
-/// Prints what is looked at of a world, whose stores are handed on.
+/// Prints what is looked at of a world, whose stores are handed on. So many stores of its folder are not of it.
 pub fn look_in<S: Alter + Drop, W: Write>(
     alloc: Global,
     mut world: World<S>,
+    strays: u64,
     look: Look,
     writer: &mut W,
 ) -> (Ending, Vec<Connection<S>>)
-    ensures { Looked S.Store world result.1.items
+    ensures { Looked S.Store strays world result.1.items
         writer.old writer.new (W.contents writer.old) (W.contents writer.new) look result.0 }
 {
     match look {
-        Look::Status => status_in(alloc, world, writer),
+        Look::Status => status_in(alloc, world, strays, writer),
         Look::Explain(identity) => explain_in(alloc, world, identity, writer),
         Look::Receipt(request) => {
             let ending = receipt_in(alloc, &mut world, request, writer);
@@ -144,11 +145,11 @@ fn look_at<W: Write>(rt: &HostRuntime, folder: &str, look: Look, writer: &mut W)
         Ok(
             OpenFolder {
                 world,
+                strays,
                 lock: _lock,
-                ..
             },
         ) => {
-            let (ending, stores) = look_in(rt.alloc(), world, look, writer);
+            let (ending, stores) = look_in(rt.alloc(), world, strays as u64, look, writer);
             close_stores(stores);
             ending
         }
