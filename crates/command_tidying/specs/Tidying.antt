@@ -1,15 +1,9 @@
 -- Which files are taken out of a folder that is made tidy, and what is told of them. Profile.
 use Rattle.std.specs.Prelude.{◌≡◌, ◌⊎◌, ◌++◌, ℕ, true, All, List, [], ◌∷◌, map, Option, Some, None, Result, Ok, Err, String, string_bytes}
-use Rattle.sqlite.specs.Held.{Held}
-use Rattle.sqlite.specs.Store.{Ghosts}
-use Rattle.package_tables.specs.declared.fault.Fault.{Fault}
 use Rattle.opening_verdict.specs.declared.seen.StoreSeen.{StoreSeen}
 use Rattle.opening_strays.specs.Spent.{is_spent}
 use Rattle.store_folder.specs.Leftovers.{IsLeftoverIn}
 use Rattle.store_folder.specs.Names.{file_name, names_in}
-use Rattle.view_world.specs.Looks.{LooksInto}
-use Rattle.world.specs.Worlds.{Seen}
-use Rattle.command_tidying.specs.Register.{IsRegisterOf}
 use Rattle.command_tidying.specs.declared.register.Register.{Register}
 use Rattle.command_tidying.specs.declared.tidying.Tidied.{Tidied}
 
@@ -66,16 +60,3 @@ module _ {Y : Type 0} (Listed : List ℕ → Type 0) (Shown : List ℕ → Store
   -- these stand beside no package
   abbrev pub AreLeftovers : {Z : Type 0} → List (String Z) → Type 0
   AreLeftovers names = All (λ text. IsLeftoverFile (string_bytes text)) names
-
-  -- What the register tells was true of each world that the value stood for, and by that register files were taken out.
-  -- Or nothing was.
-  abbrev pub MakesTidy : Result Register Fault → Y → Y → Result Tidied Fault → Type 0
-  MakesTidy (Ok register) old new (Ok done) = IsTidied register old new done
-  MakesTidy (Err fault) old new (Err told) = (told ≡ fault) × (new ≡ old)
-  MakesTidy register old new done = ⊥
-
-  pub record TidiesWorld {S : Type 0} (g : Ghosts S) (seen : Seen S) (stores : List (Held S)) (old new : Y)
-      (done : Result Tidied Fault) : Type 0 where
-    pub register : Result Register Fault
-    pub looked : LooksInto g IsRegisterOf seen stores register
-    pub tidied : MakesTidy register old new done

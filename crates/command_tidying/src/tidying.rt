@@ -1,20 +1,16 @@
 //! The files of a folder that its register can do without, taken out.
 ghost use Rattle.std.specs.Prelude.{◌≡◌, ◌++◌, ◌∷◌, [], IfOk, OnErr, OnOk, map, string_bytes};
-ghost use Rattle.store_folder.specs.Names.{file_name};
-ghost use Rattle.command_tidying.specs.Tidying.{AreLeftovers, IsTidied, TakesOn, TidiesWorld};
+ghost use Rattle.command_tidying.specs.Tidying.{AreLeftovers, IsTidied, TakesOn};
 
-use crate::register::{Register, register_of};
+use crate::register::Register;
 use crate::yard::Yard;
 use opening_strays::spent::is_spent;
-use package_tables::fault::Fault;
-use sqlite::{Alter, Connection};
 use std::alloc::Global;
 use store_folder::fault::FolderFault;
 use store_folder::leftovers::leftovers_in;
 use store_folder::listing::listing_of;
 use store_folder::names::file_name;
 use uuid::Uuid;
-use world::world::World;
 
 /// What was taken out of a folder, and why no more was.
 #[derive(Drop)]
@@ -134,24 +130,5 @@ pub fn tidied<Y: Yard>(alloc: Global, yard: &mut Y, register: &Register) -> Tidi
     Tidied {
         names,
         fault: done.err(),
-    }
-}
-
-/// Makes the folder of a world tidy. The world ends with it; its stores are handed on, only read.
-///
-/// # Errors
-///
-/// Want of memory, a store that failed, or a world that has: nothing is taken out then.
-pub fn tidy_world<S: Alter + Drop, Y: Yard>(
-    alloc: Global,
-    world: World<S>,
-    yard: &mut Y,
-) -> (Result<Tidied, Fault>, Vec<Connection<S>>)
-    ensures { TidiesWorld S.Store Y.listed Y.shown Y.removes world result.1.items yard.old yard.new result.0 }
-{
-    let (register, stores) = register_of(alloc, world);
-    match register {
-        Ok(register) => (Ok(tidied(alloc, yard, &register)), stores),
-        Err(fault) => (Err(fault), stores),
     }
 }

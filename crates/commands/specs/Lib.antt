@@ -1,4 +1,5 @@
 pub mod Printing
+pub mod Registers
 pub mod Subcommands
 pub mod Tidies
 pub mod Works

@@ -4,12 +4,13 @@ ghost use Rattle.sqlite.specs.Held.{state};
 ghost use Rattle.package_schema.specs.Looking.{LooksAt};
 ghost use Rattle.opening_v1.specs.Either.{IsSeenAtEither};
 ghost use Rattle.store_sql.specs.Transactions.{Rests};
-ghost use Rattle.commands.specs.Tidies.{EndsTidy, IsLookedAt, TellsTidied, Tidies, tidy_ending};
+ghost use Rattle.commands.specs.Tidies.{EndsTidy, IsLookedAt, TellsTidied, Tidies, TidiesFolder, TidiesWorld, tidy_ending};
 
+use crate::registers::register_of;
 use command_folder::endings::{DONE, Ending, FAILED, NO_MEMORY, OpenFault};
 use command_folder::folders::{OpenFolder, open_folder};
 use command_tidying::lines::removed_lines;
-use command_tidying::tidying::{Tidied, tidy_world};
+use command_tidying::tidying::{Tidied, tidied};
 use command_tidying::yard::Yard;
 use command_words::statuses::{Failure, Outcome};
 use manifest_csv::sending::send;
@@ -60,7 +61,7 @@ fn look_first<S: Alter + Drop>(
 
 /// A folder of the file system.
 #[derive(Drop)]
-pub struct FolderYard<'f> {
+struct FolderYard<'f> {
     rt: &'f HostRuntime,
     folder: &'f str,
 }
@@ -117,6 +118,25 @@ fn tell<W: Write>(alloc: Global, done: &Tidied, writer: &mut W) -> Ending
     }
 }
 
+/// Makes the folder of a world tidy. The world ends with it; its stores are handed on, only read.
+///
+/// # Errors
+///
+/// Want of memory, a store that failed, or a world that has: nothing is taken out then.
+fn tidy_world<S: Alter + Drop, Y: Yard>(
+    alloc: Global,
+    world: World<S>,
+    yard: &mut Y,
+) -> (Result<Tidied, Fault>, Vec<Connection<S>>)
+    ensures { TidiesWorld S.Store Y.listed Y.shown Y.removes world result.1.items yard.old yard.new result.0 }
+{
+    let (register, stores) = register_of(alloc, world);
+    match register {
+        Ok(register) => (Ok(tidied(alloc, yard, &register)), stores),
+        Err(fault) => (Err(fault), stores),
+    }
+}
+
 /// Makes the folder of a world tidy, and writes a line for each file that was taken out.
 pub fn tidy_in<S: Alter + Drop, Y: Yard, W: Write>(
     alloc: Global,
@@ -134,10 +154,15 @@ pub fn tidy_in<S: Alter + Drop, Y: Yard, W: Write>(
     }
 }
 
-/// Takes out of a folder what its register can do without, and writes a line for each file: of loans that came home, of splits that were stopped, and
-/// what stands beside no package.
-pub fn tidy<W: Write>(rt: &HostRuntime, folder: &str, writer: &mut W) -> Ending
-    ensures { Tidies ⟦<FolderStore as Store>⟧ {Y = FolderYard} (λ bytes. ⊤) (λ uuid seen. ⊤) (λ name old new. ⊤) writer.old writer.new (W.contents writer.old) (W.contents writer.new) result }
+/// Opens a folder, and makes it tidy by a yard.
+fn tidy_at<Y: Yard, W: Write>(
+    rt: &HostRuntime,
+    folder: &str,
+    yard: &mut Y,
+    writer: &mut W,
+) -> Ending
+    ensures { Tidies ⟦<FolderStore as Store>⟧ Y.listed Y.shown Y.removes yard.old yard.new
+        writer.old writer.new (W.contents writer.old) (W.contents writer.new) result }
 {
     match open_folder(rt, folder) {
         Ok(
@@ -147,11 +172,19 @@ pub fn tidy<W: Write>(rt: &HostRuntime, folder: &str, writer: &mut W) -> Ending
                 ..
             },
         ) => {
-            let mut yard = FolderYard { rt, folder };
-            let (ending, stores) = tidy_in(rt.alloc(), world, &mut yard, writer);
+            let (ending, stores) = tidy_in(rt.alloc(), world, yard, writer);
             close_stores(stores);
             ending
         }
         Err(fault) => Ending::Unopened(fault),
     }
+}
+
+/// Takes out of a folder what its register can do without, and writes a line for each file: of loans that came home, of splits that were stopped, and
+/// what stands beside no package.
+pub fn tidy<W: Write>(rt: &HostRuntime, folder: &str, writer: &mut W) -> Ending
+    ensures { TidiesFolder writer.old writer.new (W.contents writer.old) (W.contents writer.new) result }
+{
+    let mut yard = FolderYard { rt, folder };
+    tidy_at(rt, folder, &mut yard, writer)
 }

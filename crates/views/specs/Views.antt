@@ -1,5 +1,5 @@
 -- What the subcommands that look print of a world, and how they end. Profile.
-use Rattle.std.specs.Prelude.{◌≡◌, ◌++◌, ℕ, List, Option, Result, Ok, Err, IfOk, String, string_bytes}
+use Rattle.std.specs.Prelude.{◌≡◌, ◌++◌, ℕ, List, Option, Result}
 use Rattle.sqlite.specs.Held.{Held}
 use Rattle.sqlite.specs.Store.{Ghosts}
 use Rattle.package_tables.specs.declared.fault.Fault.{Fault}
@@ -10,12 +10,6 @@ use Rattle.view_world.specs.Told.{receipt_line, status_text, way_answer}
 use Rattle.views.specs.Showing.{Shows, ShowsText}
 use Rattle.views.specs.declared.endings.Ending.{Ending}
 use Rattle.views.specs.declared.endings.Ending.TheVariants.{NoSuchRequest, NoSuchIdentity}
-
--- a table that was found with its last line, or what gave out
-abbrev pub IsTableBeside : {Z : Type 0} → ℕ → Result (String Z) Fault → Result (String Z) Fault → Type 0
-IsTableBeside strays (Ok table) made =
-    IfOk made (λ text. string_bytes text ≡ string_bytes table ++ strays_line strays)
-IsTableBeside strays (Err fault) made = made ≡ Err fault
 
 module _ {S : Type 0} (g : Ghosts S) where
   -- The table of the packages was printed, and so many stores beside it; the stores of the world were only read.

@@ -1,7 +1,7 @@
 //! A table of the live packages of a world, and how many stores are of none.
-ghost use Rattle.std.specs.Prelude.{◌≡◌, ◌++◌, IfOk, string_bytes};
+ghost use Rattle.std.specs.Prelude.{◌≡◌, ◌++◌, IfOk, IsOkAnd, string_bytes};
 ghost use Rattle.view_text.specs.Packages.{strays_line};
-ghost use Rattle.views.specs.Views.{IsTableBeside, ShowsStatus};
+ghost use Rattle.views.specs.Views.{ShowsStatus};
 
 use crate::endings::Ending;
 use crate::showing::show;
@@ -15,7 +15,7 @@ use world::world::World;
 
 /// A table with a last line of so many stores that are of no live package.
 fn with_strays(table: Result<String, Fault>, strays: u64) -> Result<String, Fault>
-    ensures { IsTableBeside strays table result }
+    ensures { IfOk result (λ all. IsOkAnd table (λ text. string_bytes all ≡ string_bytes text ++ strays_line strays)) }
 {
     let mut text = table?;
     put_strays(&mut text, strays)?;

@@ -1,4 +1,4 @@
--- What is asked of a register before a store is taken for one that it can do without. Profile.
+-- What a world tells of itself. Profile.
 use Rattle.std.specs.Prelude.{◌≡◌, List, map}
 use Rattle.sheet_types.specs.World.{World, receipts_of}
 use Rattle.command_tidying.specs.declared.register.Register.{Register}
