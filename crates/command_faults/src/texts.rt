@@ -21,20 +21,29 @@ pub fn fault_text(alloc: Global, fault: RecoverFault) -> Result<String, AllocErr
             String::from_str(alloc, "two files say that they are the archive's")
         }
         RecoverFault::NotAPackage(id) => {
-            format!(in alloc; "package {id} lacks a table of its form, or has a value out of its range")
+            format!(in alloc;
+                "package {id} lacks a table of its form, or has a value out of its range"
+            )
         }
         RecoverFault::TwoCopies(id) => format!(in alloc; "package {id} is there twice"),
         RecoverFault::MissingPackage(id) => {
             format!(in alloc; "package {id} is named by an open split and has no file")
         }
         RecoverFault::ForeignFrame(id) => {
-            format!(in alloc; "package {id} has not the archive's frame, or is not one level below its lender")
+            format!(in alloc;
+                "package {id} has not the archive's frame, or is not one level below its lender"
+            )
         }
         RecoverFault::Dangling(id) => {
-            format!(in alloc; "package {id} has a row without identity, an identity without row, or a link without row")
+            format!(in alloc;
+                "package {id} has a row without identity, an identity without row, or a link without row"
+            )
         }
         RecoverFault::OutOfAccount => {
-            String::from_str(alloc, "the receipts do not add up to what the packages hold")
+            String::from_str(
+                alloc,
+                "the receipts do not add up to what the packages hold",
+            )
         }
         RecoverFault::Altered(id) => {
             format!(in alloc; "item {id} has not the content that its receipt names")
@@ -53,7 +62,10 @@ pub fn list_text(alloc: Global, fault: ReadFault) -> Result<String, AllocError>
 {
     match fault {
         ReadFault::Header => {
-            String::from_str(alloc, "list: the first record is not the names of the columns")
+            String::from_str(
+                alloc,
+                "list: the first record is not the names of the columns",
+            )
         }
         ReadFault::Record(number) => format!(in alloc; "list: record {number} is no request"),
         ReadFault::Read => {

@@ -29,8 +29,11 @@ module _ {Y : Type 0} (Listed : List ℕ → Type 0) (Shown : List ℕ → Store
         (sym (ap (map (λ t. string_bytes t)) noted ∙ map-append (λ t. string_bytes t) names (text ∷ [])))
         (takes_more (map (λ t. string_bytes t) names) (string_bytes text) start old new it (may, out))
     took names names' text old new (Err e) may out noted kept = λ start it.
-        inr (string_bytes text, subst (λ l. TakesOut Listed Shown Removes register (map (λ t. string_bytes t) l ++ string_bytes text ∷ []) start new) (sym kept)
-        (takes_more (map (λ t. string_bytes t) names) (string_bytes text) start old new it (may, out)))
+        inr (
+          string_bytes text,
+          subst (λ l. TakesOut Listed Shown Removes register (map (λ t. string_bytes t) l ++ string_bytes text ∷ []) start new) (sym kept)
+              (takes_more (map (λ t. string_bytes t) names) (string_bytes text) start old new it (may, out)),
+        )
 
     -- nothing was taken out
     pub took_none : (names : List (String Z)) (old : Y) (r : Result (Unit {0}) E) → TakesOn Listed Shown Removes {Z = Z} {E = E} register names names old old r

@@ -22,11 +22,7 @@ pub struct Tidied {
 }
 
 /// Takes a file out, and puts its name behind the others.
-fn take_out<Y: Yard>(
-    yard: &mut Y,
-    names: &mut Vec<String>,
-    name: String,
-) -> Result<(), FolderFault>
+fn take_out<Y: Yard>(yard: &mut Y, names: &mut Vec<String>, name: String) -> Result<(), FolderFault>
     ensures removes { Y.removes (string_bytes name) yard.old yard.new }
     ensures ok { OnOk result (names.new.items ≡ names.old.items ++ name ∷ []) }
     ensures err { OnErr result (names.new.items ≡ names.old.items) }

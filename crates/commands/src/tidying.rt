@@ -150,7 +150,10 @@ pub fn tidy_in<S: Alter + Drop, Y: Yard, W: Write>(
     let (done, stores) = tidy_world(alloc, world, yard);
     match done {
         Ok(done) => (tell(alloc, &done, writer), stores),
-        Err(fault) => (Ending::Usual(Outcome::Stopped(Failure::from(fault))), stores),
+        Err(fault) => (
+            Ending::Usual(Outcome::Stopped(Failure::from(fault))),
+            stores,
+        ),
     }
 }
 

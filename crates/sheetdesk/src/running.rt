@@ -4,9 +4,7 @@ use clap::error::ErrorKind;
 use clap::{ArgMatches, Error};
 use cli::rehearse::rehearse;
 use cli::serving::rehearse_and_serve;
-use command_folder::endings::{
-    Ending, FAILED, NO_MEMORY, error_of, note_of, output_of, status_of,
-};
+use command_folder::endings::{Ending, FAILED, NO_MEMORY, error_of, note_of, output_of, status_of};
 use command_help::words::sheetdesk;
 use command_words::arguments::{DeskWords, Words};
 use command_words::statuses::Outcome;

@@ -57,7 +57,9 @@ pub fn cause_text(alloc: Global, fault: FolderFault) -> Result<String, AllocErro
             String::from_str(alloc, "the folder is not there, or cannot be read")
         }
         FolderFault::PackageFailed(id) => {
-            format!(in alloc; "{id}.gpkg cannot be opened, is no database, or too many files are open")
+            format!(in alloc;
+                "{id}.gpkg cannot be opened, is no database, or too many files are open"
+            )
         }
         FolderFault::NameUnsettled(id) => {
             format!(in alloc; "{id}.gpkg stands, but a power loss may take its name")

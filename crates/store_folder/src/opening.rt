@@ -88,11 +88,7 @@ fn files_at(rt: &HostRuntime, path: &str) -> Result<Files<FileFrom<Empty>>, Erro
 }
 
 /// A store in the files of a path, with so many pages in memory.
-fn connect(
-    rt: &HostRuntime,
-    path: &str,
-    pages: usize,
-) -> Result<Connection<FolderStore>, Error>
+fn connect(rt: &HostRuntime, path: &str, pages: usize) -> Result<Connection<FolderStore>, Error>
     ensures { IfOk result (λ conn. HasCleanDisk (file_state conn) → IsOpened conn) }
 {
     let files = files_at(rt, path)?;

@@ -103,7 +103,9 @@ fn each_ending_has_its_status_and_its_lines(rt: HostRuntime) {
             "3 |store: OutOfAccount\n|the receipts do not add up to what the packages hold",
         ),
         (
-            End::Command(Ending::Unopened(OpenFault::from(FolderFault::PackageFailed(Uuid::from_u128(7))))),
+            End::Command(Ending::Unopened(OpenFault::from(FolderFault::PackageFailed(
+                Uuid::from_u128(7),
+            )))),
             "3 |store: StoreFault\n|00000000-0000-0000-0000-000000000007.gpkg cannot be opened, is no database, or too many files are open",
         ),
         (
