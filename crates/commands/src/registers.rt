@@ -10,7 +10,7 @@ use command_tidying::register::Register;
 use package_tables::fault::Fault;
 use sheet_types::receipt::Receipt;
 use sqlite::{Alter, Connection};
-use std::alloc::Global;
+use std::alloc::{AllocError, Global};
 use uuid::Uuid;
 use view_history::ledgers::ledger_of;
 use view_world::usable::{are_ready, usable};
@@ -18,11 +18,10 @@ use world::reading::PackageSight;
 use world::world::World;
 
 /// The UUIDs of packages.
-fn uuids_of(alloc: Global, sights: &[PackageSight]) -> Result<Vec<Uuid>, Fault>
+fn uuids_of(alloc: Global, sights: &[PackageSight]) -> Result<Vec<Uuid>, AllocError>
     ensures { IfOk result (λ uuids. uuids.items ≡ map (λ s. s.uuid) sights.now) }
 {
-    let uuids = sights.iter().map(|sight| sight.uuid).collect(alloc)?;
-    Ok(uuids)
+    sights.iter().map(|sight| sight.uuid).collect(alloc)
 }
 
 /// The live packages of a world that has not failed.

@@ -79,7 +79,7 @@ impl<'f> Yard for FolderYard<'f> {
     }
 
     fn look(&self, alloc: Global, package: Uuid) -> Result<Option<StoreSeen>, FolderFault> {
-        match open_stores(self.rt, self.folder, &[package]) {
+        match open_stores(self.rt, self.folder, [package].as_slice()) {
             Ok(stores) => {
                 let (seen, stores) = look_first(alloc, stores);
                 close_stores(stores);
