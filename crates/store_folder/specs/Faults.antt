@@ -17,7 +17,7 @@ cause_text FolderHeld = codes "another process may hold the folder"
 cause_text (PackageHeld uuid) = codes "another process may hold the package " ++ uuid_text uuid
 cause_text (Link uuid) = uuid_text uuid ++ codes ".gpkg or its log is a symbolic link"
 cause_text (SecondName uuid) = uuid_text uuid ++ codes ".gpkg or its log has a second name"
-cause_text FolderUnread = codes "the folder is not there, or cannot be read"
+cause_text FolderUnread = codes "the folder is not there, or cannot be read and written"
 cause_text (PackageFailed uuid) =
     uuid_text uuid ++ codes ".gpkg cannot be opened, is no database, or too many files are open"
 cause_text (NameUnsettled uuid) =

@@ -110,7 +110,7 @@ fn each_ending_has_its_status_and_its_lines(rt: HostRuntime) {
         ),
         (
             End::Command(Ending::Unopened(OpenFault::from(FolderFault::FolderUnread))),
-            "3 |store: StoreFault\n|the folder is not there, or cannot be read",
+            "3 |store: StoreFault\n|the folder is not there, or cannot be read and written",
         ),
         (End::Command(FAILED), "3 |store: StoreFault\n|"),
         (End::Command(NO_MEMORY), "3 |store: OutOfMemory\n|"),
