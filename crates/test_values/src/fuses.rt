@@ -1,7 +1,10 @@
-// Files in memory that stop after so many calls, what is left of them, and a shelf of stores over them.
+//! Files in memory that stop after so many calls, what is left of them, and a shelf of stores over them.
 ghost use Rattle.std.specs.Prelude.{◌≡◌, ⊤, [], IsTrue, IfOk};
+ghost use Rattle.sqlite.specs.Held.{state};
+ghost use Rattle.sqlite.specs.State.{HasCleanDisk};
+ghost use Rattle.store_sql.specs.Writing.{AreKeyed};
 
-use crate::loans::package;
+use crate::requests::package;
 use package_tables::fault::Fault;
 use sqlite::{Alter, Connection, FileStore, Files, Options};
 use sqlite_disk::{Crash, Disk, Fuse, Memory};
@@ -128,7 +131,8 @@ pub trait Reopens<S: Alter> {
     fn remains(&self, store: S) -> Result<Remains, Fault>;
 
     /// The store when its files come back.
-    fn opened(&self, remains: &Remains, left: Left) -> Result<Connection<S>, Fault>;
+    fn opened(&self, remains: &Remains, left: Left) -> Result<Connection<S>, Fault>
+        ensures { IfOk result (λ conn. HasCleanDisk (state S.Store conn) → AreKeyed (state S.Store conn).now) };
 }
 
 impl Reopens<Store> for FusedShelf {
