@@ -19,6 +19,7 @@ use manifest_csv::package_manifests::write_manifest;
 use manifest_csv::progress::Teller;
 use manifest_csv::sending::send;
 use request_csv::lists::{ReadFault, read_requests};
+use request_csv::sources::Stream;
 use sheet_types::command::{Command, Request};
 use sqlite::{Alter, FileStore, MemStore};
 use std::alloc::{AllocError, Global};
@@ -164,7 +165,7 @@ fn carried_out<R: Read + Drop, W: Write, T: Teller>(
 ) -> Outcome
     ensures { Rehearses (new_world rehearsal.now.archive rehearsal.now.frame) (R.remaining reader) writer.old writer.new (W.contents writer.old) (W.contents writer.new) result }
 {
-    match read_requests(alloc, reader) {
+    match read_requests(alloc, Stream(reader)) {
         Ok(requests) => over_either(alloc, rehearsal, requests.as_slice(), writer, teller),
         Err(fault) => end_of_import(ImportFault::Unread(fault)),
     }

@@ -17,6 +17,7 @@ use desk_http::listening::listen;
 use manifest_csv::importing::ImportFault;
 use manifest_csv::progress::Teller;
 use request_csv::lists::read_requests;
+use request_csv::sources::Stream;
 use sheet_types::command::Request;
 use sqlite::{Alter, FileStore, MemStore};
 use std::alloc::Global;
@@ -93,7 +94,7 @@ pub fn served<C: Clock, R: Read + Drop, W: Write, T: Teller>(
 ) -> Result<LeftWorld, Outcome>
     ensures { Leaves (new_world rehearsal.now.archive rehearsal.now.frame) count (R.remaining reader) writer.old writer.new (W.contents writer.old) (W.contents writer.new) result }
 {
-    match read_requests(alloc, reader) {
+    match read_requests(alloc, Stream(reader)) {
         Ok(requests) => served_by_either(
             clock,
             alloc,

@@ -9,6 +9,7 @@ use crate::reports::{header_line, line_buffer, put_line};
 use crate::sending::{WriteFault, send};
 use package_tables::fault::Fault;
 use request_csv::lists::{ReadFault, read_requests};
+use request_csv::sources::Stream;
 use sheet_types::command::Request;
 use sheet_types::error::OutOfMemory;
 use sheet_types::receipt::Receipt;
@@ -133,6 +134,6 @@ pub fn import<S: Alter + Drop, H: Shelf<S>, R: Read + Drop, W: Write, T: Teller>
         writer.old writer.new (W.contents writer.old) (W.contents writer.new) result }
     ensures told { IsTold (R.remaining reader) (T.told teller.old) (T.told teller.new) result }
 {
-    let requests = read_requests(alloc, reader)?;
+    let requests = read_requests(alloc, Stream(reader))?;
     carry_out(alloc, world, shelf, requests.as_slice(), writer, teller)
 }

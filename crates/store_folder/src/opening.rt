@@ -1,5 +1,6 @@
 //! The stores of a folder, opened.
-ghost use Rattle.std.specs.Prelude.{◌≡◌, ◌++◌, ◌∷◌, [], IfOk, OnOk, All, length};
+ghost use Rattle.std.specs.Prelude.{◌≡◌, ◌++◌, ◌∷◌, [], ℕ, List, ⊤, IfOk, OnOk, All, length};
+ghost use Rattle.std.specs.List.{AllZip};
 ghost use Rattle.sqlite.specs.Files.{file_state};
 ghost use Rattle.store_folder.specs.Opened.{IsJustOpened};
 
@@ -80,9 +81,13 @@ trait InFolder: Drop {
     /// What is known of it when it was just opened.
     ghost is_just_opened: { Self → Type 0 };
 
+    /// It is that of the package of this UUID. Who opens by this trait alone can show it by such a call, and by nothing else.
+    ghost is_of: { List ℕ → Self → Type 0 };
+
     /// Opens that of one package.
     fn open(rt: &HostRuntime, folder: &str, package: Uuid) -> Result<Self, FolderFault>
-        ensures { IfOk result is_just_opened };
+        ensures opened { IfOk result is_just_opened }
+        ensures own { IfOk result (λ it. is_of «package» it) };
 }
 
 impl InFolder for Connection<FolderStore> {
@@ -90,6 +95,9 @@ impl InFolder for Connection<FolderStore> {
     ghost use Rattle.store_folder.specs.Opened.{IsJustOpened};
 
     ghost is_just_opened = { λ conn. IsJustOpened (file_state conn) };
+
+    // No clause can speak of what a path leads to: `open_store` has to be read.
+    ghost is_of = { λ uuid conn. ⊤ };
 
     fn open(
         rt: &HostRuntime,
@@ -107,6 +115,7 @@ fn open_each<T: InFolder>(
     packages: &[Uuid],
 ) -> Result<Vec<T>, FolderFault>
     ensures opened { IfOk result (λ stores. All T.is_just_opened stores.items) }
+    ensures own { IfOk result (λ stores. AllZip T.is_of packages.now stores.items) }
     ensures each { IfOk result (λ stores. length stores.items ≡ length packages.now) }
 {
     let mut stores = Vec::with_capacity(rt.alloc(), packages.len())?;

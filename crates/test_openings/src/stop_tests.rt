@@ -112,17 +112,32 @@ fn check_crashes<S: Alter + Drop, H: Shelf<S> + Reopens<S>>(
     Ok(())
 }
 
-// The store of which package has a file that stops, and which; and whether that leaves the world of after at times.
+// Which worlds the crashes of a file that stops have to show.
 #[derive(Clone, Copy)]
-struct Stopped(u8, Stops, bool);
+enum Shows {
+    // The log of the package that carries the receipt: some leave the world before and some the one after.
+    Either,
+    // It is read before anything is committed.
+    Before,
+    // It is done with before the receipt is committed.
+    NeverAfter,
+}
+
+fn are_shown(counts: Counts, shows: Shows) -> bool {
+    match shows {
+        Shows::Either => counts.before > 0 && counts.after > 0,
+        Shows::Before => counts.before > 0,
+        Shows::NeverAfter => counts.before > 0 && counts.after == 0,
+    }
+}
+
+// The store of which package has a file that stops, which, and what that shows.
+#[derive(Clone, Copy)]
+struct Stopped(u8, Stops, Shows);
 
 impl Stopped {
     fn fusing(self, calls: u64) -> Fusing {
         Fusing::file(self.0, self.1, calls)
-    }
-
-    fn is_shown(self, counts: Counts) -> bool {
-        counts.before > 0 && (counts.after > 0) == self.2
     }
 }
 
@@ -169,7 +184,7 @@ fn check_stops(
 fn check(
     alloc: Global,
     example: &Example,
-    stopped: &[Stopped],
+    stopped: Stopped,
     checked: &mut Checked,
 ) -> Result<(), Fault> {
     let requests = requests_of(alloc, example)?;
@@ -177,15 +192,13 @@ fn check(
         example,
         requests: requests.as_slice(),
     };
-    for stops in stopped {
-        let counts = check_stops(alloc, *stops, asked, checked)?;
-        let is_shown = stops.is_shown(counts);
-        checked.is(if is_shown { "shown" } else { "not shown" }, "shown");
-    }
+    let counts = check_stops(alloc, stopped, asked, checked)?;
+    let is_shown = are_shown(counts, stopped.2);
+    checked.is(if is_shown { "shown" } else { "not shown" }, "shown");
     Ok(())
 }
 
-fn holds(alloc: Global, example: &Example, stopped: &[Stopped]) -> Result<(), Fail> {
+fn holds(alloc: Global, example: &Example, stopped: Stopped) -> Result<(), Fail> {
     let mut checked = Checked::new(alloc);
     check(alloc, example, stopped, &mut checked)?;
     let wrong = String::from_str(alloc, checked.wrong())?;
@@ -208,37 +221,109 @@ const D: u8 = 0xd;
 const E: u8 = 0xe;
 
 #[test]
-fn a_split_that_stopped_in_the_archive_comes_again(rt: HostRuntime) -> Result<(), Fail> {
-    let stopped = [Stopped(A, Stops::Log, true), Stopped(A, Stops::Db, false)];
-    holds(rt.alloc(), &IS_LENT, stopped.as_slice())
+fn a_split_comes_again_after_the_log_of_the_archive_stopped(rt: HostRuntime) -> Result<(), Fail> {
+    holds(rt.alloc(), &IS_LENT, Stopped(A, Stops::Log, Shows::Either))
 }
 
 #[test]
-fn a_split_that_stopped_in_the_loan_comes_again(rt: HostRuntime) -> Result<(), Fail> {
-    let stopped = [Stopped(B, Stops::Log, false), Stopped(B, Stops::Db, false)];
-    holds(rt.alloc(), &IS_LENT, stopped.as_slice())
+fn a_split_comes_again_after_the_file_of_the_archive_stopped(rt: HostRuntime) -> Result<(), Fail> {
+    holds(rt.alloc(), &IS_LENT, Stopped(A, Stops::Db, Shows::Before))
 }
 
 #[test]
-fn a_merge_that_stopped_in_the_archive_comes_again(rt: HostRuntime) -> Result<(), Fail> {
-    let stopped = [Stopped(A, Stops::Log, true), Stopped(A, Stops::Db, false)];
-    holds(rt.alloc(), &COMES_HOME, stopped.as_slice())
+fn a_split_comes_again_after_the_log_of_the_loan_stopped(rt: HostRuntime) -> Result<(), Fail> {
+    holds(
+        rt.alloc(),
+        &IS_LENT,
+        Stopped(B, Stops::Log, Shows::NeverAfter),
+    )
 }
 
 #[test]
-fn a_merge_that_stopped_in_the_loan_comes_again(rt: HostRuntime) -> Result<(), Fail> {
-    let stopped = [Stopped(B, Stops::Log, false), Stopped(B, Stops::Db, false)];
-    holds(rt.alloc(), &COMES_HOME, stopped.as_slice())
+fn a_split_comes_again_after_the_file_of_the_loan_stopped(rt: HostRuntime) -> Result<(), Fail> {
+    holds(
+        rt.alloc(),
+        &IS_LENT,
+        Stopped(B, Stops::Db, Shows::NeverAfter),
+    )
 }
 
 #[test]
-fn a_split_three_loans_below_comes_again(rt: HostRuntime) -> Result<(), Fail> {
-    let stopped = [Stopped(D, Stops::Log, true), Stopped(E, Stops::Log, false)];
-    holds(rt.alloc(), &IS_LENT_ON, stopped.as_slice())
+fn a_merge_comes_again_after_the_log_of_the_archive_stopped(rt: HostRuntime) -> Result<(), Fail> {
+    holds(
+        rt.alloc(),
+        &COMES_HOME,
+        Stopped(A, Stops::Log, Shows::Either),
+    )
 }
 
 #[test]
-fn a_merge_two_loans_below_comes_again(rt: HostRuntime) -> Result<(), Fail> {
-    let stopped = [Stopped(B, Stops::Log, true), Stopped(C, Stops::Log, false)];
-    holds(rt.alloc(), &GOES_HOME, stopped.as_slice())
+fn a_merge_comes_again_after_the_file_of_the_archive_stopped(rt: HostRuntime) -> Result<(), Fail> {
+    holds(
+        rt.alloc(),
+        &COMES_HOME,
+        Stopped(A, Stops::Db, Shows::Before),
+    )
+}
+
+#[test]
+fn a_merge_comes_again_after_the_log_of_the_loan_stopped(rt: HostRuntime) -> Result<(), Fail> {
+    holds(
+        rt.alloc(),
+        &COMES_HOME,
+        Stopped(B, Stops::Log, Shows::NeverAfter),
+    )
+}
+
+#[test]
+fn a_merge_comes_again_after_the_file_of_the_loan_stopped(rt: HostRuntime) -> Result<(), Fail> {
+    holds(
+        rt.alloc(),
+        &COMES_HOME,
+        Stopped(B, Stops::Db, Shows::NeverAfter),
+    )
+}
+
+#[test]
+fn a_split_below_three_loans_comes_again_after_the_lender_stopped(
+    rt: HostRuntime,
+) -> Result<(), Fail> {
+    holds(
+        rt.alloc(),
+        &IS_LENT_ON,
+        Stopped(D, Stops::Log, Shows::Either),
+    )
+}
+
+#[test]
+fn a_split_below_three_loans_comes_again_after_the_loan_stopped(
+    rt: HostRuntime,
+) -> Result<(), Fail> {
+    holds(
+        rt.alloc(),
+        &IS_LENT_ON,
+        Stopped(E, Stops::Log, Shows::NeverAfter),
+    )
+}
+
+#[test]
+fn a_merge_of_a_loan_of_a_loan_comes_again_after_the_lender_stopped(
+    rt: HostRuntime,
+) -> Result<(), Fail> {
+    holds(
+        rt.alloc(),
+        &GOES_HOME,
+        Stopped(B, Stops::Log, Shows::Either),
+    )
+}
+
+#[test]
+fn a_merge_of_a_loan_of_a_loan_comes_again_after_the_loan_stopped(
+    rt: HostRuntime,
+) -> Result<(), Fail> {
+    holds(
+        rt.alloc(),
+        &GOES_HOME,
+        Stopped(C, Stops::Log, Shows::NeverAfter),
+    )
 }
