@@ -19,7 +19,6 @@ pub struct FolderShelf<'f> {
     rt: &'f HostRuntime,
     folder: &'f str,
     failures: u64,
-    remnants: u64,
 }
 
 impl<'f> FolderShelf<'f> {
@@ -31,7 +30,6 @@ impl<'f> FolderShelf<'f> {
             rt,
             folder,
             failures: 0,
-            remnants: 0,
         }
     }
 }
@@ -39,12 +37,8 @@ impl<'f> FolderShelf<'f> {
 impl<'f> Shelf<FolderStore> for FolderShelf<'f> {
     ghost failures_of = { λ shelf. shelf.failures };
 
-    ghost remnants_of = { λ shelf. shelf.remnants };
-
     // No clause can speak of the files of a folder. That a register asks for no package but the one that it promises is proved over all shelves.
     ghost asks = { λ uuid old new. ⊤ };
-
-    ghost takes = { λ uuid store old new. ⊤ };
 
     fn blank(&mut self, package: Uuid) -> Result<Connection<FolderStore>, ShelfFault>
         ensures blank { IfOk result (λ conn. HasCleanDisk (file_state conn) → IsBlank no_schema (file_state conn).now) }
@@ -56,19 +50,8 @@ impl<'f> Shelf<FolderStore> for FolderShelf<'f> {
         }
     }
 
-    // The files lose their names while they are open, so no other process meets them. They are closed after that, and no log is copied.
-    fn retire(&mut self, package: Uuid, _store: Connection<FolderStore>) {
-        if remove_store(self.rt, self.folder, package).is_err() {
-            self.remnants = self.remnants.saturating_add(1);
-        }
-    }
-
     fn failures(&self) -> u64 {
         self.failures
-    }
-
-    fn remnants(&self) -> u64 {
-        self.remnants
     }
 }
 

@@ -33,13 +33,8 @@ impl MemoryFileShelf {
 impl Shelf<FileStore<MemoryFile>> for MemoryFileShelf {
     ghost failures_of = { λ shelf. shelf.failures };
 
-    ghost remnants_of = { λ shelf. 0 };
-
     // Nothing stands under any UUID, so it is all the same which one it was.
     ghost asks = { λ uuid old new. ⊤ };
-
-    // The store is gone with its connection, so none is left.
-    ghost takes = { λ uuid store old new. ⊤ };
 
     fn blank(&mut self, _package: Uuid) -> Result<Connection<FileStore<MemoryFile>>, ShelfFault>
         ensures blank { IfOk result (λ conn. IsBlank no_schema (file_state conn).now) }
@@ -50,13 +45,7 @@ impl Shelf<FileStore<MemoryFile>> for MemoryFileShelf {
         counted(made, &mut self.failures)
     }
 
-    fn retire(&mut self, _package: Uuid, _store: Connection<FileStore<MemoryFile>>) {}
-
     fn failures(&self) -> u64 {
         self.failures
-    }
-
-    fn remnants(&self) -> u64 {
-        0
     }
 }

@@ -30,13 +30,8 @@ impl MemoryShelf {
 impl Shelf<MemStore> for MemoryShelf {
     ghost failures_of = { λ shelf. shelf.failures };
 
-    ghost remnants_of = { λ shelf. 0 };
-
     // Nothing stands under any UUID, so it is all the same which one it was.
     ghost asks = { λ uuid old new. ⊤ };
-
-    // The store is gone with its connection, so none is left.
-    ghost takes = { λ uuid store old new. ⊤ };
 
     fn blank(&mut self, _package: Uuid) -> Result<Connection<MemStore>, ShelfFault>
         ensures blank { IfOk result (λ conn. IsBlank no_schema (state over_memory conn).now) }
@@ -47,13 +42,7 @@ impl Shelf<MemStore> for MemoryShelf {
         counted(made, &mut self.failures)
     }
 
-    fn retire(&mut self, _package: Uuid, _store: Connection<MemStore>) {}
-
     fn failures(&self) -> u64 {
         self.failures
-    }
-
-    fn remnants(&self) -> u64 {
-        0
     }
 }

@@ -1,7 +1,7 @@
 //! A shelf, as a register asks it for the store of a new package.
-ghost use Rattle.std.specs.Prelude.{◌≡◌, ◌≤◌, ℕ, List, Ok, IfOk, IfErr};
+ghost use Rattle.std.specs.Prelude.{◌≡◌, ℕ, List, Ok, IfOk, IfErr};
 ghost use Rattle.sqlite_disk.specs.Disk.{CountsFault};
-ghost use Rattle.sqlite.specs.Held.{Held, state};
+ghost use Rattle.sqlite.specs.Held.{state};
 ghost use Rattle.sqlite.specs.State.{HasCleanDisk};
 ghost use Rattle.store_sql.specs.Blank.{IsBlank, no_schema};
 ghost use Rattle.store_shelf.specs.declared.shelf.ShelfFault.TheVariants.{OutOfMemory};
@@ -22,47 +22,26 @@ pub enum ShelfFault {
     StoreFault,
 }
 
-/// Makes the stores of packages, one a UUID, counts how often it could not, and takes them back.
+/// Makes the stores of packages, one a UUID, and counts how often it could not.
 pub trait Shelf<S: Alter> {
     /// How often it has failed.
     ghost failures_of: { Self → ℕ };
-
-    /// How often it could not take away what came back.
-    ghost remnants_of: { Self → ℕ };
 
     /// It was asked once for the store of the package of this UUID, between these two states, and for
     /// no other. Each shelf says what that is. A register knows nothing of it but that `blank` does
     /// it, so where it promises this of a package it asked for that one and for no other.
     ghost asks: { List ℕ → Self → Self → Type 0 };
 
-    /// It was given back this store, as that of the package of this UUID, between these two states, and
-    /// nothing else. Each shelf says what that is. Only `retire` does it, so where a register promises
-    /// this of a store it gave back that one, as it was then, and for no other package.
-    ghost takes: { List ℕ → Held S → Self → Self → Type 0 };
-
     /// An empty store in place of whatever stood under this UUID. Each fault is counted, of either
     /// kind, and nothing else is. A count of 2^64 - 1 stays, and counts as risen.
     fn blank(&mut self, package: Uuid) -> Result<Connection<S>, ShelfFault>
         ensures blank { IfOk result (λ conn. HasCleanDisk (state S.Store conn) → IsBlank no_schema (state S.Store conn).now) }
         ensures counts { CountsFault result (failures_of self.old) (failures_of self.new) }
-        ensures asks { asks «package» self.old self.new }
-        ensures remnants { remnants_of self.new ≡ remnants_of self.old };
-
-    /// Takes back the store of a package that is not live: a loan that came home, or one that a split did
-    /// not come to make. What it cannot take away is counted by itself: it lies beside the register and
-    /// harms nothing, so it is no fault.
-    fn retire(&mut self, package: Uuid, store: Connection<S>)
-        ensures counts { failures_of self.new ≡ failures_of self.old }
-        ensures takes { takes «package» store self.old self.new }
-        ensures remnants { remnants_of self.old ≤ remnants_of self.new };
+        ensures asks { asks «package» self.old self.new };
 
     /// How often `blank` has answered a fault.
     fn failures(&self) -> u64
         ensures { result ≡ failures_of self.now };
-
-    /// How often `retire` could not take away what came back.
-    fn remnants(&self) -> u64
-        ensures { result ≡ remnants_of self.now };
 }
 
 // The store that was made in memory. Nothing but memory can have been wanting where none was, which is counted.

@@ -266,12 +266,8 @@ impl FusedShelf {
 impl Shelf<Store> for FusedShelf {
     ghost failures_of = { λ shelf. shelf.failures };
 
-    ghost remnants_of = { λ shelf. 0 };
-
     // The faults that it answers show which packages it is asked for.
     ghost asks = { λ uuid old new. ⊤ };
-
-    ghost takes = { λ uuid store old new. ⊤ };
 
     fn blank(&mut self, package: Uuid) -> Result<Connection<Store>, ShelfFault> {
         if let Some(why) = self.fault(package) {
@@ -292,13 +288,7 @@ impl Shelf<Store> for FusedShelf {
         }
     }
 
-    fn retire(&mut self, _package: Uuid, _store: Connection<Store>) {}
-
     fn failures(&self) -> u64 {
         self.failures
-    }
-
-    fn remnants(&self) -> u64 {
-        0
     }
 }
