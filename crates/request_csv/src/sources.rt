@@ -1,5 +1,5 @@
 //! Where the bytes of a list come from, and whether that can fail.
-ghost use Rattle.std.specs.Prelude.{◌≡◌, false, ⊤, ⊥};
+ghost use Rattle.std.specs.Prelude.{◌≡◌, false, ⊤};
 
 use std::io::{self, Read};
 
@@ -16,7 +16,9 @@ pub trait ListSource: Read {
 impl<'a> ListSource for &'a [u8] {
     ghost never_fails = { ⊤ };
 
-    fn may_fail() -> bool {
+    fn may_fail() -> bool
+        ensures { ⊤ → result ≡ false }
+    {
         false
     }
 }
@@ -36,7 +38,9 @@ impl<R: Read> Read for Stream<R> {
 impl<R: Read> ListSource for Stream<R> {
     ghost never_fails = { ⊥ };
 
-    fn may_fail() -> bool {
+    fn may_fail() -> bool
+        ensures { ⊥ → result ≡ false }
+    {
         true
     }
 }
