@@ -23,6 +23,7 @@ import sys
 
 import nordmark
 import reference
+import verbs
 from machine.exports import export
 from machine.frames import Frame
 from machine.lists import read_requests
@@ -136,6 +137,12 @@ class Session:
     def run(self, words, text, status=0):
         self.type(f"./sheetdesk {words}", text, status)
 
+    def take(self, other):
+        """Another session behind this one."""
+        self.typed += other.typed
+        self.printed += other.printed
+        self.files.update(other.files)
+
     def name(self, path, content):
         """A file that a line names, by its path."""
         self.files[path] = content
@@ -157,6 +164,21 @@ def first_session():
     session.run(f"manifest maps {CREW}", manifest_of(done, CREW))
     session.run("audit maps", f"good {len(done.world.receipts)}\n")
     return session
+
+
+def verb_sessions(session):
+    """The verbs for people: the session that the README shows, and all of them."""
+    shown = Session()
+    world = verbs.first_loan(shown)
+    shown.run("status sheets", status_of(world))
+    shown.run("audit sheets", f"good {len(world.receipts)}\n")
+    session.take(shown)
+    session.show("")
+    session.show("# All verbs, the first of each kind shown before it is carried out.")
+    world = verbs.every_verb(session)
+    session.run("status harbour", status_of(world))
+    session.run("audit harbour", f"good {len(world.receipts)}\n")
+    return shown
 
 
 def exports(session):
@@ -294,18 +316,19 @@ def sessions_by_hand(session):
 
 
 def all_sessions():
-    """The first session as the README shows it, and all of them."""
+    """The sessions of the README, and all of them."""
     first, every = first_session(), Session()
     every.show("# The sample, on standard input.")
     every.run(f"rehearse {MAKING}", rehearsed_sample()[1])
     every.show("")
     every.show("# The first session of the README.")
-    every.typed += first.typed
-    every.printed += first.printed
-    every.files = first.files
+    every.take(first)
     every.show("")
     every.show("# Its packages as SQL, and an archive with nothing in it, over an oblong frame.")
     exports(every)
+    every.show("")
+    every.show("# A sheet is lent and comes home, by the verbs for people.")
+    first.take(verb_sessions(every))
     worked_sessions(every)
     sessions_by_hand(every)
     return first, every

@@ -4,6 +4,7 @@ use crate::help::{
     INIT_ABOUT, MANIFEST_ABOUT, MAP_ABOUT, RECEIPT_ABOUT, REHEARSE_ABOUT, REHEARSE_WORDS,
     SERVE_ABOUT, SESSION_ABOUT, SESSION_WORDS, STATUS_ABOUT, WORDS,
 };
+use crate::verbs::{join_command, lend_command, part_command, put_command, return_command};
 use clap::{Arg, ArgAction, Command};
 use std::alloc::{AllocError, Global};
 
@@ -195,6 +196,11 @@ pub fn sheetdesk<'a>(alloc: Global) -> Result<Command<'a>, AllocError> {
         .after_help(WORDS)
         .subcommand_required(true)
         .subcommand(init_command(alloc)?)?
+        .subcommand(put_command(alloc)?)?
+        .subcommand(lend_command(alloc)?)?
+        .subcommand(return_command(alloc)?)?
+        .subcommand(join_command(alloc)?)?
+        .subcommand(part_command(alloc)?)?
         .subcommand(apply_command(alloc)?)?
         .subcommand(import_command(alloc)?)?
         .subcommand(status_command(alloc)?)?

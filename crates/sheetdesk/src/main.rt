@@ -1,6 +1,8 @@
 //! The program `sheetdesk`: the words that it is called with, and the exit status.
 #![tactic(auto)]
 
+mod clock;
+mod ordering;
 mod running;
 mod sessions;
 mod streams;

@@ -1,4 +1,5 @@
 //! A command, carried out: what it asks for is done in `cli`, `commands` and `views`.
+use crate::ordering::{is_verb, ordered};
 use crate::streams::{Input, Onlooker};
 use clap::error::ErrorKind;
 use clap::{ArgMatches, Error};
@@ -91,7 +92,7 @@ pub(crate) fn answered(rt: &HostRuntime, error: &Error) -> u8 {
 }
 
 /// The text of an option or a word that has to be given.
-fn text_of<'m>(given: &ArgMatches<'m>, id: &str) -> &'m str {
+pub(crate) fn text_of<'m>(given: &ArgMatches<'m>, id: &str) -> &'m str {
     given.get_str(id).unwrap_or("")
 }
 
@@ -183,6 +184,7 @@ pub(crate) fn carried_out(
     }
     let ending = match name {
         "init" => init(rt, &archive_words(given), folder, &mut writer),
+        _ if is_verb(name) => ordered(rt, name, given, reader),
         _ => changed(rt, name, given, reader),
     };
     ended(rt, &ending)
