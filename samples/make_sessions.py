@@ -103,6 +103,18 @@ def status_of(world):
     return "".join(lines)
 
 
+def log_of(world, package="", first=0, last=None):
+    """A line of headings, and a line for each receipt that names a package, from a number on, and of those the last."""
+    heads = right(10, "receipt") + left(24, "at") + left(6, "what") + left(36, "from") + left(36, "to") + right(7, "things")
+    lines = []
+    for receipt in world.receipts:
+        ends = (receipt.source or "-", receipt.target or "-")
+        if receipt.seq >= first and any(end.startswith(package) for end in ends):
+            front = right(10, receipt.seq) + left(24, receipt.at) + left(6, receipt.line.split(" ")[0])
+            lines.append(front + "".join(left(36, end) for end in ends) + right(7, len(receipt.moved)) + f"{receipt.sums()[-1]}\n")
+    return heads + "bytes\n" + "".join(lines if last is None else lines[max(len(lines) - last, 0):])
+
+
 def way_of(world, identity):
     """A line for each receipt that names the identity, and where its item is now."""
     lines, place = [], None
@@ -170,13 +182,18 @@ def verb_sessions(session):
     """The verbs for people: the session that the README shows, and all of them."""
     shown = Session()
     world = verbs.first_loan(shown)
-    shown.run("status sheets", status_of(world))
+    shown.run("log sheets", log_of(world))
     shown.run("audit sheets", f"good {len(world.receipts)}\n")
     session.take(shown)
     session.show("")
     session.show("# All verbs, the first of each kind shown before it is carried out.")
     world = verbs.every_verb(session)
     session.run("status harbour", status_of(world))
+    session.run("log harbour 7900", log_of(world, "7900"))
+    session.run("log harbour --from 11 --last 3", log_of(world, first=11, last=3))
+    session.run("log harbour DF7BE693 --last 0", log_of(world, last=0))
+    session.run("log harbour --last 99 --from 15", log_of(world, first=15, last=99))
+    session.run("log harbour --last few", "refused: number\n", 1)
     session.run("audit harbour", f"good {len(world.receipts)}\n")
     return shown
 

@@ -2,6 +2,7 @@
 #![tactic(auto)]
 
 mod clock;
+mod founding;
 mod ordering;
 mod running;
 mod sessions;

@@ -1,6 +1,6 @@
 //! A verb's words become an order over the bytes of a file. What they leave out is new, or of the clock.
 use crate::clock::{moment_now, new_uuid};
-use crate::running::{print_error, text_of};
+use crate::running::text_of;
 use crate::streams::{Input, Onlooker};
 use clap::ArgMatches;
 use command_folder::endings::{Ending, FAILED, NO_MEMORY};
@@ -25,7 +25,7 @@ fn without(rt: &HostRuntime, what: &str, error: &io::Error, ending: Ending) -> E
 }
 
 /// The UUID of an option, or a new one.
-pub(crate) fn uuid_given(rt: &HostRuntime, given: &ArgMatches<'_>, id: &str) -> Result<Uuid, Ending> {
+fn uuid_given(rt: &HostRuntime, given: &ArgMatches<'_>, id: &str) -> Result<Uuid, Ending> {
     match given.get_str(id) {
         Some(word) => match read_uuid(word) {
             Some(uuid) => Ok(uuid),
@@ -35,6 +35,25 @@ pub(crate) fn uuid_given(rt: &HostRuntime, given: &ArgMatches<'_>, id: &str) -> 
             Ok(uuid) => Ok(uuid),
             Err(error) => Err(without(rt, "no new UUID", &error, FAILED)),
         },
+    }
+}
+
+/// The text of an option, or of a new UUID.
+pub(crate) fn uuid_text_given(
+    rt: &HostRuntime,
+    given: &ArgMatches<'_>,
+    id: &str,
+) -> Result<String, Ending> {
+    let text = match given.get_str(id) {
+        Some(word) => String::from_str(rt.alloc(), word),
+        None => {
+            let uuid = uuid_given(rt, given, id)?;
+            format!(in rt.alloc(); "{uuid}")
+        }
+    };
+    match text {
+        Ok(text) => Ok(text),
+        Err(_) => Err(NO_MEMORY),
     }
 }
 

@@ -1,4 +1,5 @@
 //! A command, carried out: what it asks for is done in `cli`, `commands` and `views`.
+use crate::founding::founded;
 use crate::ordering::{is_verb, ordered};
 use crate::streams::{Input, Onlooker};
 use clap::error::ErrorKind;
@@ -11,12 +12,12 @@ use command_folder::endings::{
 use command_help::words::sheetdesk;
 use command_words::arguments::{DeskWords, Words};
 use command_words::statuses::Outcome;
-use commands::init::init;
 use commands::working::{Asked, work_for};
 use std::convert::AsStr;
 use std::io;
 use store_folder::fault::{FolderFault, cause_text};
 use views::endings as seen;
+use views::excerpts::LogWords;
 use views::looking::{Asked as AskedLook, look_for};
 
 /// Prints a text on standard error. Where that fails too, the status alone says how the program ended.
@@ -143,6 +144,11 @@ fn asked_work<'m>(name: &str, given: &ArgMatches<'m>) -> Option<Asked<'m>> {
 fn asked_look<'m>(name: &str, given: &ArgMatches<'m>) -> Option<AskedLook<'m>> {
     match name {
         "status" => Some(AskedLook::Status),
+        "log" => Some(AskedLook::Log(LogWords {
+            package: given.get_str("package"),
+            from: given.get_str("from"),
+            last: given.get_str("last"),
+        })),
         "explain" => Some(AskedLook::Explain(text_of(given, "identity"))),
         "receipt" => Some(AskedLook::Receipt(text_of(given, "request"))),
         "manifest" => Some(AskedLook::Manifest(text_of(given, "package"))),
@@ -183,7 +189,7 @@ pub(crate) fn carried_out(
         return looked(rt, &look_for(rt, folder, asked, &mut writer));
     }
     let ending = match name {
-        "init" => init(rt, &archive_words(given), folder, &mut writer),
+        "init" => founded(rt, given),
         _ if is_verb(name) => ordered(rt, name, given, reader),
         _ => changed(rt, name, given, reader),
     };

@@ -1,3 +1,4 @@
+pub mod Excerpts
 pub mod Endings
 pub mod ExportEndings
 pub mod Looks

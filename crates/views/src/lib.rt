@@ -4,9 +4,11 @@
 
 pub mod auditing;
 pub mod endings;
+pub mod excerpts;
 pub mod explaining;
 pub mod exporting;
 mod gathering;
+pub mod logging;
 pub mod looking;
 pub mod manifest;
 pub mod maps;
