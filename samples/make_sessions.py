@@ -1,12 +1,12 @@
 #!/usr/bin/env python3
 """Writes the sessions that the gate carries out: their lines, the files that these name, and what each line prints.
 
-Usage: make_sessions.py           writes first.csv, first_session.txt, and the run that the gate makes of crates/sheetdesk
+Usage: make_sessions.py           writes first.csv and what else the README names, first_session.txt, and the run that the gate makes of crates/sheetdesk
        make_sessions.py --check   writes nothing; status 1 where a file is not what would be written, or the README shows it otherwise
 
-First the sample is rehearsed, from standard input (make_sample.py). Then comes the session of the README: an archive is made in a folder,
-takes in three sheets, a survey mark and a photograph, lends a sheet to a crew, which adds a mark of its own; then it is looked at, and
-exported. What its lines print is worked out by the second machine of reference.py.
+First the sample is rehearsed, from standard input (make_sample.py). Then an archive is made in a folder, takes in three sheets, a survey
+mark and a photograph by a list, lends a sheet to a crew, which adds a mark of its own; then it is looked at, and exported. Then come the
+verbs for people, of which the README shows a session (verbs.py). What the lines print is worked out by the second machine of reference.py.
 
 Then the worked examples of torture/worked_lists.txt, which has what they must print, written out by hand. Each list is rehearsed. An
 example that lends, and tells more than one reply whole or has manifests in between, is carried out in a folder too: requests of which more
@@ -338,7 +338,7 @@ def all_sessions():
     every.show("# The sample, on standard input.")
     every.run(f"rehearse {MAKING}", rehearsed_sample()[1])
     every.show("")
-    every.show("# The first session of the README.")
+    every.show("# A first list of requests.")
     every.take(first)
     every.show("")
     every.show("# Its packages as SQL, and an archive with nothing in it, over an oblong frame.")
@@ -355,8 +355,9 @@ def files():
     """Each file's path and bytes."""
     first, every = all_sessions()
     made = {os.path.join(DATA, *path.split("/")): content for path, content in every.files.items()}
+    beside = {os.path.join(HERE, "..", *path.split("/")): content for path, content in first.files.items()}
     return {
-        os.path.join(HERE, "first.csv"): first.files["samples/first.csv"],
+        **beside,
         os.path.join(HERE, "first_session.txt"): "".join(first.printed).encode(),
         os.path.join(DATA, "sessions.txt"): "".join(every.typed).encode(),
         os.path.join(CRATE, "args"): b"session\nsessions.txt\n",
@@ -406,11 +407,11 @@ def is_shown_right(said, printed):
 
 
 def shown_otherwise():
-    """What the README shows of the first session, and is not so."""
-    printed = by_command([line.rstrip("\n") for line in "".join(first_session().printed).splitlines()])
-    said = shown()
+    """What the README shows of its sessions, and is not so."""
+    lines = [verbs.as_shown(line.rstrip("\n")) for line in "".join(all_sessions()[0].printed).splitlines()]
+    printed, said = by_command(lines), shown()
     if not said:
-        return ["nothing of the first session"]
+        return ["nothing of a session"]
     return [command for command, lines in said.items() if command not in printed or not is_shown_right(lines, printed[command])]
 
 
