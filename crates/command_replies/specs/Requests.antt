@@ -10,6 +10,7 @@ use Rattle.sheet_types.specs.declared.command.Command.TheVariants.{Add, Delete, 
 use Rattle.sheet_types.specs.declared.command.Content.{Content}
 use Rattle.sheet_types.specs.declared.command.Content.TheVariants.{Tile, Media, Row}
 use Rattle.sheet_types.specs.declared.command.Mapping.{Mapping}
+use Rattle.sheet_types.specs.declared.command.Mode.{Mode}
 use Rattle.sheet_types.specs.declared.command.Request.{Request}
 use Rattle.sheet_types.specs.declared.frame.Rect.{Rect}
 
@@ -19,10 +20,15 @@ quoted text = compact_text (string text)
 
 -- ---- members by what they are of
 
+abbrev pub place_members : ℤ → ℤ → ℤ → List ℕ
+place_members zoom column row =
+    codes "\"zoom\":" ++ (signed_decimal zoom ++ (codes ",\"column\":" ++ (signed_decimal column
+    ++ (codes ",\"row\":" ++ signed_decimal row))))
+
 abbrev pub tile_members : ℤ → ℤ → ℤ → List ℕ → List ℕ
 tile_members zoom column row bytes =
-    codes "\"kind\":\"tile\",\"zoom\":" ++ (signed_decimal zoom ++ (codes ",\"column\":" ++ (signed_decimal column
-    ++ (codes ",\"row\":" ++ (signed_decimal row ++ (codes ",\"data\":\"" ++ (encode_lower bytes ++ codes "\"")))))))
+    codes "\"kind\":\"tile\"," ++ (place_members zoom column row
+    ++ (codes ",\"data\":\"" ++ (encode_lower bytes ++ codes "\"")))
 
 abbrev pub medium_members : List ℕ → List ℕ → List ℕ
 medium_members content_type bytes =
@@ -45,9 +51,12 @@ link_members mapping base other =
 
 abbrev pub area_members : Rect → List ℕ
 area_members r =
-    codes "\"zoom\":" ++ (signed_decimal r.zoom ++ (codes ",\"column\":" ++ (signed_decimal r.column
-    ++ (codes ",\"row\":" ++ (signed_decimal r.row ++ (codes ",\"last_column\":" ++ (signed_decimal r.last_column
-    ++ (codes ",\"last_row\":" ++ signed_decimal r.last_row))))))))
+    place_members r.zoom r.column r.row ++ (codes ",\"last_column\":" ++ (signed_decimal r.last_column
+    ++ (codes ",\"last_row\":" ++ signed_decimal r.last_row)))
+
+abbrev pub loan_members : List ℕ → Mode → Rect → List ℕ
+loan_members child mode rect =
+    codes "\"other\":\"" ++ (uuid_text child ++ (codes "\",\"kind\":\"" ++ (mode_word mode ++ (codes "\"," ++ area_members rect))))
 
 -- of a command, but for its word and the package that it names first
 abbrev pub command_members : Command → List ℕ
@@ -56,8 +65,7 @@ command_members (Add holder identity content) =
 command_members (Delete holder identity) = codes "\"identity\":\"" ++ (uuid_text identity ++ codes "\"")
 command_members (Link holder mapping base other) = link_members mapping base other
 command_members (Unlink holder mapping base other) = link_members mapping base other
-command_members (Split source child mode rect) =
-    codes "\"other\":\"" ++ (uuid_text child ++ (codes "\",\"kind\":\"" ++ (mode_word mode ++ (codes "\"," ++ area_members rect))))
+command_members (Split source child mode rect) = loan_members child mode rect
 command_members (Merge child into ticket) =
     codes "\"other\":\"" ++ (uuid_text into ++ (codes "\",\"ticket\":" ++ signed_decimal ticket))
 

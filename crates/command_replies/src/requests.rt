@@ -1,9 +1,9 @@
 //! A request as JSON (RFC 8259), as it is read: its members in the order of the fields of a list.
 ghost use Rattle.std.specs.Prelude.{◌≡◌, IfOk, string_bytes};
-ghost use Rattle.command_replies.specs.Requests.{area_members, command_members, command_word, content_members, front_members, link_members, mark_members, medium_members, package_of, quoted, request_text, tile_members};
+ghost use Rattle.command_replies.specs.Requests.{area_members, command_members, command_word, content_members, front_members, link_members, loan_members, mark_members, medium_members, package_of, place_members, quoted, request_text, tile_members};
 
 use serde_json::json;
-use sheet_types::command::{Command, Content, Mapping, Request};
+use sheet_types::command::{Command, Content, Mapping, Mode, Request};
 use sheet_types::frame::Rect;
 use std::alloc::{AllocError, Global};
 use uuid::Uuid;
@@ -16,6 +16,13 @@ fn quoted(alloc: Global, text: &str) -> Result<String, AllocError>
     value.to_string(alloc)
 }
 
+/// The members of a place: zoom, column and row.
+fn place_members(alloc: Global, zoom: i64, column: i64, row: i64) -> Result<String, AllocError>
+    ensures { IfOk result (λ text. string_bytes text ≡ place_members zoom column row) }
+{
+    format!(in alloc; "\"zoom\":{zoom},\"column\":{column},\"row\":{row}")
+}
+
 /// The members of a tile.
 fn tile_members(
     alloc: Global,
@@ -26,10 +33,9 @@ fn tile_members(
 ) -> Result<String, AllocError>
     ensures { IfOk result (λ text. string_bytes text ≡ tile_members zoom column row bytes.now) }
 {
+    let place = place_members(alloc, zoom, column, row)?;
     let digits = hex::encode(alloc, bytes)?;
-    format!(in alloc;
-        "\"kind\":\"tile\",\"zoom\":{zoom},\"column\":{column},\"row\":{row},\"data\":\"{digits}\""
-    )
+    format!(in alloc; "\"kind\":\"tile\",{place},\"data\":\"{digits}\"")
 }
 
 /// The members of a medium.
@@ -84,16 +90,18 @@ fn link_members(
 fn area_members(alloc: Global, rect: &Rect) -> Result<String, AllocError>
     ensures { IfOk result (λ text. string_bytes text ≡ area_members rect.now) }
 {
-    let Rect {
-        zoom,
-        column,
-        last_column,
-        row,
-        last_row,
-    } = *rect;
-    format!(in alloc;
-        "\"zoom\":{zoom},\"column\":{column},\"row\":{row},\"last_column\":{last_column},\"last_row\":{last_row}"
-    )
+    let place = place_members(alloc, rect.zoom, rect.column, rect.row)?;
+    let last_column = rect.last_column;
+    let last_row = rect.last_row;
+    format!(in alloc; "{place},\"last_column\":{last_column},\"last_row\":{last_row}")
+}
+
+/// The members of a loan.
+fn loan_members(alloc: Global, child: Uuid, mode: Mode, rect: &Rect) -> Result<String, AllocError>
+    ensures { IfOk result (λ text. string_bytes text ≡ loan_members child mode rect.now) }
+{
+    let area = area_members(alloc, rect)?;
+    format!(in alloc; "\"other\":\"{child}\",\"kind\":\"{mode}\",{area}")
 }
 
 /// The members of a command, but for its word and the package that it names first.
@@ -127,10 +135,7 @@ fn command_members(alloc: Global, command: &Command) -> Result<String, AllocErro
             mode,
             rect,
             ..
-        } => {
-            let area = area_members(alloc, rect)?;
-            format!(in alloc; "\"other\":\"{child}\",\"kind\":\"{mode}\",{area}")
-        }
+        } => loan_members(alloc, *child, *mode, rect),
         Command::Merge { into, ticket, .. } => {
             format!(in alloc; "\"other\":\"{into}\",\"ticket\":{ticket}")
         }
