@@ -154,6 +154,20 @@ def go_and_come(verbs):
     verbs.bring_home(crew, archive)
 
 
+def come_out(verbs):
+    """What stands in items, printed and kept in a file, which is then shown as another medium."""
+    folder, run = verbs.folder, verbs.session.run
+    photo = nordmark.MEDIA["photo-lighthouse"][1]
+    run(f"get {folder} {nordmark.medium('level-book')}", "levels along the sound\n")
+    run(f"get {folder} {nordmark.medium('photo-lighthouse')[:4]} photo.jpg", "")
+    given, options = verbs.given(nordmark.medium("scan-1934"))
+    members = {"command": "add", "package": nordmark.ARCHIVE, "identity": nordmark.medium("scan-1934"), "kind": "media"}
+    text = request_text({**given, **members, "text": "image/jpeg", "data": photo})
+    run(f"put {folder} {nordmark.ARCHIVE} media photo.jpg{options} --dry-run", text)
+    run(f"get {folder} ffff", "refused: no such item\n", 1)
+    run(f"get {folder} 652 mark.txt", "refused: a name of fewer than four digits\n", 1)
+
+
 def no_request(verbs):
     """Words that say none."""
     light, book = nordmark.mark("light"), nordmark.medium("level-book")
@@ -187,5 +201,6 @@ def every_verb(session):
     verbs.medium(nordmark.ARCHIVE, "samples/lighthouse.jpg", "photo-lighthouse", photo, "image/jpeg")
     come_in(verbs)
     go_and_come(verbs)
+    come_out(verbs)
     no_request(verbs)
     return verbs.world

@@ -113,6 +113,9 @@ pub const STATUS_ABOUT: &str = "Prints a table of the packages that live";
 /// What `log` is for.
 pub const LOG_ABOUT: &str = "Prints the ledger, a line for each receipt";
 
+/// What `get` is for.
+pub const GET_ABOUT: &str = "Prints the bytes of a tile or a medium, or the label of a mark";
+
 /// What `explain` is for.
 pub const EXPLAIN_ABOUT: &str = "Prints the whole way of an item, from receipt to receipt";
 
@@ -183,6 +186,7 @@ Standard output:
   import    the report, a line for each request
   status    a line of headings, and a line for each package
   log       a line of headings, and a line for each receipt: number, moment, command, from, to, things, bytes
+  get       the bytes of the item, and nothing else
   explain   a line for each receipt that names the item, as an item or as an end of a link; and where it is
   receipt   the receipt, as JSON on a line
   manifest  the records of the package

@@ -1,6 +1,6 @@
 //! Which words the command line has.
 use crate::help::{
-    ABOUT, APPLY_ABOUT, AUDIT_ABOUT, EXPLAIN_ABOUT, EXPORT_ABOUT, FOLDER_WORDS, IMPORT_ABOUT,
+    ABOUT, APPLY_ABOUT, AUDIT_ABOUT, EXPLAIN_ABOUT, EXPORT_ABOUT, FOLDER_WORDS, GET_ABOUT, IMPORT_ABOUT,
     INIT_ABOUT, LOG_ABOUT, MANIFEST_ABOUT, MAP_ABOUT, RECEIPT_ABOUT, REHEARSE_ABOUT, REHEARSE_WORDS,
     SERVE_ABOUT, SESSION_ABOUT, SESSION_WORDS, STATUS_ABOUT, WORDS,
 };
@@ -158,6 +158,19 @@ fn log_command<'a>(alloc: Global) -> Result<Command<'a>, AllocError> {
         .arg(last.required(false))
 }
 
+/// Prints what stands in an item, or keeps it in a file.
+fn get_command<'a>(alloc: Global) -> Result<Command<'a>, AllocError> {
+    let output = word(alloc, "output", "FILE", "Where it is kept, as harbour.jpg; else it is printed");
+    over_folder(alloc, Command::new(alloc, "get"), GET_ABOUT)?
+        .arg(word(
+            alloc,
+            "identity",
+            "IDENTITY",
+            "The item, by its identity or the first digits of it, as 6523",
+        ))?
+        .arg(output.required(false))
+}
+
 /// Tells the way of an item.
 fn explain_command<'a>(alloc: Global) -> Result<Command<'a>, AllocError> {
     over_folder(alloc, Command::new(alloc, "explain"), EXPLAIN_ABOUT)?.arg(word(
@@ -241,6 +254,7 @@ pub fn sheetdesk<'a>(alloc: Global) -> Result<Command<'a>, AllocError> {
         .subcommand(import_command(alloc)?)?
         .subcommand(status_command(alloc)?)?
         .subcommand(log_command(alloc)?)?
+        .subcommand(get_command(alloc)?)?
         .subcommand(explain_command(alloc)?)?
         .subcommand(receipt_command(alloc)?)?
         .subcommand(over_package(alloc, "manifest", MANIFEST_ABOUT)?)?

@@ -6,6 +6,7 @@ mod founding;
 mod ordering;
 mod running;
 mod sessions;
+mod showing;
 mod streams;
 
 use crate::running::out_of_memory;

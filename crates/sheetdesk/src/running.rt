@@ -1,6 +1,7 @@
 //! A command, carried out: what it asks for is done in `cli`, `commands` and `views`.
 use crate::founding::founded;
 use crate::ordering::{is_verb, ordered};
+use crate::showing::shown;
 use crate::streams::{Input, Onlooker};
 use clap::error::ErrorKind;
 use clap::{ArgMatches, Error};
@@ -18,7 +19,7 @@ use std::io;
 use store_folder::fault::{FolderFault, cause_text};
 use views::endings as seen;
 use views::excerpts::LogWords;
-use views::looking::{Asked as AskedLook, look_for};
+use views::looking::Asked as AskedLook;
 
 /// Prints a text on standard error. Where that fails too, the status alone says how the program ended.
 pub(crate) fn print_error(rt: &HostRuntime, text: &str) {
@@ -149,6 +150,7 @@ fn asked_look<'m>(name: &str, given: &ArgMatches<'m>) -> Option<AskedLook<'m>> {
             from: given.get_str("from"),
             last: given.get_str("last"),
         })),
+        "get" => Some(AskedLook::Get(text_of(given, "identity"))),
         "explain" => Some(AskedLook::Explain(text_of(given, "identity"))),
         "receipt" => Some(AskedLook::Receipt(text_of(given, "request"))),
         "manifest" => Some(AskedLook::Manifest(text_of(given, "package"))),
@@ -183,10 +185,8 @@ pub(crate) fn carried_out(
     given: &ArgMatches<'_>,
     reader: &mut Input<'_>,
 ) -> u8 {
-    let folder = text_of(given, "folder");
-    let mut writer = io::writer(rt);
     if let Some(asked) = asked_look(name, given) {
-        return looked(rt, &look_for(rt, folder, asked, &mut writer));
+        return looked(rt, &shown(rt, text_of(given, "folder"), asked, given.get_str("output")));
     }
     let ending = match name {
         "init" => founded(rt, given),

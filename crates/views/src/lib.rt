@@ -3,6 +3,7 @@
 #![tactic(auto)]
 
 pub mod auditing;
+pub mod contents;
 pub mod endings;
 pub mod excerpts;
 pub mod explaining;

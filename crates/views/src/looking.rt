@@ -5,6 +5,7 @@ ghost use Rattle.uuid.specs.Text.{parsed_hyphenated};
 ghost use Rattle.views.specs.Looks.{Asks, IsNoUuid, IsUnread, Looked, Looks, OpensFor, unopened};
 
 use crate::auditing::audit_in;
+use crate::contents::get_in;
 use crate::endings::Ending;
 use crate::excerpts::{LogWords, asked_excerpt};
 use crate::explaining::explain_in;
@@ -36,6 +37,8 @@ pub enum Asked<'t> {
     Status,
     /// A line of headings, and a line for each receipt that is asked for, by number.
     Log(LogWords<'t>),
+    /// What stands in the item of this name.
+    Get(&'t str),
     /// A line for each receipt that names this identity, by number, and where the item stands now.
     Explain(&'t str),
     /// The kept receipt of this request, as the desk has it, on a line.
@@ -55,6 +58,7 @@ pub enum Asked<'t> {
 pub enum Look<'t> {
     Status,
     Log(Excerpt<'t>),
+    Get(&'t str),
     Explain(Uuid),
     Receipt(Uuid),
     Manifest(Uuid),
@@ -84,6 +88,7 @@ fn read_asked(asked: Asked<'_>) -> Result<Look<'_>, What>
             Some(excerpt) => Ok(Look::Log(excerpt)),
             None => Err(What::BadNumber),
         },
+        Asked::Get(identity) => Ok(Look::Get(identity)),
         Asked::Explain(identity) => Ok(Look::Explain(uuid_of(identity)?)),
         Asked::Receipt(request) => Ok(Look::Receipt(uuid_of(request)?)),
         Asked::Manifest(package) => Ok(Look::Manifest(uuid_of(package)?)),
@@ -109,6 +114,10 @@ pub fn look_in<S: Alter + Drop, W: Write>(
     match look {
         Look::Status => status_in(alloc, world, writer),
         Look::Log(excerpt) => log_in(alloc, world, &excerpt, writer),
+        Look::Get(identity) => {
+            let ending = get_in(alloc, &mut world, identity, writer);
+            (ending, world.into_stores())
+        }
         Look::Explain(identity) => explain_in(alloc, world, identity, writer),
         Look::Receipt(request) => {
             let ending = receipt_in(alloc, &mut world, request, writer);
