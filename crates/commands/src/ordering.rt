@@ -1,6 +1,6 @@
 //! The words of a verb over a world: its request is made, and shown or carried out.
 ghost use Rattle.std.specs.Prelude.{◌≡◌};
-ghost use Rattle.commands.specs.Orders.{Answers, IsCarriedOut, Orders, PrintsDeed, PrintsLine, TellsUnasked, TellsUnsaid};
+ghost use Rattle.commands.specs.Orders.{Answers, IsCarriedOut, Orders, OrdersOver, PrintsDeed, PrintsLine, TellsUnasked, TellsUnsaid};
 ghost use Rattle.commands.specs.Printing.{with_end};
 ghost use Rattle.command_folder.specs.Endings.{done};
 ghost use Rattle.command_folder.specs.declared.endings.Ending.TheVariants.{Declined};
@@ -119,7 +119,26 @@ fn answer_in<S: Alter + Drop, H: Shelf<S>, W: Write>(
     }
 }
 
-/// Makes the request that the words of a verb say over a world and the bytes of a reader. Then it is shown, or carried out.
+/// Makes the request that the words of a verb say over a world and these bytes. Then it is shown, or carried out.
+fn order_over<S: Alter + Drop, H: Shelf<S>, W: Write>(
+    alloc: Global,
+    world: &mut World<S>,
+    shelf: &mut H,
+    order: &Order<'_>,
+    purpose: Purpose,
+    bytes: Vec<u8>,
+    writer: &mut W,
+) -> Ending
+    ensures { OrdersOver S.Store writer.old writer.new (W.contents writer.old) (W.contents writer.new)
+        order.now purpose bytes.items world.old world.new result }
+{
+    match request_for(alloc, world, order, bytes) {
+        Ok(request) => answer_in(alloc, world, shelf, &request, purpose, writer),
+        Err(why) => tell_unasked(alloc, &why, writer),
+    }
+}
+
+/// The same over all bytes of a reader.
 pub fn order_in<S: Alter + Drop, H: Shelf<S>, R: Read + Drop, W: Write>(
     alloc: Global,
     world: &mut World<S>,
@@ -132,12 +151,8 @@ pub fn order_in<S: Alter + Drop, H: Shelf<S>, R: Read + Drop, W: Write>(
     ensures { Orders S.Store writer.old writer.new (W.contents writer.old) (W.contents writer.new)
         (R.remaining reader) order.now purpose world.old world.new result }
 {
-    let bytes = match read_body(alloc, reader) {
-        Ok(bytes) => bytes,
-        Err(ending) => return ending,
-    };
-    match request_for(alloc, world, order, bytes) {
-        Ok(request) => answer_in(alloc, world, shelf, &request, purpose, writer),
-        Err(why) => tell_unasked(alloc, &why, writer),
+    match read_body(alloc, reader) {
+        Ok(bytes) => order_over(alloc, world, shelf, order, purpose, bytes, writer),
+        Err(ending) => ending,
     }
 }
