@@ -117,6 +117,7 @@ fn put_receipts(text: &mut String, receipts: &[&Receipt]) -> Result<(), AllocErr
 /// # Errors
 ///
 /// Want of memory.
+#[tactic(auto, using(crate::proofs::Excerpts::lines_of))]
 pub fn excerpt_text(
     alloc: Global,
     ledger: &[Receipt],
