@@ -110,6 +110,12 @@ pub const SERVE_ABOUT: &str = "Serves the packages as JSON over HTTP, on this ma
 /// What `status` is for.
 pub const STATUS_ABOUT: &str = "Prints a table of the packages that live";
 
+/// What `log` is for.
+pub const LOG_ABOUT: &str = "Prints the ledger, a line for each receipt";
+
+/// What `get` is for.
+pub const GET_ABOUT: &str = "Prints the bytes of a tile or a medium, or the label of a mark";
+
 /// What `explain` is for.
 pub const EXPLAIN_ABOUT: &str = "Prints the whole way of an item, from receipt to receipt";
 
@@ -163,6 +169,7 @@ A first session, from the archive on:
   sheetdesk import maps list.csv
   sheetdesk apply maps < request.json
   sheetdesk status maps
+  sheetdesk log maps --last 20
   sheetdesk explain maps 00000000-0000-4000-8000-000000000001
   sheetdesk receipt maps 90000000-0000-4000-8000-000000000001
   sheetdesk manifest maps a0000000-0000-4000-8000-000000000000
@@ -178,6 +185,8 @@ Standard output:
   apply     the receipt of the request, or its refusal, as JSON on a line
   import    the report, a line for each request
   status    a line of headings, and a line for each package
+  log       a line of headings, and a line for each receipt: number, moment, command, from, to, things, bytes
+  get       the bytes of the item, and nothing else
   explain   a line for each receipt that names the item, as an item or as an end of a link; and where it is
   receipt   the receipt, as JSON on a line
   manifest  the records of the package

@@ -1,8 +1,8 @@
-//! What a command reads, and who is told how far it is: one type each, so that what is done is compiled once.
+//! What a command reads and writes, and who is told how far it is: one type each, so that what is done is compiled once.
 ghost use Rattle.std.specs.Prelude.{None};
 
 use command_words::progress::{Progress, Teller};
-use std::io::{IsTerminal, Read, Result, Stderr, StdinLock};
+use std::io::{IsTerminal, Printer, Read, Result, Stderr, StdinLock, Write};
 
 /// What a command reads.
 #[derive(Drop)]
@@ -18,6 +18,31 @@ impl<'a> Read for Input<'a> {
         match self {
             Input::Standard(reader) => reader.read(buf),
             Input::File(bytes) => bytes.read(buf),
+        }
+    }
+}
+
+/// Where a command that looks writes.
+#[derive(Drop)]
+pub(crate) enum Output<'a> {
+    /// Standard output.
+    Standard(Printer<'a, HostRuntime>),
+    /// Memory.
+    Kept(Vec<u8>),
+}
+
+impl<'a> Write for Output<'a> {
+    fn write(&mut self, buf: &[u8]) -> Result<usize> {
+        match self {
+            Output::Standard(writer) => writer.write(buf),
+            Output::Kept(bytes) => bytes.write(buf),
+        }
+    }
+
+    fn flush(&mut self) -> Result<()> {
+        match self {
+            Output::Standard(writer) => writer.flush(),
+            Output::Kept(bytes) => bytes.flush(),
         }
     }
 }
