@@ -68,7 +68,8 @@ The report then has the line
 
 With --serve and --count the world that the list led to is then served, as JSON over HTTP: COUNT
 connections of 127.0.0.1 at PORT, one after the other. Then the program ends, and nothing is kept.
-The port is taken before the list is read, so a client may connect at once, and waits.
+The port is taken before the list is read, so a client may connect at once, and waits. Standard error is
+told `listening on 127.0.0.1:PORT` then, and with --log a line a request: moment, request line, status.
   POST /requests                 a request, an object with the fields above that its command uses;
                                  answered by its receipt, or by its refusal
   GET  /packages                 the live packages, with what each holds
@@ -176,7 +177,7 @@ A first session, from the archive on:
   sheetdesk export maps a0000000-0000-4000-8000-000000000000 | sqlite3 true.gpkg
   sheetdesk map maps > maps.svg
   sheetdesk audit maps
-  sheetdesk serve maps 8080 100
+  sheetdesk serve maps 8080
 The form of list.csv is told by `sheetdesk rehearse --help`; request.json is an object with the same
 fields, of which its command uses.
 
@@ -194,6 +195,10 @@ Standard output:
   map       SVG; who holds which sheets of one zoom, each package in its colour
   audit     good and the number of receipts; or the name of what is wrong, as OutOfAccount
   serve     nothing
+
+A desk says `listening on 127.0.0.1:PORT` on standard error once its port is taken. With --log it tells there
+of each request: the moment, the request line and the status. It ends after COUNT connections, or with
+status 3 once a store has failed.
 
 Exit status:
   0  done; of a list whatever its report says

@@ -8,6 +8,9 @@ use crate::verbs::{join_command, lend_command, part_command, put_command, return
 use clap::{Arg, ArgAction, Command};
 use std::alloc::{AllocError, Global};
 
+/// How many connections a desk serves where no number is given.
+const MOST_CONNECTIONS: &str = "1000000";
+
 /// An option that has to be given, whose text is judged later.
 fn option<'a>(alloc: Global, id: &'a str, value: &'a str, help: &'a str) -> Arg<'a> {
     Arg::new(alloc, id)
@@ -41,7 +44,7 @@ fn making<'a>(alloc: Global, name: &'a str) -> Result<Command<'a>, AllocError> {
         ))
 }
 
-/// A command with the two options that open a desk, each of which wants the other.
+/// A command with the options that open a desk. PORT and COUNT want each other.
 fn serving<'a>(alloc: Global, command: Command<'a>) -> Result<Command<'a>, AllocError> {
     let serve = option(
         alloc,
@@ -57,7 +60,8 @@ fn serving<'a>(alloc: Global, command: Command<'a>) -> Result<Command<'a>, Alloc
     );
     command
         .arg(serve.required(false).requires_arg("count")?)?
-        .arg(count.required(false).requires_arg("serve")?)
+        .arg(count.required(false).requires_arg("serve")?)?
+        .arg(log(alloc).requires_arg("serve")?)
 }
 
 /// A word that has to be given, by its place, whose text is judged later.
@@ -207,16 +211,26 @@ fn audit_command<'a>(alloc: Global) -> Result<Command<'a>, AllocError> {
     over_folder(alloc, Command::new(alloc, "audit"), AUDIT_ABOUT)
 }
 
+/// The option that asks for a line a connection.
+fn log<'a>(alloc: Global) -> Arg<'a> {
+    Arg::new(alloc, "log")
+        .long("log")
+        .help("Tell standard error of each request: moment, method, path, status")
+        .action(ArgAction::SetTrue)
+}
+
 /// Opens a desk.
 fn serve_command<'a>(alloc: Global) -> Result<Command<'a>, AllocError> {
+    let count = word(
+        alloc,
+        "count",
+        "COUNT",
+        "How many connections are served before the program ends, as 100",
+    );
     over_folder(alloc, Command::new(alloc, "serve"), SERVE_ABOUT)?
         .arg(word(alloc, "port", "PORT", "Where, on 127.0.0.1, as 8080"))?
-        .arg(word(
-            alloc,
-            "count",
-            "COUNT",
-            "How many connections are served before the program ends, as 100",
-        ))
+        .arg(count.required(false).default_value(MOST_CONNECTIONS))?
+        .arg(log(alloc))
 }
 
 /// The command that shows what a list would come to.

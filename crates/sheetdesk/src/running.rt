@@ -112,7 +112,7 @@ fn rehearsed(
     rt: &HostRuntime,
     given: &ArgMatches<'_>,
     reader: &mut Input<'_>,
-    teller: &mut Onlooker,
+    teller: &mut Onlooker<'_>,
 ) -> Outcome {
     let words = archive_words(given);
     let mut writer = io::writer(rt);
@@ -161,10 +161,9 @@ fn asked_look<'m>(name: &str, given: &ArgMatches<'m>) -> Option<AskedLook<'m>> {
     }
 }
 
-/// Carries out a command that may change what is in a folder that holds packages, or has no folder. How far a list is, standard error is told where it is
-/// a terminal.
+/// Carries out a command that may change what is in a folder that holds packages, or has no folder. How far a list is, and of a desk, standard error is told.
 fn changed(rt: &HostRuntime, name: &str, given: &ArgMatches<'_>, reader: &mut Input<'_>) -> Ending {
-    let mut teller = Onlooker::new(rt);
+    let mut teller = Onlooker::new(rt, given.get_flag("log"));
     match asked_work(name, given) {
         Some(asked) => work_for(
             rt,

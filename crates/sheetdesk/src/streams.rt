@@ -1,7 +1,10 @@
 //! What a command reads and writes, and who is told how far it is: one type each, so that what is done is compiled once.
 ghost use Rattle.std.specs.Prelude.{None};
 
+use crate::clock::moment_now;
+use command_words::desk_lines::{exchange_line, listening_line};
 use command_words::progress::{Progress, Teller};
+use desk_http::telling::DeskTeller;
 use std::io::{IsTerminal, Printer, Read, Result, Stderr, StdinLock, Write};
 
 /// What a command reads.
@@ -47,30 +50,59 @@ impl<'a> Write for Output<'a> {
     }
 }
 
-/// Who is told how far a list is: standard error, where it is a terminal.
+/// Who is told how far a list is, and of a desk: standard error. Of a list it is told only where it is a terminal, and of each
+/// connection only where that was asked for.
 #[derive(Drop)]
-pub(crate) struct Onlooker {
+pub(crate) struct Onlooker<'r> {
+    rt: &'r HostRuntime,
     terminal: Option<Progress<Stderr>>,
+    logs: bool,
 }
 
-impl Onlooker {
-    pub(crate) fn new(rt: &HostRuntime) -> Onlooker {
+impl<'r> Onlooker<'r> {
+    pub(crate) fn new(rt: &'r HostRuntime, logs: bool) -> Onlooker<'r> {
         let writer = rt.stderr();
         let terminal = if writer.is_terminal() {
             Some(Progress { writer })
         } else {
             None
         };
-        Onlooker { terminal }
+        Onlooker { rt, terminal, logs }
+    }
+
+    /// Writes the line of a port.
+    fn write_port(&self, port: u16) -> Result<()> {
+        let line = listening_line(self.rt.alloc(), port)?;
+        self.rt.stderr().write_all(line.as_bytes())
+    }
+
+    /// Writes the line of a connection.
+    fn write_exchange(&self, request: &[u8], status: &[u8]) -> Result<()> {
+        let moment = moment_now(self.rt)?;
+        let line = exchange_line(self.rt.alloc(), moment.as_str(), request, status)?;
+        self.rt.stderr().write_all(line.as_slice())
     }
 }
 
-impl Teller for Onlooker {
+impl<'r> Teller for Onlooker<'r> {
     ghost told = { λ _. None };
 
     fn tell(&mut self, done: u64, all: u64) {
         if let Some(terminal) = &mut self.terminal {
             terminal.tell(done, all);
+        }
+    }
+}
+
+impl<'r> DeskTeller for Onlooker<'r> {
+    fn tell_port(&mut self, port: u16) {
+        // A desk serves where nobody can be told of it.
+        let _untold = self.write_port(port);
+    }
+
+    fn tell_exchange(&mut self, line: &[u8], status: &[u8]) {
+        if self.logs {
+            let _untold = self.write_exchange(line, status);
         }
     }
 }
