@@ -158,7 +158,7 @@ fn done_in(
     purpose: Purpose,
     reader: &mut Input<'_>,
 ) -> Ending {
-    let mut teller = Onlooker::new(rt);
+    let mut teller = Onlooker::new(rt, false);
     let asked = Asked::Order(order, purpose);
     work_for(rt, folder, asked, reader, &mut io::writer(rt), &mut teller)
 }
