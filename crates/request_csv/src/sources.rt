@@ -1,7 +1,7 @@
 //! Where the bytes of a list come from, and whether that can fail.
 ghost use Rattle.std.specs.Prelude.{◌≡◌, false, ⊤};
 
-use std::io::{self, Read};
+use std::io::{Read, Result as IoResult};
 
 /// What the bytes of a list come from.
 pub trait ListSource: Read {
@@ -30,7 +30,7 @@ pub struct Stream<R>(pub R);
 impl<R: Read> Read for Stream<R> {
     ghost remaining = { λ s. R.remaining s.0 };
 
-    fn read(&mut self, buf: &mut [u8]) -> io::Result<usize> {
+    fn read(&mut self, buf: &mut [u8]) -> IoResult<usize> {
         self.0.read(buf)
     }
 }

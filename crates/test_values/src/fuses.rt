@@ -1,5 +1,6 @@
 //! Files in memory that stop after so many calls, what is left of them, and a shelf of stores over them.
 ghost use Rattle.std.specs.Prelude.{◌≡◌, ⊤, [], IsTrue, IfOk};
+ghost use Rattle.sqlite.specs.Files.{file_state};
 ghost use Rattle.sqlite.specs.Held.{state};
 ghost use Rattle.sqlite.specs.State.{HasCleanDisk};
 ghost use Rattle.store_sql.specs.Writing.{AreKeyed};
@@ -135,18 +136,25 @@ pub trait Reopens<S: Alter> {
         ensures { IfOk result (λ conn. HasCleanDisk (state S.Store conn) → AreKeyed (state S.Store conn).now) };
 }
 
+/// The store when its files come back.
+fn reopened(alloc: Global, remains: &Remains, left: Left) -> Result<Connection<Store>, Fault>
+    ensures { IfOk result (λ conn. HasCleanDisk (file_state conn) → AreKeyed (file_state conn).now) }
+{
+    let log = holding(alloc, remains.log.left(left.log))?;
+    let db = holding(alloc, remains.db.left(left.db))?;
+    match Connection::open_files(alloc, Files { log, db }, Options::new(7)) {
+        Ok(conn) => Ok(conn),
+        Err((error, _)) => Err(Fault::from(error)),
+    }
+}
+
 impl Reopens<Store> for FusedShelf {
     fn remains(&self, store: Store) -> Result<Remains, Fault> {
         Remains::of(self.alloc, store.close())
     }
 
     fn opened(&self, remains: &Remains, left: Left) -> Result<Connection<Store>, Fault> {
-        let log = holding(self.alloc, remains.log.left(left.log))?;
-        let db = holding(self.alloc, remains.db.left(left.db))?;
-        match Connection::open_files(self.alloc, Files { log, db }, Options::new(7)) {
-            Ok(conn) => Ok(conn),
-            Err((error, _)) => Err(Fault::from(error)),
-        }
+        reopened(self.alloc, remains, left)
     }
 }
 
