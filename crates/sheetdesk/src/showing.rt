@@ -1,6 +1,7 @@
 //! What a command that looks prints, or keeps in a file.
 use crate::streams::Output;
 use command_folder::endings::{DONE, FAILED};
+use std::io::Write;
 use std::{fs, io};
 use views::endings::Ending;
 use views::looking::{Asked, look_for};
@@ -26,7 +27,7 @@ fn shown_in(rt: &HostRuntime, folder: &str, asked: Asked<'_>, path: &str) -> End
     if ending == Ending::Usual(DONE) {
         return kept(rt, path, bytes.as_slice());
     }
-    match io::Write::write_all(&mut io::writer(rt), bytes.as_slice()) {
+    match io::writer(rt).write_all(bytes.as_slice()) {
         Ok(()) => ending,
         Err(_) => Ending::Usual(FAILED),
     }

@@ -5,16 +5,16 @@ use Rattle.views.proofs.contents.get_in.Goals as goal
 pub returns-in-Ok-in-Ok : goal.returns-in-Ok-in-Ok
 returns-in-Ok-in-Ok g c = record {
   found = Ok (Ok c.in-Ok-2.bytes.items);
-  told = c.named_data.ensures.told;
-  read = c.named_data.ensures.read;
+  told = c.in-Ok.ensures.told;
+  read = c.in-Ok.ensures.read;
   shown = c.show_bytes.ensures;
 }
 
 pub returns-in-Ok-in-Err : goal.returns-in-Ok-in-Err
 returns-in-Ok-in-Err g c = record {
   found = Ok (Err c.in-Err.fault);
-  told = c.named_data.ensures.told;
-  read = c.named_data.ensures.read;
+  told = c.in-Ok.ensures.told;
+  read = c.in-Ok.ensures.read;
   shown = c.tell_unfound.ensures;
 }
 
@@ -22,6 +22,6 @@ pub returns-in-Err : goal.returns-in-Err
 returns-in-Err g c = record {
   found = Err c.in-Err.fault;
   told = λ clean. tt;
-  read = c.named_data.ensures.read;
+  read = c.in-Err.ensures.read;
   shown = c.stopped.ensures;
 }
