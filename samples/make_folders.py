@@ -5,7 +5,8 @@ Usage: make_folders.py           writes the files that are not as they would be 
        make_folders.py --check   writes nothing; status 1 where a file is not what would be made, or plain Python has another fault
 
 An archive A takes in the first six requests of the worked example `loan that is opened again` (torture/worked_lists.txt), by which it lends
-B; bench/plain_folder.py carries them out over stock SQLite. A folder is a copy of the two files, of one, or of some under other names,
+B; another the first five of `loans of loans`, by which B lends C, C lends D, and D lends E. bench/plain_folder.py carries them out over stock
+SQLite. A folder is a copy of their files, of some, or of some under other names,
 and a file may be changed by SQL. Files stand below crates/sheetdesk/data/folders, small ones: pages of 512 bytes, and no log.
 Two files are the same where SQLite's dumps of them are, since its releases number themselves in a file. Of each folder whose files are
 all of the second version, what bench/plain_audit.py finds is held against the fault that is named here.
@@ -28,10 +29,11 @@ sys.dont_write_bytecode = True
 
 import plain_audit
 import plain_folder
+import reference
 import worked_lists
 from machine.lists import read_requests
 
-EXAMPLE = "loan that is opened again"
+EXAMPLE, DEEP = "loan that is opened again", "loans of loans"
 ARCHIVE, LOAN, OTHER, FOURTH, FIFTH = (f"{worked_lists.uuid_of(digit)}.gpkg" for digit in "abcde")
 
 # What the first version has not: no store of it has a link of a row to a tile.
@@ -41,6 +43,41 @@ BAD_CODE = "UPDATE sheet_rows SET code = -1"
 TORN = "DELETE FROM sheet_identity WHERE kind = 3"
 LOST = ["DELETE FROM sheet_rows", TORN]
 CHANGED = "UPDATE sheet_tiles SET tile_data = X'7a'"
+PASSED_OVER = [f"UPDATE {table} SET seq = 7 WHERE seq = 5" for table in ("sheet_receipts", "sheet_items")]
+TAKEN_AWAY = [f"DELETE FROM {table} WHERE seq = 1" for table in ("sheet_receipts", "sheet_items")]
+# A frame of twice the height.
+HIGHER = [
+    "UPDATE gpkg_tile_matrix_set SET max_y = 8192",
+    "UPDATE gpkg_contents SET max_y = 8192",
+    "UPDATE gpkg_tile_matrix SET matrix_height = 2 * matrix_height",
+]
+
+
+def example(name):
+    """The first check of a worked example."""
+    return [check for check in worked_lists.written_out() if check.name == name][0]
+
+
+def rehearsed():
+    """The second machine after the example."""
+    check = example(EXAMPLE)
+    return reference.rehearse(worked_lists.uuid_of("a"), check.frame, worked_lists.list_of(check))
+
+
+def forged():
+    """The line of the addition of the second tile is that of its deletion."""
+    line = rehearsed().replies[3].line.split(" ")
+    return f"UPDATE sheet_receipts SET line = 'delete {line[1]} {line[2]}' WHERE seq = 4"
+
+
+def put_in():
+    """The first receipt, by which one thing moved, as rows of another store."""
+    first = rehearsed().replies[0]
+    thing = first.moved[0]
+    ends = [first.source or "", first.target or "", *first.sums()]
+    receipt = (first.seq, first.request, first.at, first.line, *ends)
+    moved = (first.seq, 0, thing.kind, thing.base, thing.other or "", thing.size, thing.fingerprint)
+    return [f"INSERT INTO sheet_receipts VALUES {receipt}", f"INSERT INTO sheet_items VALUES {moved}"]
 
 
 
@@ -113,6 +150,12 @@ def alone(*statements):
     return Copy("alone/" + ARCHIVE, statements)
 
 
+def deep(digits):
+    """The packages of these digits, of four loans each of which is one of the other."""
+    names = [f"{worked_lists.uuid_of(digit)}.gpkg" for digit in digits]
+    return {name: Copy("deep/" + name, ()) for name in names}
+
+
 # Each folder: the fault that it is, or None, and its files. Of one that has a package of the first version plain Python says nothing.
 CASES = {
     "lent": (None, {ARCHIVE: lent(), LOAN: loan(), OTHER: NO_BYTES, "notes.txt": NOTES}),
@@ -127,6 +170,12 @@ CASES = {
     "dangling": ("Dangling", {ARCHIVE: lent(TORN), LOAN: loan()}),
     "out_of_account": ("OutOfAccount", {ARCHIVE: lent(*LOST), LOAN: loan()}),
     "altered": ("Altered", {ARCHIVE: lent(CHANGED), LOAN: loan()}),
+    "passed_over": ("OutOfAccount", {ARCHIVE: lent(*PASSED_OVER), LOAN: loan()}),
+    "forged_line": ("OutOfAccount", {ARCHIVE: lent(forged()), LOAN: loan()}),
+    "moved_receipt": ("OutOfAccount", {ARCHIVE: lent(*TAKEN_AWAY), LOAN: loan(*put_in())}),
+    "higher_frame": ("ForeignFrame", {ARCHIVE: lent(), LOAN: loan(*HIGHER)}),
+    "deep": (None, deep("abcde")),
+    "lost_below": ("MissingPackage", deep("abde")),
     "same_keys": (None, {ARCHIVE: lent(*SAME_KEYS), LOAN: loan(*SAME_KEYS)}),
     "no_database": ("StoreFault", {ARCHIVE: lent(), LOAN: NO_DATABASE}),
     # Of what lies beside the archive only the loan that came home, the one that was never lent, and what is left of other packages may go.
@@ -166,12 +215,13 @@ def make_archive(folder):
         plain_folder.init(words)
 
 
-def make_after(folder, number_of_check):
-    """The same after the requests of one check of the example: the first lends, and by the last the loan is home."""
+def make_lent(folder, name, count):
+    """The same after so many requests of an example: the last is a split, or all that follows it."""
     make_archive(folder)
-    check = [check for check in worked_lists.written_out() if check.name == EXAMPLE][number_of_check]
     register = plain_folder.Folder(folder)
-    for number, request in enumerate(read_requests(worked_lists.list_of(check)), 1):
+    check = [check for check in worked_lists.written_out() if check.name == name][-1]
+    requests = read_requests(worked_lists.list_of(check))[:count]
+    for number, request in enumerate(requests, 1):
         assert register.apply(request) == (number, 0), request
     register.close()
 
@@ -189,8 +239,9 @@ def make(room):
     made = os.path.join(room, "made")
     os.mkdir(made)
     make_archive(os.path.join(made, "alone"))
-    make_after(os.path.join(made, "lent"), 0)
-    make_after(os.path.join(made, "home"), -1)
+    make_lent(os.path.join(made, "lent"), EXAMPLE, 6)
+    make_lent(os.path.join(made, "home"), EXAMPLE, 8)
+    make_lent(os.path.join(made, "deep"), DEEP, 5)
     wanted = os.path.join(room, "folders")
     for name, (_, files) in CASES.items():
         os.makedirs(os.path.join(wanted, name))

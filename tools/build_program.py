@@ -227,7 +227,8 @@ def prove(copy, lock, log, progress):
     env = {**sharing(), **os.environ}
     # (it holds the lock too, should this process be killed)
     how = {"pass_fds": [lock.fileno()], "preexec_fn": os.setpgrp, "env": env, "stdin": subprocess.DEVNULL}
-    process = subprocess.Popen(["rt", "ci"], cwd=copy, stdout=subprocess.PIPE, stderr=subprocess.STDOUT, **how)
+    words = [sys.executable, f"{ROOT}/tools/prove_crates.py"]
+    process = subprocess.Popen(words, cwd=copy, stdout=subprocess.PIPE, stderr=subprocess.STDOUT, **how)
     try:
         return follow(process, progress, log, copy)
     finally:

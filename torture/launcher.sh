@@ -24,7 +24,7 @@ make() {
   printf '# two\nlow:\n\nsheetdesk: low\n' >"$work/$1/crates.txt"
   echo 'Handles allowed: none.' >"$work/$1/HANDLES"
   cp "$top/sheetdesk" "$work/$1/"
-  cp "$top/tools/build_program.py" "$top/tools/run_unproved.py" "$work/$1/tools/"
+  cp "$top/tools/build_program.py" "$top/tools/prove_crates.py" "$top/tools/run_unproved.py" "$work/$1/tools/"
   change "$1" "$2"
 }
 # So that no earlier run of this script has built the same.

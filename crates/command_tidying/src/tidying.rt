@@ -118,7 +118,7 @@ fn take_all<Y: Yard>(
 }
 
 /// Takes out what this register can do without, and answers what that was.
-pub fn tidied<Y: Yard>(alloc: Global, yard: &mut Y, register: &Register) -> Tidied
+pub fn tidy_by<Y: Yard>(alloc: Global, yard: &mut Y, register: &Register) -> Tidied
     ensures { IsTidied Y.listed Y.shown Y.removes register.now yard.old yard.new result }
 {
     let mut names = Vec::new(alloc);

@@ -4,6 +4,7 @@
 pub mod applying;
 pub mod importing;
 pub mod init;
+pub mod ordering;
 pub mod registers;
 mod serving;
 pub mod tidying;

@@ -10,7 +10,7 @@ use crate::registers::register_of;
 use command_folder::endings::{DONE, Ending, FAILED, NO_MEMORY, OpenFault};
 use command_folder::folders::{OpenFolder, open_folder};
 use command_tidying::lines::removed_lines;
-use command_tidying::tidying::{Tidied, tidied};
+use command_tidying::tidying::{Tidied, tidy_by};
 use command_tidying::yard::Yard;
 use command_words::statuses::{Failure, Outcome};
 use manifest_csv::sending::send;
@@ -132,7 +132,7 @@ fn tidy_world<S: Alter + Drop, Y: Yard>(
 {
     let (register, stores) = register_of(alloc, world);
     match register {
-        Ok(register) => (Ok(tidied(alloc, yard, &register)), stores),
+        Ok(register) => (Ok(tidy_by(alloc, yard, &register)), stores),
         Err(fault) => (Err(fault), stores),
     }
 }

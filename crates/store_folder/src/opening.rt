@@ -1,5 +1,6 @@
 //! The stores of a folder, opened.
-ghost use Rattle.std.specs.Prelude.{◌≡◌, ◌≤◌, ◌*◌, ◌++◌, ◌∷◌, [], IfOk, IsTrue, OnOk, All, length, max};
+ghost use Rattle.std.specs.Prelude.{◌≡◌, ◌≤◌, ◌*◌, ◌++◌, ◌∷◌, [], ℕ, List, ⊤, IfOk, IsTrue, OnOk, All, length, max};
+ghost use Rattle.std.specs.List.{AllZip};
 ghost use Rattle.sqlite.specs.Files.{IsOpened, file_state};
 ghost use Rattle.sqlite.specs.State.{HasCleanDisk};
 ghost use Rattle.sqlite_std_file.specs.File.{file_is_usable};
@@ -143,6 +144,9 @@ trait InFolder: Drop {
     /// What is known of it when it was just opened.
     ghost is_just_opened: { Self → Type 0 };
 
+    /// It is that of the package of this UUID. Who opens by this trait alone can show it by such a call, and by nothing else.
+    ghost is_of: { List ℕ → Self → Type 0 };
+
     /// Opens that of one package, with so many pages in memory.
     fn open(
         rt: &HostRuntime,
@@ -150,7 +154,8 @@ trait InFolder: Drop {
         package: Uuid,
         pages: usize,
     ) -> Result<Self, FolderFault>
-        ensures { IfOk result is_just_opened };
+        ensures opened { IfOk result is_just_opened }
+        ensures own { IfOk result (λ it. is_of «package» it) };
 }
 
 impl InFolder for Connection<FolderStore> {
@@ -158,6 +163,9 @@ impl InFolder for Connection<FolderStore> {
     ghost use Rattle.store_folder.specs.Opened.{IsJustOpened};
 
     ghost is_just_opened = { λ conn. IsJustOpened (file_state conn) };
+
+    // No clause can speak of what a path leads to: `open_store` has to be read.
+    ghost is_of = { λ uuid conn. ⊤ };
 
     fn open(
         rt: &HostRuntime,
@@ -176,6 +184,7 @@ fn open_each<T: InFolder>(
     packages: &[Uuid],
 ) -> Result<Vec<T>, FolderFault>
     ensures opened { IfOk result (λ stores. All T.is_just_opened stores.items) }
+    ensures own { IfOk result (λ stores. AllZip T.is_of packages.now stores.items) }
     ensures each { IfOk result (λ stores. length stores.items ≡ length packages.now) }
 {
     let pages = cache_pages(packages.len());

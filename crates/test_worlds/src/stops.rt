@@ -1,6 +1,5 @@
 // One request in a world whose stores are files of which one may stop, with what a crash leaves then.
-use crate::fuses::{FusedShelf, Fusing, Left, Remains, Reopens, WAYS, leaves_other};
-use crate::loans::{A, LoanStep, Wish, asked, package};
+use crate::loans::{A, LoanStep, Wish, asked};
 use crate::pictures::{push_reply, push_store, push_world};
 use crate::scenes::{Before, ITEMS, LOANS, Scene};
 use package_tables::fault::Fault;
@@ -10,7 +9,9 @@ use sheet_types::refusal::Refusal;
 use sqlite::{Alter, Connection};
 use std::alloc::Global;
 use store_shelf::shelf::Shelf;
-use test_values::{BEGUN, FRAME};
+use test_values::{
+    BEGUN, FRAME, FusedShelf, Fusing, Left, Remains, Reopens, WAYS, leaves_other, package,
+};
 use uuid::Uuid;
 use world::world::World;
 

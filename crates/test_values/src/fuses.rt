@@ -1,7 +1,11 @@
-// Files in memory that stop after so many calls, what is left of them, and a shelf of stores over them.
+//! Files in memory that stop after so many calls, what is left of them, and a shelf of stores over them.
 ghost use Rattle.std.specs.Prelude.{◌≡◌, ⊤, [], IsTrue, IfOk};
+ghost use Rattle.sqlite.specs.Files.{file_state};
+ghost use Rattle.sqlite.specs.Held.{state};
+ghost use Rattle.sqlite.specs.State.{HasCleanDisk};
+ghost use Rattle.store_sql.specs.Writing.{AreKeyed};
 
-use crate::loans::package;
+use crate::requests::package;
 use package_tables::fault::Fault;
 use sqlite::{Alter, Connection, FileStore, Files, Options};
 use sqlite_disk::{Crash, Disk, Fuse, Memory};
@@ -128,7 +132,20 @@ pub trait Reopens<S: Alter> {
     fn remains(&self, store: S) -> Result<Remains, Fault>;
 
     /// The store when its files come back.
-    fn opened(&self, remains: &Remains, left: Left) -> Result<Connection<S>, Fault>;
+    fn opened(&self, remains: &Remains, left: Left) -> Result<Connection<S>, Fault>
+        ensures { IfOk result (λ conn. HasCleanDisk (state S.Store conn) → AreKeyed (state S.Store conn).now) };
+}
+
+/// The store when its files come back.
+fn reopened(alloc: Global, remains: &Remains, left: Left) -> Result<Connection<Store>, Fault>
+    ensures { IfOk result (λ conn. HasCleanDisk (file_state conn) → AreKeyed (file_state conn).now) }
+{
+    let log = holding(alloc, remains.log.left(left.log))?;
+    let db = holding(alloc, remains.db.left(left.db))?;
+    match Connection::open_files(alloc, Files { log, db }, Options::new(7)) {
+        Ok(conn) => Ok(conn),
+        Err((error, _)) => Err(Fault::from(error)),
+    }
 }
 
 impl Reopens<Store> for FusedShelf {
@@ -137,12 +154,7 @@ impl Reopens<Store> for FusedShelf {
     }
 
     fn opened(&self, remains: &Remains, left: Left) -> Result<Connection<Store>, Fault> {
-        let log = holding(self.alloc, remains.log.left(left.log))?;
-        let db = holding(self.alloc, remains.db.left(left.db))?;
-        match Connection::open_files(self.alloc, Files { log, db }, Options::new(7)) {
-            Ok(conn) => Ok(conn),
-            Err((error, _)) => Err(Fault::from(error)),
-        }
+        reopened(self.alloc, remains, left)
     }
 }
 
