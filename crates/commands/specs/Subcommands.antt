@@ -8,7 +8,8 @@ use Rattle.request_json.specs.Requests.{IsRequestText}
 use Rattle.world.specs.Worlds.{IsStep, LeavesNoTrace, Seen, StandsStill}
 use Rattle.manifest_csv.specs.Imports.{Imports}
 use Rattle.manifest_csv.specs.declared.importing.ImportFault.{ImportFault}
-use Rattle.desk_http.specs.Connections.{IsServedBy}
+use Rattle.desk_http.specs.Connections.{IsServedBy, Serves}
+use Rattle.desk_http.specs.declared.connections.DeskFault.{DeskFault}
 use Rattle.command_words.specs.Endings.{import_outcome}
 use Rattle.command_words.specs.declared.statuses.Failure.{Failure}
 use Rattle.command_words.specs.declared.statuses.Outcome.TheVariants.{Refused, Stopped}
@@ -54,6 +55,12 @@ import_ending (Err fault) = Usual (import_outcome fault)
 abbrev pub IsUnlisted : Ending → Type 0
 IsUnlisted ending = (ending ≡ no_memory) ⊎ (ending ≡ Usual (Refused BadList))
 
+-- ---- serve
+
+abbrev pub serve_ending : Result (Unit {0}) DeskFault → Ending
+serve_ending (Ok x) = done
+serve_ending (Err fault) = failed
+
 module _ {S : Type 0} (g : Ghosts S) where
   -- A request that was carried out, and its reply as a line.
   pub record IsApplied (q : Request) (old new : Seen S) (before after : Option (List ℕ)) (ending : Ending) : Type 0 where
@@ -80,6 +87,9 @@ module _ {S : Type 0} (g : Ghosts S) where
       (IsUnlisted ending × (new ≡ old) × (writer' ≡ writer))
       ⊎ ((text : Option (List ℕ)) × (faults more : ℕ) × EndsImport text old new faults more writer writer' before after ending)
 
-  -- So many connections were served; or the port could not be had, and nothing was.
+  -- A desk over so many connections ended so; or the port could not be had, and nothing was done.
   abbrev pub ServesOn : ℕ → Seen S → Seen S → Ending → Type 0
-  ServesOn count old new ending = ((ending ≡ done) × IsServedBy g count old new) ⊎ ((ending ≡ failed) × (new ≡ old))
+  ServesOn count old new ending =
+      ((end : Result (Unit {0}) DeskFault) × (ending ≡ serve_ending end) × IsServedBy g count old new
+      × Serves g count old new end)
+      ⊎ ((ending ≡ failed) × (new ≡ old))

@@ -1,31 +1,17 @@
 //! A request list, carried out in a world.
-ghost use Rattle.std.specs.Prelude.{◌≡◌, IfErr};
-ghost use Rattle.command_words.specs.Endings.{import_outcome};
+ghost use Rattle.std.specs.Prelude.{IfErr};
 ghost use Rattle.commands.specs.Subcommands.{EndsImport, ImportsFile, IsUnlisted};
 
 use command_folder::endings::{DONE, Ending, NO_MEMORY};
-use command_words::statuses::{Failure, Outcome, What};
-use manifest_csv::importing::{ImportFault, import as import_list};
+use command_words::statuses::{Outcome, What, end_of_import};
+use manifest_csv::importing::import as import_list;
 use manifest_csv::progress::Teller;
-use request_csv::lists::ReadFault;
 use sqlite::Alter;
 use std::alloc::Global;
 use std::fs::File;
 use std::io::{ErrorKind, Read, Write};
 use store_shelf::shelf::Shelf;
 use world::world::World;
-
-/// How an import ends the program, unless it went through.
-fn end_of_import(fault: ImportFault) -> Outcome
-    ensures { result ≡ import_outcome fault }
-{
-    match fault {
-        ImportFault::Unread(ReadFault::Memory) => Outcome::Stopped(Failure::OutOfMemory),
-        ImportFault::Unread(_) => Outcome::Refused(What::BadList),
-        ImportFault::Stopped(_, fault) => Outcome::Stopped(Failure::from(fault)),
-        ImportFault::Unwritten => Outcome::Stopped(Failure::StoreFault),
-    }
-}
 
 /// Carries out the request list of a reader in a world, and writes its report.
 pub fn import_in<S: Alter + Drop, H: Shelf<S>, R: Read + Drop, W: Write, T: Teller>(

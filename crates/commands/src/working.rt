@@ -5,11 +5,14 @@ ghost use Rattle.commands.specs.Works.{Asks, EndsWork, IsUnread, OpensFor, Worke
 
 use crate::applying::apply_in;
 use crate::importing::import_file;
+use crate::ordering::{Purpose, order_in};
 use crate::serving::serve_world;
 use command_folder::endings::Ending;
 use command_folder::folders::{OpenFolder, open_folder};
+use command_requests::orders::Order;
 use command_words::arguments::{Desk, DeskWords, read_desk};
 use command_words::statuses::{Outcome, What};
+use desk_http::telling::DeskTeller;
 use manifest_csv::progress::Teller;
 use sqlite::{Alter, Connection};
 use sqlite_trees::store::Store;
@@ -29,6 +32,8 @@ pub enum Asked<'t> {
     Import(&'t str),
     /// So many connections of 127.0.0.1 at a port are served, one after the other.
     Serve(DeskWords<'t>),
+    /// The request that the words of a verb say is shown, or carried out.
+    Order(Order<'t>, Purpose),
 }
 
 /// The same, the words read.
@@ -37,6 +42,7 @@ pub enum Work<'t> {
     Apply,
     Import(&'t str),
     Serve(Desk),
+    Order(Order<'t>, Purpose),
 }
 
 /// What words ask for; `None` where a number of theirs is none, or out of its range.
@@ -51,11 +57,12 @@ fn read_asked(asked: Asked<'_>) -> Option<Work<'_>>
             Some(desk) => Some(Work::Serve(desk)),
             None => None,
         },
+        Asked::Order(order, purpose) => Some(Work::Order(order, purpose)),
     }
 }
 
-/// Does it over a world and a shelf. The teller is told of each request of a list that is done.
-fn worked<S: Alter + Drop, H: Shelf<S>, R: Read + Drop, W: Write, T: Teller>(
+/// Does it over a world and a shelf. The teller is told of each request of a list that is done, and of each connection of a desk.
+fn worked<S: Alter + Drop, H: Shelf<S>, R: Read + Drop, W: Write, T: Teller + DeskTeller>(
     rt: &HostRuntime,
     world: &mut World<S>,
     shelf: &mut H,
@@ -70,12 +77,15 @@ fn worked<S: Alter + Drop, H: Shelf<S>, R: Read + Drop, W: Write, T: Teller>(
     match work {
         Work::Apply => apply_in(rt.alloc(), world, shelf, reader, writer),
         Work::Import(file) => import_file(rt, world, shelf, file, writer, teller),
-        Work::Serve(desk) => serve_world(rt, world, shelf, desk),
+        Work::Serve(desk) => serve_world(rt, world, shelf, desk, teller),
+        Work::Order(order, purpose) => {
+            order_in(rt.alloc(), world, shelf, &order, purpose, reader, writer)
+        }
     }
 }
 
 /// The same of a world that ends with it: its stores are handed on.
-fn work_in<S: Alter + Drop, H: Shelf<S>, R: Read + Drop, W: Write, T: Teller>(
+fn work_in<S: Alter + Drop, H: Shelf<S>, R: Read + Drop, W: Write, T: Teller + DeskTeller>(
     rt: &HostRuntime,
     mut world: World<S>,
     shelf: &mut H,
@@ -95,7 +105,7 @@ fn work_in<S: Alter + Drop, H: Shelf<S>, R: Read + Drop, W: Write, T: Teller>(
 ///
 /// The one place where a folder's stores are handed to a function over any store: the check pays
 /// for their type at each such call anew.
-fn work_at<R: Read + Drop, W: Write, T: Teller>(
+fn work_at<R: Read + Drop, W: Write, T: Teller + DeskTeller>(
     rt: &HostRuntime,
     folder: &str,
     work: Work<'_>,
@@ -126,7 +136,7 @@ fn work_at<R: Read + Drop, W: Write, T: Teller>(
 /// Does what words ask for over the packages of a folder. The words are read first: where they
 /// cannot be, nothing is opened and nothing is written.
 /// The folder is opened before anything is read.
-pub fn work_for<R: Read + Drop, W: Write, T: Teller>(
+pub fn work_for<R: Read + Drop, W: Write, T: Teller + DeskTeller>(
     rt: &HostRuntime,
     folder: &str,
     asked: Asked<'_>,
