@@ -1,11 +1,11 @@
 // Stores of an example that another program changed, and what they come to.
 use crate::examples::Example;
-use crate::openings::{opened, world_of};
+use crate::openings::world_of;
 use crate::runs::{over_files, requests_of};
 use package_tables::fault::Fault;
 use sqlite::Alter;
 use std::alloc::Global;
-use test_values::{Checked, FusedShelf, Fusing, Remains, Reopens, SYNCED, altered};
+use test_values::{Checked, FusedShelf, Fusing, Remains, Reopens, SYNCED, altered, opened_each};
 
 /// Which stores of an example are handed in, by the first digits of their packages, in this order; what is done before to that of the archive and to that of its loan; and what they come to.
 #[derive(Clone, Copy)]
@@ -59,7 +59,7 @@ fn found<S: Alter + Drop, H: Reopens<S>>(
         let store = files_of(files, digit)?;
         handed.push(changed(shelf, store, statements(damage, digit))?)?;
     }
-    let stores = opened(alloc, shelf, handed.as_slice(), SYNCED)?;
+    let stores = opened_each(alloc, shelf, handed.as_slice(), SYNCED)?;
     match world_of(alloc, stores)? {
         Ok(_) => Ok(String::from_str(alloc, "a world")?),
         Err(fault) => Ok(fault),

@@ -1,5 +1,4 @@
 // Files that are left, opened as stores, and what they come to.
-ghost use Rattle.std.specs.Prelude.{◌≡◌, ◌++◌, ◌∷◌, [], IfOk, OnOk};
 ghost use Rattle.opening_stores.specs.Stores.{AreAllKeyed};
 
 use desk_replies::bodies::{receipt_body, refusal_body};
@@ -19,36 +18,8 @@ use std::io::Write;
 use std::str::from_utf8;
 use store_shelf::shelf::Shelf;
 use test_lists::Narrow;
-use test_values::{Left, Remains, Reopens};
 use uuid::Uuid;
 use world::world::World;
-
-// Puts one more behind a list.
-fn push<T: Drop>(list: &mut Vec<T>, item: T) -> Result<(), Fault>
-    ensures { OnOk result (list.new.items ≡ list.old.items ++ item ∷ []) }
-{
-    match list.push(item) {
-        Ok(()) => Ok(()),
-        Err(_) => Err(Fault::OutOfMemory),
-    }
-}
-
-/// The stores of these files, in their order, each just opened.
-pub fn opened<S: Alter + Drop, H: Reopens<S>>(
-    alloc: Global,
-    shelf: &H,
-    files: &[Remains],
-    way: Left,
-) -> Result<Vec<Connection<S>>, Fault>
-    ensures { IfOk result (λ stores. AreAllKeyed S.Store stores.items) }
-{
-    let mut stores = Vec::new(alloc);
-    for remains in files {
-        let store = shelf.opened(remains, way)?;
-        push(&mut stores, store)?;
-    }
-    Ok(stores)
-}
 
 fn with_uuid(alloc: Global, fault: RecoverFault, uuid: Uuid) -> Result<String, AllocError> {
     format!(in alloc; "{fault} {uuid}")

@@ -1,7 +1,7 @@
 // A split and a merge, once for each call of a file that stops in it. Whatever a crash leaves opens as a world, and the
 // request that comes again gets the receipt that was due: that of the second machine.
 use crate::examples::{COMES_HOME, Example, GOES_HOME, IS_LENT, IS_LENT_ON};
-use crate::openings::{opened, printed, replied, world_of};
+use crate::openings::{printed, replied, world_of};
 use crate::runs::{Stop, last_of, over_files, requests_of};
 use package_tables::fault::Fault;
 use sheet_types::command::Request;
@@ -9,7 +9,9 @@ use sqlite::Alter;
 use std::alloc::Global;
 use std::test::Fail;
 use store_shelf::shelf::Shelf;
-use test_values::{Checked, FusedShelf, Fusing, Left, Reopens, Stops, WAYS, leaves_other};
+use test_values::{
+    Checked, FusedShelf, Fusing, Left, Reopens, Stops, WAYS, leaves_other, opened_each,
+};
 use world::world::World;
 
 // An example with its requests.
@@ -82,7 +84,7 @@ fn check_crash<S: Alter + Drop, H: Shelf<S> + Reopens<S>>(
     counts: &mut Counts,
     checked: &mut Checked,
 ) -> Result<(), Fault> {
-    let stores = opened(alloc, shelf, &stop.files, way)?;
+    let stores = opened_each(alloc, shelf, &stop.files, way)?;
     match world_of(alloc, stores)? {
         Ok(world) => {
             let mut world = world;

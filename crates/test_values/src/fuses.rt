@@ -1,5 +1,5 @@
 //! Files in memory that stop after so many calls, what is left of them, and a shelf of stores over them.
-ghost use Rattle.std.specs.Prelude.{◌≡◌, ⊤, [], IsTrue, IfOk};
+ghost use Rattle.std.specs.Prelude.{◌≡◌, ◌++◌, ◌∷◌, ⊤, [], IsTrue, IfOk, OnOk, All};
 ghost use Rattle.sqlite.specs.Files.{file_state};
 ghost use Rattle.sqlite.specs.Held.{state};
 ghost use Rattle.sqlite.specs.State.{HasCleanDisk};
@@ -156,6 +156,33 @@ impl Reopens<Store> for FusedShelf {
     fn opened(&self, remains: &Remains, left: Left) -> Result<Connection<Store>, Fault> {
         reopened(self.alloc, remains, left)
     }
+}
+
+// Puts one more behind a list.
+fn push<T: Drop>(list: &mut Vec<T>, item: T) -> Result<(), Fault>
+    ensures { OnOk result (list.new.items ≡ list.old.items ++ item ∷ []) }
+{
+    match list.push(item) {
+        Ok(()) => Ok(()),
+        Err(_) => Err(Fault::OutOfMemory),
+    }
+}
+
+/// The stores of these files, in their order, each just opened.
+pub fn opened_each<S: Alter + Drop, H: Reopens<S>>(
+    alloc: Global,
+    shelf: &H,
+    files: &[Remains],
+    left: Left,
+) -> Result<Vec<Connection<S>>, Fault>
+    ensures { IfOk result (λ stores. All (λ conn. HasCleanDisk (state S.Store conn) → AreKeyed (state S.Store conn).now) stores.items) }
+{
+    let mut stores = Vec::new(alloc);
+    for remains in files {
+        let store = shelf.opened(remains, left)?;
+        push(&mut stores, store)?;
+    }
+    Ok(stores)
 }
 
 /// Whether a crash in this way leaves other bytes of these stores than each way before it in `WAYS`.

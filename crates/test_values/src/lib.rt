@@ -16,7 +16,7 @@ pub use crate::changes::{Change, altered, at_rest, committed, in_memory};
 pub use crate::checked::Checked;
 pub use crate::contents::{medium_content, row_content, tile_content};
 pub use crate::fuses::{
-    FusedShelf, Fusing, Left, Remains, Reopens, SYNCED, Stops, WAYS, leaves_other,
+    FusedShelf, Fusing, Left, Remains, Reopens, SYNCED, Stops, WAYS, leaves_other, opened_each,
 };
 pub use crate::packages::{
     WITH_A_LINK, can_be_made, empty_package, fill_with_a_link, is_good, new_package, new_tables,
