@@ -1,5 +1,5 @@
 -- What one connection makes of a world, and one after another.
-use Rattle.std.specs.Prelude.{◌≤◌, ℕ, true, false}
+use Rattle.std.specs.Prelude.{◌≤◌, ℕ, zero, suc, true, false}
 use Rattle.std.proofs.Common.{◌≡◌, ◌⊎◌, ◌+◌, List, [], ◌∷◌, ◌++◌, length, Option, Result, Ok, Err, refl, sym, subst, inl, inr, arith, length-append}
 use Rattle.sqlite.specs.Store.{Ghosts}
 use Rattle.sheet_types.specs.Step.{Step}
