@@ -23,17 +23,10 @@ fn place_members(alloc: Global, zoom: i64, column: i64, row: i64) -> Result<Stri
     format!(in alloc; "\"zoom\":{zoom},\"column\":{column},\"row\":{row}")
 }
 
-/// The members of a tile.
-fn tile_members(
-    alloc: Global,
-    zoom: i64,
-    column: i64,
-    row: i64,
-    bytes: &[u8],
-) -> Result<String, AllocError>
-    ensures { IfOk result (λ text. string_bytes text ≡ tile_members zoom column row bytes.now) }
+/// The members of a tile, after those of its place.
+fn tile_members(alloc: Global, place: &str, bytes: &[u8]) -> Result<String, AllocError>
+    ensures { IfOk result (λ text. string_bytes text ≡ tile_members place.now bytes.now) }
 {
-    let place = place_members(alloc, zoom, column, row)?;
     let digits = hex::encode(alloc, bytes)?;
     format!(in alloc; "\"kind\":\"tile\",{place},\"data\":\"{digits}\"")
 }
@@ -65,7 +58,10 @@ fn content_members(alloc: Global, content: &Content) -> Result<String, AllocErro
             column,
             row,
             bytes,
-        } => tile_members(alloc, *zoom, *column, *row, bytes.as_slice()),
+        } => {
+            let place = place_members(alloc, *zoom, *column, *row)?;
+            tile_members(alloc, place.as_str(), bytes.as_slice())
+        }
         Content::Media {
             content_type,
             bytes,
