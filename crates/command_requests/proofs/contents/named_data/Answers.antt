@@ -16,4 +16,4 @@ pub returns-in-Ok-clause-told : goal.returns-in-Ok-clause-told
 returns-in-Ok-clause-told g c = λ clean w stands.
     let listed = c.in_ok-items.ensures.told (c.in_ok-bytes-in-Ok.ensures.read.clean clean) w stands in
     let now = stands_after g.S.Store c.args.world.now c.world_items.new.world c.in_ok-items.ensures.read w stands in
-    (c.in-Ok.entry, ap (λ es. the_item es c.args.word.now) (sym listed ∙ sym c.as_slice.ensures.value) ∙ c.in-Ok.ensures, c.in_ok-bytes-in-Ok.ensures.told clean w now)
+    (c.in-Ok.entry, ap (λ es. the_item es c.args.word.now) (sym listed ∙ sym c.as_slice.ensures.value) ∙ sym c.in-Ok.ensures, c.in_ok-bytes-in-Ok.ensures.told clean w now)
