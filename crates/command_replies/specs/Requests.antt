@@ -25,10 +25,12 @@ place_members zoom column row =
     codes "\"zoom\":" ++ (signed_decimal zoom ++ (codes ",\"column\":" ++ (signed_decimal column
     ++ (codes ",\"row\":" ++ signed_decimal row))))
 
-abbrev pub tile_members : ℤ → ℤ → ℤ → List ℕ → List ℕ
-tile_members zoom column row bytes =
-    codes "\"kind\":\"tile\"," ++ (place_members zoom column row
-    ++ (codes ",\"data\":\"" ++ (encode_lower bytes ++ codes "\"")))
+abbrev pub data_member : List ℕ → List ℕ
+data_member bytes = codes "\"data\":\"" ++ (encode_lower bytes ++ codes "\"")
+
+-- of a tile: its kind, its place and its bytes
+abbrev pub tile_members : List ℕ → List ℕ → List ℕ
+tile_members place bytes = codes "\"kind\":\"tile\"," ++ (place ++ (codes "," ++ bytes))
 
 abbrev pub medium_members : List ℕ → List ℕ → List ℕ
 medium_members content_type bytes =
@@ -40,7 +42,7 @@ mark_members x y code label =
     ++ (codes ",\"code\":" ++ (signed_decimal code ++ (codes ",\"text\":" ++ quoted label))))))
 
 abbrev pub content_members : Content → List ℕ
-content_members (Tile zoom column row bytes) = tile_members zoom column row bytes
+content_members (Tile zoom column row bytes) = tile_members (place_members zoom column row) (data_member bytes)
 content_members (Media content_type bytes) = medium_members content_type bytes
 content_members (Row x y code label) = mark_members x y code label
 

@@ -1,6 +1,6 @@
 //! A request as JSON (RFC 8259), as it is read: its members in the order of the fields of a list.
 ghost use Rattle.std.specs.Prelude.{◌≡◌, IfOk, string_bytes};
-ghost use Rattle.command_replies.specs.Requests.{area_members, command_members, command_word, content_members, front_members, link_members, loan_members, mark_members, medium_members, package_of, place_members, quoted, request_text, tile_members};
+ghost use Rattle.command_replies.specs.Requests.{area_members, command_members, command_word, content_members, data_member, front_members, link_members, loan_members, mark_members, medium_members, package_of, place_members, quoted, request_text, tile_members};
 
 use serde_json::json;
 use sheet_types::command::{Command, Content, Mapping, Mode, Request};
@@ -23,19 +23,19 @@ fn place_members(alloc: Global, zoom: i64, column: i64, row: i64) -> Result<Stri
     format!(in alloc; "\"zoom\":{zoom},\"column\":{column},\"row\":{row}")
 }
 
-/// The members of a tile.
-fn tile_members(
-    alloc: Global,
-    zoom: i64,
-    column: i64,
-    row: i64,
-    bytes: &[u8],
-) -> Result<String, AllocError>
-    ensures { IfOk result (λ text. string_bytes text ≡ tile_members zoom column row bytes.now) }
+/// The member that has bytes.
+fn data_member(alloc: Global, bytes: &[u8]) -> Result<String, AllocError>
+    ensures { IfOk result (λ text. string_bytes text ≡ data_member bytes.now) }
 {
-    let place = place_members(alloc, zoom, column, row)?;
     let digits = hex::encode(alloc, bytes)?;
-    format!(in alloc; "\"kind\":\"tile\",{place},\"data\":\"{digits}\"")
+    format!(in alloc; "\"data\":\"{digits}\"")
+}
+
+/// The members of a tile: its kind, its place and its bytes.
+fn tile_members(alloc: Global, place: &str, data: &str) -> Result<String, AllocError>
+    ensures { IfOk result (λ text. string_bytes text ≡ tile_members place.now «data».now) }
+{
+    format!(in alloc; "\"kind\":\"tile\",{place},{data}")
 }
 
 /// The members of a medium.
@@ -65,7 +65,11 @@ fn content_members(alloc: Global, content: &Content) -> Result<String, AllocErro
             column,
             row,
             bytes,
-        } => tile_members(alloc, *zoom, *column, *row, bytes.as_slice()),
+        } => {
+            let place = place_members(alloc, *zoom, *column, *row)?;
+            let data = data_member(alloc, bytes.as_slice())?;
+            tile_members(alloc, place.as_str(), data.as_str())
+        }
         Content::Media {
             content_type,
             bytes,

@@ -1,5 +1,6 @@
 -- What is made of a world by the words of a verb, what is printed, and how the program ends. Profile.
 use Rattle.std.specs.Prelude.{◌≡◌, ◌⊎◌, ℕ, List, Option, Result, Ok, Err, IfSome}
+use Rattle.sqlite.specs.Held.{Held}
 use Rattle.sqlite.specs.Store.{Ghosts}
 use Rattle.sheet_types.specs.World.{World}
 use Rattle.sheet_types.specs.declared.command.Command.{Command}
@@ -7,7 +8,7 @@ use Rattle.sheet_types.specs.declared.command.Request.{Request}
 use Rattle.sheet_types.specs.declared.receipt.Receipt.{Receipt}
 use Rattle.sheet_types.specs.declared.refusal.Refusal.{Refusal}
 use Rattle.world_members.specs.Members.{AllClean}
-use Rattle.world.specs.Worlds.{IsStep, LeavesNoTrace, Seen, StandsFor, StandsStill}
+use Rattle.world.specs.Worlds.{IsStep, LeavesNoTrace, Seen, StandsFor, StandsStill, held}
 use Rattle.command_verbs.specs.Faults.{verb_line}
 use Rattle.command_verbs.specs.declared.verbs.VerbFault.{VerbFault}
 use Rattle.command_verbs.specs.declared.verbs.VerbFault.TheVariants.{OutOfMemory}
@@ -21,9 +22,10 @@ use Rattle.command_replies.specs.Requests.{request_text}
 use Rattle.command_words.specs.Failures.{of_fault}
 use Rattle.command_words.specs.declared.statuses.Outcome.TheVariants.{Stopped}
 use Rattle.command_folder.specs.Endings.{done, no_memory}
+use Rattle.command_folder.specs.Folders.{OpensThen}
 use Rattle.command_folder.specs.Printing.{Prints}
 use Rattle.command_folder.specs.declared.endings.Ending.{Ending}
-use Rattle.command_folder.specs.declared.endings.Ending.TheVariants.{Declined, Usual}
+use Rattle.command_folder.specs.declared.endings.Ending.TheVariants.{Declined, Unopened, Usual}
 use Rattle.commands.specs.Printing.{PrintsReply, ask_again, with_end}
 use Rattle.commands.specs.Subcommands.{IsUnread}
 use Rattle.commands.specs.declared.ordering.Purpose.{Purpose}
@@ -83,14 +85,24 @@ module _ {S : Type 0} (g : Ghosts S) where
     abbrev pub OrdersOver : Order → Purpose → List ℕ → Seen S → Seen S → Ending → Type 0
     OrdersOver o purpose bytes old new ending =
         ((why : OrderFault) × IsUntouched g old new
-          × (AllClean g new.members → (w : World) → StandsFor g old w → IsWhyUnasked w o bytes why)
-          × TellsUnasked writer writer' before after why ending)
+        × (AllClean g new.members → (w : World) → StandsFor g old w → IsWhyUnasked w o bytes why)
+        × TellsUnasked writer writer' before after why ending)
         ⊎ ((q : Request) × (read : Seen S) × IsUntouched g old read
-          × (AllClean g read.members → (w : World) → StandsFor g old w → Asks w o bytes q)
-          × Answers purpose q read new ending)
+        × (AllClean g read.members → (w : World) → StandsFor g old w → Asks w o bytes q)
+        × Answers purpose q read new ending)
 
     -- The same over all bytes of a reader; or they could not be read, and nothing was done or written.
     abbrev pub Orders : Option (List ℕ) → Order → Purpose → Seen S → Seen S → Ending → Type 0
     Orders text o purpose old new ending =
         (IsUnread ending × (new ≡ old) × (writer' ≡ writer))
         ⊎ ((bytes : List ℕ) × IfSome text (λ t. bytes ≡ t) × OrdersOver o purpose bytes old new ending)
+
+    -- The same of a world that ended with it, and of which these stores are left.
+    abbrev pub EndsOrder : Option (List ℕ) → Order → Purpose → Seen S → List (Held S) → Ending → Type 0
+    EndsOrder text o purpose old stores ending =
+        (new : Seen S) × (stores ≡ held g new) × Orders text o purpose old new ending
+
+    -- The folder was not opened, and nothing was written; or its world was, and this was made of it.
+    abbrev pub OrdersFor : Option (List ℕ) → Order → Purpose → Ending → Type 0
+    OrdersFor text o purpose ending =
+        OpensThen g Unopened (λ old new. Orders text o purpose old new ending) writer writer' ending

@@ -9,19 +9,17 @@ use Rattle.command_words.specs.declared.statuses.What.TheVariants.{BadNumber}
 use Rattle.command_folder.specs.Folders.{OpensThen}
 use Rattle.command_folder.specs.declared.endings.Ending.{Ending}
 use Rattle.command_folder.specs.declared.endings.Ending.TheVariants.{Unopened, Usual}
-use Rattle.commands.specs.Orders.{Orders}
 use Rattle.commands.specs.Subcommands.{Applies, ImportsFile, ServesOn}
 use Rattle.commands.specs.declared.working.Asked.{Asked}
 use Rattle.commands.specs.declared.working.Asked.TheVariants as asked
 use Rattle.commands.specs.declared.working.Work.{Work}
-use Rattle.commands.specs.declared.working.Work.TheVariants.{Apply, Import, Serve, Order}
+use Rattle.commands.specs.declared.working.Work.TheVariants.{Apply, Import, Serve}
 
 -- what the words ask for
 abbrev pub Asks : Asked → Work → Type 0
 Asks asked.Apply Apply = Unit {0}
 Asks (asked.Import word) (Import file) = file.now ≡ word.now
 Asks (asked.Serve words) (Serve desk) = AsksDesk words.port.now words.count.now desk.port desk.count
-Asks (asked.Order words intent) (Order order purpose) = (order ≡ words) × (purpose ≡ intent)
 Asks words work = ⊥
 
 -- A number that the words name is none, or out of its range.
@@ -38,7 +36,6 @@ module _ {S : Type 0} (g : Ghosts S) (text : Option (List ℕ)) where
     Worked Apply ending = Applies g text old new writer writer' before after ending
     Worked (Import file) ending = ImportsFile g old new writer writer' before after ending
     Worked (Serve desk) ending = ServesOn g desk.count old new ending × (writer' ≡ writer)
-    Worked (Order order purpose) ending = Orders g writer writer' before after text order purpose old new ending
 
   -- The same of a world that ended with it, and of which these stores are left.
   abbrev pub EndsWork : {W : Type 0} → Seen S → List (Held S) → W → W

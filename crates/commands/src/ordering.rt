@@ -1,6 +1,6 @@
 //! The words of a verb over a world: its request is made, and shown or carried out.
 ghost use Rattle.std.specs.Prelude.{◌≡◌};
-ghost use Rattle.commands.specs.Orders.{Answers, IsCarriedOut, Orders, OrdersOver, PrintsDeed, PrintsLine, TellsUnasked, TellsUnsaid};
+ghost use Rattle.commands.specs.Orders.{Answers, EndsOrder, IsCarriedOut, Orders, OrdersFor, OrdersOver, PrintsDeed, PrintsLine, TellsUnasked, TellsUnsaid};
 ghost use Rattle.commands.specs.Printing.{with_end};
 ghost use Rattle.command_folder.specs.Endings.{done};
 ghost use Rattle.command_folder.specs.declared.endings.Ending.TheVariants.{Declined};
@@ -9,6 +9,7 @@ ghost use Rattle.command_verbs.specs.Faults.{verb_line};
 
 use crate::applying::{ask_again_body, read_body, tell_refusal, told};
 use command_folder::endings::{DONE, Ending, FAILED, NO_MEMORY};
+use command_folder::folders::{OpenFolder, open_folder};
 use command_replies::receipts::reply_text;
 use command_replies::requests::request_text;
 use command_requests::orders::{Order, OrderFault, request_for};
@@ -18,9 +19,13 @@ use command_words::statuses::{Failure, Outcome};
 use manifest_csv::sending::send;
 use sheet_types::command::{Command, Request};
 use sheet_types::receipt::Receipt;
-use sqlite::Alter;
+use sqlite::{Alter, Connection};
+use sqlite_trees::store::Store;
 use std::alloc::Global;
 use std::io::{Read, Write};
+use store_folder::opening::close_stores;
+use store_folder::shelf::FolderShelf;
+use store_folder::start::FolderStore;
 use store_shelf::shelf::Shelf;
 use world::world::World;
 
@@ -154,5 +159,60 @@ pub fn order_in<S: Alter + Drop, H: Shelf<S>, R: Read + Drop, W: Write>(
     match read_body(alloc, reader) {
         Ok(bytes) => order_over(alloc, world, shelf, order, purpose, bytes, writer),
         Err(ending) => ending,
+    }
+}
+
+/// The same of a world that ends with it: its stores are handed on.
+fn order_with<S: Alter + Drop, H: Shelf<S>, R: Read + Drop, W: Write>(
+    alloc: Global,
+    mut world: World<S>,
+    shelf: &mut H,
+    order: &Order<'_>,
+    purpose: Purpose,
+    reader: R,
+    writer: &mut W,
+) -> (Ending, Vec<Connection<S>>)
+    ensures { EndsOrder S.Store writer.old writer.new (W.contents writer.old) (W.contents writer.new)
+        (R.remaining reader) order.now purpose world result.1.items result.0 }
+{
+    let ending = order_in(alloc, &mut world, shelf, order, purpose, reader, writer);
+    (ending, world.into_stores())
+}
+
+/// Opens a folder, and makes the request that the words of a verb say over its world and the bytes of a reader.
+/// Then it is shown, or carried out. The folder is opened before anything is read.
+pub fn order_for<R: Read + Drop, W: Write>(
+    rt: &HostRuntime,
+    folder: &str,
+    order: &Order<'_>,
+    purpose: Purpose,
+    reader: R,
+    writer: &mut W,
+) -> Ending
+    ensures { OrdersFor ⟦<FolderStore as Store>⟧ writer.old writer.new
+        (W.contents writer.old) (W.contents writer.new) (R.remaining reader) order.now purpose result }
+{
+    match open_folder(rt, folder) {
+        Ok(
+            OpenFolder {
+                world,
+                lock: _lock,
+                ..
+            },
+        ) => {
+            let mut shelf = FolderShelf::new(rt, folder);
+            let (ending, stores) = order_with(
+                rt.alloc(),
+                world,
+                &mut shelf,
+                order,
+                purpose,
+                reader,
+                writer,
+            );
+            close_stores(stores);
+            ending
+        }
+        Err(fault) => Ending::Unopened(fault),
     }
 }

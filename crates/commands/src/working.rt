@@ -5,11 +5,9 @@ ghost use Rattle.commands.specs.Works.{Asks, EndsWork, IsUnread, OpensFor, Worke
 
 use crate::applying::apply_in;
 use crate::importing::import_file;
-use crate::ordering::{Purpose, order_in};
 use crate::serving::serve_world;
 use command_folder::endings::Ending;
 use command_folder::folders::{OpenFolder, open_folder};
-use command_requests::orders::Order;
 use command_words::arguments::{Desk, DeskWords, read_desk};
 use command_words::statuses::{Outcome, What};
 use desk_http::telling::DeskTeller;
@@ -32,8 +30,6 @@ pub enum Asked<'t> {
     Import(&'t str),
     /// So many connections of 127.0.0.1 at a port are served, one after the other.
     Serve(DeskWords<'t>),
-    /// The request that the words of a verb say is shown, or carried out.
-    Order(Order<'t>, Purpose),
 }
 
 /// The same, the words read.
@@ -42,7 +38,6 @@ pub enum Work<'t> {
     Apply,
     Import(&'t str),
     Serve(Desk),
-    Order(Order<'t>, Purpose),
 }
 
 /// What words ask for; `None` where a number of theirs is none, or out of its range.
@@ -57,7 +52,6 @@ fn read_asked(asked: Asked<'_>) -> Option<Work<'_>>
             Some(desk) => Some(Work::Serve(desk)),
             None => None,
         },
-        Asked::Order(order, purpose) => Some(Work::Order(order, purpose)),
     }
 }
 
@@ -78,9 +72,6 @@ fn worked<S: Alter + Drop, H: Shelf<S>, R: Read + Drop, W: Write, T: Teller + De
         Work::Apply => apply_in(rt.alloc(), world, shelf, reader, writer),
         Work::Import(file) => import_file(rt, world, shelf, file, writer, teller),
         Work::Serve(desk) => serve_world(rt, world, shelf, desk, teller),
-        Work::Order(order, purpose) => {
-            order_in(rt.alloc(), world, shelf, &order, purpose, reader, writer)
-        }
     }
 }
 

@@ -9,15 +9,23 @@ const SECONDS_OF_A_DAY: u64 = 86_400;
 
 /// The moment of so many seconds since 1970, and milliseconds; `None` past the year 9999.
 fn moment_of(alloc: Global, seconds: u64, millis: u32) -> Result<Option<String>, AllocError> {
-    let Ok(Date { year, month, day, .. }) = Date::from_unix_epoch_day((seconds / SECONDS_OF_A_DAY) as i64) else {
+    let Ok(
+        Date {
+            year,
+            month,
+            day,
+            ..
+        },
+    ) = Date::from_unix_epoch_day((seconds / SECONDS_OF_A_DAY) as i64)
+    else {
         return Ok(None);
     };
     let time = seconds % SECONDS_OF_A_DAY;
     let hour = time / 3600;
     let minute = time / 60 % 60;
     let second = time % 60;
-    let text = format!(
-        in alloc; "{year:04}-{month:02}-{day:02}T{hour:02}:{minute:02}:{second:02}.{millis:03}Z"
+    let text = format!(in alloc;
+        "{year:04}-{month:02}-{day:02}T{hour:02}:{minute:02}:{second:02}.{millis:03}Z"
     )?;
     Ok(Some(text))
 }

@@ -1,14 +1,13 @@
 //! A verb's words become an order over the bytes of a file. What they leave out is new, or of the clock.
 use crate::clock::{moment_now, new_uuid};
 use crate::running::text_of;
-use crate::streams::{Input, Onlooker};
+use crate::streams::Input;
 use clap::ArgMatches;
 use command_folder::endings::{Ending, FAILED, NO_MEMORY};
 use command_requests::orders::Order;
 use command_verbs::verbs::{Mark, Verb};
 use command_words::statuses::{Outcome, What};
-use commands::ordering::Purpose;
-use commands::working::{Asked, work_for};
+use commands::ordering::{Purpose, order_for};
 use sheet_types::command::Mode;
 use sheet_types::reading::read_uuid;
 use std::io::ErrorKind;
@@ -154,20 +153,18 @@ fn purpose_of(options: &ArgMatches<'_>) -> Purpose {
 fn done_in(
     rt: &HostRuntime,
     folder: &str,
-    order: Order<'_>,
+    order: &Order<'_>,
     purpose: Purpose,
     reader: &mut Input<'_>,
 ) -> Ending {
-    let mut teller = Onlooker::new(rt, false);
-    let asked = Asked::Order(order, purpose);
-    work_for(rt, folder, asked, reader, &mut io::writer(rt), &mut teller)
+    order_for(rt, folder, order, purpose, reader, &mut io::writer(rt))
 }
 
 /// The same, over the bytes of a file; of `-` those of the reader, and of no file none.
 fn done_over(
     rt: &HostRuntime,
     folder: &str,
-    order: Order<'_>,
+    order: &Order<'_>,
     purpose: Purpose,
     file: Option<&str>,
     reader: &mut Input<'_>,
@@ -179,7 +176,13 @@ fn done_over(
         return done_in(rt, folder, order, purpose, reader);
     }
     match fs::read(rt, path) {
-        Ok(bytes) => done_in(rt, folder, order, purpose, &mut Input::File(bytes.as_slice())),
+        Ok(bytes) => done_in(
+            rt,
+            folder,
+            order,
+            purpose,
+            &mut Input::File(bytes.as_slice()),
+        ),
         Err(error) => without(rt, path, &error, Ending::BadBody),
     }
 }
@@ -217,5 +220,5 @@ pub(crate) fn ordered(
     };
     let folder = text_of(given, "folder");
     let purpose = purpose_of(options);
-    done_over(rt, folder, order, purpose, options.get_str("file"), reader)
+    done_over(rt, folder, &order, purpose, options.get_str("file"), reader)
 }

@@ -187,7 +187,10 @@ pub(crate) fn carried_out(
     reader: &mut Input<'_>,
 ) -> u8 {
     if let Some(asked) = asked_look(name, given) {
-        return looked(rt, &shown(rt, text_of(given, "folder"), asked, given.get_str("output")));
+        return looked(
+            rt,
+            &shown(rt, text_of(given, "folder"), asked, given.get_str("output")),
+        );
     }
     let ending = match name {
         "init" => founded(rt, given),

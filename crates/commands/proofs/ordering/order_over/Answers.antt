@@ -4,8 +4,13 @@ use Rattle.commands.proofs.ordering.order_over.Goals as goal
 
 pub returns-in-Ok : goal.returns-in-Ok
 returns-in-Ok g c =
-    inr (c.in-Ok.request, c.request_for.new.world, c.in-Ok.ensures.read,
-    (λ clean w stands. c.in-Ok.ensures.told clean w stands), c.answer_in.ensures)
+    inr (
+      c.in-Ok.request,
+      c.request_for.new.world,
+      c.in-Ok.ensures.read,
+      (λ clean w stands. c.in-Ok.ensures.told clean w stands),
+      c.answer_in.ensures,
+    )
 
 pub returns-in-Err : goal.returns-in-Err
 returns-in-Err g c =
