@@ -15,7 +15,7 @@ use Rattle.opening_faults.specs.declared.faults.RecoverFault.TheVariants.{NoArch
 use Rattle.command_folder.specs.declared.endings.OpenFault.{OpenFault}
 use Rattle.command_folder.specs.declared.endings.OpenFault.TheVariants.{Folder, Fault}
 use Rattle.command_folder.specs.declared.endings.Ending.{Ending}
-use Rattle.command_folder.specs.declared.endings.Ending.TheVariants.{Usual, BadBody, HoldsPackages, NoSuchPackage, Declined, Unlisted, Unopened, Faulted}
+use Rattle.command_folder.specs.declared.endings.Ending.TheVariants.{Usual, BadBody, HoldsPackages, NoSuchPackage, Declined, NoRequest, Unlisted, Unopened, Faulted}
 
 -- all was done; a file or a stream gave out; a growth was refused
 abbrev pub done : Ending
@@ -40,6 +40,7 @@ ending_status BadBody = 1
 ending_status HoldsPackages = 1
 ending_status NoSuchPackage = 1
 ending_status (Declined why) = 1
+ending_status NoRequest = 1
 ending_status (Unlisted fault) = 1
 ending_status (Unopened fault) = 3
 ending_status (Faulted fault) = 3
@@ -80,6 +81,7 @@ output_text BadBody = line_of (codes "refused") (codes "body")
 output_text HoldsPackages = line_of (codes "refused") (codes "folder holds packages")
 output_text NoSuchPackage = line_of (codes "refused") (codes "no such package")
 output_text (Declined why) = []
+output_text NoRequest = []
 output_text (Unlisted fault) = line_of (codes "refused") (codes "list")
 output_text (Unopened fault) = []
 output_text (Faulted fault) = fault_line (told_as fault)
@@ -91,6 +93,7 @@ error_text BadBody = []
 error_text HoldsPackages = []
 error_text NoSuchPackage = []
 error_text (Declined why) = []
+error_text NoRequest = []
 error_text (Unlisted fault) = []
 error_text (Unopened fault) = store_line (told_as fault)
 error_text (Faulted fault) = []
@@ -107,6 +110,7 @@ note_text BadBody = []
 note_text HoldsPackages = []
 note_text NoSuchPackage = []
 note_text (Declined why) = refusal_text why
+note_text NoRequest = []
 note_text (Unlisted fault) = list_text fault
 note_text (Unopened fault) = open_note fault
 note_text (Faulted fault) = open_note fault

@@ -45,6 +45,8 @@ pub enum Ending {
     NoSuchPackage,
     /// The request was refused, and the refusal is printed.
     Declined(Refusal),
+    /// The words say no request, and why is printed. Nothing was done.
+    NoRequest,
     /// The file is no list. Nothing was done.
     Unlisted(ReadFault),
     /// The folder could not be opened. Nothing was done.
@@ -72,6 +74,7 @@ pub fn status_of(ending: Ending) -> u8
         | Ending::HoldsPackages
         | Ending::NoSuchPackage
         | Ending::Declined(_)
+        | Ending::NoRequest
         | Ending::Unlisted(_) => 1,
         Ending::Unopened(_) | Ending::Faulted(_) => 3,
     }
@@ -146,7 +149,7 @@ pub fn output_of(ending: Ending) -> &'static str
         Ending::NoSuchPackage => "refused: no such package\n",
         Ending::Unlisted(_) => "refused: list\n",
         Ending::Faulted(fault) => fault_line(told_fault(fault)),
-        Ending::Declined(_) | Ending::Unopened(_) => "",
+        Ending::Declined(_) | Ending::NoRequest | Ending::Unopened(_) => "",
     }
 }
 
@@ -161,6 +164,7 @@ pub fn error_of(ending: Ending) -> &'static str
         | Ending::HoldsPackages
         | Ending::NoSuchPackage
         | Ending::Declined(_)
+        | Ending::NoRequest
         | Ending::Unlisted(_)
         | Ending::Faulted(_) => "",
     }
@@ -189,8 +193,10 @@ pub fn note_of(alloc: Global, ending: Ending) -> Result<String, AllocError>
         Ending::Unopened(fault) | Ending::Faulted(fault) => open_note(alloc, fault),
         Ending::Unlisted(fault) => list_text(alloc, fault),
         Ending::Declined(why) => refusal_text(alloc, &why),
-        Ending::Usual(_) | Ending::BadBody | Ending::HoldsPackages | Ending::NoSuchPackage => {
-            Ok(String::new(alloc))
-        }
+        Ending::Usual(_)
+        | Ending::BadBody
+        | Ending::HoldsPackages
+        | Ending::NoSuchPackage
+        | Ending::NoRequest => Ok(String::new(alloc)),
     }
 }

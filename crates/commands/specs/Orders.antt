@@ -25,7 +25,7 @@ use Rattle.command_folder.specs.Endings.{done, no_memory}
 use Rattle.command_folder.specs.Folders.{OpensThen}
 use Rattle.command_folder.specs.Printing.{Prints}
 use Rattle.command_folder.specs.declared.endings.Ending.{Ending}
-use Rattle.command_folder.specs.declared.endings.Ending.TheVariants.{Declined, Unopened, Usual}
+use Rattle.command_folder.specs.declared.endings.Ending.TheVariants.{NoRequest, Unopened, Usual}
 use Rattle.commands.specs.Printing.{PrintsReply, ask_again, with_end}
 use Rattle.commands.specs.Subcommands.{IsUnread}
 use Rattle.commands.specs.declared.ordering.Purpose.{Purpose}
@@ -53,7 +53,7 @@ module _ {W : Type 0} (writer writer' : W) (before after : Option (List ℕ)) wh
   -- why a verb says no command
   abbrev pub TellsUnsaid : VerbFault → Ending → Type 0
   TellsUnsaid OutOfMemory ending = (ending ≡ no_memory) × (writer' ≡ writer)
-  TellsUnsaid fault ending = PrintsLine (verb_line fault) Declined ending
+  TellsUnsaid fault ending = PrintsLine (verb_line fault) NoRequest ending
 
   -- why there is no request
   abbrev pub TellsUnasked : OrderFault → Ending → Type 0

@@ -3,7 +3,7 @@ ghost use Rattle.std.specs.Prelude.{◌≡◌};
 ghost use Rattle.commands.specs.Orders.{Answers, EndsOrder, IsCarriedOut, Orders, OrdersFor, OrdersOver, PrintsDeed, PrintsLine, TellsUnasked, TellsUnsaid};
 ghost use Rattle.commands.specs.Printing.{with_end};
 ghost use Rattle.command_folder.specs.Endings.{done};
-ghost use Rattle.command_folder.specs.declared.endings.Ending.TheVariants.{Declined};
+ghost use Rattle.command_folder.specs.declared.endings.Ending.TheVariants.{NoRequest};
 ghost use Rattle.command_replies.specs.Requests.{request_text};
 ghost use Rattle.command_verbs.specs.Faults.{verb_line};
 
@@ -41,13 +41,13 @@ pub enum Purpose {
 /// Writes the line of a fault by which a verb says no command.
 fn tell_unsaid<W: Write>(alloc: Global, fault: &VerbFault, writer: &mut W) -> Ending
     ensures { PrintsLine writer.old writer.new (W.contents writer.old) (W.contents writer.new)
-        (verb_line fault.now) Declined result }
+        (verb_line fault.now) NoRequest result }
 {
     let Ok(line) = verb_line(alloc, fault) else {
         return NO_MEMORY;
     };
     match send(writer, line.as_bytes()) {
-        Ok(()) => Ending::Declined,
+        Ok(()) => Ending::NoRequest,
         Err(_) => FAILED,
     }
 }

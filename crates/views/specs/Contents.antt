@@ -14,7 +14,7 @@ use Rattle.command_requests.specs.Listing.{IsUntouched, world_items}
 use Rattle.command_folder.specs.Endings.{no_memory}
 use Rattle.command_folder.specs.Printing.{Prints}
 use Rattle.command_folder.specs.declared.endings.Ending.{Ending as CommandEnding}
-use Rattle.command_folder.specs.declared.endings.Ending.TheVariants.{Declined}
+use Rattle.command_folder.specs.declared.endings.Ending.TheVariants.{NoRequest}
 use Rattle.views.specs.Showing.{PrintsAll, stopped}
 use Rattle.views.specs.declared.endings.Ending.{Ending}
 use Rattle.views.specs.declared.endings.Ending.TheVariants.{Usual}
@@ -23,7 +23,7 @@ module _ {W : Type 0} (writer writer' : W) (before after : Option (List ℕ)) wh
   -- The line by which a word names no item; or memory is wanting for it, and nothing is written.
   abbrev pub TellsUnfound : NameFault → Ending → Type 0
   TellsUnfound fault ending =
-      ((told : CommandEnding) × (ending ≡ Usual told) × Prints (verb_line (Unfound fault)) Declined before after told)
+      ((told : CommandEnding) × (ending ≡ Usual told) × Prints (verb_line (Unfound fault)) NoRequest before after told)
       ⊎ ((ending ≡ Usual no_memory) × (writer' ≡ writer))
 
   -- the bytes that were found, to the last

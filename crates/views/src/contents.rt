@@ -23,7 +23,7 @@ fn tell_unfound<W: Write>(alloc: Global, fault: NameFault, writer: &mut W) -> En
         return Ending::Usual(NO_MEMORY);
     };
     match send(writer, line.as_bytes()) {
-        Ok(()) => Ending::Usual(CommandEnding::Declined),
+        Ok(()) => Ending::Usual(CommandEnding::NoRequest),
         Err(_) => Ending::Usual(FAILED),
     }
 }
