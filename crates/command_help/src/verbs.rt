@@ -2,7 +2,8 @@
 use clap::{Arg, ArgAction, Command};
 use std::alloc::{AllocError, Global};
 
-const LEND_ABOUT: &str = "Lends the sheets of an area as a new package, with all that belongs to them";
+const LEND_ABOUT: &str =
+    "Lends the sheets of an area as a new package, with all that belongs to them";
 
 const RETURN_ABOUT: &str = "Brings a loan home to the package that lent it";
 
@@ -19,7 +20,8 @@ const JOIN_ABOUT: &str = "Links two items; their kinds tell how";
 const PART_ABOUT: &str = "Ends the link of two items";
 
 /// After the words of a verb.
-const VERB_WORDS: &str = "A verb makes one request and carries it out. Its UUID and that of what it makes are new, and its moment
+const VERB_WORDS: &str =
+    "A verb makes one request and carries it out. Its UUID and that of what it makes are new, and its moment
 is that of the clock, unless they are given. A package and an item are named by their UUID, or by the first
 digits of it: at least four, which no other has.
 
@@ -71,11 +73,7 @@ fn flag<'a>(alloc: Global, id: &'a str, help: &'a str) -> Arg<'a> {
 }
 
 /// A verb with the options that every one has.
-fn verb<'a>(
-    alloc: Global,
-    name: &'a str,
-    about: &'static str,
-) -> Result<Command<'a>, AllocError> {
+fn verb<'a>(alloc: Global, name: &'a str, about: &'static str) -> Result<Command<'a>, AllocError> {
     Command::new(alloc, name)
         .about(about)
         .after_help(VERB_WORDS)
@@ -127,9 +125,13 @@ pub(crate) fn lend_command<'a>(alloc: Global) -> Result<Command<'a>, AllocError>
             "FROM|AREA",
             "The sheets, as 5/0-3/2: zoom, columns, rows; or before them the package that lends",
         ))?
-        .arg(
-            word(alloc, "second", "AREA", "The sheets, where a package that lends is named; else the archive lends").required(false),
-        )?
+        .arg(word(
+            alloc,
+            "second",
+            "AREA",
+            "The sheets, where a package that lends is named; else the archive lends",
+        )
+        .required(false))?
         .arg(flag(
             alloc,
             "follow",
@@ -153,13 +155,23 @@ fn tile_command<'a>(alloc: Global) -> Result<Command<'a>, AllocError> {
             "PLACE",
             "Where it lies, as 5/0/2: zoom, column, row",
         ))?
-        .arg(word(alloc, "file", "FILE", "Its bytes, as sheet.png, or - for standard input"))
+        .arg(word(
+            alloc,
+            "file",
+            "FILE",
+            "Its bytes, as sheet.png, or - for standard input",
+        ))
 }
 
 /// Adds a medium.
 fn media_command<'a>(alloc: Global) -> Result<Command<'a>, AllocError> {
     making(alloc, "media", MEDIA_ABOUT)?
-        .arg(word(alloc, "file", "FILE", "Its bytes, as harbour.jpg, or - for standard input"))?
+        .arg(word(
+            alloc,
+            "file",
+            "FILE",
+            "Its bytes, as harbour.jpg, or - for standard input",
+        ))?
         .arg(option(
             alloc,
             "type",

@@ -1,8 +1,8 @@
 //! Which words the command line has.
 use crate::help::{
-    ABOUT, APPLY_ABOUT, AUDIT_ABOUT, EXPLAIN_ABOUT, EXPORT_ABOUT, FOLDER_WORDS, GET_ABOUT, IMPORT_ABOUT,
-    INIT_ABOUT, LOG_ABOUT, MANIFEST_ABOUT, MAP_ABOUT, RECEIPT_ABOUT, REHEARSE_ABOUT, REHEARSE_WORDS,
-    SERVE_ABOUT, SESSION_ABOUT, SESSION_WORDS, STATUS_ABOUT, TIDY_ABOUT, WORDS,
+    ABOUT, APPLY_ABOUT, AUDIT_ABOUT, EXPLAIN_ABOUT, EXPORT_ABOUT, FOLDER_WORDS, GET_ABOUT,
+    IMPORT_ABOUT, INIT_ABOUT, LOG_ABOUT, MANIFEST_ABOUT, MAP_ABOUT, RECEIPT_ABOUT, REHEARSE_ABOUT,
+    REHEARSE_WORDS, SERVE_ABOUT, SESSION_ABOUT, SESSION_WORDS, STATUS_ABOUT, TIDY_ABOUT, WORDS,
 };
 use crate::verbs::{join_command, lend_command, part_command, put_command, return_command};
 use clap::{Arg, ArgAction, Command};
@@ -164,7 +164,12 @@ fn log_command<'a>(alloc: Global) -> Result<Command<'a>, AllocError> {
 
 /// Prints what stands in an item, or keeps it in a file.
 fn get_command<'a>(alloc: Global) -> Result<Command<'a>, AllocError> {
-    let output = word(alloc, "output", "FILE", "Where it is kept, as harbour.jpg; else it is printed");
+    let output = word(
+        alloc,
+        "output",
+        "FILE",
+        "Where it is kept, as harbour.jpg; else it is printed",
+    );
     over_folder(alloc, Command::new(alloc, "get"), GET_ABOUT)?
         .arg(word(
             alloc,

@@ -54,7 +54,10 @@ pub fn cause_text(alloc: Global, fault: FolderFault) -> Result<String, AllocErro
         FolderFault::Link(id) => format!(in alloc; "{id}.gpkg or its log is a symbolic link"),
         FolderFault::SecondName(id) => format!(in alloc; "{id}.gpkg or its log has a second name"),
         FolderFault::FolderUnread => {
-            String::from_str(alloc, "the folder is not there, or cannot be read and written")
+            String::from_str(
+                alloc,
+                "the folder is not there, or cannot be read and written",
+            )
         }
         FolderFault::PackageFailed(id) => {
             format!(in alloc;
