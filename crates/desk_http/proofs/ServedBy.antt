@@ -1,6 +1,7 @@
 -- What one connection makes of a world, and one after another.
 use Rattle.std.specs.Prelude.{◌≤◌, ℕ, zero, suc, true, false}
 use Rattle.std.proofs.Common.{◌≡◌, ◌⊎◌, ◌+◌, List, [], ◌∷◌, ◌++◌, length, Option, Result, Ok, Err, refl, sym, subst, inl, inr, arith, length-append}
+use Rattle.std.proofs.Math.Numerals.{suc-eq-add-one}
 use Rattle.sqlite.specs.Store.{Ghosts}
 use Rattle.sheet_types.specs.Step.{Step}
 use Rattle.sheet_types.specs.World.{World}
@@ -102,14 +103,15 @@ module _ {S : Type 0} (g : Ghosts S) where
   -- connections that were each served over a world that could be used
   all_served : (n : ℕ) (old new : Seen S) → AreServed g n old new → IsServedBy g n old new
   all_served zero old new same = subst (λ seen. IsServedBy g 0 old seen) (sym same) (served_none old)
-  all_served (suc n) old new (mid, front, usable, last) = served_then n 1 old mid new (all_served n old mid front) last
+  all_served (suc n) old new (mid, front, usable, last) =
+      subst (λ k. IsServedBy g k old new) (sym (suc-eq-add-one n)) (served_then n 1 old mid new (all_served n old mid front) last)
 
   -- a desk that ended after so many connections, in each of its ways
   pub desk_served : (n most : ℕ) (old new : Seen S) → n ≤ most → AreServed g n old new → IsServedBy g most old new
   desk_served n most old new few each = served_up_to n most old new few (all_served n old new each)
 
   pub one_more : (n : ℕ) (old mid new : Seen S) → AreServed g n old mid → mid.has_failed ≡ false → IsServedBy g 1 mid new → AreServed g (n + 1) old new
-  one_more n old mid new each usable last = (mid, each, usable, last)
+  one_more n old mid new each usable last = subst (λ k. AreServed g k old new) (suc-eq-add-one n) (mid, each, usable, last)
 
   pub desk_ended : (n most : ℕ) (old new : Seen S) (end : Result (Unit {0}) DeskFault) → n ≤ most → AreServed g n old new → EndsAfter g most n new end → Serves g most old new end
   desk_ended n most old new end few each ends = record { served = n; few = few; each = each; ends = ends }
