@@ -4,7 +4,7 @@ ghost use Rattle.sheet_types.specs.Texts.{uuid_text};
 ghost use Rattle.command_verbs.specs.Names.{begins};
 ghost use Rattle.command_verbs.specs.Verbs.{text_of};
 ghost use Rattle.sheet_types.specs.declared.receipt.Receipt.{Receipt};
-ghost use Rattle.view_text.specs.Ledgers.{begins_end, excerpt_of, headings, is_asked, ledger_line, passed, touches};
+ghost use Rattle.view_text.specs.Ledgers.{begins_end, counts_columns, excerpt_of, headings, is_asked, ledger_line, passed, touches};
 ghost use Rattle.view_text.specs.Ways.{first_word};
 
 use crate::columns::{put, put_end, put_left, put_number};
@@ -109,6 +109,17 @@ fn passed(last: Option<usize>, count: usize) -> usize
     }
 }
 
+/// Puts how many things moved by a receipt, and their bytes, as the end of its line.
+fn put_counts(text: &mut String, receipt: &Receipt) -> Result<(), AllocError>
+    ensures { IfOk result (λ _. string_bytes text.new ≡ string_bytes text.old ++ counts_columns receipt.now) }
+{
+    let mut digits = Buffer::new();
+    put_number(text, 7, receipt.items.as_slice().len() as u64)?;
+    put(text, digits.format(receipt.bytes))?;
+    put(text, "\n")?;
+    Ok(())
+}
+
 /// Puts the line of a receipt: its number, moment and command, its two ends, how many things moved, and their bytes.
 fn put_receipt(text: &mut String, receipt: &Receipt) -> Result<(), AllocError>
     ensures { IfOk result (λ _. string_bytes text.new ≡ string_bytes text.old ++ ledger_line receipt.now) }
@@ -118,10 +129,7 @@ fn put_receipt(text: &mut String, receipt: &Receipt) -> Result<(), AllocError>
     put_left(text, 6, first_word(receipt.line.as_str()))?;
     put_end(text, receipt.source)?;
     put_end(text, receipt.target)?;
-    put_number(text, 7, receipt.items.as_slice().len() as u64)?;
-    let mut digits = Buffer::new();
-    put(text, digits.format(receipt.bytes))?;
-    put(text, "\n")?;
+    put_counts(text, receipt)?;
     Ok(())
 }
 
