@@ -1,5 +1,5 @@
 //! The ledger as a table: a line for each receipt that is asked for.
-ghost use Rattle.std.specs.Prelude.{◌≡◌, ◌≤◌, ◌++◌, IfOk, filter, flat_map, map, string_bytes};
+ghost use Rattle.std.specs.Prelude.{◌≡◌, ◌≤◌, ◌++◌, IfOk, drop, filter, flat_map, length, map, string_bytes};
 ghost use Rattle.sheet_types.specs.Texts.{uuid_text};
 ghost use Rattle.command_verbs.specs.Names.{begins};
 ghost use Rattle.command_verbs.specs.Verbs.{text_of};
@@ -143,12 +143,19 @@ fn put_receipts(text: &mut String, receipts: &[&Receipt]) -> Result<(), AllocErr
     Ok(())
 }
 
+/// Puts the lines of the last so many of some receipts.
+fn put_last(text: &mut String, receipts: &[&Receipt], last: Option<usize>) -> Result<(), AllocError>
+    ensures { IfOk result (λ _. string_bytes text.new ≡ string_bytes text.old ++ flat_map (λ r. ledger_line r.now) (drop (passed last (length receipts.now)) receipts.now)) }
+{
+    let start = passed(last, receipts.len());
+    put_receipts(text, &receipts[start..])
+}
+
 /// A line of headings, and a line for each receipt of a ledger that is asked for, in their order.
 ///
 /// # Errors
 ///
 /// Want of memory.
-#[tactic(auto, using(crate::proofs::Excerpts::lines_of))]
 pub fn excerpt_text(
     alloc: Global,
     ledger: &[Receipt],
@@ -157,9 +164,8 @@ pub fn excerpt_text(
     ensures { IfOk result (λ text. string_bytes text ≡ excerpt_of ledger.now excerpt.now) }
 {
     let found = asked_among(alloc, ledger, excerpt)?;
-    let start = passed(excerpt.last, found.len());
     let mut text = String::new(alloc);
     put(&mut text, headings())?;
-    put_receipts(&mut text, &found[start..])?;
+    put_last(&mut text, found.as_slice(), excerpt.last)?;
     Ok(text)
 }
