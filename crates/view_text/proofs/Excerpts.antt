@@ -10,11 +10,12 @@ flat_behind : (xs : List (Bor Receipt)) → flat_map (λ (r : Bor Receipt). ledg
 flat_behind [] = refl
 flat_behind (x ∷ xs) = ap (λ l. ledger_line x.now ++ l) (flat_behind xs)
 
-pub lines_of : (found : List (Bor Receipt)) (asked : List Receipt) (last : Option ℕ) (start : ℕ)
-    → map (λ (r : Bor Receipt). r.now) found ≡ asked → start ≡ passed last (length found)
-    → flat_map (λ (r : Bor Receipt). ledger_line r.now) (drop start found) ≡ flat_map ledger_line (last_of last asked)
-lines_of found asked last start are is =
+pub lines_of : (found : List (Bor Receipt)) (asked : List Receipt) (last : Option ℕ)
+    → map (λ (r : Bor Receipt). r.now) found ≡ asked
+    → flat_map (λ (r : Bor Receipt). ledger_line r.now) (drop (passed last (length found)) found) ≡ flat_map ledger_line (last_of last asked)
+lines_of found asked last are =
+    let start = passed last (length found) in
     flat_behind (drop start found)
     ∙ ap (flat_map ledger_line)
     (sym (drop-map (λ (r : Bor Receipt). r.now) start found) ∙ ap (drop start) are
-    ∙ ap (λ n. drop n asked) (is ∙ ap (passed last) (sym (length-map found (λ (r : Bor Receipt). r.now)) ∙ ap length are)))
+    ∙ ap (λ n. drop n asked) (ap (passed last) (sym (length-map found (λ (r : Bor Receipt). r.now)) ∙ ap length are)))

@@ -42,11 +42,15 @@ headings =
     at_right 10 (codes "receipt") ++ (at_left 24 (codes "at") ++ (at_left 6 (codes "what") ++ (at_left 36 (codes "from")
     ++ (at_left 36 (codes "to") ++ (at_right 7 (codes "things") ++ codes "bytes\n")))))
 
--- number, moment and command, both ends, how many things moved, and how many bytes they are
+-- how many things moved, and how many bytes they are
+abbrev pub counts_columns : Receipt → List ℕ
+counts_columns r = at_right 7 (decimal (length r.items)) ++ (decimal r.bytes ++ codes "\n")
+
+-- number, moment and command, both ends, and what moved
 abbrev pub ledger_line : Receipt → List ℕ
 ledger_line r =
     at_right 10 (decimal r.seq) ++ (at_left 24 r.at ++ (at_left 6 (first_word r.line) ++ (at_left 36 (end_text r.source)
-    ++ (at_left 36 (end_text r.target) ++ (at_right 7 (decimal (length r.items)) ++ (decimal r.bytes ++ codes "\n"))))))
+    ++ (at_left 36 (end_text r.target) ++ counts_columns r))))
 
 abbrev pub excerpt_of : List Receipt → Excerpt → List ℕ
 excerpt_of ledger e = headings ++ flat_map ledger_line (asked_of ledger e)

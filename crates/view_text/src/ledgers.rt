@@ -1,10 +1,10 @@
 //! The ledger as a table: a line for each receipt that is asked for.
-ghost use Rattle.std.specs.Prelude.{◌≡◌, ◌≤◌, ◌++◌, IfOk, filter, flat_map, map, string_bytes};
+ghost use Rattle.std.specs.Prelude.{◌≡◌, ◌≤◌, ◌++◌, IfOk, drop, filter, flat_map, length, map, string_bytes};
 ghost use Rattle.sheet_types.specs.Texts.{uuid_text};
 ghost use Rattle.command_verbs.specs.Names.{begins};
 ghost use Rattle.command_verbs.specs.Verbs.{text_of};
 ghost use Rattle.sheet_types.specs.declared.receipt.Receipt.{Receipt};
-ghost use Rattle.view_text.specs.Ledgers.{begins_end, excerpt_of, headings, is_asked, ledger_line, passed, touches};
+ghost use Rattle.view_text.specs.Ledgers.{begins_end, counts_columns, excerpt_of, headings, is_asked, ledger_line, passed, touches};
 ghost use Rattle.view_text.specs.Ways.{first_word};
 
 use crate::columns::{put, put_end, put_left, put_number};
@@ -109,6 +109,17 @@ fn passed(last: Option<usize>, count: usize) -> usize
     }
 }
 
+/// Puts how many things moved by a receipt, and their bytes, as the end of its line.
+fn put_counts(text: &mut String, receipt: &Receipt) -> Result<(), AllocError>
+    ensures { IfOk result (λ _. string_bytes text.new ≡ string_bytes text.old ++ counts_columns receipt.now) }
+{
+    let mut digits = Buffer::new();
+    put_number(text, 7, receipt.items.as_slice().len() as u64)?;
+    put(text, digits.format(receipt.bytes))?;
+    put(text, "\n")?;
+    Ok(())
+}
+
 /// Puts the line of a receipt: its number, moment and command, its two ends, how many things moved, and their bytes.
 fn put_receipt(text: &mut String, receipt: &Receipt) -> Result<(), AllocError>
     ensures { IfOk result (λ _. string_bytes text.new ≡ string_bytes text.old ++ ledger_line receipt.now) }
@@ -118,10 +129,7 @@ fn put_receipt(text: &mut String, receipt: &Receipt) -> Result<(), AllocError>
     put_left(text, 6, first_word(receipt.line.as_str()))?;
     put_end(text, receipt.source)?;
     put_end(text, receipt.target)?;
-    put_number(text, 7, receipt.items.as_slice().len() as u64)?;
-    let mut digits = Buffer::new();
-    put(text, digits.format(receipt.bytes))?;
-    put(text, "\n")?;
+    put_counts(text, receipt)?;
     Ok(())
 }
 
@@ -135,12 +143,19 @@ fn put_receipts(text: &mut String, receipts: &[&Receipt]) -> Result<(), AllocErr
     Ok(())
 }
 
+/// Puts the lines of the last so many of some receipts.
+fn put_last(text: &mut String, receipts: &[&Receipt], last: Option<usize>) -> Result<(), AllocError>
+    ensures { IfOk result (λ _. string_bytes text.new ≡ string_bytes text.old ++ flat_map (λ r. ledger_line r.now) (drop (passed last (length receipts.now)) receipts.now)) }
+{
+    let start = passed(last, receipts.len());
+    put_receipts(text, &receipts[start..])
+}
+
 /// A line of headings, and a line for each receipt of a ledger that is asked for, in their order.
 ///
 /// # Errors
 ///
 /// Want of memory.
-#[tactic(auto, using(crate::proofs::Excerpts::lines_of))]
 pub fn excerpt_text(
     alloc: Global,
     ledger: &[Receipt],
@@ -149,9 +164,8 @@ pub fn excerpt_text(
     ensures { IfOk result (λ text. string_bytes text ≡ excerpt_of ledger.now excerpt.now) }
 {
     let found = asked_among(alloc, ledger, excerpt)?;
-    let start = passed(excerpt.last, found.len());
     let mut text = String::new(alloc);
     put(&mut text, headings())?;
-    put_receipts(&mut text, &found[start..])?;
+    put_last(&mut text, found.as_slice(), excerpt.last)?;
     Ok(text)
 }
