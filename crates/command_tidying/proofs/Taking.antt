@@ -49,5 +49,5 @@ module _ {Y : Type 0} (Listed : List ℕ → Type 0) (Shown : List ℕ → Store
     -- an error, told as another
     pub took_err : {F : Type 0} (a b : List (String Z)) (s t : Y) (e : E) (r : Result (Unit {0}) F) → IsErr r
         → TakesOn Listed Shown Removes {Z = Z} {E = E} register a b s t (Err e) → TakesOn Listed Shown Removes {Z = Z} {E = F} register a b s t r
-    took_err a b s t e (Ok x) bad it = absurd bad
+    took_err a b s t e (Ok x) bad it = cc
     took_err a b s t e (Err f) bad it = it

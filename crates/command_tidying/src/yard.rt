@@ -1,5 +1,5 @@
 //! A folder of packages, as far as it is made tidy.
-ghost use Rattle.std.specs.Prelude.{IfOk, IfSome};
+ghost use Rattle.std.specs.Prelude.{ℕ, IfOk, IfSome, List};
 
 use opening_verdict::seen::StoreSeen;
 use std::alloc::Global;
