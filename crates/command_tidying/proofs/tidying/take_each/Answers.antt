@@ -7,6 +7,9 @@ use Rattle.command_tidying.specs.Tidying.{IsLeftoverFile}
 use Rattle.command_tidying.proofs.Taking.{took, took_err}
 use Rattle.command_tidying.proofs.tidying.take_each.Goals as goal
 
+pub loop-name-init : goal.loop-name-init
+loop-name-init g c = record { taken = λ start it. it; rest = search rules }
+
 pub loop-name-preserved : goal.loop-name-preserved
 loop-name-preserved g c =
     let name = c.in-Some.name in
