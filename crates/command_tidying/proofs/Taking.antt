@@ -46,8 +46,8 @@ module _ {Y : Type 0} (Listed : List ℕ → Type 0) (Shown : List ℕ → Store
         → TakesOn Listed Shown Removes {Z = Z} {E = E} register b c t u r → TakesOn Listed Shown Removes {Z = Z} {E = E} register a c s u r
     took_then a b c s t u r first second = λ start it. second start (first start it)
 
-    -- an error, told as another
-    pub took_err : {F : Type 0} (a b : List (String Z)) (s t : Y) (e : E) (r : Result (Unit {0}) F) → IsErr r
-        → TakesOn Listed Shown Removes {Z = Z} {E = E} register a b s t (Err e) → TakesOn Listed Shown Removes {Z = Z} {E = F} register a b s t r
-    took_err a b s t e (Ok x) bad it = absurd bad
-    took_err a b s t e (Err f) bad it = it
+  -- an error, told as another
+  pub took_err : {E : Type 0} (names : List (List ℕ)) (old new : Y) (r : Result (Unit {0}) E) → IsErr r
+      → TakesSome Listed Shown Removes {E = Unit {0}} register names old new (Err tt) → TakesSome Listed Shown Removes {E = E} register names old new r
+  took_err names old new (Ok x) bad it = cc
+  took_err names old new (Err f) bad it = it

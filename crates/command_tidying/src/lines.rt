@@ -1,5 +1,5 @@
 //! The lines of files that were taken out.
-ghost use Rattle.std.specs.Prelude.{◌≡◌, ◌++◌, IfOk, map, string_bytes};
+ghost use Rattle.std.specs.Prelude.{◌≡◌, ◌++◌, IfOk, string_bytes};
 ghost use Rattle.command_tidying.specs.Lines.{removed_line, removed_lines};
 
 use std::alloc::{AllocError, Global};
@@ -20,7 +20,7 @@ fn put_line(text: &mut String, name: &str) -> Result<(), AllocError>
 ///
 /// Want of memory.
 pub fn removed_lines(alloc: Global, names: &[String]) -> Result<String, AllocError>
-    ensures { IfOk result (λ text. string_bytes text ≡ removed_lines (map string_bytes names.now)) }
+    ensures { IfOk result (λ text. string_bytes text ≡ removed_lines names.now) }
 {
     let mut text = String::new(alloc);
     for name in names {

@@ -79,7 +79,7 @@ fn take_each<Y: Yard>(
     found: Vec<String>,
     register: &Register,
 ) -> Result<(), FolderFault>
-    requires { AreLeftovers Y.listed found.items }
+    requires { AreLeftovers Y.listed Y.shown Y.removes found.items }
     ensures { TakesOn Y.listed Y.shown Y.removes register.now names.old.items names.new.items yard.old yard.new result }
 {
     for name in found {

@@ -1,5 +1,6 @@
 //! A folder of packages, as far as it is made tidy.
-ghost use Rattle.std.specs.Prelude.{IfOk, IfSome};
+ghost use Rattle.std.specs.Prelude.{ℕ, IfOk, IfSome, List};
+ghost use Rattle.opening_verdict.specs.declared.seen.StoreSeen.{StoreSeen};
 
 use opening_verdict::seen::StoreSeen;
 use std::alloc::Global;

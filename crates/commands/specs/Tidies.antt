@@ -1,5 +1,5 @@
 -- What is printed of a folder that is made tidy, and how the program ends. Profile.
-use Rattle.std.specs.Prelude.{◌≡◌, ◌⊎◌, ℕ, List, map, Option, Some, None, Result, Ok, Err, string_bytes}
+use Rattle.std.specs.Prelude.{◌≡◌, ◌⊎◌, ℕ, List, Option, Some, None, Result, Ok, Err}
 use Rattle.sqlite.specs.Held.{Held, state}
 use Rattle.sqlite.specs.State.{HasCleanDisk}
 use Rattle.sqlite.specs.Store.{Ghosts}
@@ -32,7 +32,7 @@ tidy_ending (Some fault) = Unopened (Folder fault)
 -- A line for each file that was taken out went out; or there was no memory for them, and nothing was written.
 abbrev pub TellsTidied : {W : Type 0} → Tidied → W → W → Option (List ℕ) → Option (List ℕ) → Ending → Type 0
 TellsTidied made writer writer' before after ending =
-    Prints (removed_lines (map string_bytes made.names.items)) (tidy_ending made.fault) before after ending
+    Prints (removed_lines made.names.items) (tidy_ending made.fault) before after ending
     ⊎ ((ending ≡ no_memory) × (writer' ≡ writer))
 
 -- what is told of it, or why nothing was done
