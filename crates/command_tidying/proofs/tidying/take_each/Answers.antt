@@ -2,13 +2,18 @@
 use Rattle.std.proofs.Common.{rules, ◌≡◌, ◌∷◌, All, Ok, Err, inr, map, subst}
 use Rattle.std.specs.Prelude.{string_bytes}
 use Rattle.std.specs.Vec.Iter.{into_iter_items}
-use Rattle.std.proofs.lemmas.List.Elements.{All-head, All-tail}
+use Rattle.std.proofs.lemmas.List.Elements.{All-head, All-same, All-tail}
 use Rattle.command_tidying.specs.Tidying.{IsLeftoverFile}
 use Rattle.command_tidying.proofs.Taking.{took, took_err}
 use Rattle.command_tidying.proofs.tidying.take_each.Goals as goal
 
 pub loop-name-init : goal.loop-name-init
-loop-name-init g c = record { taken = λ start it. it; rest = search rules }
+loop-name-init g c =
+    let same : into_iter_items c.into_iter-name-iterator.result ≡ c.args.found.items = search rules in
+    record {
+      taken = λ start it. it;
+      rest = All-same (λ t. IsLeftoverFile g.Y.Yard.listed g.Y.Yard.shown g.Y.Yard.removes (string_bytes t)) _ _ same c.requires;
+    }
 
 pub loop-name-preserved : goal.loop-name-preserved
 loop-name-preserved g c =
