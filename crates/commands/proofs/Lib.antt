@@ -1,5 +1,3 @@
 mod Texts
 mod Bodies
 mod Makings
-pub mod Registers
-mod Tidied

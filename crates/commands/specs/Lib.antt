@@ -1,6 +1,4 @@
 pub mod Orders
 pub mod Printing
-pub mod Registers
 pub mod Subcommands
-pub mod Tidies
 pub mod Works
