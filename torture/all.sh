@@ -27,6 +27,7 @@ each many_loans - "$torture/many_loans.py" $((quick ? 30 : 400))
 each stock_folder sqlite3 "$torture/stock_folder.sh"
 each first_version - "$torture/first_version_folder.sh" "$program"
 each export 'sqlite3 ogrinfo gdalinfo gdal_translate' "$torture/export_files.sh"
+each report_page 'chromium tidy' "$torture/report_page.py"
 
 # Kills, a disk that fails, power that is lost, files that are damaged.
 each kills strace "$torture/kill_folder.py" --step $((quick ? 29 : 1)) import
