@@ -13,7 +13,7 @@ example that lends, and tells more than one reply whole or has manifests in betw
 is told go in one by one, as JSON, and the others as lists. Such a reply's whole text, and the table of the packages, are the second
 machine's, once that agrees with all that the example tells (torture/worked_lists.py).
 
-Beside them stand the examples of crates/test_openings (make_openings.py). Last the sessions of refusals.txt and folders.txt, written out by hand as they stand there. The folders of packages that the latter opens
+Last the sessions of refusals.txt and folders.txt, written out by hand as they stand there. The folders of packages that the latter opens
 are make_folders.py's. Nothing here runs the program.
 """
 
@@ -21,7 +21,6 @@ import os
 import re
 import sys
 
-import make_openings
 import nordmark
 import reference
 import verbs
@@ -375,7 +374,6 @@ def files():
         os.path.join(CRATE, "stdin"): rehearsed_sample()[0],
         os.path.join(CRATE, "stdout"): "".join(every.printed).encode(),
         os.path.join(CRATE, "status"): b"0",
-        make_openings.FILE: make_openings.examples().encode(),
         **made,
     }
 

@@ -4,7 +4,6 @@
 mod changes;
 mod checked;
 mod contents;
-mod fuses;
 mod packages;
 mod receipts;
 mod requests;
@@ -15,14 +14,11 @@ mod values;
 pub use crate::changes::{Change, altered, at_rest, committed, in_memory};
 pub use crate::checked::Checked;
 pub use crate::contents::{medium_content, row_content, tile_content};
-pub use crate::fuses::{
-    FusedShelf, Fusing, Left, Remains, Reopens, SYNCED, Stops, WAYS, leaves_other, opened_each,
-};
 pub use crate::packages::{
     WITH_A_LINK, can_be_made, empty_package, fill_with_a_link, is_good, new_package, new_tables,
 };
 pub use crate::receipts::{counts, moved_medium, receipt_of, sums};
-pub use crate::requests::{Asks, BEGUN, Step, archive, item, package, question, told};
+pub use crate::requests::{Asks, BEGUN, Step, archive, item, question, told};
 pub use crate::rows::{Row, Rows, Tables};
 pub use crate::texts::{answered, identities_text, links_text, number_of};
 pub use crate::values::{AT, FRAME, NOTHING, ONE_MEDIUM, text};

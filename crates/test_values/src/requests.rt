@@ -17,12 +17,6 @@ pub fn archive() -> Uuid {
     Uuid::from_u128(0xa0000000_0000_4000_8000_000000000000)
 }
 
-/// The UUID of a package by its first digit, whose other digits are those of the archive.
-pub fn package(digit: u8) -> Uuid {
-    let first = u128::from(digit & 15) << 124;
-    Uuid::from_u128(first | 0x00000000_0000_4000_8000_000000000000)
-}
-
 // No package of the world.
 fn stranger() -> Uuid {
     Uuid::from_u128(0xb0000000_0000_4000_8000_000000000000)

@@ -2,11 +2,12 @@
 // refuses each allocation in turn: a crash leaves the world before the request or the one after it, and the reply fits.
 use crate::crashes::{Counts, checked_run, nothing_wrong};
 use crate::fitting::{both_worlds, check_both};
+use crate::fuses::Fusing;
 use crate::scenes::{ADDS, COMES_AGAIN, DELETES, IS_REFUSED, LENDS, LINKS, Scene, TAKES_HOME};
 use package_tables::fault::Fault;
 use std::alloc::Global;
 use std::test::Fail;
-use test_values::{Checked, Fusing};
+use test_values::Checked;
 
 fn check(alloc: Global, scene: &Scene, checked: &mut Checked) -> Result<(), Fault> {
     let both = both_worlds(alloc, scene)?;

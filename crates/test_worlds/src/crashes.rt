@@ -1,11 +1,12 @@
 // A run in which something fails, judged and counted with what each crash after it leaves.
 use crate::fitting::{Both, STORE_FAULT, Stands, fits, left_fits, which_stands};
+use crate::fuses::Fusing;
 use crate::scenes::Scene;
 use crate::stops::{Comes, Found, over_files};
 use package_tables::fault::Fault;
 use std::alloc::Global;
 use std::test::Fail;
-use test_values::{Checked, Fusing};
+use test_values::Checked;
 
 /// How many runs a file stopped, in the request or as the world was read after it; how many a request answered by a
 /// fault of its own; how many crashes of these left which world; and for how many runs the shelf had no store.

@@ -1,9 +1,10 @@
 // What a request may come to, where something fails in it: each question is answered for itself.
+use crate::fuses::Fusing;
 use crate::scenes::Scene;
 use crate::stops::{Comes, Found, over_files};
 use package_tables::fault::Fault;
 use std::alloc::{AllocError, Global};
-use test_values::{Checked, Fusing};
+use test_values::Checked;
 
 /// The number of the reply that a store failed, below zero as those of faults are here.
 pub const STORE_FAULT: i64 = -25;

@@ -8,6 +8,8 @@ mod crashes;
 #[cfg(test)]
 mod fitting;
 #[cfg(test)]
+mod fuses;
+#[cfg(test)]
 mod limits_tests;
 #[cfg(test)]
 mod loans;

@@ -4,7 +4,7 @@ use package_tables::fault::Fault;
 use sheet_types::command::{Command, Mapping, Mode, Request};
 use sheet_types::frame::Rect;
 use std::alloc::Global;
-use test_values::{Asks, BEGUN, Step, package, text};
+use test_values::{Asks, BEGUN, Step, text};
 use uuid::Uuid;
 
 /// The archive.
@@ -17,6 +17,12 @@ pub const C: u8 = 0xc;
 pub const D: u8 = 0xd;
 
 pub const E: u8 = 0xe;
+
+/// The UUID of a package by its first digit.
+pub fn package(digit: u8) -> Uuid {
+    let first = u128::from(digit & 15) << 124;
+    Uuid::from_u128(first | 0x00000000_0000_4000_8000_000000000000)
+}
 
 /// The UUID of a request by its number.
 pub fn asked(number: u32) -> Uuid {

@@ -2,7 +2,8 @@
 // that lower ones are looked for; and one page of a selection. Tiles and media are linked crosswise. The digests are those
 // of `tile 1 0 0`, LF and `A` and so on by another program's SHA-256.
 use crate::crashes::nothing_wrong;
-use crate::loans::{A, B, C};
+use crate::fuses::{FusedShelf, Fusing};
+use crate::loans::{A, B, C, package};
 use crate::pictures::push_held_by;
 use identity_register::selection::Selection;
 use package_creation::package::begin;
@@ -12,7 +13,7 @@ use sqlite::{Alter, Connection, Transaction};
 use std::alloc::Global;
 use std::test::Fail;
 use store_shelf::shelf::{Shelf, ShelfFault};
-use test_values::{Change, Checked, FusedShelf, Fusing, Row, Tables, at_rest, committed, package};
+use test_values::{Change, Checked, Row, Tables, at_rest, committed};
 use transfer::lifting::lift;
 use transfer::pages::carry_page;
 use transfer::parcel::Parcel;

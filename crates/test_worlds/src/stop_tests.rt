@@ -2,6 +2,7 @@
 // request or the one after it, and the reply fits.
 use crate::crashes::{Counts, add_one, checked_run, nothing_wrong};
 use crate::fitting::{Both, both_worlds, check_both, went_through};
+use crate::fuses::{Fusing, Stops};
 use crate::loans::{A, B, C};
 use crate::scenes::{
     ADDS, COMES_AGAIN, DELETES, IS_HOME_AGAIN, IS_NOT_LENT, IS_REFUSED, LENDS, LENDS_ALONG_LINKS,
@@ -12,7 +13,7 @@ use package_tables::fault::Fault;
 use std::alloc::Global;
 use std::test::Fail;
 use store_shelf::shelf::ShelfFault;
-use test_values::{Checked, Fusing, Stops};
+use test_values::Checked;
 
 // What the counts of a file that stops are to show.
 #[derive(Clone, Copy)]

@@ -1,5 +1,6 @@
 // One request in a world whose stores are files of which one may stop, with what a crash leaves then.
-use crate::loans::{A, LoanStep, Wish, asked};
+use crate::fuses::{FusedShelf, Fusing, Left, Remains, Reopens, WAYS, leaves_other};
+use crate::loans::{A, LoanStep, Wish, asked, package};
 use crate::pictures::{push_reply, push_store, push_world};
 use crate::scenes::{Before, ITEMS, LOANS, Scene};
 use package_tables::fault::Fault;
@@ -9,9 +10,7 @@ use sheet_types::refusal::Refusal;
 use sqlite::{Alter, Connection};
 use std::alloc::Global;
 use store_shelf::shelf::Shelf;
-use test_values::{
-    BEGUN, FRAME, FusedShelf, Fusing, Left, Remains, Reopens, WAYS, leaves_other, package,
-};
+use test_values::{BEGUN, FRAME};
 use uuid::Uuid;
 use world::world::World;
 

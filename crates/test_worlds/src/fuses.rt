@@ -1,11 +1,7 @@
-//! Files in memory that stop after so many calls, what is left of them, and a shelf of stores over them.
-ghost use Rattle.std.specs.Prelude.{◌≡◌, ◌++◌, ◌∷◌, ⊤, [], IsTrue, IfOk, OnOk, All};
-ghost use Rattle.sqlite.specs.Files.{file_state};
-ghost use Rattle.sqlite.specs.Held.{state};
-ghost use Rattle.sqlite.specs.State.{HasCleanDisk};
-ghost use Rattle.store_sql.specs.Writing.{AreKeyed};
+// Files in memory that stop after so many calls, what is left of them, and a shelf of stores over them.
+ghost use Rattle.std.specs.Prelude.{◌≡◌, ⊤, [], IsTrue, IfOk};
 
-use crate::requests::package;
+use crate::loans::package;
 use package_tables::fault::Fault;
 use sqlite::{Alter, Connection, FileStore, Files, Options};
 use sqlite_disk::{Crash, Disk, Fuse, Memory};
@@ -132,20 +128,7 @@ pub trait Reopens<S: Alter> {
     fn remains(&self, store: S) -> Result<Remains, Fault>;
 
     /// The store when its files come back.
-    fn opened(&self, remains: &Remains, left: Left) -> Result<Connection<S>, Fault>
-        ensures { IfOk result (λ conn. HasCleanDisk (state S.Store conn) → AreKeyed (state S.Store conn).now) };
-}
-
-/// The store when its files come back.
-fn reopened(alloc: Global, remains: &Remains, left: Left) -> Result<Connection<Store>, Fault>
-    ensures { IfOk result (λ conn. HasCleanDisk (file_state conn) → AreKeyed (file_state conn).now) }
-{
-    let log = holding(alloc, remains.log.left(left.log))?;
-    let db = holding(alloc, remains.db.left(left.db))?;
-    match Connection::open_files(alloc, Files { log, db }, Options::new(7)) {
-        Ok(conn) => Ok(conn),
-        Err((error, _)) => Err(Fault::from(error)),
-    }
+    fn opened(&self, remains: &Remains, left: Left) -> Result<Connection<S>, Fault>;
 }
 
 impl Reopens<Store> for FusedShelf {
@@ -154,35 +137,13 @@ impl Reopens<Store> for FusedShelf {
     }
 
     fn opened(&self, remains: &Remains, left: Left) -> Result<Connection<Store>, Fault> {
-        reopened(self.alloc, remains, left)
+        let log = holding(self.alloc, remains.log.left(left.log))?;
+        let db = holding(self.alloc, remains.db.left(left.db))?;
+        match Connection::open_files(self.alloc, Files { log, db }, Options::new(7)) {
+            Ok(conn) => Ok(conn),
+            Err((error, _)) => Err(Fault::from(error)),
+        }
     }
-}
-
-// Puts one more behind a list.
-fn push<T: Drop>(list: &mut Vec<T>, item: T) -> Result<(), Fault>
-    ensures { OnOk result (list.new.items ≡ list.old.items ++ item ∷ []) }
-{
-    match list.push(item) {
-        Ok(()) => Ok(()),
-        Err(_) => Err(Fault::OutOfMemory),
-    }
-}
-
-/// The stores of these files, in their order, each just opened.
-pub fn opened_each<S: Alter + Drop, H: Reopens<S>>(
-    alloc: Global,
-    shelf: &H,
-    files: &[Remains],
-    left: Left,
-) -> Result<Vec<Connection<S>>, Fault>
-    ensures { IfOk result (λ stores. All (λ conn. HasCleanDisk (state S.Store conn) → AreKeyed (state S.Store conn).now) stores.items) }
-{
-    let mut stores = Vec::new(alloc);
-    for remains in files {
-        let store = shelf.opened(remains, left)?;
-        push(&mut stores, store)?;
-    }
-    Ok(stores)
 }
 
 /// Whether a crash in this way leaves other bytes of these stores than each way before it in `WAYS`.
