@@ -34,7 +34,7 @@ import worked_lists
 from machine.lists import read_requests
 
 EXAMPLE, DEEP = "loan that is opened again", "loans of loans"
-ARCHIVE, LOAN, OTHER = (f"{worked_lists.uuid_of(digit)}.gpkg" for digit in "abc")
+ARCHIVE, LOAN, OTHER, FOURTH, FIFTH = (f"{worked_lists.uuid_of(digit)}.gpkg" for digit in "abcde")
 
 # What the first version has not: no store of it has a link of a row to a tile.
 FIRST_VERSION = ["DROP TABLE rows_tiles", "DELETE FROM gpkgext_relations WHERE id = 3", "UPDATE sheet_package SET version = 1"]
@@ -53,9 +53,9 @@ HIGHER = [
 ]
 
 
-def example(name):
-    """The first check of a worked example."""
-    return [check for check in worked_lists.written_out() if check.name == name][0]
+def example(name, at=0):
+    """One check of a worked example, the first unless said."""
+    return [check for check in worked_lists.written_out() if check.name == name][at]
 
 
 def rehearsed():
@@ -110,6 +110,24 @@ SAME_KEYS = [
     ),
 ]
 
+def named(name, *statements):
+    """The loan's package under another name, or with another lender."""
+    return [f"UPDATE sheet_package SET package = '{name[:-5]}'", *statements]
+
+
+def worked_on(name):
+    """The same, in which a link was taken out: its lender has not the receipt of that."""
+    uuid, ends = name[:-5], " ".join(worked_lists.uuid_of(word) for word in ("i1", "i2"))
+    tile, medium = ends.split(" ")
+    return [
+        *named(name),
+        "DELETE FROM tiles_media",
+        f"INSERT INTO sheet_receipts VALUES (7, '{worked_lists.uuid_of('q7')}', '{worked_lists.MOMENTS['U']}',"
+        f" 'unlink tiles_media {uuid} {ends}', '{uuid}', '', 0, 0, 0, 1, 0)",
+        f"INSERT INTO sheet_items VALUES (7, 0, 4, '{tile}', '{medium}', 0, '')",
+    ]
+
+
 # A file of a folder: the package that it is a copy of, and what is done to it.
 Copy = namedtuple("Copy", "package statements")
 # Its bytes, where it is no package.
@@ -118,6 +136,10 @@ NO_BYTES, NO_DATABASE, NOTES = b"", b"no database", b"B has the sheets of the qu
 
 def lent(*statements):
     return Copy("lent/" + ARCHIVE, statements)
+
+
+def home(*statements):
+    return Copy("home/" + ARCHIVE, statements)
 
 
 def loan(*statements):
@@ -156,6 +178,22 @@ CASES = {
     "lost_below": ("MissingPackage", deep("abde")),
     "same_keys": (None, {ARCHIVE: lent(*SAME_KEYS), LOAN: loan(*SAME_KEYS)}),
     "no_database": ("StoreFault", {ARCHIVE: lent(), LOAN: NO_DATABASE}),
+    # Of what lies beside the archive only the loan that came home, the one that was never lent, and what is left of other packages may go.
+    "untidy": (
+        None,
+        {
+            ARCHIVE: home(),
+            LOAN: loan(),
+            OTHER: NO_BYTES,
+            FOURTH: loan(*named(FOURTH)),
+            FIFTH: loan(*named(FIFTH, f"UPDATE sheet_package SET parent = '{OTHER[:-5]}'")),
+            "b1" + LOAN[2:]: loan(),
+            "c1" + LOAN[2:]: loan(*worked_on("c1" + LOAN[2:])),
+            "b2" + LOAN[2:] + "-wal": NO_DATABASE,
+            "b3" + LOAN[2:] + "-new": NO_BYTES,
+            "notes.txt": NOTES,
+        },
+    ),
     "first": (None, {ARCHIVE: lent(*FIRST_VERSION), LOAN: loan(*FIRST_VERSION), OTHER: NO_BYTES}),
     "mixed": (None, {ARCHIVE: lent(*FIRST_VERSION), LOAN: loan()}),
     "first_stray": (None, {ARCHIVE: alone(*FIRST_VERSION), LOAN: loan(*FIRST_VERSION)}),
@@ -178,10 +216,10 @@ def make_archive(folder):
 
 
 def make_lent(folder, name, count):
-    """The same after so many requests of an example, the last of which is a split."""
+    """The same after so many requests of an example: the last is a split, or all that follows it."""
     make_archive(folder)
     register = plain_folder.Folder(folder)
-    requests = read_requests(worked_lists.list_of(example(name)))[:count]
+    requests = read_requests(worked_lists.list_of(example(name, -1)))[:count]
     for number, request in enumerate(requests, 1):
         assert register.apply(request) == (number, 0), request
     register.close()
@@ -201,6 +239,7 @@ def make(room):
     os.mkdir(made)
     make_archive(os.path.join(made, "alone"))
     make_lent(os.path.join(made, "lent"), EXAMPLE, 6)
+    make_lent(os.path.join(made, "home"), EXAMPLE, 8)
     make_lent(os.path.join(made, "deep"), DEEP, 5)
     wanted = os.path.join(room, "folders")
     for name, (_, files) in CASES.items():

@@ -1,12 +1,12 @@
 #!/usr/bin/env python3
 """Writes the sessions that the gate carries out: their lines, the files that these name, and what each line prints.
 
-Usage: make_sessions.py           writes first.csv, first_session.txt, and the run that the gate makes of crates/sheetdesk
+Usage: make_sessions.py           writes first.csv and what else the README names, first_session.txt, and the run that the gate makes of crates/sheetdesk
        make_sessions.py --check   writes nothing; status 1 where a file is not what would be written, or the README shows it otherwise
 
-First the sample is rehearsed, from standard input (make_sample.py). Then comes the session of the README: an archive is made in a folder,
-takes in three sheets, a survey mark and a photograph, lends a sheet to a crew, which adds a mark of its own; then it is looked at, and
-exported. What its lines print is worked out by the second machine of reference.py.
+First the sample is rehearsed, from standard input (make_sample.py). Then an archive is made in a folder, takes in three sheets, a survey
+mark and a photograph by a list, lends a sheet to a crew, which adds a mark of its own; then it is looked at, and exported. Then come the
+verbs for people, of which the README shows a session (verbs.py). What the lines print is worked out by the second machine of reference.py.
 
 Then the worked examples of torture/worked_lists.txt, which has what they must print, written out by hand. Each list is rehearsed. An
 example that lends, and tells more than one reply whole or has manifests in between, is carried out in a folder too: requests of which more
@@ -23,6 +23,7 @@ import sys
 
 import nordmark
 import reference
+import verbs
 from machine.exports import export
 from machine.frames import Frame
 from machine.lists import read_requests
@@ -89,6 +90,16 @@ def right(width, text):
     return str(text).rjust(width) + "  "
 
 
+# Whether the file of a loan stays in the folder after its merge.
+FILES_STAY = True
+
+
+def strays_of(world):
+    """The last line of a status, where files are of no live package: those of loans that came home."""
+    count = sum(receipt.line.startswith("merge ") for receipt in world.receipts) if FILES_STAY else 0
+    return f"strays {count}\n" if count else ""
+
+
 def status_of(world):
     """A line of headings, and a line for each package, in columns of fixed widths."""
     counted = [("tiles", 7), ("media", 7), ("rows", 7), ("links", 7), ("bytes", 13)]
@@ -100,6 +111,18 @@ def status_of(world):
         counts = "".join(right(width, sight[name]) for name, width in counted)
         lines.append(ends + counts + (world.receipts[ticket - 1].at if ticket else "-") + "\n")
     return "".join(lines)
+
+
+def log_of(world, package="", first=0, last=None):
+    """A line of headings, and a line for each receipt that names a package, from a number on, and of those the last."""
+    heads = right(10, "receipt") + left(24, "at") + left(6, "what") + left(36, "from") + left(36, "to") + right(7, "things")
+    lines = []
+    for receipt in world.receipts:
+        ends = (receipt.source or "-", receipt.target or "-")
+        if receipt.seq >= first and any(end.startswith(package) for end in ends):
+            front = right(10, receipt.seq) + left(24, receipt.at) + left(6, receipt.line.split(" ")[0])
+            lines.append(front + "".join(left(36, end) for end in ends) + right(7, len(receipt.moved)) + f"{receipt.sums()[-1]}\n")
+    return heads + "bytes\n" + "".join(lines if last is None else lines[max(len(lines) - last, 0):])
 
 
 def way_of(world, identity):
@@ -136,6 +159,12 @@ class Session:
     def run(self, words, text, status=0):
         self.type(f"./sheetdesk {words}", text, status)
 
+    def take(self, other):
+        """Another session behind this one."""
+        self.typed += other.typed
+        self.printed += other.printed
+        self.files.update(other.files)
+
     def name(self, path, content):
         """A file that a line names, by its path."""
         self.files[path] = content
@@ -157,6 +186,26 @@ def first_session():
     session.run(f"manifest maps {CREW}", manifest_of(done, CREW))
     session.run("audit maps", f"good {len(done.world.receipts)}\n")
     return session
+
+
+def verb_sessions(session):
+    """The verbs for people: the session that the README shows, and all of them."""
+    shown = Session()
+    world = verbs.first_loan(shown)
+    shown.run("log sheets", log_of(world))
+    shown.run("audit sheets", f"good {len(world.receipts)}\n")
+    session.take(shown)
+    session.show("")
+    session.show("# All verbs, the first of each kind shown before it is carried out.")
+    world = verbs.every_verb(session)
+    session.run("status harbour", status_of(world))
+    session.run("log harbour 7900", log_of(world, "7900"))
+    session.run("log harbour --from 11 --last 3", log_of(world, first=11, last=3))
+    session.run("log harbour DF7BE693 --last 0", log_of(world, last=0))
+    session.run("log harbour --last 99 --from 15", log_of(world, first=15, last=99))
+    session.run("log harbour --last few", "refused: number\n", 1)
+    session.run("audit harbour", f"good {len(world.receipts)}\n")
+    return shown
 
 
 def exports(session):
@@ -228,7 +277,7 @@ class InFolder:
             else:
                 told = (at for at in range(self.at, len(check.records)) if tells_more(check, at))
                 self.import_to(check, next(told, len(check.records)))
-        self.session.run(f"status {self.folder}", status_of(done.world))
+        self.session.run(f"status {self.folder}", status_of(done.world) + strays_of(done.world))
         for part in check.manifests.split("package ")[1:]:
             uuid, manifest = part.split("\n", 1)
             self.session.run(f"manifest {self.folder} {uuid}", manifest)
@@ -294,18 +343,19 @@ def sessions_by_hand(session):
 
 
 def all_sessions():
-    """The first session as the README shows it, and all of them."""
+    """The sessions of the README, and all of them."""
     first, every = first_session(), Session()
     every.show("# The sample, on standard input.")
     every.run(f"rehearse {MAKING}", rehearsed_sample()[1])
     every.show("")
-    every.show("# The first session of the README.")
-    every.typed += first.typed
-    every.printed += first.printed
-    every.files = first.files
+    every.show("# A first list of requests.")
+    every.take(first)
     every.show("")
     every.show("# Its packages as SQL, and an archive with nothing in it, over an oblong frame.")
     exports(every)
+    every.show("")
+    every.show("# A sheet is lent and comes home, by the verbs for people.")
+    first.take(verb_sessions(every))
     worked_sessions(every)
     sessions_by_hand(every)
     return first, every
@@ -315,8 +365,9 @@ def files():
     """Each file's path and bytes."""
     first, every = all_sessions()
     made = {os.path.join(DATA, *path.split("/")): content for path, content in every.files.items()}
+    beside = {os.path.join(HERE, "..", *path.split("/")): content for path, content in first.files.items()}
     return {
-        os.path.join(HERE, "first.csv"): first.files["samples/first.csv"],
+        **beside,
         os.path.join(HERE, "first_session.txt"): "".join(first.printed).encode(),
         os.path.join(DATA, "sessions.txt"): "".join(every.typed).encode(),
         os.path.join(CRATE, "args"): b"session\nsessions.txt\n",
@@ -366,11 +417,11 @@ def is_shown_right(said, printed):
 
 
 def shown_otherwise():
-    """What the README shows of the first session, and is not so."""
-    printed = by_command([line.rstrip("\n") for line in "".join(first_session().printed).splitlines()])
-    said = shown()
+    """What the README shows of its sessions, and is not so."""
+    lines = [verbs.as_shown(line.rstrip("\n")) for line in "".join(all_sessions()[0].printed).splitlines()]
+    printed, said = by_command(lines), shown()
     if not said:
-        return ["nothing of the first session"]
+        return ["nothing of a session"]
     return [command for command, lines in said.items() if command not in printed or not is_shown_right(lines, printed[command])]
 
 

@@ -20,7 +20,10 @@ each random_lists - "$torture/compare_with_reference.py" "${lists[@]}"
 # A folder and a desk, beside other programs.
 each session 'curl sqlite3' "$torture/folder_session.sh"
 each desk 'curl jq' "$torture/desk_curl.sh"
+each desk_client - "$torture/desk_client.py"
+each hostile_clients - "$torture/hostile_clients.py" $((quick ? 500 : 10000))
 each stock_package - "$torture/stock_sqlite3.sh" --init "$program"
+each many_loans - "$torture/many_loans.py" $((quick ? 30 : 400))
 each stock_folder sqlite3 "$torture/stock_folder.sh"
 each first_version - "$torture/first_version_folder.sh" "$program"
 each export 'sqlite3 ogrinfo gdalinfo gdal_translate' "$torture/export_files.sh"

@@ -74,16 +74,18 @@ second() { python3 "$top/samples/reference.py" "$1" "$archive" "$frame" <"$2"; }
 manifest_of() { sed -n "/^package $1\$/,/^package /{/^package /d;p}" "$2"; }
 header=$(head -n 1 "$sample")
 
+no_folder='the folder is not there, or cannot be read and written'
+no_archive="no file says that it is the archive's"
 # ---- an archive is made
 maps=$work/maps
-expect 3 '' "store: StoreFault$nl" init --archive $archive --at $at --frame $frame "$maps" </dev/null
+expect 3 '' "store: StoreFault${nl}$no_folder$nl" init --archive $archive --at $at --frame $frame "$maps" </dev/null
 mkdir "$maps"
 expect 1 "refused: uuid$nl" '' init --archive x --at x --frame x "$maps" </dev/null
 expect 1 "refused: at$nl" '' init --archive $archive --at x --frame x "$maps" </dev/null
 expect 1 "refused: frame$nl" '' init --archive $archive --at $at --frame 1,2 "$maps" </dev/null
 [ -z "$(ls -A "$maps")" ] || { echo 'something was made of words that were refused' >&2; exit 1; }
-expect 3 "NoArchive$nl" '' audit "$maps" </dev/null
-expect 3 '' "store: NoArchive$nl" apply "$maps" </dev/null
+expect 3 "NoArchive$nl" "$no_archive$nl" audit "$maps" </dev/null
+expect 3 '' "store: NoArchive${nl}$no_archive$nl" apply "$maps" </dev/null
 echo a note >"$maps/readme.txt"
 expect 0 "archive $archive$nl" '' init --archive $archive --at $at --frame $frame "$maps" </dev/null
 expect 1 "refused: folder holds packages$nl" '' init --archive $other --at $at --frame $frame "$maps" </dev/null
@@ -112,7 +114,7 @@ expect 0 "@$work/report" '' import "$maps" "$sample" </dev/null
 printf 'no list\n' >"$work/bad.csv"
 expect 1 "refused: list$nl" '' import "$maps" "$work/bad.csv" </dev/null
 expect 1 "refused: list$nl" '' import "$maps" "$work/nowhere.csv" </dev/null
-expect 3 '' "store: StoreFault$nl" import "$work/nowhere" "$sample" </dev/null
+expect 3 '' "store: StoreFault${nl}$no_folder$nl" import "$work/nowhere" "$sample" </dev/null
 
 # ---- a request alone
 cat >"$work/more" <<END
@@ -138,7 +140,7 @@ expect 1 "refused: body$nl" '' apply "$maps" <<<'{}'
 expect 1 "refused: body$nl" '' apply "$maps" </dev/null
 head -c 2200001 /dev/zero | tr '\0' ' ' >"$work/large"
 expect 1 "refused: body$nl" '' apply "$maps" <"$work/large"
-expect 3 '' "store: StoreFault$nl" apply "$work/nowhere" <"$work/request.1"
+expect 3 '' "store: StoreFault${nl}$no_folder$nl" apply "$work/nowhere" <"$work/request.1"
 expect 0 "good $((receipts + 2))$nl" '' audit "$maps" </dev/null
 are_whole "$maps"
 
@@ -149,7 +151,7 @@ for words in "0 1" "65536 1" "x 1" "8080 0" "8080 1000001" "8080 01"; do
   expect 1 "refused: number$nl" '' serve "$maps" $words </dev/null
 done
 expect 1 "refused: number$nl" '' serve "$work/nowhere" 0 1 </dev/null
-expect 3 '' "store: StoreFault$nl" serve "$work/nowhere" "$port" 1 </dev/null
+expect 3 '' "store: StoreFault${nl}$no_folder$nl" serve "$work/nowhere" "$port" 1 </dev/null
 # open_desk COUNT: a desk, which is there once it lets a client in.
 open_desk() {
   setsid "${program[@]}" serve "$maps" "$port" "$1" </dev/null >"$work/desk.out" 2>"$work/desk.err" &
@@ -211,42 +213,44 @@ damaged() {
   rm -rf "$work/copy"
   cp -r "$maps" "$work/copy"
 }
+# is_found FAULT NOTE
 is_found() {
-  expect 3 "$1$nl" '' audit "$work/copy" </dev/null
-  expect 3 '' "store: $1$nl" manifest "$work/copy" $archive </dev/null
+  expect 3 "$1$nl" "$2$nl" audit "$work/copy" </dev/null
+  expect 3 '' "store: $1$nl$2$nl" manifest "$work/copy" $archive </dev/null
 }
 alter() { sqlite3 "$work/copy/$1.gpkg" "$2" >/dev/null; }
 damaged
 rm "$work/copy/$archive.gpkg"*
-is_found NoArchive
+is_found NoArchive "$no_archive"
 damaged
 cp "$work/copy/$archive.gpkg" "$work/copy/c0000000-0000-4000-8000-000000000000.gpkg"
-is_found TwoArchives
+is_found TwoArchives "two files say that they are the archive's"
 damaged
 alter $survey 'DROP TABLE rows_tiles'
-is_found NotAPackage
+is_found NotAPackage "package $survey lacks a table of its form, or has a value out of its range"
 damaged
 cp "$work/copy/$survey.gpkg" "$work/copy/c0000000-0000-4000-8000-000000000000.gpkg"
-is_found TwoCopies
+is_found TwoCopies "package $survey is there twice"
 damaged
 rm "$work/copy/$survey.gpkg"*
-is_found MissingPackage
+is_found MissingPackage "package $survey is named by an open split and has no file"
 damaged
 alter $survey 'UPDATE sheet_package SET depth = 2'
-is_found ForeignFrame
+is_found ForeignFrame "package $survey has not the archive's frame, or is not one level below its lender"
 damaged
 alter $archive 'DELETE FROM sheet_identity WHERE kind = 3 AND local_id = (SELECT min(local_id) FROM sheet_identity WHERE kind = 3)'
-is_found Dangling
+is_found Dangling "package $archive has a row without identity, an identity without row, or a link without row"
 damaged
 alter $archive 'UPDATE sheet_receipts SET n_bytes = n_bytes + 1 WHERE seq = 1'
-is_found OutOfAccount
+is_found OutOfAccount 'the receipts do not add up to what the packages hold'
 damaged
 alter $archive 'DELETE FROM sheet_items WHERE seq = 1'
-is_found OutOfAccount
+is_found OutOfAccount 'the receipts do not add up to what the packages hold'
 damaged
 alter $survey 'UPDATE sheet_tiles SET tile_data = zeroblob(length(tile_data))'
-is_found Altered
+least=$(sqlite3 "$work/copy/$survey.gpkg" 'SELECT min(uuid) FROM sheet_identity WHERE kind = 1')
+is_found Altered "item $least has not the content that its receipt names"
 damaged
 printf 'no database' >"$work/copy/$survey.gpkg"
-is_found StoreFault
+is_found StoreFault "$survey.gpkg cannot be opened, is no database, or too many files are open"
 echo "$steps steps, each as it must be"

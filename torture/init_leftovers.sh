@@ -62,8 +62,8 @@ expect 3 "" "store: StoreFault$nl" "${making[@]}" "$work/way"
 [ ! -e "$work/way/$archive.gpkg" ] || fails "an archive was made beside a folder in the place of its log"
 # A folder that holds packages, and none, and no folder at all.
 expect 1 "refused: folder holds packages$nl" "" "${making[@]}" "$work/maps"
-expect 3 "" "store: StoreFault$nl" "${making[@]}" "$work/none"
-expect 3 "" "store: StoreFault$nl" status ""
+expect 3 "" "store: StoreFault${nl}the folder is not there, or cannot be read and written$nl" "${making[@]}" "$work/none"
+expect 3 "" "store: StoreFault${nl}the folder is not there, or cannot be read and written$nl" status ""
 
 # Two at once: whoever holds the lock keeps the other out, whatever the subcommand.
 flock "$work/maps/sheetdesk.lock" -c "touch $work/held; exec sleep 600" &

@@ -129,7 +129,9 @@ def room():
 class Ran:
     def __init__(self, words, under=(), **how):
         ran = subprocess.run([*under, *program, *words], stdin=subprocess.DEVNULL, stdout=subprocess.PIPE, stderr=subprocess.PIPE, timeout=LIMIT, **how)
-        self.status, self.out, self.err = ran.returncode, ran.stdout.decode(), ran.stderr.decode()
+        # What standard error says in plain words, behind the line of a fault, is left out.
+        lines = ran.stderr.decode().splitlines(keepends=True)
+        self.status, self.out, self.err = ran.returncode, ran.stdout.decode(), "".join(line for line in lines if ran.returncode != 3 or line.startswith("store: "))
 
     def __str__(self):
         return f"status {self.status}, {self.out[-300:]!r}, {self.err[-300:]!r}"

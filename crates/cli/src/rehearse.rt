@@ -5,7 +5,6 @@ ghost use Rattle.sheet_types.specs.declared.frame.Frame.{Frame};
 ghost use Rattle.world_members.specs.Members.{AllClean};
 ghost use Rattle.world.specs.Worlds.{StandsFor};
 ghost use Rattle.command_words.specs.Arguments.{Asks, IsFirstUnread};
-ghost use Rattle.command_words.specs.Endings.{import_outcome};
 ghost use Rattle.manifest_csv.specs.Imports.{IsListOf};
 ghost use Rattle.cli.specs.Rehearsals.{package_line, package_text, packages_text, live_text, StandsOn, Writes, Rehearses, IsInMemory};
 ghost use Rattle.cli.specs.Servings.{HandsOn};
@@ -13,12 +12,13 @@ ghost use Rattle.command_words.specs.declared.statuses.What.{What};
 ghost use Rattle.command_words.specs.declared.statuses.Outcome.TheVariants.{Refused};
 
 use command_words::arguments::{Rehearsal, Words, read_rehearsal};
-use command_words::statuses::{Failure, Outcome, What};
+use command_words::statuses::{Failure, Outcome, end_of_import};
 use manifest_csv::importing::{ImportFault, carry_out};
 use manifest_csv::package_manifests::write_manifest;
 use manifest_csv::progress::Teller;
 use manifest_csv::sending::send;
-use request_csv::lists::{ReadFault, read_requests};
+use request_csv::lists::read_requests;
+use request_csv::sources::Stream;
 use sheet_types::command::{Command, Request};
 use sqlite::{Alter, FileStore, MemStore};
 use std::alloc::{AllocError, Global};
@@ -66,18 +66,6 @@ fn new_world<S: Alter + Drop, H: Shelf<S>>(
         rehearsal.at,
         &rehearsal.frame,
     )?)
-}
-
-/// How an import ends the program, unless it went through.
-pub(crate) fn end_of_import(fault: ImportFault) -> Outcome
-    ensures { result ≡ import_outcome fault }
-{
-    match fault {
-        ImportFault::Unread(ReadFault::Memory) => Outcome::Stopped(Failure::OutOfMemory),
-        ImportFault::Unread(_) => Outcome::Refused(What::BadList),
-        ImportFault::Stopped(_, fault) => Outcome::Stopped(Failure::from(fault)),
-        ImportFault::Unwritten => Outcome::Stopped(Failure::StoreFault),
-    }
 }
 
 /// The line that names a package before its manifest.
@@ -164,7 +152,7 @@ fn carried_out<R: Read + Drop, W: Write, T: Teller>(
 ) -> Outcome
     ensures { Rehearses (new_world rehearsal.now.archive rehearsal.now.frame) (R.remaining reader) writer.old writer.new (W.contents writer.old) (W.contents writer.new) result }
 {
-    match read_requests(alloc, reader) {
+    match read_requests(alloc, Stream(reader)) {
         Ok(requests) => over_either(alloc, rehearsal, requests.as_slice(), writer, teller),
         Err(fault) => end_of_import(ImportFault::Unread(fault)),
     }

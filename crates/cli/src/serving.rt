@@ -9,14 +9,16 @@ ghost use Rattle.manifest_csv.specs.Imports.{IsListOf};
 ghost use Rattle.command_words.specs.declared.statuses.What.{What};
 ghost use Rattle.command_words.specs.declared.statuses.Outcome.TheVariants.{Refused};
 
-use crate::rehearse::{are_few, end_of_import, handed_on};
+use crate::rehearse::{are_few, handed_on};
 use command_words::arguments::{DeskWords, Rehearsal, Words, read_serving};
-use command_words::statuses::{Failure, Outcome};
+use command_words::statuses::{Failure, Outcome, end_of_import};
 use desk_http::connections::serve_each;
 use desk_http::listening::listen;
+use desk_http::telling::DeskTeller;
 use manifest_csv::importing::ImportFault;
 use manifest_csv::progress::Teller;
 use request_csv::lists::read_requests;
+use request_csv::sources::Stream;
 use sheet_types::command::Request;
 use sqlite::{Alter, FileStore, MemStore};
 use std::alloc::Global;
@@ -38,7 +40,7 @@ pub enum LeftWorld {
     Files(World<FileStore<MemoryFile>>),
 }
 
-/// Does what `rehearse` does with the first words, and then serves the world that the list led to: so many connections of 127.0.0.1 at the port, one after the other. The world as they left it comes back.
+/// Does what `rehearse` does with the first words, and then serves the world that the list led to: so many connections of 127.0.0.1 at the port, one after the other. The world as they left it comes back. The teller is told of the port and of each connection.
 /// The words are read first, and then the port is taken, so that a client may connect while the list is carried out. Where a word cannot be read or the port cannot be had, nothing is read and nothing is written.
 ///
 /// # Errors
@@ -48,7 +50,7 @@ pub fn rehearse_and_serve<
     N: Net<Listener = TcpListener, Stream = TcpStream> + Clock,
     R: Read + Drop,
     W: Write,
-    T: Teller,
+    T: Teller + DeskTeller,
 >(
     net: &N,
     alloc: Global,
@@ -70,6 +72,7 @@ pub fn rehearse_and_serve<
         Ok(listener) => listener,
         Err(_) => return Err(Outcome::Stopped(Failure::StoreFault)),
     };
+    teller.tell_port(desk.port);
     served(
         net, alloc, &rehearsal, &listener, desk.count, reader, writer, teller,
     )
@@ -81,7 +84,7 @@ pub fn rehearse_and_serve<
 /// # Errors
 ///
 /// How the rehearsal ended where it was not done. Nothing was served.
-pub fn served<C: Clock, R: Read + Drop, W: Write, T: Teller>(
+pub fn served<C: Clock, R: Read + Drop, W: Write, T: Teller + DeskTeller>(
     clock: &C,
     alloc: Global,
     rehearsal: &Rehearsal<'_>,
@@ -93,7 +96,7 @@ pub fn served<C: Clock, R: Read + Drop, W: Write, T: Teller>(
 ) -> Result<LeftWorld, Outcome>
     ensures { Leaves (new_world rehearsal.now.archive rehearsal.now.frame) count (R.remaining reader) writer.old writer.new (W.contents writer.old) (W.contents writer.new) result }
 {
-    match read_requests(alloc, reader) {
+    match read_requests(alloc, Stream(reader)) {
         Ok(requests) => served_by_either(
             clock,
             alloc,
@@ -109,7 +112,7 @@ pub fn served<C: Clock, R: Read + Drop, W: Write, T: Teller>(
 }
 
 // In the engine's arrays, or in files in memory.
-fn served_by_either<C: Clock, W: Write, T: Teller>(
+fn served_by_either<C: Clock, W: Write, T: Teller + DeskTeller>(
     clock: &C,
     alloc: Global,
     rehearsal: &Rehearsal<'_>,
@@ -141,7 +144,7 @@ fn served_by_either<C: Clock, W: Write, T: Teller>(
 }
 
 // Over the stores of this shelf, which are in memory.
-fn served_over<S: Alter + Drop, H: Shelf<S>, C: Clock, W: Write, T: Teller>(
+fn served_over<S: Alter + Drop, H: Shelf<S>, C: Clock, W: Write, T: Teller + DeskTeller>(
     clock: &C,
     alloc: Global,
     rehearsal: &Rehearsal<'_>,
@@ -155,6 +158,7 @@ fn served_over<S: Alter + Drop, H: Shelf<S>, C: Clock, W: Write, T: Teller>(
     ensures { IsInMemory S.Store → IsListOf requests.now (λ text. RehearsesAndServes S.Store (new_world rehearsal.now.archive rehearsal.now.frame) count text writer.old writer.new (W.contents writer.old) (W.contents writer.new) result) }
 {
     let mut world = handed_on::<S, H, W, T>(alloc, rehearsal, shelf, requests, writer, teller)?;
-    serve_each(clock, alloc, &mut world, shelf, listener, count);
+    // The world is handed back whichever way its desk ended.
+    let _ended = serve_each(clock, alloc, &mut world, shelf, listener, count, teller);
     Ok(world)
 }

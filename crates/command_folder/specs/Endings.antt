@@ -1,11 +1,13 @@
 -- How a call of the program on a folder ends: its exit status, and the lines that it prints before (profile).
-use Rattle.std.specs.Prelude.{ℕ, List, [], ◌∷◌, ◌++◌, codes, Option, Some, None, Result, Ok, Err}
+use Rattle.std.specs.Prelude.{ℕ, List, [], ◌∷◌, ◌++◌, codes, Result, Ok, Err}
 use Rattle.command_words.specs.Endings.{outcome_status, line_of, output_text as outcome_output, error_text as outcome_error}
 use Rattle.command_words.specs.Failures.{of_fault}
 use Rattle.command_words.specs.declared.statuses.Failure.TheVariants as failure
 use Rattle.command_words.specs.declared.statuses.Outcome.TheVariants.{Done, Stopped}
 use Rattle.manifest_csv.specs.declared.package_manifests.ManifestFault.{ManifestFault}
 use Rattle.manifest_csv.specs.declared.package_manifests.ManifestFault.TheVariants as manifest
+use Rattle.command_faults.specs.Texts.{fault_text, list_text, refusal_text}
+use Rattle.store_folder.specs.Faults.{cause_text}
 use Rattle.store_folder.specs.declared.fault.FolderFault.{FolderFault}
 use Rattle.store_folder.specs.declared.fault.FolderFault.TheVariants as folder
 use Rattle.opening_faults.specs.declared.faults.RecoverFault.{RecoverFault}
@@ -13,7 +15,7 @@ use Rattle.opening_faults.specs.declared.faults.RecoverFault.TheVariants.{NoArch
 use Rattle.command_folder.specs.declared.endings.OpenFault.{OpenFault}
 use Rattle.command_folder.specs.declared.endings.OpenFault.TheVariants.{Folder, Fault}
 use Rattle.command_folder.specs.declared.endings.Ending.{Ending}
-use Rattle.command_folder.specs.declared.endings.Ending.TheVariants.{Usual, BadBody, HoldsPackages, NoSuchPackage, Declined, Unopened, Faulted}
+use Rattle.command_folder.specs.declared.endings.Ending.TheVariants.{Usual, BadBody, HoldsPackages, NoSuchPackage, Declined, NoRequest, Unlisted, Unopened, Faulted}
 
 -- all was done; a file or a stream gave out; a growth was refused
 abbrev pub done : Ending
@@ -37,7 +39,9 @@ ending_status (Usual outcome) = outcome_status outcome
 ending_status BadBody = 1
 ending_status HoldsPackages = 1
 ending_status NoSuchPackage = 1
-ending_status Declined = 1
+ending_status (Declined why) = 1
+ending_status NoRequest = 1
+ending_status (Unlisted fault) = 1
 ending_status (Unopened fault) = 3
 ending_status (Faulted fault) = 3
 
@@ -76,7 +80,9 @@ output_text (Usual outcome) = outcome_output outcome
 output_text BadBody = line_of (codes "refused") (codes "body")
 output_text HoldsPackages = line_of (codes "refused") (codes "folder holds packages")
 output_text NoSuchPackage = line_of (codes "refused") (codes "no such package")
-output_text Declined = []
+output_text (Declined why) = []
+output_text NoRequest = []
+output_text (Unlisted fault) = line_of (codes "refused") (codes "list")
 output_text (Unopened fault) = []
 output_text (Faulted fault) = fault_line (told_as fault)
 
@@ -86,20 +92,25 @@ error_text (Usual outcome) = outcome_error outcome
 error_text BadBody = []
 error_text HoldsPackages = []
 error_text NoSuchPackage = []
-error_text Declined = []
+error_text (Declined why) = []
+error_text NoRequest = []
+error_text (Unlisted fault) = []
 error_text (Unopened fault) = store_line (told_as fault)
 error_text (Faulted fault) = []
 
--- the fault of the folder, where that is why it was not opened
-abbrev pub folder_part : OpenFault → Option FolderFault
-folder_part (Folder fault) = Some fault
-folder_part (Fault fault) = None
+-- what is known of why a folder is not opened
+abbrev pub open_note : OpenFault → List ℕ
+open_note (Folder fault) = cause_text fault
+open_note (Fault fault) = fault_text fault
 
-abbrev pub folder_fault : Ending → Option FolderFault
-folder_fault (Usual outcome) = None
-folder_fault BadBody = None
-folder_fault HoldsPackages = None
-folder_fault NoSuchPackage = None
-folder_fault Declined = None
-folder_fault (Unopened fault) = folder_part fault
-folder_fault (Faulted fault) = folder_part fault
+-- and of an ending, on standard error, behind the line there
+abbrev pub note_text : Ending → List ℕ
+note_text (Usual outcome) = []
+note_text BadBody = []
+note_text HoldsPackages = []
+note_text NoSuchPackage = []
+note_text (Declined why) = refusal_text why
+note_text NoRequest = []
+note_text (Unlisted fault) = list_text fault
+note_text (Unopened fault) = open_note fault
+note_text (Faulted fault) = open_note fault

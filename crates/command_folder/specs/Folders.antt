@@ -1,5 +1,5 @@
 -- A folder of packages, opened. Profile.
-use Rattle.std.specs.Prelude.{◌≡◌, ◌⊎◌, List, All}
+use Rattle.std.specs.Prelude.{◌≡◌, ◌⊎◌, ℕ, List, All, length}
 use Rattle.sqlite.specs.Held.{Held, state}
 use Rattle.sqlite.specs.Store.{Ghosts}
 use Rattle.store_folder.specs.Opened.{IsJustOpened}
@@ -13,11 +13,12 @@ use Rattle.command_folder.specs.declared.endings.OpenFault.{OpenFault}
 use Rattle.command_folder.specs.declared.endings.OpenFault.TheVariants.{Fault}
 
 module _ {S : Type 0} (g : Ghosts S) where
-  -- This is the world that stores came to, each just opened.
-  pub record IsWorldOf (stores : List (Held S)) (seen : Seen S) : Type 0 where
+  -- This is the world that stores came to, each just opened, and so many of them are not of it.
+  pub record IsWorldOf (stores : List (Held S)) (strays : ℕ) (seen : Seen S) : Type 0 where
     pub found : Recovered S
     pub is : IsRecovered g stores found
     pub same : found.world ≡ seen
+    pub beside : length found.strays.items ≡ strays
 
   -- This is the fault by which stores came to no world.
   pub record IsFaultOfStores (stores : List (Held S)) (fault : RecoverFault) : Type 0 where
@@ -28,9 +29,14 @@ module _ {S : Type 0} (g : Ghosts S) where
   abbrev pub AreJustOpened : List (Held S) → Type 0
   AreJustOpened stores = All (λ h. IsJustOpened (state g h)) stores
 
+  -- the world of some stores that were just opened, and so many of them are not of it
+  abbrev pub IsFolderBeside : ℕ → Seen S → Type 0
+  IsFolderBeside strays seen =
+      (stores : List (Held S)) × AreJustOpened stores × IsWorldOf stores strays seen
+
   -- the world of some stores that were just opened
   abbrev pub IsFolderWorld : Seen S → Type 0
-  IsFolderWorld seen = (stores : List (Held S)) × AreJustOpened stores × IsWorldOf stores seen
+  IsFolderWorld seen = (strays : ℕ) × IsFolderBeside strays seen
 
   -- The folder was not opened, the program ends with that, and nothing was written; or its world was, and this was made of it.
   abbrev pub OpensThen : {W : Type 0} → (OpenFault → Ending) → (Seen S → Seen S → Type 0) → W → W → Ending → Type 0

@@ -1,13 +1,17 @@
 //! How a call of the program on a folder ends: its exit status, and the lines that it prints before.
-ghost use Rattle.std.specs.Prelude.{◌≡◌};
-ghost use Rattle.command_folder.specs.Endings.{ending_status, error_text, fault_line, folder_fault, folder_part, output_text, store_line, told_as, told_folder};
+ghost use Rattle.std.specs.Prelude.{◌≡◌, IfOk, string_bytes};
+ghost use Rattle.command_folder.specs.Endings.{ending_status, error_text, fault_line, note_text, open_note, output_text, store_line, told_as, told_folder};
 
+use command_faults::texts::{fault_text, list_text, refusal_text};
 use command_words::statuses::{
     Failure, Outcome, error_of as outcome_error, output_of as outcome_output,
     status_of as outcome_status,
 };
 use opening_faults::faults::RecoverFault;
-use store_folder::fault::FolderFault;
+use request_csv::lists::ReadFault;
+use sheet_types::refusal::Refusal;
+use std::alloc::{AllocError, Global};
+use store_folder::fault::{FolderFault, cause_text};
 
 /// Why the files of a folder are no world.
 #[derive(Clone, Copy, Debug, PartialEq, Eq)]
@@ -29,7 +33,7 @@ impl From<FolderFault> for OpenFault {
 }
 
 /// The end of a call of the program on a folder.
-#[derive(Clone, Copy, Debug, PartialEq, Eq)]
+#[derive(Clone, Copy, PartialEq, Eq)]
 pub enum Ending {
     /// As a rehearsal ends too: all was done, a word or a list was refused, or memory or a store gave out.
     Usual(Outcome),
@@ -40,7 +44,11 @@ pub enum Ending {
     /// The package is not live.
     NoSuchPackage,
     /// The request was refused, and the refusal is printed.
-    Declined,
+    Declined(Refusal),
+    /// The words say no request, and why is printed. Nothing was done.
+    NoRequest,
+    /// The file is no list. Nothing was done.
+    Unlisted(ReadFault),
     /// The folder could not be opened. Nothing was done.
     Unopened(OpenFault),
     /// An audit met this fault.
@@ -62,7 +70,12 @@ pub fn status_of(ending: Ending) -> u8
 {
     match ending {
         Ending::Usual(outcome) => outcome_status(outcome),
-        Ending::BadBody | Ending::HoldsPackages | Ending::NoSuchPackage | Ending::Declined => 1,
+        Ending::BadBody
+        | Ending::HoldsPackages
+        | Ending::NoSuchPackage
+        | Ending::Declined(_)
+        | Ending::NoRequest
+        | Ending::Unlisted(_) => 1,
         Ending::Unopened(_) | Ending::Faulted(_) => 3,
     }
 }
@@ -134,8 +147,9 @@ pub fn output_of(ending: Ending) -> &'static str
         Ending::BadBody => "refused: body\n",
         Ending::HoldsPackages => "refused: folder holds packages\n",
         Ending::NoSuchPackage => "refused: no such package\n",
+        Ending::Unlisted(_) => "refused: list\n",
         Ending::Faulted(fault) => fault_line(told_fault(fault)),
-        Ending::Declined | Ending::Unopened(_) => "",
+        Ending::Declined(_) | Ending::NoRequest | Ending::Unopened(_) => "",
     }
 }
 
@@ -149,31 +163,40 @@ pub fn error_of(ending: Ending) -> &'static str
         Ending::BadBody
         | Ending::HoldsPackages
         | Ending::NoSuchPackage
-        | Ending::Declined
+        | Ending::Declined(_)
+        | Ending::NoRequest
+        | Ending::Unlisted(_)
         | Ending::Faulted(_) => "",
     }
 }
 
-/// The fault of the folder, if that is why.
-fn folder_part(fault: OpenFault) -> Option<FolderFault>
-    ensures { result ≡ folder_part fault }
+/// What is known of why a folder is not opened.
+fn open_note(alloc: Global, fault: OpenFault) -> Result<String, AllocError>
+    ensures { IfOk result (λ text. string_bytes text ≡ open_note fault) }
 {
     match fault {
-        OpenFault::Folder(fault) => Some(fault),
-        OpenFault::Fault(_) => None,
+        OpenFault::Folder(fault) => cause_text(alloc, fault),
+        OpenFault::Fault(fault) => fault_text(alloc, fault),
     }
 }
 
-/// The fault of the folder or of a file in it, where that is why the program ended. Standard error is told what is known of it in a line of its own.
-pub fn folder_fault(ending: Ending) -> Option<FolderFault>
-    ensures { result ≡ folder_fault ending }
+/// What a person can be told of an ending beside its lines, without the end of a line: where the fault is, or what was refused. It goes to standard error, behind
+/// the line there. It is empty where nothing more is known.
+///
+/// # Errors
+///
+/// Want of memory.
+pub fn note_of(alloc: Global, ending: Ending) -> Result<String, AllocError>
+    ensures { IfOk result (λ text. string_bytes text ≡ note_text ending) }
 {
     match ending {
-        Ending::Unopened(fault) | Ending::Faulted(fault) => folder_part(fault),
+        Ending::Unopened(fault) | Ending::Faulted(fault) => open_note(alloc, fault),
+        Ending::Unlisted(fault) => list_text(alloc, fault),
+        Ending::Declined(why) => refusal_text(alloc, &why),
         Ending::Usual(_)
         | Ending::BadBody
         | Ending::HoldsPackages
         | Ending::NoSuchPackage
-        | Ending::Declined => None,
+        | Ending::NoRequest => Ok(String::new(alloc)),
     }
 }

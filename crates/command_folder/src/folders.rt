@@ -1,6 +1,6 @@
 //! A folder of packages, opened as the world that its stores stand for.
-ghost use Rattle.std.specs.Prelude.{IfOk, IfErr};
-ghost use Rattle.command_folder.specs.Folders.{AreJustOpened, IsFolderWorld};
+ghost use Rattle.std.specs.Prelude.{IfOk};
+ghost use Rattle.command_folder.specs.Folders.{AreJustOpened, IsFolderBeside};
 
 use crate::endings::OpenFault;
 use crate::watching::opening_line;
@@ -16,18 +16,21 @@ use store_folder::start::FolderStore;
 use uuid::Uuid;
 use world::world::World;
 
-/// The world that these stores stand for, each just opened, or why there is none; and the stores
-/// that are not of it. The watcher is told how many are read.
+/// The world that these stores stand for, each just opened, and how many are not of it; or why there
+/// is none. The stores that are not of it are handed back. The watcher is told how many are read.
 fn world_of<S: Alter + Drop, W: Watcher>(
     alloc: Global,
     stores: Vec<Connection<S>>,
     watcher: &mut W,
-) -> (Result<World<S>, OpenFault>, Vec<Connection<S>>)
+) -> (Result<(World<S>, usize), OpenFault>, Vec<Connection<S>>)
     requires { AreJustOpened S.Store stores.items }
-    ensures { IfOk result.0 (IsFolderWorld S.Store) }
+    ensures { IfOk result.0 (λ found. IsFolderBeside S.Store found.1 found.0) }
 {
     match recover(alloc, stores, watcher) {
-        Ok(Recovered { world, strays }) => (Ok(world), strays),
+        Ok(Recovered { world, strays }) => {
+            let count = strays.len();
+            (Ok((world, count)), strays)
+        }
         Err(Unopened { fault, stores }) => (Err(OpenFault::Fault(fault)), stores),
     }
 }
@@ -50,14 +53,13 @@ fn world_at(
     folder: &str,
     packages: &[Uuid],
 ) -> Result<(World<FolderStore>, usize), OpenFault>
-    ensures { IfOk result (λ found. IsFolderWorld ⟦<FolderStore as Store>⟧ found.0) }
+    ensures { IfOk result (λ found. IsFolderBeside ⟦<FolderStore as Store>⟧ found.1 found.0) }
 {
     let stores = open_stores(rt, folder, packages)?;
     let mut line = opening_line(rt);
     let (found, rest) = world_of(rt.alloc(), stores, &mut line);
-    let strays = rest.len();
     close_stores(rest);
-    Ok((found?, strays))
+    found
 }
 
 /// The world that the packages of a folder stand for: of all files whose name is that of a package's
@@ -70,7 +72,7 @@ fn world_at(
 /// A folder or a file that cannot be had, also since another process has it; want of memory; or the
 /// first fault whose condition holds of the stores.
 pub fn open_folder(rt: &HostRuntime, folder: &str) -> Result<OpenFolder, OpenFault>
-    ensures { IfOk result (λ opened. IsFolderWorld ⟦<FolderStore as Store>⟧ opened.world) }
+    ensures { IfOk result (λ opened. IsFolderBeside ⟦<FolderStore as Store>⟧ opened.strays opened.world) }
 {
     let lock = lock_folder(rt, folder)?;
     let listing = list(rt, folder)?;

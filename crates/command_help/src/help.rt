@@ -68,7 +68,8 @@ The report then has the line
 
 With --serve and --count the world that the list led to is then served, as JSON over HTTP: COUNT
 connections of 127.0.0.1 at PORT, one after the other. Then the program ends, and nothing is kept.
-The port is taken before the list is read, so a client may connect at once, and waits.
+The port is taken before the list is read, so a client may connect at once, and waits. Standard error is
+told `listening on 127.0.0.1:PORT` then, and with --log a line a request: moment, request line, status.
   POST /requests                 a request, an object with the fields above that its command uses;
                                  answered by its receipt, or by its refusal
   GET  /packages                 the live packages, with what each holds
@@ -109,6 +110,12 @@ pub const SERVE_ABOUT: &str = "Serves the packages as JSON over HTTP, on this ma
 
 /// What `status` is for.
 pub const STATUS_ABOUT: &str = "Prints a table of the packages that live";
+
+/// What `log` is for.
+pub const LOG_ABOUT: &str = "Prints the ledger, a line for each receipt";
+
+/// What `get` is for.
+pub const GET_ABOUT: &str = "Prints the bytes of a tile or a medium, or the label of a mark";
 
 /// What `explain` is for.
 pub const EXPLAIN_ABOUT: &str = "Prints the whole way of an item, from receipt to receipt";
@@ -163,13 +170,14 @@ A first session, from the archive on:
   sheetdesk import maps list.csv
   sheetdesk apply maps < request.json
   sheetdesk status maps
+  sheetdesk log maps --last 20
   sheetdesk explain maps 00000000-0000-4000-8000-000000000001
   sheetdesk receipt maps 90000000-0000-4000-8000-000000000001
   sheetdesk manifest maps a0000000-0000-4000-8000-000000000000
   sheetdesk export maps a0000000-0000-4000-8000-000000000000 | sqlite3 true.gpkg
   sheetdesk map maps > maps.svg
   sheetdesk audit maps
-  sheetdesk serve maps 8080 100
+  sheetdesk serve maps 8080
 The form of list.csv is told by `sheetdesk rehearse --help`; request.json is an object with the same
 fields, of which its command uses.
 
@@ -177,7 +185,9 @@ Standard output:
   init      archive UUID
   apply     the receipt of the request, or its refusal, as JSON on a line
   import    the report, a line for each request
-  status    a line of headings, and a line for each package
+  status    a line of headings, a line for each package, and how many files are of none, if any
+  log       a line of headings, and a line for each receipt: number, moment, command, from, to, things, bytes
+  get       the bytes of the item, and nothing else
   explain   a line for each receipt that names the item, as an item or as an end of a link; and where it is
   receipt   the receipt, as JSON on a line
   manifest  the records of the package
@@ -185,6 +195,10 @@ Standard output:
   map       SVG; who holds which sheets of one zoom, each package in its colour
   audit     good and the number of receipts; or the name of what is wrong, as OutOfAccount
   serve     nothing
+
+A desk says `listening on 127.0.0.1:PORT` on standard error once its port is taken. With --log it tells there
+of each request: the moment, the request line and the status. It ends after COUNT connections, or with
+status 3 once a store has failed.
 
 Exit status:
   0  done; of a list whatever its report says

@@ -2,4 +2,5 @@
 #![tactic(auto)]
 
 pub mod help;
+mod verbs;
 pub mod words;

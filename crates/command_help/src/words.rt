@@ -1,11 +1,15 @@
 //! Which words the command line has.
 use crate::help::{
-    ABOUT, APPLY_ABOUT, AUDIT_ABOUT, EXPLAIN_ABOUT, EXPORT_ABOUT, FOLDER_WORDS, IMPORT_ABOUT,
-    INIT_ABOUT, MANIFEST_ABOUT, MAP_ABOUT, RECEIPT_ABOUT, REHEARSE_ABOUT, REHEARSE_WORDS,
-    SERVE_ABOUT, SESSION_ABOUT, SESSION_WORDS, STATUS_ABOUT, WORDS,
+    ABOUT, APPLY_ABOUT, AUDIT_ABOUT, EXPLAIN_ABOUT, EXPORT_ABOUT, FOLDER_WORDS, GET_ABOUT,
+    IMPORT_ABOUT, INIT_ABOUT, LOG_ABOUT, MANIFEST_ABOUT, MAP_ABOUT, RECEIPT_ABOUT, REHEARSE_ABOUT,
+    REHEARSE_WORDS, SERVE_ABOUT, SESSION_ABOUT, SESSION_WORDS, STATUS_ABOUT, WORDS,
 };
+use crate::verbs::{join_command, lend_command, part_command, put_command, return_command};
 use clap::{Arg, ArgAction, Command};
 use std::alloc::{AllocError, Global};
+
+/// How many connections a desk serves where no number is given.
+const MOST_CONNECTIONS: &str = "1000000";
 
 /// An option that has to be given, whose text is judged later.
 fn option<'a>(alloc: Global, id: &'a str, value: &'a str, help: &'a str) -> Arg<'a> {
@@ -40,7 +44,7 @@ fn making<'a>(alloc: Global, name: &'a str) -> Result<Command<'a>, AllocError> {
         ))
 }
 
-/// A command with the two options that open a desk, each of which wants the other.
+/// A command with the options that open a desk. PORT and COUNT want each other.
 fn serving<'a>(alloc: Global, command: Command<'a>) -> Result<Command<'a>, AllocError> {
     let serve = option(
         alloc,
@@ -56,7 +60,8 @@ fn serving<'a>(alloc: Global, command: Command<'a>) -> Result<Command<'a>, Alloc
     );
     command
         .arg(serve.required(false).requires_arg("count")?)?
-        .arg(count.required(false).requires_arg("serve")?)
+        .arg(count.required(false).requires_arg("serve")?)?
+        .arg(log(alloc).requires_arg("serve")?)
 }
 
 /// A word that has to be given, by its place, whose text is judged later.
@@ -84,7 +89,27 @@ fn over_folder<'a>(
 
 /// Makes an archive in a folder.
 fn init_command<'a>(alloc: Global) -> Result<Command<'a>, AllocError> {
-    over_folder(alloc, making(alloc, "init")?, INIT_ABOUT)
+    let archive = option(
+        alloc,
+        "archive",
+        "UUID",
+        "Identity of the archive, as a0000000-0000-4000-8000-000000000000; else a new one",
+    );
+    let at = option(
+        alloc,
+        "at",
+        "AT",
+        "Moment at which it is made, as 2024-05-01T08:00:00.000Z; else that of the clock",
+    );
+    over_folder(alloc, Command::new(alloc, "init"), INIT_ABOUT)?
+        .arg(archive.required(false))?
+        .arg(at.required(false))?
+        .arg(option(
+            alloc,
+            "frame",
+            "FRAME",
+            "Its frame, as 25832,0,0,4096,4096,256,256,0,3,1,1",
+        ))
 }
 
 /// Carries one request out.
@@ -119,6 +144,40 @@ fn over_package<'a>(
 /// Says what lives.
 fn status_command<'a>(alloc: Global) -> Result<Command<'a>, AllocError> {
     over_folder(alloc, Command::new(alloc, "status"), STATUS_ABOUT)
+}
+
+/// Prints the ledger.
+fn log_command<'a>(alloc: Global) -> Result<Command<'a>, AllocError> {
+    let package = word(
+        alloc,
+        "package",
+        "PACKAGE",
+        "Receipts that name this package, by its first digits; else all",
+    );
+    let from = option(alloc, "from", "SEQ", "From this number on");
+    let last = option(alloc, "last", "N", "The last N of them");
+    over_folder(alloc, Command::new(alloc, "log"), LOG_ABOUT)?
+        .arg(package.required(false))?
+        .arg(from.required(false))?
+        .arg(last.required(false))
+}
+
+/// Prints what stands in an item, or keeps it in a file.
+fn get_command<'a>(alloc: Global) -> Result<Command<'a>, AllocError> {
+    let output = word(
+        alloc,
+        "output",
+        "FILE",
+        "Where it is kept, as harbour.jpg; else it is printed",
+    );
+    over_folder(alloc, Command::new(alloc, "get"), GET_ABOUT)?
+        .arg(word(
+            alloc,
+            "identity",
+            "IDENTITY",
+            "The item, by its identity or the first digits of it, as 6523",
+        ))?
+        .arg(output.required(false))
 }
 
 /// Tells the way of an item.
@@ -157,16 +216,26 @@ fn audit_command<'a>(alloc: Global) -> Result<Command<'a>, AllocError> {
     over_folder(alloc, Command::new(alloc, "audit"), AUDIT_ABOUT)
 }
 
+/// The option that asks for a line a connection.
+fn log<'a>(alloc: Global) -> Arg<'a> {
+    Arg::new(alloc, "log")
+        .long("log")
+        .help("Tell standard error of each request: moment, method, path, status")
+        .action(ArgAction::SetTrue)
+}
+
 /// Opens a desk.
 fn serve_command<'a>(alloc: Global) -> Result<Command<'a>, AllocError> {
+    let count = word(
+        alloc,
+        "count",
+        "COUNT",
+        "How many connections are served before the program ends, as 100",
+    );
     over_folder(alloc, Command::new(alloc, "serve"), SERVE_ABOUT)?
         .arg(word(alloc, "port", "PORT", "Where, on 127.0.0.1, as 8080"))?
-        .arg(word(
-            alloc,
-            "count",
-            "COUNT",
-            "How many connections are served before the program ends, as 100",
-        ))
+        .arg(count.required(false).default_value(MOST_CONNECTIONS))?
+        .arg(log(alloc))
 }
 
 /// The command that shows what a list would come to.
@@ -195,9 +264,16 @@ pub fn sheetdesk<'a>(alloc: Global) -> Result<Command<'a>, AllocError> {
         .after_help(WORDS)
         .subcommand_required(true)
         .subcommand(init_command(alloc)?)?
+        .subcommand(put_command(alloc)?)?
+        .subcommand(lend_command(alloc)?)?
+        .subcommand(return_command(alloc)?)?
+        .subcommand(join_command(alloc)?)?
+        .subcommand(part_command(alloc)?)?
         .subcommand(apply_command(alloc)?)?
         .subcommand(import_command(alloc)?)?
         .subcommand(status_command(alloc)?)?
+        .subcommand(log_command(alloc)?)?
+        .subcommand(get_command(alloc)?)?
         .subcommand(explain_command(alloc)?)?
         .subcommand(receipt_command(alloc)?)?
         .subcommand(over_package(alloc, "manifest", MANIFEST_ABOUT)?)?

@@ -1,3 +1,4 @@
 pub mod Untouched
 pub mod Listed
 pub mod Asked
+pub mod Found

@@ -24,10 +24,14 @@ items_held true held items links e = ap (λ o. (unwrap_or o held).0) e
 items_held false held items links e = absurd (cc)
 
 -- the items that were found are those of the package
+pub held_items : (w : World) (p : List ℕ) (items : List Item) (links : List Relation) → Some (items, links) ≡ holdings_answer w p → items ≡ (holdings w p).items
+held_items w p items links found = items_held (is_live w p) ((holdings w p).items, (holdings w p).links) items links found
+
+-- so are their entries
 pub items_found : (w : World) (p : List ℕ) (items : List Item) (links : List Relation) (entries : List ItemEntry) → Some (items, links) ≡ holdings_answer w p
     → entries ≡ map (item_entry p) items → entries ≡ items_under w p
 items_found w p items links entries found is =
-    is ∙ ap (map (item_entry p)) (items_held (is_live w p) ((holdings w p).items, (holdings w p).links) items links found)
+    is ∙ ap (map (item_entry p)) (held_items w p items links found)
 
 -- one more element is mapped
 pub map_behind : {X Y : Type 0} (f : X → Y) (xs : List X) (x : X) → map f (xs ++ x ∷ []) ≡ map f xs ++ f x ∷ []

@@ -1,4 +1,5 @@
 pub mod Arguments
+pub mod DeskLines
 pub mod Endings
 pub mod Failures
 pub mod Progress

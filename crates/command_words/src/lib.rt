@@ -2,5 +2,6 @@
 #![tactic(auto)]
 
 pub mod arguments;
+pub mod desk_lines;
 pub mod progress;
 pub mod statuses;

@@ -1,10 +1,12 @@
 //! How the program ends: its exit status, and the line that it prints before.
 ghost use Rattle.std.specs.Prelude.{◌≡◌};
-ghost use Rattle.command_words.specs.Endings.{outcome_status, output_text, error_text};
+ghost use Rattle.command_words.specs.Endings.{error_text, import_outcome, outcome_status, output_text};
 
+use manifest_csv::importing::ImportFault;
 use manifest_csv::package_manifests::ManifestFault;
 use manifest_csv::sending::WriteFault;
 use package_tables::fault::Fault;
+use request_csv::lists::ReadFault;
 use std::alloc::AllocError;
 use store_shelf::shelf::ShelfFault;
 use thiserror::Error;
@@ -157,5 +159,17 @@ pub fn error_of(outcome: Outcome) -> &'static str
         Outcome::Stopped(Failure::OutOfMemory) => "store: OutOfMemory\n",
         Outcome::Stopped(Failure::StoreFault) => "store: StoreFault\n",
         Outcome::Done | Outcome::Refused(_) => "",
+    }
+}
+
+/// How an import ends the program, unless it went through.
+pub fn end_of_import(fault: ImportFault) -> Outcome
+    ensures { result ≡ import_outcome fault }
+{
+    match fault {
+        ImportFault::Unread(ReadFault::Memory) => Outcome::Stopped(Failure::OutOfMemory),
+        ImportFault::Unread(_) => Outcome::Refused(What::BadList),
+        ImportFault::Stopped(_, fault) => Outcome::Stopped(Failure::from(fault)),
+        ImportFault::Unwritten => Outcome::Stopped(Failure::StoreFault),
     }
 }

@@ -1,3 +1,4 @@
+pub mod Orders
 pub mod Printing
 pub mod Subcommands
 pub mod Works

@@ -25,7 +25,7 @@ ask_again = codes "{\"fault\":\"ask again\"}"
 abbrev pub refusal_ending : Refusal → Ending
 refusal_ending refusal.OutOfMemory = no_memory
 refusal_ending refusal.StoreFault = failed
-refusal_ending why = Declined
+refusal_ending why = Declined why
 
 -- The body of the reply to a request, and how the program ends after it. Memory may be wanting for the text: of a receipt, which stands, that is said; a refusal is told as want of memory is.
 abbrev pub IsReplyBody : Result Receipt Refusal → List ℕ → Ending → Type 0

@@ -8,16 +8,18 @@ use Rattle.request_json.specs.Requests.{IsRequestText}
 use Rattle.world.specs.Worlds.{IsStep, LeavesNoTrace, Seen, StandsStill}
 use Rattle.manifest_csv.specs.Imports.{Imports}
 use Rattle.manifest_csv.specs.declared.importing.ImportFault.{ImportFault}
-use Rattle.desk_http.specs.Connections.{IsServedBy}
-use Rattle.command_words.specs.Endings.{import_outcome}
+use Rattle.manifest_csv.specs.declared.importing.ImportFault.TheVariants as import
+use Rattle.request_csv.specs.declared.lists.ReadFault.TheVariants.{Header, Record, Read, Memory}
+use Rattle.desk_http.specs.Connections.{IsServedBy, Serves}
+use Rattle.desk_http.specs.declared.connections.DeskFault.{DeskFault}
+use Rattle.command_words.specs.Failures.{of_fault}
 use Rattle.command_words.specs.declared.statuses.Failure.{Failure}
-use Rattle.command_words.specs.declared.statuses.Outcome.TheVariants.{Refused, Stopped}
-use Rattle.command_words.specs.declared.statuses.What.TheVariants.{BadList}
+use Rattle.command_words.specs.declared.statuses.Outcome.TheVariants.{Stopped}
 use Rattle.command_folder.specs.Endings.{done, failed, no_memory}
 use Rattle.command_folder.specs.Printing.{Prints}
 use Rattle.commands.specs.Printing.{PrintsReply, archive_line}
 use Rattle.command_folder.specs.declared.endings.Ending.{Ending}
-use Rattle.command_folder.specs.declared.endings.Ending.TheVariants.{Usual, BadBody, HoldsPackages, Unopened}
+use Rattle.command_folder.specs.declared.endings.Ending.TheVariants.{Usual, BadBody, HoldsPackages, Unlisted, Unopened}
 use Rattle.command_folder.specs.declared.endings.OpenFault.{OpenFault}
 
 -- ---- init
@@ -48,11 +50,22 @@ IsUnread ending = (ending ≡ no_memory) ⊎ (ending ≡ BadBody)
 
 abbrev pub import_ending : Result (Unit {0}) ImportFault → Ending
 import_ending (Ok x) = done
-import_ending (Err fault) = Usual (import_outcome fault)
+import_ending (Err (import.Unread Memory)) = no_memory
+import_ending (Err (import.Unread Header)) = Unlisted Header
+import_ending (Err (import.Unread (Record n))) = Unlisted (Record n)
+import_ending (Err (import.Unread Read)) = Unlisted Read
+import_ending (Err (import.Stopped n fault)) = Usual (Stopped (of_fault fault))
+import_ending (Err import.Unwritten) = failed
 
 -- why there is no list
 abbrev pub IsUnlisted : Ending → Type 0
-IsUnlisted ending = (ending ≡ no_memory) ⊎ (ending ≡ Usual (Refused BadList))
+IsUnlisted ending = (ending ≡ no_memory) ⊎ (ending ≡ Unlisted Read)
+
+-- ---- serve
+
+abbrev pub serve_ending : Result (Unit {0}) DeskFault → Ending
+serve_ending (Ok x) = done
+serve_ending (Err fault) = failed
 
 module _ {S : Type 0} (g : Ghosts S) where
   -- A request that was carried out, and its reply as a line.
@@ -80,6 +93,9 @@ module _ {S : Type 0} (g : Ghosts S) where
       (IsUnlisted ending × (new ≡ old) × (writer' ≡ writer))
       ⊎ ((text : Option (List ℕ)) × (faults more : ℕ) × EndsImport text old new faults more writer writer' before after ending)
 
-  -- So many connections were served; or the port could not be had, and nothing was.
+  -- A desk over so many connections ended so; or the port could not be had, and nothing was done.
   abbrev pub ServesOn : ℕ → Seen S → Seen S → Ending → Type 0
-  ServesOn count old new ending = ((ending ≡ done) × IsServedBy g count old new) ⊎ ((ending ≡ failed) × (new ≡ old))
+  ServesOn count old new ending =
+      ((end : Result (Unit {0}) DeskFault) × (ending ≡ serve_ending end) × IsServedBy g count old new
+      × Serves g count old new end)
+      ⊎ ((ending ≡ failed) × (new ≡ old))

@@ -33,7 +33,7 @@ fn no_memory_body() -> &'static str
 }
 
 /// What is printed where a receipt stands, and memory was wanting for its text.
-fn ask_again_body() -> &'static str
+pub(crate) fn ask_again_body() -> &'static str
     ensures { result.now ≡ ask_again }
 {
     "{\"fault\":\"ask again\"}"
@@ -66,7 +66,7 @@ fn read_front<R: Read + Drop>(alloc: Global, reader: R) -> Result<Vec<u8>, Endin
 /// # Errors
 ///
 /// More bytes than a body may have, and those of `read_front`.
-fn read_body<R: Read + Drop>(alloc: Global, reader: R) -> Result<Vec<u8>, Ending>
+pub(crate) fn read_body<R: Read + Drop>(alloc: Global, reader: R) -> Result<Vec<u8>, Ending>
     ensures bytes { IfOk result (λ body. IfSome (R.remaining reader) (λ text. body.items ≡ text)) }
     ensures unread { IfErr result IsUnread }
 {
@@ -116,7 +116,7 @@ fn write_line<W: Write>(writer: &mut W, text: &str) -> Result<(), WriteFault>
 }
 
 /// The same, and how the program ends after it.
-fn told<W: Write>(writer: &mut W, text: &str, ending: Ending) -> Ending
+pub(crate) fn told<W: Write>(writer: &mut W, text: &str, ending: Ending) -> Ending
     ensures { Prints (with_end text.now) ending (W.contents writer.old) (W.contents writer.new) result }
 {
     match write_line(writer, text) {
@@ -142,12 +142,12 @@ fn refusal_ending(why: &Refusal) -> Ending
     match why {
         Refusal::OutOfMemory => NO_MEMORY,
         Refusal::StoreFault => FAILED,
-        _ => Ending::Declined,
+        _ => Ending::Declined(*why),
     }
 }
 
 /// Writes a refusal. Where memory is wanting for its text, that is told.
-fn tell_refusal<W: Write>(alloc: Global, why: &Refusal, writer: &mut W) -> Ending
+pub(crate) fn tell_refusal<W: Write>(alloc: Global, why: &Refusal, writer: &mut W) -> Ending
     ensures { PrintsReply (Err why.now) (W.contents writer.old) (W.contents writer.new) result }
 {
     let ending = refusal_ending(why);

@@ -1,10 +1,9 @@
 //! A request list, carried out in a world.
-ghost use Rattle.std.specs.Prelude.{◌≡◌, IfErr};
-ghost use Rattle.command_words.specs.Endings.{import_outcome};
-ghost use Rattle.commands.specs.Subcommands.{EndsImport, ImportsFile, IsUnlisted};
+ghost use Rattle.std.specs.Prelude.{◌≡◌, Err, IfErr};
+ghost use Rattle.commands.specs.Subcommands.{EndsImport, ImportsFile, IsUnlisted, import_ending};
 
-use command_folder::endings::{DONE, Ending, NO_MEMORY};
-use command_words::statuses::{Failure, Outcome, What};
+use command_folder::endings::{DONE, Ending, FAILED, NO_MEMORY};
+use command_words::statuses::{Failure, Outcome};
 use manifest_csv::importing::{ImportFault, import as import_list};
 use manifest_csv::progress::Teller;
 use request_csv::lists::ReadFault;
@@ -16,14 +15,14 @@ use store_shelf::shelf::Shelf;
 use world::world::World;
 
 /// How an import ends the program, unless it went through.
-fn end_of_import(fault: ImportFault) -> Outcome
-    ensures { result ≡ import_outcome fault }
+fn end_of_import(fault: ImportFault) -> Ending
+    ensures { result ≡ import_ending (Err fault) }
 {
     match fault {
-        ImportFault::Unread(ReadFault::Memory) => Outcome::Stopped(Failure::OutOfMemory),
-        ImportFault::Unread(_) => Outcome::Refused(What::BadList),
-        ImportFault::Stopped(_, fault) => Outcome::Stopped(Failure::from(fault)),
-        ImportFault::Unwritten => Outcome::Stopped(Failure::StoreFault),
+        ImportFault::Unread(ReadFault::Memory) => NO_MEMORY,
+        ImportFault::Unread(fault) => Ending::Unlisted(fault),
+        ImportFault::Stopped(_, fault) => Ending::Usual(Outcome::Stopped(Failure::from(fault))),
+        ImportFault::Unwritten => FAILED,
     }
 }
 
@@ -42,7 +41,7 @@ pub fn import_in<S: Alter + Drop, H: Shelf<S>, R: Read + Drop, W: Write, T: Tell
 {
     match import_list(alloc, world, shelf, reader, writer, teller) {
         Ok(()) => DONE,
-        Err(fault) => Ending::Usual(end_of_import(fault)),
+        Err(fault) => end_of_import(fault),
     }
 }
 
@@ -56,7 +55,7 @@ fn open_list(rt: &HostRuntime, file: &str) -> Result<File, Ending>
             if error.kind() == ErrorKind::OutOfMemory {
                 Err(NO_MEMORY)
             } else {
-                Err(Ending::Usual(Outcome::Refused(What::BadList)))
+                Err(Ending::Unlisted(ReadFault::Read))
             }
         }
     }

@@ -4,5 +4,6 @@
 pub mod applying;
 pub mod importing;
 pub mod init;
+pub mod ordering;
 mod serving;
 pub mod working;

@@ -10,6 +10,7 @@ use command_folder::endings::Ending;
 use command_folder::folders::{OpenFolder, open_folder};
 use command_words::arguments::{Desk, DeskWords, read_desk};
 use command_words::statuses::{Outcome, What};
+use desk_http::telling::DeskTeller;
 use manifest_csv::progress::Teller;
 use sqlite::{Alter, Connection};
 use sqlite_trees::store::Store;
@@ -54,8 +55,8 @@ fn read_asked(asked: Asked<'_>) -> Option<Work<'_>>
     }
 }
 
-/// Does it over a world and a shelf. The teller is told of each request of a list that is done.
-fn worked<S: Alter + Drop, H: Shelf<S>, R: Read + Drop, W: Write, T: Teller>(
+/// Does it over a world and a shelf. The teller is told of each request of a list that is done, and of each connection of a desk.
+fn worked<S: Alter + Drop, H: Shelf<S>, R: Read + Drop, W: Write, T: Teller + DeskTeller>(
     rt: &HostRuntime,
     world: &mut World<S>,
     shelf: &mut H,
@@ -70,12 +71,12 @@ fn worked<S: Alter + Drop, H: Shelf<S>, R: Read + Drop, W: Write, T: Teller>(
     match work {
         Work::Apply => apply_in(rt.alloc(), world, shelf, reader, writer),
         Work::Import(file) => import_file(rt, world, shelf, file, writer, teller),
-        Work::Serve(desk) => serve_world(rt, world, shelf, desk),
+        Work::Serve(desk) => serve_world(rt, world, shelf, desk, teller),
     }
 }
 
 /// The same of a world that ends with it: its stores are handed on.
-fn work_in<S: Alter + Drop, H: Shelf<S>, R: Read + Drop, W: Write, T: Teller>(
+fn work_in<S: Alter + Drop, H: Shelf<S>, R: Read + Drop, W: Write, T: Teller + DeskTeller>(
     rt: &HostRuntime,
     mut world: World<S>,
     shelf: &mut H,
@@ -95,7 +96,7 @@ fn work_in<S: Alter + Drop, H: Shelf<S>, R: Read + Drop, W: Write, T: Teller>(
 ///
 /// The one place where a folder's stores are handed to a function over any store: the check pays
 /// for their type at each such call anew.
-fn work_at<R: Read + Drop, W: Write, T: Teller>(
+fn work_at<R: Read + Drop, W: Write, T: Teller + DeskTeller>(
     rt: &HostRuntime,
     folder: &str,
     work: Work<'_>,
@@ -126,7 +127,7 @@ fn work_at<R: Read + Drop, W: Write, T: Teller>(
 /// Does what words ask for over the packages of a folder. The words are read first: where they
 /// cannot be, nothing is opened and nothing is written.
 /// The folder is opened before anything is read.
-pub fn work_for<R: Read + Drop, W: Write, T: Teller>(
+pub fn work_for<R: Read + Drop, W: Write, T: Teller + DeskTeller>(
     rt: &HostRuntime,
     folder: &str,
     asked: Asked<'_>,

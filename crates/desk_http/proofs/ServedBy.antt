@@ -1,6 +1,7 @@
 -- What one connection makes of a world, and one after another.
-use Rattle.std.specs.Prelude.{◌≤◌, ℕ}
+use Rattle.std.specs.Prelude.{◌≤◌, ℕ, zero, suc, true, false}
 use Rattle.std.proofs.Common.{◌≡◌, ◌⊎◌, ◌+◌, List, [], ◌∷◌, ◌++◌, length, Option, Result, Ok, Err, refl, sym, subst, inl, inr, arith, length-append}
+use Rattle.std.proofs.Math.Numerals.{suc-eq-add-one}
 use Rattle.sqlite.specs.Store.{Ghosts}
 use Rattle.sheet_types.specs.Step.{Step}
 use Rattle.sheet_types.specs.World.{World}
@@ -16,7 +17,9 @@ use Rattle.desk_http.specs.declared.serving.Served.{Served}
 use Rattle.desk_http.specs.declared.serving.Served.TheVariants.{Nothing, Answered}
 use Rattle.desk_http.specs.declared.serving.ServeFault.{ServeFault}
 use Rattle.desk_http.specs.declared.serving.ServeFault.TheVariants.{Read, Write}
-use Rattle.desk_http.specs.Connections.{IsServedBy}
+use Rattle.desk_http.specs.Connections.{AreServed, EndsAfter, IsServedBy, Serves}
+use Rattle.desk_http.specs.declared.connections.DeskFault.{DeskFault}
+use Rattle.desk_http.specs.declared.connections.DeskFault.TheVariants as fault
 
 -- a run over registers, and another behind it
 runs_then : (w mid next : World) (qs more : List Request) (replies others : List (Result Receipt Refusal)) → RunsOverRegisters w qs replies mid → RunsOverRegisters mid more others next
@@ -28,7 +31,7 @@ runs_then w mid next (q ∷ qs) more (r ∷ replies) others ran goes = (ran.0, (
 
 module _ {S : Type 0} (g : Ghosts S) where
   -- nothing was asked yet
-  pub served_none : (seen : Seen S) → IsServedBy g 0 seen seen
+  served_none : (seen : Seen S) → IsServedBy g 0 seen seen
   served_none seen = record { requests = []; few = omega arith; replies = []; gone = []; clean = λ clean gone. clean; run = λ clean gone w stands. (w, (refl, stands.members.register), stands) }
 
   -- the same, where the world was only read
@@ -73,7 +76,7 @@ module _ {S : Type 0} (g : Ghosts S) where
   served_by own known old new before after held holds (Err Write) (out, due, sent) = due_by own known old new out before after due
 
   -- some connections, and others behind them
-  pub served_then : (m n : ℕ) (old mid new : Seen S) → IsServedBy g m old mid → IsServedBy g n mid new → IsServedBy g (m + n) old new
+  served_then : (m n : ℕ) (old mid new : Seen S) → IsServedBy g m old mid → IsServedBy g n mid new → IsServedBy g (m + n) old new
   served_then m n old mid new first next = record {
     requests = first.requests ++ next.requests;
     few = let both = length-append first.requests next.requests in omega (arith, both, first.few, next.few);
@@ -86,13 +89,29 @@ module _ {S : Type 0} (g : Ghosts S) where
         (is.0, runs_then w was.0 is.0 first.requests next.requests first.replies next.replies was.1 is.1, is.2);
   }
 
-  -- nobody was served of so many
-  pub served_up_to : (most : ℕ) (seen : Seen S) → IsServedBy g most seen seen
-  served_up_to most seen = record {
-    requests = [];
-    few = omega arith;
-    replies = [];
-    gone = [];
-    clean = λ clean gone. clean;
-    run = λ clean gone w stands. (w, (refl, stands.members.register), stands);
+  -- so many, of more that were to be served
+  served_up_to : (n most : ℕ) (old new : Seen S) → n ≤ most → IsServedBy g n old new → IsServedBy g most old new
+  served_up_to n most old new few it = record {
+    requests = it.requests;
+    few = let fit = it.few in omega (arith, few, fit);
+    replies = it.replies;
+    gone = it.gone;
+    clean = it.clean;
+    run = it.run;
   }
+
+  -- connections that were each served over a world that could be used
+  all_served : (n : ℕ) (old new : Seen S) → AreServed g n old new → IsServedBy g n old new
+  all_served zero old new same = subst (λ seen. IsServedBy g 0 old seen) (sym same) (served_none old)
+  all_served (suc n) old new (mid, front, usable, last) =
+      subst (λ k. IsServedBy g k old new) (sym (suc-eq-add-one n)) (served_then n 1 old mid new (all_served n old mid front) last)
+
+  -- a desk that ended after so many connections, in each of its ways
+  pub desk_served : (n most : ℕ) (old new : Seen S) → n ≤ most → AreServed g n old new → IsServedBy g most old new
+  desk_served n most old new few each = served_up_to n most old new few (all_served n old new each)
+
+  pub one_more : (n : ℕ) (old mid new : Seen S) → AreServed g n old mid → mid.has_failed ≡ false → IsServedBy g 1 mid new → AreServed g (n + 1) old new
+  one_more n old mid new each usable last = subst (λ k. AreServed g k old new) (suc-eq-add-one n) (mid, each, usable, last)
+
+  pub desk_ended : (n most : ℕ) (old new : Seen S) (end : Result (Unit {0}) DeskFault) → n ≤ most → AreServed g n old new → EndsAfter g most n new end → Serves g most old new end
+  desk_ended n most old new end few each ends = record { served = n; few = few; each = each; ends = ends }

@@ -1,9 +1,11 @@
 //! Connections served one after the other.
-ghost use Rattle.desk_http.specs.Connections.{IsServedBy};
+ghost use Rattle.desk_http.specs.Connections.{IsServedBy, Serves};
 
 use crate::deadline::Timed;
+use crate::fronts::{first_line, status_in};
 use crate::listening::own_address;
 use crate::serving::{Served, serve_one};
+use crate::telling::DeskTeller;
 use desk_calls::source::Outer;
 use sqlite::Alter;
 use std::alloc::Global;
@@ -13,10 +15,25 @@ use std::net::{Shutdown, TcpListener, TcpStream};
 use std::rt::Clock;
 use std::time::{Duration, Instant};
 use store_shelf::shelf::Shelf;
+use thiserror::Error;
 use world::world::World;
 
 /// How long it waits for more where something was sent after what was read, in seconds.
 const FAREWELL: u64 = 1;
+
+/// How often in a row a listener may give no connection.
+const MOST_MISSES: u32 = 16;
+
+/// Why a desk ended before it had served all that it was to serve.
+#[derive(Clone, Copy, Debug, PartialEq, Eq, Error)]
+pub enum DeskFault {
+    /// The world has failed, and takes no request any more.
+    #[error("the world has failed")]
+    World,
+    /// The listener has no address that can be told, or gave no connection sixteen times in a row.
+    #[error("the listener failed")]
+    Listener,
+}
 
 /// Lets each read wait again, and for a short time only.
 fn set_farewell(stream: &TcpStream) -> io::Result<()> {
@@ -60,14 +77,22 @@ fn let_go(kept: Option<TcpStream>) {
     }
 }
 
-/// Serves one connection, whatever becomes of it. Tells whether it was answered and its other side has not closed it yet.
-fn serve_stream<S: Alter + Drop, H: Shelf<S>, C: Clock>(
+/// Tells of a connection of which something came.
+fn tell<T: DeskTeller>(teller: &mut T, came: &[u8], went: &[u8]) {
+    if !came.is_empty() {
+        teller.tell_exchange(first_line(came), status_in(went));
+    }
+}
+
+/// Serves one connection, whatever becomes of it, and tells of it. Answers whether a response went out and the other side has not closed yet.
+fn serve_stream<S: Alter + Drop, H: Shelf<S>, C: Clock, T: DeskTeller>(
     clock: &C,
     alloc: Global,
     world: &mut World<S>,
     shelf: &mut H,
     own: &[u8],
     stream: &TcpStream,
+    teller: &mut T,
 ) -> bool
     ensures { IsServedBy S.Store 1 world.old world.new }
 {
@@ -76,14 +101,16 @@ fn serve_stream<S: Alter + Drop, H: Shelf<S>, C: Clock>(
     };
     let mut reader = Outer(Timed::new(stream, clock, begun));
     let mut writer = Timed::new(stream, clock, begun);
-    match serve_one(alloc, world, shelf, own, &mut reader, &mut writer) {
+    let served = serve_one(alloc, world, shelf, own, &mut reader, &mut writer);
+    tell(teller, reader.0.front(), writer.front());
+    match served {
         Ok(Served::Answered) => stays_open(stream).unwrap_or(false),
         Ok(Served::Nothing) | Err(_) => false,
     }
 }
 
-/// Serves the next connection of a listener, if one comes, and lets go of the one that was kept. Gives the next to be kept.
-fn serve_next<S: Alter + Drop, H: Shelf<S>, C: Clock>(
+/// Serves the next connection of a listener, if one comes, and lets go of the one that was kept. Answers whether one came, and gives the next to be kept.
+fn serve_next<S: Alter + Drop, H: Shelf<S>, C: Clock, T: DeskTeller>(
     clock: &C,
     alloc: Global,
     world: &mut World<S>,
@@ -91,36 +118,67 @@ fn serve_next<S: Alter + Drop, H: Shelf<S>, C: Clock>(
     own: &[u8],
     listener: &TcpListener,
     kept: Option<TcpStream>,
-) -> Option<TcpStream>
+    teller: &mut T,
+) -> (bool, Option<TcpStream>)
     ensures { IsServedBy S.Store 1 world.old world.new }
 {
     match listener.accept() {
         Ok((stream, _)) => {
-            let stays = serve_stream(clock, alloc, world, shelf, own, &stream);
+            let stays = serve_stream(clock, alloc, world, shelf, own, &stream, teller);
             let_go(kept);
-            if stays { Some(stream) } else { None }
+            (true, if stays { Some(stream) } else { None })
         }
-        Err(_) => kept,
+        Err(_) => (false, kept),
     }
 }
 
-/// Serves so many connections of a listener over a world, one after the other. One that fails, or that has taken twenty seconds in all, is dropped and counts as served. A page of another address than the listener's own is refused. Where the system cannot tell that address, nobody is served.
-pub fn serve_each<S: Alter + Drop, H: Shelf<S>, C: Clock>(
+/// Serves so many connections of a listener over a world, one after the other. One that fails, or that has taken twenty seconds in all, is dropped and counts as served. A page of another address than the listener's own is refused. The teller is told of each connection; nothing depends on it.
+///
+/// # Errors
+///
+/// A world that has failed, or a listener that fails again and again. Nobody is served then any more.
+pub fn serve_each<S: Alter + Drop, H: Shelf<S>, C: Clock, T: DeskTeller>(
     clock: &C,
     alloc: Global,
     world: &mut World<S>,
     shelf: &mut H,
     listener: &TcpListener,
     count: u32,
-)
-    ensures { IsServedBy S.Store count world.old world.new }
+    teller: &mut T,
+) -> Result<(), DeskFault>
+    ensures served { IsServedBy S.Store count world.old world.new }
+    ensures ended { Serves S.Store count world.old world.new result }
 {
+    if world.has_failed() {
+        return Err(DeskFault::World);
+    }
     let Ok(own) = own_address(alloc, listener) else {
-        return;
+        return Err(DeskFault::Listener);
     };
     let mut kept = None;
+    let mut misses = 0u32;
     'connections: for turn in 0..count {
-        kept = serve_next(clock, alloc, world, shelf, own.as_bytes(), listener, kept);
+        let (came, next) = serve_next(
+            clock,
+            alloc,
+            world,
+            shelf,
+            own.as_bytes(),
+            listener,
+            kept,
+            teller,
+        );
+        misses = if came { 0 } else { misses.saturating_add(1) };
+        if world.has_failed() {
+            let_go(next);
+            return Err(DeskFault::World);
+        }
+        if misses >= MOST_MISSES {
+            let_go(next);
+            return Err(DeskFault::Listener);
+        }
+        kept = next;
     }
     let_go(kept);
+    Ok(())
 }

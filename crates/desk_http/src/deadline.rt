@@ -1,5 +1,6 @@
 //! A connection that ends at a moment, however slowly its other side goes on.
 
+use crate::fronts::Front;
 use std::io::{self, ErrorKind, Read, Write};
 use std::net::TcpStream;
 use std::rt::Clock;
@@ -8,12 +9,13 @@ use std::time::{Duration, Instant};
 /// How long a connection may take in all, in seconds.
 pub const PATIENCE: u64 = 20;
 
-/// The stream of a connection, with the time that is left for it.
+/// The stream of a connection, with the time that is left for it and the front of what went through.
 #[derive(Drop)]
 pub struct Timed<'a, C: Clock> {
     stream: &'a TcpStream,
     clock: &'a C,
     begun: Instant,
+    front: Front,
 }
 
 impl<'a, C: Clock> Timed<'a, C> {
@@ -23,7 +25,13 @@ impl<'a, C: Clock> Timed<'a, C> {
             stream,
             clock,
             begun,
+            front: Front::new(),
         }
+    }
+
+    /// The first bytes that were read, or written.
+    pub(crate) fn front(&self) -> &[u8] {
+        self.front.bytes()
     }
 
     /// How long the connection may still take, more than nothing.
@@ -45,7 +53,9 @@ impl<'a, C: Clock> Read for Timed<'a, C> {
         let left = self.left()?;
         let mut stream = self.stream;
         stream.set_read_timeout(Some(left))?;
-        stream.read(buf)
+        let count = stream.read(buf)?;
+        self.front.keep(&buf[..count]);
+        Ok(count)
     }
 }
 
@@ -54,7 +64,9 @@ impl<'a, C: Clock> Write for Timed<'a, C> {
         let left = self.left()?;
         let mut stream = self.stream;
         stream.set_write_timeout(Some(left))?;
-        stream.write(buf)
+        let count = stream.write(buf)?;
+        self.front.keep(&buf[..count]);
+        Ok(count)
     }
 
     fn flush(&mut self) -> io::Result<()> {

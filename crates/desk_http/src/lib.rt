@@ -4,7 +4,9 @@
 mod answering;
 pub mod connections;
 mod deadline;
+mod fronts;
 pub mod listening;
 mod packages;
 pub mod serving;
 pub mod serving_laws;
+pub mod telling;

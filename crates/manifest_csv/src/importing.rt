@@ -1,7 +1,8 @@
 //! A request list, carried out by a world, and the report of it.
 ghost use Rattle.std.specs.Prelude.{◌≡◌, ◌≤◌, length};
 ghost use Rattle.std.specs.String.{string_capacity};
-ghost use Rattle.manifest_csv.specs.Imports.{IsEndOf, IsListOf, IsReported, Imports};
+ghost use Rattle.world.specs.Asked.{AsksForEach};
+ghost use Rattle.manifest_csv.specs.Imports.{AsksOf, IsEndOf, IsListOf, IsReported, Imports};
 ghost use Rattle.manifest_csv.specs.Progress.{AreTold, IsTold};
 
 use crate::progress::Teller;
@@ -9,6 +10,7 @@ use crate::reports::{header_line, line_buffer, put_line};
 use crate::sending::{WriteFault, send};
 use package_tables::fault::Fault;
 use request_csv::lists::{ReadFault, read_requests};
+use request_csv::sources::Stream;
 use sheet_types::command::Request;
 use sheet_types::error::OutOfMemory;
 use sheet_types::receipt::Receipt;
@@ -76,6 +78,7 @@ fn report_each<S: Alter + Drop, H: Shelf<S>, W: Write, T: Teller>(
         (H.failures_of shelf.old) (H.failures_of shelf.new)
         (W.contents writer.old) (W.contents writer.new) result }
     ensures told { AreTold (length requests.now) (T.told teller.old) (T.told teller.new) result }
+    ensures asks { AsksForEach H.asks requests.now shelf.old shelf.new }
 {
     for at in 0..requests.len() {
         let request = &requests[at];
@@ -90,7 +93,7 @@ fn report_each<S: Alter + Drop, H: Shelf<S>, W: Write, T: Teller>(
     Ok(())
 }
 
-/// Carries out the requests of a list that was read, and writes the report of it. The shelf gives the stores of the packages that a request makes. Room for the longest line is there before the first is written. A refusal is reported, and the import goes on. The teller is told of each request whose line was written.
+/// Carries out the requests of a list that was read, and writes the report of it. The shelf gives the stores of the packages that a request makes, and is asked for no other. Room for the longest line is there before the first is written. A refusal is reported, and the import goes on. The teller is told of each request whose line was written.
 ///
 /// # Errors
 ///
@@ -107,6 +110,7 @@ pub fn carry_out<S: Alter + Drop, H: Shelf<S>, W: Write, T: Teller>(
         (H.failures_of shelf.old) (H.failures_of shelf.new)
         writer.old writer.new (W.contents writer.old) (W.contents writer.new) result) }
     ensures told { IsListOf requests.now (λ text. IsTold text (T.told teller.old) (T.told teller.new) result) }
+    ensures asks { IsListOf requests.now (λ text. AsksOf H.asks text shelf.old shelf.new result) }
 {
     let Ok(mut buffer) = line_buffer(alloc) else {
         return Err(ImportFault::Unread(ReadFault::Memory));
@@ -132,7 +136,8 @@ pub fn import<S: Alter + Drop, H: Shelf<S>, R: Read + Drop, W: Write, T: Teller>
         (H.failures_of shelf.old) (H.failures_of shelf.new)
         writer.old writer.new (W.contents writer.old) (W.contents writer.new) result }
     ensures told { IsTold (R.remaining reader) (T.told teller.old) (T.told teller.new) result }
+    ensures asks { AsksOf H.asks (R.remaining reader) shelf.old shelf.new result }
 {
-    let requests = read_requests(alloc, reader)?;
+    let requests = read_requests(alloc, Stream(reader))?;
     carry_out(alloc, world, shelf, requests.as_slice(), writer, teller)
 }

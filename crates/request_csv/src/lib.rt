@@ -9,3 +9,4 @@ pub mod lists;
 mod loans;
 mod records;
 mod requests;
+pub mod sources;

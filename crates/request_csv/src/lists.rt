@@ -1,5 +1,5 @@
 //! A request list as a whole: its header, its requests, and the fault that is met first.
-ghost use Rattle.std.specs.Prelude.{◌≡◌, ◌⊎◌, ◌↔◌, [], ◌∷◌, map, IsTrue, IfOk, IfErr, IfSome};
+ghost use Rattle.std.specs.Prelude.{◌≡◌, ◌≢◌, ◌⊎◌, ◌↔◌, [], ◌∷◌, map, IsTrue, IfOk, IfErr, IfSome};
 ghost use Rattle.std.specs.List.{AllZip};
 ghost use Rattle.std.specs.Vec.Iter.{into_iter_items};
 ghost use Rattle.csv.specs.Records.{fields_of};
@@ -12,11 +12,11 @@ use crate::columns::COUNT;
 use crate::fields::has_text;
 use crate::records::{Ending, read_records};
 use crate::requests::request_of;
+use crate::sources::ListSource;
 use csv::{ByteRecord, StringRecord};
 use sheet_types::command::Request;
 use sheet_types::error::OutOfMemory;
 use std::alloc::Global;
-use std::io::Read;
 use std::vec::IntoIter;
 use thiserror::Error;
 
@@ -162,11 +162,26 @@ pub(crate) fn requests_of(
     }
 }
 
-/// The requests of a list: a record of the names of the columns, and after it one record for each request. Everything is read and judged before any request is answered. A byte order mark at the start and blank lines are passed over; CR, LF and CR LF end records (RFC 4180, section 2, and beyond it as `csv` reads). A reader that fails is Read, unless a record before it is a fault.
-pub fn read_requests<R: Read + Drop>(alloc: Global, reader: R) -> Result<Vec<Request>, ReadFault>
+/// How the records of a source ended. One that cannot fail met a want of memory, whatever else was told.
+fn ending_of<R: ListSource>(ended: Ending) -> Ending
+    ensures end { result ≡ ending.End → ended ≡ ending.End }
+    ensures sound { R.never_fails → result ≢ ending.Failed }
+{
+    if ended == Ending::Failed && !R::may_fail() {
+        return Ending::Memory;
+    }
+    ended
+}
+
+/// The requests of a list: a record of the names of the columns, and after it one record for each request. Everything is read and judged before any request is answered. A byte order mark at the start and blank lines are passed over; CR, LF and CR LF end records (RFC 4180, section 2, and beyond it as `csv` reads). A reader that fails is Read, unless a record before it is a fault. Of a text in memory Read is told of nothing but a record that cannot be read.
+pub fn read_requests<R: ListSource + Drop>(
+    alloc: Global,
+    reader: R,
+) -> Result<Vec<Request>, ReadFault>
     ensures list { IfOk result (λ requests. IfSome (R.remaining reader) (λ text. IsList text requests.items)) }
     ensures fault { IfErr result (λ met. (met ≡ fault.Read) ⊎ (met ≡ fault.Memory) ⊎ IfSome (R.remaining reader) (λ text. MeetsFirst text met)) }
+    ensures cause { R.never_fails → IfErr result (λ met. (met ≡ fault.Memory) ⊎ IfSome (R.remaining reader) (λ text. MeetsFirst text met)) }
 {
     let (rows, ended) = read_records(alloc, reader);
-    requests_of(alloc, rows, ended)
+    requests_of(alloc, rows, ending_of::<R>(ended))
 }

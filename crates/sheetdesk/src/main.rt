@@ -1,8 +1,12 @@
 //! The program `sheetdesk`: the words that it is called with, and the exit status.
 #![tactic(auto)]
 
+mod clock;
+mod founding;
+mod ordering;
 mod running;
 mod sessions;
+mod showing;
 mod streams;
 
 use crate::running::out_of_memory;

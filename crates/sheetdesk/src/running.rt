@@ -1,34 +1,32 @@
 //! A command, carried out: what it asks for is done in `cli`, `commands` and `views`.
+use crate::founding::founded;
+use crate::ordering::{is_verb, ordered};
+use crate::showing::shown;
 use crate::streams::{Input, Onlooker};
 use clap::error::ErrorKind;
 use clap::{ArgMatches, Error};
 use cli::rehearse::rehearse;
 use cli::serving::rehearse_and_serve;
-use command_folder::endings::{
-    Ending, FAILED, NO_MEMORY, error_of, folder_fault, output_of, status_of,
-};
+use command_folder::endings::{Ending, FAILED, NO_MEMORY, error_of, note_of, output_of, status_of};
 use command_help::words::sheetdesk;
 use command_words::arguments::{DeskWords, Words};
 use command_words::statuses::Outcome;
-use commands::init::init;
 use commands::working::{Asked, work_for};
+use std::alloc::AllocError;
 use std::convert::AsStr;
 use std::io;
-use store_folder::fault::{FolderFault, cause_text};
 use views::endings as seen;
-use views::looking::{Asked as AskedLook, look_for};
+use views::excerpts::LogWords;
+use views::looking::Asked as AskedLook;
 
 /// Prints a text on standard error. Where that fails too, the status alone says how the program ended.
 pub(crate) fn print_error(rt: &HostRuntime, text: &str) {
     let _printed = eprint!(rt; "{text}");
 }
 
-/// Says what is known of a fault of a folder, where that is why the program ended.
-fn print_cause(rt: &HostRuntime, fault: Option<FolderFault>) {
-    let Some(fault) = fault else {
-        return;
-    };
-    match cause_text(rt.alloc(), fault) {
+/// Says on standard error what is known of an ending beside its lines: where a fault is, or what was refused.
+fn print_note(rt: &HostRuntime, note: Result<String, AllocError>) {
+    match note {
         Ok(text) if !text.is_empty() => {
             let _printed = eprintln!(rt; "{text}");
         }
@@ -47,13 +45,19 @@ pub(crate) fn output_failed(rt: &HostRuntime) -> u8 {
     status_of(FAILED)
 }
 
-/// Prints the two lines of an ending, and answers its status. Where standard output fails, that is the ending.
-fn told(rt: &HostRuntime, output: &str, error: &str, cause: Option<FolderFault>, status: u8) -> u8 {
+/// Prints the two lines of an ending and what is known beside them, and answers its status. Where standard output fails, that is the ending.
+fn told(
+    rt: &HostRuntime,
+    output: &str,
+    error: &str,
+    note: Result<String, AllocError>,
+    status: u8,
+) -> u8 {
     if !is_printed(rt, output) {
         return output_failed(rt);
     }
     print_error(rt, error);
-    print_cause(rt, cause);
+    print_note(rt, note);
     status
 }
 
@@ -63,7 +67,7 @@ fn ended(rt: &HostRuntime, ending: &Ending) -> u8 {
         rt,
         output_of(*ending),
         error_of(*ending),
-        folder_fault(*ending),
+        note_of(rt.alloc(), *ending),
         status_of(*ending),
     )
 }
@@ -74,7 +78,7 @@ fn looked(rt: &HostRuntime, ending: &seen::Ending) -> u8 {
         rt,
         seen::output_of(*ending),
         seen::error_of(*ending),
-        seen::folder_fault(*ending),
+        seen::note_of(rt.alloc(), *ending),
         seen::status_of(*ending),
     )
 }
@@ -91,7 +95,7 @@ pub(crate) fn answered(rt: &HostRuntime, error: &Error) -> u8 {
 }
 
 /// The text of an option or a word that has to be given.
-fn text_of<'m>(given: &ArgMatches<'m>, id: &str) -> &'m str {
+pub(crate) fn text_of<'m>(given: &ArgMatches<'m>, id: &str) -> &'m str {
     given.get_str(id).unwrap_or("")
 }
 
@@ -109,7 +113,7 @@ fn rehearsed(
     rt: &HostRuntime,
     given: &ArgMatches<'_>,
     reader: &mut Input<'_>,
-    teller: &mut Onlooker,
+    teller: &mut Onlooker<'_>,
 ) -> Outcome {
     let words = archive_words(given);
     let mut writer = io::writer(rt);
@@ -142,6 +146,12 @@ fn asked_work<'m>(name: &str, given: &ArgMatches<'m>) -> Option<Asked<'m>> {
 fn asked_look<'m>(name: &str, given: &ArgMatches<'m>) -> Option<AskedLook<'m>> {
     match name {
         "status" => Some(AskedLook::Status),
+        "log" => Some(AskedLook::Log(LogWords {
+            package: given.get_str("package"),
+            from: given.get_str("from"),
+            last: given.get_str("last"),
+        })),
+        "get" => Some(AskedLook::Get(text_of(given, "identity"))),
         "explain" => Some(AskedLook::Explain(text_of(given, "identity"))),
         "receipt" => Some(AskedLook::Receipt(text_of(given, "request"))),
         "manifest" => Some(AskedLook::Manifest(text_of(given, "package"))),
@@ -152,10 +162,9 @@ fn asked_look<'m>(name: &str, given: &ArgMatches<'m>) -> Option<AskedLook<'m>> {
     }
 }
 
-/// Carries out a command that may change what is in a folder that holds packages, or has no folder. How far a list is, standard error is told where it is
-/// a terminal.
+/// Carries out a command that may change what is in a folder that holds packages, or has no folder. How far a list is, and of a desk, standard error is told.
 fn changed(rt: &HostRuntime, name: &str, given: &ArgMatches<'_>, reader: &mut Input<'_>) -> Ending {
-    let mut teller = Onlooker::new(rt);
+    let mut teller = Onlooker::new(rt, given.get_flag("log"));
     match asked_work(name, given) {
         Some(asked) => work_for(
             rt,
@@ -176,13 +185,15 @@ pub(crate) fn carried_out(
     given: &ArgMatches<'_>,
     reader: &mut Input<'_>,
 ) -> u8 {
-    let folder = text_of(given, "folder");
-    let mut writer = io::writer(rt);
     if let Some(asked) = asked_look(name, given) {
-        return looked(rt, &look_for(rt, folder, asked, &mut writer));
+        return looked(
+            rt,
+            &shown(rt, text_of(given, "folder"), asked, given.get_str("output")),
+        );
     }
     let ending = match name {
-        "init" => init(rt, &archive_words(given), folder, &mut writer),
+        "init" => founded(rt, given),
+        _ if is_verb(name) => ordered(rt, name, given, reader),
         _ => changed(rt, name, given, reader),
     };
     ended(rt, &ending)

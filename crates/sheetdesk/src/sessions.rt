@@ -44,13 +44,21 @@ fn command_over(rt: &HostRuntime, typed: &str, path: &str) -> u8 {
     }
 }
 
+/// The status of what the system was asked to do with a path.
+fn status_of(rt: &HostRuntime, path: &str, done: io::Result<()>) -> u8 {
+    match done {
+        Ok(()) => 0,
+        Err(error) => failed(rt, path, &error),
+    }
+}
+
 /// Carries one line out, and answers its status.
 fn line_carried_out(rt: &HostRuntime, line: &str, reader: &mut Input<'_>) -> u8 {
     if let Some(folder) = line.strip_prefix("mkdir ") {
-        return match fs::create_dir(rt, folder) {
-            Ok(()) => 0,
-            Err(error) => failed(rt, folder, &error),
-        };
+        return status_of(rt, folder, fs::create_dir(rt, folder));
+    }
+    if let Some(file) = line.strip_prefix("rm ") {
+        return status_of(rt, file, fs::remove_file(rt, file));
     }
     if !line.starts_with("./sheetdesk ") {
         print_error(rt, "error: no line of a session\n");

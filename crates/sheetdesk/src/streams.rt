@@ -1,8 +1,11 @@
-//! What a command reads, and who is told how far it is: one type each, so that what is done is compiled once.
+//! What a command reads and writes, and who is told how far it is: one type each, so that what is done is compiled once.
 ghost use Rattle.std.specs.Prelude.{None};
 
+use crate::clock::moment_now;
+use command_words::desk_lines::{exchange_line, listening_line};
 use command_words::progress::{Progress, Teller};
-use std::io::{IsTerminal, Read, Result, Stderr, StdinLock};
+use desk_http::telling::DeskTeller;
+use std::io::{IsTerminal, Printer, Read, Result, Stderr, StdinLock, Write};
 
 /// What a command reads.
 #[derive(Drop)]
@@ -22,30 +25,84 @@ impl<'a> Read for Input<'a> {
     }
 }
 
-/// Who is told how far a list is: standard error, where it is a terminal.
+/// Where a command that looks writes.
 #[derive(Drop)]
-pub(crate) struct Onlooker {
-    terminal: Option<Progress<Stderr>>,
+pub(crate) enum Output<'a> {
+    /// Standard output.
+    Standard(Printer<'a, HostRuntime>),
+    /// Memory.
+    Kept(Vec<u8>),
 }
 
-impl Onlooker {
-    pub(crate) fn new(rt: &HostRuntime) -> Onlooker {
+impl<'a> Write for Output<'a> {
+    fn write(&mut self, buf: &[u8]) -> Result<usize> {
+        match self {
+            Output::Standard(writer) => writer.write(buf),
+            Output::Kept(bytes) => bytes.write(buf),
+        }
+    }
+
+    fn flush(&mut self) -> Result<()> {
+        match self {
+            Output::Standard(writer) => writer.flush(),
+            Output::Kept(bytes) => bytes.flush(),
+        }
+    }
+}
+
+/// Who is told how far a list is, and of a desk: standard error. Of a list it is told only where it is a terminal, and of each
+/// connection only where that was asked for.
+#[derive(Drop)]
+pub(crate) struct Onlooker<'r> {
+    rt: &'r HostRuntime,
+    terminal: Option<Progress<Stderr>>,
+    logs: bool,
+}
+
+impl<'r> Onlooker<'r> {
+    pub(crate) fn new(rt: &'r HostRuntime, logs: bool) -> Onlooker<'r> {
         let writer = rt.stderr();
         let terminal = if writer.is_terminal() {
             Some(Progress { writer })
         } else {
             None
         };
-        Onlooker { terminal }
+        Onlooker { rt, terminal, logs }
+    }
+
+    /// Writes the line of a port.
+    fn write_port(&self, port: u16) -> Result<()> {
+        let line = listening_line(self.rt.alloc(), port)?;
+        self.rt.stderr().write_all(line.as_bytes())
+    }
+
+    /// Writes the line of a connection.
+    fn write_exchange(&self, request: &[u8], status: &[u8]) -> Result<()> {
+        let moment = moment_now(self.rt)?;
+        let line = exchange_line(self.rt.alloc(), moment.as_str(), request, status)?;
+        self.rt.stderr().write_all(line.as_slice())
     }
 }
 
-impl Teller for Onlooker {
+impl<'r> Teller for Onlooker<'r> {
     ghost told = { λ _. None };
 
     fn tell(&mut self, done: u64, all: u64) {
         if let Some(terminal) = &mut self.terminal {
             terminal.tell(done, all);
+        }
+    }
+}
+
+impl<'r> DeskTeller for Onlooker<'r> {
+    fn tell_port(&mut self, port: u16) {
+        // A desk serves where nobody can be told of it.
+        let _untold = self.write_port(port);
+    }
+
+    fn tell_exchange(&mut self, line: &[u8], status: &[u8]) {
+        if self.logs {
+            let _untold = self.write_exchange(line, status);
         }
     }
 }

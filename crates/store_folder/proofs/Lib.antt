@@ -1,3 +1,4 @@
+pub mod Beside
 pub mod NameFacts
 pub mod Adopted
 mod Removed

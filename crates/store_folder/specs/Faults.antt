@@ -7,7 +7,7 @@ use Rattle.store_shelf.specs.declared.shelf.ShelfFault.{ShelfFault}
 use Rattle.store_shelf.specs.declared.shelf.ShelfFault.TheVariants as shelf
 use Rattle.sheet_types.specs.Texts.{uuid_text}
 use Rattle.store_folder.specs.declared.fault.FolderFault.{FolderFault}
-use Rattle.store_folder.specs.declared.fault.FolderFault.TheVariants.{OutOfMemory, FolderHeld, PackageHeld, Link, SecondName, NameUnsettled, StoreFault}
+use Rattle.store_folder.specs.declared.fault.FolderFault.TheVariants.{OutOfMemory, FolderHeld, PackageHeld, Link, SecondName, NameUnsettled, PackageFailed, FolderUnread, StoreFault}
 
 -- what standard error is told of a fault, beside its name: nothing where no more is known
 abbrev pub cause_text : FolderFault → List ℕ
@@ -17,6 +17,9 @@ cause_text FolderHeld = codes "another process may hold the folder"
 cause_text (PackageHeld uuid) = codes "another process may hold the package " ++ uuid_text uuid
 cause_text (Link uuid) = uuid_text uuid ++ codes ".gpkg or its log is a symbolic link"
 cause_text (SecondName uuid) = uuid_text uuid ++ codes ".gpkg or its log has a second name"
+cause_text FolderUnread = codes "the folder is not there, or cannot be read and written"
+cause_text (PackageFailed uuid) =
+    uuid_text uuid ++ codes ".gpkg cannot be opened, is no database, or too many files are open"
 cause_text (NameUnsettled uuid) =
     uuid_text uuid ++ codes ".gpkg stands, but a power loss may take its name"
 
@@ -24,7 +27,7 @@ cause_text (NameUnsettled uuid) =
 abbrev pub of_error : List ℕ → Error → FolderFault
 of_error uuid (SqliteFailure code.OutOfMemory) = OutOfMemory
 of_error uuid (SqliteFailure code.DatabaseBusy) = PackageHeld uuid
-of_error uuid _ = StoreFault
+of_error uuid _ = PackageFailed uuid
 
 -- a shelf does not tell who has a file
 abbrev pub shelf_fault : FolderFault → ShelfFault

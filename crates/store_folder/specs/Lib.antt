@@ -1,4 +1,5 @@
 pub mod Faults
+pub mod Leftovers
 pub mod Names
 pub mod Opened
 pub mod Removals

@@ -21,3 +21,7 @@ module _ {S : Type 0} (Removes : List ℕ → S → S → Type 0) where
   abbrev pub RemovesIfBeside : List ℕ → List ℕ → S → S → Type 0
   RemovesIfBeside name file old new =
       (new ≡ old) ⊎ (IsFrom file name × Removes name old new)
+
+  -- first the file of this name, and then such files
+  abbrev pub RemovesWithBeside : List ℕ → S → S → Type 0
+  RemovesWithBeside file old new = (mid : S) × Removes file old mid × RemovesBeside file mid new

@@ -30,7 +30,13 @@ pub enum FolderFault {
     /// The file of this package has its name, and the system did not write that down: a power loss may take the name again.
     #[error("StoreFault")]
     NameUnsettled(Uuid),
-    /// The folder or a file in it failed, or is not there, or is no store.
+    /// The file of this package could not be opened or read, or is no database.
+    #[error("StoreFault")]
+    PackageFailed(Uuid),
+    /// The folder is not there, or cannot be read.
+    #[error("StoreFault")]
+    FolderUnread,
+    /// A file in the folder failed.
     #[error("StoreFault")]
     StoreFault,
 }
@@ -47,6 +53,17 @@ pub fn cause_text(alloc: Global, fault: FolderFault) -> Result<String, AllocErro
         }
         FolderFault::Link(id) => format!(in alloc; "{id}.gpkg or its log is a symbolic link"),
         FolderFault::SecondName(id) => format!(in alloc; "{id}.gpkg or its log has a second name"),
+        FolderFault::FolderUnread => {
+            String::from_str(
+                alloc,
+                "the folder is not there, or cannot be read and written",
+            )
+        }
+        FolderFault::PackageFailed(id) => {
+            format!(in alloc;
+                "{id}.gpkg cannot be opened, is no database, or too many files are open"
+            )
+        }
         FolderFault::NameUnsettled(id) => {
             format!(in alloc; "{id}.gpkg stands, but a power loss may take its name")
         }
@@ -80,7 +97,7 @@ pub fn fault_of(package: Uuid, error: SqliteError) -> FolderFault
     match error {
         SqliteError::SqliteFailure(ErrorCode::OutOfMemory) => FolderFault::OutOfMemory,
         SqliteError::SqliteFailure(ErrorCode::DatabaseBusy) => FolderFault::PackageHeld(package),
-        _ => FolderFault::StoreFault,
+        _ => FolderFault::PackageFailed(package),
     }
 }
 

@@ -1,6 +1,7 @@
 //! What stands in a folder beside no package: logs without their database, and what was left of archives that were never whole.
-ghost use Rattle.std.specs.Prelude.{◌≡◌, ◌++◌, IfSome};
-ghost use Rattle.store_folder.specs.Names.{file_name};
+ghost use Rattle.std.specs.Prelude.{◌≡◌, ◌++◌, All, IfOk, IfSome, IsTrue, string_bytes};
+ghost use Rattle.store_folder.specs.Leftovers.{IsBeside, IsLeftover, IsLeftoverIn, MayPush};
+ghost use Rattle.store_folder.specs.Names.{file_name, names_in};
 
 use crate::fault::FolderFault;
 use crate::listing::{folder_bytes, listing_of};
@@ -20,7 +21,9 @@ fn package_before(name: &[u8], end: &[u8]) -> Option<Uuid>
 }
 
 /// The package beside whose file a file of this name stands: the log, the journal, and what is not whole yet, with its own.
-pub fn package_beside(name: &[u8]) -> Option<Uuid> {
+pub fn package_beside(name: &[u8]) -> Option<Uuid>
+    ensures { IfSome result (λ id. IsBeside id name.now) }
+{
     package_before(name, b"-wal".as_slice())
         .or(package_before(name, b"-shm".as_slice()))
         .or(package_before(name, b"-journal".as_slice()))
@@ -30,49 +33,59 @@ pub fn package_beside(name: &[u8]) -> Option<Uuid> {
 }
 
 /// Whether a name stands beside no package of these.
-fn is_leftover(name: &[u8], packages: &[Uuid]) -> bool {
+fn is_leftover(name: &[u8], packages: &[Uuid]) -> bool
+    ensures { IsTrue result → IsLeftover packages.now name.now }
+{
     match package_beside(name) {
         Some(package) => !packages.contains(&package),
         None => false,
     }
 }
 
-/// The names that stand beside no package of these.
-fn leftovers_among<'n>(
-    alloc: Global,
-    names: &[&'n [u8]],
-    packages: &[Uuid],
-) -> Result<Vec<&'n [u8]>, AllocError> {
-    let mut found = Vec::new(alloc);
-    for name in names {
-        if is_leftover(name, packages) {
-            found.push(*name)?;
-        }
-    }
-    Ok(found)
-}
-
 /// Puts a name behind others, as a text. One that is no UTF-8 is left out.
-fn push_text(alloc: Global, texts: &mut Vec<String>, name: &[u8]) -> Result<(), AllocError> {
+fn push_text(alloc: Global, texts: &mut Vec<String>, name: &[u8]) -> Result<(), AllocError>
+    ensures { IfOk result (λ _. MayPush name.now texts.old.items texts.new.items) }
+{
     if let Ok(text) = str::from_utf8(name) {
         texts.push(String::from_str(alloc, text)?)?;
     }
     Ok(())
 }
 
-/// The same of the bytes of a folder, as texts in their order. A name that is no UTF-8 is none of them.
-fn leftovers_in(alloc: Global, bytes: &[u8]) -> Result<Vec<String>, FolderFault> {
+/// The names that stand beside no package of these, as texts.
+fn leftovers_among(
+    alloc: Global,
+    names: &[&[u8]],
+    packages: &[Uuid],
+) -> Result<Vec<String>, AllocError>
+    ensures { IfOk result (λ found. All (λ text. IsLeftover packages.now (string_bytes text)) found.items) }
+{
+    let mut found = Vec::new(alloc);
+    for name in names {
+        if is_leftover(name, packages) {
+            push_text(alloc, &mut found, name)?;
+        }
+    }
+    Ok(found)
+}
+
+/// The names of the files of a folder that stand beside no package, in their order; of the folder's bytes, in which each name is ended
+/// by a NUL. A name that is no UTF-8 is none of them.
+///
+/// # Errors
+///
+/// Want of memory.
+pub fn leftovers_in(alloc: Global, bytes: &[u8]) -> Result<Vec<String>, FolderFault>
+    ensures { IfOk result (λ found. All (λ text. IsLeftoverIn (names_in bytes.now) (string_bytes text)) found.items) }
+{
     let listing = listing_of(alloc, bytes)?;
     let names = names_in(alloc, bytes)?;
-    let mut texts = Vec::new(alloc);
-    for name in leftovers_among(alloc, names.as_slice(), &listing.packages)? {
-        push_text(alloc, &mut texts, name)?;
-    }
+    let mut texts = leftovers_among(alloc, names.as_slice(), &listing.packages)?;
     texts.sort_unstable();
     Ok(texts)
 }
 
-/// The names of the files of a folder that stand beside no package.
+/// The same of a folder by its path.
 ///
 /// # Errors
 ///

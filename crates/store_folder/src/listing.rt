@@ -64,6 +64,9 @@ pub fn listing_of(alloc: Global, bytes: &[u8]) -> Result<Listing, FolderFault>
 ///
 /// A folder that is not there or cannot be read, or want of memory.
 pub fn list<R: Files + AllocGlobal>(rt: &R, folder: &str) -> Result<Listing, FolderFault> {
-    let bytes = folder_bytes(rt, folder)?;
-    listing_of(rt.alloc(), bytes.as_slice())
+    match folder_bytes(rt, folder) {
+        Ok(bytes) => listing_of(rt.alloc(), bytes.as_slice()),
+        Err(error) if error.kind() == io::ErrorKind::OutOfMemory => Err(FolderFault::OutOfMemory),
+        Err(_) => Err(FolderFault::FolderUnread),
+    }
 }

@@ -2,6 +2,7 @@
 use crate::fault::FolderFault;
 use crate::names::path_of;
 use std::fs::{File, TryLockError};
+use std::io::ErrorKind;
 use std::os::fd::AsRawFd;
 
 /// The name of the file whose lock is the folder's. It stays there, and is empty.
@@ -16,14 +17,21 @@ pub struct FolderLock {
 /// The file of the lock, made where it is not there.
 fn lock_file(rt: &HostRuntime, folder: &str) -> Result<File, FolderFault> {
     if folder.is_empty() {
-        return Err(FolderFault::StoreFault);
+        return Err(FolderFault::FolderUnread);
     }
     let path = path_of(rt.alloc(), folder, LOCK_FILE)?;
-    let file = File::options()
+    let opened = File::options()
         .read(true)
         .write(true)
         .create(true)
-        .open(rt, path.as_str())?;
+        .open(rt, path.as_str());
+    let file = match opened {
+        Ok(file) => file,
+        Err(error) if error.kind() == ErrorKind::OutOfMemory => {
+            return Err(FolderFault::OutOfMemory);
+        }
+        Err(_) => return Err(FolderFault::FolderUnread),
+    };
     // What is meant for a standard stream that was closed must not land in this file.
     if file.as_raw_fd() <= 2 {
         return Ok(file.try_clone()?);

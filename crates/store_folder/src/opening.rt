@@ -1,15 +1,23 @@
 //! The stores of a folder, opened.
-ghost use Rattle.std.specs.Prelude.{◌≡◌, ◌++◌, ◌∷◌, [], IfOk, OnOk, All, length};
-ghost use Rattle.sqlite.specs.Files.{file_state};
+ghost use Rattle.std.specs.Prelude.{◌≡◌, ◌≤◌, ◌*◌, ◌++◌, ◌∷◌, [], ℕ, List, ⊤, IfOk, IsTrue, OnOk, All, length, max};
+ghost use Rattle.std.specs.List.{AllZip};
+ghost use Rattle.sqlite.specs.Files.{IsOpened, file_state};
+ghost use Rattle.sqlite.specs.State.{HasCleanDisk};
+ghost use Rattle.sqlite_std_file.specs.File.{file_is_usable};
 ghost use Rattle.store_folder.specs.Opened.{IsJustOpened};
 
 use crate::closing::close_all;
 use crate::fault::{FolderFault, fault_of};
 use crate::names::{file_name, path_of};
 use crate::start::{Empty, FolderStore};
-use sqlite::{Connection, Error};
+use sqlite::{Connection, Error, ErrorCode};
+use sqlite_disk::{Files, Start};
+use sqlite_pager::Options;
+use sqlite_std_file::{FileFrom, OpenError, open as open_pair};
 use std::alloc::AllocError;
 use std::fs;
+use std::hash::{BuildHasher, RandomState};
+use std::io::ErrorKind;
 use std::os::unix::fs::MetadataExt;
 use uuid::Uuid;
 
@@ -44,7 +52,62 @@ fn fault_at(rt: &HostRuntime, path: &str, package: Uuid, error: Error) -> Folder
     }
 }
 
-/// The store of a package, just opened: at rest, and adopted.
+/// How many pages are kept in memory of a store, where nothing else is said.
+const MOST_PAGES: usize = 2_000;
+
+/// How many pages the stores of a folder have in memory together, where each has at least a few.
+const ALL_PAGES: usize = 48_000;
+
+/// How many a store has at least.
+const FEW_PAGES: usize = 40;
+
+/// How many pages are kept in memory of each of so many stores.
+pub fn cache_pages(stores: usize) -> usize
+    ensures least { FEW_PAGES ≤ result }
+    ensures most { result ≤ MOST_PAGES }
+    ensures together { result * stores ≤ max ALL_PAGES (FEW_PAGES * stores) }
+{
+    if stores == 0 {
+        return MOST_PAGES;
+    }
+    (ALL_PAGES / stores).clamp(FEW_PAGES, MOST_PAGES)
+}
+
+/// The database at a path and its log, opened as files.
+fn files_at(rt: &HostRuntime, path: &str) -> Result<Files<FileFrom<Empty>>, Error>
+    ensures { IfOk result (λ files. IsTrue (file_is_usable ⟦<Empty as Start>⟧ files.log) × IsTrue (file_is_usable ⟦<Empty as Start>⟧ files.db)) }
+{
+    match open_pair(rt, path, Empty) {
+        Ok(files) => Ok(files),
+        Err(OpenError::OutOfMemory) => Err(Error::SqliteFailure(ErrorCode::OutOfMemory)),
+        Err(OpenError::Busy) => Err(Error::SqliteFailure(ErrorCode::DatabaseBusy)),
+        Err(OpenError::Io(error)) if error.kind() == ErrorKind::OutOfMemory => {
+            Err(Error::SqliteFailure(ErrorCode::OutOfMemory))
+        }
+        Err(_) => Err(Error::SqliteFailure(ErrorCode::CannotOpen)),
+    }
+}
+
+/// A store in the files of a path, with so many pages in memory.
+fn connect(rt: &HostRuntime, path: &str, pages: usize) -> Result<Connection<FolderStore>, Error>
+    ensures { IfOk result (λ conn. HasCleanDisk (file_state conn) → IsOpened conn) }
+{
+    let files = files_at(rt, path)?;
+    let Ok(state) = RandomState::new(rt) else {
+        return Err(Error::SqliteFailure(ErrorCode::CannotOpen));
+    };
+    let mut options = Options::new(state.hash_one(&0u8));
+    options.cache_pages = pages;
+    match Connection::open_files_with(rt.alloc(), files, options, false) {
+        Ok(mut conn) => {
+            conn.set_clock(rt);
+            Ok(conn)
+        }
+        Err((error, _)) => Err(error),
+    }
+}
+
+/// The store of a package, just opened: at rest, and adopted. So many of its pages are kept in memory.
 ///
 /// # Errors
 ///
@@ -53,14 +116,15 @@ pub fn open_store(
     rt: &HostRuntime,
     folder: &str,
     package: Uuid,
+    pages: usize,
 ) -> Result<Connection<FolderStore>, FolderFault>
     ensures { IfOk result (λ conn. IsJustOpened (file_state conn)) }
 {
     let name = file_name(rt.alloc(), package)?;
     let path = path_of(rt.alloc(), folder, name.as_str())?;
-    match Connection::open_from(rt, path.as_str(), false, Empty) {
+    match connect(rt, path.as_str(), pages) {
         Ok(conn) => Ok(conn),
-        Err((error, _)) => Err(fault_at(rt, path.as_str(), package, error)),
+        Err(error) => Err(fault_at(rt, path.as_str(), package, error)),
     }
 }
 
@@ -80,9 +144,18 @@ trait InFolder: Drop {
     /// What is known of it when it was just opened.
     ghost is_just_opened: { Self → Type 0 };
 
-    /// Opens that of one package.
-    fn open(rt: &HostRuntime, folder: &str, package: Uuid) -> Result<Self, FolderFault>
-        ensures { IfOk result is_just_opened };
+    /// It is that of the package of this UUID. Who opens by this trait alone can show it by such a call, and by nothing else.
+    ghost is_of: { List ℕ → Self → Type 0 };
+
+    /// Opens that of one package, with so many pages in memory.
+    fn open(
+        rt: &HostRuntime,
+        folder: &str,
+        package: Uuid,
+        pages: usize,
+    ) -> Result<Self, FolderFault>
+        ensures opened { IfOk result is_just_opened }
+        ensures own { IfOk result (λ it. is_of «package» it) };
 }
 
 impl InFolder for Connection<FolderStore> {
@@ -91,12 +164,16 @@ impl InFolder for Connection<FolderStore> {
 
     ghost is_just_opened = { λ conn. IsJustOpened (file_state conn) };
 
+    // No clause can speak of what a path leads to: `open_store` has to be read.
+    ghost is_of = { λ uuid conn. ⊤ };
+
     fn open(
         rt: &HostRuntime,
         folder: &str,
         package: Uuid,
+        pages: usize,
     ) -> Result<Connection<FolderStore>, FolderFault> {
-        open_store(rt, folder, package)
+        open_store(rt, folder, package, pages)
     }
 }
 
@@ -107,17 +184,19 @@ fn open_each<T: InFolder>(
     packages: &[Uuid],
 ) -> Result<Vec<T>, FolderFault>
     ensures opened { IfOk result (λ stores. All T.is_just_opened stores.items) }
+    ensures own { IfOk result (λ stores. AllZip T.is_of packages.now stores.items) }
     ensures each { IfOk result (λ stores. length stores.items ≡ length packages.now) }
 {
+    let pages = cache_pages(packages.len());
     let mut stores = Vec::with_capacity(rt.alloc(), packages.len())?;
     for package in packages {
-        let store = T::open(rt, folder, *package)?;
+        let store = T::open(rt, folder, *package, pages)?;
         push(&mut stores, store)?;
     }
     Ok(stores)
 }
 
-/// The stores of these packages, in their order, each just opened.
+/// The stores of these packages, in their order, each just opened. The more there are, the fewer pages of each are kept in memory.
 ///
 /// # Errors
 ///

@@ -1,7 +1,7 @@
 //! The store of a package, taken out of its folder.
 ghost use Rattle.std.specs.Prelude.{◌≡◌, ⊤, ℕ, List, nat_eq};
 ghost use Rattle.std.specs.List.{starts_with};
-ghost use Rattle.store_folder.specs.Removals.{RemovesBeside, RemovesIfBeside};
+ghost use Rattle.store_folder.specs.Removals.{RemovesBeside, RemovesIfBeside, RemovesWithBeside};
 
 use crate::fault::FolderFault;
 use crate::listing::folder_bytes;
@@ -90,6 +90,18 @@ pub fn remove_beside_each<F: RemoveFile>(
     Ok(())
 }
 
+/// Removes the file of this name, and then each of these whose name begins with it and is longer, and no other.
+pub fn remove_with_beside<F: RemoveFile>(
+    files: &mut F,
+    names: &[&[u8]],
+    file: &str,
+) -> Result<(), FolderFault>
+    ensures { RemovesWithBeside F.removes file.now files.old files.new }
+{
+    files.remove_file(file.as_bytes())?;
+    remove_beside_each(files, names, file)
+}
+
 /// Removes the file of a package, and then each file whose name begins as that file's does: first the database, since a log without one means nothing.
 ///
 /// # Errors
@@ -110,8 +122,9 @@ pub(crate) fn remove_files<R: Files + AllocGlobal>(
     folder: &str,
     file: &str,
 ) -> Result<(), FolderFault> {
-    remove(rt, folder, file)?;
-    remove_beside(rt, folder, file)
+    let bytes = folder_bytes(rt, folder)?;
+    let names = names_in(rt.alloc(), bytes.as_slice())?;
+    remove_with_beside(&mut FolderFiles { rt, folder }, names.as_slice(), file)
 }
 
 /// Removes each file whose name begins with this one and is longer.
@@ -122,6 +135,5 @@ pub(crate) fn remove_beside<R: Files + AllocGlobal>(
 ) -> Result<(), FolderFault> {
     let bytes = folder_bytes(rt, folder)?;
     let names = names_in(rt.alloc(), bytes.as_slice())?;
-    let mut files = FolderFiles { rt, folder };
-    remove_beside_each(&mut files, names.as_slice(), file)
+    remove_beside_each(&mut FolderFiles { rt, folder }, names.as_slice(), file)
 }

@@ -6,6 +6,8 @@ use command_folder::endings::{DONE, Ending, FAILED, NO_MEMORY, OpenFault};
 use command_words::statuses::{Failure, Outcome, What};
 use opening_faults::faults::RecoverFault;
 use package_tables::fault::Fault;
+use request_csv::lists::ReadFault;
+use sheet_types::refusal::Refusal;
 use std::alloc::Global;
 use store_folder::fault::FolderFault;
 use test_values::Checked;
@@ -48,6 +50,10 @@ fn of_unsettled() -> Ending {
     Ending::Unopened(OpenFault::from(FolderFault::NameUnsettled(Uuid::from_u128(7))))
 }
 
+fn of(fault: RecoverFault) -> Ending {
+    Ending::Unopened(OpenFault::Fault(fault))
+}
+
 // Of a rehearsal, a command and a view.
 #[test]
 fn each_ending_has_its_status_and_its_lines(rt: HostRuntime) {
@@ -60,16 +66,61 @@ fn each_ending_has_its_status_and_its_lines(rt: HostRuntime) {
         (End::Of(list), "1 refused: list\n||"),
         (End::Of(no_memory), "3 |store: OutOfMemory\n|"),
         (End::Command(DONE), "0 ||"),
-        (End::Command(Ending::Declined), "1 ||"),
+        (
+            End::Command(Ending::Declined(Refusal::NothingToLend)),
+            "1 ||refusal 17 NothingToLend",
+        ),
+        (
+            End::Command(Ending::Declined(Refusal::CutLink(Uuid::from_u128(7)))),
+            "1 ||refusal 18 CutLink: item 00000000-0000-0000-0000-000000000007",
+        ),
+        (
+            End::Command(Ending::Declined(Refusal::Stale(41))),
+            "1 ||refusal 20 Stale: the last receipt is 41",
+        ),
+        (
+            End::Command(Ending::Declined(Refusal::LoanOpen(Uuid::from_u128(7)))),
+            "1 ||refusal 21 LoanOpen: loan 00000000-0000-0000-0000-000000000007",
+        ),
+        (
+            End::Command(Ending::Declined(Refusal::Collides(Uuid::from_u128(7)))),
+            "1 ||refusal 22 Collides: tile 00000000-0000-0000-0000-000000000007",
+        ),
+        (
+            End::Command(Ending::Unlisted(ReadFault::Record(17))),
+            "1 refused: list\n||list: record 17 is no request",
+        ),
+        (
+            End::Command(Ending::Unlisted(ReadFault::Header)),
+            "1 refused: list\n||list: the first record is not the names of the columns",
+        ),
+        (
+            End::Command(of(RecoverFault::Altered(Uuid::from_u128(7)))),
+            "3 |store: Altered\n|item 00000000-0000-0000-0000-000000000007 has not the content that its receipt names",
+        ),
+        (
+            End::Command(of(RecoverFault::OutOfAccount)),
+            "3 |store: OutOfAccount\n|the receipts do not add up to what the packages hold",
+        ),
+        (
+            End::Command(Ending::Unopened(OpenFault::from(FolderFault::PackageFailed(
+                Uuid::from_u128(7),
+            )))),
+            "3 |store: StoreFault\n|00000000-0000-0000-0000-000000000007.gpkg cannot be opened, is no database, or too many files are open",
+        ),
+        (
+            End::Command(Ending::Unopened(OpenFault::from(FolderFault::FolderUnread))),
+            "3 |store: StoreFault\n|the folder is not there, or cannot be read and written",
+        ),
         (End::Command(FAILED), "3 |store: StoreFault\n|"),
         (End::Command(NO_MEMORY), "3 |store: OutOfMemory\n|"),
         (
             End::Command(Ending::Unopened(missing())),
-            "3 |store: MissingPackage\n|",
+            "3 |store: MissingPackage\n|package 00000000-0000-0000-0000-000000000007 is named by an open split and has no file",
         ),
         (
             End::Command(Ending::Faulted(missing())),
-            "3 MissingPackage\n||",
+            "3 MissingPackage\n||package 00000000-0000-0000-0000-000000000007 is named by an open split and has no file",
         ),
         (
             End::Command(Ending::Unopened(busy())),
@@ -104,7 +155,10 @@ fn each_ending_has_its_status_and_its_lines(rt: HostRuntime) {
             End::View(ViewEnding::NoSuchIdentity),
             "1 refused: no such identity\n||",
         ),
-        (End::View(of_view), "3 |store: MissingPackage\n|"),
+        (
+            End::View(of_view),
+            "3 |store: MissingPackage\n|package 00000000-0000-0000-0000-000000000007 is named by an open split and has no file",
+        ),
     ];
     passes(&rt, wrong(rt.alloc(), cases.as_slice()));
 }

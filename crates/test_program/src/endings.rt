@@ -1,9 +1,8 @@
 // Endings of the subcommands as texts: the status, what goes to standard output and to standard error, and what is
-// known of a fault of the folder.
+// known beside them.
 use command_folder::endings::{self as of_commands, Ending};
 use command_words::statuses::{self, Outcome};
 use std::alloc::{AllocError, Global};
-use store_folder::fault::{FolderFault, cause_text};
 use views::endings::{self as of_views, Ending as ViewEnding};
 
 // How a rehearsal, a command or a view ended.
@@ -38,23 +37,18 @@ fn error_of(end: &End) -> &'static str {
     }
 }
 
-fn folder_fault(end: &End) -> Option<FolderFault> {
+fn note_of(alloc: Global, end: &End) -> Result<String, AllocError> {
     match end {
-        End::Of(_) => None,
-        End::Command(end) => of_commands::folder_fault(*end),
-        End::View(end) => of_views::folder_fault(*end),
+        End::Of(_) => Ok(String::new(alloc)),
+        End::Command(end) => of_commands::note_of(alloc, *end),
+        End::View(end) => of_views::note_of(alloc, *end),
     }
 }
 
-// The status, the output, the error and what is known of the folder's fault, with a stroke after each line.
+// The status, the output, the error and what is known beside them, with a stroke after each line.
 pub(crate) fn end_text(alloc: Global, end: &End) -> Result<String, AllocError> {
     let (status, output, error) = (status_of(end), output_of(end), error_of(end));
-    match folder_fault(end) {
-        Some(fault) => {
-            let cause = cause_text(alloc, fault)?;
-            let cause = cause.as_str();
-            format!(in alloc; "{status} {output}|{error}|{cause}")
-        }
-        None => format!(in alloc; "{status} {output}|{error}|"),
-    }
+    let note = note_of(alloc, end)?;
+    let note = note.as_str();
+    format!(in alloc; "{status} {output}|{error}|{note}")
 }

@@ -1,7 +1,7 @@
 // Worlds that are served over the loopback address in one process; what goes out was written out by hand, and the
 // digests are Python's `hashlib`.
 use crate::endings::{End, end_text};
-use crate::streams::{NOTHING, WHOLE, Wrote, judged, judged_paper, paper};
+use crate::streams::{DeskNotes, NOTHING, WHOLE, Wrote, judged, judged_paper, paper};
 use crate::texts::{
     ADD, ADD_SECOND, ANSWER, GOOD, List, PACKAGES_OF_ONE, PRINTED, RECEIPT_OF_SECOND, Sent,
     list_text, sent_text,
@@ -10,7 +10,6 @@ use cli::serving::{LeftWorld, rehearse_and_serve};
 use command_words::arguments::DeskWords;
 use command_words::statuses::Outcome;
 use desk_http::listening::listen;
-use manifest_csv::progress::Silent;
 use package_tables::fault::Fault;
 use sqlite::Alter;
 use std::alloc::{AllocError, Global};
@@ -108,9 +107,9 @@ fn left(alloc: Global, left: Result<LeftWorld, Outcome>) -> Result<String, Alloc
     }
 }
 
-// What is rehearsed and served: a list, so many connections, and what is then printed.
+// What is rehearsed and served: a list, so many connections, what is then printed, and what is told of the desk.
 #[derive(Clone, Copy)]
-struct Desk(List, &'static str, Wrote);
+struct Desk(List, &'static str, Wrote, Wrote);
 
 // What it comes to on a port; the clients come while the list is read.
 fn served<N: Net<Listener = TcpListener, Stream = TcpStream> + Clock>(
@@ -125,8 +124,10 @@ fn served<N: Net<Listener = TcpListener, Stream = TcpStream> + Clock>(
     };
     let mut out = paper(alloc, WHOLE)?;
     let net = reader.net;
-    let ended = rehearse_and_serve(net, alloc, &GOOD, &words, reader, &mut out, &mut Silent);
-    judged_paper(alloc, left(alloc, ended)?, &out, desk.2)
+    let mut notes = DeskNotes::new(alloc);
+    let ended = rehearse_and_serve(net, alloc, &GOOD, &words, reader, &mut out, &mut notes);
+    let text = judged_paper(alloc, left(alloc, ended)?, &out, desk.2)?;
+    judged(alloc, text, notes.text.as_slice(), desk.3)
 }
 
 // The same, with what the clients are sent; so many of them came.
@@ -193,6 +194,10 @@ const CLIENTS: [Client; 7] = [
     ),
 ];
 
+// What is told of them: nothing of the one that sends nothing.
+const SEVEN_TOLD: &str =
+    "port told\nPOST /requests HTTP/1.1 413\nGET /nothing HTTP/1.1 404\nGET /packages HTTP/1.1 403\nPOST /requests HTTP/1.1 200\nPOST /requests HTTP/1.1 200\nGET /packages/a0000000-0000-4000-8000-000000000000/manifest HTTP/1.1 200\n";
+
 const PACKAGES: [Client; 1] = [Client(
     Sent::Bytes("GET /packages HTTP/1.1\r\n\r\n"),
     Wrote::Ends("HTTP/1.1 200 OK\r\n", PACKAGES_OF_ONE),
@@ -208,7 +213,7 @@ fn worlds_of_lists_are_served(rt: HostRuntime) -> Result<(), Fail> {
     checked.holds(Ok(address.ip().is_loopback()));
     let port = address.port();
     let (seven, one) = (CLIENTS.as_slice(), PACKAGES.as_slice());
-    let none = Desk(List::One, "1", NOTHING);
+    let none = Desk(List::One, "1", NOTHING, NOTHING);
     check(
         &rt,
         port,
@@ -218,7 +223,7 @@ fn worlds_of_lists_are_served(rt: HostRuntime) -> Result<(), Fail> {
         &mut checked,
     )?;
     drop(listener);
-    let none = Desk(List::Headless, "1", NOTHING);
+    let none = Desk(List::Headless, "1", NOTHING, Wrote::All("port told\n"));
     check(
         &rt,
         port,
@@ -227,9 +232,10 @@ fn worlds_of_lists_are_served(rt: HostRuntime) -> Result<(), Fail> {
         ("1 refused: list\n||", 0),
         &mut checked,
     )?;
-    let all = Desk(List::One, "7", PRINTED);
+    let all = Desk(List::One, "7", PRINTED, Wrote::All(SEVEN_TOLD));
     check(&rt, port, all, seven, ("2 tiles", 7), &mut checked)?;
-    let long = Desk(List::Often, "1", PRINTED);
+    let told = Wrote::All("port told\nGET /packages HTTP/1.1 200\n");
+    let long = Desk(List::Often, "1", PRINTED, told);
     check(&rt, port, long, one, ("1 tiles in files", 1), &mut checked)?;
     assert_eq!(rt; checked.wrong(), "");
     Ok(())

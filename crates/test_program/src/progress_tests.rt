@@ -1,10 +1,12 @@
-// What is told of an import and of an opening, written out by hand.
+// What is told of an import, of an opening and of a desk, written out by hand.
 use crate::streams::{NOTHING, Wrote, judged_paper, paper};
 use crate::worlds::passes;
+use command_words::desk_lines::{exchange_line, listening_line};
 use command_words::progress::{Progress, write_opening, write_progress};
 use manifest_csv::progress::Teller;
 use package_tables::fault::Fault;
 use std::alloc::Global;
+use std::str::from_utf8;
 use test_values::Checked;
 
 // What is written of requests or of packages that are done, of 2500 or of 2.
@@ -84,4 +86,46 @@ fn wrong(alloc: Global) -> Result<String, Fault> {
 #[test]
 fn what_is_told(rt: HostRuntime) {
     passes(&rt, wrong(rt.alloc()));
+}
+
+// A line of a desk.
+#[derive(Clone, Copy)]
+enum Line {
+    Port(u16),
+    Exchange(&'static [u8], &'static [u8]),
+}
+
+fn line_text(alloc: Global, line: Line) -> Result<String, Fault> {
+    match line {
+        Line::Port(port) => Ok(listening_line(alloc, port)?),
+        Line::Exchange(request, status) => {
+            let bytes = exchange_line(alloc, "2026-11-28T09:00:00.000Z", request, status)?;
+            Ok(String::from_str(alloc, from_utf8(bytes.as_slice()).unwrap_or("no text"))?)
+        }
+    }
+}
+
+fn wrong_lines(alloc: Global) -> Result<String, Fault> {
+    let mut checked = Checked::new(alloc);
+    for (line, wanted) in [
+        (Line::Port(1), "listening on 127.0.0.1:1\n"),
+        (Line::Port(65535), "listening on 127.0.0.1:65535\n"),
+        (
+            Line::Exchange(b"GET /packages HTTP/1.1", b"200"),
+            "2026-11-28T09:00:00.000Z GET /packages HTTP/1.1 200\n",
+        ),
+        (
+            Line::Exchange(b"\x00\x1f ~\x7f\xff\nA", b"-"),
+            "2026-11-28T09:00:00.000Z ?? ~???A -\n",
+        ),
+    ] {
+        checked.told(line_text(alloc, line), wanted);
+    }
+    Ok(String::from_str(alloc, checked.wrong())?)
+}
+
+// A request makes one line, whatever bytes are in it.
+#[test]
+fn what_is_told_of_a_desk(rt: HostRuntime) {
+    passes(&rt, wrong_lines(rt.alloc()));
 }

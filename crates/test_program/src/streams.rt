@@ -2,6 +2,7 @@
 // is told how far an import is.
 ghost use Rattle.std.specs.Prelude.{None};
 
+use desk_http::telling::DeskTeller;
 use manifest_csv::progress::Teller;
 use package_tables::fault::Fault;
 use std::alloc::{AllocError, Global};
@@ -119,5 +120,44 @@ impl Teller for Noted {
     fn tell(&mut self, done: u64, all: u64) {
         // Where there is no memory, the test finds less than it wants.
         let _noted = self.told.push((done, all));
+    }
+}
+
+// Notes what it is told of a desk, a line each.
+#[derive(Drop)]
+pub(crate) struct DeskNotes {
+    pub(crate) alloc: Global,
+    pub(crate) text: Vec<u8>,
+}
+
+impl DeskNotes {
+    pub(crate) fn new(alloc: Global) -> DeskNotes {
+        DeskNotes {
+            alloc,
+            text: Vec::new(alloc),
+        }
+    }
+
+    fn note(&mut self, first: &[u8], second: &[u8]) {
+        for piece in [first, b" ", second, b"\n"] {
+            // Where there is no memory, the test finds less than it wants.
+            let _noted = self.text.extend_from_slice(piece);
+        }
+    }
+}
+
+impl Teller for DeskNotes {
+    ghost told = { λ _. None };
+
+    fn tell(&mut self, _done: u64, _all: u64) {}
+}
+
+impl DeskTeller for DeskNotes {
+    fn tell_port(&mut self, _port: u16) {
+        self.note(b"port", b"told");
+    }
+
+    fn tell_exchange(&mut self, line: &[u8], status: &[u8]) {
+        self.note(line, status);
     }
 }

@@ -3,11 +3,11 @@
 
 use crate::steps::{Of, Table, Told, cut, unescaped, wrong_of};
 use request_csv::lists::{ReadFault, read_requests};
+use request_csv::sources::{ListSource, Stream};
 use sheet_types::command::Request;
 use sheet_types::error::OutOfMemory;
 use sheet_types::lines::line;
 use std::alloc::Global;
-use std::io::Read;
 use test_lists::{FIRST_TILE, Failing, HEADER};
 
 // How many requests there are, and the moment and the line of the last.
@@ -22,7 +22,11 @@ fn tell_requests(alloc: Global, requests: &[Request], told: &mut Told) -> Result
 }
 
 // The requests that a reader gives, or the fault of its list, with the number of the record that it tells.
-fn tell_read<R: Read + Drop>(alloc: Global, reader: R, told: &mut Told) -> Result<(), OutOfMemory> {
+fn tell_read<R: ListSource + Drop>(
+    alloc: Global,
+    reader: R,
+    told: &mut Told,
+) -> Result<(), OutOfMemory> {
     match read_requests(alloc, reader) {
         Ok(requests) => return tell_requests(alloc, requests.as_slice(), told),
         Err(ReadFault::Header) => told.word("Header"),
@@ -55,7 +59,7 @@ const DELETION: &str =
 fn tell_text(alloc: Global, kind: &str, text: &[u8], told: &mut Told) -> Result<(), OutOfMemory> {
     match kind {
         "all" | "greatest" => tell_read(alloc, text, told),
-        "failing" => tell_read(alloc, Failing::new(text), told),
+        "failing" => tell_read(alloc, Stream(Failing::new(text)), told),
         "broken" => tell_read(alloc, b"request,\xff\n".as_slice(), told),
         kind => {
             told.unread(kind);

@@ -1,2 +1,3 @@
 pub mod LastNamed
 pub mod Standing
+pub mod Excerpts

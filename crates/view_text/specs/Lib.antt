@@ -1,4 +1,5 @@
 pub mod Laws
 pub mod Columns
+pub mod Ledgers
 pub mod Packages
 pub mod Ways

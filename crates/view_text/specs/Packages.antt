@@ -1,5 +1,5 @@
 -- The table of packages: a line of headings, and a line for each. UUIDs as in RFC 9562, section 4. Profile.
-use Rattle.std.specs.Prelude.{ℕ, List, ◌++◌, codes, decimal, flat_map, Option, unwrap_or}
+use Rattle.std.specs.Prelude.{ℕ, zero, suc, List, [], ◌++◌, codes, decimal, flat_map, Option, unwrap_or}
 use Rattle.sheet_types.specs.Texts.{uuid_text}
 use Rattle.sheet_types.specs.declared.receipt.Sums.{Sums}
 use Rattle.view_text.specs.Columns.{at_left, at_right, end_text}
@@ -23,3 +23,8 @@ status_line p = at_left 36 (uuid_text p.uuid) ++ (at_left 36 (end_text p.parent)
 
 abbrev pub status_of : List PackageRow → List ℕ
 status_of rows = headings ++ flat_map status_line rows
+
+-- the last line, where there are files that are of no live package: how many
+abbrev pub strays_line : ℕ → List ℕ
+strays_line zero = []
+strays_line (suc n) = codes "strays " ++ (decimal (suc n) ++ codes "\n")

@@ -55,6 +55,14 @@ pub(crate) fn put_number(line: &mut String, width: usize, number: u64) -> Result
     put_right(line, width, digits.format(number))
 }
 
+/// Puts a number behind a text.
+pub(crate) fn put_digits(line: &mut String, number: u64) -> Result<(), AllocError>
+    ensures { IfOk result (λ _. string_bytes line.new ≡ string_bytes line.old ++ decimal number) }
+{
+    let mut digits = Buffer::new();
+    put(line, digits.format(number))
+}
+
 /// Puts a UUID in a column of its own width.
 pub(crate) fn put_uuid(line: &mut String, id: Uuid) -> Result<(), AllocError>
     ensures { IfOk result (λ _. string_bytes line.new ≡ string_bytes line.old ++ at_left 36 (uuid_text id)) }

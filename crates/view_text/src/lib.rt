@@ -3,5 +3,6 @@
 
 mod columns;
 pub mod laws;
+pub mod ledgers;
 pub mod packages;
 pub mod ways;

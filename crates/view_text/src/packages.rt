@@ -1,8 +1,8 @@
 //! The table of packages.
 ghost use Rattle.std.specs.Prelude.{◌≡◌, ◌++◌, IfOk, codes, string_bytes};
-ghost use Rattle.view_text.specs.Packages.{headings, moment_text, status_line, status_of, sums_columns};
+ghost use Rattle.view_text.specs.Packages.{headings, moment_text, status_line, status_of, strays_line, sums_columns};
 
-use crate::columns::{put, put_end, put_number, put_uuid};
+use crate::columns::{put, put_digits, put_end, put_number, put_uuid};
 use sheet_types::collections::Text;
 use sheet_types::receipt::Sums;
 use std::alloc::{AllocError, Global};
@@ -82,4 +82,20 @@ pub fn status_text(alloc: Global, rows: &[PackageRow]) -> Result<String, AllocEr
         put_package(&mut text, row)?;
     }
     Ok(text)
+}
+
+/// Puts a last line that says how many stores are of no live package, or nothing where there is none.
+///
+/// # Errors
+///
+/// Want of memory.
+pub fn put_strays(text: &mut String, strays: u64) -> Result<(), AllocError>
+    ensures { IfOk result (λ _. string_bytes text.new ≡ string_bytes text.old ++ strays_line strays) }
+{
+    if strays > 0 {
+        put(text, "strays ")?;
+        put_digits(text, strays)?;
+        put(text, "\n")?;
+    }
+    Ok(())
 }

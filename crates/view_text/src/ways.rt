@@ -71,7 +71,7 @@ fn naming_word(as_item: bool, as_end: bool) -> &'static str
 }
 
 /// The first word of a line.
-fn first_word(line: &str) -> &str
+pub(crate) fn first_word(line: &str) -> &str
     ensures { result.now ≡ first_word line.now }
 {
     match line.split_once(' ') {

@@ -7,8 +7,10 @@ use Rattle.sheet_types.specs.Custody.{ticket}
 use Rattle.sheet_types.specs.World.{World, Package, receipts_of}
 use Rattle.desk_replies.specs.Bodies.{receipt_text}
 use Rattle.view_history.specs.Told.{moment_of}
+use Rattle.view_text.specs.Ledgers.{excerpt_of}
 use Rattle.view_text.specs.Packages.{status_of}
 use Rattle.view_text.specs.Ways.{speaks_of, way_of}
+use Rattle.view_text.specs.declared.ledgers.Excerpt.{Excerpt}
 use Rattle.view_text.specs.declared.packages.PackageRow.{PackageRow}
 
 -- the moment of the last receipt that names a package, if one does
@@ -28,6 +30,10 @@ status_text w = status_of (package_rows w)
 -- the way of an item, if a receipt names it
 abbrev pub way_answer : World → List ℕ → Option (List ℕ)
 way_answer w id = then_some (list_any (speaks_of id) (receipts_of w)) (way_of id (receipts_of w))
+
+-- the receipts that are asked for, as a table
+abbrev pub log_text : World → Excerpt → List ℕ
+log_text w e = excerpt_of (receipts_of w) e
 
 -- the receipt of a request as the desk has it, on a line, if one is kept
 abbrev pub receipt_line : World → List ℕ → Option (List ℕ)

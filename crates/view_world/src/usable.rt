@@ -11,7 +11,7 @@ use store_sql::resting::is_at_rest;
 use world::world::World;
 
 /// Passes a world that has not failed.
-pub(crate) fn usable<S: Alter + Drop>(world: &World<S>) -> Result<(), Fault> {
+pub fn usable<S: Alter + Drop>(world: &World<S>) -> Result<(), Fault> {
     if world.has_failed() {
         Err(Fault::StoreFault)
     } else {
@@ -41,7 +41,7 @@ fn are_at_rest<S: Alter + Drop>(stores: &[Connection<S>]) -> bool
 }
 
 /// Whether there are so many stores, and none is inside a transaction. Those of a world that has not failed always are so, which it says to nobody.
-pub(crate) fn are_ready<S: Alter + Drop>(stores: &[Connection<S>], count: usize) -> bool
+pub fn are_ready<S: Alter + Drop>(stores: &[Connection<S>], count: usize) -> bool
     ensures counted { IsTrue result → length stores.now ≡ count }
     ensures rests { IsTrue result → AreAtRest S.Store stores.now }
 {

@@ -1,8 +1,7 @@
 -- How a call that looks at a folder ends: its exit status, and the lines that it prints before (profile).
-use Rattle.std.specs.Prelude.{ℕ, List, [], codes, Option, None}
-use Rattle.store_folder.specs.declared.fault.FolderFault.{FolderFault}
+use Rattle.std.specs.Prelude.{ℕ, List, [], codes}
 use Rattle.command_words.specs.Endings.{line_of}
-use Rattle.command_folder.specs.Endings.{ending_status as usual_status, output_text as usual_output, error_text as usual_error, folder_fault as usual_fault}
+use Rattle.command_folder.specs.Endings.{ending_status as usual_status, output_text as usual_output, error_text as usual_error, note_text as usual_note}
 use Rattle.views.specs.declared.endings.Ending.{Ending}
 use Rattle.views.specs.declared.endings.Ending.TheVariants.{Usual, NoSuchRequest, NoSuchIdentity, NoSuchZoom}
 
@@ -26,9 +25,9 @@ error_text NoSuchRequest = []
 error_text NoSuchIdentity = []
 error_text NoSuchZoom = []
 
--- the fault of the folder, where that is why it was not opened
-abbrev pub folder_fault : Ending → Option FolderFault
-folder_fault (Usual ending) = usual_fault ending
-folder_fault NoSuchRequest = None
-folder_fault NoSuchIdentity = None
-folder_fault NoSuchZoom = None
+-- what is known of it, on standard error, behind the line there
+abbrev pub note_text : Ending → List ℕ
+note_text (Usual ending) = usual_note ending
+note_text NoSuchRequest = []
+note_text NoSuchIdentity = []
+note_text NoSuchZoom = []

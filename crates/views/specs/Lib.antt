@@ -1,3 +1,5 @@
+pub mod Contents
+pub mod Excerpts
 pub mod Endings
 pub mod ExportEndings
 pub mod Looks

@@ -7,27 +7,32 @@ use Rattle.world.specs.Worlds.{Seen, held}
 use Rattle.command_words.specs.declared.statuses.Outcome.TheVariants.{Refused}
 use Rattle.command_words.specs.declared.statuses.What.{What}
 use Rattle.command_words.specs.declared.statuses.What.TheVariants.{BadNumber, BadUuid}
-use Rattle.command_folder.specs.Folders.{IsFolderWorld}
+use Rattle.command_folder.specs.Folders.{IsFolderBeside}
 use Rattle.command_folder.specs.declared.endings.Ending.{Ending as CommandEnding}
 use Rattle.command_folder.specs.declared.endings.Ending.TheVariants as usual
 use Rattle.command_folder.specs.declared.endings.OpenFault.{OpenFault}
+use Rattle.view_text.specs.declared.ledgers.Excerpt.{Excerpt}
+use Rattle.views.specs.Contents.{Gets}
+use Rattle.views.specs.Excerpts.{AsksExcerpt}
 use Rattle.views.specs.ExportEndings.{EndsExport}
 use Rattle.views.specs.MapEndings.{EndsMap}
 use Rattle.views.specs.Reports.{Audits, EndsManifest}
-use Rattle.views.specs.Views.{ShowsReceipt, ShowsStatus, ShowsWay}
+use Rattle.views.specs.Views.{ShowsLog, ShowsReceipt, ShowsStatus, ShowsWay}
 use Rattle.views.specs.Zooms.{AsksZoom}
 use Rattle.views.specs.declared.endings.Ending.{Ending}
 use Rattle.views.specs.declared.endings.Ending.TheVariants.{Usual}
 use Rattle.views.specs.declared.looking.Asked.{Asked}
 use Rattle.views.specs.declared.looking.Asked.TheVariants as asked
 use Rattle.views.specs.declared.looking.Look.{Look}
-use Rattle.views.specs.declared.looking.Look.TheVariants.{Status, Explain, Receipt, Manifest, Export, Map, Audit}
+use Rattle.views.specs.declared.looking.Look.TheVariants.{Status, Log, Get, Explain, Receipt, Manifest, Export, Map, Audit}
 
 -- ---- the words
 
 -- What the words ask to look at: a UUID with hyphens, or a zoom in plain decimal.
 abbrev pub Asks : Asked → Look → Type 0
 Asks asked.Status Status = Unit {0}
+Asks (asked.Log words) (Log excerpt) = AsksExcerpt words excerpt
+Asks (asked.Get word) (Get text) = text.now ≡ word.now
 Asks (asked.Explain word) (Explain id) = parsed_hyphenated word.now ≡ Some id
 Asks (asked.Receipt word) (Receipt id) = parsed_hyphenated word.now ≡ Some id
 Asks (asked.Manifest word) (Manifest p) = parsed_hyphenated word.now ≡ Some p
@@ -43,6 +48,8 @@ IsNoUuid text what = (parsed_hyphenated text ≡ None) × (what ≡ BadUuid)
 -- why the words ask for nothing
 abbrev pub IsUnread : Asked → What → Type 0
 IsUnread asked.Status what = ⊥
+IsUnread (asked.Log words) what = ((excerpt : Excerpt) → ¬ AsksExcerpt words excerpt) × (what ≡ BadNumber)
+IsUnread (asked.Get word) what = ⊥
 IsUnread (asked.Explain word) what = IsNoUuid word.now what
 IsUnread (asked.Receipt word) what = IsNoUuid word.now what
 IsUnread (asked.Manifest word) what = IsNoUuid word.now what
@@ -53,11 +60,15 @@ IsUnread asked.Audit what = ⊥
 
 -- ---- what is made of a world
 
-module _ {S : Type 0} (g : Ghosts S) {W : Type 0} (old : Seen S) (stores : List (Held S))
+module _ {S : Type 0} (g : Ghosts S) {W : Type 0} (strays : ℕ) (old : Seen S) (stores : List (Held S))
     (writer writer' : W) (before after : Option (List ℕ)) where
-  -- What is looked at was printed, the program ends so, and these stores are left of the world.
+  -- What is looked at was printed, the program ends so, and these stores are left of the world. So many are beside it.
   abbrev pub Looked : Look → Ending → Type 0
-  Looked Status ending = ShowsStatus g old stores writer writer' before after ending
+  Looked Status ending = ShowsStatus g strays old stores writer writer' before after ending
+  Looked (Log excerpt) ending = ShowsLog g excerpt old stores writer writer' before after ending
+  Looked (Get word) ending =
+      (new : Seen S) × (stores ≡ held g new)
+      × Gets g word.now old new writer writer' before after ending
   Looked (Explain id) ending = ShowsWay g id old stores writer writer' before after ending
   Looked (Receipt id) ending =
       (new : Seen S) × (stores ≡ held g new)
@@ -87,8 +98,8 @@ module _ {S : Type 0} (g : Ghosts S) {W : Type 0} where
   abbrev pub OpensFor : Look → W → W → Option (List ℕ) → Option (List ℕ) → Ending → Type 0
   OpensFor look writer writer' before after ending =
       ((fault : OpenFault) × (ending ≡ unopened look fault) × (writer' ≡ writer))
-      ⊎ ((old : Seen S) × (stores : List (Held S)) × IsFolderWorld g old
-      × Looked g old stores writer writer' before after look ending)
+      ⊎ ((strays : ℕ) × (old : Seen S) × (stores : List (Held S)) × IsFolderBeside g strays old
+      × Looked g strays old stores writer writer' before after look ending)
 
   -- The words could not be read, and nothing was printed; or the folder was opened for what they
   -- ask.

@@ -1,15 +1,15 @@
 //! How a call that looks at a folder ends: its exit status, and the lines that it prints before.
-ghost use Rattle.std.specs.Prelude.{◌≡◌};
-ghost use Rattle.views.specs.Endings.{ending_status, error_text, folder_fault, output_text};
+ghost use Rattle.std.specs.Prelude.{◌≡◌, IfOk, string_bytes};
+ghost use Rattle.views.specs.Endings.{ending_status, error_text, note_text, output_text};
 
 use command_folder::endings::{
-    Ending as CommandEnding, error_of as usual_error, folder_fault as usual_fault,
+    Ending as CommandEnding, error_of as usual_error, note_of as usual_note,
     output_of as usual_output, status_of as usual_status,
 };
-use store_folder::fault::FolderFault;
+use std::alloc::{AllocError, Global};
 
 /// The end of a call that looks at a folder.
-#[derive(Clone, Copy, Debug, PartialEq, Eq)]
+#[derive(Clone, Copy, PartialEq, Eq)]
 pub enum Ending {
     /// As the other subcommands end too.
     Usual(CommandEnding),
@@ -53,12 +53,18 @@ pub fn error_of(ending: Ending) -> &'static str
     }
 }
 
-/// The fault of the folder or of a file in it, where that is why the program ended. Standard error is told what is known of it in a line of its own.
-pub fn folder_fault(ending: Ending) -> Option<FolderFault>
-    ensures { result ≡ folder_fault ending }
+/// What a person can be told of an ending beside its lines, without the end of a line. It is empty where nothing more is known.
+///
+/// # Errors
+///
+/// Want of memory.
+pub fn note_of(alloc: Global, ending: Ending) -> Result<String, AllocError>
+    ensures { IfOk result (λ text. string_bytes text ≡ note_text ending) }
 {
     match ending {
-        Ending::Usual(ending) => usual_fault(ending),
-        Ending::NoSuchRequest | Ending::NoSuchIdentity | Ending::NoSuchZoom => None,
+        Ending::Usual(ending) => usual_note(alloc, ending),
+        Ending::NoSuchRequest | Ending::NoSuchIdentity | Ending::NoSuchZoom => {
+            Ok(String::new(alloc))
+        }
     }
 }

@@ -3,10 +3,13 @@
 #![tactic(auto)]
 
 pub mod auditing;
+pub mod contents;
 pub mod endings;
+pub mod excerpts;
 pub mod explaining;
 pub mod exporting;
 mod gathering;
+pub mod logging;
 pub mod looking;
 pub mod manifest;
 pub mod maps;

@@ -5,9 +5,12 @@ ghost use Rattle.uuid.specs.Text.{parsed_hyphenated};
 ghost use Rattle.views.specs.Looks.{Asks, IsNoUuid, IsUnread, Looked, Looks, OpensFor, unopened};
 
 use crate::auditing::audit_in;
+use crate::contents::get_in;
 use crate::endings::Ending;
+use crate::excerpts::{LogWords, asked_excerpt};
 use crate::explaining::explain_in;
 use crate::exporting::export_in;
+use crate::logging::log_in;
 use crate::manifest::manifest_in;
 use crate::maps::map_in;
 use crate::receipts::receipt_in;
@@ -24,6 +27,7 @@ use std::io::Write;
 use store_folder::opening::close_stores;
 use store_folder::start::FolderStore;
 use uuid::Uuid;
+use view_text::ledgers::Excerpt;
 use world::world::World;
 
 /// What is looked at, by its words as they were typed.
@@ -31,6 +35,10 @@ use world::world::World;
 pub enum Asked<'t> {
     /// A line of headings, and a line for each live package, by UUID.
     Status,
+    /// A line of headings, and a line for each receipt that is asked for, by number.
+    Log(LogWords<'t>),
+    /// What stands in the item of this name.
+    Get(&'t str),
     /// A line for each receipt that names this identity, by number, and where the item stands now.
     Explain(&'t str),
     /// The kept receipt of this request, as the desk has it, on a line.
@@ -47,8 +55,10 @@ pub enum Asked<'t> {
 
 /// The same, the words read.
 #[derive(Clone, Copy)]
-pub enum Look {
+pub enum Look<'t> {
     Status,
+    Log(Excerpt<'t>),
+    Get(&'t str),
     Explain(Uuid),
     Receipt(Uuid),
     Manifest(Uuid),
@@ -69,11 +79,16 @@ fn uuid_of(word: &str) -> Result<Uuid, What>
 }
 
 /// What words ask to look at; or why they cannot be read.
-fn read_asked(asked: Asked<'_>) -> Result<Look, What>
+fn read_asked(asked: Asked<'_>) -> Result<Look<'_>, What>
     ensures { MatchResult result (Asks asked.entry) (IsUnread asked.entry) }
 {
     match asked {
         Asked::Status => Ok(Look::Status),
+        Asked::Log(words) => match asked_excerpt(&words) {
+            Some(excerpt) => Ok(Look::Log(excerpt)),
+            None => Err(What::BadNumber),
+        },
+        Asked::Get(identity) => Ok(Look::Get(identity)),
         Asked::Explain(identity) => Ok(Look::Explain(uuid_of(identity)?)),
         Asked::Receipt(request) => Ok(Look::Receipt(uuid_of(request)?)),
         Asked::Manifest(package) => Ok(Look::Manifest(uuid_of(package)?)),
@@ -86,18 +101,24 @@ fn read_asked(asked: Asked<'_>) -> Result<Look, What>
     }
 }
 
-/// Prints what is looked at of a world, whose stores are handed on.
+/// Prints what is looked at of a world, whose stores are handed on. So many stores of its folder are not of it.
 pub fn look_in<S: Alter + Drop, W: Write>(
     alloc: Global,
     mut world: World<S>,
-    look: Look,
+    strays: u64,
+    look: Look<'_>,
     writer: &mut W,
 ) -> (Ending, Vec<Connection<S>>)
-    ensures { Looked S.Store world result.1.items
+    ensures { Looked S.Store strays world result.1.items
         writer.old writer.new (W.contents writer.old) (W.contents writer.new) look result.0 }
 {
     match look {
-        Look::Status => status_in(alloc, world, writer),
+        Look::Status => status_in(alloc, world, strays, writer),
+        Look::Log(excerpt) => log_in(alloc, world, &excerpt, writer),
+        Look::Get(identity) => {
+            let ending = get_in(alloc, &mut world, identity, writer);
+            (ending, world.into_stores())
+        }
         Look::Explain(identity) => explain_in(alloc, world, identity, writer),
         Look::Receipt(request) => {
             let ending = receipt_in(alloc, &mut world, request, writer);
@@ -123,7 +144,7 @@ pub fn look_in<S: Alter + Drop, W: Write>(
 }
 
 /// How a folder that is not opened ends the program: an audit tells its fault.
-fn unopened(look: Look, fault: OpenFault) -> Ending
+fn unopened(look: Look<'_>, fault: OpenFault) -> Ending
     ensures { result ≡ unopened look fault }
 {
     match look {
@@ -136,7 +157,7 @@ fn unopened(look: Look, fault: OpenFault) -> Ending
 ///
 /// The one place where a folder's stores are handed to a function over any store: the check pays
 /// for their type at each such call anew.
-fn look_at<W: Write>(rt: &HostRuntime, folder: &str, look: Look, writer: &mut W) -> Ending
+fn look_at<W: Write>(rt: &HostRuntime, folder: &str, look: Look<'_>, writer: &mut W) -> Ending
     ensures { OpensFor ⟦<FolderStore as Store>⟧ look
         writer.old writer.new (W.contents writer.old) (W.contents writer.new) result }
 {
@@ -144,11 +165,11 @@ fn look_at<W: Write>(rt: &HostRuntime, folder: &str, look: Look, writer: &mut W)
         Ok(
             OpenFolder {
                 world,
+                strays,
                 lock: _lock,
-                ..
             },
         ) => {
-            let (ending, stores) = look_in(rt.alloc(), world, look, writer);
+            let (ending, stores) = look_in(rt.alloc(), world, strays as u64, look, writer);
             close_stores(stores);
             ending
         }

@@ -10,7 +10,7 @@ use package_tables::fault::Fault;
 use std::io::Write;
 
 /// How the program ends where memory or a store gave out.
-fn stopped(fault: Fault) -> Ending
+pub(crate) fn stopped(fault: Fault) -> Ending
     ensures { result ≡ stopped fault }
 {
     Ending::Usual(CommandEnding::Usual(Outcome::Stopped(Failure::from(fault))))

@@ -7,10 +7,10 @@ pub returns-in_default : goal.returns-in_default
 returns-in_default g c = same_by g.S.Store c.args.world.now c.args.world.now refl
 
 pub returns-in-Ok-Answered : goal.returns-in-Ok-Answered
-returns-in-Ok-Answered g c = served_by g.S.Store c.args.own.now None c.args.world.now c.serve_one.new.world (g.H.Shelf.failures_of c.args.shelf.now) (g.H.Shelf.failures_of c.serve_one.new.shelf) None None c.serve_one.result c.serve_one.ensures.served
+returns-in-Ok-Answered g c = served_by g.S.Store c.args.own.now None c.args.world.now c.serve_one-served.new.world (g.H.Shelf.failures_of c.args.shelf.now) (g.H.Shelf.failures_of c.serve_one-served.new.shelf) None None c.serve_one-served.result c.serve_one-served.ensures.served
 
 pub returns-in-Ok-Nothing : goal.returns-in-Ok-Nothing
-returns-in-Ok-Nothing g c = served_by g.S.Store c.args.own.now None c.args.world.now c.serve_one.new.world (g.H.Shelf.failures_of c.args.shelf.now) (g.H.Shelf.failures_of c.serve_one.new.shelf) None None c.serve_one.result c.serve_one.ensures.served
+returns-in-Ok-Nothing g c = served_by g.S.Store c.args.own.now None c.args.world.now c.serve_one-served.new.world (g.H.Shelf.failures_of c.args.shelf.now) (g.H.Shelf.failures_of c.serve_one-served.new.shelf) None None c.serve_one-served.result c.serve_one-served.ensures.served
 
 pub returns-in-Ok-Nothing-2 : goal.returns-in-Ok-Nothing-2
-returns-in-Ok-Nothing-2 g c = served_by g.S.Store c.args.own.now None c.args.world.now c.serve_one.new.world (g.H.Shelf.failures_of c.args.shelf.now) (g.H.Shelf.failures_of c.serve_one.new.shelf) None None c.serve_one.result c.serve_one.ensures.served
+returns-in-Ok-Nothing-2 g c = served_by g.S.Store c.args.own.now None c.args.world.now c.serve_one-served.new.world (g.H.Shelf.failures_of c.args.shelf.now) (g.H.Shelf.failures_of c.serve_one-served.new.shelf) None None c.serve_one-served.result c.serve_one-served.ensures.served

@@ -1,12 +1,13 @@
 -- The header goes out, and then the lines.
-use Rattle.std.proofs.Common.{◌∙◌, arith, length, sym, subst}
+use Rattle.std.proofs.Common.{◌∙◌, arith, length, refl, sym, subst}
 use Rattle.std.specs.Io.KnownBytes.{Appends}
-use Rattle.manifest_csv.specs.Imports.{Imports}
+use Rattle.manifest_csv.specs.Imports.{AsksOf, Imports}
 use Rattle.manifest_csv.specs.Progress.{IsTold}
 use Rattle.manifest_csv.specs.Reports.{report_header}
 use Rattle.manifest_csv.specs.Sent.{WentOut}
 use Rattle.manifest_csv.specs.declared.importing.ImportFault.TheVariants.{Unwritten}
 use Rattle.world.proofs.ChangesMade.{turned_into}
+use Rattle.manifest_csv.proofs.Asking.{asks_all, asks_of}
 use Rattle.manifest_csv.proofs.ImportFacts.{after_header, header_unwritten, imported}
 use Rattle.manifest_csv.proofs.ProgressFacts.{nothing_told, told_of}
 use Rattle.manifest_csv.proofs.importing.carry_out.Goals as goal
@@ -34,3 +35,12 @@ returns-in_err-send-clause-told g c = λ text list.
 pub returns-clause-told : goal.returns-clause-told
 returns-clause-told g c = λ text list.
     told_of text c.args.requests.now (g.T.Teller.told c.args.teller.now) (g.T.Teller.told c.report_each.new.teller) c.report_each.result list c.report_each.ensures.told
+
+pub returns-in_err-send-clause-asks : goal.returns-in_err-send-clause-asks
+returns-in_err-send-clause-asks g c = λ text list.
+    subst (AsksOf g.H.Shelf.asks text c.args.shelf.now c.args.shelf.now) (sym (turned_into c.from_residual.result Unwritten c.from_residual.ensures.1))
+    (c.args.requests.now, list, asks_all g.H.Shelf.asks 0 c.args.requests.now c.args.shelf.now c.args.shelf.now refl)
+
+pub returns-clause-asks : goal.returns-clause-asks
+returns-clause-asks g c = λ text list.
+    asks_of g.H.Shelf.asks g.S.Store text c.args.requests.now c.args.world.now c.report_each.new.world (g.H.Shelf.failures_of c.args.shelf.now) (g.H.Shelf.failures_of c.report_each.new.shelf) (g.W.Write.contents c.send.new.writer) (g.W.Write.contents c.report_each.new.writer) c.args.shelf.now c.report_each.new.shelf c.report_each.result list c.report_each.ensures.reported c.report_each.ensures.asks

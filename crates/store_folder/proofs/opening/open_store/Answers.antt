@@ -6,7 +6,7 @@ use Rattle.store_folder.proofs.opening.open_store.Goals as goal
 
 pub returns-in-Ok : goal.returns-in-Ok
 returns-in-Ok c = λ clean.
-    let opened = c.in-Ok.ensures.opened clean in
+    let opened = c.in-Ok.ensures clean in
     record {
       holds = files_held (λ file. inl refl) c.in-Ok.conn opened;
       trees_are = ap (λ (db : Database). db.trees) opened.0.clean;

@@ -2,10 +2,15 @@
 use Rattle.std.proofs.Common.{refl}
 use Rattle.views.proofs.looking.look_in.Goals as goal
 
+pub returns-in-Get : goal.returns-in-Get
+returns-in-Get g c =
+    rw c.in-Get.is
+    (c.get_in-ending.new.world, c.into_stores.ensures, c.get_in-ending.ensures)
+
 pub returns-in-Receipt : goal.returns-in-Receipt
 returns-in-Receipt g c =
     rw c.in-Receipt.is
-    (c.receipt_in-ending.new.world, c.into_stores.ensures, c.receipt_in-ending.ensures)
+    (c.receipt_in-ending.new.world, c.into_stores-in-Receipt.ensures, c.receipt_in-ending.ensures)
 
 pub returns-in-Manifest : goal.returns-in-Manifest
 returns-in-Manifest g c =

@@ -1,0 +1,53 @@
+//! The moment of the clock, and new UUIDs. Nothing below the program asks for either.
+use jiff_core::civil::Date;
+use std::alloc::{AllocError, Global};
+use std::io;
+use std::time::{SystemTime, UNIX_EPOCH};
+use uuid::Uuid;
+
+const SECONDS_OF_A_DAY: u64 = 86_400;
+
+/// The moment of so many seconds since 1970, and milliseconds; `None` past the year 9999.
+fn moment_of(alloc: Global, seconds: u64, millis: u32) -> Result<Option<String>, AllocError> {
+    let Ok(
+        Date {
+            year,
+            month,
+            day,
+            ..
+        },
+    ) = Date::from_unix_epoch_day((seconds / SECONDS_OF_A_DAY) as i64)
+    else {
+        return Ok(None);
+    };
+    let time = seconds % SECONDS_OF_A_DAY;
+    let hour = time / 3600;
+    let minute = time / 60 % 60;
+    let second = time % 60;
+    let text = format!(in alloc;
+        "{year:04}-{month:02}-{day:02}T{hour:02}:{minute:02}:{second:02}.{millis:03}Z"
+    )?;
+    Ok(Some(text))
+}
+
+/// What is told where the clock is set before 1970 or past 9999.
+fn wrong_clock() -> io::Error {
+    io::Error::other("the clock is wrong")
+}
+
+/// The moment of the clock, in UTC.
+pub(crate) fn moment_now(rt: &HostRuntime) -> io::Result<String> {
+    let now = SystemTime::now(rt)?;
+    let Ok(since) = now.duration_since(UNIX_EPOCH) else {
+        return Err(wrong_clock());
+    };
+    match moment_of(rt.alloc(), since.as_secs(), since.subsec_millis())? {
+        Some(text) => Ok(text),
+        None => Err(wrong_clock()),
+    }
+}
+
+/// A UUID that is new.
+pub(crate) fn new_uuid(rt: &HostRuntime) -> io::Result<Uuid> {
+    Uuid::try_new_v4(rt)
+}

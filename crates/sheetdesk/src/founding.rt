@@ -1,0 +1,37 @@
+//! A new archive's words: its UUID and its moment are made where they are not given.
+use crate::ordering::{moment_given, uuid_text_given};
+use crate::running::text_of;
+use clap::ArgMatches;
+use command_folder::endings::{DONE, Ending};
+use command_words::arguments::Words;
+use commands::init::init;
+use std::io;
+
+/// Tells standard error at which moment an archive is made, where no word gives one.
+fn tell_moment(rt: &HostRuntime, given: &ArgMatches<'_>, at: &str) {
+    if given.get_str("at").is_none() {
+        let _printed = eprintln!(rt; "made at {at}");
+    }
+}
+
+/// Makes a new archive in a folder.
+pub(crate) fn founded(rt: &HostRuntime, given: &ArgMatches<'_>) -> Ending {
+    let archive = match uuid_text_given(rt, given, "archive") {
+        Ok(archive) => archive,
+        Err(ending) => return ending,
+    };
+    let at = match moment_given(rt, given) {
+        Ok(at) => at,
+        Err(ending) => return ending,
+    };
+    let words = Words {
+        archive: archive.as_str(),
+        at: at.as_str(),
+        frame: text_of(given, "frame"),
+    };
+    let ending = init(rt, &words, text_of(given, "folder"), &mut io::writer(rt));
+    if ending == DONE {
+        tell_moment(rt, given, at.as_str());
+    }
+    ending
+}

@@ -1,0 +1,224 @@
+//! A verb's words become an order over the bytes of a file. What they leave out is new, or of the clock.
+use crate::clock::{moment_now, new_uuid};
+use crate::running::text_of;
+use crate::streams::Input;
+use clap::ArgMatches;
+use command_folder::endings::{Ending, FAILED, NO_MEMORY};
+use command_requests::orders::Order;
+use command_verbs::verbs::{Mark, Verb};
+use command_words::statuses::{Outcome, What};
+use commands::ordering::{Purpose, order_for};
+use sheet_types::command::Mode;
+use sheet_types::reading::read_uuid;
+use std::io::ErrorKind;
+use std::{fs, io};
+use uuid::Uuid;
+
+/// Says on standard error what could not be had, and answers how the program ends.
+fn without(rt: &HostRuntime, what: &str, error: &io::Error, ending: Ending) -> Ending {
+    if error.kind() == ErrorKind::OutOfMemory {
+        return NO_MEMORY;
+    }
+    let _printed = eprintln!(rt; "error: {what}: {error}");
+    ending
+}
+
+/// The UUID of an option, or a new one.
+fn uuid_given(rt: &HostRuntime, given: &ArgMatches<'_>, id: &str) -> Result<Uuid, Ending> {
+    match given.get_str(id) {
+        Some(word) => match read_uuid(word) {
+            Some(uuid) => Ok(uuid),
+            None => Err(Ending::Usual(Outcome::Refused(What::BadUuid))),
+        },
+        None => match new_uuid(rt) {
+            Ok(uuid) => Ok(uuid),
+            Err(error) => Err(without(rt, "no new UUID", &error, FAILED)),
+        },
+    }
+}
+
+/// The text of an option, or of a new UUID.
+pub(crate) fn uuid_text_given(
+    rt: &HostRuntime,
+    given: &ArgMatches<'_>,
+    id: &str,
+) -> Result<String, Ending> {
+    let text = match given.get_str(id) {
+        Some(word) => String::from_str(rt.alloc(), word),
+        None => {
+            let uuid = uuid_given(rt, given, id)?;
+            format!(in rt.alloc(); "{uuid}")
+        }
+    };
+    match text {
+        Ok(text) => Ok(text),
+        Err(_) => Err(NO_MEMORY),
+    }
+}
+
+/// The moment of the option `--at`, or that of the clock.
+pub(crate) fn moment_given(rt: &HostRuntime, given: &ArgMatches<'_>) -> Result<String, Ending> {
+    let moment = match given.get_str("at") {
+        Some(word) => String::from_str(rt.alloc(), word).map_err(io::Error::from),
+        None => moment_now(rt),
+    };
+    match moment {
+        Ok(text) => Ok(text),
+        Err(error) => Err(without(rt, "no moment", &error, FAILED)),
+    }
+}
+
+/// What `put` adds, by the kind that its words begin with.
+fn put_verb<'m>(given: &ArgMatches<'m>, identity: Uuid) -> Option<Verb<'m>> {
+    let package = text_of(given, "package");
+    let (kind, words) = given.subcommand()?;
+    match kind {
+        "tile" => Some(Verb::PutTile {
+            package,
+            place: text_of(words, "place"),
+            identity,
+        }),
+        "media" => Some(Verb::PutMedium {
+            package,
+            content_type: words.get_str("type"),
+            identity,
+        }),
+        _ => Some(Verb::PutMark {
+            package,
+            mark: Mark {
+                point: text_of(words, "point"),
+                code: text_of(words, "code"),
+                label: text_of(words, "label"),
+            },
+            identity,
+        }),
+    }
+}
+
+/// The loan that the words ask for. One word is the area; of two the first is the package that lends.
+fn lend_verb<'m>(given: &ArgMatches<'m>, loan: Uuid) -> Verb<'m> {
+    let first = text_of(given, "first");
+    let (from, area) = match given.get_str("second") {
+        Some(area) => (Some(first), area),
+        None => (None, first),
+    };
+    let mode = if given.get_flag("follow") {
+        Mode::Follow
+    } else {
+        Mode::Strict
+    };
+    Verb::Lend {
+        from,
+        area,
+        mode,
+        loan,
+    }
+}
+
+/// The verb of a command, if it is one. What it makes gets this identity.
+fn verb_of<'m>(name: &str, given: &ArgMatches<'m>, identity: Uuid) -> Option<Verb<'m>> {
+    match name {
+        "put" => put_verb(given, identity),
+        "lend" => Some(lend_verb(given, identity)),
+        "return" => Some(Verb::Return {
+            loan: text_of(given, "loan"),
+        }),
+        "join" => Some(Verb::Join {
+            first: text_of(given, "first"),
+            second: text_of(given, "second"),
+        }),
+        "part" => Some(Verb::Part {
+            first: text_of(given, "first"),
+            second: text_of(given, "second"),
+        }),
+        _ => None,
+    }
+}
+
+/// Whether a command is a verb.
+pub(crate) fn is_verb(name: &str) -> bool {
+    matches!(name, "put" | "lend" | "return" | "join" | "part")
+}
+
+/// What becomes of the request.
+fn purpose_of(options: &ArgMatches<'_>) -> Purpose {
+    if options.get_flag("dry-run") {
+        Purpose::Show
+    } else {
+        Purpose::CarryOut
+    }
+}
+
+/// Has an order done in a folder, over what is read.
+fn done_in(
+    rt: &HostRuntime,
+    folder: &str,
+    order: &Order<'_>,
+    purpose: Purpose,
+    reader: &mut Input<'_>,
+) -> Ending {
+    order_for(rt, folder, order, purpose, reader, &mut io::writer(rt))
+}
+
+/// The same, over the bytes of a file; of `-` those of the reader, and of no file none.
+fn done_over(
+    rt: &HostRuntime,
+    folder: &str,
+    order: &Order<'_>,
+    purpose: Purpose,
+    file: Option<&str>,
+    reader: &mut Input<'_>,
+) -> Ending {
+    let Some(path) = file else {
+        return done_in(rt, folder, order, purpose, &mut Input::File(b""));
+    };
+    if path == "-" {
+        return done_in(rt, folder, order, purpose, reader);
+    }
+    match fs::read(rt, path) {
+        Ok(bytes) => done_in(
+            rt,
+            folder,
+            order,
+            purpose,
+            &mut Input::File(bytes.as_slice()),
+        ),
+        Err(error) => without(rt, path, &error, Ending::BadBody),
+    }
+}
+
+/// Carries out the verb of a command.
+pub(crate) fn ordered(
+    rt: &HostRuntime,
+    name: &str,
+    given: &ArgMatches<'_>,
+    reader: &mut Input<'_>,
+) -> Ending {
+    let options = match given.subcommand() {
+        Some((_, words)) => words,
+        None => given,
+    };
+    let id = match uuid_given(rt, options, "request") {
+        Ok(id) => id,
+        Err(ending) => return ending,
+    };
+    let identity = match uuid_given(rt, options, "as") {
+        Ok(identity) => identity,
+        Err(ending) => return ending,
+    };
+    let at = match moment_given(rt, options) {
+        Ok(at) => at,
+        Err(ending) => return ending,
+    };
+    let Some(verb) = verb_of(name, given, identity) else {
+        return FAILED;
+    };
+    let order = Order {
+        id,
+        at: at.as_str(),
+        verb,
+    };
+    let folder = text_of(given, "folder");
+    let purpose = purpose_of(options);
+    done_over(rt, folder, &order, purpose, options.get_str("file"), reader)
+}

@@ -1,0 +1,25 @@
+//! The ledger of a world.
+ghost use Rattle.views.specs.Views.{ShowsLog};
+
+use crate::endings::Ending;
+use crate::showing::show;
+use sqlite::{Alter, Connection};
+use std::alloc::Global;
+use std::io::Write;
+use view_text::ledgers::Excerpt;
+use view_world::ledgers::log_of;
+use world::world::World;
+
+/// Writes the receipts of a world that are asked for, whose stores are handed on.
+pub fn log_in<S: Alter + Drop, W: Write>(
+    alloc: Global,
+    world: World<S>,
+    excerpt: &Excerpt<'_>,
+    writer: &mut W,
+) -> (Ending, Vec<Connection<S>>)
+    ensures { ShowsLog S.Store excerpt.now world result.1.items writer.old writer.new (W.contents writer.old) (W.contents writer.new) result.0 }
+{
+    let (text, stores) = log_of(alloc, world, excerpt);
+    let ending = show(writer, text);
+    (ending, stores)
+}

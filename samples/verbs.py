@@ -1,0 +1,206 @@
+"""Sessions by the verbs for people: what each types, the request that it makes, and what it prints, by the second machine.
+
+Each verb is given its moment, the UUID of its request and that of what it makes, so that it prints the same each time. The README leaves
+these options out (`as_shown`).
+"""
+
+import json
+import re
+
+import nordmark
+import reference
+from machine.frames import Frame
+from machine.lists import FIELDS, HEADER
+from machine.world import Receipt, World, apply
+
+TOWN, MOLE = (6, 0, 0), (6, 1, 0)
+GIVEN = re.compile(r" --(?:at|request|as|archive) \S+")
+
+
+def as_shown(line):
+    """A typed line without what a person leaves out."""
+    return GIVEN.sub("", line)
+
+
+def request_text(request):
+    """A request as JSON, its members in the order of the fields of a list."""
+    members = {name: request[name] for name in HEADER if name in request}
+    members = {name: value.hex() if isinstance(value, bytes) else value for name, value in members.items()}
+    return json.dumps(members, separators=(",", ":"), ensure_ascii=False) + "\n"
+
+
+def deed_of(request):
+    """What a request made or moved."""
+    match request["command"]:
+        case "add":
+            return f"added {request['identity']}\n"
+        case "link":
+            return f"joined {request['identity']} {request['other']}\n"
+        case "unlink":
+            return f"parted {request['identity']} {request['other']}\n"
+        case "split":
+            columns, rows = (f"{request[name]}-{request['last_' + name]}" for name in ("column", "row"))
+            return f"loan {request['other']}\nsheets {request['zoom']}/{columns}/{rows}\n"
+        case "merge":
+            return f"home {request['package']} {request['other']}\n"
+
+
+def counts_of(receipt):
+    tiles, media, rows, links, size = receipt.sums()
+    return f"receipt {receipt.seq}: {tiles} tiles, {media} media, {rows} rows, {links} links, {size} bytes\n"
+
+
+class Verbs:
+    """Verbs over a folder, and the world that they lead to."""
+
+    def __init__(self, session, folder, is_shown):
+        self.session, self.folder = session, folder
+        self.unshown = {*FIELDS, ("merge", None)} if is_shown else set()
+        self.world = World(nordmark.ARCHIVE, Frame.read(nordmark.FRAME))
+        self.number = 0
+        session.type(f"mkdir {folder}", "")
+        words = f"init {folder} --archive {nordmark.ARCHIVE} --at {nordmark.CREATED} --frame {nordmark.FRAME}"
+        session.run(words, f"archive {nordmark.ARCHIVE}\n")
+
+    def given(self, made):
+        """The moment, the request and what it makes, and the options that give them."""
+        self.number += 1
+        at = f"2026-03-02T09:{self.number:02}:00.000Z"
+        request = nordmark.name_uuid("verb", f"{self.folder} {self.number}")
+        options = f" --at {at} --request {request}" + (f" --as {made}" if made else "")
+        return {"at": at, "request": request}, options
+
+    def do(self, verb, rest, request, made=None):
+        """Types a verb that makes this request. The first of its kind is shown before, which changes nothing, where kinds are to be shown."""
+        given, options = self.given(made)
+        request = {**given, **request}
+        reply = apply(self.world, request)
+        words = f"{verb} {self.folder} {rest}{options}"
+        kind = request["command"], request.get("kind")
+        if kind in self.unshown:
+            self.unshown.remove(kind)
+            self.session.run(words + " --dry-run", request_text(request))
+        if isinstance(reply, Receipt):
+            self.session.run(words, deed_of(request) + counts_of(reply))
+        else:
+            self.session.run(words, reference.reply_text(reply) + "\n", 1)
+        return words, request, reply
+
+    def refused(self, verb, rest, why):
+        """Types a verb whose words say no request."""
+        self.session.run(f"{verb} {self.folder} {rest}", f"refused: {why}\n", 1)
+
+    def add(self, package, kind, rest, identity, **fields):
+        request = {"command": "add", "package": package, "identity": identity, "kind": kind, **fields}
+        word = {"tile": "tile", "media": "media", "row": "mark"}[kind]
+        return self.do("put", f"{package[:8]} {word} {rest}", request, identity)
+
+    def tile(self, package, place, path, data):
+        zoom, column, row = place
+        rest = f"{zoom}/{column}/{row} {self.session.name(path, data)}"
+        return self.add(package, "tile", rest, nordmark.sheet(*place), zoom=zoom, column=column, row=row, data=data)
+
+    def medium(self, package, path, name, data, content_type, option=""):
+        rest = self.session.name(path, data) + option
+        return self.add(package, "media", rest, nordmark.medium(name), text=content_type, data=data)
+
+    def lend(self, rest, loan, rect, package=nordmark.ARCHIVE, mode="strict"):
+        ends = dict(zip(["zoom", "column", "last_column", "row", "last_row"], rect))
+        request = {"command": "split", "package": package, "other": loan, "kind": mode, **ends}
+        return self.do("lend", rest, request, loan)
+
+    def bring_home(self, loan, into, digits=8):
+        request = {"command": "merge", "package": loan, "other": into, "ticket": self.world.tickets[loan]}
+        return self.do("return", loan[:digits], request)
+
+    def tie(self, verb, first, second, mapping, base, other, package=nordmark.ARCHIVE):
+        command = {"join": "link", "part": "unlink"}[verb]
+        request = {"command": command, "package": package, "identity": base, "other": other, "kind": mapping}
+        return self.do(verb, f"{first[:6]} {second.upper()}", request)
+
+
+def first_loan(session):
+    """A sheet is lent, a photograph is added to it, and it comes home."""
+    verbs = Verbs(session, "sheets", False)
+    verbs.tile(nordmark.ARCHIVE, TOWN, "samples/town.png", b"\x89PNG\r\n\x1a\n" + nordmark.SHEETS[TOWN].encode())
+    verbs.lend("6/0/0", nordmark.HARBOUR, (6, 0, 0, 0, 0))
+    photo = nordmark.MEDIA["photo-lighthouse"][1]
+    verbs.medium(nordmark.HARBOUR, "samples/lighthouse.jpg", "photo-lighthouse", photo, "image/jpeg")
+    verbs.bring_home(nordmark.HARBOUR, nordmark.ARCHIVE)
+    return verbs.world
+
+
+def come_in(verbs):
+    """A mark, two media, and links of all three mappings."""
+    archive, light = nordmark.ARCHIVE, nordmark.mark("light")
+    photo, town = nordmark.medium("photo-lighthouse"), nordmark.sheet(*TOWN)
+    fields = {"x": 502345678, "y": 5960678900, "code": 210, "text": 'light,"white"'}
+    verbs.add(archive, "row", '502345.678,5960678.9 210 light,"white"', light, **fields)
+    verbs.medium(archive, "samples/scan.bin", "scan-1887", b"II*\x00scan", "image/tiff", " --type image/tiff")
+    verbs.medium(archive, "samples/levels.txt", "level-book", b"levels along the sound\n", "text/plain")
+    verbs.tie("join", photo, light, "rows_media", light, photo)
+    verbs.tie("join", light, town, "rows_tiles", light, town)
+    verbs.tie("part", town, light, "rows_tiles", light, town)
+    verbs.tie("join", town, nordmark.medium("scan-1887"), "tiles_media", town, nordmark.medium("scan-1887"))
+
+
+def go_and_come(verbs):
+    """A loan lends on. It may not come home before its own loan does."""
+    archive, crew, boat = nordmark.ARCHIVE, nordmark.HARBOUR, nordmark.BOAT
+    verbs.lend("5/0-1/0 --follow", crew, (5, 0, 1, 0, 0), mode="follow")
+    verbs.lend(f"{crew[:8].upper()} 6/0/0", boat, (6, 0, 0, 0, 0), package=crew)
+    verbs.bring_home(crew, archive)
+    verbs.bring_home(boat, crew)
+    verbs.bring_home(crew, archive)
+
+
+def come_out(verbs):
+    """What stands in items, printed and kept in a file, which is then shown as another medium."""
+    folder, run = verbs.folder, verbs.session.run
+    photo = nordmark.MEDIA["photo-lighthouse"][1]
+    run(f"get {folder} {nordmark.medium('level-book')}", "levels along the sound\n")
+    run(f"get {folder} {nordmark.medium('photo-lighthouse')[:4]} photo.jpg", "")
+    given, options = verbs.given(nordmark.medium("scan-1934"))
+    members = {"command": "add", "package": nordmark.ARCHIVE, "identity": nordmark.medium("scan-1934"), "kind": "media"}
+    text = request_text({**given, **members, "text": "image/jpeg", "data": photo})
+    run(f"put {folder} {nordmark.ARCHIVE} media photo.jpg{options} --dry-run", text)
+    run(f"get {folder} ffff", "refused: no such item\n", 1)
+    run(f"get {folder} 652 mark.txt", "refused: a name of fewer than four digits\n", 1)
+
+
+def no_request(verbs):
+    """Words that say none."""
+    light, book = nordmark.mark("light"), nordmark.medium("level-book")
+    home = nordmark.ARCHIVE[:4]
+    # a loan whose UUID begins as the archive's does
+    near = nordmark.ARCHIVE[:8] + "-0000-4000-8000-000000000001"
+    verbs.lend("6/0/0", near, (6, 0, 0, 0, 0))
+    verbs.refused("return", home, f"two packages {min(nordmark.ARCHIVE, near)} {max(nordmark.ARCHIVE, near)}")
+    verbs.refused("return", home[:3], "a name of fewer than four digits")
+    verbs.refused("return", "ffff", "no such package")
+    verbs.refused("return", nordmark.ARCHIVE, "not lent")
+    verbs.refused("lend", "6/0", "area")
+    verbs.refused("lend", "ffff 6/0/0", "no such package")
+    verbs.refused("put", f"{near} tile 6/0-1/0 samples/town.png", "place")
+    verbs.refused("put", f"{near} mark 1.2345,0 1 x", "point")
+    verbs.refused("put", f"{near} mark 1,0 one x", "code")
+    verbs.refused("put", f"{near} media samples/scan.bin", "type")
+    verbs.refused("put", f"{near} media samples/nothing.png", "body")
+    verbs.refused("join", f"{light} ffff", "no such item")
+    verbs.refused("join", f"{light} {light}", "no mapping")
+    verbs.refused("join", f"{book} {nordmark.sheet(*TOWN)}", "two packages hold them")
+    verbs.refused("join", f"{book} {nordmark.sheet(*TOWN)} --request 1", "uuid")
+    verbs.bring_home(near, nordmark.ARCHIVE, 10)
+
+
+def every_verb(session):
+    """All verbs, the first of each kind shown before it is carried out."""
+    verbs = Verbs(session, "harbour", True)
+    verbs.tile(nordmark.ARCHIVE, TOWN, "samples/town.png", b"\x89PNG\r\n\x1a\n" + nordmark.SHEETS[TOWN].encode())
+    photo = nordmark.MEDIA["photo-lighthouse"][1]
+    verbs.medium(nordmark.ARCHIVE, "samples/lighthouse.jpg", "photo-lighthouse", photo, "image/jpeg")
+    come_in(verbs)
+    go_and_come(verbs)
+    come_out(verbs)
+    no_request(verbs)
+    return verbs.world

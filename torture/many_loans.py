@@ -1,0 +1,109 @@
+#!/usr/bin/env python3
+"""Loans that come home in numbers, and as many loans as may live.
+
+Usage: many_loans.py [LOANS]     over the proved program; SHEETDESK=PROGRAM takes another
+
+First so many loans (100) are lent, one after the other, and each comes home. Their files stay: `status` has to count them, and a blank file beside
+them, and the packages and the receipts have to be as before. Then 255 loans of one mark each live
+beside the archive, and `status` of them has to take at most 600 MB. Status 0 where all is so. What has to come is worked out here, by hand.
+"""
+import os
+import subprocess
+import sys
+import tempfile
+
+HERE = os.path.dirname(os.path.abspath(__file__))
+MOST = 600 * 1024
+MOMENT = "2024-05-01T08:00:00.000Z"
+ARCHIVE = "a0000000-0000-4000-8000-000000000000"
+MAKING = ["--archive", ARCHIVE, "--at", MOMENT, "--frame", "25832,0,0,4096,4096,256,256,0,3,1,1"]
+WIDE = ["--archive", ARCHIVE, "--at", MOMENT, "--frame", "25832,0,0,65536,65536,256,256,0,1,256,256"]
+HEADER = "request,at,command,package,identity,other,kind,zoom,column,row,last_column,last_row,x,y,code,ticket,text,data\n"
+
+
+def program():
+    named = os.environ.get("SHEETDESK")
+    return [named] if named else [os.path.join(HERE, "..", "sheetdesk")]
+
+
+def run(*words, status=0):
+    done = subprocess.run([*program(), *words], capture_output=True, text=True)
+    assert done.returncode == status, (words, done)
+    return done.stdout
+
+
+def uuid(front, number):
+    return f"{front}0000000-0000-4000-8000-{number:012}"
+
+
+def list_of(folder, records):
+    """A file with these records, each a request without its UUID."""
+    path = os.path.join(folder, "list.csv")
+    with open(path, "w", encoding="utf-8") as out:
+        out.write(HEADER + "".join(f"{uuid('9', number)},{MOMENT},{record}\n" for number, record in enumerate(records, 1)))
+    return path
+
+
+def lent_and_home(count):
+    yield f"add,{ARCHIVE},{uuid('0', 1)},,row,,,,,,3000,1000,7,,gate,"
+    for number in range(1, count + 1):
+        loan = uuid("b", number)
+        yield f"split,{ARCHIVE},,{loan},strict,0,0,0,0,0,,,,,,"
+        yield f"merge,{loan},,{ARCHIVE},,,,,,,,,,{2 * number},,"
+
+
+def living(count):
+    """So many marks, each lent in a loan of its own."""
+    for number in range(count):
+        yield f"add,{ARCHIVE},{uuid('0', number + 1)},,row,,,,,,{256 * number},65536,0,,,"
+    for number in range(count):
+        yield f"split,{ARCHIVE},,{uuid('c', number + 1)},strict,0,{number},0,{number},0,,,,,,"
+
+
+def come_home(room, count):
+    maps = os.path.join(room, "maps")
+    os.mkdir(maps)
+    run("init", *MAKING, maps)
+    report = run("import", maps, list_of(room, lent_and_home(count)))
+    assert report.endswith(f",{2 * count + 1},0\n"), report[-200:]
+    others = {"notes.txt": b"", uuid("d", 1) + ".gpkg": b""}
+    for name, content in others.items():
+        with open(os.path.join(maps, name), "wb") as out:
+            out.write(content)
+    before = run("manifest", maps, ARCHIVE)
+    assert run("status", maps).splitlines()[2:] == [f"strays {count + 1}"]
+    assert run("audit", maps) == f"good {2 * count + 1}\n"
+    assert run("manifest", maps, ARCHIVE) == before
+
+
+def live(room, count):
+    maps = os.path.join(room, "wide")
+    os.mkdir(maps)
+    run("init", *WIDE, maps)
+    report = run("import", maps, list_of(room, living(count)))
+    assert report.endswith(f",{2 * count},0\n"), report[-200:]
+    return maps
+
+
+def taken(maps, count):
+    """The memory of a `status`, in kilobytes, by a child of its own."""
+    code = "import resource, subprocess, sys; done = subprocess.run(sys.argv[1:], capture_output=True, text=True);"
+    code += "print(len(done.stdout.splitlines()), resource.getrusage(resource.RUSAGE_CHILDREN).ru_maxrss)"
+    done = subprocess.run([sys.executable, "-c", code, *program(), "status", maps], capture_output=True, text=True, check=True)
+    lines, size = map(int, done.stdout.split())
+    assert lines == count + 2, done.stdout
+    return size
+
+
+def main():
+    count = int(sys.argv[1]) if sys.argv[1:] else 100
+    with tempfile.TemporaryDirectory() as room:
+        come_home(room, count)
+        maps = live(room, 255)
+        size = taken(maps, 255)
+        print(f"{count} loans came home; a status of 256 live packages took {size / 1024:.0f} MB")
+        assert size <= MOST, size
+
+
+if __name__ == "__main__":
+    main()
