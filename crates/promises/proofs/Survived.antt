@@ -1,6 +1,6 @@
 -- A stop, the opening of what it left, and the list again from the stopped request on.
-use Rattle.std.specs.Prelude.{◌≡◌, ◌⊎◌, ℕ, true, false, Bool, List, ◌∷◌, refl, Ok, Err}
-use Rattle.std.proofs.Common.{inl, inr}
+use Rattle.std.specs.Prelude.{◌≡◌, ◌⊎◌, ℕ, true, false, Bool, List, [], ◌∷◌, refl, Some, Ok, Err, slice_get}
+use Rattle.std.proofs.Common.{subst, inl, inr}
 use Rattle.sqlite.specs.Held.{Held}
 use Rattle.sqlite.specs.Store.{Ghosts}
 use Rattle.sqlite.specs.Tree.{Trees}
@@ -57,3 +57,11 @@ module _ {S : Type 0} (g : Ghosts S) (archive : List ℕ) (frame : Frame) (befor
               ],
         );
   }
+
+module _ {S : Type 0} (g : Ghosts S) (archive : List ℕ) (frame : Frame) (before : List Request) (stores : List (Held S)) (stopped : Stopped S) (begun : Begun S) where
+  -- the list that is sent again begins with the request that was stopped
+  pub survives_from : (again : List Request) (q : Request) → Some q ≡ slice_get again 0 → HaveTypes before → HasTypes q.command → OpensAgain g stores again begun → StopsWhole g archive frame before q stopped → SurvivesStop g archive frame before again stores (record { stopped = stopped; begun = begun })
+  survives_from [] q is types_before types opens whole = tt
+  survives_from (first ∷ others) q is types_before types opens whole =
+      let same : q ≡ first = (let e = is in cc) in
+      survives g archive frame before first others stores begun types_before (subst (λ x. HasTypes x.command) same types) opens stopped (subst (λ x. StopsWhole g archive frame before x stopped) same whole)
