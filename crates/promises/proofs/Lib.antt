@@ -5,3 +5,4 @@ pub mod Twice
 pub mod Asked
 pub mod Stopped
 pub mod Opening
+pub mod Survived

@@ -5,4 +5,5 @@ pub mod reopening;
 pub mod repeating;
 pub mod running;
 pub mod stopping;
+pub mod surviving;
 pub mod typing;

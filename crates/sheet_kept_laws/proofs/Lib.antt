@@ -4,3 +4,4 @@ pub mod Kept
 pub mod Again
 pub mod Doubled
 pub mod Unasked
+pub mod Stopped

@@ -91,6 +91,25 @@ ActsOnce = (w mid : World) (before : List Request) (q : Request) (r : Receipt) (
     ComesTo w before mid → Step mid q (Ok r) given → Run given between replies last → Step last q again next →
     ((again ≡ Ok r) ⊎ IsFault again) × ComesTo w (before ++ q ∷ between) next
 
+-- ---- a request that is stopped, and comes again
+
+-- the first of these replies is this one, or want of memory or a fault of the store
+abbrev pub BeginsWith : Reply → List Reply → Type 0
+BeginsWith answer [] = ⊥
+BeginsWith answer (reply ∷ replies) = (reply ≡ answer) ⊎ IsFault reply
+
+-- what a stop leaves of a world: it is as before the request, or as after it
+abbrev pub IsBeforeOrAfter : World → Request → World → Type 0
+IsBeforeOrAfter w q left = (left ≡ w) ⊎ (left ≡ (outcome w q).1)
+
+-- A request that was stopped, and comes again with others behind it, gets the reply that it would have got, and acts once:
+-- the world is that of a list in which it stands once.
+abbrev pub StoppedActsOnce : Type 0
+StoppedActsOnce = (w mid : World) (before : List Request) (q : Request) (left : World) (others : List Request)
+    (replies : List Reply) (next : World) →
+    HaveTypes before → HasTypes q.command → IsRegister w → ComesTo w before mid → IsBeforeOrAfter mid q left →
+    Run left (q ∷ others) replies next → BeginsWith (outcome mid q).0 replies × ComesTo w (before ++ q ∷ others) next
+
 -- ---- requests that are refused
 
 -- the requests that got a receipt, and their replies

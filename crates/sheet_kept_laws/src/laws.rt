@@ -1,5 +1,5 @@
 //! Laws of the receipts that are kept, each the contract of a function that does nothing.
-ghost use Rattle.sheet_kept_laws.specs.Laws.{StepExtendsLedger, RunExtendsLedger, StepKeepsKept, RunKeepsKept, AcceptedIsKept, OnceForGood, AcceptedForGood, OtherLineIsRefused, ActsOnce, RefusedAsUnasked, DoubledLosesReceipt};
+ghost use Rattle.sheet_kept_laws.specs.Laws.{StepExtendsLedger, RunExtendsLedger, StepKeepsKept, RunKeepsKept, AcceptedIsKept, OnceForGood, AcceptedForGood, OtherLineIsRefused, ActsOnce, StoppedActsOnce, RefusedAsUnasked, DoubledLosesReceipt};
 
 /// A request adds at most its own receipt, behind all others.
 pub fn step_extends_ledger()
@@ -44,6 +44,11 @@ pub fn other_line_is_refused()
 /// A request that got a receipt, and comes again behind others, acted once.
 pub fn acts_once()
     ensures { ActsOnce }
+{}
+
+/// A request that was stopped, before it acted or after, and comes again, acts once.
+pub fn stopped_acts_once()
+    ensures { StoppedActsOnce }
 {}
 
 /// A list of requests comes to the same as those of it that got a receipt.
