@@ -1,4 +1,4 @@
-//! What a register keeps, as five closed statements, each the contract of a small function that a caller would write.
+//! What a register keeps, as closed statements, each the contract of a small function that a caller would write.
 #![tactic(auto)]
 
 pub mod reopening;
