@@ -1,4 +1,5 @@
 mod Beginnings
+mod CountWords
 mod Exported
 mod Gathered
 mod Printed
