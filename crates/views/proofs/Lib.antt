@@ -2,6 +2,7 @@ mod Beginnings
 mod CountWords
 mod Exported
 mod Gathered
+mod Named
 mod Printed
 mod Rows
 mod Systems

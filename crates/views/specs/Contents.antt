@@ -19,6 +19,11 @@ use Rattle.views.specs.Showing.{PrintsAll, stopped}
 use Rattle.views.specs.declared.endings.Ending.{Ending}
 use Rattle.views.specs.declared.endings.Ending.TheVariants.{Usual}
 
+-- what was found, as bytes
+abbrev pub named : {T : Type 0} → Result T NameFault → (T → List ℕ) → Result (List ℕ) NameFault
+named (Ok found) bytes = Ok (bytes found)
+named (Err fault) bytes = Err fault
+
 module _ {W : Type 0} (writer writer' : W) (before after : Option (List ℕ)) where
   -- The line by which a word names no item; or memory is wanting for it, and nothing is written.
   abbrev pub TellsUnfound : NameFault → Ending → Type 0
