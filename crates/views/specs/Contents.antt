@@ -1,8 +1,6 @@
 -- What is printed of the item that a word names, and how the program ends. Profile.
 use Rattle.std.specs.Prelude.{◌≡◌, ◌⊎◌, ℕ, List, Option, Result, Ok, Err, MatchResult}
-use Rattle.std.specs.Io.KnownBytes.{Appends}
 use Rattle.sqlite.specs.Store.{Ghosts}
-use Rattle.manifest_csv.specs.Sent.{WentOut}
 use Rattle.package_tables.specs.declared.fault.Fault.{Fault}
 use Rattle.world.specs.Worlds.{Seen, TellsOf}
 use Rattle.command_verbs.specs.Faults.{verb_line}

@@ -40,11 +40,7 @@ fn show_bytes<W: Write>(writer: &mut W, bytes: &[u8]) -> Ending
 }
 
 /// Writes what was found, or the line by which a word names no item.
-fn show_named<W: Write>(
-    alloc: Global,
-    found: Result<Vec<u8>, NameFault>,
-    writer: &mut W,
-) -> Ending
+fn show_named<W: Write>(alloc: Global, found: Result<Vec<u8>, NameFault>, writer: &mut W) -> Ending
     ensures { ShowsData writer.old writer.new (W.contents writer.old) (W.contents writer.new)
         (Ok (named found (λ bytes. bytes.items))) result }
 {
