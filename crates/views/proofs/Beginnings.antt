@@ -1,5 +1,5 @@
 -- What went out of a text of several pieces.
-use Rattle.std.proofs.Common.{◌≡◌, ◌<◌, ◌≤◌, ◌+◌, ◌++◌, ℕ, List, length, length-append, take_all, Option, Result, Ok, Err, OnErr, arith, refl, sym, subst}
+use Rattle.std.proofs.Common.{◌≡◌, ◌<◌, ◌≤◌, ◌++◌, ℕ, List, length, length-append, take_all, Option, Result, Ok, Err, OnErr, arith, refl, sym, subst}
 use Rattle.std.proofs.lemmas.List.{take-append-le}
 use Rattle.std.proofs.KnownBytes.{Appends-nil, Appends-trans}
 use Rattle.std.specs.Io.KnownBytes.{Appends}

@@ -1,6 +1,8 @@
 mod Beginnings
+mod CountWords
 mod Exported
 mod Gathered
+mod Named
 mod Printed
 mod Rows
 mod Systems

@@ -1,6 +1,6 @@
 -- What was found, as a text, is what was told.
 use Rattle.std.proofs.Common.{◌≡◌, ◌∙◌, ◌++◌, ℕ, List, Result, Ok, Err, ap}
-use Rattle.std.specs.Prelude.{IfOk, IsOkAnd, Option, Some, option_map}
+use Rattle.std.specs.Prelude.{IfOk, IsOkAnd, Option, option_map}
 use Rattle.sqlite.specs.Held.{Held}
 use Rattle.sqlite.specs.Store.{Ghosts}
 use Rattle.package_tables.specs.declared.fault.Fault.{Fault}

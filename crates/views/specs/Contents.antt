@@ -1,8 +1,6 @@
 -- What is printed of the item that a word names, and how the program ends. Profile.
 use Rattle.std.specs.Prelude.{◌≡◌, ◌⊎◌, ℕ, List, Option, Result, Ok, Err, MatchResult}
-use Rattle.std.specs.Io.KnownBytes.{Appends}
 use Rattle.sqlite.specs.Store.{Ghosts}
-use Rattle.manifest_csv.specs.Sent.{WentOut}
 use Rattle.package_tables.specs.declared.fault.Fault.{Fault}
 use Rattle.world.specs.Worlds.{Seen, TellsOf}
 use Rattle.command_verbs.specs.Faults.{verb_line}
@@ -18,6 +16,11 @@ use Rattle.command_folder.specs.declared.endings.Ending.TheVariants.{NoRequest}
 use Rattle.views.specs.Showing.{PrintsAll, stopped}
 use Rattle.views.specs.declared.endings.Ending.{Ending}
 use Rattle.views.specs.declared.endings.Ending.TheVariants.{Usual}
+
+-- what was found, as bytes
+abbrev pub named : {T : Type 0} → Result T NameFault → (T → List ℕ) → Result (List ℕ) NameFault
+named (Ok found) bytes = Ok (bytes found)
+named (Err fault) bytes = Err fault
 
 module _ {W : Type 0} (writer writer' : W) (before after : Option (List ℕ)) where
   -- The line by which a word names no item; or memory is wanting for it, and nothing is written.

@@ -1,5 +1,6 @@
 //! What stands in an item of a world.
-ghost use Rattle.views.specs.Contents.{Gets, TellsUnfound};
+ghost use Rattle.std.specs.Prelude.{Ok};
+ghost use Rattle.views.specs.Contents.{Gets, ShowsData, TellsUnfound, named};
 ghost use Rattle.views.specs.Showing.{PrintsAll};
 
 use crate::endings::Ending;
@@ -38,6 +39,17 @@ fn show_bytes<W: Write>(writer: &mut W, bytes: &[u8]) -> Ending
     }
 }
 
+/// Writes what was found, or the line by which a word names no item.
+fn show_named<W: Write>(alloc: Global, found: Result<Vec<u8>, NameFault>, writer: &mut W) -> Ending
+    ensures { ShowsData writer.old writer.new (W.contents writer.old) (W.contents writer.new)
+        (Ok (named found (λ bytes. bytes.items))) result }
+{
+    match found {
+        Ok(bytes) => show_bytes(writer, bytes.as_slice()),
+        Err(fault) => tell_unfound(alloc, fault, writer),
+    }
+}
+
 /// Writes what stands in the item that a word names: the bytes of a tile or a medium, the label of a mark.
 pub fn get_in<S: Alter + Drop, W: Write>(
     alloc: Global,
@@ -48,8 +60,7 @@ pub fn get_in<S: Alter + Drop, W: Write>(
     ensures { Gets S.Store word.now world.old world.new writer.old writer.new (W.contents writer.old) (W.contents writer.new) result }
 {
     match named_data(alloc, world, word) {
-        Ok(Ok(bytes)) => show_bytes(writer, bytes.as_slice()),
-        Ok(Err(fault)) => tell_unfound(alloc, fault, writer),
+        Ok(found) => show_named(alloc, found, writer),
         Err(fault) => stopped(fault),
     }
 }

@@ -106,34 +106,34 @@ pub fn look_in<S: Alter + Drop, W: Write>(
     alloc: Global,
     mut world: World<S>,
     strays: u64,
-    look: Look<'_>,
+    look: &Look<'_>,
     writer: &mut W,
 ) -> (Ending, Vec<Connection<S>>)
     ensures { Looked S.Store strays world result.1.items
-        writer.old writer.new (W.contents writer.old) (W.contents writer.new) look result.0 }
+        writer.old writer.new (W.contents writer.old) (W.contents writer.new) look.now result.0 }
 {
     match look {
         Look::Status => status_in(alloc, world, strays, writer),
-        Look::Log(excerpt) => log_in(alloc, world, &excerpt, writer),
+        Look::Log(excerpt) => log_in(alloc, world, excerpt, writer),
         Look::Get(identity) => {
-            let ending = get_in(alloc, &mut world, identity, writer);
+            let ending = get_in(alloc, &mut world, *identity, writer);
             (ending, world.into_stores())
         }
-        Look::Explain(identity) => explain_in(alloc, world, identity, writer),
+        Look::Explain(identity) => explain_in(alloc, world, *identity, writer),
         Look::Receipt(request) => {
-            let ending = receipt_in(alloc, &mut world, request, writer);
+            let ending = receipt_in(alloc, &mut world, *request, writer);
             (ending, world.into_stores())
         }
         Look::Manifest(package) => {
-            let told = manifest_in(alloc, &mut world, package, writer);
+            let told = manifest_in(alloc, &mut world, *package, writer);
             (Ending::Usual(told), world.into_stores())
         }
         Look::Export(package) => {
-            let told = export_in(alloc, &mut world, package, writer);
+            let told = export_in(alloc, &mut world, *package, writer);
             (Ending::Usual(told), world.into_stores())
         }
         Look::Map(zoom) => {
-            let ending = map_in(alloc, &mut world, zoom, writer);
+            let ending = map_in(alloc, &mut world, *zoom, writer);
             (ending, world.into_stores())
         }
         Look::Audit => {
@@ -144,8 +144,8 @@ pub fn look_in<S: Alter + Drop, W: Write>(
 }
 
 /// How a folder that is not opened ends the program: an audit tells its fault.
-fn unopened(look: Look<'_>, fault: OpenFault) -> Ending
-    ensures { result ≡ unopened look fault }
+fn unopened(look: &Look<'_>, fault: OpenFault) -> Ending
+    ensures { result ≡ unopened look.now fault }
 {
     match look {
         Look::Audit => Ending::Usual(CommandEnding::Faulted(fault)),
@@ -157,8 +157,8 @@ fn unopened(look: Look<'_>, fault: OpenFault) -> Ending
 ///
 /// The one place where a folder's stores are handed to a function over any store: the check pays
 /// for their type at each such call anew.
-fn look_at<W: Write>(rt: &HostRuntime, folder: &str, look: Look<'_>, writer: &mut W) -> Ending
-    ensures { OpensFor ⟦<FolderStore as Store>⟧ look
+fn look_at<W: Write>(rt: &HostRuntime, folder: &str, look: &Look<'_>, writer: &mut W) -> Ending
+    ensures { OpensFor ⟦<FolderStore as Store>⟧ look.now
         writer.old writer.new (W.contents writer.old) (W.contents writer.new) result }
 {
     match open_folder(rt, folder) {
@@ -189,7 +189,7 @@ pub fn look_for<W: Write>(
         writer.old writer.new (W.contents writer.old) (W.contents writer.new) result }
 {
     match read_asked(asked) {
-        Ok(look) => look_at(rt, folder, look, writer),
+        Ok(look) => look_at(rt, folder, &look, writer),
         Err(what) => Ending::Usual(CommandEnding::Usual(Outcome::Refused(what))),
     }
 }
