@@ -1,11 +1,10 @@
 -- Files that were taken out, one after the other.
-use Rattle.std.proofs.Common.{◌≡◌, ◌∙◌, ◌∷◌, [], ◌++◌, ℕ, List, Result, Ok, Err, IsErr, Option, Some, None, refl, sym, ap, subst, inl, inr, map}
+use Rattle.std.proofs.Common.{◌≡◌, ◌∙◌, ◌∷◌, [], ◌++◌, ℕ, List, Result, Ok, Err, IsErr, refl, sym, ap, subst, inl, inr, map}
 use Rattle.std.specs.Prelude.{OnErr, OnOk, String, string_bytes}
 use Rattle.std.proofs.lemmas.List.{map-append}
 use Rattle.opening_verdict.specs.declared.seen.StoreSeen.{StoreSeen}
-use Rattle.command_tidying.specs.Tidying.{IsTidied, MayGo, TakesOn, TakesOne, TakesOut, TakesSome, ended}
+use Rattle.command_tidying.specs.Tidying.{MayGo, TakesOn, TakesOne, TakesOut, TakesSome}
 use Rattle.command_tidying.specs.declared.register.Register.{Register}
-use Rattle.command_tidying.specs.declared.tidying.Tidied.{Tidied}
 
 module _ {Y : Type 0} (Listed : List ℕ → Type 0) (Shown : List ℕ → StoreSeen → Type 0)
     (Removes : List ℕ → Y → Y → Type 0) (register : Register) where

@@ -1,7 +1,7 @@
 -- First the files of packages, then what stood beside them.
 use Rattle.std.proofs.Common.{map}
 use Rattle.std.specs.Prelude.{string_bytes}
-use Rattle.command_tidying.proofs.Taking.{took_err, took_none, took_then}
+use Rattle.command_tidying.proofs.Taking.{took_err, took_then}
 use Rattle.command_tidying.proofs.tidying.take_all.Goals as goal
 
 pub returns-in_err-take_spent_each : goal.returns-in_err-take_spent_each

@@ -1,6 +1,6 @@
 -- A file that stands beside no package may go.
-use Rattle.std.proofs.Common.{inl, inr, subst, sym}
-use Rattle.command_tidying.specs.Tidying.{IsLeftoverFile, MayGo}
+use Rattle.std.proofs.Common.{inr, subst, sym}
+use Rattle.command_tidying.specs.Tidying.{IsLeftoverFile}
 use Rattle.command_tidying.proofs.Taking.{took}
 use Rattle.command_tidying.proofs.tidying.take_leftover.Goals as goal
 

@@ -1,5 +1,4 @@
 -- They stand beside no package, by the names that were listed.
-use Rattle.std.proofs.Common.{All}
 use Rattle.std.specs.Prelude.{string_bytes}
 use Rattle.std.proofs.lemmas.List.Elements.{All-same, All-weaker}
 use Rattle.store_folder.specs.Leftovers.{IsLeftoverIn}
