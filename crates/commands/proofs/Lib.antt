@@ -1,5 +1,5 @@
 mod Texts
 mod Bodies
 mod Makings
-pub mod Registers
+pub mod WhatIsTold
 mod Tidied

@@ -1,5 +1,5 @@
 use Rattle.std.proofs.Common.{◌∙◌, ap, map}
-use Rattle.commands.proofs.Registers.{uuids_seen}
+use Rattle.commands.proofs.WhatIsTold.{uuids_seen}
 use Rattle.commands.proofs.registers.live_of.Goals as goal
 
 pub returns : goal.returns

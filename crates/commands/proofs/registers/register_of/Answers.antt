@@ -5,7 +5,7 @@ use Rattle.world.specs.Worlds.{StandsFor, held}
 use Rattle.view_world.proofs.Answers.{kept_counted, if_ok_so}
 use Rattle.view_world.proofs.HeldStores.{looks_into}
 use Rattle.commands.specs.Registers.{IsRegisterOf}
-use Rattle.commands.proofs.Registers.{joined, long_live}
+use Rattle.commands.proofs.WhatIsTold.{joined, long_live}
 use Rattle.commands.proofs.registers.register_of.Goals as goal
 
 pub returns : goal.returns
