@@ -141,10 +141,11 @@ pub const SESSION_WORDS: &str = "Each line of the file is one of
   ./sheetdesk WORDS..          a command, its words between single spaces, without quotes
   ./sheetdesk WORDS.. < INPUT  the same, with this file on standard input
   mkdir FOLDER                 a folder is made
+  rm FILE                      a file is removed
   # ..                         a comment, which is printed, as an empty line is
 Each is printed behind `$ `, then what it prints itself, then its status, as `status 1`, unless that is 0.
-Whatever it was, the next line follows. A folder that cannot be made and an INPUT that cannot be read have
-status 1; a line that is none of these, and a session in a session, status 2.
+Whatever it was, the next line follows. A folder that cannot be made, a file that cannot be removed and an
+INPUT that cannot be read have status 1; a line that is none of these, and a session in a session, status 2.
 
 Example, where first.txt has these four lines:
   mkdir maps
