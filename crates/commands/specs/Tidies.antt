@@ -8,6 +8,7 @@ use Rattle.package_tables.specs.declared.fault.Fault.{Fault}
 use Rattle.opening_v1.specs.Either.{IsSeenAtEither}
 use Rattle.opening_verdict.specs.declared.seen.StoreSeen.{StoreSeen}
 use Rattle.store_folder.specs.declared.fault.FolderFault.{FolderFault}
+use Rattle.store_folder.specs.declared.fault.FolderFault.TheVariants as folder
 use Rattle.world.specs.Worlds.{Seen}
 use Rattle.command_words.specs.Failures.{of_fault}
 use Rattle.command_words.specs.declared.statuses.Outcome.TheVariants.{Stopped}
@@ -17,17 +18,18 @@ use Rattle.command_tidying.specs.declared.register.Register.{Register}
 use Rattle.command_tidying.specs.declared.tidying.Tidied.{Tidied}
 use Rattle.commands.specs.Registers.{IsRegisterOf}
 use Rattle.view_world.specs.Looks.{LooksInto}
-use Rattle.command_folder.specs.Endings.{done, no_memory}
+use Rattle.command_folder.specs.Endings.{done, failed, no_memory}
 use Rattle.command_folder.specs.Folders.{IsFolderWorld}
 use Rattle.command_folder.specs.Printing.{Prints}
 use Rattle.command_folder.specs.declared.endings.Ending.{Ending}
 use Rattle.command_folder.specs.declared.endings.Ending.TheVariants.{Unopened, Usual}
 use Rattle.command_folder.specs.declared.endings.OpenFault.{OpenFault}
-use Rattle.command_folder.specs.declared.endings.OpenFault.TheVariants.{Folder}
 
+-- after files were taken out, perhaps not all
 abbrev pub tidy_ending : Option FolderFault → Ending
 tidy_ending None = done
-tidy_ending (Some fault) = Unopened (Folder fault)
+tidy_ending (Some folder.OutOfMemory) = no_memory
+tidy_ending (Some fault) = failed
 
 -- A line for each file that was taken out went out; or there was no memory for them, and nothing was written.
 abbrev pub TellsTidied : {W : Type 0} → Tidied → W → W → Option (List ℕ) → Option (List ℕ) → Ending → Type 0

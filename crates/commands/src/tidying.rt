@@ -7,7 +7,7 @@ ghost use Rattle.store_sql.specs.Transactions.{Rests};
 ghost use Rattle.commands.specs.Tidies.{EndsTidy, IsLookedAt, TellsTidied, Tidies, TidiesFolder, TidiesWorld, tidy_ending};
 
 use crate::registers::register_of;
-use command_folder::endings::{DONE, Ending, FAILED, NO_MEMORY, OpenFault};
+use command_folder::endings::{DONE, Ending, FAILED, NO_MEMORY};
 use command_folder::folders::{OpenFolder, open_folder};
 use command_tidying::lines::removed_lines;
 use command_tidying::tidying::{Tidied, tidy_by};
@@ -100,8 +100,9 @@ fn ending_of(fault: Option<FolderFault>) -> Ending
     ensures { result ≡ tidy_ending fault }
 {
     match fault {
-        Some(fault) => Ending::Unopened(OpenFault::Folder(fault)),
         None => DONE,
+        Some(FolderFault::OutOfMemory) => NO_MEMORY,
+        Some(_) => FAILED,
     }
 }
 
