@@ -8,5 +8,5 @@ use Rattle.commands.specs.Tidies.{Tidies, TidiesFolder}
 pub of_folder : {S Y W : Type 0} (g : Ghosts S) (Listed : List ℕ → Type 0) (Shown : List ℕ → StoreSeen → Type 0) (Removes : List ℕ → Y → Y → Type 0)
     (old new : Y) (writer writer' : W) (before after : Option (List ℕ)) (ending : Ending)
     → Tidies g Listed Shown Removes old new writer writer' before after ending → TidiesFolder writer writer' before after ending
-of_folder g Listed Shown Removes old new writer writer' before after ending (inl no) = inl (no.0, no.1, no.2.0)
-of_folder g Listed Shown Removes old new writer writer' before after ending (inr it) = inr (it.2.2.made, it.2.2.told)
+of_folder g Listed Shown Removes old new writer writer' before after ending (inl (fault, ended, same, stays)) = inl (fault, ended, same)
+of_folder g Listed Shown Removes old new writer writer' before after ending (inr (seen, stores, world, it)) = inr (it.made, it.told)
