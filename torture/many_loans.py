@@ -1,10 +1,10 @@
 #!/usr/bin/env python3
-"""Loans that come home in numbers, and as many loans as may live.
+"""Loans that come home in numbers and are tidied away, and as many loans as may live.
 
 Usage: many_loans.py [LOANS]     over the proved program; SHEETDESK=PROGRAM takes another
 
-First so many loans (100) are lent, one after the other, and each comes home. Their files stay: `status` has to count them, and a blank file beside
-them, and the packages and the receipts have to be as before. Then 255 loans of one mark each live
+First so many loans (100) are lent, one after the other, and each comes home. Then `tidy` has to leave the archive, its log and the lock alone, whatever
+it found; the packages and the receipts have to be as before. Files that are not the register's have to stay. Last, 255 loans of one mark each live
 beside the archive, and `status` of them has to take at most 600 MB. Status 0 where all is so. What has to come is worked out here, by hand.
 """
 import os
@@ -66,12 +66,19 @@ def come_home(room, count):
     run("init", *MAKING, maps)
     report = run("import", maps, list_of(room, lent_and_home(count)))
     assert report.endswith(f",{2 * count + 1},0\n"), report[-200:]
-    others = {"notes.txt": b"", uuid("d", 1) + ".gpkg": b""}
+    others = {"notes.txt": b"", uuid("d", 1) + ".gpkg": b"", uuid("b", 0)[:-1] + ".gpkg-wal": b""}
     for name, content in others.items():
         with open(os.path.join(maps, name), "wb") as out:
             out.write(content)
     before = run("manifest", maps, ARCHIVE)
-    assert run("status", maps).splitlines()[2:] == [f"strays {count + 1}"]
+    removed = run("tidy", maps).splitlines()
+    assert all(line.startswith("removed b0000000-") for line in removed), removed
+    left = sorted(os.listdir(maps))
+    # the blank store has a log since it was opened
+    wanted = [f"{ARCHIVE}.gpkg", f"{ARCHIVE}.gpkg-wal", uuid("d", 1) + ".gpkg", uuid("d", 1) + ".gpkg-wal"]
+    assert left == sorted([*wanted, "notes.txt", "sheetdesk.lock", uuid("b", 0)[:-1] + ".gpkg-wal"]), left
+    assert run("status", maps).splitlines()[2:] == ["strays 1"]
+    assert run("tidy", maps) == ""
     assert run("audit", maps) == f"good {2 * count + 1}\n"
     assert run("manifest", maps, ARCHIVE) == before
 
@@ -101,7 +108,7 @@ def main():
         come_home(room, count)
         maps = live(room, 255)
         size = taken(maps, 255)
-        print(f"{count} loans came home; a status of 256 live packages took {size / 1024:.0f} MB")
+        print(f"{count} loans came home and were tidied away; a status of 256 live packages took {size / 1024:.0f} MB")
         assert size <= MOST, size
 
 

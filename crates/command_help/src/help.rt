@@ -129,6 +129,9 @@ pub const EXPORT_ABOUT: &str = "Prints a package as SQL that makes a GeoPackage 
 /// What `map` is for.
 pub const MAP_ABOUT: &str = "Prints a drawing of who holds which sheets, as SVG";
 
+/// What `tidy` is for.
+pub const TIDY_ABOUT: &str = "Removes files that the register can do without";
+
 /// What `session` is for.
 pub const SESSION_ABOUT: &str =
     "Carries out the commands of a file, and prints each with its answer";
@@ -179,6 +182,7 @@ A first session, from the archive on:
   sheetdesk map maps > maps.svg
   sheetdesk audit maps
   sheetdesk serve maps 8080
+  sheetdesk tidy maps
 The form of list.csv is told by `sheetdesk rehearse --help`; request.json is an object with the same
 fields, of which its command uses.
 
@@ -196,6 +200,8 @@ Standard output:
   map       SVG; who holds which sheets of one zoom, each package in its colour
   audit     good and the number of receipts; or the name of what is wrong, as OutOfAccount
   serve     nothing
+  tidy      removed and the name, a line for each file: of loans that came home, of splits that were
+            stopped, and what stands beside no package
 
 A desk says `listening on 127.0.0.1:PORT` on standard error once its port is taken. With --log it tells there
 of each request: the moment, the request line and the status. It ends after COUNT connections, or with

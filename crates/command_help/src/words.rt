@@ -2,7 +2,7 @@
 use crate::help::{
     ABOUT, APPLY_ABOUT, AUDIT_ABOUT, EXPLAIN_ABOUT, EXPORT_ABOUT, FOLDER_WORDS, GET_ABOUT,
     IMPORT_ABOUT, INIT_ABOUT, LOG_ABOUT, MANIFEST_ABOUT, MAP_ABOUT, RECEIPT_ABOUT, REHEARSE_ABOUT,
-    REHEARSE_WORDS, SERVE_ABOUT, SESSION_ABOUT, SESSION_WORDS, STATUS_ABOUT, WORDS,
+    REHEARSE_WORDS, SERVE_ABOUT, SESSION_ABOUT, SESSION_WORDS, STATUS_ABOUT, TIDY_ABOUT, WORDS,
 };
 use crate::verbs::{join_command, lend_command, part_command, put_command, return_command};
 use clap::{Arg, ArgAction, Command};
@@ -238,6 +238,11 @@ fn serve_command<'a>(alloc: Global) -> Result<Command<'a>, AllocError> {
         .arg(log(alloc))
 }
 
+/// Makes a folder tidy.
+fn tidy_command<'a>(alloc: Global) -> Result<Command<'a>, AllocError> {
+    over_folder(alloc, Command::new(alloc, "tidy"), TIDY_ABOUT)
+}
+
 /// The command that shows what a list would come to.
 fn rehearse_command<'a>(alloc: Global) -> Result<Command<'a>, AllocError> {
     let rehearse = serving(alloc, making(alloc, "rehearse")?)?;
@@ -281,6 +286,7 @@ pub fn sheetdesk<'a>(alloc: Global) -> Result<Command<'a>, AllocError> {
         .subcommand(map_command(alloc)?)?
         .subcommand(audit_command(alloc)?)?
         .subcommand(serve_command(alloc)?)?
+        .subcommand(tidy_command(alloc)?)?
         .subcommand(rehearse_command(alloc)?)?
         .subcommand(session_command(alloc)?)
 }

@@ -1,3 +1,5 @@
 mod Texts
 mod Bodies
 mod Makings
+pub mod WhatIsTold
+mod Tidied

@@ -1,4 +1,6 @@
 pub mod Orders
 pub mod Printing
+pub mod Registers
 pub mod Subcommands
+pub mod Tidies
 pub mod Works

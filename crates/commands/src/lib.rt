@@ -5,5 +5,7 @@ pub mod applying;
 pub mod importing;
 pub mod init;
 pub mod ordering;
+pub mod registers;
 mod serving;
+pub mod tidying;
 pub mod working;

@@ -11,6 +11,7 @@ use command_folder::endings::{Ending, FAILED, NO_MEMORY, error_of, note_of, outp
 use command_help::words::sheetdesk;
 use command_words::arguments::{DeskWords, Words};
 use command_words::statuses::Outcome;
+use commands::tidying::tidy;
 use commands::working::{Asked, work_for};
 use std::alloc::AllocError;
 use std::convert::AsStr;
@@ -193,6 +194,7 @@ pub(crate) fn carried_out(
     }
     let ending = match name {
         "init" => founded(rt, given),
+        "tidy" => tidy(rt, text_of(given, "folder"), &mut io::writer(rt)),
         _ if is_verb(name) => ordered(rt, name, given, reader),
         _ => changed(rt, name, given, reader),
     };
