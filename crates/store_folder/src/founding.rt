@@ -67,7 +67,7 @@ fn sync_names(rt: &HostRuntime, folder: &str) -> Result<(), FolderFault> {
 }
 
 /// Whether a name of a folder is no file's.
-fn is_free(rt: &HostRuntime, path: &str) -> bool {
+pub(crate) fn is_free(rt: &HostRuntime, path: &str) -> bool {
     match fs::symlink_metadata(rt, path) {
         Ok(_) => false,
         Err(error) => error.kind() == io::ErrorKind::NotFound,

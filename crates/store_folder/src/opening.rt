@@ -74,7 +74,7 @@ pub fn cache_pages(stores: usize) -> usize
 }
 
 /// The database at a path and its log, opened as files.
-fn files_at(rt: &HostRuntime, path: &str) -> Result<Files<FileFrom<Empty>>, Error>
+pub(crate) fn files_at(rt: &HostRuntime, path: &str) -> Result<Files<FileFrom<Empty>>, Error>
     ensures { IfOk result (λ files. IsTrue (file_is_usable ⟦<Empty as Start>⟧ files.log) × IsTrue (file_is_usable ⟦<Empty as Start>⟧ files.db)) }
 {
     match open_pair(rt, path, Empty) {

@@ -6,10 +6,12 @@ ghost use Rattle.sqlite.specs.State.{HasCleanDisk};
 ghost use Rattle.store_sql.specs.Blank.{IsBlank, no_schema};
 
 use crate::fault::{FolderFault, fault_of};
+use crate::founding::is_free;
 use crate::names::{file_name, path_of};
+use crate::opening::files_at;
 use crate::removing::remove_store;
 use crate::start::{Empty, FolderStore};
-use sqlite::Connection;
+use sqlite::{Connection, Error, ErrorCode};
 use store_shelf::shelf::{Shelf, ShelfFault};
 use uuid::Uuid;
 
@@ -64,11 +66,25 @@ fn counted(fault: ShelfFault, failures: &mut u64) -> ShelfFault
     fault
 }
 
+/// Sees that no store has the file of a package open. Whoever renames files may have a live package in it, which must not go.
+fn see_unheld(rt: &HostRuntime, folder: &str, package: Uuid) -> Result<(), FolderFault> {
+    let name = file_name(rt.alloc(), package)?;
+    let path = path_of(rt.alloc(), folder, name.as_str())?;
+    if is_free(rt, path.as_str()) {
+        return Ok(());
+    }
+    match files_at(rt, path.as_str()) {
+        Err(Error::SqliteFailure(ErrorCode::DatabaseBusy)) => Err(FolderFault::PackageHeld(package)),
+        Err(Error::SqliteFailure(ErrorCode::OutOfMemory)) => Err(FolderFault::OutOfMemory),
+        _ => Ok(()),
+    }
+}
+
 /// An empty store in the file of a package, in place of whatever stood there. That it is empty is known under the premise of `Empty`, since its files were removed before.
 ///
 /// # Errors
 ///
-/// What `remove_store` and the opening of a new file answer.
+/// `PackageHeld`, where a store has that file open; else what `remove_store` and the opening of a new file answer.
 pub fn blank_in_folder(
     rt: &HostRuntime,
     folder: &str,
@@ -76,6 +92,7 @@ pub fn blank_in_folder(
 ) -> Result<Connection<FolderStore>, FolderFault>
     ensures { IfOk result (λ conn. HasCleanDisk (file_state conn) → IsBlank no_schema (file_state conn).now) }
 {
+    see_unheld(rt, folder, package)?;
     remove_store(rt, folder, package)?;
     let name = file_name(rt.alloc(), package)?;
     blank_named(rt, folder, package, name.as_str())
