@@ -2,4 +2,3 @@ mod Texts
 mod Bodies
 mod Makings
 pub mod WhatIsTold
-mod Tidied

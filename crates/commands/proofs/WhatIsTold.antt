@@ -5,14 +5,11 @@ use Rattle.sqlite.specs.Held.{Held}
 use Rattle.sqlite.specs.Store.{Ghosts}
 use Rattle.package_tables.specs.declared.fault.Fault.{Fault}
 use Rattle.sheet_types.specs.Answers.{package_sights}
-use Rattle.sheet_types.specs.World.{World, receipts_of}
-use Rattle.sheet_types.specs.declared.receipt.Receipt.{Receipt}
+use Rattle.sheet_types.specs.World.{World}
 use Rattle.view_world.specs.Looks.{LooksInto}
 use Rattle.world.specs.Reading.{sight_of}
 use Rattle.world.specs.Worlds.{Seen, StandsFor}
 use Rattle.world.specs.declared.reading.PackageSight.{PackageSight}
-use Rattle.commands.specs.Registers.{IsRegisterOf}
-use Rattle.command_tidying.specs.declared.register.Register.{Register}
 
 map_map : {X Y Z : Type 0} (f : X → Y) (h : Y → Z) (xs : List X) → map h (map f xs) ≡ map (λ x. h (f x)) xs
 map_map f h [] = refl

@@ -1,5 +1,5 @@
 -- What a world tells of itself. Profile.
-use Rattle.std.specs.Prelude.{◌≡◌, List, map}
+use Rattle.std.specs.Prelude.{◌≡◌, map}
 use Rattle.sheet_types.specs.World.{World, receipts_of}
 use Rattle.command_tidying.specs.declared.register.Register.{Register}
 

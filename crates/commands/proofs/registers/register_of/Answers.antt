@@ -1,5 +1,5 @@
 -- There are as many stores as packages, so each is that of its package.
-use Rattle.std.proofs.Common.{◌≡◌, ℕ, length, map, ap, ◌∙◌}
+use Rattle.std.proofs.Common.{◌≡◌, length, map}
 use Rattle.sheet_types.specs.World.{World, receipts_of}
 use Rattle.world.specs.Worlds.{StandsFor, held}
 use Rattle.view_world.proofs.Answers.{kept_counted, if_ok_so}
