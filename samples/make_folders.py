@@ -177,6 +177,8 @@ CASES = {
     "deep": (None, deep("abcde")),
     "lost_below": ("MissingPackage", deep("abde")),
     "same_keys": (None, {ARCHIVE: lent(*SAME_KEYS), LOAN: loan(*SAME_KEYS)}),
+    # Somebody renamed the file of the loan.
+    "misnamed": (None, {ARCHIVE: lent(), FOURTH: loan()}),
     "no_database": ("StoreFault", {ARCHIVE: lent(), LOAN: NO_DATABASE}),
     # Of what lies beside the archive only the loan that came home, the one that was never lent, and what is left of other packages may go.
     "untidy": (
