@@ -74,7 +74,9 @@ fn see_unheld(rt: &HostRuntime, folder: &str, package: Uuid) -> Result<(), Folde
         return Ok(());
     }
     match files_at(rt, path.as_str()) {
-        Err(Error::SqliteFailure(ErrorCode::DatabaseBusy)) => Err(FolderFault::PackageHeld(package)),
+        Err(Error::SqliteFailure(ErrorCode::DatabaseBusy)) => Err(FolderFault::PackageHeld(
+            package,
+        )),
         Err(Error::SqliteFailure(ErrorCode::OutOfMemory)) => Err(FolderFault::OutOfMemory),
         _ => Ok(()),
     }
