@@ -187,17 +187,14 @@ fn done_over(
     }
 }
 
-/// Carries out the verb of a command.
-pub(crate) fn ordered(
+/// Carries out the verb of a command, whose options stand among these words.
+fn ordered_by(
     rt: &HostRuntime,
     name: &str,
     given: &ArgMatches<'_>,
+    options: &ArgMatches<'_>,
     reader: &mut Input<'_>,
 ) -> Ending {
-    let options = match given.subcommand() {
-        Some((_, words)) => words,
-        None => given,
-    };
     let id = match uuid_given(rt, options, "request") {
         Ok(id) => id,
         Err(ending) => return ending,
@@ -221,4 +218,17 @@ pub(crate) fn ordered(
     let folder = text_of(given, "folder");
     let purpose = purpose_of(options);
     done_over(rt, folder, &order, purpose, options.get_str("file"), reader)
+}
+
+/// Carries out the verb of a command. Its options stand behind the kind of what is put, where there is one.
+pub(crate) fn ordered(
+    rt: &HostRuntime,
+    name: &str,
+    given: &ArgMatches<'_>,
+    reader: &mut Input<'_>,
+) -> Ending {
+    match given.subcommand() {
+        Some((_, words)) => ordered_by(rt, name, given, words, reader),
+        None => ordered_by(rt, name, given, given, reader),
+    }
 }
