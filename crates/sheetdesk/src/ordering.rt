@@ -188,11 +188,11 @@ fn done_over(
 }
 
 /// Carries out the verb of a command, whose options stand among these words.
-fn ordered_by(
+fn ordered_by<'m>(
     rt: &HostRuntime,
     name: &str,
-    given: &ArgMatches<'_>,
-    options: &ArgMatches<'_>,
+    given: &ArgMatches<'m>,
+    options: &ArgMatches<'m>,
     reader: &mut Input<'_>,
 ) -> Ending {
     let id = match uuid_given(rt, options, "request") {
