@@ -37,7 +37,7 @@ differs() {
 }
 steps=0
 # expect STATUS OUTPUT ERRORS WORDS..: of the program with these words, over what stands on standard input. OUTPUT and ERRORS are texts, each
-# with its last LF, or the files `@NAME`.
+# with its last LF, or the files `@NAME`. Of a status that is not 0, ERRORS is how standard error begins.
 expect() {
   local wanted=$1 output=$2 errors=$3 status=0
   shift 3
@@ -47,6 +47,10 @@ expect() {
   "${program[@]}" "$@" >"$work/out" 2>"$work/err" || status=$?
   # What ./sheetdesk itself says of a run without a proof.
   sed -i '/^sheetdesk: nothing is proved of this run/d' "$work/err"
+  # Where something is told, lines in plain words may follow it.
+  if [ "$wanted" != 0 ]; then
+    head -n "$(grep -c '' "$work/err.wanted")" "$work/err" >"$work/err.first" && mv "$work/err.first" "$work/err"
+  fi
   cmp -s "$work/out.wanted" "$work/out" || differs "$* (standard output)" "$work/out.wanted" "$work/out"
   cmp -s "$work/err.wanted" "$work/err" || differs "$* (standard error)" "$work/err.wanted" "$work/err"
   if [ "$status" != "$wanted" ]; then
