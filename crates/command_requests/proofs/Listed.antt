@@ -2,7 +2,8 @@
 use Rattle.std.proofs.Common.{◌≡◌, ◌∙◌, ◌<◌, ◌+◌, ◌++◌, ◌∷◌, [], ℕ, List, Some, unwrap_or, Bool, true, false, refl, ap, sym, length, take, get_or, map}
 use Rattle.std.specs.Bool.{then_some}
 use Rattle.std.specs.Prelude.{flat_map}
-use Rattle.std.proofs.lemmas.List.{take_more}
+use Rattle.std.proofs.lemmas.List.{append-nil, map-append, take_more}
+use Rattle.std.proofs.lemmas.Grind.{flat_map-append}
 use Rattle.sheet_types.specs.Answers.{PackageSight as ModelSight, holdings_answer, package_sights}
 use Rattle.sheet_types.specs.World.{World, holdings, is_live}
 use Rattle.sheet_types.specs.declared.command.Item.{Item}
@@ -33,29 +34,15 @@ pub items_found : (w : World) (p : List ℕ) (items : List Item) (links : List R
 items_found w p items links entries found is =
     is ∙ ap (map (item_entry p)) (held_items w p items links found)
 
--- one more element is mapped
-pub map_behind : {X Y : Type 0} (f : X → Y) (xs : List X) (x : X) → map f (xs ++ x ∷ []) ≡ map f xs ++ f x ∷ []
-map_behind f [] x = refl
-map_behind f (y ∷ xs) x = ap (λ l. f y ∷ l) (map_behind f xs x)
-
-append_none : {X : Type 0} (xs : List X) → xs ++ [] ≡ xs
-append_none [] = refl
-append_none (x ∷ xs) = ap (λ l. x ∷ l) (append_none xs)
-
-append_all : {X : Type 0} (xs ys zs : List X) → xs ++ (ys ++ zs) ≡ (xs ++ ys) ++ zs
-append_all [] ys zs = refl
-append_all (x ∷ xs) ys zs = ap (λ l. x ∷ l) (append_all xs ys zs)
-
-pub flat_behind : {X Y : Type 0} (f : X → List Y) (xs : List X) (x : X) → flat_map f (xs ++ x ∷ []) ≡ flat_map f xs ++ f x
-flat_behind f [] x = append_none (f x)
-flat_behind f (y ∷ xs) x = ap (λ l. f y ++ l) (flat_behind f xs x) ∙ append_all (f y) (flat_map f xs) (f x)
+flat_behind : {X Y : Type 0} (f : X → List Y) (xs : List X) (x : X) → flat_map f (xs ++ x ∷ []) ≡ flat_map f xs ++ f x
+flat_behind f xs x = flat_map-append f xs (x ∷ []) ∙ ap (λ l. flat_map f xs ++ l) (append-nil (f x))
 
 -- ---- up to a place of a list
 
 pub map_more : {X Y : Type 0} (f : X → Y) (xs : List X) (i : ℕ) (x : X) (so_far : List Y) → i < length xs → x ≡ get_or xs i x
     → so_far ≡ map f (take i xs) → so_far ++ f x ∷ [] ≡ map f (take (i + 1) xs)
 map_more f xs i x so_far within is e =
-    ap (λ l. l ++ f x ∷ []) e ∙ sym (map_behind f (take i xs) x)
+    ap (λ l. l ++ f x ∷ []) e ∙ sym (map-append f (take i xs) (x ∷ []))
     ∙ ap (map f) (ap (λ z. take i xs ++ z ∷ []) is ∙ sym (take_more xs i x within))
 
 pub flat_more : {X Y : Type 0} (f : X → List Y) (xs : List X) (i : ℕ) (x : X) (so_far more : List Y) → i < length xs → x ≡ get_or xs i x

@@ -2,6 +2,7 @@
 use Rattle.std.specs.Prelude.{◌≡◌, ℕ, ◌+◌, ◌<◌, Bool, true, false, cond, ◌||◌, List, [], ◌∷◌, ◌++◌, find, take, length, refl, Option, None, Some, bytes_eq}
 use Rattle.std.proofs.Common.{sym, ap, subst, ◌∙◌, get_or}
 use Rattle.std.proofs.lemmas.Bool.{true≢false}
+use Rattle.std.proofs.lemmas.List.{append-nil}
 use Rattle.std.proofs.lemmas.Slice.Eq.{bytes_eq-Decides}
 use Rattle.std.specs.List.{AllByRecursion}
 use Rattle.std.specs.Option.{option_to_list}
@@ -12,7 +13,7 @@ use Rattle.sheet_types.proofs.Basics.{bytes_eq_itself, before-differs, before_no
 use Rattle.sheet_types.proofs.Every.{All-weaker, All-append}
 use Rattle.sheet_types.proofs.Same.{In, any_at, All-In}
 use Rattle.cut.specs.Gathering.{IsLeast, lesser, torn_end, torn_ends, AreSame}
-use Rattle.cut.proofs.Lists.{flat_more, append_none}
+use Rattle.cut.proofs.Lists.{flat_more}
 use Rattle.cut.proofs.Members.{among-append}
 
 not_before_itself : (k : List ℕ) → is_before k k ≡ false
@@ -32,7 +33,7 @@ last_among ids id = among-append ids (id ∷ []) id ∙ or_right (is_among ids i
 
 -- one more, or none
 pub least_more : (ids : List (List ℕ)) (so_far end : Option (List ℕ)) → IsLeast ids so_far → IsLeast (ids ++ option_to_list end) (lesser so_far end)
-least_more ids so_far None h = subst (λ l. IsLeast l (lesser so_far None)) (sym (append_none ids)) (same so_far h)
+least_more ids so_far None h = subst (λ l. IsLeast l (lesser so_far None)) (sym (append-nil ids)) (same so_far h)
   where
     same : (o : Option (List ℕ)) → IsLeast ids o → IsLeast ids (lesser o None)
     same None g = g

@@ -1,6 +1,7 @@
 -- Identities that came in one after the other, and the sorted ones beside them.
 use Rattle.std.specs.Prelude.{◌≡◌, ℕ, Bool, true, false, cond, ◌||◌, List, [], ◌∷◌, ◌++◌, refl, bytes_eq}
 use Rattle.std.proofs.Common.{sym, ap, ◌∙◌, append_assoc}
+use Rattle.std.proofs.lemmas.List.{append-nil}
 use Rattle.std.proofs.lemmas.List.Folds.{list_any-append}
 use Rattle.std.proofs.lemmas.Map.Text.{is_eq-slice_cmp}
 use Rattle.std.proofs.lemmas.Slice.Eq.{bytes_eq-Decides}
@@ -67,14 +68,10 @@ pub enters_none : (id : List ℕ) (old new : Group) → IsGroup old → new.orde
 enters_none id old new same is keys there = record {
   same = λ q. ap (λ l. is_among l q) keys ∙ same q ∙ ap (λ l. is_among l q) (sym is);
   more = [];
-  behind = is ∙ sym (nothing old.order.items);
+  behind = is ∙ sym (append-nil old.order.items);
   members = λ q. ap (λ l. is_among l q) is ∙ absorbs (is_among old.order.items q) (is_among (id ∷ []) q) (λ h.
       ap (is_among old.order.items) (sym ((bytes_eq-Decides id q).0 (sym (or-false (bytes_eq id q)) ∙ h))) ∙ sym (same id) ∙ sym (contains_among id old.known.keys) ∙ there);
 }
-  where
-    nothing : (xs : List (List ℕ)) → xs ++ [] ≡ xs
-    nothing [] = refl
-    nothing (x ∷ xs) = ap (λ l. x ∷ l) (nothing xs)
 
 or_assoc : (a b c : Bool) → ((a || b) || c) ≡ (a || (b || c))
 or_assoc true b c = refl
@@ -91,8 +88,4 @@ enters_then xs ys a b c first second = record {
 
 -- none
 pub enters_nobody : (a : Group) → IsGroup a → Enters [] a a
-enters_nobody a same = record { same = same; more = []; behind = sym (nothing a.order.items); members = λ q. sym (or-false (is_among a.order.items q)) }
-  where
-    nothing : (xs : List (List ℕ)) → xs ++ [] ≡ xs
-    nothing [] = refl
-    nothing (x ∷ xs) = ap (λ l. x ∷ l) (nothing xs)
+enters_nobody a same = record { same = same; more = []; behind = sym (append-nil a.order.items); members = λ q. sym (or-false (is_among a.order.items q)) }

@@ -2,7 +2,7 @@
 use Rattle.std.specs.Prelude.{◌≡◌, ℕ, zero, suc, ◌<◌, Bool, true, false, cond, ◌&&◌, ◌||◌, List, [], ◌∷◌, ◌++◌, map, filter, flat_map, length, refl, unwrap_or, slice_get}
 use Rattle.std.proofs.Common.{sym, ap, ◌∙◌, arith, append_assoc, get_or}
 use Rattle.std.proofs.lemmas.List.Folds.{list_any-append}
-use Rattle.std.proofs.lemmas.List.{map-append}
+use Rattle.std.proofs.lemmas.List.{append-nil, map-append}
 use Rattle.std.proofs.lemmas.List.Elements.{filter-append}
 use Rattle.std.proofs.lemmas.Grind.{flat_map-append}
 use Rattle.std.specs.List.{list_any}
@@ -37,10 +37,6 @@ any_taken_more f t p old mid new xs more x is was step =
     last true = list_any-append p (f x) [] ∙ or-false (list_any p (f x))
     last false = refl
 
-nothing_behind : {X : Type 0} (ys : List X) → ys ++ [] ≡ ys
-nothing_behind [] = refl
-nothing_behind (y ∷ ys) = ap (λ zs. y ∷ zs) (nothing_behind ys)
-
 -- what those that pass list, with one more
 pub taken_more : {X Y : Type 0} (f : X → List Y) (t : X → Bool) (mid new : List Y) (xs more : List X) (x : X) → more ≡ xs ++ x ∷ [] → mid ≡ flat_map f (filter t xs) → new ≡ mid ++ cond (t x) (f x) [] → new ≡ flat_map f (filter t more)
 taken_more f t mid new xs more x is was step =
@@ -48,7 +44,7 @@ taken_more f t mid new xs more x is was step =
     ∙ sym (ap (flat_map f) (filter_more t xs more x is) ∙ flat_map-append f (filter t xs) (cond (t x) (x ∷ []) []) ∙ ap (λ ys. flat_map f (filter t xs) ++ ys) (last (t x)))
   where
     last : (v : Bool) → flat_map f (cond v (x ∷ []) []) ≡ cond v (f x) []
-    last true = nothing_behind (f x)
+    last true = append-nil (f x)
     last false = refl
 
 mapped_at : {X Y : Type 0} (f : X → Y) (x : X) (y : Y) (zs : List X) (j : ℕ) → j < length zs → unwrap_or (slice_get (map f zs) j) y ≡ f (get_or zs j x)

@@ -1,6 +1,7 @@
 -- What a crash leaves of a world at rest is opened as its stores.
-use Rattle.std.specs.Prelude.{◌≡◌, List, [], ◌∷◌, ◌++◌, map, refl, IsTrue}
+use Rattle.std.specs.Prelude.{◌≡◌, List, [], ◌∷◌, ◌++◌, map, IsTrue}
 use Rattle.std.proofs.Common.{sym, ap, subst, ◌∙◌}
+use Rattle.std.proofs.lemmas.List.{append-nil}
 use Rattle.std.proofs.lemmas.List.Elements.{recursion_from_All}
 use Rattle.std.specs.List.{AllByRecursion, AllZip}
 use Rattle.sqlite.specs.Effect.{Database}
@@ -19,10 +20,6 @@ use Rattle.world_members.specs.Members.{IsMember}
 use Rattle.world_members.specs.declared.members.Member.{Member}
 use Rattle.opening_laws.specs.Laws.{RestSurvives}
 use Rattle.opening_laws.specs.Stores.{IsStoreOf}
-
-and_nothing : {X : Type 0} (xs : List X) → xs ≡ xs ++ []
-and_nothing [] = refl
-and_nothing (x ∷ xs) = ap (λ l. x ∷ l) (and_nothing xs)
 
 module _ {S : Type 0} (g : Ghosts S) (settles : Settles g) where
   -- a store that is opened from what a crash left of one at rest shows the same
@@ -57,7 +54,7 @@ module _ {S : Type 0} (g : Ghosts S) (settles : Settles g) where
         record {
           members = stores;
           others = [];
-          all = IsPermutation-same stores (stores ++ []) (and_nothing stores);
+          all = IsPermutation-same stores (stores ++ []) (sym (append-nil stores));
           each = again w seen.members w.packages contents stores (recursion_from_All (λ m. Rests (state g m.conn)) seen.members is_held.rests) (recursion_from_All (λ m. IsTrue (state g m.conn).is_open) seen.members opens) lives
               stands.members.each may adopted;
           beside = tt;

@@ -1,6 +1,7 @@
 -- The parts of stores, one store after the other.
 use Rattle.std.specs.Prelude.{◌≡◌, ℕ, List, [], ◌∷◌, ◌++◌, length, map, refl}
 use Rattle.std.proofs.Common.{sym, ap, ◌∙◌, arith}
+use Rattle.std.proofs.lemmas.List.{append-nil}
 use Rattle.opening_verdict.specs.Parts.{IsEmpty, IsPushed, ArePartsOf}
 use Rattle.opening_verdict.specs.declared.seen.StoreSeen.{StoreSeen}
 use Rattle.opening_verdict.specs.declared.seen.Parts.{Parts}
@@ -20,11 +21,7 @@ one_on {Y = Y} f all old new x rest h push = h ∙ moved old ∙ ap (λ l. l ++ 
     moved (y ∷ ys) = ap (λ zs. y ∷ zs) (moved ys)
 
 nothing_more : {X : Type 0} (all xs rest : List X) → all ≡ xs ++ rest → rest ≡ [] → xs ≡ all
-nothing_more {X} all xs rest h none = sym (append_none xs) ∙ ap (λ l. xs ++ l) (sym none) ∙ sym h
-  where
-    append_none : (ys : List X) → ys ++ [] ≡ ys
-    append_none [] = refl
-    append_none (y ∷ ys) = ap (λ zs. y ∷ zs) (append_none ys)
+nothing_more all xs rest h none = sym (append-nil xs) ∙ ap (λ l. xs ++ l) (sym none) ∙ sym h
 
 pub begun : (seen : List StoreSeen) (parts : Parts) → IsEmpty parts → IsParting seen parts seen
 begun seen parts none = record {

@@ -1,10 +1,11 @@
 -- Rows that are in range, tied and unique are those of the items and links of a package.
-use Rattle.std.proofs.Common.{◌≡◌, ℤ, pos, List, [], ◌∷◌, ◌++◌, map, true, false, cond, refl, sym, ap, ◌∙◌, arith}
+use Rattle.std.proofs.Common.{◌≡◌, ℤ, pos, List, [], ◌++◌, map, true, false, cond, refl, sym, ap, ◌∙◌, arith}
 use Rattle.std.specs.Prelude.{bytes_eq, unsigned_abs, flat_map, ◌==◌, not, int_le}
 use Rattle.std.specs.List.{AllByRecursion, IsDistinct, list_any, list_all}
 use Rattle.std.specs.Ordering.{int_eq}
 use Rattle.std.proofs.lemmas.Int.{ints}
 use Rattle.std.proofs.lemmas.Bool.{true≢false, false_from_ne_true, and_parts, and_from}
+use Rattle.std.proofs.lemmas.List.{append-nil}
 use Rattle.std.proofs.lemmas.Grind.{flat_map-append}
 use Rattle.std.proofs.lemmas.Slice.Eq.{bytes_eq-Decides}
 use borrow.Author.Tests.{eq-eqb}
@@ -77,10 +78,6 @@ ids_set {R} id table order range apart = set_in_order (λ x. number_key (id x)) 
         let same = (bytes_eq-Decides (number_key (id x)) (number_key (id y))).0 e in
         let number : unsigned_abs (id x) ≡ unsigned_abs (id y) = cc in
         true≢false (sym (same_number (id x) (id y) hx hy ∙ eq-eqb _ _ number) ∙ d))
-
-and_nothing : {X : Type 0} (xs : List X) → xs ++ [] ≡ xs
-and_nothing [] = refl
-and_nothing (x ∷ xs) = ap (λ l. x ∷ l) (and_nothing xs)
 
 -- identity rows in range, no two of one row, have keys of their own
 identities_set : (table : List IdentityRow) → IsInOrder identity_shape.key table → AllByRecursion IsIdentityInRange table → IsDistinct is_same_row table → IsArranged identity_shape.key table
@@ -168,8 +165,8 @@ module _ (f : Frame) (t : Tables) (good : is_good_frame f ≡ true) (listed : Ar
         part k = rows_of_links t numbered rows numbers tied m k (made k).0 (made k).2 ∙ ap (λ l. cond (mapping_is k m) l []) (made k).1
 
     whole : (m : Mapping) → flat_map (rows_in m numbered) linked ≡ mapping_rows m t
-    whole TilesMedia = parted TilesMedia ∙ and_nothing (t.tiles_media ++ []) ∙ and_nothing t.tiles_media
-    whole RowsMedia = parted RowsMedia ∙ and_nothing t.rows_media
+    whole TilesMedia = parted TilesMedia ∙ append-nil (t.tiles_media ++ []) ∙ append-nil t.tiles_media
+    whole RowsMedia = parted RowsMedia ∙ append-nil t.rows_media
     whole RowsTiles = parted RowsTiles
 
     says_pairs : (m : Mapping) → SaysPairs m numbered linked (mapping_rows m t)

@@ -6,7 +6,7 @@ use Rattle.std.specs.Ordering.{int_eq}
 use Rattle.std.proofs.lemmas.Bool.{false≢true, true≢false}
 use borrow.Author.Tests.{eqb-true}
 use Rattle.std.proofs.lemmas.Int.{ints}
-use Rattle.std.proofs.lemmas.List.{take_more, take_all, length-take, length_push, map-append}
+use Rattle.std.proofs.lemmas.List.{append-nil, take_more, take_all, length-take, length_push, map-append}
 use Rattle.std.proofs.lemmas.List.Concat.{flat_map-append}
 use Rattle.sqlite_trees.specs.Tree.{IsAscending}
 use Rattle.sqlite_trees.proofs.ListLemmas.{filter_all, filter_none, filter-filter, all-filter, ascending-filter, IsPermutation-same}
@@ -234,10 +234,6 @@ one_less row left ms up turn it =
     other_owner : (m : MovedRow) → not (int_eq m.seq row.seq) ≡ true → list_any (λ r. int_eq r.seq m.seq) (row ∷ left) ≡ true → list_any (λ r. int_eq r.seq m.seq) left ≡ true
     other_owner m other h = subst (λ b. (b || list_any (λ r. int_eq r.seq m.seq) left) ≡ true) (int_eq_apart row.seq m.seq (λ e. differs m other (sym e))) h
 
-and_nothing : {X : Type 0} (a : List X) → a ++ [] ≡ a
-and_nothing [] = refl
-and_nothing (x ∷ xs) = ap (λ l. x ∷ l) (and_nothing xs)
-
 -- ---- one receipt more
 
 pub one_more : (row : ReceiptRow) (left : List ReceiptRow) (own others : List MovedRow) → IsAscending IsEarlier (row ∷ left) → IsReceiptInRange row → StandFrom row.seq 0 own → AreReceiptsInRange left others → AreReceiptsInRange (row ∷ left) (own ++ others)
@@ -247,7 +243,7 @@ one_more row left own others up range stand rest =
     let higher : AllByRecursion (λ m. s <ℤ m.seq) others = All-weaker (λ m. list_any (λ r. int_eq r.seq m.seq) left ≡ true) (λ m. s <ℤ m.seq) (λ m h. above_owner s left m up.0 h) others rest.owners in
     let all : moved_under s own ≡ own = filter_all (λ m. int_eq m.seq s) own (All-weaker (λ m. m.seq ≡ s) (λ m. int_eq m.seq s ≡ true) (λ m e. ap (λ z. int_eq z s) e ∙ int_eq_itself s) own under) in
     let none : moved_under s others ≡ [] = filter_none (λ m. int_eq m.seq s) others (All-weaker (λ m. s <ℤ m.seq) (λ m. int_eq m.seq s ≡ false) (λ m h. int_eq_apart m.seq s (λ g. absurd (omega (arith, ints, h, g)))) others higher) in
-    let here : moved_under s (own ++ others) ≡ own = filter-append (λ m. int_eq m.seq s) own others ∙ ap (λ l. l ++ moved_under s others) all ∙ ap (λ l. own ++ l) none ∙ and_nothing own in
+    let here : moved_under s (own ++ others) ≡ own = filter-append (λ m. int_eq m.seq s) own others ∙ ap (λ l. l ++ moved_under s others) all ∙ ap (λ l. own ++ l) none ∙ append-nil own in
     let later : (r : ReceiptRow) → s <ℤ r.seq → moved_under r.seq (own ++ others) ≡ moved_under r.seq others = λ r less.
     filter-append (λ m. int_eq m.seq r.seq) own others
     ∙ ap (λ l. l ++ moved_under r.seq others) (filter_none (λ m. int_eq m.seq r.seq) own (All-weaker (λ m. m.seq ≡ s) (λ m. int_eq m.seq r.seq ≡ false) (λ m e. int_eq_apart m.seq r.seq (λ g. absurd (omega (arith, ints, less, e, g)))) own under)) in
@@ -308,7 +304,7 @@ pub went_on : (receipts : List ReceiptRow) (moved : List MovedRow) (entered : Li
 went_on receipts moved entered row left rest own others r so cut it = record {
   rows = so.rows ∙ ap (λ x. map receipt_row entered ++ x ∷ left) (sym it.is) ∙ sym (ap (λ l. l ++ left) (map-append receipt_row entered (r ∷ [])) ∙ append_assoc (map receipt_row entered) (receipt_row r ∷ []) left);
   things =
-      so.things ∙ ap (λ l. flat_map moved_rows entered ++ l) (cut.cut ∙ ap (λ l. l ++ others) (it.moved ∙ sym (and_nothing (moved_rows r)))) ∙ sym (append_assoc (flat_map moved_rows entered) (moved_rows r ++ []) others)
+      so.things ∙ ap (λ l. flat_map moved_rows entered ++ l) (cut.cut ∙ ap (λ l. l ++ others) (it.moved ∙ sym (append-nil (moved_rows r)))) ∙ sym (append_assoc (flat_map moved_rows entered) (moved_rows r ++ []) others)
       ∙ ap (λ l. l ++ others) (sym (flat_map-append moved_rows entered (r ∷ [])));
   fit = All-snoc IsFitReceipt entered r so.fit it.fit;
   fore = λ h. so.fore (subst (AreReceiptsInRange (row ∷ left)) (sym cut.cut) (one_more row left own others so.rising it.range it.stand h));
@@ -323,8 +319,8 @@ refused receipts moved entered row left rest own others so cut none h = let it =
 pub ended : (receipts : List ReceiptRow) (moved : List MovedRow) (entered : List Receipt) (left : List ReceiptRow) (rest : List MovedRow) → left ≡ [] → rest ≡ [] → SoFar receipts moved entered left rest → AreReceipts receipts moved entered
 ended receipts moved entered left rest no_left no_rest so = record {
   range = so.fore (subst (λ l. AreReceiptsInRange l rest) (sym no_left) (subst (AreReceiptsInRange []) (sym no_rest) (record { rows = tt; things = tt; positions = tt; owners = tt })));
-  rows = so.rows ∙ ap (λ l. map receipt_row entered ++ l) no_left ∙ and_nothing (map receipt_row entered);
-  things = so.things ∙ ap (λ l. flat_map moved_rows entered ++ l) no_rest ∙ and_nothing (flat_map moved_rows entered);
+  rows = so.rows ∙ ap (λ l. map receipt_row entered ++ l) no_left ∙ append-nil (map receipt_row entered);
+  things = so.things ∙ ap (λ l. flat_map moved_rows entered ++ l) no_rest ∙ append-nil (flat_map moved_rows entered);
   fit = so.fit;
 }
 
