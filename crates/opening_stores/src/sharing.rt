@@ -1,16 +1,14 @@
 //! Stores become members of a world, or are strays. Room is there before anything is moved.
-ghost use Rattle.std.specs.Prelude.{◌≡◌, ◌<◌, ◌≤◌, ◌+◌, ℕ, [], length, count_by, IfOk, vec_len, vec_capacity};
-ghost use Rattle.sheet_types.specs.Ordered.{is_before, put};
+ghost use Rattle.std.specs.Prelude.{◌≡◌, ◌<◌, ◌+◌, ℕ, [], length, IfOk, vec_len, vec_capacity};
+ghost use Rattle.sheet_types.specs.Ordered.{put};
 ghost use Rattle.sheet_types.proofs.Arranging.{IsInOrder};
 ghost use Rattle.opening_stores.specs.Sharing.{member_key, member_of, with_member, with_stray, HasRoomOf, AreShared};
 
 use opening_faults::sights::StoreHead;
 use opening_verdict::verdict::Kept;
-use sheet_types::sorting::uuid_is_before;
 use sqlite::{Alter, Connection};
 use std::alloc::{AllocError, Global};
-use uuid::Uuid;
-use world_members::members::Member;
+use world_members::members::{Member, place_for};
 use world_members::reserving::{insert_reserved, push_reserved};
 
 /// The members of a world in the order of their UUIDs, and the strays.
@@ -56,17 +54,6 @@ fn member_of<S: Alter + Drop>(conn: Connection<S>, kept: Kept) -> Member<S>
         sums,
         ticket,
     }
-}
-
-/// Where the member of a package comes: behind those whose UUID is less.
-fn place_for<S: Alter + Drop>(members: &[Member<S>], uuid: Uuid) -> usize
-    ensures place { result ≡ count_by (λ m. is_before m.uuid uuid) members.now }
-    ensures within { result ≤ length members.now }
-{
-    members
-        .iter()
-        .filter(|member| uuid_is_before(member.uuid, uuid))
-        .count()
 }
 
 /// Puts a member at its place among others. Takes no memory.

@@ -1,9 +1,8 @@
 //! What a split comes to that did not come before: the first reason that holds, or all that it needs to be carried out, made before anything is written. The members are read in the order in which the reasons are told, and no further than the first that holds.
-ghost use Rattle.std.specs.Prelude.{◌≡◌, ◌<◌, ◌≤◌, ◌+◌, ◌&&◌, ℕ, true, IsTrue, None, Some, IfOk, length, slice_get, bytes_eq, is_none, count_by};
+ghost use Rattle.std.specs.Prelude.{◌≡◌, ◌<◌, ◌≤◌, ◌+◌, ◌&&◌, ℕ, true, IsTrue, None, Some, IfOk, length, slice_get, bytes_eq, is_none};
 ghost use Rattle.std.specs.List.{list_any};
 ghost use Rattle.sheet_types.specs.Lines.{HasTypes, is_rect};
 ghost use Rattle.sheet_types.specs.Matrix.{is_good_frame, is_good_rect, first_row};
-ghost use Rattle.sheet_types.specs.Ordered.{is_before};
 ghost use Rattle.sheet_types.specs.Refuse.{greatest_depth, greatest_receipts};
 ghost use Rattle.sheet_types.specs.Cut.{Cut, moved_of};
 ghost use Rattle.sheet_types.specs.Step.{receipt_over};
@@ -29,13 +28,12 @@ use sheet_types::command::{Mode, Request};
 use sheet_types::frame::{Frame, Rect};
 use sheet_types::receipt::{Receipt, Sums};
 use sheet_types::refusal::Refusal;
-use sheet_types::sorting::uuid_is_before;
 use sqlite::Alter;
 use std::alloc::Global;
 use uuid::Uuid;
 use world_known::known::Known;
 use world_loans::loans::Lending;
-use world_members::members::Member;
+use world_members::members::{Member, place_for};
 use world_queries::asking::place_of;
 use world_queries::recalling::was_ever_lent;
 use world_queries::sums::{less, sums_moved};
@@ -181,17 +179,6 @@ fn cut_at<S: Alter + Drop>(
 {
     let member = &mut members[at];
     select(&mut member.conn, alloc, frame, rect, mode)
-}
-
-/// Where the member of a new package comes: behind those whose UUID is less.
-fn place_for<S: Alter + Drop>(members: &[Member<S>], uuid: Uuid) -> usize
-    ensures place { result ≡ count_by (λ m. is_before m.uuid uuid) members.now }
-    ensures within { result ≤ length members.now }
-{
-    members
-        .iter()
-        .filter(|member| uuid_is_before(member.uuid, uuid))
-        .count()
 }
 
 /// Whether a split would leave too many, with the sums that it leaves of the member at a place, those of the loan, and the number of receipts so far.

@@ -1,5 +1,9 @@
 //! The live packages of a world, each with its open store and what is kept of it.
+ghost use Rattle.std.specs.Prelude.{◌≡◌, ◌≤◌, length, count_by};
+ghost use Rattle.sheet_types.specs.Ordered.{is_before};
+
 use sheet_types::receipt::Sums;
+use sheet_types::sorting::uuid_is_before;
 use sqlite::{Alter, Connection};
 use uuid::Uuid;
 
@@ -20,4 +24,15 @@ pub struct Member<S: Alter + Drop> {
     pub sums: Sums,
     /// The number of the last receipt that names the package, 0 where there is none.
     pub ticket: u64,
+}
+
+/// Where the member of a package comes that is not there: behind those whose UUID is less.
+pub fn place_for<S: Alter + Drop>(members: &[Member<S>], uuid: Uuid) -> usize
+    ensures place { result ≡ count_by (λ m. is_before m.uuid uuid) members.now }
+    ensures within { result ≤ length members.now }
+{
+    members
+        .iter()
+        .filter(|member| uuid_is_before(member.uuid, uuid))
+        .count()
 }
