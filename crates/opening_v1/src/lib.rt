@@ -3,7 +3,6 @@
 
 pub mod either;
 mod forms;
-mod from_row;
 mod numbers;
 mod package_rows;
 mod said;

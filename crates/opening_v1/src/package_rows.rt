@@ -11,10 +11,10 @@ ghost use Rattle.package_tables.specs.Shapes.{attribute_shape, identity_shape, m
 ghost use Rattle.package_schema.specs.Looking.{Sees};
 ghost use Rattle.opening_v1.specs.Copies.{AreRowsOf};
 
-use crate::from_row::all_of;
 use package_copy::package_rows::PackageRows;
 use package_schema::rows_alone::{moved_rows, receipt_rows};
 use package_tables::fault::Fault;
+use package_tables::from_row::all_of;
 use package_tables::rows::{AttributeRow, IdentityRow, MappingRow, MediaRow, MovedRow, TileRow};
 use sqlite::{Alter, Connection};
 use std::alloc::Global;

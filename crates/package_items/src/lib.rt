@@ -1,7 +1,6 @@
 //! Whether tiles, media, attribute rows, identities and mapping rows of a store that may be damaged are in their ranges and belong together, and what they then say.
 #![tactic(auto)]
 
-mod from_row;
 pub mod laws;
 mod next_rows;
 pub mod ranges;

@@ -6,11 +6,11 @@ ghost use Rattle.identity_register.specs.Gathered.{tile_placed, medium_placed, a
 ghost use Rattle.package_tables.specs.Calls.{LooksUp, IsLeast};
 ghost use Rattle.package_items.specs.Walks.{is_past, IsNextRow};
 
-use crate::from_row::first_of;
 use crate::user_tables::UserTable;
 use identity_register::kinds::{MEDIUM, ROW, TILE};
 use identity_register::whole::Placed;
 use package_tables::fault::Fault;
+use package_tables::from_row::first_of;
 use package_tables::rows::{AttributeRow, MediaRow, TileRow};
 use sheet_types::command::Content;
 use sqlite::{Alter, Connection, params};

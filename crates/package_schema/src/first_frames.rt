@@ -14,9 +14,9 @@ ghost use Rattle.package_schema.specs.Looking.{Sees};
 use crate::fixed_rows::FixedRows;
 use crate::frame_rows::frame_of;
 use crate::frames::have_moments;
-use crate::from_row::all_of;
 use crate::versions::Version;
 use package_tables::fault::Fault;
+use package_tables::from_row::all_of;
 use package_tables::rows::{
     ContentsRow, RelationRow, SpatialRefSysRow, TileMatrixRow, TileMatrixSetRow,
 };

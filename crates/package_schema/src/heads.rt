@@ -14,11 +14,11 @@ ghost use Rattle.package_tables.specs.Shapes.{head_shape};
 ghost use Rattle.package_schema.specs.Looking.{Sees, LooksAt};
 ghost use Rattle.package_schema.specs.Heads.{head_said, version_number, IsLevel, IsMarked, IsHeadOfAt, IsHeadRowAt, ReadsHead, ReadsHeadAt};
 
-use crate::from_row::all_of;
 use crate::own_forms::HEADS;
 use crate::placing::is_placed;
 use crate::versions::Version;
 use package_tables::fault::Fault;
+use package_tables::from_row::all_of;
 use package_tables::rows::HeadRow;
 use sheet_ledger::fitting::fits;
 use sheet_types::moments::is_moment;

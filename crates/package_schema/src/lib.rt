@@ -7,7 +7,6 @@ mod fixed_rows;
 pub mod form;
 mod frame_rows;
 pub mod frames;
-mod from_row;
 pub mod heads;
 mod named_forms;
 mod own_forms;

@@ -7,8 +7,8 @@ ghost use Rattle.package_tables.specs.Shape.{rows_of, IsFormed};
 ghost use Rattle.package_tables.specs.Shapes.{moved_shape, receipt_shape};
 ghost use Rattle.package_schema.specs.Looking.{Sees};
 
-use crate::from_row::all_of;
 use package_tables::fault::Fault;
+use package_tables::from_row::all_of;
 use package_tables::rows::{MovedRow, ReceiptRow};
 use sqlite::{Alter, Connection};
 use std::alloc::Global;

@@ -1,4 +1,4 @@
-//! From the rows that a SELECT answers to values.
+//! From the rows that a SELECT answers to values. Crates that read stores of any form stand on it too.
 ghost use Rattle.std.specs.Prelude.{◌≡◌, ◌≢◌, ℕ, ℤ, List, [], map, slice_get, IfOk, IfErr, IsOkAnd, MatchOption, IsUtf8};
 ghost use Rattle.std.specs.List.{AllByRecursion};
 ghost use Rattle.sqlite.specs.Order.{column};
@@ -14,7 +14,7 @@ use std::alloc::Global;
 
 /// A value that a row of a table stands for, a field a column.
 // Numbers are read first: a text that was read is dropped at each exit that follows. `tools/decoding.py` writes the answers.
-pub(crate) trait FromRow: Drop {
+pub trait FromRow: Drop {
     ghost use Rattle.sqlite.specs.Order.{Row as Shown};
 
     ghost shown: { Self → Shown };
@@ -49,7 +49,7 @@ pub(crate) fn bytes_at(row: &Row, at: usize) -> Result<Bytes, Fault>
 }
 
 /// All rows of an answer as values.
-pub(crate) fn all_of<T: FromRow>(
+pub fn all_of<T: FromRow>(
     alloc: Global,
     answer: Result<Vec<Row>, Error>,
 ) -> Result<Vec<T>, Fault>
@@ -66,7 +66,7 @@ pub(crate) fn all_of<T: FromRow>(
 }
 
 /// The first row of an answer as a value, where there is one.
-pub(crate) fn first_of<T: FromRow>(answer: Result<Vec<Row>, Error>) -> Result<Option<T>, Fault>
+pub fn first_of<T: FromRow>(answer: Result<Vec<Row>, Error>) -> Result<Option<T>, Fault>
     ensures first { IfOk result (λ first. IsOkAnd answer (λ rows. MatchOption first (rows.items ≡ []) (λ value. slice_get rows.items 0 ≡ Some (T.shown value)))) }
     ensures failed { IfErr answer (λ error. result ≡ Err (fault_of error)) }
     ensures none { IfOk answer (λ rows. IfErr result (λ fault. MatchOption (slice_get rows.items 0) ⊥ (λ row. fault ≡ StoreFault → AreTexts row → (value : T) → row ≢ T.shown value))) }

@@ -4,7 +4,7 @@
 pub mod attributes;
 pub mod fault;
 pub mod fixed;
-pub(crate) mod from_row;
+pub mod from_row;
 pub mod head;
 pub mod identities;
 pub mod mappings;
