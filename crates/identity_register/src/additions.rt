@@ -15,12 +15,10 @@ use package_tables::fault::Fault;
 use package_tables::identities::{greatest_local_id, identity_by_key_inside, insert_identity};
 use package_tables::media::insert_medium;
 use package_tables::tiles::insert_tile;
+use sheet_types::checks::GREATEST_NUMBER;
 use sheet_types::command::Content;
 use sqlite::{Alter, Transaction};
 use uuid::Uuid;
-
-// The greatest local number of a package (profile).
-const GREATEST: i64 = 1_000_000;
 
 /// The kind of a content as it is stored.
 fn stored_kind(content: &Content) -> i64
@@ -35,7 +33,7 @@ fn number_after(greatest: Option<i64>) -> Option<i64>
 {
     match greatest {
         None => Some(1),
-        Some(number) if number >= 1 && number < GREATEST => Some(number + 1),
+        Some(number) if number >= 1 && number < GREATEST_NUMBER => Some(number + 1),
         Some(_) => None,
     }
 }
@@ -54,7 +52,7 @@ fn first_gap<S: Alter>(tx: &mut Transaction<'_, S>, kind: i64) -> Result<Option<
     ensures same_reference { tx.new.conn.ghost_name ≡ tx.old.conn.ghost_name }
     ensures steps { Steps (Answers (FindsGap kind)) (state S.Store tx.old.conn.now) (state S.Store tx.new.conn.now) result }
 {
-    for number in 1..=GREATEST {
+    for number in 1..=GREATEST_NUMBER {
         let taken = is_taken(tx, kind, number)?;
         if !taken {
             return Ok(Some(number));

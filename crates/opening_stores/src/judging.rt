@@ -17,13 +17,11 @@ use opening_verdict::judging::judge_all;
 use opening_verdict::seen::StoreSeen;
 use opening_verdict::verdict::Verdict;
 use package_tables::fault::Fault;
+use sheet_types::checks::GREATEST_RECEIPTS;
 use sheet_types::frame::Frame;
 use sqlite::{Alter, Connection};
 use std::alloc::Global;
 use world_known::known::Known;
-
-/// The greatest number of receipts of a world (profile).
-const GREATEST_RECEIPTS: u64 = 1_000_000_000;
 
 /// What all looks came to.
 #[derive(Drop)]

@@ -21,6 +21,7 @@ use package_copy::copies::{copy, is_in_order};
 use package_copy::package_rows::PackageRows;
 use package_creation::create::Info;
 use package_tables::fault::Fault;
+use sheet_types::checks::{GREATEST_DEPTH, GREATEST_RECEIPTS};
 use sheet_types::frame::Frame;
 use sqlite::{Alter, Connection};
 use std::alloc::Global;
@@ -29,7 +30,7 @@ use std::alloc::Global;
 fn is_fit(depth: u64, loan: u64) -> bool
     ensures { IsTrue result → IsFitInfo depth loan }
 {
-    depth <= 4 && loan <= 1_000_000_000
+    depth <= GREATEST_DEPTH && loan <= GREATEST_RECEIPTS
 }
 
 /// What is seen of a package of the second version in memory that has these rows.

@@ -20,20 +20,17 @@ use package_tables::fault::Fault;
 use package_tables::identities::all_identities;
 use package_tables::mappings::all_pairs;
 use package_tables::rows::{IdentityRow, MappingRow};
-use sheet_types::checks::has_good_size;
+use sheet_types::checks::{GREATEST_NUMBER, has_good_size};
 use sheet_types::command::{Content, Mapping};
 use sheet_types::frame::Frame;
 use sqlite::{Alter, Connection};
 use std::alloc::Global;
 
-/// The greatest local number (profile).
-const GREATEST: i64 = 1_000_000;
-
 /// Whether a number is one that a row of an item may have.
 fn is_local(number: i64) -> bool
     ensures { result ≡ is_local number }
 {
-    (1..=GREATEST).contains(&number)
+    (1..=GREATEST_NUMBER).contains(&number)
 }
 
 /// Whether a text is of printable ASCII.

@@ -21,6 +21,7 @@ use package_tables::fault::Fault;
 use package_tables::from_row::all_of;
 use package_tables::rows::HeadRow;
 use sheet_ledger::fitting::fits;
+use sheet_types::checks::{GREATEST_DEPTH, GREATEST_RECEIPTS};
 use sheet_types::moments::is_moment;
 use sheet_types::reading::read_stored_uuid;
 use sqlite::{Alter, Connection};
@@ -121,8 +122,8 @@ fn read_row(row: &HeadRow, version: Version) -> Option<StoreHead>
     }
     let uuid = read_uuid(row.package.as_str())?;
     let parent = read_parent(row.parent.as_str())?;
-    let depth = read_number(row.depth, 4)?;
-    let loan = read_number(row.loan, 1_000_000_000)?;
+    let depth = read_number(row.depth, GREATEST_DEPTH)?;
+    let loan = read_number(row.loan, GREATEST_RECEIPTS)?;
     Some(StoreHead {
         uuid,
         parent,

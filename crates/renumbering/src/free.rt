@@ -6,11 +6,9 @@ ghost use Rattle.std.specs.Ordering.{int_cmp, int_eq};
 ghost use Rattle.renumbering.specs.Keys.{AreFree, IsFree};
 ghost use Rattle.sheet_types.specs.declared.refusal.Refusal.TheVariants.{TooMany, OutOfMemory};
 
+use sheet_types::checks::GREATEST_NUMBER;
 use sheet_types::refusal::Refusal;
 use std::alloc::{AllocError, Global};
-
-// The greatest local key (profile).
-const GREATEST: i64 = 1_000_000;
 
 /// The different keys of a list, from the least up.
 pub(crate) fn distinct(alloc: Global, keys: &[i64]) -> Result<Vec<i64>, AllocError>
@@ -39,7 +37,7 @@ fn least_free(alloc: Global, used: &[i64], n: usize) -> Result<Vec<i64>, AllocEr
 {
     let taken = distinct(alloc, used)?;
     let mut keys = Vec::new(alloc);
-    for key in 1..=GREATEST {
+    for key in 1..=GREATEST_NUMBER {
         if keys.len() == n {
             return Ok(keys);
         }

@@ -16,6 +16,21 @@ const MAX_CODE: i64 = 999_999;
 /// How many levels below the archive a loan may lie (profile); the model has it as `greatest_depth`.
 pub const GREATEST_DEPTH: u64 = 4;
 
+/// The greatest number of a row of items (profile).
+pub const GREATEST_NUMBER: i64 = 1_000_000;
+
+/// The most items of one kind that a package may have (profile); the model has it as `greatest_items`.
+pub const GREATEST_ITEMS: u64 = 1_000_000;
+
+/// The most links that a package may have (profile); the model has it as `greatest_links`.
+pub const GREATEST_LINKS: u64 = 4_000_000;
+
+/// The most packages that a world may have (profile); the model has it as `greatest_packages`.
+pub const GREATEST_PACKAGES: usize = 256;
+
+/// The most receipts that a world may have (profile), and so the greatest number of one; the model has it as `greatest_receipts`.
+pub const GREATEST_RECEIPTS: u64 = 1_000_000_000;
+
 /// Whether each part of a content is within its limits (profile): data of 1 to 1,048,576 bytes, a content type of 1 to 100 bytes, a label of 0 to 200 bytes, a code of 0 to 999,999.
 pub fn has_good_size(content: &Content) -> bool
     ensures { result ≡ has_good_size content.now }

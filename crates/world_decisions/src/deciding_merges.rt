@@ -27,6 +27,7 @@ use identity_register::fitting::fits;
 use identity_register::look_ups::has_tile_at;
 use identity_register::selection::Selection;
 use package_tables::fault::Fault;
+use sheet_types::checks::{GREATEST_PACKAGES, GREATEST_RECEIPTS};
 use sheet_types::collections::MovedList;
 use sheet_types::command::{Content, Item, Relation, Request};
 use sheet_types::receipt::{Moved, Receipt, Sums};
@@ -41,6 +42,9 @@ use world_queries::asking_one::holdings_at;
 use world_queries::sums::{more, sums_moved};
 use world_queries::texts::text_refusal;
 use world_queries::too_many::any_past_limits;
+
+// A merge takes one package away.
+const MOST_BEFORE_MERGE: usize = GREATEST_PACKAGES + 1;
 
 /// A tile of the child whose place is taken in the parent.
 #[derive(Clone, Copy)]
@@ -273,10 +277,10 @@ fn leaves_too_many<S: Alter + Drop>(
     if any_past_limits(members, at, sums) {
         return true;
     }
-    if members.len() > 257 {
+    if members.len() > MOST_BEFORE_MERGE {
         return true;
     }
-    count >= 1_000_000_000
+    count >= GREATEST_RECEIPTS
 }
 
 // The values of a merge are those of their types.

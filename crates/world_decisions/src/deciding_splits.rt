@@ -24,6 +24,7 @@ use identity_register::fitting::fits;
 use identity_register::selection::Selection;
 use matrix_rules::ground::is_good;
 use package_tables::fault::Fault;
+use sheet_types::checks::{GREATEST_PACKAGES, GREATEST_RECEIPTS};
 use sheet_types::command::{Mode, Request};
 use sheet_types::frame::{Frame, Rect};
 use sheet_types::receipt::{Receipt, Sums};
@@ -197,10 +198,10 @@ fn is_too_many<S: Alter + Drop>(
     if any_past_limits(members, at, left) {
         return true;
     }
-    if members.len() >= 256 {
+    if members.len() >= GREATEST_PACKAGES {
         return true;
     }
-    count >= 1_000_000_000
+    count >= GREATEST_RECEIPTS
 }
 
 /// What a split comes to of which all was made that would be due: too many, or it is due.

@@ -4,6 +4,7 @@ ghost use Rattle.std.specs.List.{list_any};
 ghost use Rattle.world_members.specs.Steps.{is_past_limits};
 ghost use Rattle.world_queries.specs.TooMany.{sums_with, leaves_too_many, TooManyUncounted, MemberHolds, MembersHoldNext, MembersTellTooMany, MembersTellUncounted};
 
+use sheet_types::checks::{GREATEST_ITEMS, GREATEST_LINKS, GREATEST_PACKAGES, GREATEST_RECEIPTS};
 use sheet_types::receipt::Sums;
 use sqlite::Alter;
 use world_members::members::Member;
@@ -12,10 +13,10 @@ use world_members::members::Member;
 pub fn is_past_limits(held: Sums) -> bool
     ensures { result ≡ is_past_limits held }
 {
-    held.tiles > 1_000_000
-        || held.media > 1_000_000
-        || held.rows > 1_000_000
-        || held.links > 4_000_000
+    held.tiles > GREATEST_ITEMS
+        || held.media > GREATEST_ITEMS
+        || held.rows > GREATEST_ITEMS
+        || held.links > GREATEST_LINKS
 }
 
 /// What the member at a place holds, with these sums for the one whose package changes.
@@ -53,10 +54,10 @@ pub fn is_too_many<S: Alter + Drop>(
     if any_past_limits(members, at, sums) {
         return true;
     }
-    if members.len() > 256 {
+    if members.len() > GREATEST_PACKAGES {
         return true;
     }
-    count >= 1_000_000_000
+    count >= GREATEST_RECEIPTS
 }
 
 /// What the package of a command holds after it cannot be counted only where the request would leave too many.
