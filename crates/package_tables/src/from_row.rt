@@ -49,10 +49,7 @@ pub(crate) fn bytes_at(row: &Row, at: usize) -> Result<Bytes, Fault>
 }
 
 /// All rows of an answer as values.
-pub fn all_of<T: FromRow>(
-    alloc: Global,
-    answer: Result<Vec<Row>, Error>,
-) -> Result<Vec<T>, Fault>
+pub fn all_of<T: FromRow>(alloc: Global, answer: Result<Vec<Row>, Error>) -> Result<Vec<T>, Fault>
     ensures values { IfOk result (λ values. IsOkAnd answer (λ rows. rows.items ≡ map T.shown values.items)) }
     ensures failed { IfErr answer (λ error. result ≡ Err (fault_of error)) }
     ensures none { IfOk answer (λ rows. IfErr result (λ fault. fault ≡ StoreFault → AllByRecursion AreTexts rows.items → (values : List T) → rows.items ≢ map T.shown values)) }
