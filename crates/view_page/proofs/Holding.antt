@@ -1,0 +1,76 @@
+-- What packages hold, one after the other.
+use Rattle.std.proofs.Common.{◌≡◌, ◌∙◌, ◌<◌, ◌+◌, ◌++◌, ◌∷◌, [], ℕ, List, Some, unwrap_or, Bool, true, false, refl, ap, sym, length, take, get_or, map}
+use Rattle.std.specs.Bool.{then_some}
+use Rattle.std.specs.Prelude.{flat_map}
+use Rattle.std.proofs.lemmas.List.{append-nil}
+use Rattle.sheet_types.specs.Answers.{PackageSight as ModelSight, holdings_answer, package_sights}
+use Rattle.sheet_types.specs.Ordered.{arranged, put, is_before}
+use Rattle.sheet_types.specs.World.{World, holdings, is_live}
+use Rattle.sheet_types.specs.declared.command.Item.{Item}
+use Rattle.sheet_types.specs.declared.command.Relation.{Relation}
+use Rattle.command_requests.proofs.Listed.{flat_more}
+use Rattle.view_register.specs.Registers.{thing_of, tie_of}
+use Rattle.view_register.specs.declared.registers.Thing.{Thing}
+use Rattle.view_register.specs.declared.registers.Tie.{Tie}
+use Rattle.view_page.specs.Registers.{AreContents, by_depth, depth_key, things_under, ties_under}
+use Rattle.view_page.specs.declared.contents.Contents.{Contents}
+use Rattle.world.specs.Reading.{sight_of}
+use Rattle.world.specs.declared.reading.PackageSight.{PackageSight}
+
+found : (b : Bool) (held : List Item × List Relation) (items : List Item) (links : List Relation) → Some (items, links) ≡ then_some b held
+    → (items ≡ held.0) × (links ≡ held.1)
+found true held items links e = (ap (λ o. (unwrap_or o held).0) e, ap (λ o. (unwrap_or o held).1) e)
+found false held items links e = absurd (cc)
+
+-- what was found of a package is what it holds
+pub one_held : (w : World) (p : List ℕ) (items : List Item) (links : List Relation) (c : Contents) → Some (items, links) ≡ holdings_answer w p
+    → c.things.items ≡ map (thing_of p) items → c.ties.items ≡ map (tie_of p) links → AreContents w (λ u. u) (p ∷ []) c
+one_held w p items links c is things ties =
+    let here = found (is_live w p) ((holdings w p).items, (holdings w p).links) items links is in
+    record {
+      things = things ∙ ap (map (thing_of p)) here.0 ∙ sym (append-nil (things_under w p));
+      ties = ties ∙ ap (map (tie_of p)) here.1 ∙ sym (append-nil (ties_under w p));
+    }
+
+-- what one package more holds stands behind what the others hold
+pub more_held : (w : World) (sights : List PackageSight) (i : ℕ) (s : PackageSight) (so_far more all : Contents) → i < length sights → s ≡ get_or sights i s
+    → AreContents w (λ (x : PackageSight). x.uuid) (take i sights) so_far → AreContents w (λ u. u) (s.uuid ∷ []) more
+    → all.things.items ≡ so_far.things.items ++ more.things.items → all.ties.items ≡ so_far.ties.items ++ more.ties.items
+    → AreContents w (λ (x : PackageSight). x.uuid) (take (i + 1) sights) all
+more_held w sights i s so_far more all within is before here things ties = record {
+  things = things ∙ flat_more (λ (x : PackageSight). things_under w x.uuid) sights i s so_far.things.items more.things.items within is before.things
+      (here.things ∙ append-nil (things_under w s.uuid));
+  ties = ties ∙ flat_more (λ (x : PackageSight). ties_under w x.uuid) sights i s so_far.ties.items more.ties.items within is before.ties
+      (here.ties ∙ append-nil (ties_under w s.uuid));
+}
+
+-- ---- in another order
+
+flat_mapped : {X Y Z : Type 0} (f : Y → List Z) (h : X → Y) (xs : List X) → flat_map f (map h xs) ≡ flat_map (λ x. f (h x)) xs
+flat_mapped f h [] = refl
+flat_mapped f h (x ∷ xs) = ap (λ l. f (h x) ++ l) (flat_mapped f h xs)
+
+put_mapped : (s : PackageSight) (sights : List PackageSight) → map sight_of (put (λ x. x.depth ∷ []) s sights) ≡ put depth_key (sight_of s) (map sight_of sights)
+put_mapped s [] = refl
+put_mapped s (x ∷ sights) = by_order (is_before (x.depth ∷ []) (s.depth ∷ []))
+  where
+    by_order : (b : Bool) → map sight_of (if b then x ∷ put (λ y. y.depth ∷ []) s sights else s ∷ x ∷ sights)
+        ≡ (if b then sight_of x ∷ put depth_key (sight_of s) (map sight_of sights) else sight_of s ∷ sight_of x ∷ map sight_of sights)
+    by_order true = ap (λ l. sight_of x ∷ l) (put_mapped s sights)
+    by_order false = refl
+
+-- sights in the order of their depths are so in the words of the model
+pub sorted_sights : (sights : List PackageSight) → map sight_of (arranged (λ x. x.depth ∷ []) sights) ≡ by_depth (map sight_of sights)
+sorted_sights [] = refl
+sorted_sights (s ∷ sights) = put_mapped s (arranged (λ x. x.depth ∷ []) sights) ∙ ap (put depth_key (sight_of s)) (sorted_sights sights)
+
+-- what the packages in that order hold is said of the world
+pub all_held : (w : World) (sights ordered : List PackageSight) (c : Contents) → map sight_of sights ≡ package_sights w
+    → map sight_of ordered ≡ by_depth (map sight_of sights) → AreContents w (λ (x : PackageSight). x.uuid) ordered c
+    → AreContents w (λ (m : ModelSight). m.uuid) (by_depth (package_sights w)) c
+all_held w sights ordered c seen order held =
+    let same : map sight_of ordered ≡ by_depth (package_sights w) = order ∙ ap by_depth seen in
+    record {
+      things = held.things ∙ sym (flat_mapped (λ (m : ModelSight). things_under w m.uuid) sight_of ordered) ∙ ap (flat_map (λ (m : ModelSight). things_under w m.uuid)) same;
+      ties = held.ties ∙ sym (flat_mapped (λ (m : ModelSight). ties_under w m.uuid) sight_of ordered) ∙ ap (flat_map (λ (m : ModelSight). ties_under w m.uuid)) same;
+    }

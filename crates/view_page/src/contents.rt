@@ -1,0 +1,110 @@
+//! What the packages of a world hold, without the bytes of it.
+ghost use Rattle.std.specs.Prelude.{◌≡◌, ◌++◌, [], ◌∷◌, map, IfOk, OnOk};
+ghost use Rattle.view_register.specs.Registers.{thing_of, tie_of};
+ghost use Rattle.view_page.specs.Registers.{AreContents, by_depth};
+ghost use Rattle.world.specs.Reading.{sight_of};
+ghost use Rattle.world.specs.Worlds.{IsRead, TellsOf};
+ghost use Rattle.command_requests.specs.Listing.{IsUntouched};
+
+use package_tables::fault::Fault;
+use sheet_types::command::{Item, Relation};
+use sqlite::Alter;
+use std::alloc::{AllocError, Global};
+use uuid::Uuid;
+use view_register::registers::{Thing, Tie, thing_of, tie_of};
+use world::reading::PackageSight;
+use world::world::World;
+
+/// Items and links of packages, each with its holder.
+#[derive(Drop)]
+pub struct Contents {
+    pub things: Vec<Thing>,
+    pub ties: Vec<Tie>,
+}
+
+/// The items of a package.
+fn things_of(alloc: Global, holder: Uuid, items: &[Item]) -> Result<Vec<Thing>, Fault>
+    ensures { IfOk result (λ things. things.items ≡ map (thing_of holder) items.now) }
+{
+    let mut things = Vec::new(alloc);
+    for item in items {
+        let Ok(thing) = thing_of(holder, item) else {
+            return Err(Fault::OutOfMemory);
+        };
+        things.push(thing)?;
+    }
+    Ok(things)
+}
+
+/// The links of a package.
+fn ties_of(alloc: Global, holder: Uuid, links: &[Relation]) -> Result<Vec<Tie>, Fault>
+    ensures { IfOk result (λ ties. ties.items ≡ map (tie_of holder) links.now) }
+{
+    let mut ties = Vec::new(alloc);
+    for link in links {
+        ties.push(tie_of(holder, link))?;
+    }
+    Ok(ties)
+}
+
+/// What a package of a world holds.
+fn contents_in<S: Alter + Drop>(
+    alloc: Global,
+    world: &mut World<S>,
+    holder: Uuid,
+) -> Result<Contents, Fault>
+    ensures told { TellsOf S.Store (λ w contents. AreContents w (λ u. u) (holder ∷ []) contents) world.old world.new result }
+    ensures read { IsRead S.Store world.old world.new }
+{
+    let Some((items, links)) = world.holdings(alloc, holder)? else {
+        return Err(Fault::StoreFault);
+    };
+    let things = things_of(alloc, holder, items.as_slice())?;
+    let ties = ties_of(alloc, holder, links.as_slice())?;
+    Ok(Contents { things, ties })
+}
+
+/// Puts the contents of a package behind those of others.
+fn append(all: &mut Contents, more: Contents) -> Result<(), AllocError>
+    ensures things { OnOk result (all.new.things.items ≡ all.old.things.items ++ more.things.items) }
+    ensures ties { OnOk result (all.new.ties.items ≡ all.old.ties.items ++ more.ties.items) }
+{
+    let Contents {
+        mut things,
+        mut ties,
+    } = more;
+    all.things.append(&mut things)?;
+    all.ties.append(&mut ties)
+}
+
+/// What packages that a world listed hold, in turn.
+pub(crate) fn contents_among<S: Alter + Drop>(
+    alloc: Global,
+    world: &mut World<S>,
+    sights: &[PackageSight],
+) -> Result<Contents, Fault>
+    ensures told { TellsOf S.Store (λ w contents. AreContents w (λ s. s.uuid) sights.now contents) world.old world.new result }
+    ensures read { IsUntouched S.Store world.old world.new }
+{
+    let mut all = Contents {
+        things: Vec::new(alloc),
+        ties: Vec::new(alloc),
+    };
+    for sight in sights {
+        let more = contents_in(alloc, world, sight.uuid)?;
+        append(&mut all, more)?;
+    }
+    Ok(all)
+}
+
+/// The packages with lenders before their loans.
+pub(crate) fn in_depth(
+    alloc: Global,
+    sights: &[PackageSight],
+) -> Result<Vec<PackageSight>, AllocError>
+    ensures { IfOk result (λ ordered. map sight_of ordered.items ≡ by_depth (map sight_of sights.now)) }
+{
+    let mut ordered = Vec::from_slice(alloc, sights)?;
+    ordered.sort_by_key(|sight: &PackageSight| sight.depth)?;
+    Ok(ordered)
+}
