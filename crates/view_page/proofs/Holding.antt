@@ -1,7 +1,7 @@
 -- What packages hold, one after the other.
 use Rattle.std.proofs.Common.{◌≡◌, ◌∙◌, ◌<◌, ◌+◌, ◌++◌, ◌∷◌, [], ℕ, List, Some, unwrap_or, Bool, true, false, refl, ap, sym, length, take, get_or, map}
 use Rattle.std.specs.Bool.{then_some}
-use Rattle.std.specs.Prelude.{flat_map}
+use Rattle.std.specs.Prelude.{flat_map, if◌then◌else◌}
 use Rattle.std.proofs.lemmas.List.{append-nil}
 use Rattle.sheet_types.specs.Answers.{PackageSight as ModelSight, holdings_answer, package_sights}
 use Rattle.sheet_types.specs.Ordered.{arranged, put, is_before}
