@@ -1,4 +1,5 @@
 mod Doubles
 mod Noting
+mod Rings
 mod Texts
 mod Written
