@@ -212,12 +212,12 @@ def exports(session):
     """The packages of the first session as SQL, and an archive with nothing in it over a frame whose numbers are all different."""
     world = rehearsed(told()[0].text().encode()).world
     for uuid in (CREW, nordmark.ARCHIVE):
-        session.run(f"export maps {uuid}", export(world.frame, world.packages[uuid]))
+        session.run(f"export maps {uuid}", export(world.frame, world.packages[uuid], world.tickets[uuid]))
     archive, frame = "a0000000-0000-4000-8000-00000000beef", "-1,-3000,-700,3001,500,17,5,4,1,353,6"
     world = World(archive, Frame.read(frame))
     session.type("mkdir oblong", "")
     session.run(f"init --archive A0000000-0000-4000-8000-00000000BeEf --at {nordmark.CREATED} --frame={frame} oblong", f"archive {archive}\n")
-    session.run(f"export oblong {archive.upper()}", export(world.frame, world.packages[archive]))
+    session.run(f"export oblong {archive.upper()}", export(world.frame, world.packages[archive], world.tickets[archive]))
 
 
 def making(check):
