@@ -26,16 +26,20 @@ tile_row n zoom column row bytes = insert (codes "sheet_tiles")
 -- the ground of a tile as a geometry, and none where the frame has no such place
 abbrev pub drawn : ℤ → Option Ground → List ℕ
 drawn srs None = codes "NULL"
-drawn srs (Some ground) = blob (outline srs ground)
+drawn srs (Some g) = blob (outline srs g)
 
 abbrev pub tile_outline : Frame → ℤ → ℤ → ℤ → List ℕ
 tile_outline f zoom column row = drawn f.srs_id (tile_ground f zoom column row)
 
+-- three values with commas between them
+abbrev pub place : ℤ → ℤ → ℤ → List ℕ
+place zoom column row =
+    signed_decimal zoom ++ (codes "," ++ (signed_decimal column ++ (codes "," ++ signed_decimal row)))
+
 -- The identity of a tile, its outline and its place, in a table of its own, since a tile pyramid table has five columns (2.2.8).
 abbrev pub tile_identity_row : ℕ → List ℕ → List ℕ → ℤ → ℤ → ℤ → List ℕ
 tile_identity_row n geometry id zoom column row = insert (codes "sheet_tile_identity")
-    (decimal n ∷ geometry ∷ uuid_literal id
-    ∷ signed_decimal zoom ∷ signed_decimal column ∷ signed_decimal row ∷ [])
+    (decimal n ∷ geometry ∷ uuid_literal id ∷ place zoom column row ∷ [])
 
 abbrev pub medium_row : ℕ → List ℕ → List ℕ → List ℕ → List ℕ
 medium_row n id content_type bytes =

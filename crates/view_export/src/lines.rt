@@ -2,7 +2,7 @@
 ghost use Rattle.std.specs.Prelude.{◌≡◌, IfOk, IsTrue, List, string_bytes};
 ghost use Rattle.sheet_types.specs.Matrix.{is_good_frame};
 ghost use Rattle.sheet_types.specs.declared.command.Item.{Item as ModelItem};
-ghost use Rattle.view_export.specs.Exports.{drawn, feature_row, item_rows, link_row, medium_row, tile_identity_row, tile_outline, tile_row, tile_rows};
+ghost use Rattle.view_export.specs.Exports.{drawn, feature_row, item_rows, link_row, medium_row, place, tile_identity_row, tile_outline, tile_row, tile_rows};
 ghost use Rattle.view_export.specs.Numbers.{AreNumbersOf};
 ghost use Rattle.view_export.specs.Points.{FitsHeader, point};
 ghost use Rattle.view_export.specs.Statements.{blob};
@@ -34,7 +34,7 @@ fn tile_row(
 }
 
 /// Some ground as the blob of a geometry, or `NULL`.
-fn drawn(alloc: Global, srs_id: i64, ground: Option<&Ground>) -> Result<String, AllocError>
+fn drawn(alloc: Global, srs_id: i64, ground: &Option<Ground>) -> Result<String, AllocError>
     requires { FitsHeader srs_id }
     ensures { IfOk result (λ text. string_bytes text ≡ drawn srs_id ground.now) }
 {
@@ -59,7 +59,14 @@ fn tile_outline(
     ensures { IfOk result (λ text. string_bytes text ≡ tile_outline frame.now zoom column row) }
 {
     let ground = ground(frame, zoom, column, row);
-    drawn(alloc, frame.srs_id, ground.as_ref())
+    drawn(alloc, frame.srs_id, &ground)
+}
+
+/// The numbers of a place with commas between them.
+fn place(alloc: Global, zoom: i64, column: i64, row: i64) -> Result<String, AllocError>
+    ensures { IfOk result (λ text. string_bytes text ≡ place zoom column row) }
+{
+    format!(in alloc; "{zoom},{column},{row}")
 }
 
 /// The outline, the identity and the place of the tile with this number.
@@ -75,8 +82,9 @@ fn tile_identity_row(
     ensures { IfOk result (λ text. string_bytes text ≡ tile_identity_row number geometry.now identity zoom column row) }
 {
     let identity = UuidLiteral(identity);
+    let place = place(alloc, zoom, column, row)?;
     format!(in alloc;
-        "INSERT INTO sheet_tile_identity VALUES ({number},{geometry},{identity},{zoom},{column},{row});\n"
+        "INSERT INTO sheet_tile_identity VALUES ({number},{geometry},{identity},{place});\n"
     )
 }
 
