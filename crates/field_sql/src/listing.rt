@@ -33,7 +33,7 @@ pub fn stock_holds(
     points: Option<&Points<'_>>,
 ) -> Result<String, AllocError>
     ensures { IfOk result (λ text. string_bytes text
-        ≡ stock_holds (option_map (λ t. t.now) tiles) (option_map (λ p. p.now) points)) }
+        ≡ stock_holds (option_map (λ t. t.now) tiles.entry) (option_map (λ p. p.now) points.entry)) }
 {
     let start = start();
     let register = no_register();

@@ -59,7 +59,7 @@ fn tiles_of(alloc: Global, table: &str) -> Result<String, AllocError>
 }
 
 pub(crate) fn tiles_or_none(alloc: Global, tiles: Option<&str>) -> Result<String, AllocError>
-    ensures { IfOk result (λ text. string_bytes text ≡ tiles_or_none (option_map (λ t. t.now) tiles)) }
+    ensures { IfOk result (λ text. string_bytes text ≡ tiles_or_none (option_map (λ t. t.now) tiles.entry)) }
 {
     match tiles {
         Some(table) => tiles_of(alloc, table),
@@ -125,7 +125,7 @@ pub(crate) fn points_or_none(
     alloc: Global,
     points: Option<&Points<'_>>,
 ) -> Result<String, AllocError>
-    ensures { IfOk result (λ text. string_bytes text ≡ points_or_none (option_map (λ p. p.now) points)) }
+    ensures { IfOk result (λ text. string_bytes text ≡ points_or_none (option_map (λ p. p.now) points.entry)) }
 {
     match points {
         Some(points) => points_of(alloc, points),

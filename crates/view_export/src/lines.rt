@@ -148,24 +148,11 @@ fn tile_rows(
 {
     let tile = tile_row(alloc, number, zoom, column, row, bytes)?;
     let outline = tile_outline(alloc, frame, zoom, column, row)?;
-    let named = tile_identity_row(
-        alloc,
-        number,
-        outline.as_str(),
-        identity,
-        zoom,
-        column,
-        row,
-    )?;
+    let named = tile_identity_row(alloc, number, outline.as_str(), identity, zoom, column, row)?;
     format!(in alloc; "{tile}{named}")
 }
 
-fn write_item(
-    alloc: Global,
-    frame: &Frame,
-    number: u64,
-    item: &Item,
-) -> Result<String, AllocError>
+fn write_item(alloc: Global, frame: &Frame, number: u64, item: &Item) -> Result<String, AllocError>
     requires { IsTrue (is_good_frame frame.now) }
     ensures { IfOk result (λ text. string_bytes text ≡ item_rows frame.now number item.now) }
 {
@@ -246,7 +233,5 @@ pub fn link_row(
     } = *link;
     let base = number_of(numbers, base);
     let other = number_of(numbers, other);
-    Ok(format!(in alloc;
-        "INSERT INTO {mapping} (base_id,related_id) VALUES ({base},{other});\n"
-    )?)
+    Ok(format!(in alloc; "INSERT INTO {mapping} (base_id,related_id) VALUES ({base},{other});\n")?)
 }
