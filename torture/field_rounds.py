@@ -257,7 +257,7 @@ class Reading:
         for number, geometry, code, label, named in self.db.execute(text):
             self.numbers["row"].add(number)
             point = is_point(geometry)
-            fault = "geometry" if point is None else "system" if point[2] != system else "code" if code_of(code) is None else None
+            fault = "geometry" if point is None else "system" if system is not None and point[2] != system else "code" if code_of(code) is None else None
             if fault is None and (isinstance(label, bytes) or "\0" in str(label)):
                 fault = "label"
             if fault:
@@ -557,6 +557,11 @@ def go_over_points(rng, sheetdesk, holds, room, count):
 # ---- tables of other programs
 
 
+def in_capitals(name):
+    """In another case, as SQLite compares names: letters of ASCII alone."""
+    return "".join(letter.upper() if letter.isascii() else letter for letter in name)
+
+
 def stock_file(rng, path, tiles, points):
     """A file of these tables, with columns by these names, whose words have other cases in the tables of contents."""
     table, geometry, code, label = map(holding.name, points)
@@ -572,11 +577,11 @@ def stock_file(rng, path, tiles, points):
         f"CREATE TABLE {table} ({code} ANY, {label} ANY, {geometry} BLOB);"
     )
     srs = rng.choice([7, -1, 9])
-    db.execute("INSERT INTO gpkg_geometry_columns VALUES (?, ?, 'POINT', ?, 0, 0)", (points[0].upper(), points[1], srs))
-    db.execute("INSERT INTO gpkg_tile_matrix_set VALUES (?, ?, 1000.5, 0, 0, 2000)", (tiles.upper(), rng.choice([7, -1, 9])))
+    db.execute("INSERT INTO gpkg_geometry_columns VALUES (?, ?, 'POINT', ?, 0, 0)", (in_capitals(points[0]), points[1], srs))
+    db.execute("INSERT INTO gpkg_tile_matrix_set VALUES (?, ?, 1000.5, 0, 0, 2000)", (in_capitals(tiles), rng.choice([7, -1, 9])))
     for zoom in range(3):
         size = 2.5 * 2 ** (2 - zoom)
-        db.execute("INSERT INTO gpkg_tile_matrix VALUES (?, ?, ?, 1, 256, 512, ?, ?)", (tiles.upper(), zoom + 5, rng.choice([1, 3, 4]), size, size))
+        db.execute("INSERT INTO gpkg_tile_matrix VALUES (?, ?, ?, 1, 256, 512, ?, ?)", (in_capitals(tiles), zoom + 5, rng.choice([1, 3, 4]), size, size))
         db.execute(f"INSERT INTO {holding.name(tiles)} VALUES (NULL, ?, 0, ?, ?)", (zoom + 5, zoom, rng.choice([b"\0\x89", b"", "text"])))
     for _ in range(20):
         values = rng.choice([1, 2.0, "33", None, "x"]), rng.choice(LABELS), blob_of(rng.choice([srs, srs, 3]), any_double(rng), any_double(rng), rng.random() < 0.5)
@@ -589,7 +594,7 @@ def read_stock(path, tiles, points):
     db = sqlite3.connect(path)
     reading = Reading(db)
     srs = points_system(db, *points[:2]) if points else None
-    if points:
+    if srs is not None:
         number = system_of(db, srs)
         reading.put("system", -2 if number is None else number)
     if tiles:

@@ -5,12 +5,7 @@ ghost use Rattle.field_sql.specs.Naming.{doubled, identifier, literal};
 use std::alloc::{AllocError, Global};
 
 /// Puts a text behind another, each mark in it twice.
-fn put_doubled(
-    text: &mut String,
-    name: &str,
-    mark: char,
-    pair: &str,
-) -> Result<(), AllocError>
+fn put_doubled(text: &mut String, name: &str, mark: char, pair: &str) -> Result<(), AllocError>
     requires low { mark < 128 }
     requires pair { pair.now ≡ mark ∷ mark ∷ [] }
     ensures { OnOk result (string_bytes text.new ≡ string_bytes text.old ++ doubled mark name.now) }
