@@ -1,4 +1,5 @@
 //! A command, carried out: what it asks for is done in `cli`, `commands` and `views`.
+use crate::field::listed;
 use crate::founding::founded;
 use crate::ordering::{is_verb, ordered};
 use crate::showing::shown;
@@ -36,7 +37,7 @@ fn print_note(rt: &HostRuntime, note: Result<String, AllocError>) {
 }
 
 /// Prints a text on standard output, and answers whether it went out.
-fn is_printed(rt: &HostRuntime, text: &str) -> bool {
+pub(crate) fn is_printed(rt: &HostRuntime, text: &str) -> bool {
     print!(rt; "{text}").is_ok()
 }
 
@@ -186,6 +187,9 @@ pub(crate) fn carried_out(
     given: &ArgMatches<'_>,
     reader: &mut Input<'_>,
 ) -> u8 {
+    if name == "holds" {
+        return listed(rt, given);
+    }
     if let Some(asked) = asked_look(name, given) {
         return looked(
             rt,
