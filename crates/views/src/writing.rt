@@ -145,10 +145,10 @@ pub fn write_export<S: Alter + Drop, W: Write>(
     ensures unknown { LeavesUnknown writer.old writer.new result }
 {
     let frame = world.frame();
-    let ticket = ticket_of(alloc, world, package)?;
     let Some((items, links)) = world.holdings(alloc, package)? else {
         return Err(ManifestFault::Unknown);
     };
+    let ticket = ticket_of(alloc, world, package)?;
     // The frame of a world is good, and is asked for that here since no call says so.
     if !is_good(&frame) {
         return Err(ManifestFault::Failed(Fault::StoreFault));
