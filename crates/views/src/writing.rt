@@ -108,11 +108,7 @@ fn sight_among(sights: &[PackageSight], package: Uuid) -> Option<&PackageSight>
 }
 
 /// The number of the last receipt of a package that is live.
-fn ticket_of<S: Alter + Drop>(
-    alloc: Global,
-    world: &World<S>,
-    package: Uuid,
-) -> Result<u64, Fault>
+fn ticket_of<S: Alter + Drop>(alloc: Global, world: &World<S>, package: Uuid) -> Result<u64, Fault>
     ensures { IfOk result (λ number. (w : ModelWorld) → StandsFor S.Store world.now w
         → is_live w «package» ≡ true → number ≡ ticket w «package») }
 {
