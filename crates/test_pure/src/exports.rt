@@ -159,8 +159,7 @@ const CONTENTS: &str =
     "VALUES ('sheet_rows','features','sheet_rows','package 00000000-0000-4000-8000-00000000000a',\
     0.000,0.000,4.096,4.096,25832);\n";
 
-const BACK: &str =
-    "INSERT INTO sheet_export VALUES ('00000000-0000-4000-8000-00000000000a',7);\n";
+const BACK: &str = "INSERT INTO sheet_export VALUES ('00000000-0000-4000-8000-00000000000a',7);\n";
 
 const EXPORTS: Table = Table(
     27,

@@ -108,11 +108,7 @@ fn sight_among(sights: &[PackageSight], package: Uuid) -> Option<&PackageSight>
 }
 
 /// The number of the last receipt of a package that is live.
-fn ticket_of<S: Alter + Drop>(
-    alloc: Global,
-    world: &World<S>,
-    package: Uuid,
-) -> Result<u64, Fault>
+fn ticket_of<S: Alter + Drop>(alloc: Global, world: &World<S>, package: Uuid) -> Result<u64, Fault>
     ensures { IfOk result (λ number. (w : ModelWorld) → StandsFor S.Store world.now w
         → is_live w «package» ≡ true → number ≡ ticket w «package») }
 {
@@ -145,10 +141,10 @@ pub fn write_export<S: Alter + Drop, W: Write>(
     ensures unknown { LeavesUnknown writer.old writer.new result }
 {
     let frame = world.frame();
-    let ticket = ticket_of(alloc, world, package)?;
     let Some((items, links)) = world.holdings(alloc, package)? else {
         return Err(ManifestFault::Unknown);
     };
+    let ticket = ticket_of(alloc, world, package)?;
     // The frame of a world is good, and is asked for that here since no call says so.
     if !is_good(&frame) {
         return Err(ManifestFault::Failed(Fault::StoreFault));

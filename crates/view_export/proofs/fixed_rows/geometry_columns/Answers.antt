@@ -1,6 +1,3 @@
-use Rattle.std.proofs.Common.{◌≡◌, FitsSigned, rules, to_z-of_z, w64}
-use Rattle.std.specs.Prelude.{codes, string_bytes}
-use Rattle.view_export.specs.FixedRows.{geometry_column}
 use Rattle.view_export.proofs.Texts.{joined, ok_is}
 use Rattle.view_export.proofs.fixed_rows.geometry_columns.Goals as goal
 
