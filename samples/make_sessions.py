@@ -238,6 +238,14 @@ def listings(session):
     session.run("holds maps", "", 2)
 
 
+def completions(session):
+    """What bash needs to complete words: the file that torture/completions.sh tries in a real bash."""
+    with open(os.path.join(HERE, "completions.bash"), encoding="utf-8") as it:
+        session.run("completions bash", it.read())
+    session.run("completions", "", 2)
+    session.run("completions fish", "", 2)
+
+
 def short(name):
     return re.sub("[^a-z0-9]+", "_", name.lower())
 
@@ -370,6 +378,9 @@ def all_sessions():
     every.show("")
     every.show("# The SQL that lists what an edited file holds, and that of another program's file.")
     listings(every)
+    every.show("")
+    every.show("# What bash needs to complete words.")
+    completions(every)
     every.show("")
     every.show("# A sheet is lent and comes home, by the verbs for people.")
     first.take(verb_sessions(every))

@@ -117,6 +117,12 @@ pub const LOG_ABOUT: &str = "Prints the ledger, a line for each receipt";
 /// What `get` is for.
 pub const GET_ABOUT: &str = "Prints the bytes of a tile or a medium, or the label of a mark";
 
+/// What `completions` is for.
+pub const COMPLETIONS_ABOUT: &str = "Prints what a shell needs to complete the words of sheetdesk";
+
+/// What `completions bash` is for.
+pub const BASH_ABOUT: &str = "For bash: eval \"$(sheetdesk completions bash)\"";
+
 /// What `explain` is for.
 pub const EXPLAIN_ABOUT: &str = "Prints the whole way of an item, from receipt to receipt";
 

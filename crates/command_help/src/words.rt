@@ -1,9 +1,9 @@
 //! Which words the command line has.
 use crate::help::{
-    ABOUT, APPLY_ABOUT, AUDIT_ABOUT, EXPLAIN_ABOUT, EXPORT_ABOUT, FOLDER_WORDS, GET_ABOUT,
-    HOLDS_ABOUT, HOLDS_WORDS, IMPORT_ABOUT, INIT_ABOUT, LOG_ABOUT, MANIFEST_ABOUT, MAP_ABOUT,
-    RECEIPT_ABOUT, REHEARSE_ABOUT, REHEARSE_WORDS, SERVE_ABOUT, SESSION_ABOUT, SESSION_WORDS,
-    STATUS_ABOUT, TIDY_ABOUT, WORDS,
+    ABOUT, APPLY_ABOUT, AUDIT_ABOUT, BASH_ABOUT, COMPLETIONS_ABOUT, EXPLAIN_ABOUT, EXPORT_ABOUT,
+    FOLDER_WORDS, GET_ABOUT, HOLDS_ABOUT, HOLDS_WORDS, IMPORT_ABOUT, INIT_ABOUT, LOG_ABOUT,
+    MANIFEST_ABOUT, MAP_ABOUT, RECEIPT_ABOUT, REHEARSE_ABOUT, REHEARSE_WORDS, SERVE_ABOUT,
+    SESSION_ABOUT, SESSION_WORDS, STATUS_ABOUT, TIDY_ABOUT, WORDS,
 };
 use crate::verbs::{join_command, lend_command, part_command, put_command, return_command};
 use clap::{Arg, ArgAction, Command};
@@ -301,6 +301,14 @@ fn session_command<'a>(alloc: Global) -> Result<Command<'a>, AllocError> {
         ))
 }
 
+/// Prints what a shell needs to complete words.
+fn completions_command<'a>(alloc: Global) -> Result<Command<'a>, AllocError> {
+    Command::new(alloc, "completions")
+        .about(COMPLETIONS_ABOUT)
+        .subcommand_required(true)
+        .subcommand(Command::new(alloc, "bash").about(BASH_ABOUT))
+}
+
 /// The command line of the program.
 pub fn sheetdesk<'a>(alloc: Global) -> Result<Command<'a>, AllocError> {
     Command::new(alloc, "sheetdesk")
@@ -328,5 +336,6 @@ pub fn sheetdesk<'a>(alloc: Global) -> Result<Command<'a>, AllocError> {
         .subcommand(serve_command(alloc)?)?
         .subcommand(tidy_command(alloc)?)?
         .subcommand(rehearse_command(alloc)?)?
-        .subcommand(session_command(alloc)?)
+        .subcommand(session_command(alloc)?)?
+        .subcommand(completions_command(alloc)?)
 }
