@@ -3,6 +3,7 @@
 
 mod clock;
 mod founding;
+mod naming;
 mod ordering;
 mod running;
 mod sessions;

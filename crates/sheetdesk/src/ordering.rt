@@ -1,5 +1,6 @@
 //! A verb's words become an order over the bytes of a file. What they leave out is new, or of the clock.
 use crate::clock::{moment_now, new_uuid};
+use crate::naming::print_hint;
 use crate::running::text_of;
 use crate::streams::Input;
 use clap::ArgMatches;
@@ -7,7 +8,8 @@ use command_folder::endings::{Ending, FAILED, NO_MEMORY};
 use command_requests::orders::Order;
 use command_verbs::verbs::{Mark, Verb};
 use command_words::statuses::{Outcome, What};
-use commands::ordering::{Purpose, order_for};
+use command_named::ordering::hinted_order_for;
+use commands::ordering::Purpose;
 use sheet_types::command::Mode;
 use sheet_types::reading::read_uuid;
 use std::io::ErrorKind;
@@ -157,7 +159,16 @@ fn done_in(
     purpose: Purpose,
     reader: &mut Input<'_>,
 ) -> Ending {
-    order_for(rt, folder, order, purpose, reader, &mut io::writer(rt))
+    let (ending, hint) = hinted_order_for(
+        rt,
+        folder,
+        order,
+        purpose,
+        reader,
+        &mut io::writer(rt),
+    );
+    print_hint(rt, hint);
+    ending
 }
 
 /// The same, over the bytes of a file; of `-` those of the reader, and of no file none.

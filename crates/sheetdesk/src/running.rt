@@ -1,7 +1,8 @@
 //! A command, carried out: what it asks for is done in `cli`, `commands` and `views`.
 use crate::founding::founded;
+use crate::naming::named_look;
 use crate::ordering::{is_verb, ordered};
-use crate::showing::shown;
+use crate::showing::{Wish, shown};
 use crate::streams::{Input, Onlooker};
 use clap::error::ErrorKind;
 use clap::{ArgMatches, Error};
@@ -151,7 +152,6 @@ fn asked_look<'m>(name: &str, given: &ArgMatches<'m>) -> Option<AskedLook<'m>> {
             from: given.get_str("from"),
             last: given.get_str("last"),
         })),
-        "get" => Some(AskedLook::Get(text_of(given, "identity"))),
         "explain" => Some(AskedLook::Explain(text_of(given, "identity"))),
         "receipt" => Some(AskedLook::Receipt(text_of(given, "request"))),
         "manifest" => Some(AskedLook::Manifest(text_of(given, "package"))),
@@ -159,6 +159,17 @@ fn asked_look<'m>(name: &str, given: &ArgMatches<'m>) -> Option<AskedLook<'m>> {
         "map" => Some(AskedLook::Map(given.get_str("zoom"))),
         "audit" => Some(AskedLook::Audit),
         _ => None,
+    }
+}
+
+/// What a command wishes to look at, by a name or by its words, if it looks at a folder.
+fn wish_of<'m>(name: &str, given: &ArgMatches<'m>) -> Option<Wish<'m>> {
+    match named_look(name, given) {
+        Some(asked) => Some(Wish::Named(asked)),
+        None => match asked_look(name, given) {
+            Some(asked) => Some(Wish::Asked(asked)),
+            None => None,
+        },
     }
 }
 
@@ -185,10 +196,10 @@ pub(crate) fn carried_out(
     given: &ArgMatches<'_>,
     reader: &mut Input<'_>,
 ) -> u8 {
-    if let Some(asked) = asked_look(name, given) {
+    if let Some(wish) = wish_of(name, given) {
         return looked(
             rt,
-            &shown(rt, text_of(given, "folder"), asked, given.get_str("output")),
+            &shown(rt, text_of(given, "folder"), wish, given.get_str("output")),
         );
     }
     let ending = match name {
