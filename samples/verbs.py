@@ -175,7 +175,9 @@ def no_request(verbs):
     # a loan whose UUID begins as the archive's does
     near = nordmark.ARCHIVE[:8] + "-0000-4000-8000-000000000001"
     verbs.lend("6/0/0", near, (6, 0, 0, 0, 0))
-    verbs.refused("return", home, f"two packages {min(nordmark.ARCHIVE, near)} {max(nordmark.ARCHIVE, near)}")
+    both = f"two packages {min(nordmark.ARCHIVE, near)} {max(nordmark.ARCHIVE, near)}"
+    verbs.refused("return", home, both)
+    verbs.refused("manifest", home, both)
     verbs.refused("return", home[:3], "a name of fewer than four digits")
     verbs.refused("return", "ffff", "no such package")
     verbs.refused("return", nordmark.ARCHIVE, "not lent")

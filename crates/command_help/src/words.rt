@@ -137,7 +137,7 @@ fn over_package<'a>(
         alloc,
         "package",
         "PACKAGE",
-        "Identity of the package, as a0000000-0000-4000-8000-000000000000",
+        "The package, by its UUID or the first digits of it, as a000",
     ))
 }
 
@@ -186,7 +186,7 @@ fn explain_command<'a>(alloc: Global) -> Result<Command<'a>, AllocError> {
         alloc,
         "identity",
         "IDENTITY",
-        "Identity of the item, as 00000000-0000-4000-8000-000000000001",
+        "The item, by its identity or the first digits of it, as 6523",
     ))
 }
 
