@@ -211,10 +211,10 @@ def verb_sessions(session):
 
 def short_names(session, world):
     """A package and an item that is looked at, by their first digits."""
-    package, light = world.packages[nordmark.ARCHIVE], nordmark.mark("light")
+    package, town = world.packages[nordmark.ARCHIVE], nordmark.sheet(6, 0, 0)
     session.run(f"manifest harbour {nordmark.ARCHIVE[:4].upper()}", reference.manifest(package))
     session.run(f"export harbour {nordmark.ARCHIVE[:14]}", export(world.frame, package))
-    session.run(f"explain harbour {light[:5]}", way_of(world, light))
+    session.run(f"explain harbour {town[:5]}", way_of(world, town))
     session.run("manifest harbour ffff", "refused: no such package\n", 1)
     session.run("explain harbour ffff", "refused: no such identity\n", 1)
     # (no UUID begins so)

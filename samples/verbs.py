@@ -12,6 +12,7 @@ import reference
 from machine.frames import Frame
 from machine.lists import FIELDS, HEADER
 from machine.world import Receipt, World, apply
+from reference import KINDS
 
 TOWN, MOLE = (6, 0, 0), (6, 1, 0)
 GIVEN = re.compile(r" --(?:at|request|as|archive) \S+")
@@ -34,6 +35,8 @@ def deed_of(request):
     match request["command"]:
         case "add":
             return f"added {request['identity']}\n"
+        case "delete":
+            return f"deleted {request['identity']}\n"
         case "link":
             return f"joined {request['identity']} {request['other']}\n"
         case "unlink":
@@ -118,6 +121,22 @@ class Verbs:
         request = {"command": command, "package": package, "identity": base, "other": other, "kind": mapping}
         return self.do(verb, f"{first[:6]} {second.upper()}", request)
 
+    def drop(self, word, identity, option="", package=nordmark.ARCHIVE):
+        """An item is deleted, and its links are ended before, where that is allowed; else they are told."""
+        given, _ = self.given(None)
+        links = sorted((link for link in self.world.packages[package].links if identity in link[1:]), key=lambda link: (KINDS[link[0]], *link))
+        words = f"drop {self.folder} {word}{option} --at {given['at']}"
+        if links and not option:
+            told = "".join(f"linked {base} {other}\n" for _, base, other in links)
+            return self.session.run(words, told + "refused: linked\n", 1)
+        ends = [{"command": "unlink", "kind": mapping, "identity": base, "other": other} for mapping, base, other in links]
+        text = ""
+        for number, request in enumerate([*ends, {"command": "delete", "identity": identity}]):
+            # (the program makes the UUIDs of these requests itself, and prints none)
+            request = {**given, "request": nordmark.name_uuid("drop", f"{words} {number}"), "package": package, **request}
+            text += deed_of(request) + counts_of(apply(self.world, request))
+        return self.session.run(words, text)
+
 
 def first_loan(session):
     """A sheet is lent, a photograph is added to it, and it comes home."""
@@ -195,6 +214,16 @@ def no_request(verbs):
     verbs.bring_home(near, nordmark.ARCHIVE, 10)
 
 
+def come_to_an_end(verbs):
+    """Items that are dropped: with links and without."""
+    photo, book = nordmark.medium("photo-lighthouse"), nordmark.medium("level-book")
+    verbs.drop(photo[:4].upper(), photo)
+    verbs.drop(photo[:4], photo, " --yes")
+    verbs.drop(book, book)
+    verbs.refused("drop", book, "no such item")
+    verbs.refused("drop", book[:3], "a name of fewer than four digits")
+
+
 def every_verb(session):
     """All verbs, the first of each kind shown before it is carried out."""
     verbs = Verbs(session, "harbour", True)
@@ -205,4 +234,5 @@ def every_verb(session):
     go_and_come(verbs)
     come_out(verbs)
     no_request(verbs)
+    come_to_an_end(verbs)
     return verbs.world

@@ -19,6 +19,8 @@ const JOIN_ABOUT: &str = "Links two items; their kinds tell how";
 
 const PART_ABOUT: &str = "Ends the link of two items";
 
+const DROP_ABOUT: &str = "Deletes an item; its links are ended before, where --yes allows it";
+
 /// After the words of a verb.
 const VERB_WORDS: &str =
     "A verb makes one request and carries it out. Its UUID and that of what it makes are new, and its moment
@@ -226,4 +228,23 @@ pub(crate) fn join_command<'a>(alloc: Global) -> Result<Command<'a>, AllocError>
 /// Ends the link of two items.
 pub(crate) fn part_command<'a>(alloc: Global) -> Result<Command<'a>, AllocError> {
     of_two(alloc, "part", PART_ABOUT)
+}
+
+/// Deletes an item.
+pub(crate) fn drop_command<'a>(alloc: Global) -> Result<Command<'a>, AllocError> {
+    Command::new(alloc, "drop")
+        .about(DROP_ABOUT)
+        .arg(option(
+            alloc,
+            "at",
+            "AT",
+            "Moment of the requests, as 2024-05-01T08:00:00.000Z; else that of the clock",
+        ))?
+        .arg(flag(
+            alloc,
+            "yes",
+            "End the links of the item, a request each; else an item that has links stays, and they are told",
+        ))?
+        .arg(folder(alloc))?
+        .arg(word(alloc, "identity", "IDENTITY", "The item, as 6523"))
 }

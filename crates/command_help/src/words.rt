@@ -4,7 +4,9 @@ use crate::help::{
     IMPORT_ABOUT, INIT_ABOUT, LOG_ABOUT, MANIFEST_ABOUT, MAP_ABOUT, RECEIPT_ABOUT, REHEARSE_ABOUT,
     REHEARSE_WORDS, SERVE_ABOUT, SESSION_ABOUT, SESSION_WORDS, STATUS_ABOUT, WORDS,
 };
-use crate::verbs::{join_command, lend_command, part_command, put_command, return_command};
+use crate::verbs::{
+    drop_command, join_command, lend_command, part_command, put_command, return_command,
+};
 use clap::{Arg, ArgAction, Command};
 use std::alloc::{AllocError, Global};
 
@@ -269,6 +271,7 @@ pub fn sheetdesk<'a>(alloc: Global) -> Result<Command<'a>, AllocError> {
         .subcommand(return_command(alloc)?)?
         .subcommand(join_command(alloc)?)?
         .subcommand(part_command(alloc)?)?
+        .subcommand(drop_command(alloc)?)?
         .subcommand(apply_command(alloc)?)?
         .subcommand(import_command(alloc)?)?
         .subcommand(status_command(alloc)?)?

@@ -1,5 +1,5 @@
 -- What is found among some UUIDs, and with one more.
-use Rattle.std.proofs.Common.{eqb-true, eq-eqb, ltb-true, ltb-false, append_assoc, ◌≡◌, ◌==◌, ◌<◌, ◌≤◌, ◌+◌, ◌∙◌, ℕ, suc, Bool, true, false, cond, List, [], ◌∷◌, ◌++◌, length, refl, sym, ap, subst, arith, Option, Some, None, filter, map, take, get_or, nat_lt}
+use Rattle.std.proofs.Common.{eqb-true, eq-eqb, ltb-true, ltb-false, append_assoc, ◌≡◌, ◌==◌, ◌&&◌, ◌<◌, ◌≤◌, ◌+◌, ◌∙◌, ℕ, suc, Bool, true, false, cond, List, [], ◌∷◌, ◌++◌, length, refl, sym, ap, subst, arith, Option, Some, None, filter, map, take, get_or, nat_lt}
 use Rattle.std.specs.Char.{to_ascii_lowercase}
 use Rattle.std.specs.List.{AllByRecursion}
 use Rattle.std.proofs.lemmas.List.{take_more}
@@ -24,7 +24,7 @@ suc_same n m =
 none_same : (m : ℕ) → false ≡ (0 == suc m)
 none_same m = bool_same false (0 == suc m) (λ e. absurd (cc)) (λ e. absurd (omega (arith, eqb-true 0 (suc m) e)))
 
-shares_by : (v : Bool) (n m : ℕ) (b : Bool) → b ≡ (n == m) → cond v b false ≡ (cond v (n + 1) 0 == suc m)
+shares_by : (v : Bool) (n m : ℕ) (b : Bool) → b ≡ (n == m) → (v && b) ≡ (cond v (n + 1) 0 == suc m)
 shares_by true n m b e = e ∙ suc_same n m
 shares_by false n m b e = none_same m
 

@@ -2,6 +2,7 @@
 #![tactic(auto)]
 
 mod clock;
+mod dropping;
 mod founding;
 mod naming;
 mod ordering;

@@ -1,4 +1,5 @@
 //! A command, carried out: what it asks for is done in `cli`, `commands` and `views`.
+use crate::dropping::dropped;
 use crate::founding::founded;
 use crate::naming::named_look;
 use crate::ordering::{is_verb, ordered};
@@ -204,6 +205,7 @@ pub(crate) fn carried_out(
     }
     let ending = match name {
         "init" => founded(rt, given),
+        "drop" => dropped(rt, given),
         _ if is_verb(name) => ordered(rt, name, given, reader),
         _ => changed(rt, name, given, reader),
     };

@@ -5,5 +5,5 @@ use Rattle.command_names.specs.Searching.{IsFound}
 use Rattle.command_names.proofs.searching.found_among.Given as goal
 
 abbrev pub invariant-loop-item : goal.invariant-loop-item
-invariant-loop-item l = (before : List (List ℕ)) → IsFound l.word before l.found
+invariant-loop-item l = (before : List (List ℕ)) → IsFound l.word before l.fn.found
     → IsFound l.word (before ++ map (λ (i : Item). i.identity) (take l.item-index l.items)) l.next
