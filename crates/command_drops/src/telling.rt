@@ -4,9 +4,10 @@ use command_replies::receipts::reply_text;
 use desk_replies::bodies::refusal_body;
 use manifest_csv::sending::send;
 use sheet_types::command::Request;
+use sheet_types::error::OutOfMemory;
 use sheet_types::receipt::Receipt;
 use sheet_types::refusal::Refusal;
-use std::alloc::{AllocError, Global};
+use std::alloc::Global;
 use std::io::Write;
 
 /// What came of a request, without the end of the last line: what it did and its receipt, or the refusal as JSON.
@@ -14,9 +15,9 @@ fn outcome_text(
     alloc: Global,
     request: &Request,
     reply: &Result<Receipt, Refusal>,
-) -> Result<String, AllocError> {
+) -> Result<String, OutOfMemory> {
     match reply {
-        Ok(receipt) => reply_text(alloc, &request.command, receipt),
+        Ok(receipt) => Ok(reply_text(alloc, &request.command, receipt)?),
         Err(why) => refusal_body(alloc, why),
     }
 }
@@ -26,7 +27,7 @@ fn outcomes_text(
     alloc: Global,
     requests: &[Request],
     replies: &[Result<Receipt, Refusal>],
-) -> Result<String, AllocError> {
+) -> Result<String, OutOfMemory> {
     let mut text = String::new(alloc);
     for (request, reply) in requests.iter().zip(replies.iter()) {
         let line = outcome_text(alloc, request, reply)?;

@@ -11,6 +11,9 @@ const PUT_ABOUT: &str = "Adds a tile, a medium or a mark to a package";
 
 const TILE_ABOUT: &str = "Adds a tile at a place, from a file";
 
+const TILES_ABOUT: &str =
+    "Adds the tiles of a tree of files ZOOM/COLUMN/ROW.png, a request each; those that are there are passed over";
+
 const MEDIA_ABOUT: &str = "Adds a photograph or another medium, from a file";
 
 const MARK_ABOUT: &str = "Adds a survey mark: a point, a code and a label";
@@ -165,6 +168,29 @@ fn tile_command<'a>(alloc: Global) -> Result<Command<'a>, AllocError> {
         ))
 }
 
+/// Adds the tiles of a tree.
+fn tiles_command<'a>(alloc: Global) -> Result<Command<'a>, AllocError> {
+    Command::new(alloc, "tiles")
+        .about(TILES_ABOUT)
+        .arg(option(
+            alloc,
+            "at",
+            "AT",
+            "Moment of the requests, as 2024-05-01T08:00:00.000Z; else that of the clock",
+        ))?
+        .arg(flag(
+            alloc,
+            "tms",
+            "The rows of the files run upwards, as in a TMS",
+        ))?
+        .arg(word(
+            alloc,
+            "directory",
+            "DIRECTORY",
+            "The tree, as gdal2tiles and QGIS write it",
+        ))
+}
+
 /// Adds a medium.
 fn media_command<'a>(alloc: Global) -> Result<Command<'a>, AllocError> {
     making(alloc, "media", MEDIA_ABOUT)?
@@ -204,6 +230,7 @@ pub(crate) fn put_command<'a>(alloc: Global) -> Result<Command<'a>, AllocError> 
         .arg(folder(alloc))?
         .arg(word(alloc, "package", "PACKAGE", "The package, as c3f1"))?
         .subcommand(tile_command(alloc)?)?
+        .subcommand(tiles_command(alloc)?)?
         .subcommand(media_command(alloc)?)?
         .subcommand(mark_command(alloc)?)
 }

@@ -1,29 +1,12 @@
 //! An item is dropped: the identities of the requests are new, and their moment is that of the clock, unless it is given.
-use crate::clock::new_uuid;
+use crate::clock::NewIdentities;
 use crate::naming::print_hint;
 use crate::ordering::moment_given;
 use crate::running::text_of;
 use clap::ArgMatches;
-use command_drops::requests::Identities;
 use command_drops::dropping::{Dropping, drop_for};
 use command_folder::endings::Ending;
 use std::io;
-use uuid::Uuid;
-
-/// Identities that are new.
-#[derive(Drop)]
-struct NewIdentities<'r> {
-    rt: &'r HostRuntime,
-}
-
-impl<'r> Identities for NewIdentities<'r> {
-    fn next_identity(&mut self) -> Option<Uuid> {
-        match new_uuid(self.rt) {
-            Ok(id) => Some(id),
-            Err(_) => None,
-        }
-    }
-}
 
 /// Drops an item of a folder's packages.
 pub(crate) fn dropped(rt: &HostRuntime, given: &ArgMatches<'_>) -> Ending {

@@ -10,6 +10,7 @@ mod running;
 mod sessions;
 mod showing;
 mod streams;
+mod trees;
 
 use crate::running::out_of_memory;
 use crate::sessions::run;

@@ -17,7 +17,7 @@ use std::{fs, io};
 use uuid::Uuid;
 
 /// Says on standard error what could not be had, and answers how the program ends.
-fn without(rt: &HostRuntime, what: &str, error: &io::Error, ending: Ending) -> Ending {
+pub(crate) fn without(rt: &HostRuntime, what: &str, error: &io::Error, ending: Ending) -> Ending {
     if error.kind() == ErrorKind::OutOfMemory {
         return NO_MEMORY;
     }

@@ -5,6 +5,7 @@ use crate::naming::named_look;
 use crate::ordering::{is_verb, ordered};
 use crate::showing::{Wish, shown};
 use crate::streams::{Input, Onlooker};
+use crate::trees::put_tree;
 use clap::error::ErrorKind;
 use clap::{ArgMatches, Error};
 use cli::rehearse::rehearse;
@@ -190,6 +191,14 @@ fn changed(rt: &HostRuntime, name: &str, given: &ArgMatches<'_>, reader: &mut In
     }
 }
 
+/// Adds the tiles of a tree, or an item.
+fn put(rt: &HostRuntime, given: &ArgMatches<'_>, reader: &mut Input<'_>) -> Ending {
+    match given.subcommand() {
+        Some(("tiles", words)) => put_tree(rt, given, words),
+        _ => ordered(rt, "put", given, reader),
+    }
+}
+
 /// Carries out the command of this name, and answers the exit status.
 pub(crate) fn carried_out(
     rt: &HostRuntime,
@@ -206,6 +215,7 @@ pub(crate) fn carried_out(
     let ending = match name {
         "init" => founded(rt, given),
         "drop" => dropped(rt, given),
+        "put" => put(rt, given, reader),
         _ if is_verb(name) => ordered(rt, name, given, reader),
         _ => changed(rt, name, given, reader),
     };

@@ -8,7 +8,7 @@ use Rattle.command_names.proofs.searching.found_named.Goals as goal
 
 pub loop-entry-preserved : goal.loop-entry-preserved
 loop-entry-preserved c = λ before it.
-    subst (λ ids. IsFound c.args.word.now ids _)
+    subst (λ ids. IsFound c.args.word.now ids c.found_with-next.result)
     (behind_more (λ (p : PackageEntry). p.uuid) before c.args.packages.now c.loop-entry.entry-index c.entry-item.result c.loop-entry-test.true c.entry-item.is)
     (c.found_with-next.ensures (before ++ map (λ (p : PackageEntry). p.uuid) (take c.loop-entry.entry-index c.args.packages.now)) (c.loop-entry.invariant before it))
 
