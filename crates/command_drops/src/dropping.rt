@@ -131,14 +131,7 @@ fn drop_item<S: Alter + Drop, H: Shelf<S>, N: Identities, W: Write>(
 ) -> Ending {
     match holding_of(alloc, world, id) {
         Ok(Some(holding)) => drop_held(
-            alloc,
-            world,
-            shelf,
-            dropping,
-            id,
-            &holding,
-            identities,
-            writer,
+            alloc, world, shelf, dropping, id, &holding, identities, writer,
         ),
         Ok(None) => FAILED,
         Err(fault) => stopped(fault),

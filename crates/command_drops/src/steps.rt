@@ -47,7 +47,12 @@ fn unlink(holder: Uuid, link: &Relation) -> Command
 fn unlinks(alloc: Global, holder: Uuid, links: &[Relation]) -> Result<Vec<Command>, Fault>
     ensures { IfOk result (λ commands. commands.items ≡ map (unlink holder) links.now) }
 {
-    Ok(links.iter().map(|link| unlink(holder, link)).collect(alloc)?)
+    Ok(
+        links
+            .iter()
+            .map(|link| unlink(holder, link))
+            .collect(alloc)?,
+    )
 }
 
 /// The commands that drop an item which has these links.

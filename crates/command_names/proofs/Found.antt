@@ -90,9 +90,14 @@ nearer_than_one word before best id more (front, back, e, some, fewer, no_more) 
 
 one_still : (word : List ℕ) (before : List (List ℕ)) (best id : List ℕ) → shared_by word id ≤ shared_by word best
     → IsNearest word before (Some best) → IsNearest word (before ++ (id ∷ [])) (Some best)
-one_still word before best id few (front, back, e, some, fewer, no_more) =
-    (front, back ++ (id ∷ []), ap (λ l. l ++ (id ∷ [])) e ∙ append_assoc front (best ∷ back) (id ∷ []), some, fewer,
-    all_behind (λ i. shared_by word i ≤ shared_by word best) back id no_more few)
+one_still word before best id few (front, back, e, some, fewer, no_more) = (
+  front,
+  back ++ (id ∷ []),
+  ap (λ l. l ++ (id ∷ [])) e ∙ append_assoc front (best ∷ back) (id ∷ []),
+  some,
+  fewer,
+  all_behind (λ i. shared_by word i ≤ shared_by word best) back id no_more few,
+)
 
 -- ---- what is found with one more
 

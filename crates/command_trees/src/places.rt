@@ -51,5 +51,8 @@ fn is_tile(item: &Item, place: &Place, data: &[u8]) -> bool {
 
 /// Whether such a tile is among items.
 pub fn is_there(items: &[Item], place: &Place, data: &[u8]) -> bool {
-    items.iter().find(|item| is_tile(item, place, data)).is_some()
+    items
+        .iter()
+        .find(|item| is_tile(item, place, data))
+        .is_some()
 }

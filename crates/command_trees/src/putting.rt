@@ -138,7 +138,9 @@ pub fn put_tree_in<'t, S: Alter + Drop, H: Shelf<S>, N: Identities, F: Sheets, W
                 at: words.at,
                 is_upward: words.is_upward,
             };
-            let ending = put_into(alloc, world, shelf, &target, files, sheets, identities, writer);
+            let ending = put_into(
+                alloc, world, shelf, &target, files, sheets, identities, writer,
+            );
             (ending, None)
         }
         Err(fault) => {
@@ -160,14 +162,7 @@ fn put_tree_with<'t, S: Alter + Drop, H: Shelf<S>, N: Identities, F: Sheets, W: 
     writer: &mut W,
 ) -> (Ending, Option<Hint<'t>>, Vec<Connection<S>>) {
     let (ending, hint) = put_tree_in(
-        alloc,
-        &mut world,
-        shelf,
-        words,
-        files,
-        sheets,
-        identities,
-        writer,
+        alloc, &mut world, shelf, words, files, sheets, identities, writer,
     );
     (ending, hint, world.into_stores())
 }

@@ -5,10 +5,10 @@ use crate::running::text_of;
 use crate::streams::Input;
 use clap::ArgMatches;
 use command_folder::endings::{Ending, FAILED, NO_MEMORY};
+use command_named::ordering::hinted_order_for;
 use command_requests::orders::Order;
 use command_verbs::verbs::{Mark, Verb};
 use command_words::statuses::{Outcome, What};
-use command_named::ordering::hinted_order_for;
 use commands::ordering::Purpose;
 use sheet_types::command::Mode;
 use sheet_types::reading::read_uuid;
@@ -159,14 +159,7 @@ fn done_in(
     purpose: Purpose,
     reader: &mut Input<'_>,
 ) -> Ending {
-    let (ending, hint) = hinted_order_for(
-        rt,
-        folder,
-        order,
-        purpose,
-        reader,
-        &mut io::writer(rt),
-    );
+    let (ending, hint) = hinted_order_for(rt, folder, order, purpose, reader, &mut io::writer(rt));
     print_hint(rt, hint);
     ending
 }

@@ -55,12 +55,7 @@ fn shown_in(rt: &HostRuntime, folder: &str, wish: Wish<'_>, path: &str) -> Endin
 }
 
 /// Looks at a folder, and prints what was found, or keeps it in a file.
-pub(crate) fn shown(
-    rt: &HostRuntime,
-    folder: &str,
-    wish: Wish<'_>,
-    path: Option<&str>,
-) -> Ending {
+pub(crate) fn shown(rt: &HostRuntime, folder: &str, wish: Wish<'_>, path: Option<&str>) -> Ending {
     match path {
         Some(path) => shown_in(rt, folder, wish, path),
         None => looked_at(rt, folder, wish, &mut Output::Standard(io::writer(rt))),
