@@ -129,7 +129,8 @@ pub(crate) fn lend_command<'a>(alloc: Global) -> Result<Command<'a>, AllocError>
             "first",
             "FROM|AREA",
             "The sheets, as 5/0-3/2: zoom, columns, rows; or before them the package that lends",
-        ))?
+        )
+        .required(false))?
         .arg(word(
             alloc,
             "second",
@@ -137,6 +138,20 @@ pub(crate) fn lend_command<'a>(alloc: Global) -> Result<Command<'a>, AllocError>
             "The sheets, where a package that lends is named; else the archive lends",
         )
         .required(false))?
+        .arg(option(
+            alloc,
+            "box",
+            "WEST,SOUTH,EAST,NORTH",
+            "In place of AREA: the least area that covers this box, in units of the reference system",
+        )
+        .requires_arg("zoom")?)?
+        .arg(option(
+            alloc,
+            "zoom",
+            "ZOOM",
+            "The zoom of the sheets that cover the box",
+        )
+        .requires_arg("box")?)?
         .arg(flag(
             alloc,
             "follow",

@@ -26,7 +26,11 @@ pub(crate) fn without(rt: &HostRuntime, what: &str, error: &io::Error, ending: E
 }
 
 /// The UUID of an option, or a new one.
-fn uuid_given(rt: &HostRuntime, given: &ArgMatches<'_>, id: &str) -> Result<Uuid, Ending> {
+pub(crate) fn uuid_given(
+    rt: &HostRuntime,
+    given: &ArgMatches<'_>,
+    id: &str,
+) -> Result<Uuid, Ending> {
     match given.get_str(id) {
         Some(word) => match read_uuid(word) {
             Some(uuid) => Ok(uuid),
@@ -97,6 +101,15 @@ fn put_verb<'m>(given: &ArgMatches<'m>, identity: Uuid) -> Option<Verb<'m>> {
     }
 }
 
+/// Whether a loan takes along what belongs to other sheets too.
+pub(crate) fn mode_of(given: &ArgMatches<'_>) -> Mode {
+    if given.get_flag("follow") {
+        Mode::Follow
+    } else {
+        Mode::Strict
+    }
+}
+
 /// The loan that the words ask for. One word is the area; of two the first is the package that lends.
 fn lend_verb<'m>(given: &ArgMatches<'m>, loan: Uuid) -> Verb<'m> {
     let first = text_of(given, "first");
@@ -104,15 +117,10 @@ fn lend_verb<'m>(given: &ArgMatches<'m>, loan: Uuid) -> Verb<'m> {
         Some(area) => (Some(first), area),
         None => (None, first),
     };
-    let mode = if given.get_flag("follow") {
-        Mode::Follow
-    } else {
-        Mode::Strict
-    };
     Verb::Lend {
         from,
         area,
-        mode,
+        mode: mode_of(given),
         loan,
     }
 }
@@ -143,7 +151,7 @@ pub(crate) fn is_verb(name: &str) -> bool {
 }
 
 /// What becomes of the request.
-fn purpose_of(options: &ArgMatches<'_>) -> Purpose {
+pub(crate) fn purpose_of(options: &ArgMatches<'_>) -> Purpose {
     if options.get_flag("dry-run") {
         Purpose::Show
     } else {

@@ -1,4 +1,5 @@
 //! A command, carried out: what it asks for is done in `cli`, `commands` and `views`.
+use crate::boxes::lend_box;
 use crate::dropping::dropped;
 use crate::founding::founded;
 use crate::naming::named_look;
@@ -199,6 +200,14 @@ fn put(rt: &HostRuntime, given: &ArgMatches<'_>, reader: &mut Input<'_>) -> Endi
     }
 }
 
+/// Lends the sheets that cover a box, or those of an area.
+fn lend(rt: &HostRuntime, given: &ArgMatches<'_>, reader: &mut Input<'_>) -> Ending {
+    match given.get_str("box") {
+        Some(words) => lend_box(rt, given, words),
+        None => ordered(rt, "lend", given, reader),
+    }
+}
+
 /// Carries out the command of this name, and answers the exit status.
 pub(crate) fn carried_out(
     rt: &HostRuntime,
@@ -216,6 +225,7 @@ pub(crate) fn carried_out(
         "init" => founded(rt, given),
         "drop" => dropped(rt, given),
         "put" => put(rt, given, reader),
+        "lend" => lend(rt, given, reader),
         _ if is_verb(name) => ordered(rt, name, given, reader),
         _ => changed(rt, name, given, reader),
     };
