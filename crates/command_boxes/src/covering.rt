@@ -1,11 +1,11 @@
 //! The least rectangle of sheets of one zoom that covers a box.
 ghost use Rattle.std.specs.Prelude.{◌≡◌, ◌≤ℤ◌, ◌*ℤ◌, ℤ, pos, IfSome, IfNone, IsTrue};
-ghost use Rattle.sheet_types.specs.Matrix.{is_good_frame};
+ghost use Rattle.sheet_types.specs.Matrix.{has_level, is_good_frame};
 ghost use Rattle.matrix_rules.specs.Axes.{IsAxis};
 ghost use Rattle.command_boxes.specs.Covering.{IsCovered, Covers};
 
 use matrix_rules::axis::{Axis, axes_at};
-use matrix_rules::ground::has_level;
+use matrix_rules::ground::has_place;
 use sheet_types::frame::{Frame, Ground, Rect};
 
 /// The first and the last tile of an axis between which a stretch from `low` to `high` lies; `None` where the axis does not have all of it, or
@@ -19,6 +19,14 @@ fn tiles_over(axis: &Axis, low: i64, high: i64) -> Option<(i64, i64)>
         return None;
     }
     Some((low / axis.span, (high - 1) / axis.span))
+}
+
+/// Whether a frame has a zoom: it has the first place of it.
+fn has_zoom(frame: &Frame, zoom: i64) -> bool
+    requires { IsTrue (is_good_frame frame.now) }
+    ensures { IsTrue result → IsTrue (has_level frame.now zoom) }
+{
+    has_place(frame, zoom, 0, 0)
 }
 
 /// Whether the bounds of a box are such as a frame may have.
@@ -35,7 +43,7 @@ pub fn covering(frame: &Frame, zoom: i64, ground: &Ground) -> Option<Rect>
     requires { IsTrue (is_good_frame frame.now) }
     ensures some { IfSome result (Covers frame.now zoom ground.now) }
 {
-    if !has_small_bounds(ground) || !has_level(frame, zoom) {
+    if !has_small_bounds(ground) || !has_zoom(frame, zoom) {
         return None;
     }
     let axes = axes_at(frame, zoom);

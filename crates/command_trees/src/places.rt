@@ -2,19 +2,16 @@
 use command_verbs::areas::Place;
 use matrix_rules::axis::axes_at;
 use matrix_rules::check::FrameRules;
-use matrix_rules::ground::has_level;
+use matrix_rules::ground::has_place;
 use sheet_types::command::{Content, Item};
 use sheet_types::frame::Frame;
 
 /// The row that is counted from the other edge of a zoom; `None` where the frame has no such zoom, or the zoom no such row.
 fn turned_row(frame: &Frame, zoom: i64, row: i64) -> Option<i64> {
-    if frame.check().is_err() || !has_level(frame, zoom) {
+    if frame.check().is_err() || !has_place(frame, zoom, 0, row) {
         return None;
     }
     let rows = axes_at(frame, zoom).down.tiles;
-    if row < 0 || rows <= row {
-        return None;
-    }
     Some(rows - 1 - row)
 }
 
