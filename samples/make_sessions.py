@@ -206,6 +206,11 @@ def verb_sessions(session):
     session.run("log harbour --last few", "refused: number\n", 1)
     session.run("audit harbour", f"good {len(world.receipts)}\n")
     short_names(session, world)
+    session.show("")
+    session.show("# Trees of tiles, and a loan of what covers a box.")
+    world = verbs.trees_and_boxes(session)
+    session.run("status tree", status_of(world) + strays_of(world))
+    session.run("audit tree", f"good {len(world.receipts)}\n")
     return shown
 
 

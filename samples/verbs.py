@@ -137,6 +137,41 @@ class Verbs:
             text += deed_of(request) + counts_of(apply(self.world, request))
         return self.session.run(words, text)
 
+    def tree(self, path, places, option=""):
+        """The tiles of files come into the archive. The rows of a TMS run upwards."""
+        given, _ = self.given(None)
+        words = f"put {self.folder} {nordmark.ARCHIVE[:4]} tiles {path}{option} --at {given['at']}"
+        added, passed, told = 0, 0, ""
+        for number, (zoom, column, row) in enumerate(sorted(places)):
+            rows = self.world.frame.matrix(zoom)[1]
+            place = (zoom, column, rows - 1 - row if option else row)
+            data = self.session.files[self.session.name(f"{path}/{zoom}/{column}/{row}.png", nordmark.SHEETS.get(place, "no sheet").encode())]
+            held = self.world.packages[nordmark.ARCHIVE]
+            if place in held.places and held.items[held.places[place]]["data"] == data:
+                passed += 1
+                continue
+            # (the program makes these UUIDs itself, and prints none)
+            request, identity = (nordmark.name_uuid(kind, f"{words} {number}") for kind in ("tree", "leaf"))
+            at = dict(zip(["zoom", "column", "row"], place))
+            members = {"command": "add", "package": nordmark.ARCHIVE, "identity": identity, "kind": "tile", "data": data}
+            reply = apply(self.world, {**given, "request": request, **members, **at})
+            if not isinstance(reply, Receipt):
+                told = reference.reply_text(reply) + "\n"
+                break
+            added += 1
+        self.session.run(words, f"added {added}, passed over {passed}\n" + told, 1 if told else 0)
+
+    def lend_box(self, box, zoom, loan, option=""):
+        """What a box meets is lent: each sheet of which more than an edge lies in it."""
+        west, south, east, north = (round(float(part) * 1000) for part in box.split(","))
+        frame = self.world.frame
+        columns, rows = (range(count) for count in frame.matrix(zoom))
+        across, down = (frame.max_x - frame.min_x) // len(columns), (frame.max_y - frame.min_y) // len(rows)
+        met_columns = [at for at in columns if frame.min_x + at * across < east and west < frame.min_x + (at + 1) * across]
+        met_rows = [at for at in rows if frame.max_y - at * down > south and north > frame.max_y - (at + 1) * down]
+        rect = (zoom, met_columns[0], met_columns[-1], met_rows[0], met_rows[-1])
+        return self.lend(f"--box {box} --zoom {zoom}{option}", loan, rect)
+
 
 def first_loan(session):
     """A sheet is lent, a photograph is added to it, and it comes home."""
@@ -235,4 +270,24 @@ def every_verb(session):
     come_out(verbs)
     no_request(verbs)
     come_to_an_end(verbs)
+    return verbs.world
+
+
+def trees_and_boxes(session):
+    """Trees of tiles come into an archive, and what covers a box is lent."""
+    verbs = Verbs(session, "tree", False)
+    sheets = [(4, 0, 0), (5, 0, 0), (5, 1, 0), (5, 3, 5), (6, 0, 0), (6, 0, 4)]
+    verbs.tree("samples/tree", sheets)
+    verbs.tree("samples/tree", sheets)
+    # (row 11 of twelve is row 0 from above, and row 1 of three is in the middle)
+    verbs.tree("samples/upward", [(4, 1, 1), (6, 0, 11)], " --tms")
+    verbs.tree("samples/beside", [(4, 1, 0), (6, 8, 0), (6, 9, 0)])
+    verbs.refused("put", f"{nordmark.ARCHIVE[:4]} tiles samples/first.csv", "body")
+    verbs.lend_box("500000,5951200,510240,5961440", 5, nordmark.HARBOUR)
+    verbs.bring_home(nordmark.HARBOUR, nordmark.ARCHIVE)
+    verbs.lend_box("505000,5950000,512000.5,5961000", 5, nordmark.BOAT)
+    verbs.refused("lend", "--box 499999.999,5951200,510240,5961440 --zoom 5", "area")
+    verbs.refused("lend", "--box 500000,5951200,510240,5961440 --zoom 7", "area")
+    verbs.refused("lend", "--box 500000,5951200,500000,5961440 --zoom 5", "area")
+    verbs.refused("lend", "--box 500000,5951200,510240 --zoom 5", "number")
     return verbs.world
