@@ -21,7 +21,10 @@ fn request_from<N: Identities>(
     let Some(id) = identities.next_identity() else {
         return Err(Fault::StoreFault);
     };
-    Ok(request_of(alloc, id, at, command)?)
+    match request_of(alloc, id, at, command) {
+        Ok(request) => Ok(request),
+        Err(_) => Err(Fault::OutOfMemory),
+    }
 }
 
 /// Commands as requests, all at this moment.

@@ -36,7 +36,7 @@ pub struct Counts {
 }
 
 /// Why no more tiles are added.
-#[derive(Clone, Copy, Debug, PartialEq, Eq)]
+#[derive(Clone, Copy, PartialEq, Eq)]
 pub enum AddFault {
     /// The frame has no such row.
     BadPlace,
