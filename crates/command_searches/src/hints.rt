@@ -72,8 +72,9 @@ fn either_hint<'t, S: Alter + Drop>(
     ensures told { TellsOf S.Store (λ w hint. IsEitherHint w first second hint) world.old world.new result }
     ensures read { IsUntouched S.Store world.old world.new }
 {
-    if let Some(hint) = item_hint(alloc, world, first)? {
-        return Ok(Some(hint));
+    let hint = item_hint(alloc, world, first)?;
+    if hint.is_some() {
+        return Ok(hint);
     }
     let other = item_hint(alloc, world, second)?;
     Ok(other)
