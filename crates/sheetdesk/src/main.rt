@@ -1,13 +1,17 @@
 //! The program `sheetdesk`: the words that it is called with, and the exit status.
 #![tactic(auto)]
 
+mod boxes;
 mod clock;
+mod dropping;
 mod founding;
+mod naming;
 mod ordering;
 mod running;
 mod sessions;
 mod showing;
 mod streams;
+mod trees;
 
 use crate::running::out_of_memory;
 use crate::sessions::run;
