@@ -122,7 +122,7 @@ fn look_at_found<'t, S: Alter + Drop, W: Write>(
 ) -> (Ending, Option<Hint<'t>>, Vec<Connection<S>>) {
     match found {
         Found::One(id) => {
-            let (ending, stores) = look_in(alloc, world, 0, look_of(asked, id), writer);
+            let (ending, stores) = look_in(alloc, world, 0, &look_of(asked, id), writer);
             (ending, None, stores)
         }
         Found::Two(first, second) => {
