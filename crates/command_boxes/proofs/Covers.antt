@@ -183,14 +183,14 @@ is_inside f zoom g r other good level it covers =
     let x = it.across in
     let y = it.down in
     record {
-      columns =
-        ( is_no_later other.column r.column (tile_span_x f zoom) _ wide x.within.0 (from_edge f.min_x g.west _ ground.west) x.begins.1
-        , is_no_later r.last_column other.last_column (tile_span_x f zoom) _ wide last.0 (same _) (ends_behind f.min_x g.east _ _ x.ends.0 ground.east)
-        );
-      rows =
-        ( is_no_later other.row r.row (tile_span_y f zoom) _ high y.within.0 (under_edge f.max_y g.north _ ground.north) y.begins.1
-        , is_no_later r.last_row other.last_row (tile_span_y f zoom) _ high last.1 (same _) (ends_below f.max_y g.south _ _ y.ends.0 ground.south)
-        );
+      columns = (
+        is_no_later other.column r.column (tile_span_x f zoom) _ wide x.within.0 (from_edge f.min_x g.west _ ground.west) x.begins.1,
+        is_no_later r.last_column other.last_column (tile_span_x f zoom) _ wide last.0 (same _) (ends_behind f.min_x g.east _ _ x.ends.0 ground.east),
+      );
+      rows = (
+        is_no_later other.row r.row (tile_span_y f zoom) _ high y.within.0 (under_edge f.max_y g.north _ ground.north) y.begins.1,
+        is_no_later r.last_row other.last_row (tile_span_y f zoom) _ high last.1 (same _) (ends_below f.max_y g.south _ _ y.ends.0 ground.south),
+      );
     }
 
 pub least_of : (f : Frame) (g : Ground) (r : Rect) → GoodFrame f → has_level f r.zoom ≡ true → Stretches f r.zoom g r → IsLeastCover f r.zoom g r

@@ -49,11 +49,7 @@ fn least_cover(frame: &Frame, zoom: i64, ground: &Ground) -> Rect
         ground.west - frame.min_x,
         ground.east - frame.min_x,
     );
-    let (row, last_row) = tiles_over(
-        down,
-        frame.max_y - ground.north,
-        frame.max_y - ground.south,
-    );
+    let (row, last_row) = tiles_over(down, frame.max_y - ground.north, frame.max_y - ground.south);
     Rect {
         zoom,
         column,
