@@ -1,5 +1,10 @@
 //! Which package holds an item, and the links that it has there.
-use crate::steps::links_of;
+ghost use Rattle.std.specs.Prelude.{◌≡◌, IfOk, option_map};
+ghost use Rattle.world.specs.Worlds.{IsRead, TellsOf};
+ghost use Rattle.command_requests.specs.Listing.{IsUntouched};
+ghost use Rattle.command_drops.specs.Holding.{AreLinksIn, AreLinksOf, IsHeldAmong, IsHeldIn, holds};
+
+use command_plans::drops::links_of;
 use command_requests::listing::packages_of;
 use command_verbs::names::PackageEntry;
 use package_tables::fault::Fault;
@@ -17,33 +22,56 @@ pub struct Holding {
 }
 
 /// Whether an item is among these.
-fn holds(items: &[Item], id: Uuid) -> bool {
-    items.iter().find(|item| item.identity == id).is_some()
+fn holds(items: &[Item], id: Uuid) -> bool
+    ensures { result ≡ holds items.now id }
+{
+    items.iter().any(|item| item.identity == id)
 }
 
-/// The links of an item in a package, if it is held there.
+/// The links of an item among those of a package, if the package holds it.
+fn links_among(
+    alloc: Global,
+    items: &[Item],
+    links: &[Relation],
+    id: Uuid,
+) -> Result<Option<Vec<Relation>>, Fault>
+    ensures { IfOk result (λ found. AreLinksOf items.now links.now id (option_map (λ v. v.items) found)) }
+{
+    if !holds(items, id) {
+        return Ok(None);
+    }
+    match links_of(alloc, links, id) {
+        Ok(found) => Ok(Some(found)),
+        Err(_) => Err(Fault::OutOfMemory),
+    }
+}
+
+/// The same of a package of a world.
 fn links_in<S: Alter + Drop>(
     alloc: Global,
     world: &mut World<S>,
     holder: Uuid,
     id: Uuid,
-) -> Result<Option<Vec<Relation>>, Fault> {
+) -> Result<Option<Vec<Relation>>, Fault>
+    ensures told { TellsOf S.Store (λ w found. AreLinksIn w holder id (option_map (λ v. v.items) found)) world.old world.new result }
+    ensures read { IsRead S.Store world.old world.new }
+{
     let Some((items, links)) = world.holdings(alloc, holder)? else {
         return Err(Fault::StoreFault);
     };
-    if !holds(items.as_slice(), id) {
-        return Ok(None);
-    }
-    Ok(Some(links_of(alloc, links.as_slice(), id)?))
+    links_among(alloc, items.as_slice(), links.as_slice(), id)
 }
 
-/// The same of the first of these packages that holds it.
+/// The first of these packages that holds an item, and its links there.
 fn held_among<S: Alter + Drop>(
     alloc: Global,
     world: &mut World<S>,
     packages: &[PackageEntry],
     id: Uuid,
-) -> Result<Option<Holding>, Fault> {
+) -> Result<Option<Holding>, Fault>
+    ensures told { TellsOf S.Store (λ w found. IsHeldAmong w packages.now id found) world.old world.new result }
+    ensures read { IsUntouched S.Store world.old world.new }
+{
     for entry in packages {
         if let Some(links) = links_in(alloc, world, entry.uuid, id)? {
             return Ok(Some(Holding {
@@ -55,7 +83,7 @@ fn held_among<S: Alter + Drop>(
     Ok(None)
 }
 
-/// Which live package holds an item, and its links. The world is only read.
+/// Which live package holds an item, and its links there; `None` where none does. The world is only read.
 ///
 /// # Errors
 ///
@@ -64,7 +92,11 @@ pub fn holding_of<S: Alter + Drop>(
     alloc: Global,
     world: &mut World<S>,
     id: Uuid,
-) -> Result<Option<Holding>, Fault> {
+) -> Result<Option<Holding>, Fault>
+    ensures told { TellsOf S.Store (λ w found. IsHeldIn w id found) world.old world.new result }
+    ensures read { IsUntouched S.Store world.old world.new }
+{
     let packages = packages_of(alloc, world)?;
-    held_among(alloc, world, packages.as_slice(), id)
+    let found = held_among(alloc, world, packages.as_slice(), id)?;
+    Ok(found)
 }

@@ -1,6 +1,6 @@
 //! A loan of the sheets that cover a box.
+use crate::dropping::refuse;
 use command_boxes::covering::covering;
-use command_drops::dropping::refuse;
 use command_folder::endings::{Ending, NO_MEMORY};
 use command_folder::folders::{OpenFolder, open_folder};
 use command_names::hints::Hint;

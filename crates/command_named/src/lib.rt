@@ -2,5 +2,8 @@
 #![tactic(auto)]
 
 pub mod boxes;
+pub mod dropping;
 pub mod looking;
 pub mod ordering;
+pub mod putting;
+mod telling;

@@ -1,5 +1,5 @@
 -- What a place in the first column says of its row.
-use Rattle.std.proofs.Common.{◌≡◌, ◌∙◌, ◌&&◌, true, arith, ℤ, pos, ◌+ℤ◌, ◌-ℤ◌, ◌≤ℤ◌, ◌<ℤ◌, sym, subst, FitsSigned, w64}
+use Rattle.std.proofs.Common.{◌≡◌, ◌&&◌, true, arith, ℤ, pos, ◌≤ℤ◌, ◌<ℤ◌, sym, subst}
 use Rattle.std.specs.Prelude.{int_le, int_lt}
 use Rattle.std.proofs.lemmas.Int.{ints}
 use Rattle.sheet_types.specs.declared.frame.Frame.{Frame}

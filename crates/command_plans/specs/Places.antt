@@ -1,5 +1,5 @@
 -- Where the tiles of a tree of files lie. Profile, over OGC GeoPackage 1.3, 2.2.7 (tile matrix) and OSGeo TMS 1.0.0 (rows that run upwards).
-use Rattle.std.specs.Prelude.{◌≡◌, ◌&&◌, Bool, true, false, ℕ, List, ℤ, pos, ◌+ℤ◌, bytes_eq}
+use Rattle.std.specs.Prelude.{◌≡◌, ◌&&◌, Bool, true, false, ℕ, List, pos, ◌+ℤ◌, bytes_eq}
 use Rattle.std.specs.Ordering.{int_eq}
 use Rattle.sheet_types.specs.Matrix.{has_place, height_at, level_of}
 use Rattle.sheet_types.specs.declared.command.Content.{Content}

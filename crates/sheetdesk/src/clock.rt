@@ -1,5 +1,5 @@
 //! The moment of the clock, and new UUIDs. Nothing below the program asks for either.
-use command_drops::requests::Identities;
+use command_plans::requests::Identities;
 use jiff_core::civil::Date;
 use std::alloc::{AllocError, Global};
 use std::io;

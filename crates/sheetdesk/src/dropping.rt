@@ -4,7 +4,7 @@ use crate::naming::print_hint;
 use crate::ordering::moment_given;
 use crate::running::text_of;
 use clap::ArgMatches;
-use command_drops::dropping::{Dropping, drop_for};
+use command_named::dropping::{Dropping, drop_for};
 use command_folder::endings::Ending;
 use std::io;
 

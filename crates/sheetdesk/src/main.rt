@@ -11,6 +11,7 @@ mod running;
 mod sessions;
 mod showing;
 mod streams;
+mod tile_names;
 mod trees;
 
 use crate::running::out_of_memory;

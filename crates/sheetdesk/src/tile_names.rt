@@ -21,7 +21,7 @@ fn number_of(name: &[u8], ending: &str) -> Option<i64> {
 /// # Errors
 ///
 /// Want of memory.
-pub fn numbers_in(alloc: Global, names: &[u8], ending: &str) -> Result<Vec<i64>, AllocError> {
+pub(crate) fn numbers_in(alloc: Global, names: &[u8], ending: &str) -> Result<Vec<i64>, AllocError> {
     let mut numbers = Vec::new(alloc);
     for name in names.split(|byte| *byte == 0) {
         if let Some(number) = number_of(name, ending) {

@@ -1,12 +1,12 @@
 //! The tiles of a tree come into a package of a folder.
-use crate::adding::{AddFault, Counts, Sheets, Target, add_files};
-use command_drops::dropping::{named, refuse, stopped};
-use command_drops::requests::Identities;
+use crate::dropping::{named, refuse, stopped};
 use command_folder::endings::{DONE, Ending, FAILED, NO_MEMORY};
 use command_folder::folders::{OpenFolder, open_folder};
 use command_names::hints::{Hint, Whose};
+use command_plans::requests::Identities;
 use command_searches::hints::hint_of;
 use command_searches::searches::found_package;
+use command_trees::adding::{AddFault, Counts, Sheets, Target, add_files};
 use command_verbs::areas::Place;
 use command_verbs::faults::verb_line;
 use command_verbs::verbs::VerbFault;
