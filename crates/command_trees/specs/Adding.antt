@@ -27,6 +27,10 @@ pub record IsAddition (t : Target) (place : Place) (bytes : List ℕ) (q : Reque
 abbrev pub is_there : List Item → Place → List ℕ → Bool
 is_there items place bytes = list_any (is_tile_item place bytes) items
 
+-- of files of which it is told whether they were added: so many were, and so many were passed over
+abbrev pub AreCounted : List Bool → Counts → Type 0
+AreCounted told counts = (counts.added ≡ count_by (λ b. b) told) × (counts.passed ≡ count_by not told)
+
 module _ {S : Type 0} (g : Ghosts S) where
   -- It was asked for, and this came of it.
   abbrev pub IsAsked : Target → Place → List ℕ → Seen S → Seen S → Result Receipt Refusal → Type 0
@@ -56,8 +60,8 @@ module _ {S : Type 0} (g : Ghosts S) where
   AddsBytes t items file bytes old new (Err Unread) = new ≡ old
 
   -- the same of some bytes; or there were none, and nothing was done
-  abbrev pub AddsFile : Target → List Item → Place → Seen S → Seen S → Result Bool AddFault → Type 0
-  AddsFile t items file old new result = ((result ≡ Err Unread) × (new ≡ old)) ⊎ ((bytes : List ℕ) × AddsBytes t items file bytes old new result)
+  pub record AddsFile (t : Target) (items : List Item) (file : Place) (old new : Seen S) (result : Result Bool AddFault) : Type 0 where
+    pub came : ((result ≡ Err Unread) × (new ≡ old)) ⊎ ((bytes : List ℕ) × AddsBytes t items file bytes old new result)
 
   -- Files one after the other, each in the world that the one before left; of each it is told whether its tile was added.
   abbrev pub AreAdded : Target → List Item → List Place → List Bool → Seen S → Seen S → Type 0
@@ -66,10 +70,6 @@ module _ {S : Type 0} (g : Ghosts S) where
       (mid : Seen S) × AddsFile t items file old mid (Ok told) × AreAdded t items files rest mid new
   AreAdded t items [] (told ∷ rest) old new = ⊥
   AreAdded t items (file ∷ files) [] old new = ⊥
-
-  -- So many of them were added, and so many passed over.
-  abbrev pub AreCounted : List Bool → Counts → Type 0
-  AreCounted told counts = (counts.added ≡ count_by (λ b. b) told) × (counts.passed ≡ count_by not told)
 
   -- All of them were; or those before the first fault, which ended it.
   abbrev pub AddsFiles : Target → List Item → List Place → Seen S → Seen S → Counts → Result Unit AddFault → Type 0

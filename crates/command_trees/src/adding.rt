@@ -1,6 +1,6 @@
 //! The tiles of a tree, added one after the other.
-ghost use Rattle.std.specs.Prelude.{◌≡◌, IfOk, MatchResult};
-ghost use Rattle.command_trees.specs.Adding.{AddsBytes, AddsFile, AddsFiles, AddsTile, IsAddition};
+ghost use Rattle.std.specs.Prelude.{◌≡◌, ◌<◌, ◌+◌, ◌^◌, ◌++◌, ◌∷◌, [], Bool, List, IfOk};
+ghost use Rattle.command_trees.specs.Adding.{AddsBytes, AddsFile, AddsFiles, AddsTile, AreCounted, IsAddition};
 
 use command_plans::places::{is_there, place_of};
 use command_plans::requests::{Identities, PlanFault, request_from};
@@ -156,6 +156,26 @@ fn add_file<S: Alter + Drop, H: Shelf<S>, N: Identities, F: Sheets>(
     add_bytes(alloc, world, shelf, target, items, file, bytes, identities)
 }
 
+/// The counts with one more file, which was added or passed over.
+fn counted(counts: Counts, is_new: bool) -> Counts
+    requires { counts.added + counts.passed + 1 < 2 ^ 64 }
+    ensures one { result.added + result.passed ≡ counts.added + counts.passed + 1 }
+    ensures each { (told : List Bool) → AreCounted told counts → AreCounted (told ++ (is_new ∷ [])) result }
+{
+    let Counts { added, passed } = counts;
+    if is_new {
+        Counts {
+            added: added + 1,
+            passed,
+        }
+    } else {
+        Counts {
+            added,
+            passed: passed + 1,
+        }
+    }
+}
+
 /// Adds the tiles of files, in turn, to a package that held these items. Those that are there with the same content are passed over. What was
 /// done up to a fault stands, and is counted.
 pub fn add_files<S: Alter + Drop, H: Shelf<S>, N: Identities, F: Sheets>(
@@ -176,8 +196,7 @@ pub fn add_files<S: Alter + Drop, H: Shelf<S>, N: Identities, F: Sheets>(
     };
     for file in files {
         match add_file(alloc, world, shelf, target, items, file, sheets, identities) {
-            Ok(true) => counts.added = counts.added.saturating_add(1),
-            Ok(false) => counts.passed = counts.passed.saturating_add(1),
+            Ok(is_new) => counts = counted(counts, is_new),
             Err(fault) => return (counts, Err(fault)),
         }
     }
