@@ -1,7 +1,9 @@
 -- What was found of an item in a package that was listed, and in all of them.
-use Rattle.std.proofs.Common.{◌≡◌, ◌∙◌, ◌++◌, ◌∷◌, [], ℕ, List, Bool, true, false, Option, Some, None, Result, Ok, Err, IfOk, unwrap_or, ap, sym, subst, length, map}
+use Rattle.std.proofs.Common.{◌≡◌, ◌∙◌, ◌<◌, ◌+◌, ◌++◌, ◌∷◌, [], ℕ, take, get_or, List, Bool, true, false, Option, Some, None, Result, Ok, Err, IfOk, unwrap_or, ap, sym, subst, length, map}
 use Rattle.std.specs.Bool.{then_some}
 use Rattle.std.specs.List.{AllByRecursion}
+use Rattle.std.proofs.lemmas.List.{take_more}
+use Rattle.sheet_types.proofs.Every.{All-append}
 use Rattle.sheet_types.specs.Answers.{PackageSight, holdings_answer, package_sights}
 use Rattle.sheet_types.specs.World.{World, holdings, is_live}
 use Rattle.sheet_types.specs.declared.command.Item.{Item}
@@ -36,3 +38,10 @@ pub held_in : (w : World) (id : List ℕ) (packages : List PackageEntry) (found 
     → IsHeldAmong w packages id found → IsHeldIn w id found
 held_in w id packages (Some h) are it = it
 held_in w id packages None are none = subst (AllByRecursion (λ (s : PackageSight). IsNotHeld w id s.uuid)) are (none_listed w id packages none)
+
+-- one more package of a list
+pub none_more : (P : PackageEntry → Type 0) (packages : List PackageEntry) (i : ℕ) (p : PackageEntry) → i < length packages → p ≡ get_or packages i p
+    → AllByRecursion P (take i packages) → P p → AllByRecursion P (take (i + 1) packages)
+none_more P packages i p within is so_far here =
+    subst (AllByRecursion P) (ap (λ z. take i packages ++ z ∷ []) is ∙ sym (take_more packages i p within))
+    (All-append P (take i packages) (p ∷ []) so_far (here, tt))
