@@ -17,7 +17,7 @@ use world::world::World;
 
 /// What is told of a word by what was found.
 pub fn hint_of<'t>(whose: Whose, word: &'t str, found: Found) -> Option<Hint<'t>>
-    ensures { result ≡ hint_of whose word found }
+    ensures { result ≡ hint_of whose word.entry found }
 {
     match found {
         Found::Nearest(Some(nearest)) => Some(Hint {
@@ -39,7 +39,7 @@ pub fn package_hint<'t, S: Alter + Drop>(
     world: &World<S>,
     word: &'t str,
 ) -> Result<Option<Hint<'t>>, Fault>
-    ensures { IfOk result (λ hint. (w : ModelWorld) → StandsFor S.Store world.now w → IsHintOf whose.Package w word hint) }
+    ensures { IfOk result (λ hint. (w : ModelWorld) → StandsFor S.Store world.now w → IsHintOf whose.Package w word.entry hint) }
 {
     let found = found_package(alloc, world, word)?;
     Ok(hint_of(Whose::Package, word, found))
@@ -55,7 +55,7 @@ pub fn item_hint<'t, S: Alter + Drop>(
     world: &mut World<S>,
     word: &'t str,
 ) -> Result<Option<Hint<'t>>, Fault>
-    ensures told { TellsOf S.Store (λ w hint. IsHintOf whose.Item w word hint) world.old world.new result }
+    ensures told { TellsOf S.Store (λ w hint. IsHintOf whose.Item w word.entry hint) world.old world.new result }
     ensures read { IsUntouched S.Store world.old world.new }
 {
     let found = found_item(alloc, world, word)?;
@@ -69,15 +69,18 @@ fn either_hint<'t, S: Alter + Drop>(
     first: &'t str,
     second: &'t str,
 ) -> Result<Option<Hint<'t>>, Fault>
-    ensures told { TellsOf S.Store (λ w hint. IsEitherHint w first second hint) world.old world.new result }
+    ensures told { TellsOf S.Store (λ w hint. IsEitherHint w first.entry second.entry hint) world.old world.new result }
     ensures read { IsUntouched S.Store world.old world.new }
 {
-    let hint = item_hint(alloc, world, first)?;
-    if hint.is_some() {
-        return Ok(hint);
+    let found = found_item(alloc, world, first)?;
+    if let Found::Nearest(Some(nearest)) = found {
+        return Ok(Some(Hint {
+            whose: Whose::Item,
+            word: first,
+            nearest,
+        }));
     }
-    let other = item_hint(alloc, world, second)?;
-    Ok(other)
+    item_hint(alloc, world, second)
 }
 
 /// What comes nearest to a word of a verb that names no package or no item. The world is only read.

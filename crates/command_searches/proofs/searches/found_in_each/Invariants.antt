@@ -13,5 +13,5 @@ abbrev pub invariant-loop-entry : goal.invariant-loop-entry
 invariant-loop-entry g l = record {
   read : IsUntouched g.S.Store l.fn.world l.world;
   told : AllClean g.S.Store l.world.members → (w : World) → StandsFor g.S.Store l.fn.world w
-      → IsFound l.word.now (flat_map (λ p. identities_under w p.uuid) (take l.entry-index l.packages)) l.found;
+      → IsFound l.word (flat_map (λ p. identities_under w p.uuid) (take l.entry-index l.packages)) l.found;
 }

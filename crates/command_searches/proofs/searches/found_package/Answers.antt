@@ -1,5 +1,5 @@
 -- The packages that were listed are those that live.
-use Rattle.std.proofs.Common.{◌∙◌, ap, map, subst, sym}
+use Rattle.std.proofs.Common.{[], ◌∙◌, ap, map, subst, sym}
 use Rattle.sheet_types.specs.Answers.{PackageSight as ModelSight}
 use Rattle.command_names.specs.Searching.{IsFound}
 use Rattle.command_verbs.specs.Names.{sight}
