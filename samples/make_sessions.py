@@ -205,25 +205,7 @@ def verb_sessions(session):
     session.run("log harbour --last 99 --from 15", log_of(world, first=15, last=99))
     session.run("log harbour --last few", "refused: number\n", 1)
     session.run("audit harbour", f"good {len(world.receipts)}\n")
-    short_names(session, world)
-    session.show("")
-    session.show("# Trees of tiles, and a loan of what covers a box.")
-    world = verbs.trees_and_boxes(session)
-    session.run("status tree", status_of(world) + strays_of(world))
-    session.run("audit tree", f"good {len(world.receipts)}\n")
     return shown
-
-
-def short_names(session, world):
-    """A package and an item that is looked at, by their first digits."""
-    package, town = world.packages[nordmark.ARCHIVE], nordmark.sheet(6, 0, 0)
-    session.run(f"manifest harbour {nordmark.ARCHIVE[:4].upper()}", reference.manifest(package))
-    session.run(f"export harbour {nordmark.ARCHIVE[:14]}", export(world.frame, package))
-    session.run(f"explain harbour {town[:5]}", way_of(world, town))
-    session.run("manifest harbour ffff", "refused: no such package\n", 1)
-    session.run("explain harbour ffff", "refused: no such identity\n", 1)
-    # (no UUID begins so)
-    session.run("export harbour ffff-", "refused: uuid\n", 1)
 
 
 def exports(session):

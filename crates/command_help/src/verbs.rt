@@ -11,9 +11,6 @@ const PUT_ABOUT: &str = "Adds a tile, a medium or a mark to a package";
 
 const TILE_ABOUT: &str = "Adds a tile at a place, from a file";
 
-const TILES_ABOUT: &str =
-    "Adds the tiles of a tree of files ZOOM/COLUMN/ROW.png, a request each; those that are there are passed over";
-
 const MEDIA_ABOUT: &str = "Adds a photograph or another medium, from a file";
 
 const MARK_ABOUT: &str = "Adds a survey mark: a point, a code and a label";
@@ -21,8 +18,6 @@ const MARK_ABOUT: &str = "Adds a survey mark: a point, a code and a label";
 const JOIN_ABOUT: &str = "Links two items; their kinds tell how";
 
 const PART_ABOUT: &str = "Ends the link of two items";
-
-const DROP_ABOUT: &str = "Deletes an item; its links are ended before, where --yes allows it";
 
 /// After the words of a verb.
 const VERB_WORDS: &str =
@@ -129,8 +124,7 @@ pub(crate) fn lend_command<'a>(alloc: Global) -> Result<Command<'a>, AllocError>
             "first",
             "FROM|AREA",
             "The sheets, as 5/0-3/2: zoom, columns, rows; or before them the package that lends",
-        )
-        .required(false))?
+        ))?
         .arg(word(
             alloc,
             "second",
@@ -138,20 +132,6 @@ pub(crate) fn lend_command<'a>(alloc: Global) -> Result<Command<'a>, AllocError>
             "The sheets, where a package that lends is named; else the archive lends",
         )
         .required(false))?
-        .arg(option(
-            alloc,
-            "box",
-            "WEST,SOUTH,EAST,NORTH",
-            "In place of AREA: the least area that covers this box, in units of the reference system",
-        )
-        .requires_arg("zoom")?)?
-        .arg(option(
-            alloc,
-            "zoom",
-            "ZOOM",
-            "The zoom of the sheets that cover the box",
-        )
-        .requires_arg("box")?)?
         .arg(flag(
             alloc,
             "follow",
@@ -180,29 +160,6 @@ fn tile_command<'a>(alloc: Global) -> Result<Command<'a>, AllocError> {
             "file",
             "FILE",
             "Its bytes, as sheet.png, or - for standard input",
-        ))
-}
-
-/// Adds the tiles of a tree.
-fn tiles_command<'a>(alloc: Global) -> Result<Command<'a>, AllocError> {
-    Command::new(alloc, "tiles")
-        .about(TILES_ABOUT)
-        .arg(option(
-            alloc,
-            "at",
-            "AT",
-            "Moment of the requests, as 2024-05-01T08:00:00.000Z; else that of the clock",
-        ))?
-        .arg(flag(
-            alloc,
-            "tms",
-            "The rows of the files run upwards, as in a TMS",
-        ))?
-        .arg(word(
-            alloc,
-            "directory",
-            "DIRECTORY",
-            "The tree, as gdal2tiles and QGIS write it",
         ))
 }
 
@@ -245,7 +202,6 @@ pub(crate) fn put_command<'a>(alloc: Global) -> Result<Command<'a>, AllocError> 
         .arg(folder(alloc))?
         .arg(word(alloc, "package", "PACKAGE", "The package, as c3f1"))?
         .subcommand(tile_command(alloc)?)?
-        .subcommand(tiles_command(alloc)?)?
         .subcommand(media_command(alloc)?)?
         .subcommand(mark_command(alloc)?)
 }
@@ -270,23 +226,4 @@ pub(crate) fn join_command<'a>(alloc: Global) -> Result<Command<'a>, AllocError>
 /// Ends the link of two items.
 pub(crate) fn part_command<'a>(alloc: Global) -> Result<Command<'a>, AllocError> {
     of_two(alloc, "part", PART_ABOUT)
-}
-
-/// Deletes an item.
-pub(crate) fn drop_command<'a>(alloc: Global) -> Result<Command<'a>, AllocError> {
-    Command::new(alloc, "drop")
-        .about(DROP_ABOUT)
-        .arg(option(
-            alloc,
-            "at",
-            "AT",
-            "Moment of the requests, as 2024-05-01T08:00:00.000Z; else that of the clock",
-        ))?
-        .arg(flag(
-            alloc,
-            "yes",
-            "End the links of the item, a request each; else an item that has links stays, and they are told",
-        ))?
-        .arg(folder(alloc))?
-        .arg(word(alloc, "identity", "IDENTITY", "The item, as 6523"))
 }

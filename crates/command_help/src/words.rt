@@ -4,9 +4,7 @@ use crate::help::{
     IMPORT_ABOUT, INIT_ABOUT, LOG_ABOUT, MANIFEST_ABOUT, MAP_ABOUT, RECEIPT_ABOUT, REHEARSE_ABOUT,
     REHEARSE_WORDS, SERVE_ABOUT, SESSION_ABOUT, SESSION_WORDS, STATUS_ABOUT, TIDY_ABOUT, WORDS,
 };
-use crate::verbs::{
-    drop_command, join_command, lend_command, part_command, put_command, return_command,
-};
+use crate::verbs::{join_command, lend_command, part_command, put_command, return_command};
 use clap::{Arg, ArgAction, Command};
 use std::alloc::{AllocError, Global};
 
@@ -139,7 +137,7 @@ fn over_package<'a>(
         alloc,
         "package",
         "PACKAGE",
-        "The package, by its UUID or the first digits of it, as a000",
+        "Identity of the package, as a0000000-0000-4000-8000-000000000000",
     ))
 }
 
@@ -188,7 +186,7 @@ fn explain_command<'a>(alloc: Global) -> Result<Command<'a>, AllocError> {
         alloc,
         "identity",
         "IDENTITY",
-        "The item, by its identity or the first digits of it, as 6523",
+        "Identity of the item, as 00000000-0000-4000-8000-000000000001",
     ))
 }
 
@@ -276,7 +274,6 @@ pub fn sheetdesk<'a>(alloc: Global) -> Result<Command<'a>, AllocError> {
         .subcommand(return_command(alloc)?)?
         .subcommand(join_command(alloc)?)?
         .subcommand(part_command(alloc)?)?
-        .subcommand(drop_command(alloc)?)?
         .subcommand(apply_command(alloc)?)?
         .subcommand(import_command(alloc)?)?
         .subcommand(status_command(alloc)?)?

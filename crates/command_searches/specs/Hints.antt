@@ -1,9 +1,7 @@
 -- What is told of a word that names no package or no item in a world. Profile.
-use Rattle.std.specs.Prelude.{◌≡◌, ◌≢◌, ◌⊎◌, ℕ, List, Option, Some, None}
+use Rattle.std.specs.Prelude.{◌≡◌, ℕ, List, Option, Some, None}
 use Rattle.std.specs.Borrow.{Bor}
 use Rattle.sheet_types.specs.World.{World}
-use Rattle.command_verbs.specs.declared.verbs.Verb.{Verb}
-use Rattle.command_verbs.specs.declared.verbs.Verb.TheVariants.{Lend, Return, PutTile, PutMedium, PutMark, Join, Part}
 use Rattle.command_names.specs.declared.hints.Hint.{Hint}
 use Rattle.command_names.specs.declared.hints.Whose.{Whose}
 use Rattle.command_names.specs.declared.hints.Whose.TheVariants.{Package, Item}
@@ -26,19 +24,3 @@ IsFoundOf Item w word found = IsItemFound w word found
 -- this is told of it
 abbrev pub IsHintOf : Whose → World → Bor (List ℕ) → Option Hint → Type 0
 IsHintOf whose w word hint = (found : Found) × IsFoundOf whose w word.now found × (hint ≡ hint_of whose word found)
-
--- of the first of two words for items, or else of the second
-abbrev pub IsEitherHint : World → Bor (List ℕ) → Bor (List ℕ) → Option Hint → Type 0
-IsEitherHint w first second hint =
-    ((hint ≢ None) × IsHintOf Item w first hint) ⊎ (IsHintOf Item w first None × IsHintOf Item w second hint)
-
--- of the words of a verb
-abbrev pub IsVerbHint : World → Verb → Option Hint → Type 0
-IsVerbHint w (Lend (Some word) area mode loan) hint = IsHintOf Package w word hint
-IsVerbHint w (Lend None area mode loan) hint = hint ≡ None
-IsVerbHint w (Return loan) hint = IsHintOf Package w loan hint
-IsVerbHint w (PutTile holder place identity) hint = IsHintOf Package w holder hint
-IsVerbHint w (PutMedium holder word identity) hint = IsHintOf Package w holder hint
-IsVerbHint w (PutMark holder mark identity) hint = IsHintOf Package w holder hint
-IsVerbHint w (Join first second) hint = IsEitherHint w first second hint
-IsVerbHint w (Part first second) hint = IsEitherHint w first second hint

@@ -1,18 +1,13 @@
 //! The program `sheetdesk`: the words that it is called with, and the exit status.
 #![tactic(auto)]
 
-mod boxes;
 mod clock;
-mod dropping;
 mod founding;
-mod naming;
 mod ordering;
 mod running;
 mod sessions;
 mod showing;
 mod streams;
-mod tile_names;
-mod trees;
 
 use crate::running::out_of_memory;
 use crate::sessions::run;

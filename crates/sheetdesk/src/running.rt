@@ -1,12 +1,8 @@
 //! A command, carried out: what it asks for is done in `cli`, `commands` and `views`.
-use crate::boxes::lend_box;
-use crate::dropping::dropped;
 use crate::founding::founded;
-use crate::naming::named_look;
 use crate::ordering::{is_verb, ordered};
-use crate::showing::{Wish, shown};
+use crate::showing::shown;
 use crate::streams::{Input, Onlooker};
-use crate::trees::put_tree;
 use clap::error::ErrorKind;
 use clap::{ArgMatches, Error};
 use cli::rehearse::rehearse;
@@ -156,6 +152,7 @@ fn asked_look<'m>(name: &str, given: &ArgMatches<'m>) -> Option<AskedLook<'m>> {
             from: given.get_str("from"),
             last: given.get_str("last"),
         })),
+        "get" => Some(AskedLook::Get(text_of(given, "identity"))),
         "explain" => Some(AskedLook::Explain(text_of(given, "identity"))),
         "receipt" => Some(AskedLook::Receipt(text_of(given, "request"))),
         "manifest" => Some(AskedLook::Manifest(text_of(given, "package"))),
@@ -163,17 +160,6 @@ fn asked_look<'m>(name: &str, given: &ArgMatches<'m>) -> Option<AskedLook<'m>> {
         "map" => Some(AskedLook::Map(given.get_str("zoom"))),
         "audit" => Some(AskedLook::Audit),
         _ => None,
-    }
-}
-
-/// What a command wishes to look at, by a name or by its words, if it looks at a folder.
-fn wish_of<'m>(name: &str, given: &ArgMatches<'m>) -> Option<Wish<'m>> {
-    match named_look(name, given) {
-        Some(asked) => Some(Wish::Named(asked)),
-        None => match asked_look(name, given) {
-            Some(asked) => Some(Wish::Asked(asked)),
-            None => None,
-        },
     }
 }
 
@@ -193,22 +179,6 @@ fn changed(rt: &HostRuntime, name: &str, given: &ArgMatches<'_>, reader: &mut In
     }
 }
 
-/// Adds the tiles of a tree, or an item.
-fn put(rt: &HostRuntime, given: &ArgMatches<'_>, reader: &mut Input<'_>) -> Ending {
-    match given.subcommand() {
-        Some(("tiles", words)) => put_tree(rt, given, words),
-        _ => ordered(rt, "put", given, reader),
-    }
-}
-
-/// Lends the sheets that cover a box, or those of an area.
-fn lend(rt: &HostRuntime, given: &ArgMatches<'_>, reader: &mut Input<'_>) -> Ending {
-    match given.get_str("box") {
-        Some(words) => lend_box(rt, given, words),
-        None => ordered(rt, "lend", given, reader),
-    }
-}
-
 /// Carries out the command of this name, and answers the exit status.
 pub(crate) fn carried_out(
     rt: &HostRuntime,
@@ -216,18 +186,15 @@ pub(crate) fn carried_out(
     given: &ArgMatches<'_>,
     reader: &mut Input<'_>,
 ) -> u8 {
-    if let Some(wish) = wish_of(name, given) {
+    if let Some(asked) = asked_look(name, given) {
         return looked(
             rt,
-            &shown(rt, text_of(given, "folder"), wish, given.get_str("output")),
+            &shown(rt, text_of(given, "folder"), asked, given.get_str("output")),
         );
     }
     let ending = match name {
         "init" => founded(rt, given),
         "tidy" => tidy(rt, text_of(given, "folder"), &mut io::writer(rt)),
-        "drop" => dropped(rt, given),
-        "put" => put(rt, given, reader),
-        "lend" => lend(rt, given, reader),
         _ if is_verb(name) => ordered(rt, name, given, reader),
         _ => changed(rt, name, given, reader),
     };
