@@ -21,7 +21,7 @@ use Rattle.view_world.specs.Told.{last_change, package_row, package_rows}
 
 -- ---- lists
 
-map_map : {X Y Z : Type 0} (f : X → Y) (h : Y → Z) (xs : List X) → map h (map f xs) ≡ map (λ x. h (f x)) xs
+pub map_map : {X Y Z : Type 0} (f : X → Y) (h : Y → Z) (xs : List X) → map h (map f xs) ≡ map (λ x. h (f x)) xs
 map_map f h [] = refl
 map_map f h (x ∷ xs) = ap (λ ys. h (f x) ∷ ys) (map_map f h xs)
 
@@ -57,7 +57,7 @@ take_next ps i p e = ap (λ k. take k ps) (let n : i + 1 ≡ suc i = omega arith
     next (q ∷ qs) zero e = ap (λ x. x ∷ []) (some_same e)
     next (q ∷ qs) (suc k) e = ap (λ l. q ∷ l) (next qs k e)
 
-map_snoc : {X Y : Type 0} (f : X → Y) (xs : List X) (x : X) → map f (xs ++ x ∷ []) ≡ map f xs ++ f x ∷ []
+pub map_snoc : {X Y : Type 0} (f : X → Y) (xs : List X) (x : X) → map f (xs ++ x ∷ []) ≡ map f xs ++ f x ∷ []
 map_snoc f [] x = refl
 map_snoc f (z ∷ zs) x = ap (λ l. f z ∷ l) (map_snoc f zs x)
 

@@ -21,11 +21,13 @@ use view_text::packages::{PackageRow, status_text};
 use world::reading::PackageSight;
 use world::world::World;
 
-/// What a world keeps of its packages.
+/// What a world keeps of its packages, in their order.
 #[derive(Drop)]
-struct Kept {
-    sights: Vec<PackageSight>,
-    sums: Vec<Sums>,
+pub struct Kept {
+    /// What the list of packages says of each.
+    pub sights: Vec<PackageSight>,
+    /// How much each of them holds.
+    pub sums: Vec<Sums>,
 }
 
 /// How much each of these packages holds.
@@ -46,8 +48,12 @@ fn sums_of<S: Alter + Drop>(
     Ok(all)
 }
 
-/// What a world that has not failed keeps of its packages.
-fn kept_of<S: Alter + Drop>(alloc: Global, world: &World<S>) -> Result<Kept, Fault>
+/// What a world that has not failed keeps of its packages. No store is looked at.
+///
+/// # Errors
+///
+/// Want of memory, or a world that has failed.
+pub fn kept_of<S: Alter + Drop>(alloc: Global, world: &World<S>) -> Result<Kept, Fault>
     ensures { IfOk result (λ kept. (w : ModelWorld) → StandsFor S.Store world.now w → AreKept w kept.sights.items kept.sums.items) }
 {
     usable(world)?;

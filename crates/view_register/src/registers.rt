@@ -1,0 +1,145 @@
+//! What a page tells of: the live packages, the things and links that they hold, the receipts, and names.
+ghost use Rattle.std.specs.Prelude.{◌≡◌, IfOk};
+ghost use Rattle.view_register.specs.Registers.{about_of, thing_of, tie_of};
+
+use sheet_types::collections::Text;
+use sheet_types::command::{Content, Item, Relation};
+use sheet_types::error::OutOfMemory;
+use sheet_types::fingerprints::fingerprint;
+use sheet_types::frame::Frame;
+use sheet_types::receipt::{MovedKind, Receipt, Sums};
+use uuid::Uuid;
+
+/// A live package.
+#[derive(Clone, Copy, PartialEq, Eq)]
+pub struct Live {
+    /// The package's own.
+    pub uuid: Uuid,
+    /// The package that it is lent from, none of the archive.
+    pub parent: Option<Uuid>,
+    /// How many loans it is below the archive.
+    pub depth: u64,
+    /// The number of the receipt of the split that made it, 0 of the archive.
+    pub loan: u64,
+    /// The number of the last receipt that names it, 0 where none does.
+    pub ticket: u64,
+    /// What it holds.
+    pub sums: Sums,
+}
+
+/// What an item is, without its bytes.
+#[derive(Drop)]
+pub enum About {
+    Sheet {
+        zoom: i64,
+        column: i64,
+        row: i64,
+    },
+    Medium {
+        content_type: Text,
+    },
+    Mark {
+        x: i64,
+        y: i64,
+        code: i64,
+        label: Text,
+    },
+}
+
+/// An item, and the package that holds it.
+#[derive(Drop)]
+pub struct Thing {
+    pub holder: Uuid,
+    pub identity: Uuid,
+    pub about: About,
+    /// The bytes that it counts for.
+    pub size: u64,
+    /// The SHA-256 of its content.
+    pub fingerprint: [u8; 32],
+}
+
+/// A link, and the package that holds it.
+#[derive(Clone, Copy, PartialEq, Eq)]
+pub struct Tie {
+    pub holder: Uuid,
+    pub kind: MovedKind,
+    pub base: Uuid,
+    pub other: Uuid,
+}
+
+/// What people call a package or a sheet.
+#[derive(Drop)]
+pub struct Name {
+    pub uuid: Uuid,
+    pub name: Text,
+}
+
+/// All that a page tells of. Packages stand in the order of the receipts that made them, the archive first; receipts in that of their numbers. A lender's things stand before those of its loans, since a map draws them so.
+#[derive(Drop)]
+pub struct Register {
+    /// The package without parent.
+    pub archive: Uuid,
+    pub frame: Frame,
+    pub packages: Vec<Live>,
+    pub things: Vec<Thing>,
+    pub ties: Vec<Tie>,
+    pub receipts: Vec<Receipt>,
+    pub names: Vec<Name>,
+}
+
+/// What an item is.
+fn about_of(content: &Content) -> Result<About, OutOfMemory>
+    ensures { IfOk result (λ about. about ≡ about_of content.now) }
+{
+    match content {
+        Content::Tile {
+            zoom,
+            column,
+            row,
+            ..
+        } => Ok(About::Sheet {
+            zoom: *zoom,
+            column: *column,
+            row: *row,
+        }),
+        Content::Media { content_type, .. } => Ok(About::Medium {
+            content_type: content_type.try_clone()?,
+        }),
+        Content::Row { x, y, code, label } => Ok(About::Mark {
+            x: *x,
+            y: *y,
+            code: *code,
+            label: label.try_clone()?,
+        }),
+    }
+}
+
+/// An item of this package, without its bytes.
+///
+/// # Errors
+///
+/// Want of memory.
+pub fn thing_of(holder: Uuid, item: &Item) -> Result<Thing, OutOfMemory>
+    ensures { IfOk result (λ thing. thing ≡ thing_of holder item.now) }
+{
+    let about = about_of(&item.content)?;
+    Ok(Thing {
+        holder,
+        identity: item.identity,
+        about,
+        size: item.content.size() as u64,
+        fingerprint: fingerprint(&item.content),
+    })
+}
+
+/// A link of this package.
+pub fn tie_of(holder: Uuid, link: &Relation) -> Tie
+    ensures { result ≡ tie_of holder link.now }
+{
+    Tie {
+        holder,
+        kind: link.mapping.link_kind(),
+        base: link.base,
+        other: link.other,
+    }
+}
