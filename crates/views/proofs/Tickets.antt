@@ -21,11 +21,9 @@ each_says : (w : World) (sights : List PackageSight) (packages : List Package) �
 each_says w [] packages same = tt
 each_says w (s ∷ sights) [] same = absurd (cc)
 each_says w (s ∷ sights) (p ∷ packages) same =
-    let here : sight_of s ≡ seen w p = cc in
-    let number : s.ticket ≡ ticket w p.uuid = ap (λ (v : ModelSight). v.ticket) here in
-    let uuid : s.uuid ≡ p.uuid = ap (λ (v : ModelSight). v.uuid) here in
+    let first : sight_of s ≡ seen w p = cc in
     let left : map sight_of sights ≡ map (seen w) packages = cc in
-    (number ∙ ap (ticket w) (sym uuid), each_says w sights packages left)
+    (ap (λ m. m.ticket) first ∙ ap (λ m. ticket w m.uuid) (sym first), each_says w sights packages left)
 
 -- a package that is live is among them
 is_there : (w : World) (p : List ℕ) (sights : List PackageSight) (packages : List Package) → map sight_of sights ≡ map (seen w) packages
@@ -34,10 +32,9 @@ is_there w p [] [] same = refl
 is_there w p [] (x ∷ packages) same = absurd (cc)
 is_there w p (s ∷ sights) [] same = absurd (cc)
 is_there w p (s ∷ sights) (x ∷ packages) same =
-    let here : sight_of s ≡ seen w x = cc in
-    let uuid : s.uuid ≡ x.uuid = ap (λ (v : ModelSight). v.uuid) here in
+    let first : sight_of s ≡ seen w x = cc in
     let left : map sight_of sights ≡ map (seen w) packages = cc in
-    ap (λ u. bytes_eq u p || list_any (λ (s : PackageSight). bytes_eq s.uuid p) sights) uuid ∙ ap (λ b. bytes_eq x.uuid p || b) (is_there w p sights packages left)
+    ap (λ m. bytes_eq m.uuid p || list_any (λ (s : PackageSight). bytes_eq s.uuid p) sights) first ∙ ap (λ b. bytes_eq x.uuid p || b) (is_there w p sights packages left)
 
 pub ticket_seen : (w : World) (p : List ℕ) (sights : List PackageSight) (s : PackageSight) → map sight_of sights ≡ package_sights w
     → entry (λ (s : PackageSight). s.uuid) p sights ≡ Some s → s.ticket ≡ ticket w p
