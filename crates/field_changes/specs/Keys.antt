@@ -4,6 +4,8 @@ use Rattle.uuid.specs.Parts.{zero_bytes}
 use Rattle.sheet_types.specs.declared.command.Content.{Content}
 use Rattle.sheet_types.specs.declared.command.Content.TheVariants.{Tile, Media, Row}
 use Rattle.sheet_types.specs.declared.command.Item.{Item}
+use Rattle.sheet_types.specs.declared.receipt.MovedKind.{MovedKind}
+use Rattle.sheet_types.specs.World.{kind_number}
 
 abbrev pub sign : ℤ → ℕ
 sign (pos n) = 0
@@ -46,3 +48,7 @@ item_mark i = key_of 0 i.identity i.content
 -- a content, and how many like it stand before
 abbrev pub rank_key : ℕ → Content → List ℕ
 rank_key rank content = key_of rank zero_bytes content
+
+-- a kind and a number, by which a link of a file names its ends
+abbrev pub number_key : MovedKind → ℤ → List ℕ
+number_key kind number = kind_number kind ∷ sign number ∷ unsigned_abs number ∷ []

@@ -2,14 +2,18 @@
 --     1  the identity that stands beside it, where the package has this content under it, and no item before it has that name
 --     2  else the least identity of this content that nothing in the file is marked as, and that no item before it has
 --     3  else a new one
-use Rattle.std.specs.Prelude.{ℕ, ◌+◌, ◌-◌, Bool, false, not, ◌&&◌, List, [], ◌∷◌, ◌++◌, length, filter, Option, unwrap_or, option_map, if◌then◌else◌, bytes_eq, count_by, slice_get}
+use Rattle.std.specs.Prelude.{ℕ, ◌-◌, Bool, true, false, not, ◌&&◌, List, [], ◌∷◌, ◌++◌, filter, Option, unwrap_or, option_map, if◌then◌else◌, bytes_eq, count_by, slice_get}
 use Rattle.std.specs.List.{list_any}
 use Rattle.std.specs.Option.{option_map_or}
 use Rattle.sheet_types.specs.Ordered.{has}
+use Rattle.sheet_types.specs.Cut.{identities}
+use Rattle.sheet_types.specs.Texts.{kind_of}
 use Rattle.sheet_types.specs.declared.command.Content.{Content}
 use Rattle.sheet_types.specs.declared.command.Item.{Item}
 use Rattle.field_changes.specs.Keys.{same_content, key_of, item_mark}
+use Rattle.field_changes.specs.Ids.{derived, item_text}
 use Rattle.field_changes.specs.declared.held.HeldItem.{HeldItem}
+use Rattle.field_changes.specs.declared.naming.Named.{Named}
 use Rattle.field_changes.specs.declared.naming.Name.{Name}
 use Rattle.field_changes.specs.declared.naming.Name.TheVariants.{Old, New}
 
@@ -29,9 +33,13 @@ is_own items before h = option_map_or (λ m. has item_mark m items && not (list_
 abbrev pub unmarked : List Item → List HeldItem → List Item
 unmarked items file = filter (λ i. not (list_any (is_marked (item_mark i)) file)) items
 
--- those of this content
-abbrev pub alike : Content → List Item → List Item
-alike content items = filter (λ i. same_content content i.content) items
+-- the identities of those of this content, in their order
+abbrev pub alike : Content → List Item → List (List ℕ)
+alike content items = identities (filter (λ i. same_content content i.content) items)
+
+-- how many of them have this content
+abbrev pub copies : {X : Type 0} → (X → Content) → Content → List X → ℕ
+copies of content xs = count_by (λ x. same_content content (of x)) xs
 
 -- the contents of the items that are not their own, where these stand before them
 abbrev pub others : List Item → List HeldItem → List HeldItem → List Content
@@ -40,17 +48,22 @@ others items before (h ∷ hs) = if is_own items before h then others items (bef
 
 -- of one that so many like it stand before: the item of that place among those that are left of its content, or a new one, counted from 0
 abbrev pub shared_name : List Item → Content → ℕ → Name
-shared_name left content place = option_map_or (λ i. Old i.identity) (slice_get (alike content left) place) (New (place - length (alike content left)))
+shared_name left content place = option_map_or Old (slice_get (alike content left) place) (New (place - copies (λ i. i.content) content left))
 
 -- the name of an item of the file
 abbrev pub name_of : List Item → List HeldItem → List HeldItem → HeldItem → Name
 name_of items file before h = if is_own items before h then Old (unwrap_or h.identity [])
-    else shared_name (unmarked items file) h.content (count_by (same_content h.content) (others items [] before))
+    else shared_name (unmarked items file) h.content (copies (λ c. c) h.content (others items [] before))
 
-abbrev pub names_behind : List Item → List HeldItem → List HeldItem → List HeldItem → List Name
-names_behind items file before [] = []
-names_behind items file before (h ∷ hs) = name_of items file before h ∷ names_behind items file (before ++ h ∷ []) hs
+-- an item of the file under its name
+abbrev pub named : List ℕ → ℕ → HeldItem → Name → Named
+named p ticket h (Old id) = record { kind = kind_of h.content; number = h.number; identity = id; is_new = false }
+named p ticket h (New copy) = record { kind = kind_of h.content; number = h.number; identity = derived (item_text p ticket copy h.content); is_new = true }
 
--- the names of the items of a file, in their order
-abbrev pub names_of : List Item → List HeldItem → List Name
-names_of items file = names_behind items file [] file
+abbrev pub names_behind : List ℕ → ℕ → List Item → List HeldItem → List HeldItem → List HeldItem → List Named
+names_behind p ticket items file before [] = []
+names_behind p ticket items file before (h ∷ hs) = named p ticket h (name_of items file before h) ∷ names_behind p ticket items file (before ++ h ∷ []) hs
+
+-- the items of a file under their names, in their order: of this package at this ticket, which holds these items
+abbrev pub names_of : List ℕ → ℕ → List Item → List HeldItem → List Named
+names_of p ticket items file = names_behind p ticket items file [] file

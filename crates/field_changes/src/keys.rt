@@ -3,9 +3,12 @@ ghost use Rattle.std.specs.Prelude.{◌≡◌, Some, [], refl, length, nat_eq, �
 ghost use Rattle.std.specs.Ordering.{nat_cmp};
 ghost use Rattle.std.specs.Cmp.{partial_equiv_from_equiv};
 ghost use Rattle.std.specs.Cmp.Lexicographic.{pointwise, slice_cmp, nat_list_eq_equiv, nat_list_cmp_total, texts_ties, texts_po};
+ghost use Rattle.sheet_types.specs.World.{link_key};
+ghost use Rattle.field_changes.specs.Keys.{number_key};
 ghost use Rattle.field_changes.specs.Keys.{sign, numbered, head_of, words_of, body_of, content_key, key_of, item_mark, rank_key};
 
-use sheet_types::command::{Content, Item};
+use sheet_types::command::{Content, Item, Relation};
+use sheet_types::receipt::MovedKind;
 use std::cmp::Ordering;
 use std::marker::Model;
 use uuid::Uuid;
@@ -173,5 +176,146 @@ impl<'a> Ord for Key<'a> {
         let bases = bytes_order(self.base.as_bytes(), other.base.as_bytes());
         let contents = content_order(self.content, other.content);
         ranks.then(bases.then(contents))
+    }
+}
+
+/// A link, as a key.
+#[derive(Drop)]
+pub(crate) struct LinkKey {
+    link: Relation,
+}
+
+impl Model for LinkKey {
+    ghost use Rattle.std.specs.Prelude.{List, ℕ};
+    ghost use Rattle.sheet_types.specs.World.{link_key};
+
+    ghost Value = { List ℕ };
+
+    ghost view = { λ k. link_key k.link };
+}
+
+impl LinkKey {
+    pub(crate) fn of(link: &Relation) -> LinkKey
+        ensures { result ≡ link_key link.now }
+    {
+        LinkKey { link: *link }
+    }
+}
+
+impl PartialEq for LinkKey {
+    ghost eq = { pointwise nat_eq };
+
+    ghost laws = { partial_equiv_from_equiv nat_list_eq_equiv };
+
+    fn eq(&self, other: &LinkKey) -> bool {
+        self.cmp(other).is_eq()
+    }
+}
+
+impl Eq for LinkKey {
+    ghost laws = { nat_list_eq_equiv };
+}
+
+impl PartialOrd for LinkKey {
+    ghost partial_cmp = { λ x y. Some (slice_cmp nat_cmp x y) };
+
+    ghost laws = { texts_po };
+
+    fn partial_cmp(&self, other: &LinkKey) -> Option<Ordering> {
+        Some(self.cmp(other))
+    }
+}
+
+impl Ord for LinkKey {
+    ghost cmp = { slice_cmp nat_cmp };
+
+    ghost total = { nat_list_cmp_total };
+
+    ghost matches_partial_cmp = { λ x y. refl };
+
+    ghost matches_eq = { texts_ties };
+
+    #[tactic(auto, using(sheet_types::proofs::KeyOrder::slice_cmp_append))]
+    fn cmp(&self, other: &LinkKey) -> Ordering {
+        let kinds = self
+            .link
+            .mapping
+            .link_kind()
+            .number()
+            .cmp(&other.link.mapping.link_kind().number());
+        let bases = bytes_order(self.link.base.as_bytes(), other.link.base.as_bytes());
+        let ends = bytes_order(self.link.other.as_bytes(), other.link.other.as_bytes());
+        kinds.then(bases.then(ends))
+    }
+}
+
+/// A kind and a number, as a key.
+#[derive(Drop)]
+pub(crate) struct NumberKey {
+    kind: MovedKind,
+    number: i64,
+}
+
+impl Model for NumberKey {
+    ghost use Rattle.std.specs.Prelude.{List, ℕ};
+    ghost use Rattle.field_changes.specs.Keys.{number_key};
+
+    ghost Value = { List ℕ };
+
+    ghost view = { λ k. number_key k.kind k.number };
+}
+
+impl NumberKey {
+    pub(crate) fn of(kind: MovedKind, number: i64) -> NumberKey
+        ensures { result ≡ number_key kind number }
+    {
+        NumberKey { kind, number }
+    }
+}
+
+// The numbers of a kind and a number.
+fn numbers_of(kind: MovedKind, number: i64) -> [u64; 3]
+    ensures { result ≡ number_key kind number }
+{
+    [u64::from(kind.number()), sign(number), number.unsigned_abs()]
+}
+
+impl PartialEq for NumberKey {
+    ghost eq = { pointwise nat_eq };
+
+    ghost laws = { partial_equiv_from_equiv nat_list_eq_equiv };
+
+    fn eq(&self, other: &NumberKey) -> bool {
+        self.cmp(other).is_eq()
+    }
+}
+
+impl Eq for NumberKey {
+    ghost laws = { nat_list_eq_equiv };
+}
+
+impl PartialOrd for NumberKey {
+    ghost partial_cmp = { λ x y. Some (slice_cmp nat_cmp x y) };
+
+    ghost laws = { texts_po };
+
+    fn partial_cmp(&self, other: &NumberKey) -> Option<Ordering> {
+        Some(self.cmp(other))
+    }
+}
+
+impl Ord for NumberKey {
+    ghost cmp = { slice_cmp nat_cmp };
+
+    ghost total = { nat_list_cmp_total };
+
+    ghost matches_partial_cmp = { λ x y. refl };
+
+    ghost matches_eq = { texts_ties };
+
+    fn cmp(&self, other: &NumberKey) -> Ordering {
+        let mine = numbers_of(self.kind, self.number);
+        let theirs = numbers_of(other.kind, other.number);
+        mine.cmp(&theirs)
     }
 }

@@ -1,5 +1,5 @@
 //! What the items of a file are called in the package.
-ghost use Rattle.std.specs.Prelude.{◌≡◌, ◌||◌, ◌+◌, ◌<◌, ◌++◌, ◌^◌, ◌∷◌, [], not, ℕ, List, Some, bytes_eq, filter, if◌then◌else◌, unwrap_or, IfOk, length};
+ghost use Rattle.std.specs.Prelude.{◌≡◌, ◌||◌, ◌+◌, ◌-◌, ◌<◌, ◌++◌, ◌^◌, ◌∷◌, [], true, false, not, ℕ, List, Some, MatchOption, bytes_eq, filter, if◌then◌else◌, unwrap_or, IfOk, length};
 ghost use Rattle.std.specs.List.{list_any};
 ghost use Rattle.std.specs.Ordering.{nat_cmp};
 ghost use Rattle.std.specs.Cmp.Lexicographic.{slice_cmp};
@@ -7,13 +7,17 @@ ghost use Rattle.std.specs.BTreeMap.{get};
 ghost use Rattle.std.specs.BTreeSet.{contains};
 ghost use Rattle.sheet_types.specs.Ordered.{has};
 ghost use Rattle.field_changes.specs.Keys.{item_mark, rank_key};
-ghost use Rattle.field_changes.specs.Naming.{is_marked, is_own, name_of, names_of, others, shared_name, unmarked};
-ghost use Rattle.field_changes.specs.Spare.{HoldsSpare, HoldsCounts};
+ghost use Rattle.sheet_types.specs.declared.command.Item.{Item};
+ghost use Rattle.field_changes.specs.Naming.{is_marked, is_own, name_of, named, names_of, shared_name};
+ghost use Rattle.field_changes.specs.declared.held.HeldItem.{HeldItem};
+ghost use Rattle.field_changes.specs.Spare.{HoldsSpare, IsWalk};
 
 use crate::held::HeldItem;
+use crate::ids::new_identity;
 use crate::keys::Key;
 use sheet_types::command::{Content, Item};
 use sheet_types::error::OutOfMemory;
+use sheet_types::receipt::MovedKind;
 use std::alloc::Global;
 use std::collections::{BTreeMap, BTreeSet};
 use uuid::Uuid;
@@ -59,6 +63,27 @@ fn marks_in<'a>(alloc: Global, file: &'a [HeldItem]) -> Result<BTreeSet<Key<'a>>
     Ok(marks)
 }
 
+// How many of a content there are.
+fn count_of<'a>(counts: &BTreeMap<Key<'a>, u64>, content: &'a Content) -> u64
+    ensures { result ≡ unwrap_or (get (slice_cmp nat_cmp) counts.now (rank_key 0 content.now)) 0 }
+{
+    counts
+        .get(&Key::of_rank(0, content))
+        .copied()
+        .unwrap_or(0)
+}
+
+// What stands at a place among those of a content.
+fn identity_at<'a>(
+    places: &BTreeMap<Key<'a>, Uuid>,
+    content: &'a Content,
+    place: u64,
+) -> Option<Uuid>
+    ensures { result ≡ get (slice_cmp nat_cmp) places.now (rank_key place content.now) }
+{
+    places.get(&Key::of_rank(place, content)).copied()
+}
+
 // How many of a content there were, of which there is one more now.
 fn count_up<'a>(
     counts: &mut BTreeMap<Key<'a>, u64>,
@@ -68,19 +93,16 @@ fn count_up<'a>(
     ensures before { IfOk result (λ n. n ≡ unwrap_or (get (slice_cmp nat_cmp) counts.old (rank_key 0 content.now)) 0) }
     ensures after { IfOk result (λ n. (q : List ℕ) → get (slice_cmp nat_cmp) counts.new q ≡ (if bytes_eq (rank_key 0 content.now) q then Some (n + 1) else get (slice_cmp nat_cmp) counts.old q)) }
 {
-    let count = counts
-        .get(&Key::of_rank(0, content))
-        .copied()
-        .unwrap_or(0);
+    let count = count_of(counts, content);
     counts.insert(Key::of_rank(0, content), count + 1)?;
     Ok(count)
 }
 
 // The items of a package that nothing in the file is marked as: how many there are of each content, and which stands at each place among them.
 #[derive(Drop)]
-struct Spare<'a> {
-    counts: BTreeMap<Key<'a>, u64>,
-    places: BTreeMap<Key<'a>, Uuid>,
+pub(crate) struct Spare<'a> {
+    pub(crate) counts: BTreeMap<Key<'a>, u64>,
+    pub(crate) places: BTreeMap<Key<'a>, Uuid>,
 }
 
 impl<'a> Spare<'a> {
@@ -96,7 +118,7 @@ impl<'a> Spare<'a> {
 
     // One more.
     fn add(&mut self, item: &'a Item) -> Result<(), OutOfMemory>
-        requires { (left : List Item) × HoldsSpare left self.old × (length left < 2 ^ 63) }
+        requires { (left : List Item) × HoldsSpare left self.old × (length left < 2 ^ 64 - 1) }
         ensures { IfOk result (λ _. (left : List Item) → HoldsSpare left self.old → HoldsSpare (left ++ item.now ∷ []) self.new) }
     {
         let place = count_up(&mut self.counts, &item.content)?;
@@ -105,20 +127,169 @@ impl<'a> Spare<'a> {
         Ok(())
     }
 
+    // One more, where it has none of these marks.
+    fn add_unmarked(
+        &mut self,
+        marked: &BTreeSet<Key<'a>>,
+        item: &'a Item,
+    ) -> Result<(), OutOfMemory>
+        requires { (left : List Item) × HoldsSpare left self.old × (length left < 2 ^ 64 - 1) }
+        ensures { IfOk result (λ _. (left : List Item) → HoldsSpare left self.old → HoldsSpare (left ++ filter (λ i. not (contains (slice_cmp nat_cmp) marked.now (item_mark i))) (item.now ∷ [])) self.new) }
+    {
+        if marked.contains(&Key::of_item(item)) {
+            return Ok(());
+        }
+        self.add(item)?;
+        Ok(())
+    }
+
     // The name of one that so many like it stand before.
     fn name(&self, content: &'a Content, place: u64) -> Name
         ensures { (left : List Item) → HoldsSpare left self.now → result ≡ shared_name left content.now place }
     {
-        match self.places.get(&Key::of_rank(place, content)) {
-            Some(identity) => Name::Old(*identity),
+        match identity_at(&self.places, content, place) {
+            Some(identity) => Name::Old(identity),
             None => {
-                let count = self
-                    .counts
-                    .get(&Key::of_rank(0, content))
-                    .copied()
-                    .unwrap_or(0);
+                let count = count_of(&self.counts, content);
                 Name::New(place.saturating_sub(count))
             }
         }
     }
+}
+
+// The items of the package that have none of these marks.
+fn spare_of<'a>(
+    alloc: Global,
+    items: &'a [Item],
+    marked: &BTreeSet<Key<'a>>,
+) -> Result<Spare<'a>, OutOfMemory>
+    ensures { IfOk result (λ spare. HoldsSpare (filter (λ i. not (contains (slice_cmp nat_cmp) marked.now (item_mark i))) items.now) spare) }
+{
+    let mut spare = Spare::new(alloc);
+    for item in items {
+        spare.add_unmarked(marked, item)?;
+    }
+    Ok(spare)
+}
+
+// What is known on the way through the items of a file.
+#[derive(Drop)]
+pub(crate) struct Walk<'a> {
+    // The marks of the package.
+    pub(crate) marks: BTreeSet<Key<'a>>,
+    // The marks of those that were passed.
+    pub(crate) seen: BTreeSet<Key<'a>>,
+    // The items that nothing is marked as.
+    pub(crate) spare: Spare<'a>,
+    // How many were passed of each content that were not their own.
+    pub(crate) counts: BTreeMap<Key<'a>, u64>,
+}
+
+impl<'a> Walk<'a> {
+    // The identity that an item names, where it is its own.
+    fn own(&self, item: &'a HeldItem) -> Option<Uuid>
+        ensures { (items : List Item) (file before : List HeldItem) → IsWalk items file before self.now
+            → MatchOption result (is_own items before item.now ≡ false) (λ id. (is_own items before item.now ≡ true) × (item.now.identity ≡ Some id)) }
+    {
+        let identity = item.identity?;
+        let mark = Key::of_mark(identity, &item.content);
+        if self.marks.contains(&mark) && !self.seen.contains(&mark) {
+            Some(identity)
+        } else {
+            None
+        }
+    }
+
+    // The name of the next item.
+    fn next(&mut self, item: &'a HeldItem) -> Result<Name, OutOfMemory>
+        requires { (items : List Item) × (file : List HeldItem) × (before : List HeldItem) × IsWalk items file before self.old × (length before < 2 ^ 64 - 1) }
+        ensures name { IfOk result (λ name. (items : List Item) (file before : List HeldItem) → IsWalk items file before self.old → name ≡ name_of items file before item.now) }
+        ensures walk { IfOk result (λ _. (items : List Item) (file before : List HeldItem) → IsWalk items file before self.old → IsWalk items file (before ++ item.now ∷ []) self.new) }
+    {
+        let own = self.own(item);
+        note_mark(&mut self.seen, item)?;
+        if let Some(identity) = own {
+            return Ok(Name::Old(identity));
+        }
+        let place = count_up(&mut self.counts, &item.content)?;
+        Ok(self.spare.name(&item.content, place))
+    }
+}
+
+// The start of the way through the items of a file.
+fn walk_of<'a>(
+    alloc: Global,
+    items: &'a [Item],
+    file: &'a [HeldItem],
+) -> Result<Walk<'a>, OutOfMemory>
+    ensures { IfOk result (λ walk. IsWalk items.now file.now [] walk) }
+{
+    let marked = marks_in(alloc, file)?;
+    let spare = spare_of(alloc, items, &marked)?;
+    let marks = marks_of(alloc, items)?;
+    Ok(Walk {
+        marks,
+        seen: BTreeSet::new(alloc),
+        spare,
+        counts: BTreeMap::new(alloc),
+    })
+}
+
+/// An item of a file under its name.
+#[derive(Clone, Copy, PartialEq, Eq)]
+pub struct Named {
+    pub kind: MovedKind,
+    pub number: i64,
+    pub identity: Uuid,
+    /// Whether no item of the package has that name.
+    pub is_new: bool,
+}
+
+// An item under its name.
+fn named(
+    alloc: Global,
+    package: Uuid,
+    ticket: u64,
+    item: &HeldItem,
+    name: Name,
+) -> Result<Named, OutOfMemory>
+    ensures { IfOk result (λ known. known ≡ named «package» ticket item.now name) }
+{
+    let (identity, is_new) = match name {
+        Name::Old(identity) => (identity, false),
+        Name::New(copy) => (
+            new_identity(alloc, package, ticket, copy, &item.content)?,
+            true,
+        ),
+    };
+    Ok(Named {
+        kind: item.content.kind(),
+        number: item.number,
+        identity,
+        is_new,
+    })
+}
+
+/// The items of a file under their names, in their order. Its time grows as the number of items times its logarithm, and no content is copied.
+///
+/// # Errors
+///
+/// Want of memory.
+pub fn names(
+    alloc: Global,
+    package: Uuid,
+    ticket: u64,
+    items: &[Item],
+    file: &[HeldItem],
+) -> Result<Vec<Named>, OutOfMemory>
+    ensures { IfOk result (λ names. names.items ≡ names_of «package» ticket items.now file.now) }
+{
+    let mut walk = walk_of(alloc, items, file)?;
+    let mut names = Vec::new(alloc);
+    for item in file {
+        let name = walk.next(item)?;
+        let known = named(alloc, package, ticket, item, name)?;
+        names.push(known)?;
+    }
+    Ok(names)
 }
