@@ -11,7 +11,7 @@ use Rattle.std.proofs.lemmas.List.Sums.{count_by-le-length}
 use Rattle.sheet_types.specs.declared.command.Content.{Content}
 use Rattle.sheet_types.specs.declared.command.Item.{Item}
 use Rattle.field_changes.specs.Keys.{same_content, rank_key}
-use Rattle.field_changes.specs.Naming.{copies, is_marked, is_own, others, shared_name, unmarked, name_of, named, names_behind}
+use Rattle.field_changes.specs.Naming.{copies, is_marked, is_own, others, shared_name, unmarked, name_of, known_as, names_behind}
 use Rattle.field_changes.specs.Spare.{IsWalk}
 use Rattle.field_changes.specs.declared.held.HeldItem.{HeldItem}
 use Rattle.field_changes.specs.declared.naming.Name.{Name}
@@ -36,11 +36,11 @@ others_snoc items before (x ∷ xs) h =
     ]
 
 pub names_snoc : (p : List ℕ) (n : ℕ) (items : List Item) (file before xs : List HeldItem) (h : HeldItem)
-    → names_behind p n items file before (xs ++ h ∷ []) ≡ names_behind p n items file before xs ++ named p n h (name_of items file (before ++ xs) h) ∷ []
-names_snoc p n items file before [] h = ap (λ b. named p n h (name_of items file b h) ∷ []) (sym (append-nil before))
+    → names_behind p n items file before (xs ++ h ∷ []) ≡ names_behind p n items file before xs ++ known_as p n h (name_of items file (before ++ xs) h) ∷ []
+names_snoc p n items file before [] h = ap (λ b. known_as p n h (name_of items file b h) ∷ []) (sym (append-nil before))
 names_snoc p n items file before (x ∷ xs) h =
-    ap (λ l. named p n x (name_of items file before x) ∷ l)
-    (names_snoc p n items file (before ++ x ∷ []) xs h ∙ ap (λ b. names_behind p n items file (before ++ x ∷ []) xs ++ named p n h (name_of items file b h) ∷ []) (append_assoc before (x ∷ []) xs))
+    ap (λ l. known_as p n x (name_of items file before x) ∷ l)
+    (names_snoc p n items file (before ++ x ∷ []) xs h ∙ ap (λ b. names_behind p n items file (before ++ x ∷ []) xs ++ known_as p n h (name_of items file b h) ∷ []) (append_assoc before (x ∷ []) xs))
 
 pub others_long : (items : List Item) (before xs : List HeldItem) → length (others items before xs) ≤ length xs
 others_long items before [] = omega arith

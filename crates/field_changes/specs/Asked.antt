@@ -35,18 +35,18 @@ abbrev pub commands : List ℕ → Parts → List Command
 commands p parts = map (unlinking p) parts.unlinks.items ++ map (deleting p) parts.deletes.items ++ map (adding p) parts.adds.items ++ map (linking p) parts.links.items
 
 -- the parts for a package that holds these items and links at this ticket, and a file that has these
-pub record ArePartsFor (p : List ℕ) (ticket : ℕ) (items : List Item) (links : List Relation) (more : Bool) (file : List HeldItem) (held : List HeldLink) (parts : Parts) : Type 0 where
+pub record ArePartsFor (p : List ℕ) (ticket : ℕ) (items : List Item) (linked : List Relation) (more : Bool) (file : List HeldItem) (held : List HeldLink) (parts : Parts) : Type 0 where
   pub file_links : List Relation
   pub named : AllZip (IsLinkOf (names_of p ticket items file)) held file_links
-  pub unlinks : parts.unlinks.items ≡ (if more then [] else beyond file_links links)
+  pub unlinks : parts.unlinks.items ≡ (if more then [] else beyond file_links linked)
   pub deletes : parts.deletes.items ≡ (if more then [] else identities (gone (names_of p ticket items file) items))
   pub adds : IsPermutation (new_items (names_of p ticket items file) file) parts.adds.items
   pub adds_order : IsArranged item_key parts.adds.items
-  pub links : IsPermutation (beyond links file_links) parts.links.items
+  pub links : IsPermutation (beyond linked file_links) parts.links.items
   pub links_order : IsArranged link_key parts.links.items
 
 -- the requests, at this moment
-pub record AreChanges (p : List ℕ) (ticket : ℕ) (moment : List ℕ) (items : List Item) (links : List Relation) (more : Bool) (file : List HeldItem) (held : List HeldLink) (requests : List Request) : Type 0 where
+pub record AreChanges (p : List ℕ) (ticket : ℕ) (moment : List ℕ) (items : List Item) (linked : List Relation) (more : Bool) (file : List HeldItem) (held : List HeldLink) (requests : List Request) : Type 0 where
   pub parts : Parts
-  pub for_file : ArePartsFor p ticket items links more file held parts
+  pub for_file : ArePartsFor p ticket items linked more file held parts
   pub asked : requests ≡ map (request_of p ticket moment) (commands p parts)

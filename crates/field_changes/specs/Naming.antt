@@ -56,13 +56,13 @@ name_of items file before h = if is_own items before h then Old (unwrap_or h.ide
     else shared_name (unmarked items file) h.content (copies (λ c. c) h.content (others items [] before))
 
 -- an item of the file under its name
-abbrev pub named : List ℕ → ℕ → HeldItem → Name → Named
-named p ticket h (Old id) = record { kind = kind_of h.content; number = h.number; identity = id; is_new = false }
-named p ticket h (New copy) = record { kind = kind_of h.content; number = h.number; identity = derived (item_text p ticket copy h.content); is_new = true }
+abbrev pub known_as : List ℕ → ℕ → HeldItem → Name → Named
+known_as p ticket h (Old id) = record { kind = kind_of h.content; number = h.number; identity = id; is_new = false }
+known_as p ticket h (New copy) = record { kind = kind_of h.content; number = h.number; identity = derived (item_text p ticket copy h.content); is_new = true }
 
 abbrev pub names_behind : List ℕ → ℕ → List Item → List HeldItem → List HeldItem → List HeldItem → List Named
 names_behind p ticket items file before [] = []
-names_behind p ticket items file before (h ∷ hs) = named p ticket h (name_of items file before h) ∷ names_behind p ticket items file (before ++ h ∷ []) hs
+names_behind p ticket items file before (h ∷ hs) = known_as p ticket h (name_of items file before h) ∷ names_behind p ticket items file (before ++ h ∷ []) hs
 
 -- the items of a file under their names, in their order: of this package at this ticket, which holds these items
 abbrev pub names_of : List ℕ → ℕ → List Item → List HeldItem → List Named

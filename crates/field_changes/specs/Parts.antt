@@ -1,6 +1,8 @@
 -- What the file has beyond the package, and the package beyond the file. Profile.
 use Rattle.std.specs.Prelude.{◌≡◌, ℕ, ℤ, not, List, [], ◌∷◌, ◌++◌, filter, Option, Some, option_map, if◌then◌else◌, bytes_eq}
+use Rattle.std.specs.Option.{option_and_then}
 use Rattle.sheet_types.specs.Ordered.{has, last_where}
+use Rattle.sheet_types.specs.Step.{relation}
 use Rattle.sheet_types.specs.World.{link_key, base_kind, other_kind}
 use Rattle.sheet_types.specs.declared.command.Item.{Item}
 use Rattle.sheet_types.specs.declared.command.Relation.{Relation}
@@ -28,11 +30,12 @@ new_items (n ∷ ns) (h ∷ hs) = new_item n h ++ new_items ns hs
 abbrev pub end_of : List Named → MovedKind → ℤ → Option (List ℕ)
 end_of names kind number = option_map (λ n. n.identity) (last_where (λ n. bytes_eq (number_key n.kind n.number) (number_key kind number)) names)
 
--- a link of the file, its ends under their names
-pub record IsLinkOf (names : List Named) (l : HeldLink) (r : Relation) : Type 0 where
-  pub mapping : r.mapping ≡ l.mapping
-  pub base : end_of names (base_kind l.mapping) l.base ≡ Some r.base
-  pub other : end_of names (other_kind l.mapping) l.other ≡ Some r.other
+-- a link of the file with its ends under their names, where both are there
+abbrev pub link_of : List Named → HeldLink → Option Relation
+link_of names l = option_and_then (λ base. option_map (λ other. relation l.mapping base other) (end_of names (other_kind l.mapping) l.other)) (end_of names (base_kind l.mapping) l.base)
+
+abbrev pub IsLinkOf : List Named → HeldLink → Relation → Type 0
+IsLinkOf names l r = link_of names l ≡ Some r
 
 -- the links that are not among others
 abbrev pub beyond : List Relation → List Relation → List Relation

@@ -6,7 +6,7 @@ ghost use Rattle.std.specs.Cmp.Lexicographic.{slice_cmp};
 ghost use Rattle.std.specs.BTreeMap.{get};
 ghost use Rattle.sheet_types.specs.declared.command.Relation.{Relation};
 ghost use Rattle.field_changes.specs.Keys.{number_key};
-ghost use Rattle.field_changes.specs.Parts.{IsLinkOf};
+ghost use Rattle.field_changes.specs.Parts.{link_of, IsLinkOf};
 ghost use Rattle.field_changes.specs.Ends.{HoldsEnds};
 ghost use Rattle.field_changes.specs.declared.naming.Named.{Named};
 
@@ -40,12 +40,15 @@ fn end_at(ends: &BTreeMap<NumberKey, Uuid>, kind: MovedKind, number: i64) -> Opt
 
 // A link of the file, where both ends are there.
 fn link_of(ends: &BTreeMap<NumberKey, Uuid>, link: &HeldLink) -> Option<Relation>
-    ensures some { (names : List Named) → HoldsEnds names ends.now → IfSome result (λ found. IsLinkOf names link.now found) }
-    ensures none { (names : List Named) → HoldsEnds names ends.now → IfNone result ((found : Relation) → ¬ IsLinkOf names link.now found) }
+    ensures { (names : List Named) → HoldsEnds names ends.now → result ≡ link_of names link.now }
 {
-    let base = end_at(ends, link.mapping.base_kind(), link.base)?;
-    let other = end_at(ends, link.mapping.other_kind(), link.other)?;
-    Some(Relation::new(link.mapping, base, other))
+    match end_at(ends, link.mapping.base_kind(), link.base) {
+        Some(base) => match end_at(ends, link.mapping.other_kind(), link.other) {
+            Some(other) => Some(Relation::new(link.mapping, base, other)),
+            None => None,
+        },
+        None => None,
+    }
 }
 
 /// The links of a file with their ends under their names, or none where an end of one is no item of the file.

@@ -2,6 +2,7 @@
 #![tactic(auto)]
 
 pub mod asking;
+pub mod changes;
 pub mod ends;
 pub mod held;
 pub mod ids;

@@ -8,7 +8,7 @@ ghost use Rattle.std.specs.BTreeSet.{contains};
 ghost use Rattle.sheet_types.specs.Ordered.{has};
 ghost use Rattle.field_changes.specs.Keys.{item_mark, rank_key};
 ghost use Rattle.sheet_types.specs.declared.command.Item.{Item};
-ghost use Rattle.field_changes.specs.Naming.{is_marked, is_own, name_of, named, names_of, shared_name};
+ghost use Rattle.field_changes.specs.Naming.{is_marked, is_own, name_of, known_as, names_of, shared_name};
 ghost use Rattle.field_changes.specs.declared.held.HeldItem.{HeldItem};
 ghost use Rattle.field_changes.specs.Spare.{HoldsSpare, IsWalk};
 
@@ -246,14 +246,14 @@ pub struct Named {
 }
 
 // An item under its name.
-fn named(
+fn known_as(
     alloc: Global,
     package: Uuid,
     ticket: u64,
     item: &HeldItem,
     name: Name,
 ) -> Result<Named, OutOfMemory>
-    ensures { IfOk result (λ known. known ≡ named «package» ticket item.now name) }
+    ensures { IfOk result (λ known. known ≡ known_as «package» ticket item.now name) }
 {
     let (identity, is_new) = match name {
         Name::Old(identity) => (identity, false),
@@ -288,7 +288,7 @@ pub fn names(
     let mut names = Vec::new(alloc);
     for item in file {
         let name = walk.next(item)?;
-        let known = named(alloc, package, ticket, item, name)?;
+        let known = known_as(alloc, package, ticket, item, name)?;
         names.push(known)?;
     }
     Ok(names)

@@ -2,7 +2,7 @@
 use Rattle.std.proofs.Common.{◌≡◌, ◌≤◌, ◌∙◌, ap, sym, subst, take, length, is_ok, [], ◌∷◌, ◌++◌, arith}
 use Rattle.std.proofs.ResultArms.{chosen}
 use Rattle.std.proofs.lemmas.List.{take_all}
-use Rattle.field_changes.specs.Naming.{named, names_behind}
+use Rattle.field_changes.specs.Naming.{known_as, names_behind}
 use Rattle.field_changes.specs.Spare.{IsWalk}
 use Rattle.field_changes.proofs.Sets.{one_more}
 use Rattle.field_changes.proofs.Counting.{taken_few}
@@ -26,7 +26,7 @@ loop-item-preserved c =
     record {
       names = chosen _ _ _ _ c.push.ensures.items (ap is_ok c.in_ok-push.was)
         ∙ ap (λ l. l ++ c.in_ok-known.known ∷ []) c.loop-item.invariant.names
-        ∙ ap (λ k. names_behind p n items file [] (take i file) ++ k ∷ []) (c.in_ok-known.ensures ∙ ap (named p n c.item-item.result) name)
+        ∙ ap (λ k. names_behind p n items file [] (take i file) ++ k ∷ []) (c.in_ok-known.ensures ∙ ap (known_as p n c.item-item.result) name)
         ∙ sym (names_snoc p n items file [] (take i file) c.item-item.result)
         ∙ ap (names_behind p n items file []) (sym more);
       walk = subst (λ l. IsWalk items file l c.next.new.self) (sym more) (c.in_ok-name.ensures.walk items file (take i file) c.loop-item.invariant.walk);
