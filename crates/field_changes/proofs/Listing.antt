@@ -1,6 +1,6 @@
 -- Lists that a loop fills, with one element more.
-use Rattle.std.specs.Prelude.{◌≡◌, ◌+◌, ◌<◌, ℕ, Bool, List, [], ◌∷◌, ◌++◌, map, filter, length, take}
-use Rattle.std.proofs.Common.{sym, ap, subst, ◌∙◌, get_or, append_assoc}
+use Rattle.std.specs.Prelude.{◌≡◌, ◌+◌, ◌<◌, ℕ, zero, suc, Bool, List, [], ◌∷◌, ◌++◌, map, filter, length, take}
+use Rattle.std.proofs.Common.{sym, ap, subst, ◌∙◌, get_or, append_assoc, arith}
 use Rattle.std.specs.List.{AllZip}
 use Rattle.std.proofs.lemmas.List.{map-append, take_more}
 use Rattle.std.proofs.lemmas.Slice.Zip.{all_zipped_more}
@@ -27,16 +27,6 @@ asked_more f g xs i x old now new y lt is was step one =
     ∙ ap (λ l. old ++ map f l) (sym (map-append g (take i xs) (x ∷ [])))
     ∙ ap (λ l. old ++ map f (map g l)) (sym (one_more xs i x lt is))
 
--- the same, where the element is told by its place
-pub asked_more_at : {X C Y : Type 0} (f : C → Y) (g : X → C) (xs : List X) (i : ℕ) (d : X) (old now new : List Y) (y : Y) → i < length xs → now ≡ old ++ map f (map g (take i xs)) → new ≡ now ++ y ∷ [] → y ≡ f (g (get_or xs i d))
-    → new ≡ old ++ map f (map g (take (i + 1) xs))
-asked_more_at f g xs i d old now new y lt was step one =
-    step ∙ ap (λ l. l ++ y ∷ []) was ∙ append_assoc old (map f (map g (take i xs))) (y ∷ [])
-    ∙ ap (λ z. old ++ (map f (map g (take i xs)) ++ z ∷ [])) one
-    ∙ ap (λ l. old ++ l) (sym (map-append f (map g (take i xs)) (g (get_or xs i d) ∷ [])))
-    ∙ ap (λ l. old ++ map f l) (sym (map-append g (take i xs) (get_or xs i d ∷ [])))
-    ∙ ap (λ l. old ++ map f (map g l)) (sym (take_more xs i d lt))
-
 -- one row more of those that a loop goes over, and what was made of it
 pub zip_more : {A B : Type 0} (R : A → B → Type 0) (rows : List A) (i : ℕ) (d row : A) (made now : List B) (x : B) → i < length rows → row ≡ get_or rows i d → now ≡ made ++ x ∷ [] → AllZip R (take i rows) made → R row x → AllZip R (take (i + 1) rows) now
 zip_more R rows i d row made now x less is pushed all one =
@@ -47,3 +37,11 @@ zip_more R rows i d row made now x less is pushed all one =
 pub four_parts : {C Y : Type 0} (f : C → Y) (a b c d : List C) (none one two three four : List Y) → none ≡ [] → one ≡ none ++ map f a → two ≡ one ++ map f b → three ≡ two ++ map f c → four ≡ three ++ map f d → four ≡ map f (a ++ b ++ c ++ d)
 four_parts f a b c d none one two three four z i j k l =
     l ∙ ap (λ x. x ++ map f d) (k ∙ ap (λ x. x ++ map f c) (j ∙ ap (λ x. x ++ map f b) (i ∙ ap (λ x. x ++ map f a) z) ∙ sym (map-append f a b)) ∙ sym (map-append f (a ++ b) c)) ∙ sym (map-append f (a ++ b ++ c) d)
+
+-- what holds of each pair holds at each place
+pub all_at : {A B : Type 0} (R : A → B → Type 0) (xs : List A) (ys : List B) (i : ℕ) (d : A) (e : B) → AllZip R xs ys → i < length xs → R (get_or xs i d) (get_or ys i e)
+all_at R [] [] i d e all less = absurd (omega (arith, less))
+all_at R [] (y ∷ ys) i d e all less = absurd all
+all_at R (x ∷ xs) [] i d e all less = absurd all
+all_at R (x ∷ xs) (y ∷ ys) zero d e all less = all.0
+all_at R (x ∷ xs) (y ∷ ys) (suc i) d e all less = all_at R xs ys i d e all.1 (omega (arith, less))
