@@ -59,7 +59,7 @@ has_grid mine (Some theirs) has_tiles = same_grid mine theirs
 
 -- the frame is a record that could not be listed
 abbrev pub tells_frame : BadRecord → Bool
-tells_frame record = bytes_eq (take 5 record.text) (codes "frame")
+tells_frame bad = bytes_eq (take 5 bad.text) (codes "frame")
 
 -- the first reason for which a file is none of this package at this ticket, if there is one
 abbrev pub head_fault : List ℕ → ℕ → Frame → Bool → Held → Option HeadFault

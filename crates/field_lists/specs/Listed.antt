@@ -47,7 +47,7 @@ entry_word (System number) = codes "system"
 entry_word (Framed frame) = codes "frame"
 entry_word (Item item) = kind_word (kind_of item.content)
 entry_word (Link link) = mapping_word link.mapping
-entry_word (Bad record) = codes "bad"
+entry_word (Bad bad) = codes "bad"
 entry_word (End count) = codes "end"
 
 -- the fields of an entry beside its word, and that those which it does not use are empty
@@ -57,7 +57,7 @@ HasEntry fields (System number) = IsNumberAt fields 1 number × AreEmpty fields 
 HasEntry fields (Framed frame) = IsFrameAt fields 10 frame × AreEmpty fields (1 ∷ 2 ∷ 3 ∷ 4 ∷ 5 ∷ 6 ∷ 7 ∷ 8 ∷ 9 ∷ 11 ∷ [])
 HasEntry fields (Item item) = IsNumberAt fields 1 item.number × HasContent fields item.identity item.content
 HasEntry fields (Link link) = IsNumberAt fields 1 link.base × IsNumberAt fields 2 link.other × AreEmpty fields (3 ∷ 4 ∷ 5 ∷ 6 ∷ 7 ∷ 8 ∷ 9 ∷ 10 ∷ 11 ∷ [])
-HasEntry fields (Bad record) = IsOptionalNumberAt fields 1 record.number × IsTextAt fields 10 record.text × AreEmpty fields (2 ∷ 3 ∷ 4 ∷ 5 ∷ 6 ∷ 7 ∷ 8 ∷ 9 ∷ 11 ∷ [])
+HasEntry fields (Bad bad) = IsOptionalNumberAt fields 1 bad.number × IsTextAt fields 10 bad.text × AreEmpty fields (2 ∷ 3 ∷ 4 ∷ 5 ∷ 6 ∷ 7 ∷ 8 ∷ 9 ∷ 11 ∷ [])
 HasEntry fields (End count) = IsNumberAt fields 1 count × AreEmpty fields (2 ∷ 3 ∷ 4 ∷ 5 ∷ 6 ∷ 7 ∷ 8 ∷ 9 ∷ 10 ∷ 11 ∷ [])
 
 -- a record that is this entry

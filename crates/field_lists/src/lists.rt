@@ -9,11 +9,11 @@ ghost use Rattle.field_lists.specs.declared.records.Ending.TheVariants as ending
 ghost use Rattle.field_lists.specs.declared.lists.ListFault.TheVariants as fault;
 
 use crate::columns::COUNT;
+use crate::entries::{Listed, entry_of};
 use crate::fields::has_text;
 use crate::records::{Ending, read_records};
-use crate::entries::{Listed, entry_of};
-use request_csv::sources::ListSource;
 use csv::{ByteRecord, StringRecord};
+use request_csv::sources::ListSource;
 use sheet_types::error::OutOfMemory;
 use std::alloc::Global;
 use std::vec::IntoIter;
@@ -46,17 +46,7 @@ impl From<OutOfMemory> for ListFault {
 
 /// The names of the columns, in their order.
 const COLUMNS: [&str; COUNT] = [
-    "kind",
-    "number",
-    "other",
-    "identity",
-    "zoom",
-    "column",
-    "row",
-    "x",
-    "y",
-    "code",
-    "text",
+    "kind", "number", "other", "identity", "zoom", "column", "row", "x", "y", "code", "text",
     "data",
 ];
 
