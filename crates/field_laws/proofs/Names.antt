@@ -59,18 +59,18 @@ got : (xs : List Item) (c : Content) (k : ℕ) (id : List ℕ) → slice_get (al
 got [] c k id e = cc
 got (i ∷ is) c k id e =
     elim (same_content c i.content) as (λ b. same_content c i.content ≡ b → slice_get (identities (cond b (i ∷ filter (λ j. same_content c j.content) is) (filter (λ j. same_content c j.content) is))) k ≡ Some id → (is_item id c i || list_any (is_item id c) is) ≡ true) [
-      | true ↦ λ t. at k t
+      | true ↦ λ t. at k (λ n r. got is c n id r) t
       | false ↦ λ _ rest. ap (λ b. is_item id c i || b) (got is c k id rest) ∙ or_true (is_item id c i)
     ] refl e
   where
-    at : (n : ℕ) → same_content c i.content ≡ true → slice_get (i.identity ∷ alike c is) n ≡ Some id → (is_item id c i || list_any (is_item id c) is) ≡ true
-    at zero t here =
+    at : (n : ℕ) → ((m : ℕ) → slice_get (alike c is) m ≡ Some id → list_any (is_item id c) is ≡ true) → same_content c i.content ≡ true → slice_get (i.identity ∷ alike c is) n ≡ Some id → (is_item id c i || list_any (is_item id c) is) ≡ true
+    at zero later t here =
         let same : i.identity ≡ id = cc in
         let one : bytes_eq i.identity id ≡ true = (bytes_eq-Decides i.identity id).1 same in
         let two : same_content i.content c ≡ true = bytes_eq_swap (content_key i.content) (content_key c) ∙ t in
         let item : is_item id c i ≡ true = ap (λ b. b && same_content i.content c) one ∙ two in
         ap (λ b. b || list_any (is_item id c) is) item
-    at (suc n) t rest = ap (λ b. is_item id c i || b) (got is c n id rest) ∙ or_true (is_item id c i)
+    at (suc n) later t rest = ap (λ b. is_item id c i || b) (later n rest) ∙ or_true (is_item id c i)
 
 -- what passes of those that are left passes of all
 left_of : (p t : Item → Bool) (items : List Item) → list_any p (filter t items) ≡ true → list_any p items ≡ true
