@@ -51,13 +51,13 @@ pub returns-in-rows_media-clause-none : goal.returns-in-rows_media-clause-none
 returns-in-rows_media-clause-none c =
     let fields = fields_of c.args.row.now in
     let word = is_word (field_at fields 0) c.in-Some.word.now (codes "rows_media") c.in-Some.ensures.value c.in-rows_media.is in
-    none_then c.link_of-2.result (λ none. no_entry fields (codes "rows_media") word (λ same. absurd (apart _ _ refl same)) (λ same. absurd (apart _ _ refl same)) (λ same. absurd (apart _ _ refl same)) (λ same. absurd (apart _ _ refl same)) (λ same. absurd (apart _ _ refl same)) (λ same. absurd (apart _ _ refl same)) (λ same. absurd (apart _ _ refl same)) (λ same. none) (λ same. absurd (apart _ _ refl same)) (λ same. absurd (apart _ _ refl same)) (λ same. absurd (apart _ _ refl same))) c.link_of-2.ensures.none
+    none_then c.link_of-in-rows_media.result (λ none. no_entry fields (codes "rows_media") word (λ same. absurd (apart _ _ refl same)) (λ same. absurd (apart _ _ refl same)) (λ same. absurd (apart _ _ refl same)) (λ same. absurd (apart _ _ refl same)) (λ same. absurd (apart _ _ refl same)) (λ same. absurd (apart _ _ refl same)) (λ same. absurd (apart _ _ refl same)) (λ same. none) (λ same. absurd (apart _ _ refl same)) (λ same. absurd (apart _ _ refl same)) (λ same. absurd (apart _ _ refl same))) c.link_of-in-rows_media.ensures.none
 
 pub returns-in-rows_tiles-clause-none : goal.returns-in-rows_tiles-clause-none
 returns-in-rows_tiles-clause-none c =
     let fields = fields_of c.args.row.now in
     let word = is_word (field_at fields 0) c.in-Some.word.now (codes "rows_tiles") c.in-Some.ensures.value c.in-rows_tiles.is in
-    none_then c.link_of-3.result (λ none. no_entry fields (codes "rows_tiles") word (λ same. absurd (apart _ _ refl same)) (λ same. absurd (apart _ _ refl same)) (λ same. absurd (apart _ _ refl same)) (λ same. absurd (apart _ _ refl same)) (λ same. absurd (apart _ _ refl same)) (λ same. absurd (apart _ _ refl same)) (λ same. absurd (apart _ _ refl same)) (λ same. absurd (apart _ _ refl same)) (λ same. none) (λ same. absurd (apart _ _ refl same)) (λ same. absurd (apart _ _ refl same))) c.link_of-3.ensures.none
+    none_then c.link_of-in-rows_tiles.result (λ none. no_entry fields (codes "rows_tiles") word (λ same. absurd (apart _ _ refl same)) (λ same. absurd (apart _ _ refl same)) (λ same. absurd (apart _ _ refl same)) (λ same. absurd (apart _ _ refl same)) (λ same. absurd (apart _ _ refl same)) (λ same. absurd (apart _ _ refl same)) (λ same. absurd (apart _ _ refl same)) (λ same. absurd (apart _ _ refl same)) (λ same. none) (λ same. absurd (apart _ _ refl same)) (λ same. absurd (apart _ _ refl same))) c.link_of-in-rows_tiles.ensures.none
 
 pub returns-in-bad-clause-none : goal.returns-in-bad-clause-none
 returns-in-bad-clause-none c =
