@@ -28,9 +28,9 @@ pub others_snoc : (items : List Item) (before xs : List HeldItem) (h : HeldItem)
 others_snoc items before [] h = ap (λ b. other items b h) (sym (append-nil before))
 others_snoc items before (x ∷ xs) h =
     let step : others items (before ++ x ∷ []) (xs ++ h ∷ []) ≡ others items (before ++ x ∷ []) xs ++ other items (before ++ x ∷ xs) h =
-        others_snoc items (before ++ x ∷ []) xs h ∙ ap (λ b. others items (before ++ x ∷ []) xs ++ other items b h) (append_assoc before (x ∷ []) xs) in
+    others_snoc items (before ++ x ∷ []) xs h ∙ ap (λ b. others items (before ++ x ∷ []) xs ++ other items b h) (append_assoc before (x ∷ []) xs) in
     elim (is_own items before x) as (λ b. cond b (others items (before ++ x ∷ []) (xs ++ h ∷ [])) (x.content ∷ others items (before ++ x ∷ []) (xs ++ h ∷ []))
-        ≡ cond b (others items (before ++ x ∷ []) xs) (x.content ∷ others items (before ++ x ∷ []) xs) ++ other items (before ++ x ∷ xs) h) [
+    ≡ cond b (others items (before ++ x ∷ []) xs) (x.content ∷ others items (before ++ x ∷ []) xs) ++ other items (before ++ x ∷ xs) h) [
       | true ↦ step
       | false ↦ ap (λ l. x.content ∷ l) step
     ]

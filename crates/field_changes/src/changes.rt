@@ -91,7 +91,13 @@ pub fn parts_for(
 ) -> Result<Parts, Unasked>
     ensures { IfOk result (λ parts. ArePartsFor asker.now.package asker.now.ticket holdings.now.items.now holdings.now.links.now more file.items held.now parts) }
 {
-    let names = names(alloc, asker.package, asker.ticket, holdings.items, file.as_slice())?;
+    let names = names(
+        alloc,
+        asker.package,
+        asker.ticket,
+        holdings.items,
+        file.as_slice(),
+    )?;
     let found = links_of(alloc, names.as_slice(), held)?;
     let Some(file_links) = found else {
         return Err(Unasked::List);

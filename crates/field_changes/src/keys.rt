@@ -74,7 +74,10 @@ fn head_of(content: &Content) -> [u64; 7]
 {
     match content {
         Content::Tile {
-            zoom, column, row, ..
+            zoom,
+            column,
+            row,
+            ..
         } => numbered(1, *zoom, *column, *row),
         Content::Media { content_type, .. } => {
             [2, content_type.as_str().len() as u64, 0, 0, 0, 0, 0]
@@ -277,7 +280,11 @@ impl NumberKey {
 fn numbers_of(kind: MovedKind, number: i64) -> [u64; 3]
     ensures { result ≡ number_key kind number }
 {
-    [u64::from(kind.number()), sign(number), number.unsigned_abs()]
+    [
+        u64::from(kind.number()),
+        sign(number),
+        number.unsigned_abs(),
+    ]
 }
 
 impl PartialEq for NumberKey {

@@ -67,10 +67,7 @@ fn marks_in<'a>(alloc: Global, file: &'a [HeldItem]) -> Result<BTreeSet<Key<'a>>
 fn count_of<'a>(counts: &BTreeMap<Key<'a>, u64>, content: &'a Content) -> u64
     ensures { result ≡ unwrap_or (get (slice_cmp nat_cmp) counts.now (rank_key 0 content.now)) 0 }
 {
-    counts
-        .get(&Key::of_rank(0, content))
-        .copied()
-        .unwrap_or(0)
+    counts.get(&Key::of_rank(0, content)).copied().unwrap_or(0)
 }
 
 // What stands at a place among those of a content.

@@ -93,11 +93,7 @@ fn names_of(alloc: Global, names: &[Named]) -> Result<BTreeSet<Uuid>, OutOfMemor
 }
 
 // Puts the identity of an item behind the others, where it is none of these.
-fn push_gone(
-    ids: &mut Vec<Uuid>,
-    known: &BTreeSet<Uuid>,
-    item: &Item,
-) -> Result<(), OutOfMemory>
+fn push_gone(ids: &mut Vec<Uuid>, known: &BTreeSet<Uuid>, item: &Item) -> Result<(), OutOfMemory>
     ensures { IfOk result (λ _. ids.new.items ≡ ids.old.items ++ identities (filter (λ i. not (contains (slice_cmp nat_cmp) known.now i.identity)) (item.now ∷ []))) }
 {
     if known.contains(&item.identity) {
@@ -108,11 +104,7 @@ fn push_gone(
 }
 
 // The identities of the items that are none of these.
-fn unknown(
-    alloc: Global,
-    known: &BTreeSet<Uuid>,
-    items: &[Item],
-) -> Result<Vec<Uuid>, OutOfMemory>
+fn unknown(alloc: Global, known: &BTreeSet<Uuid>, items: &[Item]) -> Result<Vec<Uuid>, OutOfMemory>
     ensures { IfOk result (λ ids. ids.items ≡ identities (filter (λ i. not (contains (slice_cmp nat_cmp) known.now i.identity)) items.now)) }
 {
     let mut ids = Vec::new(alloc);

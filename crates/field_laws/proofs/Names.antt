@@ -78,9 +78,9 @@ left_of p t [] some = some
 left_of p t (i ∷ is) some =
     elim (t i) as (λ b. list_any p (cond b (i ∷ filter t is) (filter t is)) ≡ true → (p i || list_any p is) ≡ true) [
       | true ↦ λ e. elim (p i) as (λ b. (b || list_any p (filter t is)) ≡ true → (b || list_any p is) ≡ true) [
-          | true ↦ λ _. refl
-          | false ↦ λ rest. left_of p t is rest
-        ] e
+        | true ↦ λ _. refl
+        | false ↦ λ rest. left_of p t is rest
+      ] e
       | false ↦ λ rest. ap (λ b. p i || b) (left_of p t is rest) ∙ or_true (p i)
     ] some
 

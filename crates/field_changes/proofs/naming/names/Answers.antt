@@ -25,10 +25,10 @@ loop-item-preserved c =
     let name = c.in_ok-name.ensures.name items file (take i file) c.loop-item.invariant.walk in
     record {
       names = chosen _ _ _ _ c.push.ensures.items (ap is_ok c.in_ok-push.was)
-        ∙ ap (λ l. l ++ c.in_ok-known.known ∷ []) c.loop-item.invariant.names
-        ∙ ap (λ k. names_behind p n items file [] (take i file) ++ k ∷ []) (c.in_ok-known.ensures ∙ ap (known_as p n c.item-item.result) name)
-        ∙ sym (names_snoc p n items file [] (take i file) c.item-item.result)
-        ∙ ap (names_behind p n items file []) (sym more);
+          ∙ ap (λ l. l ++ c.in_ok-known.known ∷ []) c.loop-item.invariant.names
+          ∙ ap (λ k. names_behind p n items file [] (take i file) ++ k ∷ []) (c.in_ok-known.ensures ∙ ap (known_as p n c.item-item.result) name)
+          ∙ sym (names_snoc p n items file [] (take i file) c.item-item.result)
+          ∙ ap (names_behind p n items file []) (sym more);
       walk = subst (λ l. IsWalk items file l c.next.new.self) (sym more) (c.in_ok-name.ensures.walk items file (take i file) c.loop-item.invariant.walk);
     }
 

@@ -24,5 +24,5 @@ returns c = λ left holds.
     record {
       counts = counted (λ i. i.content) c.args.self.now.counts c.count_up.new.counts left x c.in_ok-place.place holds.counts c.in_ok-place.ensures.before c.in_ok-place.ensures.after;
       places = placed c.args.self.now.places c.insert.new.self left x c.in_ok-place.place holds.places (c.in_ok-place.ensures.before ∙ holds.counts x.content)
-        (λ q. at_key c.args.self.now.places c.insert.new.self c.of_rank.result (Some x.identity) c.in_ok-insert.ensures.updates q ∙ ap (λ k. cond (bytes_eq k q) (Some x.identity) (get (slice_cmp nat_cmp) c.args.self.now.places q)) c.of_rank.ensures);
+          (λ q. at_key c.args.self.now.places c.insert.new.self c.of_rank.result (Some x.identity) c.in_ok-insert.ensures.updates q ∙ ap (λ k. cond (bytes_eq k q) (Some x.identity) (get (slice_cmp nat_cmp) c.args.self.now.places q)) c.of_rank.ensures);
     }
