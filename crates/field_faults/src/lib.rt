@@ -1,5 +1,0 @@
-//! Why a package cannot hold what an edited file holds.
-#![tactic(auto)]
-
-pub mod heads;
-pub mod reasons;

@@ -1,4 +1,0 @@
-//! Request lists as texts.
-#![tactic(auto)]
-
-pub mod texts;
