@@ -18,7 +18,6 @@ FLOORS = [
     ("register: one package as identified items and links, what moves between two, receipts", ["identity_register", "cut", "transfer", "custody", "register_"]),
     ("world: the live packages: what is asked, decided, carried out", ["world"]),
     ("opening: stores that may be anything come to a world, or to a fault", ["opening"]),
-    ("field: what an edited file holds, and the requests that bring it home", ["field_"]),
     ("request, desk: bytes to requests, answers to bytes", ["request_", "manifest_csv", "desk_"]),
     ("field: a file that another program edited", ["field_"]),
     ("command, view: subcommands that change, and that look", ["command_", "commands", "view_", "views", "cli"]),
