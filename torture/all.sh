@@ -24,6 +24,7 @@ each stock_package - "$torture/stock_sqlite3.sh" --init "$program"
 each stock_folder sqlite3 "$torture/stock_folder.sh"
 each first_version - "$torture/first_version_folder.sh" "$program"
 each export 'sqlite3 ogrinfo gdalinfo gdal_translate' "$torture/export_files.sh"
+each report_page 'chromium tidy' "$torture/report_page.py"
 
 # Kills, a disk that fails, power that is lost, files that are damaged.
 each kills strace "$torture/kill_folder.py" --step $((quick ? 29 : 1)) import

@@ -1,0 +1,75 @@
+#!/usr/bin/env python3
+"""Writes the page of the sample, as the second machine makes it: report.html, of all of archive.csv, with the names of names.csv.
+
+Usage: make_report.py                writes report.html
+       make_report.py --check        writes nothing; status 1 where report.html is not what would be written
+       make_report.py --middle FILE  writes the page after record 57, while a loan has lent on
+       make_report.py --odd FILE     writes the page of a world whose texts are hostile
+
+Nothing here runs the program.
+"""
+
+import csv
+import os
+import sys
+
+import nordmark
+import reference
+from machine.report import page_of
+from machine.world import Receipt, apply
+
+HERE = os.path.dirname(os.path.abspath(__file__))
+ODD_TEXTS = ["<script>document.title='out'</script>", "\"><img src=x onerror=alert(1)>'", "מגדלור \u202eabc\u202c منارة", "W" * 190, "]]></title></svg>&amp; &#60;b&#62;",
+             "tab\there\x00\x1b[31m\x7f\x85\u2066", "", "   ", "𝔐𝔞𝔭 🗺 ﷽"]
+
+
+def path(name):
+    return os.path.join(HERE, name)
+
+
+def names():
+    with open(path("names.csv"), encoding="utf-8", newline="") as found:
+        return {record["uuid"]: record["name"] for record in csv.DictReader(found)}
+
+
+def world_of(lines):
+    with open(path("archive.csv"), "rb") as found:
+        records = found.read().split(b"\n")
+    return reference.rehearse(nordmark.ARCHIVE, nordmark.FRAME, b"\n".join(records[:lines]) + b"\n").world
+
+
+def odd_world():
+    """Marks and a medium whose texts try to break out of the page."""
+    world = world_of(58)
+    for n, text in enumerate(ODD_TEXTS):
+        add = {"request": nordmark.new(f"odd request {n}"), "at": "2026-03-02T09:00:00.000Z", "command": "add", "package": nordmark.ARCHIVE, "identity": nordmark.new(f"odd {n}")}
+        assert isinstance(apply(world, {**add, "kind": "row", "x": 505000000 + n * 4000000, "y": 5915000000, "code": n, "text": text}), Receipt), text
+    return world
+
+
+def odd_names():
+    return {**names(), nordmark.BOAT: "<b>boat</b> \"'&", nordmark.HARBOUR: "harbour" * 40, nordmark.SURVEY: "סירה \u202eevil", nordmark.sheet(4, 1, 0): "</span></svg><script>"}
+
+
+def write(name, text):
+    with open(name, "w", encoding="utf-8", newline="\n") as to:
+        to.write(text)
+
+
+def main():
+    words = sys.argv[1:]
+    if words[:1] == ["--odd"] and len(words) == 2:
+        return write(words[1], page_of(odd_world(), odd_names(), reference.reply_text))
+    if words[:1] == ["--middle"] and len(words) == 2:
+        return write(words[1], page_of(world_of(58), names(), reference.reply_text))
+    if words not in ([], ["--check"]):
+        sys.exit(__doc__)
+    page = page_of(world_of(None), names(), reference.reply_text)
+    if not words:
+        return write(path("report.html"), page)
+    with open(path("report.html"), encoding="utf-8", newline="") as found:
+        sys.exit(found.read() != page)
+
+
+if __name__ == "__main__":
+    main()

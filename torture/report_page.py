@@ -1,0 +1,121 @@
+#!/usr/bin/env python3
+"""Opens the page of a register in Chromium, without a window, and says what is wrong with it.
+
+Usage: torture/report_page.py [PAGE..] [--pictures]    without a page those of samples/make_report.py: the sample's, its middle and a hostile one
+
+Of each page: tidy finds no error; every link leads to a place of the page; no request leaves it; what a browser makes of it has no
+script, image or frame; no page is wider than its window, at 1280 and at 390; printed it is A4. The hostile page has labels with markup,
+quotes, controls, text from right to left and a word without spaces. With --pictures samples/report-desk.png and samples/report-phone.png
+are made anew, of the middle. Chromium and tidy are Debian's (`apt-get install chromium tidy`).
+"""
+
+import json
+import os
+import re
+import subprocess
+import sys
+import tempfile
+
+TOP = os.path.dirname(os.path.dirname(os.path.abspath(__file__)))
+SAMPLES = os.path.join(TOP, "samples")
+SIZES = [("report-desk.png", 1280, 1760), ("report-phone.png", 500, 1500)]
+NARROW = [1280, 390]
+
+
+def chromium(folder, page, *words):
+    command = ["chromium", "--headless", "--no-sandbox", "--disable-gpu", "--hide-scrollbars", f"--user-data-dir={folder}/profile", *words, f"file://{page}"]
+    return subprocess.run(command, capture_output=True, timeout=120, check=True).stdout.decode()
+
+
+def tidy_errors(page):
+    told = subprocess.run(["tidy", "-eq", "-utf8", page], capture_output=True, check=False)
+    return [line for line in told.stderr.decode().splitlines() if " Error: " in line]
+
+
+def loose_links(text):
+    """Links that lead out of the page, or to no place in it."""
+    places = set(re.findall(r' id="([^"]*)"', text))
+    links = re.findall(r'(?:href|src)="([^"]*)"', text) + re.findall(r"url\(([^)]*)\)", text)
+    return [link for link in links if not link.startswith("#") or link[1:] not in places]
+
+
+def requests_out(folder, page):
+    """What a browser asked of the network while it showed the page."""
+    log = os.path.join(folder, "net.json")
+    chromium(folder, page, f"--log-net-log={log}", "--virtual-time-budget=2000", "--dump-dom")
+    with open(log, encoding="utf-8") as found:
+        text = found.read()
+    told = json.loads(text if text.rstrip().endswith("}") else text.rstrip().rstrip(",") + "]}")
+    urls = [event.get("params", {}).get("url", "") for event in told["events"] if isinstance(event.get("params"), dict)]
+    own = ("file:", "data:", "chrome:", "chrome-", "about:", "blob:", "devtools:")
+    # Chromium itself asks its maker for updates and lists; none of that has the page as its initiator.
+    makers = re.compile(r"https?://([\w-]+\.)*(google|googleapis|gvt1|gstatic)\.com/")
+    return sorted({url for url in urls if url and not url.startswith(own) and not makers.match(url)})
+
+
+WIDTH = "<script>onload=()=>{document.documentElement.dataset.over=document.documentElement.scrollWidth-innerWidth}</script>"
+
+
+def too_wide(folder, page, width):
+    """By how much the page is wider than a window of this width, details open; measured in a copy that has a script for it."""
+    with open(page, encoding="utf-8") as found:
+        text = found.read().replace("<details", "<details open").replace("</head>", WIDTH + "</head>", 1)
+    copy = os.path.join(folder, "measured.html")
+    with open(copy, "w", encoding="utf-8") as to:
+        # A window of Chromium is 500 wide at least, so a narrow one is a frame in it.
+        to.write(text)
+    frame = os.path.join(folder, "frame.html")
+    with open(frame, "w", encoding="utf-8") as to:
+        to.write(f'<!DOCTYPE html><iframe id="f" src="measured.html" width="{width}" height="900" style="border:0"></iframe><script>onload=()=>{{document.body.dataset.over='
+                 "document.getElementById('f').contentDocument.documentElement.dataset.over}</script>")
+    told = re.search(r'data-over="(-?\d+)"', chromium(folder, frame, "--allow-file-access-from-files", "--virtual-time-budget=2000", "--window-size=1600,1000", "--dump-dom"))
+    return int(told.group(1)) if told else 10**6
+
+
+def odd_elements(folder, page):
+    """Elements that a page never has."""
+    tree = chromium(folder, page, "--virtual-time-budget=1000", "--dump-dom")
+    return re.findall(r"<(?:script|img|iframe|object|embed|link|base|form)\b[^>]*", tree)
+
+
+def printed(folder, page):
+    """The sheets of paper that it takes, or None where one is not A4."""
+    paper = os.path.join(folder, "page.pdf")
+    chromium(folder, page, "--no-pdf-header-footer", f"--print-to-pdf={paper}")
+    with open(paper, "rb") as found:
+        boxes = re.findall(rb"/MediaBox\s*\[\s*0 0 ([\d.]+) ([\d.]+)\s*\]", found.read())
+    return len(boxes) if boxes and all(round(float(w)) == 595 and round(float(h)) == 842 for w, h in boxes) else None
+
+
+def look_at(folder, page):
+    with open(page, encoding="utf-8") as found:
+        text = found.read()
+    faults = tidy_errors(page) + [f"loose link {link}" for link in loose_links(text)] + [f"asks for {url}" for url in requests_out(folder, page)]
+    faults += [f"has {each}" for each in odd_elements(folder, page)]
+    for width in NARROW:
+        over = too_wide(folder, page, width)
+        faults += [f"{over} wider than {width}"] if over > 0 else []
+    sheets = printed(folder, page)
+    faults += [] if sheets else ["not printed on A4"]
+    print(f"{os.path.basename(page)}: {len(text.encode())} bytes, {sheets} sheets of A4, {len(faults)} faults")
+    for fault in faults:
+        print("   " + fault)
+    return faults
+
+
+def main():
+    words = sys.argv[1:]
+    pages = [os.path.abspath(word) for word in words if word != "--pictures"]
+    with tempfile.TemporaryDirectory() as folder:
+        middle, odd = os.path.join(folder, "middle.html"), os.path.join(folder, "odd.html")
+        for option, page in (("--middle", middle), ("--odd", odd)):
+            subprocess.run([sys.executable, os.path.join(SAMPLES, "make_report.py"), option, page], check=True)
+        faults = [fault for page in pages or [os.path.join(SAMPLES, "report.html"), middle, odd] for fault in look_at(folder, page)]
+        if "--pictures" in words:
+            for name, width, height in SIZES:
+                chromium(folder, middle, "--force-device-scale-factor=0.5", f"--window-size={width},{height}", f"--screenshot={os.path.join(SAMPLES, name)}")
+    sys.exit(bool(faults))
+
+
+if __name__ == "__main__":
+    main()
