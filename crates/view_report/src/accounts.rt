@@ -18,7 +18,8 @@ fn put_total_cell(text: &mut String, number: u128) -> Result<(), AllocError>
 {
     put(text, "<td class=\"n\">")?;
     put_total(text, number)?;
-    put(text, "</td>")
+    put(text, "</td>")?;
+    Ok(())
 }
 
 /// Puts the row of what came in or went out.
@@ -33,7 +34,8 @@ fn put_totals(text: &mut String, word: &str, totals: &Totals) -> Result<(), Allo
     put_total_cell(text, totals.rows)?;
     put_total_cell(text, totals.links)?;
     put_total_cell(text, totals.bytes)?;
-    put(text, "</tr>\n")
+    put(text, "</tr>\n")?;
+    Ok(())
 }
 
 /// Puts the row of what is held.
@@ -42,7 +44,8 @@ fn put_held(text: &mut String, sums: Sums) -> Result<(), AllocError>
 {
     put(text, "<tr class=\"sum\"><th scope=\"row\">held</th>")?;
     put_sum_cells(text, sums)?;
-    put(text, "</tr>\n</tbody>\n")
+    put(text, "</tr>\n</tbody>\n")?;
+    Ok(())
 }
 
 /// Puts the account of a package by its flow.
@@ -64,7 +67,8 @@ fn put_account(
     put(text, "</b></th></tr>\n")?;
     put_totals(text, "came in", &flow.came)?;
     put_totals(text, "went out", &flow.left)?;
-    put_held(text, live.sums)
+    put_held(text, live.sums)?;
+    Ok(())
 }
 
 /// Puts the accounts of packages, by the flows of all receipts.

@@ -32,7 +32,8 @@ fn put_link(text: &mut String, id: Uuid) -> Result<(), AllocError>
 {
     put(text, "<a href=\"#i-")?;
     put_uuid(text, id)?;
-    put(text, "\" tabindex=\"-1\">")
+    put(text, "\" tabindex=\"-1\">")?;
+    Ok(())
 }
 
 /// Puts the rectangle of a sheet of the holder of this number.
@@ -64,7 +65,8 @@ fn put_box(
     put_count(text, level.index)?;
     put(text, "-")?;
     put_count(text, number as u64)?;
-    put(text, ")\"><title>")
+    put(text, ")\"><title>")?;
+    Ok(())
 }
 
 /// Puts the name of a sheet behind other words, where it has one.
@@ -95,7 +97,8 @@ fn put_title(
     put(text, ", ")?;
     put_plain_name(text, names, thing.holder)?;
     put_also_named(text, names, thing.identity)?;
-    put(text, "</title></rect></a>\n")
+    put(text, "</title></rect></a>\n")?;
+    Ok(())
 }
 
 /// Puts a sheet at its place, if its package lives.
@@ -164,7 +167,8 @@ fn put_pattern_link(text: &mut String, level: &Level, number: usize) -> Result<(
     put_count(text, number as u64)?;
     put(text, "\" patternTransform=\"scale(")?;
     put_count(text, scale_of(&level.layout))?;
-    put(text, ")\"/>\n")
+    put(text, ")\"/>\n")?;
+    Ok(())
 }
 
 /// Puts those of all holders.
@@ -188,7 +192,8 @@ fn put_sides(text: &mut String, layout: &Layout, by: u64, between: &str) -> Resu
 {
     put_count(text, times(by, times(layout.columns, layout.width)))?;
     put(text, between)?;
-    put_count(text, times(by, times(layout.rows, layout.height)))
+    put_count(text, times(by, times(layout.rows, layout.height)))?;
+    Ok(())
 }
 
 /// Puts a zoom.
@@ -203,7 +208,8 @@ fn put_level(text: &mut String, register: &Register, level: &Level) -> Result<()
     put_pattern_links(text, &register.packages, level, &register.packages)?;
     put(text, "</defs>\n")?;
     put_sheets(text, register, level, &register.things)?;
-    put(text, "</svg>\n")
+    put(text, "</svg>\n")?;
+    Ok(())
 }
 
 /// Puts the zoom with so many coarser ones, if the frame has it.
@@ -241,7 +247,8 @@ fn put_style(text: &mut String, left: u64, top: u64) -> Result<(), AllocError>
     put_count(text, left)?;
     put(text, ");top:calc(.01%*")?;
     put_count(text, top)?;
-    put(text, ")\"")
+    put(text, ")\"")?;
+    Ok(())
 }
 
 /// Puts the name of a sheet at its place.
@@ -260,7 +267,8 @@ fn put_named(
     put_style(text, left, top)?;
     put(text, ">")?;
     put_escaped(text, name.name.as_str())?;
-    put(text, "</span>\n")
+    put(text, "</span>\n")?;
+    Ok(())
 }
 
 /// Puts the name of an item, if it is a sheet of this zoom and has one.
@@ -324,7 +332,8 @@ fn put_mark(
     put(text, "\" href=\"#i-")?;
     put_uuid(text, thing.identity)?;
     put(text, "\" tabindex=\"-1\"")?;
-    put_mark_place(text, register, x, y)
+    put_mark_place(text, register, x, y)?;
+    Ok(())
 }
 
 /// Puts what is read where one points at it, and its shape.
@@ -349,7 +358,8 @@ fn put_mark_end(
         "\"><svg width=\"16\" height=\"16\" viewBox=\"-8 -8 16 16\" aria-hidden=\"true\"><use href=\"#k",
     )?;
     put_count(text, pattern_of(number))?;
-    put(text, "\"/></svg></a>\n")
+    put(text, "\"/></svg></a>\n")?;
+    Ok(())
 }
 
 /// Puts an item, if it is a mark of a package that lives.
@@ -394,7 +404,8 @@ fn put_legend(text: &mut String, register: &Register, live: &Live) -> Result<(),
     put_name(text, &register.names, live.uuid)?;
     put(text, "<span>")?;
     put_sums(text, live.sums.tiles, 0, live.sums.rows, 0)?;
-    put(text, "</span></span></li>\n")
+    put(text, "</span></span></li>\n")?;
+    Ok(())
 }
 
 /// Puts those of all packages.
@@ -433,5 +444,6 @@ pub(crate) fn put_map(text: &mut String, register: &Register) -> Result<(), Allo
     put_marks(text, register, &register.things)?;
     put(text, LEGEND_HEAD)?;
     put_legends(text, register, &register.packages)?;
-    put(text, LEGEND_END)
+    put(text, LEGEND_END)?;
+    Ok(())
 }

@@ -17,7 +17,8 @@ pub(crate) fn put_full_name(text: &mut String, names: &[Name], id: Uuid) -> Resu
     ensures { IfOk result (λ _. string_bytes text.new ≡ string_bytes text.old ++ full_name names.now id) }
 {
     put_called(text, names, id)?;
-    put_short(text, id)
+    put_short(text, id)?;
+    Ok(())
 }
 
 /// Puts a cell with a number, and the word of its column.
@@ -28,7 +29,8 @@ fn put_cell(text: &mut String, word: &str, number: u64) -> Result<(), AllocError
     put(text, word)?;
     put(text, "\">")?;
     put_count(text, number)?;
-    put(text, "</td>")
+    put(text, "</td>")?;
+    Ok(())
 }
 
 /// Puts the cells of what is held.
@@ -39,7 +41,8 @@ pub(crate) fn put_sum_cells(text: &mut String, sums: Sums) -> Result<(), AllocEr
     put_cell(text, "media", sums.media)?;
     put_cell(text, "marks", sums.rows)?;
     put_cell(text, "links", sums.links)?;
-    put_cell(text, "bytes", sums.bytes)
+    put_cell(text, "bytes", sums.bytes)?;
+    Ok(())
 }
 
 /// Puts the moment of a receipt and its number, where there is such a receipt.
@@ -81,7 +84,8 @@ fn put_lent(text: &mut String, register: &Register, live: &Live) -> Result<(), A
     put_when(text, register, live.loan)?;
     put(text, "</td><td class=\"t\" data-l=\"last change\">")?;
     put_when(text, register, live.ticket)?;
-    put(text, "</td></tr>\n")
+    put(text, "</td></tr>\n")?;
+    Ok(())
 }
 
 /// Puts the row of a live package.
@@ -98,7 +102,8 @@ fn put_package(text: &mut String, register: &Register, live: &Live) -> Result<()
     put_full_name(text, &register.names, live.uuid)?;
     put(text, "</a></th>")?;
     put_sum_cells(text, live.sums)?;
-    put_lent(text, register, live)
+    put_lent(text, register, live)?;
+    Ok(())
 }
 
 /// Puts the rows of live packages.
@@ -154,7 +159,8 @@ fn put_home(
         receipt.rows,
         receipt.links,
     )?;
-    put(text, "</td></tr>\n")
+    put(text, "</td></tr>\n")?;
+    Ok(())
 }
 
 /// Puts it, where the receipt is that of a merge.

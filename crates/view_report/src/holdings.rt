@@ -53,7 +53,8 @@ fn put_item(text: &mut String, register: &Register, thing: &Thing) -> Result<(),
     put_count(text, thing.size)?;
     put(text, "</td><td>")?;
     put_digest(text, &thing.fingerprint)?;
-    put(text, "</td></tr>\n")
+    put(text, "</td></tr>\n")?;
+    Ok(())
 }
 
 /// Puts it, where this package holds the item.
@@ -98,7 +99,8 @@ pub(crate) fn put_pair(
 {
     put_thing(text, register, base)?;
     put(text, " &harr; ")?;
-    put_thing(text, register, other)
+    put_thing(text, register, other)?;
+    Ok(())
 }
 
 /// Puts the row of a link, where this package holds it.
@@ -156,7 +158,8 @@ fn put_holding(text: &mut String, register: &Register, live: &Live) -> Result<()
     put(text, HOLDING_HEAD)?;
     put_items(text, register, live.uuid, &register.things)?;
     put_ties(text, register, live.uuid, &register.ties)?;
-    put(text, HOLDING_END)
+    put(text, HOLDING_END)?;
+    Ok(())
 }
 
 /// Puts all that each package holds.

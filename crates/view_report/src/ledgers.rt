@@ -70,7 +70,8 @@ fn put_row(text: &mut String, register: &Register, receipt: &Receipt) -> Result<
     put_count(text, receipt.bytes)?;
     put(text, "</td><td data-l=\"request\">")?;
     put_short(text, receipt.request)?;
-    put(text, "</td></tr>\n")
+    put(text, "</td></tr>\n")?;
+    Ok(())
 }
 
 /// Puts it, where the receipt is shown.

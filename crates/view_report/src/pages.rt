@@ -38,7 +38,8 @@ fn put_head(text: &mut String, register: &Register) -> Result<(), AllocError>
     put(text, ".</p>\n")?;
     put(text, NAVIGATION)?;
     put_patterns(text, &register.packages, &register.packages)?;
-    put(text, SHAPES)
+    put(text, SHAPES)?;
+    Ok(())
 }
 
 /// Puts that all is in order, with the digest of the ledger.
@@ -55,7 +56,8 @@ fn put_verdict(text: &mut String, register: &Register, digest: &[u8; 32]) -> Res
         "</li>\n<li class=\"big\"><b>SHA-256 of the ledger</b> <code class=\"sha\">",
     )?;
     put(text, spell(digest, &mut letters))?;
-    put(text, "</code></li>\n</ul>\n</section>\n")
+    put(text, "</code></li>\n</ul>\n</section>\n")?;
+    Ok(())
 }
 
 /// Puts the loans that came home, where there are any.
@@ -77,7 +79,8 @@ fn put_holders(text: &mut String, register: &Register) -> Result<(), AllocError>
     put(text, HOLDERS_HEAD)?;
     put_packages(text, register, &register.packages)?;
     put(text, TABLE_END)?;
-    put_home_table(text, register)
+    put_home_table(text, register)?;
+    Ok(())
 }
 
 /// Puts what each package holds.
@@ -85,7 +88,8 @@ fn put_all_holdings(text: &mut String, register: &Register) -> Result<(), AllocE
     ensures { IfOk result (λ _. string_bytes text.new ≡ string_bytes text.old ++ holdings_section register.now) }
 {
     put(text, HOLDINGS_HEAD)?;
-    put_holdings(text, register, &register.packages)
+    put_holdings(text, register, &register.packages)?;
+    Ok(())
 }
 
 /// Puts the ledger.
@@ -95,7 +99,8 @@ fn put_ledger(alloc: Global, text: &mut String, register: &Register) -> Result<(
     put(text, LEDGER_HEAD)?;
     put_rows(text, register, &register.receipts)?;
     put(text, RAW_HEAD)?;
-    put_raws(alloc, text, register, &register.receipts)
+    put_raws(alloc, text, register, &register.receipts)?;
+    Ok(())
 }
 
 /// Puts the account of each package.

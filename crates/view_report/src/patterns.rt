@@ -36,7 +36,8 @@ fn put_pattern(text: &mut String, number: usize) -> Result<(), AllocError>
         "\" width=\"8\" height=\"8\" patternUnits=\"userSpaceOnUse\"><path class=\"f\" d=\"M0 0h8v8H0z\"/>",
     )?;
     put(text, lines_of(pattern_of(number)))?;
-    put(text, "</pattern>\n")
+    put(text, "</pattern>\n")?;
+    Ok(())
 }
 
 /// Puts the patterns of these packages, of all packages.

@@ -61,7 +61,8 @@ pub(crate) fn put_short(text: &mut String, id: Uuid) -> Result<(), AllocError>
 {
     put(text, "<code class=\"id\">")?;
     put_uuid(text, id)?;
-    put(text, "</code>")
+    put(text, "</code>")?;
+    Ok(())
 }
 
 /// Puts a SHA-256 in the same way.
@@ -71,7 +72,8 @@ pub(crate) fn put_digest(text: &mut String, digest: &[u8; 32]) -> Result<(), All
     let mut letters = [0; 64];
     put(text, "<code class=\"id\">")?;
     put(text, spell(digest, &mut letters))?;
-    put(text, "</code>")
+    put(text, "</code>")?;
+    Ok(())
 }
 
 /// Puts foreign text that keeps its own direction, where there is any.
@@ -133,7 +135,8 @@ pub(crate) fn put_class(text: &mut String, number: usize) -> Result<(), AllocErr
     ensures { IfOk result (λ _. string_bytes text.new ≡ string_bytes text.old ++ class_text number) }
 {
     put(text, "c")?;
-    put_count(text, colour_of(number))
+    put_count(text, colour_of(number))?;
+    Ok(())
 }
 
 /// Puts a sample of a holder's colour and pattern.
@@ -147,7 +150,8 @@ pub(crate) fn put_swatch(text: &mut String, number: usize) -> Result<(), AllocEr
         "\" width=\"30\" height=\"16\" aria-hidden=\"true\"><rect x=\"1\" y=\"1\" width=\"28\" height=\"14\" fill=\"url(#w",
     )?;
     put_count(text, number as u64)?;
-    put(text, ")\"/></svg>")
+    put(text, ")\"/></svg>")?;
+    Ok(())
 }
 
 /// Puts the class of a package: its colour while it lives.
@@ -170,7 +174,8 @@ pub(crate) fn put_holder(text: &mut String, register: &Register, id: Uuid) -> Re
     put_uuid(text, id)?;
     put(text, "\">")?;
     put_name(text, &register.names, id)?;
-    put(text, "</a>")
+    put(text, "</a>")?;
+    Ok(())
 }
 
 /// The number of the first receipt that is shown.
@@ -231,7 +236,8 @@ pub(crate) fn put_sums(
     put_amount(text, tiles, " sheet", " sheets")?;
     put_amount(text, media, " medium", " media")?;
     put_amount(text, rows, " mark", " marks")?;
-    put_amount(text, links, " link", " links")
+    put_amount(text, links, " link", " links")?;
+    Ok(())
 }
 
 /// Puts what people call a package or a sheet and a space, where they have a name for it.
@@ -260,7 +266,8 @@ pub(crate) fn put_place(
     put(text, "/")?;
     put_signed(text, column)?;
     put(text, "/")?;
-    put_signed(text, row)
+    put_signed(text, row)?;
+    Ok(())
 }
 
 /// Puts a mark in a few words.
@@ -269,7 +276,8 @@ fn put_mark(text: &mut String, code: i64, label: &str) -> Result<(), AllocError>
 {
     put_signed(text, code)?;
     put(text, " ")?;
-    put_label(text, label)
+    put_label(text, label)?;
+    Ok(())
 }
 
 /// Puts what an item is, in a few words.
