@@ -46,14 +46,22 @@ abbrev pub sheet_title : List Name → Thing → ℤ → ℤ → ℤ → List �
 sheet_title names t zoom column row =
     place_text zoom column row ++ (codes ", " ++ (plain_name names t.holder ++ (also_named names t.identity ++ codes "</title></rect></a>\n")))
 
+-- a sheet of a package, and of one that lives
+abbrev pub sheet_of : Register → Level → Thing → ℤ → ℤ → Live → List ℕ
+sheet_of r l t column row p =
+    link_text t.identity ++ (sheet_box l p (number_of r.packages.items p.loan) column row
+    ++ sheet_title r.names.items t l.zoom column row)
+
 abbrev pub sheet_text : Register → Level → Thing → ℤ → ℤ → List ℕ
-sheet_text r l t column row =
-    option_map_or (λ p. link_text t.identity ++ (sheet_box l p (number_of r.packages.items p.loan) column row
-    ++ sheet_title r.names.items t l.zoom column row)) (live_of r.packages.items t.holder) []
+sheet_text r l t column row = option_map_or (sheet_of r l t column row) (live_of r.packages.items t.holder) []
+
+-- where it is one of this zoom
+abbrev pub sheet_at : Register → Level → Thing → ℤ → ℤ → ℤ → List ℕ
+sheet_at r l t zoom column row = if int_eq zoom l.zoom then sheet_text r l t column row else []
 
 -- an item, where it is a sheet of this zoom
 abbrev pub sheet_about : Register → Level → Thing → About → List ℕ
-sheet_about r l t (Sheet zoom column row) = if int_eq zoom l.zoom then sheet_text r l t column row else []
+sheet_about r l t (Sheet zoom column row) = sheet_at r l t zoom column row
 sheet_about r l t (Medium content_type) = []
 sheet_about r l t (Mark x y code label) = []
 
@@ -97,9 +105,15 @@ named_text l n column row =
     codes "<span class=\"nm\"" ++ (style_text (share (unsigned_abs column) l.columns) (share (plus (unsigned_abs row) 1) l.rows)
     ++ (codes ">" ++ (escaped n.name ++ codes "</span>\n")))
 
+-- of a sheet that has one, and where it is one of this zoom
+abbrev pub names_text : List Name → Level → List ℕ → ℤ → ℤ → List ℕ
+names_text names l id column row = option_map_or (λ n. named_text l.layout n column row) (name_of names id) []
+
+abbrev pub name_at : List Name → Level → List ℕ → ℤ → ℤ → ℤ → List ℕ
+name_at names l id zoom column row = if int_eq zoom l.zoom then names_text names l id column row else []
+
 abbrev pub name_about : List Name → Level → List ℕ → About → List ℕ
-name_about names l id (Sheet zoom column row) =
-    if int_eq zoom l.zoom then option_map_or (λ n. named_text l.layout n column row) (name_of names id) [] else []
+name_about names l id (Sheet zoom column row) = name_at names l id zoom column row
 name_about names l id (Medium content_type) = []
 name_about names l id (Mark x y code label) = []
 
@@ -128,8 +142,11 @@ mark_text r t n code label =
     ++ (codes "\"><svg width=\"16\" height=\"16\" viewBox=\"-8 -8 16 16\" aria-hidden=\"true\"><use href=\"#k"
     ++ (decimal (pattern_of n) ++ codes "\"/></svg></a>\n")))))))
 
+abbrev pub whole_mark : Register → Thing → ℕ → ℤ → ℤ → ℤ → List ℕ → List ℕ
+whole_mark r t n x y code label = mark_at r t n x y ++ mark_text r t n code label
+
 abbrev pub mark_of : Register → Thing → ℕ → About → List ℕ
-mark_of r t n (Mark x y code label) = mark_at r t n x y ++ mark_text r t n code label
+mark_of r t n (Mark x y code label) = whole_mark r t n x y code label
 mark_of r t n (Sheet zoom column row) = []
 mark_of r t n (Medium content_type) = []
 

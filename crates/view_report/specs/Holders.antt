@@ -25,9 +25,11 @@ sum_cells s =
     ++ (cell_text (codes "links") s.links ++ cell_text (codes "bytes") s.bytes)))
 
 -- the moment of a receipt and its number
+abbrev pub dated_text : Register → Receipt → ℕ → List ℕ
+dated_text r x seq = moment_text x.at ++ (codes " &middot; " ++ receipt_text r seq)
+
 abbrev pub when_text : Register → ℕ → List ℕ
-when_text r seq =
-    option_map_or (λ x. moment_text x.at ++ (codes " &middot; " ++ receipt_text r seq)) (receipt_found r.receipts.items seq) (codes "&ndash;")
+when_text r seq = option_map_or (λ x. dated_text r x seq) (receipt_found r.receipts.items seq) (codes "&ndash;")
 
 -- an end of a receipt, or a word where it has none
 abbrev pub end_text : Register → Option (List ℕ) → List ℕ → List ℕ
@@ -57,5 +59,8 @@ home_row r x child =
     ++ (codes "</td><td class=\"t\" data-l=\"home\">" ++ (when_text r x.seq
     ++ (codes "</td><td data-l=\"with\">" ++ (sums_text x.tiles x.media x.rows x.links ++ codes "</td></tr>\n")))))))))
 
+abbrev pub home_of : Register → Receipt → List ℕ → List ℕ
+home_of r x child = if is_merge x then home_row r x child else []
+
 abbrev pub home_if : Register → Receipt → List ℕ
-home_if r x = option_map_or (λ child. if is_merge x then home_row r x child else []) x.source []
+home_if r x = option_map_or (home_of r x) x.source []

@@ -33,9 +33,11 @@ verdict_section r digest =
     ++ codes "</code></li>\n</ul>\n</section>\n")))))
 
 -- the loans that came home, where there are any
+abbrev pub home_rows : Register → List ℕ
+home_rows r = HOMES_HEAD.now ++ (flat_map (home_if r) r.receipts.items ++ TABLE_END.now)
+
 abbrev pub home_table : Register → List ℕ
-home_table r =
-    if list_any is_merge r.receipts.items then HOMES_HEAD.now ++ (flat_map (home_if r) r.receipts.items ++ TABLE_END.now) else []
+home_table r = if list_any is_merge r.receipts.items then home_rows r else []
 
 abbrev pub holders_section : Register → List ℕ
 holders_section r = HOLDERS_HEAD.now ++ (flat_map (package_row r) r.packages.items ++ (TABLE_END.now ++ home_table r))

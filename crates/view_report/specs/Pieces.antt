@@ -77,9 +77,11 @@ receipt_text r seq =
 abbrev pub word_of : ℕ → List ℕ → List ℕ → List ℕ
 word_of n one many = if n == 1 then one else many
 
+abbrev pub some_text : ℕ → List ℕ → List ℕ → List ℕ
+some_text n one many = codes "<span class=\"a\">" ++ (decimal n ++ (word_of n one many ++ codes "</span>"))
+
 abbrev pub amount_text : ℕ → List ℕ → List ℕ → List ℕ
-amount_text n one many =
-    if n == 0 then [] else codes "<span class=\"a\">" ++ (decimal n ++ (word_of n one many ++ codes "</span>"))
+amount_text n one many = if n == 0 then [] else some_text n one many
 
 abbrev pub sums_text : ℕ → ℕ → ℕ → ℕ → List ℕ
 sums_text tiles media rows links =
@@ -90,24 +92,29 @@ sums_text tiles media rows links =
 abbrev pub called : List Name → List ℕ → List ℕ
 called names id = option_map_or (λ n. label_text n.name ++ codes " ") (name_of names id) []
 
--- the place of a sheet, and a mark in a few words
+-- the place of a sheet; a sheet and a mark in a few words
 abbrev pub place_text : ℤ → ℤ → ℤ → List ℕ
 place_text zoom column row = signed_decimal zoom ++ (codes "/" ++ (signed_decimal column ++ (codes "/" ++ signed_decimal row)))
+
+abbrev pub sheet_text : List Name → List ℕ → ℤ → ℤ → ℤ → List ℕ
+sheet_text names id zoom column row = called names id ++ place_text zoom column row
 
 abbrev pub mark_text : ℤ → List ℕ → List ℕ
 mark_text code label = signed_decimal code ++ (codes " " ++ label_text label)
 
 -- what an item is, in a few words
 abbrev pub told_text : List Name → List ℕ → About → List ℕ
-told_text names id (Sheet zoom column row) = called names id ++ place_text zoom column row
+told_text names id (Sheet zoom column row) = sheet_text names id zoom column row
 told_text names id (Medium content_type) = label_text content_type
 told_text names id (Mark x y code label) = mark_text code label
 
 abbrev pub about_text : List Name → Thing → List ℕ
 about_text names t = told_text names t.identity t.about
 
+-- an item as a link that leads to its row
+abbrev pub found_text : List Name → List ℕ → Thing → List ℕ
+found_text names id t = codes "<a href=\"#i-" ++ (uuid_text id ++ (codes "\">" ++ (about_text names t ++ codes "</a>")))
+
 -- an item that a receipt or a link names: told where a package holds it
 abbrev pub thing_text : Register → List ℕ → List ℕ
-thing_text r id =
-    option_map_or (λ t. codes "<a href=\"#i-" ++ (uuid_text id ++ (codes "\">" ++ (about_text r.names.items t ++ codes "</a>"))))
-    (thing_found r.things.items id) (short_text id)
+thing_text r id = option_map_or (found_text r.names.items id) (thing_found r.things.items id) (short_text id)

@@ -2,7 +2,7 @@
 ghost use Rattle.std.specs.Prelude.{◌≡◌, ◌++◌, IfOk, IsTrue, flat_map, string_bytes};
 ghost use Rattle.sheet_types.specs.Matrix.{is_good_frame};
 ghost use Rattle.view_report.specs.Registers.{number_of};
-ghost use Rattle.view_report.specs.Drawing.{also_named, layer_of, legend_row, level_if, level_text, levels_text, link_text, map_section, mark_at, mark_if, mark_place, mark_text, name_if, named_at, named_text, pattern_link, sheet_box, sheet_if, sheet_text, sheet_title, sides_text, style_text};
+ghost use Rattle.view_report.specs.Drawing.{also_named, layer_of, legend_row, level_if, level_text, levels_text, link_text, map_section, mark_at, mark_if, mark_of, mark_place, mark_text, name_at, name_if, named_at, named_text, names_text, pattern_link, sheet_at, sheet_box, sheet_if, sheet_of, sheet_text, sheet_title, sides_text, style_text, whole_mark};
 
 use crate::escaping::put_escaped;
 use crate::levels::{
@@ -101,6 +101,25 @@ fn put_title(
     Ok(())
 }
 
+/// Puts a sheet of this package at its place.
+fn put_sheet_of(
+    text: &mut String,
+    register: &Register,
+    level: &Level,
+    thing: &Thing,
+    live: &Live,
+    column: i64,
+    row: i64,
+) -> Result<(), AllocError>
+    ensures { IfOk result (λ _. string_bytes text.new ≡ string_bytes text.old ++ sheet_of register.now level.now thing.now column row live.now) }
+{
+    let number = number_of(&register.packages, live.loan);
+    put_link(text, thing.identity)?;
+    put_box(text, level, live, number, column, row)?;
+    put_title(text, &register.names, thing, level.zoom, column, row)?;
+    Ok(())
+}
+
 /// Puts a sheet at its place, if its package lives.
 fn put_sheet(
     text: &mut String,
@@ -113,13 +132,27 @@ fn put_sheet(
     ensures { IfOk result (λ _. string_bytes text.new ≡ string_bytes text.old ++ sheet_text register.now level.now thing.now column row) }
 {
     match live_of(&register.packages, thing.holder) {
-        Some(live) => {
-            let number = number_of(&register.packages, live.loan);
-            put_link(text, thing.identity)?;
-            put_box(text, level, live, number, column, row)?;
-            put_title(text, &register.names, thing, level.zoom, column, row)
-        }
+        Some(live) => put_sheet_of(text, register, level, thing, live, column, row),
         None => Ok(()),
+    }
+}
+
+/// Puts a sheet, if it is one of this zoom.
+fn put_sheet_at(
+    text: &mut String,
+    register: &Register,
+    level: &Level,
+    thing: &Thing,
+    zoom: i64,
+    column: i64,
+    row: i64,
+) -> Result<(), AllocError>
+    ensures { IfOk result (λ _. string_bytes text.new ≡ string_bytes text.old ++ sheet_at register.now level.now thing.now zoom column row) }
+{
+    if zoom == level.zoom {
+        put_sheet(text, register, level, thing, column, row)
+    } else {
+        Ok(())
     }
 }
 
@@ -133,10 +166,10 @@ fn put_sheet_if(
     ensures { IfOk result (λ _. string_bytes text.new ≡ string_bytes text.old ++ sheet_if register.now level.now thing.now) }
 {
     match &thing.about {
-        About::Sheet { zoom, column, row } if *zoom == level.zoom => {
-            put_sheet(text, register, level, thing, *column, *row)
+        About::Sheet { zoom, column, row } => {
+            put_sheet_at(text, register, level, thing, *zoom, *column, *row)
         }
-        _ => Ok(()),
+        About::Medium { .. } | About::Mark { .. } => Ok(()),
     }
 }
 
@@ -271,6 +304,42 @@ fn put_named(
     Ok(())
 }
 
+/// Puts the name of a sheet, if it has one.
+fn put_name_of(
+    text: &mut String,
+    names: &[Name],
+    level: &Level,
+    id: Uuid,
+    column: i64,
+    row: i64,
+) -> Result<(), AllocError>
+    ensures { IfOk result (λ _. string_bytes text.new ≡ string_bytes text.old ++ names_text names.now level.now id column row) }
+{
+    match name_of(names, id) {
+        Some(name) => put_named(text, &level.layout, name, column, row),
+        None => Ok(()),
+    }
+}
+
+/// Puts it, if the sheet is one of this zoom.
+fn put_name_at(
+    text: &mut String,
+    names: &[Name],
+    level: &Level,
+    id: Uuid,
+    zoom: i64,
+    column: i64,
+    row: i64,
+) -> Result<(), AllocError>
+    ensures { IfOk result (λ _. string_bytes text.new ≡ string_bytes text.old ++ name_at names.now level.now id zoom column row) }
+{
+    if zoom == level.zoom {
+        put_name_of(text, names, level, id, column, row)
+    } else {
+        Ok(())
+    }
+}
+
 /// Puts the name of an item, if it is a sheet of this zoom and has one.
 fn put_name_if(
     text: &mut String,
@@ -281,13 +350,10 @@ fn put_name_if(
     ensures { IfOk result (λ _. string_bytes text.new ≡ string_bytes text.old ++ name_if names.now level.now thing.now) }
 {
     match &thing.about {
-        About::Sheet { zoom, column, row } if *zoom == level.zoom => {
-            match name_of(names, thing.identity) {
-                Some(name) => put_named(text, &level.layout, name, *column, *row),
-                None => Ok(()),
-            }
+        About::Sheet { zoom, column, row } => {
+            put_name_at(text, names, level, thing.identity, *zoom, *column, *row)
         }
-        _ => Ok(()),
+        About::Medium { .. } | About::Mark { .. } => Ok(()),
     }
 }
 
@@ -362,17 +428,58 @@ fn put_mark_end(
     Ok(())
 }
 
+/// Puts a mark of the holder of this number, and what is read of it.
+fn put_whole_mark(
+    text: &mut String,
+    register: &Register,
+    thing: &Thing,
+    number: usize,
+    point: (i64, i64),
+    code: i64,
+    label: &str,
+) -> Result<(), AllocError>
+    ensures { IfOk result (λ _. string_bytes text.new ≡ string_bytes text.old ++ whole_mark register.now thing.now number point.0 point.1 code label.now) }
+{
+    put_mark(text, register, thing, number, point.0, point.1)?;
+    put_mark_end(text, register, thing, number, code, label)?;
+    Ok(())
+}
+
+/// Puts an item of the holder of this number, if it is a mark.
+fn put_mark_of(
+    text: &mut String,
+    register: &Register,
+    thing: &Thing,
+    number: usize,
+) -> Result<(), AllocError>
+    ensures { IfOk result (λ _. string_bytes text.new ≡ string_bytes text.old ++ mark_of register.now thing.now number thing.now.about) }
+{
+    match &thing.about {
+        About::Mark { x, y, code, label } => put_whole_mark(
+            text,
+            register,
+            thing,
+            number,
+            (*x, *y),
+            *code,
+            label.as_str(),
+        ),
+        About::Sheet { .. } | About::Medium { .. } => Ok(()),
+    }
+}
+
 /// Puts an item, if it is a mark of a package that lives.
 fn put_mark_if(text: &mut String, register: &Register, thing: &Thing) -> Result<(), AllocError>
     ensures { IfOk result (λ _. string_bytes text.new ≡ string_bytes text.old ++ mark_if register.now thing.now) }
 {
-    match (&thing.about, live_of(&register.packages, thing.holder)) {
-        (About::Mark { x, y, code, label }, Some(live)) => {
-            let number = number_of(&register.packages, live.loan);
-            put_mark(text, register, thing, number, *x, *y)?;
-            put_mark_end(text, register, thing, number, *code, label.as_str())
-        }
-        _ => Ok(()),
+    match live_of(&register.packages, thing.holder) {
+        Some(live) => put_mark_of(
+            text,
+            register,
+            thing,
+            number_of(&register.packages, live.loan),
+        ),
+        None => Ok(()),
     }
 }
 

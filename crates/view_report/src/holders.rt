@@ -1,7 +1,7 @@
 //! Who holds what: a row for each live package, and one for each loan that came home.
 ghost use Rattle.std.specs.Prelude.{◌≡◌, ◌++◌, IfOk, flat_map, string_bytes};
 ghost use Rattle.std.specs.List.{list_any};
-ghost use Rattle.view_report.specs.Holders.{cell_text, end_text, full_name, home_if, home_row, is_merge, lent_text, package_row, sum_cells, when_text};
+ghost use Rattle.view_report.specs.Holders.{cell_text, dated_text, end_text, full_name, home_if, home_of, home_row, is_merge, lent_text, package_row, sum_cells, when_text};
 
 use crate::escaping::put_moment;
 use crate::pieces::{
@@ -45,16 +45,27 @@ pub(crate) fn put_sum_cells(text: &mut String, sums: Sums) -> Result<(), AllocEr
     Ok(())
 }
 
+/// Puts the moment of a receipt and this number.
+fn put_dated(
+    text: &mut String,
+    register: &Register,
+    receipt: &Receipt,
+    seq: u64,
+) -> Result<(), AllocError>
+    ensures { IfOk result (λ _. string_bytes text.new ≡ string_bytes text.old ++ dated_text register.now receipt.now seq) }
+{
+    put_moment(text, receipt.at.as_str())?;
+    put(text, " &middot; ")?;
+    put_receipt(text, register, seq)?;
+    Ok(())
+}
+
 /// Puts the moment of a receipt and its number, where there is such a receipt.
 pub(crate) fn put_when(text: &mut String, register: &Register, seq: u64) -> Result<(), AllocError>
     ensures { IfOk result (λ _. string_bytes text.new ≡ string_bytes text.old ++ when_text register.now seq) }
 {
     match receipt_found(&register.receipts, seq) {
-        Some(receipt) => {
-            put_moment(text, receipt.at.as_str())?;
-            put(text, " &middot; ")?;
-            put_receipt(text, register, seq)
-        }
+        Some(receipt) => put_dated(text, register, receipt, seq),
         None => put(text, "&ndash;"),
     }
 }
@@ -164,12 +175,28 @@ fn put_home(
 }
 
 /// Puts it, where the receipt is that of a merge.
+fn put_home_of(
+    text: &mut String,
+    register: &Register,
+    receipt: &Receipt,
+    child: Uuid,
+) -> Result<(), AllocError>
+    ensures { IfOk result (λ _. string_bytes text.new ≡ string_bytes text.old ++ home_of register.now receipt.now child) }
+{
+    if is_merge(receipt) {
+        put_home(text, register, receipt, child)
+    } else {
+        Ok(())
+    }
+}
+
+/// Puts it, where the receipt has a source.
 fn put_home_if(text: &mut String, register: &Register, receipt: &Receipt) -> Result<(), AllocError>
     ensures { IfOk result (λ _. string_bytes text.new ≡ string_bytes text.old ++ home_if register.now receipt.now) }
 {
     match receipt.source {
-        Some(child) if is_merge(receipt) => put_home(text, register, receipt, child),
-        _ => Ok(()),
+        Some(child) => put_home_of(text, register, receipt, child),
+        None => Ok(()),
     }
 }
 

@@ -1,6 +1,6 @@
 //! What each package holds: a row for each thing and each link.
 ghost use Rattle.std.specs.Prelude.{◌≡◌, ◌++◌, IfOk, flat_map, string_bytes};
-ghost use Rattle.view_report.specs.Holdings.{holding_text, kind_word, pair_text, thing_if, thing_kind, thing_row, tie_if};
+ghost use Rattle.view_report.specs.Holdings.{holding_text, kind_word, pair_text, thing_if, thing_kind, thing_row, tie_if, tie_row};
 
 use crate::pieces::{
     put, put_about, put_count, put_digest, put_name, put_short, put_sums, put_swatch, put_thing,
@@ -103,7 +103,19 @@ pub(crate) fn put_pair(
     Ok(())
 }
 
-/// Puts the row of a link, where this package holds it.
+/// Puts the row of a link.
+fn put_tie(text: &mut String, register: &Register, tie: &Tie) -> Result<(), AllocError>
+    ensures { IfOk result (λ _. string_bytes text.new ≡ string_bytes text.old ++ tie_row register.now tie.now) }
+{
+    put(text, "<tr><th scope=\"row\">")?;
+    put(text, kind_word(tie.kind))?;
+    put(text, "</th><td colspan=\"3\">")?;
+    put_pair(text, register, tie.base, tie.other)?;
+    put(text, "</td></tr>\n")?;
+    Ok(())
+}
+
+/// Puts it, where this package holds the link.
 fn put_tie_if(
     text: &mut String,
     register: &Register,
@@ -112,14 +124,11 @@ fn put_tie_if(
 ) -> Result<(), AllocError>
     ensures { IfOk result (λ _. string_bytes text.new ≡ string_bytes text.old ++ tie_if register.now holder tie.now) }
 {
-    if !is_same(tie.holder, holder) {
-        return Ok(());
+    if is_same(tie.holder, holder) {
+        put_tie(text, register, tie)
+    } else {
+        Ok(())
     }
-    put(text, "<tr><th scope=\"row\">")?;
-    put(text, kind_word(tie.kind))?;
-    put(text, "</th><td colspan=\"3\">")?;
-    put_pair(text, register, tie.base, tie.other)?;
-    put(text, "</td></tr>\n")
 }
 
 /// Puts the rows of the links that a package holds.

@@ -1,6 +1,6 @@
 //! The ledger: a row for each receipt that is shown, and the receipts as they are hashed.
 ghost use Rattle.std.specs.Prelude.{◌≡◌, ◌++◌, IfOk, flat_map, string_bytes};
-ghost use Rattle.view_report.specs.Ledgers.{moved_text, raw_if, receipt_if, receipt_row, what_text};
+ghost use Rattle.view_report.specs.Ledgers.{moved_text, raw_if, raw_line, receipt_if, receipt_row, what_text};
 
 use crate::escaping::{put_escaped, put_moment, put_raw};
 use crate::holders::put_end;
@@ -99,7 +99,17 @@ pub(crate) fn put_rows(
     Ok(())
 }
 
-/// Puts a receipt as it is hashed, where it is shown.
+/// Puts a receipt as it is hashed.
+fn put_raw_line(alloc: Global, text: &mut String, receipt: &Receipt) -> Result<(), OutOfMemory>
+    ensures { IfOk result (λ _. string_bytes text.new ≡ string_bytes text.old ++ raw_line receipt.now) }
+{
+    let json = receipt_body(alloc, receipt)?;
+    put_raw(text, json.as_str())?;
+    put(text, "\n")?;
+    Ok(())
+}
+
+/// Puts it, where the receipt is shown.
 fn put_raw_if(
     alloc: Global,
     text: &mut String,
@@ -109,12 +119,10 @@ fn put_raw_if(
     ensures { IfOk result (λ _. string_bytes text.new ≡ string_bytes text.old ++ raw_if register.now receipt.now) }
 {
     if receipt.seq <= first_shown(register) {
-        return Ok(());
+        Ok(())
+    } else {
+        put_raw_line(alloc, text, receipt)
     }
-    let json = receipt_body(alloc, receipt)?;
-    put_raw(text, json.as_str())?;
-    put(text, "\n")?;
-    Ok(())
 }
 
 /// Puts the receipts that are shown as they are hashed, a line each.

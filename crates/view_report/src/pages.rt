@@ -1,7 +1,7 @@
 //! A whole page.
 ghost use Rattle.std.specs.Prelude.{◌≡◌, ◌++◌, IfOk, IsTrue, string_bytes};
 ghost use Rattle.sheet_types.specs.Matrix.{is_good_frame};
-ghost use Rattle.view_report.specs.Pages.{account_section, head_text, home_table, holders_section, holdings_section, ledger_section, page_text, verdict_section};
+ghost use Rattle.view_report.specs.Pages.{account_section, head_text, home_rows, home_table, holders_section, holdings_section, ledger_section, page_text, verdict_section};
 
 use crate::accounts::put_accounts;
 use crate::digests::ledger_digest;
@@ -60,16 +60,25 @@ fn put_verdict(text: &mut String, register: &Register, digest: &[u8; 32]) -> Res
     Ok(())
 }
 
-/// Puts the loans that came home, where there are any.
+/// Puts the loans that came home.
+fn put_home_rows(text: &mut String, register: &Register) -> Result<(), AllocError>
+    ensures { IfOk result (λ _. string_bytes text.new ≡ string_bytes text.old ++ home_rows register.now) }
+{
+    put(text, HOMES_HEAD)?;
+    put_homes(text, register, &register.receipts)?;
+    put(text, TABLE_END)?;
+    Ok(())
+}
+
+/// Puts them, where there are any.
 fn put_home_table(text: &mut String, register: &Register) -> Result<(), AllocError>
     ensures { IfOk result (λ _. string_bytes text.new ≡ string_bytes text.old ++ home_table register.now) }
 {
-    if !has_merges(&register.receipts) {
-        return Ok(());
+    if has_merges(&register.receipts) {
+        put_home_rows(text, register)
+    } else {
+        Ok(())
     }
-    put(text, HOMES_HEAD)?;
-    put_homes(text, register, &register.receipts)?;
-    put(text, TABLE_END)
 }
 
 /// Puts who holds what.

@@ -3,7 +3,7 @@ ghost use Rattle.std.specs.Fmt.{signed_decimal};
 ghost use Rattle.std.specs.Prelude.{◌≡◌, ◌++◌, IfOk, decimal, string_bytes};
 ghost use Rattle.hex.specs.Hex.{encode_lower};
 ghost use Rattle.sheet_types.specs.Texts.{uuid_text};
-ghost use Rattle.view_report.specs.Pieces.{about_text, amount_text, called, class_text, colour_of, digest_text, first_shown, holder_class, holder_text, label_text, mark_text, name_text, pattern_of, place_text, plain_name, receipt_text, short_text, sums_text, swatch_text, thing_text, word_of};
+ghost use Rattle.view_report.specs.Pieces.{about_text, amount_text, called, class_text, colour_of, digest_text, first_shown, found_text, holder_class, holder_text, label_text, mark_text, name_text, pattern_of, place_text, plain_name, receipt_text, sheet_text, short_text, some_text, sums_text, swatch_text, thing_text, word_of};
 
 use crate::escaping::put_escaped;
 use crate::registers::{About, Name, Register, Thing, live_of, name_of, number_of, thing_found};
@@ -210,17 +210,26 @@ fn word_of<'t>(number: u64, one: &'t str, many: &'t str) -> &'t str
     if number == 1 { one } else { many }
 }
 
-/// Puts how many there are of something, where there are any.
+/// Puts how many there are of something.
+fn put_some(text: &mut String, number: u64, one: &str, many: &str) -> Result<(), AllocError>
+    ensures { IfOk result (λ _. string_bytes text.new ≡ string_bytes text.old ++ some_text number one.now many.now) }
+{
+    put(text, "<span class=\"a\">")?;
+    put_count(text, number)?;
+    put(text, word_of(number, one, many))?;
+    put(text, "</span>")?;
+    Ok(())
+}
+
+/// Puts it, where there are any.
 fn put_amount(text: &mut String, number: u64, one: &str, many: &str) -> Result<(), AllocError>
     ensures { IfOk result (λ _. string_bytes text.new ≡ string_bytes text.old ++ amount_text number one.now many.now) }
 {
     if number == 0 {
-        return Ok(());
+        Ok(())
+    } else {
+        put_some(text, number, one, many)
     }
-    put(text, "<span class=\"a\">")?;
-    put_count(text, number)?;
-    put(text, word_of(number, one, many))?;
-    put(text, "</span>")
 }
 
 /// Puts how much was moved or is held.
@@ -280,18 +289,45 @@ fn put_mark(text: &mut String, code: i64, label: &str) -> Result<(), AllocError>
     Ok(())
 }
 
+/// Puts a sheet in a few words.
+fn put_sheet(
+    text: &mut String,
+    names: &[Name],
+    id: Uuid,
+    zoom: i64,
+    column: i64,
+    row: i64,
+) -> Result<(), AllocError>
+    ensures { IfOk result (λ _. string_bytes text.new ≡ string_bytes text.old ++ sheet_text names.now id zoom column row) }
+{
+    put_called(text, names, id)?;
+    put_place(text, zoom, column, row)?;
+    Ok(())
+}
+
 /// Puts what an item is, in a few words.
 pub(crate) fn put_about(text: &mut String, names: &[Name], thing: &Thing) -> Result<(), AllocError>
     ensures { IfOk result (λ _. string_bytes text.new ≡ string_bytes text.old ++ about_text names.now thing.now) }
 {
     match &thing.about {
         About::Sheet { zoom, column, row } => {
-            put_called(text, names, thing.identity)?;
-            put_place(text, *zoom, *column, *row)
+            put_sheet(text, names, thing.identity, *zoom, *column, *row)
         }
         About::Medium { content_type } => put_label(text, content_type.as_str()),
         About::Mark { code, label, .. } => put_mark(text, *code, label.as_str()),
     }
+}
+
+/// Puts an item as a link that leads to its row.
+fn put_found(text: &mut String, names: &[Name], id: Uuid, thing: &Thing) -> Result<(), AllocError>
+    ensures { IfOk result (λ _. string_bytes text.new ≡ string_bytes text.old ++ found_text names.now id thing.now) }
+{
+    put(text, "<a href=\"#i-")?;
+    put_uuid(text, id)?;
+    put(text, "\">")?;
+    put_about(text, names, thing)?;
+    put(text, "</a>")?;
+    Ok(())
 }
 
 /// Puts an item that a receipt or a link names: told where a package holds it, else by its UUID.
@@ -299,13 +335,7 @@ pub(crate) fn put_thing(text: &mut String, register: &Register, id: Uuid) -> Res
     ensures { IfOk result (λ _. string_bytes text.new ≡ string_bytes text.old ++ thing_text register.now id) }
 {
     match thing_found(&register.things, id) {
-        Some(found) => {
-            put(text, "<a href=\"#i-")?;
-            put_uuid(text, id)?;
-            put(text, "\">")?;
-            put_about(text, &register.names, found)?;
-            put(text, "</a>")
-        }
+        Some(found) => put_found(text, &register.names, id, found),
         None => put_short(text, id),
     }
 }

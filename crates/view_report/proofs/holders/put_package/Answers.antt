@@ -2,4 +2,4 @@ use Rattle.std.proofs.Common.{append_assoc}
 use Rattle.view_report.proofs.holders.put_package.Goals as goal
 
 pub returns : goal.returns
-returns c = rw (c.in_ok-put_lent.ensures, c.in_ok-put_sum_cells.ensures, c.in_ok-put-5.ensures, c.in_ok-put_full_name.ensures, c.in_ok-put-4.ensures, c.in_ok-put_uuid-2.ensures, c.in_ok-put-3.ensures, c.in_ok-put_swatch.ensures, c.in_ok-put-2.ensures, c.in_ok-put_uuid.ensures, c.in_ok-put.ensures) (simp append_assoc)
+returns c = rw (c.in_ok-put_lent.ensures, c.in_ok-put_sum_cells.ensures, c.in_ok-put-5.ensures, c.in_ok-put_full_name.ensures, c.deref-2.ensures.value, c.in_ok-put-4.ensures, c.in_ok-put_uuid-2.ensures, c.in_ok-put-3.ensures, c.in_ok-put_swatch.ensures, c.number_of.ensures, c.deref.ensures.value, c.in_ok-put-2.ensures, c.in_ok-put_uuid.ensures, c.in_ok-put.ensures) (simp append_assoc)

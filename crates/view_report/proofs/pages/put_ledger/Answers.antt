@@ -2,4 +2,4 @@ use Rattle.std.proofs.Common.{append_assoc}
 use Rattle.view_report.proofs.pages.put_ledger.Goals as goal
 
 pub returns : goal.returns
-returns c = rw (c.in_ok-put_raws.ensures, c.in_ok-put-2.ensures, c.in_ok-put_rows.ensures, c.in_ok-put.ensures) (simp append_assoc)
+returns c = rw (c.in_ok-put_raws.ensures, c.deref-2.ensures.value, c.in_ok-put-2.ensures, c.in_ok-put_rows.ensures, c.deref.ensures.value, c.in_ok-put.ensures) (simp append_assoc ?)
