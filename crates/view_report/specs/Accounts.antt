@@ -1,5 +1,6 @@
 -- The account of a package: what came in less what went out is what is held (HTML 5). Profile.
 use Rattle.std.specs.Prelude.{ℕ, List, ◌++◌, codes, decimal}
+use Rattle.sheet_ledger.specs.Flows.{flow_by}
 use Rattle.sheet_ledger.specs.declared.flows.Flow.{Flow}
 use Rattle.sheet_ledger.specs.declared.flows.Totals.{Totals}
 use Rattle.sheet_types.specs.declared.receipt.Sums.{Sums}
@@ -26,3 +27,7 @@ account_text r p flow =
     codes "<tbody>\n<tr class=\"name\"><th scope=\"rowgroup\" colspan=\"6\">" ++ (swatch_text (number_of r.packages.items p.loan)
     ++ (codes "<b>" ++ (name_text r.names.items p.uuid ++ (codes "</b></th></tr>\n"
     ++ (totals_row (codes "came in") flow.came ++ (totals_row (codes "went out") flow.left ++ held_row p.sums))))))
+
+-- the same by the receipts
+abbrev pub account_of : Register → Live → List ℕ
+account_of r p = account_text r p (flow_by r.receipts.items p.uuid)

@@ -2,9 +2,8 @@
 use Rattle.std.specs.Prelude.{ℕ, List, [], ◌++◌, length, if◌then◌else◌, codes, decimal, flat_map}
 use Rattle.std.specs.List.{list_any}
 use Rattle.hex.specs.Hex.{encode_lower}
-use Rattle.sheet_ledger.specs.Flows.{flow_by}
 use Rattle.sheet_types.specs.Texts.{uuid_text}
-use Rattle.view_report.specs.Accounts.{account_text}
+use Rattle.view_report.specs.Accounts.{account_of}
 use Rattle.view_report.specs.Drawing.{map_section}
 use Rattle.view_report.specs.Holders.{home_if, is_merge, package_row}
 use Rattle.view_report.specs.Holdings.{holding_text}
@@ -52,7 +51,7 @@ ledger_section r =
 -- each package by what came to it and what left it
 abbrev pub account_section : Register → List ℕ
 account_section r =
-    ACCOUNT_HEAD.now ++ (flat_map (λ p. account_text r p (flow_by r.receipts.items p.uuid)) r.packages.items ++ CHECK.now)
+    ACCOUNT_HEAD.now ++ (flat_map (account_of r) r.packages.items ++ CHECK.now)
 
 -- The page of a register.
 abbrev pub page_text : Register → List ℕ

@@ -1,7 +1,7 @@
 //! The account of each package: what came in, what went out, and what is held.
 ghost use Rattle.std.specs.Prelude.{◌≡◌, ◌++◌, IfOk, flat_map, string_bytes};
-ghost use Rattle.sheet_ledger.specs.Flows.{flow_in};
-ghost use Rattle.view_report.specs.Accounts.{account_text, held_row, total_cell, totals_row};
+ghost use Rattle.sheet_ledger.specs.Flows.{HasFlows};
+ghost use Rattle.view_report.specs.Accounts.{account_of, account_text, held_row, total_cell, totals_row};
 
 use crate::holders::put_sum_cells;
 use crate::pieces::{put, put_name, put_swatch, put_total};
@@ -71,6 +71,21 @@ fn put_account(
     Ok(())
 }
 
+/// Puts it by the flows of all receipts.
+fn put_account_by(
+    text: &mut String,
+    register: &Register,
+    flows: &BTreeMap<Uuid, Flow>,
+    live: &Live,
+) -> Result<(), AllocError>
+    requires { HasFlows flows.now register.now.receipts.items }
+    ensures { IfOk result (λ _. string_bytes text.new ≡ string_bytes text.old ++ account_of register.now live.now) }
+{
+    let flow = flow_of(flows, live.uuid);
+    put_account(text, register, live, &flow)?;
+    Ok(())
+}
+
 /// Puts the accounts of packages, by the flows of all receipts.
 pub(crate) fn put_accounts(
     text: &mut String,
@@ -78,10 +93,11 @@ pub(crate) fn put_accounts(
     flows: &BTreeMap<Uuid, Flow>,
     packages: &[Live],
 ) -> Result<(), AllocError>
-    ensures { IfOk result (λ _. string_bytes text.new ≡ string_bytes text.old ++ flat_map (λ p. account_text register.now p (flow_in flows.now p.uuid)) packages.now) }
+    requires { HasFlows flows.now register.now.receipts.items }
+    ensures { IfOk result (λ _. string_bytes text.new ≡ string_bytes text.old ++ flat_map (account_of register.now) packages.now) }
 {
     for live in packages {
-        put_account(text, register, live, &flow_of(flows, live.uuid))?;
+        put_account_by(text, register, flows, live)?;
     }
     Ok(())
 }

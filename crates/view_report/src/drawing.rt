@@ -379,7 +379,8 @@ fn put_mark_place(text: &mut String, register: &Register, x: i64, y: i64) -> Res
     let frame = register.frame;
     let left = share(x.abs_diff(frame.min_x), frame.max_x.abs_diff(frame.min_x));
     let top = share(frame.max_y.abs_diff(y), frame.max_y.abs_diff(frame.min_y));
-    put_style(text, left, top)
+    put_style(text, left, top)?;
+    Ok(())
 }
 
 /// Puts a mark of the holder of this number.

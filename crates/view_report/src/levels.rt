@@ -1,7 +1,7 @@
 //! The zooms that a map draws, and where a sheet stands in one.
 ghost use Rattle.std.specs.Prelude.{◌≡◌, ◌-◌, ◌≤◌, IsTrue};
-ghost use Rattle.sheet_types.specs.Matrix.{is_good_frame};
-ghost use Rattle.view_report.specs.Levels.{extent, inset_of, level_at, level_total, plus, power_of, scale_of, share, start, times};
+ghost use Rattle.sheet_types.specs.Matrix.{has_level, is_good_frame};
+ghost use Rattle.view_report.specs.Levels.{extent, inset_of, level_at, level_of, level_total, plus, power_of, scale_of, share, start, times};
 
 use matrix_rules::levels::{level_count, zoom_at};
 use sheet_types::frame::Frame;
@@ -97,21 +97,27 @@ pub(crate) fn level_total(frame: &Frame) -> u64
     plus(default_zoom(frame).abs_diff(frame.first_zoom), 1)
 }
 
+/// A zoom that the frame has.
+fn level_of(frame: &Frame, total: u64, index: u64, zoom: i64) -> Level
+    requires good { IsTrue (is_good_frame frame.now) }
+    requires level { IsTrue (has_level frame.now zoom) }
+    ensures { result ≡ level_of frame.now total index zoom }
+{
+    Level {
+        index,
+        finer: total.saturating_sub(plus(index, 1)),
+        zoom,
+        layout: layout_of(frame, zoom),
+    }
+}
+
 /// The zoom with so many coarser ones, of so many that are drawn.
 pub(crate) fn level_at(frame: &Frame, total: u64, index: u64) -> Option<Level>
     requires { IsTrue (is_good_frame frame.now) }
     ensures { result ≡ level_at frame.now total index }
 {
     if index < level_count(frame) {
-        let zoom = zoom_at(frame, index);
-        let layout = layout_of(frame, zoom);
-        let finer = total.saturating_sub(plus(index, 1));
-        Some(Level {
-            index,
-            finer,
-            zoom,
-            layout,
-        })
+        Some(level_of(frame, total, index, zoom_at(frame, index)))
     } else {
         None
     }

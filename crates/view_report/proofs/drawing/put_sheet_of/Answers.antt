@@ -1,5 +1,8 @@
-use Rattle.std.proofs.Common.{append_assoc}
+use Rattle.std.specs.Prelude.{string_bytes}
+use Rattle.view_report.proofs.Texts.{onward}
 use Rattle.view_report.proofs.drawing.put_sheet_of.Goals as goal
 
 pub returns : goal.returns
-returns c = rw (c.in_ok-put_title.ensures, c.deref-2.ensures.value, c.in_ok-put_box.ensures, c.number_of.ensures, c.deref.ensures.value, c.in_ok-put_link.ensures) (simp append_assoc ?)
+returns c =
+    onward (string_bytes c.args.text.now) _ _ c.in_ok-put_link.ensures (
+    onward (string_bytes c.put_link.new.text) _ _ (rw (c.number_of.ensures, c.deref.ensures.value) at c.in_ok-put_box.ensures) (rw c.deref-2.ensures.value at c.in_ok-put_title.ensures))

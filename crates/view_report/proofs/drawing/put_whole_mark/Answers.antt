@@ -1,5 +1,8 @@
-use Rattle.std.proofs.Common.{append_assoc}
+use Rattle.std.proofs.lemmas.Int.{to_z-of_z}
+use Rattle.std.specs.Prelude.{string_bytes}
+use Rattle.view_report.proofs.Texts.{onward}
 use Rattle.view_report.proofs.drawing.put_whole_mark.Goals as goal
 
 pub returns : goal.returns
-returns c = rw (c.in_ok-put_mark_end.ensures, c.in_ok-put_mark.ensures) (simp append_assoc ?)
+returns c =
+    onward (string_bytes c.args.text.now) _ _ c.in_ok-put_mark.ensures (simp (to_z-of_z, c.ranges.code.sfits) at c.in_ok-put_mark_end.ensures)
