@@ -79,7 +79,7 @@ pattern_link l n =
 abbrev pub sides_text : Layout → ℕ → List ℕ → List ℕ
 sides_text l by between = decimal (times by (times l.columns l.width)) ++ (between ++ decimal (times by (times l.rows l.height)))
 
-abbrev pub level_text : Register → Level → List ℕ
+unfoldable pub level_text : Register → Level → List ℕ
 level_text r l =
     codes "<svg class=\"l l" ++ (decimal l.index ++ (codes "\" viewBox=\"0 0 " ++ (sides_text l.layout 100 (codes " ")
     ++ (codes "\" preserveAspectRatio=\"none\">\n<defs>\n"
@@ -100,17 +100,18 @@ abbrev pub style_text : ℕ → ℕ → List ℕ
 style_text left top =
     codes " style=\"left:calc(.01%*" ++ (decimal left ++ (codes ");top:calc(.01%*" ++ (decimal top ++ codes ")\"")))
 
-abbrev pub named_text : Layout → Name → ℤ → ℤ → List ℕ
-named_text l n column row =
-    codes "<span class=\"nm\"" ++ (style_text (share (unsigned_abs column) l.columns) (share (plus (unsigned_abs row) 1) l.rows)
-    ++ (codes ">" ++ (escaped n.name ++ codes "</span>\n")))
+unfoldable pub named_text : Name → ℕ → ℕ → List ℕ
+named_text n left top = codes "<span class=\"nm\"" ++ (style_text left top ++ (codes ">" ++ (escaped n.name ++ codes "</span>\n")))
 
 -- of a sheet that has one, and where it is one of this zoom
-abbrev pub names_text : List Name → Level → List ℕ → ℤ → ℤ → List ℕ
-names_text names l id column row = option_map_or (λ n. named_text l.layout n column row) (name_of names id) []
+abbrev pub names_text : List Name → List ℕ → ℕ → ℕ → List ℕ
+names_text names id left top = option_map_or (λ n. named_text n left top) (name_of names id) []
+
+abbrev pub name_in : List Name → Layout → List ℕ → ℤ → ℤ → List ℕ
+name_in names l id column row = names_text names id (share (unsigned_abs column) l.columns) (share (plus (unsigned_abs row) 1) l.rows)
 
 abbrev pub name_at : List Name → Level → List ℕ → ℤ → ℤ → ℤ → List ℕ
-name_at names l id zoom column row = if int_eq zoom l.zoom then names_text names l id column row else []
+name_at names l id zoom column row = if int_eq zoom l.zoom then name_in names l.layout id column row else []
 
 abbrev pub name_about : List Name → Level → List ℕ → About → List ℕ
 name_about names l id (Sheet zoom column row) = name_at names l id zoom column row
@@ -142,7 +143,7 @@ mark_text r t n code label =
     ++ (codes "\"><svg width=\"16\" height=\"16\" viewBox=\"-8 -8 16 16\" aria-hidden=\"true\"><use href=\"#k"
     ++ (decimal (pattern_of n) ++ codes "\"/></svg></a>\n")))))))
 
-abbrev pub whole_mark : Register → Thing → ℕ → ℤ → ℤ → ℤ → List ℕ → List ℕ
+unfoldable pub whole_mark : Register → Thing → ℕ → ℤ → ℤ → ℤ → List ℕ → List ℕ
 whole_mark r t n x y code label = mark_at r t n x y ++ mark_text r t n code label
 
 abbrev pub mark_of : Register → Thing → ℕ → About → List ℕ

@@ -1,8 +1,11 @@
 //! The map of a page: all zooms nested, names of the first, and marks (SVG 1.1 in HTML 5).
-ghost use Rattle.std.specs.Prelude.{◌≡◌, ◌++◌, IfOk, IsTrue, flat_map, string_bytes};
+ghost use Rattle.std.specs.Prelude.{◌≡◌, ◌++◌, ◌-ℤ◌, IfOk, IsTrue, flat_map, string_bytes, unsigned_abs};
+ghost use Rattle.view_map.specs.Layout.{layout_of};
+ghost use Rattle.view_map.specs.Zooms.{default_zoom};
+ghost use Rattle.view_report.specs.Levels.{extent, inset_of, plus, share, start};
 ghost use Rattle.sheet_types.specs.Matrix.{is_good_frame};
 ghost use Rattle.view_report.specs.Registers.{number_of};
-ghost use Rattle.view_report.specs.Drawing.{also_named, layer_of, legend_row, level_if, level_text, levels_text, link_text, map_section, mark_at, mark_if, mark_of, mark_place, mark_text, name_at, name_if, named_at, named_text, names_text, pattern_link, sheet_at, sheet_box, sheet_if, sheet_of, sheet_text, sheet_title, sides_text, style_text, whole_mark};
+ghost use Rattle.view_report.specs.Drawing.{also_named, layer_of, legend_row, level_if, level_text, levels_text, link_text, map_section, mark_at, mark_if, mark_of, mark_place, mark_text, name_at, name_if, name_in, named_at, named_text, names_text, pattern_link, sheet_at, sheet_box, sheet_if, sheet_of, sheet_text, sheet_title, sides_text, style_text, whole_mark};
 
 use crate::escaping::put_escaped;
 use crate::levels::{
@@ -14,6 +17,7 @@ use crate::pieces::{
 };
 use crate::registers::{About, Live, Name, Register, Thing, live_of, name_of, number_of};
 use crate::words::{LEGEND_END, LEGEND_HEAD, MAP_HEAD};
+use sheet_types::frame::Frame;
 use std::alloc::AllocError;
 use uuid::Uuid;
 use view_map::layout::{Layout, layout_of};
@@ -36,6 +40,42 @@ fn put_link(text: &mut String, id: Uuid) -> Result<(), AllocError>
     Ok(())
 }
 
+/// Where a sheet begins from the left.
+fn left_of(level: &Level, layer: u64, column: i64) -> u64
+    ensures { result ≡ start (unsigned_abs column) level.now.layout.width (inset_of level.now layer) }
+{
+    start(
+        column.unsigned_abs(),
+        level.layout.width,
+        inset_of(level, layer),
+    )
+}
+
+/// Where it begins from the top.
+fn top_of(level: &Level, layer: u64, row: i64) -> u64
+    ensures { result ≡ start (unsigned_abs row) level.now.layout.height (inset_of level.now layer) }
+{
+    start(
+        row.unsigned_abs(),
+        level.layout.height,
+        inset_of(level, layer),
+    )
+}
+
+/// How wide it is.
+fn width_of(level: &Level, layer: u64) -> u64
+    ensures { result ≡ extent level.now.layout.width (inset_of level.now layer) }
+{
+    extent(level.layout.width, inset_of(level, layer))
+}
+
+/// How high it is.
+fn height_of(level: &Level, layer: u64) -> u64
+    ensures { result ≡ extent level.now.layout.height (inset_of level.now layer) }
+{
+    extent(level.layout.height, inset_of(level, layer))
+}
+
 /// Puts the rectangle of a sheet of the holder of this number.
 fn put_box(
     text: &mut String,
@@ -47,20 +87,17 @@ fn put_box(
 ) -> Result<(), AllocError>
     ensures { IfOk result (λ _. string_bytes text.new ≡ string_bytes text.old ++ sheet_box level.now live.now number column row) }
 {
-    let inset = inset_of(level, layer_of(live));
+    let layer = layer_of(live);
     put(text, "<rect class=\"")?;
     put_class(text, number)?;
     put(text, "\" x=\"")?;
-    put_count(
-        text,
-        start(column.unsigned_abs(), level.layout.width, inset),
-    )?;
+    put_count(text, left_of(level, layer, column))?;
     put(text, "\" y=\"")?;
-    put_count(text, start(row.unsigned_abs(), level.layout.height, inset))?;
+    put_count(text, top_of(level, layer, row))?;
     put(text, "\" width=\"")?;
-    put_count(text, extent(level.layout.width, inset))?;
+    put_count(text, width_of(level, layer))?;
     put(text, "\" height=\"")?;
-    put_count(text, extent(level.layout.height, inset))?;
+    put_count(text, height_of(level, layer))?;
     put(text, "\" fill=\"url(#v")?;
     put_count(text, level.index)?;
     put(text, "-")?;
@@ -284,18 +321,24 @@ fn put_style(text: &mut String, left: u64, top: u64) -> Result<(), AllocError>
     Ok(())
 }
 
-/// Puts the name of a sheet at its place.
-fn put_named(
-    text: &mut String,
-    layout: &Layout,
-    name: &Name,
-    column: i64,
-    row: i64,
-) -> Result<(), AllocError>
-    ensures { IfOk result (λ _. string_bytes text.new ≡ string_bytes text.old ++ named_text layout.now name.now column row) }
+/// Where the name of a sheet stands from the left.
+fn column_share(layout: &Layout, column: i64) -> u64
+    ensures { result ≡ share (unsigned_abs column) layout.now.columns }
 {
-    let left = share(column.unsigned_abs(), layout.columns);
-    let top = share(plus(row.unsigned_abs(), 1), layout.rows);
+    share(column.unsigned_abs(), layout.columns)
+}
+
+/// Where it stands from the top: at the lower side of the sheet.
+fn row_share(layout: &Layout, row: i64) -> u64
+    ensures { result ≡ share (plus (unsigned_abs row) 1) layout.now.rows }
+{
+    share(plus(row.unsigned_abs(), 1), layout.rows)
+}
+
+/// Puts the name of a sheet at its place.
+fn put_named(text: &mut String, name: &Name, left: u64, top: u64) -> Result<(), AllocError>
+    ensures { IfOk result (λ _. string_bytes text.new ≡ string_bytes text.old ++ named_text name.now left top) }
+{
     put(text, "<span class=\"nm\"")?;
     put_style(text, left, top)?;
     put(text, ">")?;
@@ -304,21 +347,37 @@ fn put_named(
     Ok(())
 }
 
-/// Puts the name of a sheet, if it has one.
+/// Puts it, if the sheet has one.
 fn put_name_of(
     text: &mut String,
     names: &[Name],
-    level: &Level,
+    id: Uuid,
+    left: u64,
+    top: u64,
+) -> Result<(), AllocError>
+    ensures { IfOk result (λ _. string_bytes text.new ≡ string_bytes text.old ++ names_text names.now id left top) }
+{
+    match name_of(names, id) {
+        Some(name) => put_named(text, name, left, top),
+        None => Ok(()),
+    }
+}
+
+/// Puts it where the sheet stands.
+fn put_name_in(
+    text: &mut String,
+    names: &[Name],
+    layout: &Layout,
     id: Uuid,
     column: i64,
     row: i64,
 ) -> Result<(), AllocError>
-    ensures { IfOk result (λ _. string_bytes text.new ≡ string_bytes text.old ++ names_text names.now level.now id column row) }
+    ensures { IfOk result (λ _. string_bytes text.new ≡ string_bytes text.old ++ name_in names.now layout.now id column row) }
 {
-    match name_of(names, id) {
-        Some(name) => put_named(text, &level.layout, name, column, row),
-        None => Ok(()),
-    }
+    let left = column_share(layout, column);
+    let top = row_share(layout, row);
+    put_name_of(text, names, id, left, top)?;
+    Ok(())
 }
 
 /// Puts it, if the sheet is one of this zoom.
@@ -334,7 +393,7 @@ fn put_name_at(
     ensures { IfOk result (λ _. string_bytes text.new ≡ string_bytes text.old ++ name_at names.now level.now id zoom column row) }
 {
     if zoom == level.zoom {
-        put_name_of(text, names, level, id, column, row)
+        put_name_in(text, names, &level.layout, id, column, row)
     } else {
         Ok(())
     }
@@ -372,13 +431,26 @@ fn put_names(
     Ok(())
 }
 
+/// Where a point stands from the left of the map.
+fn x_share(frame: &Frame, x: i64) -> u64
+    ensures { result ≡ share (unsigned_abs (x -ℤ frame.now.min_x)) (unsigned_abs (frame.now.max_x -ℤ frame.now.min_x)) }
+{
+    share(x.abs_diff(frame.min_x), frame.max_x.abs_diff(frame.min_x))
+}
+
+/// Where it stands from the top.
+fn y_share(frame: &Frame, y: i64) -> u64
+    ensures { result ≡ share (unsigned_abs (frame.now.max_y -ℤ y)) (unsigned_abs (frame.now.max_y -ℤ frame.now.min_y)) }
+{
+    share(frame.max_y.abs_diff(y), frame.max_y.abs_diff(frame.min_y))
+}
+
 /// Puts where a point stands on the map.
 fn put_mark_place(text: &mut String, register: &Register, x: i64, y: i64) -> Result<(), AllocError>
     ensures { IfOk result (λ _. string_bytes text.new ≡ string_bytes text.old ++ mark_place register.now.frame x y) }
 {
-    let frame = register.frame;
-    let left = share(x.abs_diff(frame.min_x), frame.max_x.abs_diff(frame.min_x));
-    let top = share(frame.max_y.abs_diff(y), frame.max_y.abs_diff(frame.min_y));
+    let left = x_share(&register.frame, x);
+    let top = y_share(&register.frame, y);
     put_style(text, left, top)?;
     Ok(())
 }
@@ -435,13 +507,14 @@ fn put_whole_mark(
     register: &Register,
     thing: &Thing,
     number: usize,
-    point: (i64, i64),
+    x: i64,
+    y: i64,
     code: i64,
     label: &str,
 ) -> Result<(), AllocError>
-    ensures { IfOk result (λ _. string_bytes text.new ≡ string_bytes text.old ++ whole_mark register.now thing.now number point.0 point.1 code label.now) }
+    ensures { IfOk result (λ _. string_bytes text.new ≡ string_bytes text.old ++ whole_mark register.now thing.now number x y code label.now) }
 {
-    put_mark(text, register, thing, number, point.0, point.1)?;
+    put_mark(text, register, thing, number, x, y)?;
     put_mark_end(text, register, thing, number, code, label)?;
     Ok(())
 }
@@ -461,7 +534,8 @@ fn put_mark_of(
             register,
             thing,
             number,
-            (*x, *y),
+            *x,
+            *y,
             *code,
             label.as_str(),
         ),
@@ -537,13 +611,21 @@ fn put_first_names(text: &mut String, register: &Register, total: u64) -> Result
     }
 }
 
+/// The layout of the finest zoom that is drawn.
+fn finest_of(frame: &Frame) -> Layout
+    requires { IsTrue (is_good_frame frame.now) }
+    ensures { result ≡ layout_of frame.now (default_zoom frame.now) }
+{
+    layout_of(frame, default_zoom(frame))
+}
+
 /// Puts the map.
 pub(crate) fn put_map(text: &mut String, register: &Register) -> Result<(), AllocError>
     requires { IsTrue (is_good_frame register.now.frame) }
     ensures { IfOk result (λ _. string_bytes text.new ≡ string_bytes text.old ++ map_section register.now) }
 {
     let total = level_total(&register.frame);
-    let finest = layout_of(&register.frame, default_zoom(&register.frame));
+    let finest = finest_of(&register.frame);
     put(text, MAP_HEAD)?;
     put_sides(text, &finest, 1, "/")?;
     put(text, "\">\n")?;

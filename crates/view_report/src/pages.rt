@@ -1,5 +1,5 @@
 //! A whole page.
-ghost use Rattle.std.specs.Prelude.{◌≡◌, ◌++◌, IfOk, IsTrue, string_bytes};
+ghost use Rattle.std.specs.Prelude.{◌≡◌, ◌++◌, IfOk, IsTrue, length, string_bytes};
 ghost use Rattle.sheet_types.specs.Matrix.{is_good_frame};
 ghost use Rattle.view_report.specs.Pages.{account_section, head_text, home_rows, home_table, holders_section, holdings_section, ledger_section, page_text, verdict_section};
 
@@ -22,6 +22,20 @@ use sheet_types::error::OutOfMemory;
 use sheet_types::fingerprints::spell;
 use std::alloc::{AllocError, Global};
 
+/// How many receipts there are.
+fn receipt_count(register: &Register) -> u64
+    ensures { result ≡ length register.now.receipts.items }
+{
+    register.receipts.len() as u64
+}
+
+/// How many packages live.
+fn package_count(register: &Register) -> u64
+    ensures { result ≡ length register.now.packages.items }
+{
+    register.packages.len() as u64
+}
+
 /// Puts the beginning of a page.
 fn put_head(text: &mut String, register: &Register) -> Result<(), AllocError>
     ensures { IfOk result (λ _. string_bytes text.new ≡ string_bytes text.old ++ head_text register.now) }
@@ -34,7 +48,7 @@ fn put_head(text: &mut String, register: &Register) -> Result<(), AllocError>
     put(text, "</h1>\n<p class=\"lead\">Archive <code>")?;
     put_uuid(text, register.archive)?;
     put(text, "</code>, as of receipt ")?;
-    put_count(text, register.receipts.len() as u64)?;
+    put_count(text, receipt_count(register))?;
     put(text, ".</p>\n")?;
     put(text, NAVIGATION)?;
     put_patterns(text, &register.packages, &register.packages)?;
@@ -48,9 +62,9 @@ fn put_verdict(text: &mut String, register: &Register, digest: &[u8; 32]) -> Res
 {
     let mut letters = [0; 64];
     put(text, VERDICT)?;
-    put_count(text, register.receipts.len() as u64)?;
+    put_count(text, receipt_count(register))?;
     put(text, "</li>\n<li><b>Live packages</b> ")?;
-    put_count(text, register.packages.len() as u64)?;
+    put_count(text, package_count(register))?;
     put(
         text,
         "</li>\n<li class=\"big\"><b>SHA-256 of the ledger</b> <code class=\"sha\">",
@@ -123,6 +137,22 @@ fn put_account(alloc: Global, text: &mut String, register: &Register) -> Result<
     Ok(())
 }
 
+/// Puts a whole page.
+fn put_page(alloc: Global, text: &mut String, register: &Register) -> Result<(), OutOfMemory>
+    requires { IsTrue (is_good_frame register.now.frame) }
+    ensures { IfOk result (λ _. string_bytes text.new ≡ string_bytes text.old ++ page_text register.now) }
+{
+    let digest = ledger_digest(alloc, &register.receipts)?;
+    put_head(text, register)?;
+    put_verdict(text, register, &digest)?;
+    put_holders(text, register)?;
+    put_map(text, register)?;
+    put_all_holdings(text, register)?;
+    put_ledger(alloc, text, register)?;
+    put_account(alloc, text, register)?;
+    Ok(())
+}
+
 /// The page of a register: one file of HTML 5 that needs nothing else.
 ///
 /// # Errors
@@ -132,14 +162,7 @@ pub fn page_text(alloc: Global, register: &Register) -> Result<String, OutOfMemo
     requires { IsTrue (is_good_frame register.now.frame) }
     ensures { IfOk result (λ text. string_bytes text ≡ page_text register.now) }
 {
-    let digest = ledger_digest(alloc, &register.receipts)?;
     let mut text = String::new(alloc);
-    put_head(&mut text, register)?;
-    put_verdict(&mut text, register, &digest)?;
-    put_holders(&mut text, register)?;
-    put_map(&mut text, register)?;
-    put_all_holdings(&mut text, register)?;
-    put_ledger(alloc, &mut text, register)?;
-    put_account(alloc, &mut text, register)?;
+    put_page(alloc, &mut text, register)?;
     Ok(text)
 }

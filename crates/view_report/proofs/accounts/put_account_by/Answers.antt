@@ -1,3 +1,4 @@
+use Rattle.std.proofs.Common.{refl}
 use Rattle.view_report.proofs.accounts.put_account_by.Goals as goal
 
 pub returns : goal.returns

@@ -1,8 +1,10 @@
 use Rattle.std.specs.Prelude.{string_bytes}
 use Rattle.view_report.proofs.Texts.{onward}
+use Rattle.view_report.specs.Drawing.{level_text}
 use Rattle.view_report.proofs.drawing.put_level.Goals as goal
 
 pub returns : goal.returns
+unfolding level_text
 returns c =
     onward (string_bytes c.args.text.now) _ _ c.in_ok-put.ensures (
     onward (string_bytes c.put.new.text) _ _ c.in_ok-put_count.ensures (
