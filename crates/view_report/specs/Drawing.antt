@@ -47,17 +47,17 @@ sheet_title names t zoom column row =
     place_text zoom column row ++ (codes ", " ++ (plain_name names t.holder ++ (also_named names t.identity ++ codes "</title></rect></a>\n")))
 
 -- a sheet of a package, and of one that lives
-abbrev pub sheet_of : Register → Level → Thing → ℤ → ℤ → Live → List ℕ
-sheet_of r l t column row p =
+abbrev pub sheet_of : Register → Level → Thing → ℤ → ℤ → ℤ → Live → List ℕ
+sheet_of r l t zoom column row p =
     link_text t.identity ++ (sheet_box l p (number_of r.packages.items p.loan) column row
-    ++ sheet_title r.names.items t l.zoom column row)
+    ++ sheet_title r.names.items t zoom column row)
 
-abbrev pub sheet_text : Register → Level → Thing → ℤ → ℤ → List ℕ
-sheet_text r l t column row = option_map_or (sheet_of r l t column row) (live_of r.packages.items t.holder) []
+abbrev pub sheet_text : Register → Level → Thing → ℤ → ℤ → ℤ → List ℕ
+sheet_text r l t zoom column row = option_map_or (sheet_of r l t zoom column row) (live_of r.packages.items t.holder) []
 
 -- where it is one of this zoom
 abbrev pub sheet_at : Register → Level → Thing → ℤ → ℤ → ℤ → List ℕ
-sheet_at r l t zoom column row = if int_eq zoom l.zoom then sheet_text r l t column row else []
+sheet_at r l t zoom column row = if int_eq zoom l.zoom then sheet_text r l t zoom column row else []
 
 -- an item, where it is a sheet of this zoom
 abbrev pub sheet_about : Register → Level → Thing → About → List ℕ

@@ -145,15 +145,16 @@ fn put_sheet_of(
     level: &Level,
     thing: &Thing,
     live: &Live,
+    zoom: i64,
     column: i64,
     row: i64,
 ) -> Result<(), AllocError>
-    ensures { IfOk result (λ _. string_bytes text.new ≡ string_bytes text.old ++ sheet_of register.now level.now thing.now column row live.now) }
+    ensures { IfOk result (λ _. string_bytes text.new ≡ string_bytes text.old ++ sheet_of register.now level.now thing.now zoom column row live.now) }
 {
     let number = number_of(&register.packages, live.loan);
     put_link(text, thing.identity)?;
     put_box(text, level, live, number, column, row)?;
-    put_title(text, &register.names, thing, level.zoom, column, row)?;
+    put_title(text, &register.names, thing, zoom, column, row)?;
     Ok(())
 }
 
@@ -163,13 +164,14 @@ fn put_sheet(
     register: &Register,
     level: &Level,
     thing: &Thing,
+    zoom: i64,
     column: i64,
     row: i64,
 ) -> Result<(), AllocError>
-    ensures { IfOk result (λ _. string_bytes text.new ≡ string_bytes text.old ++ sheet_text register.now level.now thing.now column row) }
+    ensures { IfOk result (λ _. string_bytes text.new ≡ string_bytes text.old ++ sheet_text register.now level.now thing.now zoom column row) }
 {
     match live_of(&register.packages, thing.holder) {
-        Some(live) => put_sheet_of(text, register, level, thing, live, column, row),
+        Some(live) => put_sheet_of(text, register, level, thing, live, zoom, column, row),
         None => Ok(()),
     }
 }
@@ -187,7 +189,7 @@ fn put_sheet_at(
     ensures { IfOk result (λ _. string_bytes text.new ≡ string_bytes text.old ++ sheet_at register.now level.now thing.now zoom column row) }
 {
     if zoom == level.zoom {
-        put_sheet(text, register, level, thing, column, row)
+        put_sheet(text, register, level, thing, zoom, column, row)
     } else {
         Ok(())
     }
