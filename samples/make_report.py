@@ -2,7 +2,7 @@
 """Writes the page of the sample, as the second machine makes it: report.html, of all of archive.csv, with the names of names.csv.
 
 Usage: make_report.py                writes report.html
-       make_report.py --check        writes nothing; status 1 where report.html is not what would be written
+       make_report.py --check        writes nothing; status 1 where report.html is not what would be written, or the program's style is another
        make_report.py --middle FILE  writes the page after record 57, while a loan has lent on
        make_report.py --odd FILE     writes the page of a world whose texts are hostile
 
@@ -56,6 +56,14 @@ def write(name, text):
         to.write(text)
 
 
+def style_is_kept():
+    """Whether the program's constant is the style of report.css."""
+    with open(path("report.css"), encoding="utf-8") as found:
+        style = found.read().replace("\\", "\\\\").replace('"', '\\"')
+    with open(path("../crates/view_report/src/style.rt"), encoding="utf-8") as found:
+        return f"<style>\n{style}</style>" in found.read()
+
+
 def main():
     words = sys.argv[1:]
     if words[:1] == ["--odd"] and len(words) == 2:
@@ -68,7 +76,7 @@ def main():
     if not words:
         return write(path("report.html"), page)
     with open(path("report.html"), encoding="utf-8", newline="") as found:
-        sys.exit(found.read() != page)
+        sys.exit(found.read() != page or not style_is_kept())
 
 
 if __name__ == "__main__":

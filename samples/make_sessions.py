@@ -24,6 +24,7 @@ import sys
 import nordmark
 import reference
 import verbs
+from machine import holding
 from machine.exports import export
 from machine.frames import Frame
 from machine.lists import read_requests
@@ -212,16 +213,37 @@ def exports(session):
     """The packages of the first session as SQL, and an archive with nothing in it over a frame whose numbers are all different."""
     world = rehearsed(told()[0].text().encode()).world
     for uuid in (CREW, nordmark.ARCHIVE):
-        session.run(f"export maps {uuid}", export(world.frame, world.packages[uuid]))
+        session.run(f"export maps {uuid}", export(world.frame, world.packages[uuid], world.tickets[uuid]))
     archive, frame = "a0000000-0000-4000-8000-00000000beef", "-1,-3000,-700,3001,500,17,5,4,1,353,6"
     world = World(archive, Frame.read(frame))
     session.type("mkdir oblong", "")
     session.run(f"init --archive A0000000-0000-4000-8000-00000000BeEf --at {nordmark.CREATED} --frame={frame} oblong", f"archive {archive}\n")
-    session.run(f"export oblong {archive.upper()}", export(world.frame, world.packages[archive]))
+    session.run(f"export oblong {archive.upper()}", export(world.frame, world.packages[archive], world.tickets[archive]))
 
 
 def making(check):
     return f"--archive {worked_lists.uuid_of('a')} --at {worked_lists.MOMENTS['T']} --frame {check.frame}"
+
+
+def listings(session):
+    """The SQL that lists what a file holds: of an export, and of tables and columns whose names have marks in them."""
+    session.run("holds", holding.own())
+    session.run('holds --tiles scans"of"1926', holding.stock('scans"of"1926'))
+    points = ("Marks';--", 'the"geom', "Nummer", "name\"")
+    words = [f"--{option} {word}" for option, word in zip(("points", "geometry", "code", "label"), points)]
+    session.run("holds " + " ".join(words), holding.stock(None, points))
+    session.run("holds --label l --code c --points p --tiles t", holding.stock("t", ("p", "geom", "c", "l")))
+    session.run("holds --points p --code c", "", 2)
+    session.run("holds --geometry g", "", 2)
+    session.run("holds maps", "", 2)
+
+
+def completions(session):
+    """What bash needs to complete words: the file that torture/completions.sh tries in a real bash."""
+    with open(os.path.join(HERE, "completions.bash"), encoding="utf-8") as it:
+        session.run("completions bash", it.read())
+    session.run("completions", "", 2)
+    session.run("completions fish", "", 2)
 
 
 def short(name):
@@ -353,6 +375,12 @@ def all_sessions():
     every.show("")
     every.show("# Its packages as SQL, and an archive with nothing in it, over an oblong frame.")
     exports(every)
+    every.show("")
+    every.show("# The SQL that lists what an edited file holds, and that of another program's file.")
+    listings(every)
+    every.show("")
+    every.show("# What bash needs to complete words.")
+    completions(every)
     every.show("")
     every.show("# A sheet is lent and comes home, by the verbs for people.")
     first.take(verb_sessions(every))

@@ -19,6 +19,7 @@ FLOORS = [
     ("world: the live packages: what is asked, decided, carried out", ["world"]),
     ("opening: stores that may be anything come to a world, or to a fault", ["opening"]),
     ("request, desk: bytes to requests, answers to bytes", ["request_", "manifest_csv", "desk_"]),
+    ("field: a file that another program edited", ["field_"]),
     ("command, view: subcommands that change, and that look", ["command_", "commands", "view_", "views", "cli"]),
     ("promises: what the whole keeps, as closed statements", ["promises"]),
     ("test: nothing but tests", ["test_"]),

@@ -27,6 +27,8 @@ each many_loans - "$torture/many_loans.py" $((quick ? 30 : 400))
 each stock_folder sqlite3 "$torture/stock_folder.sh"
 each first_version - "$torture/first_version_folder.sh" "$program"
 each export 'sqlite3 ogrinfo gdalinfo gdal_translate' "$torture/export_files.sh"
+each completions - "$torture/completions.sh"
+each field_rounds sqlite3 "$torture/field_rounds.py" $((quick ? 40 : 1000))
 each report_page 'chromium tidy' "$torture/report_page.py"
 
 # Kills, a disk that fails, power that is lost, files that are damaged.

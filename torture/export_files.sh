@@ -42,7 +42,7 @@ ask() {
 
 # Each statement of the text made a row.
 for table in gpkg_spatial_ref_sys gpkg_contents gpkg_geometry_columns gpkg_tile_matrix_set gpkg_tile_matrix gpkg_extensions \
-  gpkgext_relations sheet_tiles sheet_tile_identity sheet_media sheet_rows tiles_media rows_media rows_tiles; do
+  gpkgext_relations sheet_tiles sheet_tile_identity sheet_media sheet_rows tiles_media rows_media rows_tiles sheet_export layer_styles; do
   wanted=$(grep -c "^INSERT INTO $table " "$sql" || true)
   came=$(ask "SELECT count(*) FROM $table")
   [ "$came" = "$wanted" ] || fail "$table: $came rows of $wanted"
@@ -69,6 +69,27 @@ if [ "$count" -gt 0 ]; then
   [ "$(tr -dc '0-9.e -' <<<"$came" | python3 -c "$numbers")" = "$(tr -dc '0-9.e -' <<<"$wanted" | python3 -c "$numbers")" ] ||
     fail "the first feature: $came"
 fi
+
+# Outlines: one for each tile, and the first where its place says.
+tiles=$(ask 'SELECT count(*) FROM sheet_tiles')
+ogrinfo -so "$file" sheet_tile_identity >"$work/outlines"
+grep -q "^Feature Count: $tiles\$" "$work/outlines" || fail "outlines"
+if [ "$tiles" -gt 0 ]; then
+  corner='SELECT s.min_x + i.tile_column * m.tile_width * m.pixel_x_size, s.max_y - i.tile_row * m.tile_height * m.pixel_y_size
+    FROM sheet_tile_identity i JOIN gpkg_tile_matrix m USING (zoom_level), gpkg_tile_matrix_set s WHERE i.id = 1'
+  ogrinfo -q "$file" -dialect SQLite \
+    -sql 'SELECT ST_MinX(geom) AS west, ST_MaxY(geom) AS north FROM sheet_tile_identity WHERE id = 1' >"$work/outline"
+  came=$(sed -n 's/^  \(west\|north\) (Real) = //p' "$work/outline" | python3 -c 'import sys; print([float(line) for line in sys.stdin])')
+  wanted=$(ask "$corner" | python3 -c 'import sys; print([float(number) for number in sys.stdin.read().split("|")])')
+  echo "the first outline: $wanted"
+  [ "$came" = "$wanted" ] || fail "the first outline: $came"
+fi
+
+# Other programs add to it: a point without an identity, and a link.
+cp "$file" "$work/edited.gpkg"
+sqlite3 -bail "$work/edited.gpkg" 'INSERT INTO sheet_rows (geom) SELECT geom FROM sheet_rows LIMIT 1;
+  INSERT INTO rows_media (base_id, related_id) SELECT r.id, m.id FROM sheet_rows r, sheet_media m LIMIT 1' || fail "an edit was refused"
+[ "$(sqlite3 "$work/edited.gpkg" 'PRAGMA integrity_check')" = ok ] || fail "integrity after an edit"
 
 # The pyramid: corners of the frame and the pixel size of the zoom that GDAL shows.
 if [ "$(ask 'SELECT count(*) FROM sheet_tiles')" -gt 0 ]; then

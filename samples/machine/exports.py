@@ -2,6 +2,7 @@
 
 import struct
 
+from . import styles
 from .contents import ENDS, KINDS, place_of
 
 # Each table with its columns and constraints.
@@ -29,10 +30,15 @@ TABLES = {
     "|mapping_table_name TEXT NOT NULL UNIQUE",
     "sheet_tiles": "id INTEGER PRIMARY KEY AUTOINCREMENT|zoom_level INTEGER NOT NULL|tile_column INTEGER NOT NULL|tile_row INTEGER NOT NULL"
     "|tile_data BLOB NOT NULL|UNIQUE (zoom_level, tile_column, tile_row)",
-    "sheet_tile_identity": "id INTEGER PRIMARY KEY AUTOINCREMENT|uuid TEXT NOT NULL",
-    "sheet_media": "id INTEGER PRIMARY KEY AUTOINCREMENT|data BLOB NOT NULL|content_type TEXT NOT NULL|uuid TEXT NOT NULL",
-    "sheet_rows": "id INTEGER PRIMARY KEY AUTOINCREMENT|geom POINT|code INTEGER NOT NULL|label TEXT NOT NULL|uuid TEXT NOT NULL",
-    **dict.fromkeys(ENDS, "base_id INTEGER NOT NULL|related_id INTEGER NOT NULL"),
+    "sheet_tile_identity": "id INTEGER PRIMARY KEY AUTOINCREMENT|geom POLYGON|uuid TEXT NOT NULL|zoom_level INTEGER NOT NULL"
+    "|tile_column INTEGER NOT NULL|tile_row INTEGER NOT NULL",
+    "sheet_media": "id INTEGER PRIMARY KEY AUTOINCREMENT|data BLOB NOT NULL|content_type TEXT NOT NULL DEFAULT 'image/jpeg'|uuid TEXT",
+    "sheet_rows": "id INTEGER PRIMARY KEY AUTOINCREMENT|geom POINT|code INTEGER NOT NULL DEFAULT 0|label TEXT DEFAULT ''|uuid TEXT",
+    **dict.fromkeys(ENDS, "id INTEGER PRIMARY KEY AUTOINCREMENT|base_id INTEGER NOT NULL|related_id INTEGER NOT NULL"),
+    "sheet_export": "package TEXT NOT NULL|ticket INTEGER NOT NULL",
+    "layer_styles": "id INTEGER PRIMARY KEY AUTOINCREMENT|f_table_catalog TEXT|f_table_schema TEXT|f_table_name TEXT"
+    "|f_geometry_column TEXT|styleName TEXT|styleQML TEXT|styleSLD TEXT|useAsDefault BOOLEAN|description TEXT|owner TEXT|ui TEXT"
+    "|update_time DATETIME DEFAULT (strftime('%Y-%m-%dT%H:%M:%fZ','now'))",
 }
 WGS_84 = (
     'GEOGCS["WGS 84",DATUM["WGS_1984",SPHEROID["WGS 84",6378137,298.257223563,AUTHORITY["EPSG","7030"]],AUTHORITY["EPSG","6326"]],'
@@ -75,15 +81,25 @@ def point(srs, x, y):
     return b"GP\0\1" + struct.pack("<i", srs) + struct.pack("<BIdd", 1, 1, int(x) / 1000, int(y) / 1000)
 
 
+def outline(frame, tile):
+    """GeoPackage binary of the ground of a tile: a polygon of one ring, from its south-west corner eastwards."""
+    ground = frame.ground(*place_of(tile))
+    west, south, east, north = (int(bound) / 1000 for bound in (ground.west, ground.south, ground.east, ground.north))
+    ring = [(west, south), (east, south), (east, north), (west, north), (west, south)]
+    return b"GP\0\1" + struct.pack("<i", frame.srs) + struct.pack("<BIII", 1, 3, 1, len(ring)) + b"".join(struct.pack("<dd", *corner) for corner in ring)
+
+
 def fixed_rows(frame, package):
     bounds = [Units(bound) for bound in (frame.min_x, frame.min_y, frame.max_x, frame.max_y)]
     own = [] if frame.srs in (-1, 0, 4326) else [(f"EPSG:{frame.srs}", frame.srs, "EPSG", frame.srs, "undefined", None)]
     yield from (insert("gpkg_spatial_ref_sys", *row) for row in SYSTEMS + own)
     columns = "table_name,data_type,identifier,description,min_x,min_y,max_x,max_y,srs_id"
     ground = {"tiles": [*bounds, frame.srs], "features": [*bounds, frame.srs], "attributes": [None] * 5}
-    for table, kind in [("sheet_tiles", "tiles"), ("sheet_rows", "features"), ("sheet_media", "attributes"), ("sheet_tile_identity", "attributes")]:
+    layers = [("sheet_tiles", "tiles"), ("sheet_rows", "features"), ("sheet_tile_identity", "features")]
+    for table, kind in layers + [(table, "attributes") for table in ("sheet_media", *ENDS, "layer_styles")]:
         yield insert(f"gpkg_contents ({columns})", table, kind, table, f"package {package}", *ground[kind])
     yield insert("gpkg_geometry_columns", "sheet_rows", "geom", "POINT", frame.srs, 0, 0)
+    yield insert("gpkg_geometry_columns", "sheet_tile_identity", "geom", "POLYGON", frame.srs, 0, 0)
     yield insert("gpkg_tile_matrix_set", "sheet_tiles", frame.srs, *bounds)
     for zoom in range(frame.first_zoom, frame.first_zoom + frame.levels):
         across, down = frame.matrix(zoom)
@@ -93,17 +109,20 @@ def fixed_rows(frame, package):
     for table in ["gpkgext_relations", *ENDS]:
         yield insert("gpkg_extensions", table, None, "gpkg_related_tables", "http://www.geopackage.org/18-000.html", "read-write")
     yield from (insert("gpkgext_relations", *row) for row in RELATIONS)
+    columns = "f_table_catalog,f_table_schema,f_table_name,f_geometry_column,styleName,styleQML,useAsDefault"
+    yield from (insert(f"layer_styles ({columns})", "", "", table, geometry, table, style, 1) for table, geometry, style in styles.rows())
 
 
 def item_rows(frame, number, identity, item):
     if item["kind"] == "tile":
-        return insert("sheet_tiles", number, *place_of(item), item["data"]) + insert("sheet_tile_identity", number, identity)
+        tile = insert("sheet_tiles", number, *place_of(item), item["data"])
+        return tile + insert("sheet_tile_identity", number, outline(frame, item), identity, *place_of(item))
     if item["kind"] == "media":
         return insert("sheet_media", number, item["data"], item["text"], identity)
     return insert("sheet_rows", number, point(frame.srs, item["x"], item["y"]), item["code"], item["text"], identity)
 
 
-def export(frame, package):
+def export(frame, package, ticket):
     """A transaction. Items are numbered from 1 within their kind, in the order of their identities, as links name them."""
     numbers = {}
     for kind in ("tile", "media", "row"):
@@ -115,7 +134,8 @@ def export(frame, package):
         "BEGIN;\nPRAGMA application_id = 1196444487;\nPRAGMA user_version = 10300;\n",
         *(f"CREATE TABLE {table} ({','.join(columns.split('|'))});\n" for table, columns in TABLES.items()),
         *fixed_rows(frame, package.uuid),
+        insert("sheet_export", package.uuid, ticket),
         *(item_rows(frame, numbers[identity], identity, item) for identity, item in items),
-        *(insert(mapping, numbers[base], numbers[other]) for mapping, base, other in links),
+        *(insert(f"{mapping} (base_id,related_id)", numbers[base], numbers[other]) for mapping, base, other in links),
         "COMMIT;\n",
     ])

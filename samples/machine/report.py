@@ -187,8 +187,9 @@ class Page:
         return min(3, self.world.packages[uuid].depth)
 
     def held(self, kind):
-        """All items of a kind with their packages: package by package, each in the order of its manifest."""
-        return [(p.uuid, each, p.items[each]) for p in self.packages for each in self.items(p) if p.items[each]["kind"] == kind]
+        """All items of a kind with their packages: lenders before their loans, each in the order of its manifest."""
+        packages = sorted(self.packages, key=lambda p: (p.depth, p.uuid))
+        return [(p.uuid, each, p.items[each]) for p in packages for each in self.items(p) if p.items[each]["kind"] == kind]
 
     def sheet(self, level, package, identity, item):
         x, y, width, height = level.box(item["column"], item["row"], self.layer(package))

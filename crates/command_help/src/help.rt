@@ -117,6 +117,12 @@ pub const LOG_ABOUT: &str = "Prints the ledger, a line for each receipt";
 /// What `get` is for.
 pub const GET_ABOUT: &str = "Prints the bytes of a tile or a medium, or the label of a mark";
 
+/// What `completions` is for.
+pub const COMPLETIONS_ABOUT: &str = "Prints what a shell needs to complete the words of sheetdesk";
+
+/// What `completions bash` is for.
+pub const BASH_ABOUT: &str = "For bash: eval \"$(sheetdesk completions bash)\"";
+
 /// What `explain` is for.
 pub const EXPLAIN_ABOUT: &str = "Prints the whole way of an item, from receipt to receipt";
 
@@ -125,6 +131,28 @@ pub const RECEIPT_ABOUT: &str = "Prints the receipt of a request, as JSON";
 
 /// What `export` is for.
 pub const EXPORT_ABOUT: &str = "Prints a package as SQL that makes a GeoPackage with true units";
+
+/// What `holds` is for.
+pub const HOLDS_ABOUT: &str = "Prints SQL by which sqlite3 lists what an edited file holds";
+
+/// After the words of `holds`.
+pub const HOLDS_WORDS: &str =
+    "Standard output is a text for stock `sqlite3`, which lists what a GeoPackage holds, as CSV: a record for
+each tile, medium, point and link, and a last one that counts them. Without options it is always the same,
+and reads a file that `export` made and another program edited:
+  sheetdesk export maps a0000000-0000-4000-8000-000000000000 | sqlite3 crew.gpkg
+  sheetdesk holds | sqlite3 crew.gpkg > holds.csv
+With options it reads tables of another program's file: a pyramid of tiles, or points, or both. The first
+part is a record `frame`, whose text is the FRAME for `init`, or `bad` with a word that says why there is none.
+  sheetdesk holds --tiles scans --points marks --geometry geom --code number --label name \\
+    | sqlite3 other.gpkg > holds.csv
+Only names of tables and columns are taken from the words; they stand in the text between quotation marks.
+Close the program that edits a file before it is listed: what it has not saved is not there.
+
+Exit status:
+  0  the text was printed
+  2  the command line is no use of the program
+  3  memory or standard output gave out";
 
 /// What `map` is for.
 pub const MAP_ABOUT: &str = "Prints a drawing of who holds which sheets, as SVG";
@@ -179,6 +207,7 @@ A first session, from the archive on:
   sheetdesk receipt maps 90000000-0000-4000-8000-000000000001
   sheetdesk manifest maps a0000000-0000-4000-8000-000000000000
   sheetdesk export maps a0000000-0000-4000-8000-000000000000 | sqlite3 true.gpkg
+  sheetdesk holds | sqlite3 true.gpkg > holds.csv
   sheetdesk map maps > maps.svg
   sheetdesk audit maps
   sheetdesk serve maps 8080

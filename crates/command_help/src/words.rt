@@ -1,8 +1,9 @@
 //! Which words the command line has.
 use crate::help::{
-    ABOUT, APPLY_ABOUT, AUDIT_ABOUT, EXPLAIN_ABOUT, EXPORT_ABOUT, FOLDER_WORDS, GET_ABOUT,
-    IMPORT_ABOUT, INIT_ABOUT, LOG_ABOUT, MANIFEST_ABOUT, MAP_ABOUT, RECEIPT_ABOUT, REHEARSE_ABOUT,
-    REHEARSE_WORDS, SERVE_ABOUT, SESSION_ABOUT, SESSION_WORDS, STATUS_ABOUT, TIDY_ABOUT, WORDS,
+    ABOUT, APPLY_ABOUT, AUDIT_ABOUT, BASH_ABOUT, COMPLETIONS_ABOUT, EXPLAIN_ABOUT, EXPORT_ABOUT,
+    FOLDER_WORDS, GET_ABOUT, HOLDS_ABOUT, HOLDS_WORDS, IMPORT_ABOUT, INIT_ABOUT, LOG_ABOUT,
+    MANIFEST_ABOUT, MAP_ABOUT, RECEIPT_ABOUT, REHEARSE_ABOUT, REHEARSE_WORDS, SERVE_ABOUT,
+    SESSION_ABOUT, SESSION_WORDS, STATUS_ABOUT, TIDY_ABOUT, WORDS,
 };
 use crate::verbs::{join_command, lend_command, part_command, put_command, return_command};
 use clap::{Arg, ArgAction, Command};
@@ -200,6 +201,44 @@ fn receipt_command<'a>(alloc: Global) -> Result<Command<'a>, AllocError> {
     ))
 }
 
+/// A command with the options that name the points of a file. Table, codes and labels want each other.
+fn naming_points<'a>(alloc: Global, command: Command<'a>) -> Result<Command<'a>, AllocError> {
+    let points = option(alloc, "points", "TABLE", "Its table of points, as marks");
+    let geometry = option(
+        alloc,
+        "geometry",
+        "COLUMN",
+        "Its column of geometries, as geom",
+    );
+    let code = option(alloc, "code", "COLUMN", "Its column of codes, as number");
+    let label = option(alloc, "label", "COLUMN", "Its column of labels, as name");
+    command
+        .arg(
+            points
+                .required(false)
+                .requires_arg("code")?
+                .requires_arg("label")?,
+        )?
+        .arg(geometry.required(false).requires_arg("points")?)?
+        .arg(code.required(false).requires_arg("points")?)?
+        .arg(label.required(false).requires_arg("points")?)
+}
+
+/// Prints the SQL that lists what a file holds.
+fn holds_command<'a>(alloc: Global) -> Result<Command<'a>, AllocError> {
+    let tiles = option(
+        alloc,
+        "tiles",
+        "TABLE",
+        "The pyramid of tiles of another program's file, as scans",
+    );
+    let command = Command::new(alloc, "holds")
+        .about(HOLDS_ABOUT)
+        .after_help(HOLDS_WORDS)
+        .arg(tiles.required(false))?;
+    naming_points(alloc, command)
+}
+
 /// Draws who holds which sheets.
 fn map_command<'a>(alloc: Global) -> Result<Command<'a>, AllocError> {
     let zoom = option(
@@ -262,6 +301,14 @@ fn session_command<'a>(alloc: Global) -> Result<Command<'a>, AllocError> {
         ))
 }
 
+/// Prints what a shell needs to complete words.
+fn completions_command<'a>(alloc: Global) -> Result<Command<'a>, AllocError> {
+    Command::new(alloc, "completions")
+        .about(COMPLETIONS_ABOUT)
+        .subcommand_required(true)
+        .subcommand(Command::new(alloc, "bash").about(BASH_ABOUT))
+}
+
 /// The command line of the program.
 pub fn sheetdesk<'a>(alloc: Global) -> Result<Command<'a>, AllocError> {
     Command::new(alloc, "sheetdesk")
@@ -283,10 +330,12 @@ pub fn sheetdesk<'a>(alloc: Global) -> Result<Command<'a>, AllocError> {
         .subcommand(receipt_command(alloc)?)?
         .subcommand(over_package(alloc, "manifest", MANIFEST_ABOUT)?)?
         .subcommand(over_package(alloc, "export", EXPORT_ABOUT)?)?
+        .subcommand(holds_command(alloc)?)?
         .subcommand(map_command(alloc)?)?
         .subcommand(audit_command(alloc)?)?
         .subcommand(serve_command(alloc)?)?
         .subcommand(tidy_command(alloc)?)?
         .subcommand(rehearse_command(alloc)?)?
-        .subcommand(session_command(alloc)?)
+        .subcommand(session_command(alloc)?)?
+        .subcommand(completions_command(alloc)?)
 }

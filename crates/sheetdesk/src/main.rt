@@ -2,6 +2,7 @@
 #![tactic(auto)]
 
 mod clock;
+mod field;
 mod founding;
 mod ordering;
 mod running;

@@ -1,4 +1,5 @@
 //! A command, carried out: what it asks for is done in `cli`, `commands` and `views`.
+use crate::field::listed;
 use crate::founding::founded;
 use crate::ordering::{is_verb, ordered};
 use crate::showing::shown;
@@ -8,6 +9,7 @@ use clap::{ArgMatches, Error};
 use cli::rehearse::rehearse;
 use cli::serving::rehearse_and_serve;
 use command_folder::endings::{Ending, FAILED, NO_MEMORY, error_of, note_of, output_of, status_of};
+use command_help::completions::BASH;
 use command_help::words::sheetdesk;
 use command_words::arguments::{DeskWords, Words};
 use command_words::statuses::Outcome;
@@ -36,8 +38,17 @@ fn print_note(rt: &HostRuntime, note: Result<String, AllocError>) {
 }
 
 /// Prints a text on standard output, and answers whether it went out.
-fn is_printed(rt: &HostRuntime, text: &str) -> bool {
+pub(crate) fn is_printed(rt: &HostRuntime, text: &str) -> bool {
     print!(rt; "{text}").is_ok()
+}
+
+/// Prints a text that no folder has a part in, and answers the exit status.
+fn printed(rt: &HostRuntime, text: &str) -> u8 {
+    if is_printed(rt, text) {
+        0
+    } else {
+        output_failed(rt)
+    }
 }
 
 /// Says that standard output failed, and answers the exit status.
@@ -186,6 +197,12 @@ pub(crate) fn carried_out(
     given: &ArgMatches<'_>,
     reader: &mut Input<'_>,
 ) -> u8 {
+    if name == "holds" {
+        return listed(rt, given);
+    }
+    if name == "completions" {
+        return printed(rt, BASH);
+    }
     if let Some(asked) = asked_look(name, given) {
         return looked(
             rt,

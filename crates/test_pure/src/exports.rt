@@ -53,9 +53,16 @@ fn tell_item(
     told: &mut Told,
 ) -> Result<(), OutOfMemory> {
     let content = &given.content;
-    match number {
-        Some(number) => told.value(&item_rows(alloc, 25832, number, given)?),
-        None => told.value(&Counts::none().counted(content).of_kind(content)),
+    match (number, read_frame(FRAME)) {
+        (Some(number), Some(frame)) => {
+            if frame.check().is_err() {
+                told.unread("no frame");
+            } else {
+                told.value(&item_rows(alloc, &frame, number, given)?);
+            }
+        }
+        (Some(_), None) => told.unread("frame"),
+        (None, _) => told.value(&Counts::none().counted(content).of_kind(content)),
     }
     Ok(())
 }
@@ -101,7 +108,7 @@ fn tell_frame(
     } else if asks == "matrices" {
         told.value(&matrices(alloc, frame)?);
     } else {
-        tell_opening(opening(alloc, frame, uuid(0, 10))?.as_str(), told);
+        tell_opening(opening(alloc, frame, uuid(0, 10), 7)?.as_str(), told);
     }
     Ok(())
 }
@@ -138,6 +145,9 @@ pub(crate) fn export_of(alloc: Global, question: &str, told: &mut Told) -> Resul
     Ok(())
 }
 
+// The frame of the items.
+const FRAME: &str = "25832,0,0,4096,4096,256,256,0,3,1,1";
+
 // What the opening of an export begins with, what it contains, and what it ends with.
 const FRONT: &str = "BEGIN;\nPRAGMA application_id = 1196444487;\nPRAGMA user_version = 10300;\n\
     CREATE TABLE gpkg_spatial_ref_sys (srs_name TEXT NOT NULL,srs_id INTEGER NOT NULL PRIMARY KEY,";
@@ -149,8 +159,7 @@ const CONTENTS: &str =
     "VALUES ('sheet_rows','features','sheet_rows','package 00000000-0000-4000-8000-00000000000a',\
     0.000,0.000,4.096,4.096,25832);\n";
 
-const BACK: &str =
-    "INSERT INTO gpkgext_relations VALUES (3,'sheet_rows','id','sheet_tiles','id','tiles','rows_tiles');\n";
+const BACK: &str = "INSERT INTO sheet_export VALUES ('00000000-0000-4000-8000-00000000000a',7);\n";
 
 const EXPORTS: Table = Table(
     27,
@@ -168,7 +177,11 @@ literal a\u{0}b => [CAST(X'610062' AS TEXT)]
 point 25832 500123456 -250 => [47500001e86400000101000000fca9f1d26d861e41000000000000d0bf]
 point -1 0 -1000000000000 => [47500001ffffffff010100000000000000000000000000000065cdcdc1]
 rows 1 tile => [INSERT INTO sheet_tiles VALUES (1,2,3,3,X'41');^\
-    INSERT INTO sheet_tile_identity VALUES (1,'00000000-0000-4000-8000-000000000001');^]
+    INSERT INTO sheet_tile_identity VALUES (1,X'\
+    47500001e864000001030000000100000005000000fa7e6abc749308400000000000000000fca9f1\
+    d24d6210400000000000000000fca9f1d24d621040fca9f1d24d62f03ffa7e6abc74930840fca9f1\
+    d24d62f03ffa7e6abc749308400000000000000000',\
+    '00000000-0000-4000-8000-000000000001',2,3,3);^]
 rows 12 media image/jpeg|JP => [INSERT INTO sheet_media VALUES \
     (12,X'4a50','image/jpeg','00000000-0000-4000-8000-000000000001');^]
 rows 2 row 7|gate => [INSERT INTO sheet_rows VALUES (2,\
@@ -180,7 +193,7 @@ number_of 3 => [1]
 number_of 4 => [1]
 number_of 6 => [0]
 count media image/jpeg|JP => [1]
-link => [INSERT INTO rows_tiles VALUES (1,2);^]
+link => [INSERT INTO rows_tiles (base_id,related_id) VALUES (1,2);^]
 matrices 25832,0,0,4096,4096,256,256,0,3,1,1 => [\
     INSERT INTO gpkg_tile_matrix VALUES ('sheet_tiles',0,1,1,256,256,0.016,0.016);^\
     INSERT INTO gpkg_tile_matrix VALUES ('sheet_tiles',1,2,2,256,256,0.008,0.008);^\

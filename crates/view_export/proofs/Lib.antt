@@ -1,4 +1,6 @@
 mod Doubles
 mod Noting
+mod Rings
+mod Systems
 mod Texts
 mod Written

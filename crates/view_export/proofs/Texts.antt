@@ -1,5 +1,5 @@
 -- Texts that are made in pieces.
-use Rattle.std.proofs.Common.{◌≡◌, ◌++◌, ℕ, ◌+◌, ℤ, pos, ◌+ℤ◌, List, ◌∙◌, ap, add-one, Result, Ok, Err}
+use Rattle.std.proofs.Common.{◌≡◌, ◌++◌, ℕ, ◌+◌, ℤ, pos, ◌+ℤ◌, List, ◌∙◌, ap, add-one, append_assoc, Result, Ok, Err}
 use Rattle.std.specs.Prelude.{IfOk, string_bytes}
 use Rattle.std.proofs.Common.{String, Global}
 use Rattle.sheet_types.specs.declared.frame.Frame.{Frame}
@@ -17,3 +17,7 @@ joined {a' = a'} {b = b} d e = ap (λ t. t ++ b) d ∙ ap (λ t. a' ++ t) e
 pub level_more : (f : Frame) (k : ℕ) (text row more : List ℕ) (zoom : ℤ) → text ≡ matrices f k → more ≡ text ++ row
     → row ≡ matrix f zoom → zoom ≡ f.first_zoom +ℤ pos k → more ≡ matrices f (k + 1)
 level_more f k text row more zoom so_far is made at = rw add-one (is ∙ joined so_far (made ∙ ap (matrix f) at))
+
+-- two pieces behind what was there
+pub put_behind : (old a b : List ℕ) {mid new : List ℕ} → mid ≡ old ++ a → new ≡ mid ++ b → new ≡ old ++ (a ++ b)
+put_behind old a b first second = second ∙ ap (λ t. t ++ b) first ∙ append_assoc old a b

@@ -67,19 +67,37 @@ contents_row name type p ends = insert
     (codes "gpkg_contents (table_name,data_type,identifier,description,min_x,min_y,max_x,max_y,srs_id)")
     (name ∷ type ∷ name ∷ (codes "'package " ++ (uuid_text p ++ codes "'")) ∷ ends ∷ [])
 
-abbrev pub contents : Frame → List ℕ → List ℕ
-contents f p =
+-- what is drawn on a map
+abbrev pub layers : Frame → List ℕ → List ℕ
+layers f p =
     contents_row (codes "'sheet_tiles'") (codes "'tiles'") p (bounds f)
     ++ (contents_row (codes "'sheet_rows'") (codes "'features'") p (bounds f)
-    ++ (contents_row (codes "'sheet_media'") (codes "'attributes'") p no_bounds
-    ++ contents_row (codes "'sheet_tile_identity'") (codes "'attributes'") p no_bounds))
+    ++ contents_row (codes "'sheet_tile_identity'") (codes "'features'") p (bounds f))
+
+-- A table without geometry. One that has no row here is not opened by QGIS.
+abbrev pub attributes_row : List ℕ → List ℕ → List ℕ
+attributes_row name p = contents_row name (codes "'attributes'") p no_bounds
+
+abbrev pub other_tables : List ℕ → List ℕ
+other_tables p =
+    attributes_row (codes "'sheet_media'") p ++ (attributes_row (codes "'tiles_media'") p
+    ++ (attributes_row (codes "'rows_media'") p ++ (attributes_row (codes "'rows_tiles'") p
+    ++ attributes_row (codes "'layer_styles'") p)))
+
+abbrev pub contents : Frame → List ℕ → List ℕ
+contents f p = layers f p ++ other_tables p
 
 -- ---- features and tiles
 
--- points without height and measure (2.1.5)
-abbrev pub geometry_column : ℤ → List ℕ
-geometry_column srs = insert (codes "gpkg_geometry_columns")
-    (codes "'sheet_rows'" ∷ codes "'geom'" ∷ codes "'POINT'" ∷ signed_decimal srs ∷ codes "0" ∷ codes "0" ∷ [])
+-- geometries of this type, without height and measure (2.1.5)
+abbrev pub geometry_column : List ℕ → List ℕ → ℤ → List ℕ
+geometry_column name type srs = insert (codes "gpkg_geometry_columns")
+    (name ∷ codes "'geom'" ∷ type ∷ signed_decimal srs ∷ codes "0" ∷ codes "0" ∷ [])
+
+abbrev pub geometry_columns : ℤ → List ℕ
+geometry_columns srs =
+    geometry_column (codes "'sheet_rows'") (codes "'POINT'") srs
+    ++ geometry_column (codes "'sheet_tile_identity'") (codes "'POLYGON'") srs
 
 -- 2.2.6
 abbrev pub matrix_set : Frame → List ℕ
@@ -135,5 +153,5 @@ relations =
 
 abbrev pub fixed_rows : Frame → List ℕ → List ℕ
 fixed_rows f p =
-    reference_systems f.srs_id ++ (contents f p ++ (geometry_column f.srs_id ++ (matrix_set f
+    reference_systems f.srs_id ++ (contents f p ++ (geometry_columns f.srs_id ++ (matrix_set f
     ++ (matrices f (unsigned_abs f.levels) ++ (extensions ++ relations)))))

@@ -106,33 +106,65 @@ tiles_table = table (codes "sheet_tiles")
     ∷ codes "UNIQUE (zoom_level, tile_column, tile_row)"
     ∷ [])
 
--- attributes (2.4.2): the identity of the tile with the same number
+-- features (2.1.6): the outline, the identity and the place of the tile that had this number when it was exported
 abbrev pub tile_identity_table : List ℕ
 tile_identity_table = table (codes "sheet_tile_identity")
-    (codes "id INTEGER PRIMARY KEY AUTOINCREMENT" ∷ codes "uuid TEXT NOT NULL" ∷ [])
+    (codes "id INTEGER PRIMARY KEY AUTOINCREMENT"
+    ∷ codes "geom POLYGON"
+    ∷ codes "uuid TEXT NOT NULL"
+    ∷ codes "zoom_level INTEGER NOT NULL"
+    ∷ codes "tile_column INTEGER NOT NULL"
+    ∷ codes "tile_row INTEGER NOT NULL"
+    ∷ [])
 
--- media (OGC 18-000)
+-- media (OGC 18-000); what another program adds has no identity yet
 abbrev pub media_table : List ℕ
 media_table = table (codes "sheet_media")
     (codes "id INTEGER PRIMARY KEY AUTOINCREMENT"
     ∷ codes "data BLOB NOT NULL"
-    ∷ codes "content_type TEXT NOT NULL"
-    ∷ codes "uuid TEXT NOT NULL"
+    ∷ codes "content_type TEXT NOT NULL DEFAULT 'image/jpeg'"
+    ∷ codes "uuid TEXT"
     ∷ [])
 
--- features (2.1.6)
+-- features (2.1.6); what another program adds has no identity yet, and a label that is left empty may be none
 abbrev pub rows_table : List ℕ
 rows_table = table (codes "sheet_rows")
     (codes "id INTEGER PRIMARY KEY AUTOINCREMENT"
     ∷ codes "geom POINT"
-    ∷ codes "code INTEGER NOT NULL"
-    ∷ codes "label TEXT NOT NULL"
-    ∷ codes "uuid TEXT NOT NULL"
+    ∷ codes "code INTEGER NOT NULL DEFAULT 0"
+    ∷ codes "label TEXT DEFAULT ''"
+    ∷ codes "uuid TEXT"
     ∷ [])
 
--- a user-defined mapping table (OGC 18-000)
+-- a user-defined mapping table (OGC 18-000), with a key of its own, by which other programs change and delete a link
 abbrev pub mapping_table : List ℕ → List ℕ
-mapping_table name = table name (codes "base_id INTEGER NOT NULL" ∷ codes "related_id INTEGER NOT NULL" ∷ [])
+mapping_table name = table name
+    (codes "id INTEGER PRIMARY KEY AUTOINCREMENT"
+    ∷ codes "base_id INTEGER NOT NULL"
+    ∷ codes "related_id INTEGER NOT NULL"
+    ∷ [])
+
+-- which package it is, and the number of the last receipt of it. Profile
+abbrev pub export_table : List ℕ
+export_table = table (codes "sheet_export") (codes "package TEXT NOT NULL" ∷ codes "ticket INTEGER NOT NULL" ∷ [])
+
+-- how tables are drawn and edited, as QGIS reads it
+abbrev pub styles_table : List ℕ
+styles_table = table (codes "layer_styles")
+    (codes "id INTEGER PRIMARY KEY AUTOINCREMENT"
+    ∷ codes "f_table_catalog TEXT"
+    ∷ codes "f_table_schema TEXT"
+    ∷ codes "f_table_name TEXT"
+    ∷ codes "f_geometry_column TEXT"
+    ∷ codes "styleName TEXT"
+    ∷ codes "styleQML TEXT"
+    ∷ codes "styleSLD TEXT"
+    ∷ codes "useAsDefault BOOLEAN"
+    ∷ codes "description TEXT"
+    ∷ codes "owner TEXT"
+    ∷ codes "ui TEXT"
+    ∷ codes "update_time DATETIME DEFAULT (strftime('%Y-%m-%dT%H:%M:%fZ','now'))"
+    ∷ [])
 
 -- the tables that the standards name
 abbrev pub standard_tables : List ℕ
@@ -147,4 +179,4 @@ sheet_tables =
     ++ (mapping_table (codes "rows_media") ++ mapping_table (codes "rows_tiles"))))))
 
 abbrev pub schema : List ℕ
-schema = standard_tables ++ sheet_tables
+schema = standard_tables ++ (sheet_tables ++ (export_table ++ styles_table))

@@ -1,7 +1,7 @@
 //! The rows that say what the tables of an export are.
 ghost use Rattle.std.specs.Prelude.{◌≡◌, IfOk, IsTrue, string_bytes};
 ghost use Rattle.sheet_types.specs.Matrix.{is_good_frame};
-ghost use Rattle.view_export.specs.FixedRows.{bounds, contents, contents_row, extensions, fixed_rows, geometry_column, is_standard, matrix_set, numbered_system, own_system, reference_systems, relations, undefined_cartesian, undefined_geographic, wgs_84};
+ghost use Rattle.view_export.specs.FixedRows.{attributes_row, bounds, contents, contents_row, extensions, fixed_rows, geometry_column, geometry_columns, is_standard, layers, matrix_set, numbered_system, other_tables, own_system, reference_systems, relations, undefined_cartesian, undefined_geographic, wgs_84};
 
 use crate::literals::Thousandths;
 use crate::matrices::matrices;
@@ -96,33 +96,74 @@ fn contents_row(
     )
 }
 
+/// The tables that are drawn on a map.
+fn layers(alloc: Global, frame: &Frame, package: Uuid) -> Result<String, AllocError>
+    ensures { IfOk result (λ text. string_bytes text ≡ layers frame.now «package») }
+{
+    let ends = bounds(alloc, frame)?;
+    let ends = ends.as_str();
+    let tiles = contents_row(alloc, "'sheet_tiles'", "'tiles'", package, ends)?;
+    let rows = contents_row(alloc, "'sheet_rows'", "'features'", package, ends)?;
+    let outlines = contents_row(alloc, "'sheet_tile_identity'", "'features'", package, ends)?;
+    format!(in alloc; "{tiles}{rows}{outlines}")
+}
+
+/// A table without geometry, its name between apostrophes.
+fn attributes_row(alloc: Global, name: &str, package: Uuid) -> Result<String, AllocError>
+    ensures { IfOk result (λ text. string_bytes text ≡ attributes_row name.now «package») }
+{
+    contents_row(
+        alloc,
+        name,
+        "'attributes'",
+        package,
+        "NULL,NULL,NULL,NULL,NULL",
+    )
+}
+
+/// The tables without geometry. QGIS opens none that has no row here.
+fn other_tables(alloc: Global, package: Uuid) -> Result<String, AllocError>
+    ensures { IfOk result (λ text. string_bytes text ≡ other_tables «package») }
+{
+    let media = attributes_row(alloc, "'sheet_media'", package)?;
+    let tiles_media = attributes_row(alloc, "'tiles_media'", package)?;
+    let rows_media = attributes_row(alloc, "'rows_media'", package)?;
+    let rows_tiles = attributes_row(alloc, "'rows_tiles'", package)?;
+    let styles = attributes_row(alloc, "'layer_styles'", package)?;
+    format!(in alloc; "{media}{tiles_media}{rows_media}{rows_tiles}{styles}")
+}
+
 /// The tables that hold a package.
 fn contents(alloc: Global, frame: &Frame, package: Uuid) -> Result<String, AllocError>
     ensures { IfOk result (λ text. string_bytes text ≡ contents frame.now «package») }
 {
-    let ends = bounds(alloc, frame)?;
-    let none = "NULL,NULL,NULL,NULL,NULL";
-    let tiles = contents_row(alloc, "'sheet_tiles'", "'tiles'", package, ends.as_str())?;
-    let rows = contents_row(alloc, "'sheet_rows'", "'features'", package, ends.as_str())?;
-    let media = contents_row(alloc, "'sheet_media'", "'attributes'", package, none)?;
-    let identities = contents_row(
-        alloc,
-        "'sheet_tile_identity'",
-        "'attributes'",
-        package,
-        none,
-    )?;
-    format!(in alloc; "{tiles}{rows}{media}{identities}")
+    let layers = layers(alloc, frame, package)?;
+    let others = other_tables(alloc, package)?;
+    format!(in alloc; "{layers}{others}")
 }
 
-/// The geometries: points without height and measure (2.1.5).
-fn geometry_column(alloc: Global, frame: &Frame) -> Result<String, AllocError>
-    ensures { IfOk result (λ text. string_bytes text ≡ geometry_column frame.now.srs_id) }
+/// A column of geometries of this type without height and measure (2.1.5), the table and the type between apostrophes.
+fn geometry_column(
+    alloc: Global,
+    name: &str,
+    kind: &str,
+    frame: &Frame,
+) -> Result<String, AllocError>
+    ensures { IfOk result (λ text. string_bytes text ≡ geometry_column name.now kind.now frame.now.srs_id) }
 {
     let srs_id = frame.srs_id;
     format!(in alloc;
-        "INSERT INTO gpkg_geometry_columns VALUES ('sheet_rows','geom','POINT',{srs_id},0,0);\n"
+        "INSERT INTO gpkg_geometry_columns VALUES ({name},'geom',{kind},{srs_id},0,0);\n"
     )
+}
+
+/// The points of rows, and the outlines of tiles.
+fn geometry_columns(alloc: Global, frame: &Frame) -> Result<String, AllocError>
+    ensures { IfOk result (λ text. string_bytes text ≡ geometry_columns frame.now.srs_id) }
+{
+    let points = geometry_column(alloc, "'sheet_rows'", "'POINT'", frame)?;
+    let outlines = geometry_column(alloc, "'sheet_tile_identity'", "'POLYGON'", frame)?;
+    format!(in alloc; "{points}{outlines}")
 }
 
 /// The tile matrix set (2.2.6).
@@ -164,10 +205,10 @@ pub fn fixed_rows(alloc: Global, frame: &Frame, package: Uuid) -> Result<String,
 {
     let systems = reference_systems(alloc, frame)?;
     let contents = contents(alloc, frame, package)?;
-    let column = geometry_column(alloc, frame)?;
+    let columns = geometry_columns(alloc, frame)?;
     let set = matrix_set(alloc, frame)?;
     let matrices = matrices(alloc, frame)?;
     let extensions = extensions();
     let relations = relations();
-    format!(in alloc; "{systems}{contents}{column}{set}{matrices}{extensions}{relations}")
+    format!(in alloc; "{systems}{contents}{columns}{set}{matrices}{extensions}{relations}")
 }

@@ -10,3 +10,4 @@ pub mod numbers;
 pub mod opening;
 pub mod points;
 pub mod schema;
+pub mod styles;

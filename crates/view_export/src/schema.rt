@@ -1,6 +1,6 @@
 //! The tables of an export, with the columns that the standards give them.
 ghost use Rattle.std.specs.Prelude.{◌≡◌, IfOk, string_bytes};
-ghost use Rattle.view_export.specs.Schema.{contents_table, extensions_table, geometry_columns_table, mapping_table, matrix_set_table, matrix_table, media_table, reference_systems_table, relations_table, rows_table, schema, sheet_tables, standard_tables, tile_identity_table, tiles_table};
+ghost use Rattle.view_export.specs.Schema.{contents_table, export_table, extensions_table, geometry_columns_table, mapping_table, matrix_set_table, matrix_table, media_table, reference_systems_table, relations_table, rows_table, schema, sheet_tables, standard_tables, styles_table, tile_identity_table, tiles_table};
 
 use std::alloc::{AllocError, Global};
 
@@ -60,34 +60,48 @@ fn tiles_table() -> &'static str
     "CREATE TABLE sheet_tiles (id INTEGER PRIMARY KEY AUTOINCREMENT,zoom_level INTEGER NOT NULL,tile_column INTEGER NOT NULL,tile_row INTEGER NOT NULL,tile_data BLOB NOT NULL,UNIQUE (zoom_level, tile_column, tile_row));\n"
 }
 
-/// Attributes (2.4.2): the identity of the tile with the same number.
+/// Features (2.1.6): the outline, the identity and the place of the tile that had this number when it was exported.
 fn tile_identity_table() -> &'static str
     ensures { result.now ≡ tile_identity_table }
 {
-    "CREATE TABLE sheet_tile_identity (id INTEGER PRIMARY KEY AUTOINCREMENT,uuid TEXT NOT NULL);\n"
+    "CREATE TABLE sheet_tile_identity (id INTEGER PRIMARY KEY AUTOINCREMENT,geom POLYGON,uuid TEXT NOT NULL,zoom_level INTEGER NOT NULL,tile_column INTEGER NOT NULL,tile_row INTEGER NOT NULL);\n"
 }
 
-/// Media (OGC 18-000).
+/// Media (OGC 18-000). What another program adds has no identity yet.
 fn media_table() -> &'static str
     ensures { result.now ≡ media_table }
 {
-    "CREATE TABLE sheet_media (id INTEGER PRIMARY KEY AUTOINCREMENT,data BLOB NOT NULL,content_type TEXT NOT NULL,uuid TEXT NOT NULL);\n"
+    "CREATE TABLE sheet_media (id INTEGER PRIMARY KEY AUTOINCREMENT,data BLOB NOT NULL,content_type TEXT NOT NULL DEFAULT 'image/jpeg',uuid TEXT);\n"
 }
 
-/// Features (2.1.6).
+/// Features (2.1.6). What another program adds has no identity yet, and a label that a form leaves empty is NULL.
 fn rows_table() -> &'static str
     ensures { result.now ≡ rows_table }
 {
-    "CREATE TABLE sheet_rows (id INTEGER PRIMARY KEY AUTOINCREMENT,geom POINT,code INTEGER NOT NULL,label TEXT NOT NULL,uuid TEXT NOT NULL);\n"
+    "CREATE TABLE sheet_rows (id INTEGER PRIMARY KEY AUTOINCREMENT,geom POINT,code INTEGER NOT NULL DEFAULT 0,label TEXT DEFAULT '',uuid TEXT);\n"
 }
 
-/// A user-defined mapping table (OGC 18-000).
+/// A user-defined mapping table (OGC 18-000). Without a key of its own QGIS neither changes nor deletes a link.
 fn mapping_table(alloc: Global, name: &str) -> Result<String, AllocError>
     ensures { IfOk result (λ text. string_bytes text ≡ mapping_table name.now) }
 {
     format!(in alloc;
-        "CREATE TABLE {name} (base_id INTEGER NOT NULL,related_id INTEGER NOT NULL);\n"
+        "CREATE TABLE {name} (id INTEGER PRIMARY KEY AUTOINCREMENT,base_id INTEGER NOT NULL,related_id INTEGER NOT NULL);\n"
     )
+}
+
+/// Which package it is, and the number of the last receipt of it.
+fn export_table() -> &'static str
+    ensures { result.now ≡ export_table }
+{
+    "CREATE TABLE sheet_export (package TEXT NOT NULL,ticket INTEGER NOT NULL);\n"
+}
+
+/// How tables are drawn and edited, as QGIS reads it.
+fn styles_table() -> &'static str
+    ensures { result.now ≡ styles_table }
+{
+    "CREATE TABLE layer_styles (id INTEGER PRIMARY KEY AUTOINCREMENT,f_table_catalog TEXT,f_table_schema TEXT,f_table_name TEXT,f_geometry_column TEXT,styleName TEXT,styleQML TEXT,styleSLD TEXT,useAsDefault BOOLEAN,description TEXT,owner TEXT,ui TEXT,update_time DATETIME DEFAULT (strftime('%Y-%m-%dT%H:%M:%fZ','now')));\n"
 }
 
 /// The tables that the standards name.
@@ -128,5 +142,7 @@ pub fn schema(alloc: Global) -> Result<String, AllocError>
 {
     let standard = standard_tables(alloc)?;
     let sheets = sheet_tables(alloc)?;
-    format!(in alloc; "{standard}{sheets}")
+    let export = export_table();
+    let styles = styles_table();
+    format!(in alloc; "{standard}{sheets}{export}{styles}")
 }

@@ -3,6 +3,7 @@ use Rattle.std.proofs.Common.{◌≡◌, ◌∙◌, ℕ, List, Option, Some, unw
 use Rattle.std.specs.Bool.{then_some}
 use Rattle.std.specs.Io.KnownBytes.{Appends}
 use Rattle.sheet_types.specs.Answers.{holdings_answer}
+use Rattle.sheet_types.specs.Custody.{ticket}
 use Rattle.sheet_types.specs.World.{World, is_live, holdings}
 use Rattle.sheet_types.specs.declared.command.Item.{Item}
 use Rattle.sheet_types.specs.declared.command.Relation.{Relation}
@@ -22,10 +23,11 @@ is_held : (b : Bool) (held : List Item × List Relation) (items : List Item) (li
 is_held true held items links e = (refl, ap (λ o. (unwrap_or o held).0) e, ap (λ o. (unwrap_or o held).1) e)
 is_held false held items links e = absurd (cc)
 
-export_same : (w : World) (p : List ℕ) (f : Frame) (items : List Item) (links : List Relation) → f ≡ w.frame → items ≡ (holdings w p).items → links ≡ (holdings w p).links
-    → export_text f p items links ≡ export w p
-export_same w p f items links frame same_items same_links =
-    ap (λ f. export_text f p items links) frame ∙ ap (λ is. export_text w.frame p is links) same_items ∙ ap (λ ls. export_text w.frame p (holdings w p).items ls) same_links
+export_same : (w : World) (p : List ℕ) (f : Frame) (n : ℕ) (items : List Item) (links : List Relation) → f ≡ w.frame → n ≡ ticket w p → items ≡ (holdings w p).items → links ≡ (holdings w p).links
+    → export_text f p n items links ≡ export w p
+export_same w p f n items links frame number same_items same_links =
+    ap (λ f. export_text f p n items links) frame ∙ ap (λ k. export_text w.frame p k items links) number ∙ ap (λ is. export_text w.frame p (ticket w p) is links) same_items
+    ∙ ap (λ ls. export_text w.frame p (ticket w p) (holdings w p).items ls) same_links
 
 -- ---- what was written of it
 
@@ -37,17 +39,17 @@ live_written w p a b (Err (Failed fault)) live ok err of = err
 live_written w p a b (Err Unwritten) live ok err of = (live, err)
 
 -- the text of the holdings that were found
-pub found_written : (w : World) (p : List ℕ) (f : Frame) (items : List Item) (links : List Relation) (a b : Option (List ℕ)) (r : Result (Unit {0}) ManifestFault)
-    → f ≡ w.frame → Some (items, links) ≡ holdings_answer w p → OnOk r (Appends a b (export_text f p items links)) → OnErr r (WentOut a b (export_text f p items links))
-    → IsOfLive r → WritesExport w p a b r
-found_written w p f items links a b r frame found ok err of =
+pub found_written : (w : World) (p : List ℕ) (f : Frame) (n : ℕ) (items : List Item) (links : List Relation) (a b : Option (List ℕ)) (r : Result (Unit {0}) ManifestFault)
+    → f ≡ w.frame → (is_live w p ≡ true → n ≡ ticket w p) → Some (items, links) ≡ holdings_answer w p
+    → OnOk r (Appends a b (export_text f p n items links)) → OnErr r (WentOut a b (export_text f p n items links)) → IsOfLive r → WritesExport w p a b r
+found_written w p f n items links a b r frame number found ok err of =
     let held = is_held (is_live w p) ((holdings w p).items, (holdings w p).links) items links found in
-    let same = export_same w p f items links frame held.1 held.2 in
+    let same = export_same w p f n items links frame (number held.0) held.1 held.2 in
     live_written w p a b r held.0 (subst (λ t. OnOk r (Appends a b t)) same ok) (subst (λ t. OnErr r (WentOut a b t)) same err) of
 
 pub none_written : (w : World) (p : List ℕ) (a : Option (List ℕ)) → WentOut a a (export w p)
 none_written w p a =
-    none_sent (opening w.frame p) (items_behind w.frame.srs_id no_counts (holdings w p).items) (flat_map (link_row (holdings w p).items) (holdings w p).links) a
+    none_sent (opening w.frame p (ticket w p)) (items_behind w.frame no_counts (holdings w p).items) (flat_map (link_row (holdings w p).items) (holdings w p).links) a
 
 -- a package of which nothing was written since memory or a store gave out
 abbrev pub HasFailed : Result (Unit {0}) ManifestFault → Type 0

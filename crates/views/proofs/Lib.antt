@@ -5,7 +5,7 @@ mod Gathered
 mod Named
 mod Printed
 mod Rows
-mod Systems
+mod Tickets
 pub mod ToldTexts
 mod Untouched
 mod ZoomWords

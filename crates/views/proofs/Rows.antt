@@ -1,11 +1,12 @@
 -- Rows of items, and of links, part after part.
-use Rattle.std.specs.Prelude.{◌≡◌, ◌<◌, ◌≤◌, ◌+◌, ◌++◌, ℕ, List, [], ◌∷◌, ℤ, length, take, drop, flat_map, refl}
+use Rattle.std.specs.Prelude.{◌≡◌, ◌<◌, ◌≤◌, ◌+◌, ◌++◌, ℕ, List, [], ◌∷◌, length, take, drop, flat_map, refl}
 use Rattle.std.proofs.Common.{ap, arith, sym, ◌∙◌, get_or, append_assoc, append-nil, take-append-drop}
 use Rattle.std.proofs.lemmas.Grind.{flat_map-append}
 use Rattle.sheet_types.specs.declared.command.Content.{Content}
 use Rattle.sheet_types.specs.declared.command.Content.TheVariants.{Tile, Media, Row}
 use Rattle.sheet_types.specs.declared.command.Item.{Item}
 use Rattle.sheet_types.specs.declared.command.Relation.{Relation}
+use Rattle.sheet_types.specs.declared.frame.Frame.{Frame}
 use Rattle.view_export.specs.Exports.{item_rows, items_behind, link_row}
 use Rattle.view_export.specs.Numbers.{counted, next_number, no_counts}
 use Rattle.view_export.specs.declared.numbers.Counts.{Counts}
@@ -21,11 +22,11 @@ counts_more c [] item = refl
 counts_more c (first ∷ items) item = counts_more (counted c first.content) items item
 
 -- the rows of two parts
-items_parts : (srs : ℤ) (c : Counts) (front back : List Item) → items_behind srs c (front ++ back) ≡ items_behind srs c front ++ items_behind srs (counts_behind c front) back
-items_parts srs c [] back = refl
-items_parts srs c (first ∷ front) back =
-    ap (λ rows. item_rows srs (next_number c first.content) first ++ rows) (items_parts srs (counted c first.content) front back)
-    ∙ sym (append_assoc (item_rows srs (next_number c first.content) first) (items_behind srs (counted c first.content) front) (items_behind srs (counts_behind (counted c first.content) front) back))
+items_parts : (f : Frame) (c : Counts) (front back : List Item) → items_behind f c (front ++ back) ≡ items_behind f c front ++ items_behind f (counts_behind c front) back
+items_parts f c [] back = refl
+items_parts f c (first ∷ front) back =
+    ap (λ rows. item_rows f (next_number c first.content) first ++ rows) (items_parts f (counted c first.content) front back)
+    ∙ sym (append_assoc (item_rows f (next_number c first.content) first) (items_behind f (counted c first.content) front) (items_behind f (counts_behind (counted c first.content) front) back))
 
 -- ---- items so far
 
@@ -34,13 +35,13 @@ pub counted_more : (items : List Item) (i : ℕ) (item : Item) (c : Counts) → 
 counted_more items i item c lt is so_far =
     ap (λ k. counted k item.content) so_far ∙ sym (counts_more no_counts (take i items) item) ∙ ap (counts_behind no_counts) (sym (one_more items i item lt is))
 
-pub items_more : (srs : ℤ) (items : List Item) (i : ℕ) (item : Item) (c : Counts) → i < length items → item ≡ get_or items i item → c ≡ counts_behind no_counts (take i items)
-    → items_behind srs no_counts (take (i + 1) items) ≡ items_behind srs no_counts (take i items) ++ item_rows srs (next_number c item.content) item
-items_more srs items i item c lt is so_far =
-    ap (items_behind srs no_counts) (one_more items i item lt is)
-    ∙ items_parts srs no_counts (take i items) (item ∷ [])
-    ∙ ap (λ rows. items_behind srs no_counts (take i items) ++ rows) (append-nil (item_rows srs (next_number (counts_behind no_counts (take i items)) item.content) item))
-    ∙ ap (λ k. items_behind srs no_counts (take i items) ++ item_rows srs (next_number k item.content) item) (sym so_far)
+pub items_more : (f : Frame) (items : List Item) (i : ℕ) (item : Item) (c : Counts) → i < length items → item ≡ get_or items i item → c ≡ counts_behind no_counts (take i items)
+    → items_behind f no_counts (take (i + 1) items) ≡ items_behind f no_counts (take i items) ++ item_rows f (next_number c item.content) item
+items_more f items i item c lt is so_far =
+    ap (items_behind f no_counts) (one_more items i item lt is)
+    ∙ items_parts f no_counts (take i items) (item ∷ [])
+    ∙ ap (λ rows. items_behind f no_counts (take i items) ++ rows) (append-nil (item_rows f (next_number (counts_behind no_counts (take i items)) item.content) item))
+    ∙ ap (λ k. items_behind f no_counts (take i items) ++ item_rows f (next_number k item.content) item) (sym so_far)
 
 -- none of the counts is past the number of items
 pub counted_within : (c : Counts) (content : Content) (n : ℕ) → c.tiles ≤ n → c.media ≤ n → c.rows ≤ n
@@ -50,12 +51,12 @@ counted_within c (Media content_type bytes) n tiles media rows = (omega (arith, 
 counted_within c (Row x y code label) n tiles media rows = (omega (arith, tiles), omega (arith, media), omega (arith, rows))
 
 -- the rows of those to come
-abbrev pub items_left : ℤ → List Item → ℕ → List ℕ
-items_left srs items i = items_behind srs (counts_behind no_counts (take i items)) (drop i items)
+abbrev pub items_left : Frame → List Item → ℕ → List ℕ
+items_left f items i = items_behind f (counts_behind no_counts (take i items)) (drop i items)
 
-pub items_split : (srs : ℤ) (items : List Item) (i : ℕ) → items_behind srs no_counts items ≡ items_behind srs no_counts (take i items) ++ items_left srs items i
-items_split srs items i =
-    ap (items_behind srs no_counts) (sym (take-append-drop i items)) ∙ items_parts srs no_counts (take i items) (drop i items)
+pub items_split : (f : Frame) (items : List Item) (i : ℕ) → items_behind f no_counts items ≡ items_behind f no_counts (take i items) ++ items_left f items i
+items_split f items i =
+    ap (items_behind f no_counts) (sym (take-append-drop i items)) ∙ items_parts f no_counts (take i items) (drop i items)
 
 -- ---- links so far
 

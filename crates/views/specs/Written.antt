@@ -2,6 +2,7 @@
 use Rattle.std.specs.Prelude.{◌≡◌, ◌≤◌, ℕ, true, false, List, length, take, Option, Result, Ok, Err}
 use Rattle.std.specs.Io.KnownBytes.{Appends}
 use Rattle.sqlite.specs.Store.{Ghosts}
+use Rattle.sheet_types.specs.Custody.{ticket}
 use Rattle.sheet_types.specs.World.{World, is_live, holdings}
 use Rattle.world_members.specs.Members.{AllClean}
 use Rattle.world.specs.Worlds.{Seen, StandsFor}
@@ -14,9 +15,9 @@ use Rattle.view_export.specs.Exports.{export_text}
 abbrev pub Began : Option (List ℕ) → Option (List ℕ) → List ℕ → Type 0
 Began old new text = (n : ℕ) × (n ≤ length text) × Appends old new (take n text)
 
--- the SQL of a package: of its items, and then of its links
+-- the SQL of a package and its ticket: of its items, and then of its links
 abbrev pub export : World → List ℕ → List ℕ
-export w p = export_text w.frame p (holdings w p).items (holdings w p).links
+export w p = export_text w.frame p (ticket w p) (holdings w p).items (holdings w p).links
 
 -- A live package's SQL is written whole, or a beginning of it where memory, a store or the writer gave out.
 abbrev pub WritesExport : World → List ℕ → Option (List ℕ) → Option (List ℕ) → Result (Unit {0}) ManifestFault → Type 0

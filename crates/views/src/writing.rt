@@ -1,12 +1,16 @@
 //! The SQL of a live package of a world, a row at a time.
-ghost use Rattle.std.specs.Prelude.{◌≡◌, IsTrue, List, OnErr, OnOk, flat_map};
+ghost use Rattle.std.specs.Prelude.{◌≡◌, true, IfOk, IsTrue, List, OnErr, OnOk, flat_map};
+ghost use Rattle.std.specs.Option.{option_map};
+ghost use Rattle.sheet_types.specs.Custody.{ticket};
 ghost use Rattle.sheet_types.specs.Matrix.{is_good_frame};
+ghost use Rattle.sheet_types.specs.Ordered.{entry};
+ghost use Rattle.sheet_types.specs.World.{World as ModelWorld, is_live};
 ghost use Rattle.sheet_types.specs.declared.command.Item.{Item as ModelItem};
 ghost use Rattle.std.specs.Io.KnownBytes.{Appends};
-ghost use Rattle.world.specs.Worlds.{IsRead};
+ghost use Rattle.world.specs.declared.reading.PackageSight.{PackageSight as ListedSight};
+ghost use Rattle.world.specs.Worlds.{IsRead, StandsFor};
 ghost use Rattle.view_export.specs.Exports.{export_text, items_behind, link_row};
 ghost use Rattle.view_export.specs.Numbers.{AreNumbersOf, no_counts};
-ghost use Rattle.view_export.specs.Points.{FitsHeader};
 ghost use Rattle.manifest_csv.specs.Sent.{WentOut};
 ghost use Rattle.views.specs.Written.{Began, IsExport, IsOfLive, LeavesUnknown};
 
@@ -24,24 +28,25 @@ use uuid::Uuid;
 use view_export::lines::{item_rows, link_row};
 use view_export::numbers::{Counts, numbers_of};
 use view_export::opening::{closing, opening};
+use world::reading::PackageSight;
 use world::world::World;
 
 /// Writes the rows of items, each under the next number of its kind.
 fn send_items<W: Write>(
     alloc: Global,
-    srs_id: i64,
+    frame: &Frame,
     items: &[Item],
     writer: &mut W,
 ) -> Result<(), ManifestFault>
-    requires { FitsHeader srs_id }
-    ensures ok { OnOk result (Appends (W.contents writer.old) (W.contents writer.new) (items_behind srs_id no_counts items.now)) }
-    ensures err { OnErr result (Began (W.contents writer.old) (W.contents writer.new) (items_behind srs_id no_counts items.now)) }
+    requires { IsTrue (is_good_frame frame.now) }
+    ensures ok { OnOk result (Appends (W.contents writer.old) (W.contents writer.new) (items_behind frame.now no_counts items.now)) }
+    ensures err { OnErr result (Began (W.contents writer.old) (W.contents writer.new) (items_behind frame.now no_counts items.now)) }
     ensures live { IsOfLive result }
 {
     let mut counts = Counts::none();
     for item in items {
         counts = counts.counted(&item.content);
-        let rows = item_rows(alloc, srs_id, counts.of_kind(&item.content), item)?;
+        let rows = item_rows(alloc, frame, counts.of_kind(&item.content), item)?;
         send(writer, rows.as_bytes())?;
     }
     Ok(())
@@ -67,7 +72,7 @@ fn send_links<W: Write>(
     Ok(())
 }
 
-/// Writes a package of this frame that holds these items and links.
+/// Writes a package of this frame and ticket that holds these items and links.
 ///
 /// # Errors
 ///
@@ -76,22 +81,42 @@ pub fn send_export<W: Write>(
     alloc: Global,
     frame: &Frame,
     package: Uuid,
+    ticket: u64,
     items: &[Item],
     links: &[Relation],
     writer: &mut W,
 ) -> Result<(), ManifestFault>
     requires { IsTrue (is_good_frame frame.now) }
-    ensures ok { OnOk result (Appends (W.contents writer.old) (W.contents writer.new) (export_text frame.now «package» items.now links.now)) }
-    ensures err { OnErr result (WentOut (W.contents writer.old) (W.contents writer.new) (export_text frame.now «package» items.now links.now)) }
+    ensures ok { OnOk result (Appends (W.contents writer.old) (W.contents writer.new) (export_text frame.now «package» ticket items.now links.now)) }
+    ensures err { OnErr result (WentOut (W.contents writer.old) (W.contents writer.new) (export_text frame.now «package» ticket items.now links.now)) }
     ensures live { IsOfLive result }
 {
     let numbers = numbers_of(alloc, items)?;
-    let head = opening(alloc, frame, package)?;
+    let head = opening(alloc, frame, package, ticket)?;
     send(writer, head.as_bytes())?;
-    send_items(alloc, frame.srs_id, items, writer)?;
+    send_items(alloc, frame, items, writer)?;
     send_links(alloc, &numbers, links, writer)?;
     send(writer, closing().as_bytes())?;
     Ok(())
+}
+
+/// What the list of packages says of one.
+fn sight_among(sights: &[PackageSight], package: Uuid) -> Option<&PackageSight>
+    ensures { option_map (λ s. s.now) result ≡ entry (λ (s : ListedSight). s.uuid) «package» sights.now }
+{
+    sights.iter().find(|sight| sight.uuid == package)
+}
+
+/// The number of the last receipt of a package that is live.
+fn ticket_of<S: Alter + Drop>(alloc: Global, world: &World<S>, package: Uuid) -> Result<u64, Fault>
+    ensures { IfOk result (λ number. (w : ModelWorld) → StandsFor S.Store world.now w
+        → is_live w «package» ≡ true → number ≡ ticket w «package») }
+{
+    let sights = world.packages(alloc)?;
+    match sight_among(sights.as_slice(), package) {
+        Some(sight) => Ok(sight.ticket),
+        None => Ok(0),
+    }
 }
 
 fn is_good(frame: &Frame) -> bool
@@ -119,6 +144,7 @@ pub fn write_export<S: Alter + Drop, W: Write>(
     let Some((items, links)) = world.holdings(alloc, package)? else {
         return Err(ManifestFault::Unknown);
     };
+    let ticket = ticket_of(alloc, world, package)?;
     // The frame of a world is good, and is asked for that here since no call says so.
     if !is_good(&frame) {
         return Err(ManifestFault::Failed(Fault::StoreFault));
@@ -127,6 +153,7 @@ pub fn write_export<S: Alter + Drop, W: Write>(
         alloc,
         &frame,
         package,
+        ticket,
         items.as_slice(),
         links.as_slice(),
         writer,

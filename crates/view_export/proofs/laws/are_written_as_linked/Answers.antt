@@ -3,4 +3,4 @@ use Rattle.view_export.proofs.Written.{written_behind}
 use Rattle.view_export.proofs.laws.are_written_as_linked.Goals as goal
 
 pub returns : goal.returns
-returns c = λ srs items apart. written_behind srs no_counts items apart
+returns c = λ f items apart. written_behind f no_counts items apart

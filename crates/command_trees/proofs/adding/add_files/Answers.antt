@@ -1,0 +1,31 @@
+-- One more file was added or passed over, or the files before it were.
+use Rattle.std.proofs.Common.{◌++◌, ◌∷◌, [], arith, refl}
+use Rattle.command_trees.proofs.Added.{added_all, added_next, stopped_at}
+use Rattle.command_trees.proofs.adding.add_files.Goals as goal
+
+pub loop-file-init : goal.loop-file-init
+loop-file-init g c = record { so_far = ([], refl, (refl, refl)); all = refl }
+
+pub loop-file-preserved : goal.loop-file-preserved
+loop-file-preserved g c =
+    let so_far = c.loop-file.invariant.so_far in
+    record {
+      so_far = (
+        so_far.0 ++ c.in-Ok.is_new ∷ [],
+        added_next g.S.Store c.args.target.now c.args.items.now c.args.files.now c.loop-file.file-index _ so_far.0 c.args.world.now c.loop-file.world c.add_file.new.world c.in-Ok.is_new
+        c.loop-file-test.true so_far.1 c.in-Ok.ensures,
+        c.counted-counts.ensures.each so_far.0 so_far.2,
+      );
+      all = omega (arith, c.counted-counts.ensures.one);
+    }
+
+pub returns : goal.returns
+returns g c =
+    let so_far = c.loop-file.invariant.so_far in
+    (so_far.0, added_all g.S.Store c.args.target.now c.args.items.now c.args.files.now c.loop-file.file-index so_far.0 c.args.world.now c.loop-file.world c.loop-file-test.false so_far.1, so_far.2)
+
+pub returns-in-Err : goal.returns-in-Err
+returns-in-Err g c =
+    let so_far = c.loop-file.invariant.so_far in
+    stopped_at g.S.Store c.args.target.now c.args.items.now c.args.files.now c.loop-file.file-index _ so_far.0 c.loop-file.counts c.args.world.now c.loop-file.world c.add_file.new.world c.in-Err.fault
+    c.loop-file-test.true so_far.1 so_far.2 c.in-Err.ensures

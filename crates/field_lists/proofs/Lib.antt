@@ -1,0 +1,5 @@
+mod EntryFacts
+mod ListFacts
+mod NoneFacts
+mod OneWord
+mod RecordFacts

@@ -1,0 +1,2 @@
+mod Doubled
+mod Texts

@@ -1,0 +1,4 @@
+pub mod Holds
+pub mod Naming
+pub mod Stock
+pub mod Laws

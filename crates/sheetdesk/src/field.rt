@@ -1,0 +1,40 @@
+//! The SQL that lists what an edited file holds. No folder is opened for it.
+use crate::running::{is_printed, out_of_memory, output_failed, text_of};
+use clap::ArgMatches;
+use field_sql::listing::{holds, stock_holds};
+use field_sql::stock::Points;
+use std::alloc::AllocError;
+
+/// The column of geometries where none is named, as most programs name it.
+const GEOMETRY: &str = "geom";
+
+/// Where the points of another program's file are, if any are named.
+fn points_given<'m>(given: &ArgMatches<'m>) -> Option<Points<'m>> {
+    let table = given.get_str("points")?;
+    Some(Points {
+        table,
+        geometry: given.get_str("geometry").unwrap_or(GEOMETRY),
+        code: text_of(given, "code"),
+        label: text_of(given, "label"),
+    })
+}
+
+/// The text for an export, or for the tables that are named.
+fn text_for(rt: &HostRuntime, given: &ArgMatches<'_>) -> Result<String, AllocError> {
+    let tiles = given.get_str("tiles");
+    let points = points_given(given);
+    if tiles.is_none() && points.is_none() {
+        holds(rt.alloc())
+    } else {
+        stock_holds(rt.alloc(), tiles, points.as_ref())
+    }
+}
+
+/// Prints the text, and answers the exit status.
+pub(crate) fn listed(rt: &HostRuntime, given: &ArgMatches<'_>) -> u8 {
+    match text_for(rt, given) {
+        Ok(text) if is_printed(rt, text.as_str()) => 0,
+        Ok(_) => output_failed(rt),
+        Err(_) => out_of_memory(rt),
+    }
+}

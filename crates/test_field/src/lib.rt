@@ -1,0 +1,5 @@
+//! Tests of what an edited file comes home as.
+#![tactic(auto)]
+
+#[cfg(test)]
+mod example;

@@ -1,0 +1,11 @@
+pub mod Escaping
+pub mod Registers
+pub mod Pieces
+pub mod Levels
+pub mod Drawing
+pub mod Patterns
+pub mod Holders
+pub mod Holdings
+pub mod Ledgers
+pub mod Accounts
+pub mod Pages

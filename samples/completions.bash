@@ -1,0 +1,51 @@
+# Completes the words of sheetdesk:  eval "$(sheetdesk completions bash)"
+_sheetdesk_verbs='init put lend return join part apply import status log get explain receipt manifest export holds map audit serve tidy rehearse session completions'
+
+# The options of a verb.
+_sheetdesk_options() {
+    case $1 in
+        init|rehearse) echo --archive --at --frame ;;
+        lend) echo --follow --as --at --request --dry-run ;;
+        return|join|part) echo --at --request --dry-run ;;
+        put) echo --type --as --at --request --dry-run ;;
+        log) echo --from --last ;;
+        holds) echo --tiles --points --geometry --code --label ;;
+        map) echo --zoom ;;
+        serve) echo --log ;;
+    esac
+    echo --help
+}
+
+# The packages of a folder, by the names of their files.
+_sheetdesk_packages() {
+    local file
+    for file in "$1"/*.gpkg; do
+        [ -e "$file" ] && basename "$file" .gpkg
+    done
+}
+
+# What may stand at a place behind the verb, counted from 2.
+_sheetdesk_words() {
+    local place=$1 verb=$2 folder=$3 word=$4
+    case $place,$verb in
+        2,session) compgen -f -- "$word" ;;
+        2,completions) compgen -W bash -- "$word" ;;
+        2,*) compgen -d -- "$word" ;;
+        3,put|3,lend|3,return|3,log|3,manifest|3,export) compgen -W "$(_sheetdesk_packages "$folder")" -- "$word" ;;
+        4,put) compgen -W 'tile media mark' -- "$word" ;;
+        *) compgen -f -- "$word" ;;
+    esac
+}
+
+_sheetdesk() {
+    local word=${COMP_WORDS[COMP_CWORD]} verb=${COMP_WORDS[1]} folder=${COMP_WORDS[2]} IFS=$'\n'
+    if [ "$COMP_CWORD" -eq 1 ]; then
+        COMPREPLY=($(IFS=' '; compgen -W "$_sheetdesk_verbs --help" -- "$word"))
+    elif [[ $word == -* ]]; then
+        COMPREPLY=($(IFS=' '; compgen -W "$(_sheetdesk_options "$verb" | tr '\n' ' ')" -- "$word"))
+    else
+        COMPREPLY=($(_sheetdesk_words "$COMP_CWORD" "$verb" "$folder" "$word"))
+    fi
+}
+
+complete -o filenames -F _sheetdesk sheetdesk ./sheetdesk
