@@ -9,10 +9,10 @@ use Rattle.sheet_types.specs.World.{World, holdings, is_live}
 use Rattle.sheet_types.specs.declared.command.Item.{Item}
 use Rattle.sheet_types.specs.declared.command.Relation.{Relation}
 use Rattle.command_requests.proofs.Listed.{flat_more}
-use Rattle.view_register.specs.Registers.{thing_of, tie_of}
-use Rattle.view_register.specs.declared.registers.Thing.{Thing}
-use Rattle.view_register.specs.declared.registers.Tie.{Tie}
-use Rattle.view_page.specs.Registers.{AreContents, by_depth, depth_key, things_under, ties_under}
+use Rattle.view_report.specs.Registers.{thing_of}
+use Rattle.view_report.specs.declared.registers.Thing.{Thing}
+use Rattle.view_report.specs.declared.registers.Tie.{Tie}
+use Rattle.view_page.specs.Registers.{AreContents, by_depth, depth_key, things_under, ties_under, tie_of}
 use Rattle.view_page.specs.declared.contents.Contents.{Contents}
 use Rattle.world.specs.Reading.{sight_of}
 use Rattle.world.specs.declared.reading.PackageSight.{PackageSight}

@@ -5,7 +5,7 @@ use Rattle.sheet_types.specs.Answers.{PackageSight as ModelSight, sums_held}
 use Rattle.sheet_types.specs.Custody.{ticket}
 use Rattle.sheet_types.specs.World.{World, Package}
 use Rattle.sheet_types.specs.declared.receipt.Sums.{Sums}
-use Rattle.view_register.specs.declared.registers.Live.{Live}
+use Rattle.view_report.specs.declared.registers.Live.{Live}
 use Rattle.view_page.specs.Registers.{live_of}
 use Rattle.view_world.specs.Kept.{AreKept}
 use Rattle.view_world.proofs.Rows.{at_both, at_place, map_snoc, take_next}

@@ -5,15 +5,16 @@ use Rattle.sqlite.specs.Store.{Ghosts}
 use Rattle.sheet_types.specs.Answers.{PackageSight as ModelSight, package_sights, sums_held}
 use Rattle.sheet_types.specs.Custody.{ticket}
 use Rattle.sheet_types.specs.Ordered.{arranged}
-use Rattle.sheet_types.specs.World.{World, Package, holdings, receipts_of}
+use Rattle.sheet_types.specs.World.{World, Package, holdings, link_kind, receipts_of}
+use Rattle.sheet_types.specs.declared.command.Relation.{Relation}
 use Rattle.package_tables.specs.declared.fault.Fault.{Fault}
 use Rattle.view_history.specs.Stores.{AreClean}
-use Rattle.view_register.specs.Registers.{thing_of, tie_of}
-use Rattle.view_register.specs.declared.registers.Live.{Live}
-use Rattle.view_register.specs.declared.registers.Name.{Name}
-use Rattle.view_register.specs.declared.registers.Register.{Register}
-use Rattle.view_register.specs.declared.registers.Thing.{Thing}
-use Rattle.view_register.specs.declared.registers.Tie.{Tie}
+use Rattle.view_report.specs.Registers.{thing_of}
+use Rattle.view_report.specs.declared.registers.Live.{Live}
+use Rattle.view_report.specs.declared.registers.Name.{Name}
+use Rattle.view_report.specs.declared.registers.Register.{Register}
+use Rattle.view_report.specs.declared.registers.Thing.{Thing}
+use Rattle.view_report.specs.declared.registers.Tie.{Tie}
 use Rattle.command_requests.specs.Listing.{IsUntouched as IsUntouchedWorld}
 use Rattle.view_world.specs.Kept.{AreKept}
 use Rattle.view_world.specs.Looks.{IsUntouched}
@@ -22,6 +23,10 @@ use Rattle.world.specs.Worlds.{Seen, StandsFor, held}
 use Rattle.view_page.specs.declared.contents.Contents.{Contents}
 
 -- ---- of a world
+
+-- a link that a package holds
+abbrev pub tie_of : List ℕ → Relation → Tie
+tie_of holder l = record { holder = holder; kind = link_kind l.mapping; base = l.base; other = l.other }
 
 -- the items and the links that stand in the package of a UUID
 abbrev pub things_under : World → List ℕ → List Thing

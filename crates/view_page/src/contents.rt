@@ -1,7 +1,7 @@
 //! What the packages of a world hold, without the bytes of it.
 ghost use Rattle.std.specs.Prelude.{◌≡◌, ◌++◌, [], ◌∷◌, map, IfOk, OnOk};
-ghost use Rattle.view_register.specs.Registers.{thing_of, tie_of};
-ghost use Rattle.view_page.specs.Registers.{AreContents, by_depth};
+ghost use Rattle.view_report.specs.Registers.{thing_of};
+ghost use Rattle.view_page.specs.Registers.{AreContents, by_depth, tie_of};
 ghost use Rattle.world.specs.Reading.{sight_of};
 ghost use Rattle.world.specs.Worlds.{IsRead, TellsOf};
 ghost use Rattle.command_requests.specs.Listing.{IsUntouched};
@@ -11,7 +11,7 @@ use sheet_types::command::{Item, Relation};
 use sqlite::Alter;
 use std::alloc::{AllocError, Global};
 use uuid::Uuid;
-use view_register::registers::{Thing, Tie, thing_of, tie_of};
+use view_report::registers::{Thing, Tie, thing_of};
 use world::reading::PackageSight;
 use world::world::World;
 
@@ -36,7 +36,19 @@ fn things_of(alloc: Global, holder: Uuid, items: &[Item]) -> Result<Vec<Thing>, 
     Ok(things)
 }
 
-/// The links of a package.
+/// A link of a package.
+fn tie_of(holder: Uuid, link: &Relation) -> Tie
+    ensures { result ≡ tie_of holder link.now }
+{
+    Tie {
+        holder,
+        kind: link.mapping.link_kind(),
+        base: link.base,
+        other: link.other,
+    }
+}
+
+/// The links of a package, in their order.
 fn ties_of(alloc: Global, holder: Uuid, links: &[Relation]) -> Result<Vec<Tie>, Fault>
     ensures { IfOk result (λ ties. ties.items ≡ map (tie_of holder) links.now) }
 {

@@ -21,7 +21,7 @@ use std::alloc::{AllocError, Global};
 use uuid::Uuid;
 use view_history::ledgers::ledger_of;
 use view_history::loans::loans_of;
-use view_register::registers::{Live, Name, Register};
+use view_report::registers::{Live, Name, Register};
 use view_world::packages::{Kept, kept_of};
 use view_world::usable::are_ready;
 use world::reading::PackageSight;

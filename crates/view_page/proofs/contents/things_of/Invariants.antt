@@ -1,6 +1,6 @@
 -- The items so far are told.
 use Rattle.std.proofs.Common.{◌≡◌, map, take}
-use Rattle.view_register.specs.Registers.{thing_of}
+use Rattle.view_report.specs.Registers.{thing_of}
 use Rattle.view_page.proofs.contents.things_of.Given as goal
 
 abbrev pub invariant-loop-item : goal.invariant-loop-item

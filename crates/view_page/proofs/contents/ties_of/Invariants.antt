@@ -1,6 +1,6 @@
 -- The links so far are told.
 use Rattle.std.proofs.Common.{◌≡◌, map, take}
-use Rattle.view_register.specs.Registers.{tie_of}
+use Rattle.view_page.specs.Registers.{tie_of}
 use Rattle.view_page.proofs.contents.ties_of.Given as goal
 
 abbrev pub invariant-loop-link : goal.invariant-loop-link
