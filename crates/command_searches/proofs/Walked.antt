@@ -1,8 +1,8 @@
 -- What was found package by package was found in the world.
-use Rattle.std.proofs.Common.{◌≡◌, ◌∙◌, ◌++◌, ◌∷◌, [], ℕ, List, Some, Result, Ok, Err, IfOk, refl, sym, ap, subst, map}
+use Rattle.std.proofs.Common.{◌≡◌, ◌∙◌, ◌++◌, ◌∷◌, [], ℕ, List, Some, refl, ap, map}
 use Rattle.std.specs.Prelude.{flat_map}
 use Rattle.sheet_types.specs.Answers.{PackageSight as ModelSight, holdings_answer, package_sights}
-use Rattle.sheet_types.specs.World.{World, holdings}
+use Rattle.sheet_types.specs.World.{World}
 use Rattle.sheet_types.specs.declared.command.Item.{Item}
 use Rattle.sheet_types.specs.declared.command.Relation.{Relation}
 use Rattle.command_verbs.specs.Names.{sight}

@@ -1,5 +1,5 @@
 -- The identities that were searched are those of the package.
-use Rattle.std.proofs.Common.{◌≡◌, ◌++◌, ap, Some, rules, subst}
+use Rattle.std.proofs.Common.{◌≡◌, ◌++◌, Some, rules, subst}
 use Rattle.sheet_types.specs.Answers.{holdings_answer}
 use Rattle.command_names.specs.Searching.{IsFound}
 use Rattle.command_searches.proofs.Walked.{identities_found}

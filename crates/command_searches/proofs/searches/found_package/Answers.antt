@@ -1,8 +1,7 @@
 -- The packages that were listed are those that live.
-use Rattle.std.proofs.Common.{[], ◌∙◌, ap, map, subst, sym}
+use Rattle.std.proofs.Common.{[], ◌∙◌, ap, map, subst}
 use Rattle.sheet_types.specs.Answers.{PackageSight as ModelSight}
 use Rattle.command_names.specs.Searching.{IsFound}
-use Rattle.command_verbs.specs.Names.{sight}
 use Rattle.command_verbs.specs.declared.names.PackageEntry.{PackageEntry}
 use Rattle.command_searches.proofs.Walked.{uuids_listed}
 use Rattle.command_searches.proofs.searches.found_package.Goals as goal

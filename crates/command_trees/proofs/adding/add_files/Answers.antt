@@ -13,7 +13,7 @@ loop-file-preserved g c =
       so_far = (
         so_far.0 ++ c.in-Ok.is_new ∷ [],
         added_next g.S.Store c.args.target.now c.args.items.now c.args.files.now c.loop-file.file-index _ so_far.0 c.args.world.now c.loop-file.world c.add_file.new.world c.in-Ok.is_new
-        c.loop-file-test.true so_far.1 c.in-Ok.ensures,
+            c.loop-file-test.true so_far.1 c.in-Ok.ensures,
         c.counted-counts.ensures.each so_far.0 so_far.2,
       );
       all = omega (arith, c.counted-counts.ensures.one);
