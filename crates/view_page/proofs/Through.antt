@@ -1,5 +1,6 @@
 -- A look at what a world holds, and then at its stores.
 use Rattle.std.proofs.Common.{◌≡◌, ◌∙◌, ◌++◌, ◌∷◌, [], ℕ, List, map, length, refl, sym, subst, inl, inr, Result, Ok, Err, OnOk, MatchResult, IfOk}
+use Rattle.std.specs.Prelude.{IsOkAnd}
 use Rattle.std.specs.List.{AllByRecursion}
 use Rattle.std.proofs.lemmas.List.Elements.{All-from_recursion, recursion_from_All}
 use Rattle.sqlite.specs.Held.{Held, state}
@@ -11,7 +12,11 @@ use Rattle.command_requests.proofs.Untouched.{stands_after}
 use Rattle.command_requests.specs.Listing.{IsUntouched as IsUntouchedWorld}
 use Rattle.view_history.proofs.Asked.{clean_back}
 use Rattle.view_history.specs.Stores.{AreClean}
-use Rattle.view_page.specs.Registers.{LooksThrough}
+use Rattle.view_page.specs.Pages.{IsPageOf, as_bytes}
+use Rattle.view_page.specs.Registers.{IsRegisterOf, LooksThrough}
+use Rattle.view_report.specs.Pages.{page_text}
+use Rattle.view_report.specs.declared.registers.Name.{Name}
+use Rattle.view_report.specs.declared.registers.Register.{Register}
 use Rattle.view_world.proofs.HeldStores.{read_held}
 use Rattle.view_world.specs.Looks.{Asks, IsUntouched}
 use Rattle.world_members.specs.Members.{AllClean}
@@ -58,5 +63,24 @@ module _ {S : Type 0} (g : Ghosts S) where
   }
   looks_through IsSeen seen read stores (Err e) (Ok y) long world told counted long_so asks = absurd counted
   looks_through IsSeen seen read stores found (Err e) long world told counted long_so asks = record {
-    read = read; world = world; stores_read = asks.read; told = λ clean. tt
+    read = read;
+    world = world;
+    stores_read = asks.read;
+    told = λ clean. tt;
   }
+
+  -- the same of a text and of its bytes
+  pub through_bytes : {T : Type 0} (bytes : T → List ℕ) (P : World → List ℕ → Type 0) (seen : Seen S) (stores : List (Held S)) (r : Result T Fault)
+      → LooksThrough g {X = T} (λ w t. P w (bytes t)) seen stores r → LooksThrough g {X = List ℕ} P seen stores (as_bytes bytes r)
+  through_bytes bytes P seen stores (Ok t) it = record { read = it.read; world = it.world; stores_read = it.stores_read; told = it.told }
+  through_bytes bytes P seen stores (Err e) it = record { read = it.read; world = it.world; stores_read = it.stores_read; told = λ clean. tt }
+
+  -- and of a register and of its page
+  pub through_page : {T : Type 0} (bytes : T → List ℕ) (names : List Name) (seen : Seen S) (stores : List (Held S)) (r : Result Register Fault) (t : Result T Fault)
+      → IfOk t (λ text. IsOkAnd r (λ x. bytes text ≡ page_text x)) → LooksThrough g {X = Register} (λ w x. IsRegisterOf w names x) seen stores r
+      → LooksThrough g {X = T} (λ w text. IsPageOf w names (bytes text)) seen stores t
+  through_page bytes names seen stores (Ok x) (Ok text) is it = record {
+    read = it.read; world = it.world; stores_read = it.stores_read; told = λ clean w stands. (x, it.told clean w stands, is)
+  }
+  through_page bytes names seen stores (Err e) (Ok text) is it = absurd is
+  through_page bytes names seen stores r (Err e) is it = record { read = it.read; world = it.world; stores_read = it.stores_read; told = λ clean. tt }

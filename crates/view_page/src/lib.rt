@@ -1,5 +1,6 @@
-//! The register that a page tells of, as a world has it.
+//! The page that tells a register, of a world and of a folder.
 #![tactic(auto)]
 
 pub mod contents;
+pub mod pages;
 pub mod registers;

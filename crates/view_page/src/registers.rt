@@ -1,6 +1,5 @@
 //! The register that a page tells of, of a world.
-ghost use Rattle.std.specs.Prelude.{◌≡◌, length, map, IfOk, IfSome, OnOk, MatchResult, Some, option_map, slice_get};
-ghost use Rattle.sheet_types.specs.Answers.{package_sights};
+ghost use Rattle.std.specs.Prelude.{◌≡◌, length, map, IfOk, IsTrue, OnOk, MatchResult};
 ghost use Rattle.sheet_types.specs.Ordered.{arranged};
 ghost use Rattle.sheet_types.specs.World.{World as ModelWorld};
 ghost use Rattle.view_history.specs.Stores.{AreAtRest, AsksStores};
