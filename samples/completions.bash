@@ -1,5 +1,5 @@
 # Completes the words of sheetdesk:  eval "$(sheetdesk completions bash)"
-_sheetdesk_verbs='init put lend return join part apply import status log get explain receipt manifest export holds map audit serve tidy rehearse session completions'
+_sheetdesk_verbs='init put lend return join part apply import status log get explain receipt manifest export holds map report audit serve tidy rehearse session completions'
 
 # The options of a verb.
 _sheetdesk_options() {

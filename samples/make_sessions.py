@@ -28,6 +28,7 @@ from machine import holding
 from machine.exports import export
 from machine.frames import Frame
 from machine.lists import read_requests
+from machine.report import page_of
 from machine.world import Receipt, World
 from make_sample import List, rehearsed as rehearsed_sample
 
@@ -206,6 +207,7 @@ def verb_sessions(session):
     session.run("log harbour --last 99 --from 15", log_of(world, first=15, last=99))
     session.run("log harbour --last few", "refused: number\n", 1)
     session.run("audit harbour", f"good {len(world.receipts)}\n")
+    session.run("report harbour", page_of(world, {}, reference.reply_text))
     return shown
 
 

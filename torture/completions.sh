@@ -29,7 +29,7 @@ check() {
     [ "$found" = "$wanted" ] || { echo "completions: '$*' gives '$found', and not '$wanted'"; exit 1; }
     count=$((count + 1))
 }
-check 'return|receipt|rehearse' sheetdesk re
+check 'return|receipt|report|rehearse' sheetdesk re
 check 'completions' sheetdesk com
 check 'maps' sheetdesk status ma
 check "$package" sheetdesk manifest maps 6f

@@ -2,7 +2,7 @@
 
 /// A script for bash: `eval "$(sheetdesk completions bash)"`. It knows the verbs, their options, and the packages of a folder by the names of their files.
 pub const BASH: &str = "# Completes the words of sheetdesk:  eval \"$(sheetdesk completions bash)\"
-_sheetdesk_verbs='init put lend return join part apply import status log get explain receipt manifest export holds map audit serve tidy rehearse session completions'
+_sheetdesk_verbs='init put lend return join part apply import status log get explain receipt manifest export holds map report audit serve tidy rehearse session completions'
 
 # The options of a verb.
 _sheetdesk_options() {

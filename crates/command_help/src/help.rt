@@ -126,6 +126,10 @@ pub const BASH_ABOUT: &str = "For bash: eval \"$(sheetdesk completions bash)\"";
 /// What `explain` is for.
 pub const EXPLAIN_ABOUT: &str = "Prints the whole way of an item, from receipt to receipt";
 
+/// What `report` is for.
+pub const REPORT_ABOUT: &str =
+    "Prints the whole register as one page of HTML: who holds what, the ledger, the account";
+
 /// What `receipt` is for.
 pub const RECEIPT_ABOUT: &str = "Prints the receipt of a request, as JSON";
 
@@ -227,6 +231,7 @@ Standard output:
   manifest  the records of the package
   export    SQL; `sqlite3 NEW.gpkg` makes a file of it that GDAL and QGIS open
   map       SVG; who holds which sheets of one zoom, each package in its colour
+  report    HTML; the register on one page, which needs no other file: who holds what, the ledger, the account
   audit     good and the number of receipts; or the name of what is wrong, as OutOfAccount
   serve     nothing
   tidy      removed and the name, a line for each file: of loans that came home, of splits that were

@@ -2,8 +2,8 @@
 use crate::help::{
     ABOUT, APPLY_ABOUT, AUDIT_ABOUT, BASH_ABOUT, COMPLETIONS_ABOUT, EXPLAIN_ABOUT, EXPORT_ABOUT,
     FOLDER_WORDS, GET_ABOUT, HOLDS_ABOUT, HOLDS_WORDS, IMPORT_ABOUT, INIT_ABOUT, LOG_ABOUT,
-    MANIFEST_ABOUT, MAP_ABOUT, RECEIPT_ABOUT, REHEARSE_ABOUT, REHEARSE_WORDS, SERVE_ABOUT,
-    SESSION_ABOUT, SESSION_WORDS, STATUS_ABOUT, TIDY_ABOUT, WORDS,
+    MANIFEST_ABOUT, MAP_ABOUT, RECEIPT_ABOUT, REHEARSE_ABOUT, REHEARSE_WORDS, REPORT_ABOUT,
+    SERVE_ABOUT, SESSION_ABOUT, SESSION_WORDS, STATUS_ABOUT, TIDY_ABOUT, WORDS,
 };
 use crate::verbs::{join_command, lend_command, part_command, put_command, return_command};
 use clap::{Arg, ArgAction, Command};
@@ -250,6 +250,11 @@ fn map_command<'a>(alloc: Global) -> Result<Command<'a>, AllocError> {
     over_folder(alloc, Command::new(alloc, "map"), MAP_ABOUT)?.arg(zoom.required(false))
 }
 
+/// Prints the page of a register.
+fn report_command<'a>(alloc: Global) -> Result<Command<'a>, AllocError> {
+    over_folder(alloc, Command::new(alloc, "report"), REPORT_ABOUT)
+}
+
 /// Says whether the packages of a folder are in order.
 fn audit_command<'a>(alloc: Global) -> Result<Command<'a>, AllocError> {
     over_folder(alloc, Command::new(alloc, "audit"), AUDIT_ABOUT)
@@ -332,6 +337,7 @@ pub fn sheetdesk<'a>(alloc: Global) -> Result<Command<'a>, AllocError> {
         .subcommand(over_package(alloc, "export", EXPORT_ABOUT)?)?
         .subcommand(holds_command(alloc)?)?
         .subcommand(map_command(alloc)?)?
+        .subcommand(report_command(alloc)?)?
         .subcommand(audit_command(alloc)?)?
         .subcommand(serve_command(alloc)?)?
         .subcommand(tidy_command(alloc)?)?

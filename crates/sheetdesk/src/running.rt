@@ -18,6 +18,7 @@ use commands::working::{Asked, work_for};
 use std::alloc::AllocError;
 use std::convert::AsStr;
 use std::io;
+use view_page::pages::report_for;
 use views::endings as seen;
 use views::excerpts::LogWords;
 use views::looking::Asked as AskedLook;
@@ -211,6 +212,7 @@ pub(crate) fn carried_out(
     }
     let ending = match name {
         "init" => founded(rt, given),
+        "report" => report_for(rt, text_of(given, "folder"), &mut io::writer(rt)),
         "tidy" => tidy(rt, text_of(given, "folder"), &mut io::writer(rt)),
         _ if is_verb(name) => ordered(rt, name, given, reader),
         _ => changed(rt, name, given, reader),
