@@ -50,14 +50,15 @@ flat_mapped : {X Y Z : Type 0} (f : Y → List Z) (h : X → Y) (xs : List X) �
 flat_mapped f h [] = refl
 flat_mapped f h (x ∷ xs) = ap (λ l. f (h x) ++ l) (flat_mapped f h xs)
 
+by_order : (s x : PackageSight) (sights : List PackageSight) (b : Bool) → map sight_of (put (λ y. y.depth ∷ []) s sights) ≡ put depth_key (sight_of s) (map sight_of sights)
+    → map sight_of (if b then x ∷ put (λ y. y.depth ∷ []) s sights else s ∷ x ∷ sights)
+    ≡ (if b then sight_of x ∷ put depth_key (sight_of s) (map sight_of sights) else sight_of s ∷ sight_of x ∷ map sight_of sights)
+by_order s x sights true rest = ap (λ l. sight_of x ∷ l) rest
+by_order s x sights false rest = refl
+
 put_mapped : (s : PackageSight) (sights : List PackageSight) → map sight_of (put (λ x. x.depth ∷ []) s sights) ≡ put depth_key (sight_of s) (map sight_of sights)
 put_mapped s [] = refl
-put_mapped s (x ∷ sights) = by_order (is_before (x.depth ∷ []) (s.depth ∷ []))
-  where
-    by_order : (b : Bool) → map sight_of (if b then x ∷ put (λ y. y.depth ∷ []) s sights else s ∷ x ∷ sights)
-        ≡ (if b then sight_of x ∷ put depth_key (sight_of s) (map sight_of sights) else sight_of s ∷ sight_of x ∷ map sight_of sights)
-    by_order true = ap (λ l. sight_of x ∷ l) (put_mapped s sights)
-    by_order false = refl
+put_mapped s (x ∷ sights) = by_order s x sights (is_before (x.depth ∷ []) (s.depth ∷ [])) (put_mapped s sights)
 
 -- sights in the order of their depths are so in the words of the model
 pub sorted_sights : (sights : List PackageSight) → map sight_of (arranged (λ x. x.depth ∷ []) sights) ≡ by_depth (map sight_of sights)

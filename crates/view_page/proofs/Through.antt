@@ -80,7 +80,10 @@ module _ {S : Type 0} (g : Ghosts S) where
       → IfOk t (λ text. IsOkAnd r (λ x. bytes text ≡ page_text x)) → LooksThrough g {X = Register} (λ w x. IsRegisterOf w names x) seen stores r
       → LooksThrough g {X = T} (λ w text. IsPageOf w names (bytes text)) seen stores t
   through_page bytes names seen stores (Ok x) (Ok text) is it = record {
-    read = it.read; world = it.world; stores_read = it.stores_read; told = λ clean w stands. (x, it.told clean w stands, is)
+    read = it.read;
+    world = it.world;
+    stores_read = it.stores_read;
+    told = λ clean w stands. (x, it.told clean w stands, is);
   }
   through_page bytes names seen stores (Err e) (Ok text) is it = absurd is
   through_page bytes names seen stores r (Err e) is it = record { read = it.read; world = it.world; stores_read = it.stores_read; told = λ clean. tt }

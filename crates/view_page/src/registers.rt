@@ -134,10 +134,14 @@ fn register_in<S: Alter + Drop>(
 {
     let seen = seen?;
     // The frame of a world is good, and is asked for that here since no call says so.
-    if !is_good(&frame) || !are_ready(stores, seen.0.sights.len()) {
+    if !is_good(&frame) {
         return Err(Fault::StoreFault);
     }
-    register_by(frame, seen, names, stores, alloc)
+    if !are_ready(stores, seen.0.sights.len()) {
+        return Err(Fault::StoreFault);
+    }
+    let register = register_by(frame, seen, names, stores, alloc)?;
+    Ok(register)
 }
 
 /// The register that a page tells of, of a world and with these names. The world ends with it; its stores are handed on.

@@ -1,10 +1,14 @@
 -- Two questions, and what their answers make with what was seen.
-use Rattle.std.proofs.Common.{◌≡◌, ◌∙◌, ap, map, refl, sym, subst, rules}
+use Rattle.std.proofs.Common.{◌≡◌, ◌∙◌, ap, map, refl, sym, subst, rules, slice_get, Some, Err}
+use Rattle.std.specs.Prelude.{option_map}
+use Rattle.package_tables.specs.declared.fault.Fault.TheVariants.{StoreFault}
 use Rattle.sheet_types.specs.Ordered.{arranged}
 use Rattle.sheet_types.specs.World.{Package}
 use Rattle.view_history.specs.Told.{ledger_of}
 use Rattle.view_history.proofs.Asked.{asks_both, asks_cut}
 use Rattle.view_page.specs.Registers.{live_of, loan_key}
+use Rattle.view_report.specs.declared.registers.Live.{Live}
+use Rattle.view_world.specs.Kept.{AreKept}
 use Rattle.view_page.proofs.registers.register_by.Goals as goal
 
 pub returns-in_err-receipts-clause-asked : goal.returns-in_err-receipts-clause-asked
@@ -17,7 +21,23 @@ pub returns-in_err-packages-clause-asked : goal.returns-in_err-packages-clause-a
 returns-in_err-packages-clause-asked g c = asks_cut g.S.Store _ _ c.from_residual-in_err-packages.result c.from_residual-in_err-packages.ensures.0 c.loans_of.ensures c.ledger_of.ensures
 
 pub returns-in_default-clause-asked : goal.returns-in_default-clause-asked
-returns-in_default-clause-asked g c = asks_cut g.S.Store _ _ _ tt c.loans_of.ensures c.ledger_of.ensures
+returns-in_default-clause-asked g c = asks_cut g.S.Store _ _ (Err StoreFault) tt c.loans_of.ensures c.ledger_of.ensures
 
 pub returns-clause-asked : goal.returns-clause-asked
-returns-clause-asked g c = ?
+returns-clause-asked g c =
+    asks_both g.S.Store (λ packages loans. loans.items ≡ map (λ (p : Package). p.loan) packages) (λ packages ledger. ledger.items ≡ ledger_of packages) c.in_ok-loans.was c.in_ok-receipts.was
+    (λ packages one two w same framed seen.
+    let kept : AreKept w c.deref.result.now c.deref-2.result.now =
+    subst (λ xs. AreKept w xs c.deref-2.result.now) (sym c.deref.ensures.value) (subst (λ xs. AreKept w c.args.seen.0.sights.items xs) (sym c.deref-2.ensures.value) seen.kept_so) in
+    let made : c.deref-3.result.now ≡ map (λ (p : Package). p.loan) w.packages = c.deref-3.ensures.value ∙ one ∙ ap (map (λ (p : Package). p.loan)) same in
+    let first : slice_get c.deref-4.result.now 0 ≡ Some c.in-Some.first.now = search rules in
+    record {
+      frame = sym framed;
+      packages = c.in_ok-packages.ensures ∙ ap (arranged loan_key) (c.in_ok-lives.ensures w kept made);
+      archive = ap (option_map (λ (p : Live). p.uuid)) (ap (λ l. slice_get l 0) (sym c.deref-4.ensures.value) ∙ first);
+      things = seen.held.things;
+      ties = seen.held.ties;
+      receipts = two ∙ ap ledger_of same;
+      named = refl;
+    })
+    c.loans_of.ensures c.ledger_of.ensures

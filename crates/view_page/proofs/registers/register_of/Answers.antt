@@ -11,4 +11,4 @@ returns-clause-looked g c =
     (λ s. length s.0.sights.items) c.look_over-seen.ensures.read c.look_over-seen.ensures.told
     (rw c.into_stores-stores.ensures at c.register_in-register.ensures.counted)
     (λ w s so. long_seen w s.0.sights.items so.kept_so.seen)
-    (rw (c.into_stores-stores.ensures, c.frame.ensures) at c.register_in-register.ensures.asked)
+    (rw (c.into_stores-stores.ensures, c.frame-frame.ensures) at c.register_in-register.ensures.asked)
