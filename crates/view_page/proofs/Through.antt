@@ -69,11 +69,16 @@ module _ {S : Type 0} (g : Ghosts S) where
     told = λ clean. tt;
   }
 
-  -- the same of a text and of its bytes
-  pub through_bytes : {T : Type 0} (bytes : T → List ℕ) (P : World → List ℕ → Type 0) (seen : Seen S) (stores : List (Held S)) (r : Result T Fault)
-      → LooksThrough g {X = T} (λ w t. P w (bytes t)) seen stores r → LooksThrough g {X = List ℕ} P seen stores (as_bytes bytes r)
-  through_bytes bytes P seen stores (Ok t) it = record { read = it.read; world = it.world; stores_read = it.stores_read; told = it.told }
-  through_bytes bytes P seen stores (Err e) it = record { read = it.read; world = it.world; stores_read = it.stores_read; told = λ clean. tt }
+  -- the same of a text and of its bytes, under names that are the same
+  pub through_bytes : {T : Type 0} (bytes : T → List ℕ) (names other : List Name) → names ≡ other → (seen : Seen S) (stores : List (Held S)) (r : Result T Fault)
+      → LooksThrough g {X = T} (λ w t. IsPageOf w names (bytes t)) seen stores r → LooksThrough g {X = List ℕ} (λ w text. IsPageOf w other text) seen stores (as_bytes bytes r)
+  through_bytes bytes names other same seen stores (Ok t) it = record {
+    read = it.read;
+    world = it.world;
+    stores_read = it.stores_read;
+    told = λ clean w stands. subst (λ ns. IsPageOf w ns (bytes t)) same (it.told clean w stands);
+  }
+  through_bytes bytes names other same seen stores (Err e) it = record { read = it.read; world = it.world; stores_read = it.stores_read; told = λ clean. tt }
 
   -- and of a register and of its page
   pub through_page : {T : Type 0} (bytes : T → List ℕ) (names : List Name) (seen : Seen S) (stores : List (Held S)) (r : Result Register Fault) (t : Result T Fault)

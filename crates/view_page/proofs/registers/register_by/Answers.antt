@@ -21,7 +21,7 @@ pub returns-in_err-packages-clause-asked : goal.returns-in_err-packages-clause-a
 returns-in_err-packages-clause-asked g c = asks_cut g.S.Store _ _ c.from_residual-in_err-packages.result c.from_residual-in_err-packages.ensures.0 c.loans_of.ensures c.ledger_of.ensures
 
 pub returns-in_default-clause-asked : goal.returns-in_default-clause-asked
-returns-in_default-clause-asked g c = asks_cut g.S.Store _ _ (Err StoreFault) tt c.loans_of.ensures c.ledger_of.ensures
+returns-in_default-clause-asked g c = asks_cut g.S.Store _ _ (Err StoreFault) refl c.loans_of.ensures c.ledger_of.ensures
 
 pub returns-clause-asked : goal.returns-clause-asked
 returns-clause-asked g c =
