@@ -14,6 +14,7 @@ touch "$room/maps/$package.gpkg" "$room/a list.csv"
 
 # Prints what the last of these words completes to.
 complete_words() (
+    set +u # (as in a shell at a prompt)
     cd "$room"
     source ./completions.bash
     COMP_WORDS=("$@") COMP_CWORD=$(($# - 1))
