@@ -41,7 +41,7 @@ check '--follow|--as|--at|--request|--dry-run|--help' sheetdesk lend maps --
 check '--log' sheetdesk serve maps 8080 --l
 check 'bash' sheetdesk completions ''
 # every verb that the program knows is among the words
-known=$("$program" --help | sed -n 's/^  \([a-z]\+\)  .*/\1/p' | grep -vx help | sort)
+known=$("$program" --help | sed -n '/^Commands:/,/^$/s/^  \([a-z]\+\) .*/\1/p' | grep -vx help | sort)
 told=$(complete_words sheetdesk '' | grep -v '^--' | sort)
 [ "$known" = "$told" ] || { echo "completions: the program knows other words:"; diff <(echo "$known") <(echo "$told"); exit 1; }
 echo "completions: $((count + 1)) as they must be"

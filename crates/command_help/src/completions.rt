@@ -29,7 +29,7 @@ _sheetdesk_packages() {
 
 # What may stand at a place behind the verb, counted from 2.
 _sheetdesk_words() {
-    local place=$1 verb=$2 folder=$3 word=$4
+    local place=$1 verb=$2 folder=$3 word=$4 IFS=$' \\t\\n'
     case $place,$verb in
         2,session) compgen -f -- \"$word\" ;;
         2,completions) compgen -W bash -- \"$word\" ;;
