@@ -3,8 +3,8 @@ use Rattle.package_tables.specs.declared.fault.Fault.{Fault}
 use Rattle.package_tables.specs.declared.fault.Fault.TheVariants as fault
 use Rattle.manifest_csv.specs.declared.package_manifests.ManifestFault.{ManifestFault}
 use Rattle.manifest_csv.specs.declared.package_manifests.ManifestFault.TheVariants as manifest
-use Rattle.store_shelf.specs.declared.shelf.ShelfFault.{ShelfFault}
-use Rattle.store_shelf.specs.declared.shelf.ShelfFault.TheVariants as shelf
+use Rattle.store_faults.specs.declared.shelf.ShelfFault.{ShelfFault}
+use Rattle.store_faults.specs.declared.shelf.ShelfFault.TheVariants as shelf
 use Rattle.world.specs.declared.creating.CreateFault.{CreateFault}
 use Rattle.world.specs.declared.creating.CreateFault.TheVariants as create
 use Rattle.command_words.specs.declared.statuses.Failure.{Failure}

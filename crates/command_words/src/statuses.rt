@@ -8,7 +8,7 @@ use manifest_csv::sending::WriteFault;
 use package_tables::fault::Fault;
 use request_csv::lists::ReadFault;
 use std::alloc::AllocError;
-use store_shelf::shelf::ShelfFault;
+use store_faults::shelf::ShelfFault;
 use thiserror::Error;
 use world::creating::CreateFault;
 

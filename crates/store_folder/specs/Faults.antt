@@ -3,8 +3,8 @@ use Rattle.std.specs.Prelude.{ℕ, List, [], ◌++◌, codes}
 use Rattle.sqlite.specs.declared.error.Error.{Error}
 use Rattle.sqlite.specs.declared.error.Error.TheVariants.{SqliteFailure}
 use Rattle.sqlite.specs.declared.error.ErrorCode.TheVariants as code
-use Rattle.store_shelf.specs.declared.shelf.ShelfFault.{ShelfFault}
-use Rattle.store_shelf.specs.declared.shelf.ShelfFault.TheVariants as shelf
+use Rattle.store_faults.specs.declared.shelf.ShelfFault.{ShelfFault}
+use Rattle.store_faults.specs.declared.shelf.ShelfFault.TheVariants as shelf
 use Rattle.sheet_types.specs.Texts.{uuid_text}
 use Rattle.store_folder.specs.declared.fault.FolderFault.{FolderFault}
 use Rattle.store_folder.specs.declared.fault.FolderFault.TheVariants.{OutOfMemory, FolderHeld, PackageHeld, Link, SecondName, NameUnsettled, PackageFailed, FolderUnread, StoreFault}

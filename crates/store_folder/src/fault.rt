@@ -5,7 +5,7 @@ ghost use Rattle.store_folder.specs.Faults.{cause_text, of_error, shelf_fault};
 use sqlite::{Error as SqliteError, ErrorCode};
 use std::alloc::{AllocError, Global};
 use std::io;
-use store_shelf::shelf::ShelfFault;
+use store_faults::shelf::ShelfFault;
 use thiserror::Error;
 use uuid::Uuid;
 

@@ -12,7 +12,8 @@ use crate::opening::files_at;
 use crate::removing::remove_store;
 use crate::start::{Empty, FolderStore};
 use sqlite::{Connection, Error, ErrorCode};
-use store_shelf::shelf::{Shelf, ShelfFault};
+use store_faults::shelf::ShelfFault;
+use store_shelf::shelf::Shelf;
 use uuid::Uuid;
 
 /// Makes each store in the file of its package, in place of whatever stood there under its name. The folder is there already.

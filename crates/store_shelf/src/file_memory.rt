@@ -3,11 +3,12 @@ ghost use Rattle.std.specs.Prelude.{◌≡◌, ⊤, IfOk, IfErr};
 ghost use Rattle.sqlite_disk.specs.Disk.{CountsFault};
 ghost use Rattle.sqlite.specs.Files.{file_state};
 ghost use Rattle.store_sql.specs.Blank.{IsBlank, no_schema};
-ghost use Rattle.store_shelf.specs.declared.shelf.ShelfFault.TheVariants.{OutOfMemory};
+ghost use Rattle.store_faults.specs.declared.shelf.ShelfFault.TheVariants.{OutOfMemory};
 
-use crate::shelf::{Shelf, ShelfFault, counted};
+use crate::shelf::{Shelf, counted};
 use sqlite::{Connection, FileStore};
 use std::alloc::Global;
+use store_faults::shelf::ShelfFault;
 use store_memory::{MemoryFile, blank_in_files};
 use uuid::Uuid;
 

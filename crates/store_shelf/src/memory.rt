@@ -4,11 +4,12 @@ ghost use Rattle.sqlite_disk.specs.Disk.{CountsFault};
 ghost use Rattle.sqlite.specs.Held.{state};
 ghost use Rattle.sqlite.specs.Steps.{over_memory};
 ghost use Rattle.store_sql.specs.Blank.{IsBlank, no_schema};
-ghost use Rattle.store_shelf.specs.declared.shelf.ShelfFault.TheVariants.{OutOfMemory};
+ghost use Rattle.store_faults.specs.declared.shelf.ShelfFault.TheVariants.{OutOfMemory};
 
-use crate::shelf::{Shelf, ShelfFault, counted};
+use crate::shelf::{Shelf, counted};
 use sqlite::{Connection, MemStore};
 use std::alloc::Global;
+use store_faults::shelf::ShelfFault;
 use uuid::Uuid;
 
 /// Each store is gone with its connection, so nothing stands under any UUID.

@@ -4,23 +4,11 @@ ghost use Rattle.sqlite_disk.specs.Disk.{CountsFault};
 ghost use Rattle.sqlite.specs.Held.{state};
 ghost use Rattle.sqlite.specs.State.{HasCleanDisk};
 ghost use Rattle.store_sql.specs.Blank.{IsBlank, no_schema};
-ghost use Rattle.store_shelf.specs.declared.shelf.ShelfFault.TheVariants.{OutOfMemory};
+ghost use Rattle.store_faults.specs.declared.shelf.ShelfFault.TheVariants.{OutOfMemory};
 
 use sqlite::{Alter, Connection};
-use std::fmt;
-use thiserror::Error;
+use store_faults::shelf::ShelfFault;
 use uuid::Uuid;
-
-/// Why a shelf has no store.
-#[derive(Clone, Copy, PartialEq, Eq, Debug, Error)]
-pub enum ShelfFault {
-    /// A growth was refused.
-    #[error("OutOfMemory")]
-    OutOfMemory,
-    /// The shelf itself failed.
-    #[error("StoreFault")]
-    StoreFault,
-}
 
 /// Makes the stores of packages, one a UUID, and counts how often it could not.
 pub trait Shelf<S: Alter> {

@@ -6,8 +6,9 @@ use package_tables::fault::Fault;
 use sqlite::{Alter, Connection, FileStore, Files, Options};
 use sqlite_disk::{Crash, Disk, Fuse, Memory};
 use std::alloc::Global;
+use store_faults::shelf::ShelfFault;
 use store_memory::open_blank;
-use store_shelf::shelf::{Shelf, ShelfFault};
+use store_shelf::shelf::Shelf;
 use uuid::Uuid;
 
 /// A file in memory that stops after so many calls.

@@ -12,7 +12,7 @@ use crate::stops::{Comes, Found, over_files};
 use package_tables::fault::Fault;
 use std::alloc::Global;
 use std::test::Fail;
-use store_shelf::shelf::ShelfFault;
+use store_faults::shelf::ShelfFault;
 use test_values::Checked;
 
 // What the counts of a file that stops are to show.

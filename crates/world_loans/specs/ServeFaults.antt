@@ -4,8 +4,8 @@ use Rattle.sqlite_disk.specs.Disk.{MoreFaults}
 use Rattle.sheet_types.specs.declared.refusal.Refusal.{Refusal}
 use Rattle.package_tables.specs.declared.fault.Fault.{Fault}
 use Rattle.package_tables.specs.declared.fault.Fault.TheVariants as fault
-use Rattle.store_shelf.specs.declared.shelf.ShelfFault.{ShelfFault}
-use Rattle.store_shelf.specs.declared.shelf.ShelfFault.TheVariants as shelf
+use Rattle.store_faults.specs.declared.shelf.ShelfFault.{ShelfFault}
+use Rattle.store_faults.specs.declared.shelf.ShelfFault.TheVariants as shelf
 use Rattle.register_lending.specs.Faults.{fault_refusal, turn_refusal}
 use Rattle.register_lending.specs.declared.turn_fault.TurnFault.TheVariants.{Before}
 use Rattle.world_loans.specs.declared.loans.ServeFault.{ServeFault}

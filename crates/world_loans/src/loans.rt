@@ -8,7 +8,7 @@ use package_tables::fault::Fault;
 use register_lending::turn_fault::TurnFault;
 use sheet_types::receipt::{Receipt, Sums};
 use sheet_types::refusal::Refusal;
-use store_shelf::shelf::ShelfFault;
+use store_faults::shelf::ShelfFault;
 use uuid::Uuid;
 
 /// A split that is due.

@@ -1,0 +1,4 @@
+//! Why a store cannot be had.
+#![tactic(auto)]
+
+pub mod shelf;
