@@ -32,7 +32,7 @@ passes p q (i ∷ is) implies some =
     ] refl some
 
 -- what is true of both parts
-both : (a b : Bool) → (a && b) ≡ true → (a ≡ true) × (b ≡ true)
+pub both : (a b : Bool) → (a && b) ≡ true → (a ≡ true) × (b ≡ true)
 both true true e = (refl, refl)
 both true false e = absurd (false≢true e)
 both false b e = absurd (false≢true e)
@@ -84,7 +84,7 @@ left_of p t (i ∷ is) some =
       | false ↦ λ rest. ap (λ b. p i || b) (left_of p t is rest) ∙ or_true (p i)
     ] some
 
-shared : (o : Option (List ℕ)) (m : ℕ) (id : List ℕ) → option_map_or Old o (New m) ≡ Old id → o ≡ Some id
+pub shared : (o : Option (List ℕ)) (m : ℕ) (id : List ℕ) → option_map_or Old o (New m) ≡ Old id → o ≡ Some id
 shared None m id e = cc
 shared (Some x) m id e = cc
 

@@ -1,2 +1,4 @@
 pub mod Keys
 pub mod Held
+pub mod Lists
+pub mod Agreeing

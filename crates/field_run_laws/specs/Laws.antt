@@ -1,7 +1,5 @@
--- Laws of lists of requests that change one package, and of lists that come again. Profile.
-use Rattle.std.specs.Prelude.{◌≡◌, true, ℕ, List, ◌++◌, length}
-use Rattle.std.specs.List.{AllByRecursion}
-use Rattle.sheet_types.specs.Lines.{HasTypes}
+-- Laws of lists of requests that change one package. Profile.
+use Rattle.std.specs.Prelude.{◌≡◌, true, ℕ, List, length}
 use Rattle.sheet_types.specs.Register.{IsRegister}
 use Rattle.sheet_types.specs.Step.{Run}
 use Rattle.sheet_types.specs.World.{World, is_live, holdings}
@@ -13,14 +11,6 @@ abbrev pub RunWithinOnePackage : Type 0
 RunWithinOnePackage = (w : World) (p : List ℕ) (qs : List Request) (replies : List Reply) (next : World) →
     IsRegister w → is_live w p ≡ true → AreWithin p qs → AreNew w qs → Run w qs replies next → AreGiven replies →
     HoldsNow w next p (items_through qs (holdings w p).items) (links_through qs (holdings w p).links) (length qs) × IsRegister next
-
--- A list that was stopped behind its first part, and then comes again whole, ends where a run of the whole list ends: what
--- had got its receipt acts once.
-abbrev pub StoppedListComesAgain : Type 0
-StoppedListComesAgain = (w : World) (xs ys : List Request) (first : List Reply) (mid : World) (again : List Reply) (next : World) →
-    AllByRecursion (λ q. HasTypes q.command) xs → IsRegister w →
-    Run w xs first mid → AreGiven first → Run mid (xs ++ ys) again next →
-    (replies : List Reply) × Run w (xs ++ ys) replies next
 
 -- without want of memory or a fault of the store, one list has one end
 abbrev pub GivenRunsAgree : Type 0
