@@ -16,6 +16,7 @@ use Rattle.field_changes.specs.Parts.{IsLinkOf, new_items, beyond}
 use Rattle.field_changes.specs.declared.held.HeldItem.{HeldItem}
 use Rattle.field_changes.specs.declared.held.HeldLink.{HeldLink}
 use Rattle.field_changes.specs.declared.naming.Named.{Named}
+use Rattle.sheet_kept_laws.specs.Laws.{HaveTypes}
 use Rattle.field_run_laws.specs.Lists.{Reply, AreNew, AreGiven, IsUnrefused, HoldsNow}
 use Rattle.field_laws.specs.Checks.{CanTake}
 use Rattle.field_laws.specs.Making.{named_items, each_once}
@@ -82,3 +83,12 @@ abbrev pub NothingIsRefused : Type 0
 NothingIsRefused = (w : World) (p : List ℕ) (ticket : ℕ) (moment : List ℕ) (more : Bool) (file : List HeldItem) (held : List HeldLink) (requests : List Request) (replies : List Reply) (next : World) →
     IsRegister w → is_live w p ≡ true → (changes : Changes w p ticket moment more file held requests) → CanTake w p moment more file changes.parts requests →
     Run w requests replies next → IsUnrefused replies
+
+-- ---- a list that comes again
+
+-- A list that was stopped behind its first part, and then comes again whole, ends where a run of the whole list ends: what
+-- had got its receipt acts once.
+abbrev pub StoppedListComesAgain : Type 0
+StoppedListComesAgain = (w : World) (xs ys : List Request) (first : List Reply) (mid : World) (again : List Reply) (next : World) →
+    HaveTypes xs → IsRegister w → Run w xs first mid → AreGiven first → Run mid (xs ++ ys) again next →
+    (replies : List Reply) × Run w (xs ++ ys) replies next × (AreGiven again → AreGiven replies)

@@ -1,1 +1,4 @@
 pub mod Laws
+pub mod Making
+pub mod Checks
+pub mod Changing

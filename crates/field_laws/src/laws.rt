@@ -1,4 +1,5 @@
 //! Laws of what an edited file comes home as, each the contract of a function that does nothing.
+ghost use Rattle.field_laws.specs.Changing.{NothingToDo, OldNamesDiffer, ChangesMake, MoreAdds, StoppedListComesAgain};
 ghost use Rattle.field_laws.specs.Laws.{SameKeyIsSameContent, OldNamesHold};
 
 /// Contents are told apart byte by byte.
@@ -9,4 +10,29 @@ pub fn same_key_is_same_content()
 /// An item of the file that is called by an identity of the package has the content that the package has under it.
 pub fn old_names_hold()
     ensures { OldNamesHold }
+{}
+
+/// No two items of a file are called by one identity of the package.
+pub fn old_names_differ()
+    ensures { OldNamesDiffer }
+{}
+
+/// A file that lists what the package holds asks for nothing.
+pub fn nothing_to_do()
+    ensures { NothingToDo }
+{}
+
+/// Where each request got a receipt, the package holds what the file has, and nothing else changed.
+pub fn changes_make()
+    ensures { ChangesMake }
+{}
+
+/// Where nothing is taken away, the package holds what it had, and what is new in the file.
+pub fn more_adds()
+    ensures { MoreAdds }
+{}
+
+/// A list that was stopped, and comes again whole, ends where a run of the whole list ends.
+pub fn stopped_list_comes_again()
+    ensures { StoppedListComesAgain }
 {}

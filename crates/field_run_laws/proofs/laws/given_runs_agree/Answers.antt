@@ -1,5 +1,4 @@
 use Rattle.field_run_laws.proofs.Agreeing.{given_runs_agree}
-use Rattle.field_run_laws.proofs.Lists as lists
 use Rattle.field_run_laws.proofs.laws.given_runs_agree.Goals as goal
 
 pub returns : goal.returns
