@@ -6,3 +6,5 @@ pub mod Uuids
 pub mod Made
 pub mod Makes
 pub mod Stopped
+pub mod Turns
+pub mod Unrefused

@@ -57,7 +57,7 @@ module _ (of : Command → Request) (made : (c : Command) → (of c).command ≡
   abbrev pub four : List Relation → List (List ℕ) → List Item → List Relation → List Command
   four a b c d = map (unlinking p) a ++ map (deleting p) b ++ map (adding p) c ++ map (linking p) d
 
-  apart : (a : List Relation) (b : List (List ℕ)) (c : List Item) (d : List Relation)
+  pub apart : (a : List Relation) (b : List (List ℕ)) (c : List Item) (d : List Relation)
       → map of (four a b c d) ≡ map of (map (unlinking p) a) ++ map of (map (deleting p) b) ++ map of (map (adding p) c) ++ map of (map (linking p) d)
   apart a b c d =
       let ua = map (unlinking p) a in
@@ -205,11 +205,11 @@ once_count k [] = omega arith
 once_count k (l ∷ ls) =
     elim (has link_key (link_key l) ls) as (λ v. has link_key (link_key l) ls ≡ v → count_by (λ x. bytes_eq (link_key x) k) (cond v (each_once ls) (l ∷ each_once ls)) ≤ 1) [
       | true ↦ λ _. once_count k ls
-      | false ↦ λ none. one (bytes_eq (link_key l) k) refl none
+      | false ↦ λ none. one (bytes_eq (link_key l) k) refl none (once_count k ls)
     ] refl
   where
-    one : (v : Bool) → bytes_eq (link_key l) k ≡ v → has link_key (link_key l) ls ≡ false → count_by (λ x. bytes_eq (link_key x) k) (l ∷ each_once ls) ≤ 1
-    one true e none =
+    one : (v : Bool) → bytes_eq (link_key l) k ≡ v → has link_key (link_key l) ls ≡ false → count_by (λ x. bytes_eq (link_key x) k) (each_once ls) ≤ 1 → count_by (λ x. bytes_eq (link_key x) k) (l ∷ each_once ls) ≤ 1
+    one true e none rest =
         let lacks : AllByRecursion (λ x. bytes_eq (link_key x) k ≡ false) (each_once ls) =
             All-weaker (λ x. In x (each_once ls)) (λ x. bytes_eq (link_key x) k ≡ false) (λ x i. other x i) (each_once ls) (In-all (each_once ls)) in
         omega (arith, count-cons (λ x. bytes_eq (link_key x) k) l (each_once ls) true e, count_none (λ x. bytes_eq (link_key x) k) (each_once ls) lacks)
@@ -221,7 +221,7 @@ once_count k (l ∷ ls) =
                   ((bytes_eq-Decides (link_key x) (link_key l)).1 ((bytes_eq-Decides (link_key x) k).0 same ∙ sym ((bytes_eq-Decides (link_key l) k).0 e)))) ∙ none))
               | false ↦ λ _. refl
             ] refl
-    one false e none = omega (arith, count-cons (λ x. bytes_eq (link_key x) k) l (each_once ls) false e, once_count k ls)
+    one false e none rest = omega (arith, count-cons (λ x. bytes_eq (link_key x) k) l (each_once ls) false e, rest)
 
 -- both ends are UUIDs
 abbrev pub JoinsUuids : Relation → Type 0

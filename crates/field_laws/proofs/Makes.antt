@@ -61,11 +61,11 @@ new_uuids p n items file before (h ∷ hs) = (one (name_of items file before h),
     one (Old id) new = absurd (false≢true new)
     one (New copy) new = derived_is_uuid (item_text p n copy h.content)
 
-uuids_new : (ns : List Named) (hs : List HeldItem) → AllByRecursion (λ n. IsUuid n.identity) ns → AllByRecursion (λ i. IsUuid i.identity) (new_items ns hs)
+uuids_new : (ns : List Named) (hs : List HeldItem) → AllByRecursion (λ (n : Named). IsUuid n.identity) ns → AllByRecursion (λ (i : Item). IsUuid i.identity) (new_items ns hs)
 uuids_new [] hs all = tt
 uuids_new (n ∷ ns) [] all = tt
 uuids_new (n ∷ ns) (h ∷ hs) all = All-append (λ i. IsUuid i.identity) (new_item n h) (new_items ns hs)
-    (elim n.is_new as (λ v. AllByRecursion (λ i. IsUuid i.identity) (cond v (record { identity = n.identity; content = h.content } ∷ []) [])) [ true ↦ (all.0, tt) | false ↦ tt ])
+    (elim n.is_new as (λ v. AllByRecursion {X = Item} (λ i. IsUuid i.identity) (cond v (record { identity = n.identity; content = h.content } ∷ []) [])) [ true ↦ (all.0, tt) | false ↦ tt ])
     (uuids_new ns hs all.1)
 
 -- what stands under an old name

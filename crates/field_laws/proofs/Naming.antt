@@ -75,16 +75,16 @@ stands_at c [] k id e = absurd (None≢Some (nothing k e))
     nothing (suc n) h = h
 stands_at c (i ∷ is) k id e =
     elim (same_content c i.content) as (λ b. same_content c i.content ≡ b → slice_get (identities (cond b (i ∷ filter (λ j. same_content c j.content) is) (filter (λ j. same_content c j.content) is))) k ≡ Some id → Stands (i ∷ is) id c) [
-      | true ↦ λ t. at k t
+      | true ↦ λ t. at k t (λ n r. stands_at c is n id r)
       | false ↦ λ _ rest. later (stands_at c is k id rest)
     ] refl e
   where
     later : Stands is id c → Stands (i ∷ is) id c
     later s = record { item = s.item; there = inr s.there; identity_is = s.identity_is; key_is = s.key_is }
 
-    at : (n : ℕ) → same_content c i.content ≡ true → slice_get (i.identity ∷ alike c is) n ≡ Some id → Stands (i ∷ is) id c
-    at zero t here = record { item = i; there = inl refl; identity_is = some_same here; key_is = sym ((bytes_eq-Decides (content_key c) (content_key i.content)).0 t) }
-    at (suc n) t rest = later (stands_at c is n id rest)
+    at : (n : ℕ) → same_content c i.content ≡ true → ((m : ℕ) → slice_get (alike c is) m ≡ Some id → Stands is id c) → slice_get (i.identity ∷ alike c is) n ≡ Some id → Stands (i ∷ is) id c
+    at zero t behind here = record { item = i; there = inl refl; identity_is = some_same here; key_is = sym ((bytes_eq-Decides (content_key c) (content_key i.content)).0 t) }
+    at (suc n) t behind rest = later (behind n rest)
 
 old_same : (a b : List ℕ) → Old a ≡ Old b → a ≡ b
 old_same a b e = cc

@@ -1,5 +1,5 @@
 //! Laws of what an edited file comes home as, each the contract of a function that does nothing.
-ghost use Rattle.field_laws.specs.Changing.{NothingToDo, OldNamesDiffer, ChangesMake, MoreAdds, StoppedListComesAgain};
+ghost use Rattle.field_laws.specs.Changing.{NothingToDo, OldNamesDiffer, ChangesMake, MoreAdds, NothingIsRefused, StoppedListComesAgain};
 ghost use Rattle.field_laws.specs.Laws.{SameKeyIsSameContent, OldNamesHold};
 
 /// Contents are told apart byte by byte.
@@ -30,6 +30,11 @@ pub fn changes_make()
 /// Where nothing is taken away, the package holds what it had, and what is new in the file.
 pub fn more_adds()
     ensures { MoreAdds }
+{}
+
+/// Where the package can take the file, no request is refused.
+pub fn nothing_is_refused()
+    ensures { NothingIsRefused }
 {}
 
 /// A list that was stopped, and comes again whole, ends where a run of the whole list ends.

@@ -34,6 +34,7 @@ use Rattle.sheet_laws.proofs.Packages.{holdings_same, holdings_other, receipts_g
 use Rattle.sheet_laws.proofs.Running.{step_keeps_register}
 use Rattle.sheet_laws.proofs.Shifting.{numbers_below}
 use Rattle.field_run_laws.specs.Lists.{Reply, IsWithin, AreWithin, AreNew, is_kept, has_twice, items_after, links_after, items_through, links_through, HoldsNow, IsGiven, AreGiven}
+use Rattle.field_run_laws.specs.Ready.{added}
 use Rattle.field_run_laws.proofs.Keys.{apart_from}
 
 -- ---- one command
@@ -42,7 +43,7 @@ use Rattle.field_run_laws.proofs.Keys.{apart_from}
 abbrev pub change : Receipt → Command → Package → Package
 change r c x = with_receipt r (record x { items = items_after c x.items; links = links_after c x.links })
 
-carried : (w : World) (r : Receipt) (p : List ℕ) (c : Command) → IsWithin p c → carried_out w r c ≡ changed (change r c) p w
+pub carried : (w : World) (r : Receipt) (p : List ℕ) (c : Command) → IsWithin p c → carried_out w r c ≡ changed (change r c) p w
 carried w r p (Add q identity content) within = ap (λ u. changed (change r (Add q identity content)) u w) within
 carried w r p (Delete q identity) within = ap (λ u. changed (change r (Delete q identity)) u w) within
 carried w r p (Link q mapping base other) within = ap (λ u. changed (change r (Link q mapping base other)) u w) within
@@ -50,11 +51,7 @@ carried w r p (Unlink q mapping base other) within = ap (λ u. changed (change r
 carried w r p (Split q child mode rect) within = absurd within
 carried w r p (Merge child into ticket) within = absurd within
 
--- the identities that a command adds
-abbrev pub added : Command → List (List ℕ)
-added (Add p identity content) = identity ∷ []
-added command = []
-
+-- those of all commands
 abbrev pub all_added : List Request → List (List ℕ)
 all_added [] = []
 all_added (q ∷ qs) = added q.command ++ all_added qs
@@ -100,7 +97,7 @@ begins w p register = record {
   used = λ k. sym (or-false (is_used w k));
 }
 
-all_added_more : (xs : List Request) (q : Request) → all_added (xs ++ q ∷ []) ≡ all_added xs ++ added q.command
+pub all_added_more : (xs : List Request) (q : Request) → all_added (xs ++ q ∷ []) ≡ all_added xs ++ added q.command
 all_added_more [] q = append-nil (added q.command)
 all_added_more (x ∷ xs) q = ap (λ l. added x.command ++ l) (all_added_more xs q) ∙ sym (append_assoc (added x.command) (all_added xs) (added q.command))
 

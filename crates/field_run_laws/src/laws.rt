@@ -1,5 +1,6 @@
 //! Laws of lists of requests, each the contract of a function that does nothing.
 ghost use Rattle.field_run_laws.specs.Laws.{RunWithinOnePackage, GivenRunsAgree};
+ghost use Rattle.field_run_laws.specs.Ready.{ReadyRunIsUnrefused};
 
 /// New requests in one package, each of which got a receipt, did what they ask for, and nothing else changed.
 pub fn run_within_one_package()
@@ -9,4 +10,9 @@ pub fn run_within_one_package()
 /// Without want of memory or a fault of the store, one list of requests has one end.
 pub fn given_runs_agree()
     ensures { GivenRunsAgree }
+{}
+
+/// New requests in one package, each ready when its turn comes, are not refused.
+pub fn ready_run_is_unrefused()
+    ensures { ReadyRunIsUnrefused }
 {}
