@@ -10,7 +10,7 @@ use Rattle.sheet_types.specs.Refuse.{is_overfull}
 use Rattle.sheet_types.specs.World.{item_key, link_key, new_world, no_package}
 use Rattle.sheet_types.specs.declared.command.Item.{Item}
 use Rattle.sheet_types.specs.declared.command.Relation.{Relation}
-use Rattle.sheet_types.proofs.NewWorld.{}
+use Rattle.sheet_laws.proofs.First.{new_world_is_register}
 use Rattle.field_changes.specs.Asked.{unlinking, deleting, adding, linking}
 use Rattle.field_changes.specs.Ids.{request_of}
 use Rattle.field_run_laws.specs.Lists.{has_twice}
@@ -26,7 +26,7 @@ pub empty_archive_takes : EmptyArchiveTakes
 empty_archive_takes parts no_unlinks no_deletes one no_links = (
   new_world_is_register archive sheet refl refl,
   refl,
-  record {
+  (record {
     parts = parts;
     for_file = record {
       file_links = [];
@@ -53,5 +53,5 @@ empty_archive_takes parts no_unlinks no_deletes one no_links = (
     package_within =
         ap (λ l. is_overfull (record no_package { uuid = archive; items = l ++ []; links = parts.links.items ++ [] })) one
         ∙ ap (λ l. is_overfull (record no_package { uuid = archive; items = town ∷ []; links = l ++ [] })) no_links;
-  },
+  }),
 )

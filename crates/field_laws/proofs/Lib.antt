@@ -8,3 +8,5 @@ pub mod Makes
 pub mod Stopped
 pub mod Turns
 pub mod Unrefused
+pub mod Example
+pub mod Home

@@ -16,6 +16,7 @@ use Rattle.sheet_types.specs.Step.{Run, relation}
 use Rattle.sheet_types.specs.World.{World, Package, is_live, holdings, item_key, link_key, link_kind, kind_number, has_kind, base_kind, other_kind}
 use Rattle.sheet_types.specs.declared.command.Command.{Command}
 use Rattle.sheet_types.specs.declared.command.Item.{Item}
+use Rattle.sheet_types.specs.declared.command.Mapping.{Mapping}
 use Rattle.sheet_types.specs.declared.command.Relation.{Relation}
 use Rattle.sheet_types.specs.declared.command.Request.{Request}
 use Rattle.sheet_types.specs.declared.receipt.MovedKind.{MovedKind}
@@ -239,7 +240,10 @@ same_link x y a b e =
     let ends = same_front x.base y.base x.other y.other (uuid_long x.base a.0 ∙ sym (uuid_long y.base b.0)) rest in
     let base_is : x.base ≡ y.base = ends.0 in
     let other_is : x.other ≡ y.other = ends.1 in
-    ap (λ m. record { mapping = m; base = x.base; other = x.other }) mapping_is ∙ ap (λ u. record { mapping = y.mapping; base = u; other = x.other }) base_is ∙ ap (λ u. record { mapping = y.mapping; base = y.base; other = u }) other_is
+    same_parts x.mapping y.mapping x.base y.base x.other y.other mapping_is base_is other_is
+  where
+    same_parts : (m n : Mapping) (a b c d : List ℕ) → m ≡ n → a ≡ b → c ≡ d → relation m a c ≡ relation n b d
+    same_parts m n a b c d e f g = ap (λ v. relation v a c) e ∙ ap (λ v. relation n v c) f ∙ ap (relation n b) g
 
 in_last : {X : Type 0} (x : X) (xs : List X) → In (last_or x xs) (x ∷ xs)
 in_last x [] = inl refl

@@ -83,15 +83,7 @@ filter_shorter t (x ∷ xs) = elim (t x) as (λ v. length (cond v (x ∷ filter 
   | false ↦ omega (arith, filter_shorter t xs)
 ]
 
--- fewer items and fewer links have room
-pub fewer : (s t : Item → Bool) (u : Relation → Bool) (items : List Item) (links : List Relation) → Room items links → Room (filter t items) (filter u links)
-fewer s t u items links r = record {
-  tiles = omega (arith, r.tiles, filter_less (λ i. cond (is_tile i) 1 0) t items);
-  media = omega (arith, r.media, filter_less (λ i. cond (is_medium i) 1 0) t items);
-  rows = omega (arith, r.rows, filter_less (λ i. cond (is_row i) 1 0) t items);
-  joins = omega (arith, r.joins, filter_shorter u links);
-}
-
+-- fewer items, or fewer links, have room
 fewer_items : (t : Item → Bool) (items : List Item) (links : List Relation) → Room items links → Room (filter t items) links
 fewer_items t items links r = record {
   tiles = omega (arith, r.tiles, filter_less (λ i. cond (is_tile i) 1 0) t items);
@@ -100,7 +92,7 @@ fewer_items t items links r = record {
   joins = r.joins;
 }
 
-fewer_links : (u : Relation → Bool) (items : List Item) (links : List Relation) → Room items links → Room items (filter u links)
+pub fewer_links : (u : Relation → Bool) (items : List Item) (links : List Relation) → Room items links → Room items (filter u links)
 fewer_links u items links r = record { tiles = r.tiles; media = r.media; rows = r.rows; joins = omega (arith, r.joins, filter_shorter u links) }
 
 -- room for some more

@@ -57,7 +57,7 @@ use Rattle.field_laws.proofs.Made as made
 use Rattle.field_laws.proofs.Made.{EndNamed, LinkNamed, JoinsUuids, same_link}
 use Rattle.field_laws.proofs.Makes as makes
 use Rattle.field_laws.proofs.Makes.{old_stands, all_moved}
-use Rattle.field_laws.proofs.Turns.{Room, RoomFor, within_room, filter_shorter, fewer, AreApart, HavePlaces, HasBoth, ready_unlinks, ready_deletes, ready_adds, ready_links}
+use Rattle.field_laws.proofs.Turns.{Room, RoomFor, within_room, fewer_links, AreApart, HavePlaces, HasBoth, ready_unlinks, ready_deletes, ready_adds, ready_links}
 
 -- ---- names, with what stands under them
 
@@ -78,7 +78,7 @@ at_name R (h ∷ hs) (m ∷ ms) n all i = elim i [
     fits = all.0;
     named = inl refl;
     new = λ is. In-append (record { identity = m.identity; content = h.content }) (new_item m h) (new_items ms hs)
-        (inl (subst (λ v. In (record { identity = m.identity; content = h.content }) (cond v (record { identity = m.identity; content = h.content } ∷ []) [])) (sym is) (inl refl)));
+        (inl (subst (λ v. In {X = Item} (record { identity = m.identity; content = h.content }) (cond v (record { identity = m.identity; content = h.content } ∷ []) [])) (sym is) (inl refl)));
   })
   | inr later ↦
       let it = at_name R hs ms n all.1 later in
@@ -481,7 +481,7 @@ module _ (w : World) (p : List ℕ) (ticket : ℕ) (moment : List ℕ) (more : B
           (All-weaker (λ y. In y adds) (λ y. is_among [] y.identity ≡ false) (λ y i. refl) adds (In-all adds)) (are_distinct (identities adds) can.identities_apart) places_free
           (new_places adds (λ y i. i) (are_distinct (identities adds) can.identities_apart)) links_come in
       let items_go : AreReady w [] x.items stay (d ++ (a ++ l)) =
-          ready_deletes w p ticket moment can.moment_fits ds [] x.items stay (a ++ l) (fewer (λ i. true) (λ i. true) (λ y. not (is_among (map link_key us) (link_key y))) x.items x.links now_room)
+          ready_deletes w p ticket moment can.moment_fits ds [] x.items stay (a ++ l) (fewer_links (λ y. not (is_among (map link_key us) (link_key y))) x.items x.links now_room)
           (subst (AllByRecursion (λ q. has (λ (i : Item). i.identity) q x.items ≡ true)) (sym changes.for_file.deletes) (goes_there ns x.items more))
           (subst (AllByRecursion (λ q. list_any (has_end q) stay ≡ false)) (sym changes.for_file.deletes)
               (untied ns x.items x.links fl (makes.links_join w p ticket moment more file held requests register live changes) (makes.file_links_join w p ticket moment more file held requests register live changes)

@@ -1,25 +1,27 @@
 -- Laws of the changes for a file: what they ask for, and what they make when a register carries them out. Profile.
-use Rattle.std.specs.Prelude.{◌≡◌, ℕ, Bool, true, false, List, [], ◌++◌, length, map, filter, not, unwrap_or, is_some, bytes_eq, IsPermutation}
+use Rattle.std.specs.Prelude.{◌≡◌, ◌≤◌, ◌+◌, ℕ, Bool, true, false, List, [], ◌++◌, length, map, filter, not, unwrap_or, is_some, bytes_eq, count_by, IsPermutation}
 use Rattle.std.specs.List.{AllByRecursion, AllZip, IsDistinct}
 use Rattle.sheet_types.specs.Cut.{identities}
 use Rattle.sheet_types.specs.Ordered.{arranged}
+use Rattle.sheet_types.specs.Refuse.{is_overfull, greatest_items, greatest_links}
 use Rattle.sheet_types.specs.Register.{IsRegister}
-use Rattle.sheet_types.specs.Step.{Run}
+use Rattle.sheet_types.specs.Step.{Run, IsFault}
 use Rattle.sheet_types.specs.Texts.{kind_of}
-use Rattle.sheet_types.specs.World.{World, is_live, holdings, item_key, link_key}
+use Rattle.sheet_types.specs.World.{World, Package, is_live, holdings, item_key, link_key, is_tile, is_medium, is_row}
 use Rattle.sheet_types.specs.declared.command.Item.{Item}
 use Rattle.sheet_types.specs.declared.command.Relation.{Relation}
 use Rattle.sheet_types.specs.declared.command.Request.{Request}
 use Rattle.field_changes.specs.Asked.{AreChanges}
 use Rattle.field_changes.specs.Naming.{names_of}
 use Rattle.field_changes.specs.Parts.{IsLinkOf, new_items, beyond}
+use Rattle.field_changes.specs.declared.asking.Parts.{Parts}
 use Rattle.field_changes.specs.declared.held.HeldItem.{HeldItem}
 use Rattle.field_changes.specs.declared.held.HeldLink.{HeldLink}
 use Rattle.field_changes.specs.declared.naming.Named.{Named}
 use Rattle.sheet_kept_laws.specs.Laws.{HaveTypes}
 use Rattle.field_run_laws.specs.Lists.{Reply, AreNew, AreGiven, IsUnrefused, HoldsNow}
 use Rattle.field_laws.specs.Checks.{CanTake}
-use Rattle.field_laws.specs.Making.{named_items, each_once}
+use Rattle.field_laws.specs.Making.{named_items, each_once, after_parts, items_home, links_home}
 
 -- ---- a file that was not edited
 
@@ -83,6 +85,23 @@ abbrev pub NothingIsRefused : Type 0
 NothingIsRefused = (w : World) (p : List ℕ) (ticket : ℕ) (moment : List ℕ) (more : Bool) (file : List HeldItem) (held : List HeldLink) (requests : List Request) (replies : List Reply) (next : World) →
     IsRegister w → is_live w p ≡ true → (changes : Changes w p ticket moment more file held requests) → CanTake w p moment more file changes.parts requests →
     Run w requests replies next → IsUnrefused replies
+
+-- So where the package can take the file, and neither memory nor the store fails, each request gets a receipt, and the package
+-- holds what it is to hold.
+abbrev pub ChangesComeHome : Type 0
+ChangesComeHome = (w : World) (p : List ℕ) (ticket : ℕ) (moment : List ℕ) (more : Bool) (file : List HeldItem) (held : List HeldLink) (requests : List Request) (replies : List Reply) (next : World) →
+    IsRegister w → is_live w p ≡ true → (changes : Changes w p ticket moment more file held requests) → CanTake w p moment more file changes.parts requests →
+    Run w requests replies next → AllByRecursion (λ reply. IsFault reply → ⊥) replies →
+    AreGiven replies × HoldsNow w next p (items_home more (names_in w p ticket file) file (holdings w p).items) (links_home more (holdings w p).links changes.for_file.file_links) (length requests)
+
+-- where there is room for what is held and for what comes, the limits of the package are kept
+abbrev pub RoomForBoth : Type 0
+RoomForBoth = (parts : Parts) (x : Package) →
+    count_by is_tile x.items + count_by is_tile parts.adds.items ≤ greatest_items →
+    count_by is_medium x.items + count_by is_medium parts.adds.items ≤ greatest_items →
+    count_by is_row x.items + count_by is_row parts.adds.items ≤ greatest_items →
+    length x.links + length parts.links.items ≤ greatest_links →
+    is_overfull (after_parts parts x) ≡ false
 
 -- ---- a list that comes again
 

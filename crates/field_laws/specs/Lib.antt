@@ -2,3 +2,4 @@ pub mod Laws
 pub mod Making
 pub mod Checks
 pub mod Changing
+pub mod Example

@@ -1,5 +1,6 @@
 //! Laws of what an edited file comes home as, each the contract of a function that does nothing.
-ghost use Rattle.field_laws.specs.Changing.{NothingToDo, OldNamesDiffer, ChangesMake, MoreAdds, NothingIsRefused, StoppedListComesAgain};
+ghost use Rattle.field_laws.specs.Changing.{NothingToDo, OldNamesDiffer, ChangesMake, MoreAdds, NothingIsRefused, ChangesComeHome, RoomForBoth, StoppedListComesAgain};
+ghost use Rattle.field_laws.specs.Example.{EmptyArchiveTakes};
 ghost use Rattle.field_laws.specs.Laws.{SameKeyIsSameContent, OldNamesHold};
 
 /// Contents are told apart byte by byte.
@@ -37,7 +38,22 @@ pub fn nothing_is_refused()
     ensures { NothingIsRefused }
 {}
 
+/// Where besides neither memory nor the store fails, each request gets a receipt, and the package holds what it is to hold.
+pub fn changes_come_home()
+    ensures { ChangesComeHome }
+{}
+
+/// Where there is room for what is held and for what comes, the limits of the package are kept.
+pub fn room_for_both()
+    ensures { RoomForBoth }
+{}
+
 /// A list that was stopped, and comes again whole, ends where a run of the whole list ends.
 pub fn stopped_list_comes_again()
     ensures { StoppedListComesAgain }
+{}
+
+/// An empty archive can take a file with one tile: all premises hold there.
+pub fn empty_archive_takes()
+    ensures { EmptyArchiveTakes }
 {}
