@@ -1,3 +1,4 @@
 pub mod Lists
 pub mod Ready
 pub mod Laws
+pub mod Example

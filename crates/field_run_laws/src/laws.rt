@@ -1,4 +1,5 @@
 //! Laws of lists of requests, each the contract of a function that does nothing.
+ghost use Rattle.field_run_laws.specs.Example.{VisitIsReady};
 ghost use Rattle.field_run_laws.specs.Laws.{RunWithinOnePackage, GivenRunsAgree};
 ghost use Rattle.field_run_laws.specs.Ready.{ReadyRunIsUnrefused};
 
@@ -15,4 +16,9 @@ pub fn given_runs_agree()
 /// New requests in one package, each ready when its turn comes, are not refused.
 pub fn ready_run_is_unrefused()
     ensures { ReadyRunIsUnrefused }
+{}
+
+/// An example: five requests of a new archive, one of each of the four commands and a second addition, are ready.
+pub fn visit_is_ready()
+    ensures { VisitIsReady }
 {}
