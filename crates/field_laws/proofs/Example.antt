@@ -1,5 +1,5 @@
 -- The example: an empty archive, and a file with one tile.
-use Rattle.std.specs.Prelude.{◌≡◌, ◌≤◌, ◌+◌, ℕ, Bool, true, false, List, [], ◌∷◌, ◌++◌, map, length, IsPermutation, refl}
+use Rattle.std.specs.Prelude.{◌≡◌, ℕ, false, List, [], ◌∷◌, ◌++◌, map, IsPermutation, refl}
 use Rattle.std.proofs.Common.{sym, ap, subst, ◌∙◌, arith}
 use Rattle.std.specs.List.{list_any}
 use Rattle.std.proofs.lemmas.List.Sorted.{IsPermutation-refl}
@@ -26,32 +26,34 @@ pub empty_archive_takes : EmptyArchiveTakes
 empty_archive_takes parts no_unlinks no_deletes one no_links = (
   new_world_is_register archive sheet refl refl,
   refl,
-  (record {
-    parts = parts;
-    for_file = record {
-      file_links = [];
-      named = tt;
-      unlinks = no_unlinks;
-      deletes = no_deletes;
-      adds = subst (IsPermutation (town ∷ [])) (sym one) (IsPermutation-refl (town ∷ []));
-      adds_order = subst (IsArranged item_key) (sym one) (tt, tt);
-      links = subst (IsPermutation []) (sym no_links) (IsPermutation-refl []);
-      links_order = subst (IsArranged link_key) (sym no_links) tt;
-    };
-    asked = four parts.unlinks.items parts.deletes.items parts.adds.items parts.links.items no_unlinks no_deletes one no_links;
-  },
-  record {
-    moment_fits = refl;
-    contents_fit = refl;
-    places_apart = refl;
-    places_free = refl;
-    unused = subst (λ l. list_any (λ i. is_used (new_world archive sheet) i.identity) l ≡ false) (sym one) refl;
-    identities_apart = subst (λ l. has_twice (identities l) ≡ false) (sym one) refl;
-    requests_new = record { unkept = refl; apart = refl };
-    within_limits = refl;
-    ledger_within = omega arith;
-    package_within =
-        ap (λ l. is_overfull (record no_package { uuid = archive; items = l ++ []; links = parts.links.items ++ [] })) one
-        ∙ ap (λ l. is_overfull (record no_package { uuid = archive; items = town ∷ []; links = l ++ [] })) no_links;
-  }),
+  (
+    record {
+      parts = parts;
+      for_file = record {
+        file_links = [];
+        named = tt;
+        unlinks = no_unlinks;
+        deletes = no_deletes;
+        adds = subst (IsPermutation (town ∷ [])) (sym one) (IsPermutation-refl (town ∷ []));
+        adds_order = subst (IsArranged item_key) (sym one) (tt, tt);
+        links = subst (IsPermutation []) (sym no_links) (IsPermutation-refl []);
+        links_order = subst (IsArranged link_key) (sym no_links) tt;
+      };
+      asked = four parts.unlinks.items parts.deletes.items parts.adds.items parts.links.items no_unlinks no_deletes one no_links;
+    },
+    record {
+      moment_fits = refl;
+      contents_fit = refl;
+      places_apart = refl;
+      places_free = refl;
+      unused = subst (λ l. list_any (λ i. is_used (new_world archive sheet) i.identity) l ≡ false) (sym one) refl;
+      identities_apart = subst (λ l. has_twice (identities l) ≡ false) (sym one) refl;
+      requests_new = record { unkept = refl; apart = refl };
+      within_limits = refl;
+      ledger_within = omega arith;
+      package_within =
+          ap (λ l. is_overfull (record no_package { uuid = archive; items = l ++ []; links = parts.links.items ++ [] })) one
+          ∙ ap (λ l. is_overfull (record no_package { uuid = archive; items = town ∷ []; links = l ++ [] })) no_links;
+    },
+  ),
 )

@@ -1,5 +1,5 @@
 -- What a package can take comes home.
-use Rattle.std.specs.Prelude.{◌≡◌, ◌≤◌, ◌+◌, ℕ, Bool, true, false, cond, not, List, [], ◌∷◌, ◌++◌, map, length, Ok, Err, count_by}
+use Rattle.std.specs.Prelude.{◌≡◌, ℕ, Bool, true, false, cond, not, List, [], ◌∷◌, ◌++◌, map, length, Ok, Err}
 use Rattle.std.proofs.Common.{arith}
 use Rattle.std.proofs.lemmas.List.{length-append}
 use Rattle.std.proofs.lemmas.List.Sums.{sum_by-append}
@@ -15,7 +15,6 @@ use Rattle.field_changes.specs.declared.held.HeldItem.{HeldItem}
 use Rattle.field_changes.specs.declared.held.HeldLink.{HeldLink}
 use Rattle.field_run_laws.specs.Lists.{Reply, AreNew, AreGiven, IsUnrefused, HoldsNow}
 use Rattle.field_laws.specs.Changing.{Changes, names_in, ChangesComeHome, RoomForBoth}
-use Rattle.field_laws.specs.Checks.{CanTake}
 use Rattle.field_laws.specs.Making.{items_home, links_home, items_left, links_left}
 use Rattle.field_laws.proofs.Makes.{changes_make, more_adds}
 use Rattle.field_laws.proofs.Turns.{room_within, filter_shorter}

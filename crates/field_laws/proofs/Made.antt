@@ -1,56 +1,38 @@
 -- What a package holds after the changes for a file: the four parts in a closed form, and what they come to.
-use Rattle.std.specs.Prelude.{◌≡◌, ◌⊎◌, ◌≤◌, ◌+◌, ℕ, ℤ, Bool, true, false, cond, not, ◌&&◌, ◌||◌, List, [], ◌∷◌, ◌++◌, Option, Some, None, map, filter, option_map, bytes_eq, count_by, sum_by, length, IsPermutation, refl}
-use Rattle.std.proofs.Common.{sym, ap, subst, ◌∙◌, inl, inr, arith, drop}
-use Rattle.std.specs.List.{list_any, AllByRecursion, AllZip, IsDistinct}
+use Rattle.std.specs.Prelude.{◌≡◌, ◌≤◌, ◌+◌, ℕ, ℤ, Bool, true, false, cond, not, List, [], ◌∷◌, ◌++◌, Option, Some, None, map, filter, option_map, bytes_eq, count_by, length, refl}
+use Rattle.std.proofs.Common.{sym, ap, subst, ◌∙◌, inl, inr, arith}
+use Rattle.std.specs.List.{AllByRecursion, AllZip}
 use Rattle.std.specs.Option.{option_and_then}
-use Rattle.std.proofs.lemmas.Bool.{true≢false, false≢true, and_parts, and_from, eq-eqb}
+use Rattle.std.proofs.lemmas.Bool.{true≢false, eq-eqb}
 use Rattle.std.proofs.lemmas.List.{map-append}
-use Rattle.std.proofs.lemmas.List.Sorted.{IsPermutation-sym, sum_by-IsPermutation}
-use Rattle.std.proofs.lemmas.List.Sums.{sum_by-append, sum_by-cons}
+use Rattle.std.proofs.lemmas.List.Sums.{sum_by-cons}
 use Rattle.std.proofs.lemmas.Slice.Eq.{bytes_eq-Decides}
-use Rattle.sheet_types.specs.Cut.{identities}
-use Rattle.sheet_types.specs.Lines.{IsUuid, HasTypes}
-use Rattle.sheet_types.specs.Ordered.{has, is_among, without, arranged, last_or, last_of, last_where, IsArranged}
-use Rattle.sheet_types.specs.Register.{IsRegister, IsKeptPackage, HasEnds}
-use Rattle.sheet_types.specs.Step.{Run, relation}
-use Rattle.sheet_types.specs.World.{World, Package, is_live, holdings, item_key, link_key, link_kind, kind_number, has_kind, base_kind, other_kind}
+use Rattle.sheet_types.specs.Lines.{IsUuid}
+use Rattle.sheet_types.specs.Ordered.{has, without, last_or, last_of, last_where}
+use Rattle.sheet_types.specs.Step.{relation}
+use Rattle.sheet_types.specs.World.{item_key, link_key, link_kind, kind_number, base_kind, other_kind}
 use Rattle.sheet_types.specs.declared.command.Command.{Command}
 use Rattle.sheet_types.specs.declared.command.Item.{Item}
 use Rattle.sheet_types.specs.declared.command.Mapping.{Mapping}
 use Rattle.sheet_types.specs.declared.command.Relation.{Relation}
 use Rattle.sheet_types.specs.declared.command.Request.{Request}
 use Rattle.sheet_types.specs.declared.receipt.MovedKind.{MovedKind}
-use Rattle.sheet_types.proofs.Basics.{bytes_eq_itself, None≢Some, some_same, not_true, not_false}
-use Rattle.sheet_types.proofs.Distinct.{distinct_counts}
-use Rattle.sheet_types.proofs.Every.{All-weaker, All-append, All-map}
+use Rattle.sheet_types.proofs.Basics.{None≢Some, some_same}
+use Rattle.sheet_types.proofs.Every.{All-weaker}
 use Rattle.sheet_types.proofs.KindNumbers.{kind_number_tells, same_mapping}
 use Rattle.sheet_types.proofs.LineReading.{uuid_length}
-use Rattle.sheet_types.proofs.Order.{counts_arranged}
-use Rattle.sheet_types.proofs.Same.{In, In-all, All-In, In-filter, In-map, In-of_map, In-append, In-of_append, any_in, any_at, two_are_one}
-use Rattle.sheet_types.proofs.Sums.{count-cons, count_le, count_none, any_some, any_none, none_counted, filter_less}
-use Rattle.sheet_laws.proofs.Facts.{kept_at}
-use Rattle.sheet_laws.proofs.Packages.{at_all}
-use Rattle.field_changes.specs.Asked.{ArePartsFor, AreChanges, commands, unlinking, deleting, adding, linking}
-use Rattle.field_changes.specs.Ids.{request_of, item_text}
-use Rattle.field_changes.specs.Keys.{content_key, same_content, number_key}
-use Rattle.field_changes.specs.Naming.{names_of, names_behind, name_of, known_as}
-use Rattle.field_changes.specs.Parts.{gone, new_item, new_items, end_of, link_of, IsLinkOf, beyond}
-use Rattle.field_changes.specs.declared.asking.Parts.{Parts}
+use Rattle.sheet_types.proofs.Same.{In, In-all, In-of_append, any_in, any_at}
+use Rattle.sheet_types.proofs.Sums.{count-cons, count_none}
+use Rattle.field_changes.specs.Asked.{unlinking, deleting, adding, linking}
+use Rattle.field_changes.specs.Keys.{number_key}
+use Rattle.field_changes.specs.Parts.{new_item, new_items, end_of, link_of, IsLinkOf}
 use Rattle.field_changes.specs.declared.held.HeldItem.{HeldItem}
 use Rattle.field_changes.specs.declared.held.HeldLink.{HeldLink}
-use Rattle.field_changes.specs.declared.naming.Name.{Name}
-use Rattle.field_changes.specs.declared.naming.Name.TheVariants.{Old, New}
 use Rattle.field_changes.specs.declared.naming.Named.{Named}
-use Rattle.field_run_laws.specs.Lists.{IsWithin, AreWithin, AreNew, items_through, links_through, HoldsNow, Reply, AreGiven}
-use Rattle.field_run_laws.proofs.Held.{Stage, begins, run_stage, holds_now}
-use Rattle.field_run_laws.proofs.Lists.{moved, of_filter, one_list, folded_same, items_folded, links_folded, items_both, links_both, folded_without, all_put, in_put, into_put, sum_put}
-use Rattle.field_laws.specs.Changing.{Changes, names_in, ChangesMake, MoreAdds}
-use Rattle.field_laws.specs.Laws.{is_item, HoldsUnder}
-use Rattle.field_laws.specs.Making.{named_items, each_once, items_left, links_left}
-use Rattle.field_laws.proofs.Contents.{same_front, same_key}
-use Rattle.field_laws.proofs.Names.{both, old_names}
-use Rattle.field_laws.proofs.Naming.{old_names_differ}
-use Rattle.field_laws.proofs.Uuids.{derived_is_uuid}
+use Rattle.field_run_laws.specs.Lists.{items_through, links_through}
+use Rattle.field_run_laws.proofs.Lists.{of_filter, folded_same, items_folded, links_folded, items_both, links_both, folded_without, all_put}
+use Rattle.field_laws.specs.Making.{named_items, each_once}
+use Rattle.field_laws.proofs.Contents.{same_front}
 
 -- ---- the four parts in a closed form
 
@@ -82,11 +64,11 @@ module _ (of : Command → Request) (made : (c : Command) → (of c).command ≡
       ∙ items_both (ua ++ db) ac items
       ∙ items_folded of made (adding p) (λ i l. all_put item_key (i ∷ []) l) (λ x l. refl) c (items_through (ua ++ db) items)
       ∙ ap (λ l. all_put item_key c l)
-          (items_both ua db items
-          ∙ items_folded of made (deleting p) (λ k l. without (λ i. i.identity) (k ∷ []) l) (λ x l. refl) b (items_through ua items)
-          ∙ folded_without (λ i. i.identity) (λ k. k) b (items_through ua items)
-          ∙ ap (λ ks. without (λ i. i.identity) ks (items_through ua items)) (map_itself b)
-          ∙ ap (without (λ i. i.identity) b) (items_folded of made (unlinking p) (λ x l. l) (λ x l. refl) a items ∙ folded_same (λ x l. l) (λ x l. refl) a items))
+      (items_both ua db items
+      ∙ items_folded of made (deleting p) (λ k l. without (λ i. i.identity) (k ∷ []) l) (λ x l. refl) b (items_through ua items)
+      ∙ folded_without (λ i. i.identity) (λ k. k) b (items_through ua items)
+      ∙ ap (λ ks. without (λ i. i.identity) ks (items_through ua items)) (map_itself b)
+      ∙ ap (without (λ i. i.identity) b) (items_folded of made (unlinking p) (λ x l. l) (λ x l. refl) a items ∙ folded_same (λ x l. l) (λ x l. refl) a items))
     where
       map_itself : (ks : List (List ℕ)) → map (λ k. k) ks ≡ ks
       map_itself [] = refl
@@ -103,14 +85,14 @@ module _ (of : Command → Request) (made : (c : Command) → (of c).command ≡
       ∙ links_both (ua ++ db ++ ac) ld links
       ∙ links_folded of made (linking p) (λ i l. all_put link_key (i ∷ []) l) (λ x l. refl) d (links_through (ua ++ db ++ ac) links)
       ∙ ap (λ l. all_put link_key d l)
-          (links_both (ua ++ db) ac links
-          ∙ links_folded of made (adding p) (λ x l. l) (λ x l. refl) c (links_through (ua ++ db) links)
-          ∙ folded_same (λ x l. l) (λ x l. refl) c (links_through (ua ++ db) links)
-          ∙ links_both ua db links
-          ∙ links_folded of made (deleting p) (λ x l. l) (λ x l. refl) b (links_through ua links)
-          ∙ folded_same (λ x l. l) (λ x l. refl) b (links_through ua links)
-          ∙ links_folded of made (unlinking p) (λ i l. without link_key (link_key i ∷ []) l) (λ x l. refl) a links
-          ∙ folded_without link_key link_key a links)
+      (links_both (ua ++ db) ac links
+      ∙ links_folded of made (adding p) (λ x l. l) (λ x l. refl) c (links_through (ua ++ db) links)
+      ∙ folded_same (λ x l. l) (λ x l. refl) c (links_through (ua ++ db) links)
+      ∙ links_both ua db links
+      ∙ links_folded of made (deleting p) (λ x l. l) (λ x l. refl) b (links_through ua links)
+      ∙ folded_same (λ x l. l) (λ x l. refl) b (links_through ua links)
+      ∙ links_folded of made (unlinking p) (λ i l. without link_key (link_key i ∷ []) l) (λ x l. refl) a links
+      ∙ folded_without link_key link_key a links)
 
 -- ---- items of the file, by pairs
 
@@ -169,7 +151,7 @@ named_count R k (h ∷ hs) (n ∷ ns) all =
     let one : Item = record { identity = n.identity; content = h.content } in
     let f : Item → ℕ = λ i. cond (bytes_eq i.identity k) 1 0 in
     elim n.is_new as (λ v. count_by (λ i. bytes_eq i.identity k) (one ∷ named_items ns hs)
-        ≡ count_by (λ i. bytes_eq i.identity k) (cond v (one ∷ []) [] ++ new_items ns hs) + count_by (λ m. bytes_eq m.identity k) (cond (not v) (n ∷ filter (λ m. not m.is_new) ns) (filter (λ m. not m.is_new) ns))) [
+    ≡ count_by (λ i. bytes_eq i.identity k) (cond v (one ∷ []) [] ++ new_items ns hs) + count_by (λ m. bytes_eq m.identity k) (cond (not v) (n ∷ filter (λ m. not m.is_new) ns) (filter (λ m. not m.is_new) ns))) [
       | true ↦ omega (arith, sum_by-cons f one (named_items ns hs), sum_by-cons f one (new_items ns hs), named_count R k hs ns all.1)
       | false ↦ omega (arith, sum_by-cons f one (named_items ns hs), sum_by-cons (λ (m : Named). cond (bytes_eq m.identity k) 1 0) n (filter (λ m. not m.is_new) ns), named_count R k hs ns all.1)
     ]
@@ -212,7 +194,7 @@ once_count k (l ∷ ls) =
     one : (v : Bool) → bytes_eq (link_key l) k ≡ v → has link_key (link_key l) ls ≡ false → count_by (λ x. bytes_eq (link_key x) k) (each_once ls) ≤ 1 → count_by (λ x. bytes_eq (link_key x) k) (l ∷ each_once ls) ≤ 1
     one true e none rest =
         let lacks : AllByRecursion (λ x. bytes_eq (link_key x) k ≡ false) (each_once ls) =
-            All-weaker (λ x. In x (each_once ls)) (λ x. bytes_eq (link_key x) k ≡ false) (λ x i. other x i) (each_once ls) (In-all (each_once ls)) in
+        All-weaker (λ x. In x (each_once ls)) (λ x. bytes_eq (link_key x) k ≡ false) (λ x i. other x i) (each_once ls) (In-all (each_once ls)) in
         omega (arith, count-cons (λ x. bytes_eq (link_key x) k) l (each_once ls) true e, count_none (λ x. bytes_eq (link_key x) k) (each_once ls) lacks)
       where
         other : (x : Relation) → In x (each_once ls) → bytes_eq (link_key x) k ≡ false

@@ -1,5 +1,5 @@
 -- What the changes for a file make, where each request got a receipt.
-use Rattle.std.specs.Prelude.{◌≡◌, ◌⊎◌, ◌≤◌, ◌+◌, ℕ, Bool, true, false, cond, not, ◌&&◌, List, [], ◌∷◌, ◌++◌, map, filter, bytes_eq, count_by, sum_by, length, IsPermutation, refl}
+use Rattle.std.specs.Prelude.{◌≡◌, ◌≤◌, ℕ, Bool, true, false, cond, not, ◌&&◌, List, [], ◌∷◌, ◌++◌, map, filter, bytes_eq, count_by, length, IsPermutation, refl}
 use Rattle.std.proofs.Common.{sym, ap, subst, ◌∙◌, inl, inr, arith, drop}
 use Rattle.std.specs.List.{list_any, AllByRecursion, AllZip, IsDistinct}
 use Rattle.std.proofs.lemmas.Bool.{true≢false, false≢true, and_from}
@@ -17,7 +17,7 @@ use Rattle.sheet_types.specs.declared.command.Item.{Item}
 use Rattle.sheet_types.specs.declared.command.Relation.{Relation}
 use Rattle.sheet_types.specs.declared.command.Request.{Request}
 use Rattle.sheet_types.specs.declared.receipt.MovedKind.{MovedKind}
-use Rattle.sheet_types.proofs.Basics.{bytes_eq_itself, not_true, not_false}
+use Rattle.sheet_types.proofs.Basics.{bytes_eq_itself, not_true}
 use Rattle.sheet_types.proofs.Distinct.{distinct_counts}
 use Rattle.sheet_types.proofs.Every.{All-weaker, All-append, All-map, All-filter}
 use Rattle.sheet_types.proofs.Order.{counts_arranged}
@@ -25,12 +25,11 @@ use Rattle.sheet_types.proofs.Same.{In, In-all, All-In, In-filter, In-map, In-of
 use Rattle.sheet_types.proofs.Sums.{count_le, any_some, any_none}
 use Rattle.sheet_laws.proofs.Facts.{kept_at}
 use Rattle.sheet_laws.proofs.Packages.{at_all}
-use Rattle.field_changes.specs.Asked.{ArePartsFor, AreChanges, commands, unlinking, deleting, adding, linking}
+use Rattle.field_changes.specs.Asked.{commands, unlinking, deleting, adding, linking}
 use Rattle.field_changes.specs.Ids.{request_of, item_text}
 use Rattle.field_changes.specs.Keys.{content_key, same_content}
-use Rattle.field_changes.specs.Naming.{names_of, names_behind, name_of, known_as}
+use Rattle.field_changes.specs.Naming.{names_behind, name_of, known_as}
 use Rattle.field_changes.specs.Parts.{gone, new_item, new_items, beyond}
-use Rattle.field_changes.specs.declared.asking.Parts.{Parts}
 use Rattle.field_changes.specs.declared.held.HeldItem.{HeldItem}
 use Rattle.field_changes.specs.declared.held.HeldLink.{HeldLink}
 use Rattle.field_changes.specs.declared.naming.Name.{Name}
@@ -38,12 +37,12 @@ use Rattle.field_changes.specs.declared.naming.Name.TheVariants.{Old, New}
 use Rattle.field_changes.specs.declared.naming.Named.{Named}
 use Rattle.field_run_laws.specs.Lists.{IsWithin, AreWithin, AreNew, items_through, links_through, HoldsNow, Reply, AreGiven}
 use Rattle.field_run_laws.proofs.Held.{Stage, begins, run_stage, holds_now}
-use Rattle.field_run_laws.proofs.Lists.{moved, of_filter, one_list, all_put, in_put, into_put, sum_put, put_all}
+use Rattle.field_run_laws.proofs.Lists.{moved, of_filter, one_list, all_put, in_put, into_put, sum_put}
 use Rattle.field_laws.specs.Changing.{Changes, names_in, ChangesMake, MoreAdds}
 use Rattle.field_laws.specs.Laws.{is_item, HoldsUnder}
 use Rattle.field_laws.specs.Making.{named_items, each_once, items_left, links_left}
 use Rattle.field_laws.proofs.Contents.{same_key}
-use Rattle.field_laws.proofs.Made.{four, items_closed, links_closed, zip_at, paired, new_named, each_named, named_count, each_of_once, once_for_each, once_count, JoinsUuids, same_link, LinkNamed, links_named}
+use Rattle.field_laws.proofs.Made.{items_closed, links_closed, zip_at, paired, new_named, each_named, named_count, each_of_once, once_for_each, once_count, JoinsUuids, same_link, LinkNamed, links_named}
 use Rattle.field_laws.proofs.Names.{both, old_names}
 use Rattle.field_laws.proofs.Naming.{old_names_differ}
 use Rattle.field_laws.proofs.Uuids.{derived_is_uuid}
@@ -173,16 +172,16 @@ module _ (w : World) (p : List ℕ) (ticket : ℕ) (moment : List ℕ) (more : B
       let as' = changes.parts.adds.items in
       let ls = changes.parts.links.items in
       let a : AllByRecursion Fits (map (unlinking p) us) = All-map Fits (unlinking p) us
-          (All-weaker (λ l. In l here.links) (λ l. Fits (unlinking p l)) (λ l i. (two_types l (All-In JoinsUuids l here.links links_join i), refl)) us unlinks_are) in
+      (All-weaker (λ l. In l here.links) (λ l. Fits (unlinking p l)) (λ l i. (two_types l (All-In JoinsUuids l here.links links_join i), refl)) us unlinks_are) in
       let b : AllByRecursion Fits (map (deleting p) ds) = All-map Fits (deleting p) ds
-          (All-weaker (λ id. In id (identities here.items)) (λ id. Fits (deleting p id)) (λ id i. (and_from (is_uuid p) (is_uuid id) p_is_uuid (identity_uuid id i), refl)) ds deletes_are) in
+      (All-weaker (λ id. In id (identities here.items)) (λ id. Fits (deleting p id)) (λ id i. (and_from (is_uuid p) (is_uuid id) p_is_uuid (identity_uuid id i), refl)) ds deletes_are) in
       let c : AllByRecursion Fits (map (adding p) as') = All-map Fits (adding p) as'
-          (All-weaker (λ i. In i (new_items names file)) (λ i. Fits (adding p i)) (λ i j. (and_from (is_uuid p) (is_uuid i.identity) p_is_uuid (All-In (λ x. IsUuid x.identity) i (new_items names file) (uuids_new names file name_uuids) j), refl)) as' adds_are) in
+      (All-weaker (λ i. In i (new_items names file)) (λ i. Fits (adding p i)) (λ i j. (and_from (is_uuid p) (is_uuid i.identity) p_is_uuid (All-In (λ x. IsUuid x.identity) i (new_items names file) (uuids_new names file name_uuids) j), refl)) as' adds_are) in
       let d : AllByRecursion Fits (map (linking p) ls) = All-map Fits (linking p) ls
-          (All-weaker (λ l. In l (beyond here.links linked_in)) (λ l. Fits (linking p l)) (λ l i. (two_types l (All-In JoinsUuids l linked_in file_links_join (in_file l i).0), refl)) ls links_are) in
+      (All-weaker (λ l. In l (beyond here.links linked_in)) (λ l. Fits (linking p l)) (λ l i. (two_types l (All-In JoinsUuids l linked_in file_links_join (in_file l i).0), refl)) ls links_are) in
       let all : AllByRecursion Fits (commands p changes.parts) =
-          All-append Fits (map (unlinking p) us ++ map (deleting p) ds ++ map (adding p) as') (map (linking p) ls)
-          (All-append Fits (map (unlinking p) us ++ map (deleting p) ds) (map (adding p) as') (All-append Fits (map (unlinking p) us) (map (deleting p) ds) a b) c) d in
+      All-append Fits (map (unlinking p) us ++ map (deleting p) ds ++ map (adding p) as') (map (linking p) ls)
+      (All-append Fits (map (unlinking p) us ++ map (deleting p) ds) (map (adding p) as') (All-append Fits (map (unlinking p) us) (map (deleting p) ds) a b) c) d in
       subst (AreWithin p) (sym changes.asked) (All-map (λ q. HasTypes q.command × IsWithin p q.command) (request_of p ticket moment) (commands p changes.parts) all)
     where
       identity_uuid : (id : List ℕ) → In id (identities here.items) → IsUuid id
@@ -264,9 +263,9 @@ more_adds w p ticket moment file held requests replies next register live change
     makes w p ticket moment true file held requests register live changes new replies next run given
     (arranged item_key (fresh ++ x.items)) (arranged link_key (beyond' ++ x.links))
     (ap (all_put item_key parts.adds.items) same_items
-        ∙ put_is_whole item_key fresh parts.adds.items x.items changes.for_file.adds (subst (λ l. IsArranged item_key (all_put item_key parts.adds.items l)) same_items (order_items w p ticket moment true file held requests register live changes new replies next run given)))
+    ∙ put_is_whole item_key fresh parts.adds.items x.items changes.for_file.adds (subst (λ l. IsArranged item_key (all_put item_key parts.adds.items l)) same_items (order_items w p ticket moment true file held requests register live changes new replies next run given)))
     (ap (all_put link_key parts.links.items) same_links
-        ∙ put_is_whole link_key beyond' parts.links.items x.links changes.for_file.links (subst (λ l. IsArranged link_key (all_put link_key parts.links.items l)) same_links (order_links w p ticket moment true file held requests register live changes new replies next run given)))
+    ∙ put_is_whole link_key beyond' parts.links.items x.links changes.for_file.links (subst (λ l. IsArranged link_key (all_put link_key parts.links.items l)) same_links (order_links w p ticket moment true file held requests register live changes new replies next run given)))
 
 -- ---- where the package is to hold what the file has
 
@@ -338,7 +337,7 @@ module _ (items : List Item) (file : List HeldItem) (ns : List Named) (adds : Li
           let h = paired (HoldsUnder items) file ns n.0 zip n.1 in
           let named : Item = record { identity = n.0.identity; content = h.0.content } in
           let same : named ≡ i = two_are_one (λ x. bytes_eq x.identity i.identity) named i whole (distinct_counts (λ x. x.identity) i.identity whole apart)
-              (All-In (λ x. In x whole) named (named_items ns file) named_in h.1) there n.2 (bytes_eq_itself i.identity) in
+          (All-In (λ x. In x whole) named (named_items ns file) named_in h.1) there n.2 (bytes_eq_itself i.identity) in
           subst (λ x. In x (named_items ns file)) same h.1
     ]
 
@@ -437,9 +436,9 @@ changes_make w p ticket moment file held requests replies next register live cha
     makes w p ticket moment false file held requests register live changes new replies next run given
     (arranged item_key (named_items ns file)) (arranged link_key (each_once fl))
     (ap (all_put item_key parts.adds.items) left_is
-        ∙ holds_named x.items file ns parts.adds.items k.identities (old_names p ticket x.items file) changes.for_file.adds (old_names_differ p ticket x.items file k.identities)
-            (subst (λ l. IsDistinct bytes_eq (identities (all_put item_key parts.adds.items l))) left_is (distinct_items w p ticket moment false file held requests register live changes new replies next run given))
-            (subst (λ l. IsArranged item_key (all_put item_key parts.adds.items l)) left_is (order_items w p ticket moment false file held requests register live changes new replies next run given)))
+    ∙ holds_named x.items file ns parts.adds.items k.identities (old_names p ticket x.items file) changes.for_file.adds (old_names_differ p ticket x.items file k.identities)
+    (subst (λ l. IsDistinct bytes_eq (identities (all_put item_key parts.adds.items l))) left_is (distinct_items w p ticket moment false file held requests register live changes new replies next run given))
+    (subst (λ l. IsArranged item_key (all_put item_key parts.adds.items l)) left_is (order_items w p ticket moment false file held requests register live changes new replies next run given)))
     (ap (all_put link_key parts.links.items) stay_is
-        ∙ holds_links x.links fl parts.links.items (links_join w p ticket moment false file held requests register live changes) (file_links_join w p ticket moment false file held requests register live changes) changes.for_file.links
-            (subst (λ l. IsArranged link_key (all_put link_key parts.links.items l)) stay_is (order_links w p ticket moment false file held requests register live changes new replies next run given)))
+    ∙ holds_links x.links fl parts.links.items (links_join w p ticket moment false file held requests register live changes) (file_links_join w p ticket moment false file held requests register live changes) changes.for_file.links
+    (subst (λ l. IsArranged link_key (all_put link_key parts.links.items l)) stay_is (order_links w p ticket moment false file held requests register live changes new replies next run given)))

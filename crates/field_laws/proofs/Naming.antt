@@ -1,5 +1,5 @@
 -- No two items of a file are called by one identity of the package.
-use Rattle.std.specs.Prelude.{◌≡◌, ◌⊎◌, ◌-◌, ◌≤◌, ◌+◌, ℕ, zero, suc, Bool, true, false, cond, not, ◌&&◌, ◌||◌, List, [], ◌∷◌, ◌++◌, Option, Some, None, map, filter, option_map, unwrap_or, bytes_eq, count_by, slice_get, length, refl}
+use Rattle.std.specs.Prelude.{◌≡◌, ◌⊎◌, ◌-◌, ◌≤◌, ◌+◌, ℕ, zero, suc, Bool, true, false, cond, not, ◌&&◌, List, [], ◌∷◌, ◌++◌, Option, Some, None, map, filter, option_map, unwrap_or, bytes_eq, count_by, slice_get, length, refl}
 use Rattle.std.proofs.Common.{sym, ap, subst, ◌∙◌, inl, inr, arith, append_assoc}
 use Rattle.std.specs.List.{list_any, AllByRecursion, IsDistinct}
 use Rattle.std.specs.Option.{option_map_or}
@@ -12,12 +12,12 @@ use Rattle.sheet_types.specs.Cut.{identities}
 use Rattle.sheet_types.specs.Ordered.{has}
 use Rattle.sheet_types.specs.declared.command.Content.{Content}
 use Rattle.sheet_types.specs.declared.command.Item.{Item}
-use Rattle.sheet_types.proofs.Basics.{None≢Some, bytes_eq_itself, some_same, not_true, not_false}
+use Rattle.sheet_types.proofs.Basics.{None≢Some, bytes_eq_itself, some_same, not_true}
 use Rattle.sheet_types.proofs.Distinct.{distinct_counts}
 use Rattle.sheet_types.proofs.Sums.{count-cons, any_some, sum_by-map, filter_less}
 use Rattle.sheet_types.proofs.Same.{In, In-append, any_in, any_at, two_are_one}
 use Rattle.field_changes.specs.Keys.{content_key, same_content, key_of, item_mark}
-use Rattle.field_changes.specs.Naming.{alike, copies, held_mark, is_marked, is_own, others, unmarked, shared_name, name_of, known_as, names_behind, names_of}
+use Rattle.field_changes.specs.Naming.{alike, copies, is_marked, is_own, others, unmarked, shared_name, name_of, known_as, names_behind}
 use Rattle.field_changes.specs.declared.held.HeldItem.{HeldItem}
 use Rattle.field_changes.specs.declared.naming.Name.{Name}
 use Rattle.field_changes.specs.declared.naming.Name.TheVariants.{Old, New}
@@ -138,7 +138,7 @@ module _ (items : List Item) (file : List HeldItem) (distinct : IsDistinct bytes
   others_both before [] ys = ap (λ b. others items b ys) (sym (append-nil before))
   others_both before (x ∷ xs) ys =
       let rest : others items (before ++ x ∷ []) (xs ++ ys) ≡ others items (before ++ x ∷ []) xs ++ others items (before ++ x ∷ xs) ys =
-          others_both (before ++ x ∷ []) xs ys ∙ ap (λ b. others items (before ++ x ∷ []) xs ++ others items b ys) (append_assoc before (x ∷ []) xs) in
+      others_both (before ++ x ∷ []) xs ys ∙ ap (λ b. others items (before ++ x ∷ []) xs ++ others items b ys) (append_assoc before (x ∷ []) xs) in
       elim (is_own items before x) as (λ v. cond v (others items (before ++ x ∷ []) (xs ++ ys)) (x.content ∷ others items (before ++ x ∷ []) (xs ++ ys)) ≡ cond v (others items (before ++ x ∷ []) xs) (x.content ∷ others items (before ++ x ∷ []) xs) ++ others items (before ++ x ∷ xs) ys) [
         | true ↦ rest
         | false ↦ ap (λ l. x.content ∷ l) rest
@@ -167,8 +167,13 @@ module _ (items : List Item) (file : List HeldItem) (distinct : IsDistinct bytes
   alone : (c : Content) (id : List ℕ) → count_by (λ x. bytes_eq x id) (alike c (unmarked items file)) ≤ 1
   alone c id =
       let f : Item → ℕ = λ i. cond (bytes_eq i.identity id) 1 0 in
-      omega (arith, sum_by-map (λ x. cond (bytes_eq x id) 1 0) (λ (i : Item). i.identity) (filter (λ i. same_content c i.content) (unmarked items file)),
-          filter_less f (λ i. same_content c i.content) (unmarked items file), filter_less f (λ i. not (list_any (is_marked (item_mark i)) file)) items, distinct_counts (λ i. i.identity) id items distinct)
+      omega (
+        arith,
+        sum_by-map (λ x. cond (bytes_eq x id) 1 0) (λ (i : Item). i.identity) (filter (λ i. same_content c i.content) (unmarked items file)),
+        filter_less f (λ i. same_content c i.content) (unmarked items file),
+        filter_less f (λ i. not (list_any (is_marked (item_mark i)) file)) items,
+        distinct_counts (λ i. i.identity) id items distinct,
+      )
 
   same_itself : (c : Content) → same_content c c ≡ true
   same_itself c = bytes_eq_itself (content_key c)
@@ -185,7 +190,7 @@ module _ (items : List Item) (file : List HeldItem) (distinct : IsDistinct bytes
           let t : Stands items id g.content = subst (λ k. Stands items k g.content) p_is (marked_stands items p.id g.content p.item) in
           let mark_is : key_of 0 o.id h.content ≡ key_of 0 p.id g.content = same_mark o.id h.content g.content (one_key id h.content g.content s t) ∙ ap (λ k. key_of 0 k g.content) (o_is ∙ sym p_is) in
           let some : list_any (is_marked (key_of 0 p.id g.content)) (before ++ h ∷ mid) ≡ true =
-              any_in (is_marked (key_of 0 p.id g.content)) h (before ++ h ∷ mid) (In-append h before (h ∷ mid) (inr (inl refl))) (marks h o.id (key_of 0 p.id g.content) o.says mark_is) in
+          any_in (is_marked (key_of 0 p.id g.content)) h (before ++ h ∷ mid) (In-append h before (h ∷ mid) (inr (inl refl))) (marks h o.id (key_of 0 p.id g.content) o.says mark_is) in
           true≢false (sym some ∙ p.first)
       | inr left ↦ own_shared before h g.content id h_in own.0 own.1 (stands_at g.content (unmarked items file) (copies (λ c. c) g.content (others items [] (before ++ h ∷ mid))) id left.1)
     ]
@@ -204,9 +209,9 @@ module _ (items : List Item) (file : List HeldItem) (distinct : IsDistinct bytes
           let there : slice_get (alike c pool) l ≡ Some id = subst (λ x. slice_get (alike x pool) (copies (λ y. y) x (others items [] (before ++ h ∷ mid))) ≡ Some id) same left'.1 in
           let even : k ≡ l = one_place (alike c pool) k l id (alone c id) left.1 there in
           let behind : others items [] (before ++ h ∷ mid) ≡ others items [] before ++ (c ∷ others items (before ++ h ∷ []) mid) =
-              others_both [] before (h ∷ mid) ∙ ap (λ v. others items [] before ++ cond v (others items (before ++ h ∷ []) mid) (c ∷ others items (before ++ h ∷ []) mid)) left.0 in
+          others_both [] before (h ∷ mid) ∙ ap (λ v. others items [] before ++ cond v (others items (before ++ h ∷ []) mid) (c ∷ others items (before ++ h ∷ []) mid)) left.0 in
           let more : l ≡ k + copies (λ x. x) c (c ∷ others items (before ++ h ∷ []) mid) =
-              ap (copies (λ x. x) c) behind ∙ sum_by-append (λ x. cond (same_content c x) 1 0) (others items [] before) (c ∷ others items (before ++ h ∷ []) mid) in
+          ap (copies (λ x. x) c) behind ∙ sum_by-append (λ x. cond (same_content c x) 1 0) (others items [] before) (c ∷ others items (before ++ h ∷ []) mid) in
           absurd (omega (arith, even, more, count-cons (λ x. same_content c x) c (others items (before ++ h ∷ []) mid) true (same_itself c)))
     ]
   ]
@@ -221,8 +226,8 @@ module _ (items : List Item) (file : List HeldItem) (distinct : IsDistinct bytes
     apart before mid h id [] h_in whole came = tt
     apart before mid h id (g ∷ gs) h_in whole came =
         let later : AllByRecursion (λ z. bytes_eq id z ≡ false) (map (λ z. z.identity) (filter is_old (names_behind p n items file ((before ++ h ∷ mid) ++ g ∷ []) gs))) =
-            subst (λ b. AllByRecursion (λ z. bytes_eq id z ≡ false) (map (λ z. z.identity) (filter is_old (names_behind p n items file b gs)))) (sym (append_assoc before (h ∷ mid) (g ∷ [])))
-            (apart before (mid ++ g ∷ []) h id gs h_in (λ x i. whole x (inr i)) came) in
+        subst (λ b. AllByRecursion (λ z. bytes_eq id z ≡ false) (map (λ z. z.identity) (filter is_old (names_behind p n items file b gs)))) (sym (append_assoc before (h ∷ mid) (g ∷ [])))
+        (apart before (mid ++ g ∷ []) h id gs h_in (λ x i. whole x (inr i)) came) in
         one (name_of items file (before ++ h ∷ mid) g) refl later
       where
         one : (x : Name) → name_of items file (before ++ h ∷ mid) g ≡ x → AllByRecursion (λ z. bytes_eq id z ≡ false) (map (λ z. z.identity) (filter is_old (names_behind p n items file ((before ++ h ∷ mid) ++ g ∷ []) gs)))

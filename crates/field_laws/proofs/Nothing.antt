@@ -1,5 +1,5 @@
 -- A file that lists what the package holds asks for nothing.
-use Rattle.std.specs.Prelude.{◌≡◌, ◌≤◌, ◌+◌, ℕ, Bool, true, false, cond, not, ◌&&◌, List, [], ◌∷◌, ◌++◌, Option, Some, None, map, filter, option_map, unwrap_or, is_some, bytes_eq, count_by, length, IsPermutation, refl}
+use Rattle.std.specs.Prelude.{◌≡◌, ◌≤◌, ℕ, Bool, true, false, cond, not, ◌&&◌, List, [], ◌∷◌, ◌++◌, Option, Some, None, map, filter, option_map, unwrap_or, is_some, bytes_eq, count_by, length, IsPermutation, refl}
 use Rattle.std.proofs.Common.{sym, ap, subst, ◌∙◌, inl, inr, arith, append_assoc}
 use Rattle.std.specs.List.{list_any, AllByRecursion, AllZip, IsDistinct}
 use Rattle.std.specs.Option.{option_map_or}
@@ -18,8 +18,8 @@ use Rattle.sheet_types.proofs.Basics.{bytes_eq_itself, bytes_eq_swap, some_once}
 use Rattle.sheet_types.proofs.Distinct.{distinct_counts}
 use Rattle.sheet_types.proofs.Every.{All-weaker, none_any}
 use Rattle.sheet_types.proofs.Sums.{count-cons, none_counted, sum_by-map}
-use Rattle.sheet_types.proofs.Same.{In, In-all, All-In, In-map, In-of_map, any_in}
-use Rattle.field_changes.specs.Asked.{AreChanges, unlinking, deleting, adding, linking}
+use Rattle.sheet_types.proofs.Same.{In, In-all, In-map, In-of_map, any_in}
+use Rattle.field_changes.specs.Asked.{unlinking, deleting, adding, linking}
 use Rattle.field_changes.specs.Ids.{request_of}
 use Rattle.field_changes.specs.Keys.{content_key, key_of, item_mark}
 use Rattle.field_changes.specs.Naming.{is_marked, is_own, unmarked, shared_name, copies, others, known_as, names_behind, names_of}
@@ -29,7 +29,7 @@ use Rattle.field_changes.specs.declared.held.HeldLink.{HeldLink}
 use Rattle.field_changes.specs.declared.naming.Name.TheVariants.{Old}
 use Rattle.field_changes.specs.declared.naming.Named.{Named}
 use Rattle.field_run_laws.proofs.Lists.{moved}
-use Rattle.field_laws.specs.Changing.{as_listed, listed_name, ListsItems, ListsLinks, NothingToDo}
+use Rattle.field_laws.specs.Changing.{as_listed, listed_name, ListsItems, NothingToDo}
 use Rattle.field_laws.proofs.Contents.{same_front}
 
 -- nothing passes a test that each fails
@@ -79,9 +79,9 @@ listed_names p n items file before (h ∷ hs) once listed =
     let id : List ℕ = unwrap_or h.identity [] in
     let whole : (before ++ h ∷ []) ++ hs ≡ before ++ h ∷ hs = append_assoc before (h ∷ []) hs in
     let none : count_by (beside id) before ≡ 0 =
-        omega (arith, once id, sum_by-append (λ x. cond (beside id x) 1 0) before (h ∷ hs), count-cons (beside id) h hs true (bytes_eq_itself id)) in
+    omega (arith, once id, sum_by-append (λ x. cond (beside id x) 1 0) before (h ∷ hs), count-cons (beside id) h hs true (bytes_eq_itself id)) in
     let first : list_any (is_marked (key_of 0 id h.content)) before ≡ false =
-        none_any (is_marked (key_of 0 id h.content)) before (All-weaker (λ x. beside id x ≡ false) (λ x. is_marked (key_of 0 id h.content) x ≡ false) (λ x e. other_mark id h.content x.content x.identity e) before (none_counted (beside id) before none)) in
+    none_any (is_marked (key_of 0 id h.content)) before (All-weaker (λ x. beside id x ≡ false) (λ x. is_marked (key_of 0 id h.content) x ≡ false) (λ x e. other_mark id h.content x.content x.identity e) before (none_counted (beside id) before none)) in
     let own : is_own items before h ≡ true = own_listed items before h.identity h.content listed.0.0 listed.0.1 first in
     ap (λ b. known_as p n h (cond b (Old id) (shared_name (unmarked items file) h.content (copies (λ c. c) h.content (others items [] before)))) ∷ names_behind p n items file (before ++ h ∷ []) hs) own
     ∙ ap (λ l. listed_name h ∷ l) (listed_names p n items file (before ++ h ∷ []) hs (λ k. subst (λ l. count_by (beside k) l ≤ 1) (sym whole) (once k)) listed.1)
@@ -147,17 +147,17 @@ nothing_to_do p ticket moment items linked more file held requests distinct list
     let for_file = changes.for_file in
     let names : names_of p ticket items file ≡ map listed_name file = names_are items file distinct lists p ticket in
     let links_are : for_file.file_links ≡ lists_links.links =
-        same_links (map listed_name file) held for_file.file_links lists_links.links (subst (λ l. AllZip (IsLinkOf l) held for_file.file_links) names for_file.named) lists_links.between in
+    same_links (map listed_name file) held for_file.file_links lists_links.links (subst (λ l. AllZip (IsLinkOf l) held for_file.file_links) names for_file.named) lists_links.between in
     let unlinks : changes.parts.unlinks.items ≡ [] =
-        for_file.unlinks ∙ either_none more (beyond for_file.file_links linked)
-        (none_beyond for_file.file_links linked (λ l i. subst (In l) (sym links_are) (moved l linked lists_links.links lists_links.same i))) in
+    for_file.unlinks ∙ either_none more (beyond for_file.file_links linked)
+    (none_beyond for_file.file_links linked (λ l i. subst (In l) (sym links_are) (moved l linked lists_links.links lists_links.same i))) in
     let deletes : changes.parts.deletes.items ≡ [] =
-        for_file.deletes ∙ either_none more (identities (gone (names_of p ticket items file) items)) (ap (λ l. identities (gone l items)) names ∙ ap identities (none_gone items file distinct lists)) in
+    for_file.deletes ∙ either_none more (identities (gone (names_of p ticket items file) items)) (ap (λ l. identities (gone l items)) names ∙ ap identities (none_gone items file distinct lists)) in
     let adds : changes.parts.adds.items ≡ [] =
-        nothing_moved changes.parts.adds.items (subst (λ l. IsPermutation l changes.parts.adds.items) (ap (λ l. new_items l file) names ∙ none_new file file) for_file.adds) in
+    nothing_moved changes.parts.adds.items (subst (λ l. IsPermutation l changes.parts.adds.items) (ap (λ l. new_items l file) names ∙ none_new file file) for_file.adds) in
     let links : changes.parts.links.items ≡ [] =
-        nothing_moved changes.parts.links.items (subst (λ l. IsPermutation l changes.parts.links.items)
-            (none_beyond linked for_file.file_links (λ l i. moved l lists_links.links linked (IsPermutation-sym linked lists_links.links lists_links.same) (subst (In l) links_are i))) for_file.links) in
+    nothing_moved changes.parts.links.items (subst (λ l. IsPermutation l changes.parts.links.items)
+    (none_beyond linked for_file.file_links (λ l i. moved l lists_links.links linked (IsPermutation-sym linked lists_links.links lists_links.same) (subst (In l) links_are i))) for_file.links) in
     changes.asked ∙ ap (map (request_of p ticket moment)) (four changes.parts.unlinks.items changes.parts.deletes.items changes.parts.adds.items changes.parts.links.items unlinks deletes adds links)
   where
     four : (a : List Relation) (b : List (List ℕ)) (c : List Item) (d : List Relation) → a ≡ [] → b ≡ [] → c ≡ [] → d ≡ []

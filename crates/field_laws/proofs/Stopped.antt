@@ -1,10 +1,10 @@
 -- A list of requests that was stopped, and comes again whole.
 use Rattle.std.specs.Prelude.{◌≡◌, List, [], ◌∷◌, ◌++◌, Some, Ok, Err, refl}
-use Rattle.std.proofs.Common.{sym, ap, subst, ◌∙◌, inl, inr}
+use Rattle.std.proofs.Common.{ap, subst, ◌∙◌, inl, inr}
 use Rattle.std.specs.List.{AllByRecursion}
 use Rattle.sheet_types.specs.Custody.{kept}
 use Rattle.sheet_types.specs.Register.{IsRegister}
-use Rattle.sheet_types.specs.Step.{Step, Run, outcome}
+use Rattle.sheet_types.specs.Step.{Run}
 use Rattle.sheet_types.specs.Texts.{line}
 use Rattle.sheet_types.specs.World.{World}
 use Rattle.sheet_types.specs.declared.command.Request.{Request}
@@ -45,8 +45,7 @@ stays m (q ∷ qs) (reply ∷ replies) next all run =
 pub stopped_list_comes_again : StoppedListComesAgain
 stopped_list_comes_again w xs ys first mid again next types register run given more =
     let parts = (run_of_both mid xs ys again next).0 more in
-    let same : parts.0 ≡ mid = stays mid xs parts.1 parts.0 (all_kept w xs first mid types register run given) parts.4 in
-    (
+    let same : parts.0 ≡ mid = stays mid xs parts.1 parts.0 (all_kept w xs first mid types register run given) parts.4 in (
       first ++ parts.2,
       (run_of_both w xs ys (first ++ parts.2) next).1 (mid, first, parts.2, refl, run, subst (λ v. Run v ys parts.2 next) same parts.5),
       λ all. All-append IsGiven first parts.2 given (All-right IsGiven parts.1 parts.2 (subst AreGiven parts.3 all)),

@@ -1,17 +1,16 @@
 -- The requests for a file, each ready when its turn comes: the four parts.
-use Rattle.std.specs.Prelude.{◌≡◌, ◌≤◌, ◌+◌, ℕ, ℤ, Bool, true, false, cond, not, ◌&&◌, ◌||◌, nat_lt, int_le, List, [], ◌∷◌, ◌++◌, map, filter, bytes_eq, count_by, sum_by, length, unsigned_abs, refl}
-use Rattle.std.proofs.Common.{sym, ap, subst, ◌∙◌, arith, append_assoc}
+use Rattle.std.specs.Prelude.{◌≡◌, ◌≤◌, ◌+◌, ℕ, Bool, true, false, cond, not, ◌&&◌, ◌||◌, nat_lt, List, [], ◌∷◌, ◌++◌, map, filter, bytes_eq, count_by, length, refl}
+use Rattle.std.proofs.Common.{sym, ap, subst, ◌∙◌, arith}
 use Rattle.std.specs.List.{list_any, AllByRecursion, IsDistinct}
-use Rattle.std.proofs.lemmas.Bool.{true≢false, or_parts, and_parts, le-ltb}
+use Rattle.std.proofs.lemmas.Bool.{or_parts, and_parts, le-ltb}
 use Rattle.std.proofs.lemmas.Bool.Decides.{nat_tests}
 use Rattle.std.proofs.lemmas.List.{append-nil}
 use Rattle.std.proofs.lemmas.List.Folds.{list_any-append}
-use Rattle.std.proofs.lemmas.List.Sums.{sum_by-append, sum_by-cons}
+use Rattle.std.proofs.lemmas.List.Sums.{sum_by-cons}
 use Rattle.std.proofs.lemmas.Map.Keys.{IsDistinct-head, IsDistinct-tail}
 use Rattle.std.proofs.lemmas.Slice.Eq.{bytes_eq-Decides}
 use Rattle.sheet_types.specs.Custody.{is_used}
 use Rattle.sheet_types.specs.Cut.{identities, has_end}
-use Rattle.sheet_types.specs.Matrix.{has_place, in_frame}
 use Rattle.sheet_types.specs.Ordered.{has, is_among, is_before, put, without}
 use Rattle.sheet_types.specs.Refuse.{bad_text, has_good_size, bad_place, out_of_frame, is_at, takes_place, is_overfull, greatest_items, greatest_links}
 use Rattle.sheet_types.specs.Texts.{is_moment}
@@ -23,16 +22,15 @@ use Rattle.sheet_types.specs.declared.command.Content.TheVariants.{Tile, Media, 
 use Rattle.sheet_types.specs.declared.command.Item.{Item}
 use Rattle.sheet_types.specs.declared.command.Relation.{Relation}
 use Rattle.sheet_types.specs.declared.command.Request.{Request}
-use Rattle.sheet_types.specs.declared.frame.Frame.{Frame}
-use Rattle.sheet_types.proofs.Basics.{bytes_eq_swap, or-false, not_true, not_false}
-use Rattle.sheet_types.proofs.Every.{All-weaker, All-both, All-of_map}
+use Rattle.sheet_types.proofs.Basics.{bytes_eq_swap, or-false, not_true}
+use Rattle.sheet_types.proofs.Every.{All-both, All-of_map}
 use Rattle.sheet_types.proofs.Found.{any_filter}
 use Rattle.sheet_types.proofs.Order.{list_any-put, sum_by-put}
 use Rattle.sheet_types.proofs.Sums.{filter_less}
 use Rattle.sheet_types.proofs.Without.{is_one}
 use Rattle.field_changes.specs.Asked.{unlinking, deleting, adding, linking}
 use Rattle.field_changes.specs.Ids.{request_of}
-use Rattle.field_run_laws.specs.Ready.{package_of, IsReady, AreReady}
+use Rattle.field_run_laws.specs.Ready.{package_of, AreReady}
 use Rattle.field_run_laws.proofs.Lists.{folded, all_put}
 use Rattle.field_laws.specs.Checks.{is_fit, has_fit_place}
 
@@ -55,7 +53,7 @@ room_within items links r =
     let o = nat_lt greatest_items (count_by is_row items) in
     let l = nat_lt greatest_links (length links) in
     or_false (t || m || o) l (or_false (t || m) o (or_false t m (le-ltb greatest_items (count_by is_tile items) r.tiles) (le-ltb greatest_items (count_by is_medium items) r.media))
-        (le-ltb greatest_items (count_by is_row items) r.rows)) (le-ltb greatest_links (length links) r.joins)
+    (le-ltb greatest_items (count_by is_row items) r.rows)) (le-ltb greatest_links (length links) r.joins)
 
 not_more : (a b : ℕ) → nat_lt a b ≡ false → b ≤ a
 not_more a b h = grind (arith, nat_tests)
@@ -171,10 +169,13 @@ module _ (w : World) (p : List ℕ) (ticket : ℕ) (moment : List ℕ) (timed : 
       let less : Room items now = fewer_links (λ l. not (is_among (link_key u ∷ []) (link_key l))) items links room in
       let others : AllByRecursion (λ l. bytes_eq (link_key u) (link_key l) ≡ false) us = All-of_map (λ k. bytes_eq (link_key u) k ≡ false) link_key us (IsDistinct-head bytes_eq (link_key u) (map link_key us) apart) in
       let later : AllByRecursion (λ l. has link_key (link_key l) now ≡ true) us = All-both (λ l. has link_key (link_key l) links ≡ true) (λ l. bytes_eq (link_key u) (link_key l) ≡ false) (λ l. has link_key (link_key l) now ≡ true)
-          (λ l some other. still_has link_key (link_key l) (link_key u) links (bytes_eq_swap (link_key l) (link_key u) ∙ other) some) us there.1 others in
-      (timed, there.0, room_within items now less,
+      (λ l some other. still_has link_key (link_key l) (link_key u) links (bytes_eq_swap (link_key l) (link_key u) ∙ other) some) us there.1 others in (
+        timed,
+        there.0,
+        room_within items now less,
         subst (λ s. AreReady w s items now (map of (map (unlinking p) us) ++ rest)) (sym (append-nil since))
-        (ready_unlinks us since items now rest less later (IsDistinct-tail bytes_eq (link_key u) (map link_key us) apart) behind))
+            (ready_unlinks us since items now rest less later (IsDistinct-tail bytes_eq (link_key u) (map link_key us) apart) behind),
+      )
 
   -- ---- items go
 
@@ -187,10 +188,13 @@ module _ (w : World) (p : List ℕ) (ticket : ℕ) (moment : List ℕ) (timed : 
       let less : Room now links = fewer_items (λ i. not (is_among (d ∷ []) i.identity)) items links room in
       let others : AllByRecursion (λ k. bytes_eq d k ≡ false) ds = IsDistinct-head bytes_eq d ds apart in
       let later : AllByRecursion (λ k. has (λ i. i.identity) k now ≡ true) ds = All-both (λ k. has (λ (i : Item). i.identity) k items ≡ true) (λ k. bytes_eq d k ≡ false) (λ k. has (λ (i : Item). i.identity) k now ≡ true)
-          (λ k some other. still_has (λ i. i.identity) k d items (bytes_eq_swap k d ∙ other) some) ds there.1 others in
-      (timed, (there.0, untied.0), room_within now links less,
+      (λ k some other. still_has (λ i. i.identity) k d items (bytes_eq_swap k d ∙ other) some) ds there.1 others in (
+        timed,
+        (there.0, untied.0),
+        room_within now links less,
         subst (λ s. AreReady w s now links (map of (map (deleting p) ds) ++ rest)) (sym (append-nil since))
-        (ready_deletes ds since now links rest less later untied.1 (IsDistinct-tail bytes_eq d ds apart) behind))
+            (ready_deletes ds since now links rest less later untied.1 (IsDistinct-tail bytes_eq d ds apart) behind),
+      )
 
   -- ---- items come
 
@@ -222,15 +226,16 @@ module _ (w : World) (p : List ℕ) (ticket : ℕ) (moment : List ℕ) (timed : 
       let first = and_parts (not (bad_text (Add [] [] a.content))) (has_good_size a.content) parts.0 in
       let others : AllByRecursion (λ b. bytes_eq a.identity b.identity ≡ false) as' = All-of_map (λ k. bytes_eq a.identity k ≡ false) (λ i. i.identity) as' (IsDistinct-head bytes_eq a.identity (identities as') apart) in
       let new_later : AllByRecursion (λ b. is_among (since ++ a.identity ∷ []) b.identity ≡ false) as' =
-          All-both (λ b. is_among since b.identity ≡ false) (λ b. bytes_eq a.identity b.identity ≡ false) (λ b. is_among (since ++ a.identity ∷ []) b.identity ≡ false)
-          (λ b none other. list_any-append (λ x. bytes_eq x b.identity) since (a.identity ∷ []) ∙ or_false (is_among since b.identity) (bytes_eq a.identity b.identity || false) none (or-false (bytes_eq a.identity b.identity) ∙ other)) as' new.1 others in
+      All-both (λ b. is_among since b.identity ≡ false) (λ b. bytes_eq a.identity b.identity ≡ false) (λ b. is_among (since ++ a.identity ∷ []) b.identity ≡ false)
+      (λ b none other. list_any-append (λ x. bytes_eq x b.identity) since (a.identity ∷ []) ∙ or_false (is_among since b.identity) (bytes_eq a.identity b.identity || false) none (or-false (bytes_eq a.identity b.identity) ∙ other)) as' new.1 others in
       let free_later : AllByRecursion (λ b. takes_place (package_of now links) b.content ≡ false) as' =
-          All-both (λ b. takes_place (package_of items links) b.content ≡ false) (λ b. AreApart a b.content) (λ b. takes_place (package_of now links) b.content ≡ false)
-          (λ b none other. still_free a items links b.content other none) as' free.1 places.0 in
-      (timed,
+      All-both (λ b. takes_place (package_of items links) b.content ≡ false) (λ b. AreApart a b.content) (λ b. takes_place (package_of now links) b.content ≡ false)
+      (λ b none other. still_free a items links b.content other none) as' free.1 places.0 in (
+        timed,
         (same_text a.identity a.content (not_true (bad_text (Add [] [] a.content)) first.0), first.1, good_place a.identity a.content parts.1, good_ground a.identity a.content parts.1, unused.0, new.0, free.0),
         room_within now links (room_now as' now links less),
-        ready_adds as' (since ++ a.identity ∷ []) now links rest less fit.1 unused.1 new_later (IsDistinct-tail bytes_eq a.identity (identities as') apart) free_later places.1 behind)
+        ready_adds as' (since ++ a.identity ∷ []) now links rest less fit.1 unused.1 new_later (IsDistinct-tail bytes_eq a.identity (identities as') apart) free_later places.1 behind,
+      )
 
   -- ---- links come
 
@@ -244,7 +249,10 @@ module _ (w : World) (p : List ℕ) (ticket : ℕ) (moment : List ℕ) (timed : 
       let more : Room items now = record { tiles = room.tiles; media = room.media; rows = room.rows; joins = omega (arith, few, longer) } in
       let others : AllByRecursion (λ x. bytes_eq (link_key l) (link_key x) ≡ false) ls = All-of_map (λ k. bytes_eq (link_key l) k ≡ false) link_key ls (IsDistinct-head bytes_eq (link_key l) (map link_key ls) apart) in
       let later : AllByRecursion (λ x. has link_key (link_key x) now ≡ false) ls = All-both (λ x. has link_key (link_key x) links ≡ false) (λ x. bytes_eq (link_key l) (link_key x) ≡ false) (λ x. has link_key (link_key x) now ≡ false)
-          (λ x none other. still_lacks link_key (link_key x) l links other none) ls new.1 others in
-      (timed, (ends.0.0, ends.0.1, new.0), room_within items now more,
+      (λ x none other. still_lacks link_key (link_key x) l links other none) ls new.1 others in (
+        timed,
+        (ends.0.0, ends.0.1, new.0),
+        room_within items now more,
         subst (λ s. AreReady w s items now (map of (map (linking p) ls))) (sym (append-nil since))
-        (ready_links ls since items now more (omega (arith, few, longer)) ends.1 later (IsDistinct-tail bytes_eq (link_key l) (map link_key ls) apart)))
+            (ready_links ls since items now more (omega (arith, few, longer)) ends.1 later (IsDistinct-tail bytes_eq (link_key l) (map link_key ls) apart)),
+      )

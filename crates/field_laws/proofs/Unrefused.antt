@@ -1,5 +1,5 @@
 -- No request for a file that a package can take is refused.
-use Rattle.std.specs.Prelude.{◌≡◌, ◌≤◌, ◌+◌, ℕ, ℤ, Bool, true, false, cond, not, ◌&&◌, ◌||◌, ◌==◌, int_le, List, [], ◌∷◌, ◌++◌, map, filter, bytes_eq, count_by, sum_by, length, unsigned_abs, unwrap_or, IsPermutation, refl}
+use Rattle.std.specs.Prelude.{◌≡◌, ◌≤◌, ℕ, ℤ, Bool, true, false, cond, not, ◌&&◌, ◌||◌, int_le, List, [], ◌∷◌, ◌++◌, map, filter, bytes_eq, count_by, unsigned_abs, refl}
 use Rattle.std.proofs.Common.{sym, ap, subst, ◌∙◌, inl, inr, arith, append_assoc}
 use Rattle.std.specs.List.{list_any, list_all, AllByRecursion, AllZip, IsDistinct}
 use Rattle.std.proofs.lemmas.Bool.{true≢false, false≢true, or_parts, and_parts}
@@ -14,7 +14,7 @@ use Rattle.sheet_types.specs.Custody.{is_add, is_used}
 use Rattle.sheet_types.specs.Cut.{identities, has_end}
 use Rattle.sheet_types.specs.Matrix.{is_within}
 use Rattle.sheet_types.specs.Ordered.{has, is_among, without, IsArranged}
-use Rattle.sheet_types.specs.Refuse.{is_at, takes_place, place_of, is_overfull, too_many, greatest_packages, greatest_receipts, greatest_links}
+use Rattle.sheet_types.specs.Refuse.{is_at, takes_place, place_of, is_overfull}
 use Rattle.sheet_types.specs.Register.{IsRegister, IsKeptPackage}
 use Rattle.sheet_types.specs.Texts.{kind_of}
 use Rattle.sheet_types.specs.World.{World, Package, is_live, holdings, receipts_of, item_key, link_key, kind_number, base_kind, other_kind, is_tile, is_medium, is_row, kind_is}
@@ -35,19 +35,18 @@ use Rattle.sheet_types.proofs.Same.{In, In-all, All-In, In-filter, In-map, In-of
 use Rattle.sheet_types.proofs.Sums.{filter_less}
 use Rattle.sheet_laws.proofs.Contents.{IsUnaltered, each_unaltered}
 use Rattle.sheet_laws.proofs.Packages.{at_all}
-use Rattle.field_changes.specs.Asked.{unlinking, deleting, adding, linking, commands}
+use Rattle.field_changes.specs.Asked.{unlinking, deleting, adding, linking}
 use Rattle.field_changes.specs.Ids.{request_of}
-use Rattle.field_changes.specs.Naming.{names_of, names_behind, name_of, known_as}
+use Rattle.field_changes.specs.Naming.{names_behind, name_of, known_as}
 use Rattle.field_changes.specs.Parts.{gone, new_item, new_items, beyond}
 use Rattle.field_changes.specs.declared.held.HeldItem.{HeldItem}
 use Rattle.field_changes.specs.declared.held.HeldLink.{HeldLink}
 use Rattle.field_changes.specs.declared.naming.Name.{Name}
 use Rattle.field_changes.specs.declared.naming.Name.TheVariants.{Old, New}
 use Rattle.field_changes.specs.declared.naming.Named.{Named}
-use Rattle.field_run_laws.specs.Lists.{has_twice}
 use Rattle.field_run_laws.specs.Ready.{package_of, AreReady}
 use Rattle.field_run_laws.proofs.Keys.{are_distinct}
-use Rattle.field_run_laws.proofs.Lists.{moved, of_filter, folded, folded_without, all_put, into_put, sum_put}
+use Rattle.field_run_laws.proofs.Lists.{moved, of_filter, folded_without, all_put, into_put, sum_put}
 use Rattle.field_run_laws.proofs.Ready.{ready_run_is_unrefused}
 use Rattle.field_laws.specs.Changing.{Changes, names_in, NothingIsRefused}
 use Rattle.field_laws.specs.Checks.{is_fit, tile_places, CanTake}
@@ -117,10 +116,12 @@ same_within a z h =
 at_is : (zoom column row : ℤ) (d : Content) → is_at zoom column row d ≡ true → (kind_is TileItem (kind_of d) ≡ true) × (place_of d ≡ unsigned_abs zoom ∷ unsigned_abs column ∷ unsigned_abs row ∷ [])
 at_is zoom column row (Tile z c r bytes) h =
     let last = and_parts (is_within zoom zoom z && is_within column column c) (is_within row row r) h in
-    let two = and_parts (is_within zoom zoom z) (is_within column column c) last.0 in
-    (refl, ap (λ v. unsigned_abs v ∷ unsigned_abs c ∷ unsigned_abs r ∷ []) (same_within zoom z two.0)
-        ∙ ap (λ v. unsigned_abs zoom ∷ unsigned_abs v ∷ unsigned_abs r ∷ []) (same_within column c two.1)
-        ∙ ap (λ v. unsigned_abs zoom ∷ unsigned_abs column ∷ unsigned_abs v ∷ []) (same_within row r last.1))
+    let two = and_parts (is_within zoom zoom z) (is_within column column c) last.0 in (
+      refl,
+      ap (λ v. unsigned_abs v ∷ unsigned_abs c ∷ unsigned_abs r ∷ []) (same_within zoom z two.0)
+          ∙ ap (λ v. unsigned_abs zoom ∷ unsigned_abs v ∷ unsigned_abs r ∷ []) (same_within column c two.1)
+          ∙ ap (λ v. unsigned_abs zoom ∷ unsigned_abs column ∷ unsigned_abs v ∷ []) (same_within row r last.1),
+    )
 at_is zoom column row (Media content_type bytes) h = absurd (false≢true h)
 at_is zoom column row (Row x y code label) h = absurd (false≢true h)
 
@@ -152,7 +153,7 @@ places_named R (h ∷ hs) [] all = absurd all
 places_named R (h ∷ hs) (n ∷ ns) all =
     let i : Item = record { identity = n.identity; content = h.content } in
     elim (kind_is TileItem (kind_of h.content)) as (λ v. map (λ (j : Item). place_of j.content) (cond v (i ∷ filter is_tile (named_items ns hs)) (filter is_tile (named_items ns hs)))
-        ≡ map (λ (g : HeldItem). place_of g.content) (cond v (h ∷ filter (λ g. kind_is TileItem (kind_of g.content)) hs) (filter (λ g. kind_is TileItem (kind_of g.content)) hs))) [
+    ≡ map (λ (g : HeldItem). place_of g.content) (cond v (h ∷ filter (λ g. kind_is TileItem (kind_of g.content)) hs) (filter (λ g. kind_is TileItem (kind_of g.content)) hs))) [
       | true ↦ ap (λ l. place_of h.content ∷ l) (places_named R hs ns all.1)
       | false ↦ places_named R hs ns all.1
     ]
@@ -230,7 +231,7 @@ module _ (ns : List Named) (items : List Item) where
   untied linked fl join join_file named true us is = tt
   untied linked fl join join_file named false us is = All-weaker (λ d. In d (identities (gone ns items))) (λ d. list_any (has_end d) (without link_key (map link_key us) linked) ≡ false)
       (λ d i. none_any (has_end d) (without link_key (map link_key us) linked)
-          (All-weaker (λ l. In l (without link_key (map link_key us) linked)) (λ l. has_end d l ≡ false) (λ l j. false_by (has_end d l) (λ tied. ends d i l (in_fl l j) tied)) (without link_key (map link_key us) linked) (In-all (without link_key (map link_key us) linked))))
+      (All-weaker (λ l. In l (without link_key (map link_key us) linked)) (λ l. has_end d l ≡ false) (λ l j. false_by (has_end d l) (λ tied. ends d i l (in_fl l j) tied)) (without link_key (map link_key us) linked) (In-all (without link_key (map link_key us) linked))))
       (identities (gone ns items)) (In-all (identities (gone ns items)))
     where
       in_fl : (l : Relation) → In l (without link_key (map link_key us) linked) → In l fl
@@ -312,11 +313,11 @@ module _ (w : World) (p : List ℕ) (ticket : ℕ) (moment : List ℕ) (more : B
   used i there =
       let unaltered : IsUnaltered w i = All-In (IsUnaltered w) i x.items (at_all w (λ y. AllByRecursion (IsUnaltered w) y.items) p (each_unaltered w register.unaltered) live).0 there in
       any_implies (λ r. is_add r && list_any (names_as i) r.items) (λ r. is_add r && has (λ m. m.base) i.identity r.items)
-          (λ r e.
-          let parts = and_parts (is_add r) (list_any (names_as i) r.items) e in
-          ap (λ b. b && has (λ m. m.base) i.identity r.items) parts.0
-          ∙ any_implies (names_as i) (λ m. bytes_eq m.base i.identity) (λ m f. (and_parts (bytes_eq m.base i.identity) _ (and_parts _ _ f).0).0) r.items parts.1)
-          (receipts_of w) unaltered
+      (λ r e.
+      let parts = and_parts (is_add r) (list_any (names_as i) r.items) e in
+      ap (λ b. b && has (λ m. m.base) i.identity r.items) parts.0
+      ∙ any_implies (names_as i) (λ m. bytes_eq m.base i.identity) (λ m f. (and_parts (bytes_eq m.base i.identity) _ (and_parts _ _ f).0).0) r.items parts.1)
+      (receipts_of w) unaltered
 
   unused_all : AllByRecursion (λ a. is_used w a.identity ≡ false) adds
   unused_all = none_pass (λ a. is_used w a.identity) adds can.unused
@@ -364,15 +365,15 @@ module _ (w : World) (p : List ℕ) (ticket : ℕ) (moment : List ℕ) (more : B
             absurd (true≢false (sym u_used ∙ All-In (λ b. is_used w b.identity ≡ false) u adds unused_all u_new))
         | false ↦ λ old.
             let same : u ≡ i = two_are_one (λ y. bytes_eq y.identity i.identity) u i x.items (distinct_counts (λ y. y.identity) i.identity x.items k.identities)
-                (old_stands x.items it.beside n.0 old it.fits.0) (of_left i there) n.2 (bytes_eq_itself i.identity) in
+            (old_stands x.items it.beside n.0 old it.fits.0) (of_left i there) n.2 (bytes_eq_itself i.identity) in
             subst (λ y. In y (named_items ns file)) same it.named
       ] refl
 
   places_free : AllByRecursion (λ a. takes_place (package_of left stay) a.content ≡ false) adds
   places_free = All-weaker (λ a. In a adds) (λ a. takes_place (package_of left stay) a.content ≡ false)
       (λ a i. false_by (takes_place (package_of left stay) a.content) (λ taken.
-          let it = takes_one a.content left stay taken in
-          never more changes.for_file.deletes can.places_free a i it.0 it.1 it.2)) adds (In-all adds)
+      let it = takes_one a.content left stay taken in
+      never more changes.for_file.deletes can.places_free a i it.0 it.1 it.2)) adds (In-all adds)
     where
       never : (v : Bool) → ds ≡ goes ns x.items v → (v && list_any (λ a. takes_place x a.content) adds) ≡ false → (a : Item) → In a adds → (i : Item) → In i left → takes_place (package_of (i ∷ []) []) a.content ≡ true → ⊥
       never true is free a a_in i i_in taken =
@@ -386,9 +387,9 @@ module _ (w : World) (p : List ℕ) (ticket : ℕ) (moment : List ℕ) (more : B
   new_places (a ∷ as') whole apart = (
     All-weaker (λ b. In b as') (λ b. AreApart a b.content)
         (λ b i. false_by (takes_place (package_of (a ∷ []) []) b.content) (λ taken.
-            let same : a ≡ b = meet_same a b (add_named a (whole a (inl refl))) (add_named b (whole b (inr i))) taken in
-            let other : bytes_eq a.identity b.identity ≡ false = All-In (λ id. bytes_eq a.identity id ≡ false) b.identity (identities as') (IsDistinct-head bytes_eq a.identity (identities as') apart) (In-map (λ y. y.identity) b as' i) in
-            true≢false (sym (ap (λ y. bytes_eq a.identity y.identity) (sym same) ∙ bytes_eq_itself a.identity) ∙ other))) as' (In-all as'),
+        let same : a ≡ b = meet_same a b (add_named a (whole a (inl refl))) (add_named b (whole b (inr i))) taken in
+        let other : bytes_eq a.identity b.identity ≡ false = All-In (λ id. bytes_eq a.identity id ≡ false) b.identity (identities as') (IsDistinct-head bytes_eq a.identity (identities as') apart) (In-map (λ y. y.identity) b as' i) in
+        true≢false (sym (ap (λ y. bytes_eq a.identity y.identity) (sym same) ∙ bytes_eq_itself a.identity) ∙ other))) as' (In-all as'),
     new_places as' (λ b i. whole b (inr i)) (IsDistinct-tail bytes_eq a.identity (identities as') apart),
   )
 
@@ -433,10 +434,10 @@ module _ (w : World) (p : List ℕ) (ticket : ℕ) (moment : List ℕ) (more : B
       let u : Item = record { identity = e.name.identity; content = it.beside.content } in
       let key_is : item_key u ≡ kind_number kind ∷ id = ap (λ m. kind_number m ∷ e.name.identity) (sym it.fits.1 ∙ e.kind_is) ∙ ap (λ v. kind_number kind ∷ v) e.identity_is in
       let there : In u all_items =
-          elim e.name.is_new as (λ v. e.name.is_new ≡ v → In u all_items) [
-            | true ↦ λ new. into_put item_key u adds left (inl (moved u fresh adds changes.for_file.adds (it.new new)))
-            | false ↦ λ old. into_put item_key u adds left (inr (old_left e.name e.there it.beside old it.fits.0))
-          ] refl in
+      elim e.name.is_new as (λ v. e.name.is_new ≡ v → In u all_items) [
+        | true ↦ λ new. into_put item_key u adds left (inl (moved u fresh adds changes.for_file.adds (it.new new)))
+        | false ↦ λ old. into_put item_key u adds left (inr (old_left e.name e.there it.beside old it.fits.0))
+      ] refl in
       any_in (λ i. bytes_eq (item_key i) (kind_number kind ∷ id)) u all_items there ((bytes_eq-Decides (item_key u) (kind_number kind ∷ id)).1 key_is)
 
   both_there : (l : Relation) → In l ls → HasBoth all_items l
@@ -470,30 +471,30 @@ module _ (w : World) (p : List ℕ) (ticket : ℕ) (moment : List ℕ) (more : B
       let a = map of (map (adding p) adds) in
       let l = map of (map (linking p) ls) in
       let is : requests ≡ u ++ (d ++ (a ++ l)) =
-          changes.asked ∙ made.apart of (λ c. refl) p us ds adds ls ∙ append_assoc (u ++ d) a l ∙ append_assoc u d (a ++ l) in
+      changes.asked ∙ made.apart of (λ c. refl) p us ds adds ls ∙ append_assoc (u ++ d) a l ∙ append_assoc u d (a ++ l) in
       let links_come : (later : List (List ℕ)) → AreReady w later all_items stay l = λ later.
-          ready_links w p ticket moment can.moment_fits ls later all_items stay whole_room (omega (arith, then_room.joins, length-append ls stay))
-          (All-weaker (λ y. In y ls) (HasBoth all_items) both_there ls (In-all ls)) (All-weaker (λ y. In y ls) (λ y. has link_key (link_key y) stay ≡ false) not_there ls (In-all ls))
-          (link_once ls changes.for_file.links_order) in
+      ready_links w p ticket moment can.moment_fits ls later all_items stay whole_room (omega (arith, then_room.joins, length-append ls stay))
+      (All-weaker (λ y. In y ls) (HasBoth all_items) both_there ls (In-all ls)) (All-weaker (λ y. In y ls) (λ y. has link_key (link_key y) stay ≡ false) not_there ls (In-all ls))
+      (link_once ls changes.for_file.links_order) in
       let items_come : AreReady w [] left stay (a ++ l) =
-          ready_adds w p ticket moment can.moment_fits adds [] left stay l add_room
-          (all_moved (λ y. is_fit w.frame y.content ≡ true) fresh adds changes.for_file.adds (fit_new w.frame ns file can.contents_fit)) unused_all
-          (All-weaker (λ y. In y adds) (λ y. is_among [] y.identity ≡ false) (λ y i. refl) adds (In-all adds)) (are_distinct (identities adds) can.identities_apart) places_free
-          (new_places adds (λ y i. i) (are_distinct (identities adds) can.identities_apart)) links_come in
+      ready_adds w p ticket moment can.moment_fits adds [] left stay l add_room
+      (all_moved (λ y. is_fit w.frame y.content ≡ true) fresh adds changes.for_file.adds (fit_new w.frame ns file can.contents_fit)) unused_all
+      (All-weaker (λ y. In y adds) (λ y. is_among [] y.identity ≡ false) (λ y i. refl) adds (In-all adds)) (are_distinct (identities adds) can.identities_apart) places_free
+      (new_places adds (λ y i. i) (are_distinct (identities adds) can.identities_apart)) links_come in
       let items_go : AreReady w [] x.items stay (d ++ (a ++ l)) =
-          ready_deletes w p ticket moment can.moment_fits ds [] x.items stay (a ++ l) (fewer_links (λ y. not (is_among (map link_key us) (link_key y))) x.items x.links now_room)
-          (subst (AllByRecursion (λ q. has (λ (i : Item). i.identity) q x.items ≡ true)) (sym changes.for_file.deletes) (goes_there ns x.items more))
-          (subst (AllByRecursion (λ q. list_any (has_end q) stay ≡ false)) (sym changes.for_file.deletes)
-              (untied ns x.items x.links fl (makes.links_join w p ticket moment more file held requests register live changes) (makes.file_links_join w p ticket moment more file held requests register live changes)
-                  (makes.named_links w p ticket moment more file held requests register live changes) more us changes.for_file.unlinks))
-          (subst (IsDistinct bytes_eq) (sym changes.for_file.deletes) (goes_once ns x.items more k.identities))
-          (subst (λ y. AreReady w [] y stay (a ++ l)) (sym (folded_without (λ (i : Item). i.identity) (λ q. q) ds x.items ∙ ap (λ qs. without (λ (i : Item). i.identity) qs x.items) (same_keys ds))) items_come) in
+      ready_deletes w p ticket moment can.moment_fits ds [] x.items stay (a ++ l) (fewer_links (λ y. not (is_among (map link_key us) (link_key y))) x.items x.links now_room)
+      (subst (AllByRecursion (λ q. has (λ (i : Item). i.identity) q x.items ≡ true)) (sym changes.for_file.deletes) (goes_there ns x.items more))
+      (subst (AllByRecursion (λ q. list_any (has_end q) stay ≡ false)) (sym changes.for_file.deletes)
+      (untied ns x.items x.links fl (makes.links_join w p ticket moment more file held requests register live changes) (makes.file_links_join w p ticket moment more file held requests register live changes)
+      (makes.named_links w p ticket moment more file held requests register live changes) more us changes.for_file.unlinks))
+      (subst (IsDistinct bytes_eq) (sym changes.for_file.deletes) (goes_once ns x.items more k.identities))
+      (subst (λ y. AreReady w [] y stay (a ++ l)) (sym (folded_without (λ (i : Item). i.identity) (λ q. q) ds x.items ∙ ap (λ qs. without (λ (i : Item). i.identity) qs x.items) (same_keys ds))) items_come) in
       subst (AreReady w [] x.items x.links) (sym is)
       (ready_unlinks w p ticket moment can.moment_fits us [] x.items x.links (d ++ (a ++ l)) now_room
-          (All-weaker (λ y. In y x.links) (λ y. has link_key (link_key y) x.links ≡ true) (λ y i. any_in (λ z. bytes_eq (link_key z) (link_key y)) y x.links i (bytes_eq_itself (link_key y))) us
-              (makes.unlinks_are w p ticket moment more file held requests register live changes))
-          (link_once us (subst (IsArranged link_key) (sym changes.for_file.unlinks) (us_arranged more)))
-          (subst (λ y. AreReady w [] x.items y (d ++ (a ++ l))) (sym (folded_without link_key link_key us x.links)) items_go))
+      (All-weaker (λ y. In y x.links) (λ y. has link_key (link_key y) x.links ≡ true) (λ y i. any_in (λ z. bytes_eq (link_key z) (link_key y)) y x.links i (bytes_eq_itself (link_key y))) us
+      (makes.unlinks_are w p ticket moment more file held requests register live changes))
+      (link_once us (subst (IsArranged link_key) (sym changes.for_file.unlinks) (us_arranged more)))
+      (subst (λ y. AreReady w [] x.items y (d ++ (a ++ l))) (sym (folded_without link_key link_key us x.links)) items_go))
 
 pub nothing_is_refused : NothingIsRefused
 nothing_is_refused w p ticket moment more file held requests replies next register live changes can run =

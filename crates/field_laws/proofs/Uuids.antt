@@ -1,14 +1,13 @@
 -- An identity that a text gives is a UUID.
-use Rattle.std.specs.Prelude.{◌≡◌, ◌<◌, ◌≤◌, ◌+◌, ◌%◌, ℕ, zero, suc, List, [], ◌∷◌, ◌++◌, length, take, slice_index, slice_set}
-use Rattle.std.proofs.Common.{sym, ap, ◌∙◌, arith}
+use Rattle.std.specs.Prelude.{◌≡◌, ◌<◌, ◌+◌, ◌%◌, ℕ, zero, suc, List, [], ◌∷◌, length, take, slice_index, slice_set}
+use Rattle.std.proofs.Common.{◌∙◌, arith}
 use Rattle.std.proofs.lemmas.List.{length-set, length-take-le}
 use Rattle.std.specs.Int.{to_be_bytes, w32}
 use Rattle.std.specs.List.{AllByRecursion}
 use Rattle.sha2.specs.Sha256.{sha256, digest_bytes, final_hash, initial_hash_256}
 use Rattle.sha2.proofs.Facts256.{length-sha256}
-use Rattle.uuid.specs.Parts.{with_variant, with_version}
+use Rattle.uuid.specs.Parts.{with_variant}
 use Rattle.uuid.specs.declared.Variant.TheVariants.{RFC4122}
-use Rattle.uuid.specs.declared.Version.TheVariants.{Custom}
 use Rattle.sheet_types.specs.Lines.{IsUuid}
 use Rattle.sheet_types.proofs.Every.{All-append}
 use Rattle.sheet_types.proofs.Fitting.{bytes_fit}
@@ -47,5 +46,5 @@ derived_is_uuid text =
     let long : length front ≡ 16 = length-take-le 16 (sha256 text) (omega (arith, length-sha256 text)) in
     let varied : List ℕ = with_variant front RFC4122 in
     bytes_fit 16 (derived text)
-        (length-set varied 6 (slice_index varied 6 % 16 + 128) ∙ length-set front 8 (slice_index front 8 % 64 + 128) ∙ long)
-        (small_set varied 6 (slice_index varied 6 % 16 + 128) (omega arith) (small_set front 8 (slice_index front 8 % 64 + 128) (omega arith) (small_take 16 (sha256 text) (sha_small text))))
+    (length-set varied 6 (slice_index varied 6 % 16 + 128) ∙ length-set front 8 (slice_index front 8 % 64 + 128) ∙ long)
+    (small_set varied 6 (slice_index varied 6 % 16 + 128) (omega arith) (small_set front 8 (slice_index front 8 % 64 + 128) (omega arith) (small_take 16 (sha256 text) (sha_small text))))

@@ -78,7 +78,7 @@ MoreAdds = (w : World) (p : List ℕ) (ticket : ℕ) (moment : List ℕ) (file :
     IsRegister w → is_live w p ≡ true → (changes : Changes w p ticket moment true file held requests) → AreNew w requests →
     Run w requests replies next → AreGiven replies →
     HoldsNow w next p (arranged item_key (new_items (names_in w p ticket file) file ++ (holdings w p).items))
-        (arranged link_key (beyond (holdings w p).links changes.for_file.file_links ++ (holdings w p).links)) (length requests)
+    (arranged link_key (beyond (holdings w p).links changes.for_file.file_links ++ (holdings w p).links)) (length requests)
 
 -- where the package can take the file, no request is refused
 abbrev pub NothingIsRefused : Type 0

@@ -1,7 +1,7 @@
 -- An example: an empty archive, and a file with one tile. Profile.
 use Rattle.std.specs.Prelude.{◌≡◌, true, false, ℕ, pos, List, [], ◌∷◌, None, codes}
 use Rattle.sheet_types.specs.Register.{IsRegister}
-use Rattle.sheet_types.specs.World.{World, is_live, new_world}
+use Rattle.sheet_types.specs.World.{is_live, new_world}
 use Rattle.sheet_types.specs.declared.command.Content.{Content}
 use Rattle.sheet_types.specs.declared.command.Content.TheVariants.{Tile}
 use Rattle.sheet_types.specs.declared.command.Item.{Item}

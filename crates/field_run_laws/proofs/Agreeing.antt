@@ -1,10 +1,10 @@
 -- Runs of one list of requests in which each got a receipt.
-use Rattle.std.specs.Prelude.{◌≡◌, List, [], ◌∷◌, refl, Result, Ok, Err}
+use Rattle.std.specs.Prelude.{◌≡◌, [], ◌∷◌}
 use Rattle.std.proofs.Common.{sym, subst, ◌∙◌, inl, inr}
 use Rattle.sheet_types.specs.Step.{Step, Run, outcome}
 use Rattle.sheet_types.specs.World.{World}
 use Rattle.sheet_types.specs.declared.command.Request.{Request}
-use Rattle.field_run_laws.specs.Lists.{Reply, IsGiven, AreGiven}
+use Rattle.field_run_laws.specs.Lists.{Reply, IsGiven}
 use Rattle.field_run_laws.specs.Laws.{GivenRunsAgree}
 
 -- such a step is the outcome

@@ -1,7 +1,7 @@
 -- A world behind some requests in one package, and one request more.
-use Rattle.std.specs.Prelude.{◌≡◌, ◌<◌, ℕ, ◌+◌, Bool, true, false, cond, not, ◌&&◌, ◌||◌, List, [], ◌∷◌, ◌++◌, map, find, length, refl, bytes_eq, is_some, Option, Some, None, Result, Ok, Err}
-use Rattle.std.proofs.Common.{sym, ap, subst, ◌∙◌, inl, inr, arith, append_assoc}
-use Rattle.std.proofs.lemmas.Bool.{true≢false, false≢true, or_parts}
+use Rattle.std.specs.Prelude.{◌≡◌, ℕ, ◌+◌, Bool, true, false, cond, ◌&&◌, ◌||◌, List, [], ◌∷◌, ◌++◌, map, find, length, refl, bytes_eq, is_some, Some, None}
+use Rattle.std.proofs.Common.{sym, ap, subst, ◌∙◌, inl, inr, append_assoc}
+use Rattle.std.proofs.lemmas.Bool.{true≢false, or_parts}
 use Rattle.std.proofs.lemmas.List.{append-nil, length-map, map-append, length-append}
 use Rattle.std.proofs.lemmas.List.Folds.{list_any-append}
 use Rattle.std.specs.Bool.{then_some}
@@ -12,28 +12,26 @@ use Rattle.sheet_types.specs.Lines.{HasTypes, entry_from, is_adding}
 use Rattle.sheet_types.specs.Ordered.{has, is_among}
 use Rattle.sheet_types.specs.Refuse.{reasons}
 use Rattle.sheet_types.specs.Register.{IsRegister}
-use Rattle.sheet_types.specs.Step.{Step, Run, accepted, carried_out, receipt_of, kept_reply, refuses, outcome_by, IsFault}
+use Rattle.sheet_types.specs.Step.{Step, Run, accepted, carried_out, receipt_of, kept_reply, refuses, outcome_by}
 use Rattle.sheet_types.specs.Texts.{line, entry_of}
-use Rattle.sheet_types.specs.World.{World, Package, receipts_of, receipt_key, holdings, is_live, with_receipt, changed}
+use Rattle.sheet_types.specs.World.{World, Package, receipts_of, holdings, is_live, with_receipt, changed}
 use Rattle.sheet_types.specs.declared.command.Command.{Command}
 use Rattle.sheet_types.specs.declared.command.Command.TheVariants.{Add, Delete, Link, Unlink, Split, Merge}
 use Rattle.sheet_types.specs.declared.command.Item.{Item}
 use Rattle.sheet_types.specs.declared.command.Relation.{Relation}
 use Rattle.sheet_types.specs.declared.command.Request.{Request}
 use Rattle.sheet_types.specs.declared.receipt.Receipt.{Receipt}
-use Rattle.sheet_types.specs.declared.refusal.Refusal.{Refusal}
-use Rattle.sheet_types.proofs.Basics.{bytes_eq_itself, None≢Some, or-false}
+use Rattle.sheet_types.proofs.Basics.{or-false}
 use Rattle.sheet_types.proofs.Fitting.{entry_fits}
 use Rattle.sheet_types.proofs.Found.{not_found}
 use Rattle.sheet_types.proofs.LineReading.{entry_from-line}
 use Rattle.sheet_types.proofs.Without.{among_keys}
 use Rattle.sheet_laws.proofs.Accepting.{rows_fail}
 use Rattle.sheet_laws.proofs.Keeping.{live_changed}
-use Rattle.sheet_laws.proofs.Ledger.{by_entry}
 use Rattle.sheet_laws.proofs.Packages.{holdings_same, holdings_other, receipts_gained, with_receipt_gains}
 use Rattle.sheet_laws.proofs.Running.{step_keeps_register}
 use Rattle.sheet_laws.proofs.Shifting.{numbers_below}
-use Rattle.field_run_laws.specs.Lists.{Reply, IsWithin, AreWithin, AreNew, is_kept, has_twice, items_after, links_after, items_through, links_through, HoldsNow, IsGiven, AreGiven}
+use Rattle.field_run_laws.specs.Lists.{Reply, IsWithin, AreWithin, is_kept, has_twice, items_after, links_after, items_through, links_through, HoldsNow, IsGiven, AreGiven}
 use Rattle.field_run_laws.specs.Ready.{added}
 use Rattle.field_run_laws.proofs.Keys.{apart_from}
 
@@ -171,7 +169,7 @@ was_accepted m q reply next new step given =
     elim step [
       | inl done ↦
           let is : (reply ≡ (outcome_by m q None (refuses m q)).0) × (next ≡ (outcome_by m q None (refuses m q)).1) =
-              subst (λ k. (reply ≡ (outcome_by m q k (refuses m q)).0) × (next ≡ (outcome_by m q k (refuses m q)).1)) no_reply done in
+          subst (λ k. (reply ≡ (outcome_by m q k (refuses m q)).0) × (next ≡ (outcome_by m q k (refuses m q)).1)) no_reply done in
           elim (refuses m q) as (λ o. refuses m q ≡ o → (reply ≡ (outcome_by m q None o).0) × (next ≡ (outcome_by m q None o).1) → (refuses m q ≡ None) × (next ≡ accepted m q)) [
             | None ↦ λ e it. (e, it.1)
             | Some why ↦ λ _ it. absurd (subst IsGiven it.0 given)
@@ -192,8 +190,8 @@ run_stage w m p done items links live s (q ∷ qs) (reply ∷ replies) next with
     let it : (refuses m q ≡ None) × (run.0 ≡ accepted m q) = was_accepted m q reply run.0 (still_new w m p done items links live s q parts.0 alone) run.1 given.0 in
     let register : IsRegister run.0 = step_keeps_register m q reply run.0 within.0.0 s.register run.1 in
     let there : Stage w run.0 p (done ++ q ∷ []) (items_after q.command items) (links_after q.command links) =
-        subst (λ v. Stage w v p (done ++ q ∷ []) (items_after q.command items) (links_after q.command links)) (sym it.1)
-        (one_more w m p done items links live s q within.0.0 within.0.1 it.0 (subst IsRegister it.1 register)) in
+    subst (λ v. Stage w v p (done ++ q ∷ []) (items_after q.command items) (links_after q.command links)) (sym it.1)
+    (one_more w m p done items links live s q within.0.0 within.0.1 it.0 (subst IsRegister it.1 register)) in
     let whole : (done ++ q ∷ []) ++ qs ≡ done ++ (q ∷ qs) = append_assoc done (q ∷ []) qs in
     subst (λ l. Stage w next p l (items_through qs (items_after q.command items)) (links_through qs (links_after q.command links))) whole
     (run_stage w run.0 p (done ++ q ∷ []) (items_after q.command items) (links_after q.command links) live there qs replies next within.1 parts.1 (ap (λ l. has_twice (map (λ x. x.id) l)) whole ∙ apart) run.2 given.1)

@@ -1,11 +1,11 @@
 -- Keys of which none stands there twice.
-use Rattle.std.specs.Prelude.{◌≡◌, ℕ, Bool, true, false, cond, ◌||◌, List, [], ◌∷◌, ◌++◌, map, refl, bytes_eq, is_some, find, Option, Some, None}
+use Rattle.std.specs.Prelude.{◌≡◌, ℕ, false, ◌||◌, List, [], ◌∷◌, ◌++◌, refl, bytes_eq}
 use Rattle.std.proofs.Common.{sym, ap, ◌∙◌}
-use Rattle.std.proofs.lemmas.Bool.{true≢false, or_parts}
+use Rattle.std.proofs.lemmas.Bool.{or_parts}
 use Rattle.std.proofs.lemmas.List.Folds.{list_any-append}
-use Rattle.std.specs.List.{list_any, AllByRecursion, IsDistinct}
+use Rattle.std.specs.List.{IsDistinct}
 use Rattle.sheet_types.specs.Ordered.{is_among}
-use Rattle.sheet_types.proofs.Basics.{bytes_eq_itself, bytes_eq_swap, or-true}
+use Rattle.sheet_types.proofs.Basics.{bytes_eq_swap}
 use Rattle.sheet_types.proofs.Every.{none_pass, All-weaker}
 use Rattle.field_run_laws.specs.Lists.{has_twice}
 

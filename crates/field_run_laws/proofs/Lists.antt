@@ -1,22 +1,18 @@
 -- Lists that requests take apart and put together.
-use Rattle.std.specs.Prelude.{◌≡◌, ◌⊎◌, ℕ, ◌+◌, ◌≤◌, Bool, true, false, cond, not, ◌&&◌, ◌||◌, List, [], ◌∷◌, ◌++◌, map, filter, refl, bytes_eq, sum_by, count_by, IsPermutation, Contains}
+use Rattle.std.specs.Prelude.{◌≡◌, ◌⊎◌, ℕ, ◌+◌, ◌≤◌, Bool, true, false, cond, not, ◌||◌, List, [], ◌∷◌, ◌++◌, map, filter, refl, bytes_eq, sum_by, count_by, IsPermutation, Contains}
 use Rattle.std.proofs.Common.{sym, ap, subst, ◌∙◌, inl, inr, arith}
-use Rattle.std.proofs.lemmas.Bool.{true≢false, false≢true}
 use Rattle.std.proofs.lemmas.List.Elements.{All-from_recursion}
 use Rattle.std.proofs.lemmas.List.Sorted.{Contains-permutation}
-use Rattle.std.proofs.lemmas.List.Sums.{sum_by-append, sum_by-cons}
-use Rattle.std.specs.List.{list_any, AllByRecursion, All}
-use Rattle.sheet_types.specs.Ordered.{put, arranged, has, without, is_among, IsArranged}
-use Rattle.sheet_types.specs.Step.{relation}
-use Rattle.sheet_types.specs.World.{item_key, link_key}
+use Rattle.std.proofs.lemmas.List.Sums.{sum_by-cons}
+use Rattle.std.specs.List.{AllByRecursion}
+use Rattle.sheet_types.specs.Ordered.{put, arranged, without, is_among, IsArranged}
 use Rattle.sheet_types.specs.declared.command.Command.{Command}
 use Rattle.sheet_types.specs.declared.command.Item.{Item}
 use Rattle.sheet_types.specs.declared.command.Relation.{Relation}
 use Rattle.sheet_types.specs.declared.command.Request.{Request}
-use Rattle.sheet_types.proofs.Basics.{or-true, or-false}
 use Rattle.sheet_types.proofs.Every.{All-weaker}
 use Rattle.sheet_types.proofs.Order.{All-put, All-of_put, All-arranged, All-of_arranged, sum_by-put, arranged_counts}
-use Rattle.sheet_types.proofs.Same.{In, In-all, All-In, In-filter, In-append, In-of_append, Contains-In, any_in, any_at, same_list}
+use Rattle.sheet_types.proofs.Same.{In, In-all, All-In, Contains-In, same_list}
 use Rattle.field_run_laws.specs.Lists.{items_after, links_after, items_through, links_through}
 
 -- ---- elements

@@ -1,45 +1,38 @@
 -- A request that is ready is not refused.
-use Rattle.std.specs.Prelude.{◌≡◌, ◌≤◌, ◌<◌, ◌+◌, ℕ, Bool, true, false, cond, not, ◌&&◌, ◌||◌, nat_lt, List, [], ◌∷◌, ◌++◌, map, find, length, Option, Some, None, Result, Ok, Err, bytes_eq, unwrap_or, refl}
+use Rattle.std.specs.Prelude.{◌≡◌, ◌≤◌, ◌+◌, ℕ, Bool, true, false, cond, not, ◌&&◌, ◌||◌, nat_lt, List, [], ◌∷◌, ◌++◌, map, find, length, Option, Some, None, Ok, bytes_eq, unwrap_or, refl}
 use Rattle.std.proofs.Common.{sym, ap, subst, ◌∙◌, inl, inr, arith, append_assoc, drop}
-use Rattle.std.proofs.lemmas.Bool.{true≢false, false≢true, or_parts, le-ltb}
+use Rattle.std.proofs.lemmas.Bool.{or_parts, le-ltb}
 use Rattle.std.proofs.lemmas.List.{length-append, length-map, map-append}
 use Rattle.std.specs.Bool.{then_some}
-use Rattle.std.specs.List.{list_any, list_all, AllByRecursion}
+use Rattle.std.specs.List.{list_any, AllByRecursion}
 use Rattle.std.specs.Option.{option_and_then, option_map_or}
-use Rattle.sheet_types.specs.Custody.{kept, is_used}
+use Rattle.sheet_types.specs.Custody.{kept}
 use Rattle.sheet_types.specs.Cut.{has_end}
-use Rattle.sheet_types.specs.Lines.{HasTypes}
 use Rattle.sheet_types.specs.Matrix.{first_row, has_place, in_frame}
 use Rattle.sheet_types.specs.Ordered.{has, is_among}
-use Rattle.sheet_types.specs.Refuse.{reasons, refusal, id_reused, bad_text, bad_place, out_of_frame, is_at, takes_place, is_overfull, too_many, greatest_packages, greatest_receipts, has_link}
+use Rattle.sheet_types.specs.Refuse.{reasons, id_reused, bad_text, bad_place, out_of_frame, is_at, takes_place, is_overfull, too_many, greatest_packages, greatest_receipts}
 use Rattle.sheet_types.specs.Register.{IsRegister}
-use Rattle.sheet_types.specs.Step.{Step, Run, accepted, receipt_of, kept_reply, refuses, outcome_by, IsFault, relation}
+use Rattle.sheet_types.specs.Step.{Run, accepted, receipt_of, kept_reply, refuses, outcome_by, relation}
 use Rattle.sheet_types.specs.Texts.{line, is_moment}
-use Rattle.sheet_types.specs.World.{World, Package, package_key, no_package, holdings, is_live, receipts_of, item_key, link_key, kind_number, base_kind, other_kind, has_item, has_kind, changed}
+use Rattle.sheet_types.specs.World.{World, Package, no_package, holdings, is_live, receipts_of, item_key, link_key, kind_number, base_kind, other_kind, has_item, has_kind, changed}
 use Rattle.sheet_types.specs.declared.command.Command.{Command}
 use Rattle.sheet_types.specs.declared.command.Command.TheVariants.{Add, Delete, Link, Unlink, Split, Merge}
 use Rattle.sheet_types.specs.declared.command.Content.{Content}
 use Rattle.sheet_types.specs.declared.command.Content.TheVariants.{Tile, Media, Row}
 use Rattle.sheet_types.specs.declared.command.Item.{Item}
-use Rattle.sheet_types.specs.declared.command.Mapping.{Mapping}
 use Rattle.sheet_types.specs.declared.command.Relation.{Relation}
 use Rattle.sheet_types.specs.declared.command.Request.{Request}
-use Rattle.sheet_types.specs.declared.frame.Frame.{Frame}
 use Rattle.sheet_types.specs.declared.receipt.MovedKind.{MovedKind}
 use Rattle.sheet_types.specs.declared.receipt.Receipt.{Receipt}
-use Rattle.sheet_types.specs.declared.refusal.Refusal.{Refusal}
-use Rattle.sheet_types.specs.declared.refusal.Refusal.TheVariants.{OutOfMemory, StoreFault}
-use Rattle.sheet_types.proofs.Basics.{bytes_eq_itself, or-false}
-use Rattle.sheet_types.proofs.Every.{All-weaker, none_pass, none_any}
-use Rattle.sheet_types.proofs.Found.{not_found, any_implies, All-found}
-use Rattle.sheet_types.proofs.Order.{list_any-put}
+use Rattle.sheet_types.proofs.Every.{none_pass, none_any}
+use Rattle.sheet_types.proofs.Found.{not_found, any_implies}
 use Rattle.std.proofs.lemmas.Slice.Eq.{bytes_eq-Decides}
 use Rattle.sheet_laws.proofs.Keeping.{all_live_at}
 use Rattle.sheet_laws.proofs.Packages.{by_place, at_all, All-changed, each_found, receipts_gained, with_receipt_gains}
 use Rattle.sheet_laws.proofs.Running.{step_keeps_register}
 use Rattle.sheet_laws.proofs.Shifting.{numbers_below}
-use Rattle.field_run_laws.specs.Lists.{Reply, IsWithin, AreWithin, AreNew, is_kept, has_twice, items_after, links_after, IsUnrefused}
-use Rattle.field_run_laws.specs.Ready.{package_of, added, IsReady, AreReady, ReadyRunIsUnrefused}
+use Rattle.field_run_laws.specs.Lists.{Reply, IsWithin, AreWithin, is_kept, has_twice, items_after, links_after, IsUnrefused}
+use Rattle.field_run_laws.specs.Ready.{package_of, IsReady, AreReady, ReadyRunIsUnrefused}
 use Rattle.field_run_laws.proofs.Held.{Stage, begins, change, carried, one_more, still_new, all_added, all_added_more, gained_length}
 use Rattle.field_run_laws.proofs.Keys.{apart_from}
 
@@ -78,13 +71,13 @@ module _ (w m : World) (p : List ℕ) (done : List Request) (items : List Item) 
       let here : is_live m p ≡ true = s.lives p ∙ live in
       let gains : receipts_of (changed f p m) ≡ receipts_of m ++ r ∷ [] = receipts_gained f m p r (λ x below. with_receipt_gains r x below) (numbers_below m r.seq s.register.balanced.ledger refl) s.register.arranged here in
       let long : length (receipts_of (changed f p m)) ≡ length (receipts_of w) + length done + 1 =
-          ap length gains ∙ length-append (receipts_of m) (r ∷ []) ∙ ap (λ n. n + 1) (ap length s.receipts ∙ length-append (receipts_of w) s.gained ∙ ap (λ n. length (receipts_of w) + n) (gained_length w m p done items links s)) in
+      ap length gains ∙ length-append (receipts_of m) (r ∷ []) ∙ ap (λ n. n + 1) (ap length s.receipts ∙ length-append (receipts_of w) s.gained ∙ ap (λ n. length (receipts_of w) + n) (gained_length w m p done items links s)) in
       let count : length (changed f p m).packages ≡ length w.packages = length-map m.packages (λ x. cond (bytes_eq x.uuid p) (f x) x) ∙ s.packages in
       let each : AllByRecursion Full (changed f p m).packages = All-changed f p (λ x. Full x × (find (λ y. bytes_eq y.uuid x.uuid) m.packages ≡ Some x)) Full (λ x same both. at_p x same both.1) (λ x both. both.0) m.packages pairs in
       subst (λ v. too_many v ≡ false) (sym is)
       (or_false (list_any is_overfull (changed f p m).packages || nat_lt greatest_packages (length (changed f p m).packages)) (nat_lt greatest_receipts (length (receipts_of (changed f p m))))
-          (or_false (list_any is_overfull (changed f p m).packages) (nat_lt greatest_packages (length (changed f p m).packages)) (none_any is_overfull (changed f p m).packages each) (ap (nat_lt greatest_packages) count ∙ packages_parts.1))
-          (ap (nat_lt greatest_receipts) long ∙ le-ltb greatest_receipts (length (receipts_of w) + length done + 1) room))
+      (or_false (list_any is_overfull (changed f p m).packages) (nat_lt greatest_packages (length (changed f p m).packages)) (none_any is_overfull (changed f p m).packages each) (ap (nat_lt greatest_packages) count ∙ packages_parts.1))
+      (ap (nat_lt greatest_receipts) long ∙ le-ltb greatest_receipts (length (receipts_of w) + length done + 1) room))
     where
       pairs : AllByRecursion (λ x. Full x × (find (λ y. bytes_eq y.uuid x.uuid) m.packages ≡ Some x)) m.packages
       pairs = both m.packages all_within (each_found m.packages s.register.arranged)
@@ -131,9 +124,11 @@ module _ (w m : World) (p : List ℕ) (done : List Request) (items : List Item) 
 
     kind_there : (kind : MovedKind) (end : List ℕ) → has item_key (kind_number kind ∷ end) items ≡ true → (has_item (holdings m p) end ≡ true) × (has_kind (holdings m p) kind end ≡ true)
     kind_there kind end some =
-        let there : has_kind (holdings m p) kind end ≡ true = of_items (has item_key (kind_number kind ∷ end)) ∙ some in
-        (any_implies (λ i. bytes_eq (item_key i) (kind_number kind ∷ end)) (λ i. bytes_eq i.identity end)
-            (λ i e. (bytes_eq-Decides i.identity end).1 (ap (drop 1) ((bytes_eq-Decides (item_key i) (kind_number kind ∷ end)).0 e))) (holdings m p).items there, there)
+        let there : has_kind (holdings m p) kind end ≡ true = of_items (has item_key (kind_number kind ∷ end)) ∙ some in (
+          any_implies (λ i. bytes_eq (item_key i) (kind_number kind ∷ end)) (λ i. bytes_eq i.identity end)
+              (λ i e. (bytes_eq-Decides i.identity end).1 (ap (drop 1) ((bytes_eq-Decides (item_key i) (kind_number kind ∷ end)).0 e))) (holdings m p).items there,
+          there,
+        )
 
     place_free : (content : Content) → takes_place (package_of items links) content ≡ false → takes_place (holdings m p) content ≡ false
     place_free (Tile zoom column row bytes) e = of_items (list_any (λ i. is_at zoom column row i.content)) ∙ e
@@ -152,24 +147,151 @@ module _ (w m : World) (p : List ℕ) (done : List Request) (items : List Item) 
     same_ground identity (Row x y code label) e = ap (λ f. not (in_frame f x y)) s.same_frame ∙ e
 
     passes : (c : Command) → IsWithin p c → IsReady w (all_added done) items links c → too_many (accepted m (asked c)) ≡ false → AllByRecursion (λ row. row.0 ≡ false) (reasons m (accepted m (asked c)) (asked c))
-    passes (Add q identity content) within ready room = subst (λ u. AllByRecursion (λ row. row.0 ≡ false) (reasons m (accepted m (asked (Add q identity content))) (asked (Add u identity content)))) (sym within)
-        (not_reused (Add p identity content), (alive, (refl, (fit_moment (bad_text (Add p identity content)) (subst (λ u. bad_text (Add u identity content) ≡ false) within ready.0), (ap not ready.1,
-        (s.used identity ∙ ap (λ b. b || is_among (all_added done) identity) ready.4 ∙ ready.5, (refl, (refl,
-        (same_place identity content (subst (λ u. bad_place w (Add u identity content) ≡ false) within ready.2), (same_ground identity content (subst (λ u. out_of_frame w (Add u identity content) ≡ false) within ready.3),
-        (place_free content ready.6, (refl, (refl, (refl, (refl, (refl, (refl, (refl, (refl, (refl, (refl, (refl, (room, tt)))))))))))))))))))))))
-    passes (Delete q identity) within ready room = subst (λ u. AllByRecursion (λ row. row.0 ≡ false) (reasons m (accepted m (asked (Delete q identity))) (asked (Delete u identity)))) (sym within)
-        (not_reused (Delete p identity), (alive, (refl, (fit_moment false refl, (refl, (refl, (ap not (of_items (has (λ i. i.identity) identity) ∙ ready.0), (refl, (refl, (refl, (refl, (refl, (refl,
-        (of_links (list_any (has_end identity)) ∙ ready.1, (refl, (refl, (refl, (refl, (refl, (refl, (refl, (refl, (room, tt)))))))))))))))))))))))
+    passes (Add q identity content) within ready room = subst (λ u. AllByRecursion (λ row. row.0 ≡ false) (reasons m (accepted m (asked (Add q identity content))) (asked (Add u identity content)))) (sym within) (
+      not_reused (Add p identity content),
+      (
+        alive,
+        (
+          refl,
+          (
+            fit_moment (bad_text (Add p identity content)) (subst (λ u. bad_text (Add u identity content) ≡ false) within ready.0),
+            (
+              ap not ready.1,
+              (
+                s.used identity ∙ ap (λ b. b || is_among (all_added done) identity) ready.4 ∙ ready.5,
+                (
+                  refl,
+                  (
+                    refl,
+                    (
+                      same_place identity content (subst (λ u. bad_place w (Add u identity content) ≡ false) within ready.2),
+                      (
+                        same_ground identity content (subst (λ u. out_of_frame w (Add u identity content) ≡ false) within ready.3),
+                        (place_free content ready.6, (refl, (refl, (refl, (refl, (refl, (refl, (refl, (refl, (refl, (refl, (refl, (room, tt))))))))))))),
+                      ),
+                    ),
+                  ),
+                ),
+              ),
+            ),
+          ),
+        ),
+      ),
+    )
+    passes (Delete q identity) within ready room = subst (λ u. AllByRecursion (λ row. row.0 ≡ false) (reasons m (accepted m (asked (Delete q identity))) (asked (Delete u identity)))) (sym within) (
+      not_reused (Delete p identity),
+      (
+        alive,
+        (
+          refl,
+          (
+            fit_moment false refl,
+            (
+              refl,
+              (
+                refl,
+                (
+                  ap not (of_items (has (λ i. i.identity) identity) ∙ ready.0),
+                  (
+                    refl,
+                    (
+                      refl,
+                      (
+                        refl,
+                        (
+                          refl,
+                          (
+                            refl,
+                            (
+                              refl,
+                              (of_links (list_any (has_end identity)) ∙ ready.1, (refl, (refl, (refl, (refl, (refl, (refl, (refl, (refl, (room, tt)))))))))),
+                            ),
+                          ),
+                        ),
+                      ),
+                    ),
+                  ),
+                ),
+              ),
+            ),
+          ),
+        ),
+      ),
+    )
     passes (Link q mapping base other) within ready room =
         let b = kind_there (base_kind mapping) base ready.0 in
         let o = kind_there (other_kind mapping) other ready.1 in
-        subst (λ u. AllByRecursion (λ row. row.0 ≡ false) (reasons m (accepted m (asked (Link q mapping base other))) (asked (Link u mapping base other)))) (sym within)
-        (not_reused (Link p mapping base other), (alive, (refl, (fit_moment false refl, (refl, (refl,
-        (ap (λ v. not (v && has_item (holdings m p) other)) b.0 ∙ ap not o.0, (ap (λ v. not (v && has_kind (holdings m p) (other_kind mapping) other)) b.1 ∙ ap not o.1, (refl, (refl, (refl,
-        (of_links (has link_key (link_key (relation mapping base other))) ∙ ready.2, (refl, (refl, (refl, (refl, (refl, (refl, (refl, (refl, (refl, (refl, (room, tt)))))))))))))))))))))))
-    passes (Unlink q mapping base other) within ready room = subst (λ u. AllByRecursion (λ row. row.0 ≡ false) (reasons m (accepted m (asked (Unlink q mapping base other))) (asked (Unlink u mapping base other)))) (sym within)
-        (not_reused (Unlink p mapping base other), (alive, (refl, (fit_moment false refl, (refl, (refl, (refl, (refl, (refl, (refl, (refl, (refl,
-        (ap not (of_links (has link_key (link_key (relation mapping base other))) ∙ ready), (refl, (refl, (refl, (refl, (refl, (refl, (refl, (refl, (refl, (room, tt)))))))))))))))))))))))
+        subst (λ u. AllByRecursion (λ row. row.0 ≡ false) (reasons m (accepted m (asked (Link q mapping base other))) (asked (Link u mapping base other)))) (sym within) (
+          not_reused (Link p mapping base other),
+          (
+            alive,
+            (
+              refl,
+              (
+                fit_moment false refl,
+                (
+                  refl,
+                  (
+                    refl,
+                    (
+                      ap (λ v. not (v && has_item (holdings m p) other)) b.0 ∙ ap not o.0,
+                      (
+                        ap (λ v. not (v && has_kind (holdings m p) (other_kind mapping) other)) b.1 ∙ ap not o.1,
+                        (
+                          refl,
+                          (
+                            refl,
+                            (
+                              refl,
+                              (of_links (has link_key (link_key (relation mapping base other))) ∙ ready.2, (refl, (refl, (refl, (refl, (refl, (refl, (refl, (refl, (refl, (refl, (room, tt)))))))))))),
+                            ),
+                          ),
+                        ),
+                      ),
+                    ),
+                  ),
+                ),
+              ),
+            ),
+          ),
+        )
+    passes (Unlink q mapping base other) within ready room = subst (λ u. AllByRecursion (λ row. row.0 ≡ false) (reasons m (accepted m (asked (Unlink q mapping base other))) (asked (Unlink u mapping base other)))) (sym within) (
+      not_reused (Unlink p mapping base other),
+      (
+        alive,
+        (
+          refl,
+          (
+            fit_moment false refl,
+            (
+              refl,
+              (
+                refl,
+                (
+                  refl,
+                  (
+                    refl,
+                    (
+                      refl,
+                      (
+                        refl,
+                        (
+                          refl,
+                          (
+                            refl,
+                            (ap not (of_links (has link_key (link_key (relation mapping base other))) ∙ ready), (refl, (refl, (refl, (refl, (refl, (refl, (refl, (refl, (refl, (room, tt))))))))))),
+                          ),
+                        ),
+                      ),
+                    ),
+                  ),
+                ),
+              ),
+            ),
+          ),
+        ),
+      ),
+    )
     passes (Split q child mode rect) within ready room = absurd within
     passes (Merge child into ticket) within ready room = absurd within
 
@@ -199,16 +321,16 @@ ready_run w p live few m done items links s full (q ∷ qs) (reply ∷ replies) 
     elim run.1 [
       | inl it ↦
           let is : (reply ≡ Ok (receipt_of m q)) × (run.0 ≡ accepted m q) =
-              subst (λ o. (reply ≡ (outcome_by m q None o).0) × (run.0 ≡ (outcome_by m q None o).1)) no_refusal
-              (subst (λ k. (reply ≡ (outcome_by m q k (refuses m q)).0) × (run.0 ≡ (outcome_by m q k (refuses m q)).1)) no_reply it) in
+          subst (λ o. (reply ≡ (outcome_by m q None o).0) × (run.0 ≡ (outcome_by m q None o).1)) no_refusal
+          (subst (λ k. (reply ≡ (outcome_by m q k (refuses m q)).0) × (run.0 ≡ (outcome_by m q k (refuses m q)).1)) no_reply it) in
           let there : Stage w run.0 p (done ++ q ∷ []) (items_after q.command items) (links_after q.command links) =
-              subst (λ v. Stage w v p (done ++ q ∷ []) (items_after q.command items) (links_after q.command links)) (sym is.1)
-              (one_more w m p done items links live s q within.0.0 within.0.1 no_refusal (subst IsRegister is.1 register)) in
+          subst (λ v. Stage w v p (done ++ q ∷ []) (items_after q.command items) (links_after q.command links)) (sym is.1)
+          (one_more w m p done items links live s q within.0.0 within.0.1 no_refusal (subst IsRegister is.1 register)) in
           let rest : IsUnrefused replies =
-              ready_run w p live few run.0 (done ++ q ∷ []) (items_after q.command items) (links_after q.command links) there ready.2 qs replies next within.1 parts.1
-              (ap (λ l. has_twice (map (λ x. x.id) l)) whole ∙ apart)
-              (omega (arith, room, length-append done (q ∷ [])))
-              (subst (λ l. AreReady w l (items_after q.command items) (links_after q.command links) qs) (sym (all_added_more done q)) ready.3) run.2 in
+          ready_run w p live few run.0 (done ++ q ∷ []) (items_after q.command items) (links_after q.command links) there ready.2 qs replies next within.1 parts.1
+          (ap (λ l. has_twice (map (λ x. x.id) l)) whole ∙ apart)
+          (omega (arith, room, length-append done (q ∷ [])))
+          (subst (λ l. AreReady w l (items_after q.command items) (links_after q.command links) qs) (sym (all_added_more done q)) ready.3) run.2 in
           subst (λ a. IsUnrefused (a ∷ replies)) (sym is.0) rest
       | inr fault ↦ elim fault.0 [
         | inl memory ↦ subst (λ a. IsUnrefused (a ∷ replies)) (sym memory) (inl refl)

@@ -1,7 +1,7 @@
 -- An example: a new archive takes a tile and a medium, links and unlinks them, and gives the tile up. Profile.
 use Rattle.std.specs.Prelude.{◌≡◌, false, ℕ, pos, List, [], ◌∷◌, codes}
 use Rattle.sheet_types.specs.Refuse.{too_many}
-use Rattle.sheet_types.specs.World.{World, new_world}
+use Rattle.sheet_types.specs.World.{new_world}
 use Rattle.sheet_types.specs.declared.command.Command.{Command}
 use Rattle.sheet_types.specs.declared.command.Command.TheVariants.{Add, Delete, Link, Unlink}
 use Rattle.sheet_types.specs.declared.command.Content.TheVariants.{Tile, Media}

@@ -1,5 +1,5 @@
 -- Lists of requests that add, delete, link and unlink in one package. Profile.
-use Rattle.std.specs.Prelude.{◌≡◌, ℕ, ◌+◌, Bool, true, false, ◌||◌, List, [], ◌∷◌, map, length, is_some, bytes_eq, Result, Ok, Err}
+use Rattle.std.specs.Prelude.{◌≡◌, ℕ, ◌+◌, Bool, false, ◌||◌, List, [], ◌∷◌, map, length, is_some, bytes_eq, Result, Ok, Err}
 use Rattle.std.specs.List.{list_any, AllByRecursion}
 use Rattle.sheet_types.specs.Ordered.{put, without, is_among}
 use Rattle.sheet_types.specs.Custody.{kept}

@@ -1,6 +1,6 @@
 -- Lists of requests of which none is refused, told by lists alone: each is ready when its turn comes. Profile.
-use Rattle.std.specs.Prelude.{◌≡◌, ◌≤◌, ◌+◌, ℕ, true, false, not, ◌&&◌, List, [], ◌∷◌, ◌++◌, length}
-use Rattle.std.specs.List.{list_any, AllByRecursion}
+use Rattle.std.specs.Prelude.{◌≡◌, ◌≤◌, ◌+◌, ℕ, true, false, List, [], ◌∷◌, ◌++◌, length}
+use Rattle.std.specs.List.{list_any}
 use Rattle.sheet_types.specs.Custody.{is_used}
 use Rattle.sheet_types.specs.Cut.{has_end}
 use Rattle.sheet_types.specs.Ordered.{has, is_among}
@@ -10,7 +10,7 @@ use Rattle.sheet_types.specs.Step.{Run, relation}
 use Rattle.sheet_types.specs.Texts.{is_moment}
 use Rattle.sheet_types.specs.World.{World, Package, no_package, is_live, holdings, receipts_of, item_key, link_key, kind_number, base_kind, other_kind}
 use Rattle.sheet_types.specs.declared.command.Command.{Command}
-use Rattle.sheet_types.specs.declared.command.Command.TheVariants.{Add, Delete, Link, Unlink, Split, Merge}
+use Rattle.sheet_types.specs.declared.command.Command.TheVariants.{Add, Delete, Link, Unlink}
 use Rattle.sheet_types.specs.declared.command.Item.{Item}
 use Rattle.sheet_types.specs.declared.command.Relation.{Relation}
 use Rattle.sheet_types.specs.declared.command.Request.{Request}

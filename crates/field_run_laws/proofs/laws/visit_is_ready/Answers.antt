@@ -6,9 +6,25 @@ returns c = (
   ((refl, refl), ((refl, refl), ((refl, refl), ((refl, refl), ((refl, refl), tt))))),
   record { unkept = refl; apart = refl },
   refl,
-  (refl, (refl, refl, refl, refl, refl, refl, refl), refl,
-    (refl, (refl, refl, refl, refl, refl, refl, refl), refl,
-      (refl, (refl, refl, refl), refl,
-        (refl, refl, refl,
-          (refl, (refl, refl), refl, tt))))),
+  (
+    refl,
+    (refl, refl, refl, refl, refl, refl, refl),
+    refl,
+    (
+      refl,
+      (refl, refl, refl, refl, refl, refl, refl),
+      refl,
+      (
+        refl,
+        (refl, refl, refl),
+        refl,
+        (
+          refl,
+          refl,
+          refl,
+          (refl, (refl, refl), refl, tt),
+        ),
+      ),
+    ),
+  ),
 )
