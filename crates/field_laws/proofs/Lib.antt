@@ -1,2 +1,12 @@
 pub mod Contents
 pub mod Names
+pub mod Naming
+pub mod Nothing
+pub mod Uuids
+pub mod Made
+pub mod Makes
+pub mod Stopped
+pub mod Turns
+pub mod Unrefused
+pub mod Example
+pub mod Home

@@ -1,6 +1,6 @@
 -- A name that is not new is that of an item of the package with the content.
-use Rattle.std.specs.Prelude.{◌≡◌, ◌-◌, ℕ, zero, suc, Bool, true, false, cond, not, ◌&&◌, ◌||◌, List, [], ◌∷◌, ◌++◌, Option, Some, None, length, map, filter, option_map, unwrap_or, bytes_eq, nat_eq, slice_get, refl}
-use Rattle.std.proofs.Common.{sym, ap, subst, ◌∙◌}
+use Rattle.std.specs.Prelude.{◌≡◌, ◌-◌, ℕ, zero, suc, Bool, true, false, cond, not, ◌&&◌, ◌||◌, List, [], ◌∷◌, ◌++◌, Option, Some, None, length, filter, option_map, unwrap_or, bytes_eq, slice_get, refl}
+use Rattle.std.proofs.Common.{ap, subst, ◌∙◌}
 use Rattle.std.specs.List.{list_any, AllZip}
 use Rattle.std.specs.Option.{option_map_or}
 use Rattle.std.proofs.lemmas.Bool.{true≢false, false≢true}
@@ -11,7 +11,7 @@ use Rattle.sheet_types.specs.declared.command.Content.{Content}
 use Rattle.sheet_types.specs.declared.command.Item.{Item}
 use Rattle.sheet_types.proofs.Basics.{bytes_eq_swap}
 use Rattle.field_changes.specs.Keys.{content_key, same_content, key_of, item_mark}
-use Rattle.field_changes.specs.Naming.{alike, copies, held_mark, is_marked, is_own, others, unmarked, shared_name, name_of, known_as, names_behind}
+use Rattle.field_changes.specs.Naming.{alike, copies, is_marked, is_own, others, unmarked, shared_name, name_of, known_as, names_behind}
 use Rattle.field_changes.specs.declared.held.HeldItem.{HeldItem}
 use Rattle.field_changes.specs.declared.naming.Name.{Name}
 use Rattle.field_changes.specs.declared.naming.Name.TheVariants.{Old, New}
@@ -32,7 +32,7 @@ passes p q (i ∷ is) implies some =
     ] refl some
 
 -- what is true of both parts
-both : (a b : Bool) → (a && b) ≡ true → (a ≡ true) × (b ≡ true)
+pub both : (a b : Bool) → (a && b) ≡ true → (a ≡ true) × (b ≡ true)
 both true true e = (refl, refl)
 both true false e = absurd (false≢true e)
 both false b e = absurd (false≢true e)
@@ -84,7 +84,7 @@ left_of p t (i ∷ is) some =
       | false ↦ λ rest. ap (λ b. p i || b) (left_of p t is rest) ∙ or_true (p i)
     ] some
 
-shared : (o : Option (List ℕ)) (m : ℕ) (id : List ℕ) → option_map_or Old o (New m) ≡ Old id → o ≡ Some id
+pub shared : (o : Option (List ℕ)) (m : ℕ) (id : List ℕ) → option_map_or Old o (New m) ≡ Old id → o ≡ Some id
 shared None m id e = cc
 shared (Some x) m id e = cc
 
