@@ -10,7 +10,7 @@ from collections import Counter, namedtuple
 from .contents import ENDS, KINDS, fingerprint_of, is_moment, line_of, place_of, size_of
 from .held_lists import read_held
 from .lists import HEADER, UUID, NoList, spelled_record
-from .reasons import GREATEST_CODE, GREATEST_DATA, GREATEST_LABEL, GREATEST_TYPE, MOST_ITEMS, MOST_LINKS, MOST_RECEIPTS
+from .reasons import GREATEST_CODE, GREATEST_DATA, GREATEST_LABEL, GREATEST_TYPE
 
 Changes = namedtuple("Changes", "requests names")
 
@@ -100,9 +100,9 @@ def unfit_items(world, package, held, more):
         word = UNFIT[kind](world.frame, content)
         if word is None and identity in package.items and exported.get((kind, number), identity) != identity:
             word = "number"
-        if kind == "tile":
-            word = word or misplaced(package, content, places, more)
-            places.add(place_of(content))
+        if kind == "tile" and word is None:
+            word = misplaced(package, content, places, more)
+            places |= {place_of(content)} if word is None else set()
         if word is not None:
             yield f"{kind} {number} {word}"
 
@@ -111,7 +111,7 @@ def unlisted(held):
     """A line for each record of the file that could not be listed."""
     for number, text in held.bad:
         kind, _, word = text.partition(" ")
-        yield f"{kind} {'-' if number is None else number} {word}"
+        yield f"{kind} {number or 0} {word}"
 
 
 def check_ends(world, uuid, held, more):
@@ -127,7 +127,7 @@ def check_ground(world, held):
     kinds = {kind for kind, _ in held.items}
     if held.system not in (None, world.frame.srs) or held.system is None and "row" in kinds:
         raise Refused("system")
-    if any(text.startswith("frame ") for _, text in held.bad):
+    if any(text.startswith("frame") for _, text in held.bad):
         return
     if held.frame is None and "tile" in kinds or held.frame is not None and not same_grid(world.frame, held.frame):
         raise Refused("frame")
@@ -138,12 +138,12 @@ def check_ground(world, held):
 
 def names_of(package, ticket, held):
     """The identity of each item of the file, and which of them are new."""
-    names, order = {}, in_order(held)
+    names, taken, left, order = {}, set(), {}, in_order(held)
     for key in order:
         content, identity = held.items[key]
-        if identity in package.items and identity not in names.values() and key_of(package.items[identity]) == key_of(content):
+        if identity in package.items and identity not in taken and key_of(package.items[identity]) == key_of(content):
             names[key] = identity
-    left, taken = {}, set(names.values())
+            taken.add(identity)
     for identity in sorted(package.items.keys() - taken, reverse=True):
         left.setdefault(key_of(package.items[identity]), []).append(identity)
     new, copies = [], Counter()
@@ -169,7 +169,10 @@ def ties(command, links):
 
 def commands(package, held, more, names, new):
     """What goes, then what comes: links, items, items, links."""
-    links = {(mapping, names[ENDS[mapping][0], base], names[ENDS[mapping][1], other]) for mapping, base, other in held.links}
+    tied = [(mapping, names[ENDS[mapping][0], base], names[ENDS[mapping][1], other]) for mapping, base, other in held.links]
+    links = set(tied)
+    if len([link for link in tied if link not in package.links]) > len(links - package.links):
+        raise Refused("list")
     gone = set() if more else package.items.keys() - set(names.values())
     deletes = sorted(gone, key=lambda identity: (KINDS[package.items[identity]["kind"]], identity))
     adds = sorted(new, key=lambda key: (KINDS[key[0]], names[key]))
@@ -179,27 +182,11 @@ def commands(package, held, more, names, new):
     yield from ties("link", links - package.links)
 
 
-def check_new(world, requests):
-    """That no identity was used and no request is kept, and none comes twice: no digest has to be trusted."""
+def check_requests(requests):
+    """That no two new items have one identity, which would want two contents of one digest."""
     added = [request["identity"] for request in requests if request["command"] == "add"]
-    if len(set(added)) < len(added) or world.used.intersection(added):
+    if len(set(added)) < len(added):
         raise Refused("identity")
-    asked = [request["request"] for request in requests]
-    if len(set(asked)) < len(asked) or world.kept.keys() & set(asked):
-        raise Refused("request")
-
-
-def check_counts(world, package, requests):
-    """That the package has room for all of it."""
-    counts, links = Counter(item["kind"] for item in package.items.values()), len(package.links)
-    for request in requests:
-        kind = request["kind"] or package.items[request["identity"]]["kind"]
-        if request["command"] in ("add", "delete"):
-            counts[kind] += 1 if request["command"] == "add" else -1
-        else:
-            links += 1 if request["command"] == "link" else -1
-    if max(counts.values(), default=0) > MOST_ITEMS or links > MOST_LINKS or len(world.receipts) + len(requests) > MOST_RECEIPTS:
-        raise Refused("too many")
 
 
 def changes_for(world, uuid, at, held, more=False):
@@ -216,8 +203,7 @@ def changes_for(world, uuid, at, held, more=False):
     requests = [{"package": uuid, "at": at, **each} for each in commands(package, held, more, names, new)]
     for request in requests:
         request["request"] = derived("sheetdesk request", uuid, ticket, line_of(request))
-    check_new(world, requests)
-    check_counts(world, package, requests)
+    check_requests(requests)
     return Changes(requests, names)
 
 
@@ -225,6 +211,12 @@ def list_of(requests):
     """A request list, as `import` reads it."""
     spelled = [{name: value.hex() if isinstance(value, bytes) else value for name, value in request.items()} for request in requests]
     return "".join(map(spelled_record, [HEADER, *([request.get(name, "") for name in HEADER] for request in spelled)]))
+
+
+def summary_of(requests):
+    """How many requests of each command there are, on a line."""
+    counts = Counter(request["command"] for request in requests)
+    return ", ".join(f"{counts[command]} {command}s" for command in ("unlink", "delete", "add", "link")) + "\n"
 
 
 def changes_of_words(world, package, at, list_bytes, more=False):

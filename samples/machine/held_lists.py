@@ -73,8 +73,8 @@ def links_of(entries, items, has_bad):
     """A link whose end is no item of the list makes it none, unless something of the file could not be listed."""
     links = [(entry["kind"], entry["number"], entry["other"]) for entry in entries]
     ends = [(kind, number) for mapping, *numbers in links for kind, number in zip(ENDS[mapping], numbers)]
-    if len(set(links)) < len(links) or not has_bad and any(end not in items for end in ends):
-        raise NoList("links")
+    if not has_bad and any(end not in items for end in ends):
+        raise NoList("ends")
     return links
 
 
