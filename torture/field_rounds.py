@@ -1,15 +1,20 @@
 #!/usr/bin/env python3
-"""Edits exports at random, and compares what `sheetdesk holds` makes stock sqlite3 list with a reading by plain Python.
+"""Edits exports at random, lists and brings them home: by the program, by a reading in plain Python, and by the second machine.
 
 Usage: field_rounds.py [ROUNDS [SEED]] [--gdal]
        SHEETDESK=PROGRAM field_rounds.py ..    over another program than the proved one
 
 In each round the program makes a register of a random list and exports a package; the text must be the second machine's. Then the file
 is edited by SQL, as crews and their programs do it, and spoiled now and then; with --gdal also by ogr2ogr, ogrinfo, gdalwarp and gdaladdo
-(Debian's gdal-bin). Doubles are read by `struct` and rounded as exact fractions. Then come points of any doubles, and tables of other
-programs whose names have marks in them. Status 0 where each list came to the byte.
+(Debian's gdal-bin). Doubles are read by `struct` and rounded as exact fractions. The list that `holds` makes stock sqlite3 print must be
+that of the reading, to the byte. `changes`, `bring` and `bring --dry-run` of it must print what the second machine prints, or refuse as it
+does; afterwards the package holds what the second machine's holds, the others what they held, the same list is stale, and a new export
+asks for nothing. Lists that were cut, or have a record less or twice, and the same holdings with --more go there too. A register goes on
+for some rounds. Then come points of any doubles, and tables of other programs whose names have marks in them. Status 0 where nothing differed.
 """
 
+import csv
+import io
 import os
 import random
 import shutil
@@ -28,14 +33,17 @@ sys.path[:0] = [os.path.join(TOP, "samples")]
 sys.dont_write_bytecode = True
 
 from machine import holding
+from machine.changing import Refused, changes_of_words, list_of, summary_of
 from machine.contents import ENDS
 from machine.exports import export
 from machine.frames import Frame
+from machine.held_lists import HEADER as COLUMNS
 from machine.lists import HEADER as FIELDS
 from machine.lists import spelled_record
-from reference import rehearse
+from machine.world import apply
+from reference import manifest, rehearse, report_line, REPORT_HEADER
 
-HEADER = "kind,number,other,identity,zoom,column,row,x,y,code,text,data"
+HEADER = ",".join(COLUMNS)
 ARCHIVE = "a0000000-0000-4000-8000-000000000000"
 AT = "2026-03-02T07:30:00.000Z"
 FRAMES = [
@@ -130,6 +138,9 @@ class Register:
         """Makes the file, once the text is the second machine's."""
         text = self.run("export", self.folder, package)
         assert text.decode() == export(self.frame, self.world.packages[package], self.world.tickets[package]), "export"
+        for end in ("", "-wal", "-shm", "-journal"):
+            if os.path.exists(path + end):
+                os.remove(path + end)
         subprocess.run(["sqlite3", "-bail", path], input=text, check=True)
 
 
@@ -497,12 +508,105 @@ def edit_by_gdal(rng, register, path, folder):
     done["gdal " + name] += 1
 
 
+# ---- home again
+
+
+class Home:
+    """What is done with a list, by the program and by the second machine."""
+
+    def __init__(self, register, package):
+        self.register, self.package, self.world = register, package, register.world
+
+    def prints(self, verb, *options, held, text, status=0):
+        """That the program prints this of a list."""
+        words = [self.register.sheetdesk, verb, self.register.folder, self.package, "--at", AT, *options]
+        came = subprocess.run(words, input=held, capture_output=True, check=False)
+        if (came.returncode, came.stdout.decode()) != (status, text):
+            raise AssertionError((words[1:], came.returncode, status, came.stdout[-2000:], text[-2000:], came.stderr[-500:]))
+        done[f"{verb} {'refused' if status else ' '.join(options)}".strip()] += 1
+
+    def asked(self, held, more=False):
+        """The requests of the second machine, or the text by which it refuses."""
+        try:
+            return changes_of_words(self.world, self.package, AT, held, more).requests
+        except Refused as why:
+            done["refused: " + str(why.args[0]).split(" ", 1)[0]] += 1
+            return "refused: " + "".join(f"{line}\n" for line in why.args)
+
+    def looks(self, held, more=False):
+        """What would be done, by `changes` or a dry run, as a list or as a line."""
+        requests, options = self.asked(held, more), ["--more"] if more else []
+        verb, *shown = self.register.rng.choice([("changes",), ("changes",), ("changes", "--summary"), ("bring", "--dry-run"), ("bring", "--dry-run", "--summary")])
+        if isinstance(requests, str):
+            self.prints(verb, *options, *shown, held=held, text=requests, status=1)
+        else:
+            self.prints(verb, *options, *shown, held=held, text=summary_of(requests) if "--summary" in shown else list_of(requests))
+        return requests
+
+    def brings(self, held, more=False):
+        """The same, carried out. Answers whether anything was done."""
+        requests, options = self.asked(held, more), ["--more"] if more else []
+        if isinstance(requests, str):
+            self.prints("bring", *options, held=held, text=requests, status=1)
+            return False
+        lines = [report_line(number, request, apply(self.world, request)) for number, request in enumerate(requests, 1)]
+        self.prints("bring", *options, held=held, text=f"{REPORT_HEADER}\n{''.join(lines)}")
+        done["requests"] += len(requests)
+        return requests != []
+
+    def compare(self):
+        """That each package holds what the second machine's holds, and the account is good."""
+        for uuid, package in self.world.packages.items():
+            assert self.register.run("manifest", self.register.folder, uuid).decode() == manifest(package), uuid
+        assert self.register.run("audit", self.register.folder).decode() == f"good {len(self.world.receipts)}\n"
+
+
+def anonymous(held):
+    """The same holdings as of another program: without package and identities."""
+    records = [record for record in csv.reader(io.StringIO(held.decode(), newline="")) if record[0] != "package"]
+    at = COLUMNS.index("identity")
+    named = [record[:at] + ([""] if record[0] != "kind" else record[at : at + 1]) + record[at + 1 :] for record in records[:-1]]
+    return "".join(map(spelled_record, [*named, ["end", len(named) - 1] + [""] * (len(COLUMNS) - 2)])).encode()
+
+
+def spoiled(rng, held):
+    """A list that was cut, or has a record less, twice, or two exchanged."""
+    lines = held.splitlines(keepends=True)
+    at = rng.randrange(len(lines))
+    return rng.choice([held[: rng.randrange(len(held))], b"".join(lines[:at] + lines[at + 1 :]), b"".join(lines[:at] + lines[at : at + 1] + lines[at:])])
+
+
+def come_home(rng, register, package, held, path, holds):
+    home = Home(register, package)
+    home.looks(held)
+    if rng.random() < 0.2:
+        home.looks(spoiled(rng, held))
+    if rng.random() < 0.2:
+        home.looks(held, more=True)
+    was_changed = home.brings(held)
+    if was_changed and rng.random() < 0.5:
+        home.brings(held)
+    if rng.random() < 0.3:
+        home.compare()
+    register.exported(package, path)
+    again = listed_by(holds, path)
+    assert home.looks(again) == [] and (not was_changed or bag_of(again) == bag_of(held)), "the export of what came home"
+    if rng.random() < 0.3:
+        home.looks(anonymous(again), more=True)
+    done["home again"] += 1
+
+
+def bag_of(held):
+    """The contents of a list, without numbers and names, and how many links of each mapping."""
+    ends = [COLUMNS.index(name) for name in ("number", "identity", "other")]
+    records = csv.reader(io.StringIO(held.decode(), newline=""))
+    return Counter(tuple("" if at in ends or record[0] in ENDS else field for at, field in enumerate(record)) + (record[0],) for record in records if record[0] not in ("package", "end", "frame"))
+
+
 # ---- rounds
 
 
-def go_round(rng, sheetdesk, holds, room, with_gdal):
-    folder = os.path.join(room, "maps")
-    register = Register(rng, sheetdesk, folder, with_gdal)
+def go_round(rng, register, holds, room, with_gdal):
     package = ARCHIVE if rng.random() < 0.7 else rng.choice(sorted(register.world.packages))
     path = os.path.join(room, "crew.gpkg")
     register.exported(package, path)
@@ -517,6 +621,15 @@ def go_round(rng, sheetdesk, holds, room, with_gdal):
     done["rounds"] += 1
     done["records"] += wanted.count(b"\n") - 2
     done["bad records"] += wanted.count(b"\nbad,")
+    come_home(rng, register, package, wanted, path, holds)
+
+
+def go_rounds(rng, sheetdesk, holds, room, with_gdal, count):
+    """So many, with one register."""
+    register = Register(rng, sheetdesk, os.path.join(room, "maps"), with_gdal)
+    for _ in range(count):
+        go_round(rng, register, holds, room, with_gdal)
+    Home(register, ARCHIVE).compare()
 
 
 # ---- points of any doubles
@@ -630,15 +743,15 @@ def main():
     sheetdesk = program()
     holds = subprocess.run([sheetdesk, "holds"], stdout=subprocess.PIPE, check=True).stdout
     assert holds.decode() == holding.own(), "the text of holds"
-    for number in range(rounds):
+    for number in range(0, rounds, 5):
         rng = random.Random(seed * 1_000_003 + number)
         with tempfile.TemporaryDirectory() as room:
             try:
-                go_round(rng, sheetdesk, holds, room, with_gdal and number % 4 == 0)
+                go_rounds(rng, sheetdesk, holds, room, with_gdal and number % 20 == 0, min(5, rounds - number))
                 if number % 10 == 0:
                     go_over_stock(rng, sheetdesk, room)
             except BaseException:
-                print(f"round {number} of seed {seed}", file=sys.stderr)
+                print(f"a round from {number} on, of seed {seed}: {done['rounds']} in all", file=sys.stderr)
                 raise
     with tempfile.TemporaryDirectory() as room:
         go_over_points(random.Random(seed), sheetdesk, holds, room, rounds * 20)

@@ -7,6 +7,10 @@ use Rattle.view_project.proofs.projects.write_project.Goals as goal
 
 pub returns : goal.returns
 returns c =
-    let s = reference_system c.args.frame.now.srs_id in
-    let bounds : c.as_str-framed.result.now ≡ extent c.args.frame.now = c.as_str-framed.ensures.value ∙ c.in_ok-extent.ensures in
-    ?
+    let bounds : c.as_str.result.now ≡ extent c.args.frame.now = c.as_str.ensures.value ∙ c.in_ok-extent.ensures in
+    let seen : c.as_str-2.result.now ≡ reference_system c.args.frame.now.srs_id = c.as_str-2.ensures.value ∙ c.in_ok-system.ensures in
+    let file : c.as_str-3.result.now ≡ raw_text c.args.name.now = c.as_str-3.ensures.value ∙ c.in_ok-file.ensures in
+    let drawn : c.as_str-4.result.now ≡ reference_system c.args.frame.now.srs_id = c.as_str-4.ensures.value ∙ c.in_ok-system.ensures in
+    let front = c.in_ok-framed.ensures ∙ ap (λ e. framed e c.as_str-2.result.now) bounds ∙ ap (framed (extent c.args.frame.now)) seen in
+    let middle = c.in_ok-layers.ensures ∙ ap (λ f. layers f c.as_str-4.result.now) file ∙ ap (layers (raw_text c.args.name.now)) drawn in
+    ok_is c.format.result _ _ (joined front (joined middle (joined c.relations-relations.ensures c.closing-closing.ensures))) c.format.ensures.ok
