@@ -14,14 +14,10 @@ a file open, other processes look at it.
 """
 
 import gc
-import math
 import os
-import shutil
-import struct
 import subprocess
 import sys
 import tempfile
-import zlib
 
 os.environ.setdefault("QT_QPA_PLATFORM", "offscreen")
 
@@ -36,6 +32,7 @@ TOP = os.path.dirname(os.path.dirname(os.path.abspath(__file__)))
 sys.path[:0] = [os.path.join(TOP, "samples")]
 sys.dont_write_bytecode = True
 
+from field_pictures import colour, dock, png
 from machine.changing import changes_of_words, key_of, list_of
 from machine.exports import export
 from machine.frames import Frame
@@ -51,34 +48,10 @@ FRAME_OF = Frame.read(FRAME)
 messages = []
 
 
-# ---- pictures of an invented coast
-
-
-def height(x, y):
-    """Above the sea, of a place in metres from the south-west corner."""
-    return 30 * math.sin(x / 90) + 25 * math.cos(y / 70 + x / 210) + (y - 210) / 8
-
-
-def colour(x, y, is_new):
-    level = height(x, y)
-    if is_new and 120 < x < 200 and 96 < y < 176:
-        return (196, 164, 132) if 126 < x < 194 and 102 < y < 170 else (90, 70, 60)
-    if level < 0:
-        return (150, 196, 226) if level > -2 else (178, 214, 236)
-    return (120, 150, 90) if level % 10 < 0.6 else (224 - min(int(level), 50), 232 - min(int(level), 40), 196)
-
-
-def png(size, pixel):
-    """A picture of these pixels."""
-    lines = b"".join(b"\0" + bytes(part for column in range(size) for part in pixel(column, row)) for row in range(size))
-    parts = [(b"IHDR", struct.pack(">IIBBBBB", size, size, 8, 2, 0, 0, 0)), (b"IDAT", zlib.compress(lines, 9)), (b"IEND", b"")]
-    return b"\x89PNG\r\n\x1a\n" + b"".join(struct.pack(">I", len(data)) + name + data + struct.pack(">I", zlib.crc32(name + data)) for name, data in parts)
-
-
 def sheet(place):
     ground = FRAME_OF.ground(*place)
     west, north, pixel = (ground.west - FRAME_OF.min_x) / 1000, (ground.north - FRAME_OF.min_y) / 1000, (ground.east - ground.west) / 256_000
-    return png(256, lambda column, row: colour(west + (column + 0.5) * pixel, north - (row + 0.5) * pixel, False))
+    return png(256, lambda column, row: colour(west + (column + 0.5) * pixel, north - (row + 0.5) * pixel))
 
 
 # ---- the program, and the second machine beside it
@@ -152,7 +125,7 @@ class Register:
 
 
 PLACES = [(0, 0, 0), (1, 0, 0), (1, 1, 0), (1, 0, 1), (1, 1, 1)]
-MARKS = [(96.5, 402.25, 110, "trig. point"), (310, 331, 210, "light, white flash"), (215.125, 96, 310, "gauge"), (402, 170, 340, "slip"), (160, 250, 120, "church, tower")]
+MARKS = [(96.5, 402.25, 110, "trig. point"), (468, 228, 210, "light, white flash"), (340.125, 247, 310, "gauge"), (402, 268, 340, "slip"), (160, 250, 120, "church, tower")]
 
 
 def first_requests():
@@ -260,7 +233,7 @@ def edit_marks(marks):
     assert marks.deleteFeature(mark_of(marks, "gauge").id())
     church = mark_of(marks, "church, tower")
     assert marks.addFeature(QgsVectorLayerUtils.createFeature(marks, church.geometry(), dict(enumerate(church.attributes()))))
-    assert marks.changeGeometry(mark_of(marks, "slip").id(), point(404, 171.5))
+    assert marks.changeGeometry(mark_of(marks, "slip").id(), point(404, 269.5))
     assert marks.commitChanges(), marks.commitErrors()
 
 
@@ -281,7 +254,7 @@ def survey_again(room, path):
     """The dock comes as a picture of 80 metres, by GDAL: the tile below it is written anew, and gets another number."""
     picture = os.path.join(room, "dock.png")
     with open(picture, "wb") as out:
-        out.write(png(80, lambda column, row: colour(120.5 + column, 175.5 - row, True)))
+        out.write(png(80, dock))
     with open(os.path.join(room, "dock.wld"), "w", encoding="utf-8") as out:
         out.write("1\n0\n0\n-1\n500120.5\n5900175.5\n")
     subprocess.run(["gdalwarp", "-q", "-s_srs", "EPSG:25832", "-t_srs", "EPSG:25832", "-doo", "TILE_FORMAT=PNG", picture, path], check=True, capture_output=True)
@@ -289,7 +262,7 @@ def survey_again(room, path):
 
 def wanted_contents(marks, dock_at):
     """The codes, labels and places of marks after the round, written out by hand."""
-    changed = {"light, white flash": (310, 331, 210, "light, white flash, 6 s"), "slip": (404, 171.5, 340, "slip"), "gauge": None}
+    changed = {"light, white flash": (468, 228, 210, "light, white flash, 6 s"), "slip": (404, 269.5, 340, "slip"), "gauge": None}
     left = [changed.get(mark[3], mark) for mark in marks]
     rows = [mark for mark in left if mark] + [marks[4], (*dock_at, 350, "new dock")]
     return sorted((FRAME_OF.min_x + round(x * 1000), FRAME_OF.min_y + round(y * 1000), code, label) for x, y, code, label in rows)
@@ -388,7 +361,6 @@ def main():
         a_round(register, pictures or room)
         for trial in (what_is_told, copied_without_log, by_gdal):
             trial(register)
-    shutil.rmtree(room, ignore_errors=True)
     sys.stdout.flush()
     # what QGIS takes down at its end may crash, and has nothing to do with what was tried
     os._exit(0)

@@ -576,9 +576,30 @@ def spoiled(rng, held):
     return rng.choice([held[: rng.randrange(len(held))], b"".join(lines[:at] + lines[at + 1 :]), b"".join(lines[:at] + lines[at : at + 1] + lines[at:])])
 
 
+def mend(path, told):
+    """Deletes what was told, as a crew does; not where the frame itself is no frame."""
+    lines = [line.split(" ") for line in told.splitlines()[1:]]
+    if any(kind not in TABLES for kind, *_ in lines):
+        return False
+    db = sqlite3.connect(path)
+    with_index = db.execute("SELECT count(*) FROM sqlite_master WHERE name LIKE 'rtree%'").fetchone()[0]
+    if with_index:
+        db.create_function("ST_IsEmpty", 1, lambda blob: 0)
+    for kind, number, _ in lines:
+        db.execute(f"DELETE FROM {TABLES[kind]} WHERE id = ?", (int(number),))
+    db.commit()
+    db.close()
+    done["mended"] += 1
+    return True
+
+
 def come_home(rng, register, package, held, path, holds):
     home = Home(register, package)
-    home.looks(held)
+    asked = home.looks(held)
+    if isinstance(asked, str) and asked.startswith("refused: items\n") and mend(path, asked):
+        held = read_export(path)
+        compare(holds, path, held)
+        home.looks(held)
     if rng.random() < 0.2:
         home.looks(spoiled(rng, held))
     if rng.random() < 0.2:

@@ -5,10 +5,10 @@ use Rattle.view_project.specs.LinkStyles.{marks_of_sheets_style, media_of_marks_
 use Rattle.view_project.specs.declared.layers.Layer.{Layer}
 
 -- what a layer is, and the table of the file that it shows
-abbrev pub source : List ℕ → List ℕ → List ℕ → List ℕ → List ℕ
-source table geometry file rest =
+abbrev pub source : List ℕ → List ℕ → List ℕ → List ℕ
+source table geometry file =
     codes "<maplayer type=\"vector\" geometry=\"" ++ (geometry ++ (codes "\"><id>layer_" ++ (table
-    ++ (codes "</id><datasource>./" ++ (file ++ (codes "|layername=" ++ (table ++ (codes "</datasource>" ++ rest))))))))
+    ++ (codes "</id><datasource>./" ++ (file ++ (codes "|layername=" ++ (table ++ codes "</datasource>")))))))
 
 -- how it is called, where it lies, how it is drawn and edited
 abbrev pub drawing : List ℕ → List ℕ → List ℕ → List ℕ
@@ -17,7 +17,7 @@ drawing title style system =
     ++ (codes "</srs><provider encoding=\"UTF-8\">ogr</provider>" ++ (style ++ codes "</maplayer>\n")))))
 
 abbrev pub vector : List ℕ → List ℕ → List ℕ → List ℕ → List ℕ → List ℕ → List ℕ
-vector table title geometry style file system = source table geometry file (drawing title style system)
+vector table title geometry style file system = source table geometry file ++ drawing title style system
 
 abbrev pub layer_of : Layer → List ℕ → List ℕ → List ℕ
 layer_of l file system = vector l.table.now l.title.now l.geometry.now l.style.now file system

@@ -14,12 +14,14 @@ reference_system srs =
     then codes "<spatialrefsys><srsid>1</srsid><authid>EPSG:" ++ (signed_decimal srs ++ codes "</authid></spatialrefsys>")
     else []
 
--- the bounds of the frame, in whole units
+-- a bound in whole units, as the element of this name
+abbrev pub side : List ℕ → ℤ → List ℕ
+side name bound = codes "<" ++ (name ++ (codes ">" ++ (thousandths bound ++ (codes "</" ++ (name ++ codes ">")))))
+
 abbrev pub extent : Frame → List ℕ
 extent f =
-    codes "<xmin>" ++ (thousandths f.min_x ++ (codes "</xmin><ymin>" ++ (thousandths f.min_y
-    ++ (codes "</ymin><xmax>" ++ (thousandths f.max_x ++ (codes "</xmax><ymax>" ++ (thousandths f.max_y
-    ++ codes "</ymax>")))))))
+    side (codes "xmin") f.min_x ++ (side (codes "ymin") f.min_y
+    ++ (side (codes "xmax") f.max_x ++ side (codes "ymax") f.max_y))
 
 abbrev pub system_of : List ℕ → List ℕ
 system_of system = codes "<projectCrs>" ++ (system ++ codes "</projectCrs>\n")

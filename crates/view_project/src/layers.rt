@@ -1,6 +1,6 @@
 //! The layers of a project: tables of the export as vectors, and its sheets as a picture.
 ghost use Rattle.std.specs.Prelude.{◌≡◌, IfOk, string_bytes};
-ghost use Rattle.view_project.specs.Layers.{attributes, layer_of, layers, links, marks, outlines, sheets, tables};
+ghost use Rattle.view_project.specs.Layers.{attributes, drawing, layer_of, layers, links, marks, outlines, sheets, source, tables};
 
 use crate::styles::{
     marks_of_sheets_style, marks_style, media_of_marks_style, media_of_sheets_style, media_style,
@@ -21,6 +21,24 @@ struct Layer<'t> {
     style: &'t str,
 }
 
+/// What a layer is, and which table of the file of this name it shows.
+fn source(alloc: Global, table: &str, geometry: &str, file: &str) -> Result<String, AllocError>
+    ensures { IfOk result (λ text. string_bytes text ≡ source table.now geometry.now file.now) }
+{
+    format!(in alloc;
+        "<maplayer type=\"vector\" geometry=\"{geometry}\"><id>layer_{table}</id><datasource>./{file}|layername={table}</datasource>"
+    )
+}
+
+/// How a layer is called, where it lies, and how it is drawn and edited.
+fn drawing(alloc: Global, title: &str, style: &str, system: &str) -> Result<String, AllocError>
+    ensures { IfOk result (λ text. string_bytes text ≡ drawing title.now style.now system.now) }
+{
+    format!(in alloc;
+        "<layername>{title}</layername><srs>{system}</srs><provider encoding=\"UTF-8\">ogr</provider>{style}</maplayer>\n"
+    )
+}
+
 /// A table of the file of this name as a layer, in this reference system.
 fn vector_layer(
     alloc: Global,
@@ -30,13 +48,9 @@ fn vector_layer(
 ) -> Result<String, AllocError>
     ensures { IfOk result (λ text. string_bytes text ≡ layer_of layer.now file.now system.now) }
 {
-    let table = layer.table;
-    let title = layer.title;
-    let geometry = layer.geometry;
-    let style = layer.style;
-    format!(in alloc;
-        "<maplayer type=\"vector\" geometry=\"{geometry}\"><id>layer_{table}</id><datasource>./{file}|layername={table}</datasource><layername>{title}</layername><srs>{system}</srs><provider encoding=\"UTF-8\">ogr</provider>{style}</maplayer>\n"
-    )
+    let source = source(alloc, layer.table, layer.geometry, file)?;
+    let drawing = drawing(alloc, layer.title, layer.style, system)?;
+    format!(in alloc; "{source}{drawing}")
 }
 
 /// The marks.

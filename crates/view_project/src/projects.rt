@@ -1,7 +1,7 @@
 //! The whole project of an export.
 ghost use Rattle.std.specs.Prelude.{◌≡◌, IfOk, string_bytes};
 ghost use Rattle.view_report.specs.Escaping.{raw_text};
-ghost use Rattle.view_project.specs.Projects.{canvas, extent, framed, project, reference_system, system_of};
+ghost use Rattle.view_project.specs.Projects.{canvas, extent, framed, project, reference_system, side, system_of};
 
 use crate::layers::layers;
 use crate::parts::{beginning, closing, opening, relations, tree};
@@ -33,17 +33,23 @@ fn reference_system(alloc: Global, srs_id: i64) -> Result<String, AllocError>
     }
 }
 
-/// The bounds of a frame, in whole units.
+/// A bound in whole units, as the element of this name.
+fn side(alloc: Global, name: &str, bound: i64) -> Result<String, AllocError>
+    ensures { IfOk result (λ text. string_bytes text ≡ side name.now bound) }
+{
+    let bound = Thousandths(bound);
+    format!(in alloc; "<{name}>{bound}</{name}>")
+}
+
+/// The bounds of a frame.
 fn extent(alloc: Global, frame: &Frame) -> Result<String, AllocError>
     ensures { IfOk result (λ text. string_bytes text ≡ extent frame.now) }
 {
-    let west = Thousandths(frame.min_x);
-    let south = Thousandths(frame.min_y);
-    let east = Thousandths(frame.max_x);
-    let north = Thousandths(frame.max_y);
-    format!(in alloc;
-        "<xmin>{west}</xmin><ymin>{south}</ymin><xmax>{east}</xmax><ymax>{north}</ymax>"
-    )
+    let west = side(alloc, "xmin", frame.min_x)?;
+    let south = side(alloc, "ymin", frame.min_y)?;
+    let east = side(alloc, "xmax", frame.max_x)?;
+    let north = side(alloc, "ymax", frame.max_y)?;
+    format!(in alloc; "{west}{south}{east}{north}")
 }
 
 /// The reference system of the project.
