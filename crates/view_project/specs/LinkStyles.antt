@@ -20,7 +20,8 @@ sheet = record {
   table = codes "sheet_tile_identity";
   shown = codes "&quot;id&quot; || &apos;: &apos; || &quot;zoom_level&quot; || &apos;, &apos; || "
       ++ codes "&quot;tile_column&quot; || &apos;, &apos; || &quot;tile_row&quot;";
-  name = codes "Sheet" }
+  name = codes "Sheet";
+}
 
 -- a field that is chosen from the rows of another layer, by their numbers
 abbrev pub chosen : List ℕ → End → List ℕ
