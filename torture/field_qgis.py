@@ -125,7 +125,7 @@ class Register:
 
 
 PLACES = [(0, 0, 0), (1, 0, 0), (1, 1, 0), (1, 0, 1), (1, 1, 1)]
-MARKS = [(96.5, 402.25, 110, "trig. point"), (468, 228, 210, "light, white flash"), (340.125, 247, 310, "gauge"), (402, 268, 340, "slip"), (160, 250, 120, "church, tower")]
+MARKS = [(96.5, 402.25, 110, "trig. point"), (300, 196, 210, "light, white flash"), (340.125, 247, 310, "gauge"), (402, 268, 340, "slip"), (160, 250, 120, "church, tower")]
 
 
 def first_requests():
@@ -262,7 +262,7 @@ def survey_again(room, path):
 
 def wanted_contents(marks, dock_at):
     """The codes, labels and places of marks after the round, written out by hand."""
-    changed = {"light, white flash": (468, 228, 210, "light, white flash, 6 s"), "slip": (404, 269.5, 340, "slip"), "gauge": None}
+    changed = {"light, white flash": (300, 196, 210, "light, white flash, 6 s"), "slip": (404, 269.5, 340, "slip"), "gauge": None}
     left = [changed.get(mark[3], mark) for mark in marks]
     rows = [mark for mark in left if mark] + [marks[4], (*dock_at, 350, "new dock")]
     return sorted((FRAME_OF.min_x + round(x * 1000), FRAME_OF.min_y + round(y * 1000), code, label) for x, y, code, label in rows)
