@@ -22,8 +22,8 @@ import tempfile
 os.environ.setdefault("QT_QPA_PLATFORM", "offscreen")
 
 from qgis.core import (
-    Qgis, QgsApplication, QgsFeature, QgsFeatureRequest, QgsGeometry, QgsMapRendererParallelJob, QgsMapSettings, QgsPointXY, QgsProject,
-    QgsRectangle, QgsVectorLayer, QgsVectorLayerUtils,
+    Qgis, QgsApplication, QgsFeatureRequest, QgsGeometry, QgsMapRendererParallelJob, QgsMapSettings, QgsPointXY, QgsProcessingFeedback,
+    QgsProject, QgsRectangle, QgsVectorLayerUtils,
 )
 from qgis.gui import QgsAttributeEditorContext, QgsAttributeForm, QgsGui
 from qgis.PyQt.QtCore import QByteArray, QSize
@@ -32,7 +32,7 @@ TOP = os.path.dirname(os.path.dirname(os.path.abspath(__file__)))
 sys.path[:0] = [os.path.join(TOP, "samples")]
 sys.dont_write_bytecode = True
 
-from field_pictures import colour, dock, png
+from field_pictures import colour, dock, png, tiff
 from machine.changing import changes_of_words, key_of, list_of
 from machine.exports import export
 from machine.frames import Frame
@@ -331,6 +331,23 @@ def copied_without_log(register):
     print("copied: without its log it lacks what was saved; after QGIS let go it does not")
 
 
+def by_merge(register):
+    """The tool of QGIS's menus that writes a picture into the sheets of a file: only the tile below it is written."""
+    sys.path.append(os.path.join(QgsApplication.pkgDataPath(), "python", "plugins"))
+    import processing
+    from processing.core.Processing import Processing
+
+    Processing.initialize()
+    path = register.file("merged.gpkg")
+    picture = os.path.join(register.room, "merged.tif")
+    tiff(picture, 300, 500, 64, dock)
+    processing.run("gdal:merge", {"INPUT": [picture], "OUTPUT": path}, feedback=QgsProcessingFeedback())
+    gc.collect()
+    asked = [(request["command"], request.get("kind")) for request in register.bring(path)]
+    assert asked == [("delete", ""), ("add", "tile")], asked
+    print("merge: one tile came home")
+
+
 def by_gdal(register):
     """Points that ogr2ogr appends: without -t_srs degrees stay degrees, which is told; with it they come home. A spatial index does no harm."""
     path = register.file("gdal.gpkg")
@@ -359,7 +376,7 @@ def main():
     with tempfile.TemporaryDirectory() as room:
         register = Register(room, first_requests())
         a_round(register, pictures or room)
-        for trial in (what_is_told, copied_without_log, by_gdal):
+        for trial in (by_merge, what_is_told, copied_without_log, by_gdal):
             trial(register)
     sys.stdout.flush()
     # what QGIS takes down at its end may crash, and has nothing to do with what was tried
