@@ -10,7 +10,7 @@ is edited by SQL, as crews and their programs do it, and spoiled now and then; w
 that of the reading, to the byte. `changes`, `bring` and `bring --dry-run` of it must print what the second machine prints, or refuse as it
 does; afterwards the package holds what the second machine's holds, the others what they held, the same list is stale, and a new export
 asks for nothing. Lists that were cut, or have a record less or twice, and the same holdings with --more go there too. A register goes on
-for some rounds. Then come points of any doubles, and tables of other programs whose names have marks in them. Status 0 where nothing differed.
+for some rounds, which the program carries out in one session at their end. Then come points of any doubles, and tables of other programs whose names have marks in them. Status 0 where nothing differed.
 """
 
 import csv
@@ -76,24 +76,55 @@ def png(seed, size):
     return b"\x89PNG\r\n\x1a\n" + b"".join(struct.pack(">I", len(data)) + name + data + struct.pack(">I", zlib.crc32(name + data)) for name, data in parts)
 
 
-class Register:
-    """A folder with an archive that a random list filled."""
+class Script:
+    """A session of the program: its lines, and what they have to print. It is carried out once, at the end, in one process."""
 
-    def __init__(self, rng, sheetdesk, folder, pictures):
-        self.rng, self.sheetdesk, self.folder, self.pictures = rng, sheetdesk, folder, pictures
+    def __init__(self, room):
+        self.room, self.typed, self.wanted, self.files = room, [], [], 0
+
+    def type(self, line, text, status=0):
+        self.typed.append(line + "\n")
+        self.wanted.append(f"$ {line}\n{text}" + (f"status {status}\n" if status else ""))
+
+    def run(self, words, text, status=0, given=None):
+        """A command, maybe over an input."""
+        if given is not None:
+            self.files += 1
+            with open(os.path.join(self.room, f"given_{self.files}.csv"), "wb") as out:
+                out.write(given)
+            words += f" < given_{self.files}.csv"
+        self.type(f"./sheetdesk {words}", text, status)
+
+    def carry_out(self, sheetdesk):
+        with open(os.path.join(self.room, "session.txt"), "w", encoding="utf-8") as out:
+            out.write("".join(self.typed))
+        ran = subprocess.run([sheetdesk, "session", "session.txt"], cwd=self.room, capture_output=True, check=False)
+        wanted, at = "".join(self.wanted).encode(), 0
+        if ran.returncode == 0 and ran.stdout == wanted:
+            return
+        for part in map(str.encode, self.wanted):
+            came = ran.stdout[at : at + len(part)]
+            if came != part:
+                raise AssertionError(f"status {ran.returncode}\n{part.decode()[:3000]}\nand it printed\n{ran.stdout[at : at + 3000].decode(errors='replace')}\n{ran.stderr[-500:]}")
+            at += len(part)
+        raise AssertionError((ran.returncode, ran.stdout[at:], ran.stderr[-500:]))
+
+
+class Register:
+    """An archive that a random list filled, and the session that makes it."""
+
+    def __init__(self, rng, room, pictures):
+        self.rng, self.pictures, self.script = rng, pictures, Script(room)
         self.text = FRAMES[0] if pictures else rng.choice(FRAMES)
         self.frame = Frame.read(self.text)
-        os.mkdir(folder)
-        self.run("init", "--archive", ARCHIVE, "--at", AT, f"--frame={self.text}", folder)
         listed = self.listed().encode()
-        path = folder + ".csv"
-        with open(path, "wb") as out:
+        begun = rehearse(ARCHIVE, self.text, listed)
+        self.world = begun.world
+        with open(os.path.join(room, "first.csv"), "wb") as out:
             out.write(listed)
-        self.run("import", folder, path)
-        self.world = rehearse(ARCHIVE, self.text, listed).world
-
-    def run(self, *words):
-        return subprocess.run([self.sheetdesk, *words], stdout=subprocess.PIPE, check=True).stdout
+        self.script.type("mkdir maps", "")
+        self.script.run(f"init --archive {ARCHIVE} --at {AT} --frame={self.text} maps", f"archive {ARCHIVE}\n")
+        self.script.run("import maps first.csv", begun.text.split("package ", 1)[0])
 
     def place(self):
         zoom = self.rng.randrange(self.frame.first_zoom, self.frame.first_zoom + self.frame.levels)
@@ -135,13 +166,13 @@ class Register:
         return "".join(map(spelled_record, [FIELDS, *records]))
 
     def exported(self, package, path):
-        """Makes the file, once the text is the second machine's."""
-        text = self.run("export", self.folder, package)
-        assert text.decode() == export(self.frame, self.world.packages[package], self.world.tickets[package]), "export"
+        """Makes the file of the text that the program has to print."""
+        text = export(self.frame, self.world.packages[package], self.world.tickets[package])
+        self.script.run(f"export maps {package}", text)
         for end in ("", "-wal", "-shm", "-journal"):
             if os.path.exists(path + end):
                 os.remove(path + end)
-        subprocess.run(["sqlite3", "-bail", path], input=text, check=True)
+        subprocess.run(["sqlite3", "-bail", path], input=text.encode(), check=True)
 
 
 # ---- a file, read by plain Python
@@ -519,10 +550,7 @@ class Home:
 
     def prints(self, verb, *options, held, text, status=0):
         """That the program prints this of a list."""
-        words = [self.register.sheetdesk, verb, self.register.folder, self.package, "--at", AT, *options]
-        came = subprocess.run(words, input=held, capture_output=True, check=False)
-        if (came.returncode, came.stdout.decode()) != (status, text):
-            raise AssertionError((words[1:], came.returncode, status, came.stdout[-2000:], text[-2000:], came.stderr[-500:]))
+        self.register.script.run(" ".join([verb, "maps", self.package, "--at", AT, *options]), text, status, held)
         done[f"{verb} {'refused' if status else ' '.join(options)}".strip()] += 1
 
     def asked(self, held, more=False):
@@ -556,9 +584,9 @@ class Home:
 
     def compare(self):
         """That each package holds what the second machine's holds, and the account is good."""
-        for uuid, package in self.world.packages.items():
-            assert self.register.run("manifest", self.register.folder, uuid).decode() == manifest(package), uuid
-        assert self.register.run("audit", self.register.folder).decode() == f"good {len(self.world.receipts)}\n"
+        for uuid, package in sorted(self.world.packages.items()):
+            self.register.script.run(f"manifest maps {uuid}", manifest(package))
+        self.register.script.run("audit maps", f"good {len(self.world.receipts)}\n")
 
 
 def anonymous(held):
@@ -647,10 +675,11 @@ def go_round(rng, register, holds, room, with_gdal):
 
 def go_rounds(rng, sheetdesk, holds, room, with_gdal, count):
     """So many, with one register."""
-    register = Register(rng, sheetdesk, os.path.join(room, "maps"), with_gdal)
+    register = Register(rng, room, with_gdal)
     for _ in range(count):
         go_round(rng, register, holds, room, with_gdal)
     Home(register, ARCHIVE).compare()
+    register.script.carry_out(sheetdesk)
 
 
 # ---- points of any doubles
@@ -674,8 +703,8 @@ def any_double(rng):
     return float(rng.randrange(-(10**9), 10**9)) if way == 6 else struct.unpack("<d", rng.randbytes(8))[0]
 
 
-def go_over_points(rng, sheetdesk, holds, room, count):
-    register = Register(rng, sheetdesk, os.path.join(room, "maps"), False)
+def go_over_points(rng, holds, room, count):
+    register = Register(rng, room, False)
     path = os.path.join(room, "points.gpkg")
     register.exported(ARCHIVE, path)
     db = sqlite3.connect(path)
@@ -775,7 +804,7 @@ def main():
                 print(f"a round from {number} on, of seed {seed}: {done['rounds']} in all", file=sys.stderr)
                 raise
     with tempfile.TemporaryDirectory() as room:
-        go_over_points(random.Random(seed), sheetdesk, holds, room, rounds * 20)
+        go_over_points(random.Random(seed), holds, room, rounds * 20)
     print(", ".join(f"{name} {count}" for name, count in sorted(done.items())))
 
 

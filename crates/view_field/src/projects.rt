@@ -82,7 +82,7 @@ pub fn project_for<W: Write>(
     name: &str,
     writer: &mut W,
 ) -> Ending
-    ensures { AsksProject ⟦<FolderStore as Store>⟧ package.now name.now writer.old writer.new (W.contents writer.old) (W.contents writer.new) result }
+    ensures { AsksProject ⟦<FolderStore as Store>⟧ «package».now name.now writer.old writer.new (W.contents writer.old) (W.contents writer.new) result }
 {
     match read_uuid(package) {
         Some(uuid) => project_at(rt, folder, uuid, name, writer),
