@@ -9,6 +9,7 @@ _sheetdesk_options() {
         return|join|part) echo --at --request --dry-run ;;
         put) echo --type --as --at --request --dry-run ;;
         log) echo --from --last ;;
+        export) echo --qgis ;;
         holds) echo --tiles --points --geometry --code --label ;;
         map) echo --zoom ;;
         serve) echo --log ;;

@@ -28,6 +28,7 @@ from machine import holding
 from machine.exports import export
 from machine.frames import Frame
 from machine.lists import read_requests
+from machine.projects import project
 from machine.report import page_of
 from machine.world import Receipt, World
 from make_sample import List, rehearsed as rehearsed_sample
@@ -221,6 +222,18 @@ def exports(session):
     session.type("mkdir oblong", "")
     session.run(f"init --archive A0000000-0000-4000-8000-00000000BeEf --at {nordmark.CREATED} --frame={frame} oblong", f"archive {archive}\n")
     session.run(f"export oblong {archive.upper()}", export(world.frame, world.packages[archive], world.tickets[archive]))
+    return world
+
+
+def projects(session, oblong):
+    """The QGIS projects that lie beside two of them: in the second is no reference system, and its file has marks of XML in its name."""
+    frame = Frame.read(nordmark.FRAME)
+    session.run(f"export maps {CREW.upper()} --qgis crew.gpkg", project(frame, "crew.gpkg"))
+    session.run(f"export oblong {oblong.archive} --qgis=-'<a&b>;\"ä.gpkg", project(oblong.frame, "-'<a&b>;\"ä.gpkg"))
+    session.run("export maps 7900 --qgis crew.gpkg", "refused: uuid\n", 1)
+    session.run(f"export maps {nordmark.BOAT} --qgis crew.gpkg", "refused: no such package\n", 1)
+    session.run(f"export nowhere {CREW} --qgis crew.gpkg", "", 3)
+    session.run(f"export maps {CREW} --qgis", "", 2)
 
 
 def making(check):
@@ -376,7 +389,10 @@ def all_sessions():
     every.take(first)
     every.show("")
     every.show("# Its packages as SQL, and an archive with nothing in it, over an oblong frame.")
-    exports(every)
+    oblong = exports(every)
+    every.show("")
+    every.show("# The QGIS project that lies beside an export.")
+    projects(every, oblong)
     every.show("")
     every.show("# The SQL that lists what an edited file holds, and that of another program's file.")
     listings(every)

@@ -29,6 +29,12 @@ each first_version - "$torture/first_version_folder.sh" "$program"
 each export 'sqlite3 ogrinfo gdalinfo gdal_translate' "$torture/export_files.sh"
 each completions - "$torture/completions.sh"
 each field_rounds sqlite3 "$torture/field_rounds.py" $((quick ? 40 : 1000))
+if /usr/bin/python3 -c 'import qgis.core' 2>/dev/null; then
+  each field_qgis 'sqlite3 gdalwarp ogr2ogr' /usr/bin/python3 "$torture/field_qgis.py"
+  each field_stories 'sqlite3 gdalwarp ogr2ogr' "$torture/field_stories.sh"
+else
+  printf '%-22s %-7s %7s  %s\n' field_qgis 'not run' '' "it needs Debian's python3-qgis"
+fi
 each report_page 'chromium tidy' "$torture/report_page.py"
 
 # Kills, a disk that fails, power that is lost, files that are damaged.

@@ -1,15 +1,20 @@
 #!/usr/bin/env python3
-"""Edits exports at random, and compares what `sheetdesk holds` makes stock sqlite3 list with a reading by plain Python.
+"""Edits exports at random, lists and brings them home: by the program, by a reading in plain Python, and by the second machine.
 
 Usage: field_rounds.py [ROUNDS [SEED]] [--gdal]
        SHEETDESK=PROGRAM field_rounds.py ..    over another program than the proved one
 
 In each round the program makes a register of a random list and exports a package; the text must be the second machine's. Then the file
 is edited by SQL, as crews and their programs do it, and spoiled now and then; with --gdal also by ogr2ogr, ogrinfo, gdalwarp and gdaladdo
-(Debian's gdal-bin). Doubles are read by `struct` and rounded as exact fractions. Then come points of any doubles, and tables of other
-programs whose names have marks in them. Status 0 where each list came to the byte.
+(Debian's gdal-bin). Doubles are read by `struct` and rounded as exact fractions. The list that `holds` makes stock sqlite3 print must be
+that of the reading, to the byte. `changes`, `bring` and `bring --dry-run` of it must print what the second machine prints, or refuse as it
+does; afterwards the package holds what the second machine's holds, the others what they held, the same list is stale, and a new export
+asks for nothing. Lists that were cut, or have a record less or twice, and the same holdings with --more go there too. A register goes on
+for some rounds, which the program carries out in one session at their end. Then come points of any doubles, and tables of other programs whose names have marks in them. Status 0 where nothing differed.
 """
 
+import csv
+import io
 import os
 import random
 import shutil
@@ -28,14 +33,17 @@ sys.path[:0] = [os.path.join(TOP, "samples")]
 sys.dont_write_bytecode = True
 
 from machine import holding
+from machine.changing import Refused, changes_of_words, list_of, summary_of
 from machine.contents import ENDS
 from machine.exports import export
 from machine.frames import Frame
+from machine.held_lists import HEADER as COLUMNS
 from machine.lists import HEADER as FIELDS
 from machine.lists import spelled_record
-from reference import rehearse
+from machine.world import apply
+from reference import manifest, rehearse, report_line, REPORT_HEADER
 
-HEADER = "kind,number,other,identity,zoom,column,row,x,y,code,text,data"
+HEADER = ",".join(COLUMNS)
 ARCHIVE = "a0000000-0000-4000-8000-000000000000"
 AT = "2026-03-02T07:30:00.000Z"
 FRAMES = [
@@ -68,24 +76,55 @@ def png(seed, size):
     return b"\x89PNG\r\n\x1a\n" + b"".join(struct.pack(">I", len(data)) + name + data + struct.pack(">I", zlib.crc32(name + data)) for name, data in parts)
 
 
-class Register:
-    """A folder with an archive that a random list filled."""
+class Script:
+    """A session of the program: its lines, and what they have to print. It is carried out once, at the end, in one process."""
 
-    def __init__(self, rng, sheetdesk, folder, pictures):
-        self.rng, self.sheetdesk, self.folder, self.pictures = rng, sheetdesk, folder, pictures
+    def __init__(self, room):
+        self.room, self.typed, self.wanted, self.files = room, [], [], 0
+
+    def type(self, line, text, status=0):
+        self.typed.append(line + "\n")
+        self.wanted.append(f"$ {line}\n{text}" + (f"status {status}\n" if status else ""))
+
+    def run(self, words, text, status=0, given=None):
+        """A command, maybe over an input."""
+        if given is not None:
+            self.files += 1
+            with open(os.path.join(self.room, f"given_{self.files}.csv"), "wb") as out:
+                out.write(given)
+            words += f" < given_{self.files}.csv"
+        self.type(f"./sheetdesk {words}", text, status)
+
+    def carry_out(self, sheetdesk):
+        with open(os.path.join(self.room, "session.txt"), "w", encoding="utf-8") as out:
+            out.write("".join(self.typed))
+        ran = subprocess.run([sheetdesk, "session", "session.txt"], cwd=self.room, capture_output=True, check=False)
+        wanted, at = "".join(self.wanted).encode(), 0
+        if ran.returncode == 0 and ran.stdout == wanted:
+            return
+        for part in map(str.encode, self.wanted):
+            came = ran.stdout[at : at + len(part)]
+            if came != part:
+                raise AssertionError(f"status {ran.returncode}\n{part.decode()[:3000]}\nand it printed\n{ran.stdout[at : at + 3000].decode(errors='replace')}\n{ran.stderr[-500:]}")
+            at += len(part)
+        raise AssertionError((ran.returncode, ran.stdout[at:], ran.stderr[-500:]))
+
+
+class Register:
+    """An archive that a random list filled, and the session that makes it."""
+
+    def __init__(self, rng, room, pictures):
+        self.rng, self.pictures, self.script = rng, pictures, Script(room)
         self.text = FRAMES[0] if pictures else rng.choice(FRAMES)
         self.frame = Frame.read(self.text)
-        os.mkdir(folder)
-        self.run("init", "--archive", ARCHIVE, "--at", AT, f"--frame={self.text}", folder)
         listed = self.listed().encode()
-        path = folder + ".csv"
-        with open(path, "wb") as out:
+        begun = rehearse(ARCHIVE, self.text, listed)
+        self.world = begun.world
+        with open(os.path.join(room, "first.csv"), "wb") as out:
             out.write(listed)
-        self.run("import", folder, path)
-        self.world = rehearse(ARCHIVE, self.text, listed).world
-
-    def run(self, *words):
-        return subprocess.run([self.sheetdesk, *words], stdout=subprocess.PIPE, check=True).stdout
+        self.script.type("mkdir maps", "")
+        self.script.run(f"init --archive {ARCHIVE} --at {AT} --frame={self.text} maps", f"archive {ARCHIVE}\n")
+        self.script.run("import maps first.csv", begun.text.split("package ", 1)[0])
 
     def place(self):
         zoom = self.rng.randrange(self.frame.first_zoom, self.frame.first_zoom + self.frame.levels)
@@ -127,10 +166,13 @@ class Register:
         return "".join(map(spelled_record, [FIELDS, *records]))
 
     def exported(self, package, path):
-        """Makes the file, once the text is the second machine's."""
-        text = self.run("export", self.folder, package)
-        assert text.decode() == export(self.frame, self.world.packages[package], self.world.tickets[package]), "export"
-        subprocess.run(["sqlite3", "-bail", path], input=text, check=True)
+        """Makes the file of the text that the program has to print."""
+        text = export(self.frame, self.world.packages[package], self.world.tickets[package])
+        self.script.run(f"export maps {package}", text)
+        for end in ("", "-wal", "-shm", "-journal"):
+            if os.path.exists(path + end):
+                os.remove(path + end)
+        subprocess.run(["sqlite3", "-bail", path], input=text.encode(), check=True)
 
 
 # ---- a file, read by plain Python
@@ -497,12 +539,123 @@ def edit_by_gdal(rng, register, path, folder):
     done["gdal " + name] += 1
 
 
+# ---- home again
+
+
+class Home:
+    """What is done with a list, by the program and by the second machine."""
+
+    def __init__(self, register, package):
+        self.register, self.package, self.world = register, package, register.world
+
+    def prints(self, verb, *options, held, text, status=0):
+        """That the program prints this of a list."""
+        self.register.script.run(" ".join([verb, "maps", self.package, "--at", AT, *options]), text, status, held)
+        done[f"{verb} {'refused' if status else ' '.join(options)}".strip()] += 1
+
+    def asked(self, held, more=False):
+        """The requests of the second machine, or the text by which it refuses."""
+        try:
+            return changes_of_words(self.world, self.package, AT, held, more).requests
+        except Refused as why:
+            done["refused: " + str(why.args[0]).split(" ", 1)[0]] += 1
+            return "refused: " + "".join(f"{line}\n" for line in why.args)
+
+    def looks(self, held, more=False):
+        """What would be done, by `changes` or a dry run, as a list or as a line."""
+        requests, options = self.asked(held, more), ["--more"] if more else []
+        verb, *shown = self.register.rng.choice([("changes",), ("changes",), ("changes", "--summary"), ("bring", "--dry-run"), ("bring", "--dry-run", "--summary")])
+        if isinstance(requests, str):
+            self.prints(verb, *options, *shown, held=held, text=requests, status=1)
+        else:
+            self.prints(verb, *options, *shown, held=held, text=summary_of(requests) if "--summary" in shown else list_of(requests))
+        return requests
+
+    def brings(self, held, more=False):
+        """The same, carried out. Answers whether anything was done."""
+        requests, options = self.asked(held, more), ["--more"] if more else []
+        if isinstance(requests, str):
+            self.prints("bring", *options, held=held, text=requests, status=1)
+            return False
+        lines = [report_line(number, request, apply(self.world, request)) for number, request in enumerate(requests, 1)]
+        self.prints("bring", *options, held=held, text=f"{REPORT_HEADER}\n{''.join(lines)}")
+        done["requests"] += len(requests)
+        return requests != []
+
+    def compare(self):
+        """That each package holds what the second machine's holds, and the account is good."""
+        for uuid, package in sorted(self.world.packages.items()):
+            self.register.script.run(f"manifest maps {uuid}", manifest(package))
+        self.register.script.run("audit maps", f"good {len(self.world.receipts)}\n")
+
+
+def anonymous(held):
+    """The same holdings as of another program: without package and identities."""
+    records = [record for record in csv.reader(io.StringIO(held.decode(), newline="")) if record[0] != "package"]
+    at = COLUMNS.index("identity")
+    named = [record[:at] + ([""] if record[0] != "kind" else record[at : at + 1]) + record[at + 1 :] for record in records[:-1]]
+    return "".join(map(spelled_record, [*named, ["end", len(named) - 1] + [""] * (len(COLUMNS) - 2)])).encode()
+
+
+def spoiled(rng, held):
+    """A list that was cut, or has a record less, twice, or two exchanged."""
+    lines = held.splitlines(keepends=True)
+    at = rng.randrange(len(lines))
+    return rng.choice([held[: rng.randrange(len(held))], b"".join(lines[:at] + lines[at + 1 :]), b"".join(lines[:at] + lines[at : at + 1] + lines[at:])])
+
+
+def mend(path, told):
+    """Deletes what was told, as a crew does; not where the frame itself is no frame."""
+    lines = [line.split(" ") for line in told.splitlines()[1:]]
+    if any(kind not in TABLES for kind, *_ in lines):
+        return False
+    db = sqlite3.connect(path)
+    with_index = db.execute("SELECT count(*) FROM sqlite_master WHERE name LIKE 'rtree%'").fetchone()[0]
+    if with_index:
+        db.create_function("ST_IsEmpty", 1, lambda blob: 0)
+    for kind, number, _ in lines:
+        db.execute(f"DELETE FROM {TABLES[kind]} WHERE id = ?", (int(number),))
+    db.commit()
+    db.close()
+    done["mended"] += 1
+    return True
+
+
+def come_home(rng, register, package, held, path, holds):
+    home = Home(register, package)
+    asked = home.looks(held)
+    if isinstance(asked, str) and asked.startswith("refused: items\n") and mend(path, asked):
+        held = read_export(path)
+        compare(holds, path, held)
+        home.looks(held)
+    if rng.random() < 0.2:
+        home.looks(spoiled(rng, held))
+    if rng.random() < 0.2:
+        home.looks(held, more=True)
+    was_changed = home.brings(held)
+    if was_changed and rng.random() < 0.5:
+        home.brings(held)
+    if rng.random() < 0.3:
+        home.compare()
+    register.exported(package, path)
+    again = listed_by(holds, path)
+    assert home.looks(again) == [] and (not was_changed or bag_of(again) == bag_of(held)), "the export of what came home"
+    if rng.random() < 0.3:
+        home.looks(anonymous(again), more=True)
+    done["home again"] += 1
+
+
+def bag_of(held):
+    """The contents of a list, without numbers and names, and how many links of each mapping."""
+    ends = [COLUMNS.index(name) for name in ("number", "identity", "other")]
+    records = csv.reader(io.StringIO(held.decode(), newline=""))
+    return Counter(tuple("" if at in ends or record[0] in ENDS else field for at, field in enumerate(record)) + (record[0],) for record in records if record[0] not in ("package", "end", "frame"))
+
+
 # ---- rounds
 
 
-def go_round(rng, sheetdesk, holds, room, with_gdal):
-    folder = os.path.join(room, "maps")
-    register = Register(rng, sheetdesk, folder, with_gdal)
+def go_round(rng, register, holds, room, with_gdal):
     package = ARCHIVE if rng.random() < 0.7 else rng.choice(sorted(register.world.packages))
     path = os.path.join(room, "crew.gpkg")
     register.exported(package, path)
@@ -517,6 +670,16 @@ def go_round(rng, sheetdesk, holds, room, with_gdal):
     done["rounds"] += 1
     done["records"] += wanted.count(b"\n") - 2
     done["bad records"] += wanted.count(b"\nbad,")
+    come_home(rng, register, package, wanted, path, holds)
+
+
+def go_rounds(rng, sheetdesk, holds, room, with_gdal, count):
+    """So many, with one register."""
+    register = Register(rng, room, with_gdal)
+    for _ in range(count):
+        go_round(rng, register, holds, room, with_gdal)
+    Home(register, ARCHIVE).compare()
+    register.script.carry_out(sheetdesk)
 
 
 # ---- points of any doubles
@@ -540,8 +703,8 @@ def any_double(rng):
     return float(rng.randrange(-(10**9), 10**9)) if way == 6 else struct.unpack("<d", rng.randbytes(8))[0]
 
 
-def go_over_points(rng, sheetdesk, holds, room, count):
-    register = Register(rng, sheetdesk, os.path.join(room, "maps"), False)
+def go_over_points(rng, holds, room, count):
+    register = Register(rng, room, False)
     path = os.path.join(room, "points.gpkg")
     register.exported(ARCHIVE, path)
     db = sqlite3.connect(path)
@@ -630,18 +793,18 @@ def main():
     sheetdesk = program()
     holds = subprocess.run([sheetdesk, "holds"], stdout=subprocess.PIPE, check=True).stdout
     assert holds.decode() == holding.own(), "the text of holds"
-    for number in range(rounds):
+    for number in range(0, rounds, 5):
         rng = random.Random(seed * 1_000_003 + number)
         with tempfile.TemporaryDirectory() as room:
             try:
-                go_round(rng, sheetdesk, holds, room, with_gdal and number % 4 == 0)
+                go_rounds(rng, sheetdesk, holds, room, with_gdal and number % 20 == 0, min(5, rounds - number))
                 if number % 10 == 0:
                     go_over_stock(rng, sheetdesk, room)
             except BaseException:
-                print(f"round {number} of seed {seed}", file=sys.stderr)
+                print(f"a round from {number} on, of seed {seed}: {done['rounds']} in all", file=sys.stderr)
                 raise
     with tempfile.TemporaryDirectory() as room:
-        go_over_points(random.Random(seed), sheetdesk, holds, room, rounds * 20)
+        go_over_points(random.Random(seed), holds, room, rounds * 20)
     print(", ".join(f"{name} {count}" for name, count in sorted(done.items())))
 
 

@@ -211,6 +211,7 @@ A first session, from the archive on:
   sheetdesk receipt maps 90000000-0000-4000-8000-000000000001
   sheetdesk manifest maps a0000000-0000-4000-8000-000000000000
   sheetdesk export maps a0000000-0000-4000-8000-000000000000 | sqlite3 true.gpkg
+  sheetdesk export maps a0000000-0000-4000-8000-000000000000 --qgis true.gpkg > true.qgs
   sheetdesk holds | sqlite3 true.gpkg > holds.csv
   sheetdesk map maps > maps.svg
   sheetdesk audit maps
@@ -229,7 +230,8 @@ Standard output:
   explain   a line for each receipt that names the item, as an item or as an end of a link; and where it is
   receipt   the receipt, as JSON on a line
   manifest  the records of the package
-  export    SQL; `sqlite3 NEW.gpkg` makes a file of it that GDAL and QGIS open
+  export    SQL; `sqlite3 NEW.gpkg` makes a file of it that GDAL and QGIS open; with --qgis a QGIS project for
+            the file of that name, which has to lie beside it
   map       SVG; who holds which sheets of one zoom, each package in its colour
   report    HTML; the register on one page, which needs no other file: who holds what, the ledger, the account
   audit     good and the number of receipts; or the name of what is wrong, as OutOfAccount

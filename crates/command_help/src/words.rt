@@ -142,6 +142,17 @@ fn over_package<'a>(
     ))
 }
 
+/// Prints a package as SQL, or the QGIS project of the file that is made of it.
+fn export_command<'a>(alloc: Global) -> Result<Command<'a>, AllocError> {
+    let project = option(
+        alloc,
+        "qgis",
+        "NAME",
+        "Print the QGIS project for the file of this name beside it, as crew.gpkg",
+    );
+    over_package(alloc, "export", EXPORT_ABOUT)?.arg(project.required(false))
+}
+
 /// Says what lives.
 fn status_command<'a>(alloc: Global) -> Result<Command<'a>, AllocError> {
     over_folder(alloc, Command::new(alloc, "status"), STATUS_ABOUT)
@@ -334,7 +345,7 @@ pub fn sheetdesk<'a>(alloc: Global) -> Result<Command<'a>, AllocError> {
         .subcommand(explain_command(alloc)?)?
         .subcommand(receipt_command(alloc)?)?
         .subcommand(over_package(alloc, "manifest", MANIFEST_ABOUT)?)?
-        .subcommand(over_package(alloc, "export", EXPORT_ABOUT)?)?
+        .subcommand(export_command(alloc)?)?
         .subcommand(holds_command(alloc)?)?
         .subcommand(map_command(alloc)?)?
         .subcommand(report_command(alloc)?)?

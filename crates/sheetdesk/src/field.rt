@@ -1,9 +1,12 @@
-//! The SQL that lists what an edited file holds. No folder is opened for it.
+//! What serves an edited file: the SQL that lists what it holds, for which no folder is opened, and the QGIS project of an export.
 use crate::running::{is_printed, out_of_memory, output_failed, text_of};
 use clap::ArgMatches;
+use command_folder::endings::Ending;
 use field_sql::listing::{holds, stock_holds};
 use field_sql::stock::Points;
 use std::alloc::AllocError;
+use std::io;
+use view_field::projects::project_for;
 
 /// The column of geometries where none is named, as most programs name it.
 const GEOMETRY: &str = "geom";
@@ -37,4 +40,15 @@ pub(crate) fn listed(rt: &HostRuntime, given: &ArgMatches<'_>) -> u8 {
         Ok(_) => output_failed(rt),
         Err(_) => out_of_memory(rt),
     }
+}
+
+/// Prints the QGIS project of an export for the file of a name, and answers how that ended; none where a command asks for no such project.
+pub(crate) fn projected(rt: &HostRuntime, name: &str, given: &ArgMatches<'_>) -> Option<Ending> {
+    if name != "export" {
+        return None;
+    }
+    let file = given.get_str("qgis")?;
+    let folder = text_of(given, "folder");
+    let package = text_of(given, "package");
+    Some(project_for(rt, folder, package, file, &mut io::writer(rt)))
 }

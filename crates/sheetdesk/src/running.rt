@@ -1,5 +1,5 @@
 //! A command, carried out: what it asks for is done in `cli`, `commands` and `views`.
-use crate::field::listed;
+use crate::field::{listed, projected};
 use crate::founding::founded;
 use crate::ordering::{is_verb, ordered};
 use crate::showing::shown;
@@ -203,6 +203,9 @@ pub(crate) fn carried_out(
     }
     if name == "completions" {
         return printed(rt, BASH);
+    }
+    if let Some(ending) = projected(rt, name, given) {
+        return ended(rt, &ending);
     }
     if let Some(asked) = asked_look(name, given) {
         return looked(

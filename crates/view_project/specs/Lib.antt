@@ -1,0 +1,4 @@
+pub mod Layers
+pub mod LinkStyles
+pub mod Parts
+pub mod Projects
