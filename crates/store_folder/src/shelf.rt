@@ -57,7 +57,10 @@ impl<'f> Shelf<FolderStore> for FolderShelf<'f> {
     }
 
     // The files lose their names while they are open, so no other process meets them. They are closed after that, and no log is copied.
-    fn retire(&mut self, package: Uuid, _store: Connection<FolderStore>) {
+    fn retire(&mut self, package: Uuid, _store: Connection<FolderStore>)
+        ensures counts { self.new.failures ≡ self.old.failures }
+        ensures remnants { self.old.remnants ≤ self.new.remnants }
+    {
         if remove_store(self.rt, self.folder, package).is_err() {
             self.remnants = self.remnants.saturating_add(1);
         }

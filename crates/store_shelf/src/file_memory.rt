@@ -50,7 +50,10 @@ impl Shelf<FileStore<MemoryFile>> for MemoryFileShelf {
         counted(made, &mut self.failures)
     }
 
-    fn retire(&mut self, _package: Uuid, _store: Connection<FileStore<MemoryFile>>) {}
+    fn retire(&mut self, _package: Uuid, _store: Connection<FileStore<MemoryFile>>)
+        ensures { self.new ≡ self.old }
+    {
+    }
 
     fn failures(&self) -> u64 {
         self.failures

@@ -47,7 +47,10 @@ impl Shelf<MemStore> for MemoryShelf {
         counted(made, &mut self.failures)
     }
 
-    fn retire(&mut self, _package: Uuid, _store: Connection<MemStore>) {}
+    fn retire(&mut self, _package: Uuid, _store: Connection<MemStore>)
+        ensures { self.new ≡ self.old }
+    {
+    }
 
     fn failures(&self) -> u64 {
         self.failures
