@@ -52,8 +52,7 @@ impl Shelf<FileStore<MemoryFile>> for MemoryFileShelf {
 
     fn retire(&mut self, _package: Uuid, _store: Connection<FileStore<MemoryFile>>)
         ensures { self.new ≡ self.old }
-    {
-    }
+    {}
 
     fn failures(&self) -> u64 {
         self.failures

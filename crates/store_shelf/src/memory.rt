@@ -49,8 +49,7 @@ impl Shelf<MemStore> for MemoryShelf {
 
     fn retire(&mut self, _package: Uuid, _store: Connection<MemStore>)
         ensures { self.new ≡ self.old }
-    {
-    }
+    {}
 
     fn failures(&self) -> u64 {
         self.failures

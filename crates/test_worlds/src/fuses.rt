@@ -290,8 +290,7 @@ impl Shelf<Store> for FusedShelf {
 
     fn retire(&mut self, _package: Uuid, _store: Connection<Store>)
         ensures { self.new ≡ self.old }
-    {
-    }
+    {}
 
     fn failures(&self) -> u64 {
         self.failures
