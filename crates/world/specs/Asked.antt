@@ -1,5 +1,5 @@
 -- What a world asks a shelf for, and what it gives back to it. Profile.
-use Rattle.std.specs.Prelude.{◌≡◌, ◌⊎◌, ℕ, false, List, [], ◌∷◌, ◌++◌, Option, Some, None, Result, slice_get, bytes_eq}
+use Rattle.std.specs.Prelude.{◌≡◌, ◌⊎◌, ℕ, ⊤, false, List, [], ◌∷◌, ◌++◌, Option, Some, None, Result, slice_get, bytes_eq}
 use Rattle.std.specs.List.{AllByRecursion}
 use Rattle.sqlite.specs.Held.{Held, state}
 use Rattle.sqlite.specs.Store.{Ghosts}
@@ -30,6 +30,23 @@ HasUuidAt {S} members at uuid = (member : Member S) × (slice_get members at ≡
 abbrev pub AsksFor : {H : Type 0} → (List ℕ → H → H → Type 0) → Option (List ℕ) → (List ℕ → Type 0) → H → H → Type 0
 AsksFor Asks None Fact before after = after ≡ before
 AsksFor Asks (Some child) Fact before after = (after ≡ before) ⊎ (Asks child before after × Fact child)
+
+-- It was given back one store, as that of some package.
+abbrev pub TakesOne : {S H : Type 0} → (List ℕ → S → H → H → Type 0) → H → H → Type 0
+TakesOne {S} Takes before after = (uuid : List ℕ) × (store : S) × Takes uuid store before after
+
+-- It was asked for what a request asks to be made, or given back one store, or neither.
+abbrev pub IsUsedFor : {S H : Type 0} → (List ℕ → H → H → Type 0) → (List ℕ → S → H → H → Type 0) → Request → H → H
+    → Type 0
+IsUsedFor Asks Takes q before after = AsksFor Asks (child_asked q.command) (λ child. ⊤) before after
+    ⊎ TakesOne Takes before after
+
+-- The same of a list of requests, in turn.
+abbrev pub IsUsedForEach : {S H : Type 0} → (List ℕ → H → H → Type 0) → (List ℕ → S → H → H → Type 0) → List Request → H
+    → H → Type 0
+IsUsedForEach Asks Takes [] before after = after ≡ before
+IsUsedForEach {S} {H} Asks Takes (q ∷ qs) before after = (between : H) × IsUsedFor Asks Takes q before between
+    × IsUsedForEach Asks Takes qs between after
 
 module _ {S : Type 0} (g : Ghosts S) where
   -- The package is of no world that it stood for, where each disk has given back what was written.
