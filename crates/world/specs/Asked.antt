@@ -44,7 +44,7 @@ IsUsedFor Asks Takes q before after = AsksFor Asks (child_asked q.command) (λ c
 -- The same of a list of requests, in turn.
 abbrev pub IsUsedForEach : {S H : Type 0} → (List ℕ → H → H → Type 0) → (List ℕ → S → H → H → Type 0) → List Request → H
     → H → Type 0
-IsUsedForEach Asks Takes [] before after = after ≡ before
+IsUsedForEach {S} {H} Asks Takes [] before after = after ≡ before
 IsUsedForEach {S} {H} Asks Takes (q ∷ qs) before after = (between : H) × IsUsedFor Asks Takes q before between
     × IsUsedForEach Asks Takes qs between after
 
