@@ -128,6 +128,20 @@ pub fn open_store(
     }
 }
 
+/// Sees that no store has the files of a package open, be it one of this process. Files that are not there may be made, and are empty.
+///
+/// # Errors
+///
+/// `PackageHeld`, where one has; else as `open_store`.
+pub(crate) fn see_unheld(rt: &HostRuntime, folder: &str, package: Uuid) -> Result<(), FolderFault> {
+    let name = file_name(rt.alloc(), package)?;
+    let path = path_of(rt.alloc(), folder, name.as_str())?;
+    match files_at(rt, path.as_str()) {
+        Ok(_files) => Ok(()),
+        Err(error) => Err(fault_at(rt, path.as_str(), package, error)),
+    }
+}
+
 /// Puts one more behind a list.
 fn push<T: Drop>(list: &mut Vec<T>, item: T) -> Result<(), FolderFault>
     ensures { OnOk result (list.new.items ≡ list.old.items ++ item ∷ []) }

@@ -7,6 +7,7 @@ ghost use Rattle.store_sql.specs.Blank.{IsBlank, no_schema};
 
 use crate::fault::{FolderFault, fault_of};
 use crate::names::{file_name, path_of};
+use crate::opening::see_unheld;
 use crate::removing::remove_store;
 use crate::start::{Empty, FolderStore};
 use sqlite::Connection;
@@ -61,13 +62,14 @@ impl<'f> Shelf<FolderStore> for FolderShelf<'f> {
         }
     }
 
-    // The files are closed first, and no log is copied: they are to go. What stays is a stray of the folder.
+    // The files are closed first, and no log is copied: they are to go. What stays is a stray of the folder. A file of the package's name that
+    // is still held is that of another store, under a name that is not its own: it stays.
     fn retire(&mut self, package: Uuid, store: FolderStore)
         ensures counts { self.new.failures ≡ self.old.failures }
         ensures more { self.old.remnants ≤ self.new.remnants }
     {
         drop(store);
-        if remove_store(self.rt, self.folder, package).is_err() {
+        if remove_unheld(self.rt, self.folder, package).is_err() {
             self.remnants = self.remnants.saturating_add(1);
         }
     }
@@ -84,6 +86,12 @@ fn counted(fault: ShelfFault, failures: &mut u64) -> ShelfFault
 {
     *failures = failures.saturating_add(1);
     fault
+}
+
+/// Removes the files of a package, unless a store has them open.
+fn remove_unheld(rt: &HostRuntime, folder: &str, package: Uuid) -> Result<(), FolderFault> {
+    see_unheld(rt, folder, package)?;
+    remove_store(rt, folder, package)
 }
 
 /// An empty store in the file of a package, in place of whatever stood there. That it is empty is known under the premise of `Empty`, since its files were removed before.
