@@ -63,7 +63,7 @@ module _ {S : Type 0} (g : Ghosts S) {H : Type 0} (Asks : List ℕ → H → H �
   used_for members q New NoMore [] before after used = inl (asks_weaker Asks (child_asked q.command) New (λ child. ⊤) before after (λ x new. tt) used)
   used_for members q New NoMore (store ∷ others) before after used =
       let it = used.1 in
-      inr (it.1.uuid, (it.4.0, it.4.2))
+      inr (it.1.uuid, it.4.0, it.4.2)
 
   -- one request more
   pub steps_more : (qs : List Request) (old mid new : Seen S) (replies : List (Result Receipt Refusal)) (q : Request) (reply : Result Receipt Refusal) (gone : List (Held S)) (before between after : H) → AreStepsWith g Asks Takes qs old replies mid gone before between → (one : IsStepWith g Asks Takes q mid reply new between after)

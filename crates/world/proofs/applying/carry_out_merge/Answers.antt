@@ -19,7 +19,7 @@ returns-clause-carries g c =
     let has : HasUuidAt c.args.members.now.items c.args.due.from c.uuid_at-child_uuid.result = subst (λ ms. HasUuidAt ms c.args.due.from c.uuid_at-child_uuid.result) c.as_slice.ensures.value c.uuid_at-child_uuid.ensures in (
       made.0,
       subst (λ gone. ComeHome g.S.Store g.H.Shelf.takes c.args.members.now.items (λ uuid. OfEachDue g.S.Store (λ w next. IsReturned w next c.args.due) c.args.members.now.items c.args.count.now (λ w next. IsNoPackage next uuid)) gone c.args.shelf.now c.retire.new.self) (sym made.1)
-          (comes_home g.S.Store g.met.S.Store.shut_if_dirty g.met.S.Store.settled c.args.due c.args.members.now.items c.merge_at.new.members.items c.args.count.now g.H.Shelf.takes _ c.uuid_at-child_uuid.result c.args.shelf.now c.retire.new.self (c.in_ok-receipt.ensures.merges.home _ refl) has (c.into_store.result, (c.into_store.ensures.quiet, c.retire.ensures.takes))),
+          (comes_home g.S.Store g.met.S.Store.shut_if_dirty g.met.S.Store.settled c.args.due c.args.members.now.items c.merge_at.new.members.items c.args.count.now g.H.Shelf.takes _ c.uuid_at-child_uuid.result c.args.shelf.now c.retire.new.self (c.in_ok-receipt.ensures.merges.home _ refl) has (c.into_store.result, c.into_store.ensures.quiet, c.retire.ensures.takes)),
     )
 
 pub returns-in_err-receipt-clause-carries : goal.returns-in_err-receipt-clause-carries
