@@ -57,7 +57,7 @@ abbrev pub IsListOf : List Request → (Option (List ℕ) → Type 0) → Type 0
 IsListOf requests of = (text : Option (List ℕ)) → IfSome text (λ t. IsList t requests) → of text
 
 -- What a shelf was used for by the list that a text is: for each of its requests in turn it was asked for what that one
--- asks to be made, or given back one store, or neither.
+-- asks to be made, or given back what it takes home, or neither.
 abbrev pub UsesOfList : {S H : Type 0} → (List ℕ → H → H → Type 0) → (List ℕ → S → H → H → Type 0) → Option (List ℕ) → H → H → Type 0
 UsesOfList Asks Takes text before after = (requests : List Request) × IfSome text (λ t. IsList t requests) × IsUsedForEach Asks Takes requests before after
 

@@ -11,7 +11,7 @@ use Rattle.store_sql.proofs.Staying.{stays_then}
 use Rattle.world_changes.proofs.Surviving.{zip_from}
 use Rattle.world_members.specs.Members.{AllStay, StaysMember}
 use Rattle.world_members.specs.declared.members.Member.{Member}
-use Rattle.world.specs.Asked.{AsksFor, AreStepsWith, ComeHome, GivenBack, IsStepWith, IsUsedFor, UsesFor}
+use Rattle.world.specs.Asked.{AsksFor, AreStepsWith, ComeHome, GivenBack, IsStepWith, IsUsedFor, UsesFor, child_returned}
 use Rattle.world_decisions.specs.Deciding.{child_asked}
 use Rattle.world.specs.Worlds.{Seen}
 
@@ -59,11 +59,11 @@ module _ {S : Type 0} (g : Ghosts S) {H : Type 0} (Asks : List ℕ → H → H �
       (used.0, (it.0, it.1, it.2, it.3, it.4, no_more it.1.uuid it.5))
 
   -- so it was used at most once
-  pub used_for : (members : List (Member S)) (q : Request) (New NoMore : List ℕ → Type 0) (gone : List (Held S)) (before after : H) → UsesFor g Asks Takes members (child_asked q.command) New NoMore gone before after → IsUsedFor Asks Takes q before after
-  used_for members q New NoMore [] before after used = inl (asks_weaker Asks (child_asked q.command) New (λ child. ⊤) before after (λ x new. tt) used)
-  used_for members q New NoMore (store ∷ others) before after used =
+  pub used_for : (members : List (Member S)) (q : Request) (New NoMore : List ℕ → Type 0) (gone : List (Held S)) (before after : H) → ((x : List ℕ) → NoMore x → child_returned q.command ≡ Some x) → UsesFor g Asks Takes members (child_asked q.command) New NoMore gone before after → IsUsedFor Asks Takes q before after
+  used_for members q New NoMore [] before after named used = inl (asks_weaker Asks (child_asked q.command) New (λ child. ⊤) before after (λ x new. tt) used)
+  used_for members q New NoMore (store ∷ others) before after named used =
       let it = used.1 in
-      inr (it.1.uuid, it.4.0, it.4.2)
+      inr (it.1.uuid, named it.1.uuid it.5, it.4.0, it.4.2)
 
   -- one request more
   pub steps_more : (qs : List Request) (old mid new : Seen S) (replies : List (Result Receipt Refusal)) (q : Request) (reply : Result Receipt Refusal) (gone : List (Held S)) (before between after : H) → AreStepsWith g Asks Takes qs old replies mid gone before between → (one : IsStepWith g Asks Takes q mid reply new between after)

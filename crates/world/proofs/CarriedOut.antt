@@ -11,6 +11,7 @@ use Rattle.sqlite.specs.Store.{Ghosts}
 use Rattle.sqlite.specs.Held.{Held, state}
 use Rattle.sqlite.specs.State.{HasCleanDisk}
 use Rattle.sheet_types.specs.World.{World, Package}
+use Rattle.sheet_types.specs.declared.command.Command.{Command}
 use Rattle.sheet_types.specs.declared.frame.Frame.{Frame}
 use Rattle.sheet_types.specs.declared.receipt.Receipt.{Receipt}
 use Rattle.store_sql.specs.Staying.{Stays}
@@ -39,7 +40,7 @@ use Rattle.world_changes.proofs.Surviving.{stay_survive, survive_then}
 use Rattle.world_changes.proofs.HeldStores.{held_clean, members_left}
 use Rattle.world_changes.proofs.Lent.{child_left, is_beside, none_beside}
 use Rattle.world_members.proofs.Standing.{members_stay, clean_before, zip_at}
-use Rattle.world.specs.Asked.{ComeHome, GivenBack, HasUuidAt, IsNoPackage}
+use Rattle.world.specs.Asked.{ComeHome, GivenBack, HasUuidAt, IsNoPackage, child_returned}
 
 module _ {S : Type 0} (g : Ghosts S) where
   -- where nothing came of it no connection left the world
@@ -231,13 +232,13 @@ module _ {S : Type 0} (g : Ghosts S) where
           )
 
       -- the child's store, given back as that of its package, which is of the world no more
-      pub comes_home : {H : Type 0} (Takes : List ℕ → S → H → H → Type 0) (store : Held S) (uuid : List ℕ) (s t : H) → ((member : Member S) × (slice_get old due.from ≡ Some member) × Stays (state g member.conn) (state g store)) → HasUuidAt old due.from uuid → GivenBack g Takes uuid store s t
-          → ComeHome g Takes old (λ u. OfEachDue g (λ w next. IsReturned w next due) old before (λ w next. IsNoPackage next u)) (store ∷ []) s t
-      comes_home Takes store uuid s t home has takes =
+      pub comes_home : {H : Type 0} (Takes : List ℕ → S → H → H → Type 0) (store : Held S) (command : Command) (uuid : List ℕ) (s t : H) → ((member : Member S) × (slice_get old due.from ≡ Some member) × Stays (state g member.conn) (state g store)) → HasUuidAt old due.from uuid → child_returned command ≡ Some uuid → GivenBack g Takes uuid store s t
+          → ComeHome g Takes old (λ u. (child_returned command ≡ Some u) × OfEachDue g (λ w next. IsReturned w next due) old before (λ w next. IsNoPackage next u)) (store ∷ []) s t
+      comes_home Takes store command uuid s t home has asked takes =
           let both : Some home.0 ≡ Some has.0 = sym home.1 ∙ has.1 in
           let same : home.0 ≡ has.0 = cc in
           let named : uuid ≡ home.0.uuid = has.2 ∙ ap (λ (m : Member S). m.uuid) (sym same) in
-          (refl, (due.from, home.0, home.1, home.2, subst (λ u. GivenBack g Takes u store s t) named takes, λ w next are is. no_more home.0 home.1 w next are is))
+          (refl, (due.from, home.0, home.1, home.2, subst (λ u. GivenBack g Takes u store s t) named takes, asked ∙ ap Some named, λ w next are is. no_more home.0 home.1 w next are is))
         where
           no_more : (m : Member S) → slice_get old due.from ≡ Some m → (w next : World) → AreMembers g old before w → IsReturned w next due → IsNoPackage next m.uuid
           no_more m place w next are is =

@@ -30,9 +30,9 @@ use Rattle.world_changes.proofs.Surviving.{same_survive}
 use Rattle.world_changes.proofs.HeldStores.{left_clean, right_clean}
 use Rattle.world_changes.proofs.Lent.{none_beside}
 use Rattle.sqlite.specs.Held.{Held}
-use Rattle.std.specs.Prelude.{[], ◌++◌}
+use Rattle.std.specs.Prelude.{Some, [], ◌++◌}
 use Rattle.world_decisions.specs.Deciding.{child_asked}
-use Rattle.world.specs.Asked.{IsNewTo, IsNoMoreOf, IsNoPackage, IsStepWith, ServesWith, UsesFor}
+use Rattle.world.specs.Asked.{IsNewTo, IsHomeBy, IsNoPackage, IsStepWith, ServesWith, UsesFor, child_returned}
 use Rattle.world.proofs.Asks.{asks_nothing, uses_asked, uses_weaker}
 use Rattle.world.specs.Worlds.{Seen, StandsFor, IsHeld, IsAccepted, IsStep, StandsStill, LeavesNoTrace, LeftAsItStands}
 use Rattle.register_lending.specs.declared.turn_fault.TurnFault.TheVariants.{Before, Committing}
@@ -107,7 +107,7 @@ module _ {S : Type 0} (g : Ghosts S) where
       let it : IsStep g q seen (Err StoreFault) seen = step_unserved q seen failed in
       record {
         step = it;
-        uses = uses_asked g Asks Takes seen.members (child_asked q.command) (IsNewTo g seen seen) (IsNoMoreOf g q seen seen it.gone) it.gone s s (it.dropped refl) (asks_nothing Asks (child_asked q.command) (IsNewTo g seen seen) s s refl);
+        uses = uses_asked g Asks Takes seen.members (child_asked q.command) (IsNewTo g seen seen) (IsHomeBy g q seen seen it.gone) it.gone s s (it.dropped refl) (asks_nothing Asks (child_asked q.command) (IsNewTo g seen seen) s s refl);
       }
 
   -- Between two calls a crash leaves what the world stands for.
@@ -192,11 +192,11 @@ module _ {S : Type 0} (g : Ghosts S) where
       step_with : (reply : Result Receipt Refusal) → (step : IsStep g q was reply now_seen) × (step.gone ≡ it.gone) → IsStepWith g Asks Takes q was reply now_seen s t
       step_with reply both = record {
         step = both.0;
-        uses = subst (λ gone. UsesFor g Asks Takes was.members (child_asked q.command) (IsNewTo g was now_seen) (IsNoMoreOf g q was now_seen gone) gone s t) (sym both.1)
-            (subst (λ ms. UsesFor g Asks Takes ms (child_asked q.command) (IsNewTo g was now_seen) (IsNoMoreOf g q was now_seen it.gone) it.gone s t) (ap (λ x. x.members) seen)
+        uses = subst (λ gone. UsesFor g Asks Takes was.members (child_asked q.command) (IsNewTo g was now_seen) (IsHomeBy g q was now_seen gone) gone s t) (sym both.1)
+            (subst (λ ms. UsesFor g Asks Takes ms (child_asked q.command) (IsNewTo g was now_seen) (IsHomeBy g q was now_seen it.gone) it.gone s t) (ap (λ x. x.members) seen)
             (uses_weaker g Asks Takes old (child_asked q.command) (λ x. AllClean g new → OfEachSeen g f known old before (λ w. IsNoPackage w x)) (IsNewTo g was now_seen)
-            (λ x. AllClean g new → AreClean g it.gone → OfEachSeen g f known old before (λ w. IsNoPackage (outcome w q).1 x)) (IsNoMoreOf g q was now_seen it.gone) it.gone s t
-            (λ x told clean w stands. told clean w (stood w stands).0 (stood w stands).1) (λ x told clean gone w stands. told clean gone w (stood w stands).0 (stood w stands).1) used));
+            (λ x. (child_returned q.command ≡ Some x) × (AllClean g new → AreClean g it.gone → OfEachSeen g f known old before (λ w. IsNoPackage (outcome w q).1 x))) (IsHomeBy g q was now_seen it.gone) it.gone s t
+            (λ x told clean w stands. told clean w (stood w stands).0 (stood w stands).1) (λ x told. (told.0, λ clean gone w stands. told.1 clean gone w (stood w stands).0 (stood w stands).1)) used));
       }
 
       pub replied_with : (reply : Result Receipt Refusal) → r ≡ Ok reply → IsStepWith g Asks Takes q was reply now_seen s t

@@ -1,5 +1,5 @@
 -- What serving a request says in each of the ways in which it ends, for all commands.
-use Rattle.std.specs.Prelude.{◌≡◌, ◌≤◌, ℕ, ◌+◌, List, [], ◌++◌, map, refl, Result, Ok, Err, IsOk}
+use Rattle.std.specs.Prelude.{◌≡◌, ◌≤◌, ℕ, ◌+◌, List, [], ◌++◌, map, refl, Some, Result, Ok, Err, IsOk}
 use Rattle.std.proofs.Common.{arith, sym, ap, subst, ◌∙◌, inl, inr}
 use Rattle.std.specs.List.{AllByRecursion}
 use Rattle.std.proofs.lemmas.List.{append-nil}
@@ -42,7 +42,7 @@ use Rattle.world_loans.specs.Loans.{IsLent, IsReturned}
 use Rattle.world_loans.specs.declared.loans.ServeFault.{ServeFault}
 use Rattle.world_loans.specs.declared.loans.ServeFault.TheVariants.{Unshelved, Turn}
 use Rattle.world_members.specs.declared.members.Member.{Member}
-use Rattle.world.specs.Asked.{AsksFor, ComeHome, IsNoPackage, ServesWith}
+use Rattle.world.specs.Asked.{AsksFor, ComeHome, IsNoPackage, ServesWith, child_returned}
 use Rattle.world.proofs.Asks.{asks_nothing, uses_asked, uses_home}
 use Rattle.world.proofs.CarriedOut.{leaves_before}
 use Rattle.world_changes.proofs.Surviving.{read_before, stay_survive, survive_then}
@@ -351,14 +351,14 @@ module _ {S : Type 0} (g : Ghosts S) (shuts : Shuts g) (settles : Settles g) (f 
 
     -- the store that a merge lets go was given back, and nothing was asked for
     pub merge_with : {H : Type 0} (Asks : List ℕ → H → H → Type 0) (Takes : List ℕ → S → H → H → Type 0) (s t : H) {made_reply : Result Receipt ServeFault} {reply : Result (Result Receipt Refusal) ServeFault} (due : Returning) → r ≡ Ok (MergeDue due) → (made : Carries g (λ w next. IsReturned w next due) due.receipt mid new [] before after made_reply)
-        → ComeHome g Takes mid (λ uuid. OfEachDue g (λ w next. IsReturned w next due) mid before (λ w next. IsNoPackage next uuid)) made.gone s t → (all : ServesAll g f q old new strays known noted before after reply) → all.gone ≡ made.gone
+        → ComeHome g Takes mid (λ uuid. (child_returned q.command ≡ Some uuid) × OfEachDue g (λ w next. IsReturned w next due) mid before (λ w next. IsNoPackage next uuid)) made.gone s t → (all : ServesAll g f q old new strays known noted before after reply) → all.gone ≡ made.gone
         → (x : ServesAll g f q old new strays known noted before after reply) × ServesWith g Asks Takes f q old new known before x.gone s t
     merge_with Asks Takes s t due is made home all same = (
       all,
       subst (λ gone. ServesWith g Asks Takes f q old new known before gone s t) (sym same)
-          (uses_home g Asks Takes old mid (child_asked q.command) (λ child. AllClean g new → OfEachSeen g f known old before (λ w. IsNoPackage w child)) (λ uuid. OfEachDue g (λ w next. IsReturned w next due) mid before (λ w next. IsNoPackage next uuid))
-          (λ uuid. AllClean g new → AreClean g made.gone → OfEachSeen g f known old before (λ w. IsNoPackage (outcome w q).1 uuid)) made.gone s t it.stay
-          (λ uuid apart clean gone w seen are. merge_apart due is uuid apart (made.clean clean gone) w seen are) home),
+          (uses_home g Asks Takes old mid (child_asked q.command) (λ child. AllClean g new → OfEachSeen g f known old before (λ w. IsNoPackage w child)) (λ uuid. (child_returned q.command ≡ Some uuid) × OfEachDue g (λ w next. IsReturned w next due) mid before (λ w next. IsNoPackage next uuid))
+          (λ uuid. (child_returned q.command ≡ Some uuid) × (AllClean g new → AreClean g made.gone → OfEachSeen g f known old before (λ w. IsNoPackage (outcome w q).1 uuid))) made.gone s t it.stay
+          (λ uuid both. (both.0, λ clean gone w seen are. merge_apart due is uuid both.1 (made.clean clean gone) w seen are)) home),
     )
 
 -- ---- what a shelf is asked for
@@ -370,7 +370,7 @@ module _ {S : Type 0} (g : Ghosts S) {H : Type 0} (Asks : List ℕ → H → H �
   with_asked s t all none asked = (
     all,
     uses_asked g Asks Takes old (child_asked q.command) (λ child. AllClean g new → OfEachSeen g f known old before (λ w. IsNoPackage w child))
-        (λ uuid. AllClean g new → AreClean g all.gone → OfEachSeen g f known old before (λ w. IsNoPackage (outcome w q).1 uuid)) all.gone s t none asked,
+        (λ uuid. (child_returned q.command ≡ Some uuid) × (AllClean g new → AreClean g all.gone → OfEachSeen g f known old before (λ w. IsNoPackage (outcome w q).1 uuid))) all.gone s t none asked,
   )
 
   -- and nothing was asked for

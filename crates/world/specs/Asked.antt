@@ -6,6 +6,8 @@ use Rattle.sqlite.specs.Store.{Ghosts}
 use Rattle.sqlite_trees.specs.View.{IsQuiet}
 use Rattle.sheet_types.specs.Step.{outcome}
 use Rattle.sheet_types.specs.World.{World}
+use Rattle.sheet_types.specs.declared.command.Command.{Command}
+use Rattle.sheet_types.specs.declared.command.Command.TheVariants.{Merge}
 use Rattle.sheet_types.specs.declared.command.Request.{Request}
 use Rattle.sheet_types.specs.declared.frame.Frame.{Frame}
 use Rattle.sheet_types.specs.declared.receipt.Receipt.{Receipt}
@@ -31,15 +33,21 @@ abbrev pub AsksFor : {H : Type 0} → (List ℕ → H → H → Type 0) → Opti
 AsksFor Asks None Fact before after = after ≡ before
 AsksFor Asks (Some child) Fact before after = (after ≡ before) ⊎ (Asks child before after × Fact child)
 
--- It was given back one store, as that of some package.
-abbrev pub TakesOne : {S H : Type 0} → (List ℕ → S → H → H → Type 0) → H → H → Type 0
-TakesOne {S} Takes before after = (uuid : List ℕ) × (store : S) × Takes uuid store before after
+-- the package that a command takes home
+abbrev pub child_returned : Command → Option (List ℕ)
+child_returned (Merge child into ticket) = Some child
+child_returned command = None
 
--- It was asked for what a request asks to be made, or given back one store, or neither.
+-- It was given back one store, as that of the package that this command takes home.
+abbrev pub TakesHomeOf : {S H : Type 0} → (List ℕ → S → H → H → Type 0) → Command → H → H → Type 0
+TakesHomeOf {S} Takes command before after = (uuid : List ℕ) × (child_returned command ≡ Some uuid) × (store : S)
+    × Takes uuid store before after
+
+-- It was asked for what a request asks to be made, or given back what it takes home, or neither.
 abbrev pub IsUsedFor : {S H : Type 0} → (List ℕ → H → H → Type 0) → (List ℕ → S → H → H → Type 0) → Request → H → H
     → Type 0
 IsUsedFor Asks Takes q before after = AsksFor Asks (child_asked q.command) (λ child. ⊤) before after
-    ⊎ TakesOne Takes before after
+    ⊎ TakesHomeOf Takes q.command before after
 
 -- The same of a list of requests, in turn.
 abbrev pub IsUsedForEach : {S H : Type 0} → (List ℕ → H → H → Type 0) → (List ℕ → S → H → H → Type 0) → List Request → H
@@ -57,6 +65,10 @@ module _ {S : Type 0} (g : Ghosts S) where
   abbrev pub IsNoMoreOf : Request → Seen S → Seen S → List (Held S) → List ℕ → Type 0
   IsNoMoreOf q old new gone uuid = AllClean g new.members → AreClean g gone → (w : World) → StandsFor g old w
       → IsNoPackage (outcome w q).1 uuid
+
+  -- The request takes it home, and it is of no world after.
+  abbrev pub IsHomeBy : Request → Seen S → Seen S → List (Held S) → List ℕ → Type 0
+  IsHomeBy q old new gone uuid = (child_returned q.command ≡ Some uuid) × IsNoMoreOf q old new gone uuid
 
   module _ {H : Type 0} (Takes : List ℕ → S → H → H → Type 0) where
     -- A shelf was given back the store of this connection, as that of the package of this UUID. Where its disk has given
@@ -90,15 +102,15 @@ module _ {S : Type 0} (g : Ghosts S) where
         → H → H → Type 0
     ServesWith f q old new known count gone before after = UsesFor old (child_asked q.command)
         (λ child. AllClean g new → OfEachSeen g f known old count (λ w. IsNoPackage w child))
-        (λ uuid. AllClean g new → AreClean g gone
-        → OfEachSeen g f known old count (λ w. IsNoPackage (outcome w q).1 uuid)) gone before after
+        (λ uuid. (child_returned q.command ≡ Some uuid) × (AllClean g new → AreClean g gone
+        → OfEachSeen g f known old count (λ w. IsNoPackage (outcome w q).1 uuid))) gone before after
 
     -- One step, with what the shelf was asked for and given back. So who keeps what the shelf was given has each
     -- connection that left the world.
     pub record IsStepWith (q : Request) (old : Seen S) (reply : Result Receipt Refusal) (new : Seen S)
         (before after : H) : Type 0 where
       pub step : IsStep g q old reply new
-      pub uses : UsesFor old.members (child_asked q.command) (IsNewTo old new) (IsNoMoreOf q old new step.gone)
+      pub uses : UsesFor old.members (child_asked q.command) (IsNewTo old new) (IsHomeBy q old new step.gone)
           step.gone before after
 
     -- One step after the other, in which these connections left the world.

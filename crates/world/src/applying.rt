@@ -1,5 +1,5 @@
 //! One request over the members of a world: what it comes to is decided, and where a change is due it is carried out.
-ghost use Rattle.std.specs.Prelude.{◌≡◌, ◌⊎◌, ℕ, ◌≤◌, ◌<◌, ◌+◌, [], IsTrue, OnOk, length, vec_len, vec_capacity};
+ghost use Rattle.std.specs.Prelude.{◌≡◌, ◌⊎◌, ℕ, ◌≤◌, ◌<◌, ◌+◌, [], IsTrue, OnOk, IfSome, Some, length, vec_len, vec_capacity};
 ghost use Rattle.sheet_types.specs.Matrix.{is_good_frame};
 ghost use Rattle.sheet_types.specs.Refuse.{greatest_receipts};
 ghost use Rattle.world_decisions.specs.Deciding.{HasPlace};
@@ -9,7 +9,7 @@ ghost use Rattle.world.specs.Creating.{HasRoomFor};
 ghost use Rattle.world_loans.specs.Loans.{HasLendingPlace, HasReturnPlace, IsLent, IsReturned};
 ghost use Rattle.world_loans.specs.ServeFaults.{CountsShelf};
 ghost use Rattle.world.specs.Changes.{Changes};
-ghost use Rattle.world.specs.Asked.{ComeHome, HasUuidAt, IsNoPackage, ServesWith};
+ghost use Rattle.world.specs.Asked.{ComeHome, HasUuidAt, IsNoPackage, ServesWith, child_returned};
 ghost use Rattle.world_decisions.specs.declared.deciding.Decision.TheVariants.{ChangeDue};
 
 use crate::noting::decide_and_note;
@@ -77,19 +77,26 @@ fn carry_out_split<S: Alter + Drop, H: Shelf<S>>(
     Ok(receipt)
 }
 
-/// The UUID of the package of a member.
-fn uuid_at<S: Alter + Drop>(members: &[Member<S>], at: usize) -> Uuid
+/// The package that a command takes home, where the member at this place is its own.
+fn child_at<S: Alter + Drop>(members: &[Member<S>], at: usize, command: &Command) -> Option<Uuid>
     requires { at < length members.now }
-    ensures { HasUuidAt members.now at result }
+    ensures { IfSome result (λ uuid. HasUuidAt members.now at uuid × (child_returned command.now ≡ Some uuid)) }
 {
-    members[at].uuid
+    let Command::Merge { child, .. } = command else {
+        return None;
+    };
+    let uuid = members[at].uuid;
+    if uuid == *child { Some(uuid) } else { None }
 }
 
 /// Carries out a merge that is due. The count of receipts goes on by the one that is entered. The child's store is given back after the commit: its package is live no more.
+///
+/// What a shelf takes back it may remove. So it is given the store of the package that the command names, and no other, even where a store told something false.
 fn carry_out_merge<S: Alter + Drop, H: Shelf<S>>(
     members: &mut Vec<Member<S>>,
     count: &mut u64,
     shelf: &mut H,
+    command: &Command,
     due: Returning,
 ) -> Result<Receipt, ServeFault>
     requires rests { AllRest S.Store members.old.items }
@@ -97,15 +104,18 @@ fn carry_out_merge<S: Alter + Drop, H: Shelf<S>>(
     ensures carries { (it : Carries S.Store (λ w next. IsReturned w next due) due.receipt
         members.old.items members.new.items [] count.old count.new result)
         × ComeHome S.Store H.takes members.old.items
-        (λ uuid. OfEachDue S.Store (λ w next. IsReturned w next due) members.old.items count.old (λ w next. IsNoPackage next uuid))
+        (λ uuid. (child_returned command.now ≡ Some uuid)
+        × OfEachDue S.Store (λ w next. IsReturned w next due) members.old.items count.old (λ w next. IsNoPackage next uuid))
         it.gone shelf.old shelf.new }
     ensures shorter { length members.new.items ≤ length members.old.items }
     ensures shelf { CountsShelf result (H.failures_of shelf.old) (H.failures_of shelf.new) }
 {
-    let child_uuid = uuid_at(members.as_slice(), due.from);
+    let Some(uuid) = child_at(members.as_slice(), due.from, command) else {
+        return Err(ServeFault::Turn(TurnFault::Before(Fault::StoreFault)));
+    };
     let (receipt, child) = merge_at(members, due)?;
     *count = receipt.seq;
-    shelf.retire(child_uuid, child.into_store());
+    shelf.retire(uuid, child.into_store());
     Ok(receipt)
 }
 
@@ -161,7 +171,7 @@ pub(crate) fn serve<S: Alter + Drop, H: Shelf<S>>(
             Ok(Ok(receipt))
         }
         Decision::MergeDue(due) => {
-            let receipt = carry_out_merge(members, count, shelf, due)?;
+            let receipt = carry_out_merge(members, count, shelf, &request.command, due)?;
             Ok(Ok(receipt))
         }
     }

@@ -3,23 +3,23 @@ use Rattle.std.proofs.Common.{◌≡◌, refl, subst, sym, ap, ◌∙◌, arith,
 use Rattle.sheet_types.specs.declared.receipt.Receipt.{Receipt}
 use Rattle.world_changes.specs.Carries.{Carries, OfEachDue}
 use Rattle.world_loans.specs.Loans.{IsReturned}
-use Rattle.world.specs.Asked.{ComeHome, HasUuidAt, IsNoPackage}
+use Rattle.world.specs.Asked.{ComeHome, HasUuidAt, IsNoPackage, child_returned}
 use Rattle.world.proofs.Asks.{none_home}
 use Rattle.world.proofs.CarriedOut.{carries_returned, carries_unreturned, comes_home}
 use Rattle.world.proofs.ChangesMade.{turned_into}
 use Rattle.world.proofs.ServedAll.{counts_turn}
 use Rattle.world.proofs.applying.carry_out_merge.Goals as goal
 
-pub uuid_at-child_uuid-requires : goal.uuid_at-child_uuid-requires
-uuid_at-child_uuid-requires g c = rw c.as_slice.ensures.value c.requires.place.from
+pub child_at-requires : goal.child_at-requires
+child_at-requires g c = rw c.as_slice.ensures.value c.requires.place.from
 
 pub returns-clause-carries : goal.returns-clause-carries
 returns-clause-carries g c =
     let made = carries_returned g.S.Store g.met.S.Store.shut_if_dirty g.met.S.Store.settled c.args.due c.args.members.now.items c.merge_at.new.members.items c.args.count.now _ c.in_ok-receipt.receipt _ (ap (λ (r : Receipt). r.seq) (c.in_ok-receipt.ensures.merges.done _ refl).0 ∙ c.requires.place.number) c.in_ok-receipt.ensures.merges in
-    let has : HasUuidAt c.args.members.now.items c.args.due.from c.uuid_at-child_uuid.result = subst (λ ms. HasUuidAt ms c.args.due.from c.uuid_at-child_uuid.result) c.as_slice.ensures.value c.uuid_at-child_uuid.ensures in (
+    let has : HasUuidAt c.args.members.now.items c.args.due.from c.in-Some.uuid = subst (λ ms. HasUuidAt ms c.args.due.from c.in-Some.uuid) c.as_slice.ensures.value c.in-Some.ensures.0 in (
       made.0,
-      subst (λ gone. ComeHome g.S.Store g.H.Shelf.takes c.args.members.now.items (λ uuid. OfEachDue g.S.Store (λ w next. IsReturned w next c.args.due) c.args.members.now.items c.args.count.now (λ w next. IsNoPackage next uuid)) gone c.args.shelf.now c.retire.new.self) (sym made.1)
-          (comes_home g.S.Store g.met.S.Store.shut_if_dirty g.met.S.Store.settled c.args.due c.args.members.now.items c.merge_at.new.members.items c.args.count.now g.H.Shelf.takes _ c.uuid_at-child_uuid.result c.args.shelf.now c.retire.new.self (c.in_ok-receipt.ensures.merges.home _ refl) has (c.into_store.result, c.into_store.ensures.quiet, c.retire.ensures.takes)),
+      subst (λ gone. ComeHome g.S.Store g.H.Shelf.takes c.args.members.now.items (λ uuid. (child_returned c.args.command.now ≡ Some uuid) × OfEachDue g.S.Store (λ w next. IsReturned w next c.args.due) c.args.members.now.items c.args.count.now (λ w next. IsNoPackage next uuid)) gone c.args.shelf.now c.retire.new.self) (sym made.1)
+          (comes_home g.S.Store g.met.S.Store.shut_if_dirty g.met.S.Store.settled c.args.due c.args.members.now.items c.merge_at.new.members.items c.args.count.now g.H.Shelf.takes _ c.args.command.now c.in-Some.uuid c.args.shelf.now c.retire.new.self (c.in_ok-receipt.ensures.merges.home _ refl) has c.in-Some.ensures.1 (c.into_store.result, c.into_store.ensures.quiet, c.retire.ensures.takes)),
     )
 
 pub returns-in_err-receipt-clause-carries : goal.returns-in_err-receipt-clause-carries
@@ -28,7 +28,7 @@ returns-in_err-receipt-clause-carries g c =
     let made : Carries g.S.Store (λ w next. IsReturned w next c.args.due) c.args.due.receipt c.args.members.now.items c.merge_at.new.members.items [] c.args.count.now c.args.count.now c.from_residual.result =
     subst (Carries g.S.Store (λ w next. IsReturned w next c.args.due) c.args.due.receipt c.args.members.now.items c.merge_at.new.members.items [] c.args.count.now c.args.count.now) (sym told)
     (carries_unreturned g.S.Store g.met.S.Store.shut_if_dirty g.met.S.Store.settled c.args.due c.args.members.now.items c.merge_at.new.members.items c.args.count.now _ c.in_err-receipt.ensures.merges) in
-    (made, none_home g.S.Store g.H.Shelf.takes c.args.members.now.items (λ uuid. OfEachDue g.S.Store (λ w next. IsReturned w next c.args.due) c.args.members.now.items c.args.count.now (λ w next. IsNoPackage next uuid)) made.gone c.args.shelf.now (made.kept _ told))
+    (made, none_home g.S.Store g.H.Shelf.takes c.args.members.now.items (λ uuid. (child_returned c.args.command.now ≡ Some uuid) × OfEachDue g.S.Store (λ w next. IsReturned w next c.args.due) c.args.members.now.items c.args.count.now (λ w next. IsNoPackage next uuid)) made.gone c.args.shelf.now (made.kept _ told))
 
 pub returns-clause-shorter : goal.returns-clause-shorter
 returns-clause-shorter g c = omega (arith, (c.in_ok-receipt.ensures.merges.done _ refl).1)
