@@ -5,13 +5,27 @@ use Rattle.world_changes.specs.Carries.{Carries, OfEachDue}
 use Rattle.world_loans.specs.Loans.{IsReturned}
 use Rattle.world.specs.Asked.{ComeHome, HasUuidAt, IsNoPackage, child_returned}
 use Rattle.world.proofs.Asks.{none_home}
-use Rattle.world.proofs.CarriedOut.{carries_returned, carries_unreturned, comes_home}
+use Rattle.package_tables.specs.declared.fault.Fault.TheVariants.{StoreFault}
+use Rattle.register_lending.specs.declared.turn_fault.TurnFault.TheVariants.{Before}
+use Rattle.world_loans.specs.declared.loans.ServeFault.TheVariants.{Turn}
+use Rattle.world_changes.proofs.Lent.{none_beside}
+use Rattle.world_members.proofs.Standing.{all_still}
+use Rattle.world.proofs.CarriedOut.{carries_returned, carries_unbegun, carries_unreturned, comes_home}
 use Rattle.world.proofs.ChangesMade.{turned_into}
 use Rattle.world.proofs.ServedAll.{counts_turn}
 use Rattle.world.proofs.applying.carry_out_merge.Goals as goal
 
 pub child_at-requires : goal.child_at-requires
 child_at-requires g c = rw c.as_slice.ensures.value c.requires.place.from
+
+pub returns-in-None-clause-carries : goal.returns-in-None-clause-carries
+returns-in-None-clause-carries g c =
+    let made = carries_unbegun g.S.Store g.met.S.Store.shut_if_dirty g.met.S.Store.settled (λ w next. IsReturned w next c.args.due) c.args.due.receipt c.args.members.now.items c.args.members.now.items [] c.args.count.now (Turn (Before StoreFault)) refl c.requires.rests c.requires.rests
+    (all_still g.S.Store g.met.S.Store.shut_if_dirty g.met.S.Store.settled c.args.members.now.items c.requires.rests) tt [] (omega arith) (λ clean w next are is_due was. none_beside g.S.Store w.frame w.packages) in
+    (made, none_home g.S.Store g.H.Shelf.takes c.args.members.now.items (λ uuid. (child_returned c.args.command.now ≡ Some uuid) × OfEachDue g.S.Store (λ w next. IsReturned w next c.args.due) c.args.members.now.items c.args.count.now (λ w next. IsNoPackage next uuid)) made.gone c.args.shelf.now (made.kept _ refl))
+
+pub returns-in-None-clause-shelf : goal.returns-in-None-clause-shelf
+returns-in-None-clause-shelf g c = counts_turn _ (Before StoreFault) _ refl
 
 pub returns-clause-carries : goal.returns-clause-carries
 returns-clause-carries g c =
