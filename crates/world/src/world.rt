@@ -11,7 +11,7 @@ ghost use Rattle.world.specs.Creating.{IsCreatedOrRefused, HasRoom};
 ghost use Rattle.world_members.specs.Members.{AllRest, AllClean, AllOpen, AllMadeAt};
 ghost use Rattle.sheet_types.specs.declared.refusal.Refusal.TheVariants.{StoreFault};
 ghost use Rattle.sqlite_disk.specs.Disk.{MoreFaults};
-ghost use Rattle.world.specs.Worlds.{IsAccepted, IsHeld, LeavesNoTrace, StandsFor, StandsBeside, StandsStill, seen_of};
+ghost use Rattle.world.specs.Worlds.{IsAccepted, IsHeld, IsRun, IsStep, LeavesNoTrace, StandsFor, StandsBeside, StandsStill, seen_of};
 ghost use Rattle.world.specs.Asked.{IsStepWith, IsRunWith};
 
 use crate::applying::serve;
@@ -151,7 +151,8 @@ impl<S: Alter + Drop> World<S> {
         request: &Request,
         shelf: &mut H,
     ) -> Result<Receipt, Refusal>
-        ensures step { IsStepWith S.Store H.asks H.takes request.now self.old result self.new shelf.old shelf.new }
+        ensures step { IsStep S.Store request.now self.old result self.new }
+        ensures uses { IsStepWith S.Store H.asks H.takes request.now self.old result self.new shelf.old shelf.new }
         ensures still { StandsStill S.Store self.old result self.new }
         ensures unharmed { LeavesNoTrace S.Store self.old result self.new }
         ensures failed { self.old.has_failed ≡ true → (result ≡ Err StoreFault) × (self.new ≡ self.old) × (H.failures_of shelf.new ≡ H.failures_of shelf.old) }
@@ -198,7 +199,8 @@ impl<S: Alter + Drop> World<S> {
         requests: &[Request],
         shelf: &mut H,
     ) -> Result<Vec<Result<Receipt, Refusal>>, OutOfMemory>
-        ensures ran { IfOk result (λ replies. IsRunWith S.Store H.asks H.takes requests.now self.old replies.items self.new
+        ensures ran { IfOk result (λ replies. IsRun S.Store requests.now self.old replies.items self.new (H.failures_of shelf.old) (H.failures_of shelf.new)) }
+        ensures uses { IfOk result (λ replies. IsRunWith S.Store H.asks H.takes requests.now self.old replies.items self.new
             (H.failures_of shelf.old) (H.failures_of shelf.new) shelf.old shelf.new) }
         ensures refused { OnErr result ((self.new ≡ self.old) × (H.failures_of shelf.new ≡ H.failures_of shelf.old)) }
         ensures unasked { OnErr result (shelf.new ≡ shelf.old) }

@@ -4,4 +4,4 @@ use Rattle.promises.proofs.reopening.open_and_run.Goals as goal
 
 pub returns-in-Ok-run : goal.returns-in-Ok-run
 returns-in-Ok-run g c =
-    opens_again g.S.Store c.opens_again.ensures c.left_is_stores.ensures c.args.stores.items c.in-Ok.found c.args.requests.now (record { world = c.run.new.self; replies = c.in-Ok-run.replies }) _ _ c.have_types.ensures c.in-Ok.ensures.stands c.in-Ok-run.ensures.ran.run
+    opens_again g.S.Store c.opens_again.ensures c.left_is_stores.ensures c.args.stores.items c.in-Ok.found c.args.requests.now (record { world = c.run.new.self; replies = c.in-Ok-run.replies }) _ _ c.have_types.ensures c.in-Ok.ensures.stands c.in-Ok-run.ensures.ran
