@@ -238,7 +238,7 @@ module _ {S : Type 0} (g : Ghosts S) where
           let both : Some home.0 ≡ Some has.0 = sym home.1 ∙ has.1 in
           let same : home.0 ≡ has.0 = cc in
           let named : uuid ≡ home.0.uuid = has.2 ∙ ap (λ (m : Member S). m.uuid) (sym same) in
-          (refl, (due.from, home.0, home.1, home.2, subst (λ u. GivenBack g Takes u store s t) named takes, asked ∙ ap Some named, λ w next are is. no_more home.0 home.1 w next are is))
+          (refl, (due.from, home.0, home.1, home.2, subst (λ u. GivenBack g Takes u store s t) named takes, (asked ∙ ap Some named, λ w next are is. no_more home.0 home.1 w next are is)))
         where
           no_more : (m : Member S) → slice_get old due.from ≡ Some m → (w next : World) → AreMembers g old before w → IsReturned w next due → IsNoPackage next m.uuid
           no_more m place w next are is =

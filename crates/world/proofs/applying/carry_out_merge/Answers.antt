@@ -18,22 +18,22 @@ use Rattle.world.proofs.applying.carry_out_merge.Goals as goal
 pub child_at-requires : goal.child_at-requires
 child_at-requires g c = rw c.as_slice.ensures.value c.requires.place.from
 
-pub returns-in-None-clause-carries : goal.returns-in-None-clause-carries
-returns-in-None-clause-carries g c =
+pub returns-in_default-clause-carries : goal.returns-in_default-clause-carries
+returns-in_default-clause-carries g c =
     let made = carries_unbegun g.S.Store g.met.S.Store.shut_if_dirty g.met.S.Store.settled (λ w next. IsReturned w next c.args.due) c.args.due.receipt c.args.members.now.items c.args.members.now.items [] c.args.count.now (Turn (Before StoreFault)) refl c.requires.rests c.requires.rests
     (all_still g.S.Store g.met.S.Store.shut_if_dirty g.met.S.Store.settled c.args.members.now.items c.requires.rests) tt [] (omega arith) (λ clean w next are is_due was. none_beside g.S.Store w.frame w.packages) in
     (made, none_home g.S.Store g.H.Shelf.takes c.args.members.now.items (λ uuid. (child_returned c.args.command.now ≡ Some uuid) × OfEachDue g.S.Store (λ w next. IsReturned w next c.args.due) c.args.members.now.items c.args.count.now (λ w next. IsNoPackage next uuid)) made.gone c.args.shelf.now (made.kept _ refl))
 
-pub returns-in-None-clause-shelf : goal.returns-in-None-clause-shelf
-returns-in-None-clause-shelf g c = counts_turn _ (Before StoreFault) _ refl
+pub returns-in_default-clause-shelf : goal.returns-in_default-clause-shelf
+returns-in_default-clause-shelf g c = counts_turn _ (Before StoreFault) _ refl
 
 pub returns-clause-carries : goal.returns-clause-carries
 returns-clause-carries g c =
-    let made = carries_returned g.S.Store g.met.S.Store.shut_if_dirty g.met.S.Store.settled c.args.due c.args.members.now.items c.merge_at.new.members.items c.args.count.now _ c.in_ok-receipt.receipt _ (ap (λ (r : Receipt). r.seq) (c.in_ok-receipt.ensures.merges.done _ refl).0 ∙ c.requires.place.number) c.in_ok-receipt.ensures.merges in
+    let made = carries_returned g.S.Store g.met.S.Store.shut_if_dirty g.met.S.Store.settled c.args.due c.args.members.now.items c.merge_at.new.members.items c.args.count.now _ c.in_ok-receipt.receipt c.in_ok-receipt.child (ap (λ (r : Receipt). r.seq) (c.in_ok-receipt.ensures.merges.done _ refl).0 ∙ c.requires.place.number) c.in_ok-receipt.ensures.merges in
     let has : HasUuidAt c.args.members.now.items c.args.due.from c.in-Some.uuid = subst (λ ms. HasUuidAt ms c.args.due.from c.in-Some.uuid) c.as_slice.ensures.value c.in-Some.ensures.0 in (
       made.0,
       subst (λ gone. ComeHome g.S.Store g.H.Shelf.takes c.args.members.now.items (λ uuid. (child_returned c.args.command.now ≡ Some uuid) × OfEachDue g.S.Store (λ w next. IsReturned w next c.args.due) c.args.members.now.items c.args.count.now (λ w next. IsNoPackage next uuid)) gone c.args.shelf.now c.retire.new.self) (sym made.1)
-          (comes_home g.S.Store g.met.S.Store.shut_if_dirty g.met.S.Store.settled c.args.due c.args.members.now.items c.merge_at.new.members.items c.args.count.now g.H.Shelf.takes _ c.args.command.now c.in-Some.uuid c.args.shelf.now c.retire.new.self (c.in_ok-receipt.ensures.merges.home _ refl) has c.in-Some.ensures.1 (c.into_store.result, c.into_store.ensures.quiet, c.retire.ensures.takes)),
+          (comes_home g.S.Store g.met.S.Store.shut_if_dirty g.met.S.Store.settled c.args.due c.args.members.now.items c.merge_at.new.members.items c.args.count.now g.H.Shelf.takes c.in_ok-receipt.child c.args.command.now c.in-Some.uuid c.args.shelf.now c.retire.new.self (c.in_ok-receipt.ensures.merges.home _ refl) has c.in-Some.ensures.1 (c.into_store.result, c.into_store.ensures.quiet, c.retire.ensures.takes)),
     )
 
 pub returns-in_err-receipt-clause-carries : goal.returns-in_err-receipt-clause-carries

@@ -1,6 +1,6 @@
 -- One request more, and one reply more.
 use Rattle.std.proofs.Common.{◌≡◌, ◌∙◌, refl, sym, ap, subst, ◌+◌, ◌++◌, ◌∷◌, [], take, arith}
-use Rattle.std.proofs.lemmas.List.{take_more}
+use Rattle.std.proofs.lemmas.List.{take_all, take_more}
 use Rattle.world.specs.Worlds.{IsApplied, IsRun}
 use Rattle.world.specs.Asked.{IsRunWith}
 use Rattle.world.proofs.Running.{none_with, more_with, run_none, run_more}
@@ -27,3 +27,8 @@ loop-request-init g c =
       uses = subst (λ rs. IsRunWith g.S.Store g.H.Shelf.asks g.H.Shelf.takes [] c.args.self.now rs c.args.self.now (g.H.Shelf.failures_of c.args.shelf.now) (g.H.Shelf.failures_of c.args.shelf.now) c.args.shelf.now c.args.shelf.now) (sym c.in_ok-replies.ensures.items) (none_with g.S.Store g.H.Shelf.asks g.H.Shelf.takes c.args.self.now (g.H.Shelf.failures_of c.args.shelf.now) c.args.shelf.now);
       room = omega (arith, c.in_ok-replies.ensures.len, c.in_ok-replies.ensures.capacity);
     }
+
+pub returns-clause-uses : goal.returns-clause-uses
+returns-clause-uses g c =
+    subst (λ qs. IsRunWith g.S.Store g.H.Shelf.asks g.H.Shelf.takes qs c.args.self.now c.loop-request.replies.items c.loop-request.self (g.H.Shelf.failures_of c.args.shelf.now) (g.H.Shelf.failures_of c.loop-request.shelf) c.args.shelf.now c.loop-request.shelf)
+    (take_all c.loop-request.request-index c.args.requests.now (omega (arith, c.loop-request-test.false))) c.loop-request.invariant.uses
