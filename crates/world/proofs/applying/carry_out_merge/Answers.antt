@@ -25,7 +25,7 @@ returns-in_default-clause-carries g c =
     (made, none_home g.S.Store g.H.Shelf.takes c.args.members.now.items (λ uuid. (child_returned c.args.command.now ≡ Some uuid) × OfEachDue g.S.Store (λ w next. IsReturned w next c.args.due) c.args.members.now.items c.args.count.now (λ w next. IsNoPackage next uuid)) made.gone c.args.shelf.now (made.kept _ refl))
 
 pub returns-in_default-clause-shelf : goal.returns-in_default-clause-shelf
-returns-in_default-clause-shelf g c = counts_turn _ (Before StoreFault) _ refl
+returns-in_default-clause-shelf g c = refl
 
 pub returns-clause-carries : goal.returns-clause-carries
 returns-clause-carries g c =
