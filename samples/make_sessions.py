@@ -93,16 +93,6 @@ def right(width, text):
     return str(text).rjust(width) + "  "
 
 
-# Whether the file of a loan stays in the folder after its merge.
-FILES_STAY = True
-
-
-def strays_of(world):
-    """The last line of a status, where files are of no live package: those of loans that came home."""
-    count = sum(receipt.line.startswith("merge ") for receipt in world.receipts) if FILES_STAY else 0
-    return f"strays {count}\n" if count else ""
-
-
 def status_of(world):
     """A line of headings, and a line for each package, in columns of fixed widths."""
     counted = [("tiles", 7), ("media", 7), ("rows", 7), ("links", 7), ("bytes", 13)]
@@ -183,7 +173,7 @@ def first_session():
     session.type("mkdir maps", "")
     session.run(f"init {MAKING} maps", f"archive {nordmark.ARCHIVE}\n")
     session.run("import maps " + session.name("samples/first.csv", requests.text().encode()), report_of(done))
-    session.run("status maps", status_of(done.world) + strays_of(done.world))
+    session.run("status maps", status_of(done.world))
     session.run(f"explain maps {light}", way_of(done.world, light))
     session.run(f"receipt maps {lent}", reference.reply_text(receipt) + "\n")
     session.run(f"manifest maps {CREW}", manifest_of(done, CREW))
@@ -201,7 +191,7 @@ def verb_sessions(session):
     session.show("")
     session.show("# All verbs, the first of each kind shown before it is carried out.")
     world = verbs.every_verb(session)
-    session.run("status harbour", status_of(world) + strays_of(world))
+    session.run("status harbour", status_of(world))
     session.run("log harbour 7900", log_of(world, "7900"))
     session.run("log harbour --from 11 --last 3", log_of(world, first=11, last=3))
     session.run("log harbour DF7BE693 --last 0", log_of(world, last=0))
@@ -314,7 +304,7 @@ class InFolder:
             else:
                 told = (at for at in range(self.at, len(check.records)) if tells_more(check, at))
                 self.import_to(check, next(told, len(check.records)))
-        self.session.run(f"status {self.folder}", status_of(done.world) + strays_of(done.world))
+        self.session.run(f"status {self.folder}", status_of(done.world))
         for part in check.manifests.split("package ")[1:]:
             uuid, manifest = part.split("\n", 1)
             self.session.run(f"manifest {self.folder} {uuid}", manifest)

@@ -1,13 +1,16 @@
 #!/usr/bin/env python3
-"""Loans that come home in numbers and are tidied away, and as many loans as may live.
+"""Loans that come home in numbers and leave no file, and as many loans as may live.
 
 Usage: many_loans.py [LOANS]     over the proved program; SHEETDESK=PROGRAM takes another
 
-First so many loans (100) are lent, one after the other, and each comes home. Then `tidy` has to leave the archive, its log and the lock alone, whatever
-it found; the packages and the receipts have to be as before. Files that are not the register's have to stay. Last, 255 loans of one mark each live
-beside the archive, and `status` of them has to take at most 600 MB. Status 0 where all is so. What has to come is worked out here, by hand.
+First so many loans (100) are lent, one after the other, and each comes home. The archive's file has to be the only package file then, and no loan has
+left another. One loan more comes home, and its file is put back from a copy, as where a removal was stopped. `tidy` has to remove that one, and to leave
+the archive, its log and the lock alone; the packages and the receipts have to be as before. Files that are not the register's have to stay. Last, 255
+loans of one mark each live beside the archive, and `status` of them has to take at most 600 MB. Status 0 where all is so. What has to come is worked out
+here, by hand.
 """
 import os
+import shutil
 import subprocess
 import sys
 import tempfile
@@ -36,20 +39,27 @@ def uuid(front, number):
     return f"{front}0000000-0000-4000-8000-{number:012}"
 
 
-def list_of(folder, records):
+def list_of(folder, records, front="9"):
     """A file with these records, each a request without its UUID."""
     path = os.path.join(folder, "list.csv")
     with open(path, "w", encoding="utf-8") as out:
-        out.write(HEADER + "".join(f"{uuid('9', number)},{MOMENT},{record}\n" for number, record in enumerate(records, 1)))
+        out.write(HEADER + "".join(f"{uuid(front, number)},{MOMENT},{record}\n" for number, record in enumerate(records, 1)))
     return path
 
 
 def lent_and_home(count):
     yield f"add,{ARCHIVE},{uuid('0', 1)},,row,,,,,,3000,1000,7,,gate,"
     for number in range(1, count + 1):
-        loan = uuid("b", number)
-        yield f"split,{ARCHIVE},,{loan},strict,0,0,0,0,0,,,,,,"
-        yield f"merge,{loan},,{ARCHIVE},,,,,,,,,,{2 * number},,"
+        yield lent(uuid("b", number))
+        yield home(uuid("b", number), 2 * number)
+
+
+def lent(loan):
+    return f"split,{ARCHIVE},,{loan},strict,0,0,0,0,0,,,,,,"
+
+
+def home(loan, ticket):
+    return f"merge,{loan},,{ARCHIVE},,,,,,,,,,{ticket},,"
 
 
 def living(count):
@@ -60,26 +70,41 @@ def living(count):
         yield f"split,{ARCHIVE},,{uuid('c', number + 1)},strict,0,{number},0,{number},0,,,,,,"
 
 
+def put_back(room, maps, loan, ticket):
+    """A loan whose file stands in the folder after it came home."""
+    file, copy = os.path.join(maps, f"{loan}.gpkg"), os.path.join(room, "copy.gpkg")
+    run("import", maps, list_of(room, [lent(loan)], "8"))
+    shutil.copyfile(file, copy)
+    run("import", maps, list_of(room, [home(loan, ticket)], "7"))
+    assert not os.path.exists(file), file
+    shutil.copyfile(copy, file)
+
+
 def come_home(room, count):
     maps = os.path.join(room, "maps")
     os.mkdir(maps)
     run("init", *MAKING, maps)
     report = run("import", maps, list_of(room, lent_and_home(count)))
     assert report.endswith(f",{2 * count + 1},0\n"), report[-200:]
+    left = set(os.listdir(maps))
+    assert left - {f"{ARCHIVE}.gpkg-wal"} == {f"{ARCHIVE}.gpkg", "sheetdesk.lock"}, sorted(left)
+    assert len(run("status", maps).splitlines()) == 2
+    put_back(room, maps, uuid("b", count + 1), 2 * count + 2)
+    assert run("status", maps).splitlines()[2:] == ["strays 1"]
     others = {"notes.txt": b"", uuid("d", 1) + ".gpkg": b"", uuid("b", 0)[:-1] + ".gpkg-wal": b""}
     for name, content in others.items():
         with open(os.path.join(maps, name), "wb") as out:
             out.write(content)
     before = run("manifest", maps, ARCHIVE)
     removed = run("tidy", maps).splitlines()
-    assert all(line.startswith("removed b0000000-") for line in removed), removed
+    assert f"removed {uuid('b', count + 1)}.gpkg" in removed and all(line.startswith("removed b0000000-") for line in removed), removed
     left = sorted(os.listdir(maps))
     # the blank store has a log since it was opened
     wanted = [f"{ARCHIVE}.gpkg", f"{ARCHIVE}.gpkg-wal", uuid("d", 1) + ".gpkg", uuid("d", 1) + ".gpkg-wal"]
     assert left == sorted([*wanted, "notes.txt", "sheetdesk.lock", uuid("b", 0)[:-1] + ".gpkg-wal"]), left
     assert run("status", maps).splitlines()[2:] == ["strays 1"]
     assert run("tidy", maps) == ""
-    assert run("audit", maps) == f"good {2 * count + 1}\n"
+    assert run("audit", maps) == f"good {2 * count + 3}\n"
     assert run("manifest", maps, ARCHIVE) == before
 
 
@@ -108,7 +133,7 @@ def main():
         come_home(room, count)
         maps = live(room, 255)
         size = taken(maps, 255)
-        print(f"{count} loans came home and were tidied away; a status of 256 live packages took {size / 1024:.0f} MB")
+        print(f"{count} loans came home and left one file; a status of 256 live packages took {size / 1024:.0f} MB")
         assert size <= MOST, size
 
 

@@ -9,7 +9,7 @@ use Rattle.sheet_types.specs.declared.command.Request.{Request}
 use Rattle.sheet_types.specs.declared.receipt.Receipt.{Receipt}
 use Rattle.sheet_types.specs.declared.refusal.Refusal.{Refusal}
 use Rattle.register_lending.specs.Faults.{fault_refusal}
-use Rattle.world.specs.Asked.{AsksForEach}
+use Rattle.world.specs.Asked.{IsUsedForEach}
 use Rattle.world.specs.Worlds.{Seen, IsRun}
 use Rattle.request_csv.specs.RequestLists.{IsList, MeetsFirst}
 use Rattle.request_csv.specs.declared.lists.ReadFault.{ReadFault}
@@ -56,16 +56,17 @@ IsWhyUnread text fault = (fault ≡ Read) ⊎ (fault ≡ Memory) ⊎ IfSome text
 abbrev pub IsListOf : List Request → (Option (List ℕ) → Type 0) → Type 0
 IsListOf requests of = (text : Option (List ℕ)) → IfSome text (λ t. IsList t requests) → of text
 
--- what a shelf was asked for by the list that a text is: what each of its requests asks to be made, in turn
-abbrev pub AsksOfList : {H : Type 0} → (List ℕ → H → H → Type 0) → Option (List ℕ) → H → H → Type 0
-AsksOfList Asks text before after = (requests : List Request) × IfSome text (λ t. IsList t requests) × AsksForEach Asks requests before after
+-- What a shelf was used for by the list that a text is: for each of its requests in turn it was asked for what that one
+-- asks to be made, or given back what it takes home, or neither.
+abbrev pub UsesOfList : {S H : Type 0} → (List ℕ → H → H → Type 0) → (List ℕ → S → H → H → Type 0) → Option (List ℕ) → H → H → Type 0
+UsesOfList Asks Takes text before after = (requests : List Request) × IfSome text (λ t. IsList t requests) × IsUsedForEach Asks Takes requests before after
 
--- The same of an import of the text. Of one that is not read it was asked for nothing.
-abbrev pub AsksOf : {H : Type 0} → (List ℕ → H → H → Type 0) → Option (List ℕ) → H → H → Result (Unit {0}) ImportFault → Type 0
-AsksOf Asks text before after (Err (Unread fault)) = after ≡ before
-AsksOf Asks text before after (Err (Stopped n fault)) = AsksOfList Asks text before after
-AsksOf Asks text before after (Err Unwritten) = AsksOfList Asks text before after
-AsksOf Asks text before after (Ok x) = AsksOfList Asks text before after
+-- The same of an import of the text. By one that is not read it was not used.
+abbrev pub UsesOf : {S H : Type 0} → (List ℕ → H → H → Type 0) → (List ℕ → S → H → H → Type 0) → Option (List ℕ) → H → H → Result (Unit {0}) ImportFault → Type 0
+UsesOf Asks Takes text before after (Err (Unread fault)) = after ≡ before
+UsesOf Asks Takes text before after (Err (Stopped n fault)) = UsesOfList Asks Takes text before after
+UsesOf Asks Takes text before after (Err Unwritten) = UsesOfList Asks Takes text before after
+UsesOf Asks Takes text before after (Ok x) = UsesOfList Asks Takes text before after
 
 module _ {S : Type 0} (g : Ghosts S) where
   -- The first of the requests were carried out, one after the other, with a shelf that had failed so often before and after, and their lines were written.

@@ -1,8 +1,8 @@
 //! A request list, carried out by a world, and the report of it.
 ghost use Rattle.std.specs.Prelude.{◌≡◌, ◌≤◌, length};
 ghost use Rattle.std.specs.String.{string_capacity};
-ghost use Rattle.world.specs.Asked.{AsksForEach};
-ghost use Rattle.manifest_csv.specs.Imports.{AsksOf, IsEndOf, IsListOf, IsReported, Imports};
+ghost use Rattle.world.specs.Asked.{IsUsedForEach};
+ghost use Rattle.manifest_csv.specs.Imports.{UsesOf, IsEndOf, IsListOf, IsReported, Imports};
 ghost use Rattle.manifest_csv.specs.Progress.{AreTold, IsTold};
 
 use crate::progress::Teller;
@@ -78,7 +78,7 @@ fn report_each<S: Alter + Drop, H: Shelf<S>, W: Write, T: Teller>(
         (H.failures_of shelf.old) (H.failures_of shelf.new)
         (W.contents writer.old) (W.contents writer.new) result }
     ensures told { AreTold (length requests.now) (T.told teller.old) (T.told teller.new) result }
-    ensures asks { AsksForEach H.asks requests.now shelf.old shelf.new }
+    ensures uses { IsUsedForEach H.asks H.takes requests.now shelf.old shelf.new }
 {
     for at in 0..requests.len() {
         let request = &requests[at];
@@ -110,7 +110,7 @@ pub fn carry_out<S: Alter + Drop, H: Shelf<S>, W: Write, T: Teller>(
         (H.failures_of shelf.old) (H.failures_of shelf.new)
         writer.old writer.new (W.contents writer.old) (W.contents writer.new) result) }
     ensures told { IsListOf requests.now (λ text. IsTold text (T.told teller.old) (T.told teller.new) result) }
-    ensures asks { IsListOf requests.now (λ text. AsksOf H.asks text shelf.old shelf.new result) }
+    ensures uses { IsListOf requests.now (λ text. UsesOf H.asks H.takes text shelf.old shelf.new result) }
 {
     let Ok(mut buffer) = line_buffer(alloc) else {
         return Err(ImportFault::Unread(ReadFault::Memory));
@@ -136,7 +136,7 @@ pub fn import<S: Alter + Drop, H: Shelf<S>, R: Read + Drop, W: Write, T: Teller>
         (H.failures_of shelf.old) (H.failures_of shelf.new)
         writer.old writer.new (W.contents writer.old) (W.contents writer.new) result }
     ensures told { IsTold (R.remaining reader) (T.told teller.old) (T.told teller.new) result }
-    ensures asks { AsksOf H.asks (R.remaining reader) shelf.old shelf.new result }
+    ensures uses { UsesOf H.asks H.takes (R.remaining reader) shelf.old shelf.new result }
 {
     let requests = read_requests(alloc, Stream(reader))?;
     carry_out(alloc, world, shelf, requests.as_slice(), writer, teller)

@@ -16,12 +16,13 @@ use store_faults::shelf::ShelfFault;
 use store_shelf::shelf::Shelf;
 use uuid::Uuid;
 
-/// Makes each store in the file of its package, in place of whatever stood there under its name. The folder is there already.
+/// Makes each store in the file of its package, in place of whatever stood there under its name, and takes away that of a package that comes back. The folder is there already.
 #[derive(Drop)]
 pub struct FolderShelf<'f> {
     rt: &'f HostRuntime,
     folder: &'f str,
     failures: u64,
+    remnants: u64,
 }
 
 impl<'f> FolderShelf<'f> {
@@ -33,7 +34,15 @@ impl<'f> FolderShelf<'f> {
             rt,
             folder,
             failures: 0,
+            remnants: 0,
         }
+    }
+
+    /// How often the files of a package that came back could not be removed.
+    pub fn remnants(&self) -> u64
+        ensures { result ≡ self.now.remnants }
+    {
+        self.remnants
     }
 }
 
@@ -43,6 +52,8 @@ impl<'f> Shelf<FolderStore> for FolderShelf<'f> {
     // No clause can speak of the files of a folder. That a register asks for no package but the one that it promises is proved over all shelves.
     ghost asks = { λ uuid old new. ⊤ };
 
+    ghost takes = { λ uuid store old new. ⊤ };
+
     fn blank(&mut self, package: Uuid) -> Result<Connection<FolderStore>, ShelfFault>
         ensures blank { IfOk result (λ conn. HasCleanDisk (file_state conn) → IsBlank no_schema (file_state conn).now) }
         ensures counts { CountsFault result self.old.failures self.new.failures }
@@ -50,6 +61,18 @@ impl<'f> Shelf<FolderStore> for FolderShelf<'f> {
         match blank_in_folder(self.rt, self.folder, package) {
             Ok(store) => Ok(store),
             Err(fault) => Err(counted(fault.into(), &mut self.failures)),
+        }
+    }
+
+    // The files are closed first, and no log is copied: they are to go. What stays is a stray of the folder. A file of the package's name that
+    // is still held is that of another store, under a name that is not its own: it stays.
+    fn retire(&mut self, package: Uuid, store: FolderStore)
+        ensures counts { self.new.failures ≡ self.old.failures }
+        ensures more { self.old.remnants ≤ self.new.remnants }
+    {
+        drop(store);
+        if remove_unheld(self.rt, self.folder, package).is_err() {
+            self.remnants = self.remnants.saturating_add(1);
         }
     }
 
@@ -83,6 +106,12 @@ fn see_unheld(rt: &HostRuntime, folder: &str, package: Uuid) -> Result<(), Folde
     }
 }
 
+/// Removes the files of a package, unless a store has them open.
+fn remove_unheld(rt: &HostRuntime, folder: &str, package: Uuid) -> Result<(), FolderFault> {
+    see_unheld(rt, folder, package)?;
+    remove_store(rt, folder, package)
+}
+
 /// An empty store in the file of a package, in place of whatever stood there. That it is empty is known under the premise of `Empty`, since its files were removed before.
 ///
 /// # Errors
@@ -95,8 +124,7 @@ pub fn blank_in_folder(
 ) -> Result<Connection<FolderStore>, FolderFault>
     ensures { IfOk result (λ conn. HasCleanDisk (file_state conn) → IsBlank no_schema (file_state conn).now) }
 {
-    see_unheld(rt, folder, package)?;
-    remove_store(rt, folder, package)?;
+    remove_unheld(rt, folder, package)?;
     let name = file_name(rt.alloc(), package)?;
     blank_named(rt, folder, package, name.as_str())
 }

@@ -37,6 +37,9 @@ impl Shelf<FileStore<MemoryFile>> for MemoryFileShelf {
     // Nothing stands under any UUID, so it is all the same which one it was.
     ghost asks = { λ uuid old new. ⊤ };
 
+    // The store is gone when it is dropped, so none is left.
+    ghost takes = { λ uuid store old new. ⊤ };
+
     fn blank(&mut self, _package: Uuid) -> Result<Connection<FileStore<MemoryFile>>, ShelfFault>
         ensures blank { IfOk result (λ conn. IsBlank no_schema (file_state conn).now) }
         ensures counts { CountsFault result self.old.failures self.new.failures }
@@ -45,6 +48,10 @@ impl Shelf<FileStore<MemoryFile>> for MemoryFileShelf {
         let made = blank_in_files(self.alloc, SEED);
         counted(made, &mut self.failures)
     }
+
+    fn retire(&mut self, _package: Uuid, _store: FileStore<MemoryFile>)
+        ensures { self.new ≡ self.old }
+    {}
 
     fn failures(&self) -> u64 {
         self.failures

@@ -34,6 +34,9 @@ impl Shelf<MemStore> for MemoryShelf {
     // Nothing stands under any UUID, so it is all the same which one it was.
     ghost asks = { λ uuid old new. ⊤ };
 
+    // The store is gone when it is dropped, so none is left.
+    ghost takes = { λ uuid store old new. ⊤ };
+
     fn blank(&mut self, _package: Uuid) -> Result<Connection<MemStore>, ShelfFault>
         ensures blank { IfOk result (λ conn. IsBlank no_schema (state over_memory conn).now) }
         ensures counts { CountsFault result self.old.failures self.new.failures }
@@ -42,6 +45,10 @@ impl Shelf<MemStore> for MemoryShelf {
         let made = Connection::open_in_memory(self.alloc);
         counted(made, &mut self.failures)
     }
+
+    fn retire(&mut self, _package: Uuid, _store: MemStore)
+        ensures { self.new ≡ self.old }
+    {}
 
     fn failures(&self) -> u64 {
         self.failures

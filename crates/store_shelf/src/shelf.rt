@@ -1,4 +1,4 @@
-//! A shelf, as a register asks it for the store of a new package.
+//! A shelf, as a register asks it for the store of a new package and gives back that of one that is not live.
 ghost use Rattle.std.specs.Prelude.{◌≡◌, ℕ, List, Ok, IfOk, IfErr};
 ghost use Rattle.sqlite_disk.specs.Disk.{CountsFault};
 ghost use Rattle.sqlite.specs.Held.{state};
@@ -10,7 +10,7 @@ use sqlite::{Alter, Connection};
 use store_faults::shelf::ShelfFault;
 use uuid::Uuid;
 
-/// Makes the stores of packages, one a UUID, and counts how often it could not.
+/// Makes the stores of packages, one a UUID, counts how often it could not, and takes them back.
 pub trait Shelf<S: Alter> {
     /// How often it has failed.
     ghost failures_of: { Self → ℕ };
@@ -20,12 +20,23 @@ pub trait Shelf<S: Alter> {
     /// it, so where it promises this of a package it asked for that one and for no other.
     ghost asks: { List ℕ → Self → Self → Type 0 };
 
+    /// It was given back this store, as that of the package of this UUID, between these two states, and
+    /// nothing else. Each shelf says what that is. Only `retire` does it, so where a register promises
+    /// this of a store it gave back that one, as it was then, and for no other package.
+    ghost takes: { List ℕ → S → Self → Self → Type 0 };
+
     /// An empty store in place of whatever stood under this UUID. Each fault is counted, of either
     /// kind, and nothing else is. A count of 2^64 - 1 stays, and counts as risen.
     fn blank(&mut self, package: Uuid) -> Result<Connection<S>, ShelfFault>
         ensures blank { IfOk result (λ conn. HasCleanDisk (state S.Store conn) → IsBlank no_schema (state S.Store conn).now) }
         ensures counts { CountsFault result (failures_of self.old) (failures_of self.new) }
         ensures asks { asks «package» self.old self.new };
+
+    /// Takes back the store of a package that is not live, as that of a loan that came home. It answers no
+    /// fault and counts none: what a shelf cannot take away lies beside the register and harms nothing.
+    fn retire(&mut self, package: Uuid, store: S)
+        ensures counts { failures_of self.new ≡ failures_of self.old }
+        ensures takes { takes «package» store self.old self.new };
 
     /// How often `blank` has answered a fault.
     fn failures(&self) -> u64

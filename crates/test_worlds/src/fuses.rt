@@ -266,6 +266,8 @@ impl Shelf<Store> for FusedShelf {
     // The faults that it answers show which packages it is asked for.
     ghost asks = { λ uuid old new. ⊤ };
 
+    ghost takes = { λ uuid store old new. ⊤ };
+
     fn blank(&mut self, package: Uuid) -> Result<Connection<Store>, ShelfFault> {
         if let Some(why) = self.fault(package) {
             self.failures = self.failures.saturating_add(1);
@@ -284,6 +286,10 @@ impl Shelf<Store> for FusedShelf {
             }
         }
     }
+
+    fn retire(&mut self, _package: Uuid, _store: Store)
+        ensures { self.new ≡ self.old }
+    {}
 
     fn failures(&self) -> u64 {
         self.failures

@@ -1,5 +1,5 @@
 -- What is due is carried out among the members of a world that can be used.
-use Rattle.std.specs.Prelude.{◌≡◌, ◌≤◌, ℕ, length, ◌+◌, List, [], ◌∷◌, ◌++◌, map, refl, Ok, Err, IsTrue}
+use Rattle.std.specs.Prelude.{◌≡◌, ◌≤◌, ℕ, length, ◌+◌, List, [], ◌∷◌, ◌++◌, map, refl, Some, slice_get, Result, Ok, Err, IsTrue}
 use Rattle.std.proofs.Common.{arith, sym, ap, subst, ◌∙◌, inl, inr}
 use Rattle.std.specs.List.{AllByRecursion}
 use Rattle.std.proofs.lemmas.List.{append-nil}
@@ -11,16 +11,18 @@ use Rattle.sqlite.specs.Store.{Ghosts}
 use Rattle.sqlite.specs.Held.{Held, state}
 use Rattle.sqlite.specs.State.{HasCleanDisk}
 use Rattle.sheet_types.specs.World.{World, Package}
+use Rattle.sheet_types.specs.declared.command.Command.{Command}
 use Rattle.sheet_types.specs.declared.frame.Frame.{Frame}
 use Rattle.sheet_types.specs.declared.receipt.Receipt.{Receipt}
+use Rattle.store_sql.specs.Staying.{Stays}
 use Rattle.store_sql.specs.Transactions.{Rests}
 use Rattle.store_sql.proofs.Transactions.{Shuts, Settles}
 use Rattle.store_sql.proofs.StoreLemmas.{same_world}
 use Rattle.package_tables.specs.declared.fault.Fault.TheVariants as fault
-use Rattle.world_changes.specs.Carries.{Carries, IsBeforeCommit}
+use Rattle.world_changes.specs.Carries.{Carries, IsBeforeCommit, OfEachDue}
 use Rattle.world_changes.specs.Leaving.{IsBeside, AreAtRest, AreBeside, LeavesOneOf}
 use Rattle.world_loans.specs.Loans.{IsLent, IsReturned}
-use Rattle.world_members.specs.Members.{AllRest, AllClean, AllOpen, AllStay, AreMembers}
+use Rattle.world_members.specs.Members.{AllRest, AllClean, AllOpen, AllStay, AreMembers, IsMember}
 use Rattle.world_changes.specs.Merges.{Merges}
 use Rattle.world_loans.specs.ServeFaults.{IsLastingFault}
 use Rattle.world_changes.specs.Turns.{IsUncommitted}
@@ -37,9 +39,14 @@ use Rattle.world_members.proofs.Changing.{stay_leaves}
 use Rattle.world_changes.proofs.Surviving.{stay_survive, survive_then}
 use Rattle.world_changes.proofs.HeldStores.{held_clean, members_left}
 use Rattle.world_changes.proofs.Lent.{child_left, is_beside, none_beside}
-use Rattle.world_members.proofs.Standing.{members_stay, clean_before}
+use Rattle.world_members.proofs.Standing.{members_stay, clean_before, zip_at}
+use Rattle.world.specs.Asked.{ComeHome, GivenBack, HasUuidAt, IsNoPackage, child_returned}
 
 module _ {S : Type 0} (g : Ghosts S) where
+  -- where nothing came of it no connection left the world
+  pub unkept : {Due : World → World → Type 0} {due : Receipt} {old new : List (Member S)} {strays : List (Held S)} {before after : ℕ} {r : Result Receipt ServeFault} {why : ServeFault} → r ≡ Err why → Carries g Due due old new strays before after r → (made : Carries g Due due old new strays before after r) × (made.gone ≡ [])
+  unkept {why = why} is made = (made, made.kept why is)
+
   -- ---- the stores that are held
 
   no_held : (P : Held S → Type 0) → (strays : List (Held S)) → strays ≡ [] → AllByRecursion P strays
@@ -91,34 +98,36 @@ module _ {S : Type 0} (g : Ghosts S) where
       abbrev IsDueOf : World → World → Type 0
       IsDueOf w next = (f ≡ w.frame) × IsLent w next due
 
-      pub carries_lent : (after : ℕ) (receipt : Receipt) → after ≡ before + 1 → Splits g due child mid new [] strays (Ok receipt) → Carries g (λ w next. (f ≡ w.frame) × IsLent w next due) due.receipt old new strays before after (Ok receipt)
+      pub carries_lent : (after : ℕ) (receipt : Receipt) → after ≡ before + 1 → Splits g due child mid new [] strays (Ok receipt) → (made : Carries g (λ w next. (f ≡ w.frame) × IsLent w next due) due.receipt old new strays before after (Ok receipt)) × (made.gone ≡ [])
       carries_lent after receipt counted it =
-          let done = it.done receipt refl in
-          record {
-            gone = [];
-            left_over = [];
-            few = omega arith;
-            unlent = λ x is. refl;
-            read = tt;
-            survive = λ why is. absurd (let e = is in cc);
-            beside_before = λ clean gone w next are is_due was. none_beside g w.frame w.packages;
-            rests = it.rests;
-            stray_rests = All-from_recursion (λ h. Rests (state g h)) strays (no_held (λ h. Rests (state g h)) strays done.1);
-            clean = λ clean gone. clean_before g old mid stay (it.clean clean);
-            ok = λ x is. (
-              let same : receipt ≡ x = cc in sym same ∙ done.0,
-              counted,
-              done.1,
-              λ w next clean gone are is_due. subst (λ n. AreMembers g new n next) (sym counted) (done.3 w next before clean (members_stay g old mid before w stay are) is_due.1 (keeps (it.clean clean) w next before is_due.0 are is_due.1)),
-            );
-            opens = λ clean gone was. it.opens clean (opened (it.clean clean) was) child_open;
-            beside = λ x is w next are is_due was. none_beside g w.frame next.packages;
-            kept = λ why is. absurd (let e = is in cc);
-            err = λ why is. absurd (let e = is in cc);
-            usable = λ why is. absurd (let e = is in cc);
-            unharmed = λ why is. absurd (let e = is in cc);
-            crash = λ why is. absurd (let e = is in cc);
-          }
+          let done = it.done receipt refl in (
+            record {
+              gone = [];
+              left_over = [];
+              few = omega arith;
+              unlent = λ x is. refl;
+              read = tt;
+              survive = λ why is. absurd (let e = is in cc);
+              beside_before = λ clean gone w next are is_due was. none_beside g w.frame w.packages;
+              rests = it.rests;
+              stray_rests = All-from_recursion (λ h. Rests (state g h)) strays (no_held (λ h. Rests (state g h)) strays done.1);
+              clean = λ clean gone. clean_before g old mid stay (it.clean clean);
+              ok = λ x is. (
+                let same : receipt ≡ x = cc in sym same ∙ done.0,
+                counted,
+                done.1,
+                λ w next clean gone are is_due. subst (λ n. AreMembers g new n next) (sym counted) (done.3 w next before clean (members_stay g old mid before w stay are) is_due.1 (keeps (it.clean clean) w next before is_due.0 are is_due.1)),
+              );
+              opens = λ clean gone was. it.opens clean (opened (it.clean clean) was) child_open;
+              beside = λ x is w next are is_due was. none_beside g w.frame next.packages;
+              kept = λ why is. absurd (let e = is in cc);
+              err = λ why is. absurd (let e = is in cc);
+              usable = λ why is. absurd (let e = is in cc);
+              unharmed = λ why is. absurd (let e = is in cc);
+              crash = λ why is. absurd (let e = is in cc);
+            },
+            refl,
+          )
 
       module _ (why : TurnFault) (it : Splits g due child mid new [] strays (Err why)) where
         uncommitted_leaves : IsUncommitted {X = Receipt} (Err why) → LeavesAsBefore g old new
@@ -196,29 +205,47 @@ module _ {S : Type 0} (g : Ghosts S) where
     -- ---- a merge
 
     module _ (due : Returning) (old new : List (Member S)) (before : ℕ) where
-      pub carries_returned : (after : ℕ) (receipt : Receipt) (child : Held S) → after ≡ before + 1 → Merges g due old new (Ok (receipt, child)) → Carries g (λ w next. IsReturned w next due) due.receipt old new [] before after (Ok receipt)
+      pub carries_returned : (after : ℕ) (receipt : Receipt) (child : Held S) → after ≡ before + 1 → Merges g due old new (Ok (receipt, child)) → (made : Carries g (λ w next. IsReturned w next due) due.receipt old new [] before after (Ok receipt)) × (made.gone ≡ child ∷ [])
       carries_returned after receipt child counted it =
-          let done = it.done (receipt, child) refl in
-          record {
-            gone = child ∷ [];
-            left_over = [];
-            few = omega arith;
-            unlent = λ x is. refl;
-            read = it.read;
-            survive = λ why is. absurd (let e = is in cc);
-            beside_before = λ clean gone w next are is_due was. none_beside g w.frame w.packages;
-            rests = it.rests;
-            stray_rests = All-from_recursion (λ h. Rests (state g h)) [] tt;
-            clean = it.clean;
-            ok = λ x is. (let same : receipt ≡ x = cc in sym same ∙ done.0, counted, refl, λ w next clean gone are is_due. subst (λ n. AreMembers g new n next) (sym counted) (done.2 w next before clean gone are is_due));
-            opens = it.opens;
-            beside = λ x is w next are is_due was. it.beside (receipt, child) refl w next before are is_due was;
-            kept = λ why is. absurd (let e = is in cc);
-            err = λ why is. absurd (let e = is in cc);
-            usable = λ why is. absurd (let e = is in cc);
-            unharmed = λ why is. absurd (let e = is in cc);
-            crash = λ why is. absurd (let e = is in cc);
-          }
+          let done = it.done (receipt, child) refl in (
+            record {
+              gone = child ∷ [];
+              left_over = [];
+              few = omega arith;
+              unlent = λ x is. refl;
+              read = it.read;
+              survive = λ why is. absurd (let e = is in cc);
+              beside_before = λ clean gone w next are is_due was. none_beside g w.frame w.packages;
+              rests = it.rests;
+              stray_rests = All-from_recursion (λ h. Rests (state g h)) [] tt;
+              clean = it.clean;
+              ok = λ x is. (let same : receipt ≡ x = cc in sym same ∙ done.0, counted, refl, λ w next clean gone are is_due. subst (λ n. AreMembers g new n next) (sym counted) (done.2 w next before clean gone are is_due));
+              opens = it.opens;
+              beside = λ x is w next are is_due was. it.beside (receipt, child) refl w next before are is_due was;
+              kept = λ why is. absurd (let e = is in cc);
+              err = λ why is. absurd (let e = is in cc);
+              usable = λ why is. absurd (let e = is in cc);
+              unharmed = λ why is. absurd (let e = is in cc);
+              crash = λ why is. absurd (let e = is in cc);
+            },
+            refl,
+          )
+
+      -- the child's store, given back as that of its package, which is of the world no more
+      pub comes_home : {H : Type 0} (Takes : List ℕ → S → H → H → Type 0) (store : Held S) (command : Command) (uuid : List ℕ) (s t : H) → ((member : Member S) × (slice_get old due.from ≡ Some member) × Stays (state g member.conn) (state g store)) → HasUuidAt old due.from uuid → child_returned command ≡ Some uuid → GivenBack g Takes uuid store s t
+          → ComeHome g Takes old (λ u. (child_returned command ≡ Some u) × OfEachDue g (λ w next. IsReturned w next due) old before (λ w next. IsNoPackage next u)) (store ∷ []) s t
+      comes_home Takes store command uuid s t home has asked takes =
+          let both : Some home.0 ≡ Some has.0 = sym home.1 ∙ has.1 in
+          let same : home.0 ≡ has.0 = cc in
+          let named : uuid ≡ home.0.uuid = has.2 ∙ ap (λ (m : Member S). m.uuid) (sym same) in
+          (refl, (due.from, home.0, home.1, home.2, subst (λ u. GivenBack g Takes u store s t) named takes, (asked ∙ ap Some named, λ w next are is. no_more home.0 home.1 w next are is)))
+        where
+          no_more : (m : Member S) → slice_get old due.from ≡ Some m → (w next : World) → AreMembers g old before w → IsReturned w next due → IsNoPackage next m.uuid
+          no_more m place w next are is =
+              let here = zip_at (IsMember g w) old w.packages due.from m are.each place in
+              let both : Some here.0 ≡ Some is.child = sym here.1 ∙ is.from in
+              let same : here.0 ≡ is.child = cc in
+              subst (IsNoPackage next) (sym (here.2.uuid ∙ ap (λ (p : Package). p.uuid) same)) is.apart
 
       pub carries_unreturned : (why : TurnFault) → Merges g due old new (Err why) → Carries g (λ w next. IsReturned w next due) due.receipt old new [] before before (Err (Turn why))
       carries_unreturned why it = record {

@@ -30,9 +30,10 @@ use Rattle.world_changes.proofs.Surviving.{same_survive}
 use Rattle.world_changes.proofs.HeldStores.{left_clean, right_clean}
 use Rattle.world_changes.proofs.Lent.{none_beside}
 use Rattle.sqlite.specs.Held.{Held}
-use Rattle.std.specs.Prelude.{[], ◌++◌, Option}
-use Rattle.world.specs.Asked.{AsksFor, IsNewTo, IsNoPackage}
-use Rattle.world.proofs.Asks.{asks_weaker}
+use Rattle.std.specs.Prelude.{Some, [], ◌++◌}
+use Rattle.world_decisions.specs.Deciding.{child_asked}
+use Rattle.world.specs.Asked.{IsNewTo, IsHomeBy, IsNoPackage, IsStepWith, ServesWith, UsesFor, child_returned}
+use Rattle.world.proofs.Asks.{asks_nothing, uses_asked, uses_weaker}
 use Rattle.world.specs.Worlds.{Seen, StandsFor, IsHeld, IsAccepted, IsStep, StandsStill, LeavesNoTrace, LeftAsItStands}
 use Rattle.register_lending.specs.declared.turn_fault.TurnFault.TheVariants.{Before, Committing}
 use Rattle.world_members.specs.declared.members.Member.{Member}
@@ -100,6 +101,15 @@ module _ {S : Type 0} (g : Ghosts S) where
     beside = λ clean gone no_fault. absurd (no_fault (inr refl));
   }
 
+  -- and asks a shelf for nothing and gives nothing back
+  pub unserved_with : {H : Type 0} (Asks : List ℕ → H → H → Type 0) (Takes : List ℕ → S → H → H → Type 0) (q : Request) (seen : Seen S) (s : H) → seen.has_failed ≡ true → IsStepWith g Asks Takes q seen (Err StoreFault) seen s s
+  unserved_with Asks Takes q seen s failed =
+      let it : IsStep g q seen (Err StoreFault) seen = step_unserved q seen failed in
+      record {
+        step = it;
+        uses = uses_asked g Asks Takes seen.members (child_asked q.command) (IsNewTo g seen seen) (IsHomeBy g q seen seen it.gone) it.gone s s (it.dropped refl) (asks_nothing Asks (child_asked q.command) (IsNewTo g seen seen) s s refl);
+      }
+
   -- Between two calls a crash leaves what the world stands for.
   pub left_as_it_stands : Shuts g → Settles g → LeftAsItStands g
   left_as_it_stands shuts settles seen w held stands opened = each_leaves g shuts settles seen.members seen.count w held.rests opened stands.members
@@ -125,45 +135,75 @@ module _ {S : Type 0} (g : Ghosts S) where
     were_read = subst (λ ms. WereRead g ms it.gone) (ap (λ s. s.members) seen) it.read
 
     -- a reply is a step
+    step_told : (reply : Result Receipt Refusal) → r ≡ Ok reply → (step : IsStep g q was reply now_seen) × (step.gone ≡ it.gone)
+    step_told reply is = (
+      record {
+        gone = it.gone;
+        left_over = it.left_over;
+        few = it.few;
+        unlent = λ accepted. it.unlent reply is;
+        read = were_read;
+        dropped = λ refused. it.dropped (subst HasNoReceipt (sym is) refused);
+        survive = λ refused. were_there (it.survive (subst HasNoReceipt (sym is) refused));
+        beside_before = λ clean gone w stands opened. it.beside_before clean gone w (stood w stands).0 (stood w stands).1 (were_open opened);
+        register = λ w stands. stands.members.register;
+        clean = were_clean;
+        step = λ clean gone w stands.
+            let both = stood w stands in
+            let as_model : IsServedAs g w q new noted after reply = it.told clean gone reply is w both.0 both.1 in
+            (as_model.next, inl (sym (ap (λ o. o.0) as_model.told), sym (ap (λ o. o.1) as_model.told)), record { frame = both.0.0 ∙ sym as_model.frame; members = as_model.members; known = as_model.known });
+        opens = λ clean gone no_fault opened. (subst (λ (x : Result (Result Receipt Refusal) ServeFault). IfOk x (λ y. AllOpen g old → AllOpen g new)) is (it.opens clean gone)) (were_open opened);
+        crash = λ fault usable w stands opened. leaves_before g old new strays w before (outcome w q).1.packages (it.none reply is) (it.unharmed (subst IsUntouched (sym is) (fault_is_err reply fault))) (stood w stands).1 (were_open opened);
+        beside = λ clean gone no_fault w stands opened. it.beside clean gone reply is w (stood w stands).0 (stood w stands).1 (were_open opened);
+      },
+      refl,
+    )
+
     pub step_replied : (reply : Result Receipt Refusal) → r ≡ Ok reply → IsStep g q was reply now_seen
-    step_replied reply is = record {
-      gone = it.gone;
-      left_over = it.left_over;
-      few = it.few;
-      unlent = λ accepted. it.unlent reply is;
-      read = were_read;
-      dropped = λ refused. it.dropped (subst HasNoReceipt (sym is) refused);
-      survive = λ refused. were_there (it.survive (subst HasNoReceipt (sym is) refused));
-      beside_before = λ clean gone w stands opened. it.beside_before clean gone w (stood w stands).0 (stood w stands).1 (were_open opened);
-      register = λ w stands. stands.members.register;
-      clean = were_clean;
-      step = λ clean gone w stands.
-          let both = stood w stands in
-          let as_model : IsServedAs g w q new noted after reply = it.told clean gone reply is w both.0 both.1 in
-          (as_model.next, inl (sym (ap (λ o. o.0) as_model.told), sym (ap (λ o. o.1) as_model.told)), record { frame = both.0.0 ∙ sym as_model.frame; members = as_model.members; known = as_model.known });
-      opens = λ clean gone no_fault opened. (subst (λ (x : Result (Result Receipt Refusal) ServeFault). IfOk x (λ y. AllOpen g old → AllOpen g new)) is (it.opens clean gone)) (were_open opened);
-      crash = λ fault usable w stands opened. leaves_before g old new strays w before (outcome w q).1.packages (it.none reply is) (it.unharmed (subst IsUntouched (sym is) (fault_is_err reply fault))) (stood w stands).1 (were_open opened);
-      beside = λ clean gone no_fault w stands opened. it.beside clean gone reply is w (stood w stands).0 (stood w stands).1 (were_open opened);
-    }
+    step_replied reply is = (step_told reply is).0
 
     -- and so is a fault
+    step_faulted : (e : ServeFault) → r ≡ Err e → (why : Refusal) → why ≡ told_refusal e → (step : IsStep g q was (Err why) now_seen) × (step.gone ≡ it.gone)
+    step_faulted e is why told = (
+      record {
+        gone = it.gone;
+        left_over = it.left_over;
+        few = it.few;
+        unlent = λ accepted. absurd (let x = accepted in cc);
+        read = were_read;
+        dropped = λ refused. it.dropped (subst HasNoReceipt (sym is) tt);
+        survive = λ refused. were_there (it.survive (subst HasNoReceipt (sym is) tt));
+        beside_before = λ clean gone w stands opened. it.beside_before clean gone w (stood w stands).0 (stood w stands).1 (were_open opened);
+        register = λ w stands. stands.members.register;
+        clean = were_clean;
+        step = λ clean gone w stands. (w, inr (told_as_fault e why told, refl), record { frame = (stood w stands).0.0; members = it.failed e is w (stood w stands).1; known = knows_more known noted w it.grows (stood w stands).0.1 });
+        opens = λ clean gone no_fault. absurd (no_fault (told_as_fault e why told));
+        crash = λ fault usable w stands opened. it.crash e is w (stood w stands).0 (stood w stands).1 (were_open opened);
+        beside = λ clean gone no_fault. absurd (no_fault (told_as_fault e why told));
+      },
+      refl,
+    )
+
     pub step_failed : (e : ServeFault) → r ≡ Err e → (why : Refusal) → why ≡ told_refusal e → IsStep g q was (Err why) now_seen
-    step_failed e is why told = record {
-      gone = it.gone;
-      left_over = it.left_over;
-      few = it.few;
-      unlent = λ accepted. absurd (let x = accepted in cc);
-      read = were_read;
-      dropped = λ refused. it.dropped (subst HasNoReceipt (sym is) tt);
-      survive = λ refused. were_there (it.survive (subst HasNoReceipt (sym is) tt));
-      beside_before = λ clean gone w stands opened. it.beside_before clean gone w (stood w stands).0 (stood w stands).1 (were_open opened);
-      register = λ w stands. stands.members.register;
-      clean = were_clean;
-      step = λ clean gone w stands. (w, inr (told_as_fault e why told, refl), record { frame = (stood w stands).0.0; members = it.failed e is w (stood w stands).1; known = knows_more known noted w it.grows (stood w stands).0.1 });
-      opens = λ clean gone no_fault. absurd (no_fault (told_as_fault e why told));
-      crash = λ fault usable w stands opened. it.crash e is w (stood w stands).0 (stood w stands).1 (were_open opened);
-      beside = λ clean gone no_fault. absurd (no_fault (told_as_fault e why told));
-    }
+    step_failed e is why told = (step_faulted e is why told).0
+
+    -- with what the shelf was asked for and given back
+    module _ {H : Type 0} (Asks : List ℕ → H → H → Type 0) (Takes : List ℕ → S → H → H → Type 0) (s t : H) (used : ServesWith g Asks Takes f q old new known before it.gone s t) where
+      step_with : (reply : Result Receipt Refusal) → (step : IsStep g q was reply now_seen) × (step.gone ≡ it.gone) → IsStepWith g Asks Takes q was reply now_seen s t
+      step_with reply both = record {
+        step = both.0;
+        uses = subst (λ gone. UsesFor g Asks Takes was.members (child_asked q.command) (IsNewTo g was now_seen) (IsHomeBy g q was now_seen gone) gone s t) (sym both.1)
+            (subst (λ ms. UsesFor g Asks Takes ms (child_asked q.command) (IsNewTo g was now_seen) (IsHomeBy g q was now_seen it.gone) it.gone s t) (ap (λ x. x.members) seen)
+            (uses_weaker g Asks Takes old (child_asked q.command) (λ x. AllClean g new → OfEachSeen g f known old before (λ w. IsNoPackage w x)) (IsNewTo g was now_seen)
+            (λ x. (child_returned q.command ≡ Some x) × (AllClean g new → AreClean g it.gone → OfEachSeen g f known old before (λ w. IsNoPackage (outcome w q).1 x))) (IsHomeBy g q was now_seen it.gone) it.gone s t
+            (λ x told clean w stands. told clean w (stood w stands).0 (stood w stands).1) (λ x told. (told.0, λ clean gone w stands. told.1 clean gone w (stood w stands).0 (stood w stands).1)) used));
+      }
+
+      pub replied_with : (reply : Result Receipt Refusal) → r ≡ Ok reply → IsStepWith g Asks Takes q was reply now_seen s t
+      replied_with reply is = step_with reply (step_told reply is)
+
+      pub failed_with : (e : ServeFault) → r ≡ Err e → (why : Refusal) → why ≡ told_refusal e → IsStepWith g Asks Takes q was (Err why) now_seen s t
+      failed_with e is why told = step_with (Err why) (step_faulted e is why told)
 
     -- a crash shows nothing of what was refused, or failed before its commit
     pub no_trace_replied : (reply : Result Receipt Refusal) → r ≡ Ok reply → LeavesNoTrace g was reply now_seen
@@ -179,10 +219,6 @@ module _ {S : Type 0} (g : Ghosts S) where
 
     pub still_failed : (e : ServeFault) → r ≡ Err e → (why : Refusal) → StandsStill g was (Err why) now_seen
     still_failed e is why refused w stands = record { frame = (stood w stands).0.0; members = it.failed e is w (stood w stands).1; known = knows_more known noted w it.grows (stood w stands).0.1 }
-
-    -- what was asked of a shelf
-    pub asks_seen : {H : Type 0} (Asks : List ℕ → H → H → Type 0) (child : Option (List ℕ)) (s t : H) → AsksFor Asks child (λ x. AllClean g new → OfEachSeen g f known old before (λ w. IsNoPackage w x)) s t → AsksFor Asks child (IsNewTo g was now_seen) s t
-    asks_seen Asks child s t asked = asks_weaker Asks child (λ x. AllClean g new → OfEachSeen g f known old before (λ w. IsNoPackage w x)) (IsNewTo g was now_seen) s t (λ x told clean w stands. told clean w (stood w stands).0 (stood w stands).1) asked
 
     -- it has failed by a fault of a store, or by a request that was to be carried out
     pub rises_failed : (X : Type 0) (shelf_before shelf_after : ℕ) (e : ServeFault) → r ≡ Err e → (why : Refusal) → why ≡ told_refusal e → (reply : Result Receipt Refusal) → reply ≡ Err why → (IsTrue has_failed ↔ IsLastingFault e) → CountsShelf {X = X} (Err e) shelf_before shelf_after → has_failed ≡ true

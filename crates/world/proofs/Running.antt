@@ -17,6 +17,8 @@ use Rattle.sheet_types.proofs.Every.{All-left, All-right, All-snoc}
 use Rattle.sheet_laws.proofs.Running.{run_of_both}
 pub use Rattle.world.specs.Worlds.{IsApplied}
 use Rattle.world.specs.Worlds.{Seen, StandsFor, AreApplied, IsStep, IsStopped, IsRun, NoneShut, RunsOverRegisters, held}
+use Rattle.world.specs.Asked.{AreStepsWith, IsRunWith, IsStepWith}
+use Rattle.world.proofs.Asks.{steps_more}
 use Rattle.world.proofs.Faults.{fault_is_err, fault_or_not, refused_stays}
 use Rattle.world_members.specs.Members.{AllClean, AllOpen}
 use Rattle.world_members.specs.declared.members.Member.{Member}
@@ -99,8 +101,11 @@ module _ {S : Type 0} (g : Ghosts S) where
   open_after q replies (Err why) mid new it (inr sound) clean gone opened = it.opens clean gone (All-right (λ r. ¬ IsFault r) replies (Err why ∷ []) sound).0 opened
 
   -- no request yet
+  none_told : (seen : Seen S) (n : ℕ) → (run : IsRun g [] seen [] seen n n) × (run.gone ≡ [])
+  none_told seen n = (record { gone = []; clean = λ clean gone. clean; run = λ clean gone w stands. (w, refl, stands); registers = λ clean gone w stands. (w, (refl, stands.members.register), stands); opens = λ clean gone sound opened. opened; told = λ usable none. tt; usable = λ sound. refl; shelf = omega arith; each = (refl, refl); failed = λ failed. (tt, refl); stays_open = λ clean gone usable none opened. opened; stops = λ clean gone usable failed. absurd (let both : true ≡ false = sym failed ∙ usable in cc); unharmed = λ told why is. absurd (none_left told why is) }, refl)
+
   pub run_none : (seen : Seen S) (n : ℕ) → IsRun g [] seen [] seen n n
-  run_none seen n = record { gone = []; clean = λ clean gone. clean; run = λ clean gone w stands. (w, refl, stands); registers = λ clean gone w stands. (w, (refl, stands.members.register), stands); opens = λ clean gone sound opened. opened; told = λ usable none. tt; usable = λ sound. refl; shelf = omega arith; each = (refl, refl); failed = λ failed. (tt, refl); stays_open = λ clean gone usable none opened. opened; stops = λ clean gone usable failed. absurd (let both : true ≡ false = sym failed ∙ usable in cc); unharmed = λ told why is. absurd (none_left told why is) }
+  run_none seen n = (none_told seen n).0
 
   -- a world that can be used could be used before
   was_usable : (q : Request) (old new : Seen S) (reply : Result Receipt Refusal) (before after : ℕ) → IsApplied g q old reply new before after → new.has_failed ≡ false → old.has_failed ≡ false
@@ -108,52 +113,55 @@ module _ {S : Type 0} (g : Ghosts S) where
       elim old.has_failed as (λ b. old.has_failed ≡ b → b ≡ false) [ false ↦ λ is. refl | true ↦ λ is. absurd (let stays = (next.failed is).1 in cc) ] refl
 
   -- and one more
-  pub run_more : (qs : List Request) (q : Request) (old mid new : Seen S) (replies : List (Result Receipt Refusal)) (reply : Result Receipt Refusal) (before between after : ℕ) → IsRun g qs old replies mid before between → IsApplied g q mid reply new between after
-      → IsRun g (qs ++ q ∷ []) old (replies ++ reply ∷ []) new before after
-  run_more qs q old mid new replies reply before between after first next = record {
-    gone = first.gone ++ next.step.gone;
-    clean = λ clean gone. first.clean (next.step.clean clean (mine gone)) (theirs gone);
-    run = λ clean gone w stands.
-        let was = first.run (next.step.clean clean (mine gone)) (theirs gone) w stands in
-        let is = next.step.step clean (mine gone) was.0 was.2 in
-        (is.0, (run_of_both w qs (q ∷ []) (replies ++ reply ∷ []) is.0).1 (was.0, replies, reply ∷ [], refl, was.1, (is.0, is.1, refl)), is.2);
-    registers = λ clean gone w stands.
-        let was = first.registers (next.step.clean clean (mine gone)) (theirs gone) w stands in
-        let is = next.step.step clean (mine gone) was.0 was.2 in
-        (is.0, one_step_more w was.0 is.0 qs replies q reply was.1 is.1 (next.step.register is.0 is.2), is.2);
-    opens = λ clean gone sound opened.
-        next.step.opens clean (mine gone) (All-right (λ r. ¬ IsFault r) replies (reply ∷ []) sound).0 (first.opens (next.step.clean clean (mine gone)) (theirs gone) (All-left (λ r. ¬ IsFault r) replies (reply ∷ []) sound) opened);
-    told = λ usable none.
-        All-snoc (λ r. ¬ (r ≡ Err StoreFault)) replies reply (first.told (was_usable q mid new reply between after next usable) (λ more. none (grown more)))
-        (λ is. elim (next.cause is) [ inl failed ↦ absurd (let both : true ≡ false = sym failed ∙ usable in cc) | inr more ↦ none (grew more) ]);
-    usable = λ sound.
-        next.usable (All-right (λ r. ¬ IsFault r) replies (reply ∷ []) sound).0 ∙ first.usable (All-left (λ r. ¬ IsFault r) replies (reply ∷ []) sound);
-    shelf = omega (arith, first.shelf, next.shelf);
-    each = each_more qs old mid new replies q reply before between after first.each next;
-    failed = λ failed.
-        let was = first.failed failed in
-        let now = next.failed (ap (λ (s : Seen S). s.has_failed) was.1 ∙ failed) in
-        (All-snoc (λ r. r ≡ Err StoreFault) replies reply was.0 now.0, now.1 ∙ was.1);
-    stays_open = λ clean gone usable none opened.
-        open_after q replies reply mid new next.step none clean (mine gone) (first.stays_open (next.step.clean clean (mine gone)) (theirs gone) (was_usable q mid new reply between after next usable) (none_shut_before replies reply none) opened);
-    stops = λ clean gone usable failed w stands opened.
-        elim mid.has_failed as (λ b. mid.has_failed ≡ b → IsStopped g (qs ++ q ∷ []) (replies ++ reply ∷ []) w new) [
-          | true ↦ λ is. stopped_before is (first.stops (next.step.clean clean (mine gone)) (theirs gone) usable is w stands opened)
-          | false ↦ λ is. stopped_here is clean gone failed w stands opened
-        ] refl;
-    unharmed = λ told why is usable clean gone none w stands opened.
-        let last = snoc_same replies told reply (Err why) is in
-        let refused : IsErr reply = subst IsErr (sym last.1) refl in
-        let can : mid.has_failed ≡ false = was_usable q mid new reply between after next usable in
-        let was = first.run (next.step.clean clean (mine gone)) (theirs gone) w stands in
-        let now = next.step.step clean (mine gone) was.0 was.2 in
-        let still_open = first.stays_open (next.step.clean clean (mine gone)) (theirs gone) can (subst (NoneShut g) (sym last.0) none) opened in (
-          was.0,
-          (run_of_both w qs (q ∷ []) (replies ++ reply ∷ []) was.0).1 (was.0, replies, reply ∷ [], refl, was.1, (was.0, refused_stays was.0 now.0 q reply refused now.1, refl)),
-          next.still refused was.0 was.2,
-          next.unharmed refused usable clean was.0 was.2 still_open,
-        );
-  }
+  more_told : (qs : List Request) (q : Request) (old mid new : Seen S) (replies : List (Result Receipt Refusal)) (reply : Result Receipt Refusal) (before between after : ℕ) → (first : IsRun g qs old replies mid before between) → (next : IsApplied g q mid reply new between after)
+      → (run : IsRun g (qs ++ q ∷ []) old (replies ++ reply ∷ []) new before after) × (run.gone ≡ first.gone ++ next.step.gone)
+  more_told qs q old mid new replies reply before between after first next = (
+    record {
+      gone = first.gone ++ next.step.gone;
+      clean = λ clean gone. first.clean (next.step.clean clean (mine gone)) (theirs gone);
+      run = λ clean gone w stands.
+          let was = first.run (next.step.clean clean (mine gone)) (theirs gone) w stands in
+          let is = next.step.step clean (mine gone) was.0 was.2 in
+          (is.0, (run_of_both w qs (q ∷ []) (replies ++ reply ∷ []) is.0).1 (was.0, replies, reply ∷ [], refl, was.1, (is.0, is.1, refl)), is.2);
+      registers = λ clean gone w stands.
+          let was = first.registers (next.step.clean clean (mine gone)) (theirs gone) w stands in
+          let is = next.step.step clean (mine gone) was.0 was.2 in
+          (is.0, one_step_more w was.0 is.0 qs replies q reply was.1 is.1 (next.step.register is.0 is.2), is.2);
+      opens = λ clean gone sound opened.
+          next.step.opens clean (mine gone) (All-right (λ r. ¬ IsFault r) replies (reply ∷ []) sound).0 (first.opens (next.step.clean clean (mine gone)) (theirs gone) (All-left (λ r. ¬ IsFault r) replies (reply ∷ []) sound) opened);
+      told = λ usable none.
+          All-snoc (λ r. ¬ (r ≡ Err StoreFault)) replies reply (first.told (was_usable q mid new reply between after next usable) (λ more. none (grown more)))
+          (λ is. elim (next.cause is) [ inl failed ↦ absurd (let both : true ≡ false = sym failed ∙ usable in cc) | inr more ↦ none (grew more) ]);
+      usable = λ sound.
+          next.usable (All-right (λ r. ¬ IsFault r) replies (reply ∷ []) sound).0 ∙ first.usable (All-left (λ r. ¬ IsFault r) replies (reply ∷ []) sound);
+      shelf = omega (arith, first.shelf, next.shelf);
+      each = each_more qs old mid new replies q reply before between after first.each next;
+      failed = λ failed.
+          let was = first.failed failed in
+          let now = next.failed (ap (λ (s : Seen S). s.has_failed) was.1 ∙ failed) in
+          (All-snoc (λ r. r ≡ Err StoreFault) replies reply was.0 now.0, now.1 ∙ was.1);
+      stays_open = λ clean gone usable none opened.
+          open_after q replies reply mid new next.step none clean (mine gone) (first.stays_open (next.step.clean clean (mine gone)) (theirs gone) (was_usable q mid new reply between after next usable) (none_shut_before replies reply none) opened);
+      stops = λ clean gone usable failed w stands opened.
+          elim mid.has_failed as (λ b. mid.has_failed ≡ b → IsStopped g (qs ++ q ∷ []) (replies ++ reply ∷ []) w new) [
+            | true ↦ λ is. stopped_before is (first.stops (next.step.clean clean (mine gone)) (theirs gone) usable is w stands opened)
+            | false ↦ λ is. stopped_here is clean gone failed w stands opened
+          ] refl;
+      unharmed = λ told why is usable clean gone none w stands opened.
+          let last = snoc_same replies told reply (Err why) is in
+          let refused : IsErr reply = subst IsErr (sym last.1) refl in
+          let can : mid.has_failed ≡ false = was_usable q mid new reply between after next usable in
+          let was = first.run (next.step.clean clean (mine gone)) (theirs gone) w stands in
+          let now = next.step.step clean (mine gone) was.0 was.2 in
+          let still_open = first.stays_open (next.step.clean clean (mine gone)) (theirs gone) can (subst (NoneShut g) (sym last.0) none) opened in (
+            was.0,
+            (run_of_both w qs (q ∷ []) (replies ++ reply ∷ []) was.0).1 (was.0, replies, reply ∷ [], refl, was.1, (was.0, refused_stays was.0 now.0 q reply refused now.1, refl)),
+            next.still refused was.0 was.2,
+            next.unharmed refused usable clean was.0 was.2 still_open,
+          );
+    },
+    refl,
+  )
     where
       mine : AreClean g (first.gone ++ next.step.gone) → AreClean g next.step.gone
       mine gone = right_clean g first.gone next.step.gone gone
@@ -209,3 +217,22 @@ module _ {S : Type 0} (g : Ghosts S) where
             stands = next.still (fault_is_err reply fault) was.0 was.2;
             crash = λ none. next.step.crash fault is was.0 was.2 (first.stays_open (next.step.clean clean (mine gone)) (theirs gone) is none opened);
           }
+
+  pub run_more : (qs : List Request) (q : Request) (old mid new : Seen S) (replies : List (Result Receipt Refusal)) (reply : Result Receipt Refusal) (before between after : ℕ) → IsRun g qs old replies mid before between → IsApplied g q mid reply new between after
+      → IsRun g (qs ++ q ∷ []) old (replies ++ reply ∷ []) new before after
+  run_more qs q old mid new replies reply before between after first next = (more_told qs q old mid new replies reply before between after first next).0
+
+  -- with what a shelf was asked for and given back
+  module _ {H : Type 0} (Asks : List ℕ → H → H → Type 0) (Takes : List ℕ → S → H → H → Type 0) where
+    pub none_with : (seen : Seen S) (n : ℕ) (s : H) → IsRunWith g Asks Takes [] seen [] seen n n s s
+    none_with seen n s = record { run = (none_told seen n).0; uses = (refl, (none_told seen n).1, refl) }
+
+    pub more_with : (qs : List Request) (q : Request) (old mid new : Seen S) (replies : List (Result Receipt Refusal)) (reply : Result Receipt Refusal) (before between after : ℕ) (s b t : H) → IsRunWith g Asks Takes qs old replies mid before between s b → (next : IsApplied g q mid reply new between after) → (one : IsStepWith g Asks Takes q mid reply new b t) → next.step.gone ≡ one.step.gone
+        → IsRunWith g Asks Takes (qs ++ q ∷ []) old (replies ++ reply ∷ []) new before after s t
+    more_with qs q old mid new replies reply before between after s b t first next one same =
+        let both = more_told qs q old mid new replies reply before between after first.run next in
+        record {
+          run = both.0;
+          uses = subst (λ gone. AreStepsWith g Asks Takes (qs ++ q ∷ []) old (replies ++ reply ∷ []) new gone s t) (sym (both.1 ∙ ap (λ x. first.run.gone ++ x) same))
+              (steps_more g Asks Takes qs old mid new replies q reply first.run.gone s b t first.uses one);
+        }

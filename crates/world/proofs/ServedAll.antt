@@ -1,5 +1,5 @@
 -- What serving a request says in each of the ways in which it ends, for all commands.
-use Rattle.std.specs.Prelude.{◌≡◌, ◌≤◌, ℕ, ◌+◌, List, [], ◌++◌, map, refl, Result, Ok, Err, IsOk}
+use Rattle.std.specs.Prelude.{◌≡◌, ◌≤◌, ℕ, ◌+◌, List, [], ◌++◌, map, refl, Some, Result, Ok, Err, IsOk}
 use Rattle.std.proofs.Common.{arith, sym, ap, subst, ◌∙◌, inl, inr}
 use Rattle.std.specs.List.{AllByRecursion}
 use Rattle.std.proofs.lemmas.List.{append-nil}
@@ -23,8 +23,8 @@ use Rattle.store_sql.proofs.Transactions.{Shuts, Settles}
 use Rattle.world_queries.specs.Asking.{AsksAll}
 use Rattle.world_known.specs.Known.{Grows, Notes}
 use Rattle.world_known.proofs.Remembering.{knows_more}
-use Rattle.world_changes.specs.Carries.{Carries, ServesAll, IsSeenBy, IsBeforeCommit}
-use Rattle.world_decisions.specs.Deciding.{IsOf, Decides, DecidesWhere}
+use Rattle.world_changes.specs.Carries.{Carries, ServesAll, HasNoReceipt, IsSeenBy, IsBeforeCommit, OfEachDue, OfEachSeen}
+use Rattle.world_decisions.specs.Deciding.{IsOf, Decides, DecidesWhere, child_asked}
 use Rattle.world_changes.specs.Leaving.{AreAtRest, AreClean, AreBeside, LeavesOneOf}
 use Rattle.world_members.specs.Members.{AllRest, AllClean, AllOpen, AreMembers}
 use Rattle.world_loans.specs.ServeFaults.{IsLastingFault, CountsShelf}
@@ -42,7 +42,8 @@ use Rattle.world_loans.specs.Loans.{IsLent, IsReturned}
 use Rattle.world_loans.specs.declared.loans.ServeFault.{ServeFault}
 use Rattle.world_loans.specs.declared.loans.ServeFault.TheVariants.{Unshelved, Turn}
 use Rattle.world_members.specs.declared.members.Member.{Member}
-use Rattle.world.specs.Asked.{IsNoPackage}
+use Rattle.world.specs.Asked.{AsksFor, ComeHome, IsNoPackage, ServesWith, child_returned}
+use Rattle.world.proofs.Asks.{asks_nothing, uses_asked, uses_home}
 use Rattle.world.proofs.CarriedOut.{leaves_before}
 use Rattle.world_changes.proofs.Surviving.{read_before, stay_survive, survive_then}
 use Rattle.world_changes.proofs.HeldStores.{held_clean, members_left}
@@ -58,34 +59,36 @@ module _ {S : Type 0} (g : Ghosts S) (shuts : Shuts g) (settles : Settles g) whe
     abbrev DueChange : World → World → Type 0
     DueChange w next = (next ≡ world_after change.receipt command w) × IsDue w change.at change.receipt command change.sums
 
-    pub carries_changed : (after : ℕ) (receipt : Receipt) → Changes g change command old new before after (Ok receipt) → Carries g (λ w next. (next ≡ world_after change.receipt command w) × IsDue w change.at change.receipt command change.sums) change.receipt old new [] before after (Ok receipt)
+    pub carries_changed : (after : ℕ) (receipt : Receipt) → Changes g change command old new before after (Ok receipt) → (made : Carries g (λ w next. (next ≡ world_after change.receipt command w) × IsDue w change.at change.receipt command change.sums) change.receipt old new [] before after (Ok receipt)) × (made.gone ≡ [])
     carries_changed after receipt it =
-        let done = it.ok receipt refl in
-        record {
-          gone = [];
-          left_over = [];
-          few = omega arith;
-          unlent = λ x is. refl;
-          read = tt;
-          survive = λ why is. absurd (let e = is in cc);
-          beside_before = λ clean gone w next are is_due was. none_beside g w.frame w.packages;
-          rests = it.rests;
-          stray_rests = All-from_recursion (λ h. Rests (state g h)) [] tt;
-          clean = λ clean gone. it.clean clean;
-          ok = λ x is. (
-            let same : receipt ≡ x = cc in sym same ∙ done.0,
-            done.1,
-            refl,
-            λ w next clean gone are is_due. subst (AreMembers g new after) (sym is_due.0) (subst (λ n. AreMembers g new n (world_after change.receipt command w)) (sym done.1) (done.2 w are is_due.1)),
-          );
-          opens = λ clean gone. it.opens clean;
-          beside = λ x is w next are is_due was. none_beside g w.frame next.packages;
-          kept = λ why is. absurd (let e = is in cc);
-          err = λ why is. absurd (let e = is in cc);
-          usable = λ why is. absurd (let e = is in cc);
-          unharmed = λ why is. absurd (let e = is in cc);
-          crash = λ why is. absurd (let e = is in cc);
-        }
+        let done = it.ok receipt refl in (
+          record {
+            gone = [];
+            left_over = [];
+            few = omega arith;
+            unlent = λ x is. refl;
+            read = tt;
+            survive = λ why is. absurd (let e = is in cc);
+            beside_before = λ clean gone w next are is_due was. none_beside g w.frame w.packages;
+            rests = it.rests;
+            stray_rests = All-from_recursion (λ h. Rests (state g h)) [] tt;
+            clean = λ clean gone. it.clean clean;
+            ok = λ x is. (
+              let same : receipt ≡ x = cc in sym same ∙ done.0,
+              done.1,
+              refl,
+              λ w next clean gone are is_due. subst (AreMembers g new after) (sym is_due.0) (subst (λ n. AreMembers g new n (world_after change.receipt command w)) (sym done.1) (done.2 w are is_due.1)),
+            );
+            opens = λ clean gone. it.opens clean;
+            beside = λ x is w next are is_due was. none_beside g w.frame next.packages;
+            kept = λ why is. absurd (let e = is in cc);
+            err = λ why is. absurd (let e = is in cc);
+            usable = λ why is. absurd (let e = is in cc);
+            unharmed = λ why is. absurd (let e = is in cc);
+            crash = λ why is. absurd (let e = is in cc);
+          },
+          refl,
+        )
 
     -- one of two worlds, of the members alone
     either : (w : World) (after : List Package) → LeavesEither g (λ m. m.conn) (LeftAs w.frame) new w.packages after → LeavesOneOf g w.frame (map (λ m. m.conn) new) w.packages after
@@ -165,85 +168,90 @@ module _ {S : Type 0} (g : Ghosts S) (shuts : Shuts g) (settles : Settles g) whe
     }
 
     -- a reply was come to
-    pub all_answered : (strays : List (Held S)) (answer : Result Receipt Refusal) → strays ≡ [] → r ≡ Ok (Answered answer) → ServesAll g f q old mid strays known noted before before (Ok answer)
-    all_answered strays answer none is = record {
-      gone = [];
-      left_over = [];
-      few = omega arith;
-      unlent = λ reply is'. refl;
-      read = tt;
-      dropped = λ none. refl;
-      survive = λ none. stay_survive g old mid it.stay;
-      tried = λ x is'. absurd (let e = is' in cc);
-      beside_before = λ clean gone w same are was. none_beside g w.frame w.packages;
-      rests = it.rests;
-      stray_rests = none_rest strays none;
-      counted = low;
-      grows = grows;
-      clean = λ clean gone. clean_before g old mid it.stay clean;
-      told = λ clean gone reply same_reply w same are.
-          let answered : answer ≡ reply = cc in
-          record {
-            next = w;
-            told = decided (Answered answer) is clean w same are ∙ ap (λ x. (x, w)) answered;
-            frame = refl;
-            members = members_stay g old mid before w it.stay are;
-            known = knows_more known noted w grows same.1;
-          };
-      opens = λ clean gone. decided_opens (Answered answer) is clean;
-      beside = λ clean gone reply is' w same are was. none_beside g w.frame (outcome w q).1.packages;
-      refused = λ why is' w are. members_stay g old mid before w it.stay are;
-      failed = λ why is'. absurd (let e = is' in cc);
-      none = λ reply is'. none;
-      usable = λ why is'. absurd (let e = is' in cc);
-      unharmed = λ untouched. stay_leaves g shuts settles old mid at_rest it.stay;
-      crash = λ why is'. absurd (let e = is' in cc);
-    }
+    pub all_answered : (strays : List (Held S)) (answer : Result Receipt Refusal) → strays ≡ [] → r ≡ Ok (Answered answer) → (made : ServesAll g f q old mid strays known noted before before (Ok answer)) × (made.gone ≡ [])
+    all_answered strays answer none is = (
+      record {
+        gone = [];
+        left_over = [];
+        few = omega arith;
+        unlent = λ reply is'. refl;
+        read = tt;
+        dropped = λ none. refl;
+        survive = λ none. stay_survive g old mid it.stay;
+        tried = λ x is'. absurd (let e = is' in cc);
+        beside_before = λ clean gone w same are was. none_beside g w.frame w.packages;
+        rests = it.rests;
+        stray_rests = none_rest strays none;
+        counted = low;
+        grows = grows;
+        clean = λ clean gone. clean_before g old mid it.stay clean;
+        told = λ clean gone reply same_reply w same are.
+            let answered : answer ≡ reply = cc in
+            record {
+              next = w;
+              told = decided (Answered answer) is clean w same are ∙ ap (λ x. (x, w)) answered;
+              frame = refl;
+              members = members_stay g old mid before w it.stay are;
+              known = knows_more known noted w grows same.1;
+            };
+        opens = λ clean gone. decided_opens (Answered answer) is clean;
+        beside = λ clean gone reply is' w same are was. none_beside g w.frame (outcome w q).1.packages;
+        refused = λ why is' w are. members_stay g old mid before w it.stay are;
+        failed = λ why is'. absurd (let e = is' in cc);
+        none = λ reply is'. none;
+        usable = λ why is'. absurd (let e = is' in cc);
+        unharmed = λ untouched. stay_leaves g shuts settles old mid at_rest it.stay;
+        crash = λ why is'. absurd (let e = is' in cc);
+      },
+      refl,
+    )
 
     module _ (Due : World → World → Type 0) (due : Receipt) (new : List (Member S)) (strays : List (Held S)) (after : ℕ) (decision : Decision) (is : r ≡ Ok decision)
         (so : AllClean g mid → (w : World) → IsSeenBy f known w → AreMembers g old before w → (next : World) × (outcome w q ≡ (Ok due, next)) × (next.frame ≡ w.frame) × Due w next) where
       -- what was due was carried out
-      pub all_carried_out : Notes noted due → (receipt : Receipt) → before + 1 ≤ greatest_receipts → Carries g Due due mid new strays before after (Ok receipt) → ServesAll g f q old new strays known noted before after (Ok (Ok receipt))
+      pub all_carried_out : Notes noted due → (receipt : Receipt) → before + 1 ≤ greatest_receipts → (made : Carries g Due due mid new strays before after (Ok receipt)) → (all : ServesAll g f q old new strays known noted before after (Ok (Ok receipt))) × (all.gone ≡ made.gone)
       all_carried_out notes receipt bounded made =
-          let done = made.ok receipt refl in
-          record {
-            gone = made.gone;
-            left_over = made.left_over;
-            few = made.few;
-            unlent = λ reply is'. made.unlent receipt refl;
-            read = read_before g old mid made.gone it.stay made.read;
-            dropped = λ none. absurd (let e = none in cc);
-            survive = λ none. absurd (let e = none in cc);
-            tried = λ x is'. absurd (let e = is' in cc);
-            beside_before = λ clean gone w same are was.
-                let x = so (made.clean clean gone) w same are in
-                made.beside_before clean gone w x.0 (members_stay g old mid before w it.stay are) x.3 (decided_opens decision is (made.clean clean gone) was);
-            rests = made.rests;
-            stray_rests = made.stray_rests;
-            counted = rw done.1 bounded;
-            grows = grows;
-            clean = λ clean gone. clean_before g old mid it.stay (made.clean clean gone);
-            told = λ clean gone reply same_reply w same are.
-                let x = so (made.clean clean gone) w same are in
-                let replied : Ok receipt ≡ reply = cc in
-                record {
-                  next = x.0;
-                  told = x.1 ∙ ap (λ a. (Ok a, x.0)) (sym done.0) ∙ ap (λ a. (a, x.0)) replied;
-                  frame = x.2;
-                  members = done.3 w x.0 clean gone (members_stay g old mid before w it.stay are) x.3;
-                  known = knows_after q due known noted grows notes w x.0 same.1 x.1;
-                };
-            opens = λ clean gone was. made.opens clean gone (decided_opens decision is (made.clean clean gone) was);
-            beside = λ clean gone reply same_reply w same are was.
-                let x = so (made.clean clean gone) w same are in
-                subst (λ v. AreBeside g w.frame v.packages made.gone) (sym (ap (λ o. o.1) x.1)) (made.beside receipt refl w x.0 (members_stay g old mid before w it.stay are) x.3 (decided_opens decision is (made.clean clean gone) was));
-            refused = λ why is'. absurd (let e = is' in cc);
-            failed = λ why is'. absurd (let e = is' in cc);
-            none = λ reply is'. done.2;
-            usable = λ why is'. absurd (let e = is' in cc);
-            unharmed = λ untouched. absurd (let e = untouched in cc);
-            crash = λ why is'. absurd (let e = is' in cc);
-          }
+          let done = made.ok receipt refl in (
+            record {
+              gone = made.gone;
+              left_over = made.left_over;
+              few = made.few;
+              unlent = λ reply is'. made.unlent receipt refl;
+              read = read_before g old mid made.gone it.stay made.read;
+              dropped = λ none. absurd (let e = none in cc);
+              survive = λ none. absurd (let e = none in cc);
+              tried = λ x is'. absurd (let e = is' in cc);
+              beside_before = λ clean gone w same are was.
+                  let x = so (made.clean clean gone) w same are in
+                  made.beside_before clean gone w x.0 (members_stay g old mid before w it.stay are) x.3 (decided_opens decision is (made.clean clean gone) was);
+              rests = made.rests;
+              stray_rests = made.stray_rests;
+              counted = rw done.1 bounded;
+              grows = grows;
+              clean = λ clean gone. clean_before g old mid it.stay (made.clean clean gone);
+              told = λ clean gone reply same_reply w same are.
+                  let x = so (made.clean clean gone) w same are in
+                  let replied : Ok receipt ≡ reply = cc in
+                  record {
+                    next = x.0;
+                    told = x.1 ∙ ap (λ a. (Ok a, x.0)) (sym done.0) ∙ ap (λ a. (a, x.0)) replied;
+                    frame = x.2;
+                    members = done.3 w x.0 clean gone (members_stay g old mid before w it.stay are) x.3;
+                    known = knows_after q due known noted grows notes w x.0 same.1 x.1;
+                  };
+              opens = λ clean gone was. made.opens clean gone (decided_opens decision is (made.clean clean gone) was);
+              beside = λ clean gone reply same_reply w same are was.
+                  let x = so (made.clean clean gone) w same are in
+                  subst (λ v. AreBeside g w.frame v.packages made.gone) (sym (ap (λ o. o.1) x.1)) (made.beside receipt refl w x.0 (members_stay g old mid before w it.stay are) x.3 (decided_opens decision is (made.clean clean gone) was));
+              refused = λ why is'. absurd (let e = is' in cc);
+              failed = λ why is'. absurd (let e = is' in cc);
+              none = λ reply is'. done.2;
+              usable = λ why is'. absurd (let e = is' in cc);
+              unharmed = λ untouched. absurd (let e = untouched in cc);
+              crash = λ why is'. absurd (let e = is' in cc);
+            },
+            refl,
+          )
 
       -- or it failed
       pub all_failed : (why : ServeFault) → Carries g Due due mid new strays before after (Err why) → ServesAll g f q old new strays known noted before after (Err why)
@@ -305,33 +313,73 @@ module _ {S : Type 0} (g : Ghosts S) (shuts : Shuts g) (settles : Settles g) (f 
       let d : Decides w q (SplitDue due) = decided g shuts settles f q old mid known noted grows at_rest before low it (SplitDue due) is clean w same are in
       d.2.apart
 
+  -- what no world is after a merge that is due is of none that the request makes
+  pub merge_apart : (due : Returning) → r ≡ Ok (MergeDue due) → (uuid : List ℕ) → ((w next : World) → AreMembers g mid before w → IsReturned w next due → IsNoPackage next uuid) → AllClean g mid → (w : World) → IsSeenBy f known w → AreMembers g old before w → IsNoPackage (outcome w q).1 uuid
+  merge_apart due is uuid apart clean w same are =
+      let d : Decides w q (MergeDue due) = decided g shuts settles f q old mid known noted grows at_rest before low it (MergeDue due) is clean w same are in
+      subst (λ v. IsNoPackage v uuid) (sym (ap (λ o. o.1) d.1)) (apart w d.0 (members_stay g old mid before w it.stay are) d.2)
+
   merge_so : (due : Returning) → r ≡ Ok (MergeDue due) → So (λ w next. IsReturned w next due) due.receipt
   merge_so due is clean w same are =
       let d : Decides w q (MergeDue due) = decided g shuts settles f q old mid known noted grows at_rest before low it (MergeDue due) is clean w same are in
       (d.0, d.1, d.2.after.frame, d.2)
 
   module _ (new : List (Member S)) (strays : List (Held S)) (after : ℕ) where
-    pub change_served : (change : Change) (receipt : Receipt) → Notes noted change.receipt → strays ≡ [] → r ≡ Ok (ChangeDue change) → before + 1 ≤ greatest_receipts → Changes g change q.command mid new before after (Ok receipt) → ServesAll g f q old new strays known noted before after (Ok (Ok receipt))
-    change_served change receipt notes none is bounded made = subst (λ ss. ServesAll g f q old new ss known noted before after (Ok (Ok receipt))) (sym none)
-        (all_carried_out g shuts settles f q old mid known noted grows at_rest before low it (λ w next. (next ≡ world_after change.receipt q.command w) × IsDue w change.at change.receipt q.command change.sums) change.receipt new [] after (ChangeDue change) is (change_so change is) notes receipt bounded (carries_changed g shuts settles change q.command mid new before after receipt made))
+    pub change_served : (change : Change) (receipt : Receipt) → Notes noted change.receipt → strays ≡ [] → r ≡ Ok (ChangeDue change) → before + 1 ≤ greatest_receipts → Changes g change q.command mid new before after (Ok receipt) → (all : ServesAll g f q old new strays known noted before after (Ok (Ok receipt))) × (all.gone ≡ [])
+    change_served change receipt notes none is bounded made =
+        let carried = carries_changed g shuts settles change q.command mid new before after receipt made in
+        let all = (all_carried_out g shuts settles f q old mid known noted grows at_rest before low it (λ w next. (next ≡ world_after change.receipt q.command w) × IsDue w change.at change.receipt q.command change.sums) change.receipt new [] after (ChangeDue change) is (change_so change is) notes receipt bounded carried.0) in
+        subst (λ ss. (x : ServesAll g f q old new ss known noted before after (Ok (Ok receipt))) × (x.gone ≡ [])) (sym none) (all.0, all.1 ∙ carried.1)
 
     pub change_failed : (change : Change) (why : TurnFault) → strays ≡ [] → r ≡ Ok (ChangeDue change) → Changes g change q.command mid new before after (Err why) → ServesAll g f q old new strays known noted before after (Err (Turn why))
     change_failed change why none is made = subst (λ ss. ServesAll g f q old new ss known noted before after (Err (Turn why))) (sym none)
         (all_failed g shuts settles f q old mid known noted grows at_rest before low it (λ w next. (next ≡ world_after change.receipt q.command w) × IsDue w change.at change.receipt q.command change.sums) change.receipt new [] after (ChangeDue change) is (change_so change is) (Turn why) (carries_unchanged g shuts settles change q.command mid new before after why made))
 
-    pub split_served : (due : Lending) (receipt : Receipt) → Notes noted due.receipt → r ≡ Ok (SplitDue due) → before + 1 ≤ greatest_receipts → Carries g (λ w next. (f ≡ w.frame) × IsLent w next due) due.receipt mid new strays before after (Ok receipt) → ServesAll g f q old new strays known noted before after (Ok (Ok receipt))
+    pub split_served : (due : Lending) (receipt : Receipt) → Notes noted due.receipt → r ≡ Ok (SplitDue due) → before + 1 ≤ greatest_receipts → (made : Carries g (λ w next. (f ≡ w.frame) × IsLent w next due) due.receipt mid new strays before after (Ok receipt)) → (all : ServesAll g f q old new strays known noted before after (Ok (Ok receipt))) × (all.gone ≡ made.gone)
     split_served due receipt notes is bounded made = all_carried_out g shuts settles f q old mid known noted grows at_rest before low it (λ w next. (f ≡ w.frame) × IsLent w next due) due.receipt new strays after (SplitDue due) is (split_so due is) notes receipt bounded made
 
     pub split_failed : (due : Lending) (why : ServeFault) → r ≡ Ok (SplitDue due) → Carries g (λ w next. (f ≡ w.frame) × IsLent w next due) due.receipt mid new strays before after (Err why) → ServesAll g f q old new strays known noted before after (Err why)
     split_failed due why is made = all_failed g shuts settles f q old mid known noted grows at_rest before low it (λ w next. (f ≡ w.frame) × IsLent w next due) due.receipt new strays after (SplitDue due) is (split_so due is) why made
 
-    pub merge_served : (due : Returning) (receipt : Receipt) → Notes noted due.receipt → strays ≡ [] → r ≡ Ok (MergeDue due) → before + 1 ≤ greatest_receipts → Carries g (λ w next. IsReturned w next due) due.receipt mid new [] before after (Ok receipt) → ServesAll g f q old new strays known noted before after (Ok (Ok receipt))
-    merge_served due receipt notes none is bounded made = subst (λ ss. ServesAll g f q old new ss known noted before after (Ok (Ok receipt))) (sym none)
+    pub merge_served : (due : Returning) (receipt : Receipt) → Notes noted due.receipt → strays ≡ [] → r ≡ Ok (MergeDue due) → before + 1 ≤ greatest_receipts → (made : Carries g (λ w next. IsReturned w next due) due.receipt mid new [] before after (Ok receipt)) → (all : ServesAll g f q old new strays known noted before after (Ok (Ok receipt))) × (all.gone ≡ made.gone)
+    merge_served due receipt notes none is bounded made = subst (λ ss. (x : ServesAll g f q old new ss known noted before after (Ok (Ok receipt))) × (x.gone ≡ made.gone)) (sym none)
         (all_carried_out g shuts settles f q old mid known noted grows at_rest before low it (λ w next. IsReturned w next due) due.receipt new [] after (MergeDue due) is (merge_so due is) notes receipt bounded made)
 
     pub merge_failed : (due : Returning) (why : ServeFault) → strays ≡ [] → r ≡ Ok (MergeDue due) → Carries g (λ w next. IsReturned w next due) due.receipt mid new [] before after (Err why) → ServesAll g f q old new strays known noted before after (Err why)
     merge_failed due why none is made = subst (λ ss. ServesAll g f q old new ss known noted before after (Err why)) (sym none)
         (all_failed g shuts settles f q old mid known noted grows at_rest before low it (λ w next. IsReturned w next due) due.receipt new [] after (MergeDue due) is (merge_so due is) why made)
+
+    -- the store that a merge lets go was given back, and nothing was asked for
+    pub merge_with : {H : Type 0} (Asks : List ℕ → H → H → Type 0) (Takes : List ℕ → S → H → H → Type 0) (s t : H) {made_reply : Result Receipt ServeFault} {reply : Result (Result Receipt Refusal) ServeFault} (due : Returning) → r ≡ Ok (MergeDue due) → (made : Carries g (λ w next. IsReturned w next due) due.receipt mid new [] before after made_reply)
+        → ComeHome g Takes mid (λ uuid. (child_returned q.command ≡ Some uuid) × OfEachDue g (λ w next. IsReturned w next due) mid before (λ w next. IsNoPackage next uuid)) made.gone s t → (all : ServesAll g f q old new strays known noted before after reply) → all.gone ≡ made.gone
+        → (x : ServesAll g f q old new strays known noted before after reply) × ServesWith g Asks Takes f q old new known before x.gone s t
+    merge_with Asks Takes s t due is made home all same = (
+      all,
+      subst (λ gone. ServesWith g Asks Takes f q old new known before gone s t) (sym same)
+          (uses_home g Asks Takes old mid (child_asked q.command) (λ child. AllClean g new → OfEachSeen g f known old before (λ w. IsNoPackage w child)) (λ uuid. (child_returned q.command ≡ Some uuid) × OfEachDue g (λ w next. IsReturned w next due) mid before (λ w next. IsNoPackage next uuid))
+          (λ uuid. (child_returned q.command ≡ Some uuid) × (AllClean g new → AreClean g made.gone → OfEachSeen g f known old before (λ w. IsNoPackage (outcome w q).1 uuid))) made.gone s t it.stay
+          (λ uuid both. (both.0, λ clean gone w seen are. merge_apart due is uuid both.1 (made.clean clean gone) w seen are)) home),
+    )
+
+-- ---- what a shelf is asked for
+
+module _ {S : Type 0} (g : Ghosts S) {H : Type 0} (Asks : List ℕ → H → H → Type 0) (Takes : List ℕ → S → H → H → Type 0) {f : Frame} {q : Request} {old new : List (Member S)} {strays : List (Held S)} {known noted : List (List ℕ)} {before after : ℕ} {r : Result (Result Receipt Refusal) ServeFault} where
+  -- nothing was given back
+  pub with_asked : (s t : H) → (all : ServesAll g f q old new strays known noted before after r) → all.gone ≡ [] → AsksFor Asks (child_asked q.command) (λ child. AllClean g new → OfEachSeen g f known old before (λ w. IsNoPackage w child)) s t
+      → (x : ServesAll g f q old new strays known noted before after r) × ServesWith g Asks Takes f q old new known before x.gone s t
+  with_asked s t all none asked = (
+    all,
+    uses_asked g Asks Takes old (child_asked q.command) (λ child. AllClean g new → OfEachSeen g f known old before (λ w. IsNoPackage w child))
+        (λ uuid. (child_returned q.command ≡ Some uuid) × (AllClean g new → AreClean g all.gone → OfEachSeen g f known old before (λ w. IsNoPackage (outcome w q).1 uuid))) all.gone s t none asked,
+  )
+
+  -- and nothing was asked for
+  pub with_nothing : (s : H) → (all : ServesAll g f q old new strays known noted before after r) → all.gone ≡ [] → (x : ServesAll g f q old new strays known noted before after r) × ServesWith g Asks Takes f q old new known before x.gone s s
+  with_nothing s all none = with_asked s s all none (asks_nothing Asks (child_asked q.command) (λ child. AllClean g new → OfEachSeen g f known old before (λ w. IsNoPackage w child)) s s refl)
+
+  -- where there is a fault no connection left the world
+  pub none_gone : {why : ServeFault} → r ≡ Err why → (all : ServesAll g f q old new strays known noted before after r) → all.gone ≡ []
+  none_gone is all = all.dropped (subst HasNoReceipt (sym is) tt)
 
 -- ---- the count of the shelf
 

@@ -1,29 +1,130 @@
--- What a world asks a shelf for. Profile.
-use Rattle.std.specs.Prelude.{◌≡◌, ◌⊎◌, ℕ, ⊤, false, List, [], ◌∷◌, Option, Some, None, bytes_eq}
+-- What a world asks a shelf for, and what it gives back to it. Profile.
+use Rattle.std.specs.Prelude.{◌≡◌, ◌⊎◌, ℕ, ⊤, false, List, [], ◌∷◌, ◌++◌, Option, Some, None, Result, slice_get, bytes_eq}
 use Rattle.std.specs.List.{AllByRecursion}
+use Rattle.sqlite.specs.Held.{Held, state}
 use Rattle.sqlite.specs.Store.{Ghosts}
+use Rattle.sqlite_trees.specs.View.{IsQuiet}
+use Rattle.sheet_types.specs.Step.{outcome}
 use Rattle.sheet_types.specs.World.{World}
+use Rattle.sheet_types.specs.declared.command.Command.{Command}
+use Rattle.sheet_types.specs.declared.command.Command.TheVariants.{Merge}
 use Rattle.sheet_types.specs.declared.command.Request.{Request}
+use Rattle.sheet_types.specs.declared.frame.Frame.{Frame}
+use Rattle.sheet_types.specs.declared.receipt.Receipt.{Receipt}
+use Rattle.sheet_types.specs.declared.refusal.Refusal.{Refusal}
+use Rattle.store_sql.specs.Staying.{Stays}
+use Rattle.world_changes.specs.Carries.{OfEachSeen}
+use Rattle.world_changes.specs.Leaving.{AreClean}
 use Rattle.world_decisions.specs.Deciding.{child_asked}
 use Rattle.world_members.specs.Members.{AllClean}
-use Rattle.world.specs.Worlds.{Seen, StandsFor}
+use Rattle.world_members.specs.declared.members.Member.{Member}
+use Rattle.world.specs.Worlds.{Seen, StandsFor, IsStep, IsRun}
 
 -- no package of the world has this UUID
 abbrev pub IsNoPackage : World → List ℕ → Type 0
 IsNoPackage w uuid = AllByRecursion (λ p. bytes_eq p.uuid uuid ≡ false) w.packages
+
+-- the package of the member at this place has this UUID
+abbrev pub HasUuidAt : {S : Type 0} → List (Member S) → ℕ → List ℕ → Type 0
+HasUuidAt {S} members at uuid = (member : Member S) × (slice_get members at ≡ Some member) × (uuid ≡ member.uuid)
 
 -- Between these two states a shelf was asked for nothing, or once for the store of this package, of which this holds.
 abbrev pub AsksFor : {H : Type 0} → (List ℕ → H → H → Type 0) → Option (List ℕ) → (List ℕ → Type 0) → H → H → Type 0
 AsksFor Asks None Fact before after = after ≡ before
 AsksFor Asks (Some child) Fact before after = (after ≡ before) ⊎ (Asks child before after × Fact child)
 
--- It was so for each of these requests in turn, with the package that the request asks to be made.
-abbrev pub AsksForEach : {H : Type 0} → (List ℕ → H → H → Type 0) → List Request → H → H → Type 0
-AsksForEach {H} Asks [] before after = after ≡ before
-AsksForEach {H} Asks (q ∷ qs) before after = (between : H) × AsksFor Asks (child_asked q.command) (λ child. ⊤) before between
-    × AsksForEach Asks qs between after
+-- the package that a command takes home
+abbrev pub child_returned : Command → Option (List ℕ)
+child_returned (Merge child into ticket) = Some child
+child_returned command = None
+
+-- It was given back one store, as that of the package that this command takes home.
+abbrev pub TakesHomeOf : {S H : Type 0} → (List ℕ → S → H → H → Type 0) → Command → H → H → Type 0
+TakesHomeOf {S} Takes command before after = (uuid : List ℕ) × (child_returned command ≡ Some uuid) × (store : S)
+    × Takes uuid store before after
+
+-- It was asked for what a request asks to be made, or given back what it takes home, or neither.
+abbrev pub IsUsedFor : {S H : Type 0} → (List ℕ → H → H → Type 0) → (List ℕ → S → H → H → Type 0) → Request → H → H
+    → Type 0
+IsUsedFor Asks Takes q before after = AsksFor Asks (child_asked q.command) (λ child. ⊤) before after
+    ⊎ TakesHomeOf Takes q.command before after
+
+-- The same of a list of requests, in turn.
+abbrev pub IsUsedForEach : {S H : Type 0} → (List ℕ → H → H → Type 0) → (List ℕ → S → H → H → Type 0) → List Request → H
+    → H → Type 0
+IsUsedForEach {S} {H} Asks Takes [] before after = after ≡ before
+IsUsedForEach {S} {H} Asks Takes (q ∷ qs) before after = (between : H) × IsUsedFor Asks Takes q before between
+    × IsUsedForEach Asks Takes qs between after
 
 module _ {S : Type 0} (g : Ghosts S) where
   -- The package is of no world that it stood for, where each disk has given back what was written.
   abbrev pub IsNewTo : Seen S → Seen S → List ℕ → Type 0
   IsNewTo old new child = AllClean g new.members → (w : World) → StandsFor g old w → IsNoPackage w child
+
+  -- It is of no world that the request makes, where they have, those of the connections that left it too.
+  abbrev pub IsNoMoreOf : Request → Seen S → Seen S → List (Held S) → List ℕ → Type 0
+  IsNoMoreOf q old new gone uuid = AllClean g new.members → AreClean g gone → (w : World) → StandsFor g old w
+      → IsNoPackage (outcome w q).1 uuid
+
+  -- The request takes it home, and it is of no world after.
+  abbrev pub IsHomeBy : Request → Seen S → Seen S → List (Held S) → List ℕ → Type 0
+  IsHomeBy q old new gone uuid = (child_returned q.command ≡ Some uuid) × IsNoMoreOf q old new gone uuid
+
+  module _ {H : Type 0} (Takes : List ℕ → S → H → H → Type 0) where
+    -- A shelf was given back the store of this connection, as that of the package of this UUID. Where its disk has given
+    -- back what was written it had done so for the connection, and a crash leaves no more of it.
+    abbrev pub GivenBack : List ℕ → Held S → H → H → Type 0
+    GivenBack uuid conn before after = (store : S) × IsQuiet g.view g.faults g.recovers g.is_shielded conn.store store
+        × Takes uuid store before after
+
+    -- It was given back that of this connection, as that of the package of one of these members, of which this holds.
+    -- The connection is the member's, and its store was only read.
+    abbrev pub ComesHome : List (Member S) → (List ℕ → Type 0) → Held S → H → H → Type 0
+    ComesHome members Fact conn before after = (at : ℕ) × (member : Member S) × (slice_get members at ≡ Some member)
+        × Stays (state g member.conn) (state g conn) × GivenBack member.uuid conn before after × Fact member.uuid
+
+    -- It was given back those of these connections: of none, or of one.
+    abbrev pub ComeHome : List (Member S) → (List ℕ → Type 0) → List (Held S) → H → H → Type 0
+    ComeHome members Fact [] before after = after ≡ before
+    ComeHome members Fact (conn ∷ others) before after = (others ≡ []) × ComesHome members Fact conn before after
+
+  module _ {H : Type 0} (Asks : List ℕ → H → H → Type 0) (Takes : List ℕ → S → H → H → Type 0) where
+    -- It was asked as above, and given back nothing; or it was given back the store that came home, and asked for
+    -- nothing.
+    abbrev pub UsesFor : List (Member S) → Option (List ℕ) → (List ℕ → Type 0) → (List ℕ → Type 0) → List (Held S)
+        → H → H → Type 0
+    UsesFor members child New NoMore [] before after = AsksFor Asks child New before after
+    UsesFor members child New NoMore (store ∷ others) before after =
+        ComeHome Takes members NoMore (store ∷ others) before after
+
+    -- So it was used in the turn of a request, among members.
+    abbrev pub ServesWith : Frame → Request → List (Member S) → List (Member S) → List (List ℕ) → ℕ → List (Held S)
+        → H → H → Type 0
+    ServesWith f q old new known count gone before after = UsesFor old (child_asked q.command)
+        (λ child. AllClean g new → OfEachSeen g f known old count (λ w. IsNoPackage w child))
+        (λ uuid. (child_returned q.command ≡ Some uuid) × (AllClean g new → AreClean g gone
+        → OfEachSeen g f known old count (λ w. IsNoPackage (outcome w q).1 uuid))) gone before after
+
+    -- One step, with what the shelf was asked for and given back. So who keeps what the shelf was given has each
+    -- connection that left the world.
+    pub record IsStepWith (q : Request) (old : Seen S) (reply : Result Receipt Refusal) (new : Seen S)
+        (before after : H) : Type 0 where
+      pub step : IsStep g q old reply new
+      pub uses : UsesFor old.members (child_asked q.command) (IsNewTo old new) (IsHomeBy q old new step.gone)
+          step.gone before after
+
+    -- One step after the other, in which these connections left the world.
+    abbrev pub AreStepsWith : List Request → Seen S → List (Result Receipt Refusal) → Seen S → List (Held S)
+        → H → H → Type 0
+    AreStepsWith [] old [] new gone before after = (new ≡ old) × (gone ≡ []) × (after ≡ before)
+    AreStepsWith (q ∷ qs) old (reply ∷ replies) new gone before after = (mid : Seen S) × (between : H)
+        × (it : IsStepWith q old reply mid before between) × (later : List (Held S)) × (gone ≡ it.step.gone ++ later)
+        × AreStepsWith qs mid replies new later between after
+    AreStepsWith [] old (reply ∷ replies) new gone before after = ⊥
+    AreStepsWith (q ∷ qs) old [] new gone before after = ⊥
+
+    -- A run, with a shelf that had failed so often before and after, and what it was asked for and given back.
+    pub record IsRunWith (qs : List Request) (old : Seen S) (replies : List (Result Receipt Refusal)) (new : Seen S)
+        (failed fails : ℕ) (before after : H) : Type 0 where
+      pub run : IsRun g qs old replies new failed fails
+      pub uses : AreStepsWith qs old replies new run.gone before after

@@ -1,16 +1,15 @@
 //! One request over the members of a world: what it comes to is decided, and where a change is due it is carried out.
-ghost use Rattle.std.specs.Prelude.{◌≡◌, ◌⊎◌, ℕ, ◌≤◌, ◌<◌, ◌+◌, [], IsTrue, OnOk, length, vec_len, vec_capacity};
+ghost use Rattle.std.specs.Prelude.{◌≡◌, ◌⊎◌, ℕ, ◌≤◌, ◌<◌, ◌+◌, [], IsTrue, OnOk, IfSome, Some, length, vec_len, vec_capacity};
 ghost use Rattle.sheet_types.specs.Matrix.{is_good_frame};
 ghost use Rattle.sheet_types.specs.Refuse.{greatest_receipts};
 ghost use Rattle.world_decisions.specs.Deciding.{HasPlace};
 ghost use Rattle.world_members.specs.Members.{AllRest, AllClean};
-ghost use Rattle.world_changes.specs.Carries.{Carries, ServesAll, OfEachSeen};
+ghost use Rattle.world_changes.specs.Carries.{Carries, ServesAll, OfEachDue};
 ghost use Rattle.world.specs.Creating.{HasRoomFor};
 ghost use Rattle.world_loans.specs.Loans.{HasLendingPlace, HasReturnPlace, IsLent, IsReturned};
 ghost use Rattle.world_loans.specs.ServeFaults.{CountsShelf};
 ghost use Rattle.world.specs.Changes.{Changes};
-ghost use Rattle.world.specs.Asked.{AsksFor, IsNoPackage};
-ghost use Rattle.world_decisions.specs.Deciding.{child_asked};
+ghost use Rattle.world.specs.Asked.{ComeHome, HasUuidAt, IsNoPackage, ServesWith, child_returned};
 ghost use Rattle.world_decisions.specs.declared.deciding.Decision.TheVariants.{ChangeDue};
 
 use crate::noting::decide_and_note;
@@ -23,6 +22,7 @@ use sheet_types::refusal::Refusal;
 use sqlite::{Alter, Connection};
 use std::alloc::Global;
 use store_shelf::shelf::Shelf;
+use uuid::Uuid;
 use world_changes::merging::merge_at;
 use world_changes::splitting::{child_store, lend_and_place};
 use world_changes::turning::turn_at;
@@ -63,8 +63,8 @@ fn carry_out_split<S: Alter + Drop, H: Shelf<S>>(
     requires place { HasLendingPlace due (length members.old.items) count.old }
     requires none { strays.old.items ≡ [] }
     requires room { HasRoomFor members.old.items strays.old }
-    ensures carries { Carries S.Store (λ w next. (frame.now ≡ w.frame) × IsLent w next due) due.receipt
-        members.old.items members.new.items strays.new.items count.old count.new result }
+    ensures carries { (it : Carries S.Store (λ w next. (frame.now ≡ w.frame) × IsLent w next due) due.receipt
+        members.old.items members.new.items strays.new.items count.old count.new result) × (it.gone ≡ []) }
     ensures room { HasRoomFor members.new.items strays.new }
     ensures shelf { CountsShelf result (H.failures_of shelf.old) (H.failures_of shelf.new) }
     ensures clean { AllClean S.Store members.new.items → AllClean S.Store members.old.items }
@@ -77,22 +77,45 @@ fn carry_out_split<S: Alter + Drop, H: Shelf<S>>(
     Ok(receipt)
 }
 
-/// Carries out a merge that is due. The count of receipts goes on by the one that is entered.
-fn carry_out_merge<S: Alter + Drop>(
+/// The package that a command takes home, where the member at this place is its own.
+fn child_at<S: Alter + Drop>(members: &[Member<S>], at: usize, command: &Command) -> Option<Uuid>
+    requires { at < length members.now }
+    ensures { IfSome result (λ uuid. HasUuidAt members.now at uuid × (child_returned command.now ≡ Some uuid)) }
+{
+    let Command::Merge { child, .. } = command else {
+        return None;
+    };
+    let uuid = members[at].uuid;
+    if uuid == *child { Some(uuid) } else { None }
+}
+
+/// Carries out a merge that is due. The count of receipts goes on by the one that is entered. The child's store is given back after the commit: its package is live no more.
+///
+/// What a shelf takes back it may remove. So it is given the store of the package that the command names, and no other, even where a store told something false.
+fn carry_out_merge<S: Alter + Drop, H: Shelf<S>>(
     members: &mut Vec<Member<S>>,
     count: &mut u64,
+    shelf: &mut H,
+    command: &Command,
     due: Returning,
 ) -> Result<Receipt, ServeFault>
     requires rests { AllRest S.Store members.old.items }
     requires place { HasReturnPlace due (length members.old.items) count.old }
-    ensures carries { Carries S.Store (λ w next. IsReturned w next due) due.receipt
-        members.old.items members.new.items [] count.old count.new result }
+    ensures carries { (it : Carries S.Store (λ w next. IsReturned w next due) due.receipt
+        members.old.items members.new.items [] count.old count.new result)
+        × ComeHome S.Store H.takes members.old.items
+        (λ uuid. (child_returned command.now ≡ Some uuid)
+        × OfEachDue S.Store (λ w next. IsReturned w next due) members.old.items count.old (λ w next. IsNoPackage next uuid))
+        it.gone shelf.old shelf.new }
     ensures shorter { length members.new.items ≤ length members.old.items }
-    ensures shelf { (failures : ℕ) → CountsShelf result failures failures }
+    ensures shelf { CountsShelf result (H.failures_of shelf.old) (H.failures_of shelf.new) }
 {
-    // The child's connection is dropped here, and nothing is asked of it.
-    let (receipt, _child) = merge_at(members, due)?;
+    let Some(uuid) = child_at(members.as_slice(), due.from, command) else {
+        return Err(ServeFault::Turn(TurnFault::Before(Fault::StoreFault)));
+    };
+    let (receipt, child) = merge_at(members, due)?;
     *count = receipt.seq;
+    shelf.retire(uuid, child.into_store());
     Ok(receipt)
 }
 
@@ -130,13 +153,12 @@ pub(crate) fn serve<S: Alter + Drop, H: Shelf<S>>(
     requires counted { count.old ≤ greatest_receipts }
     requires none { strays.old.items ≡ [] }
     requires room { HasRoomFor members.old.items strays.old }
-    ensures serves { ServesAll S.Store frame.now request.now
-        members.old.items members.new.items strays.new.items known.old known.new count.old count.new result }
+    ensures serves { (it : ServesAll S.Store frame.now request.now
+        members.old.items members.new.items strays.new.items known.old known.new count.old count.new result)
+        × ServesWith S.Store H.asks H.takes frame.now request.now members.old.items members.new.items known.old count.old
+        it.gone shelf.old shelf.new }
     ensures room { HasRoomFor members.new.items strays.new }
     ensures shelf { CountsShelf result (H.failures_of shelf.old) (H.failures_of shelf.new) }
-    ensures asks { AsksFor H.asks (child_asked request.now.command)
-        (λ child. AllClean S.Store members.new.items → OfEachSeen S.Store frame.now known.old members.old.items count.old (λ w. IsNoPackage w child))
-        shelf.old shelf.new }
 {
     match decide_and_note(members, known, frame, *count, alloc, request)? {
         Decision::Answered(reply) => Ok(reply),
@@ -149,7 +171,7 @@ pub(crate) fn serve<S: Alter + Drop, H: Shelf<S>>(
             Ok(Ok(receipt))
         }
         Decision::MergeDue(due) => {
-            let receipt = carry_out_merge(members, count, due)?;
+            let receipt = carry_out_merge(members, count, shelf, &request.command, due)?;
             Ok(Ok(receipt))
         }
     }

@@ -12,8 +12,7 @@ ghost use Rattle.world_members.specs.Members.{AllRest, AllClean, AllOpen, AllMad
 ghost use Rattle.sheet_types.specs.declared.refusal.Refusal.TheVariants.{StoreFault};
 ghost use Rattle.sqlite_disk.specs.Disk.{MoreFaults};
 ghost use Rattle.world.specs.Worlds.{IsAccepted, IsHeld, IsRun, IsStep, LeavesNoTrace, StandsFor, StandsBeside, StandsStill, seen_of};
-ghost use Rattle.world.specs.Asked.{AsksFor, AsksForEach, IsNewTo};
-ghost use Rattle.world_decisions.specs.Deciding.{child_asked};
+ghost use Rattle.world.specs.Asked.{IsStepWith, IsRunWith};
 
 use crate::applying::serve;
 use crate::creating::{CreateFault, archive_alone};
@@ -141,7 +140,7 @@ impl<S: Alter + Drop> World<S> {
 
     /// Carries one request out, or tells why not. A request that comes again, with its line, gets the receipt that it got, and nothing is changed.
     ///
-    /// The shelf gives the store of the package that a split makes. It is asked for no other, once at most, and for none that a package of the world has.
+    /// The shelf gives the store of the package that a split makes. It is asked for no other, once at most, and for none that a package of the world has. After the commit of a merge it is given back the store of the child, and no other.
     ///
     /// # Errors
     ///
@@ -153,6 +152,7 @@ impl<S: Alter + Drop> World<S> {
         shelf: &mut H,
     ) -> Result<Receipt, Refusal>
         ensures step { IsStep S.Store request.now self.old result self.new }
+        ensures uses { IsStepWith S.Store H.asks H.takes request.now self.old result self.new shelf.old shelf.new }
         ensures still { StandsStill S.Store self.old result self.new }
         ensures unharmed { LeavesNoTrace S.Store self.old result self.new }
         ensures failed { self.old.has_failed ≡ true → (result ≡ Err StoreFault) × (self.new ≡ self.old) × (H.failures_of shelf.new ≡ H.failures_of shelf.old) }
@@ -162,7 +162,6 @@ impl<S: Alter + Drop> World<S> {
             → (H.failures_of shelf.new ≡ H.failures_of shelf.old)
             × ((result ≡ Err StoreFault) ⊎ IsAccepted S.Store request.now self.old self.new) }
         ensures shelf { H.failures_of shelf.old ≤ H.failures_of shelf.new }
-        ensures asks { AsksFor H.asks (child_asked request.now.command) (IsNewTo S.Store self.old self.new) shelf.old shelf.new }
         ensures unasked { self.old.has_failed ≡ true → shelf.new ≡ shelf.old }
     {
         if self.has_failed {
@@ -201,8 +200,9 @@ impl<S: Alter + Drop> World<S> {
         shelf: &mut H,
     ) -> Result<Vec<Result<Receipt, Refusal>>, OutOfMemory>
         ensures ran { IfOk result (λ replies. IsRun S.Store requests.now self.old replies.items self.new (H.failures_of shelf.old) (H.failures_of shelf.new)) }
+        ensures uses { IfOk result (λ replies. IsRunWith S.Store H.asks H.takes requests.now self.old replies.items self.new
+            (H.failures_of shelf.old) (H.failures_of shelf.new) shelf.old shelf.new) }
         ensures refused { OnErr result ((self.new ≡ self.old) × (H.failures_of shelf.new ≡ H.failures_of shelf.old)) }
-        ensures asks { IfOk result (λ replies. AsksForEach H.asks requests.now shelf.old shelf.new) }
         ensures unasked { OnErr result (shelf.new ≡ shelf.old) }
     {
         let mut replies = Vec::with_capacity(alloc, requests.len())?;

@@ -115,6 +115,7 @@ module _ {S : Type 0} (g : Ghosts S) (shuts : Shuts g) (settles : Settles g) (du
     pub merges_done : Merges g due old mid (Ok (due.receipt, last))
     merges_done = record {
       read = (due.from, child, place, stays, refl);
+      home = λ merged is. (child, place, let same : merged ≡ (due.receipt, last) = cc in subst (λ (m : Receipt × Held S). Stays (state g child.conn) (state g m.1)) (sym same) stays);
       survive = λ why is. absurd (let e = is in cc);
       rests = turn_at_rest g {E = E} Change due.sums due.receipt.seq rest_of mid into_at (Ok tt) it rest_rests;
       clean = λ clean gone. All-from_recursion Clean old (all_were Clean (recursion_from_All Clean rest_of (turn_was_clean g {E = E} Change due.sums due.receipt.seq rest_of mid into_at (Ok tt) it clean)) (omega (arith, stays.survives.clean, gone_clean gone)));
@@ -228,6 +229,7 @@ module _ {S : Type 0} (g : Ghosts S) (shuts : Shuts g) (settles : Settles g) (du
     pub merges_failed : ((x : Fault) → why ≡ Before x → LeavesNoMore g rest_of mid) → Merges g due old again (Err why)
     merges_failed unharmed = record {
       read = tt;
+      home = λ merged is. absurd (let e = is in cc);
       survive = λ other is. again_survive;
       rests = All-from_recursion Rest again (all_insert Rest mid due.from now_child stays.rests (recursion_from_All Rest mid (turn_at_rest g {E = TurnFault} Change due.sums due.receipt.seq rest_of mid into_at (Err why) it rest_rests)));
       clean = λ clean gone.

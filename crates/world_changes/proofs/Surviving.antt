@@ -36,7 +36,7 @@ zip_weaker P R f (x ∷ xs) [] zip = absurd zip
 zip_weaker P R f (x ∷ xs) (y ∷ ys) zip = (f x y zip.0, zip_weaker P R f xs ys zip.1)
 
 -- what stood at the same place of the list before
-zip_from : {X Y : Type 0} (R : X → Y → Type 0) (xs : List X) (ys : List Y) (at : ℕ) (y : Y) → AllZip R xs ys → slice_get ys at ≡ Some y → (x : X) × (slice_get xs at ≡ Some x) × R x y
+pub zip_from : {X Y : Type 0} (R : X → Y → Type 0) (xs : List X) (ys : List Y) (at : ℕ) (y : Y) → AllZip R xs ys → slice_get ys at ≡ Some y → (x : X) × (slice_get xs at ≡ Some x) × R x y
 zip_from R [] [] at y zip place = absurd (let e = place in cc)
 zip_from R (x ∷ xs) [] at y zip place = absurd zip
 zip_from R [] (z ∷ ys) at y zip place = absurd zip

@@ -1,9 +1,10 @@
 -- What a merge makes of the members of a world. Profile.
-use Rattle.std.specs.Prelude.{◌≡◌, ℕ, ◌+◌, List, [], ◌∷◌, map, length, Result, Ok, Err, IfOk}
-use Rattle.sqlite.specs.Held.{Held}
+use Rattle.std.specs.Prelude.{◌≡◌, ℕ, ◌+◌, List, [], ◌∷◌, map, length, Some, slice_get, Result, Ok, Err, IfOk}
+use Rattle.sqlite.specs.Held.{Held, state}
 use Rattle.sqlite.specs.Store.{Ghosts}
 use Rattle.sheet_types.specs.World.{World}
 use Rattle.sheet_types.specs.declared.receipt.Receipt.{Receipt}
+use Rattle.store_sql.specs.Staying.{Stays}
 use Rattle.world_changes.specs.Leaving.{AllSurvive, AreClean, AreBeside, LeavesOneOf, WereRead}
 use Rattle.world_loans.specs.Loans.{IsReturned}
 use Rattle.world_members.specs.Members.{AllRest, AllClean, AllOpen, AreMembers}
@@ -29,6 +30,9 @@ module _ {S : Type 0} (g : Ghosts S) where
     pub opens : AllClean g new → AreClean g (left_by r) → IfOk r (λ merged. AllOpen g old → AllOpen g new)
     -- the child's store was only read
     pub read : WereRead g old (left_by r)
+    -- and is that of the member which was to leave
+    pub home : (merged : Receipt × Held S) → r ≡ Ok merged → (member : Member S)
+        × (slice_get old due.from ≡ Some member) × Stays (state g member.conn) (state g merged.1)
     -- what a crash leaves of the child is beside the world after
     pub beside : (merged : Receipt × Held S) → r ≡ Ok merged → (w next : World) (count : ℕ) → AreMembers g old count w
         → IsReturned w next due → AllOpen g old → AreBeside g w.frame next.packages (left_by r)

@@ -1,13 +1,13 @@
 -- The header goes out, and then the lines.
 use Rattle.std.proofs.Common.{◌∙◌, arith, length, refl, sym, subst}
 use Rattle.std.specs.Io.KnownBytes.{Appends}
-use Rattle.manifest_csv.specs.Imports.{AsksOf, Imports}
+use Rattle.manifest_csv.specs.Imports.{UsesOf, Imports}
 use Rattle.manifest_csv.specs.Progress.{IsTold}
 use Rattle.manifest_csv.specs.Reports.{report_header}
 use Rattle.manifest_csv.specs.Sent.{WentOut}
 use Rattle.manifest_csv.specs.declared.importing.ImportFault.TheVariants.{Unwritten}
 use Rattle.world.proofs.ChangesMade.{turned_into}
-use Rattle.manifest_csv.proofs.Asking.{asks_all, asks_of}
+use Rattle.manifest_csv.proofs.Asking.{uses_all, uses_of}
 use Rattle.manifest_csv.proofs.ImportFacts.{after_header, header_unwritten, imported}
 use Rattle.manifest_csv.proofs.ProgressFacts.{nothing_told, told_of}
 use Rattle.manifest_csv.proofs.importing.carry_out.Goals as goal
@@ -36,11 +36,11 @@ pub returns-clause-told : goal.returns-clause-told
 returns-clause-told g c = λ text list.
     told_of text c.args.requests.now (g.T.Teller.told c.args.teller.now) (g.T.Teller.told c.report_each.new.teller) c.report_each.result list c.report_each.ensures.told
 
-pub returns-in_err-send-clause-asks : goal.returns-in_err-send-clause-asks
-returns-in_err-send-clause-asks g c = λ text list.
-    subst (AsksOf g.H.Shelf.asks text c.args.shelf.now c.args.shelf.now) (sym (turned_into c.from_residual.result Unwritten c.from_residual.ensures.1))
-    (c.args.requests.now, list, asks_all g.H.Shelf.asks 0 c.args.requests.now c.args.shelf.now c.args.shelf.now refl)
+pub returns-in_err-send-clause-uses : goal.returns-in_err-send-clause-uses
+returns-in_err-send-clause-uses g c = λ text list.
+    subst (UsesOf g.H.Shelf.asks g.H.Shelf.takes text c.args.shelf.now c.args.shelf.now) (sym (turned_into c.from_residual.result Unwritten c.from_residual.ensures.1))
+    (c.args.requests.now, list, uses_all g.H.Shelf.asks g.H.Shelf.takes 0 c.args.requests.now c.args.shelf.now c.args.shelf.now refl)
 
-pub returns-clause-asks : goal.returns-clause-asks
-returns-clause-asks g c = λ text list.
-    asks_of g.H.Shelf.asks g.S.Store text c.args.requests.now c.args.world.now c.report_each.new.world (g.H.Shelf.failures_of c.args.shelf.now) (g.H.Shelf.failures_of c.report_each.new.shelf) (g.W.Write.contents c.send.new.writer) (g.W.Write.contents c.report_each.new.writer) c.args.shelf.now c.report_each.new.shelf c.report_each.result list c.report_each.ensures.reported c.report_each.ensures.asks
+pub returns-clause-uses : goal.returns-clause-uses
+returns-clause-uses g c = λ text list.
+    uses_of g.H.Shelf.asks g.H.Shelf.takes g.S.Store text c.args.requests.now c.args.world.now c.report_each.new.world (g.H.Shelf.failures_of c.args.shelf.now) (g.H.Shelf.failures_of c.report_each.new.shelf) (g.W.Write.contents c.send.new.writer) (g.W.Write.contents c.report_each.new.writer) c.args.shelf.now c.report_each.new.shelf c.report_each.result list c.report_each.ensures.reported c.report_each.ensures.uses

@@ -11,6 +11,6 @@ pub returns-clause-told : goal.returns-clause-told
 returns-clause-told g c =
     c.carry_out.ensures.told (g.R.Read.remaining c.args.reader) (subst (λ qs. IfSome (g.R.Read.remaining c.args.reader) (λ t. IsList t qs)) (sym c.as_slice.ensures.value) c.in_ok-requests.ensures.list)
 
-pub returns-clause-asks : goal.returns-clause-asks
-returns-clause-asks g c =
-    c.carry_out.ensures.asks (g.R.Read.remaining c.args.reader) (subst (λ qs. IfSome (g.R.Read.remaining c.args.reader) (λ t. IsList t qs)) (sym c.as_slice.ensures.value) c.in_ok-requests.ensures.list)
+pub returns-clause-uses : goal.returns-clause-uses
+returns-clause-uses g c =
+    c.carry_out.ensures.uses (g.R.Read.remaining c.args.reader) (subst (λ qs. IfSome (g.R.Read.remaining c.args.reader) (λ t. IsList t qs)) (sym c.as_slice.ensures.value) c.in_ok-requests.ensures.list)

@@ -7,25 +7,25 @@ use Rattle.world_members.specs.Members.{AllOpen, AllClean, AllStay, AreMembers}
 use Rattle.world_changes.specs.Splits.{Splits}
 use Rattle.register_lending.specs.declared.turn_fault.TurnFault.TheVariants.{Before}
 use Rattle.world_loans.specs.declared.loans.ServeFault.TheVariants.{Turn}
-use Rattle.world.proofs.CarriedOut.{carries_unbegun, carries_lent, carries_unlent}
+use Rattle.world.proofs.CarriedOut.{unkept, carries_unbegun, carries_lent, carries_unlent}
 use Rattle.world.proofs.ChangesMade.{turned_into}
 use Rattle.world_changes.proofs.Lent.{none_beside}
 use Rattle.world_members.proofs.Standing.{all_still, stay_length, clean_before}
 use Rattle.world.proofs.applying.carry_out_split.Goals as goal
 
 pub returns-in_err-make_room-clause-carries : goal.returns-in_err-make_room-clause-carries
-returns-in_err-make_room-clause-carries g c =
-    subst (Carries g.S.Store (λ w next. (c.args.frame.now ≡ w.frame) × IsLent w next c.args.due) c.args.due.receipt c.args.members.now.items c.make_room.new.members.items c.make_room.new.strays.items c.args.count.now c.args.count.now) (sym (turned_into _ _ c.from_residual.ensures.1))
+returns-in_err-make_room-clause-carries g c = unkept g.S.Store (turned_into _ _ c.from_residual.ensures.1)
+    (subst (Carries g.S.Store (λ w next. (c.args.frame.now ≡ w.frame) × IsLent w next c.args.due) c.args.due.receipt c.args.members.now.items c.make_room.new.members.items c.make_room.new.strays.items c.args.count.now c.args.count.now) (sym (turned_into _ _ c.from_residual.ensures.1))
     (subst (λ ms. Carries g.S.Store (λ w next. (c.args.frame.now ≡ w.frame) × IsLent w next c.args.due) c.args.due.receipt c.args.members.now.items ms c.make_room.new.strays.items c.args.count.now c.args.count.now (Err (Turn (Before c.in_err-make_room.field-0.0)))) (sym c.make_room.ensures.members)
     (carries_unbegun g.S.Store g.met.S.Store.shut_if_dirty g.met.S.Store.settled _ c.args.due.receipt c.args.members.now.items c.args.members.now.items c.make_room.new.strays.items c.args.count.now (Turn (Before c.in_err-make_room.field-0.0)) (c.make_room.ensures.strays ∙ c.requires.none) c.requires.rests c.requires.rests
-    (all_still g.S.Store g.met.S.Store.shut_if_dirty g.met.S.Store.settled c.args.members.now.items c.requires.rests) tt [] (omega arith) (λ clean w next are is_due was. none_beside g.S.Store w.frame w.packages)))
+    (all_still g.S.Store g.met.S.Store.shut_if_dirty g.met.S.Store.settled c.args.members.now.items c.requires.rests) tt [] (omega arith) (λ clean w next are is_due was. none_beside g.S.Store w.frame w.packages))))
 
 pub returns-in_err-child-clause-carries : goal.returns-in_err-child-clause-carries
 returns-in_err-child-clause-carries g c =
     let stay : AllStay g.S.Store c.args.members.now.items c.child_store.new.members.items = subst (λ ms. AllStay g.S.Store ms c.child_store.new.members.items) c.make_room.ensures.members c.child_store.ensures.stay in
-    subst (Carries g.S.Store (λ w next. (c.args.frame.now ≡ w.frame) × IsLent w next c.args.due) c.args.due.receipt c.args.members.now.items c.child_store.new.members.items c.make_room.new.strays.items c.args.count.now c.args.count.now) (sym (turned_into _ _ c.from_residual-in_err-child.ensures.1))
+    unkept g.S.Store (turned_into _ _ c.from_residual-in_err-child.ensures.1) (subst (Carries g.S.Store (λ w next. (c.args.frame.now ≡ w.frame) × IsLent w next c.args.due) c.args.due.receipt c.args.members.now.items c.child_store.new.members.items c.make_room.new.strays.items c.args.count.now c.args.count.now) (sym (turned_into _ _ c.from_residual-in_err-child.ensures.1))
     (carries_unbegun g.S.Store g.met.S.Store.shut_if_dirty g.met.S.Store.settled _ c.args.due.receipt c.args.members.now.items c.child_store.new.members.items c.make_room.new.strays.items c.args.count.now _ (c.make_room.ensures.strays ∙ c.requires.none) c.requires.rests c.child_store.ensures.rests stay c.in_err-child.ensures.early
-    c.in_err-child.ensures.dropped.left_over c.in_err-child.ensures.dropped.few (λ clean w next are is_due was. c.in_err-child.ensures.dropped.beside clean w next c.args.count.now is_due.0 (subst (λ ms. AreMembers g.S.Store ms c.args.count.now w) (sym c.make_room.ensures.members) are) is_due.1 (subst (AllOpen g.S.Store) (sym c.make_room.ensures.members) was)))
+    c.in_err-child.ensures.dropped.left_over c.in_err-child.ensures.dropped.few (λ clean w next are is_due was. c.in_err-child.ensures.dropped.beside clean w next c.args.count.now is_due.0 (subst (λ ms. AreMembers g.S.Store ms c.args.count.now w) (sym c.make_room.ensures.members) are) is_due.1 (subst (AllOpen g.S.Store) (sym c.make_room.ensures.members) was))))
 
 pub returns-in_err-child-clause-room : goal.returns-in_err-child-clause-room
 returns-in_err-child-clause-room g c = omega (arith, c.make_room.ensures.still, stay_length g.S.Store _ _ c.child_store.ensures.stay)
@@ -45,11 +45,11 @@ lend_and_place-requires-clause-room g c =
 pub returns-in_err-receipt-clause-carries : goal.returns-in_err-receipt-clause-carries
 returns-in_err-receipt-clause-carries g c =
     let stay : AllStay g.S.Store c.args.members.now.items c.child_store.new.members.items = subst (λ ms. AllStay g.S.Store ms c.child_store.new.members.items) c.make_room.ensures.members c.child_store.ensures.stay in
-    subst (Carries g.S.Store (λ w next. (c.args.frame.now ≡ w.frame) × IsLent w next c.args.due) c.args.due.receipt c.args.members.now.items c.lend_and_place.new.members.items c.lend_and_place.new.strays.items c.args.count.now c.args.count.now) (sym (turned_into _ _ c.from_residual-in_err-receipt.ensures.1))
+    unkept g.S.Store (turned_into _ _ c.from_residual-in_err-receipt.ensures.1) (subst (Carries g.S.Store (λ w next. (c.args.frame.now ≡ w.frame) × IsLent w next c.args.due) c.args.due.receipt c.args.members.now.items c.lend_and_place.new.members.items c.lend_and_place.new.strays.items c.args.count.now c.args.count.now) (sym (turned_into _ _ c.from_residual-in_err-receipt.ensures.1))
     (carries_unlent g.S.Store g.met.S.Store.shut_if_dirty g.met.S.Store.settled c.args.frame.now c.args.due c.in_ok-child.child c.args.members.now.items c.child_store.new.members.items c.lend_and_place.new.members.items c.lend_and_place.new.strays.items c.args.count.now c.requires.rests stay
     (λ clean was. c.in_ok-child.ensures.opens clean (subst (AllOpen g.S.Store) (sym c.make_room.ensures.members) was)) c.in_ok-child.ensures.child c.in_ok-child.ensures.is_open
     (λ clean w next count same are lent. c.in_ok-child.ensures.keeps clean w next count same (subst (λ ms. AreMembers g.S.Store ms count w) (sym c.make_room.ensures.members) are) lent) c.in_err-receipt.field-0.0
-    (subst (λ ss. Splits g.S.Store c.args.due c.in_ok-child.child c.child_store.new.members.items c.lend_and_place.new.members.items ss c.lend_and_place.new.strays.items (Err c.in_err-receipt.field-0.0)) (c.make_room.ensures.strays ∙ c.requires.none) c.in_err-receipt.ensures.splits))
+    (subst (λ ss. Splits g.S.Store c.args.due c.in_ok-child.child c.child_store.new.members.items c.lend_and_place.new.members.items ss c.lend_and_place.new.strays.items (Err c.in_err-receipt.field-0.0)) (c.make_room.ensures.strays ∙ c.requires.none) c.in_err-receipt.ensures.splits)))
 
 pub returns-clause-carries : goal.returns-clause-carries
 returns-clause-carries g c =
