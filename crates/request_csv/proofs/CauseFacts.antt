@@ -1,17 +1,15 @@
 -- What is told of a cause, and the records before it.
-use Rattle.std.proofs.Common.{◌≡◌, ◌≢◌, ◌⊎◌, ◌<◌, ◌+◌, ◌++◌, ◌∙◌, ℕ, zero, suc, List, [], ◌∷◌, Some, length, get_or, ap, refl, subst, sym, inl, inr, arith}
+use Rattle.std.proofs.Common.{◌≡◌, ◌<◌, ◌+◌, ◌++◌, ◌∙◌, ℕ, zero, suc, List, [], ◌∷◌, Some, length, get_or, ap, refl, subst, sym, inl, inr, arith}
 use Rattle.std.specs.Prelude.{⊤}
 use Rattle.std.specs.List.{AllZip}
-use Rattle.csv.specs.Records.{AllText, field_at}
+use Rattle.csv.specs.Records.{field_at}
 use Rattle.sheet_types.specs.declared.command.Request.{Request}
-use Rattle.request_csv.specs.Causes.{CauseIsMetFirst, IsCauseFrom, IsCauseOf, IsHeaderFault, IsRecordFault, read_fault}
-use Rattle.request_csv.specs.Forms.{IsColumnAtFault, MeetFrom, MeetsAt, column_name, header_wants}
+use Rattle.request_csv.specs.Causes.{CauseIsMetFirst, IsCauseFrom, IsCauseOf, read_fault}
+use Rattle.request_csv.specs.Forms.{IsColumnAtFault, MeetFrom, MeetsAt, header_wants}
 use Rattle.request_csv.specs.Requests.{header}
-use Rattle.request_csv.specs.RequestLists.{AreList, Asks, IsFaultFrom, IsFaultOf, IsReadable}
-use Rattle.request_csv.specs.declared.causes.RecordFault.{RecordFault}
+use Rattle.request_csv.specs.RequestLists.{Asks, IsFaultFrom, IsFaultOf}
 use Rattle.request_csv.specs.declared.causes.RecordFault.TheVariants.{NoText, FieldCount, Column}
 use Rattle.request_csv.specs.declared.causes.ListFault.{ListFault}
-use Rattle.request_csv.specs.declared.causes.ListFault.TheVariants as cause
 use Rattle.request_csv.specs.declared.forms.ColumnFault.{ColumnFault}
 use Rattle.request_csv.specs.declared.forms.Want.{Want}
 use Rattle.request_csv.specs.declared.forms.Want.TheVariants.{ItsName}

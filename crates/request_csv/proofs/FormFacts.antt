@@ -1,17 +1,11 @@
 -- What a form wants is what a request is: where all columns are met there is one, and where one is not there is none.
-use Rattle.std.proofs.Common.{◌≡◌, ◌⊎◌, ◌<◌, ◌+◌, ℕ, ℤ, zero, suc, Bor, List, [], ◌∷◌, Some, map, length, get_or, take, codes, ap, refl, sym, ◌∙◌, inl, inr, arith}
+use Rattle.std.proofs.Common.{◌≡◌, ◌<◌, ◌+◌, ℕ, zero, suc, Bor, List, [], ◌∷◌, map, length, get_or, take, codes, ap, refl, sym, ◌∙◌, inl, inr, arith}
 use Rattle.std.proofs.lemmas.List.{get_or-map}
 use Rattle.std.specs.Prelude.{⊤}
 use Rattle.sheet_types.specs.Texts.{kind_word}
-use Rattle.sheet_types.specs.Step.{relation}
-use Rattle.sheet_types.specs.declared.command.Command.{Command}
 use Rattle.sheet_types.specs.declared.command.Command.TheVariants.{Add, Delete, Link, Unlink, Split, Merge}
-use Rattle.sheet_types.specs.declared.command.Content.{Content}
 use Rattle.sheet_types.specs.declared.command.Content.TheVariants.{Tile, Media, Row}
-use Rattle.sheet_types.specs.declared.command.Mapping.{Mapping}
-use Rattle.sheet_types.specs.declared.command.Mode.{Mode}
 use Rattle.sheet_types.specs.declared.command.Request.{Request}
-use Rattle.sheet_types.specs.declared.frame.Rect.{Rect}
 use Rattle.sheet_types.specs.declared.receipt.MovedKind.TheVariants.{TileItem, MediaItem, RowItem}
 use Rattle.request_csv.specs.Requests.{AreEmpty, IsRequest, IsTextAt}
 use Rattle.request_csv.specs.Forms.{FaultAsksNothing, IsFirstUnmet, IsForm, MeetFrom, MeetsAt, columns_of}

@@ -1,5 +1,5 @@
 -- Words that a column has, as those of some command or some content.
-use Rattle.std.proofs.Common.{◌≡◌, ℕ, ℤ, pos, zero, List, [], Bool, true, IsTrue, Option, Some, None, IfSome, IfNone, is_some}
+use Rattle.std.proofs.Common.{◌≡◌, ℕ, pos, List, [], Bool, true, IsTrue, Option, Some, None, IfSome, IfNone, is_some}
 use Rattle.sheet_types.specs.Texts.{kind_of, kind_word}
 use Rattle.sheet_types.specs.declared.command.Command.{Command}
 use Rattle.sheet_types.specs.declared.command.Command.TheVariants.{Add, Delete, Link, Unlink, Split, Merge}

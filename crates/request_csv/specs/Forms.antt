@@ -1,5 +1,5 @@
 -- What each column of a record has to be, by the words of its command and its kind, and the first column that is not (profile).
-use Rattle.std.specs.Prelude.{◌≡◌, ◌⊎◌, ℕ, ℤ, suc, List, [], ◌∷◌, ⊤, length, codes, get_or}
+use Rattle.std.specs.Prelude.{◌≡◌, ◌⊎◌, ℕ, ℤ, suc, List, [], ◌∷◌, ⊤, codes, get_or}
 use Rattle.sheet_types.specs.Texts.{kind_of, kind_word, mapping_word, mode_word}
 use Rattle.sheet_types.specs.declared.command.Command.{Command}
 use Rattle.sheet_types.specs.declared.command.Content.{Content}

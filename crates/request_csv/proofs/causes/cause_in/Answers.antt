@@ -1,8 +1,7 @@
 -- Each record that is a request is one more; the first that is none is the cause of the whole list.
-use Rattle.std.proofs.Common.{◌≡◌, ◌+◌, ◌++◌, ◌∷◌, ◌∙◌, [], None, ap, length, map, refl, inl, arith, rules}
+use Rattle.std.proofs.Common.{◌≡◌, ◌+◌, ◌++◌, ◌∷◌, [], None, ap, length, map, refl, inl, arith, rules}
 use Rattle.std.proofs.lemmas.List.{append_assoc, length-map, length-append, map-append}
 use Rattle.std.proofs.lemmas.Slice.Zip.{all_zipped_more}
-use Rattle.std.specs.List.{AllZip}
 use Rattle.std.specs.Vec.Iter.{into_iter_items}
 use Rattle.csv.specs.Records.{fields_of}
 use Rattle.request_csv.specs.RequestLists.{Asks}

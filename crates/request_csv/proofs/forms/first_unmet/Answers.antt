@@ -1,5 +1,5 @@
 -- A column that is met is one more; one that is not is the first.
-use Rattle.std.proofs.Common.{◌≡◌, ◌<◌, ◌+◌, suc, length, false, refl, arith, rules, slice_index_or}
+use Rattle.std.proofs.Common.{◌≡◌, ◌<◌, ◌+◌, suc, length, refl, arith, rules, slice_index_or}
 use Rattle.csv.specs.Records.{fields_of}
 use Rattle.request_csv.specs.Forms.{MeetsAt}
 use Rattle.request_csv.specs.declared.forms.Want.TheVariants.{ItsName}

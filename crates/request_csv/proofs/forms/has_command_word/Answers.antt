@@ -1,5 +1,5 @@
 -- A word of a command is the word of one.
-use Rattle.std.proofs.Common.{[], codes, true, IsTrue}
+use Rattle.std.proofs.Common.{codes}
 use Rattle.csv.specs.Records.{field_at, fields_of}
 use Rattle.request_csv.proofs.OneWord.{is_word}
 use Rattle.request_csv.proofs.WordFacts.{met_by, an_addition, a_deletion, a_link, an_unlink, a_split, a_merge}
