@@ -16,6 +16,7 @@ begin "$@"
 each worked_lists - "$torture/worked_lists.py" "$program"
 if [ "$quick" = 1 ]; then lists=(1 4 1000 100); else lists=(1 12 3000 300); fi
 each random_lists - "$torture/compare_with_reference.py" "${lists[@]}"
+each list_faults - "$torture/list_faults.py" --program "$program"
 
 # A folder and a desk, beside other programs.
 each session 'curl sqlite3' "$torture/folder_session.sh"

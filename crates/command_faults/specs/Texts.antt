@@ -1,11 +1,17 @@
 -- What standard error is told of a fault or of a refusal, behind the line of its name. Profile.
-use Rattle.std.specs.Prelude.{ℕ, List, [], ◌++◌, codes, decimal}
+use Rattle.std.specs.Prelude.{◌≡◌, ℕ, List, [], ◌∷◌, ◌++◌, codes, decimal, get_or}
 use Rattle.sheet_types.specs.Refusals.{refusal_name, refusal_number}
 use Rattle.sheet_types.specs.Texts.{uuid_text}
 use Rattle.sheet_types.specs.declared.refusal.Refusal.{Refusal}
 use Rattle.sheet_types.specs.declared.refusal.Refusal.TheVariants as refusal
 use Rattle.opening_faults.specs.declared.faults.RecoverFault.{RecoverFault}
 use Rattle.opening_faults.specs.declared.faults.RecoverFault.TheVariants.{NoArchive, TwoArchives, NotAPackage, TwoCopies, MissingPackage, ForeignFrame, Dangling, OutOfAccount, Altered, OutOfMemory, StoreFault}
+use Rattle.request_csv.specs.Forms.{column_name}
+use Rattle.request_csv.specs.declared.causes.ListFault.{ListFault}
+use Rattle.request_csv.specs.declared.causes.ListFault.TheVariants as cause
+use Rattle.request_csv.specs.declared.causes.RecordFault.TheVariants.{NoText, FieldCount, Column}
+use Rattle.request_csv.specs.declared.forms.Want.{Want}
+use Rattle.request_csv.specs.declared.forms.Want.TheVariants.{ItsName, Anything, Identity, Number, Hexadecimal, Nothing, CommandWord, KindWord, MappingWord, ModeWord}
 use Rattle.request_csv.specs.declared.lists.ReadFault.{ReadFault}
 use Rattle.request_csv.specs.declared.lists.ReadFault.TheVariants.{Header, Record, Read, Memory}
 
@@ -40,16 +46,66 @@ list_text (Record n) = codes "list: record " ++ (decimal n ++ codes " is no requ
 list_text Read = codes "list: it cannot be read to its end, or a record has not eighteen fields of UTF-8"
 list_text Memory = []
 
+-- what a column is not
+abbrev pub want_text : Want → List ℕ
+want_text ItsName = codes " is not its name"
+want_text Anything = codes " is not there"
+want_text Identity = codes " is no UUID"
+want_text Number = codes " is no number"
+want_text Hexadecimal = codes " is not hexadecimal, two digits a byte"
+want_text Nothing = codes " is not empty"
+want_text CommandWord = codes " is none of add, delete, link, unlink, split, merge"
+want_text KindWord = codes " is none of tile, media, row"
+want_text MappingWord = codes " is none of tiles_media, rows_media, rows_tiles"
+want_text ModeWord = codes " is none of strict, follow"
+
+-- why a text is no list: which record, and which column
+abbrev pub cause_text : ListFault → List ℕ
+cause_text cause.NoRecord = codes "list: it has no record"
+cause_text (cause.Header NoText) = codes "list: the header is no UTF-8"
+cause_text (cause.Header (FieldCount count)) = codes "list: the header has " ++ (decimal count ++ codes " fields, not 18")
+cause_text (cause.Header (Column fault)) =
+    codes "list: the header has another name in place of '" ++ (column_name fault.column ++ codes "'")
+cause_text (cause.Record n NoText) = codes "list: record " ++ (decimal n ++ codes " is no UTF-8")
+cause_text (cause.Record n (FieldCount count)) =
+    codes "list: record " ++ (decimal n ++ (codes " has " ++ (decimal count ++ codes " fields, not 18")))
+cause_text (cause.Record n (Column fault)) =
+    codes "list: record " ++ (decimal n ++ (codes ": column '" ++ (column_name fault.column ++ (codes "'" ++ want_text fault.want))))
+
 -- ---- refusals
 
 -- what a refusal carries
 abbrev pub carried : Refusal → List ℕ
-carried (refusal.CutLink uuid) = codes ": item " ++ uuid_text uuid
+carried (refusal.CutLink uuid) = codes ": item " ++ (uuid_text uuid ++ codes " is linked with an item that stays")
 carried (refusal.Stale ticket) = codes ": the last receipt is " ++ decimal ticket
-carried (refusal.LoanOpen uuid) = codes ": loan " ++ uuid_text uuid
-carried (refusal.Collides uuid) = codes ": tile " ++ uuid_text uuid
+carried (refusal.LoanOpen uuid) = codes ": loan " ++ (uuid_text uuid ++ codes " is not home")
+carried (refusal.Collides uuid) = codes ": the place of tile " ++ (uuid_text uuid ++ codes " is taken")
 carried why = []
 
 abbrev pub refusal_text : Refusal → List ℕ
 refusal_text why =
     codes "refusal " ++ (decimal (refusal_number why) ++ (codes " " ++ (refusal_name why ++ carried why)))
+
+-- the names of the reasons by their numbers, of which there is none with 0
+abbrev pub reason_names : List (List ℕ)
+reason_names = [] ∷ codes "IdReused" ∷ codes "UnknownPackage" ∷ codes "PackageUsed" ∷ codes "BadText" ∷ codes "TooLarge"
+    ∷ codes "IdentityUsed" ∷ codes "UnknownItem" ∷ codes "WrongKind" ∷ codes "BadPlace" ∷ codes "OutOfFrame"
+    ∷ codes "PlaceTaken" ∷ codes "LinkThere" ∷ codes "UnknownLink" ∷ codes "Linked" ∷ codes "BadRectangle"
+    ∷ codes "TooDeep" ∷ codes "NothingToLend" ∷ codes "CutLink" ∷ codes "Foreign" ∷ codes "Stale"
+    ∷ codes "LoanOpen" ∷ codes "Collides" ∷ codes "TooMany" ∷ codes "OutOfMemory" ∷ codes "StoreFault" ∷ []
+
+abbrev pub reason_name : ℕ → List ℕ
+reason_name number = get_or reason_names number []
+
+-- each reason has its name there
+abbrev pub ReasonsAreNamed : Type 0
+ReasonsAreNamed = (why : Refusal) → reason_name (refusal_number why) ≡ refusal_name why
+
+-- the refusal of a record of a list, as far as its report tells it
+abbrev pub refused_text : ℕ → ℕ → List ℕ
+refused_text record_number number =
+    codes "record " ++ (decimal record_number ++ (codes ": refusal " ++ (decimal number ++ (codes " " ++ reason_name number))))
+
+-- how many more there are
+abbrev pub more_text : ℕ → List ℕ
+more_text count = codes "and " ++ (decimal count ++ codes " more")

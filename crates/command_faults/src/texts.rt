@@ -1,8 +1,10 @@
 //! The texts, each without the end of a line.
-ghost use Rattle.std.specs.Prelude.{◌≡◌, ◌++◌, IfOk, string_bytes};
-ghost use Rattle.command_faults.specs.Texts.{carried, fault_text, list_text, refusal_text};
+ghost use Rattle.std.specs.Prelude.{◌≡◌, IfOk, string_bytes};
+ghost use Rattle.command_faults.specs.Texts.{ReasonsAreNamed, carried, cause_text, fault_text, list_text, more_text, reason_name, refusal_text, refused_text, want_text};
 
 use opening_faults::faults::RecoverFault;
+use request_csv::causes::{ListFault, RecordFault};
+use request_csv::forms::{Want, column_name, name_in};
 use request_csv::lists::ReadFault;
 use sheet_types::refusal::Refusal;
 use std::alloc::{AllocError, Global};
@@ -78,19 +80,70 @@ pub fn list_text(alloc: Global, fault: ReadFault) -> Result<String, AllocError>
     }
 }
 
-/// Puts what a refusal carries behind a text.
-fn put_carried(text: &mut String, alloc: Global, why: &Refusal) -> Result<(), AllocError>
-    ensures { IfOk result (λ _. string_bytes text.new ≡ string_bytes text.old ++ carried why.now) }
+/// What a column is not, behind its name.
+fn want_text(want: Want) -> &'static str
+    ensures { result.now ≡ want_text want }
 {
-    let more = match why {
-        Refusal::CutLink(id) => format!(in alloc; ": item {id}")?,
-        Refusal::Stale(ticket) => format!(in alloc; ": the last receipt is {ticket}")?,
-        Refusal::LoanOpen(id) => format!(in alloc; ": loan {id}")?,
-        Refusal::Collides(id) => format!(in alloc; ": tile {id}")?,
-        _ => return Ok(()),
-    };
-    text.push_str(more.as_str())?;
-    Ok(())
+    match want {
+        Want::ItsName => " is not its name",
+        Want::Anything => " is not there",
+        Want::Identity => " is no UUID",
+        Want::Number => " is no number",
+        Want::Hexadecimal => " is not hexadecimal, two digits a byte",
+        Want::Nothing => " is not empty",
+        Want::CommandWord => " is none of add, delete, link, unlink, split, merge",
+        Want::KindWord => " is none of tile, media, row",
+        Want::MappingWord => " is none of tiles_media, rows_media, rows_tiles",
+        Want::ModeWord => " is none of strict, follow",
+    }
+}
+
+/// Why a text is no list: which record is at fault, and which of its columns.
+///
+/// # Errors
+///
+/// Want of memory.
+pub fn cause_text(alloc: Global, cause: ListFault) -> Result<String, AllocError>
+    ensures { IfOk result (λ text. string_bytes text ≡ cause_text cause) }
+{
+    match cause {
+        ListFault::NoRecord => String::from_str(alloc, "list: it has no record"),
+        ListFault::Header(RecordFault::NoText) => {
+            String::from_str(alloc, "list: the header is no UTF-8")
+        }
+        ListFault::Header(RecordFault::FieldCount(count)) => {
+            format!(in alloc; "list: the header has {count} fields, not 18")
+        }
+        ListFault::Header(RecordFault::Column(fault)) => {
+            let name = column_name(fault.column);
+            format!(in alloc; "list: the header has another name in place of '{name}'")
+        }
+        ListFault::Record(number, RecordFault::NoText) => {
+            format!(in alloc; "list: record {number} is no UTF-8")
+        }
+        ListFault::Record(number, RecordFault::FieldCount(count)) => {
+            format!(in alloc; "list: record {number} has {count} fields, not 18")
+        }
+        ListFault::Record(number, RecordFault::Column(fault)) => {
+            let (name, what) = (column_name(fault.column), want_text(fault.want));
+            format!(in alloc; "list: record {number}: column '{name}'{what}")
+        }
+    }
+}
+
+/// What a refusal carries, behind its name.
+fn carried_text(alloc: Global, why: &Refusal) -> Result<String, AllocError>
+    ensures { IfOk result (λ text. string_bytes text ≡ carried why.now) }
+{
+    match why {
+        Refusal::CutLink(id) => {
+            format!(in alloc; ": item {id} is linked with an item that stays")
+        }
+        Refusal::Stale(ticket) => format!(in alloc; ": the last receipt is {ticket}"),
+        Refusal::LoanOpen(id) => format!(in alloc; ": loan {id} is not home"),
+        Refusal::Collides(id) => format!(in alloc; ": the place of tile {id} is taken"),
+        _ => Ok(String::new(alloc)),
+    }
 }
 
 /// The number and the name of a refusal, and what it carries.
@@ -102,7 +155,72 @@ pub fn refusal_text(alloc: Global, why: &Refusal) -> Result<String, AllocError>
     ensures { IfOk result (λ text. string_bytes text ≡ refusal_text why.now) }
 {
     let (number, name) = (why.number(), why.name());
-    let mut text = format!(in alloc; "refusal {number} {name}")?;
-    put_carried(&mut text, alloc, why)?;
-    Ok(text)
+    let more = carried_text(alloc, why)?;
+    let more = more.as_str();
+    format!(in alloc; "refusal {number} {name}{more}")
 }
+
+/// The names of the reasons by their numbers; there is none with 0.
+const REASONS: [&str; 26] = [
+    "",
+    "IdReused",
+    "UnknownPackage",
+    "PackageUsed",
+    "BadText",
+    "TooLarge",
+    "IdentityUsed",
+    "UnknownItem",
+    "WrongKind",
+    "BadPlace",
+    "OutOfFrame",
+    "PlaceTaken",
+    "LinkThere",
+    "UnknownLink",
+    "Linked",
+    "BadRectangle",
+    "TooDeep",
+    "NothingToLend",
+    "CutLink",
+    "Foreign",
+    "Stale",
+    "LoanOpen",
+    "Collides",
+    "TooMany",
+    "OutOfMemory",
+    "StoreFault",
+];
+
+/// The name of the reason of this number; the empty text where there is none.
+fn reason_name(number: u8) -> &'static str
+    ensures { result.now ≡ reason_name number }
+{
+    name_in(&REASONS, number as usize)
+}
+
+/// The refusal of a record of a list, as far as its report tells it: the number of the record, and number and name of the reason.
+///
+/// # Errors
+///
+/// Want of memory.
+pub fn refused_text(alloc: Global, record: u64, number: u8) -> Result<String, AllocError>
+    ensures { IfOk result (λ text. string_bytes text ≡ refused_text «record» number) }
+{
+    let name = reason_name(number);
+    format!(in alloc; "record {record}: refusal {number} {name}")
+}
+
+/// How many more there are of what was told so far.
+///
+/// # Errors
+///
+/// Want of memory.
+pub fn more_text(alloc: Global, count: u64) -> Result<String, AllocError>
+    ensures { IfOk result (λ text. string_bytes text ≡ more_text count) }
+{
+    format!(in alloc; "and {count} more")
+}
+
+/// Each reason has its name under its number.
+pub fn reasons_are_named()
+    ensures { ReasonsAreNamed }
+{}

@@ -1,8 +1,11 @@
+mod CauseFacts
 mod CommandFacts
 mod ContentFacts
+mod FormFacts
 mod ListFacts
 mod NoneFacts
 mod OneReading
 mod OneRequest
 mod OneWord
 mod RecordFacts
+mod WordFacts

@@ -1,9 +1,11 @@
 //! Request lists as CSV (RFC 4180, as the crate `csv` reads it): which text is a list of which requests.
 #![tactic(auto)]
 
+pub mod causes;
 mod columns;
 mod contents;
 mod fields;
+pub mod forms;
 pub mod list_laws;
 pub mod lists;
 mod loans;

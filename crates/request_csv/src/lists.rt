@@ -46,7 +46,7 @@ impl From<OutOfMemory> for ReadFault {
 }
 
 /// The names of the columns, in their order.
-const COLUMNS: [&str; COUNT] = [
+pub(crate) const COLUMNS: [&str; COUNT] = [
     "request",
     "at",
     "command",

@@ -4,6 +4,7 @@
 mod clock;
 mod field;
 mod founding;
+mod notes;
 mod ordering;
 mod running;
 mod sessions;

@@ -1,6 +1,7 @@
 //! A command, carried out: what it asks for is done in `cli`, `commands` and `views`.
 use crate::field::{listed, projected};
 use crate::founding::founded;
+use crate::notes::{fault_note, print_refusals, tally_for};
 use crate::ordering::{is_verb, ordered};
 use crate::showing::shown;
 use crate::streams::{Input, Onlooker};
@@ -11,6 +12,7 @@ use cli::serving::rehearse_and_serve;
 use command_folder::endings::{Ending, FAILED, NO_MEMORY, error_of, note_of, output_of, status_of};
 use command_help::completions::BASH;
 use command_help::words::sheetdesk;
+use command_notes::refusals::Noted;
 use command_words::arguments::{DeskWords, Words};
 use command_words::statuses::Outcome;
 use commands::tidying::tidy;
@@ -74,15 +76,20 @@ fn told(
     status
 }
 
-/// Tells the ending of a command.
-fn ended(rt: &HostRuntime, ending: &Ending) -> u8 {
+/// Tells the ending of a command, and what is known beside its lines.
+fn ended_with(rt: &HostRuntime, ending: &Ending, note: Result<String, AllocError>) -> u8 {
     told(
         rt,
         output_of(*ending),
         error_of(*ending),
-        note_of(rt.alloc(), *ending),
+        note,
         status_of(*ending),
     )
+}
+
+/// Tells the ending of a command.
+fn ended(rt: &HostRuntime, ending: &Ending) -> u8 {
+    ended_with(rt, ending, note_of(rt.alloc(), *ending))
 }
 
 /// Tells the ending of a command that looks at a folder.
@@ -175,20 +182,20 @@ fn asked_look<'m>(name: &str, given: &ArgMatches<'m>) -> Option<AskedLook<'m>> {
     }
 }
 
-/// Carries out a command that may change what is in a folder that holds packages, or has no folder. How far a list is, and of a desk, standard error is told.
+/// Carries out a command that may change what is in a folder that holds packages, or has no folder. How far a list is, which of its records were refused, and of a desk, standard error is told.
 fn changed(rt: &HostRuntime, name: &str, given: &ArgMatches<'_>, reader: &mut Input<'_>) -> Ending {
     let mut teller = Onlooker::new(rt, given.get_flag("log"));
-    match asked_work(name, given) {
-        Some(asked) => work_for(
-            rt,
-            text_of(given, "folder"),
-            asked,
-            reader,
-            &mut io::writer(rt),
-            &mut teller,
-        ),
-        None => Ending::Usual(rehearsed(rt, given, reader, &mut teller)),
-    }
+    let Some(asked) = asked_work(name, given) else {
+        return Ending::Usual(rehearsed(rt, given, reader, &mut teller));
+    };
+    let mut writer = Noted {
+        writer: io::writer(rt),
+        tally: tally_for(rt, name),
+    };
+    let folder = text_of(given, "folder");
+    let ending = work_for(rt, folder, asked, reader, &mut writer, &mut teller);
+    print_refusals(rt, &writer.tally);
+    ending
 }
 
 /// Carries out the command of this name, and answers the exit status.
@@ -213,6 +220,7 @@ pub(crate) fn carried_out(
             &shown(rt, text_of(given, "folder"), asked, given.get_str("output")),
         );
     }
+    let typed = reader.text();
     let ending = match name {
         "init" => founded(rt, given),
         "report" => report_for(rt, text_of(given, "folder"), &mut io::writer(rt)),
@@ -220,7 +228,10 @@ pub(crate) fn carried_out(
         _ if is_verb(name) => ordered(rt, name, given, reader),
         _ => changed(rt, name, given, reader),
     };
-    ended(rt, &ending)
+    match fault_note(rt, name, given, typed, &ending) {
+        Some(note) => ended_with(rt, &ending, Ok(note)),
+        None => ended(rt, &ending),
+    }
 }
 
 /// What these words ask for; an error where they are no use of the program, or ask for help.

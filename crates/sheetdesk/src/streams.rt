@@ -16,6 +16,16 @@ pub(crate) enum Input<'a> {
     File(&'a [u8]),
 }
 
+impl<'a> Input<'a> {
+    /// What is left of a file; of standard input that is not known.
+    pub(crate) fn text(&self) -> Option<&'a [u8]> {
+        match self {
+            Input::Standard(_) => None,
+            Input::File(bytes) => Some(bytes),
+        }
+    }
+}
+
 impl<'a> Read for Input<'a> {
     fn read(&mut self, buf: &mut [u8]) -> Result<usize> {
         match self {

@@ -72,7 +72,7 @@ fn each_ending_has_its_status_and_its_lines(rt: HostRuntime) {
         ),
         (
             End::Command(Ending::Declined(Refusal::CutLink(Uuid::from_u128(7)))),
-            "1 ||refusal 18 CutLink: item 00000000-0000-0000-0000-000000000007",
+            "1 ||refusal 18 CutLink: item 00000000-0000-0000-0000-000000000007 is linked with an item that stays",
         ),
         (
             End::Command(Ending::Declined(Refusal::Stale(41))),
@@ -80,11 +80,11 @@ fn each_ending_has_its_status_and_its_lines(rt: HostRuntime) {
         ),
         (
             End::Command(Ending::Declined(Refusal::LoanOpen(Uuid::from_u128(7)))),
-            "1 ||refusal 21 LoanOpen: loan 00000000-0000-0000-0000-000000000007",
+            "1 ||refusal 21 LoanOpen: loan 00000000-0000-0000-0000-000000000007 is not home",
         ),
         (
             End::Command(Ending::Declined(Refusal::Collides(Uuid::from_u128(7)))),
-            "1 ||refusal 22 Collides: tile 00000000-0000-0000-0000-000000000007",
+            "1 ||refusal 22 Collides: the place of tile 00000000-0000-0000-0000-000000000007 is taken",
         ),
         (
             End::Command(Ending::Unlisted(ReadFault::Record(17))),

@@ -2,6 +2,8 @@
 //! (`crates/sheetdesk`).
 
 use crate::steps::{Of, Table, Told, cut, unescaped, wrong_of};
+use command_faults::texts::cause_text;
+use request_csv::causes::cause_of;
 use request_csv::lists::{ReadFault, read_requests};
 use request_csv::sources::{ListSource, Stream};
 use sheet_types::command::Request;
@@ -37,6 +39,15 @@ fn tell_read<R: ListSource + Drop>(
     Ok(())
 }
 
+// The line that says why a text is no list, as the second machine has it (`samples/machine/list_faults.py`).
+fn tell_cause(alloc: Global, text: &[u8], told: &mut Told) -> Result<(), OutOfMemory> {
+    match cause_of(alloc, text)? {
+        Some(cause) => told.word(cause_text(alloc, cause)?.as_str()),
+        None => told.word("a list"),
+    }
+    Ok(())
+}
+
 // A text: `@` is the header, `%` the addition of a first tile, `$` a deletion, and `#` seventeen commas.
 fn whole(alloc: Global, words: &str) -> Result<String, OutOfMemory> {
     let mut text = String::new(alloc);
@@ -59,6 +70,7 @@ const DELETION: &str =
 fn tell_text(alloc: Global, kind: &str, text: &[u8], told: &mut Told) -> Result<(), OutOfMemory> {
     match kind {
         "all" | "greatest" => tell_read(alloc, text, told),
+        "cause" => tell_cause(alloc, text, told),
         "failing" => tell_read(alloc, Stream(Failing::new(text)), told),
         "broken" => tell_read(alloc, b"request,\xff\n".as_slice(), told),
         kind => {
@@ -79,7 +91,7 @@ pub(crate) fn list_of(alloc: Global, question: &str, told: &mut Told) -> Result<
 }
 
 const LISTS: Table = Table(
-    59,
+    83,
     "# headers
 all @ => [0]
 all `request`,at,command,package,identity,other,kind,zoom,column,row,last_column,last_row,x,y,code,ticket,text,\
@@ -176,6 +188,54 @@ all @^%^ ^#^ => [Read]
 all @^%^#^ ^ => [Record 2]
 all @^%^``^#^ => [Read]
 all @^%^#^``^ => [Record 2]
+# why they are none: the first column at fault of the first record that is at fault
+cause @^%^$^ => [a list]
+cause  => [list: it has no record]
+cause @, => [list: the header has 19 fields, not 18]
+cause request,at^ => [list: the header has 2 fields, not 18]
+cause %^ => [list: the header has another name in place of 'request']
+cause request,at,command,package,identity,other,kind,Zoom,column,row,last_column,last_row,x,y,code,ticket,text,\
+    data => [list: the header has another name in place of 'zoom']
+cause @^#^ => [list: record 1: column 'request' is no UUID]
+cause @^%^,,^ => [list: record 2 has 3 fields, not 18]
+cause @^%^$^90000000-0000-4000-8000-000000000002,T,Delete,a0000000-0000-4000-8000-000000000000,\
+    00000000-0000-4000-8000-000000000001,,,,,,,,,,,,,^ => [list: record 3: column 'command' is none of add, delete, \
+    link, unlink, split, merge]
+cause @^90000000-0000-4000-8000-000000000002,T,delete,a0000000-0000-4000-8000-000000000000,\
+    00000000-0000-4000-8000-000000000001,,tile,,,,,,,,,,,^ => [list: record 1: column 'kind' is not empty]
+cause @^90000000-0000-4000-8000-000000000002,T,delete,a0000000-0000-4000-8000-000000000000,\
+    00000000-0000-4000-8000-000000000001,,,,,,,,,,,,,x^ => [list: record 1: column 'data' is not empty]
+cause @^90000000-0000-4000-8000-000000000001,T,add,a0000000-0000-4000-8000-000000000000,\
+    00000000-0000-4000-8000-000000000001,,sheet,+2,3,3,,,,,,,,41^ => [list: record 1: column 'kind' is none of tile, \
+    media, row]
+cause @^90000000-0000-4000-8000-000000000001,T,add,a0000000-0000-4000-8000-000000000000,\
+    00000000-0000-4000-8000-000000000001,,tile,+2,3,3,,,,,,,,4^ => [list: record 1: column 'zoom' is no number]
+cause @^90000000-0000-4000-8000-000000000001,T,add,a0000000-0000-4000-8000-000000000000,\
+    00000000-0000-4000-8000-000000000001,,tile,2,3,3,,,,,,,,4^ => [list: record 1: column 'data' is not hexadecimal, \
+    two digits a byte]
+cause @^90000000-0000-4000-8000-000000000001,T,add,a0000000-0000-4000-8000-000000000000,\
+    00000000-0000-4000-8000-000000000001,,tile,2,3,3,,,,,,,name,41^ => [list: record 1: column 'text' is not empty]
+cause @^90000000-0000-4000-8000-000000000001,T,add,a0000000-0000-4000-8000-000000000000,\
+    00000000-0000-4000-8000-000000000001,,media,,,,,,1,,,,image/png,41^ => [list: record 1: column 'x' is not empty]
+cause @^90000000-0000-4000-8000-000000000001,T,add,a0000000-0000-4000-8000-000000000000,\
+    00000000-0000-4000-8000-000000000001,,row,,,,,,0,1,2.5,,name,^ => [list: record 1: column 'code' is no number]
+cause @^90000000-0000-4000-8000-000000000001,T,add,a0000000-0000-4000-8000-000000000000,\
+    00000000-0000-4000-8000-000000000001,,row,,,,,,0,1,2,7,name,^ => [list: record 1: column 'ticket' is not empty]
+cause @^90000000-0000-4000-8000-000000000006,T,split,a0000000-0000-4000-8000-000000000000,,\
+    b0000000-0000-4000-8000-000000000000,Strict,2,0,0,1,1,,,,,,^ => [list: record 1: column 'kind' is none of strict, \
+    follow]
+cause @^90000000-0000-4000-8000-000000000006,T,split,a0000000-0000-4000-8000-000000000000,,\
+    b0000000-0000-4000-8000-000000000000,strict,2,0,0,1,,,,,,,^ => [list: record 1: column 'last_row' is no number]
+cause @^90000000-0000-4000-8000-000000000006,T,split,a0000000-0000-4000-8000-000000000000,\
+    b0000000-0000-4000-8000-000000000000,b0000000-0000-4000-8000-000000000000,strict,2,0,0,1,1,,,,,,\
+    ^ => [list: record 1: column 'identity' is not empty]
+cause @^90000000-0000-4000-8000-000000000003,T,link,a0000000-0000-4000-8000-000000000000,\
+    00000000-0000-4000-8000-000000000001,,rows_rows,,,,,,,,,,,^ => [list: record 1: column 'other' is no UUID]
+cause @^90000000-0000-4000-8000-000000000003,T,unlink,a0000000-0000-4000-8000-000000000000,\
+    00000000-0000-4000-8000-000000000001,b0000000-0000-4000-8000-000000000000,rows_rows,,,,,,,,,,,\
+    ^ => [list: record 1: column 'kind' is none of tiles_media, rows_media, rows_tiles]
+cause @^90000000-0000-4000-8000-000000000008,T,merge,b0000000-0000-4000-8000-000000000000,,\
+    a0000000-0000-4000-8000-000000000000,,,,,,,,,,,,^ => [list: record 1: column 'ticket' is no number]
 # a reader that fails before the header, behind another, and behind the records: their fault comes first
 failing  => [Read]
 failing request^ => [Header]
