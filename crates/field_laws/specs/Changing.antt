@@ -151,8 +151,8 @@ RoomForBoth = (parts : Parts) (x : Package) →
 abbrev pub IsAgain : Reply → Reply → Type 0
 IsAgain old now = (now ≡ old) ⊎ IsFault now
 
--- A list that was stopped behind its first part, and then comes again whole, ends where a run of the whole list ends. What
--- had got its receipt gets it again, and acted once.
+-- A list that was stopped behind its first part, and then comes again whole, ends where a run of the whole list ends.
+-- What had got its receipt gets it again, and acted once.
 abbrev pub StoppedListComesAgain : Type 0
 StoppedListComesAgain = (w : World) (xs ys : List Request)
     (first : List Reply) (mid : World) (again : List Reply) (next : World) →
@@ -160,7 +160,7 @@ StoppedListComesAgain = (w : World) (xs ys : List Request)
     (kept : List Reply) × (rest : List Reply) × (again ≡ kept ++ rest) × AllZip IsAgain first kept
     × Run w (xs ++ ys) (first ++ rest) next
 
--- So changes that were stopped behind a part of them, and then come again whole, make what they would have made at once.
+-- So changes that were stopped behind a part of them, and come again whole, make what they would have made at once.
 abbrev pub StoppedChangesComeHome : Type 0
 StoppedChangesComeHome = (w : World) (p : List ℕ) (ticket : ℕ) (moment : List ℕ) (more : Bool) (file : List HeldItem)
     (held : List HeldLink) (xs ys : List Request)
