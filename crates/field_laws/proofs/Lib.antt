@@ -5,8 +5,9 @@ pub mod Nothing
 pub mod Uuids
 pub mod Made
 pub mod Makes
-pub mod Stopped
 pub mod Turns
 pub mod Unrefused
 pub mod Example
 pub mod Home
+pub mod Least
+pub mod Stopped

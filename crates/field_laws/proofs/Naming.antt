@@ -94,7 +94,7 @@ abbrev CameFrom : List Item → List HeldItem → List HeldItem → HeldItem →
 CameFrom items file before h id = ((is_own items before h ≡ true) × (unwrap_or h.identity [] ≡ id))
     ⊎ ((is_own items before h ≡ false) × (slice_get (alike h.content (unmarked items file)) (copies (λ c. c) h.content (others items [] before)) ≡ Some id))
 
-came_from : (items : List Item) (file before : List HeldItem) (h : HeldItem) (id : List ℕ) → name_of items file before h ≡ Old id → CameFrom items file before h id
+pub came_from : (items : List Item) (file before : List HeldItem) (h : HeldItem) (id : List ℕ) → name_of items file before h ≡ Old id → CameFrom items file before h id
 came_from items file before h id e =
     let left = unmarked items file in
     let place = copies (λ c. c) h.content (others items [] before) in
@@ -134,7 +134,7 @@ module _ (items : List Item) (file : List HeldItem) (distinct : IsDistinct bytes
       true≢false (sym some ∙ not_true (list_any (is_marked (item_mark s.item)) file) free.1)
 
   -- what stands before, and what stands behind
-  others_both : (before xs ys : List HeldItem) → others items before (xs ++ ys) ≡ others items before xs ++ others items (before ++ xs) ys
+  pub others_both : (before xs ys : List HeldItem) → others items before (xs ++ ys) ≡ others items before xs ++ others items (before ++ xs) ys
   others_both before [] ys = ap (λ b. others items b ys) (sym (append-nil before))
   others_both before (x ∷ xs) ys =
       let rest : others items (before ++ x ∷ []) (xs ++ ys) ≡ others items (before ++ x ∷ []) xs ++ others items (before ++ x ∷ xs) ys =

@@ -1,4 +1,4 @@
--- What a caller looks at before it asks for the changes for a file: where each of these tests passes, no request is refused. Profile.
+-- What a caller looks at before it asks for changes. Where each test passes, no request is refused. Profile.
 use Rattle.std.specs.Prelude.{◌≡◌, ℕ, ◌+◌, ◌≤◌, Bool, true, false, not, ◌&&◌, List, [], map, filter, length}
 use Rattle.std.specs.List.{list_all, list_any}
 use Rattle.sheet_types.specs.Custody.{is_used}
@@ -33,10 +33,11 @@ abbrev pub tile_places : List HeldItem → List (List ℕ)
 tile_places file = map (λ h. place_of h.content) (filter (λ h. kind_is TileItem (kind_of h.content)) file)
 
 -- the package can take the file
-pub record CanTake (w : World) (p moment : List ℕ) (more : Bool) (file : List HeldItem) (parts : Parts) (requests : List Request) : Type 0 where
+pub record CanTake (w : World) (p moment : List ℕ) (more : Bool) (file : List HeldItem) (parts : Parts)
+    (requests : List Request) : Type 0 where
   pub moment_fits : is_moment moment ≡ true
   pub contents_fit : list_all (λ h. is_fit w.frame h.content) file ≡ true
-  -- no two tiles of the file have one place, and where nothing is taken away no new one has that of a tile of the package
+  -- no two tiles of the file have one place; with `more` no new one has that of a tile of the package
   pub places_apart : has_twice (tile_places file) ≡ false
   pub places_free : (more && list_any (λ i. takes_place (holdings w p) i.content) parts.adds.items) ≡ false
   -- no new identity was ever used, and no two are one

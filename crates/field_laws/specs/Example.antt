@@ -16,7 +16,19 @@ use Rattle.field_laws.specs.Checks.{CanTake}
 
 -- one zoom of one tile
 abbrev pub sheet : Frame
-sheet = record { srs_id = pos 25832; min_x = pos 0; min_y = pos 0; max_x = pos 4096; max_y = pos 4096; tile_width = pos 256; tile_height = pos 256; first_zoom = pos 0; levels = pos 1; matrix_width = pos 1; matrix_height = pos 1 }
+sheet = record {
+  srs_id = pos 25832;
+  min_x = pos 0;
+  min_y = pos 0;
+  max_x = pos 4096;
+  max_y = pos 4096;
+  tile_width = pos 256;
+  tile_height = pos 256;
+  first_zoom = pos 0;
+  levels = pos 1;
+  matrix_width = pos 1;
+  matrix_height = pos 1;
+}
 
 abbrev pub archive : List ℕ
 archive = 160 ∷ 0 ∷ 0 ∷ 0 ∷ 0 ∷ 0 ∷ 64 ∷ 0 ∷ 128 ∷ 0 ∷ 0 ∷ 0 ∷ 0 ∷ 0 ∷ 0 ∷ 0 ∷ []
@@ -40,6 +52,8 @@ asked = request_of archive 0 morning (adding archive town) ∷ []
 
 -- parts that add this tile are those for the file, and the archive can take it
 abbrev pub EmptyArchiveTakes : Type 0
-EmptyArchiveTakes = (parts : Parts) → parts.unlinks.items ≡ [] → parts.deletes.items ≡ [] → parts.adds.items ≡ town ∷ [] → parts.links.items ≡ [] →
+EmptyArchiveTakes = (parts : Parts) →
+    parts.unlinks.items ≡ [] → parts.deletes.items ≡ [] → parts.adds.items ≡ town ∷ [] → parts.links.items ≡ [] →
     IsRegister (new_world archive sheet) × (is_live (new_world archive sheet) archive ≡ true)
-    × ((changes : Changes (new_world archive sheet) archive 0 morning false (drawn ∷ []) [] asked) × CanTake (new_world archive sheet) archive morning false (drawn ∷ []) changes.parts asked)
+    × ((changes : Changes (new_world archive sheet) archive 0 morning false (drawn ∷ []) [] asked)
+    × CanTake (new_world archive sheet) archive morning false (drawn ∷ []) changes.parts asked)

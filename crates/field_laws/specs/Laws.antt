@@ -22,4 +22,5 @@ HoldsUnder items h name = name.is_new ≡ false → list_any (is_item name.ident
 
 -- so it is with each item of the file, whatever identities stand beside its items
 abbrev pub OldNamesHold : Type 0
-OldNamesHold = (p : List ℕ) (ticket : ℕ) (items : List Item) (file : List HeldItem) → AllZip (HoldsUnder items) file (names_of p ticket items file)
+OldNamesHold = (p : List ℕ) (ticket : ℕ) (items : List Item) (file : List HeldItem) →
+    AllZip (HoldsUnder items) file (names_of p ticket items file)

@@ -28,13 +28,18 @@ abbrev pub links_left : Parts → List Relation → List Relation
 links_left parts links = without link_key (map link_key parts.unlinks.items) links
 
 abbrev pub after_parts : Parts → Package → Package
-after_parts parts x = record x { items = parts.adds.items ++ items_left parts x.items; links = parts.links.items ++ links_left parts x.links }
+after_parts parts x = record x {
+  items = parts.adds.items ++ items_left parts x.items;
+  links = parts.links.items ++ links_left parts x.links;
+}
 
 -- ---- in the register's order
 
 -- with `more` what was held and what is new, else what the file has
 abbrev pub items_home : Bool → List Named → List HeldItem → List Item → List Item
-items_home more names file items = arranged item_key (if more then new_items names file ++ items else named_items names file)
+items_home more names file items =
+    arranged item_key (if more then new_items names file ++ items else named_items names file)
 
 abbrev pub links_home : Bool → List Relation → List Relation → List Relation
-links_home more linked file_links = arranged link_key (if more then beyond linked file_links ++ linked else each_once file_links)
+links_home more linked file_links =
+    arranged link_key (if more then beyond linked file_links ++ linked else each_once file_links)

@@ -1,5 +1,5 @@
 //! Laws of what an edited file comes home as, each the contract of a function that does nothing.
-ghost use Rattle.field_laws.specs.Changing.{NothingToDo, OldNamesDiffer, ChangesMake, MoreAdds, NothingIsRefused, ChangesComeHome, RoomForBoth, StoppedListComesAgain};
+ghost use Rattle.field_laws.specs.Changing.{NothingToDo, OldNamesDiffer, OnlyWhatDiffers, ChangesMake, MoreAdds, NothingIsRefused, ChangesComeHome, RoomForBoth, StoppedListComesAgain, StoppedChangesComeHome};
 ghost use Rattle.field_laws.specs.Example.{EmptyArchiveTakes};
 ghost use Rattle.field_laws.specs.Laws.{SameKeyIsSameContent, OldNamesHold};
 
@@ -16,6 +16,11 @@ pub fn old_names_hold()
 /// No two items of a file are called by one identity of the package.
 pub fn old_names_differ()
     ensures { OldNamesDiffer }
+{}
+
+/// Of each content as many items are new as the file has more of it, and as many go as it has fewer.
+pub fn only_what_differs()
+    ensures { OnlyWhatDiffers }
 {}
 
 /// A file that lists what the package holds asks for nothing.
@@ -38,7 +43,7 @@ pub fn nothing_is_refused()
     ensures { NothingIsRefused }
 {}
 
-/// Where besides neither memory nor the store fails, each request gets a receipt, and the package holds what it is to hold.
+/// Where neither memory nor the store fails either, each request gets a receipt, and the package holds what it is to.
 pub fn changes_come_home()
     ensures { ChangesComeHome }
 {}
@@ -51,6 +56,11 @@ pub fn room_for_both()
 /// A list that was stopped, and comes again whole, ends where a run of the whole list ends.
 pub fn stopped_list_comes_again()
     ensures { StoppedListComesAgain }
+{}
+
+/// So changes that were stopped, and come again whole, make what they would have made at once.
+pub fn stopped_changes_come_home()
+    ensures { StoppedChangesComeHome }
 {}
 
 /// An empty archive can take a file with one tile: all premises hold there.

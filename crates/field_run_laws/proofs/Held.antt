@@ -1,8 +1,8 @@
 -- A world behind some requests in one package, and one request more.
-use Rattle.std.specs.Prelude.{◌≡◌, ℕ, ◌+◌, Bool, true, false, cond, ◌&&◌, ◌||◌, List, [], ◌∷◌, ◌++◌, map, find, length, refl, bytes_eq, is_some, Some, None}
+use Rattle.std.specs.Prelude.{◌≡◌, ℕ, Bool, true, false, cond, ◌&&◌, ◌||◌, List, [], ◌∷◌, ◌++◌, map, find, length, refl, bytes_eq, is_some, Some, None}
 use Rattle.std.proofs.Common.{sym, ap, subst, ◌∙◌, inl, inr, append_assoc}
 use Rattle.std.proofs.lemmas.Bool.{true≢false, or_parts}
-use Rattle.std.proofs.lemmas.List.{append-nil, length-map, map-append, length-append}
+use Rattle.std.proofs.lemmas.List.{append-nil, length-map, map-append}
 use Rattle.std.proofs.lemmas.List.Folds.{list_any-append}
 use Rattle.std.specs.Bool.{then_some}
 use Rattle.std.specs.List.{list_any, AllByRecursion}
@@ -69,6 +69,7 @@ adds_named w id moment (Merge child into ticket) k says = ap (λ b. b && has (λ
 pub record Stage (w m : World) (p : List ℕ) (done : List Request) (items : List Item) (links : List Relation) : Type 0 where
   pub register : IsRegister m
   pub lives : (q : List ℕ) → is_live m q ≡ is_live w q
+  pub holds : holdings m p ≡ record (holdings w p) { items = items; links = links; receipts = (holdings m p).receipts }
   pub items_are : (holdings m p).items ≡ items
   pub links_are : (holdings m p).links ≡ links
   pub others : (q : List ℕ) → bytes_eq q p ≡ false → holdings m q ≡ holdings w q
@@ -84,6 +85,7 @@ pub begins : (w : World) (p : List ℕ) → IsRegister w → Stage w w p [] (hol
 begins w p register = record {
   register = register;
   lives = λ q. refl;
+  holds = refl;
   items_are = refl;
   links_are = refl;
   others = λ q _. refl;
@@ -141,6 +143,8 @@ module _ (w m : World) (p : List ℕ) (done : List Request) (items : List Item) 
       record {
         register = register;
         lives = λ u. ap (λ v. is_live v u) is ∙ live_changed f p u m.packages (λ x. refl) ∙ s.lives u;
+        holds = ap (λ v. holdings v p) is ∙ at_p ∙ ap f s.holds
+            ∙ ap (λ rs. record (holdings w p) { items = items_after q.command items; links = links_after q.command links; receipts = rs }) (sym (ap (λ v. (holdings v p).receipts) is ∙ ap (λ x. x.receipts) at_p));
         items_are = ap (λ v. (holdings v p).items) is ∙ ap (λ x. x.items) at_p ∙ ap (items_after q.command) s.items_are;
         links_are = ap (λ v. (holdings v p).links) is ∙ ap (λ x. x.links) at_p ∙ ap (links_after q.command) s.links_are;
         others = λ u other. ap (λ v. holdings v u) is ∙ holdings_other f m p u (λ x. refl) other ∙ s.others u other;
@@ -199,9 +203,11 @@ run_stage w m p done items links live s (q ∷ qs) (reply ∷ replies) next with
 -- what a stage says of its world
 pub holds_now : (w m : World) (p : List ℕ) (done : List Request) (items : List Item) (links : List Relation) → Stage w m p done items links → HoldsNow w m p items links (length done)
 holds_now w m p done items links s = record {
-  items_are = s.items_are;
-  links_are = s.links_are;
-  receipts = ap length s.receipts ∙ length-append (receipts_of w) s.gained ∙ ap (λ n. length (receipts_of w) + n) (gained_length w m p done items links s);
+  holds = s.holds;
   others = s.others;
+  lives = s.lives;
   same_frame = s.same_frame;
+  gained = s.gained;
+  ledger = s.receipts;
+  as_many = gained_length w m p done items links s;
 }

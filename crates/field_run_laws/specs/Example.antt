@@ -13,7 +13,19 @@ use Rattle.field_run_laws.specs.Ready.{AreReady}
 
 -- one zoom of one tile
 abbrev pub sheet : Frame
-sheet = record { srs_id = pos 25832; min_x = pos 0; min_y = pos 0; max_x = pos 4096; max_y = pos 4096; tile_width = pos 256; tile_height = pos 256; first_zoom = pos 0; levels = pos 1; matrix_width = pos 1; matrix_height = pos 1 }
+sheet = record {
+  srs_id = pos 25832;
+  min_x = pos 0;
+  min_y = pos 0;
+  max_x = pos 4096;
+  max_y = pos 4096;
+  tile_width = pos 256;
+  tile_height = pos 256;
+  first_zoom = pos 0;
+  levels = pos 1;
+  matrix_width = pos 1;
+  matrix_height = pos 1;
+}
 
 -- a UUID that ends so
 abbrev pub uuid_of : ℕ → List ℕ
@@ -35,4 +47,5 @@ visit = ask 11 (Add archive (uuid_of 1) (Tile (pos 0) (pos 0) (pos 0) (66 ∷ []
 
 -- each is ready when its turn comes
 abbrev pub VisitIsReady : Type 0
-VisitIsReady = AreWithin archive visit × AreNew (new_world archive sheet) visit × (too_many (new_world archive sheet) ≡ false) × AreReady (new_world archive sheet) [] [] [] visit
+VisitIsReady = AreWithin archive visit × AreNew (new_world archive sheet) visit
+    × (too_many (new_world archive sheet) ≡ false) × AreReady (new_world archive sheet) [] [] [] visit

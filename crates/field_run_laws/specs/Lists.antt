@@ -1,11 +1,11 @@
 -- Lists of requests that add, delete, link and unlink in one package. Profile.
-use Rattle.std.specs.Prelude.{◌≡◌, ℕ, ◌+◌, Bool, false, ◌||◌, List, [], ◌∷◌, map, length, is_some, bytes_eq, Result, Ok, Err}
+use Rattle.std.specs.Prelude.{◌≡◌, ℕ, Bool, false, ◌||◌, List, [], ◌∷◌, ◌++◌, map, length, is_some, bytes_eq, Result, Ok, Err}
 use Rattle.std.specs.List.{list_any, AllByRecursion}
 use Rattle.sheet_types.specs.Ordered.{put, without, is_among}
 use Rattle.sheet_types.specs.Custody.{kept}
 use Rattle.sheet_types.specs.Lines.{HasTypes}
 use Rattle.sheet_types.specs.Step.{IsFault, added_item, relation}
-use Rattle.sheet_types.specs.World.{World, holdings, receipts_of, item_key, link_key}
+use Rattle.sheet_types.specs.World.{World, is_live, holdings, receipts_of, item_key, link_key}
 use Rattle.sheet_types.specs.declared.command.Command.{Command}
 use Rattle.sheet_types.specs.declared.command.Command.TheVariants.{Add, Delete, Link, Unlink, Split, Merge}
 use Rattle.sheet_types.specs.declared.command.Item.{Item}
@@ -69,13 +69,18 @@ abbrev pub links_through : List Request → List Relation → List Relation
 links_through [] links = links
 links_through (q ∷ qs) links = links_through qs (links_after q.command links)
 
--- one package holds this now, and so many receipts more are kept; the frame and all other packages are as they were
-pub record HoldsNow (w next : World) (p : List ℕ) (items : List Item) (links : List Relation) (more : ℕ) : Type 0 where
-  pub items_are : (holdings next p).items ≡ items
-  pub links_are : (holdings next p).links ≡ links
-  pub receipts : length (receipts_of next) ≡ length (receipts_of w) + more
+-- One package holds this now, and so many receipts more are kept, behind all others. But for that the package is as it
+-- was, and so are all other packages, and the frame.
+pub record HoldsNow (w next : World) (p : List ℕ) (items : List Item) (links : List Relation)
+    (more : ℕ) : Type 0 where
+  pub holds : holdings next p
+      ≡ record (holdings w p) { items = items; links = links; receipts = (holdings next p).receipts }
   pub others : (q : List ℕ) → bytes_eq q p ≡ false → holdings next q ≡ holdings w q
+  pub lives : (q : List ℕ) → is_live next q ≡ is_live w q
   pub same_frame : next.frame ≡ w.frame
+  pub gained : List Receipt
+  pub ledger : receipts_of next ≡ receipts_of w ++ gained
+  pub as_many : length gained ≡ more
 
 -- ---- their replies
 
@@ -87,7 +92,7 @@ IsGiven (Err why) = ⊥
 abbrev pub AreGiven : List Reply → Type 0
 AreGiven replies = AllByRecursion IsGiven replies
 
--- the first that is no receipt, if there is one, is want of memory or a fault of the store: nothing was refused before it
+-- the first that is no receipt, if there is one, is want of memory or a fault of the store: none was refused before it
 abbrev pub IsUnrefused : List Reply → Type 0
 IsUnrefused [] = Unit {0}
 IsUnrefused (Ok r ∷ replies) = IsUnrefused replies

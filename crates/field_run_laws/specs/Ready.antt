@@ -28,13 +28,18 @@ added command = []
 -- the command can be carried out where the package holds this, and these identities were added since
 abbrev pub IsReady : World → List (List ℕ) → List Item → List Relation → Command → Type 0
 IsReady w since items links (Add p identity content) =
-    (bad_text (Add p identity content) ≡ false) × (has_good_size content ≡ true) × (bad_place w (Add p identity content) ≡ false) × (out_of_frame w (Add p identity content) ≡ false)
-    × (is_used w identity ≡ false) × (is_among since identity ≡ false) × (takes_place (package_of items links) content ≡ false)
-IsReady w since items links (Delete p identity) = (has (λ i. i.identity) identity items ≡ true) × (list_any (has_end identity) links ≡ false)
+    (bad_text (Add p identity content) ≡ false) × (has_good_size content ≡ true)
+    × (bad_place w (Add p identity content) ≡ false) × (out_of_frame w (Add p identity content) ≡ false)
+    × (is_used w identity ≡ false) × (is_among since identity ≡ false)
+    × (takes_place (package_of items links) content ≡ false)
+IsReady w since items links (Delete p identity) =
+    (has (λ i. i.identity) identity items ≡ true) × (list_any (has_end identity) links ≡ false)
 IsReady w since items links (Link p mapping base other) =
-    (has item_key (kind_number (base_kind mapping) ∷ base) items ≡ true) × (has item_key (kind_number (other_kind mapping) ∷ other) items ≡ true)
+    (has item_key (kind_number (base_kind mapping) ∷ base) items ≡ true)
+    × (has item_key (kind_number (other_kind mapping) ∷ other) items ≡ true)
     × (has link_key (link_key (relation mapping base other)) links ≡ false)
-IsReady w since items links (Unlink p mapping base other) = has link_key (link_key (relation mapping base other)) links ≡ true
+IsReady w since items links (Unlink p mapping base other) =
+    has link_key (link_key (relation mapping base other)) links ≡ true
 IsReady w since items links command = ⊥
 
 -- each is, and leaves the package within its limits
