@@ -1,11 +1,11 @@
 #!/usr/bin/env python3
 """A crew's round in a real QGIS, and home again; what GDAL writes into an export; what the project beside it opens.
 
-Usage: /usr/bin/python3 torture/field_qgis.py [--pictures FOLDER]
+Usage: /usr/bin/python3 torture/field_qgis.py [--pictures FOLDER] [--sittings COUNT [SEED]]
        SHEETDESK=PROGRAM ..    over another program than the proved one
 
 It wants Debian's python3-qgis, gdal-bin and sqlite3. Every edit goes through QGIS's own editing sessions and forms, in a process without
-windows. The program makes the register, exports, and brings home; what it prints has to be what the second machine prints. With --pictures
+windows. After the round come sittings of random edits (10 where no number is given), each brought home. The program makes the register, exports, and brings home; what it prints has to be what the second machine prints. With --pictures
 the sheets and marks are drawn by QGIS before the round and after it, and kept as field-before.png and field-after.png. Status 0 where all of
 it came home.
 
@@ -15,6 +15,7 @@ a file open, other processes look at it.
 
 import gc
 import os
+import random
 import subprocess
 import sys
 import tempfile
@@ -366,7 +367,103 @@ def by_gdal(register):
     print("gdal: degrees are told; reprojected points and an index came home")
 
 
+class Sitting:
+    """Random edits, each in an editing session of its own; the names of the methods are those of the edits."""
+
+    def __init__(self, rng, opened):
+        self.rng, self.opened, self.marks = rng, opened, opened["sheet_rows"]
+
+    def _save(self, layer, edit):
+        assert layer.startEditing() and edit() and layer.commitChanges(), layer.commitErrors()
+
+    def _some(self, layer):
+        there = numbers(layer)
+        return self.rng.choice(there) if there else None
+
+    def _spot(self):
+        return point(self.rng.uniform(1, 511), self.rng.uniform(1, 511))
+
+    def _change(self, field, value):
+        number = self._some(self.marks)
+        if number is not None:
+            self._save(self.marks, lambda: self.marks.changeAttributeValue(number, self.marks.fields().indexOf(field), value))
+
+    def draw(self):
+        self._save(self.marks, lambda: self.marks.addFeature(feature(self.marks, self._spot(), code=self.rng.randrange(9), label=self.rng.choice(["", "ä, \"b\"", "it's", "x" * 200]))))
+
+    def draw_by_form(self):
+        self._save(self.marks, lambda: self.marks.addFeature(feature(self.marks, self._spot())))
+
+    def label(self):
+        self._change("label", self.rng.choice(["a", "Höhe 3", "comma, and", None]))
+
+    def code(self):
+        self._change("code", self.rng.randrange(1_000_000))
+
+    def forget(self):
+        self._change("uuid", self.rng.choice([None, "nonsense", uuid_of(7).upper()]))
+
+    def move(self):
+        number = self._some(self.marks)
+        if number is not None:
+            self._save(self.marks, lambda: self.marks.changeGeometry(number, self._spot()))
+
+    def delete(self):
+        number = self._some(self.marks)
+        if number is not None:
+            self._save(self.marks, lambda: self.marks.deleteFeature(number))
+
+    def paste(self):
+        number = self._some(self.marks)
+        if number is not None:
+            old = self.marks.getFeature(number)
+            self._save(self.marks, lambda: self.marks.addFeature(QgsVectorLayerUtils.createFeature(self.marks, old.geometry(), dict(enumerate(old.attributes())))))
+
+    def give_up(self):
+        assert self.marks.startEditing() and self.marks.addFeature(feature(self.marks, self._spot(), label="never")) and self.marks.rollBack()
+
+    def save_and_go_on(self):
+        assert self.marks.startEditing() and self.marks.addFeature(feature(self.marks, self._spot(), label="saved")) and self.marks.commitChanges(False)
+        assert self.marks.deleteFeature(self._some(self.marks)) and self.marks.commitChanges()
+
+    def photograph(self):
+        media = self.opened["sheet_media"]
+        self._save(media, lambda: media.addFeature(feature(media, data=QByteArray(self.rng.randbytes(9)))))
+
+    def link(self):
+        table, ends = self.rng.choice([("rows_media", ("sheet_rows", "sheet_media")), ("tiles_media", ("sheet_tile_identity", "sheet_media")), ("rows_tiles", ("sheet_rows", "sheet_tile_identity"))])
+        base, related = (self._some(self.opened[end]) for end in ends)
+        if None not in (base, related):
+            links = self.opened[table]
+            self._save(links, lambda: links.addFeature(feature(links, base_id=base, related_id=related)))
+
+    def unlink(self):
+        links = self.opened[self.rng.choice(["rows_media", "tiles_media", "rows_tiles"])]
+        number = self._some(links)
+        if number is not None:
+            self._save(links, lambda: links.deleteFeature(number))
+
+
+EDITS = [name for name in vars(Sitting) if not name.startswith("_")]
+
+
+def sittings(register, count, seed):
+    rng, requests = random.Random(seed), 0
+    for _ in range(count):
+        path = register.file("sitting.gpkg")
+        with Opened(path) as opened:
+            sitting = Sitting(rng, opened)
+            for name in rng.choices(EDITS, k=rng.randrange(1, 9)):
+                getattr(sitting, name)()
+            del sitting
+        requests += len(register.bring(path))
+        assert register.bring(register.file("sitting.gpkg")) == []
+    print(f"sittings: {count}, {requests} requests, all accepted")
+
+
 def main():
+    given = sys.argv[sys.argv.index("--sittings") + 1 :] if "--sittings" in sys.argv else []
+    count, seed = [*map(int, given[:2]), *[10, 1][len(given[:2]) :]]
     pictures = sys.argv[sys.argv.index("--pictures") + 1] if "--pictures" in sys.argv else None
     application = QgsApplication([], True)
     application.initQgis()
@@ -378,6 +475,7 @@ def main():
         a_round(register, pictures or room)
         for trial in (by_merge, what_is_told, copied_without_log, by_gdal):
             trial(register)
+        sittings(register, count, seed)
     sys.stdout.flush()
     # what QGIS takes down at its end may crash, and has nothing to do with what was tried
     os._exit(0)

@@ -1,4 +1,5 @@
-//! What serves an edited file: the SQL that lists what it holds, for which no folder is opened, and the QGIS project of an export.
+//! What serves an edited file: the SQL that lists what it holds, for which no folder is opened, and the QGIS
+//! project of an export.
 use crate::running::{is_printed, out_of_memory, output_failed, text_of};
 use clap::ArgMatches;
 use command_folder::endings::Ending;
@@ -42,7 +43,8 @@ pub(crate) fn listed(rt: &HostRuntime, given: &ArgMatches<'_>) -> u8 {
     }
 }
 
-/// Prints the QGIS project of an export for the file of a name, and answers how that ended; none where a command asks for no such project.
+/// Prints the QGIS project of an export for the file of a name, and answers how that ended; none where a command
+/// asks for no such project.
 pub(crate) fn projected(rt: &HostRuntime, name: &str, given: &ArgMatches<'_>) -> Option<Ending> {
     if name != "export" {
         return None;

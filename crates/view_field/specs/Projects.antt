@@ -27,7 +27,8 @@ module _ {W : Type 0} (writer writer' : W) (before after : Option (List ℕ)) wh
 
 module _ {S : Type 0} (g : Ghosts S) {W : Type 0} where
   -- the same of each world that a value stands for
-  abbrev pub EndsProject : List ℕ → List ℕ → Seen S → W → W → Option (List ℕ) → Option (List ℕ) → Ending → Type 0
+  abbrev pub EndsProject : List ℕ → List ℕ → Seen S → W → W → Option (List ℕ) → Option (List ℕ) → Ending
+      → Type 0
   EndsProject p name old writer writer' before after ending =
       (w : World) → StandsFor g old w → PrintsProject writer writer' before after w p name ending
 

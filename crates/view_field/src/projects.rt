@@ -26,7 +26,8 @@ fn is_live<S: Alter + Drop>(world: &World<S>, package: Uuid) -> bool
     world.sums(package).is_some()
 }
 
-/// Writes the project of an export of a live package, for a file of this name that lies beside it. The stores are not asked.
+/// Writes the project of an export of a live package, for a file of this name that lies beside it.
+/// The stores are not asked.
 pub fn project_in<S: Alter + Drop, W: Write>(
     alloc: Global,
     world: &World<S>,
@@ -34,7 +35,8 @@ pub fn project_in<S: Alter + Drop, W: Write>(
     name: &str,
     writer: &mut W,
 ) -> Ending
-    ensures { EndsProject S.Store «package» name.now world.now writer.old writer.new (W.contents writer.old) (W.contents writer.new) result }
+    ensures { EndsProject S.Store «package» name.now world.now
+        writer.old writer.new (W.contents writer.old) (W.contents writer.new) result }
 {
     if !is_live(world, package) {
         return Ending::NoSuchPackage;
@@ -56,7 +58,8 @@ fn project_at<W: Write>(
     name: &str,
     writer: &mut W,
 ) -> Ending
-    ensures { OpensProject ⟦<FolderStore as Store>⟧ «package» name.now writer.old writer.new (W.contents writer.old) (W.contents writer.new) result }
+    ensures { OpensProject ⟦<FolderStore as Store>⟧ «package» name.now
+        writer.old writer.new (W.contents writer.old) (W.contents writer.new) result }
 {
     match open_folder(rt, folder) {
         Ok(
@@ -74,7 +77,8 @@ fn project_at<W: Write>(
     }
 }
 
-/// Writes the project of an export of a package, by its UUID with hyphens, for a file of this name that lies beside it. The UUID is read first: where it cannot be, nothing is opened.
+/// Writes the project of an export of a package, by its UUID with hyphens, for a file of this name
+/// that lies beside it. The UUID is read first: where it cannot be, nothing is opened.
 pub fn project_for<W: Write>(
     rt: &HostRuntime,
     folder: &str,
@@ -82,7 +86,8 @@ pub fn project_for<W: Write>(
     name: &str,
     writer: &mut W,
 ) -> Ending
-    ensures { AsksProject ⟦<FolderStore as Store>⟧ «package».now name.now writer.old writer.new (W.contents writer.old) (W.contents writer.new) result }
+    ensures { AsksProject ⟦<FolderStore as Store>⟧ «package».now name.now
+        writer.old writer.new (W.contents writer.old) (W.contents writer.new) result }
 {
     match read_uuid(package) {
         Some(uuid) => project_at(rt, folder, uuid, name, writer),
