@@ -2,12 +2,14 @@
 use Rattle.std.specs.Prelude.{◌≡◌, ◌<◌, ◌+◌, refl, ℕ, ⊤, List, [], ◌∷◌, ◌++◌, Option, Some, None, Result, Ok, Err, IfSome, length, take, drop}
 use Rattle.std.proofs.Common.{◌∙◌, ap, subst, sym, get_or, inl, inr}
 use Rattle.std.proofs.lemmas.List.{take_more, take-append-drop}
+use Rattle.sqlite.specs.Held.{Held}
 use Rattle.sqlite.specs.Store.{Ghosts}
 use Rattle.sheet_types.specs.declared.command.Request.{Request}
 use Rattle.request_csv.specs.RequestLists.{IsList}
 use Rattle.world_decisions.specs.Deciding.{child_asked}
-use Rattle.world.specs.Asked.{AsksFor, IsUsedFor, IsUsedForEach}
+use Rattle.world.specs.Asked.{AsksFor, IsUsedFor, IsUsedForEach, UsesFor, child_returned}
 use Rattle.world.specs.Worlds.{Seen}
+use Rattle.world_members.specs.declared.members.Member.{Member}
 use Rattle.manifest_csv.specs.Imports.{UsesOf, IsReported}
 use Rattle.manifest_csv.specs.declared.importing.ImportFault.{ImportFault}
 use Rattle.manifest_csv.specs.declared.importing.ImportFault.TheVariants.{Unread, Stopped, Unwritten}
@@ -16,6 +18,18 @@ module _ {S H : Type 0} (Asks : List ℕ → H → H → Type 0) (Takes : List �
   asks_nothing : (child : Option (List ℕ)) (same : H) → AsksFor Asks child (λ child. ⊤) same same
   asks_nothing None same = refl
   asks_nothing (Some child) same = inl refl
+
+  asks_some : (child : Option (List ℕ)) (Fact : List ℕ → Type 0) (before after : H) → AsksFor Asks child Fact before after → AsksFor Asks child (λ child. ⊤) before after
+  asks_some None Fact before after asked = asked
+  asks_some (Some child) Fact before after (inl same) = inl same
+  asks_some (Some child) Fact before after (inr once) = inr (once.0, tt)
+
+  -- in a step it was used at most once
+  pub used_for : (g : Ghosts S) (members : List (Member S)) (q : Request) (New NoMore : List ℕ → Type 0) (gone : List (Held S)) (before after : H) → ((x : List ℕ) → NoMore x → child_returned q.command ≡ Some x) → UsesFor g Asks Takes members (child_asked q.command) New NoMore gone before after → IsUsedFor Asks Takes q before after
+  used_for g members q New NoMore [] before after named used = inl (asks_some (child_asked q.command) New before after used)
+  used_for g members q New NoMore (store ∷ others) before after named used =
+      let it = used.1 in
+      inr (it.1.uuid, named it.1.uuid it.5, it.4.0, it.4.2)
 
   uses_more : (qs : List Request) (q : Request) (before between after : H) → IsUsedForEach Asks Takes qs before between → IsUsedFor Asks Takes q between after → IsUsedForEach Asks Takes (qs ++ q ∷ []) before after
   uses_more [] q before between after used one = (after, subst (λ s. IsUsedFor Asks Takes q s after) used one, refl)

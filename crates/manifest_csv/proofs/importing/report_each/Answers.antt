@@ -7,8 +7,7 @@ use Rattle.manifest_csv.specs.Reports.{report_line}
 use Rattle.manifest_csv.specs.Sent.{WentOut}
 use Rattle.manifest_csv.specs.declared.importing.ImportFault.TheVariants.{Unwritten}
 use Rattle.world.proofs.ChangesMade.{turned_into}
-use Rattle.world.proofs.Asks.{used_for}
-use Rattle.manifest_csv.proofs.Asking.{uses_all, uses_next}
+use Rattle.manifest_csv.proofs.Asking.{used_for, uses_all, uses_next}
 use Rattle.manifest_csv.proofs.ImportFacts.{one_more, stopped, unwritten, none_yet}
 use Rattle.manifest_csv.proofs.ProgressFacts.{nothing_told, one_told}
 use Rattle.manifest_csv.proofs.importing.report_each.Goals as goal
@@ -39,7 +38,7 @@ loop-at-preserved g c =
       room = c.put_line.ensures.room;
       so_far = one_more g.S.Store c.args.requests.now c.loop-at.at c.args.world.now c.loop-at.world c.apply-reply.new.self (g.H.Shelf.failures_of c.args.shelf.now) (g.H.Shelf.failures_of c.loop-at.shelf) (g.H.Shelf.failures_of c.apply-reply.new.shelf) (g.W.Write.contents c.args.writer.now) (g.W.Write.contents c.loop-at.writer) c.loop-at.invariant.so_far c.loop-at-test.true c.index-requests-at.result c.index-requests-at.is c.apply-reply.result (record { step = c.apply-reply.ensures.step; still = c.apply-reply.ensures.still; unharmed = c.apply-reply.ensures.unharmed; rises = c.apply-reply.ensures.rises; failed = c.apply-reply.ensures.failed; cause = c.apply-reply.ensures.cause; usable = c.apply-reply.ensures.usable; shelf = c.apply-reply.ensures.shelf })
           (g.W.Write.contents c.send.new.writer) line (subst (IsEndOf c.apply-reply.result) c.in_default.is c.end_of.ensures);
-      uses = uses_next g.H.Shelf.asks g.H.Shelf.takes c.args.requests.now c.loop-at.at c.index-requests-at.result c.args.shelf.now c.loop-at.shelf c.apply-reply.new.shelf c.loop-at-test.true c.index-requests-at.is c.loop-at.invariant.uses (used_for g.S.Store g.H.Shelf.asks g.H.Shelf.takes c.loop-at.world.members c.index-requests-at.result _ _ c.apply-reply.ensures.uses.step.gone c.loop-at.shelf c.apply-reply.new.shelf (λ x home. home.0) c.apply-reply.ensures.uses.uses);
+      uses = uses_next g.H.Shelf.asks g.H.Shelf.takes c.args.requests.now c.loop-at.at c.index-requests-at.result c.args.shelf.now c.loop-at.shelf c.apply-reply.new.shelf c.loop-at-test.true c.index-requests-at.is c.loop-at.invariant.uses (used_for g.H.Shelf.asks g.H.Shelf.takes g.S.Store c.loop-at.world.members c.index-requests-at.result _ _ c.apply-reply.ensures.uses.step.gone c.loop-at.shelf c.apply-reply.new.shelf (λ x home. home.0) c.apply-reply.ensures.uses.uses);
       told = one_told (length c.args.requests.now) c.loop-at.at (g.T.Teller.told c.args.teller.now) (g.T.Teller.told c.loop-at.teller) (g.T.Teller.told c.tell.new.self) c.loop-at.invariant.told c.tell.ensures;
     }
 
@@ -56,12 +55,12 @@ returns-in-Some-clause-told g c =
 pub returns-in_err-send-clause-uses : goal.returns-in_err-send-clause-uses
 returns-in_err-send-clause-uses g c =
     uses_all g.H.Shelf.asks g.H.Shelf.takes (c.loop-at.at + 1) c.args.requests.now c.args.shelf.now c.apply-reply.new.shelf
-    (uses_next g.H.Shelf.asks g.H.Shelf.takes c.args.requests.now c.loop-at.at c.index-requests-at.result c.args.shelf.now c.loop-at.shelf c.apply-reply.new.shelf c.loop-at-test.true c.index-requests-at.is c.loop-at.invariant.uses (used_for g.S.Store g.H.Shelf.asks g.H.Shelf.takes c.loop-at.world.members c.index-requests-at.result _ _ c.apply-reply.ensures.uses.step.gone c.loop-at.shelf c.apply-reply.new.shelf (λ x home. home.0) c.apply-reply.ensures.uses.uses))
+    (uses_next g.H.Shelf.asks g.H.Shelf.takes c.args.requests.now c.loop-at.at c.index-requests-at.result c.args.shelf.now c.loop-at.shelf c.apply-reply.new.shelf c.loop-at-test.true c.index-requests-at.is c.loop-at.invariant.uses (used_for g.H.Shelf.asks g.H.Shelf.takes g.S.Store c.loop-at.world.members c.index-requests-at.result _ _ c.apply-reply.ensures.uses.step.gone c.loop-at.shelf c.apply-reply.new.shelf (λ x home. home.0) c.apply-reply.ensures.uses.uses))
 
 pub returns-in-Some-clause-uses : goal.returns-in-Some-clause-uses
 returns-in-Some-clause-uses g c =
     uses_all g.H.Shelf.asks g.H.Shelf.takes (c.loop-at.at + 1) c.args.requests.now c.args.shelf.now c.apply-reply.new.shelf
-    (uses_next g.H.Shelf.asks g.H.Shelf.takes c.args.requests.now c.loop-at.at c.index-requests-at.result c.args.shelf.now c.loop-at.shelf c.apply-reply.new.shelf c.loop-at-test.true c.index-requests-at.is c.loop-at.invariant.uses (used_for g.S.Store g.H.Shelf.asks g.H.Shelf.takes c.loop-at.world.members c.index-requests-at.result _ _ c.apply-reply.ensures.uses.step.gone c.loop-at.shelf c.apply-reply.new.shelf (λ x home. home.0) c.apply-reply.ensures.uses.uses))
+    (uses_next g.H.Shelf.asks g.H.Shelf.takes c.args.requests.now c.loop-at.at c.index-requests-at.result c.args.shelf.now c.loop-at.shelf c.apply-reply.new.shelf c.loop-at-test.true c.index-requests-at.is c.loop-at.invariant.uses (used_for g.H.Shelf.asks g.H.Shelf.takes g.S.Store c.loop-at.world.members c.index-requests-at.result _ _ c.apply-reply.ensures.uses.step.gone c.loop-at.shelf c.apply-reply.new.shelf (λ x home. home.0) c.apply-reply.ensures.uses.uses))
 
 pub returns-clause-uses : goal.returns-clause-uses
 returns-clause-uses g c = uses_all g.H.Shelf.asks g.H.Shelf.takes c.loop-at.at c.args.requests.now c.args.shelf.now c.loop-at.shelf c.loop-at.invariant.uses
