@@ -4,7 +4,10 @@
 Usage: make_report.py                writes report.html
        make_report.py --check        writes nothing; status 1 where report.html is not what would be written, or the program's style is another
        make_report.py --middle FILE  writes the page after record 57, while a loan has lent on
+       make_report.py --loan FILE    writes the custody page of the harbour crew's loan at that time
+       make_report.py --fault FILE   writes the page of a folder in which an item is altered
        make_report.py --odd FILE     writes the page of a world whose texts are hostile
+       make_report.py --odd-loan FILE  writes the custody page of a loan in that world
 
 Nothing here runs the program.
 """
@@ -15,6 +18,8 @@ import sys
 
 import nordmark
 import reference
+from machine.fault import fault_page_of
+from machine.loan import loan_page_of
 from machine.report import page_of
 from machine.world import Receipt, apply
 
@@ -70,6 +75,12 @@ def main():
         return write(words[1], page_of(odd_world(), odd_names(), reference.reply_text))
     if words[:1] == ["--middle"] and len(words) == 2:
         return write(words[1], page_of(world_of(58), names(), reference.reply_text))
+    if words[:1] == ["--loan"] and len(words) == 2:
+        return write(words[1], loan_page_of(world_of(58), names(), reference.reply_text, nordmark.HARBOUR))
+    if words[:1] == ["--odd-loan"] and len(words) == 2:
+        return write(words[1], loan_page_of(odd_world(), odd_names(), reference.reply_text, nordmark.HARBOUR))
+    if words[:1] == ["--fault"] and len(words) == 2:
+        return write(words[1], fault_page_of("Altered", f"item {nordmark.mark('buoy')} has not the content that its receipt names"))
     if words not in ([], ["--check"]):
         sys.exit(__doc__)
     page = page_of(world_of(None), names(), reference.reply_text)

@@ -77,6 +77,17 @@ def table(style, caption, head, rows):
     return f'<table class="{style}">\n{told}<thead><tr>{head}</tr></thead>\n<tbody>\n{rows}</tbody>\n</table>\n'
 
 
+def top(title, kind, heading, lead, sections):
+    """All before the first section."""
+    with open(os.path.join(HERE, "..", "report.css"), encoding="utf-8") as found:
+        style = found.read()
+    nav = "".join(f'<li><a href="#{anchor}">{word}</a></li>' for anchor, word in sections)
+    return ('<!DOCTYPE html>\n<html lang="en">\n<head>\n<meta charset="utf-8">\n<meta name="viewport" content="width=device-width, initial-scale=1">\n'
+            f'<meta name="color-scheme" content="light dark">\n<title>{title}</title>\n<style>\n{style}</style>\n</head>\n<body>\n'
+            f'<header>\n<div>\n<p class="kick">{kind}</p>\n<h1>{heading}</h1>\n<p class="lead">{lead}</p>\n</div>\n</header>\n'
+            f'<nav aria-label="Sections">\n<ul>{nav}</ul>\n</nav>\n<main>\n')
+
+
 # ---- the zooms of a map
 
 class Level:
@@ -222,6 +233,9 @@ class Page:
         return (f'<li>{self.swatch(p.uuid)}<svg class="sw {self.colour(p.uuid)}" width="16" height="16" viewBox="-8 -8 16 16" aria-hidden="true"><use class="d" href="#k{self.pattern(p.uuid)}"/></svg>'
                 f"<span>{self.name(p.uuid)}<span>{amounts((tiles, 0, rows, 0))}</span></span></li>\n")
 
+    def legend(self):
+        return "".join(map(self.legend_row, self.packages))
+
     def map(self):
         levels = levels_of(self.world.frame)
         finest = levels[-1]
@@ -229,7 +243,7 @@ class Page:
                 "<p>Finer sheets lie inside coarser ones, and what a loan holds inside what its lender holds. Point at a sheet or a mark to read of it; the tables tell the same.</p>\n"
                 f'<div class="two">\n<figure style="aspect-ratio:{finest.columns * finest.width}/{finest.rows * finest.height}">\n{"".join(map(self.level, levels))}'
                 f'{"".join(self.sheet_name(levels[0], *each[1:]) for each in self.held("tile"))}{"".join(self.mark(*each) for each in self.held("row"))}</figure>\n'
-                f'<aside aria-label="Legend">\n<h3>Holders</h3>\n<ul class="legend">\n{"".join(map(self.legend_row, self.packages))}</ul>\n</aside>\n</div>\n</section>\n')
+                f'<aside aria-label="Legend">\n<h3>Holders</h3>\n<ul class="legend">\n{self.legend()}</ul>\n</aside>\n</div>\n</section>\n')
 
     # ---- sections
 
@@ -322,14 +336,8 @@ class Page:
 
     def text(self):
         title = self.plain_name(self.world.archive)
-        with open(os.path.join(HERE, "..", "report.css"), encoding="utf-8") as found:
-            style = found.read()
-        nav = "".join(f'<li><a href="#{anchor}">{word}</a></li>' for anchor, word in SECTIONS)
-        return (f'<!DOCTYPE html>\n<html lang="en">\n<head>\n<meta charset="utf-8">\n<meta name="viewport" content="width=device-width, initial-scale=1">\n'
-                f'<meta name="color-scheme" content="light dark">\n<title>{title}</title>\n<style>\n{style}</style>\n</head>\n<body>\n'
-                f'<header>\n<div>\n<p class="kick">Register of lent map sheets</p>\n<h1>{title}</h1>\n'
-                f'<p class="lead">Archive <code>{self.world.archive}</code>, as of receipt {len(self.world.receipts)}.</p>\n</div>\n</header>\n'
-                f'<nav aria-label="Sections">\n<ul>{nav}</ul>\n</nav>\n<main>\n{self.patterns()}{self.verdict()}{self.holders()}'
+        lead = f"Archive <code>{self.world.archive}</code>, as of receipt {len(self.world.receipts)}."
+        return (f"{top(title, 'Register of lent map sheets', title, lead, SECTIONS)}{self.patterns()}{self.verdict()}{self.holders()}"
                 f"{self.map()}{self.holdings()}{self.ledger()}{self.account()}{CHECK}")
 
 

@@ -5,6 +5,7 @@ mod clock;
 mod field;
 mod founding;
 mod ordering;
+mod reporting;
 mod running;
 mod sessions;
 mod showing;

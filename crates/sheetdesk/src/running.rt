@@ -2,6 +2,7 @@
 use crate::field::listed;
 use crate::founding::founded;
 use crate::ordering::{is_verb, ordered};
+use crate::reporting::reported;
 use crate::showing::shown;
 use crate::streams::{Input, Onlooker};
 use clap::error::ErrorKind;
@@ -18,7 +19,6 @@ use commands::working::{Asked, work_for};
 use std::alloc::AllocError;
 use std::convert::AsStr;
 use std::io;
-use view_page::pages::report_for;
 use views::endings as seen;
 use views::excerpts::LogWords;
 use views::looking::Asked as AskedLook;
@@ -75,7 +75,7 @@ fn told(
 }
 
 /// Tells the ending of a command.
-fn ended(rt: &HostRuntime, ending: &Ending) -> u8 {
+pub(crate) fn ended(rt: &HostRuntime, ending: &Ending) -> u8 {
     told(
         rt,
         output_of(*ending),
@@ -204,6 +204,9 @@ pub(crate) fn carried_out(
     if name == "completions" {
         return printed(rt, BASH);
     }
+    if name == "report" {
+        return reported(rt, given);
+    }
     if let Some(asked) = asked_look(name, given) {
         return looked(
             rt,
@@ -212,7 +215,6 @@ pub(crate) fn carried_out(
     }
     let ending = match name {
         "init" => founded(rt, given),
-        "report" => report_for(rt, text_of(given, "folder"), &mut io::writer(rt)),
         "tidy" => tidy(rt, text_of(given, "folder"), &mut io::writer(rt)),
         _ if is_verb(name) => ordered(rt, name, given, reader),
         _ => changed(rt, name, given, reader),

@@ -165,8 +165,12 @@ legend_row r p =
     ++ (decimal (pattern_of (number_of r.packages.items p.loan)) ++ (codes "\"/></svg><span>" ++ (name_text r.names.items p.uuid
     ++ (codes "<span>" ++ (sums_text p.sums.tiles 0 p.sums.rows 0 ++ codes "</span></span></li>\n")))))))))
 
-abbrev pub map_section : Register → List ℕ
-map_section r =
+-- all things that a register has, with a legend of these packages
+abbrev pub map_of : Register → List Live → List ℕ
+map_of r packages =
     MAP_HEAD.now ++ (sides_text (layout_of r.frame (default_zoom r.frame)) 1 (codes "/") ++ (codes "\">\n"
     ++ (levels_text r (level_total r.frame) (level_total r.frame) ++ (named_at r (level_total r.frame)
-    ++ (flat_map (mark_if r) r.things.items ++ (LEGEND_HEAD.now ++ (flat_map (legend_row r) r.packages.items ++ LEGEND_END.now)))))))
+    ++ (flat_map (mark_if r) r.things.items ++ (LEGEND_HEAD.now ++ (flat_map (legend_row r) packages ++ LEGEND_END.now)))))))
+
+abbrev pub map_section : Register → List ℕ
+map_section r = map_of r r.packages.items

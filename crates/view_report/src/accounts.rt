@@ -49,7 +49,11 @@ fn put_held(text: &mut String, sums: Sums) -> Result<(), AllocError>
 }
 
 /// Puts the account of a package by its flow.
-fn put_account(
+///
+/// # Errors
+///
+/// Want of memory.
+pub fn put_account(
     text: &mut String,
     register: &Register,
     live: &Live,

@@ -5,7 +5,7 @@ ghost use Rattle.view_map.specs.Zooms.{default_zoom};
 ghost use Rattle.view_report.specs.Levels.{extent, inset_of, plus, share, start};
 ghost use Rattle.sheet_types.specs.Matrix.{is_good_frame};
 ghost use Rattle.view_report.specs.Registers.{number_of};
-ghost use Rattle.view_report.specs.Drawing.{also_named, layer_of, legend_row, level_if, level_text, levels_text, link_text, map_section, mark_at, mark_if, mark_of, mark_place, mark_text, name_at, name_if, name_in, named_at, named_text, names_text, pattern_link, sheet_at, sheet_box, sheet_if, sheet_of, sheet_text, sheet_title, sides_text, style_text, whole_mark};
+ghost use Rattle.view_report.specs.Drawing.{also_named, layer_of, legend_row, level_if, level_text, levels_text, link_text, map_of, mark_at, mark_if, mark_of, mark_place, mark_text, name_at, name_if, name_in, named_at, named_text, names_text, pattern_link, sheet_at, sheet_box, sheet_if, sheet_of, sheet_text, sheet_title, sides_text, style_text, whole_mark};
 
 use crate::escaping::put_escaped;
 use crate::levels::{
@@ -621,10 +621,14 @@ fn finest_of(frame: &Frame) -> Layout
     layout_of(frame, default_zoom(frame))
 }
 
-/// Puts the map.
-pub(crate) fn put_map(text: &mut String, register: &Register) -> Result<(), AllocError>
+/// Puts the map of all things of a register, with a legend of these packages.
+///
+/// # Errors
+///
+/// Want of memory.
+pub fn put_map(text: &mut String, register: &Register, packages: &[Live]) -> Result<(), AllocError>
     requires { IsTrue (is_good_frame register.now.frame) }
-    ensures { IfOk result (λ _. string_bytes text.new ≡ string_bytes text.old ++ map_section register.now) }
+    ensures { IfOk result (λ _. string_bytes text.new ≡ string_bytes text.old ++ map_of register.now packages.now) }
 {
     let total = level_total(&register.frame);
     let finest = finest_of(&register.frame);
@@ -635,7 +639,7 @@ pub(crate) fn put_map(text: &mut String, register: &Register) -> Result<(), Allo
     put_first_names(text, register, total)?;
     put_marks(text, register, &register.things)?;
     put(text, LEGEND_HEAD)?;
-    put_legends(text, register, &register.packages)?;
+    put_legends(text, register, packages)?;
     put(text, LEGEND_END)?;
     Ok(())
 }

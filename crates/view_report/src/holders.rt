@@ -61,7 +61,11 @@ fn put_dated(
 }
 
 /// Puts the moment of a receipt and its number, where there is such a receipt.
-pub(crate) fn put_when(text: &mut String, register: &Register, seq: u64) -> Result<(), AllocError>
+///
+/// # Errors
+///
+/// Want of memory.
+pub fn put_when(text: &mut String, register: &Register, seq: u64) -> Result<(), AllocError>
     ensures { IfOk result (λ _. string_bytes text.new ≡ string_bytes text.old ++ when_text register.now seq) }
 {
     match receipt_found(&register.receipts, seq) {

@@ -13,7 +13,7 @@ use std::alloc::AllocError;
 use uuid::Uuid;
 
 /// The word of a kind of thing.
-pub(crate) fn kind_word(kind: MovedKind) -> &'static str
+pub fn kind_word(kind: MovedKind) -> &'static str
     ensures { result.now ≡ kind_word kind }
 {
     match kind {
@@ -74,7 +74,11 @@ fn put_item_if(
 }
 
 /// Puts the rows of the items that a package holds.
-fn put_items(
+///
+/// # Errors
+///
+/// Want of memory.
+pub fn put_items(
     text: &mut String,
     register: &Register,
     holder: Uuid,
@@ -132,7 +136,11 @@ fn put_tie_if(
 }
 
 /// Puts the rows of the links that a package holds.
-fn put_ties(
+///
+/// # Errors
+///
+/// Want of memory.
+pub fn put_ties(
     text: &mut String,
     register: &Register,
     holder: Uuid,

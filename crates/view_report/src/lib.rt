@@ -13,5 +13,5 @@ pub mod pages;
 pub mod patterns;
 pub mod pieces;
 pub mod registers;
-mod style;
-mod words;
+pub mod style;
+pub mod words;

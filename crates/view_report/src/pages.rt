@@ -146,7 +146,7 @@ fn put_page(alloc: Global, text: &mut String, register: &Register) -> Result<(),
     put_head(text, register)?;
     put_verdict(text, register, &digest)?;
     put_holders(text, register)?;
-    put_map(text, register)?;
+    put_map(text, register, &register.packages)?;
     put_all_holdings(text, register)?;
     put_ledger(alloc, text, register)?;
     put_account(alloc, text, register)?;

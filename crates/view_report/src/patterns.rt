@@ -41,11 +41,11 @@ fn put_pattern(text: &mut String, number: usize) -> Result<(), AllocError>
 }
 
 /// Puts the patterns of these packages, of all packages.
-pub(crate) fn put_patterns(
-    text: &mut String,
-    all: &[Live],
-    packages: &[Live],
-) -> Result<(), AllocError>
+///
+/// # Errors
+///
+/// Want of memory.
+pub fn put_patterns(text: &mut String, all: &[Live], packages: &[Live]) -> Result<(), AllocError>
     ensures { IfOk result (λ _. string_bytes text.new ≡ string_bytes text.old ++ flat_map (λ p. pattern_row (number_of all.now p.loan)) packages.now) }
 {
     for live in packages {

@@ -16,7 +16,11 @@ use uuid::Uuid;
 const SHOWN: usize = 2000;
 
 /// Puts a text behind another.
-pub(crate) fn put(text: &mut String, word: &str) -> Result<(), AllocError>
+///
+/// # Errors
+///
+/// Want of memory.
+pub fn put(text: &mut String, word: &str) -> Result<(), AllocError>
     ensures { IfOk result (λ _. string_bytes text.new ≡ string_bytes text.old ++ word.now) }
 {
     text.push_str(word)?;
@@ -24,7 +28,11 @@ pub(crate) fn put(text: &mut String, word: &str) -> Result<(), AllocError>
 }
 
 /// Puts a number.
-pub(crate) fn put_count(text: &mut String, number: u64) -> Result<(), AllocError>
+///
+/// # Errors
+///
+/// Want of memory.
+pub fn put_count(text: &mut String, number: u64) -> Result<(), AllocError>
     ensures { IfOk result (λ _. string_bytes text.new ≡ string_bytes text.old ++ decimal number) }
 {
     let mut digits = Buffer::new();
@@ -48,7 +56,11 @@ pub(crate) fn put_total(text: &mut String, number: u128) -> Result<(), AllocErro
 }
 
 /// Puts a UUID.
-pub(crate) fn put_uuid(text: &mut String, id: Uuid) -> Result<(), AllocError>
+///
+/// # Errors
+///
+/// Want of memory.
+pub fn put_uuid(text: &mut String, id: Uuid) -> Result<(), AllocError>
     ensures { IfOk result (λ _. string_bytes text.new ≡ string_bytes text.old ++ uuid_text id) }
 {
     let mut letters = Uuid::encode_buffer();
@@ -56,7 +68,11 @@ pub(crate) fn put_uuid(text: &mut String, id: Uuid) -> Result<(), AllocError>
 }
 
 /// Puts a UUID of which the style shows the beginning.
-pub(crate) fn put_short(text: &mut String, id: Uuid) -> Result<(), AllocError>
+///
+/// # Errors
+///
+/// Want of memory.
+pub fn put_short(text: &mut String, id: Uuid) -> Result<(), AllocError>
     ensures { IfOk result (λ _. string_bytes text.new ≡ string_bytes text.old ++ short_text id) }
 {
     put(text, "<code class=\"id\">")?;
@@ -66,7 +82,11 @@ pub(crate) fn put_short(text: &mut String, id: Uuid) -> Result<(), AllocError>
 }
 
 /// Puts a SHA-256 in the same way.
-pub(crate) fn put_digest(text: &mut String, digest: &[u8; 32]) -> Result<(), AllocError>
+///
+/// # Errors
+///
+/// Want of memory.
+pub fn put_digest(text: &mut String, digest: &[u8; 32]) -> Result<(), AllocError>
     ensures { IfOk result (λ _. string_bytes text.new ≡ string_bytes text.old ++ digest_text digest.now) }
 {
     let mut letters = [0; 64];
@@ -89,7 +109,11 @@ pub(crate) fn put_label(text: &mut String, label: &str) -> Result<(), AllocError
 }
 
 /// Puts what people call a package or a sheet, or its UUID.
-pub(crate) fn put_name(text: &mut String, names: &[Name], id: Uuid) -> Result<(), AllocError>
+///
+/// # Errors
+///
+/// Want of memory.
+pub fn put_name(text: &mut String, names: &[Name], id: Uuid) -> Result<(), AllocError>
     ensures { IfOk result (λ _. string_bytes text.new ≡ string_bytes text.old ++ name_text names.now id) }
 {
     match name_of(names, id) {
@@ -99,7 +123,11 @@ pub(crate) fn put_name(text: &mut String, names: &[Name], id: Uuid) -> Result<()
 }
 
 /// The same where no element may stand.
-pub(crate) fn put_plain_name(text: &mut String, names: &[Name], id: Uuid) -> Result<(), AllocError>
+///
+/// # Errors
+///
+/// Want of memory.
+pub fn put_plain_name(text: &mut String, names: &[Name], id: Uuid) -> Result<(), AllocError>
     ensures { IfOk result (λ _. string_bytes text.new ≡ string_bytes text.old ++ plain_name names.now id) }
 {
     match name_of(names, id) {
@@ -155,7 +183,11 @@ pub(crate) fn put_swatch(text: &mut String, number: usize) -> Result<(), AllocEr
 }
 
 /// Puts the class of a package: its colour while it lives.
-fn put_holder_class(text: &mut String, register: &Register, id: Uuid) -> Result<(), AllocError>
+///
+/// # Errors
+///
+/// Want of memory.
+pub fn put_holder_class(text: &mut String, register: &Register, id: Uuid) -> Result<(), AllocError>
     ensures { IfOk result (λ _. string_bytes text.new ≡ string_bytes text.old ++ holder_class register.now id) }
 {
     match live_of(&register.packages, id) {
@@ -233,7 +265,11 @@ fn put_amount(text: &mut String, number: u64, one: &str, many: &str) -> Result<(
 }
 
 /// Puts how much was moved or is held.
-pub(crate) fn put_sums(
+///
+/// # Errors
+///
+/// Want of memory.
+pub fn put_sums(
     text: &mut String,
     tiles: u64,
     media: u64,
@@ -250,7 +286,11 @@ pub(crate) fn put_sums(
 }
 
 /// Puts what people call a package or a sheet and a space, where they have a name for it.
-pub(crate) fn put_called(text: &mut String, names: &[Name], id: Uuid) -> Result<(), AllocError>
+///
+/// # Errors
+///
+/// Want of memory.
+pub fn put_called(text: &mut String, names: &[Name], id: Uuid) -> Result<(), AllocError>
     ensures { IfOk result (λ _. string_bytes text.new ≡ string_bytes text.old ++ called names.now id) }
 {
     match name_of(names, id) {
@@ -306,7 +346,11 @@ fn put_sheet(
 }
 
 /// Puts what an item is, in a few words.
-pub(crate) fn put_about(text: &mut String, names: &[Name], thing: &Thing) -> Result<(), AllocError>
+///
+/// # Errors
+///
+/// Want of memory.
+pub fn put_about(text: &mut String, names: &[Name], thing: &Thing) -> Result<(), AllocError>
     ensures { IfOk result (λ _. string_bytes text.new ≡ string_bytes text.old ++ about_text names.now thing.now) }
 {
     match &thing.about {

@@ -134,14 +134,14 @@ pub fn thing_of(holder: Uuid, item: &Item) -> Result<Thing, OutOfMemory>
 }
 
 /// Whether two UUIDs are the same.
-pub(crate) fn is_same(a: Uuid, b: Uuid) -> bool
+pub fn is_same(a: Uuid, b: Uuid) -> bool
     ensures { result ≡ bytes_eq a b }
 {
     a == b
 }
 
 /// Whether an end is this package.
-pub(crate) fn ends_at(end: Option<Uuid>, id: Uuid) -> bool
+pub fn ends_at(end: Option<Uuid>, id: Uuid) -> bool
     ensures { result ≡ ends_at end id }
 {
     match end {
@@ -158,14 +158,14 @@ pub(crate) fn name_of<'t>(names: &'t [Name], uuid: Uuid) -> Option<&'t Name>
 }
 
 /// The package of this UUID, if it lives.
-pub(crate) fn live_of(packages: &[Live], uuid: Uuid) -> Option<&Live>
+pub fn live_of(packages: &[Live], uuid: Uuid) -> Option<&Live>
     ensures { option_map (λ p. p.now) result ≡ live_of packages.now uuid }
 {
     packages.iter().find(|package| is_same(package.uuid, uuid))
 }
 
 /// The item of this identity, if a package holds it.
-pub(crate) fn thing_found(things: &[Thing], identity: Uuid) -> Option<&Thing>
+pub fn thing_found(things: &[Thing], identity: Uuid) -> Option<&Thing>
     ensures { option_map (λ t. t.now) result ≡ thing_found things.now identity }
 {
     things
@@ -174,14 +174,14 @@ pub(crate) fn thing_found(things: &[Thing], identity: Uuid) -> Option<&Thing>
 }
 
 /// The receipt of this number, if there is one.
-pub(crate) fn receipt_found(receipts: &[Receipt], seq: u64) -> Option<&Receipt>
+pub fn receipt_found(receipts: &[Receipt], seq: u64) -> Option<&Receipt>
     ensures { option_map (λ r. r.now) result ≡ receipt_found receipts.now seq }
 {
     receipts.iter().find(|receipt| receipt.seq == seq)
 }
 
 /// The command of a receipt: the first word of its line.
-pub(crate) fn command_of(receipt: &Receipt) -> &str
+pub fn command_of(receipt: &Receipt) -> &str
     ensures { result.now ≡ command_of receipt.now }
 {
     let line = receipt.line.as_str();

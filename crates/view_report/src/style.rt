@@ -1,6 +1,7 @@
 //! The style of a page (CSS).
 
-pub(crate) const STYLE: &str = "</title>
+/// The end of the title, and the style.
+pub const STYLE: &str = "</title>
 <style>
 :root{color-scheme:light dark;--paper:#fbfaf5;--card:#fff;--ink:#23272b;--muted:#5a5e60;--line:#dcd7c9;--link:#14548c;--good:#17613f;--bad:#a3212f;--mark:#fff3c4;
 --c0:#6b6250;--c1:#2359a7;--c2:#995d0d;--c3:#194e42;--c4:#690d6c;--c5:#ae1726;
@@ -32,7 +33,7 @@ section{margin:2.6rem 0}
 section>h3{margin:1.6rem 0 .6rem}
 section>p{max-width:46rem;color:var(--muted);margin:.35rem 0 1rem}
 .verdict{border:1px solid var(--line);outline:1px solid var(--line);outline-offset:3px;background:var(--card);padding:1.2rem 1.4rem;margin:2rem 4px 0}
-.verdict h2{color:var(--good);font-size:1.6rem}
+.verdict h2{color:var(--good);font-size:1.6rem}.verdict.bad h2{color:var(--bad)}
 .verdict>p{margin:.3rem 0 0;max-width:52rem}
 .facts{list-style:none;margin:1.1rem 0 0;padding:0;display:flex;flex-wrap:wrap;gap:.9rem 2.6rem}
 .facts b{display:block;font-weight:400;color:var(--muted);font-size:.82rem}.facts .big{flex:1 0 100%}
@@ -67,7 +68,10 @@ summary{cursor:pointer;padding:.55rem .9rem}summary span{color:var(--muted)}
 .q{color:var(--muted)}
 details table{border-width:1px 0 0}
 details pre{margin:0;padding:.6rem .9rem;border-top:1px solid var(--line);white-space:pre-wrap;overflow-wrap:anywhere;color:var(--muted);font-size:.72rem;max-height:22rem;overflow:auto}
-.yes{color:var(--good);white-space:nowrap}
+.yes{color:var(--good);white-space:nowrap}.no{color:var(--bad);white-space:nowrap;font-weight:600}.hit th{font-weight:600}
+.line{white-space:normal;overflow-wrap:anywhere}
+.sign{display:grid;grid-template-columns:1fr 1fr;gap:3.2rem 3rem;margin-top:3.4rem}
+.sign div{border-top:1px solid var(--ink);padding-top:.3rem;font-size:.86rem;color:var(--muted)}
 .acc tbody{border-top:1px solid var(--ink)}.acc tbody td,.acc tbody th{border-top:0;padding-top:.15rem;padding-bottom:.15rem}
 .acc .name{padding-top:.5rem}.acc .sum>*{border-top:1px solid var(--line);font-weight:600;padding-bottom:.5rem}
 ol.how{padding-left:1.3rem;max-width:50rem}ol.how li{margin:.5rem 0}
@@ -84,13 +88,14 @@ footer{padding-top:1rem;padding-bottom:3rem;color:var(--muted);font-size:.86rem;
 @media screen and (max-width:46rem){
 body{font-size:14px}h1{font-size:1.6rem}main,header>div,footer,nav ul{padding-left:1rem;padding-right:1rem}code{white-space:normal}
 .verdict{padding:1rem}.verdict .facts{gap:.7rem 1.8rem}
+.sign{grid-template-columns:1fr}
 .acc{font-size:.82rem}.acc th,.acc td{padding-left:.2rem;padding-right:.2rem}.acc tbody th{min-width:0}}
 @page{size:A4;margin:16mm 14mm 18mm;@bottom-left{content:\"sheetdesk report\";font:8pt sans-serif;color:#555}@bottom-right{content:counter(page) \" / \" counter(pages);font:8pt sans-serif;color:#555}}
 @media print{
 :root{color-scheme:light;font-size:9pt;--paper:#fff;--card:#fff;--ink:#000;--muted:#444;--line:#bbb;--link:#000;--good:#17613f;--bad:#a3212f}
 body{font-size:9pt;line-height:1.35}nav,.raw{display:none}a{text-decoration:none}
 header{padding:0}main,header>div,footer{padding:0;max-width:none}section{margin:6mm 0}#map{break-inside:avoid}section>p{break-after:avoid;break-inside:avoid}.h{max-width:34mm}
-h2,h3,caption{break-after:avoid}tr,figure,.verdict,.acc tbody{break-inside:avoid}thead{display:table-header-group}
+h2,h3,caption{break-after:avoid}tr,figure,.verdict,.acc tbody,#sign{break-inside:avoid}thead{display:table-header-group}
 th,td{padding:.9mm 1.6mm}details{border:0;margin:3mm 0}details::details-content{content-visibility:visible;block-size:auto}
 .two{grid-template-columns:minmax(0,100mm) 1fr;gap:0 6mm}
 .h,.sw,figure{print-color-adjust:exact;-webkit-print-color-adjust:exact}}

@@ -1,6 +1,7 @@
 //! The fixed words of a page (HTML 5).
 
-pub(crate) const HEAD: &str = "<!DOCTYPE html>
+/// All before the title.
+pub const HEAD: &str = "<!DOCTYPE html>
 <html lang=\"en\">
 <head>
 <meta charset=\"utf-8\">
@@ -24,7 +25,8 @@ pub(crate) const NAVIGATION: &str = "</div>
 <svg width=\"0\" height=\"0\" aria-hidden=\"true\" style=\"position:absolute\"><defs>
 ";
 
-pub(crate) const SHAPES: &str = "<path id=\"k0\" d=\"M-5 0a5 5 0 1 0 10 0a5 5 0 1 0-10 0z\"/>
+/// The shapes of marks, and the end of what is drawn by reference.
+pub const SHAPES: &str = "<path id=\"k0\" d=\"M-5 0a5 5 0 1 0 10 0a5 5 0 1 0-10 0z\"/>
 <path id=\"k1\" d=\"M-5-5h10v10h-10z\"/>
 <path id=\"k2\" d=\"M0-7l7 7l-7 7l-7-7z\"/>
 <path id=\"k3\" d=\"M0-7l7 12h-14z\"/>
@@ -57,7 +59,8 @@ pub(crate) const HOMES_HEAD: &str = "<h3>Home again</h3>
 <tbody>
 ";
 
-pub(crate) const TABLE_END: &str = "</tbody>
+/// The end of a table.
+pub const TABLE_END: &str = "</tbody>
 </table>
 ";
 

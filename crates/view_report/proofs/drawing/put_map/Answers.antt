@@ -11,4 +11,4 @@ returns c =
     onward (string_bytes c.put_levels.new.text) _ _ (rw c.level_total-total.ensures at c.in_ok-put_first_names.ensures) (
     onward (string_bytes c.put_first_names.new.text) _ _ (rw c.deref.ensures.value at c.in_ok-put_marks.ensures) (
     onward (string_bytes c.put_marks.new.text) _ _ c.in_ok-put-3.ensures (
-    onward (string_bytes c.put-3.new.text) _ _ (rw c.deref-2.ensures.value at c.in_ok-put_legends.ensures) c.in_ok-put-4.ensures)))))))
+    onward (string_bytes c.put-3.new.text) _ _ c.in_ok-put_legends.ensures c.in_ok-put-4.ensures)))))))

@@ -1,0 +1,9 @@
+use Rattle.std.specs.Prelude.{string_bytes}
+use Rattle.view_report.proofs.Texts.{one_more}
+use Rattle.view_loan.specs.Receipts.{receipt_if}
+use Rattle.view_loan.proofs.receipts.put_rows.Goals as goal
+
+pub loop-receipt-preserved : goal.loop-receipt-preserved
+loop-receipt-preserved c =
+    one_more (receipt_if c.args.register.now c.args.loan) c.args.receipts.now c.loop-receipt.receipt-index c.receipt-item.result (string_bytes c.args.text.now) c.loop-receipt-test.true
+    c.receipt-item.is c.loop-receipt.invariant c.in_ok-put_row_if.ensures

@@ -1,0 +1,5 @@
+pub mod Pieces
+pub mod Lent
+pub mod Receipts
+pub mod Verdicts
+pub mod Pages
