@@ -1,0 +1,88 @@
+#!/usr/bin/env python3
+"""Times the page of a register beside an audit of the same folder, in one run.
+
+Usage: page_times.py [--folder FOLDER] [--links] [ROUNDS [COUNT..]]
+
+(3 rounds of 10000 and 100000 items, a third each tiles, media and rows; FOLDER is where temporary files are, memory where there is some.)
+With --links each row is linked to a tile as well, so that there are as many links as rows.
+
+In each round the two take turns. Times are by the clock, in seconds: the median of the rounds with the least and the greatest. The page
+may take a second longer than the audit; status 1 where it takes more than that.
+"""
+
+import argparse
+import os
+import statistics
+import subprocess
+import sys
+import tempfile
+import time
+
+from program import program
+from timed_lists import ARCHIVE, AT, FRAME, HEADER, List, additions
+
+MEMORY = "/dev/shm" if os.path.isdir("/dev/shm") else None
+ALLOWED = 1.0
+
+
+def linked(count):
+    """Tiles, media and rows in turn, and a link of each row to the tile before it."""
+    made = List()
+    for number in range(count // 3):
+        tile = made.tile(number)
+        made.medium(number)
+        row = made.row(number, number * 7919 % 1048576, 1 + number * 104729 % 1048576)
+        made.link("link", "rows_tiles", row, tile)
+    return made.lines
+
+
+def made_in(place, lines):
+    folder, path = os.path.join(place, "maps"), os.path.join(place, "list.csv")
+    os.mkdir(folder)
+    with open(path, "w", encoding="utf-8") as to:
+        to.write(HEADER + "".join(lines))
+    subprocess.run([PROGRAM, "init", folder, "--archive", ARCHIVE, "--at", AT, "--frame", FRAME], check=True, stdout=subprocess.DEVNULL)
+    report = subprocess.run([PROGRAM, "import", folder, path], check=True, stdout=subprocess.PIPE, text=True).stdout
+    assert all(line.endswith(",0") for line in report.splitlines()[1:]), "a request was refused"
+    return folder
+
+
+def timed(words):
+    begun = time.monotonic()
+    printed = subprocess.run([PROGRAM, *words], check=True, stdout=subprocess.PIPE).stdout
+    return time.monotonic() - begun, len(printed)
+
+
+def spelled(times):
+    return f"{statistics.median(times):.2f} ({min(times):.2f} to {max(times):.2f})"
+
+
+def measure(rounds, count, links, place):
+    """Whether the page of so many items keeps within what it may take."""
+    with tempfile.TemporaryDirectory(dir=place) as room:
+        folder = made_in(room, linked(count) if links else additions(count).lines)
+        took, size = {"audit": [], "report": []}, 0
+        for _ in range(rounds):
+            for word, times in took.items():
+                seconds, size = timed([word, folder])
+                times.append(seconds)
+    more = statistics.median(took["report"]) - statistics.median(took["audit"])
+    print(f"{count} items: audit {spelled(took['audit'])} s, report {spelled(took['report'])} s, {more:.2f} s longer, {size} bytes", flush=True)
+    return more <= ALLOWED
+
+
+def main():
+    words = argparse.ArgumentParser(description=__doc__, formatter_class=argparse.RawDescriptionHelpFormatter)
+    words.add_argument("--folder", default=MEMORY)
+    words.add_argument("--links", action="store_true")
+    words.add_argument("rounds", nargs="?", type=int, default=3)
+    words.add_argument("counts", nargs="*", type=int, default=[10000, 100000])
+    said = words.parse_args()
+    kept = [measure(said.rounds, count, said.links, said.folder) for count in said.counts or [10000, 100000]]
+    sys.exit(not all(kept))
+
+
+PROGRAM = program()
+
+if __name__ == "__main__":
+    main()
