@@ -19,7 +19,7 @@ TEST_VALUES = ["test_values", "test_worlds"]
 # The crates that a line of a session goes through (crates/sheetdesk), from the words of the program on.
 OF_SESSIONS = [
     "sheetdesk", "command_words", "command_verbs", "command_requests", "command_replies", "commands", "command_folder", "manifest_csv", "views", "view_world", "view_text", "view_map", "cli",
-    "world", "world_decisions", "world_loans", "world_changes", "world_queries", "register_lending",
+    "view_page", "view_report", "view_loan", "view_fault", "view_names", "world", "world_decisions", "world_loans", "world_changes", "world_queries", "register_lending",
 ]
 CONST = re.compile(r"^(?:pub(?:\(crate\))? )?const (?P<name>\w+): .*?;$", re.M | re.S)
 HEAD = re.compile(r"^(?P<indent>\s*)(?P<pub>pub(?:\((?:crate|super)\))? )?fn (?P<name>\w+)", re.M)
