@@ -1,5 +1,5 @@
 -- The page of a folder that does not open (HTML 5). Profile.
-use Rattle.std.specs.Prelude.{ℕ, ◌==◌, nat_lt, List, [], ◌∷◌, ◌++◌, Option, Some, None, option_map, if◌then◌else◌, codes, flat_map, slice_index_or}
+use Rattle.std.specs.Prelude.{ℕ, zero, suc, ◌==◌, nat_lt, List, [], ◌∷◌, ◌++◌, Option, Some, None, option_map, if◌then◌else◌, codes, slice_index_or}
 use Rattle.command_faults.specs.Texts.{fault_text}
 use Rattle.opening_faults.specs.declared.faults.RecoverFault.{RecoverFault}
 use Rattle.opening_faults.specs.declared.faults.RecoverFault.TheVariants.{NoArchive, TwoArchives, NotAPackage, TwoCopies, MissingPackage, ForeignFrame, Dangling, OutOfAccount, Altered, OutOfMemory, StoreFault}
@@ -81,15 +81,17 @@ row_text found n =
     codes "<tr" ++ (row_class n found ++ (codes "><th scope=\"row\">" ++ (fault_name n ++ (codes "</th><td>" ++ (fault_meaning n
     ++ (codes "</td>" ++ (state_text n found ++ codes "</tr>\n")))))))
 
-abbrev pub all_places : List ℕ
-all_places = 0 ∷ 1 ∷ 2 ∷ 3 ∷ 4 ∷ 5 ∷ 6 ∷ 7 ∷ 8 ∷ []
+-- the first n of the nine, in turn
+unfoldable pub rows_text : ℕ → ℕ → List ℕ
+rows_text found zero = []
+rows_text found (suc n) = rows_text found n ++ row_text found n
 
 -- with what is known of it beside its name
 abbrev pub page_text : ℕ → List ℕ → List ℕ
 page_text found known =
     HEAD.now ++ (codes "Register not in order" ++ (STYLE.now ++ (VERDICT.now ++ (fault_name found ++ (codes "</h2>\n<p>"
     ++ (fault_meaning found ++ (codes "</p>\n<ul class=\"facts\">\n<li class=\"big\"><b>Where</b> " ++ (escaped known
-    ++ (DO_HEAD.now ++ (fault_remedy found ++ (FAULTS_HEAD.now ++ (flat_map (row_text found) all_places ++ END.now))))))))))))
+    ++ (DO_HEAD.now ++ (fault_remedy found ++ (FAULTS_HEAD.now ++ (rows_text found 9 ++ END.now))))))))))))
 
 -- The page of a fault, where it is one of the nine.
 abbrev pub fault_page : RecoverFault → Option (List ℕ)

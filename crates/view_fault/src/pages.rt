@@ -1,6 +1,6 @@
 //! The page of a folder that does not open: the fault, what is known of it, what to do, and what was asked before it.
-ghost use Rattle.std.specs.Prelude.{◌≡◌, ◌++◌, IfOk, flat_map, option_map, string_bytes};
-ghost use Rattle.view_fault.specs.Pages.{all_places, fault_meaning, fault_name, fault_page, fault_remedy, page_text, place_of, row_class, row_text, state_text};
+ghost use Rattle.std.specs.Prelude.{◌≡◌, ◌++◌, IfOk, option_map, string_bytes};
+ghost use Rattle.view_fault.specs.Pages.{fault_meaning, fault_name, fault_page, fault_remedy, page_text, place_of, row_class, row_text, rows_text, state_text};
 
 use crate::words::{DO_HEAD, END, FAULTS_HEAD, VERDICT};
 use command_faults::texts::fault_text;
@@ -12,8 +12,8 @@ use view_report::style::STYLE;
 use view_report::words::HEAD;
 
 /// The place of a fault in the order of the nine; none of want of memory and of a failing store.
-fn place_of(fault: RecoverFault) -> Option<u64>
-    ensures { result ≡ place_of fault }
+fn place_of(fault: &RecoverFault) -> Option<u64>
+    ensures { result ≡ place_of fault.now }
 {
     match fault {
         RecoverFault::NoArchive => Some(0),
@@ -124,12 +124,12 @@ fn put_row(text: &mut String, found: u64, number: u64) -> Result<(), AllocError>
     Ok(())
 }
 
-/// Puts the rows of faults.
-fn put_rows(text: &mut String, found: u64, numbers: &[u64]) -> Result<(), AllocError>
-    ensures { IfOk result (λ _. string_bytes text.new ≡ string_bytes text.old ++ flat_map (row_text found) numbers.now) }
+/// Puts the rows of the first so many faults.
+fn put_rows(text: &mut String, found: u64, total: u64) -> Result<(), AllocError>
+    ensures { IfOk result (λ _. string_bytes text.new ≡ string_bytes text.old ++ rows_text found total) }
 {
-    for number in numbers {
-        put_row(text, found, *number)?;
+    for number in 0..total {
+        put_row(text, found, number)?;
     }
     Ok(())
 }
@@ -153,9 +153,22 @@ fn put_page(text: &mut String, found: u64, known: &str) -> Result<(), AllocError
     put(text, DO_HEAD)?;
     put(text, fault_remedy(found))?;
     put(text, FAULTS_HEAD)?;
-    put_rows(text, found, &[0, 1, 2, 3, 4, 5, 6, 7, 8])?;
+    put_rows(text, found, 9)?;
     put(text, END)?;
     Ok(())
+}
+
+/// The page of a fault, if it is one of the nine.
+fn page_of(alloc: Global, fault: &RecoverFault) -> Result<Option<String>, AllocError>
+    ensures { IfOk result (λ found. option_map string_bytes found ≡ fault_page fault.now) }
+{
+    let Some(found) = place_of(fault) else {
+        return Ok(None);
+    };
+    let known = fault_text(alloc, *fault)?;
+    let mut text = String::new(alloc);
+    put_page(&mut text, found, known.as_str())?;
+    Ok(Some(text))
 }
 
 /// The page of a fault, if it is one of the nine by which stores stand for no world: one file of HTML 5 that needs nothing else.
@@ -166,11 +179,5 @@ fn put_page(text: &mut String, found: u64, known: &str) -> Result<(), AllocError
 pub fn fault_page(alloc: Global, fault: RecoverFault) -> Result<Option<String>, AllocError>
     ensures { IfOk result (λ found. option_map string_bytes found ≡ fault_page fault) }
 {
-    let Some(found) = place_of(fault) else {
-        return Ok(None);
-    };
-    let known = fault_text(alloc, fault)?;
-    let mut text = String::new(alloc);
-    put_page(&mut text, found, known.as_str())?;
-    Ok(Some(text))
+    page_of(alloc, &fault)
 }

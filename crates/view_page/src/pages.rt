@@ -11,6 +11,7 @@ use command_folder::folders::{OpenFolder, open_folder};
 use command_words::statuses::{Failure, Outcome};
 use manifest_csv::sending::send;
 use package_tables::fault::Fault;
+use sheet_types::error::OutOfMemory;
 use sqlite::{Alter, Connection};
 use sqlite_trees::store::Store;
 use std::alloc::{AllocError, Global};
@@ -34,6 +35,20 @@ pub enum Paper {
 }
 
 /// What is asked of a register; none where it is of no loan that lives.
+fn asked_of(alloc: Global, register: Register, paper: Paper) -> Result<Option<String>, OutOfMemory>
+    requires { IsTrue (is_good_frame register.frame) }
+    ensures { IfOk result (λ found. IsPaper register paper (option_map string_bytes found)) }
+{
+    match paper {
+        Paper::Whole => {
+            let text = page_text(alloc, &register)?;
+            Ok(Some(text))
+        }
+        Paper::Loan(loan) => loan_page(alloc, register, loan),
+    }
+}
+
+/// The same, where there is a register.
 fn text_of(
     alloc: Global,
     register: Result<Register, Fault>,
@@ -43,11 +58,7 @@ fn text_of(
     ensures { IfOk result (λ found. IsOkAnd register (λ r. IsPaper r paper (option_map string_bytes found))) }
 {
     let register = register?;
-    let found = match paper {
-        Paper::Whole => page_text(alloc, &register).map(Some),
-        Paper::Loan(loan) => loan_page(alloc, register, loan),
-    };
-    match found {
+    match asked_of(alloc, register, paper) {
         Ok(found) => Ok(found),
         Err(_) => Err(Fault::OutOfMemory),
     }

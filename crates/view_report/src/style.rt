@@ -86,7 +86,7 @@ footer{padding-top:1rem;padding-bottom:3rem;color:var(--muted);font-size:.86rem;
 .cards td[data-l]:not(.n)::before{content:attr(data-l) \" \";color:var(--muted)}
 .cards.led tr{position:relative;padding-left:3.2rem;gap:.05rem .9rem}.led th[scope=row]{position:absolute;left:.2rem;width:2.3rem;text-align:right}.led .w{flex:1 0 100%}}
 @media screen and (max-width:46rem){
-body{font-size:14px}h1{font-size:1.6rem}main,header>div,footer,nav ul{padding-left:1rem;padding-right:1rem}code{white-space:normal}
+body{font-size:14px}h1{font-size:1.6rem}main,header>div,footer,nav ul{padding-left:1rem;padding-right:1rem}code:not(.id){white-space:normal}
 .verdict{padding:1rem}.verdict .facts{gap:.7rem 1.8rem}
 .sign{grid-template-columns:1fr}
 .acc{font-size:.82rem}.acc th,.acc td{padding-left:.2rem;padding-right:.2rem}.acc tbody th{min-width:0}}

@@ -1,9 +1,8 @@
-use Rattle.std.specs.Prelude.{string_bytes}
-use Rattle.view_report.proofs.Texts.{one_more}
-use Rattle.view_fault.specs.Pages.{row_text}
+use Rattle.view_fault.proofs.Rows.{no_row, row_more}
 use Rattle.view_fault.proofs.pages.put_rows.Goals as goal
 
+pub loop-number-init : goal.loop-number-init
+loop-number-init c = no_row c.args.found _
+
 pub loop-number-preserved : goal.loop-number-preserved
-loop-number-preserved c =
-    one_more (row_text c.args.found) c.args.numbers.now c.loop-number.number-index c.number-item.result (string_bytes c.args.text.now) c.loop-number-test.true
-    c.number-item.is c.loop-number.invariant c.in_ok-put_row.ensures
+loop-number-preserved c = row_more c.args.found _ _ _ c.loop-number.number c.loop-number.invariant c.in_ok-put_row.ensures
