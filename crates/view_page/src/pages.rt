@@ -119,22 +119,22 @@ pub fn report_in<S: Alter + Drop, W: Write>(
 }
 
 /// The page of a folder that is not opened, where its stores stand for no world.
-fn page_of_fault(alloc: Global, fault: OpenFault) -> Result<Option<String>, AllocError>
-    ensures { IfOk result (λ found. option_map string_bytes found ≡ page_of_fault fault) }
+fn page_of_fault(alloc: Global, fault: &OpenFault) -> Result<Option<String>, AllocError>
+    ensures { IfOk result (λ found. option_map string_bytes found ≡ page_of_fault fault.now) }
 {
     match fault {
         OpenFault::Folder(_) => Ok(None),
-        OpenFault::Fault(fault) => fault_page(alloc, fault),
+        OpenFault::Fault(fault) => fault_page(alloc, *fault),
     }
 }
 
 /// Writes the page of a folder that is not opened.
-pub fn show_fault<W: Write>(alloc: Global, fault: OpenFault, writer: &mut W) -> Ending
-    ensures { ShowsFault fault writer.old writer.new (W.contents writer.old) (W.contents writer.new) result }
+pub fn show_fault<W: Write>(alloc: Global, fault: &OpenFault, writer: &mut W) -> Ending
+    ensures { ShowsFault fault.now writer.old writer.new (W.contents writer.old) (W.contents writer.new) result }
 {
     match page_of_fault(alloc, fault) {
-        Ok(Some(text)) => print(writer, text.as_str(), Ending::Unopened(fault)),
-        Ok(None) => Ending::Unopened(fault),
+        Ok(Some(text)) => print(writer, text.as_str(), Ending::Unopened(*fault)),
+        Ok(None) => Ending::Unopened(*fault),
         Err(_) => NO_MEMORY,
     }
 }
@@ -161,6 +161,6 @@ pub fn report_for<W: Write>(
             close_stores(stores);
             ending
         }
-        Err(fault) => show_fault(rt.alloc(), fault, writer),
+        Err(fault) => show_fault(rt.alloc(), &fault, writer),
     }
 }
