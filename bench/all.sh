@@ -23,6 +23,7 @@ each desk_three_clients - "$bench/desk_times.py" --clients 3 "$rounds" $((quick 
 each desk_files - "$bench/desk_times.py" --files "$disk" $((quick ? 1 : 3)) $((quick ? 300 : 3000))
 if [ -d /dev/shm ]; then
   each desk_files_in_memory - "$bench/desk_times.py" --files /dev/shm $((quick ? 1 : 3)) $((quick ? 1000 : 3000))
+  each page_in_memory - "$bench/page_times.py" --folder /dev/shm $((quick ? 1 : 3)) "${items[@]}"
   each folder_in_memory - "$bench/folder_times.py" --folder /dev/shm $((quick ? 1 : 5)) $((quick ? 300 : 1000)) $((quick ? 3000 : 10000))
 fi
 each folder - "$bench/folder_times.py" --folder "$disk" $((quick ? 1 : 3)) $((quick ? 300 : 1000)) $((quick ? 1000 : 10000))
