@@ -17,6 +17,7 @@ Last the sessions of refusals.txt and folders.txt, written out by hand as they s
 are make_folders.py's. Nothing here runs the program.
 """
 
+import csv
 import os
 import re
 import sys
@@ -26,8 +27,10 @@ import reference
 import verbs
 from machine import holding
 from machine.exports import export
+from machine.fault import fault_page_of
 from machine.frames import Frame
 from machine.lists import read_requests
+from machine.loan import loan_page_of
 from machine.projects import project
 from machine.report import page_of
 from machine.world import Receipt, World
@@ -226,6 +229,26 @@ def projects(session, oblong):
     session.run(f"export maps {CREW} --qgis", "", 2)
 
 
+def papers(session):
+    """The custody page of a loan, with names and without; what is none; and the pages of folders that do not open."""
+    world = rehearsed(told()[0].text().encode()).world
+    with open(os.path.join(HERE, "names.csv"), "rb") as it:
+        names = it.read()
+    called = {record["uuid"]: record["name"] for record in csv.DictReader(names.decode().splitlines())}
+    session.run(f"report maps {CREW}", loan_page_of(world, {}, reference.reply_text, CREW))
+    session.run(f"report maps {CREW.upper()} --names {session.name('samples/names.csv', names)}", loan_page_of(world, called, reference.reply_text, CREW))
+    session.run(f"report maps {nordmark.ARCHIVE}", "refused: no such package\n", 1)
+    session.run("report maps harbour", "refused: uuid\n", 1)
+    for name, text in (("header", "uuid;name\n"), ("record", f"uuid,name\n{CREW},crew\nharbour,crew\n"), ("fields", f"uuid,name\n{CREW}\n"), ("nothing", "")):
+        session.run(f"report maps --names {session.name(f'samples/names_{name}.csv', text.encode())}", "refused: names\n", 1)
+    session.run("report maps --names samples/nowhere.csv", "refused: names\n", 1)
+    item, loan = ("00000000-0000-4000-8000-000000000004", "b0000000-0000-4000-8000-000000000000")
+    session.run("report folders/altered", fault_page_of("Altered", f"item {item} has not the content that its receipt names"), 3)
+    session.run("report folders/missing_package", fault_page_of("MissingPackage", f"package {loan} is named by an open split and has no file"), 3)
+    session.run("report folders/no_archive", fault_page_of("NoArchive", "no file says that it is the archive's"), 3)
+    session.run("report folders/no_database", "", 3)
+
+
 def making(check):
     return f"--archive {worked_lists.uuid_of('a')} --at {worked_lists.MOMENTS['T']} --frame {check.frame}"
 
@@ -386,6 +409,9 @@ def all_sessions():
     every.show("")
     every.show("# The SQL that lists what an edited file holds, and that of another program's file.")
     listings(every)
+    every.show("")
+    every.show("# The custody of a loan, and folders that do not open.")
+    papers(every)
     every.show("")
     every.show("# What bash needs to complete words.")
     completions(every)

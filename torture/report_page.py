@@ -1,25 +1,41 @@
 #!/usr/bin/env python3
 """Opens the page of a register in Chromium, without a window, and says what is wrong with it.
 
-Usage: torture/report_page.py [PAGE..] [--pictures]    without a page those of samples/make_report.py: the sample's, its middle and a hostile one
+Usage: torture/report_page.py [PAGE..] [--pictures] [--only-machine]
+
+Without a page: those of samples/make_report.py, which are the sample's, its middle, the custody of a loan at that time, the page of a
+fault, and two hostile ones. Then the program itself carries the sample out in a folder up to the same time, and prints the same pages:
+the register's and the loan's with the names of samples/names.csv, and that of the fault once a mark was altered behind its back. They
+must be the second machine's to the byte. With --only-machine the program is left out. The program is the one that SHEETDESK names, or
+else the proved one.
 
 Of each page: tidy finds no error; every link leads to a place of the page; no request leaves it; what a browser makes of it has no
-script, image or frame; no page is wider than its window, at 1280 and at 390; printed it is A4. The hostile page has labels with markup,
-quotes, controls, text from right to left and a word without spaces. With --pictures samples/report-desk.png and samples/report-phone.png
-are made anew, of the middle. Chromium and tidy are Debian's (`apt-get install chromium tidy`).
+script, image or frame; no page is wider than its window, at 1280, 768 and 390, light and dark; printed it is A4. The hostile pages have
+labels with markup, quotes, controls, text from right to left and a word without spaces. With --pictures the pictures in samples/ are
+made anew, of the middle. Chromium and tidy are Debian's (`apt-get install chromium tidy`).
 """
 
 import json
 import os
 import re
+import sqlite3
 import subprocess
 import sys
 import tempfile
 
 TOP = os.path.dirname(os.path.dirname(os.path.abspath(__file__)))
 SAMPLES = os.path.join(TOP, "samples")
-SIZES = [("report-desk.png", 1280, 1760), ("report-phone.png", 500, 1500)]
-NARROW = [1280, 390]
+sys.path[:0] = [SAMPLES, os.path.join(TOP, "bench")]
+sys.dont_write_bytecode = True
+
+import nordmark
+from program import program
+
+PICTURES = [("report-desk.png", "middle", 1280, 1760, ()), ("report-phone.png", "middle", 500, 1500, ("--force-dark-mode", "--blink-settings=preferredColorScheme=0")),
+            ("report-loan.png", "loan", 1280, 1760, ())]
+WIDTHS = [1280, 768, 390]
+MACHINE = ["middle", "loan", "fault", "odd", "odd-loan"]
+RECORDS = 58
 
 
 def chromium(folder, page, *words):
@@ -92,7 +108,7 @@ def look_at(folder, page):
         text = found.read()
     faults = tidy_errors(page) + [f"loose link {link}" for link in loose_links(text)] + [f"asks for {url}" for url in requests_out(folder, page)]
     faults += [f"has {each}" for each in odd_elements(folder, page)]
-    for width in NARROW:
+    for width in WIDTHS:
         over = too_wide(folder, page, width)
         faults += [f"{over} wider than {width}"] if over > 0 else []
     sheets = printed(folder, page)
@@ -103,17 +119,63 @@ def look_at(folder, page):
     return faults
 
 
+def machine_pages(folder):
+    """The second machine's pages, by their names."""
+    pages = {name: os.path.join(folder, f"{name}.html") for name in MACHINE}
+    for name, page in pages.items():
+        subprocess.run([sys.executable, os.path.join(SAMPLES, "make_report.py"), f"--{name}", page], check=True)
+    return pages
+
+
+def alter(package, mark):
+    """Moves a mark behind the register's back."""
+    with sqlite3.connect(package) as store:
+        row = store.execute("SELECT local_id FROM sheet_identity WHERE kind = 3 AND uuid = ?", (mark,)).fetchone()
+        store.execute("UPDATE sheet_rows SET x = x + 1 WHERE id = ?", row)
+    store.close()
+
+
+def own_pages(folder):
+    """The program's pages over a folder that has the sample up to the same time."""
+    maps, names, words = os.path.join(folder, "maps"), os.path.join(SAMPLES, "names.csv"), [program()]
+    os.mkdir(maps)
+    subprocess.run([*words, "init", maps, "--archive", nordmark.ARCHIVE, "--at", nordmark.CREATED, "--frame", nordmark.FRAME], check=True, stdout=subprocess.DEVNULL)
+    with open(os.path.join(SAMPLES, "archive.csv"), "rb") as found, open(os.path.join(folder, "list.csv"), "wb") as to:
+        to.writelines(found.readlines()[:RECORDS])
+    subprocess.run([*words, "import", maps, os.path.join(folder, "list.csv")], check=True, stdout=subprocess.DEVNULL)
+    asked = {"middle": ["--names", names], "loan": [nordmark.HARBOUR, "--names", names], "fault": []}
+    pages = {}
+    for name, more in asked.items():
+        if name == "fault":
+            alter(os.path.join(maps, f"{nordmark.BOAT}.gpkg"), nordmark.mark("buoy"))
+        pages[name] = os.path.join(folder, f"own-{name}.html")
+        with open(pages[name], "wb") as to:
+            done = subprocess.run([*words, "report", maps, *more], stdout=to, stderr=subprocess.DEVNULL, check=False)
+        assert done.returncode == (3 if name == "fault" else 0), (name, done.returncode)
+    return pages
+
+
+def same_bytes(one, other):
+    with open(one, "rb") as a, open(other, "rb") as b:
+        return a.read() == b.read()
+
+
 def main():
     words = sys.argv[1:]
-    pages = [os.path.abspath(word) for word in words if word != "--pictures"]
+    pages = [os.path.abspath(word) for word in words if not word.startswith("--")]
     with tempfile.TemporaryDirectory() as folder:
-        middle, odd = os.path.join(folder, "middle.html"), os.path.join(folder, "odd.html")
-        for option, page in (("--middle", middle), ("--odd", odd)):
-            subprocess.run([sys.executable, os.path.join(SAMPLES, "make_report.py"), option, page], check=True)
-        faults = [fault for page in pages or [os.path.join(SAMPLES, "report.html"), middle, odd] for fault in look_at(folder, page)]
+        made, faults = machine_pages(folder), []
+        if not pages:
+            pages = [os.path.join(SAMPLES, "report.html"), *made.values()]
+            if "--only-machine" not in words:
+                own = own_pages(folder)
+                faults += [f"the program's {name} is another" for name, page in own.items() if not same_bytes(page, made[name])]
+                pages += own.values()
+        print("".join(f"{fault}\n" for fault in faults), end="")
+        faults += [fault for page in pages for fault in look_at(folder, page)]
         if "--pictures" in words:
-            for name, width, height in SIZES:
-                chromium(folder, middle, "--force-device-scale-factor=0.5", f"--window-size={width},{height}", f"--screenshot={os.path.join(SAMPLES, name)}")
+            for name, page, width, height, more in PICTURES:
+                chromium(folder, made[page], "--force-device-scale-factor=0.5", f"--window-size={width},{height}", f"--screenshot={os.path.join(SAMPLES, name)}", *more)
     sys.exit(bool(faults))
 
 

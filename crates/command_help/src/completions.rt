@@ -15,6 +15,7 @@ _sheetdesk_options() {
         export) echo --qgis ;;
         holds) echo --tiles --points --geometry --code --label ;;
         map) echo --zoom ;;
+        report) echo --names ;;
         serve) echo --log ;;
     esac
     echo --help
@@ -35,7 +36,7 @@ _sheetdesk_words() {
         2,session) compgen -f -- \"$word\" ;;
         2,completions) compgen -W bash -- \"$word\" ;;
         2,*) compgen -d -- \"$word\" ;;
-        3,put|3,lend|3,return|3,log|3,manifest|3,export) compgen -W \"$(_sheetdesk_packages \"$folder\")\" -- \"$word\" ;;
+        3,put|3,lend|3,return|3,log|3,manifest|3,export|3,report) compgen -W \"$(_sheetdesk_packages \"$folder\")\" -- \"$word\" ;;
         4,put) compgen -W 'tile media mark' -- \"$word\" ;;
         *) compgen -f -- \"$word\" ;;
     esac

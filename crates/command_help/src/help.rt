@@ -128,7 +128,7 @@ pub const EXPLAIN_ABOUT: &str = "Prints the whole way of an item, from receipt t
 
 /// What `report` is for.
 pub const REPORT_ABOUT: &str =
-    "Prints the whole register as one page of HTML: who holds what, the ledger, the account";
+    "Prints the register as one page of HTML, or the custody of one loan with places to sign";
 
 /// What `receipt` is for.
 pub const RECEIPT_ABOUT: &str = "Prints the receipt of a request, as JSON";
@@ -233,7 +233,8 @@ Standard output:
   export    SQL; `sqlite3 NEW.gpkg` makes a file of it that GDAL and QGIS open; with --qgis a QGIS project for
             the file of that name, which has to lie beside it
   map       SVG; who holds which sheets of one zoom, each package in its colour
-  report    HTML; the register on one page, which needs no other file: who holds what, the ledger, the account
+  report    HTML; the register on one page, which needs no other file: who holds what, the ledger, the account.
+            With LOAN the custody of that loan. Where the folder does not open, the fault and what to do
   audit     good and the number of receipts; or the name of what is wrong, as OutOfAccount
   serve     nothing
   tidy      removed and the name, a line for each file: of loans that came home, of splits that were
@@ -246,7 +247,7 @@ status 3 once a store has failed.
 Exit status:
   0  done; of a list whatever its report says
   1  refused: by the desk, or `refused: ` and what: uuid, at, frame, number, zoom, body, list,
-     folder holds packages, no such package, no such request, no such identity
+     names, folder holds packages, no such package, no such request, no such identity
   2  the command line is no use of the program
   3  memory, a file, a port or a stream gave out, or the packages are not in order: standard error has
      the line `store: ` and the name of the fault; of an audit standard output has the name";

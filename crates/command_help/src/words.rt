@@ -261,9 +261,23 @@ fn map_command<'a>(alloc: Global) -> Result<Command<'a>, AllocError> {
     over_folder(alloc, Command::new(alloc, "map"), MAP_ABOUT)?.arg(zoom.required(false))
 }
 
-/// Prints the page of a register.
+/// Prints the page of a register, or of one loan.
 fn report_command<'a>(alloc: Global) -> Result<Command<'a>, AllocError> {
-    over_folder(alloc, Command::new(alloc, "report"), REPORT_ABOUT)
+    let loan = word(
+        alloc,
+        "package",
+        "LOAN",
+        "The custody page of this loan, by its whole UUID; else the page of the register",
+    );
+    let names = option(
+        alloc,
+        "names",
+        "FILE",
+        "What people call packages and sheets, as CSV: uuid,name; else FOLDER/names.csv, if it is there",
+    );
+    over_folder(alloc, Command::new(alloc, "report"), REPORT_ABOUT)?
+        .arg(loan.required(false))?
+        .arg(names.required(false))
 }
 
 /// Says whether the packages of a folder are in order.

@@ -6,6 +6,7 @@ mod field;
 mod founding;
 mod notes;
 mod ordering;
+mod reporting;
 mod running;
 mod sessions;
 mod showing;

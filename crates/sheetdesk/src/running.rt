@@ -3,6 +3,7 @@ use crate::field::{listed, projected};
 use crate::founding::founded;
 use crate::notes::{fault_note, print_refusals, tally_for};
 use crate::ordering::{is_verb, ordered};
+use crate::reporting::reported;
 use crate::showing::shown;
 use crate::streams::{Input, Onlooker};
 use clap::error::ErrorKind;
@@ -20,7 +21,6 @@ use commands::working::{Asked, work_for};
 use std::alloc::AllocError;
 use std::convert::AsStr;
 use std::io;
-use view_page::pages::report_for;
 use views::endings as seen;
 use views::excerpts::LogWords;
 use views::looking::Asked as AskedLook;
@@ -88,7 +88,7 @@ fn ended_with(rt: &HostRuntime, ending: &Ending, note: Result<String, AllocError
 }
 
 /// Tells the ending of a command.
-fn ended(rt: &HostRuntime, ending: &Ending) -> u8 {
+pub(crate) fn ended(rt: &HostRuntime, ending: &Ending) -> u8 {
     ended_with(rt, ending, note_of(rt.alloc(), *ending))
 }
 
@@ -214,6 +214,9 @@ pub(crate) fn carried_out(
     if let Some(ending) = projected(rt, name, given) {
         return ended(rt, &ending);
     }
+    if name == "report" {
+        return reported(rt, given);
+    }
     if let Some(asked) = asked_look(name, given) {
         return looked(
             rt,
@@ -223,7 +226,6 @@ pub(crate) fn carried_out(
     let typed = reader.text();
     let ending = match name {
         "init" => founded(rt, given),
-        "report" => report_for(rt, text_of(given, "folder"), &mut io::writer(rt)),
         "tidy" => tidy(rt, text_of(given, "folder"), &mut io::writer(rt)),
         _ if is_verb(name) => ordered(rt, name, given, reader),
         _ => changed(rt, name, given, reader),

@@ -1,5 +1,5 @@
 -- A look at what a world holds, and then at its stores.
-use Rattle.std.proofs.Common.{◌≡◌, ◌∙◌, ◌++◌, ◌∷◌, [], ℕ, List, map, length, refl, sym, subst, inl, inr, Result, Ok, Err, OnOk, MatchResult, IfOk}
+use Rattle.std.proofs.Common.{◌≡◌, ◌∙◌, ◌++◌, ◌∷◌, [], ℕ, List, map, length, refl, sym, subst, inl, inr, Option, option_map, Result, Ok, Err, OnOk, MatchResult, IfOk}
 use Rattle.std.specs.Prelude.{IsOkAnd}
 use Rattle.std.specs.List.{AllByRecursion}
 use Rattle.std.proofs.lemmas.List.Elements.{All-from_recursion, recursion_from_All}
@@ -12,9 +12,9 @@ use Rattle.command_requests.proofs.Untouched.{stands_after}
 use Rattle.command_requests.specs.Listing.{IsUntouched as IsUntouchedWorld}
 use Rattle.view_history.proofs.Asked.{clean_back}
 use Rattle.view_history.specs.Stores.{AreClean}
-use Rattle.view_page.specs.Pages.{IsPageOf, as_bytes}
+use Rattle.view_page.specs.Pages.{IsPaper, IsPaperOf, as_bytes}
+use Rattle.view_page.specs.declared.pages.Paper.{Paper}
 use Rattle.view_page.specs.Registers.{IsRegisterOf, LooksThrough}
-use Rattle.view_report.specs.Pages.{page_text}
 use Rattle.view_report.specs.declared.registers.Name.{Name}
 use Rattle.view_report.specs.declared.registers.Register.{Register}
 use Rattle.view_world.proofs.HeldStores.{read_held}
@@ -69,26 +69,26 @@ module _ {S : Type 0} (g : Ghosts S) where
     told = λ clean. tt;
   }
 
-  -- the same of a text and of its bytes, under names that are the same
-  pub through_bytes : {T : Type 0} (bytes : T → List ℕ) (names other : List Name) → names ≡ other → (seen : Seen S) (stores : List (Held S)) (r : Result T Fault)
-      → LooksThrough g {X = T} (λ w t. IsPageOf w names (bytes t)) seen stores r → LooksThrough g {X = List ℕ} (λ w text. IsPageOf w other text) seen stores (as_bytes bytes r)
-  through_bytes bytes names other same seen stores (Ok t) it = record {
+  -- the same of a text and of its bytes
+  pub through_bytes : {T : Type 0} (bytes : T → List ℕ) (names : List Name) (paper : Paper) (seen : Seen S) (stores : List (Held S)) (r : Result (Option T) Fault)
+      → LooksThrough g {X = Option T} (λ w t. IsPaperOf w names paper (option_map bytes t)) seen stores r → LooksThrough g {X = Option (List ℕ)} (λ w text. IsPaperOf w names paper text) seen stores (as_bytes bytes r)
+  through_bytes bytes names paper seen stores (Ok t) it = record {
     read = it.read;
     world = it.world;
     stores_read = it.stores_read;
-    told = λ clean w stands. subst (λ ns. IsPageOf w ns (bytes t)) same (it.told clean w stands);
+    told = it.told;
   }
-  through_bytes bytes names other same seen stores (Err e) it = record { read = it.read; world = it.world; stores_read = it.stores_read; told = λ clean. tt }
+  through_bytes bytes names paper seen stores (Err e) it = record { read = it.read; world = it.world; stores_read = it.stores_read; told = λ clean. tt }
 
-  -- and of a register and of its page
-  pub through_page : {T : Type 0} (bytes : T → List ℕ) (names : List Name) (seen : Seen S) (stores : List (Held S)) (r : Result Register Fault) (t : Result T Fault)
-      → IfOk t (λ text. IsOkAnd r (λ x. bytes text ≡ page_text x)) → LooksThrough g {X = Register} (λ w x. IsRegisterOf w names x) seen stores r
-      → LooksThrough g {X = T} (λ w text. IsPageOf w names (bytes text)) seen stores t
-  through_page bytes names seen stores (Ok x) (Ok text) is it = record {
+  -- and of a register and of what is asked of it
+  pub through_page : {T : Type 0} (bytes : T → List ℕ) (names : List Name) (paper : Paper) (seen : Seen S) (stores : List (Held S)) (r : Result Register Fault) (t : Result (Option T) Fault)
+      → IfOk t (λ text. IsOkAnd r (λ x. IsPaper x paper (option_map bytes text))) → LooksThrough g {X = Register} (λ w x. IsRegisterOf w names x) seen stores r
+      → LooksThrough g {X = Option T} (λ w text. IsPaperOf w names paper (option_map bytes text)) seen stores t
+  through_page bytes names paper seen stores (Ok x) (Ok text) is it = record {
     read = it.read;
     world = it.world;
     stores_read = it.stores_read;
     told = λ clean w stands. (x, it.told clean w stands, is);
   }
-  through_page bytes names seen stores (Err e) (Ok text) is it = absurd is
-  through_page bytes names seen stores r (Err e) is it = record { read = it.read; world = it.world; stores_read = it.stores_read; told = λ clean. tt }
+  through_page bytes names paper seen stores (Err e) (Ok text) is it = absurd is
+  through_page bytes names paper seen stores r (Err e) is it = record { read = it.read; world = it.world; stores_read = it.stores_read; told = λ clean. tt }

@@ -1,41 +1,70 @@
 //! The page of a world, written out.
-ghost use Rattle.std.specs.Prelude.{◌≡◌, IfOk, IsOkAnd, IsTrue, string_bytes};
+ghost use Rattle.std.specs.Prelude.{◌≡◌, IfOk, IsOkAnd, IsTrue, option_map, string_bytes};
 ghost use Rattle.sheet_types.specs.Matrix.{is_good_frame};
-ghost use Rattle.command_folder.specs.Endings.{done};
 ghost use Rattle.command_folder.specs.Printing.{Prints};
-ghost use Rattle.view_page.specs.Pages.{IsPageOf, OpensPage, ShowsPage, ShowsText, as_bytes};
+ghost use Rattle.view_page.specs.Pages.{IsPaper, IsPaperOf, OpensPage, ShowsFault, ShowsPage, ShowsText, as_bytes, page_of_fault};
 ghost use Rattle.view_page.specs.Registers.{LooksThrough};
-ghost use Rattle.view_report.specs.Pages.{page_text};
 
 use crate::registers::register_of;
-use command_folder::endings::{DONE, Ending, FAILED};
+use command_folder::endings::{DONE, Ending, FAILED, NO_MEMORY, OpenFault};
 use command_folder::folders::{OpenFolder, open_folder};
 use command_words::statuses::{Failure, Outcome};
 use manifest_csv::sending::send;
 use package_tables::fault::Fault;
+use sheet_types::error::OutOfMemory;
 use sqlite::{Alter, Connection};
 use sqlite_trees::store::Store;
-use std::alloc::Global;
+use std::alloc::{AllocError, Global};
 use std::io::Write;
 use store_folder::opening::close_stores;
 use store_folder::start::FolderStore;
+use uuid::Uuid;
+use view_fault::pages::fault_page;
+use view_loan::pages::loan_page;
 use view_report::pages::page_text;
 use view_report::registers::{Name, Register};
 use world::world::World;
 
-/// The page of a register.
-fn text_of(alloc: Global, register: Result<Register, Fault>) -> Result<String, Fault>
+/// What is asked of a register.
+#[derive(Clone, Copy, PartialEq, Eq)]
+pub enum Paper {
+    /// Its page.
+    Whole,
+    /// The custody page of the loan of this UUID.
+    Loan(Uuid),
+}
+
+/// What is asked of a register; none where it is of no loan that lives.
+fn asked_of(alloc: Global, register: Register, paper: Paper) -> Result<Option<String>, OutOfMemory>
+    requires { IsTrue (is_good_frame register.frame) }
+    ensures { IfOk result (λ found. IsPaper register paper (option_map string_bytes found)) }
+{
+    match paper {
+        Paper::Whole => {
+            let text = page_text(alloc, &register)?;
+            Ok(Some(text))
+        }
+        Paper::Loan(loan) => loan_page(alloc, register, loan),
+    }
+}
+
+/// The same, where there is a register.
+fn text_of(
+    alloc: Global,
+    register: Result<Register, Fault>,
+    paper: Paper,
+) -> Result<Option<String>, Fault>
     requires { IfOk register (λ r. IsTrue (is_good_frame r.frame)) }
-    ensures { IfOk result (λ text. IsOkAnd register (λ r. string_bytes text ≡ page_text r)) }
+    ensures { IfOk result (λ found. IsOkAnd register (λ r. IsPaper r paper (option_map string_bytes found))) }
 {
     let register = register?;
-    match page_text(alloc, &register) {
-        Ok(text) => Ok(text),
+    match asked_of(alloc, register, paper) {
+        Ok(found) => Ok(found),
         Err(_) => Err(Fault::OutOfMemory),
     }
 }
 
-/// The page of a world, with these names. The world ends with it; its stores are handed on.
+/// What is asked of a world, with these names; none where it is of no loan that lives. The world ends with it; its stores are handed on.
 ///
 /// # Errors
 ///
@@ -44,50 +73,81 @@ pub fn page_of<S: Alter + Drop>(
     alloc: Global,
     world: World<S>,
     names: Vec<Name>,
-) -> (Result<String, Fault>, Vec<Connection<S>>)
-    ensures { LooksThrough S.Store (λ w text. IsPageOf w names.items (string_bytes text)) world result.1.items result.0 }
+    paper: Paper,
+) -> (Result<Option<String>, Fault>, Vec<Connection<S>>)
+    ensures { LooksThrough S.Store (λ w found. IsPaperOf w names.items paper (option_map string_bytes found)) world result.1.items result.0 }
 {
     let (register, stores) = register_of(alloc, world, names);
-    let text = text_of(alloc, register);
+    let text = text_of(alloc, register, paper);
     (text, stores)
 }
 
-/// Writes a text, and all is done.
-fn print<W: Write>(writer: &mut W, text: &str) -> Ending
-    ensures { Prints text.now done (W.contents writer.old) (W.contents writer.new) result }
+/// Writes a text, and ends as is due.
+fn print<W: Write>(writer: &mut W, text: &str, due: Ending) -> Ending
+    ensures { Prints text.now due (W.contents writer.old) (W.contents writer.new) result }
 {
     match send(writer, text.as_bytes()) {
-        Ok(()) => DONE,
+        Ok(()) => due,
         Err(_) => FAILED,
     }
 }
 
-/// Writes a page, or tells what gave out.
-fn show<W: Write>(writer: &mut W, text: Result<String, Fault>) -> Ending
-    ensures { ShowsText (as_bytes string_bytes text) writer.old writer.new (W.contents writer.old) (W.contents writer.new) result }
+/// Writes what was asked, or tells that there is no such loan, or what gave out.
+fn show<W: Write>(writer: &mut W, found: Result<Option<String>, Fault>) -> Ending
+    ensures { ShowsText (as_bytes string_bytes found) writer.old writer.new (W.contents writer.old) (W.contents writer.new) result }
 {
-    match text {
-        Ok(text) => print(writer, text.as_str()),
+    match found {
+        Ok(Some(text)) => print(writer, text.as_str(), DONE),
+        Ok(None) => Ending::NoSuchPackage,
         Err(fault) => Ending::Usual(Outcome::Stopped(Failure::from(fault))),
     }
 }
 
-/// Writes the page of a world, whose stores are handed on.
+/// Writes what is asked of a world, whose stores are handed on.
 pub fn report_in<S: Alter + Drop, W: Write>(
     alloc: Global,
     world: World<S>,
+    names: Vec<Name>,
+    paper: Paper,
     writer: &mut W,
 ) -> (Ending, Vec<Connection<S>>)
-    ensures { ShowsPage S.Store world result.1.items writer.old writer.new (W.contents writer.old) (W.contents writer.new) result.0 }
+    ensures { ShowsPage S.Store names.items paper world result.1.items writer.old writer.new (W.contents writer.old) (W.contents writer.new) result.0 }
 {
-    let (text, stores) = page_of(alloc, world, Vec::new(alloc));
-    let ending = show(writer, text);
+    let (found, stores) = page_of(alloc, world, names, paper);
+    let ending = show(writer, found);
     (ending, stores)
 }
 
-/// Opens a folder, and writes the page of its register.
-pub fn report_for<W: Write>(rt: &HostRuntime, folder: &str, writer: &mut W) -> Ending
-    ensures { OpensPage ⟦<FolderStore as Store>⟧ writer.old writer.new (W.contents writer.old) (W.contents writer.new) result }
+/// The page of a folder that is not opened, where its stores stand for no world.
+fn page_of_fault(alloc: Global, fault: &OpenFault) -> Result<Option<String>, AllocError>
+    ensures { IfOk result (λ found. option_map string_bytes found ≡ page_of_fault fault.now) }
+{
+    match fault {
+        OpenFault::Folder(_) => Ok(None),
+        OpenFault::Fault(fault) => fault_page(alloc, *fault),
+    }
+}
+
+/// Writes the page of a folder that is not opened.
+pub fn show_fault<W: Write>(alloc: Global, fault: &OpenFault, writer: &mut W) -> Ending
+    ensures { ShowsFault fault.now writer.old writer.new (W.contents writer.old) (W.contents writer.new) result }
+{
+    match page_of_fault(alloc, fault) {
+        Ok(Some(text)) => print(writer, text.as_str(), Ending::Unopened(*fault)),
+        Ok(None) => Ending::Unopened(*fault),
+        Err(_) => NO_MEMORY,
+    }
+}
+
+/// Opens a folder, and writes what is asked of its register.
+pub fn report_for<W: Write>(
+    rt: &HostRuntime,
+    folder: &str,
+    names: Vec<Name>,
+    paper: Paper,
+    writer: &mut W,
+) -> Ending
+    ensures { OpensPage ⟦<FolderStore as Store>⟧ names.items paper writer.old writer.new (W.contents writer.old) (W.contents writer.new) result }
 {
     match open_folder(rt, folder) {
         Ok(
@@ -97,10 +157,10 @@ pub fn report_for<W: Write>(rt: &HostRuntime, folder: &str, writer: &mut W) -> E
                 ..
             },
         ) => {
-            let (ending, stores) = report_in(rt.alloc(), world, writer);
+            let (ending, stores) = report_in(rt.alloc(), world, names, paper, writer);
             close_stores(stores);
             ending
         }
-        Err(fault) => Ending::Unopened(fault),
+        Err(fault) => show_fault(rt.alloc(), &fault, writer),
     }
 }

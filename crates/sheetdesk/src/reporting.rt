@@ -1,0 +1,80 @@
+//! The pages of `report`: its words are read, and its file of names.
+use crate::running::{ended, is_printed, out_of_memory, output_failed, text_of};
+use clap::ArgMatches;
+use command_folder::endings::Ending;
+use command_words::statuses::{Outcome, What};
+use sheet_types::reading::read_uuid;
+use std::fmt::Display;
+use std::fs;
+use std::io::{self, ErrorKind};
+use view_names::lists::{ListFault, read_names};
+use view_page::pages::{Paper, report_for};
+use view_report::registers::Name;
+
+/// What is asked of the register.
+fn paper_of(given: &ArgMatches<'_>) -> Result<Paper, Ending> {
+    let Some(loan) = given.get_str("package") else {
+        return Ok(Paper::Whole);
+    };
+    match read_uuid(loan) {
+        Some(loan) => Ok(Paper::Loan(loan)),
+        None => Err(Ending::Usual(Outcome::Refused(What::BadUuid))),
+    }
+}
+
+/// Says why there are no names, and answers the exit status.
+fn unnamed<E: Display>(rt: &HostRuntime, path: &str, why: &E) -> u8 {
+    if !is_printed(rt, "refused: names\n") {
+        return output_failed(rt);
+    }
+    let _printed = eprintln!(rt; "names: {path}: {why}");
+    1
+}
+
+/// The names in a file. One that nobody asked for need not be there.
+fn names_in(rt: &HostRuntime, path: &str, is_asked: bool) -> Result<Vec<Name>, u8> {
+    match fs::read(rt, path) {
+        Ok(bytes) => match read_names(rt.alloc(), bytes.as_slice()) {
+            Ok(names) => Ok(names),
+            Err(ListFault::Memory) => Err(out_of_memory(rt)),
+            Err(fault) => Err(unnamed(rt, path, &fault)),
+        },
+        Err(error) => {
+            let is_absent = matches!(error.kind(), ErrorKind::NotFound | ErrorKind::NotADirectory);
+            if is_absent && !is_asked {
+                return Ok(Vec::new(rt.alloc()));
+            }
+            Err(unnamed(rt, path, &error))
+        }
+    }
+}
+
+/// The names for a page: of the file that is asked for, or of the folder's.
+fn names_for(rt: &HostRuntime, given: &ArgMatches<'_>) -> Result<Vec<Name>, u8> {
+    if let Some(path) = given.get_str("names") {
+        return names_in(rt, path, true);
+    }
+    let folder = text_of(given, "folder");
+    match format!(in rt.alloc(); "{folder}/names.csv") {
+        Ok(path) => names_in(rt, path.as_str(), false),
+        Err(_) => Err(out_of_memory(rt)),
+    }
+}
+
+/// Writes a page, and answers the exit status.
+pub(crate) fn reported(rt: &HostRuntime, given: &ArgMatches<'_>) -> u8 {
+    let paper = match paper_of(given) {
+        Ok(paper) => paper,
+        Err(ending) => return ended(rt, &ending),
+    };
+    match names_for(rt, given) {
+        Ok(names) => {
+            let folder = text_of(given, "folder");
+            ended(
+                rt,
+                &report_for(rt, folder, names, paper, &mut io::writer(rt)),
+            )
+        }
+        Err(status) => status,
+    }
+}
