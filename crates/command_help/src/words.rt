@@ -1,4 +1,5 @@
 //! Which words the command line has.
+use crate::bringing::{bring_command, changes_command};
 use crate::help::{
     ABOUT, APPLY_ABOUT, AUDIT_ABOUT, BASH_ABOUT, COMPLETIONS_ABOUT, EXPLAIN_ABOUT, EXPORT_ABOUT,
     FOLDER_WORDS, GET_ABOUT, HOLDS_ABOUT, HOLDS_WORDS, IMPORT_ABOUT, INIT_ABOUT, LOG_ABOUT,
@@ -336,6 +337,8 @@ pub fn sheetdesk<'a>(alloc: Global) -> Result<Command<'a>, AllocError> {
         .subcommand(over_package(alloc, "manifest", MANIFEST_ABOUT)?)?
         .subcommand(over_package(alloc, "export", EXPORT_ABOUT)?)?
         .subcommand(holds_command(alloc)?)?
+        .subcommand(changes_command(alloc)?)?
+        .subcommand(bring_command(alloc)?)?
         .subcommand(map_command(alloc)?)?
         .subcommand(report_command(alloc)?)?
         .subcommand(audit_command(alloc)?)?

@@ -1,4 +1,5 @@
 //! A command, carried out: what it asks for is done in `cli`, `commands` and `views`.
+use crate::bringing::{brought, is_bringing};
 use crate::field::listed;
 use crate::founding::founded;
 use crate::ordering::{is_verb, ordered};
@@ -214,6 +215,7 @@ pub(crate) fn carried_out(
         "init" => founded(rt, given),
         "report" => report_for(rt, text_of(given, "folder"), &mut io::writer(rt)),
         "tidy" => tidy(rt, text_of(given, "folder"), &mut io::writer(rt)),
+        _ if is_bringing(name) => brought(rt, name, given, reader),
         _ if is_verb(name) => ordered(rt, name, given, reader),
         _ => changed(rt, name, given, reader),
     };

@@ -1,0 +1,4 @@
+pub mod Heads
+pub mod Reasons
+pub mod Files
+pub mod Lines

@@ -1,0 +1,263 @@
+//! What a file holds, of the entries of its list.
+ghost use Rattle.std.specs.Prelude.{◌≡◌, ¬◌, ◌<◌, ◌↔◌, [], ◌∷◌, ℕ, List, map, is_empty, bytes_eq, length, pos, IfOk, IfErr, IfSome, IfNone, IsTrue, IsPermutation};
+ghost use Rattle.std.specs.List.{filter_map, IsDistinct};
+ghost use Rattle.sheet_types.specs.Ordered.{is_before, IsArranged};
+ghost use Rattle.field_changes.specs.Keys.{number_key};
+ghost use Rattle.field_changes.specs.declared.held.Held.{Held};
+ghost use Rattle.field_faults.specs.Files.{bad_in, closes_at, export_in, frame_in, held_key, item_in, link_in, plain, system_in, IsHeld, IsOnly, Lead, LeadUnlessBad};
+
+use field_changes::ends::links_of as ends_of;
+use field_changes::held::{BadRecord, Export, Held, HeldItem, HeldLink};
+use field_changes::naming::Named;
+use field_lists::entries::Listed;
+use sheet_types::error::OutOfMemory;
+use sheet_types::frame::Frame;
+use std::alloc::Global;
+use uuid::Uuid;
+
+/// Whether the first end is the last entry, and counts those before it.
+fn closes(entries: &[Listed]) -> bool
+    ensures { result ≡ closes_at 0 entries.now }
+{
+    for at in 0..entries.len() {
+        if let Listed::End(count) = &entries[at] {
+            return (at as i128 == i128::from(*count)) & (at + 1 == entries.len());
+        }
+    }
+    false
+}
+
+/// The export that an entry names.
+fn export_in(entry: &Listed) -> Option<Export>
+    ensures { result ≡ export_in entry.now }
+{
+    match entry {
+        Listed::Exported(export) => Some(*export),
+        _ => None,
+    }
+}
+
+/// The system that an entry names.
+fn system_in(entry: &Listed) -> Option<i64>
+    ensures { result ≡ system_in entry.now }
+{
+    match entry {
+        Listed::System(number) => Some(*number),
+        _ => None,
+    }
+}
+
+/// The frame that an entry names.
+fn frame_in(entry: &Listed) -> Option<Frame>
+    ensures { result ≡ frame_in entry.now }
+{
+    match entry {
+        Listed::Framed(frame) => Some(*frame),
+        _ => None,
+    }
+}
+
+/// The link that an entry names.
+fn link_in(entry: &Listed) -> Option<HeldLink>
+    ensures { result ≡ link_in entry.now }
+{
+    match entry {
+        Listed::Link(link) => Some(*link),
+        _ => None,
+    }
+}
+
+/// The item that an entry names.
+fn item_in(entry: Listed) -> Option<HeldItem>
+    ensures { result ≡ item_in entry }
+{
+    match entry {
+        Listed::Item(item) => Some(item),
+        _ => None,
+    }
+}
+
+/// The one of a list that has one at most; `None` where it has more.
+fn only<T: Copy>(found: &[T]) -> Option<Option<T>>
+    ensures some { IfSome result (λ one. IsOnly found.now one) }
+    ensures none { IfNone result (1 < length found.now) }
+{
+    if found.len() > 1 {
+        return None;
+    }
+    Some(found.first().copied())
+}
+
+/// The export that a file was, if it is told once at most.
+fn export_of(alloc: Global, entries: &[Listed]) -> Result<Option<Option<Export>>, OutOfMemory>
+    ensures some { IfOk result (λ found. IfSome found (λ one. IsOnly (filter_map export_in entries.now) one)) }
+    ensures none { IfOk result (λ found. IfNone found (1 < length (filter_map export_in entries.now))) }
+{
+    let found: Vec<Export> = entries.iter().filter_map(|entry| export_in(entry)).collect(alloc)?;
+    Ok(only(found.as_slice()))
+}
+
+/// The system of its points, if it is told once at most.
+fn system_of(alloc: Global, entries: &[Listed]) -> Result<Option<Option<i64>>, OutOfMemory>
+    ensures some { IfOk result (λ found. IfSome found (λ one. IsOnly (filter_map system_in entries.now) one)) }
+    ensures none { IfOk result (λ found. IfNone found (1 < length (filter_map system_in entries.now))) }
+{
+    let found: Vec<i64> = entries.iter().filter_map(|entry| system_in(entry)).collect(alloc)?;
+    Ok(only(found.as_slice()))
+}
+
+/// The frame of its tiles, if it is told once at most.
+fn frame_of(alloc: Global, entries: &[Listed]) -> Result<Option<Option<Frame>>, OutOfMemory>
+    ensures some { IfOk result (λ found. IfSome found (λ one. IsOnly (filter_map frame_in entries.now) one)) }
+    ensures none { IfOk result (λ found. IfNone found (1 < length (filter_map frame_in entries.now))) }
+{
+    let found: Vec<Frame> = entries.iter().filter_map(|entry| frame_in(entry)).collect(alloc)?;
+    Ok(only(found.as_slice()))
+}
+
+/// The links.
+fn links_of(alloc: Global, entries: &[Listed]) -> Result<Vec<HeldLink>, OutOfMemory>
+    ensures { IfOk result (λ links. links.items ≡ filter_map link_in entries.now) }
+{
+    Ok(entries.iter().filter_map(|entry| link_in(entry)).collect(alloc)?)
+}
+
+/// The items.
+fn items_of(alloc: Global, entries: Vec<Listed>) -> Result<Vec<HeldItem>, OutOfMemory>
+    ensures { IfOk result (λ items. items.items ≡ filter_map item_in entries.items) }
+{
+    Ok(entries.into_iter().filter_map(|entry| item_in(entry)).collect(alloc)?)
+}
+
+/// A record that could not be listed, on its own.
+fn copy_of(bad: &BadRecord) -> Result<BadRecord, OutOfMemory>
+    ensures { IfOk result (λ copy. copy ≡ bad.now) }
+{
+    let text = bad.text.try_clone()?;
+    Ok(BadRecord {
+        number: bad.number,
+        text,
+    })
+}
+
+/// The records that could not be listed.
+fn bad_of(alloc: Global, entries: &[Listed]) -> Result<Vec<BadRecord>, OutOfMemory>
+    ensures { IfOk result (λ bad. bad.items ≡ filter_map bad_in entries.now) }
+{
+    let mut found = Vec::new(alloc);
+    for entry in entries {
+        if let Listed::Bad(bad) = entry {
+            found.push(copy_of(bad)?)?;
+        }
+    }
+    Ok(found)
+}
+
+/// An item, as if it had a name already.
+fn plain(item: &HeldItem) -> Named
+    ensures { result ≡ plain item.now }
+{
+    Named {
+        kind: item.content.kind(),
+        number: item.number,
+        identity: Uuid::nil(),
+        is_new: false,
+    }
+}
+
+/// Whether each link leads from an item to another.
+fn lead(alloc: Global, items: &[HeldItem], links: &[HeldLink]) -> Result<bool, OutOfMemory>
+    ensures { IfOk result (λ all. IsTrue all ↔ Lead items.now links.now) }
+{
+    let names: Vec<Named> = items.iter().map(|item| plain(item)).collect(alloc)?;
+    Ok(ends_of(alloc, names.as_slice(), links)?.is_some())
+}
+
+/// The same, where all records could be listed.
+fn lead_unless_bad(
+    alloc: Global,
+    bad: &[BadRecord],
+    items: &[HeldItem],
+    links: &[HeldLink],
+) -> Result<bool, OutOfMemory>
+    ensures { IfOk result (λ all. IsTrue all ↔ LeadUnlessBad bad.now items.now links.now) }
+{
+    if bad.is_empty() {
+        lead(alloc, items, links)
+    } else {
+        Ok(true)
+    }
+}
+
+/// The kind and the number of an item, as a key.
+fn key_of(item: &HeldItem) -> [u64; 3]
+    ensures { result ≡ held_key item.now }
+{
+    let sign = if item.number < 0 { 1 } else { 0 };
+    [
+        u64::from(item.content.kind().number()),
+        sign,
+        item.number.unsigned_abs(),
+    ]
+}
+
+/// Whether an item stands before another.
+fn stands_before(item: &HeldItem, next: &HeldItem) -> bool
+    ensures { result ≡ is_before (held_key item.now) (held_key next.now) }
+{
+    key_of(item).cmp(&key_of(next)).is_lt()
+}
+
+/// The items by kind and number; `None` where two have one number.
+fn in_order(mut items: Vec<HeldItem>) -> Option<Vec<HeldItem>>
+    ensures same { IfSome result (λ sorted. IsPermutation items.items sorted.items) }
+    ensures order { IfSome result (λ sorted. IsArranged held_key sorted.items) }
+    ensures twice { IfNone result (¬ IsDistinct bytes_eq (map held_key items.items)) }
+{
+    items.sort_unstable_by_key(|item| key_of(item));
+    if items.is_sorted_by(|item, next| stands_before(item, next)) {
+        Some(items)
+    } else {
+        None
+    }
+}
+
+/// What a file holds, of the entries of its list; `None` where these are no whole list.
+///
+/// # Errors
+///
+/// Want of memory.
+pub fn held_of(alloc: Global, entries: Vec<Listed>) -> Result<Option<Held>, OutOfMemory>
+    ensures some { IfOk result (λ found. IfSome found (λ h. IsHeld entries.items h)) }
+    ensures none { IfOk result (λ found. IfNone found ((h : Held) → ¬ IsHeld entries.items h)) }
+{
+    if !closes(entries.as_slice()) {
+        return Ok(None);
+    }
+    let Some(export) = export_of(alloc, entries.as_slice())? else {
+        return Ok(None);
+    };
+    let Some(system) = system_of(alloc, entries.as_slice())? else {
+        return Ok(None);
+    };
+    let Some(frame) = frame_of(alloc, entries.as_slice())? else {
+        return Ok(None);
+    };
+    let links = links_of(alloc, entries.as_slice())?;
+    let bad = bad_of(alloc, entries.as_slice())?;
+    let items = items_of(alloc, entries)?;
+    if !lead_unless_bad(alloc, bad.as_slice(), items.as_slice(), links.as_slice())? {
+        return Ok(None);
+    }
+    let Some(items) = in_order(items) else {
+        return Ok(None);
+    };
+    Ok(Some(Held {
+        export,
+        system,
+        frame,
+        items,
+        links,
+        bad,
+    }))
+}

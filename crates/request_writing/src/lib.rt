@@ -1,0 +1,4 @@
+//! Request lists as texts.
+#![tactic(auto)]
+
+pub mod texts;
