@@ -4,6 +4,7 @@ use Rattle.sheet_types.specs.Custody.{ticket}
 use Rattle.sheet_types.specs.World.{World, holdings, is_live}
 use Rattle.sheet_types.specs.declared.command.Item.{Item}
 use Rattle.sheet_types.specs.declared.command.Relation.{Relation}
+use Rattle.sheet_types.specs.declared.frame.Frame.{Frame}
 use Rattle.field_changes.specs.Asked.{AreChanges}
 use Rattle.field_changes.specs.declared.held.Held.{Held}
 use Rattle.field_lists.specs.HoldsLists.{IsList, MeetsFirst}
@@ -41,22 +42,16 @@ head_answer number head.Stale = Stale number
 head_answer number head.OtherSystem = OtherSystem
 head_answer number head.OtherFrame = OtherFrame
 
--- ---- of a package of a world
+-- The file as a whole is refused; or some of its records are; or these are the requests. Of a package of this frame and ticket, which holds this.
+abbrev pub AnswersGiven : Frame → Ask → ℕ → List Item → List Relation → Held → Answer → Type 0
+AnswersGiven f a number items linked h answer =
+    ((fault : HeadFault) × (head_fault a.«package» number f a.more h ≡ Some fault) × (answer ≡ head_answer number fault))
+    ⊎ ((head_fault a.«package» number f a.more h ≡ None)
+    × AnswersLines (fault_lines f items a.more h) a.«package» number a.at.now items linked a.more h answer)
 
--- the lines of what it cannot hold
-abbrev pub lines_of : World → Ask → Held → List ℕ
-lines_of w a h = fault_lines w.frame (holdings w a.«package»).items a.more h
-
--- the fault of the whole file, if there is one
-abbrev pub fault_of : World → Ask → Held → Option HeadFault
-fault_of w a h = head_fault a.«package» (ticket w a.«package») w.frame a.more h
-
--- The file as a whole is refused; or some of its records are; or these are the requests.
+-- of a package of a world
 abbrev pub AnswersFile : World → Ask → Held → Answer → Type 0
-AnswersFile w a h answer =
-    ((fault : HeadFault) × (fault_of w a h ≡ Some fault) × (answer ≡ head_answer (ticket w a.«package») fault))
-    ⊎ ((fault_of w a h ≡ None)
-    × AnswersLines (lines_of w a h) a.«package» (ticket w a.«package») a.at.now (holdings w a.«package»).items (holdings w a.«package»).links a.more h answer)
+AnswersFile w a h answer = AnswersGiven w.frame a (ticket w a.«package») (holdings w a.«package»).items (holdings w a.«package»).links h answer
 
 -- ---- of a list
 

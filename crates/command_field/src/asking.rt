@@ -10,7 +10,7 @@ ghost use Rattle.world.specs.Worlds.{IsRead, StandsFor, TellsOf};
 ghost use Rattle.command_requests.specs.Listing.{IsUntouched};
 ghost use Rattle.field_faults.specs.Lines.{fault_lines};
 ghost use Rattle.field_faults.specs.declared.heads.HeadFault.{HeadFault};
-ghost use Rattle.command_field.specs.Answers.{AnswersBy, AnswersFile, AnswersLines, AnswersText, AreHeldIn, head_answer};
+ghost use Rattle.command_field.specs.Answers.{AnswersBy, AnswersFile, AnswersGiven, AnswersLines, AnswersText, AreHeldIn, head_answer};
 
 use field_changes::changes::{Holdings, Unasked, changes};
 use field_changes::held::Held;
@@ -106,7 +106,7 @@ fn answer_by(
     }
 }
 
-/// The same for a file of this package as it is: it is asked of each record first.
+/// The same of any file of this package as it is: it is asked of each record first.
 fn answer_with(
     alloc: Global,
     frame: &Frame,
@@ -124,7 +124,9 @@ fn answer_with(
         items: holdings.items,
         more,
     };
-    let lines = fault_lines(alloc, &judge, &held)?;
+    let Ok(lines) = fault_lines(alloc, &judge, &held) else {
+        return Err(Fault::OutOfMemory);
+    };
     if lines.is_empty() {
         answer_by(alloc, asker, holdings, more, held)
     } else {
@@ -142,6 +144,29 @@ fn head_answer(ticket: u64, fault: HeadFault) -> Answer
         HeadFault::OtherSystem => Answer::OtherSystem,
         HeadFault::OtherFrame => Answer::OtherFrame,
     }
+}
+
+/// What is answered of a file for a package of this frame and ticket, which holds this.
+fn answer_given(
+    alloc: Global,
+    frame: &Frame,
+    ask: &Ask<'_>,
+    ticket: u64,
+    holdings: &Holdings<'_>,
+    held: Held,
+) -> Result<Answer, Fault>
+    requires { IsTrue (is_good_frame frame.now) }
+    ensures { IfOk result (AnswersGiven frame.now ask.now ticket holdings.now.items.now holdings.now.links.now held) }
+{
+    if let Some(fault) = head_fault(ask.package, ticket, frame, ask.more, &held) {
+        return Ok(head_answer(ticket, fault));
+    }
+    let asker = Asker {
+        package: ask.package,
+        ticket,
+        at: ask.at,
+    };
+    answer_with(alloc, frame, &asker, holdings, ask.more, held)
 }
 
 /// What is answered of a file for a live package of a world. The world is only read.
@@ -164,22 +189,14 @@ pub fn answer_in<S: Alter + Drop>(
         return Err(Fault::StoreFault);
     }
     let frame = world.frame();
-    if let Some(fault) = head_fault(ask.package, ticket, &frame, ask.more, &held) {
-        return Ok(head_answer(ticket, fault));
-    }
     let Some((items, links)) = world.holdings(alloc, ask.package)? else {
         return Err(Fault::StoreFault);
-    };
-    let asker = Asker {
-        package: ask.package,
-        ticket,
-        at: ask.at,
     };
     let holdings = Holdings {
         items: items.as_slice(),
         links: links.as_slice(),
     };
-    answer_with(alloc, &frame, &asker, &holdings, ask.more, held)
+    answer_given(alloc, &frame, ask, ticket, &holdings, held)
 }
 
 /// What the text of a reader lists; `None` where it is no list.
@@ -191,7 +208,10 @@ fn held_in<R: Read + Drop>(alloc: Global, reader: R) -> Result<Option<Held>, Fau
         Err(ListFault::Memory) => return Err(Fault::OutOfMemory),
         Err(_) => return Ok(None),
     };
-    Ok(held_of(alloc, entries)?)
+    match held_of(alloc, entries) {
+        Ok(held) => Ok(held),
+        Err(_) => Err(Fault::OutOfMemory),
+    }
 }
 
 /// What is answered of a list of what a file holds, which a reader gives. Whether the package is live is asked before anything is read. The world is only read.

@@ -1,6 +1,7 @@
 -- What a file holds, of the entries of its list. Profile.
-use Rattle.std.specs.Prelude.{◌≡◌, ℕ, ◌+◌, ℤ, pos, Bool, true, false, ◌&&◌, List, [], ◌∷◌, Option, Some, None, map, is_empty, bytes_eq, IsPermutation}
-use Rattle.std.specs.List.{AllZip, IsDistinct, filter_map}
+use Rattle.std.specs.Prelude.{◌≡◌, ℕ, ◌-◌, ℤ, Bool, true, false, ◌&&◌, List, [], ◌∷◌, Option, Some, None, map, length, count_by, nat_eq, slice_get, IsPermutation}
+use Rattle.std.specs.List.{AllZip, filter_map}
+use Rattle.std.specs.Option.{option_map_or}
 use Rattle.uuid.specs.Parts.{zero_bytes}
 use Rattle.sheet_types.specs.Ordered.{IsArranged}
 use Rattle.sheet_types.specs.Texts.{kind_of}
@@ -16,7 +17,7 @@ use Rattle.field_changes.specs.declared.held.HeldLink.{HeldLink}
 use Rattle.field_changes.specs.declared.naming.Named.{Named}
 use Rattle.field_lists.specs.declared.entries.Listed.{Listed}
 use Rattle.field_lists.specs.declared.entries.Listed.TheVariants.{Exported, System, Framed, Item, Link, Bad, End}
-use Rattle.field_faults.specs.Heads.{is_same}
+use Rattle.field_faults.specs.Heads.{is_number}
 
 -- ---- entries of one form
 
@@ -46,11 +47,18 @@ bad_in entry = None
 
 -- ---- the list as a whole
 
--- the first end is the last entry, and counts those before it, of which so many came already
-abbrev pub closes_at : ℕ → List Listed → Bool
-closes_at count [] = false
-closes_at count (End number ∷ entries) = is_same (pos count) number && is_empty entries
-closes_at count (entry ∷ entries) = closes_at (count + 1) entries
+abbrev pub is_end : Listed → Bool
+is_end (End number) = true
+is_end entry = false
+
+-- it is an end that counts so many
+abbrev pub ends_after : ℕ → Listed → Bool
+ends_after count (End number) = is_number count number
+ends_after count entry = false
+
+-- no entry but the last is an end, and that counts those before it
+abbrev pub closes : List Listed → Bool
+closes entries = option_map_or (λ last. nat_eq (count_by is_end entries) 1 && ends_after (length entries - 1) last) (slice_get entries (length entries - 1)) false
 
 -- it is there once at most
 abbrev pub IsOnly : {X : Type 0} → List X → Option X → Type 0
@@ -76,7 +84,7 @@ LeadUnlessBad (bad ∷ more) items links = Unit {0}
 
 -- The entries are a whole list, and this is what the file holds: its items by kind and number, of which each is there once.
 pub record IsHeld (entries : List Listed) (h : Held) : Type 0 where
-  pub closes : closes_at 0 entries ≡ true
+  pub closed : closes entries ≡ true
   pub export : IsOnly (filter_map export_in entries) h.export
   pub system : IsOnly (filter_map system_in entries) h.system
   pub frame : IsOnly (filter_map frame_in entries) h.frame

@@ -1,5 +1,5 @@
 -- Whether a file is one of this package as it is. Profile.
-use Rattle.std.specs.Prelude.{ℕ, ◌^◌, Bool, true, false, not, ◌&&◌, ◌||◌, List, [], ◌∷◌, Option, Some, None, ℤ, pos, ◌*ℤ◌, unsigned_abs, bytes_eq, codes, take}
+use Rattle.std.specs.Prelude.{ℕ, ◌^◌, Bool, true, false, not, ◌&&◌, ◌||◌, List, [], ◌∷◌, Option, Some, None, ℤ, pos, ◌*ℤ◌, int_le, nat_eq, unsigned_abs, bytes_eq, codes, take}
 use Rattle.std.specs.List.{list_any}
 use Rattle.sheet_types.specs.Matrix.{is_within, first_row, is_good_frame, tile_span_x, tile_span_y}
 use Rattle.sheet_types.specs.Texts.{kind_of}
@@ -18,6 +18,10 @@ use Rattle.field_faults.specs.declared.heads.HeadFault.TheVariants.{OtherPackage
 abbrev pub is_same : ℤ → ℤ → Bool
 is_same a b = is_within a a b
 
+-- a number of 64 bits is this one
+abbrev pub is_number : ℕ → ℤ → Bool
+is_number n number = int_le (pos 0) number && nat_eq (unsigned_abs number) n
+
 -- it was an export of this package, or it was none where more is all that is asked
 abbrev pub is_of : List ℕ → Bool → Option Export → Bool
 is_of p more None = more
@@ -26,7 +30,7 @@ is_of p more (Some export) = bytes_eq export.«package» p
 -- it was one at another ticket
 abbrev pub is_stale : ℕ → Option Export → Bool
 is_stale ticket None = false
-is_stale ticket (Some export) = not (is_same (pos ticket) export.ticket)
+is_stale ticket (Some export) = not (is_number ticket export.ticket)
 
 -- an item of this kind is there
 abbrev pub has_kind : MovedKind → List HeldItem → Bool

@@ -1,11 +1,12 @@
 //! What a file holds, of the entries of its list.
-ghost use Rattle.std.specs.Prelude.{◌≡◌, ¬◌, ◌<◌, ◌↔◌, [], ◌∷◌, ℕ, List, map, is_empty, bytes_eq, length, pos, IfOk, IfErr, IfSome, IfNone, IsTrue, IsPermutation};
+ghost use Rattle.std.specs.Prelude.{◌≡◌, ◌<◌, ◌↔◌, ◌++◌, [], ◌∷◌, map, bytes_eq, count_by, length, IfOk, IfErr, IfSome, IfNone, IsTrue, IsPermutation};
 ghost use Rattle.std.specs.List.{filter_map, IsDistinct};
 ghost use Rattle.sheet_types.specs.Ordered.{is_before, IsArranged};
 ghost use Rattle.field_changes.specs.Keys.{number_key};
 ghost use Rattle.field_changes.specs.declared.held.Held.{Held};
-ghost use Rattle.field_faults.specs.Files.{bad_in, closes_at, export_in, frame_in, held_key, item_in, link_in, plain, system_in, IsHeld, IsOnly, Lead, LeadUnlessBad};
+ghost use Rattle.field_faults.specs.Files.{bad_in, closes, ends_after, export_in, frame_in, held_key, is_end, item_in, link_in, plain, system_in, IsHeld, IsOnly, Lead, LeadUnlessBad};
 
+use crate::heads::is_number;
 use field_changes::ends::links_of as ends_of;
 use field_changes::held::{BadRecord, Export, Held, HeldItem, HeldLink};
 use field_changes::naming::Named;
@@ -15,16 +16,38 @@ use sheet_types::frame::Frame;
 use std::alloc::Global;
 use uuid::Uuid;
 
-/// Whether the first end is the last entry, and counts those before it.
-fn closes(entries: &[Listed]) -> bool
-    ensures { result ≡ closes_at 0 entries.now }
+/// Whether an entry is an end.
+fn is_end(entry: &Listed) -> bool
+    ensures { result ≡ is_end entry.now }
 {
-    for at in 0..entries.len() {
-        if let Listed::End(count) = &entries[at] {
-            return (at as i128 == i128::from(*count)) & (at + 1 == entries.len());
-        }
+    matches!(entry, Listed::End(_))
+}
+
+/// Whether an entry is an end that counts so many.
+fn ends_after(count: u64, entry: &Listed) -> bool
+    ensures { result ≡ ends_after count entry.now }
+{
+    match entry {
+        Listed::End(number) => is_number(count, *number),
+        _ => false,
     }
-    false
+}
+
+/// How many entries are an end.
+fn ends_in(entries: &[Listed]) -> usize
+    ensures { result ≡ count_by is_end entries.now }
+{
+    entries.iter().filter(|entry| is_end(entry)).count()
+}
+
+/// Whether no entry but the last is an end, and that counts those before it.
+fn closes(entries: &[Listed]) -> bool
+    ensures { result ≡ closes entries.now }
+{
+    let Some(last) = entries.last() else {
+        return false;
+    };
+    (ends_in(entries) == 1) & ends_after(entries.len() as u64 - 1, last)
 }
 
 /// The export that an entry names.
@@ -140,15 +163,23 @@ fn copy_of(bad: &BadRecord) -> Result<BadRecord, OutOfMemory>
     })
 }
 
+/// Puts an entry behind the others, where it is a record that could not be listed.
+fn push_bad(found: &mut Vec<BadRecord>, entry: &Listed) -> Result<(), OutOfMemory>
+    ensures { IfOk result (λ _. found.new.items ≡ found.old.items ++ filter_map bad_in (entry.now ∷ [])) }
+{
+    if let Listed::Bad(bad) = entry {
+        found.push(copy_of(bad)?)?;
+    }
+    Ok(())
+}
+
 /// The records that could not be listed.
 fn bad_of(alloc: Global, entries: &[Listed]) -> Result<Vec<BadRecord>, OutOfMemory>
     ensures { IfOk result (λ bad. bad.items ≡ filter_map bad_in entries.now) }
 {
     let mut found = Vec::new(alloc);
     for entry in entries {
-        if let Listed::Bad(bad) = entry {
-            found.push(copy_of(bad)?)?;
-        }
+        push_bad(&mut found, entry)?;
     }
     Ok(found)
 }

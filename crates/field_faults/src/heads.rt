@@ -2,7 +2,7 @@
 ghost use Rattle.std.specs.Prelude.{◌≡◌, ◌^◌, ◌*ℤ◌, ◌≤ℤ◌, pos, unsigned_abs, bytes_eq, codes, take, IsTrue};
 ghost use Rattle.std.specs.List.{list_any};
 ghost use Rattle.sheet_types.specs.Matrix.{is_good_frame};
-ghost use Rattle.field_faults.specs.Heads.{is_of, is_stale, has_kind, has_system, width_at_zero, height_at_zero, same_corner, same_grid, has_grid, tells_frame, head_fault};
+ghost use Rattle.field_faults.specs.Heads.{is_number, is_of, is_stale, has_kind, has_system, width_at_zero, height_at_zero, same_corner, same_grid, has_grid, tells_frame, head_fault};
 
 use field_changes::held::{BadRecord, Export, Held, HeldItem};
 use matrix_rules::axis::axes_at;
@@ -34,12 +34,19 @@ fn is_of(package: Uuid, more: bool, export: Option<Export>) -> bool
     }
 }
 
+/// Whether a number is this one.
+pub(crate) fn is_number(n: u64, number: i64) -> bool
+    ensures { result ≡ is_number n number }
+{
+    0 <= number && number.unsigned_abs() == n
+}
+
 // Whether it was one at another ticket.
 fn is_stale(ticket: u64, export: Option<Export>) -> bool
     ensures { result ≡ is_stale ticket export }
 {
     match export {
-        Some(export) => i128::from(ticket) != i128::from(export.ticket),
+        Some(export) => !is_number(ticket, export.ticket),
         None => false,
     }
 }

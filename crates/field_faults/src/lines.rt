@@ -54,12 +54,7 @@ fn is_there(frame: &Frame, place: (i64, i64, i64), items: &[HeldItem]) -> bool
     requires { IsTrue (is_good_frame frame.now) }
     ensures { result ≡ list_any (is_good_at frame.now place.0 place.1 place.2) items.now }
 {
-    for item in items {
-        if is_good_at(frame, place, item) {
-            return true;
-        }
-    }
-    false
+    items.iter().any(|item| is_good_at(frame, place, item))
 }
 
 /// Whether an item is another tile at this place.
@@ -100,7 +95,7 @@ struct Numbered {
 }
 
 /// The same of what a package holds.
-fn numbered(alloc: Global, items: &[Item]) -> Result<Numbered, OutOfMemory>
+fn numbers_of(alloc: Global, items: &[Item]) -> Result<Numbered, OutOfMemory>
     ensures { IfOk result (AreNumbered items.now) }
 {
     let media = ids_of(alloc, MovedKind::MediaItem, items)?;
@@ -285,7 +280,7 @@ pub fn fault_lines(alloc: Global, judge: &Judge<'_>, held: &Held) -> Result<Stri
     ensures { IfOk result (λ text. string_bytes text ≡ fault_lines judge.now.frame.now judge.now.items.now judge.now.more held.now) }
 {
     let mut text = bad_lines(alloc, held.bad.as_slice())?;
-    let numbered = numbered(alloc, judge.items)?;
+    let numbered = numbers_of(alloc, judge.items)?;
     let exported = was_exported(&held.export);
     add_item_lines(alloc, judge, &numbered, exported, held.items.as_slice(), &mut text)?;
     Ok(text)

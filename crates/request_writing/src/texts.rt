@@ -260,12 +260,32 @@ fn write_split(
     let last_column = format!(in alloc; "{last_column}")?;
     let last_row = format!(in alloc; "{last_row}")?;
     let (kind, zoom, column) = (kind.as_bytes(), zoom.as_bytes(), column.as_bytes());
-    let (row, last_column, last_row) = (row.as_bytes(), last_column.as_bytes(), last_row.as_bytes());
+    let (row, last_column, last_row) = (
+        row.as_bytes(),
+        last_column.as_bytes(),
+        last_row.as_bytes(),
+    );
     write_record(
         writer,
         &[
-            id, at, b"split", package, b"", child, kind, zoom, column, row, last_column, last_row,
-            b"", b"", b"", b"", b"", b"",
+            id,
+            at,
+            b"split",
+            package,
+            b"",
+            child,
+            kind,
+            zoom,
+            column,
+            row,
+            last_column,
+            last_row,
+            b"",
+            b"",
+            b"",
+            b"",
+            b"",
+            b"",
         ],
     )
 }
@@ -291,8 +311,8 @@ fn write_merge(
     write_record(
         writer,
         &[
-            id, at, b"merge", child, b"", into, b"", b"", b"", b"", b"", b"", b"", b"", b"", ticket,
-            b"", b"",
+            id, at, b"merge", child, b"", into, b"", b"", b"", b"", b"", b"", b"", b"", b"",
+            ticket, b"", b"",
         ],
     )
 }
@@ -316,11 +336,25 @@ fn write_add(
             column,
             row,
             bytes,
-        } => write_tile(writer, alloc, front, item, (*zoom, *column, *row), bytes.as_slice()),
+        } => write_tile(
+            writer,
+            alloc,
+            front,
+            item,
+            (*zoom, *column, *row),
+            bytes.as_slice(),
+        ),
         Content::Media {
             content_type,
             bytes,
-        } => write_medium(writer, alloc, front, item, content_type.as_str(), bytes.as_slice()),
+        } => write_medium(
+            writer,
+            alloc,
+            front,
+            item,
+            content_type.as_str(),
+            bytes.as_slice(),
+        ),
         Content::Row { x, y, code, label } => {
             write_row(writer, alloc, front, item, (*x, *y, *code), label.as_str())
         }

@@ -11,11 +11,12 @@ use Rattle.request_writing.proofs.texts.write_add.Goals as goal
 
 -- src/texts.rt:301:1
 pub returns-in-Tile-clause-text : goal.returns-in-Tile-clause-text
-returns-in-Tile-clause-text c = 
+returns-in-Tile-clause-text c =
     let zoom : FitsSigned w64 c.in-Tile.zoom = search rules in
     let column : FitsSigned w64 c.in-Tile.column = search rules in
     let row : FitsSigned w64 c.in-Tile.row = search rules in
-    rw (c.in-Tile.is, sym c.as_slice.ensures) (simp (to_z-of_z, zoom, column, row) c.write_tile.ensures.text)
+    let text = simp (to_z-of_z, zoom, column, row) at c.write_tile.ensures.text in
+    rw (c.in-Tile.is, sym c.as_slice.ensures) text
 
 -- src/texts.rt:301:1
 pub returns-in-Media-clause-text : goal.returns-in-Media-clause-text
@@ -23,8 +24,9 @@ returns-in-Media-clause-text c = rw (c.in-Media.is, sym c.as_str.ensures, sym c.
 
 -- src/texts.rt:301:1
 pub returns-in-Row-clause-text : goal.returns-in-Row-clause-text
-returns-in-Row-clause-text c = 
+returns-in-Row-clause-text c =
     let x : FitsSigned w64 c.in-Row.x = search rules in
     let y : FitsSigned w64 c.in-Row.y = search rules in
     let code : FitsSigned w64 c.in-Row.code = search rules in
-    rw (c.in-Row.is, sym c.as_str-in-Row.ensures) (simp (to_z-of_z, x, y, code) c.write_row.ensures.text)
+    let text = simp (to_z-of_z, x, y, code) at c.write_row.ensures.text in
+    rw (c.in-Row.is, sym c.as_str-in-Row.ensures) text

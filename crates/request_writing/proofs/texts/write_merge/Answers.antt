@@ -10,6 +10,6 @@ use Rattle.request_writing.proofs.texts.write_merge.Goals as goal
 
 -- src/texts.rt:274:1
 pub returns-clause-text : goal.returns-clause-text
-returns-clause-text c = 
+returns-clause-text c =
     let ticket : string_bytes c.in_ok-ticket.ticket ≡ signed_decimal c.args.ticket = search rules in
     rw (sym c.as_bytes-id.ensures.value, sym c.as_bytes-at.ensures.value, sym c.in_ok-child.ensures.one, sym c.in_ok-child.ensures.two, sym ticket, sym c.as_bytes-child.ensures.value, sym c.as_bytes-into.ensures.value, sym c.as_bytes-ticket.ensures.value) c.write_record.ensures.text

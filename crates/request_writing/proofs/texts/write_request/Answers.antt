@@ -15,6 +15,7 @@ returns-in-Split-clause-text c = rw (c.in-Split.is, sym c.in_ok-front.ensures.id
 
 -- src/texts.rt:331:1
 pub returns-clause-text : goal.returns-clause-text
-returns-clause-text c = 
+returns-clause-text c =
     let ticket : FitsSigned w64 c.in-Merge.ticket = search rules in
-    rw (c.in-Merge.is, sym c.in_ok-front.ensures.id, sym c.in_ok-front.ensures.at) (simp (to_z-of_z, ticket) c.write_merge.ensures.text)
+    let text = simp (to_z-of_z, ticket) at c.write_merge.ensures.text in
+    rw (c.in-Merge.is, sym c.in_ok-front.ensures.id, sym c.in_ok-front.ensures.at) text

@@ -10,7 +10,7 @@ use Rattle.request_writing.proofs.texts.write_split.Goals as goal
 
 -- src/texts.rt:233:1
 pub returns-clause-text : goal.returns-clause-text
-returns-clause-text c = 
+returns-clause-text c =
     let zoom : string_bytes c.in_ok-zoom.zoom ≡ signed_decimal c.args.rect.now.zoom = search rules in
     let column : string_bytes c.in_ok-column.column ≡ signed_decimal c.args.rect.now.column = search rules in
     let row : string_bytes c.in_ok-row.row ≡ signed_decimal c.args.rect.now.row = search rules in

@@ -1,0 +1,47 @@
+-- Entries that are no whole list.
+use Rattle.std.proofs.Common.{◌≡◌, ◌∙◌, ℕ, ◌<◌, List, [], ◌∷◌, map, length, true, false, true≢false, sym, Option, Some, None, arith}
+use Rattle.std.specs.Prelude.{bytes_eq}
+use Rattle.std.specs.List.{AllByRecursion, IsDistinct, filter_map}
+use Rattle.std.proofs.lemmas.List.Sorted.{IsPermutation-sym}
+use Rattle.sheet_types.specs.Ordered.{IsArranged, is_before}
+use Rattle.sheet_types.proofs.Basics.{before-differs}
+use Rattle.field_changes.proofs.InOrder.{moved_apart}
+use Rattle.field_changes.specs.declared.held.Held.{Held}
+use Rattle.field_lists.specs.declared.entries.Listed.{Listed}
+use Rattle.field_faults.specs.Files.{bad_in, closes, export_in, frame_in, held_key, item_in, link_in, system_in, IsHeld, IsOnly, LeadUnlessBad}
+
+apart_from : {X : Type 0} (key : X → List ℕ) (k : List ℕ) (xs : List X) → AllByRecursion (λ y. is_before k (key y) ≡ true) xs → AllByRecursion (λ k'. bytes_eq k k' ≡ false) (map key xs)
+apart_from key k [] h = tt
+apart_from key k (y ∷ ys) h = (before-differs k (key y) h.0, apart_from key k ys h.1)
+
+-- keys that rise differ
+set_apart : {X : Type 0} (key : X → List ℕ) (xs : List X) → IsArranged key xs → IsDistinct bytes_eq (map key xs)
+unfolding IsDistinct
+set_apart key [] h = tt
+set_apart key (x ∷ xs) h = (apart_from key (key x) xs h.0, set_apart key xs h.1)
+
+pub many : {X : Type 0} (xs : List X) (one : Option X) → 1 < length xs → IsOnly xs one → ⊥
+many [] one less only = absurd (omega (arith, less))
+many (x ∷ []) one less only = absurd (omega (arith, less))
+many (x ∷ y ∷ xs) None less only = absurd (cc)
+many (x ∷ y ∷ xs) (Some z) less only = absurd (cc)
+
+module _ (entries : List Listed) (h : Held) where
+  pub not_closed : closes entries ≡ false → IsHeld entries h → ⊥
+  not_closed open held = true≢false (sym held.closed ∙ open)
+
+  pub two_exports : 1 < length (filter_map export_in entries) → IsHeld entries h → ⊥
+  two_exports less held = many (filter_map export_in entries) h.export less held.export
+
+  pub two_systems : 1 < length (filter_map system_in entries) → IsHeld entries h → ⊥
+  two_systems less held = many (filter_map system_in entries) h.system less held.system
+
+  pub two_frames : 1 < length (filter_map frame_in entries) → IsHeld entries h → ⊥
+  two_frames less held = many (filter_map frame_in entries) h.frame less held.frame
+
+  pub none_lead : (LeadUnlessBad (filter_map bad_in entries) (filter_map item_in entries) (filter_map link_in entries) → ⊥) → IsHeld entries h → ⊥
+  none_lead not held = not held.lead
+
+  pub one_twice : (IsDistinct bytes_eq (map held_key (filter_map item_in entries)) → ⊥) → IsHeld entries h → ⊥
+  one_twice not held =
+      not (moved_apart held_key h.items.items (filter_map item_in entries) (IsPermutation-sym (filter_map item_in entries) h.items.items held.same_items) (set_apart held_key h.items.items held.order))
