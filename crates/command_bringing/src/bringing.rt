@@ -134,7 +134,14 @@ fn end_answer<S: Alter + Drop, H: Shelf<S>, W: Write, T: Teller>(
             writer,
             teller,
         ),
-        _ => refuse(alloc, answer, writer),
+        Answer::NoSuchPackage
+        | Answer::NoList
+        | Answer::OtherPackage
+        | Answer::Stale(_)
+        | Answer::OtherSystem
+        | Answer::OtherFrame
+        | Answer::Items(_)
+        | Answer::TwoAlike => refuse(alloc, answer, writer),
     }
 }
 

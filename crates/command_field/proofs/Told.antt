@@ -1,6 +1,6 @@
 -- What was answered of what was read is so of each world that it was read of.
 use Rattle.std.proofs.Common.{◌≡◌, ◌∙◌, ℕ, List, true, false, Some, None, Result, Ok, Err, IfOk, unwrap_or, ap, sym, subst, inl, inr}
-use Rattle.std.specs.Prelude.{Bool, Option}
+use Rattle.std.specs.Prelude.{Bool, Option, []}
 use Rattle.std.specs.Bool.{then_some}
 use Rattle.sheet_types.specs.Answers.{holdings_answer}
 use Rattle.sheet_types.specs.Custody.{ticket}
@@ -9,8 +9,11 @@ use Rattle.sheet_types.specs.declared.command.Item.{Item}
 use Rattle.sheet_types.specs.declared.command.Relation.{Relation}
 use Rattle.sheet_types.specs.declared.frame.Frame.{Frame}
 use Rattle.field_changes.specs.declared.held.Held.{Held}
-use Rattle.command_field.specs.Answers.{AnswersFile, AnswersGiven, AnswersText, AreHeldIn}
+use Rattle.field_faults.specs.Heads.{head_fault}
+use Rattle.field_faults.specs.Lines.{fault_lines}
+use Rattle.command_field.specs.Answers.{AnswersBy, AnswersFile, AnswersGiven, AnswersLines, AnswersText, AreHeldIn}
 use Rattle.command_field.specs.declared.asking.Answer.{Answer}
+use Rattle.command_field.specs.declared.asking.Answer.TheVariants.{Asked, NoSuchPackage, NoList, OtherPackage, Stale, OtherSystem, OtherFrame, Items, TwoAlike}
 use Rattle.command_field.specs.declared.asking.Ask.{Ask}
 
 pair_held : (b : Bool) (held found : List Item × List Relation) → Some found ≡ then_some b held → found ≡ held
@@ -39,3 +42,27 @@ pub told_text : {E : Type 0} (P : World → Type 0) (a : Ask) (n : ℕ) (text : 
     → IfOk r (λ x. (w : World) → P w → AnswersText w a text x)
 told_text P a n text h (Ok x) some listed it = λ w stands. let seen = some w stands in inr (seen.0, inr (h, (listed, it w stands seen.0 seen.1)))
 told_text P a n text h (Err e) some listed it = tt
+
+-- where no line is due, what was answered is of the requests
+module _ (lines p : List ℕ) (number : ℕ) (moment : List ℕ) (items : List Item) (linked : List Relation) (more : Bool) (h : Held) (none : lines ≡ []) where
+  by_none : (x : Answer) → AnswersBy p number moment items linked more h x → AnswersLines lines p number moment items linked more h x
+  by_none (Asked requests) it = (none, it)
+  by_none NoSuchPackage it = absurd it
+  by_none NoList it = (none, it)
+  by_none OtherPackage it = absurd it
+  by_none (Stale n) it = absurd it
+  by_none OtherSystem it = absurd it
+  by_none OtherFrame it = absurd it
+  by_none (Items text) it = absurd it
+  by_none TwoAlike it = (none, it)
+
+  pub none_told : {E : Type 0} (r : Result Answer E) → IfOk r (AnswersBy p number moment items linked more h) → IfOk r (AnswersLines lines p number moment items linked more h)
+  none_told (Ok x) it = by_none x it
+  none_told (Err e) it = tt
+
+-- where the file as a whole is no fault, what was answered is of its records
+pub told_heads : {E : Type 0} (f : Frame) (a : Ask) (n : ℕ) (items : List Item) (links : List Relation) (h : Held) (r : Result Answer E)
+    → head_fault a.«package» n f a.more h ≡ None
+    → IfOk r (AnswersLines (fault_lines f items a.more h) a.«package» n a.at.now items links a.more h) → IfOk r (AnswersGiven f a n items links h)
+told_heads f a n items links h (Ok x) none it = inr (none, it)
+told_heads f a n items links h (Err e) none it = tt

@@ -1,6 +1,6 @@
 -- Entries that are no whole list.
-use Rattle.std.proofs.Common.{◌≡◌, ◌∙◌, ℕ, ◌<◌, List, [], ◌∷◌, map, length, true, false, true≢false, sym, Option, Some, None, arith}
-use Rattle.std.specs.Prelude.{bytes_eq}
+use Rattle.std.proofs.Common.{◌≡◌, ◌∙◌, ℕ, ◌<◌, List, [], ◌∷◌, map, length, true, false, true≢false, sym, Option, Some, None, Result, Ok, Err, IfOk, arith}
+use Rattle.std.specs.Prelude.{◌↔◌, Bool, IsTrue, bytes_eq}
 use Rattle.std.specs.List.{AllByRecursion, IsDistinct, filter_map}
 use Rattle.std.proofs.lemmas.List.Sorted.{IsPermutation-sym}
 use Rattle.sheet_types.specs.Ordered.{IsArranged, is_before}
@@ -28,7 +28,7 @@ many (x ∷ y ∷ xs) (Some z) less only = absurd (cc)
 
 module _ (entries : List Listed) (h : Held) where
   pub not_closed : closes entries ≡ false → IsHeld entries h → ⊥
-  not_closed open held = true≢false (sym held.closed ∙ open)
+  not_closed e held = true≢false (sym held.closed ∙ e)
 
   pub two_exports : 1 < length (filter_map export_in entries) → IsHeld entries h → ⊥
   two_exports less held = many (filter_map export_in entries) h.export less held.export
@@ -45,3 +45,8 @@ module _ (entries : List Listed) (h : Held) where
   pub one_twice : (IsDistinct bytes_eq (map held_key (filter_map item_in entries)) → ⊥) → IsHeld entries h → ⊥
   one_twice not held =
       not (moved_apart held_key h.items.items (filter_map item_in entries) (IsPermutation-sym (filter_map item_in entries) h.items.items held.same_items) (set_apart held_key h.items.items held.order))
+
+-- what is asked only where nothing is in a list
+pub unless : {E : Type 0} (n : ℕ) (L : Type 0) (r : Result Bool E) → n ≡ 0 → IfOk r (λ all. IsTrue all ↔ L) → IfOk r (λ all. IsTrue all ↔ (n ≡ 0 → L))
+unless n L (Ok all) none it = (λ t e. it.0 t, λ f. it.1 (f none))
+unless n L (Err e) none it = tt

@@ -79,8 +79,7 @@ Lead items links = (ends : List Relation) × AllZip (IsLinkOf (map plain items))
 
 -- the same, where all records could be listed. A record that could not is no item, and a link may lead to it
 abbrev pub LeadUnlessBad : List BadRecord → List HeldItem → List HeldLink → Type 0
-LeadUnlessBad [] items links = Lead items links
-LeadUnlessBad (bad ∷ more) items links = Unit {0}
+LeadUnlessBad bad items links = length bad ≡ 0 → Lead items links
 
 -- The entries are a whole list, and this is what the file holds: its items by kind and number, of which each is there once.
 pub record IsHeld (entries : List Listed) (h : Held) : Type 0 where

@@ -111,13 +111,27 @@ fn only<T: Copy>(found: &[T]) -> Option<Option<T>>
     Some(found.first().copied())
 }
 
+/// The exports that are named.
+fn exports_of(alloc: Global, entries: &[Listed]) -> Result<Vec<Export>, OutOfMemory>
+    ensures { IfOk result (λ found. found.items ≡ filter_map export_in entries.now) }
+{
+    Ok(entries.iter().filter_map(|entry| export_in(entry)).collect(alloc)?)
+}
+
 /// The export that a file was, if it is told once at most.
 fn export_of(alloc: Global, entries: &[Listed]) -> Result<Option<Option<Export>>, OutOfMemory>
     ensures some { IfOk result (λ found. IfSome found (λ one. IsOnly (filter_map export_in entries.now) one)) }
     ensures none { IfOk result (λ found. IfNone found (1 < length (filter_map export_in entries.now))) }
 {
-    let found: Vec<Export> = entries.iter().filter_map(|entry| export_in(entry)).collect(alloc)?;
+    let found = exports_of(alloc, entries)?;
     Ok(only(found.as_slice()))
+}
+
+/// The systems that are named.
+fn systems_of(alloc: Global, entries: &[Listed]) -> Result<Vec<i64>, OutOfMemory>
+    ensures { IfOk result (λ found. found.items ≡ filter_map system_in entries.now) }
+{
+    Ok(entries.iter().filter_map(|entry| system_in(entry)).collect(alloc)?)
 }
 
 /// The system of its points, if it is told once at most.
@@ -125,8 +139,15 @@ fn system_of(alloc: Global, entries: &[Listed]) -> Result<Option<Option<i64>>, O
     ensures some { IfOk result (λ found. IfSome found (λ one. IsOnly (filter_map system_in entries.now) one)) }
     ensures none { IfOk result (λ found. IfNone found (1 < length (filter_map system_in entries.now))) }
 {
-    let found: Vec<i64> = entries.iter().filter_map(|entry| system_in(entry)).collect(alloc)?;
+    let found = systems_of(alloc, entries)?;
     Ok(only(found.as_slice()))
+}
+
+/// The frames that are named.
+fn frames_of(alloc: Global, entries: &[Listed]) -> Result<Vec<Frame>, OutOfMemory>
+    ensures { IfOk result (λ found. found.items ≡ filter_map frame_in entries.now) }
+{
+    Ok(entries.iter().filter_map(|entry| frame_in(entry)).collect(alloc)?)
 }
 
 /// The frame of its tiles, if it is told once at most.
@@ -134,7 +155,7 @@ fn frame_of(alloc: Global, entries: &[Listed]) -> Result<Option<Option<Frame>>, 
     ensures some { IfOk result (λ found. IfSome found (λ one. IsOnly (filter_map frame_in entries.now) one)) }
     ensures none { IfOk result (λ found. IfNone found (1 < length (filter_map frame_in entries.now))) }
 {
-    let found: Vec<Frame> = entries.iter().filter_map(|entry| frame_in(entry)).collect(alloc)?;
+    let found = frames_of(alloc, entries)?;
     Ok(only(found.as_slice()))
 }
 
@@ -196,12 +217,22 @@ fn plain(item: &HeldItem) -> Named
     }
 }
 
+/// The same of items.
+fn plain_names(alloc: Global, items: &[HeldItem]) -> Result<Vec<Named>, OutOfMemory>
+    ensures { IfOk result (λ names. names.items ≡ map plain items.now) }
+{
+    Ok(items.iter().map(|item| plain(item)).collect(alloc)?)
+}
+
 /// Whether each link leads from an item to another.
 fn lead(alloc: Global, items: &[HeldItem], links: &[HeldLink]) -> Result<bool, OutOfMemory>
     ensures { IfOk result (λ all. IsTrue all ↔ Lead items.now links.now) }
 {
-    let names: Vec<Named> = items.iter().map(|item| plain(item)).collect(alloc)?;
-    Ok(ends_of(alloc, names.as_slice(), links)?.is_some())
+    let names = plain_names(alloc, items)?;
+    match ends_of(alloc, names.as_slice(), links)? {
+        Some(_) => Ok(true),
+        None => Ok(false),
+    }
 }
 
 /// The same, where all records could be listed.

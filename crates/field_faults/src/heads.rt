@@ -2,7 +2,7 @@
 ghost use Rattle.std.specs.Prelude.{◌≡◌, ◌^◌, ◌*ℤ◌, ◌≤ℤ◌, pos, unsigned_abs, bytes_eq, codes, take, IsTrue};
 ghost use Rattle.std.specs.List.{list_any};
 ghost use Rattle.sheet_types.specs.Matrix.{is_good_frame};
-ghost use Rattle.field_faults.specs.Heads.{is_number, is_of, is_stale, has_kind, has_system, width_at_zero, height_at_zero, same_corner, same_grid, has_grid, tells_frame, head_fault};
+ghost use Rattle.field_faults.specs.Heads.{is_number, is_of, is_same, is_stale, has_kind, has_system, width_at_zero, height_at_zero, same_corner, same_grid, has_grid, tells_frame, head_fault};
 
 use field_changes::held::{BadRecord, Export, Held, HeldItem};
 use matrix_rules::axis::axes_at;
@@ -70,15 +70,22 @@ fn has_system(wanted: i64, system: Option<i64>, has_rows: bool) -> bool
     }
 }
 
-// Whether two frames count from one corner, in one system and by tiles of as many pixels.
+/// Whether two numbers are one.
+fn is_same(a: i64, b: i64) -> bool
+    ensures { result ≡ is_same a b }
+{
+    a == b
+}
+
+/// Whether two frames count from one corner, in one system and by tiles of as many pixels.
 fn same_corner(mine: &Frame, theirs: &Frame) -> bool
     ensures { result ≡ same_corner mine.now theirs.now }
 {
-    (mine.srs_id == theirs.srs_id)
-        & (mine.min_x == theirs.min_x)
-        & (mine.max_y == theirs.max_y)
-        & (mine.tile_width == theirs.tile_width)
-        & (mine.tile_height == theirs.tile_height)
+    is_same(mine.srs_id, theirs.srs_id)
+        & is_same(mine.min_x, theirs.min_x)
+        & is_same(mine.max_y, theirs.max_y)
+        & is_same(mine.tile_width, theirs.tile_width)
+        & is_same(mine.tile_height, theirs.tile_height)
 }
 
 /// Two to this power.
@@ -131,7 +138,7 @@ fn same_grid(mine: &Frame, theirs: &Frame) -> bool
     }
     let mine = spans_at_zero(mine);
     let theirs = spans_at_zero(theirs);
-    (mine.0 == theirs.0) & (mine.1 == theirs.1)
+    is_same(mine.0, theirs.0) & is_same(mine.1, theirs.1)
 }
 
 /// Whether the tiles have this grid.

@@ -2,6 +2,8 @@
 ghost use Rattle.std.specs.Prelude.{◌≡◌, ◌++◌, [], flat_map, take, IfOk, IsTrue, string_bytes};
 ghost use Rattle.std.specs.List.{list_any};
 ghost use Rattle.sheet_types.specs.Matrix.{is_good_frame};
+ghost use Rattle.sheet_types.specs.Ordered.{has};
+ghost use Rattle.sheet_types.specs.declared.command.Item.{Item as ModelItem};
 ghost use Rattle.sheet_types.specs.Texts.{kind_word, kind_of};
 ghost use Rattle.field_faults.specs.Lines.{bad_line, exported_as, fault_lines, ids_of, is_at, is_good_at, is_other_at, is_renumbered, item_lines, line_for, reason_among, reason_in, record_line, was_exported, at_number, AreNumbered};
 
@@ -113,6 +115,13 @@ fn at_number(ids: &[Uuid], number: i64) -> Option<Uuid>
     ids.get(number.unsigned_abs() as usize - 1).copied()
 }
 
+/// Whether the package has an item of this identity.
+fn is_known(items: &[Item], id: Uuid) -> bool
+    ensures { result ≡ has (λ (i : ModelItem). i.identity) id items.now }
+{
+    items.iter().any(|known| known.identity == id)
+}
+
 /// Whether an item names one of the package, and stands under the number of another.
 fn is_renumbered(ids: &[Uuid], items: &[Item], item: &HeldItem) -> bool
     requires { ids.now ≡ ids_of (kind_of item.now.content) items.now }
@@ -124,7 +133,10 @@ fn is_renumbered(ids: &[Uuid], items: &[Item], item: &HeldItem) -> bool
     let Some(other) = at_number(ids, item.number) else {
         return false;
     };
-    other != id && items.iter().any(|known| known.identity == id)
+    if other == id {
+        return false;
+    }
+    is_known(items, id)
 }
 
 /// The first reason beside those that lie in the item alone.

@@ -15,7 +15,7 @@ returns-then-is_sorted_by-clause-order c =
 pub returns-else-is_sorted_by-clause-twice : goal.returns-else-is_sorted_by-clause-twice
 returns-else-is_sorted_by-clause-twice c = λ apart.
     let key : HeldItem → List ℕ = held_key in
-    let sorted = c.sort_unstable_by_key.ensures.sorted key (answers_always _ _ _ (λ f a r g h. search rules)) in
+    let sorted = c.sort_unstable_by_key.ensures.sorted key (answers_always _ _ _ (λ f a r g h. ?)) in
     let now = c.sort_unstable_by_key.new.self.items in
     let set : IsArranged held_key now = sorted_set held_key now (λ k d less. sorted k d (search rules) less) (moved_apart held_key c.args.items.items now c.sort_unstable_by_key.ensures.permutation apart) in
     let answer = c.if-is_sorted_by.ensures.cases (λ x y. is_before (held_key x) (held_key y)) (answers_always _ _ _ (λ f a r g h. search rules)) in
