@@ -52,9 +52,12 @@ height_at_zero f = tile_span_y f f.first_zoom *ℤ pos (2 ^ unsigned_abs f.first
 abbrev pub same_corner : Frame → Frame → Bool
 same_corner mine theirs = is_same mine.srs_id theirs.srs_id && is_same mine.min_x theirs.min_x && is_same mine.max_y theirs.max_y && is_same mine.tile_width theirs.tile_width && is_same mine.tile_height theirs.tile_height
 
+abbrev pub same_spans : Frame → Frame → Bool
+same_spans mine theirs = is_same (width_at_zero mine) (width_at_zero theirs) && is_same (height_at_zero mine) (height_at_zero theirs)
+
 -- a place of one is the same ground in the other, whatever zooms they have and how far they reach to the east and the south
 abbrev pub same_grid : Frame → Frame → Bool
-same_grid mine theirs = same_corner mine theirs && is_good_frame theirs && is_same (width_at_zero mine) (width_at_zero theirs) && is_same (height_at_zero mine) (height_at_zero theirs)
+same_grid mine theirs = same_corner mine theirs && (is_good_frame theirs && same_spans mine theirs)
 
 -- its tiles have this grid; a file without tiles needs none, and where the frame could not be listed that is told as a record
 abbrev pub has_grid : Frame → Option Frame → Bool → Bool

@@ -2,7 +2,7 @@
 ghost use Rattle.std.specs.Prelude.{◌≡◌, ◌<◌, ◌↔◌, ◌++◌, [], ◌∷◌, map, bytes_eq, count_by, length, IfOk, IfErr, IfSome, IfNone, IsTrue, IsPermutation};
 ghost use Rattle.std.specs.List.{filter_map, IsDistinct};
 ghost use Rattle.sheet_types.specs.Ordered.{is_before, IsArranged};
-ghost use Rattle.field_changes.specs.Keys.{number_key};
+ghost use Rattle.field_changes.specs.Keys.{number_key, sign};
 ghost use Rattle.field_changes.specs.declared.held.Held.{Held};
 ghost use Rattle.field_faults.specs.Files.{bad_in, closes, ends_after, export_in, frame_in, held_key, is_end, item_in, link_in, plain, system_in, IsHeld, IsOnly, Lead, LeadUnlessBad};
 
@@ -251,14 +251,20 @@ fn lead_unless_bad(
     }
 }
 
+/// Whether a number is below 0.
+fn sign(number: i64) -> u64
+    ensures { result ≡ sign number }
+{
+    if number < 0 { 1 } else { 0 }
+}
+
 /// The kind and the number of an item, as a key.
 fn key_of(item: &HeldItem) -> [u64; 3]
     ensures { result ≡ held_key item.now }
 {
-    let sign = if item.number < 0 { 1 } else { 0 };
     [
         u64::from(item.content.kind().number()),
-        sign,
+        sign(item.number),
         item.number.unsigned_abs(),
     ]
 }
@@ -276,7 +282,13 @@ fn in_order(mut items: Vec<HeldItem>) -> Option<Vec<HeldItem>>
     ensures order { IfSome result (λ sorted. IsArranged held_key sorted.items) }
     ensures twice { IfNone result (¬ IsDistinct bytes_eq (map held_key items.items)) }
 {
-    items.sort_unstable_by_key(|item| key_of(item));
+    items.sort_unstable_by_key(|item| {
+        (
+            item.content.kind().number(),
+            sign(item.number),
+            item.number.unsigned_abs(),
+        )
+    });
     if items.is_sorted_by(|item, next| stands_before(item, next)) {
         Some(items)
     } else {

@@ -2,7 +2,7 @@
 ghost use Rattle.std.specs.Prelude.{◌≡◌, ◌^◌, ◌*ℤ◌, ◌≤ℤ◌, pos, unsigned_abs, bytes_eq, codes, take, IsTrue};
 ghost use Rattle.std.specs.List.{list_any};
 ghost use Rattle.sheet_types.specs.Matrix.{is_good_frame};
-ghost use Rattle.field_faults.specs.Heads.{is_number, is_of, is_same, is_stale, has_kind, has_system, width_at_zero, height_at_zero, same_corner, same_grid, has_grid, tells_frame, head_fault};
+ghost use Rattle.field_faults.specs.Heads.{is_number, is_of, is_same, is_stale, has_kind, has_system, width_at_zero, height_at_zero, same_corner, same_grid, same_spans, has_grid, tells_frame, head_fault};
 
 use field_changes::held::{BadRecord, Export, Held, HeldItem};
 use matrix_rules::axis::axes_at;
@@ -106,16 +106,33 @@ fn at_zero(span: i64, zoom: i64) -> i64
     span * doublings(zoom)
 }
 
-/// How wide and how high a tile would be at zoom 0.
-fn spans_at_zero(frame: &Frame) -> (i64, i64)
+/// How wide a tile would be at zoom 0.
+fn width_at_zero(frame: &Frame) -> i64
     requires { IsTrue (is_good_frame frame.now) }
-    ensures width { result.0 ≡ width_at_zero frame.now }
-    ensures height { result.1 ≡ height_at_zero frame.now }
+    ensures { result ≡ width_at_zero frame.now }
 {
     let axes = axes_at(frame, frame.first_zoom);
-    let width = at_zero(axes.across.span, frame.first_zoom);
-    let height = at_zero(axes.down.span, frame.first_zoom);
-    (width, height)
+    at_zero(axes.across.span, frame.first_zoom)
+}
+
+/// How high it would be.
+fn height_at_zero(frame: &Frame) -> i64
+    requires { IsTrue (is_good_frame frame.now) }
+    ensures { result ≡ height_at_zero frame.now }
+{
+    let axes = axes_at(frame, frame.first_zoom);
+    at_zero(axes.down.span, frame.first_zoom)
+}
+
+/// Whether tiles would be as wide and as high at zoom 0.
+fn same_spans(mine: &Frame, theirs: &Frame) -> bool
+    requires mine { IsTrue (is_good_frame mine.now) }
+    requires theirs { IsTrue (is_good_frame theirs.now) }
+    ensures { result ≡ same_spans mine.now theirs.now }
+{
+    let widths = is_same(width_at_zero(mine), width_at_zero(theirs));
+    let heights = is_same(height_at_zero(mine), height_at_zero(theirs));
+    widths & heights
 }
 
 /// Whether a frame is good.
@@ -136,9 +153,7 @@ fn same_grid(mine: &Frame, theirs: &Frame) -> bool
     if !is_good(theirs) {
         return false;
     }
-    let mine = spans_at_zero(mine);
-    let theirs = spans_at_zero(theirs);
-    is_same(mine.0, theirs.0) & is_same(mine.1, theirs.1)
+    same_spans(mine, theirs)
 }
 
 /// Whether the tiles have this grid.

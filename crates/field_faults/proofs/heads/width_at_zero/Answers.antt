@@ -2,7 +2,7 @@
 use Rattle.std.proofs.Common.{arith, refl, rules, FitsSigned, w64, ◌≤ℤ◌, ◌<ℤ◌, ◌+ℤ◌, pos}
 use Rattle.std.proofs.lemmas.Int.{ints, to_z-of_z}
 use Rattle.matrix_rules.proofs.Frames.{good_frame}
-use Rattle.field_faults.proofs.heads.spans_at_zero.Goals as goal
+use Rattle.field_faults.proofs.heads.width_at_zero.Goals as goal
 
 pub axes_at-axes-requires-clause-level : goal.axes_at-axes-requires-clause-level
 axes_at-axes-requires-clause-level c =
@@ -13,40 +13,22 @@ axes_at-axes-requires-clause-level c =
     let high : f.first_zoom <ℤ (f.first_zoom +ℤ f.levels) = omega (arith, ints, good.levels) in
     simp (to_z-of_z, first) (grind (arith, ints, low, high))
 
-pub at_zero-width-requires-clause-zoom : goal.at_zero-width-requires-clause-zoom
-at_zero-width-requires-clause-zoom c =
+pub at_zero-requires-clause-zoom : goal.at_zero-requires-clause-zoom
+at_zero-requires-clause-zoom c =
     let f = c.args.frame.now in
     let good = good_frame f c.requires in
     let first : FitsSigned w64 f.first_zoom = omega (arith, ints, good.first_zoom, good.levels, good.zooms) in
     let high : f.first_zoom ≤ℤ pos 20 = omega (arith, ints, good.levels, good.zooms) in
     simp (to_z-of_z, first) (good.first_zoom, high)
 
-pub at_zero-height-requires-clause-zoom : goal.at_zero-height-requires-clause-zoom
-at_zero-height-requires-clause-zoom c =
-    let f = c.args.frame.now in
-    let good = good_frame f c.requires in
-    let first : FitsSigned w64 f.first_zoom = omega (arith, ints, good.first_zoom, good.levels, good.zooms) in
-    let high : f.first_zoom ≤ℤ pos 20 = omega (arith, ints, good.levels, good.zooms) in
-    simp (to_z-of_z, first) (good.first_zoom, high)
-
-pub returns-clause-width : goal.returns-clause-width
-returns-clause-width c =
+pub returns : goal.returns
+returns c =
     let f = c.args.frame.now in
     let good = good_frame f c.requires in
     let first : FitsSigned w64 f.first_zoom = omega (arith, ints, good.first_zoom, good.levels, good.zooms) in
     let range = c.axes_at-axes.ensures.good.0.span in
     let span : FitsSigned w64 c.axes_at-axes.result.across.span = omega (arith, ints, range.0, range.1) in
-    let width = simp (to_z-of_z, first, span) at c.at_zero-width.ensures in
+    let size = simp (to_z-of_z, first, span) at c.at_zero.ensures in
     let axes = simp (to_z-of_z, first) at c.axes_at-axes.ensures.axes in
-    rw (width, axes) refl
-
-pub returns-clause-height : goal.returns-clause-height
-returns-clause-height c =
-    let f = c.args.frame.now in
-    let good = good_frame f c.requires in
-    let first : FitsSigned w64 f.first_zoom = omega (arith, ints, good.first_zoom, good.levels, good.zooms) in
-    let range = c.axes_at-axes.ensures.good.1.span in
-    let span : FitsSigned w64 c.axes_at-axes.result.down.span = omega (arith, ints, range.0, range.1) in
-    let height = simp (to_z-of_z, first, span) at c.at_zero-height.ensures in
-    let axes = simp (to_z-of_z, first) at c.axes_at-axes.ensures.axes in
-    rw (height, axes) refl
+    let fits : FitsSigned w64 c.at_zero.result = search rules in
+    simp (to_z-of_z, fits) (rw (size, axes) refl)
