@@ -97,7 +97,8 @@ pub(crate) fn note_of(answer: &Answer) -> &'static str {
         Answer::Stale(_) => {
             "the package has changed since the file was exported; the number is its last receipt. Export it again, and edit that file"
         }
-        Answer::OtherSystem => "the points of the file have not the reference system of the archive",
+        Answer::OtherSystem =>
+            "the points of the file have not the reference system of the archive",
         Answer::OtherFrame => "the tiles of the file do not lie in the grid of the archive",
         Answer::Items(_) => {
             "the package cannot hold these records of the file. Each line has a kind, a number and a reason:

@@ -60,12 +60,7 @@ fn with_words<'a>(
     Command::new(alloc, name)
         .about(about)
         .after_help(BRING_WORDS)
-        .arg(word(
-            alloc,
-            "folder",
-            "FOLDER",
-            "Where the packages are, as maps",
-        ))?
+        .arg(word(alloc, "folder", "FOLDER", "Where the packages are, as maps"))?
         .arg(word(
             alloc,
             "package",

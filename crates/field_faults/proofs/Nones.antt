@@ -1,6 +1,6 @@
 -- Entries that are no whole list.
 use Rattle.std.proofs.Common.{◌≡◌, ◌∙◌, ℕ, ◌<◌, List, [], ◌∷◌, map, length, true, false, true≢false, refl, ap, sym, Option, Some, None, Result, Ok, Err, IfOk, arith}
-use Rattle.std.specs.Prelude.{◌↔◌, Bool, IsTrue, bytes_eq, not}
+use Rattle.std.specs.Prelude.{◌↔◌, Bool, IsTrue, bytes_eq}
 use Rattle.std.specs.declared.cmp.Ordering.{Ordering}
 use Rattle.std.specs.declared.cmp.Ordering.TheVariants.{Less, Equal, Greater}
 use Rattle.std.specs.Ordering.{is_lt, nat_cmp, ordering_then}
@@ -48,8 +48,8 @@ module _ (entries : List Listed) (h : Held) where
   two_frames less held = many (filter_map frame_in entries) h.frame less held.frame
 
   pub none_lead : (bads : List BadRecord) (items : List HeldItem) (links : List HeldLink) (all : Bool) → bads ≡ filter_map bad_in entries → items ≡ filter_map item_in entries → links ≡ filter_map link_in entries
-      → (IsTrue all ↔ LeadUnlessBad bads items links) → not all ≡ true → IsHeld entries h → ⊥
-  none_lead bads items links true b i l it none held = true≢false (sym none)
+      → (IsTrue all ↔ LeadUnlessBad bads items links) → all ≡ false → IsHeld entries h → ⊥
+  none_lead bads items links true b i l it none held = true≢false none
   none_lead bads items links false b i l it none held =
       let lead : LeadUnlessBad bads items links = rw (b, i, l) held.lead in
       true≢false (sym (it.1 lead))

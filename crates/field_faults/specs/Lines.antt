@@ -3,7 +3,6 @@ use Rattle.std.specs.Prelude.{◌≡◌, ℕ, ◌-◌, ◌==◌, Bool, true, fal
 use Rattle.std.specs.List.{list_any, before_first, after_first}
 use Rattle.std.specs.Option.{option_map_or}
 use Rattle.std.specs.Fmt.{signed_decimal}
-
 use Rattle.sheet_types.specs.Cut.{identities}
 use Rattle.sheet_types.specs.Matrix.{is_within, first_row}
 use Rattle.sheet_types.specs.Ordered.{has}

@@ -115,7 +115,12 @@ fn only<T: Copy>(found: &[T]) -> Option<Option<T>>
 fn exports_of(alloc: Global, entries: &[Listed]) -> Result<Vec<Export>, OutOfMemory>
     ensures { IfOk result (λ found. found.items ≡ filter_map export_in entries.now) }
 {
-    Ok(entries.iter().filter_map(|entry| export_in(entry)).collect(alloc)?)
+    Ok(
+        entries
+            .iter()
+            .filter_map(|entry| export_in(entry))
+            .collect(alloc)?,
+    )
 }
 
 /// The export that a file was, if it is told once at most.
@@ -131,7 +136,12 @@ fn export_of(alloc: Global, entries: &[Listed]) -> Result<Option<Option<Export>>
 fn systems_of(alloc: Global, entries: &[Listed]) -> Result<Vec<i64>, OutOfMemory>
     ensures { IfOk result (λ found. found.items ≡ filter_map system_in entries.now) }
 {
-    Ok(entries.iter().filter_map(|entry| system_in(entry)).collect(alloc)?)
+    Ok(
+        entries
+            .iter()
+            .filter_map(|entry| system_in(entry))
+            .collect(alloc)?,
+    )
 }
 
 /// The system of its points, if it is told once at most.
@@ -147,7 +157,12 @@ fn system_of(alloc: Global, entries: &[Listed]) -> Result<Option<Option<i64>>, O
 fn frames_of(alloc: Global, entries: &[Listed]) -> Result<Vec<Frame>, OutOfMemory>
     ensures { IfOk result (λ found. found.items ≡ filter_map frame_in entries.now) }
 {
-    Ok(entries.iter().filter_map(|entry| frame_in(entry)).collect(alloc)?)
+    Ok(
+        entries
+            .iter()
+            .filter_map(|entry| frame_in(entry))
+            .collect(alloc)?,
+    )
 }
 
 /// The frame of its tiles, if it is told once at most.
@@ -163,14 +178,24 @@ fn frame_of(alloc: Global, entries: &[Listed]) -> Result<Option<Option<Frame>>, 
 fn links_of(alloc: Global, entries: &[Listed]) -> Result<Vec<HeldLink>, OutOfMemory>
     ensures { IfOk result (λ links. links.items ≡ filter_map link_in entries.now) }
 {
-    Ok(entries.iter().filter_map(|entry| link_in(entry)).collect(alloc)?)
+    Ok(
+        entries
+            .iter()
+            .filter_map(|entry| link_in(entry))
+            .collect(alloc)?,
+    )
 }
 
 /// The items.
 fn items_of(alloc: Global, entries: Vec<Listed>) -> Result<Vec<HeldItem>, OutOfMemory>
     ensures { IfOk result (λ items. items.items ≡ filter_map item_in entries.items) }
 {
-    Ok(entries.into_iter().filter_map(|entry| item_in(entry)).collect(alloc)?)
+    Ok(
+        entries
+            .into_iter()
+            .filter_map(|entry| item_in(entry))
+            .collect(alloc)?,
+    )
 }
 
 /// A record that could not be listed, on its own.

@@ -199,7 +199,11 @@ pub fn head_fault(
     if is_stale(ticket, held.export) {
         return Some(HeadFault::Stale);
     }
-    if !has_system(frame.srs_id, held.system, has_kind(MovedKind::RowItem, items)) {
+    if !has_system(
+        frame.srs_id,
+        held.system,
+        has_kind(MovedKind::RowItem, items),
+    ) {
         return Some(HeadFault::OtherSystem);
     }
     if !frame_is_bad(held.bad.as_slice())

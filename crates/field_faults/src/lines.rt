@@ -33,7 +33,10 @@ fn is_at(place: (i64, i64, i64), content: &Content) -> bool
 {
     match content {
         Content::Tile {
-            zoom, column, row, ..
+            zoom,
+            column,
+            row,
+            ..
         } => (*zoom == place.0) & (*column == place.1) & (*row == place.2),
         _ => false,
     }
@@ -82,11 +85,13 @@ fn is_taken(place: (i64, i64, i64), bytes: &[u8], items: &[Item]) -> bool
 fn ids_of(alloc: Global, kind: MovedKind, items: &[Item]) -> Result<Vec<Uuid>, OutOfMemory>
     ensures { IfOk result (λ ids. ids.items ≡ ids_of kind items.now) }
 {
-    Ok(items
-        .iter()
-        .filter(|item| kind.number() == item.content.kind().number())
-        .map(|item| item.identity)
-        .collect(alloc)?)
+    Ok(
+        items
+            .iter()
+            .filter(|item| kind.number() == item.content.kind().number())
+            .map(|item| item.identity)
+            .collect(alloc)?,
+    )
 }
 
 /// The identities of media and rows, in the order in which an export numbers them.
@@ -203,12 +208,7 @@ fn reason_in(
 }
 
 /// A kind, a number and a word, on a line.
-fn record_line(
-    alloc: Global,
-    kind: &str,
-    number: i64,
-    word: &str,
-) -> Result<String, OutOfMemory>
+fn record_line(alloc: Global, kind: &str, number: i64, word: &str) -> Result<String, OutOfMemory>
     ensures { IfOk result (λ line. string_bytes line ≡ record_line kind.now number word.now) }
 {
     Ok(format!(in alloc; "{kind} {number} {word}\n")?)
@@ -226,11 +226,7 @@ fn bad_line(alloc: Global, bad: &BadRecord) -> Result<String, OutOfMemory>
 }
 
 /// The line of an item, if it has one.
-fn line_for(
-    alloc: Global,
-    item: &HeldItem,
-    reason: Option<Reason>,
-) -> Result<String, OutOfMemory>
+fn line_for(alloc: Global, item: &HeldItem, reason: Option<Reason>) -> Result<String, OutOfMemory>
     ensures { IfOk result (λ line. string_bytes line ≡ line_for item.now reason) }
 {
     let Some(reason) = reason else {
@@ -294,6 +290,13 @@ pub fn fault_lines(alloc: Global, judge: &Judge<'_>, held: &Held) -> Result<Stri
     let mut text = bad_lines(alloc, held.bad.as_slice())?;
     let numbered = numbers_of(alloc, judge.items)?;
     let exported = was_exported(&held.export);
-    add_item_lines(alloc, judge, &numbered, exported, held.items.as_slice(), &mut text)?;
+    add_item_lines(
+        alloc,
+        judge,
+        &numbered,
+        exported,
+        held.items.as_slice(),
+        &mut text,
+    )?;
     Ok(text)
 }
