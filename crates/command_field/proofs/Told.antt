@@ -40,7 +40,7 @@ pub told_text : {E : Type 0} (P : World → Type 0) (a : Ask) (n : ℕ) (text : 
     → ((w : World) → P w → (is_live w a.«package» ≡ true) × (n ≡ ticket w a.«package»)) → AreHeldIn text (Some h)
     → IfOk r (λ x. (w : World) → P w → is_live w a.«package» ≡ true → n ≡ ticket w a.«package» → AnswersFile w a h x)
     → IfOk r (λ x. (w : World) → P w → AnswersText w a text x)
-told_text P a n text h (Ok x) some listed it = λ w stands. let seen = some w stands in inr (seen.0, inr (h, (listed, it w stands seen.0 seen.1)))
+told_text P a n text h (Ok x) some listed it = λ w stands. let seen = some w stands in inr (seen.0, inr (h, listed, it w stands seen.0 seen.1))
 told_text P a n text h (Err e) some listed it = tt
 
 -- where no line is due, what was answered is of the requests

@@ -178,10 +178,10 @@ pub fn answer_in<S: Alter + Drop>(
     alloc: Global,
     world: &mut World<S>,
     ask: &Ask<'_>,
-    ticket: u64,
+    number: u64,
     held: Held,
 ) -> Result<Answer, Fault>
-    ensures told { TellsOf S.Store (λ w answer. is_live w ask.now.package ≡ true → ticket ≡ ticket w ask.now.package
+    ensures told { TellsOf S.Store (λ w answer. is_live w ask.now.package ≡ true → number ≡ ticket w ask.now.package
         → AnswersFile w ask.now held answer) world.old world.new result }
     ensures read { IsUntouched S.Store world.old world.new }
 {
@@ -196,7 +196,7 @@ pub fn answer_in<S: Alter + Drop>(
         items: items.as_slice(),
         links: links.as_slice(),
     };
-    answer_given(alloc, &frame, ask, ticket, &holdings, held)
+    answer_given(alloc, &frame, ask, number, &holdings, held)
 }
 
 /// What the text of a reader lists; `None` where it is no list.

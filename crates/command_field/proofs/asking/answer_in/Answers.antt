@@ -7,7 +7,7 @@ use Rattle.command_field.proofs.asking.answer_in.Goals as goal
 
 pub returns-clause-told : goal.returns-clause-told
 returns-clause-told g c = λ clean.
-    told_given (StandsFor g.S.Store c.args.world.now) c.args.ask.now c.args.ticket c.frame-frame.result _ _ c.args.held c.answer_given.result
+    told_given (StandsFor g.S.Store c.args.world.now) c.args.ask.now c.args.number c.frame-frame.result _ _ c.args.held c.answer_given.result
     (λ w stands. c.frame-frame.ensures ∙ stands.frame)
     (λ w stands.
     let told = c.in_ok-items.ensures.told clean w stands in
