@@ -1,6 +1,7 @@
 -- What was answered of what was read is so of each world that it was read of.
-use Rattle.std.proofs.Common.{◌≡◌, ◌∙◌, ℕ, List, true, false, Some, None, Result, Ok, Err, IfOk, unwrap_or, ap, sym, subst, inl, inr}
-use Rattle.std.specs.Prelude.{Bool, Option, []}
+use Rattle.std.proofs.Common.{◌≡◌, ◌∙◌, ℕ, List, ◌∷◌, length, true, false, Some, None, Result, Ok, Err, IfOk, unwrap_or, ap, sym, subst, inl, inr, arith}
+use Rattle.std.specs.Prelude.{Bool, Option, [], ◌==◌}
+use Rattle.std.proofs.lemmas.Nat.{nat_tests}
 use Rattle.std.specs.Bool.{then_some}
 use Rattle.sheet_types.specs.Answers.{holdings_answer}
 use Rattle.sheet_types.specs.Custody.{ticket}
@@ -66,3 +67,8 @@ pub told_heads : {E : Type 0} (f : Frame) (a : Ask) (n : ℕ) (items : List Item
     → IfOk r (AnswersLines (fault_lines f items a.more h) a.«package» n a.at.now items links a.more h) → IfOk r (AnswersGiven f a n items links h)
 told_heads f a n items links h (Ok x) none it = inr (none, it)
 told_heads f a n items links h (Err e) none it = tt
+
+-- a text of no bytes has no lines
+pub no_lines : (n : ℕ) (text lines : List ℕ) (b : Bool) → n ≡ length text → text ≡ lines → b ≡ (n == 0) → b ≡ true → lines ≡ []
+no_lines n [] lines b long is said so = sym is
+no_lines n (x ∷ xs) lines b long is said so = absurd (grind (arith, nat_tests, long, said, so))
