@@ -1,7 +1,7 @@
 -- What was answered of what was read is so of each world that it was read of.
-use Rattle.std.proofs.Common.{◌≡◌, ◌∙◌, ℕ, List, ◌∷◌, length, true, false, Some, None, Result, Ok, Err, IfOk, unwrap_or, ap, sym, subst, inl, inr, arith}
-use Rattle.std.specs.Prelude.{Bool, Option, [], ◌==◌}
-use Rattle.std.proofs.lemmas.Nat.{nat_tests}
+use Rattle.std.proofs.Common.{◌≡◌, ◌∙◌, ◌==◌, ℕ, List, ◌∷◌, length, true, false, Some, None, Result, Ok, Err, IfOk, unwrap_or, ap, sym, subst, inl, inr, arith}
+use Rattle.std.specs.Prelude.{Bool, Option, []}
+use Rattle.std.proofs.lemmas.Bool.Decides.{nat_tests}
 use Rattle.std.specs.Bool.{then_some}
 use Rattle.sheet_types.specs.Answers.{holdings_answer}
 use Rattle.sheet_types.specs.Custody.{ticket}
