@@ -1,11 +1,11 @@
 //! What is printed of a file that is refused, and of a list in short.
-ghost use Rattle.std.specs.Prelude.{◌≡◌, IfOk, count_by, string_bytes};
+ghost use Rattle.std.specs.Prelude.{◌≡◌, ◌++◌, IfOk, codes, count_by, decimal, string_bytes};
 ghost use Rattle.command_bringing.specs.Telling.{is_add, is_delete, is_link, is_unlink, refusal_text, summary_text};
 
 use command_field::asking::Answer;
 use sheet_types::command::{Command, Request};
 use sheet_types::error::OutOfMemory;
-use std::alloc::Global;
+use std::alloc::{AllocError, Global};
 
 /// The line `refused: ` and what is refused; behind it the lines of records.
 ///
@@ -69,6 +69,20 @@ fn links_in(requests: &[Request]) -> usize
         .count()
 }
 
+/// So many of each part, on a line.
+fn parts_text(
+    alloc: Global,
+    unlinks: usize,
+    deletes: usize,
+    adds: usize,
+    links: usize,
+) -> Result<String, AllocError>
+    ensures { IfOk result (λ text. string_bytes text ≡ decimal unlinks ++ (codes " unlinks, " ++ (decimal deletes ++ (codes " deletes, "
+        ++ (decimal adds ++ (codes " adds, " ++ (decimal links ++ codes " links\n"))))))) }
+{
+    format!(in alloc; "{unlinks} unlinks, {deletes} deletes, {adds} adds, {links} links\n")
+}
+
 /// A list of requests in short: how many of each part there are, on a line.
 ///
 /// # Errors
@@ -81,7 +95,8 @@ pub(crate) fn summary_text(alloc: Global, requests: &[Request]) -> Result<String
     let deletes = deletes_in(requests);
     let adds = adds_in(requests);
     let links = links_in(requests);
-    Ok(format!(in alloc; "{unlinks} unlinks, {deletes} deletes, {adds} adds, {links} links\n")?)
+    let text = parts_text(alloc, unlinks, deletes, adds, links)?;
+    Ok(text)
 }
 
 /// What a refusal means, in plain words for standard error; empty where there is none.
