@@ -1,6 +1,7 @@
 //! Which words the command line of `sheetdesk` has, and what `--help` says of them.
 #![tactic(auto)]
 
+mod bringing;
 pub mod completions;
 pub mod help;
 mod verbs;

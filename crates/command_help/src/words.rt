@@ -1,4 +1,5 @@
 //! Which words the command line has.
+use crate::bringing::{bring_command, changes_command};
 use crate::help::{
     ABOUT, APPLY_ABOUT, AUDIT_ABOUT, BASH_ABOUT, COMPLETIONS_ABOUT, EXPLAIN_ABOUT, EXPORT_ABOUT,
     FOLDER_WORDS, GET_ABOUT, HOLDS_ABOUT, HOLDS_WORDS, IMPORT_ABOUT, INIT_ABOUT, LOG_ABOUT,
@@ -339,34 +340,60 @@ fn completions_command<'a>(alloc: Global) -> Result<Command<'a>, AllocError> {
         .subcommand(Command::new(alloc, "bash").about(BASH_ABOUT))
 }
 
-/// The command line of the program.
-pub fn sheetdesk<'a>(alloc: Global) -> Result<Command<'a>, AllocError> {
-    Command::new(alloc, "sheetdesk")
-        .about(ABOUT)
-        .after_help(WORDS)
-        .subcommand_required(true)
+/// The verbs for people, and what makes a folder.
+fn with_verbs<'a>(alloc: Global, command: Command<'a>) -> Result<Command<'a>, AllocError> {
+    command
         .subcommand(init_command(alloc)?)?
         .subcommand(put_command(alloc)?)?
         .subcommand(lend_command(alloc)?)?
         .subcommand(return_command(alloc)?)?
         .subcommand(join_command(alloc)?)?
-        .subcommand(part_command(alloc)?)?
+        .subcommand(part_command(alloc)?)
+}
+
+/// What carries out requests, and looks at a register.
+fn with_looks<'a>(alloc: Global, command: Command<'a>) -> Result<Command<'a>, AllocError> {
+    command
         .subcommand(apply_command(alloc)?)?
         .subcommand(import_command(alloc)?)?
         .subcommand(status_command(alloc)?)?
         .subcommand(log_command(alloc)?)?
         .subcommand(get_command(alloc)?)?
         .subcommand(explain_command(alloc)?)?
-        .subcommand(receipt_command(alloc)?)?
+        .subcommand(receipt_command(alloc)?)
+}
+
+/// What other programs read, or have written.
+fn with_files<'a>(alloc: Global, command: Command<'a>) -> Result<Command<'a>, AllocError> {
+    command
         .subcommand(over_package(alloc, "manifest", MANIFEST_ABOUT)?)?
         .subcommand(export_command(alloc)?)?
         .subcommand(holds_command(alloc)?)?
+        .subcommand(changes_command(alloc)?)?
+        .subcommand(bring_command(alloc)?)?
         .subcommand(map_command(alloc)?)?
-        .subcommand(report_command(alloc)?)?
+        .subcommand(report_command(alloc)?)
+}
+
+/// What keeps a register, and the rest.
+fn with_keeping<'a>(alloc: Global, command: Command<'a>) -> Result<Command<'a>, AllocError> {
+    command
         .subcommand(audit_command(alloc)?)?
         .subcommand(serve_command(alloc)?)?
         .subcommand(tidy_command(alloc)?)?
         .subcommand(rehearse_command(alloc)?)?
         .subcommand(session_command(alloc)?)?
         .subcommand(completions_command(alloc)?)
+}
+
+/// The command line of the program.
+pub fn sheetdesk<'a>(alloc: Global) -> Result<Command<'a>, AllocError> {
+    let command = Command::new(alloc, "sheetdesk")
+        .about(ABOUT)
+        .after_help(WORDS)
+        .subcommand_required(true);
+    let command = with_verbs(alloc, command)?;
+    let command = with_looks(alloc, command)?;
+    let command = with_files(alloc, command)?;
+    with_keeping(alloc, command)
 }

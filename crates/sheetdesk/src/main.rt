@@ -1,6 +1,7 @@
 //! The program `sheetdesk`: the words that it is called with, and the exit status.
 #![tactic(auto)]
 
+mod bringing;
 mod clock;
 mod field;
 mod founding;

@@ -1,4 +1,5 @@
 //! A command, carried out: what it asks for is done in `cli`, `commands` and `views`.
+use crate::bringing::{brought, is_bringing};
 use crate::field::{listed, projected};
 use crate::founding::founded;
 use crate::notes::{fault_note, print_refusals, tally_for};
@@ -227,6 +228,7 @@ pub(crate) fn carried_out(
     let ending = match name {
         "init" => founded(rt, given),
         "tidy" => tidy(rt, text_of(given, "folder"), &mut io::writer(rt)),
+        _ if is_bringing(name) => brought(rt, name, given, reader),
         _ if is_verb(name) => ordered(rt, name, given, reader),
         _ => changed(rt, name, given, reader),
     };

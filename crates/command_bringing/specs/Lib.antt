@@ -1,0 +1,3 @@
+pub mod Telling
+pub mod Brings
+pub mod Opens
