@@ -22,6 +22,7 @@ import os
 import re
 import sys
 
+import field_work
 import nordmark
 import reference
 import verbs
@@ -409,6 +410,7 @@ def all_sessions():
     every.show("")
     every.show("# The SQL that lists what an edited file holds, and that of another program's file.")
     listings(every)
+    field_work.sessions(every)
     every.show("")
     every.show("# The custody of a loan, and folders that do not open.")
     papers(every)
