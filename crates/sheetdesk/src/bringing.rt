@@ -6,7 +6,7 @@ use clap::ArgMatches;
 use command_bringing::bringing::Purpose;
 use command_bringing::folders::{BringWords, bring_for};
 use command_folder::endings::Ending;
-use std::io;
+use std::io::{self, Read};
 
 /// Whether a command brings an edited file home, or shows what that changes.
 pub(crate) fn is_bringing(name: &str) -> bool {
@@ -32,20 +32,17 @@ fn explain(rt: &HostRuntime, note: &str) {
     }
 }
 
-/// Carries the command out.
-pub(crate) fn brought(
+/// Carries the command out, at this moment, with the list that a reader has.
+fn bring_from<R: Read + Drop>(
     rt: &HostRuntime,
     name: &str,
     given: &ArgMatches<'_>,
-    reader: &mut Input<'_>,
+    moment: &str,
+    reader: R,
 ) -> Ending {
-    let moment = match moment_given(rt, given) {
-        Ok(moment) => moment,
-        Err(ending) => return ending,
-    };
     let words = BringWords {
         package: text_of(given, "package"),
-        at: moment.as_str(),
+        at: moment,
         more: given.get_flag("more"),
     };
     let mut teller = Onlooker::new(rt, false);
@@ -60,4 +57,17 @@ pub(crate) fn brought(
     );
     explain(rt, note);
     ending
+}
+
+/// Carries the command out.
+pub(crate) fn brought(
+    rt: &HostRuntime,
+    name: &str,
+    given: &ArgMatches<'_>,
+    reader: &mut Input<'_>,
+) -> Ending {
+    match moment_given(rt, given) {
+        Ok(moment) => bring_from(rt, name, given, moment.as_str(), reader),
+        Err(ending) => ending,
+    }
 }
