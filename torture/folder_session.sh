@@ -47,6 +47,8 @@ expect() {
   "${program[@]}" "$@" >"$work/out" 2>"$work/err" || status=$?
   # What ./sheetdesk itself says of a run without a proof.
   sed -i '/^sheetdesk: nothing is proved of this run/d' "$work/err"
+  # What is told of the refusals of a list that was carried out.
+  sed -i '/^record [0-9]*: refusal /d; /^and [0-9]* more$/d' "$work/err"
   # Where something is told, lines in plain words may follow it.
   if [ "$wanted" != 0 ]; then
     head -n "$(grep -c '' "$work/err.wanted")" "$work/err" >"$work/err.first" && mv "$work/err.first" "$work/err"

@@ -126,11 +126,15 @@ def room():
     return tempfile.TemporaryDirectory(dir="/dev/shm" if os.path.isdir("/dev/shm") else None)
 
 
+# What standard error tells of a list that was carried out.
+TOLD = re.compile(r"record \d+: refusal .*\n|and \d+ more\n")
+
+
 class Ran:
     def __init__(self, words, under=(), **how):
         ran = subprocess.run([*under, *program, *words], stdin=subprocess.DEVNULL, stdout=subprocess.PIPE, stderr=subprocess.PIPE, timeout=LIMIT, **how)
-        # What standard error says in plain words, behind the line of a fault, is left out.
-        lines = ran.stderr.decode().splitlines(keepends=True)
+        # What standard error says in plain words, behind the line of a fault and of the refusals of a list, is left out.
+        lines = [line for line in ran.stderr.decode().splitlines(keepends=True) if not TOLD.fullmatch(line)]
         self.status, self.out, self.err = ran.returncode, ran.stdout.decode(), "".join(line for line in lines if ran.returncode != 3 or line.startswith("store: "))
 
     def __str__(self):
