@@ -1,6 +1,6 @@
 """The custody page of one loan, as the second machine writes it: what was lent, who has it now, what is due home, and places to sign."""
 
-from .report import COLUMNS, KINDS, WORDS, Page, amounts, escaped, heads, label, moment, short, table, top
+from .report import COLUMNS, ENDING, KINDS, WORDS, Page, amounts, escaped, heads, label, moment, short, table, top
 from .world import held, sums_of
 
 SECTIONS = [("verdict", "Verdict"), ("lent", "What was lent"), ("ledger", "Its receipts"), ("due", "Due home"), ("account", "Account"), ("sign", "Signatures"), ("map", "Map"), ("check", "How to check")]
@@ -134,15 +134,7 @@ CHECK = """<section id="check" aria-labelledby="hc">
 <li><code>sheetdesk report FOLDER LOAN | cmp - loan.html</code> prints nothing: the page has no date of its own, and comes out the same each time.</li>
 <li>By telephone: the other office reads out its SHA-256 of the ledger. It is the same where both mean the same receipts.</li>
 <li><code>sheetdesk explain FOLDER IDENTITY</code> tells the way of one item, from receipt to receipt.</li>
-</ol>
-</section>
-</main>
-<footer>
-<p>Made by <code>sheetdesk report</code> from a folder that was opened and found in order. Nothing on this page comes from elsewhere.</p>
-</footer>
-</body>
-</html>
-"""
+""" + ENDING
 
 
 def loan_page_of(world, names, json_of, uuid):

@@ -341,15 +341,8 @@ class Page:
                 f"{self.map()}{self.holdings()}{self.ledger()}{self.account()}{CHECK}")
 
 
-CHECK = f"""<section id="check" aria-labelledby="hc">
-<h2 id="hc">How to check this page</h2>
-<p>None of these asks you to believe the page.</p>
-<ol class="how">
-<li><code>grep '^{{"at":' report.html | sha256sum</code> prints the SHA-256 above, while there are at most {SHOWN} receipts: they stand in this page, a line each, as they are hashed.</li>
-<li><code>sheetdesk audit FOLDER</code> opens the folder anew and prints <code>good</code> with the number of receipts.</li>
-<li><code>sheetdesk report FOLDER | cmp - report.html</code> prints nothing: the page has no date of its own, and comes out the same each time.</li>
-<li><code>sheetdesk explain FOLDER IDENTITY</code> tells the way of one item, from receipt to receipt.</li>
-</ol>
+# How a page ends, whose last section is a list of ways to check it.
+ENDING = """</ol>
 </section>
 </main>
 <footer>
@@ -358,6 +351,16 @@ CHECK = f"""<section id="check" aria-labelledby="hc">
 </body>
 </html>
 """
+
+CHECK = f"""<section id="check" aria-labelledby="hc">
+<h2 id="hc">How to check this page</h2>
+<p>None of these asks you to believe the page.</p>
+<ol class="how">
+<li><code>grep '^{{"at":' report.html | sha256sum</code> prints the SHA-256 above, while there are at most {SHOWN} receipts: they stand in this page, a line each, as they are hashed.</li>
+<li><code>sheetdesk audit FOLDER</code> opens the folder anew and prints <code>good</code> with the number of receipts.</li>
+<li><code>sheetdesk report FOLDER | cmp - report.html</code> prints nothing: the page has no date of its own, and comes out the same each time.</li>
+<li><code>sheetdesk explain FOLDER IDENTITY</code> tells the way of one item, from receipt to receipt.</li>
+""" + ENDING
 
 
 def page_of(world, names, json_of):
