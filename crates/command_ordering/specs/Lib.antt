@@ -1,0 +1,6 @@
+pub mod Boxes
+pub mod Dropping
+pub mod Folders
+pub mod Ordering
+pub mod Putting
+pub mod Telling
