@@ -11,6 +11,8 @@ const PUT_ABOUT: &str = "Adds a tile, a medium or a mark to a package";
 
 const TILE_ABOUT: &str = "Adds a tile at a place, from a file";
 
+const TILES_ABOUT: &str = "Adds the tiles of a tree of files ZOOM/COLUMN/ROW.png";
+
 const MEDIA_ABOUT: &str = "Adds a photograph or another medium, from a file";
 
 const MARK_ABOUT: &str = "Adds a survey mark: a point, a code and a label";
@@ -18,6 +20,8 @@ const MARK_ABOUT: &str = "Adds a survey mark: a point, a code and a label";
 const JOIN_ABOUT: &str = "Links two items; their kinds tell how";
 
 const PART_ABOUT: &str = "Ends the link of two items";
+
+const DROP_ABOUT: &str = "Deletes an item, and with --yes its links before it";
 
 /// After the words of a verb.
 const VERB_WORDS: &str =
@@ -42,6 +46,31 @@ Exit status:
   0  done
   1  refused: by the register, with the refusal as JSON, or `refused: ` and what: uuid, area, place, point,
      code, type, body, not lent, no such package, two packages, no such item, two items, no mapping
+  2  the command line is no use of the program
+  3  memory, a file or a stream gave out, or the packages are not in order: standard error has the line `store: `
+     and the name of the fault";
+
+/// After the words of `drop` and of `put .. tiles`.
+const SEVERAL_WORDS: &str =
+    "Several requests are made, and carried out in turn. Their UUIDs and those of tiles are new. One that is refused
+ends it; what was done before stands. Of a tree that was stopped the rest comes in when it is put again: a tile
+that is there with the same bytes is passed over, and so is a file whose name is no number.
+
+Examples:
+  sheetdesk drop maps 6523
+  sheetdesk put maps a000 tiles sheets
+  sheetdesk put maps a000 tiles --tms gdal2tiles
+where 6523 begins the UUID of an item, a000 that of a package, and sheets/2/3/3.png is a tile.
+
+Standard output:
+  drop        what was ended and deleted, and behind each the number and the sums of its receipt;
+              without --yes the links for which an item stays, as `linked IDENTITY IDENTITY`
+  put tiles   how many were added and passed over; behind it the refusal as JSON, if one was refused
+
+Exit status:
+  0  done
+  1  refused: by the register, with the refusal as JSON, or `refused: ` and what: place, body, linked,
+     no such package, two packages, no such item, two items
   2  the command line is no use of the program
   3  memory, a file or a stream gave out, or the packages are not in order: standard error has the line `store: `
      and the name of the fault";
@@ -119,12 +148,16 @@ fn folder<'a>(alloc: Global) -> Arg<'a> {
 pub(crate) fn lend_command<'a>(alloc: Global) -> Result<Command<'a>, AllocError> {
     making(alloc, "lend", LEND_ABOUT)?
         .arg(folder(alloc))?
-        .arg(word(
-            alloc,
-            "first",
-            "FROM|AREA",
-            "The sheets, as 5/0-3/2: zoom, columns, rows; or before them the package that lends",
-        ))?
+        .arg(
+            word(
+                alloc,
+                "first",
+                "FROM|AREA",
+                "The sheets, as 5/0-3/2: zoom, columns, rows; or before them the package that lends",
+            )
+            .required(false)
+            .required_unless_present("box")?,
+        )?
         .arg(word(
             alloc,
             "second",
@@ -132,6 +165,23 @@ pub(crate) fn lend_command<'a>(alloc: Global) -> Result<Command<'a>, AllocError>
             "The sheets, where a package that lends is named; else the archive lends",
         )
         .required(false))?
+        .arg(
+            option(
+                alloc,
+                "box",
+                "WEST,SOUTH,EAST,NORTH",
+                "In place of AREA: the least area that covers this box, in units of the reference system",
+            )
+            .requires_arg("zoom")?
+            .conflicts_with("second")?,
+        )?
+        .arg(option(
+            alloc,
+            "zoom",
+            "ZOOM",
+            "The zoom of the sheets that cover the box",
+        )
+        .requires_arg("box")?)?
         .arg(flag(
             alloc,
             "follow",
@@ -160,6 +210,30 @@ fn tile_command<'a>(alloc: Global) -> Result<Command<'a>, AllocError> {
             "file",
             "FILE",
             "Its bytes, as sheet.png, or - for standard input",
+        ))
+}
+
+/// Adds the tiles of a tree.
+fn tiles_command<'a>(alloc: Global) -> Result<Command<'a>, AllocError> {
+    Command::new(alloc, "tiles")
+        .about(TILES_ABOUT)
+        .after_help(SEVERAL_WORDS)
+        .arg(option(
+            alloc,
+            "at",
+            "AT",
+            "Moment of the requests, as 2024-05-01T08:00:00.000Z; else that of the clock",
+        ))?
+        .arg(flag(
+            alloc,
+            "tms",
+            "The rows of the files run upwards, as in a TMS",
+        ))?
+        .arg(word(
+            alloc,
+            "directory",
+            "DIRECTORY",
+            "The tree, as gdal2tiles and QGIS write it",
         ))
 }
 
@@ -202,6 +276,7 @@ pub(crate) fn put_command<'a>(alloc: Global) -> Result<Command<'a>, AllocError> 
         .arg(folder(alloc))?
         .arg(word(alloc, "package", "PACKAGE", "The package, as c3f1"))?
         .subcommand(tile_command(alloc)?)?
+        .subcommand(tiles_command(alloc)?)?
         .subcommand(media_command(alloc)?)?
         .subcommand(mark_command(alloc)?)
 }
@@ -226,4 +301,29 @@ pub(crate) fn join_command<'a>(alloc: Global) -> Result<Command<'a>, AllocError>
 /// Ends the link of two items.
 pub(crate) fn part_command<'a>(alloc: Global) -> Result<Command<'a>, AllocError> {
     of_two(alloc, "part", PART_ABOUT)
+}
+
+/// Deletes an item.
+pub(crate) fn drop_command<'a>(alloc: Global) -> Result<Command<'a>, AllocError> {
+    Command::new(alloc, "drop")
+        .about(DROP_ABOUT)
+        .after_help(SEVERAL_WORDS)
+        .arg(option(
+            alloc,
+            "at",
+            "AT",
+            "Moment of the requests, as 2024-05-01T08:00:00.000Z; else that of the clock",
+        ))?
+        .arg(flag(
+            alloc,
+            "yes",
+            "End the links of the item, a request each; else an item that has links stays, and they are told",
+        ))?
+        .arg(flag(
+            alloc,
+            "dry-run",
+            "Print the requests as JSON, a line each, and change nothing",
+        ))?
+        .arg(folder(alloc))?
+        .arg(word(alloc, "identity", "IDENTITY", "The item, as 6523"))
 }

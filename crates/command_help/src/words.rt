@@ -6,7 +6,9 @@ use crate::help::{
     MANIFEST_ABOUT, MAP_ABOUT, RECEIPT_ABOUT, REHEARSE_ABOUT, REHEARSE_WORDS, REPORT_ABOUT,
     SERVE_ABOUT, SESSION_ABOUT, SESSION_WORDS, STATUS_ABOUT, TIDY_ABOUT, WORDS,
 };
-use crate::verbs::{join_command, lend_command, part_command, put_command, return_command};
+use crate::verbs::{
+    drop_command, join_command, lend_command, part_command, put_command, return_command,
+};
 use clap::{Arg, ArgAction, Command};
 use std::alloc::{AllocError, Global};
 
@@ -139,7 +141,7 @@ fn over_package<'a>(
         alloc,
         "package",
         "PACKAGE",
-        "Identity of the package, as a0000000-0000-4000-8000-000000000000",
+        "The package, by its UUID or the first digits of it, as a000",
     ))
 }
 
@@ -199,7 +201,7 @@ fn explain_command<'a>(alloc: Global) -> Result<Command<'a>, AllocError> {
         alloc,
         "identity",
         "IDENTITY",
-        "Identity of the item, as 00000000-0000-4000-8000-000000000001",
+        "The item, by its identity or the first digits of it, as 6523",
     ))
 }
 
@@ -348,7 +350,8 @@ fn with_verbs<'a>(alloc: Global, command: Command<'a>) -> Result<Command<'a>, Al
         .subcommand(lend_command(alloc)?)?
         .subcommand(return_command(alloc)?)?
         .subcommand(join_command(alloc)?)?
-        .subcommand(part_command(alloc)?)
+        .subcommand(part_command(alloc)?)?
+        .subcommand(drop_command(alloc)?)
 }
 
 /// What carries out requests, and looks at a register.
