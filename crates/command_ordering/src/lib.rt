@@ -5,6 +5,7 @@
 mod areas;
 pub mod boxes;
 pub mod dropping;
+pub mod naming;
 pub mod ordering;
 pub mod putting;
 mod telling;
