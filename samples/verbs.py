@@ -168,7 +168,7 @@ class Verbs:
             added += 1
         self.session.run(words, f"added {added}, passed over {passed}\n" + told, 1 if told else 0)
 
-    def lend_box(self, box, zoom, loan, option=""):
+    def lend_box(self, box, zoom, loan, giver="", **more):
         """What a box meets is lent: each sheet of which more than an edge lies in it."""
         west, south, east, north = (round(float(part) * 1000) for part in box.split(","))
         frame = self.world.frame
@@ -177,7 +177,7 @@ class Verbs:
         met_columns = [at for at in columns if frame.min_x + at * across < east and west < frame.min_x + (at + 1) * across]
         met_rows = [at for at in rows if frame.max_y - at * down > south and north > frame.max_y - (at + 1) * down]
         rect = (zoom, met_columns[0], met_columns[-1], met_rows[0], met_rows[-1])
-        return self.lend(f"--box {box} --zoom {zoom}{option}", loan, rect)
+        return self.lend(f"{giver}--box {box} --zoom {zoom}", loan, rect, **more)
 
 
 def first_loan(session):
@@ -261,6 +261,8 @@ def come_to_an_end(verbs):
     photo, book = nordmark.medium("photo-lighthouse"), nordmark.medium("level-book")
     verbs.drop(photo[:4].upper(), photo)
     verbs.drop(photo[:4], photo, " --yes")
+    # (that was its only link)
+    verbs.drop(nordmark.mark("light"), nordmark.mark("light"))
     verbs.refused("drop", book, "no such item")
     verbs.refused("drop", book[:3], "a name of fewer than four digits")
 
@@ -291,8 +293,16 @@ def trees_and_boxes(session):
     verbs.lend_box("500000,5951200,510240,5961440", 5, nordmark.HARBOUR)
     verbs.bring_home(nordmark.HARBOUR, nordmark.ARCHIVE)
     verbs.lend_box("505000,5950000,512000.5,5961000", 5, nordmark.BOAT)
+    # (a sheet of that loan; and of the archive, which has lent it)
+    corner = "500000,5956320,505120,5961440"
+    verbs.lend_box(corner, 6, nordmark.SURVEY, nordmark.BOAT[:4] + " ", package=nordmark.BOAT)
+    verbs.lend_box(corner, 6, nordmark.name_uuid("crew", "late"), nordmark.ARCHIVE[:5] + " ")
     verbs.refused("lend", "--box 499999.999,5951200,510240,5961440 --zoom 5", "area")
     verbs.refused("lend", "--box 500000,5951200,510240,5961440 --zoom 7", "area")
     verbs.refused("lend", "--box 500000,5951200,500000,5961440 --zoom 5", "area")
     verbs.refused("lend", "--box 500000,5951200,510240 --zoom 5", "number")
+    verbs.refused("lend", "ffff --box 500000,5951200,510240,5961440 --zoom 5", "no such package")
+    verbs.session.run(f"lend tree {nordmark.ARCHIVE} 5/0/0 --box 500000,5951200,510240,5961440 --zoom 5", "", 2)
+    verbs.session.run("lend tree --box 500000,5951200,510240,5961440", "", 2)
+    verbs.session.run("lend tree", "", 2)
     return verbs.world
