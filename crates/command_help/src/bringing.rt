@@ -65,7 +65,7 @@ fn with_words<'a>(
             alloc,
             "package",
             "PACKAGE",
-            "Identity of the package, as a0000000-0000-4000-8000-000000000000",
+            "The package, by its UUID or the first digits of it, as a000",
         ))?
         .arg(flag(
             alloc,

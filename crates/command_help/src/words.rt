@@ -270,7 +270,7 @@ fn report_command<'a>(alloc: Global) -> Result<Command<'a>, AllocError> {
         alloc,
         "package",
         "LOAN",
-        "The custody page of this loan, by its whole UUID; else the page of the register",
+        "The custody page of this loan, as c3f1; else the page of the register",
     );
     let names = option(
         alloc,
