@@ -16,7 +16,7 @@ _sheetdesk_options() {
         holds) echo --tiles --points --geometry --code --label ;;
         changes) echo --more --at --summary ;;
         bring) echo --more --at --dry-run --summary ;;
-        map) echo --zoom ;;
+        map) echo --zoom --names ;;
         report) echo --names ;;
         serve) echo --log ;;
     esac

@@ -251,15 +251,27 @@ fn holds_command<'a>(alloc: Global) -> Result<Command<'a>, AllocError> {
     naming_points(alloc, command)
 }
 
-/// Draws who holds which sheets.
+/// The option that names a file of names.
+fn names<'a>(alloc: Global) -> Arg<'a> {
+    option(
+        alloc,
+        "names",
+        "FILE",
+        "What people call packages and sheets, as CSV: uuid,name; else FOLDER/names.csv, if it is there",
+    )
+}
+
+/// Draws who holds what.
 fn map_command<'a>(alloc: Global) -> Result<Command<'a>, AllocError> {
     let zoom = option(
         alloc,
         "zoom",
         "ZOOM",
-        "Which zoom is drawn, as 2; else the finest with at most 10,000 places",
+        "The one zoom that is drawn, as 2; else all up to 10,000 places, with marks and names",
     );
-    over_folder(alloc, Command::new(alloc, "map"), MAP_ABOUT)?.arg(zoom.required(false))
+    over_folder(alloc, Command::new(alloc, "map"), MAP_ABOUT)?
+        .arg(zoom.required(false))?
+        .arg(names(alloc).required(false))
 }
 
 /// Prints the page of a register, or of one loan.
@@ -270,15 +282,9 @@ fn report_command<'a>(alloc: Global) -> Result<Command<'a>, AllocError> {
         "LOAN",
         "The custody page of this loan, by its whole UUID; else the page of the register",
     );
-    let names = option(
-        alloc,
-        "names",
-        "FILE",
-        "What people call packages and sheets, as CSV: uuid,name; else FOLDER/names.csv, if it is there",
-    );
     over_folder(alloc, Command::new(alloc, "report"), REPORT_ABOUT)?
         .arg(loan.required(false))?
-        .arg(names.required(false))
+        .arg(names(alloc).required(false))
 }
 
 /// Says whether the packages of a folder are in order.
