@@ -56,7 +56,7 @@ abbrev pub home_row : Register → Receipt → List ℕ → List ℕ
 home_row r x child =
     codes "<tr id=\"p-" ++ (uuid_text child ++ (codes "\"><th scope=\"row\">" ++ (full_name r.names child
     ++ (codes "</th><td data-l=\"home to\">" ++ (end_text r x.target (codes "&ndash;")
-    ++ (codes "</td><td class=\"t\" data-l=\"home\">" ++ (when_text r x.seq
+    ++ (codes "</td><td class=\"t\" data-l=\"home\">" ++ (dated_text r x x.seq
     ++ (codes "</td><td data-l=\"with\">" ++ (sums_text x.tiles x.media x.rows x.links ++ codes "</td></tr>\n")))))))))
 
 abbrev pub home_of : Register → Receipt → List ℕ → List ℕ

@@ -166,7 +166,7 @@ fn put_home(
     put(text, "</th><td data-l=\"home to\">")?;
     put_end(text, register, receipt.target, "&ndash;")?;
     put(text, "</td><td class=\"t\" data-l=\"home\">")?;
-    put_when(text, register, receipt.seq)?;
+    put_dated(text, register, receipt, receipt.seq)?;
     put(text, "</td><td data-l=\"with\">")?;
     put_sums(
         text,

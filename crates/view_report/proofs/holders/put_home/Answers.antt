@@ -11,6 +11,6 @@ returns c =
     onward (string_bytes c.put_full_name.new.text) _ _ c.in_ok-put-3.ensures (
     onward (string_bytes c.put-3.new.text) _ _ c.in_ok-put_end.ensures (
     onward (string_bytes c.put_end.new.text) _ _ c.in_ok-put-4.ensures (
-    onward (string_bytes c.put-4.new.text) _ _ c.in_ok-put_when.ensures (
-    onward (string_bytes c.put_when.new.text) _ _ c.in_ok-put-5.ensures (
+    onward (string_bytes c.put-4.new.text) _ _ c.in_ok-put_dated.ensures (
+    onward (string_bytes c.put_dated.new.text) _ _ c.in_ok-put-5.ensures (
     onward (string_bytes c.put-5.new.text) _ _ c.in_ok-put_sums.ensures c.in_ok-put-6.ensures)))))))))
